@@ -1,0 +1,6 @@
+//! The values of a workbook's cells.
+#![tactic(auto)]
+
+mod kind;
+
+pub use kind::CellType;
