@@ -1,0 +1,13 @@
+//! The records of a workbook stream, BIFF5 and BIFF8: the walk over them, and their readers.
+#![tactic(auto)]
+
+mod error;
+mod record;
+mod substream;
+mod walk;
+
+pub use error::XlsError;
+pub use record::{Pieces, Record};
+pub use substream::SheetRecords;
+pub use walk::RecordIter;
+pub use xls_model::Part;

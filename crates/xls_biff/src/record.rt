@@ -1,0 +1,71 @@
+//! A record, and the Continue records attached to it.
+
+ghost use Rattle.std.specs.Prelude.{◌≡◌, ◌≢◌, ◌↔◌, ◌∷◌, [], IsTrue, MatchOption};
+ghost use Rattle.xls_model.specs.Stream.{bodies_of, AreContinues};
+
+use std::marker::Model;
+use xls_bytes::read_u16;
+
+/// The body of the Continue record at the front, and the Continue records after it.
+fn split_continue(bytes: &[u8]) -> (&[u8], &[u8])
+    requires whole { AreContinues bytes.now }
+    requires some { bytes.now ≢ [] }
+    ensures bodies { bodies_of bytes.now ≡ result.0.now ∷ bodies_of result.1.now }
+    ensures rest { AreContinues result.1.now }
+{
+    let size = read_u16(&bytes[2..]) as usize;
+    let (record, rest) = bytes.split_at(4 + size);
+    (&record[4..], rest)
+}
+
+/// A part of the stream that is made of whole Continue records.
+#[derive(Drop)]
+pub struct Pieces<'a> {
+    bytes: &'a [u8],
+}
+
+impl<'a> Model for Pieces<'a> {
+    ghost use Rattle.std.specs.Prelude.{List, ℕ};
+    ghost use Rattle.xls_model.specs.Stream.{bodies_of, AreContinues};
+
+    ghost Value = { List (List ℕ) };
+
+    ghost view = { λ p. bodies_of p.bytes.now };
+
+    ghost invariant = { λ p. AreContinues p.bytes.now };
+}
+
+impl<'a> Pieces<'a> {
+    pub(crate) fn new(bytes: &'a [u8]) -> Pieces<'a>
+        requires { AreContinues bytes.now }
+        ensures { result ≡ bodies_of bytes.now }
+    {
+        Pieces { bytes }
+    }
+
+    pub fn is_empty(&self) -> bool
+        ensures { IsTrue result ↔ (self.now ≡ []) }
+    {
+        self.bytes.is_empty()
+    }
+
+    /// The next body.
+    pub fn next_piece(&mut self) -> Option<&'a [u8]>
+        ensures { MatchOption result ((self.old ≡ []) × (self.new ≡ [])) (λ body. self.old ≡ body.now ∷ self.new) }
+    {
+        if self.bytes.is_empty() {
+            return None;
+        }
+        let (body, rest) = split_continue(self.bytes);
+        self.bytes = rest;
+        Some(body)
+    }
+}
+
+/// A record of the stream.
+#[derive(Drop)]
+pub struct Record<'a> {
+    pub typ: u16,
+    pub body: &'a [u8],
+    pub pieces: Pieces<'a>,
+}

@@ -1,0 +1,85 @@
+//! The records of a sheet part outside nested substreams.
+
+ghost use Rattle.std.specs.Prelude.{◌≡◌, ◌+◌, ◌<◌, ◌≤◌, ◌^◌, length};
+ghost use Rattle.xls_biff.specs.Outer.{OuterSteps};
+
+use crate::error::XlsError;
+use crate::record::Record;
+use crate::walk::RecordIter;
+use std::marker::Model;
+use xls_model::types::{BOF, EOF};
+
+fn next_outer<'a>(
+    records: &mut RecordIter<'a>,
+    depth: &mut u64,
+) -> Option<Result<Record<'a>, XlsError>>
+    requires { depth.old + length records.old < 2 ^ 64 }
+    ensures steps { OuterSteps records.old depth.old result records.new depth.new }
+    ensures room { depth.new + length records.new ≤ depth.old + length records.old }
+{
+    while let Some(item) = records.next() {
+        let r = match item {
+            Ok(r) => r,
+            Err(e) => return Some(Err(e)),
+        };
+        if r.typ == BOF {
+            *depth += 1;
+            if *depth == 2 {
+                return Some(Ok(r));
+            }
+        } else if r.typ == EOF {
+            if *depth <= 1 {
+                *records = RecordIter::new(&[]);
+                return None;
+            }
+            *depth -= 1;
+        } else if *depth <= 1 {
+            return Some(Ok(r));
+        }
+    }
+    None
+}
+
+/// The records of a sheet part outside nested substreams, in order, then at most one error.
+#[derive(Drop)]
+pub struct SheetRecords<'a> {
+    records: RecordIter<'a>,
+    depth: u64,
+}
+
+impl<'a> Model for SheetRecords<'a> {
+    ghost use Rattle.std.specs.Prelude.{List, ℕ, ◌+◌, ◌<◌, ◌^◌, length};
+
+    ghost Value = { List ℕ × ℕ };
+
+    ghost view = { λ s. (s.records, s.depth) };
+
+    ghost invariant = { λ s. s.depth + length s.records < 2 ^ 64 };
+}
+
+impl<'a> SheetRecords<'a> {
+    pub fn new(part: &'a [u8]) -> SheetRecords<'a>
+        ensures { result ≡ (part.now, 0) }
+    {
+        SheetRecords {
+            records: RecordIter::new(part),
+            depth: 0,
+        }
+    }
+}
+
+impl<'a> Iterator for SheetRecords<'a> {
+    ghost use Rattle.std.specs.Prelude.{length};
+    ghost use Rattle.std.specs.Iterator.{at_most};
+    ghost use Rattle.xls_biff.specs.Outer.{OuterSteps};
+
+    type Item = Result<Record<'a>, XlsError>;
+
+    ghost next_gives = { λ s r t. OuterSteps s.0 s.1 r t.0 t.1 };
+
+    ghost remaining = { λ s. at_most (length s.0) };
+
+    fn next(&mut self) -> Option<Result<Record<'a>, XlsError>> {
+        next_outer(&mut self.records, &mut self.depth)
+    }
+}

@@ -1,0 +1,9 @@
+pub mod Records
+pub mod Pieces
+pub mod Runs
+pub mod Unique
+pub mod Total
+pub mod Founds
+pub mod Ends
+pub mod Shapes
+pub mod HoldingLemmas
