@@ -1,1 +1,8 @@
 pub mod Blank
+pub mod Content
+pub mod Data
+pub mod Dates
+pub mod Errors
+pub mod Formatted
+pub mod Numbers
+pub mod Sheets
