@@ -1,2 +1,3 @@
 pub mod SizeLemmas
 pub mod WholeLemmas
+pub mod QuotientLemmas
