@@ -1,8 +1,8 @@
 //! Whole numbers in the bits of doubles.
 
-ghost use Rattle.std.specs.Prelude.{◌≡◌, ℕ, ◌^◌, ◌<◌, ◌-◌, min, ℤ, Some, None, IfSome, unsigned_abs, ◌↔◌, if◌then◌else◌};
+ghost use Rattle.std.specs.Prelude.{◌≡◌, ℕ, ◌^◌, ◌<◌, ◌-◌, min, ℤ, Some, None, IfSome, unsigned_abs, FitsSigned, ◌↔◌, if◌then◌else◌};
 ghost use Rattle.std.specs.Int.{saturate_signed, w64};
-ghost use Rattle.xls_bytes.specs.Doubles.{whole_of, size_of_parts, IsWhole, quotient_of, signed, fits_i64, trunc_checked_of, trunc_of};
+ghost use Rattle.xls_bytes.specs.Doubles.{whole_of, size_of_parts, IsWhole, IsTruncated, quotient_of, signed, fits_i64, trunc_checked_of, trunc_of};
 
 const FRACTION: u64 = 1 << 52;
 
@@ -88,11 +88,10 @@ fn saturated(is_negative: bool, size: u64) -> i64
     }
 }
 
-/// A double's value over a number, cut toward zero: the exact quotient, by whole numbers alone.
-/// None exactly where the double is infinite or not a number, or the cut value is outside i64.
-pub fn trunc_checked_of_bits(bits: u64, over: u8) -> Option<i64>
+// A double's value over a number, cut toward zero, where it is finite and fits.
+fn computed_checked(bits: u64, over: u8) -> Option<i64>
     requires { 0 < over }
-    ensures value { result ≡ trunc_checked_of bits over }
+    ensures { result ≡ trunc_checked_of bits over }
 {
     let exponent = bits / FRACTION % 2048;
     if exponent == 2047 {
@@ -104,20 +103,40 @@ pub fn trunc_checked_of_bits(bits: u64, over: u8) -> Option<i64>
     )
 }
 
+// A double's value over a number, cut toward zero, or the nearer end.
+fn computed_trunc(bits: u64, over: u8) -> i64
+    requires { 0 < over }
+    ensures { result ≡ trunc_of bits over }
+{
+    let exponent = bits / FRACTION % 2048;
+    if exponent < 2047 {
+        return saturated(
+            bits >= SIGN,
+            capped_quotient(exponent, bits % FRACTION, over),
+        );
+    }
+    if bits % FRACTION != 0 {
+        return 0;
+    }
+    saturated(bits >= SIGN, u64::MAX)
+}
+
+/// A double's value over a number, cut toward zero: the exact quotient, by whole numbers alone.
+/// None exactly where the double is infinite or not a number, or the cut value is outside i64.
+pub fn trunc_checked_of_bits(bits: u64, over: u8) -> Option<i64>
+    requires { 0 < over }
+    ensures value { result ≡ trunc_checked_of bits over }
+    ensures cut { (n : ℤ) → (result ≡ Some n) ↔ (IsTruncated bits over n × FitsSigned w64 n) }
+{
+    computed_checked(bits, over)
+}
+
 /// A double's value over a number, cut toward zero, or the nearer end of i64 where it is outside.
 /// What is not a number gives 0.
 pub fn trunc_of_bits(bits: u64, over: u8) -> i64
     requires { 0 < over }
     ensures value { result ≡ trunc_of bits over }
+    ensures cut { (n : ℤ) → IsTruncated bits over n → result ≡ saturate_signed w64 n }
 {
-    let exponent = bits / FRACTION % 2048;
-    if exponent == 2047 && bits % FRACTION != 0 {
-        return 0;
-    }
-    let size = if exponent == 2047 {
-        u64::MAX
-    } else {
-        capped_quotient(exponent, bits % FRACTION, over)
-    };
-    saturated(bits >= SIGN, size)
+    computed_trunc(bits, over)
 }
