@@ -5,4 +5,6 @@ pub mod Dates
 pub mod Errors
 pub mod Formatted
 pub mod Numbers
+pub mod Refs
+pub mod Regions
 pub mod Sheets

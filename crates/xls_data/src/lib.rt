@@ -7,6 +7,8 @@ mod errors;
 mod formats;
 mod kind;
 mod numbers;
+mod refs;
+mod regions;
 mod sheets;
 mod values;
 
@@ -16,5 +18,7 @@ pub use errors::CellErrorType;
 pub use formats::{CellFormat, format_excel_i64, format_excel_number};
 pub use kind::CellType;
 pub use numbers::Number;
+pub use refs::DataRef;
+pub use regions::{Dimensions, HeaderRow};
 pub use sheets::{Sheet, SheetType, SheetVisible};
 pub use values::Data;
