@@ -1,6 +1,24 @@
-//! The values of a workbook's cells.
+//! The values of a workbook's cells: numbers, texts, dates, errors, and what a sheet is called.
 #![tactic(auto)]
 
+mod cells;
+mod dates;
+mod errors;
+mod formats;
 mod kind;
+mod numbers;
+mod refs;
+mod regions;
+mod sheets;
+mod values;
 
+pub use cells::Cell;
+pub use dates::{ExcelDateTime, ExcelDateTimeType};
+pub use errors::CellErrorType;
+pub use formats::{CellFormat, format_excel_i64, format_excel_number};
 pub use kind::CellType;
+pub use numbers::Number;
+pub use refs::DataRef;
+pub use regions::{Dimensions, HeaderRow};
+pub use sheets::{Sheet, SheetType, SheetVisible};
+pub use values::Data;
