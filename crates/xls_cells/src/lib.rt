@@ -1,0 +1,6 @@
+//! The cells of a sheet, in order of their positions.
+#![tactic(auto)]
+
+mod sorted;
+
+pub use sorted::{Given, sorted_cells};
