@@ -1,0 +1,23 @@
+//! The options of opening.
+
+ghost use Rattle.std.specs.Prelude.{◌≡◌, IfOk};
+
+use std::alloc::{AllocError, Global};
+
+/// How a stream is opened.
+#[derive(Clone, Copy, Debug, PartialEq, Eq)]
+pub struct XlsOptions {
+    /// How many bytes a stream may have.
+    pub max_bytes: u64,
+}
+
+impl XlsOptions {
+    /// At most 268,435,456 bytes.
+    pub fn defaults(_alloc: Global) -> Result<XlsOptions, AllocError>
+        ensures { IfOk result (λ options. options.max_bytes ≡ 268_435_456) }
+    {
+        Ok(XlsOptions {
+            max_bytes: 268_435_456,
+        })
+    }
+}
