@@ -47,11 +47,14 @@ globals_places items cut = along item_fault [] items ++ cut_fault cut ∷ []
 abbrev pub places : XlsOptions → List Item → Option Part → List (Option XlsError)
 places options items cut = globals_places items cut ++ flat_map (sheet_places options) items
 
+-- e is the fault of a place before which no place has one, where the byte limit has this fault
+abbrev pub FirstBehind : Option XlsError → XlsOptions → List ℕ → XlsError → Type 0
+FirstBehind (Some f) options bytes e = e ≡ f
+FirstBehind None options bytes e = (items : List Item) × (cut : Option Part) × Holds bytes items cut × (first_of (places options items cut) ≡ Some e)
+
 -- e is the fault of a place before which no place has one
 abbrev pub FirstFault : XlsOptions → List ℕ → XlsError → Type 0
-FirstFault options bytes e =
-    (items : List Item) × (cut : Option Part) × Holds bytes items cut
-    × (first_of (limit_fault options bytes ∷ places options items cut) ≡ Some e)
+FirstFault options bytes e = FirstBehind (limit_fault options bytes) options bytes e
 
 -- no place has a fault
 abbrev pub IsSound : XlsOptions → List ℕ → Type 0

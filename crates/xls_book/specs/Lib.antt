@@ -5,4 +5,5 @@ pub mod Faults
 pub mod Causes
 pub mod Feed
 pub mod Opening
+pub mod Steps
 pub mod Laws

@@ -2,12 +2,22 @@
 #![tactic(auto)]
 
 mod bound_sheet;
+mod globals;
+mod laws;
 mod memory;
 mod options;
+mod part;
+mod reader;
 mod reading;
 mod source;
+mod values;
+mod xls;
 
+pub use laws::{one_first_fault, sound_where_full};
 pub use memory::{MemorySource, SteadySource};
 pub use options::XlsOptions;
+pub use reader::Reader;
 pub use reading::{StreamBytes, read_all};
 pub use source::{ReadFault, Source, StdSource};
+pub use values::Values;
+pub use xls::Xls;

@@ -1,0 +1,21 @@
+use Rattle.std.proofs.Common.{arith, subst}
+use Rattle.std.specs.Result.{IfErr}
+use Rattle.std.proofs.lemmas.Result.{err_from_is_err_and}
+use Rattle.xls_book.proofs.LawLemmas.{read_cause, all_read, open_ok, open_cause}
+use Rattle.xls_book.proofs.xls.open.Goals as goal
+
+-- the read was refused
+pub returns-in_err-bytes-clause-cause : goal.returns-in_err-bytes-clause-cause
+returns-in_err-bytes-clause-cause g c =
+    let p = err_from_is_err_and c.from_residual.result c.from_residual.ensures.1 in
+    rw (p.1, p.2) (read_cause c.args.options.now _ _ _ c.in_err-bytes.field-0.0 c.in_err-bytes.ensures.cause)
+
+pub returns-clause-ok : goal.returns-clause-ok
+returns-clause-ok g c =
+    let same = all_read _ _ c.in_ok-bytes.bytes c.in_ok-bytes.ensures.all c.in_ok-bytes.ensures.end in
+    open_ok c.args.options.now c.in_ok-bytes.bytes _ c.open_stream.result same c.in_ok-bytes.ensures.within (rw (← c.as_slice.ensures) c.open_stream.ensures)
+
+pub returns-clause-cause : goal.returns-clause-cause
+returns-clause-cause g c =
+    let same = all_read _ _ c.in_ok-bytes.bytes c.in_ok-bytes.ensures.all c.in_ok-bytes.ensures.end in
+    open_cause c.args.options.now c.in_ok-bytes.bytes _ _ _ c.open_stream.result same c.in_ok-bytes.ensures.within (rw (← c.as_slice.ensures) c.open_stream.ensures)

@@ -1,0 +1,13 @@
+//! Laws over streams and their faults, each on a function with an empty body.
+
+ghost use Rattle.xls_book.specs.Laws.{OneFirstFault, SoundWhereFull};
+
+/// A stream has at most one first fault.
+pub fn one_first_fault()
+    ensures { OneFirstFault }
+{}
+
+/// It has none exactly where it is within the limit and carries a full list.
+pub fn sound_where_full()
+    ensures { SoundWhereFull }
+{}

@@ -1,0 +1,86 @@
+//! The values of a sheet.
+
+ghost use Rattle.std.specs.Prelude.{◌≡◌, ◌==◌, length};
+ghost use Rattle.std.specs.Cmp.Lexicographic.{pointwise};
+ghost use Rattle.xls_data.specs.Sheets.{sheet_content};
+ghost use Rattle.std.specs.Str.{chars};
+ghost use Rattle.xls_book.specs.Steps.{cells_named};
+
+use std::marker::Model;
+use xls_data::{Cell, Data, Sheet};
+
+/// The values of a sheet: absolute row, absolute column and value, by row, then column. Contracts
+/// see the list of those that are left.
+#[derive(Drop)]
+pub struct Values<'a> {
+    cells: &'a [Cell<Data>],
+}
+
+impl<'a> Model for Values<'a> {
+    ghost use Rattle.std.specs.Prelude.{List, map};
+    ghost use Rattle.xls_biff.specs.Cells.{Entry};
+    ghost use Rattle.xls_book.specs.Steps.{cell_content};
+
+    ghost Value = { List Entry };
+
+    ghost view = { λ v. map cell_content v.cells.now };
+}
+
+impl<'a> Iterator for Values<'a> {
+    ghost use Rattle.std.specs.Prelude.{length};
+    ghost use Rattle.std.specs.Iterator.{at_most};
+    ghost use Rattle.xls_book.specs.Steps.{ValueSteps};
+
+    type Item = (u32, u32, &'a Data);
+
+    ghost next_gives = { ValueSteps };
+
+    ghost remaining = { λ cells. at_most (length cells) };
+
+    fn next(&mut self) -> Option<(u32, u32, &'a Data)> {
+        if self.cells.is_empty() {
+            return None;
+        }
+        let (first, rest) = self.cells.split_at(1);
+        self.cells = rest;
+        let (row, column) = first[0].get_position();
+        Some((row, column, first[0].get_value()))
+    }
+}
+
+impl<'a> Values<'a> {
+    ghost use Rattle.std.specs.Prelude.{◌≡◌, map};
+    ghost use Rattle.xls_book.specs.Steps.{cell_content};
+
+    pub(crate) fn new(cells: &'a [Cell<Data>]) -> Values<'a>
+        ensures { result ≡ map cell_content cells.now }
+    {
+        Values { cells }
+    }
+}
+
+/// Whether a sheet has this name.
+fn has_name(sheet: &Sheet, name: &str) -> bool
+    ensures { result ≡ pointwise ◌==◌ (sheet_content sheet.now).name (chars name.now) }
+{
+    sheet.name.as_str() == name
+}
+
+/// The cells of the last sheet of a name, where each sheet has its cells at its index.
+pub(crate) fn find_named<'a>(
+    sheets: &[Sheet],
+    cells: &'a [Vec<Cell<Data>>],
+    name: &str,
+) -> &'a [Cell<Data>]
+    requires { length cells.now ≡ length sheets.now }
+    ensures { result.now ≡ cells_named sheets.now cells.now (chars name.now) }
+{
+    let mut found: &'a [Cell<Data>] = &[];
+    for i in 0..sheets.len() {
+        let own = cells[i].as_slice();
+        if has_name(&sheets[i], name) {
+            found = own;
+        }
+    }
+    found
+}
