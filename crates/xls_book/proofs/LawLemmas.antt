@@ -173,6 +173,7 @@ all_read (Some all) (Some rest) bytes c e = c ∙ ap (λ (x : List ℕ). bytes +
 
 opened_of_stream : (options : XlsOptions) (bytes : List ℕ) (book : Workbook) → length bytes ≤ options.max_bytes → IsStreamOpened options bytes book → IsOpened options book bytes
 opened_of_stream options bytes book within o = record {
+  sound = full_sound options bytes o.are_bytes within o.entries o.carries o.full;
   within = within;
   entries = o.entries;
   carries = o.carries;

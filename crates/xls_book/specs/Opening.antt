@@ -22,9 +22,14 @@ OpenCause options left before now errors.Io = Rose before now
 OpenCause options left before now errors.Memory = Unit {0}
 OpenCause options left before now e = IfSome left (λ bytes. FirstFault options bytes e)
 
--- the bytes are within the limit and carry a full list, and the workbook is the reading of every
--- list that they carry
+-- the options by default
+abbrev pub default_options : XlsOptions
+default_options = record { max_bytes = 268_435_456 }
+
+-- no place of the bytes has a fault; they are within the limit and carry a full list, and the
+-- workbook is the reading of every list that they carry
 pub record IsOpened (options : XlsOptions) (book : Workbook) (bytes : List ℕ) : Type 0 where
+  pub sound : IsSound options bytes
   pub within : length bytes ≤ options.max_bytes
   pub entries : List Entry
   pub carries : Carries bytes entries

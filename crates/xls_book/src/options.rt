@@ -1,6 +1,7 @@
 //! The options of opening.
 
 ghost use Rattle.std.specs.Prelude.{◌≡◌, IfOk};
+ghost use Rattle.xls_book.specs.Opening.{default_options};
 
 use std::alloc::{AllocError, Global};
 
@@ -14,7 +15,7 @@ pub struct XlsOptions {
 impl XlsOptions {
     /// At most 268,435,456 bytes.
     pub fn defaults(_alloc: Global) -> Result<XlsOptions, AllocError>
-        ensures { IfOk result (λ options. options.max_bytes ≡ 268_435_456) }
+        ensures { IfOk result (λ options. options ≡ default_options) }
     {
         Ok(XlsOptions {
             max_bytes: 268_435_456,

@@ -1,6 +1,6 @@
 use Rattle.std.proofs.Common.{◌+◌, ◌-◌, ◌≤◌, vec_len}
 use Rattle.std.specs.Io.KnownBytes.{Consumes}
-use Rattle.xls_book.proofs.reading.read_all.Given as goal
+use Rattle.xls_book.proofs.reading.read_by_pieces.Given as goal
 
 -- the bytes so far are within the limit and were taken, and the count has not fallen
 abbrev pub invariant-loop-bytes : goal.invariant-loop-bytes
