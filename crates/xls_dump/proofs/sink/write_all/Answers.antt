@@ -1,0 +1,21 @@
+use Rattle.std.proofs.Common.{◌+◌, take, drop, sym, subst, arith, take-append-drop, rules}
+use Rattle.std.specs.Io.KnownBytes.{Appends}
+use Rattle.std.proofs.KnownBytes.{Appends-trans, Appends-kept}
+use Rattle.std.proofs.lemmas.Grind.{common_steps}
+use Rattle.xls_dump.proofs.PieceLemmas.{take-more}
+use Rattle.xls_dump.proofs.sink.write_all.Goals as goal
+
+pub returns-in_err-at-clause-front : goal.returns-in_err-at-clause-front
+returns-in_err-at-clause-front g c =
+    let at = c.loop-at.at in
+    let piece = c.args.piece.now in
+    (take at piece, drop at piece, sym (take-append-drop at piece), Appends-kept _ _ _ (take at piece) c.loop-at.invariant.written c.in_err-at.ensures.bytes)
+
+pub loop-at-preserved : goal.loop-at-preserved
+loop-at-preserved g c =
+    let both = Appends-trans _ _ _ _ _ c.loop-at.invariant.written c.in_ok-at.ensures.bytes in
+    record {
+      within = grind (arith, common_steps);
+      written = subst (Appends _ _) (take-more _ _ _) both;
+      later = omega (arith, c.loop-at.invariant.later, c.in_ok-at.ensures.cause.later);
+    }

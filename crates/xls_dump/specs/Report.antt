@@ -1,0 +1,100 @@
+-- The text of the dump, in UTF-8.
+use Rattle.std.specs.Prelude.{ℕ, List, [], ◌∷◌, ◌++◌, ◌==◌, if◌then◌else◌, Bool, true, false, Option, Some, None, codes, encode_utf8_all}
+use Rattle.std.specs.List.{flat_map}
+use Rattle.std.specs.Fmt.{decimal, signed_decimal}
+use Rattle.xls_data.specs.Content.{Content, int, float, text, truth, date, iso_date, iso_duration, failure, nothing}
+use Rattle.xls_data.specs.Data.{bool_text}
+use Rattle.xls_data.specs.Dates.{DateParts}
+use Rattle.xls_data.specs.Errors as cell_errors
+use Rattle.xls_data.specs.Numbers.{number_text}
+use Rattle.xls_data.specs.Sheets.{SheetContent}
+use Rattle.xls_data.specs.declared.dates.ExcelDateTimeType.{ExcelDateTimeType}
+use Rattle.xls_data.specs.declared.dates.ExcelDateTimeType.TheVariants.{DateTime, TimeDelta}
+use Rattle.xls_data.specs.declared.sheets.SheetType.{SheetType}
+use Rattle.xls_data.specs.declared.sheets.SheetType.TheVariants as types
+use Rattle.xls_data.specs.declared.sheets.SheetVisible.{SheetVisible}
+use Rattle.xls_data.specs.declared.sheets.SheetVisible.TheVariants as states
+use Rattle.xls_biff.specs.Cells.{Entry}
+use Rattle.xls_biff.specs.ErrorText.{error_text}
+use Rattle.xls_biff.specs.declared.error.XlsError.{XlsError}
+use Rattle.xls_book.specs.Reading.{Workbook}
+
+-- ---- texts
+
+-- a backslash, a newline, a return and a tab as two characters each
+abbrev pub escaped_char : ℕ → List ℕ
+escaped_char c =
+    if c == 92 then codes "\\\\"
+    else if c == 10 then codes "\\n"
+    else if c == 13 then codes "\\r"
+    else if c == 9 then codes "\\t"
+    else c ∷ []
+
+abbrev pub escaped : List ℕ → List ℕ
+escaped cs = flat_map escaped_char cs
+
+-- the bytes of a text of these characters
+abbrev pub shown_text : List ℕ → List ℕ
+shown_text cs = encode_utf8_all (escaped cs)
+
+-- ---- cells
+
+-- a day or a time of day, or a span of time
+abbrev pub date_kind : ExcelDateTimeType → List ℕ
+date_kind DateTime = codes "date"
+date_kind TimeDelta = codes "span"
+
+-- the kind of a value, and its printed text; a blank has none
+abbrev pub value_text : Content → Option (List ℕ)
+value_text (int n) = Some (codes "int\t" ++ signed_decimal n)
+value_text (float n) = Some (codes "float\t" ++ number_text n)
+value_text (text cs) = Some (codes "text\t" ++ shown_text cs)
+value_text (truth b) = Some (codes "bool\t" ++ bool_text b)
+value_text (date d) = Some (date_kind d.kind ++ codes "\t" ++ number_text d.number)
+value_text (iso_date cs) = Some (codes "date\t" ++ shown_text cs)
+value_text (iso_duration cs) = Some (codes "span\t" ++ shown_text cs)
+value_text (failure e) = Some (codes "error\t" ++ cell_errors.error_text e)
+value_text nothing = None
+
+abbrev pub place_text : ℕ → ℕ → List ℕ
+place_text row column = codes "cell\t" ++ decimal row ++ codes "\t" ++ decimal column ++ codes "\t"
+
+abbrev pub filled_line : ℕ → ℕ → Option (List ℕ) → List ℕ
+filled_line row column None = []
+filled_line row column (Some value) = place_text row column ++ value ++ codes "\n"
+
+-- row, column, kind and printed text of a cell
+abbrev pub cell_line : Entry → List ℕ
+cell_line c = filled_line c.0.0 c.0.1 (value_text c.1)
+
+-- ---- sheets
+
+abbrev pub type_text : SheetType → List ℕ
+type_text types.WorkSheet = codes "worksheet"
+type_text types.DialogSheet = codes "dialog"
+type_text types.MacroSheet = codes "macro"
+type_text types.ChartSheet = codes "chart"
+type_text types.Vba = codes "vba"
+
+abbrev pub visible_text : SheetVisible → List ℕ
+visible_text states.Visible = codes "visible"
+visible_text states.Hidden = codes "hidden"
+visible_text states.VeryHidden = codes "veryhidden"
+
+-- name, kind and visibility of a sheet
+abbrev pub sheet_line : SheetContent → List ℕ
+sheet_line s = codes "sheet\t" ++ shown_text s.name ++ codes "\t" ++ type_text s.typ ++ codes "\t" ++ visible_text s.visible ++ codes "\n"
+
+-- the line of each sheet, and behind it those of its cells
+abbrev pub sheets_text : List SheetContent → List (List Entry) → List ℕ
+sheets_text [] values = []
+sheets_text (s ∷ ss) [] = sheet_line s ++ sheets_text ss []
+sheets_text (s ∷ ss) (v ∷ vs) = (sheet_line s ++ flat_map cell_line v) ++ sheets_text ss vs
+
+-- the date system, and the sheets in workbook order
+abbrev pub report : Workbook → List ℕ
+report book = codes "dates\t1900\n" ++ sheets_text book.sheets book.values
+
+-- the line of a refusal
+abbrev pub fault_line : XlsError → List ℕ
+fault_line e = codes "error\t" ++ error_text e ++ codes "\n"

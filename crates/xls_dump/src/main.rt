@@ -1,0 +1,36 @@
+//! Writes what a workbook stream holds.
+#![tactic(auto)]
+
+mod answer;
+mod command;
+mod memory;
+mod report;
+mod run;
+mod sink;
+
+use crate::run::run;
+use crate::sink::StdSink;
+use std::env;
+use std::io::ErrorKind;
+use std::process::ExitCode;
+use xls_book::StdSource;
+
+fn main(rt: HostRuntime) -> ExitCode {
+    let alloc = rt.alloc();
+    let mut words = match env::args(&rt) {
+        Ok(words) => words,
+        Err(error) => {
+            return match error.kind() {
+                ErrorKind::OutOfMemory => ExitCode::from(5),
+                _ => ExitCode::from(2),
+            };
+        }
+    };
+    let _program = words.next();
+    let Ok(words) = words.collect::<Vec<String>>(alloc) else {
+        return ExitCode::from(5);
+    };
+    let mut source = StdSource::new(rt.stdin());
+    let mut sink = StdSink::new(rt.stdout());
+    ExitCode::from(run(alloc, &words, &mut source, &mut sink))
+}

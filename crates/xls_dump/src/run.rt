@@ -1,0 +1,66 @@
+//! The top call of the program.
+
+ghost use Rattle.std.specs.Prelude.{◌≡◌, ◌↔◌, ◌<◌, ◌≤◌, map};
+ghost use Rattle.std.specs.String.{string_bytes};
+ghost use Rattle.std.specs.Io.KnownBytes.{Keeps};
+ghost use Rattle.xls_book.specs.Causes.{Rose};
+ghost use Rattle.xls_dump.specs.Written.{Writes, WritesPart};
+ghost use Rattle.xls_dump.specs.Words.{IsCommand};
+ghost use Rattle.xls_dump.specs.Says.{Tells, Refuses, Says, Leaves, EndsWell, IsUnread};
+ghost use Rattle.xls_dump.specs.declared.command.Command.{Command};
+
+use crate::answer::{Answer, Stop, answer_of};
+use crate::command::command_of;
+use crate::sink::{Sink, write_all};
+use std::alloc::Global;
+use xls_book::Source;
+
+/// Does what the words ask for, and answers the status.
+pub fn run<S: Source, K: Sink>(alloc: Global, words: &[String], source: &mut S, sink: &mut K) -> u8
+    ensures status { result < 6 }
+
+    // 0: the command's text was written.
+    ensures done { result ≡ 0 → (c : Command) × IsCommand (map string_bytes words.now) c
+        × Leaves c (S.left source.old) (S.left source.new)
+        × Writes (Tells c (S.left source.old)) (K.written sink.old) (K.written sink.new) }
+
+    // 1: the line of the first fault was written.
+    ensures refused { result ≡ 1 → (c : Command) × IsCommand (map string_bytes words.now) c
+        × Writes (Refuses c (S.left source.old)) (K.written sink.old) (K.written sink.new) }
+
+    // 2: exactly where the words are no command's; nothing was read or written.
+    ensures words { (result ≡ 2) ↔ ((c : Command) → IsCommand (map string_bytes words.now) c → ⊥) }
+    ensures untouched { result ≡ 2 → (source.new ≡ source.old) × (sink.new ≡ sink.old) }
+
+    // A command that reads nothing leaves the source as it was, whatever its status.
+    ensures unread { (result ≡ 2 → ⊥) → (c : Command) × IsCommand (map string_bytes words.now) c × (IsUnread c → source.new ≡ source.old) }
+
+    // 3: the source failed, and nothing was written.
+    ensures read_fault { result ≡ 3 → Rose (S.faults source.old) (S.faults source.new) }
+    ensures unwritten { result ≡ 3 → Keeps (K.written sink.old) (K.written sink.new) }
+
+    // 4: the sink failed. 5: want of memory. A front of the text that 0 or 1 writes was written.
+    ensures write_fault { result ≡ 4 → Rose (K.faults sink.old) (K.faults sink.new) }
+    ensures part { 4 ≤ result → (c : Command) × IsCommand (map string_bytes words.now) c
+        × WritesPart (Says c (S.left source.old)) (K.written sink.old) (K.written sink.new) }
+
+    // Where neither fails, a command ends with its text, its refusal or want of memory.
+    ensures complete { (Rose (S.faults source.old) (S.faults source.new) → ⊥)
+        → (Rose (K.faults sink.old) (K.faults sink.new) → ⊥)
+        → (result ≡ 2 → ⊥)
+        → (c : Command) × IsCommand (map string_bytes words.now) c × EndsWell c (S.left source.old) result }
+{
+    let Some(command) = command_of(words) else {
+        return 2;
+    };
+    let (status, text) = match answer_of(alloc, command, source) {
+        Ok(Answer::Done(text)) => (0, text),
+        Ok(Answer::Refused(text)) => (1, text),
+        Err(Stop::Read) => return 3,
+        Err(Stop::Memory) => return 5,
+    };
+    if write_all(sink, text.as_bytes()).is_err() {
+        return 4;
+    }
+    status
+}
