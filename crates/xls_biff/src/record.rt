@@ -18,7 +18,8 @@ fn split_continue(bytes: &[u8]) -> (&[u8], &[u8])
     (&record[4..], rest)
 }
 
-/// A part of the stream that is made of whole Continue records.
+/// A part of the stream that is made of whole Continue records. Contracts see the list of their
+/// bodies.
 #[derive(Drop)]
 pub struct Pieces<'a> {
     bytes: &'a [u8],
@@ -43,13 +44,14 @@ impl<'a> Pieces<'a> {
         Pieces { bytes }
     }
 
+    /// Whether no body is left. Takes no memory.
     pub fn is_empty(&self) -> bool
         ensures { IsTrue result ↔ (self.now ≡ []) }
     {
         self.bytes.is_empty()
     }
 
-    /// The next body.
+    /// The next body, borrowed from the stream. Takes no memory.
     pub fn next_piece(&mut self) -> Option<&'a [u8]>
         ensures { MatchOption result ((self.old ≡ []) × (self.new ≡ [])) (λ body. self.old ≡ body.now ∷ self.new) }
     {
@@ -62,10 +64,13 @@ impl<'a> Pieces<'a> {
     }
 }
 
-/// A record of the stream.
+/// A record of the stream, [MS-XLS] 2.1.4, borrowed from it.
 #[derive(Drop)]
 pub struct Record<'a> {
+    /// The type, as in `xls_model::types`.
     pub typ: u16,
+    /// The body, of at most 65,535 bytes.
     pub body: &'a [u8],
+    /// The bodies of the Continue records attached to it.
     pub pieces: Pieces<'a>,
 }

@@ -9,6 +9,7 @@ use crate::walk::RecordIter;
 use std::marker::Model;
 use xls_model::types::{BOF, EOF};
 
+/// The next record outside nested substreams, where so many BOF records are open.
 fn next_outer<'a>(
     records: &mut RecordIter<'a>,
     depth: &mut u64,
@@ -40,7 +41,11 @@ fn next_outer<'a>(
     None
 }
 
-/// The records of a sheet part outside nested substreams, in order, then at most one error.
+/// The records of a sheet part outside nested substreams, in order, then at most one error, which is
+/// `EoStream`, and `None` for good. Takes no memory.
+///
+/// The part's own BOF is passed over, and its EOF ends it. Of each nested substream the BOF is given,
+/// and the rest passed over.
 #[derive(Drop)]
 pub struct SheetRecords<'a> {
     records: RecordIter<'a>,
@@ -58,6 +63,7 @@ impl<'a> Model for SheetRecords<'a> {
 }
 
 impl<'a> SheetRecords<'a> {
+    /// The records of the part from its first byte on.
     pub fn new(part: &'a [u8]) -> SheetRecords<'a>
         ensures { result ≡ (part.now, 0) }
     {

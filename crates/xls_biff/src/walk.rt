@@ -28,6 +28,7 @@ fn split_record(bytes: &[u8]) -> Result<(u16, &[u8], &[u8]), Part>
     Ok((typ, &record[4..], rest))
 }
 
+/// Whether a Continue record stands at the front that belongs to the record before it.
 fn starts_continue(bytes: &[u8]) -> bool
     ensures { IsTrue result ↔ StartsContinue bytes.now }
 {
@@ -55,7 +56,11 @@ fn split_group(bytes: &[u8]) -> Result<(Record<'_>, &[u8]), XlsError>
     Ok((Record { typ, body, pieces }, after))
 }
 
-/// The records of a stream in order, then at most one error.
+/// The records of a stream in order, each with the Continue records attached to it, then at most one
+/// error, which is `EoStream`, and `None` for good. It borrows the stream and takes no memory.
+///
+/// A Continue record is attached while more than four bytes are left. Contracts see the bytes that
+/// are left.
 #[derive(Drop)]
 pub struct RecordIter<'a> {
     bytes: &'a [u8],
@@ -70,6 +75,7 @@ impl<'a> Model for RecordIter<'a> {
 }
 
 impl<'a> RecordIter<'a> {
+    /// The records from the first byte on.
     pub fn new(stream: &'a [u8]) -> RecordIter<'a>
         ensures { result ≡ stream.now }
     {

@@ -4,6 +4,7 @@ use Rattle.xls_model.specs.Walks.{IsBytes}
 use Rattle.xls_model.specs.Listing.{Entry, Carries}
 use Rattle.xls_biff.specs.declared.error.XlsError.{XlsError}
 use Rattle.xls_book.specs.Faults.{FirstFault, IsSound, IsFull}
+use Rattle.xls_book.specs.Causes.{Rose}
 use Rattle.xls_book.specs.declared.options.XlsOptions.{XlsOptions}
 
 -- a stream has at most one first fault
@@ -15,3 +16,7 @@ abbrev pub SoundWhereFull : Type 0
 SoundWhereFull =
     (options : XlsOptions) (bytes : List ℕ) → IsBytes bytes
     → IsSound options bytes ↔ ((length bytes ≤ options.max_bytes) × (entries : List Entry) × Carries bytes entries × IsFull options entries)
+
+-- a count that is the constant 0 gives no cause for a fault
+abbrev pub SteadyCount : Type 0
+SteadyCount = ¬ Rose 0 0

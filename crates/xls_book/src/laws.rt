@@ -1,6 +1,6 @@
 //! Laws over streams and their faults, each on a function with an empty body.
 
-ghost use Rattle.xls_book.specs.Laws.{OneFirstFault, SoundWhereFull};
+ghost use Rattle.xls_book.specs.Laws.{OneFirstFault, SoundWhereFull, SteadyCount};
 
 /// A stream has at most one first fault.
 pub fn one_first_fault()
@@ -10,4 +10,9 @@ pub fn one_first_fault()
 /// It has none exactly where it is within the limit and carries a full list.
 pub fn sound_where_full()
     ensures { SoundWhereFull }
+{}
+
+/// The count of a source that never fails doesn't rise, and doesn't stand at its last value.
+pub fn steady_count()
+    ensures { SteadyCount }
 {}

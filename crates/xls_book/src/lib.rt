@@ -13,7 +13,7 @@ mod source;
 mod values;
 mod xls;
 
-pub use laws::{one_first_fault, sound_where_full};
+pub use laws::{one_first_fault, sound_where_full, steady_count};
 pub use memory::{MemorySource, SteadySource};
 pub use options::XlsOptions;
 pub use reader::Reader;
@@ -21,3 +21,6 @@ pub use reading::{StreamBytes, read_all};
 pub use source::{ReadFault, Source, StdSource};
 pub use values::Values;
 pub use xls::Xls;
+
+#[cfg(test)]
+mod tests;

@@ -7,6 +7,8 @@ mod memory;
 mod report;
 mod run;
 mod sink;
+#[cfg(test)]
+mod tests;
 
 use crate::run::run;
 use crate::sink::StdSink;

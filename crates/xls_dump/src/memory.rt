@@ -1,6 +1,6 @@
 //! A sink in memory.
 
-ghost use Rattle.std.specs.Prelude.{◌≡◌, ◌↔◌, ◌⊎◌, ◌+◌, ◌-◌, ◌^◌, ◌<◌, ◌≤◌, [], min, Some, IfOk, OnOk, IsErr, Contains, length};
+ghost use Rattle.std.specs.Prelude.{◌≡◌, ◌↔◌, ◌⊎◌, ◌+◌, ◌-◌, ◌^◌, ◌<◌, ◌≤◌, [], min, Some, ℕ, IfOk, OnOk, IsOk, IsErr, Contains, length};
 ghost use Rattle.std.specs.Io.{WritesAtMost};
 ghost use Rattle.std.specs.Io.KnownBytes.{WriteAppends};
 ghost use Rattle.xls_book.specs.Causes.{HasCause};
@@ -71,6 +71,8 @@ impl Sink for MemorySink {
 
     ghost faults = { λ s. s.faults };
 
+    ghost takes = { λ s n. (s.failing ≡ []) × (length s.text + n ≤ s.room) };
+
     fn write(&mut self, piece: &[u8]) -> Result<usize, WriteFault>
         ensures bound { WritesAtMost result piece.now }
         ensures moves { IfOk result (λ n. 0 < length piece.now → 0 < n) }
@@ -82,6 +84,11 @@ impl Sink for MemorySink {
         ensures count { IfOk result (λ n. n ≡ min self.old.chunk (min (length piece.now) (self.old.room - length self.old.text))) }
         ensures steady { OnOk result (self.new.faults ≡ self.old.faults) }
         ensures calls { self.new.call ≡ min (self.old.call + 1) (2 ^ 64 - 1) }
+        ensures kept { (n : ℕ) → 0 < length piece.now → length piece.now ≤ n → (self.old.failing ≡ []) × (length self.old.text + n ≤ self.old.room)
+            → IsOk result × IfOk result (λ k. (self.new.failing ≡ []) × (length self.new.text + (n - k) ≤ self.new.room)) × (self.new.faults ≡ self.old.faults) }
+
+        // Room, chunk and the listed calls stay.
+        ensures same { (self.new.room ≡ self.old.room) × (self.new.chunk ≡ self.old.chunk) × (self.new.failing ≡ self.old.failing) }
     {
         let call = self.call;
         self.call = call.saturating_add(1);

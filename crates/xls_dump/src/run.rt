@@ -1,6 +1,6 @@
 //! The top call of the program.
 
-ghost use Rattle.std.specs.Prelude.{◌≡◌, ◌↔◌, ◌<◌, ◌≤◌, map};
+ghost use Rattle.std.specs.Prelude.{◌≡◌, ◌↔◌, ◌<◌, ◌≤◌, ℕ, List, length, map};
 ghost use Rattle.std.specs.String.{string_bytes};
 ghost use Rattle.std.specs.Io.KnownBytes.{Keeps};
 ghost use Rattle.xls_book.specs.Causes.{Rose};
@@ -49,6 +49,11 @@ pub fn run<S: Source, K: Sink>(alloc: Global, words: &[String], source: &mut S, 
         → (Rose (K.faults sink.old) (K.faults sink.new) → ⊥)
         → (result ≡ 2 → ⊥)
         → (c : Command) × IsCommand (map string_bytes words.now) c × EndsWell c (S.left source.old) result }
+
+    // A sink that takes each text that may be written doesn't fail.
+    ensures steady { (n : ℕ) → K.takes sink.old n
+        → ((c : Command) (text : List ℕ) → IsCommand (map string_bytes words.now) c → Says c (S.left source.old) text → length text ≤ n)
+        → K.faults sink.new ≡ K.faults sink.old }
 {
     let Some(command) = command_of(words) else {
         return 2;

@@ -1,6 +1,6 @@
 //! Where text goes.
 
-ghost use Rattle.std.specs.Prelude.{◌<◌, ◌≤◌, List, Option, ℕ, length, IfOk, OnOk, OnErr};
+ghost use Rattle.std.specs.Prelude.{◌≡◌, ◌-◌, ◌<◌, ◌≤◌, List, Option, ℕ, length, IfOk, IsOk, OnOk, OnErr};
 ghost use Rattle.std.specs.Io.{WritesAtMost};
 ghost use Rattle.std.specs.Io.KnownBytes.{WriteAppends, Appends};
 ghost use Rattle.xls_book.specs.Causes.{HasCause};
@@ -20,12 +20,17 @@ pub trait Sink {
     /// How often a write has failed, up to a last value.
     ghost faults: { Self → ℕ };
 
+    /// So many more bytes are taken without a fault, where it promises that.
+    ghost takes: { Self → ℕ → Type 0 };
+
     /// Appends the first bytes of the piece, at least one of them if there is one.
     fn write(&mut self, piece: &[u8]) -> Result<usize, WriteFault>
         ensures bound { WritesAtMost result piece.now }
         ensures moves { IfOk result (λ n. 0 < length piece.now → 0 < n) }
         ensures bytes { WriteAppends (written self.old) (written self.new) result piece.now }
-        ensures cause { HasCause (faults self.old) (faults self.new) result };
+        ensures cause { HasCause (faults self.old) (faults self.new) result }
+        ensures kept { (n : ℕ) → 0 < length piece.now → length piece.now ≤ n → takes self.old n
+            → IsOk result × IfOk result (λ k. takes self.new (n - k)) × (faults self.new ≡ faults self.old) };
 }
 
 /// Writes the whole piece, if no write fails.
@@ -33,6 +38,7 @@ pub fn write_all<K: Sink>(sink: &mut K, piece: &[u8]) -> Result<(), WriteFault>
     ensures ok { OnOk result (Appends (K.written sink.old) (K.written sink.new) piece.now) }
     ensures front { AppendsFront (K.written sink.old) (K.written sink.new) piece.now }
     ensures cause { HasCause (K.faults sink.old) (K.faults sink.new) result }
+    ensures kept { (n : ℕ) → length piece.now ≤ n → K.takes sink.old n → IsOk result × (K.faults sink.new ≡ K.faults sink.old) }
 {
     let mut at = 0;
     while at < piece.len() {
@@ -60,6 +66,8 @@ impl<W: Write> Sink for StdSink<W> {
     ghost written = { λ _. None };
 
     ghost faults = { λ s. s.faults };
+
+    ghost takes = { λ _ _. ⊥ };
 
     fn write(&mut self, piece: &[u8]) -> Result<usize, WriteFault> {
         let count = self.inner.write(piece).unwrap_or(0);

@@ -1,8 +1,8 @@
-use Rattle.std.proofs.Common.{◌+◌, take, drop, sym, subst, arith, take-append-drop, rules}
+use Rattle.std.proofs.Common.{◌≡◌, ◌+◌, ◌-◌, ◌∙◌, take, drop, sym, subst, arith, take-append-drop, rules}
 use Rattle.std.specs.Io.KnownBytes.{Appends}
 use Rattle.std.proofs.KnownBytes.{Appends-trans, Appends-kept}
 use Rattle.std.proofs.lemmas.Grind.{common_steps}
-use Rattle.xls_dump.proofs.PieceLemmas.{take-more}
+use Rattle.xls_dump.proofs.PieceLemmas.{take-more, length-rest}
 use Rattle.xls_dump.proofs.sink.write_all.Goals as goal
 
 pub returns-in_err-at-clause-front : goal.returns-in_err-at-clause-front
@@ -18,4 +18,10 @@ loop-at-preserved g c =
       within = grind (arith, common_steps);
       written = subst (Appends _ _) (take-more _ _ _) both;
       later = omega (arith, c.loop-at.invariant.later, c.in_ok-at.ensures.cause.later);
+      kept = λ n le t.
+          let was = c.loop-at.invariant.kept n le t in
+          let size = length-rest c.loop-at.at c.args.piece.now in
+          let now = c.in_ok-at.ensures.kept (n - c.loop-at.at) (omega (arith, size, c.loop-at-test.true)) (omega (arith, size)) was.0 in
+          let less : n - c.loop-at.at - c.in_ok-at.field-0 ≡ n - (c.loop-at.at + c.in_ok-at.field-0) = omega arith in
+          (subst (g.K.Sink.takes c.write.new.self) less now.1, now.2 ∙ was.1);
     }

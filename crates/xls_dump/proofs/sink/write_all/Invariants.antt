@@ -1,4 +1,4 @@
-use Rattle.std.proofs.Common.{◌-◌, ◌≤◌, length, take}
+use Rattle.std.proofs.Common.{◌≡◌, ◌-◌, ◌≤◌, ℕ, length, take}
 use Rattle.std.specs.Io.KnownBytes.{Appends}
 use Rattle.xls_dump.proofs.sink.write_all.Given as goal
 
@@ -10,6 +10,7 @@ invariant-loop-at g l =
       within : l.at ≤ length l.piece;
       written : Appends (sink.written l.fn.sink) (sink.written l.sink) (take l.at l.piece);
       later : sink.faults l.fn.sink ≤ sink.faults l.sink;
+      kept : (n : ℕ) → length l.piece ≤ n → sink.takes l.fn.sink n → sink.takes l.sink (n - l.at) × (sink.faults l.sink ≡ sink.faults l.fn.sink);
     }
 
 abbrev pub decreases-loop-at : goal.decreases-loop-at

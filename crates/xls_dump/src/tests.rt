@@ -1,0 +1,167 @@
+use crate::memory::MemorySink;
+use crate::run::run;
+use crate::sink::{Sink, StdSink};
+use std::alloc::{AllocError, Global};
+use std::process::Abort;
+use std::test::*;
+use xls_book::MemorySource;
+
+// BOF of the globals, BoundSheet8 of `A` at 25, EOF; BOF of the sheet, a Number of 3 at (0, 0), EOF.
+const THREE: [u8; 55] = [
+    0x09, 0x08, 0x04, 0x00, 0x00, 0x06, 0x05, 0x00, 0x85, 0x00, 0x09, 0x00, 0x19, 0x00, 0x00, 0x00,
+    0x00, 0x00, 0x01, 0x00, 0x41, 0x0A, 0x00, 0x00, 0x00, 0x09, 0x08, 0x04, 0x00, 0x00, 0x06, 0x10,
+    0x00, 0x03, 0x02, 0x0E, 0x00, 0x00, 0x00, 0x00, 0x00, 0x00, 0x00, 0x00, 0x00, 0x00, 0x00, 0x00,
+    0x00, 0x08, 0x40, 0x0A, 0x00, 0x00, 0x00,
+];
+
+const THREE_TEXT: &str = "dates\t1900\nsheet\tA\tworksheet\tvisible\ncell\t0\t0\tfloat\t3\n";
+
+// BOF of the globals, a CodePage record, EOF.
+const PAGE: [u8; 18] = [
+    9, 8, 4, 0, 0, 6, 5, 0, 0x42, 0, 2, 0, 0xB0, 4, 0x0A, 0, 0, 0,
+];
+
+/// A run: the words, what the source gives in which pieces, what the sink takes in which pieces, and
+/// the calls that fail.
+#[derive(Drop)]
+struct Case {
+    words: &'static [&'static str],
+    bytes: &'static [u8],
+    chunk: usize,
+    read_fails: Option<u64>,
+    room: usize,
+    write_chunk: usize,
+    write_fails: Option<u64>,
+}
+
+// A run in which nothing fails.
+fn quiet(words: &'static [&'static str], bytes: &'static [u8]) -> Case {
+    Case {
+        words,
+        bytes,
+        chunk: 64,
+        read_fails: None,
+        room: 999,
+        write_chunk: 64,
+        write_fails: None,
+    }
+}
+
+fn words_of(alloc: Global, words: &[&str]) -> Result<Vec<String>, AllocError> {
+    let mut all = Vec::new(alloc);
+    for word in words {
+        all.push(String::from_str(alloc, word)?)?;
+    }
+    Ok(all)
+}
+
+fn listed(alloc: Global, call: Option<u64>) -> Result<Vec<u64>, AllocError> {
+    let mut all = Vec::new(alloc);
+    if let Some(call) = call {
+        all.push(call)?;
+    }
+    Ok(all)
+}
+
+// The status of a run and what it wrote.
+fn outcome(alloc: Global, case: &Case) -> Result<(u8, Vec<u8>), AllocError> {
+    let words = words_of(alloc, case.words)?;
+    let read_fails = listed(alloc, case.read_fails)?;
+    let mut source = MemorySource::new(case.bytes.to_vec(alloc)?, case.chunk.max(1), read_fails);
+    let write_fails = listed(alloc, case.write_fails)?;
+    let mut sink = MemorySink::new(alloc, case.room, case.write_chunk.max(1), write_fails)?;
+    let status = run(alloc, &words, &mut source, &mut sink);
+    Ok((status, sink.as_slice().to_vec(alloc)?))
+}
+
+fn check(rt: &impl Abort, alloc: Global, case: &Case, status: u8, text: &str) -> Result<(), Fail> {
+    let (ended, written) = outcome(alloc, case)?;
+    assert_eq!(rt; ended, status);
+    assert_eq!(rt; written, text.as_bytes().to_vec(alloc)?);
+    Ok(())
+}
+
+#[test]
+fn writes_the_sheet_and_its_number(rt: HostRuntime) -> Result<(), Fail> {
+    check(&rt, rt.alloc(), &quiet(&[], &THREE), 0, THREE_TEXT)?;
+    check(&rt, rt.alloc(), &quiet(&["dump"], &THREE), 0, THREE_TEXT)?;
+    check(&rt, rt.alloc(), &quiet(&[], &[]), 0, "dates\t1900\n")
+}
+
+#[test]
+fn does_nothing_for_other_words(rt: HostRuntime) -> Result<(), Fail> {
+    check(&rt, rt.alloc(), &quiet(&["dmp"], &THREE), 2, "")?;
+    check(&rt, rt.alloc(), &quiet(&["dump", "dump"], &THREE), 2, "")
+}
+
+#[test]
+fn writes_the_first_fault(rt: HostRuntime) -> Result<(), Fail> {
+    check(
+        &rt,
+        rt.alloc(),
+        &quiet(&[], &PAGE),
+        1,
+        "error\tRecord type 0x0042 not built\n",
+    )?;
+    check(
+        &rt,
+        rt.alloc(),
+        &quiet(&[], &THREE[..21]),
+        1,
+        "error\tEnd of stream 'sheet offset'\n",
+    )
+}
+
+#[test]
+fn the_pieces_do_not_matter(rt: HostRuntime) -> Result<(), Fail> {
+    for chunk in [1, 2, 3, 7, 64] {
+        let mut case = quiet(&[], &THREE);
+        case.chunk = chunk;
+        case.write_chunk = chunk;
+        check(&rt, rt.alloc(), &case, 0, THREE_TEXT)?;
+    }
+    Ok(())
+}
+
+// In chunks of 1, 2 and 16 the stream takes 56, 29 and 5 calls, the last of which gives nothing.
+#[test]
+fn each_failing_read_is_told(rt: HostRuntime) -> Result<(), Fail> {
+    for (chunk, calls) in [(1, 56), (2, 29), (16, 5)] {
+        for call in 0..calls {
+            let mut case = quiet(&[], &THREE);
+            case.chunk = chunk;
+            case.read_fails = Some(call);
+            check(&rt, rt.alloc(), &case, 3, "")?;
+        }
+    }
+    Ok(())
+}
+
+#[test]
+fn each_failing_write_leaves_the_front(rt: HostRuntime) -> Result<(), Fail> {
+    for (call, _) in THREE_TEXT.as_bytes().iter().enumerate() {
+        let mut case = quiet(&[], &THREE);
+        case.write_chunk = 1;
+        case.write_fails = Some(call as u64);
+        check(&rt, rt.alloc(), &case, 4, &THREE_TEXT[..call])?;
+    }
+    Ok(())
+}
+
+#[test]
+fn each_room_takes_its_front(rt: HostRuntime) -> Result<(), Fail> {
+    let len = THREE_TEXT.len();
+    for room in 0..=len {
+        let mut case = quiet(&[], &THREE);
+        case.room = room;
+        let status = if room < len { 4 } else { 0 };
+        check(&rt, rt.alloc(), &case, status, &THREE_TEXT[..room])?;
+    }
+    Ok(())
+}
+
+#[test]
+fn passes_on_what_std_writes(rt: HostRuntime) {
+    let mut sink = StdSink::new(Vec::new(rt.alloc()));
+    assert_eq!(rt; sink.write(b"abc"), Ok(3));
+}
