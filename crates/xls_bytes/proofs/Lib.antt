@@ -2,3 +2,4 @@ pub mod SizeLemmas
 pub mod WholeLemmas
 pub mod QuotientLemmas
 pub mod TruncLemmas
+pub mod U32Lemmas
