@@ -3,3 +3,4 @@ pub mod WholeLemmas
 pub mod QuotientLemmas
 pub mod TruncLemmas
 pub mod U32Lemmas
+pub mod ColumnLemmas

@@ -1,5 +1,5 @@
 -- The numbers of each four bytes, from the front.
-use Rattle.std.proofs.Common.{◌≡◌, ℕ, ◌+◌, ◌*◌, ◌/◌, ◌≤◌, List, [], ◌∷◌, length, take, drop, refl, arith, ap, ◌∙◌, sym}
+use Rattle.std.proofs.Common.{◌≡◌, ℕ, ◌/◌, ◌≤◌, List, [], ◌∷◌, length, take, drop, refl, arith}
 use Rattle.xls_bytes.specs.Numbers.{le, u32s_of}
 
 -- the first four bytes, and the numbers of the bytes behind

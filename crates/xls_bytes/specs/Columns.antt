@@ -1,9 +1,14 @@
 -- Columns by letters: A to Z, then AA, AB, .. ZZ, AAA.
-use Rattle.std.specs.Prelude.{◌≡◌, ℕ, zero, suc, ◌+◌, ◌-◌, ◌*◌, ◌/◌, ◌%◌, ◌^◌, ◌<◌, ◌≤◌, ◌⊎◌, List, [], ◌∷◌, ◌++◌, length, All}
+use Rattle.std.specs.Prelude.{◌≡◌, ℕ, zero, suc, ◌+◌, ◌-◌, ◌*◌, ◌/◌, ◌%◌, ◌^◌, ◌<◌, ◌≤◌, ◌⊎◌, List, [], ◌∷◌, ◌++◌, length}
 
--- a word of the letters A to Z
+-- one of A to Z
+abbrev pub IsLetter : ℕ → Type 0
+IsLetter code = (65 ≤ code) × (code ≤ 90)
+
+-- a word of letters
 abbrev pub IsWord : List ℕ → Type 0
-IsWord word = All (λ letter. (65 ≤ letter) × (letter ≤ 90)) word
+IsWord [] = Unit {0}
+IsWord (letter ∷ word) = IsLetter letter × IsWord word
 
 -- its value in base 26, where A counts 1 and Z 26
 abbrev pub word_value : List ℕ → ℕ

@@ -1,7 +1,8 @@
 //! Numbers as bytes, the lowest byte first.
 
-ghost use Rattle.std.specs.Prelude.{◌≡◌, ◌≤◌, ◌%◌, length, take};
-ghost use Rattle.std.specs.Iterator.{YieldsFirst, item_count};
+ghost use Rattle.std.specs.Prelude.{◌≡◌, ◌≤◌, ◌%◌, length, take, IfSome, Some};
+ghost use Rattle.std.specs.Iterator.{YieldsFirst, item_count, at_most, UpTo};
+ghost use Rattle.std.specs.Iterator.SizeHint.{IsWithinCount};
 ghost use Rattle.xls_bytes.specs.Numbers.{le, twos_complement, u32s_of};
 
 use std::marker::Model;
@@ -103,6 +104,16 @@ impl<'a> Iterator for U32s<'a> {
         let (first, others) = self.bytes.split_at(4);
         self.bytes = others;
         Some(read_u32(first))
+    }
+
+    #[tactic(auto, using(crate::proofs::U32Lemmas::length_u32s_of))]
+    fn size_hint(&self) -> (usize, Option<usize>)
+        ensures lower { IsWithinCount result.0 (at_most (length self.now)) }
+        ensures upper { IfSome result.1 (UpTo (at_most (length self.now))) }
+        ensures exact { result ≡ (length self.now, Some (length self.now)) }
+    {
+        let len = self.bytes.len() / 4;
+        (len, Some(len))
     }
 }
 
