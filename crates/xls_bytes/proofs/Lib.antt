@@ -4,3 +4,4 @@ pub mod QuotientLemmas
 pub mod TruncLemmas
 pub mod U32Lemmas
 pub mod ColumnLemmas
+mod StandardFacts

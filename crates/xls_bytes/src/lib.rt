@@ -6,6 +6,8 @@ mod columns;
 mod doubles;
 mod laws;
 mod numbers;
+#[cfg(test)]
+mod tests;
 
 pub use columns::push_column;
 pub use doubles::{trunc_checked_of_bits, trunc_of_bits, whole_of_bits};
