@@ -1,0 +1,4 @@
+pub mod Pages
+pub mod Utf8
+pub mod Growth
+pub mod Errors

@@ -1,0 +1,118 @@
+//! Text at the end of a text.
+
+ghost use Rattle.std.specs.Prelude.{◌≡◌, ◌++◌, map, OnOk, OnErr, ◌<◌, Some, true, false, None};
+ghost use Rattle.std.specs.String.{string_bytes};
+ghost use Rattle.std.specs.Str.{encode_utf8_all, IsAscii};
+ghost use Rattle.std.specs.Str.Lossy.{utf8_lossy};
+ghost use Rattle.std.specs.Char.Utf16.{utf16_lossy_chars};
+ghost use Rattle.xls_text.specs.Growth.{IsGrown};
+ghost use Rattle.xls_text.specs.Pages.{units_of, windows_1252, decoded};
+ghost use Rattle.xls_text.specs.declared.encoding.XlsEncoding.TheVariants.{Utf16};
+ghost use Rattle.bstr.specs.Utf8.{lossy_chars};
+
+use crate::single::windows_1252_char;
+use crate::wide::{first_char, first_wide_char};
+use std::alloc::AllocError;
+use std::str::from_utf8;
+
+fn append_units(units: &[u16], s: &mut String) -> Result<(), AllocError>
+    ensures ok { OnOk result (string_bytes s.new ≡ string_bytes s.old ++ encode_utf8_all (utf16_lossy_chars units.now)) }
+    ensures grown { IsGrown (string_bytes s.old) (string_bytes s.new) }
+{
+    let mut rest = units;
+    'units: while let Some((first, after)) = first_char(rest) {
+        s.push(first)?;
+        rest = after;
+    }
+    Ok(())
+}
+
+/// Appends the text of 16-bit units. A surrogate that is in no pair gives U+FFFD. An `Err` leaves the text.
+pub fn push_units(units: &[u16], s: &mut String) -> Result<(), AllocError>
+    ensures ok { OnOk result (string_bytes s.new ≡ string_bytes s.old ++ encode_utf8_all (utf16_lossy_chars units.now)) }
+    ensures err { OnErr result (string_bytes s.new ≡ string_bytes s.old) }
+{
+    let before = s.len();
+    let done = append_units(units, s);
+    if done.is_err() {
+        s.truncate(before);
+    }
+    done
+}
+
+/// Units of two bytes each. A last odd byte is passed over.
+pub(crate) fn append_wide(bytes: &[u8], s: &mut String) -> Result<(), AllocError>
+    ensures ok { OnOk result (string_bytes s.new ≡ string_bytes s.old ++ encode_utf8_all (utf16_lossy_chars (units_of bytes.now))) }
+    ensures grown { IsGrown (string_bytes s.old) (string_bytes s.new) }
+{
+    let mut rest = bytes;
+    'units: while let Some((first, after)) = first_wide_char(rest) {
+        s.push(first)?;
+        rest = after;
+    }
+    Ok(())
+}
+
+/// ASCII is text as it stands.
+fn append_ascii(bytes: &[u8], s: &mut String) -> Result<(), AllocError>
+    requires { IsAscii bytes.now }
+    ensures ok { OnOk result (string_bytes s.new ≡ string_bytes s.old ++ bytes.now) }
+    ensures grown { IsGrown (string_bytes s.old) (string_bytes s.new) }
+{
+    let text = from_utf8(bytes).unwrap();
+    s.push_str(text)?;
+    Ok(())
+}
+
+/// Units of two bytes each, and U+FFFD for a last odd byte.
+pub(crate) fn append_utf16(bytes: &[u8], s: &mut String) -> Result<(), AllocError>
+    ensures ok { OnOk result (string_bytes s.new ≡ string_bytes s.old ++ encode_utf8_all (decoded Utf16 bytes.now)) }
+    ensures grown { IsGrown (string_bytes s.old) (string_bytes s.new) }
+{
+    append_wide(bytes, s)?;
+    if bytes.len() % 2 == 1 {
+        s.push('\u{FFFD}')?;
+    }
+    Ok(())
+}
+
+/// Each byte is one character.
+pub(crate) fn append_narrow(bytes: &[u8], s: &mut String) -> Result<(), AllocError>
+    ensures ok { OnOk result (string_bytes s.new ≡ string_bytes s.old ++ encode_utf8_all bytes.now) }
+    ensures grown { IsGrown (string_bytes s.old) (string_bytes s.new) }
+{
+    if bytes.is_ascii() {
+        return append_ascii(bytes, s);
+    }
+    'bytes: for byte in bytes {
+        s.push(char::from(*byte))?;
+    }
+    Ok(())
+}
+
+pub(crate) fn append_windows_1252(bytes: &[u8], s: &mut String) -> Result<(), AllocError>
+    ensures ok { OnOk result (string_bytes s.new ≡ string_bytes s.old ++ encode_utf8_all (map windows_1252 bytes.now)) }
+    ensures grown { IsGrown (string_bytes s.old) (string_bytes s.new) }
+{
+    if bytes.is_ascii() {
+        return append_ascii(bytes, s);
+    }
+    'bytes: for byte in bytes {
+        s.push(windows_1252_char(*byte))?;
+    }
+    Ok(())
+}
+
+pub(crate) fn append_utf8(bytes: &[u8], s: &mut String) -> Result<(), AllocError>
+    ensures lossy { OnOk result (string_bytes s.new ≡ string_bytes s.old ++ utf8_lossy bytes.now) }
+    ensures ok { OnOk result (string_bytes s.new ≡ string_bytes s.old ++ encode_utf8_all (lossy_chars bytes.now)) }
+    ensures grown { IsGrown (string_bytes s.old) (string_bytes s.new) }
+{
+    'chunks: for chunk in bytes.utf8_chunks() {
+        s.push_str(chunk.valid())?;
+        if !chunk.invalid().is_empty() {
+            s.push('\u{FFFD}')?;
+        }
+    }
+    Ok(())
+}
