@@ -11,6 +11,9 @@ IsGrown-refl old = ([], IsUtf8-nil, sym (append-nil old))
 pub IsGrown-append : (old now text new : List ℕ) → IsGrown old now → IsUtf8 text → new ≡ now ++ text → IsGrown old new
 IsGrown-append old now text new g u e = (g.0 ++ text, IsUtf8-append g.0 text g.1 u, e ∙ ap (λ t. t ++ text) g.2 ∙ append_assoc old g.0 text)
 
+pub IsGrown-trans : (old now new : List ℕ) → IsGrown old now → IsGrown now new → IsGrown old new
+IsGrown-trans old now new g h = IsGrown-append old now h.0 new g h.1 h.2
+
 pub IsGrown-push : (old now new : List ℕ) (c : ℕ) → IsGrown old now → IsScalar c → new ≡ now ++ encode_utf8 c → IsGrown old new
 IsGrown-push old now new c g s e = IsGrown-append old now (encode_utf8 c) new g (IsUtf8-encode c s) e
 

@@ -1,24 +1,23 @@
 -- Bytes as characters.
-use Rattle.std.proofs.Common.{◌≡◌, ℕ, suc, ◌+◌, ◌<◌, List, [], ◌∷◌, ◌++◌, length, drop, get_or, map, ◌%◌, append-nil, encode_utf8_all, refl, sym, ap, ◌∙◌, append_assoc, drop-cons, add-one, arith, lt-ltb}
+use Rattle.std.proofs.Common.{◌≡◌, ℕ, suc, ◌+◌, ◌<◌, List, [], ◌∷◌, ◌++◌, length, drop, get_or, map, ◌%◌, append-nil, encode_utf8_all, refl, sym, ap, ◌∙◌, append_assoc, drop-cons, add-one, arith, lt-ltb, Bool, true, false}
+use Rattle.std.proofs.lemmas.List.{map-append}
 use Rattle.std.specs.Char.{encode_utf8}
 use Rattle.std.specs.Str.{IsAscii}
 use Rattle.std.proofs.lemmas.Str.{encodes-append}
-use Rattle.xls_text.specs.Pages.{windows_1252, odd_mark, replacement}
+use Rattle.xls_text.specs.Pages.{windows_1252, byte_character, odd_mark, replacement}
 
--- a byte more, where f says which character it is
-pub byte_more : (f : ℕ → ℕ) (bs old new total : List ℕ) (i c : ℕ) → i < length bs → new ≡ old ++ encode_utf8 c → c ≡ f (get_or bs i 0)
-    → old ++ encode_utf8_all (map f (drop i bs)) ≡ total → new ++ encode_utf8_all (map f (drop (i + 1) bs)) ≡ total
-byte_more f bs old new total i c below grown is before =
-    rw (grown, is, append_assoc, add-one) (rw (drop-cons bs i 0 below) at before)
+-- a stretch of ASCII and one byte more, where f says which character it is
+pub stretch_more : (f : ℕ → ℕ) (old mid new total ascii after rest : List ℕ) (b c : ℕ)
+    → map f ascii ≡ ascii → encode_utf8_all ascii ≡ ascii → rest ≡ ascii ++ b ∷ after
+    → mid ≡ old ++ ascii → new ≡ mid ++ encode_utf8 c → c ≡ f b
+    → old ++ encode_utf8_all (map f rest) ≡ total → new ++ encode_utf8_all (map f after) ≡ total
+stretch_more f old mid new total ascii after rest b c same bytes whole front grown is before =
+    rw (grown, front, is, append_assoc, append_assoc)
+    (rw (whole, map-append, same, encodes-append, bytes) at before)
 
-pub map_same : (bs : List ℕ) → map (λ b. b) bs ≡ bs
+pub map_same : (bs : List ℕ) → map (byte_character false) bs ≡ bs
 map_same [] = refl
 map_same (b ∷ bs) = ap (λ t. b ∷ t) (map_same bs)
-
-pub byte_more_same : (bs old new total : List ℕ) (i c : ℕ) → i < length bs → new ≡ old ++ encode_utf8 c → c ≡ get_or bs i 0
-    → old ++ encode_utf8_all (drop i bs) ≡ total → new ++ encode_utf8_all (drop (i + 1) bs) ≡ total
-byte_more_same bs old new total i c below grown is before =
-    rw (grown, is, append_assoc, add-one) (rw (drop-cons bs i 0 below) at before)
 
 pub windows_1252-ascii : (b : ℕ) → b < 128 → windows_1252 b ≡ b
 windows_1252-ascii b low = rw (lt-ltb b 128 low)
@@ -26,6 +25,10 @@ windows_1252-ascii b low = rw (lt-ltb b 128 low)
 pub windows_1252-IsAscii : (bs : List ℕ) → IsAscii bs → map windows_1252 bs ≡ bs
 windows_1252-IsAscii [] all = refl
 windows_1252-IsAscii (b ∷ bs) all = rw (windows_1252-ascii b (all 0), windows_1252-IsAscii bs (λ i. all (suc i)))
+
+pub byte_character-IsAscii : (is_windows : Bool) (bs : List ℕ) → IsAscii bs → map (byte_character is_windows) bs ≡ bs
+byte_character-IsAscii true bs all = windows_1252-IsAscii bs all
+byte_character-IsAscii false bs all = map_same bs
 
 pub replacement_bytes : encode_utf8 0xFFFD ≡ 0xEF ∷ 0xBF ∷ 0xBD ∷ []
 unfolding encode_utf8

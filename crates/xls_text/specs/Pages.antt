@@ -1,21 +1,23 @@
--- Code pages, and the text of 16-bit units.
+-- Code pages, and the texts of a workbook stream: bytes in a page, units of one byte and units of
+-- two bytes ([MS-XLS] XLUnicodeString and its kin). A text is the list of its characters.
 use Rattle.std.specs.Prelude.{◌≡◌, ℕ, ◌+◌, ◌*◌, ◌/◌, ◌-◌, List, [], ◌∷◌, ◌++◌, length, take, map, min, nat_lt, Option, Some, None, slice_index, if◌then◌else◌, Bool, true, false, Result, Ok, Err, ◌==◌}
 use Rattle.std.specs.Char.Utf16.{utf16_lossy_chars}
 use Rattle.bstr.specs.Utf8.{lossy_chars}
+use Rattle.xls_bytes.specs.Numbers.{le}
 use Rattle.xls_text.specs.declared.encoding.XlsEncoding.{XlsEncoding}
+use Rattle.xls_text.specs.declared.encoding.XlsEncoding.TheVariants.{Utf16, Windows1252, Utf8, Latin1}
 use Rattle.xls_text.specs.declared.error.CfbError.{CfbError}
 use Rattle.xls_text.specs.declared.error.CfbError.TheVariants.{CodePageNotFound}
-use Rattle.xls_text.specs.declared.encoding.XlsEncoding.TheVariants.{Utf16, Windows1252, Utf8, Latin1}
 
 -- U+FFFD
 abbrev pub replacement : ℕ
 replacement = 0xFFFD
 
--- the units of two bytes each, the low byte first
+-- the units of each two bytes; a last odd byte is in none
 abbrev pub units_of : List ℕ → List ℕ
 units_of [] = []
 units_of (low ∷ []) = []
-units_of (low ∷ high ∷ bytes) = (low + 256 * high) ∷ units_of bytes
+units_of (low ∷ high ∷ bytes) = le (low ∷ high ∷ []) ∷ units_of bytes
 
 -- U+FFFD where the number of bytes is odd
 abbrev pub odd_mark : List ℕ → List ℕ
@@ -33,28 +35,36 @@ windows_1252_row =
 
 -- page 1252: every other byte is its own number
 abbrev pub windows_1252 : ℕ → ℕ
-windows_1252 b = if nat_lt b 0x80 then b else if nat_lt b 0xA0 then slice_index windows_1252_row (b - 0x80) else b
+windows_1252 b =
+    if nat_lt b 0x80 then b
+    else if nat_lt b 0xA0 then slice_index windows_1252_row (b - 0x80) else b
 
--- the characters of bytes in a page
+-- a byte's character under page 1252, or else the byte's own number
+abbrev pub byte_character : Bool → ℕ → ℕ
+byte_character true b = windows_1252 b
+byte_character false b = b
+
+-- the text of bytes in a page
 abbrev pub decoded : XlsEncoding → List ℕ → List ℕ
 decoded Utf16 bytes = utf16_lossy_chars (units_of bytes) ++ odd_mark bytes
 decoded Windows1252 bytes = map windows_1252 bytes
 decoded Utf8 bytes = lossy_chars bytes
 decoded Latin1 bytes = bytes
 
--- whether a string of the stream has units of two bytes, of one byte, or bytes in the page
+-- whether a string of the stream has units of two bytes, units of one byte, or bytes in the page
 pub data Form : Type 0 where
   Wide : Form
   Narrow : Form
   Paged : Form
 
+-- which of them a high-byte flag says, where there is one
 abbrev pub form_of : XlsEncoding → Option Bool → Form
 form_of page (Some true) = Wide
 form_of page (Some false) = Narrow
 form_of Utf16 None = Narrow
 form_of page None = Paged
 
--- how many characters of the string are there, and their bytes
+-- how many characters of a string are there, and their bytes
 abbrev pub taken : Form → List ℕ → ℕ → ℕ × ℕ
 taken Wide stream len = (min (length stream / 2) len, 2 * min (length stream / 2) len)
 taken form stream len = (min (length stream) len, min (length stream) len)
@@ -62,18 +72,23 @@ taken form stream len = (min (length stream) len, min (length stream) len)
 abbrev pub counts : XlsEncoding → Option Bool → List ℕ → ℕ → ℕ × ℕ
 counts page high stream len = taken (form_of page high) stream len
 
--- the page of a number
-abbrev pub page_of : ℕ → Result XlsEncoding CfbError
-page_of n = if n == 1200 then Ok Utf16 else if n == 1252 then Ok Windows1252
-    else if n == 65001 then Ok Utf8 else if n == 28591 then Ok Latin1 else Err (CodePageNotFound n)
-
+-- the text of a string's bytes
 abbrev pub text_in : Form → XlsEncoding → List ℕ → List ℕ
 text_in Wide page bytes = utf16_lossy_chars (units_of bytes)
 text_in Narrow page bytes = bytes
 text_in Paged page bytes = decoded page bytes
 
--- the characters of a string
+-- the text of a string of at most so many characters at the front of a stream
 abbrev pub string_text : XlsEncoding → Option Bool → List ℕ → ℕ → List ℕ
 string_text page high stream len =
     let form = form_of page high in
     text_in form page (take ((taken form stream len).1) stream)
+
+-- the page of a number
+abbrev pub page_of : ℕ → Result XlsEncoding CfbError
+page_of n =
+    if n == 1200 then Ok Utf16
+    else if n == 1252 then Ok Windows1252
+    else if n == 65001 then Ok Utf8
+    else if n == 28591 then Ok Latin1
+    else Err (CodePageNotFound n)

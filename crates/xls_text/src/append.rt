@@ -6,12 +6,12 @@ ghost use Rattle.std.specs.Str.{encode_utf8_all, IsAscii};
 ghost use Rattle.std.specs.Str.Lossy.{utf8_lossy};
 ghost use Rattle.std.specs.Char.Utf16.{utf16_lossy_chars};
 ghost use Rattle.xls_text.specs.Growth.{IsGrown};
-ghost use Rattle.xls_text.specs.Pages.{units_of, windows_1252, decoded};
+ghost use Rattle.xls_text.specs.Pages.{units_of, windows_1252, byte_character, decoded};
 ghost use Rattle.xls_text.specs.declared.encoding.XlsEncoding.TheVariants.{Utf16};
 ghost use Rattle.bstr.specs.Utf8.{lossy_chars};
 
-use crate::single::windows_1252_char;
-use crate::wide::{first_char, first_wide_char};
+use crate::single::{character, first_stretch};
+use crate::units::{first_char, first_wide_char};
 use std::alloc::AllocError;
 use std::str::from_utf8;
 
@@ -76,33 +76,39 @@ pub(crate) fn append_utf16(bytes: &[u8], s: &mut String) -> Result<(), AllocErro
     Ok(())
 }
 
-/// Each byte is one character.
+/// Each byte is one character: under page 1252, or else its own number. ASCII stretches go over
+/// whole.
+fn append_single(bytes: &[u8], is_windows_1252: bool, s: &mut String) -> Result<(), AllocError>
+    ensures ok { OnOk result (string_bytes s.new ≡ string_bytes s.old
+        ++ encode_utf8_all (map (byte_character is_windows_1252) bytes.now)) }
+    ensures grown { IsGrown (string_bytes s.old) (string_bytes s.new) }
+{
+    let mut rest = bytes;
+    'stretches: while let Some((ascii, byte, after)) = first_stretch(rest) {
+        append_ascii(ascii, s)?;
+        s.push(character(byte, is_windows_1252))?;
+        rest = after;
+    }
+    append_ascii(rest, s)
+}
+
+/// Each byte is its own character.
 pub(crate) fn append_narrow(bytes: &[u8], s: &mut String) -> Result<(), AllocError>
     ensures ok { OnOk result (string_bytes s.new ≡ string_bytes s.old ++ encode_utf8_all bytes.now) }
     ensures grown { IsGrown (string_bytes s.old) (string_bytes s.new) }
 {
-    if bytes.is_ascii() {
-        return append_ascii(bytes, s);
-    }
-    'bytes: for byte in bytes {
-        s.push(char::from(*byte))?;
-    }
-    Ok(())
+    append_single(bytes, false, s)
 }
 
+/// Bytes of page 1252.
 pub(crate) fn append_windows_1252(bytes: &[u8], s: &mut String) -> Result<(), AllocError>
     ensures ok { OnOk result (string_bytes s.new ≡ string_bytes s.old ++ encode_utf8_all (map windows_1252 bytes.now)) }
     ensures grown { IsGrown (string_bytes s.old) (string_bytes s.new) }
 {
-    if bytes.is_ascii() {
-        return append_ascii(bytes, s);
-    }
-    'bytes: for byte in bytes {
-        s.push(windows_1252_char(*byte))?;
-    }
-    Ok(())
+    append_single(bytes, true, s)
 }
 
+/// Bytes of page 65001.
 pub(crate) fn append_utf8(bytes: &[u8], s: &mut String) -> Result<(), AllocError>
     ensures lossy { OnOk result (string_bytes s.new ≡ string_bytes s.old ++ utf8_lossy bytes.now) }
     ensures ok { OnOk result (string_bytes s.new ≡ string_bytes s.old ++ encode_utf8_all (lossy_chars bytes.now)) }

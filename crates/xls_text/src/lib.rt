@@ -6,7 +6,7 @@ mod encoding;
 mod error;
 mod laws;
 mod single;
-mod wide;
+mod units;
 
 pub use append::push_units;
 pub use encoding::XlsEncoding;

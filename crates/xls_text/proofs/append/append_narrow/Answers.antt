@@ -1,23 +1,5 @@
-use Rattle.std.proofs.Common.{rules, ◌≡◌, ◌<◌, length, get_or, encode_utf8_all}
-use Rattle.std.specs.Char.{IsScalar}
-use Rattle.std.specs.Str.{IsAscii}
-use Rattle.std.proofs.lemmas.Str.{encodes-IsAscii}
-use Rattle.xls_text.proofs.GrownLemmas.{IsGrown-push}
-use Rattle.xls_text.proofs.PageLemmas.{byte_more_same}
+use Rattle.xls_text.proofs.PageLemmas.{map_same}
 use Rattle.xls_text.proofs.append.append_narrow.Goals as goal
 
-pub returns-then-is_ascii-clause-ok : goal.returns-then-is_ascii-clause-ok
-returns-then-is_ascii-clause-ok c =
-    let ascii : IsAscii c.args.bytes.now = search rules in
-    let same : encode_utf8_all c.args.bytes.now ≡ c.args.bytes.now = encodes-IsAscii _ ascii in
-    rw same c.append_ascii.ensures.ok
-
-pub bytes-preserved : goal.bytes-preserved
-bytes-preserved c =
-    let char : IsScalar c.from.result = search rules in
-    let is : c.from.result ≡ get_or c.args.bytes.now c.bytes.byte-index 0 = search rules in
-    let below : c.bytes.byte-index < length c.args.bytes.now = search rules in
-    record {
-      so_far = byte_more_same _ _ _ _ _ _ below c.in_ok-push.ensures.bytes is c.bytes.invariant.so_far;
-      grown = IsGrown-push _ _ _ _ c.bytes.invariant.grown char c.in_ok-push.ensures.bytes;
-    }
+pub returns-clause-ok : goal.returns-clause-ok
+returns-clause-ok c = rw map_same at c.append_single.ensures.ok

@@ -1,18 +1,20 @@
-//! The first character of units.
+//! The first character of 16-bit units.
 
 ghost use Rattle.std.specs.Prelude.{◌≡◌, [], ◌<◌, ◌≤◌, ◌∷◌, ◌+◌, true, length, MatchOption};
 ghost use Rattle.std.specs.Char.Utf16.{utf16_lossy_chars, lone_unit_char, surrogate_pair_char, is_high_surrogate, is_low_surrogate};
 ghost use Rattle.std.specs.Option.{unwrap_or};
 ghost use Rattle.xls_text.specs.Pages.{units_of};
 
-/// The character of a unit that is in no pair.
+use xls_bytes::read_u16;
+
+// The character of a unit that is in no pair.
 fn lone(unit: u16) -> char
     ensures { result ≡ unwrap_or (lone_unit_char unit) 0xFFFD }
 {
     char::from_u32(unit as u32).unwrap_or('\u{FFFD}')
 }
 
-/// The character of a pair.
+// The character of a pair.
 fn pair(high: u16, low: u16) -> char
     requires high { is_high_surrogate high ≡ true }
     requires low { is_low_surrogate low ≡ true }
@@ -34,7 +36,7 @@ fn is_low(unit: u16) -> bool
     0xDC00 <= unit && unit < 0xE000
 }
 
-/// The first character of a unit and the units after it, and the units after that.
+// The first character of a unit and the units after it, and the units after that.
 fn char_at(unit: u16, rest: &[u16]) -> (char, &[u16])
     ensures text { utf16_lossy_chars (unit ∷ rest.now) ≡ result.0 ∷ utf16_lossy_chars result.1.now }
     ensures shorter { length result.1.now ≤ length rest.now }
@@ -52,7 +54,7 @@ fn char_at(unit: u16, rest: &[u16]) -> (char, &[u16])
 }
 
 /// The first character of units, and the units after it.
-pub fn first_char(units: &[u16]) -> Option<(char, &[u16])>
+pub(crate) fn first_char(units: &[u16]) -> Option<(char, &[u16])>
     ensures text { MatchOption result (length units.now ≡ 0) (λ x. utf16_lossy_chars units.now ≡ x.0 ∷ utf16_lossy_chars x.1.now) }
     ensures shorter { MatchOption result (length units.now ≡ 0) (λ x. length x.1.now < length units.now) }
 {
@@ -60,6 +62,8 @@ pub fn first_char(units: &[u16]) -> Option<(char, &[u16])>
     Some(char_at(*unit, rest))
 }
 
+// The first unit of two bytes, and the bytes after it.
+#[tactic(auto, using(crate::proofs::UnitLemmas::units_of_more, crate::proofs::UnitLemmas::units_of_few))]
 fn first_unit(bytes: &[u8]) -> Option<(u16, &[u8])>
     ensures units { MatchOption result (units_of bytes.now ≡ []) (λ x. units_of bytes.now ≡ x.0 ∷ units_of x.1.now) }
     ensures shorter { MatchOption result (length bytes.now < 2) (λ x. length x.1.now < length bytes.now) }
@@ -68,9 +72,10 @@ fn first_unit(bytes: &[u8]) -> Option<(u16, &[u8])>
         return None;
     }
     let (unit, rest) = bytes.split_at(2);
-    Some((unit[0] as u16 + 256 * unit[1] as u16, rest))
+    Some((read_u16(unit), rest))
 }
 
+// The same, where the units have two bytes each.
 fn wide_char_at(unit: u16, rest: &[u8]) -> (char, &[u8])
     ensures text { utf16_lossy_chars (unit ∷ units_of rest.now) ≡ result.0 ∷ utf16_lossy_chars (units_of result.1.now) }
     ensures shorter { length result.1.now ≤ length rest.now }
@@ -88,7 +93,7 @@ fn wide_char_at(unit: u16, rest: &[u8]) -> (char, &[u8])
 }
 
 /// The first character of units of two bytes each, and the bytes after it.
-pub fn first_wide_char(bytes: &[u8]) -> Option<(char, &[u8])>
+pub(crate) fn first_wide_char(bytes: &[u8]) -> Option<(char, &[u8])>
     ensures text { MatchOption result (units_of bytes.now ≡ []) (λ x. utf16_lossy_chars (units_of bytes.now) ≡ x.0 ∷ utf16_lossy_chars (units_of x.1.now)) }
     ensures shorter { MatchOption result (length bytes.now < 2) (λ x. length x.1.now < length bytes.now) }
 {

@@ -1,7 +1,7 @@
 use Rattle.std.proofs.Common.{rules, ◌≡◌, ℕ, List, [], ◌∷◌, length, true, false, sym, ap, ◌∙◌}
 use Rattle.std.specs.Char.Utf16.{utf16_lossy_chars, is_high_surrogate, is_low_surrogate}
 use Rattle.xls_text.proofs.UnitLemmas.{units_pair, units_alone, units_not_high, units_not_low}
-use Rattle.xls_text.proofs.wide.char_at.Goals as goal
+use Rattle.xls_text.proofs.units.char_at.Goals as goal
 
 pub returns-then-not-is_high-clause-text : goal.returns-then-not-is_high-clause-text
 returns-then-not-is_high-clause-text c =

@@ -2,7 +2,7 @@ use Rattle.std.proofs.Common.{rules, ◌≡◌, [], ◌∷◌, true, false}
 use Rattle.std.specs.Char.Utf16.{is_high_surrogate, is_low_surrogate}
 use Rattle.xls_text.specs.Pages.{units_of}
 use Rattle.xls_text.proofs.UnitLemmas.{units_pair, units_last, units_not_high, units_not_low}
-use Rattle.xls_text.proofs.wide.wide_char_at.Goals as goal
+use Rattle.xls_text.proofs.units.wide_char_at.Goals as goal
 
 pub returns-then-not-is_high-clause-text : goal.returns-then-not-is_high-clause-text
 returns-then-not-is_high-clause-text c =
