@@ -1,5 +1,5 @@
 -- A text that grew can be cut where it grew.
-use Rattle.std.proofs.Common.{◌≡◌, ℕ, ◌<◌, ◌≤◌, List, [], ◌++◌, length, take, get_or, IsUtf8, encode_utf8, refl, sym, ap, subst, ◌∙◌, arith, append_assoc, append-nil, length-append, take_at}
+use Rattle.std.proofs.Common.{◌≡◌, ℕ, List, [], ◌++◌, length, take, IsUtf8, encode_utf8, sym, ap, subst, ◌∙◌, append_assoc, append-nil, take_at}
 use Rattle.std.specs.Char.{IsScalar}
 use Rattle.std.specs.String.Boundary.{IsSplitPoint}
 use Rattle.std.proofs.lemmas.Str.{IsUtf8-append, IsUtf8-encode, IsUtf8-nil, IsCharBoundary-at_seam}

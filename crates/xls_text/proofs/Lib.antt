@@ -2,3 +2,5 @@ pub mod UnitLemmas
 pub mod GrownLemmas
 pub mod PageLemmas
 pub mod Utf8Lemmas
+pub mod Utf16Lemmas
+mod StandardFacts

@@ -1,5 +1,5 @@
 -- Bytes as characters.
-use Rattle.std.proofs.Common.{◌≡◌, ℕ, suc, ◌+◌, ◌<◌, List, [], ◌∷◌, ◌++◌, length, drop, get_or, map, ◌%◌, append-nil, encode_utf8_all, refl, sym, ap, ◌∙◌, append_assoc, drop-cons, add-one, arith, lt-ltb, Bool, true, false}
+use Rattle.std.proofs.Common.{◌≡◌, ℕ, suc, ◌<◌, List, [], ◌∷◌, ◌++◌, length, map, ◌%◌, append-nil, encode_utf8_all, refl, ap, ◌∙◌, append_assoc, arith, lt-ltb, Bool, true, false}
 use Rattle.std.proofs.lemmas.List.{map-append}
 use Rattle.std.specs.Char.{encode_utf8}
 use Rattle.std.specs.Str.{IsAscii}

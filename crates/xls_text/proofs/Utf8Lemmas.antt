@@ -1,11 +1,10 @@
 -- What Table 3-7 decodes is what the rule of the longest begun sequence reads, and nothing else.
-use Rattle.std.proofs.Common.{◌≡◌, ◌⊎◌, ℕ, zero, suc, ◌+◌, ◌<◌, ◌≤◌, true, false, List, [], ◌∷◌, ◌++◌, length, take, drop, slice_index, Some, None, Option, refl, sym, ap, subst, ◌∙◌, arith, inl, inr, ⊎_elim, append_assoc, append-nil, length-append, length-drop, length-take-le, get_or-take, drop_at}
-use Rattle.std.proofs.lemmas.List.{get_or_append_left, drop_more}
+use Rattle.std.proofs.Common.{◌≡◌, ℕ, zero, suc, ◌<◌, ◌≤◌, true, List, [], ◌∷◌, ◌++◌, length, take, drop, slice_index, Some, None, Option, refl, sym, ap, subst, ◌∙◌, arith, inl, inr, ⊎_elim, append-nil, length-append, length-drop, length-take-le, get_or-take}
+use Rattle.std.proofs.lemmas.List.{get_or_append_left}
 use Rattle.std.proofs.lemmas.Bool.{cases_lt}
 use Rattle.std.proofs.lemmas.Str.{encode_same, len_utf8_bounds, length-encode}
 use Rattle.std.specs.Char.{encode_utf8, IsScalar}
-use Rattle.std.specs.Str.{StartsWithNoChar}
-use Rattle.bstr.specs.Utf8.{Decoded, decoded, decoded_by, bad, good, second, continues, code_of_3, code_of_4, lossy_chars, or_replacement}
+use Rattle.bstr.specs.Utf8.{Decoded, decoded, bad, good, second, continues, lossy_chars, or_replacement}
 use Rattle.bstr.proofs.lemmas.EncodeLemmas.{decoded-encode}
 use Rattle.bstr.proofs.lemmas.PieceLemmas.{by-shape, piece-bounds, lossy_chars-step, lossy_chars-nil, value-2, value-3, value-5, value-8, value-9, value-11, value-12}
 use Rattle.bstr.proofs.lemmas.SoundLemmas.{SpellsChar-decoded}

@@ -1,4 +1,5 @@
 pub mod Pages
 pub mod Utf8
+pub mod Utf16
 pub mod Growth
 pub mod Errors

@@ -1,6 +1,6 @@
 -- Code pages, and the texts of a workbook stream: bytes in a page, units of one byte and units of
 -- two bytes ([MS-XLS] XLUnicodeString and its kin). A text is the list of its characters.
-use Rattle.std.specs.Prelude.{◌≡◌, ℕ, ◌+◌, ◌*◌, ◌/◌, ◌-◌, List, [], ◌∷◌, ◌++◌, length, take, map, min, nat_lt, Option, Some, None, slice_index, if◌then◌else◌, Bool, true, false, Result, Ok, Err, ◌==◌}
+use Rattle.std.specs.Prelude.{ℕ, ◌*◌, ◌/◌, ◌-◌, List, [], ◌∷◌, ◌++◌, length, take, map, min, nat_lt, Option, Some, None, slice_index, if◌then◌else◌, Bool, true, false, Result, Ok, Err, ◌==◌}
 use Rattle.std.specs.Char.Utf16.{utf16_lossy_chars}
 use Rattle.bstr.specs.Utf8.{lossy_chars}
 use Rattle.xls_bytes.specs.Numbers.{le}

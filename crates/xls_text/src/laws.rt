@@ -1,11 +1,15 @@
 //! Laws of the definitions.
 
-ghost use Rattle.std.specs.Prelude.{◌≡◌, List, ℕ};
-ghost use Rattle.bstr.specs.Utf8.{lossy_chars};
-ghost use Rattle.xls_text.specs.Utf8.{ReadsUtf8};
+ghost use Rattle.std.specs.Prelude.{List, ℕ};
+ghost use Rattle.xls_text.specs.Utf8.{HasOneUtf8Reading};
+ghost use Rattle.xls_text.specs.Utf16.{HasOneUtf16Reading};
 
-/// The bytes of page 65001 read by the rule, and in one way.
+/// The bytes of page 65001 read by the rule of the longest begun sequence, and in one way.
 pub fn one_utf8_reading()
-    ensures reads { (bytes : List ℕ) → ReadsUtf8 bytes (lossy_chars bytes) }
-    ensures only { (bytes cs : List ℕ) → ReadsUtf8 bytes cs → cs ≡ lossy_chars bytes }
+    ensures { (bytes : List ℕ) → HasOneUtf8Reading bytes }
+{}
+
+/// Units read as UTF-16 with U+FFFD for each surrogate that is in no pair, and in one way.
+pub fn one_utf16_reading()
+    ensures { (units : List ℕ) → HasOneUtf16Reading units }
 {}

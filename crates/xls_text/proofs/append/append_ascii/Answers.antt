@@ -1,7 +1,5 @@
-use Rattle.std.proofs.Common.{rules, ◌≡◌, IsUtf8, List, ℕ, IsOk, refl, Result, Ok, Err, MatchResult}
-use Rattle.std.specs.String.{string_bytes}
+use Rattle.std.proofs.Common.{IsOk, refl, Result, Ok, Err, MatchResult}
 use Rattle.std.proofs.lemmas.Str.{IsUtf8-from_ascii}
-use Rattle.xls_text.specs.Growth.{IsGrown}
 use Rattle.xls_text.proofs.GrownLemmas.{IsGrown-refl}
 use Rattle.xls_text.proofs.append.append_ascii.Goals as goal
 

@@ -1,9 +1,7 @@
-use Rattle.std.proofs.Common.{rules, ◌≡◌, ◌++◌, map, List, ℕ, encode_utf8_all, ap, ◌∙◌, sym}
+use Rattle.std.proofs.Common.{rules, encode_utf8_all, ap, ◌∙◌}
 use Rattle.std.specs.Char.{IsScalar}
 use Rattle.std.specs.Str.{IsAscii}
-use Rattle.std.specs.String.{string_bytes}
 use Rattle.std.proofs.lemmas.Str.{encodes-IsAscii}
-use Rattle.xls_text.specs.Growth.{IsGrown}
 use Rattle.xls_text.specs.Pages.{byte_character}
 use Rattle.xls_text.proofs.GrownLemmas.{IsGrown-push, IsGrown-trans}
 use Rattle.xls_text.proofs.PageLemmas.{stretch_more, byte_character-IsAscii}

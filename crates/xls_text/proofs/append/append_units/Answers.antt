@@ -1,4 +1,4 @@
-use Rattle.std.proofs.Common.{rules, ◌≡◌, ℕ, List, [], ◌∷◌, sym, ap, ◌∙◌, append-nil, append_assoc, length}
+use Rattle.std.proofs.Common.{rules, ◌≡◌, sym, ◌∙◌, append-nil, append_assoc, length}
 use Rattle.std.specs.Char.{IsScalar}
 use Rattle.xls_text.proofs.UnitLemmas.{units_none}
 use Rattle.xls_text.proofs.GrownLemmas.{IsGrown-push}

@@ -1,4 +1,4 @@
-use Rattle.std.proofs.Common.{rules, ◌≡◌, ◌%◌, length, refl, arith}
+use Rattle.std.proofs.Common.{refl, arith}
 use Rattle.std.specs.Char.{IsScalar}
 use Rattle.xls_text.proofs.GrownLemmas.{IsGrown-push}
 use Rattle.xls_text.proofs.PageLemmas.{odd_mark-odd, odd_mark-even, with_mark, no_mark}

@@ -1,4 +1,4 @@
-use Rattle.std.proofs.Common.{rules, ◌≡◌, [], sym, ap, ◌∙◌, append-nil, append_assoc}
+use Rattle.std.proofs.Common.{rules, ◌≡◌, [], sym, ◌∙◌, append-nil, append_assoc}
 use Rattle.std.specs.Char.{IsScalar}
 use Rattle.xls_text.specs.Pages.{units_of}
 use Rattle.xls_text.proofs.UnitLemmas.{units_nil}

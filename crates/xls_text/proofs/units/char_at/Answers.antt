@@ -1,5 +1,5 @@
-use Rattle.std.proofs.Common.{rules, ◌≡◌, ℕ, List, [], ◌∷◌, length, true, false, sym, ap, ◌∙◌}
-use Rattle.std.specs.Char.Utf16.{utf16_lossy_chars, is_high_surrogate, is_low_surrogate}
+use Rattle.std.proofs.Common.{rules, ◌≡◌, ◌∷◌, length, true, false}
+use Rattle.std.specs.Char.Utf16.{is_high_surrogate, is_low_surrogate}
 use Rattle.xls_text.proofs.UnitLemmas.{units_pair, units_alone, units_not_high, units_not_low}
 use Rattle.xls_text.proofs.units.char_at.Goals as goal
 
