@@ -47,6 +47,8 @@ fn names_columns_by_letters(rt: HostRuntime) -> Result<(), Fail> {
         (701, "$ZZ"),
         (702, "$AAA"),
         (16_383, "$XFD"),
+        (321_272_405, "$ZZZZZZ"),
+        (321_272_406, "$AAAAAAA"),
         (u32::MAX, "$MWLQKWV"),
     ];
     for (column, name) in names {

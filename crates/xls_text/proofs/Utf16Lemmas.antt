@@ -5,7 +5,7 @@ use Rattle.std.proofs.lemmas.Bool.Decides.{nat_tests}
 use Rattle.std.specs.Option.{unwrap_or}
 use Rattle.std.specs.Char.Utf16.{utf16_lossy_chars, lone_unit_char, surrogate_pair_char, is_high_surrogate, is_low_surrogate}
 use Rattle.xls_text.proofs.UnitLemmas.{units_pair, units_alone, units_not_high, units_not_low, units_none}
-use Rattle.xls_text.specs.Utf16.{IsHigh, IsLow, StartsLow, TakesUnits, ReadsUtf16}
+use Rattle.xls_text.specs.Utf16Reading.{IsHigh, IsLow, StartsLow, TakesUnits, ReadsUtf16}
 
 lone_below : (u : ℕ) → u < 0xD800 → unwrap_or (lone_unit_char u) 0xFFFD ≡ u
 lone_below u h = grind (arith, nat_tests)

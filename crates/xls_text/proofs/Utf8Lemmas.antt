@@ -8,7 +8,7 @@ use Rattle.bstr.specs.Utf8.{Decoded, decoded, bad, good, second, continues, loss
 use Rattle.bstr.proofs.lemmas.EncodeLemmas.{decoded-encode}
 use Rattle.bstr.proofs.lemmas.PieceLemmas.{by-shape, piece-bounds, lossy_chars-step, lossy_chars-nil, value-2, value-3, value-5, value-8, value-9, value-11, value-12}
 use Rattle.bstr.proofs.lemmas.SoundLemmas.{SpellsChar-decoded}
-use Rattle.xls_text.specs.Utf8.{BeginsSome, IsLongestBegun, Takes, ReadsUtf8}
+use Rattle.xls_text.specs.Utf8Reading.{BeginsSome, IsLongestBegun, Takes, ReadsUtf8}
 
 encode_utf8_nonempty : (c : ℕ) → 0 < length (encode_utf8 c)
 encode_utf8_nonempty c = let bounds = len_utf8_bounds c in omega (arith, length-encode c)

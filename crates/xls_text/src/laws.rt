@@ -1,8 +1,8 @@
 //! Laws of the definitions.
 
 ghost use Rattle.std.specs.Prelude.{List, ℕ};
-ghost use Rattle.xls_text.specs.Utf8.{HasOneUtf8Reading};
-ghost use Rattle.xls_text.specs.Utf16.{HasOneUtf16Reading};
+ghost use Rattle.xls_text.specs.Utf8Reading.{HasOneUtf8Reading};
+ghost use Rattle.xls_text.specs.Utf16Reading.{HasOneUtf16Reading};
 
 /// The bytes of page 65001 read by the rule of the longest begun sequence, and in one way.
 pub fn one_utf8_reading()

@@ -6,9 +6,11 @@ mod encoding;
 mod error;
 mod laws;
 mod single;
+#[cfg(test)]
+mod tests;
 mod units;
 
 pub use append::push_units;
 pub use encoding::XlsEncoding;
 pub use error::CfbError;
-pub use laws::one_utf8_reading;
+pub use laws::{one_utf8_reading, one_utf16_reading};

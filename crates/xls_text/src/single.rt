@@ -38,7 +38,8 @@ pub(crate) fn character(byte: u8, is_windows_1252: bool) -> char
 /// The ASCII bytes at the front, the first byte that is none, and the bytes behind it.
 pub(crate) fn first_stretch(bytes: &[u8]) -> Option<(&[u8], u8, &[u8])>
     ensures ascii { MatchOption result (IsAscii bytes.now) (λ x. IsAscii x.0.now) }
-    ensures whole { MatchOption result (IsAscii bytes.now) (λ x. bytes.now ≡ x.0.now ++ x.1 ∷ x.2.now) }
+    ensures whole { MatchOption result (IsAscii bytes.now)
+        (λ x. bytes.now ≡ x.0.now ++ x.1 ∷ x.2.now) }
 {
     let at = bytes.find_non_ascii_byte()?;
     let (ascii, others) = bytes.split_at(at);

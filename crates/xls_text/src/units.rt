@@ -55,8 +55,10 @@ fn char_at(unit: u16, rest: &[u16]) -> (char, &[u16])
 
 /// The first character of units, and the units after it.
 pub(crate) fn first_char(units: &[u16]) -> Option<(char, &[u16])>
-    ensures text { MatchOption result (length units.now ≡ 0) (λ x. utf16_lossy_chars units.now ≡ x.0 ∷ utf16_lossy_chars x.1.now) }
-    ensures shorter { MatchOption result (length units.now ≡ 0) (λ x. length x.1.now < length units.now) }
+    ensures text { MatchOption result (length units.now ≡ 0)
+        (λ x. utf16_lossy_chars units.now ≡ x.0 ∷ utf16_lossy_chars x.1.now) }
+    ensures shorter { MatchOption result (length units.now ≡ 0)
+        (λ x. length x.1.now < length units.now) }
 {
     let (unit, rest) = units.split_first()?;
     Some(char_at(*unit, rest))
@@ -65,8 +67,10 @@ pub(crate) fn first_char(units: &[u16]) -> Option<(char, &[u16])>
 // The first unit of two bytes, and the bytes after it.
 #[tactic(auto, using(crate::proofs::UnitLemmas::units_of_more, crate::proofs::UnitLemmas::units_of_few))]
 fn first_unit(bytes: &[u8]) -> Option<(u16, &[u8])>
-    ensures units { MatchOption result (units_of bytes.now ≡ []) (λ x. units_of bytes.now ≡ x.0 ∷ units_of x.1.now) }
-    ensures shorter { MatchOption result (length bytes.now < 2) (λ x. length x.1.now < length bytes.now) }
+    ensures units { MatchOption result (units_of bytes.now ≡ [])
+        (λ x. units_of bytes.now ≡ x.0 ∷ units_of x.1.now) }
+    ensures shorter { MatchOption result (length bytes.now < 2)
+        (λ x. length x.1.now < length bytes.now) }
 {
     if bytes.len() < 2 {
         return None;
@@ -77,7 +81,8 @@ fn first_unit(bytes: &[u8]) -> Option<(u16, &[u8])>
 
 // The same, where the units have two bytes each.
 fn wide_char_at(unit: u16, rest: &[u8]) -> (char, &[u8])
-    ensures text { utf16_lossy_chars (unit ∷ units_of rest.now) ≡ result.0 ∷ utf16_lossy_chars (units_of result.1.now) }
+    ensures text { utf16_lossy_chars (unit ∷ units_of rest.now)
+        ≡ result.0 ∷ utf16_lossy_chars (units_of result.1.now) }
     ensures shorter { length result.1.now ≤ length rest.now }
 {
     if !is_high(unit) {
@@ -94,8 +99,10 @@ fn wide_char_at(unit: u16, rest: &[u8]) -> (char, &[u8])
 
 /// The first character of units of two bytes each, and the bytes after it.
 pub(crate) fn first_wide_char(bytes: &[u8]) -> Option<(char, &[u8])>
-    ensures text { MatchOption result (units_of bytes.now ≡ []) (λ x. utf16_lossy_chars (units_of bytes.now) ≡ x.0 ∷ utf16_lossy_chars (units_of x.1.now)) }
-    ensures shorter { MatchOption result (length bytes.now < 2) (λ x. length x.1.now < length bytes.now) }
+    ensures text { MatchOption result (units_of bytes.now ≡ [])
+        (λ x. utf16_lossy_chars (units_of bytes.now) ≡ x.0 ∷ utf16_lossy_chars (units_of x.1.now)) }
+    ensures shorter { MatchOption result (length bytes.now < 2)
+        (λ x. length x.1.now < length bytes.now) }
 {
     let (unit, rest) = first_unit(bytes)?;
     Some(wide_char_at(unit, rest))
