@@ -47,7 +47,8 @@ NamesDiffer = (c d : ℕ) → column_name c ≡ column_name d → c ≡ d
 -- a smaller column's name is shorter, or as long and earlier by its letters
 abbrev pub NamesInOrder : Type 0
 NamesInOrder = (c d : ℕ) → c < d → (length (column_name c) < length (column_name d))
-    ⊎ ((length (column_name c) ≡ length (column_name d)) × IsEarlier (column_name c) (column_name d))
+    ⊎ ((length (column_name c) ≡ length (column_name d))
+    × IsEarlier (column_name c) (column_name d))
 
 -- a 32-bit column's name has at most seven letters
 abbrev pub SevenLettersDo : Type 0
