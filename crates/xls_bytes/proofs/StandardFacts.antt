@@ -1,6 +1,6 @@
 -- Values that IEEE 754, two's complement and Excel's column letters give, so that a wrong rule in
 -- the specs does not check.
-use Rattle.std.proofs.Common.{◌≡◌, ℕ, ◌∷◌, [], Some, None, refl, pos, negsuc, ◌-◌, ◌^◌}
+use Rattle.std.proofs.Common.{◌≡◌, ◌∷◌, [], Some, None, refl, pos, negsuc, ◌-◌, ◌^◌}
 use Rattle.xls_bytes.specs.Numbers.{le, le16, twos_complement, u32s_of}
 use Rattle.xls_bytes.specs.Doubles.{whole_of, size_of_parts, quotient_of, trunc_checked_of, trunc_of}
 use Rattle.xls_bytes.specs.Columns.{column_name, word_of, word_value}

@@ -104,3 +104,14 @@ fn cuts_to_the_nearer_end(rt: HostRuntime) {
     assert_eq!(rt; trunc_of_bits(0xFFF8_0000_0000_0001, 100), 0);
     assert_eq!(rt; trunc_checked_of_bits(0x7FF8_0000_0000_0000, 1), None);
 }
+
+// With memory refused at any number, what is written is all of the name or none of it.
+#[test]
+fn a_refusal_leaves_the_text(rt: HostRuntime) {
+    let mut text = String::new(rt.alloc());
+    let mut expected = "";
+    if push_column(702, &mut text).is_ok() {
+        expected = "AAA";
+    }
+    assert_eq!(rt; text.as_str(), expected);
+}

@@ -1,4 +1,5 @@
--- How 16-bit units read as UTF-16 (the Unicode Standard, 3.9), where a surrogate that is in no pair is U+FFFD.
+-- How 16-bit units read as UTF-16 (the Unicode Standard, 3.9), where a surrogate that is in no pair
+-- is U+FFFD.
 use Rattle.std.specs.Prelude.{◌≡◌, ℕ, ◌+◌, ◌-◌, ◌*◌, ◌<◌, ◌≤◌, ◌⊎◌, List, [], ◌∷◌}
 use Rattle.std.specs.Char.Utf16.{utf16_lossy_chars}
 

@@ -176,3 +176,28 @@ fn appends_units(rt: HostRuntime) -> Result<(), Fail> {
     one_utf16_reading();
     Ok(())
 }
+
+// With memory refused at any number, what is written is all of the text or none of it.
+#[test]
+fn a_refusal_leaves_the_text(rt: HostRuntime) {
+    let Ok(mut text) = String::from_str(rt.alloc(), "old") else {
+        return;
+    };
+    let mut expected = "old";
+    let bytes = [0x41, 0xE9, 0x42, 0x80, 0x43, 0xE9, 0x44, 0xE9, 0x45, 0xE9];
+    if XlsEncoding::Windows1252
+        .decode_to(&bytes, 10, &mut text, None)
+        .is_ok()
+    {
+        expected = "oldA\u{E9}B\u{20AC}C\u{E9}D\u{E9}E\u{E9}";
+    }
+    assert_eq!(rt; text.as_str(), expected);
+    let Ok(mut text) = String::from_str(rt.alloc(), "old") else {
+        return;
+    };
+    let mut expected = "old";
+    if push_units(&[0x41, 0xD83D, 0xDE00, 0x20AC, 0xD83D, 0x42], &mut text).is_ok() {
+        expected = "oldA\u{1F600}\u{20AC}\u{FFFD}B";
+    }
+    assert_eq!(rt; text.as_str(), expected);
+}
