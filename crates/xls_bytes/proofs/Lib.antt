@@ -2,3 +2,6 @@ pub mod SizeLemmas
 pub mod WholeLemmas
 pub mod QuotientLemmas
 pub mod TruncLemmas
+pub mod U32Lemmas
+pub mod ColumnLemmas
+mod StandardFacts

@@ -1,8 +1,8 @@
 -- What is computed is the cut value by its two bounds.
-use Rattle.std.proofs.Common.{rules, ◌≡◌, ℕ, zero, suc, ◌+◌, ◌-◌, ◌*◌, ◌/◌, ◌^◌, ◌<◌, ◌≤◌, Some, None, Option, refl, arith, ◌∙◌, sym, ap, subst, Bool, true, false, ℤ, pos, negsuc, neg_ℤ, unsigned_abs, inl, inr, ◌⊎◌, FitsSigned}
+use Rattle.std.proofs.Common.{rules, ◌≡◌, ℕ, zero, suc, ◌+◌, ◌*◌, ◌/◌, ◌^◌, ◌<◌, Some, None, refl, arith, ◌∙◌, sym, ap, subst, Bool, true, false, ℤ, pos, negsuc, unsigned_abs, FitsSigned}
 use Rattle.std.specs.Prelude.{◌↔◌, ◌&&◌, nat_lt, if◌then◌else◌}
 use Rattle.std.specs.Int.{w64, saturate_signed}
-use Rattle.std.proofs.lemmas.Bool.{lt-ltb, le-ltb, cases_lt}
+use Rattle.std.proofs.lemmas.Bool.{lt-ltb}
 use Rattle.std.proofs.lemmas.Bool.Decides.{nat_tests}
 use Rattle.std.proofs.lemmas.Option.{none-some}
 use Rattle.std.proofs.lemmas.Nat.{pow_pos}

@@ -68,7 +68,8 @@ fn capped_quotient(exponent: u64, fraction: u64, over: u8) -> u64
 
 // The whole number of this sign and size, where it fits.
 fn checked_signed(is_negative: bool, size: u64) -> Option<i64>
-    ensures { result ≡ (if fits_i64 (signed is_negative size) then Some (signed is_negative size) else None) }
+    ensures { result ≡ (if fits_i64 (signed is_negative size)
+        then Some (signed is_negative size) else None) }
 {
     if is_negative {
         0i64.checked_sub_unsigned(size)

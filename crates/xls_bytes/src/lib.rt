@@ -1,8 +1,17 @@
-//! Numbers in the bytes of a workbook stream, and whole numbers in the bits of doubles.
+//! Numbers in the bytes of a workbook stream, whole numbers in the bits of doubles, and the names
+//! of columns.
 #![tactic(auto)]
 
+mod columns;
 mod doubles;
+mod laws;
 mod numbers;
+#[cfg(test)]
+mod tests;
 
+pub use columns::push_column;
 pub use doubles::{trunc_checked_of_bits, trunc_of_bits, whole_of_bits};
-pub use numbers::{read_bits, read_u16, read_u32, read_u64, read_usize};
+pub use laws::column_names;
+pub use numbers::{
+    U32s, read_bits, read_i16, read_i32, read_u16, read_u32, read_u64, read_usize, to_u32,
+};

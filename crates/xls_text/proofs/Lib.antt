@@ -1,0 +1,6 @@
+pub mod UnitLemmas
+pub mod GrownLemmas
+pub mod PageLemmas
+pub mod Utf8Lemmas
+pub mod Utf16Lemmas
+mod StandardFacts

@@ -1,0 +1,6 @@
+use Rattle.std.proofs.Common.{rules}
+use Rattle.xls_text.proofs.GrownLemmas.{IsGrown-split}
+use Rattle.xls_text.proofs.encoding.XlsEncoding.decode_to.Goals as goal
+
+pub truncate-requires : goal.truncate-requires
+truncate-requires c = λ _. IsGrown-split _ _ _ c.append_taken-done.ensures.grown (search rules)

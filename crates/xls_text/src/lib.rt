@@ -1,0 +1,16 @@
+//! Texts of a stream: code pages and 16-bit units.
+#![tactic(auto)]
+
+mod append;
+mod encoding;
+mod error;
+mod laws;
+mod single;
+#[cfg(test)]
+mod tests;
+mod units;
+
+pub use append::push_units;
+pub use encoding::XlsEncoding;
+pub use error::CfbError;
+pub use laws::{one_utf8_reading, one_utf16_reading};
