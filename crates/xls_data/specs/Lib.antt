@@ -4,6 +4,7 @@ pub mod Data
 pub mod Dates
 pub mod Errors
 pub mod Formatted
+pub mod Kinds
 pub mod Numbers
 pub mod Refs
 pub mod Regions

@@ -2,6 +2,7 @@
 #![tactic(auto)]
 
 mod cells;
+mod data_types;
 mod dates;
 mod errors;
 mod formats;
@@ -10,9 +11,11 @@ mod numbers;
 mod refs;
 mod regions;
 mod sheets;
+mod texts;
 mod values;
 
 pub use cells::Cell;
+pub use data_types::DataType;
 pub use dates::{ExcelDateTime, ExcelDateTimeType};
 pub use errors::CellErrorType;
 pub use formats::{CellFormat, format_excel_i64, format_excel_number};
