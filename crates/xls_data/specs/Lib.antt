@@ -1,4 +1,5 @@
 pub mod Blank
+pub mod Classes
 pub mod Content
 pub mod Data
 pub mod Dates
@@ -8,4 +9,5 @@ pub mod Kinds
 pub mod Numbers
 pub mod Refs
 pub mod Regions
+pub mod SerialDays
 pub mod Sheets

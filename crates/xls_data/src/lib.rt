@@ -2,6 +2,8 @@
 #![tactic(auto)]
 
 mod cells;
+mod classes;
+mod conversions;
 mod data_types;
 mod dates;
 mod errors;
@@ -10,18 +12,24 @@ mod kind;
 mod numbers;
 mod refs;
 mod regions;
+mod serial_days;
 mod sheets;
 mod texts;
 mod values;
 
 pub use cells::Cell;
+pub use classes::detect_custom_number_format;
 pub use data_types::DataType;
 pub use dates::{ExcelDateTime, ExcelDateTimeType};
 pub use errors::CellErrorType;
-pub use formats::{CellFormat, format_excel_i64, format_excel_number};
+pub use formats::{
+    CellFormat, format_excel_i64, format_excel_i64_ref, format_excel_number,
+    format_excel_number_ref,
+};
 pub use kind::CellType;
 pub use numbers::Number;
 pub use refs::DataRef;
 pub use regions::{Dimensions, HeaderRow};
+pub use serial_days::ymd_of_serial_day;
 pub use sheets::{Sheet, SheetType, SheetVisible};
 pub use values::Data;
