@@ -1,4 +1,6 @@
+pub mod BuiltinLemmas
 pub mod DayLemmas
+pub mod EqualityLemmas
 pub mod HexLemmas
 pub mod SectionLemmas
 pub mod TextLemmas

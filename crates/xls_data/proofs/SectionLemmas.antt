@@ -1,6 +1,5 @@
 -- What stands behind the first section doesn't count.
-use Rattle.std.proofs.Common.{◌≡◌, ℕ, List, [], ◌∷◌, ◌++◌, Bool, true, false, cond, refl, sym, ap, ◌∙◌}
-use Rattle.std.specs.Prelude.{not, ◌&&◌}
+use Rattle.std.proofs.Common.{◌≡◌, ℕ, List, [], ◌∷◌, ◌++◌, Bool, true, false, cond, refl}
 use Rattle.xls_data.specs.declared.formats.CellFormat.{CellFormat}
 use Rattle.xls_data.specs.declared.classes.Walk.{Walk}
 use Rattle.xls_data.specs.declared.classes.Step.{Step}
@@ -15,11 +14,12 @@ by_test : {A : Type 0} (t p q : Bool) (x y v w : A) → cond t p q ≡ true → 
 by_test true p q x y v w h first second = first h
 by_test false p q x y v w h first second = second h
 
-pub class_from-section : (front a b : List ℕ) (escaped quoted : Bool) (w : Walk) → ends_plain escaped quoted front ≡ true
-    → class_from escaped quoted w (front ++ 59 ∷ a) ≡ class_from escaped quoted w (front ++ 59 ∷ b)
-class_from-section [] a b false false w plain = refl
-class_from-section [] a b true quoted w plain = cc
-class_from-section [] a b false true w plain = cc
-class_from-section (c ∷ front) a b escaped quoted w plain = by_test (passes escaped quoted c) _ _ _ _ _ _ plain
-    (λ h. class_from-section front a b (escaped_after escaped c) (quoted_after escaped quoted c) (record w { before = c }) h)
-    (λ h. step_same (plain_step w c) _ _ (λ v. class_from-section front a b escaped quoted v h))
+-- a `;` that is neither escaped nor quoted ends the walk as the text's end does
+pub class_from-section : (front rest : List ℕ) (escaped quoted : Bool) (w : Walk) → ends_plain escaped quoted front ≡ true
+    → class_from escaped quoted w (front ++ 59 ∷ rest) ≡ class_from escaped quoted w front
+class_from-section [] rest false false w plain = refl
+class_from-section [] rest true quoted w plain = cc
+class_from-section [] rest false true w plain = cc
+class_from-section (c ∷ front) rest escaped quoted w plain = by_test (passes escaped quoted c) _ _ _ _ _ _ plain
+    (λ h. class_from-section front rest (escaped_after escaped c) (quoted_after escaped quoted c) (record w { before = c }) h)
+    (λ h. step_same (plain_step w c) _ _ (λ v. class_from-section front rest escaped quoted v h))

@@ -1,4 +1,5 @@
 pub mod Blank
+pub mod Builtin
 pub mod Classes
 pub mod Content
 pub mod Data

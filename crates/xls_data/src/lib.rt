@@ -1,6 +1,7 @@
 //! The values of a workbook's cells: numbers, texts, dates, errors, and what a sheet is called.
 #![tactic(auto)]
 
+mod builtin;
 mod cells;
 mod classes;
 mod conversions;
@@ -9,6 +10,7 @@ mod dates;
 mod errors;
 mod formats;
 mod kind;
+mod laws;
 mod numbers;
 mod refs;
 mod regions;
@@ -17,6 +19,7 @@ mod sheets;
 mod texts;
 mod values;
 
+pub use builtin::{builtin_format_by_code, builtin_format_by_id};
 pub use cells::Cell;
 pub use classes::detect_custom_number_format;
 pub use data_types::DataType;
@@ -27,6 +30,7 @@ pub use formats::{
     format_excel_number_ref,
 };
 pub use kind::CellType;
+pub use laws::{class_of_decimal_text, class_of_first_section, equality_of_values};
 pub use numbers::Number;
 pub use refs::DataRef;
 pub use regions::{Dimensions, HeaderRow};
