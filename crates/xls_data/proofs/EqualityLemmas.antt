@@ -1,5 +1,5 @@
 -- Equality of values is equality of contents.
-use Rattle.std.proofs.Common.{◌≡◌, ℕ, refl, ap, ◌∙◌, Bool, true, false, String, Global}
+use Rattle.std.proofs.Common.{◌≡◌, ℕ, List, refl, ap, ◌∙◌, Bool, true, false, String, Global}
 use Rattle.std.specs.Str.{chars}
 use Rattle.std.specs.Bool.{Decides}
 use Rattle.std.specs.String.{string_bytes}
@@ -21,6 +21,19 @@ use Rattle.xls_data.specs.contracts.dates.ExcelDateTimePartialEq.TheImpl as date
 use Rattle.xls_data.specs.declared.errors.CellErrorType.{CellErrorType}
 use Rattle.xls_data.specs.declared.errors.CellErrorType.TheVariants as error
 use Rattle.xls_data.specs.contracts.errors.CellErrorTypePartialEq.TheImpl as error_impl
+use Rattle.xls_data.specs.Sheets.{SheetContent, sheet_content}
+use Rattle.xls_data.specs.declared.sheets.Sheet.{Sheet}
+use Rattle.xls_data.specs.declared.sheets.SheetType.{SheetType}
+use Rattle.xls_data.specs.declared.sheets.SheetType.TheVariants as sheet_kind
+use Rattle.xls_data.specs.declared.sheets.SheetVisible.{SheetVisible}
+use Rattle.xls_data.specs.declared.sheets.SheetVisible.TheVariants as visible
+use Rattle.xls_data.specs.contracts.sheets.SheetPartialEq.TheImpl as sheet_impl
+use Rattle.xls_data.specs.contracts.sheets.SheetTypePartialEq.TheImpl as sheet_kind_impl
+use Rattle.xls_data.specs.contracts.sheets.SheetVisiblePartialEq.TheImpl as visible_impl
+use Rattle.xls_data.specs.Refs.{ref_content_of, is_shared, HasText}
+use Rattle.xls_data.specs.declared.refs.DataRef.{DataRef}
+use Rattle.xls_data.specs.declared.refs.DataRef.TheVariants as shared
+use Rattle.xls_data.specs.contracts.refs.DataRefPartialEq.TheImpl as ref_impl
 use Rattle.xls_data.specs.declared.values.Data.{Data}
 use Rattle.xls_data.specs.declared.values.Data.TheVariants as variant
 use Rattle.xls_data.specs.contracts.values.DataPartialEq.TheImpl as data_impl
@@ -74,3 +87,47 @@ data_decides (variant.DurationIso m) (variant.DurationIso n) = Decides-like _ (�
 data_decides (variant.Error m) (variant.Error n) = Decides-like _ (λ e. ap failure e) (λ e. cc) (error_decides m n)
 data_decides variant.Empty variant.Empty = (λ e. refl, λ e. refl)
 data_decides a b = (λ e. cc, λ e. cc)
+
+-- equal contents, and both texts shared or neither
+module _ (t : Bool) {C : Type 0} (x y : C) (b : Bool) where
+  beside : Decides t (x ≡ y) → Decides t ((x ≡ y) × (b ≡ b))
+  beside d = (λ e. (d.0 e, refl), λ e. d.1 e.0)
+
+pub ref_decides : (a b : DataRef) → HasText a → HasText b → Decides (ref_impl.ghosts.eq a b) ((ref_content_of a ≡ ref_content_of b) × (is_shared a ≡ is_shared b))
+ref_decides (shared.Int m) (shared.Int n) u v = beside _ _ _ _ (Decides-like _ (λ e. ap int e) (λ e. cc) (Decides-int_eq m n))
+ref_decides (shared.Float m) (shared.Float n) u v = beside _ _ _ _ (Decides-like _ (λ e. ap float e) (λ e. cc) (number_decides m n))
+ref_decides (shared.String m) (shared.String n) u v = beside _ _ _ _ (Decides-like _ (λ e. ap (λ bs. text (chars bs)) e) (λ e. string_chars_injective m n (cc e)) (bytes_eq-Decides (string_bytes m) (string_bytes n)))
+ref_decides (shared.SharedString m) (shared.SharedString n) u v = beside _ _ _ _ (Decides-like _ (λ e. ap (λ bs. text (chars bs)) e) (λ e. chars_injective m.now n.now u v (cc e)) (bytes_eq-Decides m.now n.now))
+ref_decides (shared.Bool true) (shared.Bool true) u v = (λ e. (refl, refl), λ e. refl)
+ref_decides (shared.Bool false) (shared.Bool false) u v = (λ e. (refl, refl), λ e. refl)
+ref_decides (shared.DateTime m) (shared.DateTime n) u v = beside _ _ _ _ (Decides-like _ (λ e. ap date e) (λ e. cc) (parts_decides m n))
+ref_decides (shared.DateTimeIso m) (shared.DateTimeIso n) u v = beside _ _ _ _ (Decides-like _ (λ e. ap (λ bs. iso_date (chars bs)) e) (λ e. string_chars_injective m n (cc e)) (bytes_eq-Decides (string_bytes m) (string_bytes n)))
+ref_decides (shared.DurationIso m) (shared.DurationIso n) u v = beside _ _ _ _ (Decides-like _ (λ e. ap (λ bs. iso_duration (chars bs)) e) (λ e. string_chars_injective m n (cc e)) (bytes_eq-Decides (string_bytes m) (string_bytes n)))
+ref_decides (shared.Error m) (shared.Error n) u v = beside _ _ _ _ (Decides-like _ (λ e. ap failure e) (λ e. cc) (error_decides m n))
+ref_decides shared.Empty shared.Empty u v = (λ e. (refl, refl), λ e. refl)
+ref_decides a b u v = (λ e. cc, λ e. cc)
+
+sheet_kind_decides : (a b : SheetType) → Decides (sheet_kind_impl.ghosts.eq a b) (a ≡ b)
+sheet_kind_decides sheet_kind.WorkSheet sheet_kind.WorkSheet = (λ e. refl, λ e. refl)
+sheet_kind_decides sheet_kind.DialogSheet sheet_kind.DialogSheet = (λ e. refl, λ e. refl)
+sheet_kind_decides sheet_kind.MacroSheet sheet_kind.MacroSheet = (λ e. refl, λ e. refl)
+sheet_kind_decides sheet_kind.ChartSheet sheet_kind.ChartSheet = (λ e. refl, λ e. refl)
+sheet_kind_decides sheet_kind.Vba sheet_kind.Vba = (λ e. refl, λ e. refl)
+sheet_kind_decides a b = (λ e. cc, λ e. cc)
+
+visible_decides : (a b : SheetVisible) → Decides (visible_impl.ghosts.eq a b) (a ≡ b)
+visible_decides visible.Visible visible.Visible = (λ e. refl, λ e. refl)
+visible_decides visible.Hidden visible.Hidden = (λ e. refl, λ e. refl)
+visible_decides visible.VeryHidden visible.VeryHidden = (λ e. refl, λ e. refl)
+visible_decides a b = (λ e. cc, λ e. cc)
+
+same_sheet : (a b : Sheet) → (string_bytes a.name ≡ string_bytes b.name) × (a.typ ≡ b.typ) × (a.visible ≡ b.visible) → sheet_content a ≡ sheet_content b
+same_sheet a b h =
+    let made : List ℕ → SheetType → SheetVisible → SheetContent = λ n t v. record { name = chars n; typ = t; visible = v } in
+    ap (λ n. made n a.typ a.visible) h.0 ∙ ap (λ t. made (string_bytes b.name) t a.visible) h.1 ∙ ap (λ v. made (string_bytes b.name) b.typ v) h.2
+
+pub sheet_decides : (a b : Sheet) → Decides (sheet_impl.ghosts.eq a b) (sheet_content a ≡ sheet_content b)
+sheet_decides a b =
+    let all = Decides-and _ _ (bytes_eq-Decides (string_bytes a.name) (string_bytes b.name)) (Decides-and _ _ (sheet_kind_decides a.typ b.typ) (visible_decides a.visible b.visible)) in
+    Decides-like _ (λ e. same_sheet a b (e.0, e.1.0, e.1.1))
+    (λ e. (string_chars_injective a.name b.name (ap (λ (s : SheetContent). s.name) e), (ap (λ (s : SheetContent). s.typ) e, ap (λ (s : SheetContent). s.visible) e))) all

@@ -30,7 +30,9 @@ pub use formats::{
     format_excel_number_ref,
 };
 pub use kind::CellType;
-pub use laws::{class_of_decimal_text, class_of_first_section, equality_of_values};
+pub use laws::{
+    class_of_decimal_text, class_of_first_section, equality_by_content, order_of_regions,
+};
 pub use numbers::Number;
 pub use refs::DataRef;
 pub use regions::{Dimensions, HeaderRow};
