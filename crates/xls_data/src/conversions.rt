@@ -101,20 +101,3 @@ impl From<()> for Data {
         Data::Empty
     }
 }
-
-impl<T> From<Option<T>> for Data
-where
-    Data: From<T>,
-{
-    ghost use Rattle.std.specs.Prelude.{◌≡◌, MatchOption};
-    ghost use Rattle.xls_data.specs.declared.values.Data.TheVariants.{Empty};
-
-    ghost from_gives = { λ o d. MatchOption o (d ≡ Empty) (λ v. ⟦<Data as From<T>>⟧.from_gives v d) };
-
-    fn from(value: Option<T>) -> Data {
-        match value {
-            Some(v) => Data::from(v),
-            None => Data::Empty,
-        }
-    }
-}

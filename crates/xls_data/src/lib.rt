@@ -12,6 +12,7 @@ mod formats;
 mod kind;
 mod laws;
 mod numbers;
+mod options;
 mod refs;
 mod regions;
 mod serial_days;
@@ -39,3 +40,6 @@ pub use regions::{Dimensions, HeaderRow};
 pub use serial_days::ymd_of_serial_day;
 pub use sheets::{Sheet, SheetType, SheetVisible};
 pub use values::Data;
+
+#[cfg(test)]
+mod tests;
