@@ -2,7 +2,7 @@
 use Rattle.std.specs.Prelude.{[], ℕ, Bool, true, false, List}
 use Rattle.std.specs.Fmt.{signed_decimal}
 use Rattle.std.specs.String.{string_bytes}
-use Rattle.std.specs.Str.{chars}
+use Rattle.std.specs.Str.{chars, IsUtf8}
 use Rattle.xls_data.specs.Numbers.{number_text}
 use Rattle.xls_data.specs.Errors.{error_text}
 use Rattle.xls_data.specs.Data.{bool_text}
@@ -22,6 +22,16 @@ ref_content_of (variant.DateTimeIso s) = iso_date (chars (string_bytes s))
 ref_content_of (variant.DurationIso s) = iso_duration (chars (string_bytes s))
 ref_content_of (variant.Error e) = failure e
 ref_content_of variant.Empty = nothing
+
+-- whether its text is a shared one
+abbrev pub is_shared : DataRef → Bool
+is_shared (variant.SharedString s) = true
+is_shared _ = false
+
+-- a shared text is UTF-8, as every `&str` is
+abbrev pub HasText : DataRef → Type 0
+HasText (variant.SharedString s) = IsUtf8 s.now
+HasText _ = Unit {0}
 
 -- whether a value is the blank
 abbrev pub is_ref_nothing : DataRef → Bool

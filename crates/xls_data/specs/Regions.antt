@@ -1,5 +1,5 @@
 -- Positions between two corners, both included.
-use Rattle.std.specs.Prelude.{ℕ, ◌+◌, ◌-◌, ◌*◌, ◌≤◌}
+use Rattle.std.specs.Prelude.{ℕ, ◌+◌, ◌-◌, ◌*◌, ◌≤◌, List, [], ◌∷◌}
 use Rattle.xls_data.specs.declared.regions.Dimensions.{Dimensions}
 
 -- a position lies in a region
@@ -12,3 +12,7 @@ pub record Lies (row col : ℕ) (region : Dimensions) : Type 0 where
 -- the number of positions of a region whose corners are ordered
 abbrev pub positions : Dimensions → ℕ
 positions region = (region.end.0 - region.start.0 + 1) * (region.end.1 - region.start.1 + 1)
+
+-- first row, first column, last row and last column
+abbrev pub corners : Dimensions → List ℕ
+corners region = region.start.0 ∷ region.start.1 ∷ region.end.0 ∷ region.end.1 ∷ []

@@ -5,12 +5,22 @@ ghost use Rattle.xls_data.specs.Regions.{Lies, positions};
 
 /// The positions between two corners, both included. A position is a row and a column, counted
 /// from 0. Regions are ordered by their starts, then by their ends, a row before a column.
-#[derive(Clone, Copy, Debug, Default, PartialEq, Eq, PartialOrd, Ord, Hash)]
+#[derive(Clone, Copy, Debug, PartialEq, Eq, PartialOrd, Ord, Hash)]
 pub struct Dimensions {
     /// The first row and the first column.
     pub start: (u32, u32),
     /// The last row and the last column.
     pub end: (u32, u32),
+}
+
+impl Default for Dimensions {
+    ghost use Rattle.std.specs.Prelude.{◌≡◌};
+
+    ghost is_default = { λ d. d ≡ record { start = (0, 0); end = (0, 0) } };
+
+    fn default() -> Dimensions {
+        Dimensions::new((0, 0), (0, 0))
+    }
 }
 
 impl Dimensions {
