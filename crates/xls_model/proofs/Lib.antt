@@ -7,3 +7,5 @@ pub mod Founds
 pub mod Ends
 pub mod Shapes
 pub mod HoldingLemmas
+pub mod StringUnits
+pub mod TableReadings

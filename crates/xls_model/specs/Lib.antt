@@ -6,3 +6,4 @@ pub mod Counting
 pub mod Laws
 pub mod Listing
 pub mod PartText
+pub mod StringTable

@@ -1,6 +1,7 @@
 //! Laws over streams, each on a function with an empty body.
 
 ghost use Rattle.xls_model.specs.Listing.{HasHolding, OneHolding, OneList};
+ghost use Rattle.xls_model.specs.StringTable.{OneTable};
 ghost use Rattle.xls_model.specs.Laws.{HasRun, OneRun, HasGroups, OneGroups, SameParts, SameGlobals, OneSheetPart, OneGlobalsPart};
 
 /// Each list of bytes is some groups, and then nothing or a cut record.
@@ -56,4 +57,9 @@ pub fn one_holding()
 /// A stream carries at most one logical list.
 pub fn one_list()
     ensures { OneList }
+{}
+
+/// Marked bytes are exactly one string table, or have exactly one fault.
+pub fn one_table()
+    ensures { OneTable }
 {}
