@@ -1,2 +1,4 @@
 pub mod HexLemmas
 pub mod OuterLemmas
+pub mod ListLemmas
+pub mod TextLemmas

@@ -1,7 +1,7 @@
 -- The records of the globals, one line of the record table for each type.
-use Rattle.std.specs.Prelude.{ℕ, ◌+◌, ◌%◌, List, Bool, ◌||◌, ◌&&◌, ◌==◌, if◌then◌else◌, nat_lt, length, take, drop, slice_index, Option, Some, None, Result, Ok, Err}
+use Rattle.std.specs.Prelude.{ℕ, ◌+◌, ◌-◌, ◌*◌, ◌/◌, ◌%◌, min, ℤ, [], true, false, List, Bool, ◌||◌, ◌&&◌, ◌==◌, if◌then◌else◌, nat_lt, length, take, drop, slice_index, Option, Some, None, Result, Ok, Err}
 use Rattle.std.specs.List.{filter}
-use Rattle.xls_bytes.specs.Numbers.{le}
+use Rattle.xls_bytes.specs.Numbers.{le, twos_complement}
 use Rattle.xls_model.specs.declared.part.Part.TheVariants as parts
 use Rattle.xls_model.specs.declared.types.TheConstants.{BOUND_SHEET_8}
 use Rattle.xls_data.specs.Sheets.{SheetContent}
@@ -12,6 +12,7 @@ use Rattle.xls_biff.specs.declared.globals.Biff.TheVariants.{Biff2, Biff3, Biff4
 use Rattle.xls_biff.specs.declared.globals.Bof.{Bof}
 use Rattle.xls_biff.specs.declared.error.XlsError.{XlsError}
 use Rattle.xls_biff.specs.declared.error.XlsError.TheVariants.{Len, NotBuilt}
+use Rattle.xls_biff.specs.Reading.{listed}
 
 -- ---- BOF ([MS-XLS] 2.4.21); the versions before BIFF8 are this project's rule
 
@@ -67,3 +68,33 @@ abbrev pub sheet_at : List ℕ → Result SheetContent XlsError
 sheet_at body =
     if nat_lt (length body) 6 then Err (Len 6 (length body) parts.BoundSheet)
     else head_at (slice_index body 4) (slice_index body 5) (drop 6 body)
+
+-- ---- versions
+
+-- whether records have the layouts of BIFF8
+abbrev pub is_biff8 : Biff → Bool
+is_biff8 Biff8 = true
+is_biff8 biff = false
+
+-- ---- XF ([MS-XLS] 2.4.353): the format identifier (ifmt) in bytes 2 and 3
+
+abbrev pub xf_at : List ℕ → Result ℕ XlsError
+xf_at body =
+    if nat_lt (length body) 4 then Err (Len 4 (length body) parts.Xf)
+    else Ok (le (take 2 (drop 2 body)))
+
+-- ---- ExternSheet ([MS-XLS] 2.4.106): a count and XTI structures of six bytes; before BIFF8 it is
+-- not read
+
+-- the whole structures, at most the count
+abbrev pub refs_count : List ℕ → Result ℕ XlsError
+refs_count body =
+    if nat_lt (length body) 2 then Err (Len 2 (length body) parts.ExternSheet)
+    else Ok (min (le (take 2 body)) ((length body - 2) / 6))
+
+-- itabFirst of the structure of a number, counted from 0
+abbrev pub ref_at : List ℕ → ℕ → ℤ
+ref_at body i = twos_complement 16 (le (take 2 (drop (4 + 6 * i) body)))
+
+abbrev pub refs_at : Biff → List ℕ → Result (List ℤ) XlsError
+refs_at biff body = if is_biff8 biff then listed (ref_at body) (refs_count body) else Ok []

@@ -4,4 +4,7 @@ pub mod Walking
 pub mod Outer
 pub mod Globals
 pub mod Cells
+pub mod Regions
+pub mod Texts
+pub mod Strings
 pub use Rattle.xls_model.specs.Stream

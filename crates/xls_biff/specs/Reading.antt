@@ -1,5 +1,6 @@
 -- What a reader's answer says of the definition that it reads by.
-use Rattle.std.specs.Prelude.{◌≡◌, Result, Ok, Err}
+use Rattle.std.specs.Prelude.{◌≡◌, ℕ, List, ◌++◌, map, Result, Ok, Err}
+use Rattle.std.specs.List.{range_with_len}
 use Rattle.xls_biff.specs.declared.error.XlsError.{XlsError}
 use Rattle.xls_biff.specs.declared.error.XlsError.TheVariants as errors
 
@@ -17,3 +18,21 @@ Fails e given = given ≡ Err e
 abbrev pub Gives : {X Y : Type 0} → (X → Y) → Result X XlsError → Result Y XlsError → Type 0
 Gives view (Ok x) given = given ≡ Ok (view x)
 Gives view (Err e) given = Fails e given
+
+-- new is old and something at its end
+abbrev pub IsLonger : {X : Type 0} → List X → List X → Type 0
+IsLonger {X} old new = (added : List X) × (new ≡ old ++ added)
+
+-- new is old and, at its end, what is given as seen by view
+abbrev pub Adds : {X Y : Type 0} → (X → Y) → List X → List X → List Y → Type 0
+Adds {X} view old new given = (added : List X) × (new ≡ old ++ added) × (map view added ≡ given)
+
+-- what the definition gives was put at the end; after a refusal, for want of memory too, nothing was
+abbrev pub Appends : {X Y : Type 0} → (X → Y) → List X → Result (Unit {0}) XlsError → List X → Result (List Y) XlsError → Type 0
+Appends {X} view old (Ok u) new given = (added : List X) × (new ≡ old ++ added) × (given ≡ Ok (map view added))
+Appends view old (Err e) new given = (new ≡ old) × Fails e given
+
+-- of so many items, each by its number
+abbrev pub listed : {X : Type 0} → (ℕ → X) → Result ℕ XlsError → Result (List X) XlsError
+listed item (Ok n) = Ok (map item (range_with_len 0 n))
+listed item (Err e) = Err e

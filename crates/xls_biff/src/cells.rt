@@ -11,7 +11,7 @@ use xls_data::{Cell, CellFormat, Data, Number, format_excel_number};
 use xls_model::Part;
 
 /// The row and the column at the front of a cell record.
-fn position_of(body: &[u8]) -> (u32, u32)
+pub(crate) fn position_of(body: &[u8]) -> (u32, u32)
     requires { 4 ≤ length body.now }
     ensures { result ≡ position_at body.now }
 {

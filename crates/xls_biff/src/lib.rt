@@ -3,16 +3,30 @@
 
 mod cells;
 mod error;
+mod failures;
 mod fields;
 mod globals;
+mod labels;
+mod lists;
 mod record;
+mod regions;
+mod rk;
+mod sheets;
+mod strings;
 mod substream;
 mod walk;
 
 pub use cells::parse_number;
 pub use error::XlsError;
-pub use globals::{Biff, Bof, parse_bof};
+pub use failures::{parse_bool_err, parse_formula_value};
+pub use globals::{Biff, Bof, parse_bof, parse_extern_sheet, parse_xf};
+pub use labels::{parse_label, parse_label_sst};
+pub use lists::{Refs, Strings};
 pub use record::{Pieces, Record};
+pub use regions::{parse_dimensions, parse_merge_cells};
+pub use rk::{parse_mul_rk, parse_rk};
+pub use sheets::{parse_format, parse_sheet_metadata};
+pub use strings::{parse_short_string, parse_string};
 pub use substream::SheetRecords;
 pub use walk::RecordIter;
 pub use xls_model::Part;
