@@ -1,7 +1,7 @@
 -- Units and bytes over marks, one step after the other.
-use Rattle.std.proofs.Common.{◌≡◌, ℕ, zero, suc, ◌+◌, ◌*◌, ◌<◌, ◌≤◌, Bool, true, false, List, [], ◌∷◌, ◌++◌, length, drop, Option, Some, None, refl, sym, ap, append_assoc, arith}
+use Rattle.std.proofs.Common.{◌≡◌, ℕ, zero, suc, ◌+◌, ◌-◌, ◌*◌, ◌<◌, ◌≤◌, map, Bool, true, false, List, [], ◌∷◌, ◌++◌, length, drop, Option, Some, None, refl, sym, ap, append_assoc, arith}
 use Rattle.std.proofs.lemmas.List.{append-nil}
-use Rattle.xls_model.specs.StringTable.{Mark, marked, is_wide, with_unit, units_at, tail_at, front_of}
+use Rattle.xls_model.specs.StringTable.{Mark, weight, marked, is_wide, with_unit, units_at, tail_at, front_of}
 
 -- units read before, and what reading on gives
 abbrev pub with_front : List ℕ → Option (List ℕ × List Mark) → Option (List ℕ × List Mark)
@@ -78,7 +78,7 @@ nothing_marked (b ∷ bs) pieces e = absurd cc
 
 abbrev pub Leaves : Option (List ℕ × List Mark) → ℕ → Type 0
 Leaves None n = Unit {0}
-Leaves (Some x) n = length x.1 ≤ n
+Leaves (Some x) n = weight x.1 ≤ n
 
 with_unit_leaves : (u : ℕ) (r : Option (List ℕ × List Mark)) (m n : ℕ) → Leaves r m → m ≤ n → Leaves (with_unit u r) n
 with_unit_leaves u None m n h le = tt
@@ -88,7 +88,7 @@ leaves_more : (r : Option (List ℕ × List Mark)) (m n : ℕ) → Leaves r m �
 leaves_more None m n h le = tt
 leaves_more (Some x) m n h le = omega arith
 
-pub units_leave : (n : ℕ) (wide : Bool) (ms : List Mark) → Leaves (units_at n wide ms) (length ms)
+pub units_leave : (n : ℕ) (wide : Bool) (ms : List Mark) → Leaves (units_at n wide ms) (weight ms)
 unfolding units_at
 units_leave zero wide ms = omega arith
 units_leave (suc n) true [] = tt
@@ -97,24 +97,36 @@ units_leave (suc n) true (None ∷ []) = tt
 units_leave (suc n) false (None ∷ []) = tt
 units_leave (suc n) true (None ∷ None ∷ ms) = tt
 units_leave (suc n) false (None ∷ None ∷ ms) = tt
-units_leave (suc n) true (None ∷ Some flags ∷ ms) = leaves_more (units_at (suc n) (is_wide flags) ms) (length ms) (suc (suc (length ms))) (units_leave (suc n) (is_wide flags) ms) (omega arith)
-units_leave (suc n) false (None ∷ Some flags ∷ ms) = leaves_more (units_at (suc n) (is_wide flags) ms) (length ms) (suc (suc (length ms))) (units_leave (suc n) (is_wide flags) ms) (omega arith)
-units_leave (suc n) false (Some b ∷ ms) = with_unit_leaves b (units_at n false ms) (length ms) (suc (length ms)) (units_leave n false ms) (omega arith)
+units_leave (suc n) true (None ∷ Some flags ∷ ms) = leaves_more (units_at (suc n) (is_wide flags) ms) (weight ms) (weight (None ∷ Some flags ∷ ms)) (units_leave (suc n) (is_wide flags) ms) (omega arith)
+units_leave (suc n) false (None ∷ Some flags ∷ ms) = leaves_more (units_at (suc n) (is_wide flags) ms) (weight ms) (weight (None ∷ Some flags ∷ ms)) (units_leave (suc n) (is_wide flags) ms) (omega arith)
+units_leave (suc n) false (Some b ∷ ms) = with_unit_leaves b (units_at n false ms) (weight ms) (weight (Some b ∷ ms)) (units_leave n false ms) (omega arith)
 units_leave (suc n) true (Some b ∷ []) = tt
 units_leave (suc n) true (Some b ∷ None ∷ ms) = tt
-units_leave (suc n) true (Some b ∷ Some c ∷ ms) = with_unit_leaves (b + 256 * c) (units_at n true ms) (length ms) (suc (suc (length ms))) (units_leave n true ms) (omega arith)
+units_leave (suc n) true (Some b ∷ Some c ∷ ms) = with_unit_leaves (b + 256 * c) (units_at n true ms) (weight ms) (weight (Some b ∷ Some c ∷ ms)) (units_leave n true ms) (omega arith)
 
 abbrev pub LeavesTail : Option (List Mark) → ℕ → Type 0
 LeavesTail None n = Unit {0}
-LeavesTail (Some ms) n = length ms ≤ n
+LeavesTail (Some ms) n = weight ms ≤ n
 
 tail_leaves_more : (r : Option (List Mark)) (m n : ℕ) → LeavesTail r m → m ≤ n → LeavesTail r n
 tail_leaves_more None m n h le = tt
 tail_leaves_more (Some x) m n h le = omega arith
 
-pub tail_leaves : (k : ℕ) (ms : List Mark) → LeavesTail (tail_at k ms) (length ms)
+pub tail_leaves : (k : ℕ) (ms : List Mark) → LeavesTail (tail_at k ms) (weight ms)
 unfolding tail_at
 tail_leaves zero ms = omega arith
 tail_leaves (suc k) [] = tt
-tail_leaves (suc k) (None ∷ ms) = tail_leaves_more (tail_at (suc k) ms) (length ms) (suc (length ms)) (tail_leaves (suc k) ms) (omega arith)
-tail_leaves (suc k) (Some b ∷ ms) = tail_leaves_more (tail_at k ms) (length ms) (suc (length ms)) (tail_leaves k ms) (omega arith)
+tail_leaves (suc k) (None ∷ ms) = tail_leaves_more (tail_at (suc k) ms) (weight ms) (weight (None ∷ ms)) (tail_leaves (suc k) ms) (omega arith)
+tail_leaves (suc k) (Some b ∷ ms) = tail_leaves_more (tail_at k ms) (weight ms) (weight (Some b ∷ ms)) (tail_leaves k ms) (omega arith)
+
+-- ---- what marked bytes weigh
+
+pub weight-drop : (k : ℕ) (ms : List Mark) → weight (drop k ms) ≤ weight ms - k
+weight-drop zero ms = omega arith
+weight-drop (suc k) [] = omega arith
+weight-drop (suc k) (None ∷ ms) = let h = weight-drop k ms in omega arith
+weight-drop (suc k) (Some b ∷ ms) = let h = weight-drop k ms in omega arith
+
+pub weight-bytes : (bs : List ℕ) (ms : List Mark) → weight (map Some bs ++ ms) ≡ length bs + weight ms
+weight-bytes [] ms = omega arith
+weight-bytes (b ∷ bs) ms = let h = weight-bytes bs ms in omega arith

@@ -32,6 +32,13 @@ front_of [] = []
 front_of (None ∷ ms) = []
 front_of (Some b ∷ ms) = b ∷ front_of ms
 
+-- three for a mark and one for a byte: a Continue record has four bytes before its body, and each
+-- string of a table takes three at least
+abbrev pub weight : List Mark → ℕ
+weight [] = 0
+weight (None ∷ ms) = 3 + weight ms
+weight (Some b ∷ ms) = 1 + weight ms
+
 -- ---- units and tail
 
 -- fHighByte, the flag 01 of a flags byte: units of two bytes
