@@ -2,3 +2,5 @@ pub mod HexLemmas
 pub mod OuterLemmas
 pub mod ListLemmas
 pub mod TextLemmas
+pub mod MarkLemmas
+pub mod SstLemmas

@@ -7,4 +7,6 @@ pub mod Cells
 pub mod Regions
 pub mod Texts
 pub mod Strings
+pub mod MarkSteps
+pub mod Sst
 pub use Rattle.xls_model.specs.Stream

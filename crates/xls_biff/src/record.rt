@@ -1,7 +1,9 @@
 //! A record, and the Continue records attached to it.
 
-ghost use Rattle.std.specs.Prelude.{◌≡◌, ◌≢◌, ◌↔◌, ◌∷◌, [], IsTrue, MatchOption};
+ghost use Rattle.std.specs.Prelude.{◌≡◌, ◌≢◌, ◌↔◌, ◌<◌, ◌^◌, ◌∷◌, [], IsTrue, MatchOption};
+ghost use Rattle.std.specs.List.{flat_map};
 ghost use Rattle.xls_model.specs.Stream.{bodies_of, AreContinues};
+ghost use Rattle.xls_model.specs.StringTable.{marked_piece, weight};
 
 use std::marker::Model;
 use xls_bytes::read_u16;
@@ -42,6 +44,14 @@ impl<'a> Pieces<'a> {
         ensures { result ≡ bodies_of bytes.now }
     {
         Pieces { bytes }
+    }
+
+    /// The same bodies once more.
+    pub(crate) fn again(&self) -> Pieces<'a>
+        ensures same { result ≡ self.now }
+        ensures light { weight (flat_map marked_piece self.now) < 2 ^ 64 }
+    {
+        Pieces { bytes: self.bytes }
     }
 
     /// Whether no body is left. Takes no memory.

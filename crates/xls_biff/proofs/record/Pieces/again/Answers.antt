@@ -1,0 +1,14 @@
+use Rattle.std.proofs.Common.{◌≡◌, ◌∙◌, List, ℕ, ap, sym, subst, length, arith, ◌≤◌}
+use Rattle.std.specs.List.{flat_map}
+use Rattle.xls_model.specs.Stream.{continues}
+use Rattle.xls_model.specs.StringTable.{marked_piece, weight}
+use Rattle.xls_model.proofs.Records.{bodies-are}
+use Rattle.xls_biff.proofs.MarkLemmas.{weight-pieces}
+use Rattle.xls_biff.proofs.record.Pieces.again.Goals as goal
+
+pub returns-clause-light : goal.returns-clause-light
+returns-clause-light c =
+    let whole = c.self.invariant in
+    let same : c.args.self.now ≡ whole.bodies = sym c.self.view_is ∙ bodies-are c.self.inside.bytes.now whole in
+    let size = ap length whole.whole in
+    rw same (omega (arith, weight-pieces whole.bodies, size, c.self.told.0))
