@@ -4,3 +4,4 @@ pub mod ListLemmas
 pub mod TextLemmas
 pub mod MarkLemmas
 pub mod SstLemmas
+pub mod CheckLemmas

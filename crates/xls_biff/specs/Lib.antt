@@ -10,3 +10,4 @@ pub mod Strings
 pub mod MarkSteps
 pub mod Sst
 pub use Rattle.xls_model.specs.Stream
+pub mod Checks

@@ -5,6 +5,7 @@ ghost use Rattle.std.specs.List.{flat_map};
 ghost use Rattle.xls_model.specs.Stream.{bodies_of, AreContinues};
 ghost use Rattle.xls_model.specs.StringTable.{marked_piece, weight};
 
+use std::fmt;
 use std::marker::Model;
 use xls_bytes::read_u16;
 
@@ -83,4 +84,20 @@ pub struct Record<'a> {
     pub body: &'a [u8],
     /// The bodies of the Continue records attached to it.
     pub pieces: Pieces<'a>,
+}
+
+/// A line with the type and the length, and a line for each 16 bytes of the body.
+impl fmt::Debug for Record<'_> {
+    fn fmt<W: fmt::Write>(&self, f: &mut fmt::Formatter<W>) -> fmt::Result {
+        let typ = self.typ;
+        let len = self.body.len();
+        write!(f, "\nRecord = 0x{typ:04X}, Length = 0x{len:04X}, {len}\n")?;
+        for line in self.body.chunks(16) {
+            for byte in line {
+                write!(f, "{byte:02X} ")?;
+            }
+            f.write_str("\n")?;
+        }
+        Ok(())
+    }
 }
