@@ -16,7 +16,7 @@ use xls_data::{Cell, CellErrorType, CellFormat, Data, Number, format_excel_numbe
 use xls_model::Part;
 
 /// The error value of a code.
-fn error_of_code(code: u8) -> Result<CellErrorType, XlsError>
+pub(crate) fn error_of_code(code: u8) -> Result<CellErrorType, XlsError>
     ensures { Exactly (λ e. e) result (cell_error code) }
 {
     match code {

@@ -20,7 +20,7 @@ mod substream;
 mod walk;
 
 pub use cells::parse_number;
-pub use checks::{check_sheet_metadata, sheet_record_weight};
+pub use checks::{check_sheet_metadata, check_sheet_record, sheet_record_weight};
 pub use error::XlsError;
 pub use failures::{parse_bool_err, parse_formula_value};
 pub use globals::{Biff, Bof, parse_bof, parse_extern_sheet, parse_xf};
