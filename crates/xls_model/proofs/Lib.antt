@@ -7,3 +7,4 @@ pub mod Founds
 pub mod Ends
 pub mod Shapes
 pub mod HoldingLemmas
+pub mod StandardFacts
