@@ -1,18 +1,16 @@
 -- Known values, so that a wrong rule in the specs does not check.
-use Rattle.std.proofs.Common.{◌≡◌, ℕ, List, [], ◌∷◌, refl, true, false, Option, Some, None, Result, Ok, Err}
-use Rattle.xls_model.specs.Listing.{Kept, Item, plain_item, sheet_item, plain_entry, sheet_entry}
+use Rattle.std.proofs.Common.{◌≡◌, ℕ, List, [], ◌∷◌, refl, Some, None, Ok}
+use Rattle.xls_model.specs.Listing.{Kept, plain_item, sheet_item, plain_entry, sheet_entry}
 use Rattle.xls_model.specs.declared.part.Part.TheVariants as parts
-use Rattle.xls_data.specs.Content.{nothing}
 use Rattle.xls_data.specs.Sheets.{SheetContent}
 use Rattle.xls_data.specs.declared.sheets.SheetType.TheVariants.{WorkSheet}
 use Rattle.xls_data.specs.declared.sheets.SheetVisible.TheVariants.{Visible}
 use Rattle.xls_biff.specs.declared.error.XlsError.TheVariants.{Len, EoStream, NotBuilt, TooLarge}
-use Rattle.xls_book.specs.Order.{along, first_of, somes}
-use Rattle.xls_book.specs.RecordTable.{fault_of, given_at, has_sheet}
-use Rattle.xls_book.specs.Reading.{SheetRecords, kept_named, sheets_of}
+use Rattle.xls_book.specs.Order.{first_of}
+use Rattle.xls_book.specs.RecordTable.{fault_of, given_at}
+use Rattle.xls_book.specs.Reading.{kept_named, sheets_of}
 use Rattle.xls_book.specs.Faults.{limit_fault, places}
 use Rattle.xls_book.specs.Opening.{default_options}
-use Rattle.xls_book.specs.declared.options.XlsOptions.{XlsOptions}
 
 -- of several faults the first counts
 pub first_of_two : first_of {E = ℕ} (None ∷ Some 1 ∷ None ∷ Some 2 ∷ []) ≡ Some 1

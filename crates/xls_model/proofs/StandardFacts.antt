@@ -1,9 +1,9 @@
 -- Known values, so that a wrong rule in the specs does not check.
-use Rattle.std.proofs.Common.{◌≡◌, ℕ, List, [], ◌∷◌, refl, None, lit<, arith}
+use Rattle.std.proofs.Common.{◌≡◌, ℕ, [], ◌∷◌, refl, None, lit<, arith}
 use Rattle.xls_model.specs.Stream.{Group, enc, group_bytes, Begins}
-use Rattle.xls_model.specs.Substreams.{Items, none, plain, nested, Shape, own_closed, groups_in, outer_in}
+use Rattle.xls_model.specs.Substreams.{none, plain, nested, Shape, own_closed, groups_in, outer_in}
 use Rattle.xls_model.specs.Counting.{found_from}
-use Rattle.xls_model.specs.Listing.{Kept, kept_of}
+use Rattle.xls_model.specs.Listing.{kept_of}
 
 -- an EOF record is its type and no byte
 pub eof_bytes : enc 10 [] ≡ 10 ∷ 0 ∷ 0 ∷ 0 ∷ []
@@ -33,7 +33,10 @@ unfolding found_from
 chart_counted = refl
 
 -- a record of a type that isn't named is no kept record
-pub kept_types : kept_of (group 515 ∷ group 520 ∷ group 6 ∷ []) ≡ record { typ = 515; body = [] } ∷ record { typ = 6; body = [] } ∷ []
+pub kept_types : kept_of (group 515 ∷ group 520 ∷ group 6 ∷ []) ≡ record {
+  typ = 515;
+  body = [];
+} ∷ record { typ = 6; body = [] } ∷ []
 kept_types = refl
 
 -- a whole Continue behind a record belongs to it
