@@ -1,0 +1,43 @@
+-- The dense box of cells that are given with their positions: the smallest one that holds them all,
+-- of equal positions with the value that was given last, and with blanks elsewhere.
+use Rattle.std.specs.Prelude.{◌≡◌, ℕ, ◌^◌, ◌≤◌, ◌<◌, ◌⊎◌, Bool, true, Option, Some, None, List, [], ◌∷◌, ◌==◌, ◌&&◌, if◌then◌else◌, length, All, Any}
+use Rattle.std.specs.Option.{option_or}
+use Rattle.std.specs.List.{AllByRecursion}
+use Rattle.xls_range.specs.Grid.{Grid, no_cells, IsOfCorners, Shows, count_between}
+
+-- the value that is given last for a position
+abbrev pub last_at : {T : Type 0} → List ((ℕ × ℕ) × T) → ℕ × ℕ → Option T
+last_at [] p = None
+last_at (x ∷ xs) p =
+    option_or (last_at xs p) (if (x.0.0 == p.0) && (x.0.1 == p.1) then Some x.1 else None)
+
+-- one position comes before another: in an earlier row, or in the same one in an earlier column
+abbrev pub Precedes : ℕ × ℕ → ℕ × ℕ → Type 0
+Precedes p q = (p.0 < q.0) ⊎ ((p.0 ≡ q.0) × (p.1 < q.1))
+
+-- each position comes before all later ones
+abbrev pub IsAscending : List (ℕ × ℕ) → Type 0
+IsAscending [] = Unit {0}
+IsAscending (p ∷ ps) = AllByRecursion (Precedes p) ps × IsAscending ps
+
+-- the corners of the smallest box: no position lies outside, and each side has one
+pub record AreCorners {T : Type 0} (given : List ((ℕ × ℕ) × T)) (start end : ℕ × ℕ) : Type 0 where
+  pub from_top : All (λ x. start.0 ≤ x.0.0) given
+  pub from_left : All (λ x. start.1 ≤ x.0.1) given
+  pub to_bottom : All (λ x. x.0.0 ≤ end.0) given
+  pub to_right : All (λ x. x.0.1 ≤ end.1) given
+  pub top : Any (λ x. x.0.0 ≡ start.0) given
+  pub left : Any (λ x. x.0.1 ≡ start.1) given
+  pub bottom : Any (λ x. x.0.0 ≡ end.0) given
+  pub right : Any (λ x. x.0.1 ≡ end.1) given
+
+-- the smallest box has 2^64 cells or more
+abbrev pub IsTooLarge : {T : Type 0} → List ((ℕ × ℕ) × T) → Type 0
+IsTooLarge given =
+    (start : ℕ × ℕ) × (end : ℕ × ℕ) × AreCorners given start end × (2 ^ 64 ≤ count_between start end)
+
+-- the range is the dense box of these cells
+pub record IsDense {T : Type 0} (eq : T → T → Bool) (blank : T → Bool) (given : List ((ℕ × ℕ) × T)) (g : Grid T) : Type 0 where
+  pub empty : given ≡ [] → g ≡ no_cells
+  pub corners : (start end : ℕ × ℕ) → AreCorners given start end → IsOfCorners start end g
+  pub shows : Shows eq blank (λ row column. last_at given (row, column)) g

@@ -1,0 +1,12 @@
+//! Dense ranges of cells, for every type of cells.
+#![tactic(auto)]
+
+mod error;
+mod grid;
+mod iters;
+mod moves;
+mod range;
+
+pub use error::RangeError;
+pub use iters::{Cells, Rows, UsedCells};
+pub use range::Range;

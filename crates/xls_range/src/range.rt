@@ -1,0 +1,159 @@
+//! A range is empty, or the box of cells between two corners.
+
+mod growth;
+
+ghost use Rattle.std.specs.Prelude.{◌≡◌, ◌^◌, ◌≤◌, ◌<◌, ◌↔◌};
+
+use crate::error::RangeError;
+use crate::grid::{blanks, cell_of};
+use std::alloc::Global;
+use std::marker::Model;
+use xls_data::CellType;
+
+/// A range of cells: empty, or a box with one value for each of its positions. A position is a row
+/// and a column, counted from 0; it is absolute, or relative to the range's start.
+#[derive(Drop)]
+pub struct Range<T: CellType> {
+    top: u32,
+    left: u32,
+    rows: usize,
+    columns: usize,
+    cells: Vec<T>,
+}
+
+impl<T: CellType> Model for Range<T> {
+    ghost use Rattle.xls_range.specs.Grid.{Grid, IsGrid};
+
+    ghost Value = { Grid T };
+
+    ghost view = { λ r. record { top = r.top; left = r.left; height = r.rows; width = r.columns; cells = r.cells.items } };
+
+    ghost invariant = { λ r. IsGrid r.top r.left r.rows r.columns r.cells.items };
+}
+
+impl<T: CellType> Range<T> {
+    ghost use Rattle.std.specs.Prelude.{◌≡◌, ◌^◌, ◌≤◌, ◌<◌, ◌↔◌, ⊤, true, All, IsTrue, IfOk, IsErrOf, option_copied};
+    ghost use Rattle.xls_range.specs.Grid.{no_cells, start_of, end_of, cell_at, relative_at, row_at, IsRange, IsOfCorners, IsDisordered, IsOrdered, count_between, AreBlank};
+
+    /// A range without cells. It takes no memory.
+    pub fn empty(alloc: Global) -> Range<T>
+        ensures { result ≡ no_cells }
+    {
+        Range {
+            top: 0,
+            left: 0,
+            rows: 0,
+            columns: 0,
+            cells: Vec::new(alloc),
+        }
+    }
+
+    /// A range of blanks between two corners, both included. `Bounds` where a row or a column of
+    /// the start passes that of the end, else `TooLarge` where the cells are 2^64 or more.
+    pub fn new(alloc: Global, start: (u32, u32), end: (u32, u32)) -> Result<Range<T>, RangeError>
+        ensures bounds { IsErrOf result RangeError.Bounds ↔ IsDisordered start end }
+        ensures too_large { IsErrOf result RangeError.TooLarge ↔ (IsOrdered start end × (2 ^ 64 ≤ count_between start end)) }
+        ensures range { IfOk result (λ r. IsRange r) }
+        ensures corners { IfOk result (λ r. IsOfCorners start end r) }
+        ensures blank { IfOk result (λ r. All (λ x. T.blank_test x ≡ true) r.cells) }
+    {
+        if end.0 < start.0 || end.1 < start.1 {
+            return Err(RangeError::Bounds);
+        }
+        let rows = (end.0 - start.0) as usize + 1;
+        let columns = (end.1 - start.1) as usize + 1;
+        let Some(size) = rows.checked_mul(columns) else {
+            return Err(RangeError::TooLarge);
+        };
+        let cells = blanks(alloc, size).map_err(|_| RangeError::Memory)?;
+        Ok(Range {
+            top: start.0,
+            left: start.1,
+            rows,
+            columns,
+            cells,
+        })
+    }
+
+    /// The first position, where there are cells.
+    pub fn start(&self) -> Option<(u32, u32)>
+        ensures { result ≡ start_of self.now }
+    {
+        if self.rows == 0 {
+            None
+        } else {
+            Some((self.top, self.left))
+        }
+    }
+
+    /// The last position, where there are cells.
+    pub fn end(&self) -> Option<(u32, u32)>
+        ensures { result ≡ end_of self.now }
+    {
+        if self.rows == 0 {
+            return None;
+        }
+        let bottom = self.top as usize + self.rows - 1;
+        let right = self.left as usize + self.columns - 1;
+        Some((bottom as u32, right as u32))
+    }
+
+    /// The number of columns, 0 where there are no cells.
+    pub fn width(&self) -> usize
+        ensures { result ≡ self.now.width }
+    {
+        self.columns
+    }
+
+    /// The number of rows, 0 where there are no cells.
+    pub fn height(&self) -> usize
+        ensures { result ≡ self.now.height }
+    {
+        self.rows
+    }
+
+    /// Height and width.
+    pub fn get_size(&self) -> (usize, usize)
+        ensures size { result ≡ (self.now.height, self.now.width) }
+        ensures range { IsRange self.now }
+    {
+        (self.rows, self.columns)
+    }
+
+    /// Whether there are no cells.
+    pub fn is_empty(&self) -> bool
+        ensures { IsTrue result ↔ (self.now ≡ no_cells) }
+    {
+        self.rows == 0
+    }
+
+    /// The cell at an absolute position; `None` exactly outside.
+    #[tactic(auto, using(crate::proofs::Grids::cell_inside, crate::proofs::Grids::cell_outside))]
+    pub fn get_value(&self, absolute_position: (u32, u32)) -> Option<&T>
+        ensures { option_copied result ≡ cell_at self.now absolute_position.0 absolute_position.1 }
+    {
+        let (row, column) = absolute_position;
+        if row < self.top || column < self.left {
+            return None;
+        }
+        let row = (row - self.top) as usize;
+        let column = (column - self.left) as usize;
+        if row < self.rows && column < self.columns {
+            cell_of(&self.cells, row * self.columns + column)
+        } else {
+            None
+        }
+    }
+
+    /// The cell at a relative position; `None` exactly outside.
+    pub fn get(&self, relative_position: (usize, usize)) -> Option<&T>
+        ensures { option_copied result ≡ relative_at self.now relative_position.0 relative_position.1 }
+    {
+        let (row, column) = relative_position;
+        if row < self.rows && column < self.columns {
+            cell_of(&self.cells, row * self.columns + column)
+        } else {
+            None
+        }
+    }
+}
