@@ -49,14 +49,14 @@ Grows-down blank top left h w rows xs ys low count added =
       width = refl;
       count = ap length added.is ∙ length-append xs added.more ∙ omega (arith, added.blanks.number);
       kept = λ r c x p q.
-        let near : r * w + c < length xs = omega (arith, mul-add-lt r w c h p q) in
-        rw added.is (get_or_append_left xs added.more x (r * w + c) near);
+          let near : r * w + c < length xs = omega (arith, mul-add-lt r w c h p q) in
+          rw added.is (get_or_append_left xs added.more x (r * w + c) near);
       blanks = λ r c x p q far.
-        let below : h ≤ r = elim far [ inl a ↦ a | inr b ↦ absurd (omega arith) ] in
-        let high : h * w ≤ r * w = mul-le-mul_right w below in
-        let behind : length xs ≤ r * w + c = omega arith in
-        let near : r * w + c - length xs < length added.more = omega (arith, added.blanks.number, mul-add-lt r w c rows p q) in
-        rw (added.is, get_or-append_right xs added.more (length xs) (r * w + c) x refl behind) (added.blanks.all (r * w + c - length xs) x near);
+          let below : h ≤ r = elim far [ inl a ↦ a | inr b ↦ absurd (omega arith) ] in
+          let high : h * w ≤ r * w = mul-le-mul_right w below in
+          let behind : length xs ≤ r * w + c = omega arith in
+          let near : r * w + c - length xs < length added.more = omega (arith, added.blanks.number, mul-add-lt r w c rows p q) in
+          rw (added.is, get_or-append_right xs added.more (length xs) (r * w + c) x refl behind) (added.blanks.all (r * w + c - length xs) x near);
     }
 
 -- what a push leaves behind where it succeeded, and where it failed

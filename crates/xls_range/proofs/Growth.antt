@@ -22,10 +22,10 @@ grows_from blank top left h w rows columns xs bs ys hp wp b long moved others = 
   count = long;
   kept = λ r c x p q. moved r c x q (inl p);
   blanks = λ r c x p q far.
-    let near : r * columns + c < length bs = omega (arith, mul-add-lt r columns c rows p q, b.number) in
-    let alone : (r' c' : ℕ) → r' < h → c' < w → r * columns + c ≢ r' * columns + c' =
-        λ r' c' p' q'. apart r c r' c' columns q (omega arith) (λ e. elim far [ inl low ↦ absurd (omega (arith, e.0)) | inr right ↦ absurd (omega (arith, e.1)) ]) in
-    rw (others (r * columns + c) x alone) (b.all (r * columns + c) x near);
+      let near : r * columns + c < length bs = omega (arith, mul-add-lt r columns c rows p q, b.number) in
+      let alone : (r' c' : ℕ) → r' < h → c' < w → r * columns + c ≢ r' * columns + c' =
+      λ r' c' p' q'. apart r c r' c' columns q (omega arith) (λ e. elim far [ inl low ↦ absurd (omega (arith, e.0)) | inr right ↦ absurd (omega (arith, e.1)) ]) in
+      rw (others (r * columns + c) x alone) (b.all (r * columns + c) x near);
 }
 
 -- a cell that is there stands inside, at its index
@@ -39,21 +39,21 @@ pub record IsThere {T : Type 0} (g : Grid T) (row column : ℕ) (x : T) : Type 0
 -- a position is inside, or outside on one side
 pub sides : {T : Type 0} (g : Grid T) (row column : ℕ) → ((g.top ≤ row) × (row < g.top + g.height) × (g.left ≤ column) × (column < g.left + g.width)) ⊎ ((row < g.top) ⊎ ((g.top + g.height ≤ row) ⊎ ((column < g.left) ⊎ (g.left + g.width ≤ column))))
 sides g row column = elim (cases_lt row g.top) [
-    inl a ↦ inr (inl a)
+  | inl a ↦ inr (inl a)
   | inr a ↦ elim (cases_lt row (g.top + g.height)) [
-      inr b ↦ inr (inr (inl b))
+    | inr b ↦ inr (inr (inl b))
     | inl b ↦ elim (cases_lt column g.left) [
-        inl d ↦ inr (inr (inr (inl d)))
+      | inl d ↦ inr (inr (inr (inl d)))
       | inr d ↦ elim (cases_lt column (g.left + g.width)) [ inl e ↦ inl (a, b, d, e) | inr e ↦ inr (inr (inr (inr e))) ]
-      ]
     ]
   ]
+]
 
 pub there : {T : Type 0} (g : Grid T) (row column : ℕ) (x : T) → cell_at g row column ≡ Some x → IsThere g row column x
 there g row column x e = elim (sides g row column) [
-    inl i ↦ record { low = i.0; high = i.1; left = i.2; right = i.3; read = sym (cell_inside g row column i.0 i.1 i.2 i.3) ∙ e }
+  | inl i ↦ record { low = i.0; high = i.1; left = i.2; right = i.3; read = sym (cell_inside g row column i.0 i.1 i.2 i.3) ∙ e }
   | inr o ↦ absurd (none-some x (sym (cell_outside g row column o) ∙ e))
-  ]
+]
 
 -- a grown range with a value written into it
 abbrev pub written : {T : Type 0} → Grid T → ℕ → ℕ → T → Grid T
@@ -88,7 +88,7 @@ set_others blank old ys rows columns row column value tp lp rp cp hp wp grows p 
     let inR : p - old.top < old.height = omega (arith, t.low, t.high) in
     let inC : q - old.left < old.width = omega (arith, t.left, t.right) in
     let far : j ≢ i = apart (p - old.top) (q - old.left) (row - old.top) (column - old.left) columns (omega arith) cp
-      (λ e. ne (omega (arith, e.0, t.low), omega (arith, e.1, t.left))) in
+    (λ e. ne (omega (arith, e.0, t.low), omega (arith, e.1, t.left))) in
     let near : j < length (slice_set ys i value) = omega (arith, length-set ys i value, grows.count, mul-add-lt (p - old.top) columns (q - old.left) rows (omega arith) (omega arith)) in
     cell_inside (boxed old rows columns (slice_set ys i value)) p q t.low (omega arith) t.left (omega arith)
     ∙ slice_get-get_or (slice_set ys i value) j x near
@@ -99,13 +99,13 @@ pub beyond : {T : Type 0} (g : Grid T) (row column : ℕ) (x : T) → length g.c
     → (g.height ≤ row - g.top) ⊎ (g.width ≤ column - g.left)
 beyond g row column x count tp lp none =
     elim (cases_lt (row - g.top) g.height) [
-      inr b ↦ inl b
-    | inl a ↦ elim (cases_lt (column - g.left) g.width) [
-        inr d ↦ inr d
-      | inl e ↦
-          let i = (row - g.top) * g.width + (column - g.left) in
-          let near : i < length g.cells = omega (arith, mul-add-lt (row - g.top) g.width (column - g.left) g.height a e) in
-          absurd (none-some _ (sym none ∙ cell_inside g row column tp (omega arith) lp (omega arith) ∙ slice_get-get_or g.cells i x near))
+      | inr b ↦ inl b
+      | inl a ↦ elim (cases_lt (column - g.left) g.width) [
+        | inr d ↦ inr d
+        | inl e ↦
+            let i = (row - g.top) * g.width + (column - g.left) in
+            let near : i < length g.cells = omega (arith, mul-add-lt (row - g.top) g.width (column - g.left) g.height a e) in
+            absurd (none-some _ (sym none ∙ cell_inside g row column tp (omega arith) lp (omega arith) ∙ slice_get-get_or g.cells i x near))
       ]
     ]
 
@@ -121,7 +121,7 @@ set_blanks blank old ys rows columns row column value tp lp rp cp count grows p 
     let inR : p - old.top < rows = omega (arith, t.low, t.high) in
     let inC : q - old.left < columns = omega (arith, t.left, t.right) in
     let far : j ≢ i = apart (p - old.top) (q - old.left) (row - old.top) (column - old.left) columns inC cp
-      (λ e. ne (omega (arith, e.0, t.low), omega (arith, e.1, t.left))) in
+    (λ e. ne (omega (arith, e.0, t.low), omega (arith, e.1, t.left))) in
     let same : get_or ys j x ≡ x = sym (get_or-set_other ys i j value x far) ∙ get_or_from_slice_get (slice_set ys i value) j x x t.read in
     rw same at (grows.blanks (p - old.top) (q - old.left) x inR inC (beyond old p q x count t.low t.left was))
 
@@ -161,18 +161,18 @@ away_from g row column value count inside r c ne =
     let i = (row - g.top) * g.width + (column - g.left) in
     let j = (r - g.top) * g.width + (c - g.left) in
     elim (sides g r c) [
-      inr out ↦ cell_outside (written g (row - g.top) (column - g.left) value) r c out ∙ sym (cell_outside g r c out)
-    | inl within ↦
-        let inR : r - g.top < g.height = omega (arith, within.0, within.1) in
-        let inC : c - g.left < g.width = omega (arith, within.2, within.3) in
-        let far : j ≢ i = apart (r - g.top) (c - g.left) (row - g.top) (column - g.left) g.width inC (omega (arith, inside.left, inside.right))
+      | inr out ↦ cell_outside (written g (row - g.top) (column - g.left) value) r c out ∙ sym (cell_outside g r c out)
+      | inl within ↦
+          let inR : r - g.top < g.height = omega (arith, within.0, within.1) in
+          let inC : c - g.left < g.width = omega (arith, within.2, within.3) in
+          let far : j ≢ i = apart (r - g.top) (c - g.left) (row - g.top) (column - g.left) g.width inC (omega (arith, inside.left, inside.right))
           (λ e. ne (omega (arith, e.0, within.0, inside.low), omega (arith, e.1, within.2, inside.left))) in
-        let near : j < length g.cells = omega (arith, count, mul-add-lt (r - g.top) g.width (c - g.left) g.height inR inC) in
-        let room : j < length (slice_set g.cells i value) = omega (arith, length-set g.cells i value) in
-        cell_inside (written g (row - g.top) (column - g.left) value) r c within.0 within.1 within.2 within.3
-        ∙ slice_get-get_or (slice_set g.cells i value) j value room
-        ∙ ap (λ v. Some v) (get_or-set_other g.cells i j value value far)
-        ∙ sym (cell_inside g r c within.0 within.1 within.2 within.3 ∙ slice_get-get_or g.cells j value near)
+          let near : j < length g.cells = omega (arith, count, mul-add-lt (r - g.top) g.width (c - g.left) g.height inR inC) in
+          let room : j < length (slice_set g.cells i value) = omega (arith, length-set g.cells i value) in
+          cell_inside (written g (row - g.top) (column - g.left) value) r c within.0 within.1 within.2 within.3
+          ∙ slice_get-get_or (slice_set g.cells i value) j value room
+          ∙ ap (λ v. Some v) (get_or-set_other g.cells i j value value far)
+          ∙ sym (cell_inside g r c within.0 within.1 within.2 within.3 ∙ slice_get-get_or g.cells j value near)
     ]
 
 -- where a value is written at a position that is inside, only that position changes
@@ -181,10 +181,10 @@ pub cell_at-written : {T : Type 0} (g : Grid T) (row column : ℕ) (value : T) �
 cell_at-written g row column value count inside r c =
     let away : ((r ≡ row) × (c ≡ column) → ⊥) → cell_at (written g (row - g.top) (column - g.left) value) r c ≡ cell_at g r c = away_from g row column value count inside r c in
     elim (cases_eq row r) [
-      inr ne ↦ rw (ne_eqb row r ne) (away (λ e. ne (sym e.0)))
-    | inl same ↦ elim (cases_eq column c) [
-        inr ne ↦ rw (eq-eqb row r same, ne_eqb column c ne) (away (λ e. ne (sym e.1)))
-      | inl also ↦ rw (eq-eqb row r same, eq-eqb column c also, ← same, ← also)
-          (set_here g g.cells g.height g.width row column value inside.low inside.left (omega (arith, inside.low, inside.high)) (omega (arith, inside.left, inside.right)) count)
+      | inr ne ↦ rw (ne_eqb row r ne) (away (λ e. ne (sym e.0)))
+      | inl same ↦ elim (cases_eq column c) [
+        | inr ne ↦ rw (eq-eqb row r same, ne_eqb column c ne) (away (λ e. ne (sym e.1)))
+        | inl also ↦ rw (eq-eqb row r same, eq-eqb column c also, ← same, ← also)
+            (set_here g g.cells g.height g.width row column value inside.low inside.left (omega (arith, inside.low, inside.high)) (omega (arith, inside.left, inside.right)) count)
       ]
     ]

@@ -3,3 +3,6 @@ pub mod Steps
 pub mod Growth
 pub mod RowLists
 pub mod BlankLemmas
+pub mod CopyLemmas
+pub mod SparseLemmas
+pub mod HeaderLemmas

@@ -50,7 +50,7 @@ cells_snoc index width (y ∷ xs) x =
 pub used_last : {T : Type 0} (blank : T → Bool) (xs : List (ℕ × ℕ × T)) (x : ℕ × ℕ × T) → used blank (xs ++ x ∷ []) ≡ used blank xs ++ (if blank x.2 then [] else x ∷ [])
 used_last blank [] x = refl
 used_last blank (y ∷ xs) x = elim (blank y.2) as (λ b. (if b then used blank (xs ++ x ∷ []) else y ∷ used blank (xs ++ x ∷ [])) ≡ (if b then used blank xs else y ∷ used blank xs) ++ (if blank x.2 then [] else x ∷ []))
-  [ true ↦ used_last blank xs x | false ↦ ap (λ r. y ∷ r) (used_last blank xs x) ]
+    [ true ↦ used_last blank xs x | false ↦ ap (λ r. y ∷ r) (used_last blank xs x) ]
 
 pub used_last_blank : {T : Type 0} (blank : T → Bool) (xs : List (ℕ × ℕ × T)) (x : ℕ × ℕ × T) → blank x.2 ≡ true → used blank (xs ++ x ∷ []) ≡ used blank xs
 used_last_blank blank xs x e = used_last blank xs x ∙ rw (e, append-nil)
@@ -60,3 +60,10 @@ used_last_kept blank xs x e = used_last blank xs x ∙ rw e
 
 pub used_last_longer : {T : Type 0} (blank : T → Bool) (xs : List (ℕ × ℕ × T)) (x : ℕ × ℕ × T) → blank x.2 ≡ false → length (used blank (xs ++ x ∷ [])) ≡ length (used blank xs) + 1
 used_last_longer blank xs x e = ap length (used_last_kept blank xs x e) ∙ length-append (used blank xs) (x ∷ [])
+
+-- at most as many are left as there are cells
+pub used_count : {T : Type 0} (blank : T → Bool) (xs : List (ℕ × ℕ × T)) → length (used blank xs) ≤ length xs
+used_count blank [] = omega arith
+used_count blank (x ∷ xs) =
+    let rest = used_count blank xs in
+    elim (blank x.2) as (λ b. length (if b then used blank xs else x ∷ used blank xs) ≤ length (x ∷ xs)) [ true ↦ omega arith | false ↦ omega arith ]

@@ -17,12 +17,12 @@ moved_step rows columns wide row column old cells grown y narrow cp rp room move
     rw get_or-set_other (moved r c d p (inl below))
 moved_step rows columns wide row column old cells grown y narrow cp rp room moved is r c d p (inr (same, q)) =
     elim (cases_lt c column) [
-      inl before ↦
-        let ne : r * wide + c ≢ row * wide + column = apart r c row column wide (omega arith) (omega arith) (λ e. absurd (omega (arith, e.1))) in
-        rw get_or-set_other (moved r c d p (inr (same, before)))
-    | inr from ↦
-        let here : c ≡ column = omega arith in
-        rw (same, here, get_or-set_same) (is d)
+      | inl before ↦
+          let ne : r * wide + c ≢ row * wide + column = apart r c row column wide (omega arith) (omega arith) (λ e. absurd (omega (arith, e.1))) in
+          rw get_or-set_other (moved r c d p (inr (same, before)))
+      | inr from ↦
+          let here : c ≡ column = omega arith in
+          rw (same, here, get_or-set_same) (is d)
     ]
 
 pub left_step : {T : Type 0} (rows columns row column : ℕ) (old cells : List T) (x : T) → column < columns

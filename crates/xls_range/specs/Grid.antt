@@ -117,9 +117,9 @@ pub record Grows {T : Type 0} (blank : T → Bool) (old new : Grid T) (rows colu
   pub width : new.width ≡ columns
   pub count : length new.cells ≡ rows * columns
   pub kept : (r c : ℕ) (x : T) → r < old.height → c < old.width
-    → slice_index_or new.cells (r * columns + c) x ≡ slice_index_or old.cells (r * old.width + c) x
+      → slice_index_or new.cells (r * columns + c) x ≡ slice_index_or old.cells (r * old.width + c) x
   pub blanks : (r c : ℕ) (x : T) → r < rows → c < columns → (old.height ≤ r) ⊎ (old.width ≤ c)
-    → blank (slice_index_or new.cells (r * columns + c) x) ≡ true
+      → blank (slice_index_or new.cells (r * columns + c) x) ≡ true
 
 -- the value stands at the position, every other cell where it was, and each new one is blank
 pub record Sets {T : Type 0} (blank : T → Bool) (old new : Grid T) (row column : ℕ) (value : T) : Type 0 where
@@ -145,6 +145,12 @@ IsCopyOf eq blank value cell = MatchOption value (blank cell ≡ true) (λ x. eq
 -- each cell of the range stands for what the source has at its position
 pub record Shows {T : Type 0} (eq : T → T → Bool) (blank : T → Bool) (source : ℕ → ℕ → Option T) (g : Grid T) : Type 0 where
   pub shown : (r c : ℕ) (y : T) → cell_at g r c ≡ Some y → IsCopyOf eq blank (source r c) y
+
+-- the first cells of a box, row by row from a start: each stands for what the source has there
+pub record AreCopies {T : Type 0} (eq : T → T → Bool) (blank : T → Bool) (source : ℕ → ℕ → Option T) (start : ℕ × ℕ) (columns count : ℕ) (cells : List T) : Type 0 where
+  pub number : length cells ≡ count
+  pub shown : (r c : ℕ) (y : T) → c < columns → r * columns + c < count
+      → IsCopyOf eq blank (source (start.0 + r) (start.1 + c)) (slice_index_or cells (r * columns + c) y)
 
 -- equal corners and equal cells
 abbrev pub grid_eq : {T : Type 0} → (T → T → Bool) → Grid T → Grid T → Bool

@@ -20,16 +20,21 @@ abbrev pub IsAscending : List (ℕ × ℕ) → Type 0
 IsAscending [] = Unit {0}
 IsAscending (p ∷ ps) = AllByRecursion (Precedes p) ps × IsAscending ps
 
--- the corners of the smallest box: no position lies outside, and each side has one
+-- the least of the numbers that are read off the elements, and the greatest
+pub record IsLeast {X : Type 0} (read : X → ℕ) (xs : List X) (n : ℕ) : Type 0 where
+  pub all : All (λ x. n ≤ read x) xs
+  pub some : Any (λ x. read x ≡ n) xs
+
+pub record IsGreatest {X : Type 0} (read : X → ℕ) (xs : List X) (n : ℕ) : Type 0 where
+  pub all : All (λ x. read x ≤ n) xs
+  pub some : Any (λ x. read x ≡ n) xs
+
+-- the corners of the smallest box that holds the positions
 pub record AreCorners {T : Type 0} (given : List ((ℕ × ℕ) × T)) (start end : ℕ × ℕ) : Type 0 where
-  pub from_top : All (λ x. start.0 ≤ x.0.0) given
-  pub from_left : All (λ x. start.1 ≤ x.0.1) given
-  pub to_bottom : All (λ x. x.0.0 ≤ end.0) given
-  pub to_right : All (λ x. x.0.1 ≤ end.1) given
-  pub top : Any (λ x. x.0.0 ≡ start.0) given
-  pub left : Any (λ x. x.0.1 ≡ start.1) given
-  pub bottom : Any (λ x. x.0.0 ≡ end.0) given
-  pub right : Any (λ x. x.0.1 ≡ end.1) given
+  pub top : IsLeast (λ x. x.0.0) given start.0
+  pub left : IsLeast (λ x. x.0.1) given start.1
+  pub bottom : IsGreatest (λ x. x.0.0) given end.0
+  pub right : IsGreatest (λ x. x.0.1) given end.1
 
 -- the smallest box has 2^64 cells or more
 abbrev pub IsTooLarge : {T : Type 0} → List ((ℕ × ℕ) × T) → Type 0

@@ -1,10 +1,32 @@
 //! Lists of cells.
 
-ghost use Rattle.std.specs.Prelude.{◌≡◌, ◌++◌, List, length, IfOk, OnOk, OnErr, option_copied, slice_get};
-ghost use Rattle.xls_range.specs.Grid.{AreBlank, AddsBlanks};
+ghost use Rattle.std.specs.Prelude.{◌≡◌, ◌+◌, ◌*◌, ◌^◌, ◌<◌, ◌≤◌, ◌↔◌, IfOk, IsErrOf, OnOk, OnErr, option_copied, slice_get};
+ghost use Rattle.xls_range.specs.Grid.{AreBlank, AddsBlanks, IsDisordered, IsOrdered, count_between};
 
+use crate::error::RangeError;
 use std::alloc::{AllocError, Global};
 use xls_data::CellType;
+
+/// The height and the width of the box between two corners, both included.
+pub fn box_size(start: (u32, u32), end: (u32, u32)) -> Result<(usize, usize), RangeError>
+    ensures bounds { IsErrOf result RangeError.Bounds ↔ IsDisordered start end }
+    ensures too_large { IsErrOf result RangeError.TooLarge ↔ (IsOrdered start end × (2 ^ 64 ≤ count_between start end)) }
+    ensures memory { ¬ IsErrOf result RangeError.Memory }
+    ensures height { IfOk result (λ size. size.0 + start.0 ≡ end.0 + 1) }
+    ensures width { IfOk result (λ size. size.1 + start.1 ≡ end.1 + 1) }
+    ensures some { IfOk result (λ size. (0 < size.0) × (0 < size.1)) }
+    ensures fits { IfOk result (λ size. size.0 * size.1 < 2 ^ 64) }
+{
+    if end.0 < start.0 || end.1 < start.1 {
+        return Err(RangeError::Bounds);
+    }
+    let rows = (end.0 - start.0) as usize + 1;
+    let columns = (end.1 - start.1) as usize + 1;
+    match rows.checked_mul(columns) {
+        Some(_) => Ok((rows, columns)),
+        None => Err(RangeError::TooLarge),
+    }
+}
 
 /// So many blanks, by one request for memory.
 pub fn blanks<T: CellType>(alloc: Global, count: usize) -> Result<Vec<T>, AllocError>

@@ -1,10 +1,12 @@
-// What goes over the rows and the cells of a range. Contracts see an iterator as the list of what is left.
+//! What goes over the rows and the cells of a range, from both ends. Contracts see an iterator as
+//! the list of the rows or cells that are left.
 
-ghost use Rattle.std.specs.Prelude.{◌≡◌, ℕ, ◌+◌, ◌-◌, ◌*◌, ◌<◌, ◌≤◌, length, take, drop};
-ghost use Rattle.std.specs.Iterator.{YieldsFirstBy, YieldsLastBy, item_count};
+ghost use Rattle.std.specs.Prelude.{◌≡◌, Some, IfSome, length};
+ghost use Rattle.std.specs.Iterator.{YieldsFirstBy, YieldsLastBy, item_count, UpTo};
+ghost use Rattle.std.specs.Iterator.SizeHint.{IsWithinCount};
 
-use xls_data::CellType;
 use std::marker::Model;
+use xls_data::CellType;
 
 /// The rows, from the top.
 #[derive(Drop)]
@@ -33,7 +35,11 @@ impl<'a, T> Rows<'a, T> {
         requires { length cells.now ≡ count * width }
         ensures { result ≡ rows_of count width cells.now }
     {
-        Rows { cells, width, count }
+        Rows {
+            cells,
+            width,
+            count,
+        }
     }
 }
 
@@ -53,6 +59,15 @@ impl<'a, T> Iterator for Rows<'a, T> {
         self.cells = others;
         self.count -= 1;
         Some(first)
+    }
+
+    #[tactic(auto, using(crate::proofs::RowLists::rows_count))]
+    fn size_hint(&self) -> (usize, Option<usize>)
+        ensures lower { IsWithinCount result.0 (item_count (λ rows. rows) self.now) }
+        ensures upper { IfSome result.1 (UpTo (item_count (λ rows. rows) self.now)) }
+        ensures value { result ≡ (length self.now, Some (length self.now)) }
+    {
+        (self.count, Some(self.count))
     }
 }
 
@@ -128,6 +143,15 @@ impl<'a, T> Iterator for Cells<'a, T> {
         self.front += 1;
         Some((at / self.width, at % self.width, first))
     }
+
+    #[tactic(auto, using(crate::proofs::RowLists::cells_count))]
+    fn size_hint(&self) -> (usize, Option<usize>)
+        ensures lower { IsWithinCount result.0 (item_count (λ cells. cells) self.now) }
+        ensures upper { IfSome result.1 (UpTo (item_count (λ cells. cells) self.now)) }
+        ensures value { result ≡ (length self.now, Some (length self.now)) }
+    {
+        (self.cells.len(), Some(self.cells.len()))
+    }
 }
 
 impl<'a, T> DoubleEndedIterator for Cells<'a, T> {
@@ -157,19 +181,17 @@ pub struct UsedCells<'a, T: CellType> {
 
 impl<'a, T: CellType> Model for UsedCells<'a, T> {
     ghost use Rattle.std.specs.Prelude.{ℕ, List};
-    ghost use Rattle.xls_range.specs.Lists.{used};
 
     ghost Value = { List (ℕ × ℕ × T) };
 
-    ghost view = { λ r. used T.blank_test r.cells };
+    ghost view = { λ r. r.cells };
 }
 
 impl<'a, T: CellType> UsedCells<'a, T> {
     ghost use Rattle.std.specs.Prelude.{◌≡◌};
-    ghost use Rattle.xls_range.specs.Lists.{used};
 
     pub fn new(cells: Cells<'a, T>) -> UsedCells<'a, T>
-        ensures { result ≡ used T.blank_test cells.entry }
+        ensures { result ≡ cells.entry }
     {
         UsedCells { cells }
     }
@@ -178,9 +200,14 @@ impl<'a, T: CellType> UsedCells<'a, T> {
 impl<'a, T: CellType> Iterator for UsedCells<'a, T> {
     type Item = (usize, usize, &'a T);
 
-    ghost next_gives = { YieldsFirstBy (λ cell. (cell.0, cell.1, cell.2.now)) (λ cells. cells) };
+    ghost use Rattle.std.specs.Prelude.{◌≡◌, Some, IfSome, length};
+    ghost use Rattle.std.specs.Iterator.{YieldsFirstBy, item_count, UpTo};
+    ghost use Rattle.std.specs.Iterator.SizeHint.{IsWithinCount};
+    ghost use Rattle.xls_range.specs.Lists.{used};
 
-    ghost remaining = { item_count (λ cells. cells) };
+    ghost next_gives = { YieldsFirstBy (λ cell. (cell.0, cell.1, cell.2.now)) (used T.blank_test) };
+
+    ghost remaining = { item_count (used T.blank_test) };
 
     fn next(&mut self) -> Option<(usize, usize, &'a T)> {
         while let Some(cell) = self.cells.next() {
@@ -190,10 +217,23 @@ impl<'a, T: CellType> Iterator for UsedCells<'a, T> {
         }
         None
     }
+
+    /// 0, and how many cells are left, blank or not.
+    #[tactic(auto, using(crate::proofs::RowLists::used_count))]
+    fn size_hint(&self) -> (usize, Option<usize>)
+        ensures lower { IsWithinCount result.0 (item_count (used T.blank_test) self.now) }
+        ensures upper { IfSome result.1 (UpTo (item_count (used T.blank_test) self.now)) }
+        ensures value { result ≡ (0, Some (length self.now)) }
+    {
+        (0, Some(self.cells.len()))
+    }
 }
 
 impl<'a, T: CellType> DoubleEndedIterator for UsedCells<'a, T> {
-    ghost next_back_gives = { YieldsLastBy (λ cell. (cell.0, cell.1, cell.2.now)) (λ cells. cells) };
+    ghost use Rattle.std.specs.Iterator.{YieldsLastBy};
+    ghost use Rattle.xls_range.specs.Lists.{used};
+
+    ghost next_back_gives = { YieldsLastBy (λ cell. (cell.0, cell.1, cell.2.now)) (used T.blank_test) };
 
     #[tactic(auto, using(crate::proofs::RowLists::used_last_blank, crate::proofs::RowLists::used_last_kept, crate::proofs::RowLists::used_last_longer))]
     fn next_back(&mut self) -> Option<(usize, usize, &'a T)> {

@@ -6,6 +6,7 @@ mod grid;
 mod iters;
 mod moves;
 mod range;
+mod sparse;
 
 pub use error::RangeError;
 pub use iters::{Cells, Rows, UsedCells};

@@ -6,7 +6,13 @@ ghost use Rattle.xls_range.specs.Moves.{IsMoved, LeavesOthers};
 use std::mem;
 
 /// Moves the cells of a box into the first rows and columns of a wider one.
-pub fn move_cells<T>(cells: &mut Vec<T>, grown: &mut Vec<T>, rows: usize, columns: usize, wide: usize)
+pub fn move_cells<T>(
+    cells: &mut Vec<T>,
+    grown: &mut Vec<T>,
+    rows: usize,
+    columns: usize,
+    wide: usize,
+)
     requires narrow { columns ≤ wide }
     requires cells { vec_len cells.old ≡ rows * columns }
     requires grown { rows * wide ≤ vec_len grown.old }
@@ -16,7 +22,10 @@ pub fn move_cells<T>(cells: &mut Vec<T>, grown: &mut Vec<T>, rows: usize, column
 {
     for row in 0..rows {
         for column in 0..columns {
-            mem::swap(&mut cells[row * columns + column], &mut grown[row * wide + column]);
+            mem::swap(
+                &mut cells[row * columns + column],
+                &mut grown[row * wide + column],
+            );
         }
     }
 }

@@ -1,11 +1,15 @@
 //! A range is empty, or the box of cells between two corners.
 
+mod copies;
+mod equality;
 mod growth;
-
-ghost use Rattle.std.specs.Prelude.{◌≡◌, ◌^◌, ◌≤◌, ◌<◌, ◌↔◌};
+mod headers;
+mod indexing;
+mod sparse;
 
 use crate::error::RangeError;
-use crate::grid::{blanks, cell_of};
+use crate::grid::{blanks, box_size, cell_of};
+use crate::iters::{Cells, Rows, UsedCells};
 use std::alloc::Global;
 use std::marker::Model;
 use xls_data::CellType;
@@ -32,8 +36,9 @@ impl<T: CellType> Model for Range<T> {
 }
 
 impl<T: CellType> Range<T> {
-    ghost use Rattle.std.specs.Prelude.{◌≡◌, ◌^◌, ◌≤◌, ◌<◌, ◌↔◌, ⊤, true, All, IsTrue, IfOk, IsErrOf, option_copied};
-    ghost use Rattle.xls_range.specs.Grid.{no_cells, start_of, end_of, cell_at, relative_at, row_at, IsRange, IsOfCorners, IsDisordered, IsOrdered, count_between, AreBlank};
+    ghost use Rattle.std.specs.Prelude.{◌≡◌, ◌^◌, ◌≤◌, ◌<◌, ◌*◌, ◌↔◌, true, length, All, IsTrue, IfOk, IsErrOf, option_copied};
+    ghost use Rattle.xls_range.specs.Lists.{rows_of, cells_from};
+    ghost use Rattle.xls_range.specs.Grid.{no_cells, start_of, end_of, cell_at, relative_at, IsRange, IsOfCorners, IsDisordered, IsOrdered, count_between};
 
     /// A range without cells. It takes no memory.
     pub fn empty(alloc: Global) -> Range<T>
@@ -57,15 +62,8 @@ impl<T: CellType> Range<T> {
         ensures corners { IfOk result (λ r. IsOfCorners start end r) }
         ensures blank { IfOk result (λ r. All (λ x. T.blank_test x ≡ true) r.cells) }
     {
-        if end.0 < start.0 || end.1 < start.1 {
-            return Err(RangeError::Bounds);
-        }
-        let rows = (end.0 - start.0) as usize + 1;
-        let columns = (end.1 - start.1) as usize + 1;
-        let Some(size) = rows.checked_mul(columns) else {
-            return Err(RangeError::TooLarge);
-        };
-        let cells = blanks(alloc, size).map_err(|_| RangeError::Memory)?;
+        let (rows, columns) = box_size(start, end)?;
+        let cells = blanks(alloc, rows * columns).map_err(|_| RangeError::Memory)?;
         Ok(Range {
             top: start.0,
             left: start.1,
@@ -155,5 +153,35 @@ impl<T: CellType> Range<T> {
         } else {
             None
         }
+    }
+
+    /// The rows from the top, each as long as the range is wide.
+    #[tactic(auto, using(crate::proofs::RowLists::rows_count))]
+    pub fn rows(&self) -> Rows<'_, T>
+        ensures items { result ≡ rows_of self.now.height self.now.width self.now.cells }
+        ensures len { length result ≡ self.now.height }
+        ensures bound { length result < 2 ^ 64 }
+        ensures range { IsRange self.now }
+    {
+        Rows::new(&self.cells, self.columns, self.rows)
+    }
+
+    /// The cells row by row, each with its relative row and column.
+    #[tactic(auto, using(crate::proofs::RowLists::cells_count))]
+    pub fn cells(&self) -> Cells<'_, T>
+        ensures items { result ≡ cells_from 0 self.now.width self.now.cells }
+        ensures len { length result ≡ self.now.height * self.now.width }
+        ensures bound { length result < 2 ^ 64 }
+        ensures range { IsRange self.now }
+    {
+        Cells::new(&self.cells, self.columns)
+    }
+
+    /// The cells that are not blank, each with its relative row and column.
+    pub fn used_cells(&self) -> UsedCells<'_, T>
+        ensures items { result ≡ cells_from 0 self.now.width self.now.cells }
+        ensures bound { length result < 2 ^ 64 }
+    {
+        UsedCells::new(self.cells())
     }
 }

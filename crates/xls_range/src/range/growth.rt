@@ -45,7 +45,13 @@ impl<T: CellType> Range<T> {
             return Err(RangeError::TooLarge);
         };
         let mut grown = blanks(*self.cells.allocator(), size).map_err(|_| RangeError::Memory)?;
-        move_cells(&mut self.cells, &mut grown, self.rows, self.columns, columns);
+        move_cells(
+            &mut self.cells,
+            &mut grown,
+            self.rows,
+            self.columns,
+            columns,
+        );
         self.cells = grown;
         self.rows = rows;
         self.columns = columns;
@@ -84,7 +90,7 @@ impl<T: CellType> Range<T> {
     }
 
     // Writes the cell at a position that is there.
-    fn put_at(&mut self, position: (u32, u32), value: T)
+    pub(super) fn put_at(&mut self, position: (u32, u32), value: T)
         requires { IsIn self.old position.0 position.1 }
         ensures same { IsSameBox self.old self.new }
         ensures written { (r c : ℕ) → cell_at self.new r c ≡ (if (position.0 == r) && (position.1 == c) then Some value else cell_at self.old r c) }

@@ -11,8 +11,8 @@ loop-i-init g c = record {
 pub loop-i-preserved : goal.loop-i-preserved
 loop-i-preserved g c = record {
   added = AddsBlanks-suc g.T.CellType.blank_test c.loop-i._i c.args.cells.now.items c.loop-i.cells.items c.push.new.self.items c.blank-blank.result
-    c.loop-i.invariant.added (search rules)
-    (c.push.ensures.items ∙ if-is_ok-true c.push.result _ _ (sym c.is_err.ensures.value ∙ c.if-is_err.false));
+      c.loop-i.invariant.added (search rules)
+      (c.push.ensures.items ∙ if-is_ok-true c.push.result _ _ (sym c.is_err.ensures.value ∙ c.if-is_err.false));
   before = c.loop-i.invariant.before;
 }
 

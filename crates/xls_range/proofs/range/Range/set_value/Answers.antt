@@ -11,4 +11,4 @@ returns-clause-ok g c =
     let lp : old.left ≤ c.args.absolute_position.1 = grind arith in
     let k = rw (← c.self.view_is) at c.in_ok-grow.ensures.ok in
     rw (c.put.ensures, ← c.self.view_is) (sets_from g.T.CellType.blank_test old c.grow.new.self.cells c.args.absolute_position.0 c.args.absolute_position.1 c.max-rows.result c.max-columns.result c.args.value
-      c.self.invariant.count tp lp c.max-rows.ensures c.max-columns.ensures c.grow.new.self (same_grid c.grow.new.self _ _ _ _ k.top k.left k.height k.width) k)
+    c.self.invariant.count tp lp c.max-rows.ensures c.max-columns.ensures c.grow.new.self (same_grid c.grow.new.self _ _ _ _ k.top k.left k.height k.width) k)
