@@ -6,3 +6,7 @@ pub mod BlankLemmas
 pub mod CopyLemmas
 pub mod SparseLemmas
 pub mod HeaderLemmas
+pub mod CellLemmas
+pub mod EqualLemmas
+pub mod WalkLemmas
+pub mod DenseLemmas

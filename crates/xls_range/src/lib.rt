@@ -4,6 +4,7 @@
 mod error;
 mod grid;
 mod iters;
+pub mod laws;
 mod moves;
 mod range;
 mod sparse;
