@@ -5,8 +5,8 @@ use Rattle.std.proofs.lemmas.Nat.{mul-add-lt, div-add-mod'}
 use Rattle.std.proofs.lemmas.Option.{slice_get-get_or, slice_get_within}
 use Rattle.std.proofs.Math.Nat.{div-lt_iff_lt-mul, mod-lt}
 use Rattle.xls_range.specs.Grid.{Grid, IsRange, IsIn, IsOfCorners, IsCopyOf, Shows, cell_at, no_cells}
-use Rattle.xls_range.proofs.Grids.{cell_inside, cell_outside}
-use Rattle.xls_range.proofs.Growth.{sides, there}
+use Rattle.xls_range.proofs.GridLemmas.{cell_inside, cell_outside}
+use Rattle.xls_range.proofs.GrowthLemmas.{sides, there}
 
 -- a position of the box has a cell
 pub cell_at-IsIn : {T : Type 0} (g : Grid T) (r c : ℕ) (d : T) → length g.cells ≡ g.height * g.width → IsIn g r c
@@ -28,9 +28,9 @@ cell_there g r c count inside =
 
 pub in_from_some : {T : Type 0} (g : Grid T) (r c : ℕ) → IsSome (cell_at g r c) → IsIn g r c
 in_from_some g r c is = elim (sides g r c) [
-    inl i ↦ record { low = i.0; high = i.1; left = i.2; right = i.3 }
+  | inl i ↦ record { low = i.0; high = i.1; left = i.2; right = i.3 }
   | inr o ↦ absurd (let none = cell_outside g r c o in let h = rw none at is in cc)
-  ]
+]
 
 pub fills_its_box : {T : Type 0} (g : Grid T) → IsRange g → (r c : ℕ) → IsSome (cell_at g r c) ↔ IsIn g r c
 fills_its_box g is r c = (in_from_some g r c, λ inside. ap is_some (cell_there g r c is.count inside).1)

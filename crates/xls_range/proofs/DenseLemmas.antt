@@ -12,8 +12,8 @@ use Rattle.xls_range.specs.Sparse.{last_at, IsLeast, IsGreatest, AreCorners, IsD
 use Rattle.xls_range.specs.Laws.{IsSameCell, AreSame}
 use Rattle.xls_range.proofs.CellLemmas.{cell_there}
 use Rattle.xls_range.proofs.EqualLemmas.{grid_eq-AreSame}
-use Rattle.xls_range.proofs.Grids.{cell_outside}
-use Rattle.xls_range.proofs.Growth.{sides}
+use Rattle.xls_range.proofs.GridLemmas.{cell_outside}
+use Rattle.xls_range.proofs.GrowthLemmas.{sides}
 use Rattle.xls_range.proofs.SparseLemmas.{AreCorners-inside}
 
 -- ---- the corners are there
@@ -26,40 +26,58 @@ Any-head P x xs h = (0, x, omega arith, refl, h)
 
 least_cons : {X : Type 0} (read : X → ℕ) (x : X) (xs : List X) (n : ℕ) → IsLeast read xs n → (m : ℕ) × IsLeast read (x ∷ xs) m
 least_cons read x xs n least = elim (cases_lt (read x) n) [
-    inl less ↦ (read x, record {
+  | inl less ↦ (
+    read x,
+    record {
       all = All-cons (λ z. read x ≤ read z) x xs (omega arith) (λ k d p. omega (arith, least.all k d p));
       some = Any-head (λ z. read z ≡ read x) x xs refl;
-    })
-  | inr rest ↦ (n, record {
+    },
+  )
+  | inr rest ↦ (
+    n,
+    record {
       all = All-cons (λ z. n ≤ read z) x xs rest least.all;
       some = Any-cons (λ z. read z ≡ n) x xs least.some;
-    })
-  ]
+    },
+  )
+]
 
 has_least : {X : Type 0} (read : X → ℕ) (x : X) (xs : List X) → (n : ℕ) × IsLeast read (x ∷ xs) n
-has_least read x [] = (read x, record {
-  all = All-cons (λ z. read x ≤ read z) x [] (omega arith) (λ k d p. absurd (omega arith));
-  some = Any-head (λ z. read z ≡ read x) x [] refl;
-})
+has_least read x [] = (
+  read x,
+  record {
+    all = All-cons (λ z. read x ≤ read z) x [] (omega arith) (λ k d p. absurd (omega arith));
+    some = Any-head (λ z. read z ≡ read x) x [] refl;
+  },
+)
 has_least read x (y ∷ ys) = let rest = has_least read y ys in least_cons read x (y ∷ ys) rest.0 rest.1
 
 greatest_cons : {X : Type 0} (read : X → ℕ) (x : X) (xs : List X) (n : ℕ) → IsGreatest read xs n → (m : ℕ) × IsGreatest read (x ∷ xs) m
 greatest_cons read x xs n greatest = elim (cases_lt (read x) n) [
-    inl less ↦ (n, record {
+  | inl less ↦ (
+    n,
+    record {
       all = All-cons (λ z. read z ≤ n) x xs (omega arith) greatest.all;
       some = Any-cons (λ z. read z ≡ n) x xs greatest.some;
-    })
-  | inr rest ↦ (read x, record {
+    },
+  )
+  | inr rest ↦ (
+    read x,
+    record {
       all = All-cons (λ z. read z ≤ read x) x xs (omega arith) (λ k d p. omega (arith, greatest.all k d p));
       some = Any-head (λ z. read z ≡ read x) x xs refl;
-    })
-  ]
+    },
+  )
+]
 
 has_greatest : {X : Type 0} (read : X → ℕ) (x : X) (xs : List X) → (n : ℕ) × IsGreatest read (x ∷ xs) n
-has_greatest read x [] = (read x, record {
-  all = All-cons (λ z. read z ≤ read x) x [] (omega arith) (λ k d p. absurd (omega arith));
-  some = Any-head (λ z. read z ≡ read x) x [] refl;
-})
+has_greatest read x [] = (
+  read x,
+  record {
+    all = All-cons (λ z. read z ≤ read x) x [] (omega arith) (λ k d p. absurd (omega arith));
+    some = Any-head (λ z. read z ≡ read x) x [] refl;
+  },
+)
 has_greatest read x (y ∷ ys) = let rest = has_greatest read y ys in greatest_cons read x (y ∷ ys) rest.0 rest.1
 
 pub has_corners : {T : Type 0} (x : (ℕ × ℕ) × T) (xs : List ((ℕ × ℕ) × T)) → (start : ℕ × ℕ) × (end : ℕ × ℕ) × AreCorners (x ∷ xs) start end
@@ -79,12 +97,12 @@ at_self p = rw (eq-eqb p.0 p.0 refl, eq-eqb p.1 p.1 refl) refl
 
 at_other : (p q : ℕ × ℕ) → p ≢ q → ((p.0 == q.0) && (p.1 == q.1)) ≡ false
 at_other p q ne = elim (cases_eq p.0 q.0) [
-    inr far ↦ rw (ne_eqb p.0 q.0 far) refl
+  | inr far ↦ rw (ne_eqb p.0 q.0 far) refl
   | inl e ↦ elim (cases_eq p.1 q.1) [
-      inr far ↦ rw (eq-eqb p.0 q.0 e, ne_eqb p.1 q.1 far) refl
+    | inr far ↦ rw (eq-eqb p.0 q.0 e, ne_eqb p.1 q.1 far) refl
     | inl f ↦ absurd (ne (λ i. (e i, f i)))
-    ]
   ]
+]
 
 last_at-none : {T : Type 0} (xs : List ((ℕ × ℕ) × T)) (p : ℕ × ℕ) → All (λ y. y.0 ≢ p) xs → last_at xs p ≡ None
 last_at-none [] p all = refl
@@ -102,19 +120,19 @@ split_last None false u v e = cc
 
 same_place : (p q : ℕ × ℕ) → ((p.0 == q.0) && (p.1 == q.1)) ≡ true → p ≡ q
 same_place p q e = elim (cases_eq p.0 q.0) [
-    inr far ↦ absurd (let f = rw (ne_eqb p.0 q.0 far) at e in cc)
+  | inr far ↦ absurd (let f = rw (ne_eqb p.0 q.0 far) at e in cc)
   | inl a ↦ elim (cases_eq p.1 q.1) [
-      inr far ↦ absurd (let f = rw (eq-eqb p.0 q.0 a, ne_eqb p.1 q.1 far) at e in cc)
+    | inr far ↦ absurd (let f = rw (eq-eqb p.0 q.0 a, ne_eqb p.1 q.1 far) at e in cc)
     | inl b ↦ λ i. (a i, b i)
-    ]
   ]
+]
 
 Contains-last_at : {T : Type 0} (xs : List ((ℕ × ℕ) × T)) (p : ℕ × ℕ) (v : T) → last_at xs p ≡ Some v → Contains xs (p, v)
 Contains-last_at [] p v e = cc
 Contains-last_at (x ∷ xs) p v e = elim (split_last (last_at xs p) ((x.0.0 == p.0) && (x.0.1 == p.1)) x.1 v e) [
-    inl later ↦ let rest = Contains-last_at xs p v later in (suc rest.0, omega (arith, rest.1), rest.2)
+  | inl later ↦ let rest = Contains-last_at xs p v later in (suc rest.0, omega (arith, rest.1), rest.2)
   | inr here ↦ (0, omega arith, λ i. (same_place x.0 p here.0 i, here.1 i))
-  ]
+]
 
 not_none : {T : Type 0} (xs : List ((ℕ × ℕ) × T)) (p : ℕ × ℕ) (v : T) (k : ℕ) → k < length xs → get_or xs k (p, v) ≡ (p, v) → last_at xs p ≡ None → ⊥
 not_none [] p v k near e none = absurd (omega arith)
@@ -122,16 +140,16 @@ not_none (x ∷ xs) p v zero near e none =
     let place : x.0 ≡ p = ap (λ z. z.0) e in
     let here : ((x.0.0 == p.0) && (x.0.1 == p.1)) ≡ true = rw place (at_self p) in
     never (last_at xs p) x.1 (rw here at none)
-    where
-      never : {T : Type 0} (o : Option T) (u : T) → option_or o (Some u) ≡ None → ⊥
-      never (Some w) u e = cc
-      never None u e = cc
+  where
+    never : {T : Type 0} (o : Option T) (u : T) → option_or o (Some u) ≡ None → ⊥
+    never (Some w) u e = cc
+    never None u e = cc
 not_none (x ∷ xs) p v (suc k) near e none =
     not_none xs p v k (omega arith) e (first (last_at xs p) _ none)
-    where
-      first : {T : Type 0} (o other : Option T) → option_or o other ≡ None → o ≡ None
-      first (Some w) other e = cc
-      first None other e = refl
+  where
+    first : {T : Type 0} (o other : Option T) → option_or o other ≡ None → o ≡ None
+    first (Some w) other e = cc
+    first None other e = refl
 
 last_at-distinct : {T : Type 0} (xs : List ((ℕ × ℕ) × T)) (p : ℕ × ℕ) (v : T) (k : ℕ) → AllPairs (λ x y. x.0 ≢ y.0) xs → k < length xs → get_or xs k (p, v) ≡ (p, v) → last_at xs p ≡ Some v
 last_at-distinct [] p v k distinct near e = absurd (omega arith)
@@ -147,16 +165,16 @@ last_at-distinct (x ∷ xs) p v (suc k) distinct near e =
 -- another order of distinct positions gives each position the same value
 pub last_at-permutation : {T : Type 0} (xs ys : List ((ℕ × ℕ) × T)) (p : ℕ × ℕ) → AllPairs (λ x y. x.0 ≢ y.0) xs → IsPermutation xs ys → last_at xs p ≡ last_at ys p
 last_at-permutation {T} xs ys p distinct order = go (last_at xs p) (last_at ys p) refl refl
-    where
-      go : (o o' : Option T) → last_at xs p ≡ o → last_at ys p ≡ o' → last_at xs p ≡ last_at ys p
-      go None None e f = e ∙ sym f
-      go (Some v) None e f =
+  where
+    go : (o o' : Option T) → last_at xs p ≡ o → last_at ys p ≡ o' → last_at xs p ≡ last_at ys p
+    go None None e f = e ∙ sym f
+    go (Some v) None e f =
         let there = Contains-permutation xs ys (p, v) order (Contains-last_at xs p v e) in
         absurd (not_none ys p v there.0 there.1 there.2 f)
-      go None (Some w) e f =
+    go None (Some w) e f =
         let here = Contains-permutation ys xs (p, w) (IsPermutation-sym xs ys order) (Contains-last_at ys p w f) in
         absurd (not_none xs p w here.0 here.1 here.2 e)
-      go (Some v) (Some w) e f =
+    go (Some v) (Some w) e f =
         let here = Contains-permutation ys xs (p, w) (IsPermutation-sym xs ys order) (Contains-last_at ys p w f) in
         last_at-distinct xs p w here.0 distinct here.1 here.2 ∙ sym f
 
@@ -170,10 +188,10 @@ last_wins {T} eq blank front back x g none is dense =
     let here : IsIn g x.0.0 x.0.1 = rw (get_or-append_seam front x back x) at inside in
     let cell = cell_there g x.0.0 x.0.1 is.count here in
     (cell.0, cell.1, rw (last_at-append front back x none) at (dense.shows.shown x.0.0 x.0.1 cell.0 cell.1))
-    where
-      some_corners : (xs : List ((ℕ × ℕ) × T)) → 0 < length xs → (start : ℕ × ℕ) × (end : ℕ × ℕ) × AreCorners xs start end
-      some_corners [] p = absurd (omega arith)
-      some_corners (y ∷ ys) p = has_corners y ys
+  where
+    some_corners : (xs : List ((ℕ × ℕ) × T)) → 0 < length xs → (start : ℕ × ℕ) × (end : ℕ × ℕ) × AreCorners xs start end
+    some_corners [] p = absurd (omega arith)
+    some_corners (y ∷ ys) p = has_corners y ys
 
 copies_equal : {T : Type 0} (eq : T → T → Bool) (blank : T → Bool) → IsEquivalence eq → ((x y : T) → blank x ≡ true → blank y ≡ eq x y) → (o : Option T) (y z : T) → IsCopyOf eq blank o y → IsCopyOf eq blank o z → eq y z ≡ true
 copies_equal eq blank laws exactly None y z a b = sym (exactly y z a) ∙ b
@@ -196,7 +214,7 @@ same_shown : {T : Type 0} (eq : T → T → Bool) (blank : T → Bool) → IsEqu
     → (given others : List ((ℕ × ℕ) × T)) (g h : Grid T) → ((p : ℕ × ℕ) → last_at given p ≡ last_at others p) → IsSameBox g h → IsRange g → IsRange h
     → IsDense eq blank given g → IsDense eq blank others h → (r c : ℕ) → IsSameCell eq (cell_at g r c) (cell_at h r c)
 same_shown eq blank laws exactly given others g h last same is also a b r c = elim (sides g r c) [
-    inl i ↦
+  | inl i ↦
       let here : IsIn g r c = record { low = i.0; high = i.1; left = i.2; right = i.3 } in
       let there : IsIn h r c = record { low = omega (arith, same.top); high = omega (arith, same.top, same.height); left = omega (arith, same.left); right = omega (arith, same.left, same.width) } in
       let y = cell_there g r c is.count here in
@@ -205,7 +223,7 @@ same_shown eq blank laws exactly given others g h last same is also a b r c = el
   | inr o ↦
       let beside : (r < h.top) ⊎ ((h.top + h.height ≤ r) ⊎ ((c < h.left) ⊎ (h.left + h.width ≤ c))) = rw (same.top, same.height, same.left, same.width) o in
       rw (cell_outside g r c o, cell_outside h r c beside) tt
-  ]
+]
 
 nil_from_length : {X : Type 0} (xs : List X) → length xs ≡ 0 → xs ≡ []
 nil_from_length [] e = refl

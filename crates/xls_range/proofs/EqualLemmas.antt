@@ -78,36 +78,36 @@ end_of-some g ne = rw (ne_eqb g.height 0 ne)
 
 pub IsSameBox-corners : {T : Type 0} (g h : Grid T) → IsRange g → IsRange h → start_of g ≡ start_of h → end_of g ≡ end_of h → IsSameBox g h
 IsSameBox-corners g h a b start end = elim (cases_eq g.height 0) [
-    inl none ↦ elim (cases_eq h.height 0) [
-      inl also ↦ record {
-        top = (b.nowhere also).0 ∙ sym (a.nowhere none).0;
-        left = (b.nowhere also).1 ∙ sym (a.nowhere none).1;
-        height = also ∙ sym none;
-        width = b.hollow also ∙ sym (a.hollow none);
-      }
+  | inl none ↦ elim (cases_eq h.height 0) [
+    | inl also ↦ record {
+      top = (b.nowhere also).0 ∙ sym (a.nowhere none).0;
+      left = (b.nowhere also).1 ∙ sym (a.nowhere none).1;
+      height = also ∙ sym none;
+      width = b.hollow also ∙ sym (a.hollow none);
+    }
     | inr ne ↦ absurd (let e = sym (start_of-none g none) ∙ start ∙ start_of-some h ne in cc)
-    ]
+  ]
   | inr ne ↦ elim (cases_eq h.height 0) [
-      inl none ↦ absurd (let e = sym (start_of-some g ne) ∙ start ∙ start_of-none h none in cc)
+    | inl none ↦ absurd (let e = sym (start_of-some g ne) ∙ start ∙ start_of-none h none in cc)
     | inr also ↦
         let first = some_pair g.top g.left h.top h.left (sym (start_of-some g ne) ∙ start ∙ start_of-some h also) in
         let last = some_pair (g.top + g.height - 1) (g.left + g.width - 1) (h.top + h.height - 1) (h.left + h.width - 1) (sym (end_of-some g ne) ∙ end ∙ end_of-some h also) in
         let wide : g.width ≢ 0 = λ e. ne (a.flat e) in
         let broad : h.width ≢ 0 = λ e. also (b.flat e) in
         record { top = sym first.0; left = sym first.1; height = omega (arith, first.0, last.0); width = omega (arith, first.1, last.1) }
-    ]
   ]
+]
 
 pub grid_eq-AreSame : {T : Type 0} (eq : T → T → Bool) (g h : Grid T) → IsRange g → IsRange h → AreSame eq g h → grid_eq eq g h ≡ true
 grid_eq-AreSame eq g h a b same =
     let box = IsSameBox-corners g h a b same.start same.end in
     let long : length g.cells ≡ length h.cells = a.count ∙ sym (b.count ∙ (rw (box.height, box.width) refl)) in
     let cells : pointwise eq g.cells h.cells ≡ true = pointwise_from_cells eq g.cells h.cells long (λ i p.
-      let near : i < g.height * g.width = omega (arith, a.count) in
-      let other : i < h.height * h.width = rw (box.height, box.width) near in
-      let wide = wide_from_index g.height g.width i near in
-      let broad : 0 < h.width = rw box.width wide in
-      let mine = cell_at_index g i near wide in
-      let theirs : cell_at h (g.top + i / g.width) (g.left + i % g.width) ≡ slice_get h.cells i = rw (← box.top, ← box.left, ← box.width) (cell_at_index h i other broad) in
-      rw (mine, theirs) at (same.cells (g.top + i / g.width) (g.left + i % g.width))) in
+    let near : i < g.height * g.width = omega (arith, a.count) in
+    let other : i < h.height * h.width = rw (box.height, box.width) near in
+    let wide = wide_from_index g.height g.width i near in
+    let broad : 0 < h.width = rw box.width wide in
+    let mine = cell_at_index g i near wide in
+    let theirs : cell_at h (g.top + i / g.width) (g.left + i % g.width) ≡ slice_get h.cells i = rw (← box.top, ← box.left, ← box.width) (cell_at_index h i other broad) in
+    rw (mine, theirs) at (same.cells (g.top + i / g.width) (g.left + i % g.width))) in
     rw (eq-eqb g.top h.top (sym box.top), eq-eqb g.left h.left (sym box.left), eq-eqb g.height h.height (sym box.height), eq-eqb g.width h.width (sym box.width)) cells

@@ -1,7 +1,7 @@
-pub mod Grids
-pub mod Steps
-pub mod Growth
-pub mod RowLists
+pub mod GridLemmas
+pub mod MoveLemmas
+pub mod GrowthLemmas
+pub mod RowLemmas
 pub mod BlankLemmas
 pub mod CopyLemmas
 pub mod SparseLemmas

@@ -7,7 +7,7 @@ use Rattle.std.proofs.lemmas.List.{get_or_default, take_more}
 use Rattle.std.proofs.lemmas.Option.{get_or_from_slice_get, slice_get_within}
 use Rattle.xls_range.specs.Grid.{Grid, no_cells, cell_at, IsCopyOf, Shows, IsIn, IsOfCorners, IsOrdered, IsSameBox, count_between}
 use Rattle.xls_range.specs.Sparse.{last_at, IsLeast, IsGreatest, AreCorners, IsTooLarge, IsDense}
-use Rattle.xls_range.proofs.Growth.{there}
+use Rattle.xls_range.proofs.GrowthLemmas.{there}
 
 -- one more cell counts before those that were given
 pub last_at-snoc : {T : Type 0} (xs : List ((ℕ × ℕ) × T)) (x : (ℕ × ℕ) × T) (p : ℕ × ℕ)
@@ -33,7 +33,7 @@ pub Shows-put : {T : Type 0} (eq : T → T → Bool) (blank : T → Bool) (xs : 
     → Shows eq blank (λ row column. last_at (xs ++ x ∷ []) (row, column)) new
 Shows-put eq blank xs x copy g new same written shows = record {
   shown = λ r c y is. rw (last_at-snoc xs x (r, c))
-    (copy_chosen eq blank ((x.0.0 == r) && (x.0.1 == c)) x.1 copy y (last_at xs (r, c)) (cell_at g r c) same (sym (written r c) ∙ is) (shows.shown r c y));
+      (copy_chosen eq blank ((x.0.0 == r) && (x.0.1 == c)) x.1 copy y (last_at xs (r, c)) (cell_at g r c) same (sym (written r c) ∙ is) (shows.shown r c y));
 }
 
 -- the step of a loop that writes the cells in order
@@ -50,8 +50,8 @@ Shows-more eq blank given k x copy g new near item same written shows =
 pub Shows-blank : {T : Type 0} (eq : T → T → Bool) (blank : T → Bool) (g : Grid T) → All (λ x. blank x ≡ true) g.cells → Shows eq blank (λ _ _. None) g
 Shows-blank eq blank g all = record {
   shown = λ r c y is.
-    let t = there g r c y is in
-    rw (get_or_from_slice_get g.cells _ y y t.read) at (all _ y (slice_get_within g.cells _ y t.read));
+      let t = there g r c y is in
+      rw (get_or_from_slice_get g.cells _ y y t.read) at (all _ y (slice_get_within g.cells _ y t.read));
 }
 
 -- the least and the greatest of the first k numbers
@@ -73,19 +73,19 @@ pub IsLeastTo-suc : {X : Type 0} (read : X → ℕ) (xs : List X) (k n : ℕ) (x
     → IsLeastTo read xs k n → IsLeastTo read xs (k + 1) (min n (read x))
 IsLeastTo-suc read xs k n x near item least = record {
   all = λ j d p. elim (cases_lt j k) [
-    inl before ↦ omega (arith, least.all j d before)
-  | inr from ↦
-      let here : j ≡ k = omega arith in
-      let same : get_or xs k d ≡ x = get_or_default xs k d x near ∙ sym item in
-      rw (here, same) (omega arith)
+    | inl before ↦ omega (arith, least.all j d before)
+    | inr from ↦
+        let here : j ≡ k = omega arith in
+        let same : get_or xs k d ≡ x = get_or_default xs k d x near ∙ sym item in
+        rw (here, same) (omega arith)
   ];
   some = elim (cases_lt n (read x)) [
-    inl less ↦
-      let e : n ≡ min n (read x) = omega arith in
-      (least.some.0, least.some.1, least.some.2, least.some.3, least.some.4 ∙ e)
-  | inr rest ↦
-      let e : read x ≡ min n (read x) = omega arith in
-      (k, x, near, sym item, e)
+    | inl less ↦
+        let e : n ≡ min n (read x) = omega arith in
+        (least.some.0, least.some.1, least.some.2, least.some.3, least.some.4 ∙ e)
+    | inr rest ↦
+        let e : read x ≡ min n (read x) = omega arith in
+        (k, x, near, sym item, e)
   ];
 }
 
@@ -93,19 +93,19 @@ pub IsGreatestTo-suc : {X : Type 0} (read : X → ℕ) (xs : List X) (k n : ℕ)
     → IsGreatestTo read xs k n → IsGreatestTo read xs (k + 1) (max n (read x))
 IsGreatestTo-suc read xs k n x near item greatest = record {
   all = λ j d p. elim (cases_lt j k) [
-    inl before ↦ omega (arith, greatest.all j d before)
-  | inr from ↦
-      let here : j ≡ k = omega arith in
-      let same : get_or xs k d ≡ x = get_or_default xs k d x near ∙ sym item in
-      rw (here, same) (omega arith)
+    | inl before ↦ omega (arith, greatest.all j d before)
+    | inr from ↦
+        let here : j ≡ k = omega arith in
+        let same : get_or xs k d ≡ x = get_or_default xs k d x near ∙ sym item in
+        rw (here, same) (omega arith)
   ];
   some = elim (cases_lt n (read x)) [
-    inl less ↦
-      let e : read x ≡ max n (read x) = omega arith in
-      (k, x, near, sym item, e)
-  | inr rest ↦
-      let e : n ≡ max n (read x) = omega arith in
-      (greatest.some.0, greatest.some.1, greatest.some.2, greatest.some.3, greatest.some.4 ∙ e)
+    | inl less ↦
+        let e : read x ≡ max n (read x) = omega arith in
+        (k, x, near, sym item, e)
+    | inr rest ↦
+        let e : n ≡ max n (read x) = omega arith in
+        (greatest.some.0, greatest.some.1, greatest.some.2, greatest.some.3, greatest.some.4 ∙ e)
   ];
 }
 
@@ -221,13 +221,13 @@ pub IsDense-some : {T : Type 0} (eq : T → T → Bool) (blank : T → Bool) (gi
 IsDense-some eq blank given s e g a corners shows = record {
   empty = λ none. absurd (let long : 0 < length given = omega (arith, a.top.some.2) in let short : length given ≡ 0 = ap length none in omega arith);
   corners = λ s' e' b.
-    let same = AreCorners-unique given s e s' e' a b in
-    record {
-      top = corners.top ∙ same.top;
-      left = corners.left ∙ same.left;
-      bottom = corners.bottom ∙ ap (λ n. n + 1) same.bottom;
-      right = corners.right ∙ ap (λ n. n + 1) same.right;
-    };
+      let same = AreCorners-unique given s e s' e' a b in
+      record {
+        top = corners.top ∙ same.top;
+        left = corners.left ∙ same.left;
+        bottom = corners.bottom ∙ ap (λ n. n + 1) same.bottom;
+        right = corners.right ∙ ap (λ n. n + 1) same.right;
+      };
   shows = shows;
 }
 

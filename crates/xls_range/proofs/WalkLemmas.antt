@@ -24,7 +24,7 @@ pub used-filter : {T : Type 0} (blank : T → Bool) (cells : List (ℕ × ℕ ×
 used-filter blank [] = refl
 used-filter blank (x ∷ xs) =
     elim (blank x.2) as (λ b. (if b then used blank xs else x ∷ used blank xs) ≡ (if not b then x ∷ filter (λ cell. not (blank cell.2)) xs else filter (λ cell. not (blank cell.2)) xs))
-      [ true ↦ used-filter blank xs | false ↦ ap (λ ys. x ∷ ys) (used-filter blank xs) ]
+    [ true ↦ used-filter blank xs | false ↦ ap (λ ys. x ∷ ys) (used-filter blank xs) ]
 
 pub slice_get-cells_from : {T : Type 0} (index width : ℕ) (cells : List T) (k : ℕ) → slice_get (cells_from index width cells) k ≡ option_map (λ x. ((index + k) / width, (index + k) % width, x)) (slice_get cells k)
 slice_get-cells_from index width [] k = refl

@@ -50,7 +50,7 @@ impl<'a, T> Iterator for Rows<'a, T> {
 
     ghost remaining = { item_count (λ rows. rows) };
 
-    #[tactic(auto, using(crate::proofs::RowLists::rows_first, crate::proofs::RowLists::one_row))]
+    #[tactic(auto, using(crate::proofs::RowLemmas::rows_first, crate::proofs::RowLemmas::one_row))]
     fn next(&mut self) -> Option<&'a [T]> {
         if self.count == 0 {
             return None;
@@ -61,7 +61,7 @@ impl<'a, T> Iterator for Rows<'a, T> {
         Some(first)
     }
 
-    #[tactic(auto, using(crate::proofs::RowLists::rows_count))]
+    #[tactic(auto, using(crate::proofs::RowLemmas::rows_count))]
     fn size_hint(&self) -> (usize, Option<usize>)
         ensures lower { IsWithinCount result.0 (item_count (λ rows. rows) self.now) }
         ensures upper { IfSome result.1 (UpTo (item_count (λ rows. rows) self.now)) }
@@ -74,7 +74,7 @@ impl<'a, T> Iterator for Rows<'a, T> {
 impl<'a, T> DoubleEndedIterator for Rows<'a, T> {
     ghost next_back_gives = { YieldsLastBy (λ row. row.now) (λ rows. rows) };
 
-    #[tactic(auto, using(crate::proofs::RowLists::rows_last, crate::proofs::RowLists::rows_count, crate::proofs::RowLists::one_row))]
+    #[tactic(auto, using(crate::proofs::RowLemmas::rows_last, crate::proofs::RowLemmas::rows_count, crate::proofs::RowLemmas::one_row))]
     fn next_back(&mut self) -> Option<&'a [T]> {
         if self.count == 0 {
             return None;
@@ -87,7 +87,7 @@ impl<'a, T> DoubleEndedIterator for Rows<'a, T> {
 }
 
 impl<'a, T> ExactSizeIterator for Rows<'a, T> {
-    #[tactic(auto, using(crate::proofs::RowLists::rows_count))]
+    #[tactic(auto, using(crate::proofs::RowLemmas::rows_count))]
     fn len(&self) -> usize {
         self.count
     }
@@ -144,7 +144,7 @@ impl<'a, T> Iterator for Cells<'a, T> {
         Some((at / self.width, at % self.width, first))
     }
 
-    #[tactic(auto, using(crate::proofs::RowLists::cells_count))]
+    #[tactic(auto, using(crate::proofs::RowLemmas::cells_count))]
     fn size_hint(&self) -> (usize, Option<usize>)
         ensures lower { IsWithinCount result.0 (item_count (λ cells. cells) self.now) }
         ensures upper { IfSome result.1 (UpTo (item_count (λ cells. cells) self.now)) }
@@ -157,7 +157,7 @@ impl<'a, T> Iterator for Cells<'a, T> {
 impl<'a, T> DoubleEndedIterator for Cells<'a, T> {
     ghost next_back_gives = { YieldsLastBy (λ cell. (cell.0, cell.1, cell.2.now)) (λ cells. cells) };
 
-    #[tactic(auto, using(crate::proofs::RowLists::cells_snoc, crate::proofs::RowLists::cells_count))]
+    #[tactic(auto, using(crate::proofs::RowLemmas::cells_snoc, crate::proofs::RowLemmas::cells_count))]
     fn next_back(&mut self) -> Option<(usize, usize, &'a T)> {
         let (last, others) = self.cells.split_last()?;
         let at = self.front + others.len();
@@ -167,7 +167,7 @@ impl<'a, T> DoubleEndedIterator for Cells<'a, T> {
 }
 
 impl<'a, T> ExactSizeIterator for Cells<'a, T> {
-    #[tactic(auto, using(crate::proofs::RowLists::cells_count))]
+    #[tactic(auto, using(crate::proofs::RowLemmas::cells_count))]
     fn len(&self) -> usize {
         self.cells.len()
     }
@@ -219,7 +219,7 @@ impl<'a, T: CellType> Iterator for UsedCells<'a, T> {
     }
 
     /// 0, and how many cells are left, blank or not.
-    #[tactic(auto, using(crate::proofs::RowLists::used_count))]
+    #[tactic(auto, using(crate::proofs::RowLemmas::used_count))]
     fn size_hint(&self) -> (usize, Option<usize>)
         ensures lower { IsWithinCount result.0 (item_count (used T.blank_test) self.now) }
         ensures upper { IfSome result.1 (UpTo (item_count (used T.blank_test) self.now)) }
@@ -235,7 +235,7 @@ impl<'a, T: CellType> DoubleEndedIterator for UsedCells<'a, T> {
 
     ghost next_back_gives = { YieldsLastBy (λ cell. (cell.0, cell.1, cell.2.now)) (used T.blank_test) };
 
-    #[tactic(auto, using(crate::proofs::RowLists::used_last_blank, crate::proofs::RowLists::used_last_kept, crate::proofs::RowLists::used_last_longer))]
+    #[tactic(auto, using(crate::proofs::RowLemmas::used_last_blank, crate::proofs::RowLemmas::used_last_kept, crate::proofs::RowLemmas::used_last_longer))]
     fn next_back(&mut self) -> Option<(usize, usize, &'a T)> {
         while let Some(cell) = self.cells.next_back() {
             if !cell.2.is_blank() {

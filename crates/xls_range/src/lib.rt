@@ -12,3 +12,6 @@ mod sparse;
 pub use error::RangeError;
 pub use iters::{Cells, Rows, UsedCells};
 pub use range::Range;
+
+#[cfg(test)]
+mod tests;

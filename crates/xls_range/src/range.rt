@@ -126,7 +126,7 @@ impl<T: CellType> Range<T> {
     }
 
     /// The cell at an absolute position; `None` exactly outside.
-    #[tactic(auto, using(crate::proofs::Grids::cell_inside, crate::proofs::Grids::cell_outside))]
+    #[tactic(auto, using(crate::proofs::GridLemmas::cell_inside, crate::proofs::GridLemmas::cell_outside))]
     pub fn get_value(&self, absolute_position: (u32, u32)) -> Option<&T>
         ensures { option_copied result ≡ cell_at self.now absolute_position.0 absolute_position.1 }
     {
@@ -156,7 +156,7 @@ impl<T: CellType> Range<T> {
     }
 
     /// The rows from the top, each as long as the range is wide.
-    #[tactic(auto, using(crate::proofs::RowLists::rows_count))]
+    #[tactic(auto, using(crate::proofs::RowLemmas::rows_count))]
     pub fn rows(&self) -> Rows<'_, T>
         ensures items { result ≡ rows_of self.now.height self.now.width self.now.cells }
         ensures len { length result ≡ self.now.height }
@@ -167,7 +167,7 @@ impl<T: CellType> Range<T> {
     }
 
     /// The cells row by row, each with its relative row and column.
-    #[tactic(auto, using(crate::proofs::RowLists::cells_count))]
+    #[tactic(auto, using(crate::proofs::RowLemmas::cells_count))]
     pub fn cells(&self) -> Cells<'_, T>
         ensures items { result ≡ cells_from 0 self.now.width self.now.cells }
         ensures len { length result ≡ self.now.height * self.now.width }

@@ -41,7 +41,7 @@ impl<T: CellType> Range<T> {
     ghost use Rattle.xls_range.specs.Lends.{lends_row};
 
     /// A row of cells, as long as the range is wide.
-    #[tactic(auto, using(crate::proofs::Grids::row_length))]
+    #[tactic(auto, using(crate::proofs::GridLemmas::row_length))]
     pub fn row(&self, i: usize) -> &[T]
         requires { i < self.now.height }
         ensures cells { result.now ≡ row_at self.now i }

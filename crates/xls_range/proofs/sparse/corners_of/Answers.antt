@@ -12,4 +12,4 @@ loop-cell-init g c =
 pub loop-cell-preserved : goal.loop-cell-preserved
 loop-cell-preserved g c =
     rw (c.min-top.ensures, c.min-left.ensures, c.max-bottom.ensures, c.max-right.ensures, c.get_position-row.ensures)
-      (AreCornersTo-suc c.args.cells.now c.loop-cell.cell-index c.loop-cell.top c.loop-cell.left c.loop-cell.bottom c.loop-cell.right c.cell-item.result c.loop-cell-test.true c.cell-item.is c.loop-cell.invariant)
+    (AreCornersTo-suc c.args.cells.now c.loop-cell.cell-index c.loop-cell.top c.loop-cell.left c.loop-cell.bottom c.loop-cell.right c.cell-item.result c.loop-cell-test.true c.cell-item.is c.loop-cell.invariant)

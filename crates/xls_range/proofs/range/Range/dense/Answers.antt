@@ -24,9 +24,10 @@ filled-requires-clause-inside g c =
 
 pub returns-in-Ok-clause-too_large : goal.returns-in-Ok-clause-too_large
 returns-in-Ok-clause-too_large g c =
-    let corners : AreCorners c.args.cells.now c.in-Some.start c.in-Some.end = search rules in
-    (λ e. absurd (only_memory c.filled.result c.filled.ensures.memory e),
-     λ large. absurd (let e = c.in-Ok.ensures.too_large.1 (AreCorners-ordered c.args.cells.now c.in-Some.start c.in-Some.end corners, IsTooLarge-corners c.args.cells.now c.in-Some.start c.in-Some.end corners large) in cc))
+    let corners : AreCorners c.args.cells.now c.in-Some.start c.in-Some.end = search rules in (
+      λ e. absurd (only_memory c.filled.result c.filled.ensures.memory e),
+      λ large. absurd (let e = c.in-Ok.ensures.too_large.1 (AreCorners-ordered c.args.cells.now c.in-Some.start c.in-Some.end corners, IsTooLarge-corners c.args.cells.now c.in-Some.start c.in-Some.end corners large) in cc),
+    )
 
 pub returns-in-Ok-clause-dense : goal.returns-in-Ok-clause-dense
 returns-in-Ok-clause-dense g c =
@@ -35,6 +36,7 @@ returns-in-Ok-clause-dense g c =
 
 pub returns-in-Err-clause-too_large : goal.returns-in-Err-clause-too_large
 returns-in-Err-clause-too_large g c =
-    let corners : AreCorners c.args.cells.now c.in-Some.start c.in-Some.end = search rules in
-    (λ e. (c.in-Some.start, c.in-Some.end, corners, (c.in-Err.ensures.too_large.0 e).1),
-     λ large. c.in-Err.ensures.too_large.1 (AreCorners-ordered c.args.cells.now c.in-Some.start c.in-Some.end corners, IsTooLarge-corners c.args.cells.now c.in-Some.start c.in-Some.end corners large))
+    let corners : AreCorners c.args.cells.now c.in-Some.start c.in-Some.end = search rules in (
+      λ e. (c.in-Some.start, c.in-Some.end, corners, (c.in-Err.ensures.too_large.0 e).1),
+      λ large. c.in-Err.ensures.too_large.1 (AreCorners-ordered c.args.cells.now c.in-Some.start c.in-Some.end corners, IsTooLarge-corners c.args.cells.now c.in-Some.start c.in-Some.end corners large),
+    )

@@ -16,7 +16,7 @@ loop-cell-preserved g c =
     record {
       same = record { top = is.top ∙ was.top; left = is.left ∙ was.left; height = is.height ∙ was.height; width = is.width ∙ was.width };
       shows = Shows-more g.T.PartialEq.eq g.T.CellType.blank_test c.args.cells.now c.loop-cell.cell-index c.cell-item.result c.in_ok-value.value c.loop-cell.self c.put_at.new.self
-        c.loop-cell-test.true c.cell-item.is (rw c.get_value.ensures at c.in_ok-value.ensures) (rw c.get_position.ensures at c.put_at.ensures.written) c.loop-cell.invariant.shows;
+          c.loop-cell-test.true c.cell-item.is (rw c.get_value.ensures at c.in_ok-value.ensures) (rw c.get_position.ensures at c.put_at.ensures.written) c.loop-cell.invariant.shows;
     }
 
 pub returns-clause-shows : goal.returns-clause-shows

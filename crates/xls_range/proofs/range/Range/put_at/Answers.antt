@@ -1,5 +1,5 @@
 use Rattle.xls_range.specs.Grid.{Grid}
-use Rattle.xls_range.proofs.Growth.{cell_at-written}
+use Rattle.xls_range.proofs.GrowthLemmas.{cell_at-written}
 use Rattle.xls_range.proofs.range.Range.put_at.Goals as goal
 
 pub returns-clause-written : goal.returns-clause-written

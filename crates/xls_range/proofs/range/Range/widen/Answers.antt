@@ -1,6 +1,6 @@
 use Rattle.std.proofs.Common.{rules, arith, ◌≡◌, ◌*◌, length, vec_len}
 use Rattle.xls_range.specs.Grid.{Grows, AreBlank}
-use Rattle.xls_range.proofs.Growth.{grows_from}
+use Rattle.xls_range.proofs.GrowthLemmas.{grows_from}
 use Rattle.xls_range.proofs.range.Range.widen.Goals as goal
 
 pub returns-clause-ok : goal.returns-clause-ok

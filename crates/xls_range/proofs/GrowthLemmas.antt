@@ -5,8 +5,8 @@ use Rattle.std.proofs.lemmas.List.{length-set}
 use Rattle.std.proofs.lemmas.Bool.{cases_lt, cases_eq, ne_eqb, eq-eqb}
 use Rattle.std.proofs.lemmas.Bool.Decides.{nat_tests}
 use Rattle.std.proofs.lemmas.Nat.{mul-add-lt}
-use Rattle.xls_range.proofs.Grids.{cell_inside, cell_outside}
-use Rattle.xls_range.proofs.Steps.{apart}
+use Rattle.xls_range.proofs.GridLemmas.{cell_inside, cell_outside}
+use Rattle.xls_range.proofs.MoveLemmas.{apart}
 use Rattle.xls_range.specs.Moves.{IsMoved, LeavesOthers}
 use Rattle.xls_range.specs.Grid.{Grid, cell_at, AreBlank, Grows, Sets, grown_height, grown_width, IsGrid, IsIn}
 
