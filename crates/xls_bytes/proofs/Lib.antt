@@ -1,2 +1,4 @@
 pub mod SizeLemmas
 pub mod WholeLemmas
+pub mod QuotientLemmas
+pub mod TruncLemmas

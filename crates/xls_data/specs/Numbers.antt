@@ -1,7 +1,7 @@
--- The printed texts of numbers, as lists of ASCII codes.
-use Rattle.std.specs.Prelude.{◌≡◌, ℕ, ◌+◌, ◌-◌, ◌*◌, ◌/◌, ◌%◌, ◌^◌, ◌==◌, Bool, true, false, if◌then◌else◌, Option, Some, None, ℤ, pos, negsuc, unsigned_abs, List, [], ◌∷◌, ◌++◌, codes, replicate, length}
+-- Numbers cut toward zero, and their printed texts as lists of ASCII codes.
+use Rattle.std.specs.Prelude.{ℕ, ◌-◌, ◌/◌, ◌%◌, ◌^◌, ◌==◌, false, int_div, if◌then◌else◌, Option, Some, None, ℤ, pos, negsuc, unsigned_abs, List, [], ◌∷◌, ◌++◌, codes, replicate, length}
 use Rattle.std.specs.Fmt.{decimal, signed_decimal, digits}
-use Rattle.xls_bytes.specs.Doubles.{whole_of}
+use Rattle.xls_bytes.specs.Doubles.{whole_of, trunc_of, trunc_checked_of}
 use Rattle.xls_data.specs.declared.numbers.Number.{Number}
 use Rattle.xls_data.specs.declared.numbers.Number.TheVariants.{Bits, Whole, Hundredths, BitsOver100}
 
@@ -45,3 +45,17 @@ number_text (Bits bits) = bits_text bits
 number_text (Whole n) = signed_decimal n
 number_text (Hundredths n) = hundredths_text n
 number_text (BitsOver100 bits) = over_100_text bits
+
+-- a number cut toward zero, or the nearer end of i64, or 0 for what is no number
+abbrev pub number_trunc : Number → ℤ
+number_trunc (Bits bits) = trunc_of bits 1
+number_trunc (Whole n) = n
+number_trunc (Hundredths n) = int_div n (pos 100)
+number_trunc (BitsOver100 bits) = trunc_of bits 100
+
+-- a number cut toward zero, where it is finite and the cut number is in i64
+abbrev pub number_trunc_checked : Number → Option ℤ
+number_trunc_checked (Bits bits) = trunc_checked_of bits 1
+number_trunc_checked (Whole n) = Some n
+number_trunc_checked (Hundredths n) = Some (int_div n (pos 100))
+number_trunc_checked (BitsOver100 bits) = trunc_checked_of bits 100

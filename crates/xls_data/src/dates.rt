@@ -75,6 +75,18 @@ impl ExcelDateTime {
     }
 }
 
+impl Default for ExcelDateTime {
+    ghost use Rattle.std.specs.Prelude.{◌≡◌, false, pos};
+    ghost use Rattle.xls_data.specs.declared.numbers.Number.TheVariants.{Whole};
+    ghost use Rattle.xls_data.specs.declared.dates.ExcelDateTimeType.TheVariants.{DateTime};
+
+    ghost is_default = { λ d. d ≡ record { number = Whole (pos 0); kind = DateTime; is_1904 = false } };
+
+    fn default() -> ExcelDateTime {
+        ExcelDateTime::new(Number::Whole(0), ExcelDateTimeType::DateTime, false)
+    }
+}
+
 impl fmt::Display for ExcelDateTime {
     ghost output = { λ d. Some (number_text d.number) };
 

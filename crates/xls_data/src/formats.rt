@@ -3,9 +3,10 @@
 ghost use Rattle.std.specs.Prelude.{◌≡◌};
 ghost use Rattle.std.specs.Option.{option_copied};
 ghost use Rattle.xls_data.specs.Data.{content_of};
+ghost use Rattle.xls_data.specs.Refs.{ref_content_of};
 ghost use Rattle.xls_data.specs.Formatted.{date_of, formatted_number, formatted_whole};
 
-use crate::{Data, ExcelDateTime, ExcelDateTimeType, Number};
+use crate::{Data, DataRef, ExcelDateTime, ExcelDateTimeType, Number};
 
 /// What a number format shows.
 #[derive(Clone, Copy, Debug, PartialEq, Eq)]
@@ -48,5 +49,33 @@ pub fn format_excel_number(value: Number, format: Option<&CellFormat>, is_1904: 
     match date_of(value, format, is_1904) {
         Some(date) => Data::DateTime(date),
         None => Data::Float(value),
+    }
+}
+
+/// What `format_excel_i64` gives, as a value that borrows no text. Takes no memory.
+pub fn format_excel_i64_ref(
+    value: i64,
+    format: Option<&CellFormat>,
+    is_1904: bool,
+) -> DataRef<'static>
+    ensures { ref_content_of result ≡ formatted_whole (option_copied format.entry) value is_1904 }
+{
+    match date_of(Number::Whole(value), format, is_1904) {
+        Some(date) => DataRef::DateTime(date),
+        None => DataRef::Int(value),
+    }
+}
+
+/// What `format_excel_number` gives, as a value that borrows no text. Takes no memory.
+pub fn format_excel_number_ref(
+    value: Number,
+    format: Option<&CellFormat>,
+    is_1904: bool,
+) -> DataRef<'static>
+    ensures { ref_content_of result ≡ formatted_number (option_copied format.entry) value is_1904 }
+{
+    match date_of(value, format, is_1904) {
+        Some(date) => DataRef::DateTime(date),
+        None => DataRef::Float(value),
     }
 }

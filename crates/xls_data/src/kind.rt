@@ -1,4 +1,4 @@
-// The values that a range may have in its cells.
+//! The values that a range may have in its cells.
 
 ghost use Rattle.std.specs.Prelude.{◌≡◌, ◌==◌, Bool, true, IsTrue, IfOk};
 ghost use Rattle.std.specs.String.{string_bytes};
@@ -16,9 +16,11 @@ pub trait CellType: Eq + Drop + Sized {
     fn blank(alloc: Global) -> Self
         ensures { IsTrue (blank_test result) };
 
+    /// Whether it is the blank.
     fn is_blank(&self) -> bool
         ensures { result ≡ blank_test self.now };
 
+    /// A value equal to this one.
     fn try_copy(&self, alloc: Global) -> Result<Self, AllocError>
         ensures { IfOk result (λ copy. IsTrue (Self.eq self.now copy)) };
 

@@ -2,10 +2,10 @@
 
 ghost use Rattle.std.specs.Prelude.{◌≡◌, ◌++◌, Some, codes};
 ghost use Rattle.std.specs.Fmt.{DisplaysOnOk};
-ghost use Rattle.xls_data.specs.Numbers.{number_text, hundredths_text, bits_text, over_100_text, sixteen_digits};
+ghost use Rattle.xls_data.specs.Numbers.{number_trunc, number_trunc_checked, number_text, hundredths_text, bits_text, over_100_text, sixteen_digits};
 
 use std::fmt;
-use xls_bytes::whole_of_bits;
+use xls_bytes::{trunc_checked_of_bits, trunc_of_bits, whole_of_bits};
 
 /// A number in the form that the stream has it in. Two numbers are equal where form and value are.
 #[derive(Clone, Copy, Debug, PartialEq, Eq)]
@@ -18,6 +18,34 @@ pub enum Number {
     Hundredths(i64),
     /// The double with these bits, over 100.
     BitsOver100(u64),
+}
+
+impl Number {
+    /// The number cut toward zero. What is no number gives 0, and what is outside i64 its nearer
+    /// end.
+    pub fn trunc(&self) -> i64
+        ensures { result ≡ number_trunc self.now }
+    {
+        match *self {
+            Number::Bits(bits) => trunc_of_bits(bits, 1),
+            Number::Whole(n) => n,
+            Number::Hundredths(n) => n / 100,
+            Number::BitsOver100(bits) => trunc_of_bits(bits, 100),
+        }
+    }
+
+    /// The number cut toward zero. None exactly where a double is infinite or no number, or the cut
+    /// number is outside i64.
+    pub fn trunc_checked(&self) -> Option<i64>
+        ensures { result ≡ number_trunc_checked self.now }
+    {
+        match *self {
+            Number::Bits(bits) => trunc_checked_of_bits(bits, 1),
+            Number::Whole(n) => Some(n),
+            Number::Hundredths(n) => Some(n / 100),
+            Number::BitsOver100(bits) => trunc_checked_of_bits(bits, 100),
+        }
+    }
 }
 
 // The bits of the double negative zero.
