@@ -4,6 +4,7 @@ use Rattle.std.specs.Prelude.{◌==◌, ◌&&◌, if◌then◌else◌, All, min,
 use Rattle.std.specs.Option.{option_or}
 use Rattle.std.proofs.lemmas.Bool.{cases_lt}
 use Rattle.std.proofs.lemmas.List.{get_or_default, take_more}
+use Rattle.std.proofs.lemmas.Nat.{mul-le}
 use Rattle.std.proofs.lemmas.Option.{get_or_from_slice_get, slice_get_within}
 use Rattle.xls_range.specs.Grid.{Grid, no_cells, cell_at, IsCopyOf, Shows, IsIn, IsOfCorners, IsOrdered, IsSameBox, count_between}
 use Rattle.xls_range.specs.Sparse.{last_at, IsLeast, IsGreatest, AreCorners, IsTooLarge, IsDense}
@@ -237,3 +238,17 @@ pub IsDense-filled : {T E : Type 0} (eq : T → T → Bool) (blank : T → Bool)
     → IfOk r (λ h. IsDense eq blank given h)
 IsDense-filled eq blank given s e g (Ok h) a corners same shows = IsDense-some eq blank given s e h a (IsOfCorners-same s e g h corners same) shows
 IsDense-filled eq blank given s e g (Err y) a corners same shows = tt
+
+-- positions below a number of rows and of columns span no more cells than these
+pub IsTooLarge-within : {T : Type 0} (given : List ((ℕ × ℕ) × T)) (rows columns : ℕ) → All (λ x. (x.0.0 < rows) × (x.0.1 < columns)) given → IsTooLarge given → 2 ^ 64 ≤ rows * columns
+IsTooLarge-within given rows columns below large =
+    let start = large.0 in
+    let end = large.1 in
+    let bottom = large.2.bottom.some in
+    let right = large.2.right.some in
+    let low : bottom.1.0.0 < rows = (rw bottom.3 at (below bottom.0 bottom.1 bottom.2)).0 in
+    let far : right.1.0.1 < columns = (rw right.3 at (below right.0 right.1 right.2)).1 in
+    let height : end.0 + 1 - start.0 ≤ rows = omega (arith, bottom.4) in
+    let width : end.1 + 1 - start.1 ≤ columns = omega (arith, right.4) in
+    let all : count_between start end ≤ rows * columns = mul-le (end.0 + 1 - start.0) (end.1 + 1 - start.1) rows columns height width in
+    omega (arith, all, large.3)

@@ -9,7 +9,7 @@ use std::marker::Model;
 use xls_data::CellType;
 
 /// The rows, from the top.
-#[derive(Drop)]
+#[derive(Debug, Drop)]
 pub struct Rows<'a, T> {
     cells: &'a [T],
     width: usize,
@@ -94,7 +94,7 @@ impl<'a, T> ExactSizeIterator for Rows<'a, T> {
 }
 
 /// The cells, each with its row and its column, from the top left.
-#[derive(Drop)]
+#[derive(Debug, Drop)]
 pub struct Cells<'a, T> {
     cells: &'a [T],
     width: usize,
@@ -174,7 +174,7 @@ impl<'a, T> ExactSizeIterator for Cells<'a, T> {
 }
 
 /// The cells that are not blank.
-#[derive(Drop)]
+#[derive(Debug, Drop)]
 pub struct UsedCells<'a, T: CellType> {
     cells: Cells<'a, T>,
 }

@@ -16,7 +16,7 @@ use xls_data::CellType;
 
 /// A range of cells: empty, or a box with one value for each of its positions. A position is a row
 /// and a column, counted from 0; it is absolute, or relative to the range's start.
-#[derive(Drop)]
+#[derive(Debug, Drop)]
 pub struct Range<T: CellType> {
     top: u32,
     left: u32,

@@ -7,7 +7,7 @@ use std::alloc::{AllocError, Global};
 use xls_data::{Cell, CellType};
 
 impl<T: CellType> Range<T> {
-    ghost use Rattle.std.specs.Prelude.{◌≡◌, true, All, map, IfOk, IfErr, OnOk, IsErrOf, ◌↔◌};
+    ghost use Rattle.std.specs.Prelude.{◌≡◌, ℕ, ◌*◌, ◌^◌, ◌<◌, true, All, map, IfOk, IfErr, OnOk, IsErrOf, ◌↔◌};
     ghost use Rattle.xls_range.specs.Grid.{IsIn, IsSameBox, IsRange, Shows};
     ghost use Rattle.xls_range.specs.Sparse.{last_at, IsAscending, IsDense, IsTooLarge};
 
@@ -62,6 +62,8 @@ impl<T: CellType> Range<T> {
     pub fn from_sparse(alloc: Global, cells: Vec<Cell<T>>) -> Result<Range<T>, RangeError>
         ensures bounds { ¬ IsErrOf result RangeError.Bounds }
         ensures too_large { IsErrOf result RangeError.TooLarge ↔ IsTooLarge cells.items }
+        ensures fits { (rows columns : ℕ) → All (λ x. (x.0.0 < rows) × (x.0.1 < columns)) cells.items
+            → rows * columns < 2 ^ 64 → ¬ IsErrOf result RangeError.TooLarge }
         ensures range { IfOk result (λ r. IsRange r) }
         ensures dense { IfOk result (λ r. IsDense T.eq T.blank_test cells.items r) }
     {
@@ -73,6 +75,8 @@ impl<T: CellType> Range<T> {
         requires { IsAscending (map (λ x. x.0) cells.now) }
         ensures bounds { ¬ IsErrOf result RangeError.Bounds }
         ensures too_large { IsErrOf result RangeError.TooLarge ↔ IsTooLarge cells.now }
+        ensures fits { (rows columns : ℕ) → All (λ x. (x.0.0 < rows) × (x.0.1 < columns)) cells.now
+            → rows * columns < 2 ^ 64 → ¬ IsErrOf result RangeError.TooLarge }
         ensures range { IfOk result (λ r. IsRange r) }
         ensures dense { IfOk result (λ r. IsDense T.eq T.blank_test cells.now r) }
     {
