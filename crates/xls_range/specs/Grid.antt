@@ -47,7 +47,9 @@ pub record IsIn {T : Type 0} (g : Grid T) (row column : ℕ) : Type 0 where
   pub right : column < g.left + g.width
 
 abbrev pub is_inside : {T : Type 0} → Grid T → ℕ → ℕ → Bool
-is_inside g row column = nat_le g.top row && nat_lt row (g.top + g.height) && (nat_le g.left column && nat_lt column (g.left + g.width))
+is_inside g row column =
+    nat_le g.top row && nat_lt row (g.top + g.height)
+    && (nat_le g.left column && nat_lt column (g.left + g.width))
 
 -- where a row and a column of the range, counted from its start, stand in its cells
 abbrev pub index_of : {T : Type 0} → Grid T → ℕ → ℕ → ℕ
@@ -56,11 +58,14 @@ index_of g i j = i * g.width + j
 -- the cell at a position, where there is one
 unfoldable pub cell_at : {T : Type 0} → Grid T → ℕ → ℕ → Option T
 cell_at g row column =
-    if is_inside g row column then slice_get g.cells (index_of g (row - g.top) (column - g.left)) else None
+    if is_inside g row column
+    then slice_get g.cells (index_of g (row - g.top) (column - g.left))
+    else None
 
 -- the cell in a row and a column that are counted from the start, where there is one
 abbrev pub relative_at : {T : Type 0} → Grid T → ℕ → ℕ → Option T
-relative_at g i j = if nat_lt i g.height && nat_lt j g.width then slice_get g.cells (index_of g i j) else None
+relative_at g i j =
+    if nat_lt i g.height && nat_lt j g.width then slice_get g.cells (index_of g i j) else None
 
 -- the cells of a row that is counted from the start
 abbrev pub row_at : {T : Type 0} → Grid T → ℕ → List T
@@ -102,34 +107,43 @@ IsBeforeStart g row column = (0 < g.height) × ((row < g.top) ⊎ (column < g.le
 abbrev pub IsReachable : {T : Type 0} → Grid T → ℕ → ℕ → Type 0
 IsReachable g row column = 0 < g.height → (g.top ≤ row) × (g.left ≤ column)
 
--- how high and how wide a range is that has grown to a row and a column; an empty one grows from (0, 0)
+-- how high and how wide a range is that has grown to a row and a column, and how many cells it
+-- has; an empty one grows from (0, 0)
 abbrev pub grown_height : {T : Type 0} → Grid T → ℕ → ℕ
 grown_height g row = max g.height (row - g.top + 1)
 
 abbrev pub grown_width : {T : Type 0} → Grid T → ℕ → ℕ
 grown_width g column = max g.width (column - g.left + 1)
 
+abbrev pub grown_count : {T : Type 0} → Grid T → ℕ → ℕ → ℕ
+grown_count g row column = grown_height g row * grown_width g column
+
 -- it has that many rows and columns, the old cells where they were, and blanks elsewhere
-pub record Grows {T : Type 0} (blank : T → Bool) (old new : Grid T) (rows columns : ℕ) : Type 0 where
+pub record Grows {T : Type 0} (blank : T → Bool) (old new : Grid T) (rows columns : ℕ)
+    : Type 0 where
   pub top : new.top ≡ old.top
   pub left : new.left ≡ old.left
   pub height : new.height ≡ rows
   pub width : new.width ≡ columns
   pub count : length new.cells ≡ rows * columns
   pub kept : (r c : ℕ) (x : T) → r < old.height → c < old.width
-      → slice_index_or new.cells (r * columns + c) x ≡ slice_index_or old.cells (r * old.width + c) x
+      → slice_index_or new.cells (r * columns + c) x
+    ≡ slice_index_or old.cells (r * old.width + c) x
   pub blanks : (r c : ℕ) (x : T) → r < rows → c < columns → (old.height ≤ r) ⊎ (old.width ≤ c)
       → blank (slice_index_or new.cells (r * columns + c) x) ≡ true
 
 -- the value stands at the position, every other cell where it was, and each new one is blank
-pub record Sets {T : Type 0} (blank : T → Bool) (old new : Grid T) (row column : ℕ) (value : T) : Type 0 where
+pub record Sets {T : Type 0} (blank : T → Bool) (old new : Grid T) (row column : ℕ) (value : T)
+    : Type 0 where
   pub top : new.top ≡ old.top
   pub left : new.left ≡ old.left
   pub height : new.height ≡ grown_height old row
   pub width : new.width ≡ grown_width old column
   pub here : cell_at new row column ≡ Some value
-  pub others : (r c : ℕ) (x : T) → ((r ≡ row) × (c ≡ column) → ⊥) → cell_at old r c ≡ Some x → cell_at new r c ≡ Some x
-  pub blanks : (r c : ℕ) (x : T) → ((r ≡ row) × (c ≡ column) → ⊥) → cell_at old r c ≡ None → cell_at new r c ≡ Some x → blank x ≡ true
+  pub others : (r c : ℕ) (x : T) → ((r ≡ row) × (c ≡ column) → ⊥)
+    → cell_at old r c ≡ Some x → cell_at new r c ≡ Some x
+  pub blanks : (r c : ℕ) (x : T) → ((r ≡ row) × (c ≡ column) → ⊥)
+    → cell_at old r c ≡ None → cell_at new r c ≡ Some x → blank x ≡ true
 
 -- the same corners
 pub record IsSameBox {T : Type 0} (old new : Grid T) : Type 0 where
@@ -143,14 +157,18 @@ abbrev pub IsCopyOf : {T : Type 0} → (T → T → Bool) → (T → Bool) → O
 IsCopyOf eq blank value cell = MatchOption value (blank cell ≡ true) (λ x. eq x cell ≡ true)
 
 -- each cell of the range stands for what the source has at its position
-pub record Shows {T : Type 0} (eq : T → T → Bool) (blank : T → Bool) (source : ℕ → ℕ → Option T) (g : Grid T) : Type 0 where
+pub record Shows {T : Type 0} (eq : T → T → Bool) (blank : T → Bool)
+    (source : ℕ → ℕ → Option T) (g : Grid T) : Type 0 where
   pub shown : (r c : ℕ) (y : T) → cell_at g r c ≡ Some y → IsCopyOf eq blank (source r c) y
 
 -- the first cells of a box, row by row from a start: each stands for what the source has there
-pub record AreCopies {T : Type 0} (eq : T → T → Bool) (blank : T → Bool) (source : ℕ → ℕ → Option T) (start : ℕ × ℕ) (columns count : ℕ) (cells : List T) : Type 0 where
+pub record AreCopies {T : Type 0} (eq : T → T → Bool) (blank : T → Bool)
+    (source : ℕ → ℕ → Option T) (start : ℕ × ℕ) (columns count : ℕ) (cells : List T)
+    : Type 0 where
   pub number : length cells ≡ count
   pub shown : (r c : ℕ) (y : T) → c < columns → r * columns + c < count
-      → IsCopyOf eq blank (source (start.0 + r) (start.1 + c)) (slice_index_or cells (r * columns + c) y)
+      → IsCopyOf eq blank (source (start.0 + r) (start.1 + c))
+        (slice_index_or cells (r * columns + c) y)
 
 -- equal corners and equal cells
 abbrev pub grid_eq : {T : Type 0} → (T → T → Bool) → Grid T → Grid T → Bool
@@ -162,8 +180,8 @@ grid_eq eq =
 pub grid_eq_equiv : {T : Type 0} {eq : T → T → Bool} → IsEquivalence eq → IsEquivalence (grid_eq eq)
 grid_eq_equiv h =
     and_equiv (on_equiv (λ g. g.top) nat_eq_equiv) (and_equiv (on_equiv (λ g. g.left) nat_eq_equiv)
-    (and_equiv (on_equiv (λ g. g.height) nat_eq_equiv) (and_equiv (on_equiv (λ g. g.width) nat_eq_equiv)
-    (on_equiv (λ g. g.cells) (lists_equiv h)))))
+    (and_equiv (on_equiv (λ g. g.height) nat_eq_equiv)
+    (and_equiv (on_equiv (λ g. g.width) nat_eq_equiv) (on_equiv (λ g. g.cells) (lists_equiv h)))))
 
 -- the range with one cell written
 abbrev pub with_cell : {T : Type 0} → Grid T → ℕ → T → Grid T

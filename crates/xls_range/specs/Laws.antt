@@ -8,7 +8,9 @@ use Rattle.xls_range.specs.Sparse.{AreCorners, IsDense}
 
 -- there is one value for each position of the box, and none elsewhere
 abbrev pub FillsItsBox : (T : Type 0) → Type 0
-FillsItsBox T = (g : Grid T) → IsRange g → (row column : ℕ) → IsSome (cell_at g row column) ↔ IsIn g row column
+FillsItsBox T =
+    (g : Grid T) → IsRange g
+    → (row column : ℕ) → IsSome (cell_at g row column) ↔ IsIn g row column
 
 -- both have a cell, and the two are equal; or neither has one
 abbrev pub IsSameCell : {T : Type 0} → (T → T → Bool) → Option T → Option T → Type 0
@@ -25,7 +27,8 @@ pub record AreSame {T : Type 0} (eq : T → T → Bool) (g h : Grid T) : Type 0 
 
 -- two ranges are equal exactly where their corners and all their cells are
 abbrev pub EqualWhereSame : {T : Type 0} → (T → T → Bool) → Type 0
-EqualWhereSame {T} eq = (g h : Grid T) → IsRange g → IsRange h → (grid_eq eq g h ≡ true) ↔ AreSame eq g h
+EqualWhereSame {T} eq =
+    (g h : Grid T) → IsRange g → IsRange h → (grid_eq eq g h ≡ true) ↔ AreSame eq g h
 
 -- where any positions are given, the smallest box has its corners
 abbrev pub HasCorners : (T : Type 0) → Type 0
@@ -52,27 +55,32 @@ DenseInAnyOrder {T} eq blank =
 abbrev pub RowsJoinToCells : (T : Type 0) → Type 0
 RowsJoinToCells T =
     (g : Grid T) → IsRange g
-    → flat_map (λ row. row) (rows_of g.height g.width g.cells) ≡ map (λ cell. cell.2) (cells_from 0 g.width g.cells)
+    → flat_map (λ row. row) (rows_of g.height g.width g.cells)
+    ≡ map (λ cell. cell.2) (cells_from 0 g.width g.cells)
 
 -- each cell comes at its place, with its row and its column
 abbrev pub CellsInPlace : (T : Type 0) → Type 0
 CellsInPlace T =
     (g : Grid T) (i j : ℕ) → i < g.height → j < g.width
-    → slice_get (cells_from 0 g.width g.cells) (index_of g i j) ≡ option_map (λ x. (i, j, x)) (relative_at g i j)
+    → slice_get (cells_from 0 g.width g.cells) (index_of g i j)
+    ≡ option_map (λ x. (i, j, x)) (relative_at g i j)
 
 -- the used cells are the cells without blanks
 abbrev pub UsedWithoutBlanks : {T : Type 0} → (T → Bool) → Type 0
 UsedWithoutBlanks {T} blank =
     (cells : List (ℕ × ℕ × T)) → used blank cells ≡ filter (λ cell. not (blank cell.2)) cells
 
--- a range that shows another has at each of its positions an equal copy of the cell there, or a blank
+-- a range that shows another has at each of its positions an equal copy of the cell there, or a
+-- blank
 abbrev pub ShowsEachCell : {T : Type 0} → (T → T → Bool) → (T → Bool) → Type 0
 ShowsEachCell {T} eq blank =
-    (old new : Grid T) (start end : ℕ × ℕ) → IsRange new → IsOfCorners start end new → Shows eq blank (cell_at old) new
+    (old new : Grid T) (start end : ℕ × ℕ)
+    → IsRange new → IsOfCorners start end new → Shows eq blank (cell_at old) new
     → (row column : ℕ) → start.0 ≤ row → row ≤ end.0 → start.1 ≤ column → column ≤ end.1
     → (y : T) × (cell_at new row column ≡ Some y) × IsCopyOf eq blank (cell_at old row column) y
 
 -- of an empty range it has blanks alone
 abbrev pub ShowsBlanksOfNone : {T : Type 0} → (T → T → Bool) → (T → Bool) → Type 0
 ShowsBlanksOfNone {T} eq blank =
-    (new : Grid T) → IsRange new → Shows eq blank (cell_at no_cells) new → All (λ x. blank x ≡ true) new.cells
+    (new : Grid T) → IsRange new → Shows eq blank (cell_at no_cells) new
+    → All (λ x. blank x ≡ true) new.cells

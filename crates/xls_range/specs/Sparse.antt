@@ -39,10 +39,12 @@ pub record AreCorners {T : Type 0} (given : List ((ℕ × ℕ) × T)) (start end
 -- the smallest box has 2^64 cells or more
 abbrev pub IsTooLarge : {T : Type 0} → List ((ℕ × ℕ) × T) → Type 0
 IsTooLarge given =
-    (start : ℕ × ℕ) × (end : ℕ × ℕ) × AreCorners given start end × (2 ^ 64 ≤ count_between start end)
+    (start : ℕ × ℕ) × (end : ℕ × ℕ) × AreCorners given start end
+    × (2 ^ 64 ≤ count_between start end)
 
 -- the range is the dense box of these cells
-pub record IsDense {T : Type 0} (eq : T → T → Bool) (blank : T → Bool) (given : List ((ℕ × ℕ) × T)) (g : Grid T) : Type 0 where
+pub record IsDense {T : Type 0} (eq : T → T → Bool) (blank : T → Bool)
+    (given : List ((ℕ × ℕ) × T)) (g : Grid T) : Type 0 where
   pub empty : given ≡ [] → g ≡ no_cells
   pub corners : (start end : ℕ × ℕ) → AreCorners given start end → IsOfCorners start end g
   pub shows : Shows eq blank (λ row column. last_at given (row, column)) g

@@ -10,7 +10,8 @@ use xls_data::CellType;
 /// The height and the width of the box between two corners, both included.
 pub fn box_size(start: (u32, u32), end: (u32, u32)) -> Result<(usize, usize), RangeError>
     ensures bounds { IsErrOf result RangeError.Bounds ↔ IsDisordered start end }
-    ensures too_large { IsErrOf result RangeError.TooLarge ↔ (IsOrdered start end × (2 ^ 64 ≤ count_between start end)) }
+    ensures too_large { IsErrOf result RangeError.TooLarge
+        ↔ (IsOrdered start end × (2 ^ 64 ≤ count_between start end)) }
     ensures memory { ¬ IsErrOf result RangeError.Memory }
     ensures height { IfOk result (λ size. size.0 + start.0 ≡ end.0 + 1) }
     ensures width { IfOk result (λ size. size.1 + start.1 ≡ end.1 + 1) }

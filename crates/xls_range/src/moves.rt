@@ -1,4 +1,4 @@
-// Moving the cells of a box into a wider one.
+//! Moving the cells of a box into a wider one.
 
 ghost use Rattle.std.specs.Prelude.{◌≡◌, ℕ, ◌+◌, ◌*◌, ◌<◌, ◌≤◌, length, vec_len};
 ghost use Rattle.xls_range.specs.Moves.{IsMoved, LeavesOthers};

@@ -30,7 +30,8 @@ impl<T: CellType> Model for Range<T> {
 
     ghost Value = { Grid T };
 
-    ghost view = { λ r. record { top = r.top; left = r.left; height = r.rows; width = r.columns; cells = r.cells.items } };
+    ghost view = { λ r. record {
+        top = r.top; left = r.left; height = r.rows; width = r.columns; cells = r.cells.items } };
 
     ghost invariant = { λ r. IsGrid r.top r.left r.rows r.columns r.cells.items };
 }
@@ -57,7 +58,8 @@ impl<T: CellType> Range<T> {
     /// the start passes that of the end, else `TooLarge` where the cells are 2^64 or more.
     pub fn new(alloc: Global, start: (u32, u32), end: (u32, u32)) -> Result<Range<T>, RangeError>
         ensures bounds { IsErrOf result RangeError.Bounds ↔ IsDisordered start end }
-        ensures too_large { IsErrOf result RangeError.TooLarge ↔ (IsOrdered start end × (2 ^ 64 ≤ count_between start end)) }
+        ensures too_large { IsErrOf result RangeError.TooLarge
+            ↔ (IsOrdered start end × (2 ^ 64 ≤ count_between start end)) }
         ensures range { IfOk result (λ r. IsRange r) }
         ensures corners { IfOk result (λ r. IsOfCorners start end r) }
         ensures blank { IfOk result (λ r. All (λ x. T.blank_test x ≡ true) r.cells) }
@@ -145,7 +147,8 @@ impl<T: CellType> Range<T> {
 
     /// The cell at a relative position; `None` exactly outside.
     pub fn get(&self, relative_position: (usize, usize)) -> Option<&T>
-        ensures { option_copied result ≡ relative_at self.now relative_position.0 relative_position.1 }
+        ensures { option_copied result
+            ≡ relative_at self.now relative_position.0 relative_position.1 }
     {
         let (row, column) = relative_position;
         if row < self.rows && column < self.columns {

@@ -7,7 +7,8 @@ use xls_data::{Cell, CellType};
 
 /// The corners of the smallest box that holds the positions, where there are any.
 pub fn corners_of<T: CellType>(cells: &[Cell<T>]) -> Option<((u32, u32), (u32, u32))>
-    ensures { MatchOption result (cells.now ≡ []) (λ corners. AreCorners cells.now corners.0 corners.1) }
+    ensures { MatchOption result (cells.now ≡ [])
+        (λ corners. AreCorners cells.now corners.0 corners.1) }
 {
     let first = cells.first()?.get_position();
     let (mut top, mut left) = first;

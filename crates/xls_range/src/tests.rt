@@ -113,7 +113,8 @@ fn spans_sorted_cells_alike(rt: HostRuntime) -> Result<(), Fail> {
     Ok(())
 }
 
-// Int 1, 2, 3 at (1, 1), (1, 2), (3, 1): from (0, 0) to (2, 1) they are 1, 2, blank, blank, 3, blank.
+// Int 1, 2, 3 at (1, 1), (1, 2), (3, 1): from (0, 0) to (2, 1) they are 1, 2, blank, blank, 3
+// and blank.
 #[test]
 fn goes_over_cells_from_both_ends(rt: HostRuntime) -> Result<(), Fail> {
     let mut given = Vec::new(rt.alloc());

@@ -12,7 +12,8 @@ impl<T: CellType> Range<T> {
 
     // What stands for a position elsewhere: a copy of its cell, or a blank.
     fn copy_at(&self, alloc: Global, position: (u32, u32)) -> Result<T, AllocError>
-        ensures { IfOk result (λ y. IsCopyOf T.eq T.blank_test (cell_at self.now position.0 position.1) y) }
+        ensures { IfOk result (λ y.
+            IsCopyOf T.eq T.blank_test (cell_at self.now position.0 position.1) y) }
     {
         match self.get_value(position) {
             Some(value) => value.try_copy(alloc),
@@ -31,7 +32,8 @@ impl<T: CellType> Range<T> {
         requires bottom { start.0 + rows ≤ 2 ^ 32 }
         requires right { start.1 + columns ≤ 2 ^ 32 }
         requires fits { rows * columns < 2 ^ 64 }
-        ensures { IfOk result (λ v. AreCopies T.eq T.blank_test (cell_at self.now) start columns (rows * columns) v.items) }
+        ensures { IfOk result (λ v.
+            AreCopies T.eq T.blank_test (cell_at self.now) start columns (rows * columns) v.items) }
     {
         let mut cells = Vec::with_capacity(alloc, rows * columns)?;
         for row in 0..rows {
@@ -52,7 +54,8 @@ impl<T: CellType> Range<T> {
         end: (u32, u32),
     ) -> Result<Range<T>, RangeError>
         ensures bounds { IsErrOf result RangeError.Bounds ↔ IsDisordered start end }
-        ensures too_large { IsErrOf result RangeError.TooLarge ↔ (IsOrdered start end × (2 ^ 64 ≤ count_between start end)) }
+        ensures too_large { IsErrOf result RangeError.TooLarge
+            ↔ (IsOrdered start end × (2 ^ 64 ≤ count_between start end)) }
         ensures range { IfOk result (λ r. IsRange r) }
         ensures corners { IfOk result (λ r. IsOfCorners start end r) }
         ensures cells { IfOk result (λ r. Shows T.eq T.blank_test (cell_at self.now) r) }

@@ -8,7 +8,7 @@ use xls_data::CellType;
 
 impl<T: CellType> Range<T> {
     ghost use Rattle.std.specs.Prelude.{◌≡◌, ℕ, ◌+◌, ◌*◌, ◌^◌, ◌<◌, ◌≤◌, ◌↔◌, IsOk, IsErrOf, OnOk, OnErr, Some, slice_set, ◌==◌, ◌&&◌, if◌then◌else◌};
-    ghost use Rattle.xls_range.specs.Grid.{cell_at, IsIn, IsSameBox, IsBeforeStart, IsReachable, grown_height, grown_width, Grows, Sets};
+    ghost use Rattle.xls_range.specs.Grid.{cell_at, IsIn, IsSameBox, IsBeforeStart, IsReachable, grown_count, index_of, with_cell, Grows, Sets};
 
     // Adds rows of blanks below.
     fn add_rows(&mut self, rows: usize) -> Result<(), RangeError>
@@ -84,7 +84,7 @@ impl<T: CellType> Range<T> {
     fn put(&mut self, row: usize, column: usize, value: T)
         requires row { row < self.old.height }
         requires column { column < self.old.width }
-        ensures { self.new ≡ record self.old { cells = slice_set self.old.cells (row * self.old.width + column) value } }
+        ensures { self.new ≡ with_cell self.old (index_of self.old row column) value }
     {
         self.cells[row * self.columns + column] = value;
     }
@@ -93,7 +93,8 @@ impl<T: CellType> Range<T> {
     pub(super) fn put_at(&mut self, position: (u32, u32), value: T)
         requires { IsIn self.old position.0 position.1 }
         ensures same { IsSameBox self.old self.new }
-        ensures written { (r c : ℕ) → cell_at self.new r c ≡ (if (position.0 == r) && (position.1 == c) then Some value else cell_at self.old r c) }
+        ensures written { (r c : ℕ) → cell_at self.new r c
+            ≡ (if (position.0 == r) && (position.1 == c) then Some value else cell_at self.old r c) }
     {
         let row = (position.0 - self.top) as usize;
         let column = (position.1 - self.left) as usize;
@@ -105,10 +106,14 @@ impl<T: CellType> Range<T> {
     /// the start, `TooLarge` where the cells would be 2^64 or more. A refusal drops the value and
     /// leaves the range as it was. Inside the range it takes no memory.
     pub fn set_value(&mut self, absolute_position: (u32, u32), value: T) -> Result<(), RangeError>
-        ensures bounds { IsErrOf result RangeError.Bounds ↔ IsBeforeStart self.old absolute_position.0 absolute_position.1 }
-        ensures too_large { IsErrOf result RangeError.TooLarge ↔ (IsReachable self.old absolute_position.0 absolute_position.1 × (2 ^ 64 ≤ grown_height self.old absolute_position.0 * grown_width self.old absolute_position.1)) }
+        ensures bounds { IsErrOf result RangeError.Bounds
+            ↔ IsBeforeStart self.old absolute_position.0 absolute_position.1 }
+        ensures too_large { IsErrOf result RangeError.TooLarge
+            ↔ (IsReachable self.old absolute_position.0 absolute_position.1
+            × (2 ^ 64 ≤ grown_count self.old absolute_position.0 absolute_position.1)) }
         ensures err { OnErr result (self.new ≡ self.old) }
-        ensures ok { OnOk result (Sets T.blank_test self.old self.new absolute_position.0 absolute_position.1 value) }
+        ensures ok { OnOk result
+            (Sets T.blank_test self.old self.new absolute_position.0 absolute_position.1 value) }
 
         // A position inside the range is never refused.
         ensures inside { IsIn self.old absolute_position.0 absolute_position.1 → IsOk result }

@@ -13,8 +13,10 @@ impl<T: CellType + Display> Range<T> {
 
     /// The printed texts of the first row; `None` exactly where there are no cells.
     pub fn headers(&self, alloc: Global) -> Result<Option<Vec<String>>, AllocError>
-        ensures none { IfOk result (λ o. MatchOption o (self.now ≡ no_cells) (λ _. 0 < self.now.height)) }
-        ensures some { IfOk result (λ o. IfSome o (λ v. AllZip (Prints T.output) (row_at self.now 0) v.items)) }
+        ensures none { IfOk result (λ o.
+            MatchOption o (self.now ≡ no_cells) (λ _. 0 < self.now.height)) }
+        ensures some { IfOk result (λ o. IfSome o (λ v.
+            AllZip (Prints T.output) (row_at self.now 0) v.items)) }
     {
         if self.rows == 0 {
             return Ok(None);

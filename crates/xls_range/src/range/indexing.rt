@@ -27,8 +27,11 @@ impl<T: CellType> IndexMut<(usize, usize)> for Range<T> {
 
     fn index_mut(&mut self, index: (usize, usize)) -> &mut T
         requires { (index.0 < self.old.height) × (index.1 < self.old.width) }
-        ensures* writes_back { sem 𝓛 (lends_cell T.row (record { blank_test = T.blank_test }) (record { eq = T.eq }) self.entry (index_of self.old index.0 index.1) result) }
-        ensures value { slice_get self.old.cells (index_of self.old index.0 index.1) ≡ Some result.now }
+        ensures* writes_back { sem 𝓛 (lends_cell T.row
+            (record { blank_test = T.blank_test }) (record { eq = T.eq })
+            self.entry (index_of self.old index.0 index.1) result) }
+        ensures value { slice_get self.old.cells (index_of self.old index.0 index.1)
+            ≡ Some result.now }
     {
         &mut self.cells[index.0 * self.columns + index.1]
     }
@@ -54,7 +57,8 @@ impl<T: CellType> Range<T> {
     /// A row of cells, to write.
     pub fn row_mut(&mut self, i: usize) -> &mut [T]
         requires { i < self.old.height }
-        ensures* writes_back { sem 𝓛 (lends_row T.row (record { blank_test = T.blank_test }) (record { eq = T.eq }) self.entry i result) }
+        ensures* writes_back { sem 𝓛 (lends_row T.row
+            (record { blank_test = T.blank_test }) (record { eq = T.eq }) self.entry i result) }
         ensures value { result.now ≡ row_at self.old i }
     {
         let from = i * self.columns;

@@ -16,7 +16,8 @@ impl<T: CellType> Range<T> {
         requires inside { All (λ x. IsIn self.old x.0.0 x.0.1) cells.now }
         requires blank { All (λ x. T.blank_test x ≡ true) self.old.cells }
         ensures same { IsSameBox self.old self.new }
-        ensures shows { OnOk result (Shows T.eq T.blank_test (λ row column. last_at cells.now (row, column)) self.new) }
+        ensures shows { OnOk result (Shows T.eq T.blank_test
+            (λ row column. last_at cells.now (row, column)) self.new) }
     {
         for cell in cells {
             let value = cell.get_value().try_copy(alloc)?;
@@ -31,7 +32,8 @@ impl<T: CellType> Range<T> {
         requires blank { All (λ x. T.blank_test x ≡ true) self.cells }
         ensures range { IfOk result (λ r. IsRange r) }
         ensures same { IfOk result (λ r. IsSameBox self r) }
-        ensures shows { IfOk result (λ r. Shows T.eq T.blank_test (λ row column. last_at cells.now (row, column)) r) }
+        ensures shows { IfOk result (λ r. Shows T.eq T.blank_test
+            (λ row column. last_at cells.now (row, column)) r) }
         ensures memory { IfErr result (λ e. e ≡ RangeError.Memory) }
     {
         if self.place(alloc, cells).is_err() {
@@ -62,7 +64,8 @@ impl<T: CellType> Range<T> {
     pub fn from_sparse(alloc: Global, cells: Vec<Cell<T>>) -> Result<Range<T>, RangeError>
         ensures bounds { ¬ IsErrOf result RangeError.Bounds }
         ensures too_large { IsErrOf result RangeError.TooLarge ↔ IsTooLarge cells.items }
-        ensures fits { (rows columns : ℕ) → All (λ x. (x.0.0 < rows) × (x.0.1 < columns)) cells.items
+        ensures fits { (rows columns : ℕ)
+            → All (λ x. (x.0.0 < rows) × (x.0.1 < columns)) cells.items
             → rows * columns < 2 ^ 64 → ¬ IsErrOf result RangeError.TooLarge }
         ensures range { IfOk result (λ r. IsRange r) }
         ensures dense { IfOk result (λ r. IsDense T.eq T.blank_test cells.items r) }
@@ -75,7 +78,8 @@ impl<T: CellType> Range<T> {
         requires { IsAscending (map (λ x. x.0) cells.now) }
         ensures bounds { ¬ IsErrOf result RangeError.Bounds }
         ensures too_large { IsErrOf result RangeError.TooLarge ↔ IsTooLarge cells.now }
-        ensures fits { (rows columns : ℕ) → All (λ x. (x.0.0 < rows) × (x.0.1 < columns)) cells.now
+        ensures fits { (rows columns : ℕ)
+            → All (λ x. (x.0.0 < rows) × (x.0.1 < columns)) cells.now
             → rows * columns < 2 ^ 64 → ¬ IsErrOf result RangeError.TooLarge }
         ensures range { IfOk result (λ r. IsRange r) }
         ensures dense { IfOk result (λ r. IsDense T.eq T.blank_test cells.now r) }
