@@ -10,3 +10,4 @@ pub mod CellLemmas
 pub mod EqualLemmas
 pub mod WalkLemmas
 pub mod DenseLemmas
+pub mod StandardFacts

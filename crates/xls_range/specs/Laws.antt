@@ -1,8 +1,8 @@
 -- Laws of ranges, each over the definitions alone.
-use Rattle.std.specs.Prelude.{◌≡◌, ◌≢◌, ℕ, ◌≤◌, ◌<◌, ◌*◌, ◌^◌, ◌↔◌, Bool, true, not, Option, None, Some, IsSome, List, ◌∷◌, ◌++◌, All, AllPairs, map, filter, slice_get, IsPermutation}
+use Rattle.std.specs.Prelude.{◌≡◌, ◌≢◌, ℕ, ◌+◌, ◌≤◌, ◌<◌, ◌*◌, ◌^◌, ◌↔◌, Bool, true, not, Option, None, Some, IsSome, List, ◌∷◌, ◌++◌, All, AllPairs, map, filter, slice_get, IsPermutation}
 use Rattle.std.specs.Option.{option_map}
 use Rattle.std.specs.List.{flat_map}
-use Rattle.xls_range.specs.Grid.{Grid, IsRange, IsIn, IsOfCorners, IsCopyOf, Shows, start_of, end_of, cell_at, relative_at, index_of, grid_eq, no_cells}
+use Rattle.xls_range.specs.Grid.{Grid, IsRange, IsIn, IsOfCorners, IsCopyOf, Shows, start_of, end_of, cell_at, relative_at, row_at, index_of, grid_eq, no_cells}
 use Rattle.xls_range.specs.Lists.{rows_of, cells_from, used}
 use Rattle.xls_range.specs.Sparse.{AreCorners, IsDense}
 
@@ -84,3 +84,14 @@ abbrev pub ShowsBlanksOfNone : {T : Type 0} → (T → T → Bool) → (T → Bo
 ShowsBlanksOfNone {T} eq blank =
     (new : Grid T) → IsRange new → Shows eq blank (cell_at no_cells) new
     → All (λ x. blank x ≡ true) new.cells
+
+-- a place counted from the start has the cell of its absolute position
+abbrev pub PlacesAgree : (T : Type 0) → Type 0
+PlacesAgree T = (g : Grid T) (i j : ℕ) → relative_at g i j ≡ cell_at g (g.top + i) (g.left + j)
+
+-- each row comes in its turn, with the cells of its places
+abbrev pub RowsInPlace : (T : Type 0) → Type 0
+RowsInPlace T =
+    (g : Grid T) (i j : ℕ) → i < g.height → j < g.width
+    → (slice_get (rows_of g.height g.width g.cells) i ≡ Some (row_at g i))
+    × (slice_get (row_at g i) j ≡ relative_at g i j)

@@ -1,6 +1,6 @@
 //! Laws of ranges. Each function does nothing, and its contract is the law.
 
-ghost use Rattle.xls_range.specs.Laws.{FillsItsBox, EqualWhereSame, HasCorners, LastWins, DenseInAnyOrder, RowsJoinToCells, CellsInPlace, UsedWithoutBlanks, ShowsEachCell, ShowsBlanksOfNone};
+ghost use Rattle.xls_range.specs.Laws.{FillsItsBox, EqualWhereSame, HasCorners, LastWins, DenseInAnyOrder, RowsJoinToCells, CellsInPlace, UsedWithoutBlanks, ShowsEachCell, ShowsBlanksOfNone, PlacesAgree, RowsInPlace};
 
 use xls_data::CellType;
 
@@ -54,3 +54,15 @@ pub fn shows_each_cell<T: CellType>()
 pub fn shows_blanks_of_none<T: CellType>()
     ensures { ShowsBlanksOfNone T.eq T.blank_test }
 {}
+
+/// A place counted from the start has the cell of its absolute position.
+pub fn places_agree<T: CellType>()
+    ensures { PlacesAgree T }
+{
+}
+
+/// Each row comes in its turn, with the cells of its places.
+pub fn rows_in_place<T: CellType>()
+    ensures { RowsInPlace T }
+{
+}
