@@ -1,5 +1,5 @@
 -- Blanks that are added behind cells, one after another.
-use Rattle.std.proofs.Common.{◌≡◌, ℕ, zero, suc, ◌+◌, ◌-◌, ◌*◌, ◌<◌, ◌≤◌, ◌⊎◌, inl, inr, arith, refl, List, [], ◌∷◌, ◌++◌, length, take, sym, ◌∙◌, ap, Bool, true, get_or, append-nil, append_assoc, length-append}
+use Rattle.std.proofs.Common.{◌≡◌, ℕ, zero, suc, ◌+◌, ◌-◌, ◌*◌, ◌<◌, ◌≤◌, inl, inr, arith, refl, List, [], ◌∷◌, ◌++◌, length, take, sym, ◌∙◌, ap, Bool, true, append-nil, append_assoc, length-append}
 use Rattle.std.specs.Prelude.{All, Result, Ok, Err, false, if◌then◌else◌, is_ok}
 use Rattle.std.specs.Result.{is_err}
 use Rattle.std.proofs.lemmas.List.{get_or_append_left, get_or-append_right}
@@ -7,7 +7,7 @@ use Rattle.std.proofs.lemmas.List.Elements.{All-append}
 use Rattle.std.proofs.lemmas.Nat.{mul-add-lt}
 use Rattle.std.proofs.Math.Nat.{mul-le-mul_right}
 use Rattle.std.proofs.Math.Seq.{take-append_seam}
-use Rattle.xls_range.specs.Grid.{AreBlank, AddsBlanks, Grows}
+use Rattle.xls_range.specs.Grid.{AddsBlanks, Grows}
 
 pub AddsBlanks-zero : {T : Type 0} (blank : T → Bool) (xs : List T) → AddsBlanks blank 0 xs xs
 AddsBlanks-zero blank xs = record {

@@ -1,12 +1,12 @@
 -- Where the cells of a range stand.
-use Rattle.std.proofs.Common.{◌≡◌, ℕ, zero, suc, [], ◌∷◌, ◌/◌, ◌%◌, ◌+◌, ◌-◌, ◌*◌, ◌<◌, ◌≤◌, inl, inr, arith, refl, List, length, sym, ◌∙◌, ap, get_or, Bool, true, false, Option, Some, None}
+use Rattle.std.proofs.Common.{◌≡◌, ℕ, zero, suc, [], ◌∷◌, ◌/◌, ◌%◌, ◌+◌, ◌-◌, ◌*◌, ◌<◌, ◌≤◌, inl, inr, arith, refl, List, length, ◌∙◌, ap, get_or, Bool, true, Some, None}
 use Rattle.std.specs.Prelude.{slice_get, is_some, IsSome, ◌↔◌, All}
 use Rattle.std.proofs.lemmas.Nat.{mul-add-lt, div-add-mod'}
-use Rattle.std.proofs.lemmas.Option.{slice_get-get_or, slice_get_within}
+use Rattle.std.proofs.lemmas.Option.{slice_get-get_or}
 use Rattle.std.proofs.Math.Nat.{div-lt_iff_lt-mul, mod-lt}
 use Rattle.xls_range.specs.Grid.{Grid, IsRange, IsIn, IsOfCorners, IsCopyOf, Shows, cell_at, no_cells}
 use Rattle.xls_range.proofs.GridLemmas.{cell_inside, cell_outside}
-use Rattle.xls_range.proofs.GrowthLemmas.{sides, there}
+use Rattle.xls_range.proofs.GrowthLemmas.{sides}
 
 -- a position of the box has a cell
 pub cell_at-IsIn : {T : Type 0} (g : Grid T) (r c : ℕ) (d : T) → length g.cells ≡ g.height * g.width → IsIn g r c

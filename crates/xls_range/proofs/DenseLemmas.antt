@@ -1,15 +1,15 @@
 -- Dense boxes: their corners, the value that is given last, and another order of the same cells.
-use Rattle.std.proofs.Common.{◌≡◌, ◌≢◌, ℕ, zero, suc, ◌+◌, ◌-◌, ◌*◌, ◌<◌, ◌≤◌, ◌⊎◌, inl, inr, arith, refl, List, [], ◌∷◌, ◌++◌, length, sym, ◌∙◌, ap, subst, get_or, Bool, true, false, Option, Some, None, length-append}
-use Rattle.std.specs.Prelude.{◌==◌, ◌&&◌, if◌then◌else◌, All, Any, AllPairs, Contains, IsPermutation, min, max}
+use Rattle.std.proofs.Common.{◌≡◌, ◌≢◌, ℕ, zero, suc, ◌+◌, ◌<◌, ◌≤◌, ◌⊎◌, inl, inr, arith, refl, List, [], ◌∷◌, ◌++◌, length, sym, ◌∙◌, ap, get_or, Bool, true, false, Option, Some, None, length-append}
+use Rattle.std.specs.Prelude.{◌==◌, ◌&&◌, if◌then◌else◌, All, Any, AllPairs, Contains, IsPermutation}
 use Rattle.std.specs.Option.{option_or}
 use Rattle.std.specs.Cmp.{IsEquivalence}
 use Rattle.std.proofs.lemmas.Bool.{cases_eq, cases_lt, ne_eqb, eq-eqb}
 use Rattle.std.proofs.lemmas.List.Elements.{All-cons}
 use Rattle.std.proofs.lemmas.List.Sorted.{All-permutation, Contains-permutation, IsPermutation-sym, length_permutation}
 use Rattle.std.proofs.Math.Seq.{get_or-append_seam}
-use Rattle.xls_range.specs.Grid.{Grid, IsRange, IsIn, IsOfCorners, IsSameBox, IsCopyOf, cell_at, start_of, end_of, grid_eq, grid_eq_equiv, no_cells}
+use Rattle.xls_range.specs.Grid.{Grid, IsRange, IsIn, IsSameBox, IsCopyOf, cell_at, grid_eq, grid_eq_equiv, no_cells}
 use Rattle.xls_range.specs.Sparse.{last_at, IsLeast, IsGreatest, AreCorners, IsDense}
-use Rattle.xls_range.specs.Laws.{IsSameCell, AreSame}
+use Rattle.xls_range.specs.Laws.{IsSameCell}
 use Rattle.xls_range.proofs.CellLemmas.{cell_there}
 use Rattle.xls_range.proofs.EqualLemmas.{grid_eq-AreSame}
 use Rattle.xls_range.proofs.GridLemmas.{cell_outside}

@@ -1,7 +1,7 @@
 -- Equality of ranges, by their corners and cells.
-use Rattle.std.proofs.Common.{◌≡◌, ◌≢◌, ℕ, zero, suc, ◌+◌, ◌-◌, ◌*◌, ◌/◌, ◌%◌, ◌<◌, ◌≤◌, inl, inr, arith, refl, List, [], ◌∷◌, length, sym, ◌∙◌, ap, get_or, Bool, true, false, Option, Some, None}
-use Rattle.std.specs.Prelude.{slice_get, ◌&&◌, ◌==◌, if◌then◌else◌, ◌↔◌}
-use Rattle.std.specs.Cmp.Lexicographic.{pointwise, as_long}
+use Rattle.std.proofs.Common.{◌≡◌, ◌≢◌, ℕ, zero, suc, ◌+◌, ◌-◌, ◌*◌, ◌/◌, ◌%◌, ◌<◌, inl, inr, arith, refl, List, [], ◌∷◌, length, sym, ◌∙◌, ap, Bool, true, false, Option, Some, None}
+use Rattle.std.specs.Prelude.{slice_get, ◌&&◌, ◌==◌, if◌then◌else◌}
+use Rattle.std.specs.Cmp.Lexicographic.{pointwise}
 use Rattle.std.proofs.lemmas.Bool.{cases_eq, ne_eqb, eq-eqb, eqb-true}
 use Rattle.xls_range.specs.Grid.{Grid, IsRange, IsSameBox, start_of, end_of, cell_at, is_inside, index_of, grid_eq}
 use Rattle.xls_range.specs.Laws.{IsSameCell, AreSame}

@@ -1,14 +1,13 @@
-use Rattle.std.proofs.Common.{◌≡◌, ℕ, ◌+◌, ◌-◌, ◌*◌, ◌<◌, ◌≤◌, arith, refl, List, length, ◌⊎◌, inl, inr, get_or, sym, ◌∙◌, ap, ◌≢◌, Option, Some, None, Bool, true, false, subst, get_or-set_other, get_or-set_same}
-use Rattle.std.specs.Prelude.{slice_get, slice_set, max, ◌==◌, ◌&&◌, if◌then◌else◌}
+use Rattle.std.proofs.Common.{◌≡◌, ℕ, ◌+◌, ◌-◌, ◌*◌, ◌<◌, ◌≤◌, arith, refl, List, length, ◌⊎◌, inl, inr, get_or, sym, ◌∙◌, ap, ◌≢◌, Some, None, Bool, true, subst, get_or-set_other, get_or-set_same}
+use Rattle.std.specs.Prelude.{slice_get, slice_set, ◌==◌, ◌&&◌, if◌then◌else◌}
 use Rattle.std.proofs.lemmas.Option.{slice_get-get_or, get_or_from_slice_get, none-some}
 use Rattle.std.proofs.lemmas.List.{length-set}
 use Rattle.std.proofs.lemmas.Bool.{cases_lt, cases_eq, ne_eqb, eq-eqb}
-use Rattle.std.proofs.lemmas.Bool.Decides.{nat_tests}
 use Rattle.std.proofs.lemmas.Nat.{mul-add-lt}
 use Rattle.xls_range.proofs.GridLemmas.{cell_inside, cell_outside}
 use Rattle.xls_range.proofs.MoveLemmas.{apart}
 use Rattle.xls_range.specs.Moves.{IsMoved, LeavesOthers}
-use Rattle.xls_range.specs.Grid.{Grid, cell_at, AreBlank, Grows, Sets, grown_height, grown_width, IsGrid, IsIn}
+use Rattle.xls_range.specs.Grid.{Grid, cell_at, AreBlank, Grows, Sets, grown_height, grown_width, IsIn}
 
 -- what moving the old cells into a box of blanks gives
 pub grows_from : {T : Type 0} (blank : T → Bool) (top left h w rows columns : ℕ) (xs bs ys : List T) → h ≤ rows → w ≤ columns

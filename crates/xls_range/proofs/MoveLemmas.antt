@@ -1,8 +1,8 @@
-use Rattle.std.proofs.Common.{◌≡◌, ℕ, ◌+◌, ◌*◌, ◌<◌, ◌≤◌, arith, refl, List, length, ◌⊎◌, inl, inr, get_or, sym, ◌∙◌, ◌≢◌, get_or-set_other, get_or-set_same}
+use Rattle.std.proofs.Common.{◌≡◌, ℕ, ◌+◌, ◌*◌, ◌<◌, ◌≤◌, arith, List, length, inl, inr, get_or, ◌≢◌, get_or-set_other, get_or-set_same}
 use Rattle.std.proofs.Math.ListN.{set}
-use Rattle.std.proofs.lemmas.Bool.{cases_eq, cases_lt}
+use Rattle.std.proofs.lemmas.Bool.{cases_lt}
 use Rattle.std.proofs.lemmas.Nat.{same_from_place}
-use Rattle.xls_range.specs.Moves.{IsMoved, IsLeft, LeavesOthers, IsBefore}
+use Rattle.xls_range.specs.Moves.{IsMoved, IsLeft, LeavesOthers}
 
 -- two different places of a box have different indexes
 pub apart : (r c row column wide : ℕ) → c < wide → column < wide → ((r ≡ row) × (c ≡ column) → ⊥) → r * wide + c ≢ row * wide + column

@@ -1,4 +1,4 @@
-use Rattle.std.proofs.Common.{◌≡◌, ℕ, zero, suc, ◌+◌, ◌-◌, ◌*◌, ◌<◌, ◌≤◌, arith, refl, List, [], ◌∷◌, ◌++◌, length, take, drop, sym, ◌∙◌, ap, append-nil, Bool, true, false, ◌/◌, ◌%◌, length-drop, length-append}
+use Rattle.std.proofs.Common.{◌≡◌, ℕ, zero, suc, ◌+◌, ◌-◌, ◌*◌, ◌<◌, ◌≤◌, arith, refl, List, [], ◌∷◌, ◌++◌, length, take, drop, ◌∙◌, ap, append-nil, Bool, true, false, ◌/◌, ◌%◌, length-drop, length-append}
 use Rattle.std.specs.Prelude.{if◌then◌else◌}
 use Rattle.std.proofs.lemmas.List.{take_all, take-take, drop-take, drop-drop}
 use Rattle.xls_range.specs.Lists.{rows_of, cells_from, used}

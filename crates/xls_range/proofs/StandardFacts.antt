@@ -1,7 +1,7 @@
 -- Known values of the definitions, worked by hand, so that a wrong rule in specs/ does not check.
-use Rattle.std.proofs.Common.{◌≡◌, ℕ, ◌^◌, refl, Bool, true, List, [], ◌∷◌, Option, Some, None}
+use Rattle.std.proofs.Common.{◌≡◌, ℕ, ◌^◌, refl, [], ◌∷◌, Some, None}
 use Rattle.std.specs.Prelude.{◌==◌}
-use Rattle.xls_range.specs.Grid.{Grid, no_cells, start_of, end_of, cell_at, relative_at, row_at, grid_eq, grown_height, grown_count, count_between}
+use Rattle.xls_range.specs.Grid.{Grid, no_cells, start_of, end_of, cell_at, relative_at, row_at, grown_height, grown_count, count_between}
 use Rattle.xls_range.specs.Lists.{rows_of, cells_from, used}
 use Rattle.xls_range.specs.Sparse.{last_at}
 

@@ -1,5 +1,5 @@
 -- The lists that the iterators go over.
-use Rattle.std.proofs.Common.{◌≡◌, ◌⊎◌, inl, inr, ℕ, zero, suc, ◌+◌, ◌-◌, ◌*◌, ◌/◌, ◌%◌, ◌<◌, ◌≤◌, arith, refl, List, [], ◌∷◌, ◌++◌, length, take, drop, sym, ◌∙◌, ap, Bool, true, false, Option, Some, None, length-drop}
+use Rattle.std.proofs.Common.{◌≡◌, ◌⊎◌, inl, inr, ℕ, zero, suc, ◌+◌, ◌-◌, ◌*◌, ◌/◌, ◌%◌, ◌<◌, ◌≤◌, arith, refl, List, [], ◌∷◌, ◌++◌, length, take, drop, sym, ◌∙◌, ap, Bool, true, false, Some, None, length-drop}
 use Rattle.std.specs.Prelude.{slice_get, map, filter, not, ◌&&◌, nat_lt, if◌then◌else◌}
 use Rattle.std.specs.Option.{option_map}
 use Rattle.std.specs.List.{flat_map}
@@ -66,9 +66,10 @@ slice_get-rows_of (suc n) width cells (suc i) p =
 
 pub rows_in_place : {T : Type 0} (g : Grid T) (i j : ℕ) → i < g.height → j < g.width
     → (slice_get (rows_of g.height g.width g.cells) i ≡ Some (row_at g i)) × (slice_get (row_at g i) j ≡ relative_at g i j)
-rows_in_place g i j p q =
-    (slice_get-rows_of g.height g.width g.cells i p,
-     slice_get-take g.width (drop (i * g.width) g.cells) j q ∙ slice_get-drop (i * g.width) g.cells j ∙ sym (relative_inside g i j p q))
+rows_in_place g i j p q = (
+  slice_get-rows_of g.height g.width g.cells i p,
+  slice_get-take g.width (drop (i * g.width) g.cells) j q ∙ slice_get-drop (i * g.width) g.cells j ∙ sym (relative_inside g i j p q),
+)
 
 relative_outside : {T : Type 0} (g : Grid T) (i j : ℕ) → (g.height ≤ i) ⊎ (g.width ≤ j) → relative_at g i j ≡ None
 relative_outside g i j out =
@@ -77,13 +78,13 @@ relative_outside g i j out =
 
 pub places_agree : {T : Type 0} (g : Grid T) (i j : ℕ) → relative_at g i j ≡ cell_at g (g.top + i) (g.left + j)
 places_agree g i j = elim (cases_lt i g.height) [
-    inr below ↦ relative_outside g i j (inl below) ∙ sym (cell_outside g (g.top + i) (g.left + j) (inr (inl (omega arith))))
+  | inr below ↦ relative_outside g i j (inl below) ∙ sym (cell_outside g (g.top + i) (g.left + j) (inr (inl (omega arith))))
   | inl p ↦ elim (cases_lt j g.width) [
-      inr right ↦ relative_outside g i j (inr right) ∙ sym (cell_outside g (g.top + i) (g.left + j) (inr (inr (inr (omega arith)))))
+    | inr right ↦ relative_outside g i j (inr right) ∙ sym (cell_outside g (g.top + i) (g.left + j) (inr (inr (inr (omega arith)))))
     | inl q ↦
         let row : g.top + i - g.top ≡ i = omega arith in
         let column : g.left + j - g.left ≡ j = omega arith in
         let inside : cell_at g (g.top + i) (g.left + j) ≡ slice_get g.cells (index_of g i j) = cell_inside g (g.top + i) (g.left + j) (omega arith) (omega arith) (omega arith) (omega arith) ∙ rw (row, column) refl in
         relative_inside g i j p q ∙ sym inside
-    ]
   ]
+]

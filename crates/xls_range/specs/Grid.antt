@@ -128,7 +128,7 @@ pub record Grows {T : Type 0} (blank : T → Bool) (old new : Grid T) (rows colu
   pub count : length new.cells ≡ rows * columns
   pub kept : (r c : ℕ) (x : T) → r < old.height → c < old.width
       → slice_index_or new.cells (r * columns + c) x
-    ≡ slice_index_or old.cells (r * old.width + c) x
+      ≡ slice_index_or old.cells (r * old.width + c) x
   pub blanks : (r c : ℕ) (x : T) → r < rows → c < columns → (old.height ≤ r) ⊎ (old.width ≤ c)
       → blank (slice_index_or new.cells (r * columns + c) x) ≡ true
 
@@ -141,9 +141,9 @@ pub record Sets {T : Type 0} (blank : T → Bool) (old new : Grid T) (row column
   pub width : new.width ≡ grown_width old column
   pub here : cell_at new row column ≡ Some value
   pub others : (r c : ℕ) (x : T) → ((r ≡ row) × (c ≡ column) → ⊥)
-    → cell_at old r c ≡ Some x → cell_at new r c ≡ Some x
+      → cell_at old r c ≡ Some x → cell_at new r c ≡ Some x
   pub blanks : (r c : ℕ) (x : T) → ((r ≡ row) × (c ≡ column) → ⊥)
-    → cell_at old r c ≡ None → cell_at new r c ≡ Some x → blank x ≡ true
+      → cell_at old r c ≡ None → cell_at new r c ≡ Some x → blank x ≡ true
 
 -- the same corners
 pub record IsSameBox {T : Type 0} (old new : Grid T) : Type 0 where
@@ -168,7 +168,7 @@ pub record AreCopies {T : Type 0} (eq : T → T → Bool) (blank : T → Bool)
   pub number : length cells ≡ count
   pub shown : (r c : ℕ) (y : T) → c < columns → r * columns + c < count
       → IsCopyOf eq blank (source (start.0 + r) (start.1 + c))
-        (slice_index_or cells (r * columns + c) y)
+      (slice_index_or cells (r * columns + c) y)
 
 -- equal corners and equal cells
 abbrev pub grid_eq : {T : Type 0} → (T → T → Bool) → Grid T → Grid T → Bool

@@ -1,5 +1,5 @@
 -- Laws of ranges, each over the definitions alone.
-use Rattle.std.specs.Prelude.{◌≡◌, ◌≢◌, ℕ, ◌+◌, ◌≤◌, ◌<◌, ◌*◌, ◌^◌, ◌↔◌, Bool, true, not, Option, None, Some, IsSome, List, ◌∷◌, ◌++◌, All, AllPairs, map, filter, slice_get, IsPermutation}
+use Rattle.std.specs.Prelude.{◌≡◌, ◌≢◌, ℕ, ◌+◌, ◌≤◌, ◌<◌, ◌↔◌, Bool, true, not, Option, None, Some, IsSome, List, ◌∷◌, ◌++◌, All, AllPairs, map, filter, slice_get, IsPermutation}
 use Rattle.std.specs.Option.{option_map}
 use Rattle.std.specs.List.{flat_map}
 use Rattle.xls_range.specs.Grid.{Grid, IsRange, IsIn, IsOfCorners, IsCopyOf, Shows, start_of, end_of, cell_at, relative_at, row_at, index_of, grid_eq, no_cells}

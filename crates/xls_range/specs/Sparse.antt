@@ -1,6 +1,6 @@
 -- The dense box of cells that are given with their positions: the smallest one that holds them all,
 -- of equal positions with the value that was given last, and with blanks elsewhere.
-use Rattle.std.specs.Prelude.{◌≡◌, ℕ, ◌^◌, ◌≤◌, ◌<◌, ◌⊎◌, Bool, true, Option, Some, None, List, [], ◌∷◌, ◌==◌, ◌&&◌, if◌then◌else◌, length, All, Any}
+use Rattle.std.specs.Prelude.{◌≡◌, ℕ, ◌^◌, ◌≤◌, ◌<◌, ◌⊎◌, Bool, Option, Some, None, List, [], ◌∷◌, ◌==◌, ◌&&◌, if◌then◌else◌, All, Any}
 use Rattle.std.specs.Option.{option_or}
 use Rattle.std.specs.List.{AllByRecursion}
 use Rattle.xls_range.specs.Grid.{Grid, no_cells, IsOfCorners, Shows, count_between}

@@ -156,8 +156,7 @@ impl<'a, T> Iterator for Cells<'a, T> {
 }
 
 impl<'a, T> DoubleEndedIterator for Cells<'a, T> {
-    ghost next_back_gives = {
-        YieldsLastBy (λ cell. (cell.0, cell.1, cell.2.now)) (λ cells. cells) };
+    ghost next_back_gives = { YieldsLastBy (λ cell. (cell.0, cell.1, cell.2.now)) (λ cells. cells) };
 
     #[tactic(auto, using(crate::proofs::RowLemmas::cells_snoc, crate::proofs::RowLemmas::cells_count))]
     fn next_back(&mut self) -> Option<(usize, usize, &'a T)> {
@@ -235,8 +234,7 @@ impl<'a, T: CellType> DoubleEndedIterator for UsedCells<'a, T> {
     ghost use Rattle.std.specs.Iterator.{YieldsLastBy};
     ghost use Rattle.xls_range.specs.Lists.{used};
 
-    ghost next_back_gives = {
-        YieldsLastBy (λ cell. (cell.0, cell.1, cell.2.now)) (used T.blank_test) };
+    ghost next_back_gives = { YieldsLastBy (λ cell. (cell.0, cell.1, cell.2.now)) (used T.blank_test) };
 
     #[tactic(auto, using(crate::proofs::RowLemmas::used_last_blank, crate::proofs::RowLemmas::used_last_kept, crate::proofs::RowLemmas::used_last_longer))]
     fn next_back(&mut self) -> Option<(usize, usize, &'a T)> {

@@ -58,11 +58,9 @@ pub fn shows_blanks_of_none<T: CellType>()
 /// A place counted from the start has the cell of its absolute position.
 pub fn places_agree<T: CellType>()
     ensures { PlacesAgree T }
-{
-}
+{}
 
 /// Each row comes in its turn, with the cells of its places.
 pub fn rows_in_place<T: CellType>()
     ensures { RowsInPlace T }
-{
-}
+{}

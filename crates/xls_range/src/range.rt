@@ -31,14 +31,19 @@ impl<T: CellType> Model for Range<T> {
     ghost Value = { Grid T };
 
     ghost view = { λ r. record {
-        top = r.top; left = r.left; height = r.rows; width = r.columns; cells = r.cells.items } };
+      top = r.top;
+      left = r.left;
+      height = r.rows;
+      width = r.columns;
+      cells = r.cells.items;
+    } };
 
     ghost invariant = { λ r. IsGrid r.top r.left r.rows r.columns r.cells.items };
 }
 
 impl<T: CellType> Range<T> {
     ghost use Rattle.std.specs.Prelude.{◌≡◌, ◌^◌, ◌≤◌, ◌<◌, ◌*◌, ◌↔◌, true, length, All, IsTrue, IfOk, IsErrOf, option_copied};
-    ghost use Rattle.xls_range.specs.Lists.{rows_of, cells_from};
+    ghost use Rattle.xls_range.specs.Lists.{rows_of, cells_from, used};
     ghost use Rattle.xls_range.specs.Grid.{no_cells, start_of, end_of, cell_at, relative_at, IsRange, IsOfCorners, IsDisordered, IsOrdered, count_between};
 
     /// A range without cells. It takes no memory.
@@ -181,9 +186,11 @@ impl<T: CellType> Range<T> {
     }
 
     /// The cells that are not blank, each with its relative row and column.
+    #[tactic(auto, using(crate::proofs::RowLemmas::used_count))]
     pub fn used_cells(&self) -> UsedCells<'_, T>
         ensures items { result ≡ cells_from 0 self.now.width self.now.cells }
         ensures bound { length result < 2 ^ 64 }
+        ensures used { length (used T.blank_test result) < 2 ^ 64 }
     {
         UsedCells::new(self.cells())
     }

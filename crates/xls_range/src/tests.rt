@@ -224,3 +224,22 @@ fn holds_texts(rt: HostRuntime) -> Result<(), Fail> {
     assert_eq!(rt; headers.len(), 2);
     Ok(())
 }
+
+// Each request for memory is refused in turn by a run with a failing allocation: the range is then
+// as it was.
+#[test]
+fn stays_as_it_was_without_memory(rt: HostRuntime) {
+    let made: Result<Range<usize>, RangeError> = Range::new(rt.alloc(), (0, 0), (1, 1));
+    let Ok(mut range) = made else {
+        return;
+    };
+    for position in [(1, 1), (5, 1), (5, 7), (9, 9)] {
+        let size = range.get_size();
+        let used = range.used_cells().count();
+        if let Err(error) = range.set_value(position, 1) {
+            assert!(rt; matches!(error, RangeError::Memory));
+            assert_eq!(rt; range.get_size(), size);
+            assert_eq!(rt; range.used_cells().count(), used);
+        }
+    }
+}

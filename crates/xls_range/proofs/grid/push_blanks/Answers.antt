@@ -1,4 +1,4 @@
-use Rattle.std.proofs.Common.{rules, sym, ◌∙◌, ◌≡◌, ◌++◌, ◌∷◌, [], ap, length, take}
+use Rattle.std.proofs.Common.{rules, sym, ◌∙◌, ap, take}
 use Rattle.xls_range.proofs.BlankLemmas.{AddsBlanks-zero, AddsBlanks-suc, take-AddsBlanks, if-is_ok-true, if-is_ok-false}
 use Rattle.xls_range.proofs.grid.push_blanks.Goals as goal
 

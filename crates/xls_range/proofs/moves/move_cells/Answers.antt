@@ -1,4 +1,4 @@
-use Rattle.std.proofs.Common.{rules, arith, ◌<◌, ◌*◌, ◌+◌, ◌≡◌, ◌∙◌, sym, length, get_or, vec_len, inr, refl}
+use Rattle.std.proofs.Common.{rules, arith, ◌<◌, ◌*◌, ◌+◌, ◌≡◌, ◌∙◌, length, vec_len, inr, refl}
 use Rattle.std.proofs.lemmas.List.{get_or_default}
 use Rattle.std.proofs.lemmas.Nat.{mul-add-lt}
 use Rattle.xls_range.proofs.MoveLemmas.{moved_step, left_step, others_step}

@@ -1,5 +1,5 @@
-use Rattle.std.proofs.Common.{rules, arith, ◌≤◌, ◌≡◌, ◌-◌, ◌*◌, length}
-use Rattle.xls_range.specs.Grid.{Grows, AddsBlanks}
+use Rattle.std.proofs.Common.{rules, ◌≡◌, ◌-◌, ◌*◌, length}
+use Rattle.xls_range.specs.Grid.{AddsBlanks}
 use Rattle.xls_range.proofs.BlankLemmas.{Grows-down}
 use Rattle.xls_range.proofs.range.Range.add_rows.Goals as goal
 

@@ -1,8 +1,7 @@
-use Rattle.std.proofs.Common.{rules, arith, ◌≡◌, [], ℕ, ◌≤◌, ◌^◌}
+use Rattle.std.proofs.Common.{rules, ◌≡◌, []}
 use Rattle.std.specs.Prelude.{Result, Ok, Err, IfErr, IsErrOf}
 use Rattle.xls_range.specs.declared.error.RangeError.{RangeError}
 use Rattle.xls_range.specs.declared.error.RangeError.TheVariants as errors
-use Rattle.xls_range.specs.Grid.{count_between}
 use Rattle.xls_range.specs.Sparse.{AreCorners}
 use Rattle.xls_range.proofs.SparseLemmas.{IsDense-nil, IsDense-filled, AreCorners-inside, AreCorners-ordered, IsTooLarge-corners}
 use Rattle.xls_range.proofs.range.Range.dense.Goals as goal

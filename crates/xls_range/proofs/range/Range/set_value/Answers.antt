@@ -1,6 +1,6 @@
-use Rattle.std.proofs.Common.{rules, arith, refl, ◌≡◌, ◌≤◌, ◌*◌, length}
+use Rattle.std.proofs.Common.{arith, ◌≤◌}
 use Rattle.xls_range.proofs.GrowthLemmas.{sets_from, same_grid}
-use Rattle.xls_range.specs.Grid.{Grid, Grows}
+use Rattle.xls_range.specs.Grid.{Grid}
 use Rattle.xls_range.proofs.range.Range.set_value.Goals as goal
 use Rattle.xls_range.proofs.range.Range.set_value.Goals.{else-self-gt0-via-then-self-gt0+else-column-self, then-row-self, else-row-self, else-self-gt0-via-else-self-gt0}
 

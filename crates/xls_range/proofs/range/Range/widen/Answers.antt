@@ -1,5 +1,5 @@
-use Rattle.std.proofs.Common.{rules, arith, ◌≡◌, ◌*◌, length, vec_len}
-use Rattle.xls_range.specs.Grid.{Grows, AreBlank}
+use Rattle.std.proofs.Common.{rules, ◌≡◌, ◌*◌, length, vec_len}
+use Rattle.xls_range.specs.Grid.{AreBlank}
 use Rattle.xls_range.proofs.GrowthLemmas.{grows_from}
 use Rattle.xls_range.proofs.range.Range.widen.Goals as goal
 
