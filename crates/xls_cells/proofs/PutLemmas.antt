@@ -5,7 +5,7 @@ use Rattle.std.specs.Option.{option_or}
 use Rattle.std.specs.List.{AllByRecursion}
 use Rattle.std.proofs.lemmas.List.{append-nil, map-append, length-append, take_all, take_more, get_or_at, set_at, length-take-le}
 use Rattle.xls_cells.specs.declared.sorted.Given.{Given}
-use Rattle.xls_cells.specs.Positions.{Position, Entry, IsBefore, IsAscending, last_at, given_entry, cell_position, IsNotAfter, IsInOrder, HasSame, Puts, EndsAt}
+use Rattle.xls_cells.specs.Positions.{Position, Entry, Precedes, IsAscending, last_at, given_entry, cell_position, IsNotAfter, IsInOrder, HasSame, Puts, EndsAt}
 use Rattle.xls_cells.proofs.LastLemmas.{weaker}
 
 abbrev IsAtMost : Position → Position → Type 0
@@ -58,12 +58,12 @@ module _ {V : Type 0} where
 pairs : (a b c d : ℕ) → a ≡ c → b ≡ d → ◌≡◌ {A = Position} (a, b) (c, d)
 pairs a b c d e f = cc
 
-before_trans : (a b c d e f : ℕ) → IsBefore (a, b) (c, d) → IsBefore (c, d) (e, f)
-    → IsBefore (a, b) (e, f)
+before_trans : (a b c d e f : ℕ) → Precedes (a, b) (c, d) → Precedes (c, d) (e, f)
+    → Precedes (a, b) (e, f)
 before_trans a b c d e f h i = grind arith
 
 before_from : (a b c d : ℕ) → IsAtMost (a, b) (c, d) → ((a ≡ c) × (b ≡ d) → ⊥)
-    → IsBefore (a, b) (c, d)
+    → Precedes (a, b) (c, d)
 before_from a b c d h n =
     elim h [
       | inl l ↦ inl l
@@ -79,12 +79,12 @@ at_most_from : (a b n c d m : ℕ) → (a < c) ⊎ ((a ≡ c) × ((b < d) ⊎ ((
 at_most_from a b n c d m h = grind arith
 
 ascending_push : (ps : List Position) (p : Position) → IsAscending ps
-    → AllByRecursion (λ q. IsBefore q p) ps → IsAscending (ps ++ p ∷ [])
+    → AllByRecursion (λ q. Precedes q p) ps → IsAscending (ps ++ p ∷ [])
 ascending_push [] p a h = (tt, tt)
 ascending_push (q ∷ qs) p a h = (push qs a.0, ascending_push qs p a.1 h.1)
   where
-    push : (rs : List Position) → AllByRecursion (IsBefore q) rs
-        → AllByRecursion (IsBefore q) (rs ++ p ∷ [])
+    push : (rs : List Position) → AllByRecursion (Precedes q) rs
+        → AllByRecursion (Precedes q) (rs ++ p ∷ [])
     push [] b = (h.0, tt)
     push (r ∷ rs) b = (b.0, push rs b.1)
 
@@ -98,7 +98,7 @@ module _ {T : Type 0} where
       → AllByRecursion (λ q. IsAtMost q p) (map cell_position cells)
       → ((front : List (Entry T)) (last : Entry T) → cells ≡ front ++ last ∷ []
       → cell_position last ≡ p → ⊥)
-      → AllByRecursion (λ q. IsBefore q p) (map cell_position cells)
+      → AllByRecursion (λ q. Precedes q p) (map cell_position cells)
   all_before [] p a m n = tt
   all_before (x ∷ []) p a m n =
       (before_from x.0.0 x.0.1 p.0 p.1 m.0 (λ e. n [] x refl (pair e.0 e.1)), tt)
