@@ -6,3 +6,4 @@ pub mod ContentsLemmas
 pub mod OpenLemmas
 pub mod ClearLemmas
 pub mod LawLemmas
+pub mod StandardFacts

@@ -9,24 +9,30 @@ module _ {E : Type 0} where
   option_or_assoc None b c = refl
   option_or_assoc (Some x) b c = refl
 
-  pub first-append : (xs ys : List (Option E)) → first_of (xs ++ ys) ≡ option_or (first_of xs) (first_of ys)
+  pub first-append : (xs ys : List (Option E))
+      → first_of (xs ++ ys) ≡ option_or (first_of xs) (first_of ys)
   first-append [] ys = refl
-  first-append (x ∷ xs) ys = ap (option_or x) (first-append xs ys) ∙ sym (option_or_assoc x (first_of xs) (first_of ys))
+  first-append (x ∷ xs) ys =
+      ap (option_or x) (first-append xs ys) ∙ sym (option_or_assoc x (first_of xs) (first_of ys))
 
-  pub first_behind : (xs ys : List (Option E)) → first_of xs ≡ None → first_of (xs ++ ys) ≡ first_of ys
+  pub first_behind : (xs ys : List (Option E)) → first_of xs ≡ None
+      → first_of (xs ++ ys) ≡ first_of ys
   first_behind xs ys h = first-append xs ys ∙ ap (λ (o : Option E). option_or o (first_of ys)) h
 
-  pub first_early : (xs ys : List (Option E)) (e : E) → first_of xs ≡ Some e → first_of (xs ++ ys) ≡ Some e
+  pub first_early : (xs ys : List (Option E)) (e : E) → first_of xs ≡ Some e
+      → first_of (xs ++ ys) ≡ Some e
   first_early xs ys e h = first-append xs ys ∙ ap (λ (o : Option E). option_or o (first_of ys)) h
 
   pub or_none : (a b : Option E) → option_or a b ≡ None → (a ≡ None) × (b ≡ None)
   or_none None b e = (refl, e)
   or_none (Some x) b e = absurd cc
 
-  pub none_both : (xs ys : List (Option E)) → first_of (xs ++ ys) ≡ None → (first_of xs ≡ None) × (first_of ys ≡ None)
+  pub none_both : (xs ys : List (Option E)) → first_of (xs ++ ys) ≡ None → (first_of xs ≡ None)
+      × (first_of ys ≡ None)
   none_both xs ys h = or_none (first_of xs) (first_of ys) (sym (first-append xs ys) ∙ h)
 
-  pub none_append : (xs ys : List (Option E)) → first_of xs ≡ None → first_of ys ≡ None → first_of (xs ++ ys) ≡ None
+  pub none_append : (xs ys : List (Option E)) → first_of xs ≡ None → first_of ys ≡ None
+      → first_of (xs ++ ys) ≡ None
   none_append xs ys h k = first_behind xs ys h ∙ k
 
 pub somes-append : {X : Type 0} (xs ys : List (Option X)) → somes (xs ++ ys) ≡ somes xs ++ somes ys
@@ -35,21 +41,30 @@ somes-append (None ∷ xs) ys = somes-append xs ys
 somes-append {X} (Some x ∷ xs) ys = ap (λ (l : List X). x ∷ l) (somes-append xs ys)
 
 module _ {X Y : Type 0} (f : List X → X → Y) where
-  pub along-append : (before xs ys : List X) → along f before (xs ++ ys) ≡ along f before xs ++ along f (before ++ xs) ys
+  pub along-append : (before xs ys : List X) → along f before (xs ++ ys) ≡ along f before xs
+      ++ along f (before ++ xs) ys
   along-append before [] ys = ap (λ (b : List X). along f b ys) (sym (append-nil before))
   along-append before (x ∷ xs) ys =
-      ap (λ (l : List Y). f before x ∷ l) (along-append (before ++ x ∷ []) xs ys ∙ ap (λ (b : List X). along f (before ++ x ∷ []) xs ++ along f b ys) (append_assoc before (x ∷ []) xs))
+      ap (λ (l : List Y). f before x ∷ l) (along-append (before ++ x ∷ []) xs ys
+      ∙ ap (λ (b : List X). along f (before ++ x ∷ []) xs
+      ++ along f b ys) (append_assoc before (x ∷ []) xs))
 
   pub along-push : (xs : List X) (x : X) → along f [] (xs ++ x ∷ []) ≡ along f [] xs ++ f xs x ∷ []
   along-push xs x = along-append [] xs (x ∷ [])
 
 module _ {X E : Type 0} (f : List X → X → Option E) where
   -- the element behind those without a fault is the first that has one
-  pub first_at : (xs : List X) (x : X) (more : List X) (os : List (Option E)) (e : E) → first_of (along f [] xs) ≡ None → f xs x ≡ Some e → first_of (along f [] (xs ++ x ∷ more) ++ os) ≡ Some e
+  pub first_at : (xs : List X) (x : X) (more : List X) (os : List (Option E)) (e : E)
+      → first_of (along f [] xs) ≡ None → f xs x ≡ Some e
+      → first_of (along f [] (xs ++ x ∷ more) ++ os) ≡ Some e
   first_at xs x more os e h g =
       first_early (along f [] (xs ++ x ∷ more)) os e
-      (ap first_of (along-append f [] xs (x ∷ more)) ∙ first_behind (along f [] xs) (along f xs (x ∷ more)) h
+      (ap first_of (along-append f [] xs (x ∷ more))
+      ∙ first_behind (along f [] xs) (along f xs (x ∷ more)) h
       ∙ ap (λ (o : Option E). option_or o (first_of (along f (xs ++ x ∷ []) more))) g)
 
-  pub none_push : (xs : List X) (x : X) → first_of (along f [] xs) ≡ None → f xs x ≡ None → first_of (along f [] (xs ++ x ∷ [])) ≡ None
-  none_push xs x h g = ap first_of (along-push f xs x) ∙ first_behind (along f [] xs) (f xs x ∷ []) h ∙ ap (λ (o : Option E). option_or o None) g
+  pub none_push : (xs : List X) (x : X) → first_of (along f [] xs) ≡ None → f xs x ≡ None
+      → first_of (along f [] (xs ++ x ∷ [])) ≡ None
+  none_push xs x h g =
+      ap first_of (along-push f xs x) ∙ first_behind (along f [] xs) (f xs x ∷ []) h
+      ∙ ap (λ (o : Option E). option_or o None) g

@@ -1,5 +1,5 @@
 -- The places of a stream in order, and its first fault.
-use Rattle.std.specs.Prelude.{◌≡◌, ℕ, ◌≤◌, List, [], ◌∷◌, ◌++◌, map, length, if◌then◌else◌, nat_lt, Option, Some, None}
+use Rattle.std.specs.Prelude.{◌≡◌, ℕ, List, [], ◌∷◌, ◌++◌, map, length, if◌then◌else◌, nat_lt, Option, Some, None}
 use Rattle.std.specs.Option.{option_map}
 use Rattle.std.specs.List.{flat_map, AllByRecursion}
 use Rattle.xls_model.specs.Listing.{Kept, Entry, plain_entry, sheet_entry, Item, plain_item, sheet_item, entry_of, Holds}
@@ -15,12 +15,14 @@ use Rattle.xls_book.specs.declared.options.XlsOptions.{XlsOptions}
 
 -- the byte limit
 abbrev pub limit_fault : XlsOptions → List ℕ → Option XlsError
-limit_fault options bytes = if nat_lt options.max_bytes (length bytes) then Some (TooLarge options.max_bytes) else None
+limit_fault options bytes =
+    if nat_lt options.max_bytes (length bytes) then Some (TooLarge options.max_bytes) else None
 
 -- a record of the globals, under those before it
 abbrev pub item_fault : List Item → Item → Option XlsError
 item_fault before (plain_item typ body) = plain_fault typ body
-item_fault before (sheet_item body kept cut) = second_or (map entry_of before) (fault_of (sheet_at body))
+item_fault before (sheet_item body kept cut) =
+    second_or (map entry_of before) (fault_of (sheet_at body))
 
 -- a kept record, behind those before it
 abbrev pub kept_fault : XlsOptions → List Kept → Kept → Option XlsError
@@ -50,7 +52,9 @@ places options items cut = globals_places items cut ++ flat_map (sheet_places op
 -- e is the fault of a place before which no place has one, where the byte limit has this fault
 abbrev pub FirstBehind : Option XlsError → XlsOptions → List ℕ → XlsError → Type 0
 FirstBehind (Some f) options bytes e = e ≡ f
-FirstBehind None options bytes e = (items : List Item) × (cut : Option Part) × Holds bytes items cut × (first_of (places options items cut) ≡ Some e)
+FirstBehind None options bytes e =
+    (items : List Item) × (cut : Option Part) × Holds bytes items cut
+    × (first_of (places options items cut) ≡ Some e)
 
 -- e is the fault of a place before which no place has one
 abbrev pub FirstFault : XlsOptions → List ℕ → XlsError → Type 0
@@ -65,11 +69,13 @@ IsSound options bytes = (e : XlsError) → FirstFault options bytes e → ⊥
 -- an entry, under those before it
 abbrev pub entry_fault : List Entry → Entry → Option XlsError
 entry_fault before (plain_entry typ body) = plain_fault typ body
-entry_fault before (sheet_entry state kind name kept) = second_or before (fault_of (head_at state kind name))
+entry_fault before (sheet_entry state kind name kept) =
+    second_or before (fault_of (head_at state kind name))
 
 abbrev pub IsFullSheet : XlsOptions → Entry → Type 0
 IsFullSheet options (plain_entry typ body) = Unit {0}
-IsFullSheet options (sheet_entry state kind name kept) = first_of (along (kept_fault options) [] kept) ≡ None
+IsFullSheet options (sheet_entry state kind name kept) =
+    first_of (along (kept_fault options) [] kept) ≡ None
 
 -- no entry and no kept record has a fault
 pub record IsFull (options : XlsOptions) (entries : List Entry) : Type 0 where

@@ -13,7 +13,8 @@ use Rattle.xls_book.specs.declared.options.XlsOptions.{XlsOptions}
 abbrev pub ReadCause : ℕ → Option (List ℕ) → ℕ → ℕ → XlsError → Type 0
 ReadCause limit left before now errors.Io = Rose before now
 ReadCause limit left before now errors.Memory = Unit {0}
-ReadCause limit left before now (errors.TooLarge n) = (n ≡ limit) × IfSome left (λ bytes. limit < length bytes)
+ReadCause limit left before now (errors.TooLarge n) =
+    (n ≡ limit) × IfSome left (λ bytes. limit < length bytes)
 ReadCause limit left before now e = ⊥
 
 -- why a stream isn't opened: Io by its count, Memory freely, and else the first fault of the bytes
@@ -41,6 +42,7 @@ pub record Opens (options : XlsOptions) (left after : Option (List ℕ)) (before
   pub ok : IfOk result (λ book. IfSome left (IsOpened options book))
   pub end : IfOk result (λ _. IsAtEnd after)
   pub cause : IfErr result (OpenCause options left before now)
-  pub complete : (Rose before now → ⊥) → IfSome left (λ bytes. IsSound options bytes → IfErr result (λ e. e ≡ errors.Memory))
+  pub complete : (Rose before now → ⊥)
+      → IfSome left (λ bytes. IsSound options bytes → IfErr result (λ e. e ≡ errors.Memory))
   pub front : (taken : List ℕ) × (length taken ≤ options.max_bytes + 1) × Consumes left after taken
   pub count : before ≤ now

@@ -6,7 +6,6 @@ use Rattle.std.specs.List.{flat_map, AllZip}
 use Rattle.std.specs.Cmp.Lexicographic.{pointwise}
 use Rattle.xls_model.specs.Listing.{Kept, plain_entry, sheet_entry}
 use Rattle.xls_model.specs.Listing as listing
-use Rattle.xls_data.specs.Content.{Content}
 use Rattle.xls_data.specs.Sheets.{SheetContent}
 use Rattle.xls_cells.specs.Positions.{Position, IsAscending, last_at}
 use Rattle.xls_biff.specs.declared.error.XlsError.{XlsError}
@@ -23,7 +22,8 @@ SheetRecords = SheetContent × List Kept
 
 abbrev pub sheet_in : List listing.Entry → listing.Entry → Option SheetRecords
 sheet_in before (plain_entry typ body) = None
-sheet_in before (sheet_entry state kind name kept) = option_map (λ (s : SheetContent). (s, kept)) (result_ok (head_at state kind name))
+sheet_in before (sheet_entry state kind name kept) =
+    option_map (λ (s : SheetContent). (s, kept)) (result_ok (head_at state kind name))
 
 -- the sheets in order
 abbrev pub sheets_of : List listing.Entry → List SheetRecords
@@ -32,7 +32,8 @@ sheets_of es = somes (along sheet_in [] es)
 -- the kept records of the last sheet of this name
 abbrev pub last_kept : List SheetRecords → List ℕ → Option (List Kept)
 last_kept [] name = None
-last_kept (q ∷ qs) name = option_or (last_kept qs name) (if pointwise ◌==◌ q.0.name name then Some q.1 else None)
+last_kept (q ∷ qs) name =
+    option_or (last_kept qs name) (if pointwise ◌==◌ q.0.name name then Some q.1 else None)
 
 abbrev pub kept_named : List SheetRecords → List ℕ → List Kept
 kept_named sheets name = unwrap_or (last_kept sheets name) []

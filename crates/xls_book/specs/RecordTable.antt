@@ -1,13 +1,13 @@
 -- The record table: what a record of each type gives, or its first fault.
 use Rattle.std.specs.Prelude.{ℕ, List, [], ◌∷◌, Bool, true, false, ◌==◌, if◌then◌else◌, Option, Some, None, Result, Ok, Err}
-use Rattle.xls_model.specs.Listing.{is_among, sheet_types, Kept, Entry, plain_entry, sheet_entry}
+use Rattle.xls_model.specs.Listing.{is_among, sheet_types, Entry, plain_entry, sheet_entry}
 use Rattle.xls_model.specs.declared.types.TheConstants.{BOF, BOUND_SHEET_8, NUMBER}
 use Rattle.xls_biff.specs.declared.error.XlsError.{XlsError}
 use Rattle.xls_biff.specs.declared.error.XlsError.TheVariants.{NotBuilt}
 use Rattle.xls_biff.specs.declared.globals.Biff.{Biff}
 use Rattle.xls_biff.specs.declared.globals.Biff.TheVariants.{Biff8}
 use Rattle.xls_biff.specs.declared.globals.Bof.{Bof}
-use Rattle.xls_biff.specs.Globals.{bof_at, head_at, sheet_at}
+use Rattle.xls_biff.specs.Globals.{bof_at}
 use Rattle.xls_biff.specs.Cells as cells
 use Rattle.xls_biff.specs.Cells.{number_at}
 

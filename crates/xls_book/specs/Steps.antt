@@ -3,8 +3,6 @@ use Rattle.std.specs.Prelude.{◌≡◌, ℕ, ◌<◌, List, [], ◌∷◌, ◌+
 use Rattle.std.specs.Result.{result_ok}
 use Rattle.std.specs.Option.{option_map, option_or}
 use Rattle.std.specs.List.{AllByRecursion}
-use Rattle.std.specs.String.{string_bytes}
-use Rattle.std.specs.Str.{chars}
 use Rattle.std.specs.Cmp.Lexicographic.{pointwise}
 use Rattle.std.specs.Borrow.{Bor}
 use Rattle.xls_model.specs.Listing as listing
@@ -92,7 +90,13 @@ pub record Opened : Type 0 where
 
 abbrev pub opened_in : List Item → Item → Option Opened
 opened_in before (plain_item typ body) = None
-opened_in before (sheet_item body kept cut) = option_map (λ (h : SheetContent). record { offset = offset_at body; head = h; kept = kept; cut = cut }) (result_ok (sheet_at body))
+opened_in before (sheet_item body kept cut) =
+    option_map (λ (h : SheetContent). record {
+      offset = offset_at body;
+      head = h;
+      kept = kept;
+      cut = cut;
+    }) (result_ok (sheet_at body))
 
 abbrev pub opened_of : List Item → List Opened
 opened_of items = somes (along opened_in [] items)
@@ -111,7 +115,9 @@ pub record AreGlobals (bytes : List ℕ) (sheets : Sheets) : Type 0 where
   pub sheets_are : sheets ≡ sheets_at items
 
 abbrev pub GlobalsFault : List ℕ → XlsError → Type 0
-GlobalsFault bytes e = (items : List Item) × (cut : Option Part) × Holds bytes items cut × (first_of (globals_places items cut) ≡ Some e)
+GlobalsFault bytes e =
+    (items : List Item) × (cut : Option Part) × Holds bytes items cut
+    × (first_of (globals_places items cut) ≡ Some e)
 
 abbrev pub ReadsListed : List ℕ → Result (List Listed) XlsError → Type 0
 ReadsListed bytes (Ok listed) = AreGlobals bytes (map listed_of listed)
@@ -132,45 +138,57 @@ abbrev pub SheetCells : Type 0
 SheetCells = List (Position × Data)
 
 -- the records of a part that isn't cut have no fault, and these are their cells
-pub record IsRead (Stands : List Kept → Option Part → Type 0) (options : XlsOptions) (found : SheetCells) : Type 0 where
+pub record IsRead (Stands : List Kept → Option Part
+    → Type 0) (options : XlsOptions) (found : SheetCells) : Type 0 where
   pub kept : List Kept
   pub stands : Stands kept None
   pub faultless : first_of (along (kept_fault options) [] kept) ≡ None
   pub values : HasValues (map cell_content found) kept
 
 abbrev pub PartFault : (List Kept → Option Part → Type 0) → XlsOptions → XlsError → Type 0
-PartFault Stands options e = (kept : List Kept) × (cut : Option Part) × Stands kept cut × (first_of (part_places options kept cut) ≡ Some e)
+PartFault Stands options e =
+    (kept : List Kept) × (cut : Option Part) × Stands kept cut
+    × (first_of (part_places options kept cut) ≡ Some e)
 
-abbrev pub Reads : (List Kept → Option Part → Type 0) → XlsOptions → Result SheetCells XlsError → Type 0
+abbrev pub Reads : (List Kept → Option Part → Type 0) → XlsOptions → Result SheetCells XlsError
+    → Type 0
 Reads Stands options (Ok found) = IsRead Stands options found
 Reads Stands options (Err errors.Memory) = Unit {0}
 Reads Stands options (Err e) = PartFault Stands options e
 
-abbrev pub ReadsPart : {A : Type 0} → List ℕ → XlsOptions → Result (Vec (Position × Data) A) XlsError → Type 0
+abbrev pub ReadsPart : {A : Type 0} → List ℕ → XlsOptions
+    → Result (Vec (Position × Data) A) XlsError → Type 0
 ReadsPart part options result = Reads (IsPart part) options (items_of result)
 
-abbrev pub ReadsSheet : {A : Type 0} → List ℕ → ℕ → XlsOptions → Result (Vec (Position × Data) A) XlsError → Type 0
+abbrev pub ReadsSheet : {A : Type 0} → List ℕ → ℕ → XlsOptions
+    → Result (Vec (Position × Data) A) XlsError → Type 0
 ReadsSheet bytes offset options result = Reads (IsSheetPart bytes offset) options (items_of result)
 
 -- ---- the sheets
 
 -- these sheets with these cells are those of the list
-abbrev pub AreSheets : {A : Type 0} → List Sheet → List (Vec (Position × Data) A) → List SheetRecords → Type 0
+abbrev pub AreSheets : {A : Type 0} → List Sheet → List (Vec (Position × Data) A)
+    → List SheetRecords → Type 0
 AreSheets [] [] [] = Unit {0}
-AreSheets (s ∷ ss) (c ∷ cs) (q ∷ qs) = (sheet_content s ≡ q.0) × HasValues (map cell_content c.items) q.1 × AreSheets ss cs qs
+AreSheets (s ∷ ss) (c ∷ cs) (q ∷ qs) =
+    (sheet_content s ≡ q.0) × HasValues (map cell_content c.items) q.1 × AreSheets ss cs qs
 AreSheets ss cs qs = ⊥
 
 -- the cells of the last sheet of this name
-abbrev pub last_cells : {A : Type 0} → List Sheet → List (Vec (Position × Data) A) → List ℕ → Option SheetCells
+abbrev pub last_cells : {A : Type 0} → List Sheet → List (Vec (Position × Data) A) → List ℕ
+    → Option SheetCells
 last_cells [] cs name = None
 last_cells (s ∷ ss) [] name = None
-last_cells (s ∷ ss) (c ∷ cs) name = option_or (last_cells ss cs name) (if pointwise ◌==◌ (sheet_content s).name name then Some c.items else None)
+last_cells (s ∷ ss) (c ∷ cs) name =
+    option_or (last_cells ss cs name) (if pointwise ◌==◌ (sheet_content s).name name then Some c.items else None)
 
-abbrev pub cells_named : {A : Type 0} → List Sheet → List (Vec (Position × Data) A) → List ℕ → SheetCells
+abbrev pub cells_named : {A : Type 0} → List Sheet → List (Vec (Position × Data) A) → List ℕ
+    → SheetCells
 cells_named ss cs name = unwrap_or (last_cells ss cs name) []
 
 -- for each of these sheets the cells of the last sheet of its name
-abbrev pub shown : {A : Type 0} → List Sheet → List (Vec (Position × Data) A) → List Sheet → List (List Entry)
+abbrev pub shown : {A : Type 0} → List Sheet → List (Vec (Position × Data) A) → List Sheet
+    → List (List Entry)
 shown all cs ss = map (λ (s : Sheet). map cell_content (cells_named all cs (sheet_content s).name)) ss
 
 -- ---- the workbook of a stream, its byte limit apart

@@ -33,7 +33,8 @@ fn narrow_string(bytes: &[u8]) -> Result<&[u8], XlsError>
 
 /// Appends the character of a number below 256.
 fn push_narrow(text: &mut String, byte: u8) -> Result<(), AllocError>
-    ensures { IfOk result (λ _. chars (string_bytes text.new) ≡ chars (string_bytes text.old) ++ byte ∷ []) }
+    ensures { IfOk result (λ _. chars (string_bytes text.new) ≡ chars (string_bytes text.old)
+        ++ byte ∷ []) }
 {
     text.push(char::from(byte))
 }

@@ -50,7 +50,13 @@ impl MemorySource {
     /// A source of these bytes, at most `chunk` at a time, whose calls of these numbers fail.
     pub fn new(bytes: Vec<u8>, chunk: usize, failing: Vec<u64>) -> MemorySource
         requires { 1 ≤ chunk }
-        ensures { result ≡ record { bytes = bytes.items; chunk = chunk; failing = failing.items; call = 0; faults = 0 } }
+        ensures { result ≡ record {
+          bytes = bytes.items;
+          chunk = chunk;
+          failing = failing.items;
+          call = 0;
+          faults = 0;
+        } }
     {
         MemorySource {
             bytes,

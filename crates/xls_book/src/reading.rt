@@ -59,7 +59,8 @@ fn read_by_pieces<S: Source>(
     ensures all { IfOk result (Consumes (S.left source.old) (S.left source.new)) }
     ensures end { IfOk result (λ _. IsAtEnd (S.left source.new)) }
     ensures cause { IfErr result (ReadCause limit (S.left source.old) (S.faults source.old) (S.faults source.new)) }
-    ensures front { (taken : List ℕ) × (length taken ≤ limit + 1) × Consumes (S.left source.old) (S.left source.new) taken }
+    ensures front { (taken : List ℕ) × (length taken ≤ limit + 1)
+        × Consumes (S.left source.old) (S.left source.new) taken }
     ensures count { S.faults source.old ≤ S.faults source.new }
 {
     let mut bytes = Vec::new(alloc);
@@ -94,7 +95,8 @@ pub fn read_all<S: Source>(
     ensures cause { IfErr result (ReadCause limit (S.left source.old) (S.faults source.old) (S.faults source.new)) }
 
     // Also after a refusal a front was taken, of one byte more than the limit at most.
-    ensures front { (taken : List ℕ) × (length taken ≤ limit + 1) × Consumes (S.left source.old) (S.left source.new) taken }
+    ensures front { (taken : List ℕ) × (length taken ≤ limit + 1)
+        × Consumes (S.left source.old) (S.left source.new) taken }
     ensures count { S.faults source.old ≤ S.faults source.new }
 {
     let mut piece = zeros(alloc, CHUNK)?;

@@ -61,7 +61,8 @@ fn open<S: Source>(alloc: Global, source: &mut S, options: &XlsOptions) -> Resul
     ensures ok { IfOk result (λ book. IfSome (S.left source.old) (IsOpened options.now book)) }
     ensures end { IfOk result (λ _. IsAtEnd (S.left source.new)) }
     ensures cause { IfErr result (OpenCause options.now (S.left source.old) (S.faults source.old) (S.faults source.new)) }
-    ensures front { (taken : List ℕ) × (length taken ≤ options.now.max_bytes + 1) × Consumes (S.left source.old) (S.left source.new) taken }
+    ensures front { (taken : List ℕ) × (length taken ≤ options.now.max_bytes + 1)
+        × Consumes (S.left source.old) (S.left source.new) taken }
     ensures count { S.faults source.old ≤ S.faults source.new }
 {
     let bytes = read_all(alloc, source, options.max_bytes)?;

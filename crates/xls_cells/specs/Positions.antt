@@ -1,26 +1,12 @@
 -- Positions in order, and the value that was given to a position last.
-use Rattle.std.specs.Prelude.{◌≡◌, ℕ, ◌<◌, ◌≤◌, List, [], ◌∷◌, ◌++◌, ◌==◌, ◌&&◌, if◌then◌else◌, Option, Some, None, map, ◌⊎◌, ◌-◌, length, slice_index_or, slice_set}
-use Rattle.std.specs.Option.{option_or}
+use Rattle.std.specs.Prelude.{◌≡◌, ℕ, ◌<◌, ◌≤◌, List, [], ◌∷◌, ◌++◌, map, ◌⊎◌, ◌-◌, length, slice_index_or, slice_set}
 use Rattle.std.specs.List.{AllByRecursion}
+pub use Rattle.xls_range.specs.Sparse.{last_at, Precedes, IsAscending}
 use Rattle.xls_cells.specs.declared.sorted.Given.{Given}
 
 -- a row and a column
 abbrev pub Position : Type 0
 Position = ℕ × ℕ
-
--- row by row, and in a row from the left
-abbrev pub IsBefore : Position → Position → Type 0
-IsBefore p q = (p.0 < q.0) ⊎ ((p.0 ≡ q.0) × (p.1 < q.1))
-
--- each position comes before all later ones
-abbrev pub IsAscending : List Position → Type 0
-IsAscending [] = Unit {0}
-IsAscending (p ∷ ps) = AllByRecursion (IsBefore p) ps × IsAscending ps
-
--- the value that was given to a position last
-abbrev pub last_at : {V : Type 0} → List (Position × V) → Position → Option V
-last_at [] p = None
-last_at (e ∷ es) p = option_or (last_at es p) (if e.0.0 == p.0 && e.0.1 == p.1 then Some e.1 else None)
 
 -- a value at its position
 abbrev pub Entry : Type 0 → Type 0
@@ -39,11 +25,13 @@ IsNumbered (x ∷ xs) = AllByRecursion (λ y. x.number < y.number) xs × IsNumbe
 
 -- both give each position the same value last
 abbrev pub HasSame : {T : Type 0} → List (Entry T) → List (Given T) → Type 0
-HasSame cells given = (p : Position) → last_at (cells) p ≡ last_at (map given_entry given) p
+HasSame cells given = (p : Position) → last_at cells p ≡ last_at (map given_entry given) p
 
 -- by position, and at one position by number
 abbrev pub IsNotAfter : {T : Type 0} → Given T → Given T → Type 0
-IsNotAfter x y = (x.cell.0.0 < y.cell.0.0) ⊎ ((x.cell.0.0 ≡ y.cell.0.0) × ((x.cell.0.1 < y.cell.0.1) ⊎ ((x.cell.0.1 ≡ y.cell.0.1) × (x.number ≤ y.number))))
+IsNotAfter x y = (x.cell.0.0 < y.cell.0.0)
+    ⊎ ((x.cell.0.0 ≡ y.cell.0.0)
+    × ((x.cell.0.1 < y.cell.0.1) ⊎ ((x.cell.0.1 ≡ y.cell.0.1) × (x.number ≤ y.number))))
 
 abbrev pub IsInOrder : {T : Type 0} → List (Given T) → Type 0
 IsInOrder [] = Unit {0}
@@ -51,8 +39,12 @@ IsInOrder (x ∷ xs) = AllByRecursion (IsNotAfter x) xs × IsInOrder xs
 
 -- there is a last cell, and it has this position
 abbrev pub EndsAt : {T : Type 0} → List (Entry T) → ℕ → ℕ → Type 0
-EndsAt {T} cells row column = (0 < length cells) × ((d : Entry T) → ((slice_index_or cells (length cells - 1) d).0.0 ≡ row) × ((slice_index_or cells (length cells - 1) d).0.1 ≡ column))
+EndsAt {T} cells row column =
+    (0 < length cells) × ((d : Entry T) → ((slice_index_or cells (length cells - 1) d).0.0 ≡ row)
+    × ((slice_index_or cells (length cells - 1) d).0.1 ≡ column))
 
 -- in place of a last cell that has the position, or else at the end
 abbrev pub Puts : {T : Type 0} → List (Entry T) → Entry T → List (Entry T) → Type 0
-Puts before c after = (EndsAt before c.0.0 c.0.1 × (after ≡ slice_set before (length before - 1) c)) ⊎ ((¬ EndsAt before c.0.0 c.0.1) × (after ≡ before ++ c ∷ []))
+Puts before c after =
+    (EndsAt before c.0.0 c.0.1 × (after ≡ slice_set before (length before - 1) c))
+    ⊎ ((¬ EndsAt before c.0.0 c.0.1) × (after ≡ before ++ c ∷ []))

@@ -41,7 +41,8 @@ fn last_of_each<T: CellType>(
     given: Vec<Given<T>>,
 ) -> Result<Vec<Cell<T>>, AllocError>
     requires { IsInOrder given.items }
-    ensures { IfOk result (λ v. IsAscending (map cell_position v.items) × HasSame v.items given.items) }
+    ensures { IfOk result (λ v. IsAscending (map cell_position v.items)
+        × HasSame v.items given.items) }
 {
     let mut cells = Vec::new(alloc);
     for each in given {

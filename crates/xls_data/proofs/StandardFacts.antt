@@ -1,11 +1,15 @@
 -- Values from outside, so that a wrong rule in the definitions does not check.
-use Rattle.std.proofs.Common.{◌≡◌, [], ◌∷◌, map, refl, pos, negsuc, codes, None}
+use Rattle.std.proofs.Common.{◌≡◌, ℤ, Bool, Option, Some, None, [], ◌∷◌, map, refl, pos, negsuc, codes}
 use Rattle.std.specs.Fmt.{digits}
 use Rattle.xls_data.specs.declared.numbers.Number.TheVariants.{Bits, Whole, Hundredths, BitsOver100}
 use Rattle.xls_data.specs.declared.formats.CellFormat.TheVariants.{Other, DateTime, TimeDelta}
 use Rattle.xls_bytes.specs.Doubles.{size_of_parts, quotient_of}
 use Rattle.xls_data.specs.Builtin.{class_of_code, class_of_id}
 use Rattle.xls_data.specs.Classes.{class_of}
+use Rattle.xls_data.specs.Content.{float}
+use Rattle.xls_data.specs.Formatted.{formatted_number, formatted_whole, plain}
+use Rattle.xls_data.specs.declared.numbers.Number.{Number}
+use Rattle.xls_data.specs.declared.formats.CellFormat.{CellFormat}
 use Rattle.xls_data.specs.Numbers.{number_text, number_trunc, number_trunc_checked, sixteen_digits}
 use Rattle.xls_data.specs.SerialDays.{day_number}
 use Rattle.jiff_core.specs.Calendar.{days_from_civil, day_count, days_of_years, days_of_months}
@@ -65,3 +69,19 @@ pub known_days : (day_number 1904 1 1 ≡ negsuc 24106) × (day_number 1899 12 3
     × (day_number 1899 12 30 ≡ negsuc 25568) × (day_number 9999 12 31 ≡ pos 2932896)
 unfolding days_from_civil day_count days_of_years days_of_months
 known_days = (refl, refl, refl, refl)
+
+-- ---- plain values
+
+-- under every class a number is the same plain value
+pub plain_of_formatted : (class : Option CellFormat) (n : Number) (epoch : Bool) → plain (formatted_number class n epoch) ≡ float n
+plain_of_formatted (Some Other) n epoch = refl
+plain_of_formatted (Some DateTime) n epoch = refl
+plain_of_formatted (Some TimeDelta) n epoch = refl
+plain_of_formatted None n epoch = refl
+
+-- and so is a whole number
+pub plain_of_whole : (class : Option CellFormat) (n : ℤ) (epoch : Bool) → plain (formatted_whole class n epoch) ≡ float (Whole n)
+plain_of_whole (Some Other) n epoch = refl
+plain_of_whole (Some DateTime) n epoch = refl
+plain_of_whole (Some TimeDelta) n epoch = refl
+plain_of_whole None n epoch = refl

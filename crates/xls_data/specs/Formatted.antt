@@ -5,7 +5,7 @@ use Rattle.xls_data.specs.declared.numbers.Number.TheVariants.{Whole}
 use Rattle.xls_data.specs.declared.dates.ExcelDateTimeType.TheVariants as kind
 use Rattle.xls_data.specs.declared.formats.CellFormat.{CellFormat}
 use Rattle.xls_data.specs.declared.formats.CellFormat.TheVariants as class
-use Rattle.xls_data.specs.Content.{Content, int, float, date}
+use Rattle.xls_data.specs.Content.{Content, int, float, text, truth, date, iso_date, iso_duration, failure, nothing}
 use Rattle.xls_data.specs.Dates.{DateParts}
 
 -- the date or span that a number is under a class, if it is one
@@ -29,3 +29,15 @@ formatted_number class n epoch = date_or (date_of class n epoch) (float n)
 -- a whole number: a date or a span, else an int
 abbrev pub formatted_whole : Option CellFormat → ℤ → Bool → Content
 formatted_whole class n epoch = date_or (date_of class (Whole n) epoch) (int n)
+
+-- a value without the class of its format: a number for an int, a date or a span, else the value
+abbrev pub plain : Content → Content
+plain (int n) = float (Whole n)
+plain (float n) = float n
+plain (text t) = text t
+plain (truth b) = truth b
+plain (date d) = float d.number
+plain (iso_date t) = iso_date t
+plain (iso_duration t) = iso_duration t
+plain (failure e) = failure e
+plain nothing = nothing

@@ -1,3 +1,4 @@
 pub mod PieceLemmas
 pub mod ShownLemmas
 pub mod SayingLemmas
+pub mod StandardFacts

@@ -10,14 +10,19 @@ use Rattle.xls_biff.specs.Cells.{Entry}
 use Rattle.xls_dump.specs.Report.{escaped_char, escaped, shown_text, cell_line, sheet_line, sheets_text}
 
 -- one more character
-pub shown-push : (cs : List ℕ) (c : ℕ) → shown_text (cs ++ c ∷ []) ≡ shown_text cs ++ encode_utf8_all (escaped_char c)
+pub shown-push : (cs : List ℕ) (c : ℕ) → shown_text (cs ++ c ∷ []) ≡ shown_text cs
+    ++ encode_utf8_all (escaped_char c)
 shown-push cs c =
-    ap encode_utf8_all (flat_map-append escaped_char cs (c ∷ []) ∙ ap (λ (l : List ℕ). escaped cs ++ l) (append-nil (escaped_char c)))
+    ap encode_utf8_all (flat_map-append escaped_char cs (c ∷ [])
+    ∙ ap (λ (l : List ℕ). escaped cs ++ l) (append-nil (escaped_char c)))
     ∙ encodes-append (escaped cs) (escaped_char c)
 
-pub shown-more : (old text new : List ℕ) (cs : List ℕ) (c : ℕ) → text ≡ old ++ shown_text cs → new ≡ text ++ encode_utf8_all (escaped_char c) → new ≡ old ++ shown_text (cs ++ c ∷ [])
+pub shown-more : (old text new : List ℕ) (cs : List ℕ) (c : ℕ) → text ≡ old ++ shown_text cs
+    → new ≡ text ++ encode_utf8_all (escaped_char c) → new ≡ old ++ shown_text (cs ++ c ∷ [])
 shown-more old text new cs c e f =
-    f ∙ ap (λ (l : List ℕ). l ++ encode_utf8_all (escaped_char c)) e ∙ append_assoc old (shown_text cs) (encode_utf8_all (escaped_char c)) ∙ ap (λ (l : List ℕ). old ++ l) (sym (shown-push cs c))
+    f ∙ ap (λ (l : List ℕ). l ++ encode_utf8_all (escaped_char c)) e
+    ∙ append_assoc old (shown_text cs) (encode_utf8_all (escaped_char c))
+    ∙ ap (λ (l : List ℕ). old ++ l) (sym (shown-push cs c))
 
 -- ---- sheets
 
@@ -31,50 +36,70 @@ take_nothing zero = refl
 take_nothing (suc i) = refl
 
 -- a sheet without values
-push_bare : (ss : List SheetContent) (i : ℕ) (s : SheetContent) → slice_get ss i ≡ Some s → sheets_text (take (suc i) ss) [] ≡ sheets_text (take i ss) [] ++ (sheet_line s ++ [])
+push_bare : (ss : List SheetContent) (i : ℕ) (s : SheetContent) → slice_get ss i ≡ Some s
+    → sheets_text (take (suc i) ss) [] ≡ sheets_text (take i ss) [] ++ (sheet_line s ++ [])
 push_bare [] i s e = absurd (let n : None ≡ Some s = e in cc)
-push_bare (t ∷ ss) zero s e = let same : t ≡ s = cc in ap (λ (x : SheetContent). sheet_line x ++ []) same
+push_bare (t ∷ ss) zero s e = let same : t ≡ s =
+    cc in ap (λ (x : SheetContent). sheet_line x ++ []) same
 push_bare (t ∷ ss) (suc i) s e =
-    ap (λ (l : List ℕ). sheet_line t ++ l) (push_bare ss i s e) ∙ sym (append_assoc (sheet_line t) (sheets_text (take i ss) []) (sheet_line s ++ []))
+    ap (λ (l : List ℕ). sheet_line t ++ l) (push_bare ss i s e)
+    ∙ sym (append_assoc (sheet_line t) (sheets_text (take i ss) []) (sheet_line s ++ []))
 
-push_here : (t s : SheetContent) (v : List Entry) (o : Option (List Entry)) → t ≡ s → Some v ≡ o → (sheet_line t ++ flat_map cell_line v) ++ [] ≡ sheet_line s ++ lines_at o
-push_here t s v o e f = append-nil (sheet_line t ++ flat_map cell_line v) ∙ ap (λ (x : SheetContent). sheet_line x ++ flat_map cell_line v) e ∙ ap (λ (x : Option (List Entry)). sheet_line s ++ lines_at x) f
+push_here : (t s : SheetContent) (v : List Entry) (o : Option (List Entry)) → t ≡ s → Some v ≡ o
+    → (sheet_line t ++ flat_map cell_line v) ++ [] ≡ sheet_line s ++ lines_at o
+push_here t s v o e f =
+    append-nil (sheet_line t ++ flat_map cell_line v)
+    ∙ ap (λ (x : SheetContent). sheet_line x ++ flat_map cell_line v) e
+    ∙ ap (λ (x : Option (List Entry)). sheet_line s ++ lines_at x) f
 
 pub sheets-push : (ss : List SheetContent) (vs : List (List Entry)) (i : ℕ) (s : SheetContent) (o : Option (List Entry)) → slice_get ss i ≡ Some s → slice_get vs i ≡ o
-    → sheets_text (take (suc i) ss) (take (suc i) vs) ≡ sheets_text (take i ss) (take i vs) ++ (sheet_line s ++ lines_at o)
+    → sheets_text (take (suc i) ss) (take (suc i) vs) ≡ sheets_text (take i ss) (take i vs)
+    ++ (sheet_line s ++ lines_at o)
 sheets-push [] vs i s o e f = absurd (let n : None ≡ Some s = e in cc)
 sheets-push (t ∷ ss) [] i s o e f =
     let none : o ≡ None = sym f in
     push_bare (t ∷ ss) i s e
-    ∙ ap (λ (x : Option (List Entry)). sheets_text (take i (t ∷ ss)) [] ++ (sheet_line s ++ lines_at x)) (sym none)
-    ∙ ap (λ (x : List (List Entry)). sheets_text (take i (t ∷ ss)) x ++ (sheet_line s ++ lines_at o)) (sym (take_nothing i))
+    ∙ ap (λ (x : Option (List Entry)). sheets_text (take i (t ∷ ss)) []
+    ++ (sheet_line s ++ lines_at x)) (sym none)
+    ∙ ap (λ (x : List (List Entry)). sheets_text (take i (t ∷ ss)) x
+    ++ (sheet_line s ++ lines_at o)) (sym (take_nothing i))
 sheets-push (t ∷ ss) (v ∷ vs) zero s o e f = let same : t ≡ s = cc in push_here t s v o same f
 sheets-push (t ∷ ss) (v ∷ vs) (suc i) s o e f =
     ap (λ (l : List ℕ). (sheet_line t ++ flat_map cell_line v) ++ l) (sheets-push ss vs i s o e f)
-    ∙ sym (append_assoc (sheet_line t ++ flat_map cell_line v) (sheets_text (take i ss) (take i vs)) (sheet_line s ++ lines_at o))
+    ∙ sym (append_assoc (sheet_line t
+    ++ flat_map cell_line v) (sheets_text (take i ss) (take i vs)) (sheet_line s ++ lines_at o))
 
 -- all of them
-pub sheets-all : (ss : List SheetContent) (vs : List (List Entry)) → sheets_text (take (length ss) ss) (take (length ss) vs) ≡ sheets_text ss vs
+pub sheets-all : (ss : List SheetContent) (vs : List (List Entry))
+    → sheets_text (take (length ss) ss) (take (length ss) vs) ≡ sheets_text ss vs
 sheets-all [] vs = refl
-sheets-all (s ∷ ss) [] = ap (λ (l : List ℕ). sheet_line s ++ l) (ap (sheets_text (take (length ss) ss)) (sym (take_nothing (length ss))) ∙ sheets-all ss [])
-sheets-all (s ∷ ss) (v ∷ vs) = ap (λ (l : List ℕ). (sheet_line s ++ flat_map cell_line v) ++ l) (sheets-all ss vs)
+sheets-all (s ∷ ss) [] =
+    ap (λ (l : List ℕ). sheet_line s
+    ++ l) (ap (sheets_text (take (length ss) ss)) (sym (take_nothing (length ss)))
+    ∙ sheets-all ss [])
+sheets-all (s ∷ ss) (v ∷ vs) =
+    ap (λ (l : List ℕ). (sheet_line s ++ flat_map cell_line v) ++ l) (sheets-all ss vs)
 
 -- one more sheet, and its lines
 pub sheets-more : (front old text new : List ℕ) (ss : List SheetContent) (vs : List (List Entry)) (i : ℕ) (s : SheetContent) (o : Option (List Entry)) → slice_get ss i ≡ Some s → slice_get vs i ≡ o
-    → old ≡ front ++ sheets_text (take i ss) (take i vs) → text ≡ old ++ sheet_line s → new ≡ text ++ lines_at o → new ≡ front ++ sheets_text (take (i + 1) ss) (take (i + 1) vs)
+    → old ≡ front ++ sheets_text (take i ss) (take i vs) → text ≡ old ++ sheet_line s → new ≡ text
+    ++ lines_at o → new ≡ front ++ sheets_text (take (i + 1) ss) (take (i + 1) vs)
 sheets-more front old text new ss vs i s o e f a b c =
     c ∙ ap (λ (l : List ℕ). l ++ lines_at o) (b ∙ ap (λ (l : List ℕ). l ++ sheet_line s) a)
     ∙ append_assoc (front ++ sheets_text (take i ss) (take i vs)) (sheet_line s) (lines_at o)
     ∙ append_assoc front (sheets_text (take i ss) (take i vs)) (sheet_line s ++ lines_at o)
-    ∙ ap (λ (l : List ℕ). front ++ l) (sym (sheets-push ss vs i s o e f) ∙ ap (λ (n : ℕ). sheets_text (take n ss) (take n vs)) (sym (add-one i)))
+    ∙ ap (λ (l : List ℕ). front ++ l) (sym (sheets-push ss vs i s o e f)
+    ∙ ap (λ (n : ℕ). sheets_text (take n ss) (take n vs)) (sym (add-one i)))
 
 -- ---- look-ups
 
 -- what stands at an index of a list that was mapped
-pub mapped : {X Y : Type 0} (f : X → Y) (xs : List X) (ys : List Y) (i : ℕ) (x : X) → i < length xs → x ≡ get_or xs i x → map f xs ≡ ys → slice_get ys i ≡ Some (f x)
+pub mapped : {X Y : Type 0} (f : X → Y) (xs : List X) (ys : List Y) (i : ℕ) (x : X) → i < length xs
+    → x ≡ get_or xs i x → map f xs ≡ ys → slice_get ys i ≡ Some (f x)
 mapped {X} {Y} f xs ys i x l e m = ap (λ (zs : List Y). slice_get zs i) (sym m) ∙ at_index xs i l e
   where
-    at_index : (zs : List X) (k : ℕ) → k < length zs → x ≡ get_or zs k x → slice_get (map f zs) k ≡ Some (f x)
+    at_index : (zs : List X) (k : ℕ) → k < length zs → x ≡ get_or zs k x
+        → slice_get (map f zs) k ≡ Some (f x)
     at_index [] k l e = absurd (omega arith)
     at_index (z ∷ zs) zero l e = ap (λ (w : X). Some (f w)) (sym e)
     at_index (z ∷ zs) (suc k) l e = at_index zs k (omega arith) e
@@ -85,6 +110,9 @@ nothing_behind (x ∷ xs) zero l = absurd (omega arith)
 nothing_behind (x ∷ xs) (suc i) l = nothing_behind xs i (omega arith)
 
 -- the whole report
-pub report-all : (front text : List ℕ) (ss : List SheetContent) (vs : List (List Entry)) (i : ℕ) → i ≡ length ss → text ≡ front ++ sheets_text (take i ss) (take i vs) → text ≡ front ++ sheets_text ss vs
+pub report-all : (front text : List ℕ) (ss : List SheetContent) (vs : List (List Entry)) (i : ℕ)
+    → i ≡ length ss → text ≡ front ++ sheets_text (take i ss) (take i vs) → text ≡ front
+    ++ sheets_text ss vs
 report-all front text ss vs i e t =
-    t ∙ ap (λ (n : ℕ). front ++ sheets_text (take n ss) (take n vs)) e ∙ ap (λ (l : List ℕ). front ++ l) (sheets-all ss vs)
+    t ∙ ap (λ (n : ℕ). front ++ sheets_text (take n ss) (take n vs)) e
+    ∙ ap (λ (l : List ℕ). front ++ l) (sheets-all ss vs)

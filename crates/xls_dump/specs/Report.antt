@@ -83,7 +83,8 @@ visible_text states.VeryHidden = codes "veryhidden"
 
 -- name, kind and visibility of a sheet
 abbrev pub sheet_line : SheetContent → List ℕ
-sheet_line s = codes "sheet\t" ++ shown_text s.name ++ codes "\t" ++ type_text s.typ ++ codes "\t" ++ visible_text s.visible ++ codes "\n"
+sheet_line s = codes "sheet\t" ++ shown_text s.name ++ codes "\t" ++ type_text s.typ ++ codes "\t"
+    ++ visible_text s.visible ++ codes "\n"
 
 -- the line of each sheet, and behind it those of its cells
 abbrev pub sheets_text : List SheetContent → List (List Entry) → List ℕ

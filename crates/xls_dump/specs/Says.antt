@@ -11,11 +11,15 @@ use Rattle.xls_dump.specs.declared.command.Command.TheVariants.{Dump}
 
 -- the text of a command that is done
 abbrev pub Tells : Command → Option (List ℕ) → List ℕ → Type 0
-Tells Dump left text = IfSome left (λ bytes. (book : Workbook) × IsOpened default_options book bytes × (text ≡ report book))
+Tells Dump left text =
+    IfSome left (λ bytes. (book : Workbook) × IsOpened default_options book bytes
+    × (text ≡ report book))
 
 -- the line of a command whose input is refused
 abbrev pub Refuses : Command → Option (List ℕ) → List ℕ → Type 0
-Refuses Dump left text = IfSome left (λ bytes. (e : XlsError) × FirstFault default_options bytes e × (text ≡ fault_line e))
+Refuses Dump left text =
+    IfSome left (λ bytes. (e : XlsError) × FirstFault default_options bytes e
+    × (text ≡ fault_line e))
 
 -- either of them
 abbrev pub Says : Command → Option (List ℕ) → List ℕ → Type 0

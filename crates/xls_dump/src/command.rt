@@ -14,7 +14,8 @@ pub enum Command {
 
 /// What the words ask for, if they are those of a command.
 pub fn command_of(words: &[String]) -> Option<Command>
-    ensures { MatchOption result ((c : Command) → IsCommand (map string_bytes words.now) c → ⊥) (IsCommand (map string_bytes words.now)) }
+    ensures { MatchOption result ((c : Command) → IsCommand (map string_bytes words.now) c
+        → ⊥) (IsCommand (map string_bytes words.now)) }
 {
     match words {
         [] => Some(Command::Dump),

@@ -47,7 +47,14 @@ impl MemorySink {
         failing: Vec<u64>,
     ) -> Result<MemorySink, AllocError>
         requires { 1 ≤ chunk }
-        ensures { IfOk result (λ s. s ≡ record { text = []; room = room; chunk = chunk; failing = failing.items; call = 0; faults = 0 }) }
+        ensures { IfOk result (λ s. s ≡ record {
+          text = [];
+          room = room;
+          chunk = chunk;
+          failing = failing.items;
+          call = 0;
+          faults = 0;
+        }) }
     {
         Ok(MemorySink {
             text: Vec::with_capacity(alloc, room)?,
@@ -80,15 +87,18 @@ impl Sink for MemorySink {
         ensures cause { HasCause self.old.faults self.new.faults result }
 
         // A call fails exactly where its number is listed or the room is used up.
-        ensures fails { IsErr result ↔ (Contains self.old.failing self.old.call ⊎ (self.old.room ≤ length self.old.text)) }
+        ensures fails { IsErr result
+            ↔ (Contains self.old.failing self.old.call ⊎ (self.old.room ≤ length self.old.text)) }
         ensures count { IfOk result (λ n. n ≡ min self.old.chunk (min (length piece.now) (self.old.room - length self.old.text))) }
         ensures steady { OnOk result (self.new.faults ≡ self.old.faults) }
         ensures calls { self.new.call ≡ min (self.old.call + 1) (2 ^ 64 - 1) }
-        ensures kept { (n : ℕ) → 0 < length piece.now → length piece.now ≤ n → (self.old.failing ≡ []) × (length self.old.text + n ≤ self.old.room)
+        ensures kept { (n : ℕ) → 0 < length piece.now → length piece.now ≤ n
+            → (self.old.failing ≡ []) × (length self.old.text + n ≤ self.old.room)
             → IsOk result × IfOk result (λ k. (self.new.failing ≡ []) × (length self.new.text + (n - k) ≤ self.new.room)) × (self.new.faults ≡ self.old.faults) }
 
         // Room, chunk and the listed calls stay.
-        ensures same { (self.new.room ≡ self.old.room) × (self.new.chunk ≡ self.old.chunk) × (self.new.failing ≡ self.old.failing) }
+        ensures same { (self.new.room ≡ self.old.room) × (self.new.chunk ≡ self.old.chunk)
+            × (self.new.failing ≡ self.old.failing) }
     {
         let call = self.call;
         self.call = call.saturating_add(1);

@@ -14,7 +14,8 @@ use xls_data::{Data, Sheet, SheetType, SheetVisible};
 
 /// Appends a character, or the two that stand for it.
 fn push_char(text: &mut String, c: char) -> Result<(), AllocError>
-    ensures { IfOk result (λ _. string_bytes text.new ≡ string_bytes text.old ++ encode_utf8_all (escaped_char c)) }
+    ensures { IfOk result (λ _. string_bytes text.new ≡ string_bytes text.old
+        ++ encode_utf8_all (escaped_char c)) }
 {
     match c {
         '\\' => text.push_str("\\\\"),
@@ -27,7 +28,8 @@ fn push_char(text: &mut String, c: char) -> Result<(), AllocError>
 
 /// Appends a text with its backslashes, newlines, returns and tabs escaped.
 fn push_text(text: &mut String, shown: &str) -> Result<(), AllocError>
-    ensures { IfOk result (λ _. string_bytes text.new ≡ string_bytes text.old ++ shown_text (chars shown.now)) }
+    ensures { IfOk result (λ _. string_bytes text.new ≡ string_bytes text.old
+        ++ shown_text (chars shown.now)) }
 {
     for c in shown.chars() {
         push_char(text, c)?;
@@ -43,7 +45,9 @@ fn push_shown(
     kind: &str,
     shown: &str,
 ) -> Result<(), AllocError>
-    ensures { IfOk result (λ _. string_bytes text.new ≡ string_bytes text.old ++ (place_text row column ++ (kind.now ++ codes "\t" ++ shown_text (chars shown.now)) ++ codes "\n")) }
+    ensures { IfOk result (λ _. string_bytes text.new ≡ string_bytes text.old
+        ++ (place_text row column ++ (kind.now ++ codes "\t" ++ shown_text (chars shown.now))
+        ++ codes "\n")) }
 {
     write!(text, "cell\t{row}\t{column}\t{kind}\t")?;
     push_text(text, shown)?;
@@ -59,7 +63,8 @@ fn date_kind(is_span: bool) -> &'static str
 
 /// Appends the line of a cell.
 fn push_cell(text: &mut String, row: u32, column: u32, value: &Data) -> Result<(), AllocError>
-    ensures { IfOk result (λ _. string_bytes text.new ≡ string_bytes text.old ++ cell_line ((row, column), content_of value.now)) }
+    ensures { IfOk result (λ _. string_bytes text.new ≡ string_bytes text.old
+        ++ cell_line ((row, column), content_of value.now)) }
 {
     match value {
         Data::Int(n) => write!(text, "cell\t{row}\t{column}\tint\t{n}\n"),
@@ -79,7 +84,8 @@ fn push_cell(text: &mut String, row: u32, column: u32, value: &Data) -> Result<(
 
 /// Appends the lines of a sheet's cells.
 fn push_values(text: &mut String, values: Values<'_>) -> Result<(), AllocError>
-    ensures { IfOk result (λ _. string_bytes text.new ≡ string_bytes text.old ++ flat_map cell_line values.entry) }
+    ensures { IfOk result (λ _. string_bytes text.new ≡ string_bytes text.old
+        ++ flat_map cell_line values.entry) }
 {
     for (row, column, value) in values {
         push_cell(text, row, column, value)?;
@@ -113,7 +119,8 @@ fn visible_word(visible: SheetVisible) -> &'static str
 
 /// Appends the line of a sheet.
 fn push_sheet(text: &mut String, sheet: &Sheet) -> Result<(), AllocError>
-    ensures { IfOk result (λ _. string_bytes text.new ≡ string_bytes text.old ++ sheet_line (sheet_content sheet.now)) }
+    ensures { IfOk result (λ _. string_bytes text.new ≡ string_bytes text.old
+        ++ sheet_line (sheet_content sheet.now)) }
 {
     text.push_str("sheet\t")?;
     push_text(text, sheet.name.as_str())?;

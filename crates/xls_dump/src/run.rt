@@ -33,7 +33,8 @@ pub fn run<S: Source, K: Sink>(alloc: Global, words: &[String], source: &mut S, 
     ensures untouched { result ≡ 2 → (source.new ≡ source.old) × (sink.new ≡ sink.old) }
 
     // A command that reads nothing leaves the source as it was, whatever its status.
-    ensures unread { (result ≡ 2 → ⊥) → (c : Command) × IsCommand (map string_bytes words.now) c × (IsUnread c → source.new ≡ source.old) }
+    ensures unread { (result ≡ 2 → ⊥) → (c : Command) × IsCommand (map string_bytes words.now) c
+        × (IsUnread c → source.new ≡ source.old) }
 
     // 3: the source failed, and nothing was written.
     ensures read_fault { result ≡ 3 → Rose (S.faults source.old) (S.faults source.new) }

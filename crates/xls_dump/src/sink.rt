@@ -38,7 +38,8 @@ pub fn write_all<K: Sink>(sink: &mut K, piece: &[u8]) -> Result<(), WriteFault>
     ensures ok { OnOk result (Appends (K.written sink.old) (K.written sink.new) piece.now) }
     ensures front { AppendsFront (K.written sink.old) (K.written sink.new) piece.now }
     ensures cause { HasCause (K.faults sink.old) (K.faults sink.new) result }
-    ensures kept { (n : ℕ) → length piece.now ≤ n → K.takes sink.old n → IsOk result × (K.faults sink.new ≡ K.faults sink.old) }
+    ensures kept { (n : ℕ) → length piece.now ≤ n → K.takes sink.old n → IsOk result
+        × (K.faults sink.new ≡ K.faults sink.old) }
 {
     let mut at = 0;
     while at < piece.len() {

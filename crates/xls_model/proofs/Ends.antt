@@ -11,24 +11,33 @@ use Rattle.xls_model.proofs.Unique.{size_is}
 use Rattle.xls_model.proofs.Total.{runs, no_others}
 
 -- a whole group at the front is longer than its first record says
-longer : (bytes : List ℕ) (g : Group) (after : List ℕ) → bytes ≡ group_bytes g ++ after → IsGroup g → 4 + le (take 2 (drop 2 bytes)) ≤ length bytes
+longer : (bytes : List ℕ) (g : Group) (after : List ℕ) → bytes ≡ group_bytes g ++ after → IsGroup g
+    → 4 + le (take 2 (drop 2 bytes)) ≤ length bytes
 longer bytes g after w f =
-    let whole : bytes ≡ enc g.typ g.body ++ (continues g.tail ++ after) = w ∙ append_assoc (enc g.typ g.body) (continues g.tail) after in
-    let size : le (take 2 (drop 2 bytes)) ≡ length g.body = ap (λ (x : List ℕ). le (take 2 (drop 2 x))) whole ∙ size_is g.typ g.body (continues g.tail ++ after) f.body in
+    let whole : bytes ≡ enc g.typ g.body ++ (continues g.tail ++ after) =
+    w ∙ append_assoc (enc g.typ g.body) (continues g.tail) after in
+    let size : le (take 2 (drop 2 bytes)) ≡ length g.body =
+    ap (λ (x : List ℕ). le (take 2 (drop 2 x))) whole
+    ∙ size_is g.typ g.body (continues g.tail ++ after) f.body in
     omega (arith, ap length whole, length-append g.body (continues g.tail ++ after))
 
-continue_is_long : (bytes : List ℕ) → Cut bytes ContinueLength → 4 + le (take 2 (drop 2 bytes)) ≤ length bytes
+continue_is_long : (bytes : List ℕ) → Cut bytes ContinueLength
+    → 4 + le (take 2 (drop 2 bytes)) ≤ length bytes
 continue_is_long bytes c = longer bytes c.0 c.1 c.2.whole c.2.fits
 
 pub one_cut : (bytes : List ℕ) (p q : Part) → Cut bytes p → Cut bytes q → p ≡ q
 one_cut bytes RecordHeader RecordHeader a b = refl
 one_cut bytes RecordHeader RecordLength a b = let h = b.header in absurd (omega arith)
-one_cut bytes RecordHeader ContinueLength a b = let h = continue_is_long bytes b in absurd (omega arith)
+one_cut bytes RecordHeader ContinueLength a b = let h =
+    continue_is_long bytes b in absurd (omega arith)
 one_cut bytes RecordLength RecordHeader a b = let h = a.header in absurd (omega arith)
 one_cut bytes RecordLength RecordLength a b = refl
-one_cut bytes RecordLength ContinueLength a b = let h = continue_is_long bytes b in let s = a.short in absurd (omega arith)
-one_cut bytes ContinueLength RecordHeader a b = let h = continue_is_long bytes a in absurd (omega arith)
-one_cut bytes ContinueLength RecordLength a b = let h = continue_is_long bytes a in let s = b.short in absurd (omega arith)
+one_cut bytes RecordLength ContinueLength a b = let h = continue_is_long bytes b in let s =
+    a.short in absurd (omega arith)
+one_cut bytes ContinueLength RecordHeader a b = let h =
+    continue_is_long bytes a in absurd (omega arith)
+one_cut bytes ContinueLength RecordLength a b = let h = continue_is_long bytes a in let s =
+    b.short in absurd (omega arith)
 one_cut bytes ContinueLength ContinueLength a b = refl
 one_cut bytes RecordHeader other a b = absurd b
 one_cut bytes RecordLength other a b = absurd b
@@ -51,12 +60,21 @@ pub over : (rest : List ℕ) (s : Option Part) → AtEnd rest s → IsOver rest
 over rest None a = inl a
 over rest (Some p) a = inr (p, a)
 
-pub one_groups : (bytes : List ℕ) (gs hs : List Group) (s t : Option Part) → Groups bytes gs s → Groups bytes hs t → (gs ≡ hs) × (s ≡ t)
+pub one_groups : (bytes : List ℕ) (gs hs : List Group) (s t : Option Part) → Groups bytes gs s
+    → Groups bytes hs t → (gs ≡ hs) × (s ≡ t)
 one_groups bytes gs hs s t a b =
     let same = no_others bytes gs hs a.rest b.rest a.run b.run (over a.rest s a.end) (over b.rest t b.end) in
     (same.0, one_end b.rest s t (subst (λ (x : List ℕ). AtEnd x s) same.1 a.end) b.end)
 
-pub has_groups : (bytes : List ℕ) → IsBytes bytes → (groups : List Group) × (stop : Option Part) × Groups bytes groups stop
+pub has_groups : (bytes : List ℕ) → IsBytes bytes → (groups : List Group) × (stop : Option Part)
+    × Groups bytes groups stop
 has_groups bytes fits =
     let w = runs bytes fits in
-    elim w.3 [ inl e ↦ (w.0, None, record { rest = w.1; run = w.2; end = e }) | inr c ↦ (w.0, Some c.0, record { rest = w.1; run = w.2; end = c.1 }) ]
+    elim w.3 [
+      | inl e ↦ (w.0, None, record { rest = w.1; run = w.2; end = e })
+      | inr c ↦ (
+        w.0,
+        Some c.0,
+        record { rest = w.1; run = w.2; end = c.1 },
+      )
+    ]

@@ -10,26 +10,43 @@ use Rattle.xls_model.specs.Listing.{Kept, kept_of, IsPart, IsSheetPart, is_globa
 use Rattle.xls_model.proofs.Shapes.{drop_bytes, one_globals_part}
 use Rattle.xls_model.proofs.Shapes as shapes
 
-has_part : (part : List ℕ) → IsBytes part → (kept : List Kept) × (cut : Option Part) × IsPart part kept cut
-has_part part fits = let f = (shapes.one_sheet_part part fits).some in (kept_of f.0, f.1, (f.0, f.2, refl))
+has_part : (part : List ℕ) → IsBytes part → (kept : List Kept) × (cut : Option Part)
+    × IsPart part kept cut
+has_part part fits = let f =
+    (shapes.one_sheet_part part fits).some in (kept_of f.0, f.1, (f.0, f.2, refl))
 
-pub one_part : (part : List ℕ) → IsBytes part → (k l : List Kept) (c d : Option Part) → IsPart part k c → IsPart part l d → (k ≡ l) × (c ≡ d)
+pub one_part : (part : List ℕ) → IsBytes part → (k l : List Kept) (c d : Option Part)
+    → IsPart part k c → IsPart part l d → (k ≡ l) × (c ≡ d)
 one_part part fits k l c d a b =
     let same = (shapes.one_sheet_part part fits).same a.0 b.0 c d a.1 b.1 in
     (a.2 ∙ ap kept_of same.0 ∙ sym b.2, same.1)
 
-has_sheet_part : (bytes : List ℕ) (offset : ℕ) → IsBytes bytes → (kept : List Kept) × (cut : Option Part) × IsSheetPart bytes offset kept cut
+has_sheet_part : (bytes : List ℕ) (offset : ℕ) → IsBytes bytes → (kept : List Kept)
+    × (cut : Option Part) × IsSheetPart bytes offset kept cut
 has_sheet_part bytes offset fits =
     elim (cases_lt (length bytes) offset) [
       | inl lt ↦ ([], Some SheetOffset, inr (lt, refl, refl))
-      | inr ge ↦ let p = has_part (drop offset bytes) (drop_bytes offset bytes fits) in (p.0, p.1, inl (ge, p.2))
+      | inr ge ↦ let p = has_part (drop offset bytes) (drop_bytes offset bytes fits) in (
+        p.0,
+        p.1,
+        inl (ge, p.2),
+      )
     ]
 
-pub one_sheet_part : (bytes : List ℕ) → IsBytes bytes → (offset : ℕ) (k l : List Kept) (c d : Option Part) → IsSheetPart bytes offset k c → IsSheetPart bytes offset l d → (k ≡ l) × (c ≡ d)
+pub one_sheet_part : (bytes : List ℕ) → IsBytes bytes
+    → (offset : ℕ) (k l : List Kept) (c d : Option Part) → IsSheetPart bytes offset k c
+    → IsSheetPart bytes offset l d → (k ≡ l) × (c ≡ d)
 one_sheet_part bytes fits offset k l c d a b =
     elim a [
       | inl p ↦ elim b [ inl q ↦ one_part (drop offset bytes) (drop_bytes offset bytes fits) k l c d p.1 q.1 | inr q ↦ let l = p.0 in let m = q.0 in absurd (omega arith) ]
-      | inr p ↦ elim b [ inl q ↦ let l = p.0 in let m = q.0 in absurd (omega arith) | inr q ↦ (p.1 ∙ sym q.1, p.2 ∙ sym q.2) ]
+      | inr p ↦ elim b [
+        | inl q ↦ let l = p.0 in let m = q.0 in absurd (omega arith)
+        | inr q ↦ (
+          p.1
+              ∙ sym q.1,
+          p.2 ∙ sym q.2,
+        )
+      ]
     ]
 
 -- ---- items
@@ -37,12 +54,17 @@ one_sheet_part bytes fits offset k l c d a b =
 pub has_item : (bytes : List ℕ) (g : Group) → IsBytes bytes → (i : Item) × IsItem bytes g i
 has_item bytes g fits =
     elim (cases_eq g.typ 133) [
-      | inl e ↦ let p = has_sheet_part bytes (offset_at g.body) fits in (sheet_item g.body p.0 p.1, (e, refl, p.2))
+      | inl e ↦ let p = has_sheet_part bytes (offset_at g.body) fits in (
+        sheet_item g.body p.0 p.1,
+        (e, refl, p.2),
+      )
       | inr n ↦ (plain_item g.typ g.body, (n, refl, refl))
     ]
 
-one_item : (bytes : List ℕ) → IsBytes bytes → (g : Group) (i j : Item) → IsItem bytes g i → IsItem bytes g j → i ≡ j
-one_item bytes fits g (plain_item t x) (plain_item u y) a b = let e : t ≡ u = a.1 ∙ sym b.1 in let f : x ≡ y = a.2 ∙ sym b.2 in cc
+one_item : (bytes : List ℕ) → IsBytes bytes → (g : Group) (i j : Item) → IsItem bytes g i
+    → IsItem bytes g j → i ≡ j
+one_item bytes fits g (plain_item t x) (plain_item u y) a b = let e : t ≡ u =
+    a.1 ∙ sym b.1 in let f : x ≡ y = a.2 ∙ sym b.2 in cc
 one_item bytes fits g (plain_item t x) (sheet_item y k c) a b = absurd (a.0 b.0)
 one_item bytes fits g (sheet_item y k c) (plain_item t x) a b = absurd (b.0 a.0)
 one_item bytes fits g (sheet_item x k c) (sheet_item y l d) a b =
@@ -52,32 +74,39 @@ one_item bytes fits g (sheet_item x k c) (sheet_item y l d) a b =
     let h : c ≡ d = same.1 in
     cc
 
-pub has_items : (bytes : List ℕ) → IsBytes bytes → (gs : List Group) → (items : List Item) × AllZip (IsItem bytes) gs items
+pub has_items : (bytes : List ℕ) → IsBytes bytes → (gs : List Group) → (items : List Item)
+    × AllZip (IsItem bytes) gs items
 has_items bytes fits [] = ([], tt)
 has_items bytes fits (g ∷ gs) =
     let i = has_item bytes g fits in
     let is = has_items bytes fits gs in
     (i.0 ∷ is.0, (i.1, is.1))
 
-one_items : (bytes : List ℕ) → IsBytes bytes → (gs : List Group) (is js : List Item) → AllZip (IsItem bytes) gs is → AllZip (IsItem bytes) gs js → is ≡ js
+one_items : (bytes : List ℕ) → IsBytes bytes → (gs : List Group) (is js : List Item)
+    → AllZip (IsItem bytes) gs is → AllZip (IsItem bytes) gs js → is ≡ js
 one_items bytes fits [] [] [] a b = refl
 one_items bytes fits [] [] (j ∷ js) a b = absurd b
 one_items bytes fits [] (i ∷ is) js a b = absurd a
 one_items bytes fits (g ∷ gs) [] js a b = absurd a
 one_items bytes fits (g ∷ gs) (i ∷ is) [] a b = absurd b
 one_items bytes fits (g ∷ gs) (i ∷ is) (j ∷ js) a b =
-    ap (λ (x : Item). x ∷ is) (one_item bytes fits g i j a.0 b.0) ∙ ap (λ (xs : List Item). j ∷ xs) (one_items bytes fits gs is js a.1 b.1)
+    ap (λ (x : Item). x ∷ is) (one_item bytes fits g i j a.0 b.0)
+    ∙ ap (λ (xs : List Item). j ∷ xs) (one_items bytes fits gs is js a.1 b.1)
 
-pub has_holds : (bytes : List ℕ) → IsBytes bytes → (items : List Item) × (cut : Option Part) × Holds bytes items cut
+pub has_holds : (bytes : List ℕ) → IsBytes bytes → (items : List Item) × (cut : Option Part)
+    × Holds bytes items cut
 has_holds bytes fits =
     let f = (one_globals_part bytes fits).some in
     let is = has_items bytes fits (filter is_globals_type f.0) in
     (is.0, f.1, record { groups = f.0; globals = f.2; items_are = is.1 })
 
-pub one_holds : (bytes : List ℕ) → IsBytes bytes → (is js : List Item) (c d : Option Part) → Holds bytes is c → Holds bytes js d → (is ≡ js) × (c ≡ d)
+pub one_holds : (bytes : List ℕ) → IsBytes bytes → (is js : List Item) (c d : Option Part)
+    → Holds bytes is c → Holds bytes js d → (is ≡ js) × (c ≡ d)
 one_holds bytes fits is js c d a b =
     let same = (one_globals_part bytes fits).same a.groups b.groups c d a.globals b.globals in
     (one_items bytes fits (filter is_globals_type b.groups) is js (subst (λ (x : List Group). AllZip (IsItem bytes) (filter is_globals_type x) is) same.0 a.items_are) b.items_are, same.1)
 
-pub one_list : (bytes : List ℕ) → IsBytes bytes → (l m : List Entry) → Carries bytes l → Carries bytes m → l ≡ m
-one_list bytes fits l m a b = a.entries_are ∙ ap (map entry_of) (one_holds bytes fits a.items b.items None None a.holds b.holds).0 ∙ sym b.entries_are
+pub one_list : (bytes : List ℕ) → IsBytes bytes → (l m : List Entry) → Carries bytes l
+    → Carries bytes m → l ≡ m
+one_list bytes fits l m a b =
+    a.entries_are ∙ ap (map entry_of) (one_holds bytes fits a.items b.items None None a.holds b.holds).0 ∙ sym b.entries_are

@@ -9,3 +9,4 @@ pub mod Shapes
 pub mod HoldingLemmas
 pub mod StringUnits
 pub mod TableReadings
+pub mod StandardFacts

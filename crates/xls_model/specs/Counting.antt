@@ -44,7 +44,8 @@ globals_of [] cut = ([], cut)
 globals_of (g ∷ gs) cut = if g.typ == EOF then ([], None) else with_group g (globals_of gs cut)
 
 -- the groups of these bytes and their end give these
-pub record From (found : List Group → Option Part → Found) (bytes : List ℕ) (groups : List Group) (cut : Option Part) : Type 0 where
+pub record From (found : List Group → Option Part
+    → Found) (bytes : List ℕ) (groups : List Group) (cut : Option Part) : Type 0 where
   pub all : List Group
   pub stop : Option Part
   pub walk : Groups bytes all stop

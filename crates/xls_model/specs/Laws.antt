@@ -8,32 +8,40 @@ use Rattle.xls_model.specs.declared.part.Part.{Part}
 
 -- each list of bytes is some groups, and then it is over
 abbrev pub HasRun : Type 0
-HasRun = (bytes : List ℕ) → IsBytes bytes → (gs : List Group) × (rest : List ℕ) × Run bytes gs rest × IsOver rest
+HasRun = (bytes : List ℕ) → IsBytes bytes → (gs : List Group) × (rest : List ℕ) × Run bytes gs rest
+    × IsOver rest
 
 -- and no others
 abbrev pub OneRun : Type 0
-OneRun = (bytes : List ℕ) (gs hs : List Group) (r s : List ℕ) → Run bytes gs r → Run bytes hs s → IsOver r → IsOver s → (gs ≡ hs) × (r ≡ s)
+OneRun = (bytes : List ℕ) (gs hs : List Group) (r s : List ℕ) → Run bytes gs r → Run bytes hs s
+    → IsOver r → IsOver s → (gs ≡ hs) × (r ≡ s)
 
 -- each list of bytes is some groups and ends in some way
 abbrev pub HasGroups : Type 0
-HasGroups = (bytes : List ℕ) → IsBytes bytes → (groups : List Group) × (stop : Option Part) × Groups bytes groups stop
+HasGroups = (bytes : List ℕ) → IsBytes bytes → (groups : List Group) × (stop : Option Part)
+    × Groups bytes groups stop
 
 -- and in no other
 abbrev pub OneGroups : Type 0
-OneGroups = (bytes : List ℕ) (gs hs : List Group) (s t : Option Part) → Groups bytes gs s → Groups bytes hs t → (gs ≡ hs) × (s ≡ t)
+OneGroups = (bytes : List ℕ) (gs hs : List Group) (s t : Option Part) → Groups bytes gs s
+    → Groups bytes hs t → (gs ≡ hs) × (s ≡ t)
 
 -- the grammar of a sheet part and the count of open substreams find the same
 abbrev pub SameParts : Type 0
-SameParts = (bytes : List ℕ) (outer : List Group) (cut : Option Part) → IsBytes bytes → SheetPart bytes outer cut ↔ From (found_from 0) bytes outer cut
+SameParts = (bytes : List ℕ) (outer : List Group) (cut : Option Part) → IsBytes bytes
+    → SheetPart bytes outer cut ↔ From (found_from 0) bytes outer cut
 
 -- likewise the globals with their first EOF and the walk to the end
 abbrev pub SameGlobals : Type 0
-SameGlobals = (bytes : List ℕ) (groups : List Group) (cut : Option Part) → IsBytes bytes → GlobalsPart bytes groups cut ↔ From globals_of bytes groups cut
+SameGlobals = (bytes : List ℕ) (groups : List Group) (cut : Option Part) → IsBytes bytes
+    → GlobalsPart bytes groups cut ↔ From globals_of bytes groups cut
 
 -- a list of bytes begins with some part of this kind, whole or broken, and with no other
-pub record HasOne (IsPart : List ℕ → List Group → Option Part → Type 0) (bytes : List ℕ) : Type 0 where
+pub record HasOne (IsPart : List ℕ → List Group → Option Part
+    → Type 0) (bytes : List ℕ) : Type 0 where
   pub some : (groups : List Group) × (cut : Option Part) × IsPart bytes groups cut
-  pub same : (gs hs : List Group) (c d : Option Part) → IsPart bytes gs c → IsPart bytes hs d → (gs ≡ hs) × (c ≡ d)
+  pub same : (gs hs : List Group) (c d : Option Part) → IsPart bytes gs c → IsPart bytes hs d
+      → (gs ≡ hs) × (c ≡ d)
 
 abbrev pub OneSheetPart : Type 0
 OneSheetPart = (bytes : List ℕ) → IsBytes bytes → HasOne SheetPart bytes

@@ -40,7 +40,9 @@ IsPart part kept cut = (outer : List Group) × SheetPart part outer cut × (kept
 
 -- likewise the part at this offset; one past the end is none, and cut there
 abbrev pub IsSheetPart : List ℕ → ℕ → List Kept → Option Part → Type 0
-IsSheetPart bytes offset kept cut = ((offset ≤ length bytes) × IsPart (drop offset bytes) kept cut) ⊎ ((length bytes < offset) × (kept ≡ []) × (cut ≡ Some SheetOffset))
+IsSheetPart bytes offset kept cut =
+    ((offset ≤ length bytes) × IsPart (drop offset bytes) kept cut)
+    ⊎ ((length bytes < offset) × (kept ≡ []) × (cut ≡ Some SheetOffset))
 
 -- ---- the globals
 
@@ -60,8 +62,10 @@ pub data Item : Type 0 where
   sheet_item : (body : List ℕ) (kept : List Kept) (cut : Option Part) → Item
 
 abbrev pub IsItem : List ℕ → Group → Item → Type 0
-IsItem bytes g (plain_item typ body) = (g.typ ≢ types.BOUND_SHEET_8) × (typ ≡ g.typ) × (body ≡ g.body)
-IsItem bytes g (sheet_item body kept cut) = (g.typ ≡ types.BOUND_SHEET_8) × (body ≡ g.body) × IsSheetPart bytes (offset_at g.body) kept cut
+IsItem bytes g (plain_item typ body) =
+    (g.typ ≢ types.BOUND_SHEET_8) × (typ ≡ g.typ) × (body ≡ g.body)
+IsItem bytes g (sheet_item body kept cut) =
+    (g.typ ≡ types.BOUND_SHEET_8) × (body ≡ g.body) × IsSheetPart bytes (offset_at g.body) kept cut
 
 -- the records of the globals with their sheets, and how the globals are cut
 pub record Holds (bytes : List ℕ) (items : List Item) (cut : Option Part) : Type 0 where
@@ -79,7 +83,8 @@ pub data Entry : Type 0 where
 
 abbrev pub entry_of : Item → Entry
 entry_of (plain_item typ body) = plain_entry typ body
-entry_of (sheet_item body kept cut) = sheet_entry (slice_index body 4) (slice_index body 5) (drop 6 body) kept
+entry_of (sheet_item body kept cut) =
+    sheet_entry (slice_index body 4) (slice_index body 5) (drop 6 body) kept
 
 -- a sheet's BoundSheet8 is long enough, and its part isn't cut
 abbrev pub IsWhole : Item → Type 0
@@ -97,12 +102,15 @@ pub record Carries (bytes : List ℕ) (entries : List Entry) : Type 0 where
 
 -- a stream holds some items and ends in some way
 abbrev pub HasHolding : Type 0
-HasHolding = (bytes : List ℕ) → IsBytes bytes → (items : List Item) × (cut : Option Part) × Holds bytes items cut
+HasHolding = (bytes : List ℕ) → IsBytes bytes → (items : List Item) × (cut : Option Part)
+    × Holds bytes items cut
 
 -- and no others
 abbrev pub OneHolding : Type 0
-OneHolding = (bytes : List ℕ) → IsBytes bytes → (is js : List Item) (c d : Option Part) → Holds bytes is c → Holds bytes js d → (is ≡ js) × (c ≡ d)
+OneHolding = (bytes : List ℕ) → IsBytes bytes → (is js : List Item) (c d : Option Part)
+    → Holds bytes is c → Holds bytes js d → (is ≡ js) × (c ≡ d)
 
 -- a stream carries at most one list
 abbrev pub OneList : Type 0
-OneList = (bytes : List ℕ) → IsBytes bytes → (l m : List Entry) → Carries bytes l → Carries bytes m → l ≡ m
+OneList = (bytes : List ℕ) → IsBytes bytes → (l m : List Entry) → Carries bytes l → Carries bytes m
+    → l ≡ m

@@ -71,8 +71,10 @@ pub data Shape : Type 0 where
 abbrev pub IsShape : Shape → Type 0
 IsShape (bare_closed front eof) = AllByRecursion IsPlain front × IsEof eof
 IsShape (bare_open front) = AllByRecursion IsPlain front
-IsShape (own_closed front bof items eof) = AllByRecursion IsPlain front × IsBof bof × AreItems items × IsEof eof
-IsShape (own_open front bof items deeper) = AllByRecursion IsPlain front × IsBof bof × AreItems items × IsOpen deeper
+IsShape (own_closed front bof items eof) =
+    AllByRecursion IsPlain front × IsBof bof × AreItems items × IsEof eof
+IsShape (own_open front bof items deeper) =
+    AllByRecursion IsPlain front × IsBof bof × AreItems items × IsOpen deeper
 
 abbrev pub groups_in : Shape → List Group
 groups_in (bare_closed front eof) = front ++ eof ∷ []
@@ -112,4 +114,5 @@ IsNotEof g = g.typ ≢ EOF
 pub record GlobalsPart (bytes : List ℕ) (groups : List Group) (cut : Option Part) : Type 0 where
   pub no_eof : AllByRecursion IsNotEof groups
   pub rest : List ℕ
-  pub ends : ((eof : Group) × IsEof eof × Run bytes (groups ++ eof ∷ []) rest × (cut ≡ None)) ⊎ (Run bytes groups rest × AtEnd rest cut)
+  pub ends : ((eof : Group) × IsEof eof × Run bytes (groups ++ eof ∷ []) rest × (cut ≡ None))
+      ⊎ (Run bytes groups rest × AtEnd rest cut)

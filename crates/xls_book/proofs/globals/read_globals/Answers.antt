@@ -10,7 +10,10 @@ loop-record-init c = (
   tt,
   tt,
   rw c.into_iter-record-iterator.ensures.into_iter_gives (rw c.new-record-items.ensures
-      (globals_nothing c.args.stream.now _ (λ i. omega (arith, c.type_inv.stream i)) (ap (map listed_of) c.new-listed.ensures.items))),
+      (globals_nothing c.args.stream.now _ (λ i. omega (
+        arith,
+        c.type_inv.stream i,
+      )) (ap (map listed_of) c.new-listed.ensures.items))),
 )
 
 pub returns-in_err-record : goal.returns-in_err-record

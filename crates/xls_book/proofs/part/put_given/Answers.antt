@@ -1,4 +1,4 @@
-use Rattle.std.proofs.Common.{ap, arith}
+use Rattle.std.proofs.Common.{arith}
 use Rattle.xls_book.proofs.PartLemmas.{given_push}
 use Rattle.xls_book.proofs.part.put_given.Goals as goal
 

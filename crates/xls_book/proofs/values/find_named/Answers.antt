@@ -12,7 +12,8 @@ loop-i-preserved c =
     elim c.if-has_name.branch [
       | then-has_name w ↦
           named_hit ss cs l.i c.index-sheets-i.result c.index-cells-i.result (chars c.args.name.now) c.if-has_name.found.now c.requires c.loop-i-test.true c.index-sheets-i.is c.index-cells-i.is
-          (sym c.has_name.ensures ∙ w.if-has_name.true) (ap (λ x. x.now) w.found-is ∙ c.as_slice-own.ensures.value)
+          (sym c.has_name.ensures ∙ w.if-has_name.true) (ap (λ x. x.now) w.found-is
+          ∙ c.as_slice-own.ensures.value)
       | else-has_name w ↦
           named_miss ss cs l.i c.index-sheets-i.result c.index-cells-i.result (chars c.args.name.now) c.if-has_name.found.now c.requires c.loop-i-test.true c.index-sheets-i.is c.index-cells-i.is
           (sym c.has_name.ensures ∙ w.if-has_name.false) (ap (λ x. x.now) w.found-is ∙ l.invariant)

@@ -1,5 +1,3 @@
-use Rattle.std.proofs.Common.{arith, subst}
-use Rattle.std.specs.Result.{IfErr}
 use Rattle.std.proofs.lemmas.Result.{err_from_is_err_and}
 use Rattle.xls_book.proofs.LawLemmas.{read_cause, all_read, open_ok, open_cause}
 use Rattle.xls_book.proofs.xls.open.Goals as goal

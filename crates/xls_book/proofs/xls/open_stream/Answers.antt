@@ -1,4 +1,4 @@
-use Rattle.std.proofs.Common.{◌≡◌, List, [], refl, subst, arith, length}
+use Rattle.std.proofs.Common.{◌≡◌, List, [], subst, arith}
 use Rattle.std.proofs.lemmas.Option.{MatchOption-at_some, MatchOption-at_none}
 use Rattle.std.proofs.lemmas.List.{nil_from_length}
 use Rattle.std.proofs.lemmas.Result.{err_from_is_err_and}
@@ -36,12 +36,14 @@ pub invariant_of-result : goal.invariant_of-result
 invariant_of-result c =
     let l = c.loop-next in
     let at = MatchOption-at_none _ _ c.in-None.is c.next.ensures.steps in
-    let none : into_iter_items l.next-iterator ≡ [] = nil_from_length _ (omega (arith, at.0, l.next-iterator.rest.ok.0)) in
+    let none : into_iter_items l.next-iterator ≡ [] =
+    nil_from_length _ (omega (arith, at.0, l.next-iterator.rest.ok.0)) in
     (open_end c.args.stream.now c.args.options.now l.sheets.items l.cells.items (into_iter_items l.next-iterator) none l.invariant).1
 
 pub returns : goal.returns
 returns c =
     let l = c.loop-next in
     let at = MatchOption-at_none _ _ c.in-None.is c.next.ensures.steps in
-    let none : into_iter_items l.next-iterator ≡ [] = nil_from_length _ (omega (arith, at.0, l.next-iterator.rest.ok.0)) in
+    let none : into_iter_items l.next-iterator ≡ [] =
+    nil_from_length _ (omega (arith, at.0, l.next-iterator.rest.ok.0)) in
     (open_end c.args.stream.now c.args.options.now l.sheets.items l.cells.items (into_iter_items l.next-iterator) none l.invariant).0

@@ -3,4 +3,5 @@ use Rattle.xls_book.proofs.OpenLemmas.{OpenSoFar}
 use Rattle.xls_book.proofs.xls.open_stream.Given as goal
 
 abbrev pub invariant-loop-next : goal.invariant-loop-next
-invariant-loop-next l = OpenSoFar l.stream l.options l.sheets.items l.cells.items (into_iter_items l.next-iterator)
+invariant-loop-next l =
+    OpenSoFar l.stream l.options l.sheets.items l.cells.items (into_iter_items l.next-iterator)

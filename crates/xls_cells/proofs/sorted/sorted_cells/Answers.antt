@@ -9,7 +9,8 @@ last_of_each-requires g c =
     in_order c.sort_unstable_by_key.new.self.items (c.sort_unstable_by_key.ensures.sorted (λ x. (x.cell.0.0, x.cell.0.1, x.number)) (always_returns_same _ _ _ (λ a r q k. search rules)))
 
 pub returns-clause-ascending : goal.returns-clause-ascending
-returns-clause-ascending g c = IfOk-weaker c.last_of_each.result _ _ (λ v h. h.0) c.last_of_each.ensures
+returns-clause-ascending g c =
+    IfOk-weaker c.last_of_each.result _ _ (λ v h. h.0) c.last_of_each.ensures
 
 pub returns-clause-last : goal.returns-clause-last
 returns-clause-last g c =

@@ -9,4 +9,5 @@ abbrev pub invariant-loop-row : goal.invariant-loop-row
 invariant-loop-row l =
     (goal.iterator-loop-row).can_next l.row-iterator ×
     (goal.iterator-loop-row).is_finite l.row-iterator ×
-    (string_bytes l.text ++ flat_map cell_line l.row-iterator ≡ string_bytes l.fn.text ++ flat_map cell_line l.fn.values)
+    (string_bytes l.text ++ flat_map cell_line l.row-iterator ≡ string_bytes l.fn.text
+    ++ flat_map cell_line l.fn.values)

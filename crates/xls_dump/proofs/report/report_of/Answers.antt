@@ -26,5 +26,7 @@ pub returns : goal.returns
 returns c =
     let l = c.loop-i in
     let book = c.args.book.now in
-    let same : length book.sheets ≡ length c.sheets_metadata-sheets.result.now = ap length (sym c.sheets_metadata-sheets.ensures) ∙ length-map c.sheets_metadata-sheets.result.now sheet_content in
+    let same : length book.sheets ≡ length c.sheets_metadata-sheets.result.now =
+    ap length (sym c.sheets_metadata-sheets.ensures)
+    ∙ length-map c.sheets_metadata-sheets.result.now sheet_content in
     report-all (codes "dates\t1900\n") (string_bytes l.text) book.sheets book.values l.i (omega (arith, same, c.loop-i-test.false, l.auto.i-end)) l.invariant

@@ -5,4 +5,6 @@ use Rattle.xls_dump.proofs.report.report_of.Given as goal
 
 -- the sheets so far are written
 abbrev pub invariant-loop-i : goal.invariant-loop-i
-invariant-loop-i l = string_bytes l.text ≡ codes "dates\t1900\n" ++ sheets_text (take l.i l.book.sheets) (take l.i l.book.values)
+invariant-loop-i l =
+    string_bytes l.text ≡ codes "dates\t1900\n"
+    ++ sheets_text (take l.i l.book.sheets) (take l.i l.book.values)

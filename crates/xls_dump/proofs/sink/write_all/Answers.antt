@@ -8,8 +8,12 @@ use Rattle.xls_dump.proofs.sink.write_all.Goals as goal
 pub returns-in_err-at-clause-front : goal.returns-in_err-at-clause-front
 returns-in_err-at-clause-front g c =
     let at = c.loop-at.at in
-    let piece = c.args.piece.now in
-    (take at piece, drop at piece, sym (take-append-drop at piece), Appends-kept _ _ _ (take at piece) c.loop-at.invariant.written c.in_err-at.ensures.bytes)
+    let piece = c.args.piece.now in (
+      take at piece,
+      drop at piece,
+      sym (take-append-drop at piece),
+      Appends-kept _ _ _ (take at piece) c.loop-at.invariant.written c.in_err-at.ensures.bytes,
+    )
 
 pub loop-at-preserved : goal.loop-at-preserved
 loop-at-preserved g c =
@@ -21,7 +25,11 @@ loop-at-preserved g c =
       kept = λ n le t.
           let was = c.loop-at.invariant.kept n le t in
           let size = length-rest c.loop-at.at c.args.piece.now in
-          let now = c.in_ok-at.ensures.kept (n - c.loop-at.at) (omega (arith, size, c.loop-at-test.true)) (omega (arith, size)) was.0 in
+          let now = c.in_ok-at.ensures.kept (n - c.loop-at.at) (omega (
+            arith,
+            size,
+            c.loop-at-test.true,
+          )) (omega (arith, size)) was.0 in
           let less : n - c.loop-at.at - c.in_ok-at.field-0 ≡ n - (c.loop-at.at + c.in_ok-at.field-0) = omega arith in
           (subst (g.K.Sink.takes c.write.new.self) less now.1, now.2 ∙ was.1);
     }

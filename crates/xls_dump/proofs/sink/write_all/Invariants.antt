@@ -10,7 +10,8 @@ invariant-loop-at g l =
       within : l.at ≤ length l.piece;
       written : Appends (sink.written l.fn.sink) (sink.written l.sink) (take l.at l.piece);
       later : sink.faults l.fn.sink ≤ sink.faults l.sink;
-      kept : (n : ℕ) → length l.piece ≤ n → sink.takes l.fn.sink n → sink.takes l.sink (n - l.at) × (sink.faults l.sink ≡ sink.faults l.fn.sink);
+      kept : (n : ℕ) → length l.piece ≤ n → sink.takes l.fn.sink n → sink.takes l.sink (n - l.at)
+          × (sink.faults l.sink ≡ sink.faults l.fn.sink);
     }
 
 abbrev pub decreases-loop-at : goal.decreases-loop-at

@@ -1,0 +1,42 @@
+-- Known texts, so that a wrong rule of the report does not check.
+use Rattle.std.proofs.Common.{◌≡◌, ℕ, List, [], ◌∷◌, refl, pos, negsuc, codes}
+use Rattle.std.specs.Fmt.{digits}
+use Rattle.xls_data.specs.Content.{float}
+use Rattle.xls_data.specs.Sheets.{SheetContent}
+use Rattle.xls_data.specs.declared.numbers.Number.TheVariants.{Whole}
+use Rattle.xls_data.specs.declared.sheets.SheetType.TheVariants.{WorkSheet, ChartSheet}
+use Rattle.xls_data.specs.declared.sheets.SheetVisible.TheVariants.{Visible, VeryHidden}
+use Rattle.xls_biff.specs.declared.error.XlsError.TheVariants.{NotBuilt, TooLarge}
+use Rattle.xls_biff.specs.ErrorText.{four_digits}
+use Rattle.xls_book.specs.Reading.{Workbook}
+use Rattle.xls_dump.specs.Report.{cell_line, fault_line, report, shown_text}
+
+-- row 4, column 1, -12
+pub known_cell : cell_line ((4, 1), float (Whole (negsuc 11))) ≡ codes "cell\t4\t1\tfloat\t-12\n"
+unfolding digits
+known_cell = refl
+
+-- a tab is escaped, and a letter outside ASCII has two bytes
+pub known_text : shown_text (65 ∷ 9 ∷ 233 ∷ []) ≡ 65 ∷ 92 ∷ 116 ∷ 195 ∷ 169 ∷ []
+unfolding lib.Utf8.encode
+known_text = refl
+
+-- a Label record, and a stream past its limit
+pub known_fault : fault_line (NotBuilt 516) ≡ codes "error\tRecord type 0x0204 not built\n"
+unfolding digits four_digits
+known_fault = refl
+
+pub known_limit : fault_line (TooLarge 64) ≡ codes "error\tStream larger than 64 bytes\n"
+unfolding digits
+known_limit = refl
+
+-- two sheets, and one cell in the first
+abbrev book : Workbook
+book = record
+    { sheets = record { name = 65 ∷ []; typ = WorkSheet; visible = Visible }
+        ∷ record { name = 66 ∷ []; typ = ChartSheet; visible = VeryHidden } ∷ []
+    ; values = (((0, 0), float (Whole (pos 1))) ∷ []) ∷ [] ∷ [] }
+
+pub known_report : report book ≡ codes "dates\t1900\nsheet\tA\tworksheet\tvisible\ncell\t0\t0\tfloat\t1\nsheet\tB\tchart\tveryhidden\n"
+unfolding digits lib.Utf8.encode
+known_report = refl

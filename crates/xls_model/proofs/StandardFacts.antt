@@ -1,0 +1,55 @@
+-- Known values, so that a wrong rule in the specs does not check.
+use Rattle.std.proofs.Common.{◌≡◌, ℕ, [], ◌∷◌, refl, None, lit<, arith}
+use Rattle.xls_model.specs.Stream.{Group, enc, group_bytes, Begins}
+use Rattle.xls_model.specs.Substreams.{none, plain, nested, Shape, own_closed, groups_in, outer_in}
+use Rattle.xls_model.specs.Counting.{found_from}
+use Rattle.xls_model.specs.Listing.{kept_of}
+
+-- an EOF record is its type and no byte
+pub eof_bytes : enc 10 [] ≡ 10 ∷ 0 ∷ 0 ∷ 0 ∷ []
+eof_bytes = refl
+
+-- type 0203, 14 bytes: the low byte stands first
+pub number_header : enc 515 (1 ∷ 2 ∷ []) ≡ 3 ∷ 2 ∷ 2 ∷ 0 ∷ 1 ∷ 2 ∷ []
+number_header = refl
+
+abbrev group : ℕ → Group
+group typ = record { typ = typ; body = []; tail = [] }
+
+-- a sheet with a chart between two of its records
+abbrev sheet_with_chart : Shape
+sheet_with_chart = own_closed [] (group 2057) (plain (group 515) (nested (group 2057) (plain (group 516) none) (group 10) (plain (group 638) none))) (group 10)
+
+pub chart_groups : groups_in sheet_with_chart ≡ group 2057 ∷ group 515 ∷ group 2057 ∷ group 516 ∷ group 10 ∷ group 638 ∷ group 10 ∷ []
+chart_groups = refl
+
+-- the chart's records aren't the sheet's; its BOF stands for it
+pub chart_outer : outer_in sheet_with_chart ≡ group 515 ∷ group 2057 ∷ group 638 ∷ []
+chart_outer = refl
+
+-- counting finds the same
+pub chart_counted : found_from 0 (groups_in sheet_with_chart) None ≡ (group 515 ∷ group 2057 ∷ group 638 ∷ [], None)
+unfolding found_from
+chart_counted = refl
+
+-- a record of a type that isn't named is no kept record
+pub kept_types : kept_of (group 515 ∷ group 520 ∷ group 6 ∷ []) ≡ record {
+  typ = 515;
+  body = [];
+} ∷ record { typ = 6; body = [] } ∷ []
+kept_types = refl
+
+-- a whole Continue behind a record belongs to it
+abbrev continued : Group
+continued = record { typ = 252; body = 1 ∷ []; tail = (2 ∷ []) ∷ [] }
+
+pub continued_bytes : group_bytes continued ≡ 252 ∷ 0 ∷ 1 ∷ 0 ∷ 1 ∷ 60 ∷ 0 ∷ 1 ∷ 0 ∷ 2 ∷ []
+continued_bytes = refl
+
+pub continued_begins : Begins (252 ∷ 0 ∷ 1 ∷ 0 ∷ 1 ∷ 60 ∷ 0 ∷ 1 ∷ 0 ∷ 2 ∷ []) continued []
+continued_begins = record {
+  whole = refl;
+  fits = record { typ = lit< tt; body = lit< tt; tail = (lit< tt, tt) };
+  room = (lit< tt, tt);
+  ended = λ s. let r = s.room in omega arith;
+}

@@ -1,0 +1,13 @@
+pub mod GridLemmas
+pub mod MoveLemmas
+pub mod GrowthLemmas
+pub mod RowLemmas
+pub mod BlankLemmas
+pub mod CopyLemmas
+pub mod SparseLemmas
+pub mod HeaderLemmas
+pub mod CellLemmas
+pub mod EqualLemmas
+pub mod WalkLemmas
+pub mod DenseLemmas
+pub mod StandardFacts
