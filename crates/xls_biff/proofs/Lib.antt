@@ -5,3 +5,4 @@ pub mod TextLemmas
 pub mod MarkLemmas
 pub mod SstLemmas
 pub mod CheckLemmas
+pub mod StandardFacts

@@ -35,3 +35,6 @@ pub use strings::{parse_short_string, parse_string};
 pub use substream::SheetRecords;
 pub use walk::RecordIter;
 pub use xls_model::Part;
+
+#[cfg(test)]
+mod tests;

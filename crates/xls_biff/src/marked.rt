@@ -146,12 +146,12 @@ pub(crate) fn read_units(
 pub(crate) fn skip_units(text: &mut Marked<'_>, count: u16, wide: bool) -> Result<(), XlsError>
     ensures { SkipsUnits count wide text.old result text.new }
 {
-    let mut is_wide = wide;
+    let mut width = wide;
     let mut left = count;
     while left > 0 {
         match text.take_byte() {
             Some(_low) => {
-                let Some(_high) = take_high(text, is_wide) else {
+                let Some(_high) = take_high(text, width) else {
                     return Err(XlsError::EoStream(Part::Dbcs));
                 };
                 left -= 1;
@@ -160,7 +160,7 @@ pub(crate) fn skip_units(text: &mut Marked<'_>, count: u16, wide: bool) -> Resul
                 let Some(next) = take_width(text) else {
                     return Err(XlsError::EoStream(Part::Dbcs));
                 };
-                is_wide = next;
+                width = next;
             }
         }
     }

@@ -120,7 +120,7 @@ fn skip_string(text: &mut Marked<'_>) -> Result<(), XlsError>
 fn skip_next(text: &mut Marked<'_>) -> Result<(), XlsError>
     ensures { SkipsAt result text.new (next_at text.old) }
 {
-    if text.take_mark() && text.at_hand().is_empty() {
+    if text.take_mark() && text.at_hand().len() == 0 {
         return Ok(());
     }
     skip_string(text)

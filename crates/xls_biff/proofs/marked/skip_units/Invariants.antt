@@ -5,7 +5,7 @@ use Rattle.xls_biff.proofs.marked.skip_units.Given as goal
 
 abbrev pub invariant-loop-left : goal.invariant-loop-left
 invariant-loop-left l =
-    (units : List ℕ) × UnitsSoFar (units_at l.fn.count l.fn.wide l.fn.text) [] units l.left l.is_wide l.text
+    (units : List ℕ) × UnitsSoFar (units_at l.fn.count l.fn.wide l.fn.text) [] units l.left l.width l.text
 
 abbrev pub decreases-loop-left : goal.decreases-loop-left
 decreases-loop-left l = length l.text
