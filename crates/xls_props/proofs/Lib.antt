@@ -1,0 +1,5 @@
+pub mod EntryLemmas
+pub mod NulLemmas
+pub mod DayLemmas
+pub mod NameLemmas
+pub mod CustomLemmas

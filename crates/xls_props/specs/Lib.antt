@@ -1,0 +1,11 @@
+pub use Rattle.xls_data.specs.SerialDays
+pub use Rattle.xls_data.specs.Numbers
+pub use Rattle.xls_text.specs.Pages
+pub mod Bytes
+pub mod Entries
+pub mod Values
+pub mod Moments
+pub mod Names
+pub mod Custom
+pub mod Sections
+pub mod Properties

@@ -1,0 +1,280 @@
+//! The values of properties as texts.
+
+ghost use Rattle.std.specs.Prelude.{◌≡◌, ◌<◌, ◌^◌, IfOk, Option};
+ghost use Rattle.std.specs.Option.{option_map, unwrap_or};
+ghost use Rattle.std.specs.Fmt.{decimal, signed_decimal};
+ghost use Rattle.std.specs.String.{string_bytes};
+ghost use Rattle.xls_data.specs.Numbers.{bits_text};
+ghost use Rattle.xls_props.specs.Bytes.{u16_at, i16_at, u32_at, i32_at, u64_at};
+ghost use Rattle.xls_props.specs.Values.{Value, value_unless_empty, bool_text, bytes_text, units_text, plain_of_type, moment_at, value_at, Shows, page_in, page_number, field, version_text, app_version};
+
+use crate::bytes::{bytes_at, i16_at, i32_at, u16_at, u32_at, u64_at};
+use crate::entries::{Entry, first_of, last_of};
+use crate::moments::filetime_to_iso8601;
+use crate::texts::drop_nuls;
+use std::alloc::{AllocError, Global};
+use std::fmt;
+use xls_data::Number;
+use xls_text::XlsEncoding;
+
+/// A signed number of 16 bits.
+pub const VT_I2: u16 = 0x0002;
+
+/// A signed number of 32 bits.
+pub const VT_I4: u16 = 0x0003;
+
+/// A double.
+pub const VT_R8: u16 = 0x0005;
+
+/// A truth value: a number of 16 bits, 0 for false.
+pub const VT_BOOL: u16 = 0x000B;
+
+/// An unsigned number of 32 bits.
+pub const VT_UI4: u16 = 0x0013;
+
+/// Bytes in the section's page.
+pub const VT_LPSTR: u16 = 0x001E;
+
+/// Units of UTF-16.
+pub const VT_LPWSTR: u16 = 0x001F;
+
+/// A moment.
+pub const VT_FILETIME: u16 = 0x0040;
+
+fn i16_text(alloc: Global, s: &[u8], at: usize) -> Result<Option<String>, AllocError>
+    ensures { IfOk result (λ t. option_map string_bytes t
+        ≡ option_map signed_decimal (i16_at s.now at)) }
+{
+    let Some(n) = i16_at(s, at) else {
+        return Ok(None);
+    };
+    Ok(Some(format!(in alloc; "{n}")?))
+}
+
+fn i32_text(alloc: Global, s: &[u8], at: usize) -> Result<Option<String>, AllocError>
+    ensures { IfOk result (λ t. option_map string_bytes t
+        ≡ option_map signed_decimal (i32_at s.now at)) }
+{
+    let Some(n) = i32_at(s, at) else {
+        return Ok(None);
+    };
+    Ok(Some(format!(in alloc; "{n}")?))
+}
+
+fn u32_text(alloc: Global, s: &[u8], at: usize) -> Result<Option<String>, AllocError>
+    ensures { IfOk result (λ t. option_map string_bytes t ≡ option_map decimal (u32_at s.now at)) }
+{
+    let Some(n) = u32_at(s, at) else {
+        return Ok(None);
+    };
+    Ok(Some(format!(in alloc; "{n}")?))
+}
+
+fn double_text(alloc: Global, s: &[u8], at: usize) -> Result<Option<String>, AllocError>
+    ensures { IfOk result (λ t. option_map string_bytes t
+        ≡ option_map bits_text (u64_at s.now at)) }
+{
+    let Some(bits) = u64_at(s, at) else {
+        return Ok(None);
+    };
+    let number = Number::Bits(bits);
+    Ok(Some(format!(in alloc; "{number}")?))
+}
+
+fn bool_text(alloc: Global, s: &[u8], at: usize) -> Result<Option<String>, AllocError>
+    ensures { IfOk result (λ t. option_map string_bytes t
+        ≡ option_map bool_text (u16_at s.now at)) }
+{
+    let Some(n) = u16_at(s, at) else {
+        return Ok(None);
+    };
+    if n == 0 {
+        Ok(Some(String::from_str(alloc, "false")?))
+    } else {
+        Ok(Some(String::from_str(alloc, "true")?))
+    }
+}
+
+fn bytes_text(
+    alloc: Global,
+    page: XlsEncoding,
+    s: &[u8],
+    at: usize,
+) -> Result<Option<String>, AllocError>
+    requires { at < 2 ^ 40 }
+    ensures { IfOk result (λ t. option_map string_bytes t ≡ bytes_text page s.now at) }
+{
+    let Some(n) = u32_at(s, at) else {
+        return Ok(None);
+    };
+    let Some(bytes) = bytes_at(s, at + 4, n as usize) else {
+        return Ok(None);
+    };
+    let mut text = page.decode_all(alloc, bytes)?;
+    drop_nuls(&mut text);
+    Ok(Some(text))
+}
+
+fn units_text(alloc: Global, s: &[u8], at: usize) -> Result<Option<String>, AllocError>
+    requires { at < 2 ^ 40 }
+    ensures { IfOk result (λ t. option_map string_bytes t ≡ units_text s.now at) }
+{
+    let Some(n) = u32_at(s, at) else {
+        return Ok(None);
+    };
+    let Some(bytes) = bytes_at(s, at + 4, 2 * n as usize) else {
+        return Ok(None);
+    };
+    let mut text = XlsEncoding::Utf16.decode_all(alloc, bytes)?;
+    drop_nuls(&mut text);
+    Ok(Some(text))
+}
+
+// The text of a value of a type, but no moment.
+fn plain_of_type(
+    alloc: Global,
+    typ: u16,
+    page: XlsEncoding,
+    s: &[u8],
+    at: usize,
+) -> Result<Option<String>, AllocError>
+    requires { at < 2 ^ 40 }
+    ensures { IfOk result (λ t. option_map string_bytes t ≡ plain_of_type typ page s.now at) }
+{
+    match typ {
+        VT_I2 => i16_text(alloc, s, at),
+        VT_I4 => i32_text(alloc, s, at),
+        VT_R8 => double_text(alloc, s, at),
+        VT_BOOL => bool_text(alloc, s, at),
+        VT_UI4 => u32_text(alloc, s, at),
+        VT_LPSTR => bytes_text(alloc, page, s, at),
+        VT_LPWSTR => units_text(alloc, s, at),
+        _ => Ok(None),
+    }
+}
+
+fn moment_text(alloc: Global, s: &[u8], at: usize) -> Result<Option<String>, AllocError>
+    ensures { IfOk result (λ t. Shows (moment_at s.now at) t) }
+{
+    let Some(n) = u64_at(s, at) else {
+        return Ok(None);
+    };
+    filetime_to_iso8601(alloc, n)
+}
+
+/// The text of the property whose type stands at a place.
+pub(crate) fn value_at(
+    alloc: Global,
+    page: XlsEncoding,
+    s: &[u8],
+    at: usize,
+) -> Result<Option<String>, AllocError>
+    requires { at < 2 ^ 32 }
+    ensures { IfOk result (λ t. Shows (value_at page s.now at) t) }
+{
+    let Some(typ) = u16_at(s, at) else {
+        return Ok(None);
+    };
+    if typ == VT_FILETIME {
+        return moment_text(alloc, s, at + 4);
+    }
+    plain_of_type(alloc, typ, page, s, at + 4)
+}
+
+fn page_number(entries: &[Entry], s: &[u8]) -> Option<u16>
+    ensures { result ≡ page_number entries.now s.now }
+{
+    let at = first_of(1, entries)? as usize;
+    if u16_at(s, at)? == VT_I2 {
+        u16_at(s, at + 4)
+    } else {
+        None
+    }
+}
+
+/// The page of a section. One that isn't read is UTF-8.
+pub(crate) fn page_in(entries: &[Entry], s: &[u8]) -> XlsEncoding
+    ensures { result ≡ page_in entries.now s.now }
+{
+    let number = page_number(entries, s).unwrap_or(1200);
+    match XlsEncoding::from_codepage(number) {
+        Ok(page) => page,
+        Err(_) => XlsEncoding::Utf8,
+    }
+}
+
+// An empty text is none.
+fn unless_empty(text: Option<String>) -> Option<String>
+    ensures { (v : Option Value) → Shows v text → Shows (value_unless_empty v) result }
+{
+    let text = text?;
+    if text.is_empty() { None } else { Some(text) }
+}
+
+/// A field: the text of the last entry of its number, unless it is empty.
+pub(crate) fn field(
+    alloc: Global,
+    number: u32,
+    s: &[u8],
+    entries: &[Entry],
+    page: XlsEncoding,
+) -> Result<Option<String>, AllocError>
+    ensures { IfOk result (λ t. Shows (field number s.now entries.now page) t) }
+{
+    let Some(at) = last_of(number, entries) else {
+        return Ok(None);
+    };
+    let text = value_at(alloc, page, s, at as usize)?;
+    Ok(unless_empty(text))
+}
+
+// A version: the high half, a dot, and the low half in at least four digits.
+#[derive(Clone, Copy)]
+struct Version(u32);
+
+impl fmt::Display for Version {
+    ghost use Rattle.std.specs.Prelude.{Some};
+    ghost use Rattle.xls_props.specs.Values.{version_text};
+
+    ghost output = { λ x. Some (version_text x.0) };
+
+    fn fmt<W: fmt::Write>(&self, f: &mut fmt::Formatter<W>) -> fmt::Result {
+        let high = self.0 / 0x1_0000;
+        let low = self.0 % 0x1_0000;
+        if low < 10 {
+            write!(f, "{high}.000{low}")
+        } else if low < 100 {
+            write!(f, "{high}.00{low}")
+        } else if low < 1000 {
+            write!(f, "{high}.0{low}")
+        } else {
+            write!(f, "{high}.{low}")
+        }
+    }
+}
+
+/// The version of the application, by the first entry of its number.
+pub(crate) fn app_version(
+    alloc: Global,
+    s: &[u8],
+    entries: &[Entry],
+) -> Result<Option<String>, AllocError>
+    ensures { IfOk result (λ t. option_map string_bytes t ≡ app_version s.now entries.now) }
+{
+    let Some(version) = version_in(s, entries) else {
+        return Ok(None);
+    };
+    Ok(Some(format!(in alloc; "{version}")?))
+}
+
+// The number of that version, where its type is a number of 32 bits.
+fn version_in(s: &[u8], entries: &[Entry]) -> Option<Version>
+    ensures { option_map (λ v. version_text v.0) result ≡ app_version s.now entries.now }
+{
+    let at = first_of(0x17, entries)? as usize;
+    let typ = u16_at(s, at)?;
+    if typ != VT_I4 && typ != VT_UI4 {
+        return None;
+    }
+    Some(Version(u32_at(s, at + 4)?))
+}

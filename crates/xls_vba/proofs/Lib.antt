@@ -1,0 +1,4 @@
+pub mod HashLemmas
+pub mod EndLemmas
+pub mod DirectoryLemmas
+pub mod NameLemmas

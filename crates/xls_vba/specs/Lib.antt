@@ -1,0 +1,9 @@
+pub use Rattle.xls_text.specs.Pages
+pub mod Errors
+pub mod Fields
+pub mod Libids
+pub mod Items
+pub mod References
+pub mod Modules
+pub mod Directory
+pub mod Project

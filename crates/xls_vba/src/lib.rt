@@ -1,0 +1,16 @@
+//! The directory of a macro project: what it refers to, and its modules.
+#![tactic(auto)]
+
+mod directory;
+mod error;
+mod fields;
+mod items;
+mod libids;
+mod modules;
+mod project;
+mod references;
+
+pub use error::{VbaError, VbaPart};
+pub use modules::Module;
+pub use project::VbaProject;
+pub use references::Reference;
