@@ -1,11 +1,9 @@
 -- Codes of number formats and their decimal texts.
-use Rattle.std.proofs.Common.{◌≡◌, ◌≢◌, ℕ, ◌+◌, ◌-◌, ◌*◌, ◌/◌, ◌%◌, ◌^◌, ◌<◌, ◌≤◌, refl, ap, ◌∙◌, sym, arith, Bool, true, false, List, [], ◌∷◌, ◌++◌, length, length-append, inl, inr, ◌⊎◌, lit<}
-use Rattle.std.specs.Prelude.{◌&&◌}
+use Rattle.std.proofs.Common.{◌≡◌, ◌≢◌, ℕ, ◌+◌, ◌-◌, ◌*◌, ◌/◌, ◌%◌, ◌^◌, ◌<◌, ◌≤◌, refl, ap, ◌∙◌, sym, arith, Bool, true, false, List, [], ◌∷◌, ◌++◌, length, length-append, inl, inr}
 use Rattle.std.specs.Fmt.{decimal}
 use Rattle.std.proofs.lemmas.Bool.{cases_lt}
 use Rattle.std.proofs.lemmas.Bool.Decides.{nat_tests}
 use Rattle.std.proofs.lemmas.Fmt.{decimal_digit, decimal_step, decimal_nonempty}
-use Rattle.xls_data.specs.declared.formats.CellFormat.{CellFormat}
 use Rattle.xls_data.specs.declared.formats.CellFormat.TheVariants.{Other}
 use Rattle.xls_data.specs.Builtin.{between, class_of_code, class_of_id}
 

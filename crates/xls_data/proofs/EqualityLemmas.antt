@@ -8,7 +8,7 @@ use Rattle.std.proofs.lemmas.Bool.Decides.{Decides-eqb, Decides-int_eq, Decides-
 use Rattle.std.specs.Cmp.{booleans_Decides}
 use Rattle.std.proofs.lemmas.Slice.Eq.{bytes_eq-Decides}
 use Rattle.xls_data.proofs.TextLemmas.{chars_injective}
-use Rattle.xls_data.specs.Content.{Content, int, float, text, truth, date, iso_date, iso_duration, failure, nothing}
+use Rattle.xls_data.specs.Content.{int, float, text, date, iso_date, iso_duration, failure}
 use Rattle.xls_data.specs.Data.{content_of}
 use Rattle.xls_data.specs.Dates.{DateParts}
 use Rattle.xls_data.specs.declared.numbers.Number.{Number}

@@ -1,5 +1,5 @@
 -- Values from outside, so that a wrong rule in the definitions does not check.
-use Rattle.std.proofs.Common.{◌≡◌, ℕ, List, [], ◌∷◌, map, refl, pos, negsuc, codes, Some, None, true, false}
+use Rattle.std.proofs.Common.{◌≡◌, [], ◌∷◌, map, refl, pos, negsuc, codes, None}
 use Rattle.std.specs.Fmt.{digits}
 use Rattle.xls_data.specs.declared.numbers.Number.TheVariants.{Bits, Whole, Hundredths, BitsOver100}
 use Rattle.xls_data.specs.declared.formats.CellFormat.TheVariants.{Other, DateTime, TimeDelta}

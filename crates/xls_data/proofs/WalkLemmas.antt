@@ -1,14 +1,13 @@
 -- The walk over characters.
-use Rattle.std.proofs.Common.{◌≡◌, ℕ, ◌+◌, ◌≤◌, ◌<◌, List, [], ◌∷◌, ◌++◌, length, Bool, true, false, not, IsUtf8, refl, sym, ap, ◌∙◌, arith, length-append}
+use Rattle.std.proofs.Common.{◌≡◌, ℕ, ◌+◌, ◌≤◌, List, [], ◌∷◌, ◌++◌, length, Bool, true, false, IsUtf8, ap, ◌∙◌, arith, length-append}
 use Rattle.std.specs.Char.{encode_utf8}
 use Rattle.std.specs.Str.{chars}
-use Rattle.std.proofs.lemmas.Str.{chars_past_char, IsUtf8-past_char, length-encode, len_utf8_bounds, chars-nil}
+use Rattle.std.proofs.lemmas.Str.{chars_past_char, length-encode, len_utf8_bounds}
 use Rattle.xls_data.specs.declared.formats.CellFormat.{CellFormat}
 use Rattle.xls_data.specs.declared.formats.CellFormat.TheVariants.{Other}
 use Rattle.xls_data.specs.declared.classes.Walk.{Walk}
-use Rattle.xls_data.specs.declared.classes.Step.{Step}
 use Rattle.xls_data.specs.declared.classes.Step.TheVariants.{Next, Done}
-use Rattle.xls_data.specs.Classes.{plain_step, passes, escaped_after, quoted_after, class_step, class_from}
+use Rattle.xls_data.specs.Classes.{plain_step, passes, escaped_after, quoted_after, class_from}
 
 module _ (bs rest : List ℕ) (c : ℕ) (text : IsUtf8 bs) (front : bs ≡ encode_utf8 c ++ rest) (escaped quoted : Bool) (w : Walk) (total : CellFormat) (before : class_from escaped quoted w (chars bs) ≡ total) where
   pub class_passes : passes escaped quoted c ≡ true → class_from (escaped_after escaped c) (quoted_after escaped quoted c) (record w { before = c }) (chars rest) ≡ total

@@ -26,6 +26,7 @@ abbrev pub is_nothing : Data → Bool
 is_nothing variant.Empty = true
 is_nothing _ = false
 
+-- what a truth value prints
 abbrev pub bool_text : Bool → List ℕ
 bool_text true = codes "true"
 bool_text false = codes "false"

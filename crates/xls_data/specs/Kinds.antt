@@ -10,34 +10,42 @@ use Rattle.xls_data.specs.Dates.{DateParts}
 use Rattle.xls_data.specs.Numbers.{number_text, number_trunc}
 use Rattle.xls_data.specs.Content.{Content, int, float, text, truth, date, iso_date, iso_duration, failure}
 
+-- a whole number
 abbrev pub int_in : Content → Option ℤ
 int_in (int n) = Some n
 int_in _ = None
 
+-- a number
 abbrev pub float_in : Content → Option Number
 float_in (float n) = Some n
 float_in _ = None
 
+-- a truth value
 abbrev pub truth_in : Content → Option Bool
 truth_in (truth b) = Some b
 truth_in _ = None
 
+-- a text
 abbrev pub text_in : Content → Option (List ℕ)
 text_in (text cs) = Some cs
 text_in _ = None
 
+-- a date or a span of time
 abbrev pub date_in : Content → Option DateParts
 date_in (date d) = Some d
 date_in _ = None
 
+-- the text of a date in ISO 8601
 abbrev pub iso_date_in : Content → Option (List ℕ)
 iso_date_in (iso_date cs) = Some cs
 iso_date_in _ = None
 
+-- the text of a span of time in ISO 8601
 abbrev pub iso_duration_in : Content → Option (List ℕ)
 iso_duration_in (iso_duration cs) = Some cs
 iso_duration_in _ = None
 
+-- an error value
 abbrev pub failure_in : Content → Option CellErrorType
 failure_in (failure e) = Some e
 failure_in _ = None

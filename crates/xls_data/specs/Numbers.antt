@@ -1,5 +1,5 @@
 -- Numbers cut toward zero, and their printed texts as lists of ASCII codes.
-use Rattle.std.specs.Prelude.{ℕ, ◌-◌, ◌/◌, ◌%◌, ◌^◌, ◌==◌, false, int_div, if◌then◌else◌, Option, Some, None, ℤ, pos, negsuc, unsigned_abs, List, [], ◌∷◌, ◌++◌, codes, replicate, length}
+use Rattle.std.specs.Prelude.{ℕ, ◌-◌, ◌/◌, ◌%◌, ◌^◌, ◌==◌, false, int_div, if◌then◌else◌, Option, Some, None, ℤ, pos, negsuc, unsigned_abs, List, [], ◌++◌, codes, replicate, length}
 use Rattle.std.specs.Fmt.{decimal, signed_decimal, digits}
 use Rattle.xls_bytes.specs.Doubles.{whole_of, trunc_of, trunc_checked_of}
 use Rattle.xls_data.specs.declared.numbers.Number.{Number}
@@ -9,17 +9,21 @@ use Rattle.xls_data.specs.declared.numbers.Number.TheVariants.{Bits, Whole, Hund
 unfoldable pub sixteen_digits : ℕ → List ℕ
 sixteen_digits n = replicate (16 - length (digits 16 false n)) 48 ++ digits 16 false n
 
+-- the sign of a negative number
 abbrev pub minus_if_negative : ℤ → List ℕ
 minus_if_negative (pos n) = []
 minus_if_negative (negsuc n) = codes "-"
 
 -- n hundredths below one: no decimals, one, or two
 abbrev pub decimals_text : ℕ → List ℕ
-decimals_text n = if n == 0 then [] else (codes "." ++ (decimal (n / 10) ++ (if n % 10 == 0 then [] else decimal (n % 10))))
+decimals_text n =
+    if n == 0 then []
+    else (codes "." ++ (decimal (n / 10) ++ (if n % 10 == 0 then [] else decimal (n % 10))))
 
 -- n over 100, exactly
 abbrev pub hundredths_text : ℤ → List ℕ
-hundredths_text n = minus_if_negative n ++ (decimal (unsigned_abs n / 100) ++ decimals_text (unsigned_abs n % 100))
+hundredths_text n =
+    minus_if_negative n ++ (decimal (unsigned_abs n / 100) ++ decimals_text (unsigned_abs n % 100))
 
 -- a whole number in decimal, else the bits
 abbrev pub whole_text : Option ℤ → ℕ → List ℕ

@@ -6,6 +6,7 @@ use Rattle.xls_data.specs.declared.sheets.Sheet.{Sheet}
 use Rattle.xls_data.specs.declared.sheets.SheetType.{SheetType}
 use Rattle.xls_data.specs.declared.sheets.SheetVisible.{SheetVisible}
 
+-- name, kind and visibility
 pub record SheetContent : Type 0 where
   pub name : List ℕ
   pub typ : SheetType

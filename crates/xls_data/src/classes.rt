@@ -6,8 +6,8 @@ ghost use Rattle.xls_data.specs.Classes.{MatchStep, escapes, is_letter, is_date_
 
 use crate::CellFormat;
 
-// What the walk over a format knows: how many brackets are open, whether `a` was read, whether hours,
-// minutes or seconds follow a bracket, and the character before.
+// What the walk over a format knows: how many brackets are open, whether `a` was read, whether
+// hours, minutes or seconds follow a bracket, and the character before.
 #[derive(Clone, Copy)]
 struct Walk {
     depth: u64,

@@ -112,7 +112,8 @@ pub trait DataType {
 
     /// The printed text of a number, a whole number or a text; None for every other kind.
     fn as_string(&self, alloc: Global) -> Result<Option<String>, AllocError>
-        ensures { IfOk result (λ o. option_map string_bytes o ≡ printed_scalar (contains self.now)) }
+        ensures { IfOk result (λ o.
+            option_map string_bytes o ≡ printed_scalar (contains self.now)) }
     {
         if let Some(n) = self.get_int() {
             return Ok(Some(n.to_string(alloc)?));

@@ -75,7 +75,8 @@ fn write_hundredths<W: fmt::Write>(n: i64, f: &mut fmt::Formatter<W>) -> fmt::Re
 
 #[tactic(auto, using(crate::proofs::HexLemmas::padded_hex))]
 fn write_hex<W: fmt::Write>(bits: u64, f: &mut fmt::Formatter<W>) -> fmt::Result
-    ensures { DisplaysOnOk W.write_str_gives f.old result (Some (codes "0x" ++ sixteen_digits bits)) f.new }
+    ensures { DisplaysOnOk W.write_str_gives f.old result
+        (Some (codes "0x" ++ sixteen_digits bits)) f.new }
 {
     write!(f, "0x{bits:016x}")
 }

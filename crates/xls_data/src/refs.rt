@@ -89,16 +89,28 @@ impl<'a> CellType for DataRef<'a> {
         }
     }
 
-    ghost blank_exactly = { λ x y. elim x as (λ v. is_ref_nothing v ≡ true → is_ref_nothing y ≡ Self.eq v y) [
-      | Int n ↦ λ e. Prim.cc
-      | Float n ↦ λ e. Prim.cc
-      | String s ↦ λ e. Prim.cc
-      | SharedString s ↦ λ e. Prim.cc
-      | Bool b ↦ λ e. Prim.cc
-      | DateTime d ↦ λ e. Prim.cc
-      | DateTimeIso s ↦ λ e. Prim.cc
-      | DurationIso s ↦ λ e. Prim.cc
-      | Error k ↦ λ e. Prim.cc
-      | Empty ↦ λ e. elim y as (λ w. is_ref_nothing w ≡ Self.eq Empty w) [ Int n ↦ refl | Float n ↦ refl | String s ↦ refl | SharedString s ↦ refl | Bool b ↦ refl | DateTime d ↦ refl | DateTimeIso s ↦ refl | DurationIso s ↦ refl | Error k ↦ refl | Empty ↦ refl ]
-    ] };
+    ghost blank_exactly = { λ x y. elim x as (λ v. is_ref_nothing v ≡ true
+        → is_ref_nothing y ≡ Self.eq v y) [
+          | Int n ↦ λ e. Prim.cc
+          | Float n ↦ λ e. Prim.cc
+          | String s ↦ λ e. Prim.cc
+          | SharedString s ↦ λ e. Prim.cc
+          | Bool b ↦ λ e. Prim.cc
+          | DateTime d ↦ λ e. Prim.cc
+          | DateTimeIso s ↦ λ e. Prim.cc
+          | DurationIso s ↦ λ e. Prim.cc
+          | Error k ↦ λ e. Prim.cc
+          | Empty ↦ λ e. elim y as (λ w. is_ref_nothing w ≡ Self.eq Empty w) [
+            | Int n ↦ refl
+            | Float n ↦ refl
+            | String s ↦ refl
+            | SharedString s ↦ refl
+            | Bool b ↦ refl
+            | DateTime d ↦ refl
+            | DateTimeIso s ↦ refl
+            | DurationIso s ↦ refl
+            | Error k ↦ refl
+            | Empty ↦ refl
+          ]
+        ] };
 }

@@ -39,8 +39,8 @@ fn ymd_after(start: Date, days: i32) -> (u16, u8, u8)
     parts_of(days_after(start, days))
 }
 
-/// The year, month and day of a serial day. The 1900 system counts from 1899-12-31 and has a day 60,
-/// 1900-02-29, which the calendar lacks; the 1904 system counts from 1904-01-01. Days past
+/// The year, month and day of a serial day. The 1900 system counts from 1899-12-31 and has a day
+/// 60, 1900-02-29, which the calendar lacks; the 1904 system counts from 1904-01-01. Days past
 /// 9999-12-31 answer that day. Takes no memory.
 pub fn ymd_of_serial_day(day: u64, is_1904: bool) -> (u16, u8, u8)
     ensures leap { is_1904 ≡ false → day ≡ 60 → result ≡ (1900, 2, 29) }

@@ -1,3 +1,5 @@
+//! Known values, and each public call once with ample memory.
+
 use crate::*;
 use std::alloc::{AllocError, Global};
 use std::collections::HashMap;

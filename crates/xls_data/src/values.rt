@@ -79,15 +79,26 @@ impl CellType for Data {
         }
     }
 
-    ghost blank_exactly = { λ x y. elim x as (λ v. is_nothing v ≡ true → is_nothing y ≡ Self.eq v y) [
-      | Int n ↦ λ e. Prim.cc
-      | Float n ↦ λ e. Prim.cc
-      | String s ↦ λ e. Prim.cc
-      | Bool b ↦ λ e. Prim.cc
-      | DateTime d ↦ λ e. Prim.cc
-      | DateTimeIso s ↦ λ e. Prim.cc
-      | DurationIso s ↦ λ e. Prim.cc
-      | Error k ↦ λ e. Prim.cc
-      | Empty ↦ λ e. elim y as (λ w. is_nothing w ≡ Self.eq Empty w) [ Int n ↦ refl | Float n ↦ refl | String s ↦ refl | Bool b ↦ refl | DateTime d ↦ refl | DateTimeIso s ↦ refl | DurationIso s ↦ refl | Error k ↦ refl | Empty ↦ refl ]
-    ] };
+    ghost blank_exactly = { λ x y. elim x as (λ v. is_nothing v ≡ true
+        → is_nothing y ≡ Self.eq v y) [
+          | Int n ↦ λ e. Prim.cc
+          | Float n ↦ λ e. Prim.cc
+          | String s ↦ λ e. Prim.cc
+          | Bool b ↦ λ e. Prim.cc
+          | DateTime d ↦ λ e. Prim.cc
+          | DateTimeIso s ↦ λ e. Prim.cc
+          | DurationIso s ↦ λ e. Prim.cc
+          | Error k ↦ λ e. Prim.cc
+          | Empty ↦ λ e. elim y as (λ w. is_nothing w ≡ Self.eq Empty w) [
+            | Int n ↦ refl
+            | Float n ↦ refl
+            | String s ↦ refl
+            | Bool b ↦ refl
+            | DateTime d ↦ refl
+            | DateTimeIso s ↦ refl
+            | DurationIso s ↦ refl
+            | Error k ↦ refl
+            | Empty ↦ refl
+          ]
+        ] };
 }

@@ -1,4 +1,4 @@
-use Rattle.std.proofs.Common.{arith, sym, ap, ◌∙◌}
+use Rattle.std.proofs.Common.{arith, ap, ◌∙◌}
 use Rattle.xls_data.specs.Builtin.{class_of_id}
 use Rattle.xls_data.proofs.BuiltinLemmas.{class_of_id-decimal, class_of_id-other}
 use Rattle.xls_data.proofs.builtin.builtin_format_by_id.Goals as goal

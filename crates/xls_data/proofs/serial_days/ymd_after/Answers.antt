@@ -1,4 +1,4 @@
-use Rattle.std.proofs.Common.{arith, negsuc, ◌≤ℤ◌, pos}
+use Rattle.std.proofs.Common.{arith, negsuc, ◌≤ℤ◌}
 use Rattle.std.proofs.lemmas.Int.{ints}
 use Rattle.jiff.specs.Words.{epoch_day}
 use Rattle.xls_data.proofs.DayLemmas.{year_from}

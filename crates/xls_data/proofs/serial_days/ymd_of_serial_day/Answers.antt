@@ -1,6 +1,5 @@
-use Rattle.std.proofs.Common.{arith, ◌∙◌, w32, ℤ, ◌≡◌, negsuc, ◌≤ℤ◌}
+use Rattle.std.proofs.Common.{arith, ◌∙◌}
 use Rattle.std.proofs.lemmas.Int.{ints}
-use Rattle.jiff.specs.Words.{epoch_day}
 use Rattle.xls_data.proofs.DayLemmas.{numbered, known}
 use Rattle.xls_data.proofs.serial_days.ymd_of_serial_day.Goals as goal
 
