@@ -1,0 +1,5 @@
+pub mod Refusals
+pub mod Texts
+pub mod Wholes
+pub mod Readers
+pub mod Loose
