@@ -1,0 +1,5 @@
+pub mod TextLemmas
+pub mod ReadLemmas
+pub mod RowLemmas
+pub mod ColumnLemmas
+pub mod RangeLemmas

@@ -1,0 +1,13 @@
+pub mod Refusals
+pub mod Texts
+pub mod Wholes
+pub mod Readers
+pub mod Rows
+pub mod HeaderTexts
+pub mod Choices
+pub mod Columns
+pub mod Laws
+pub mod Loose
+pub mod Filled
+pub mod Ranges
+pub mod Answers
