@@ -2,3 +2,4 @@ pub mod HashLemmas
 pub mod EndLemmas
 pub mod DirectoryLemmas
 pub mod NameLemmas
+pub mod StandardFacts

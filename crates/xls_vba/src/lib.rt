@@ -14,3 +14,6 @@ pub use error::{VbaError, VbaPart};
 pub use modules::Module;
 pub use project::VbaProject;
 pub use references::Reference;
+
+#[cfg(test)]
+mod tests;
