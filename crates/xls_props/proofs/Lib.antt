@@ -3,3 +3,4 @@ pub mod NulLemmas
 pub mod DayLemmas
 pub mod NameLemmas
 pub mod CustomLemmas
+pub mod StandardFacts

@@ -1,4 +1,5 @@
-//! The property streams of a workbook file: titles, authors, dates and custom properties.
+//! The property streams of a workbook file: titles, authors, dates and custom properties. The project
+//! directory of `xls_vba` is handed on.
 #![tactic(auto)]
 
 mod bytes;
@@ -13,6 +14,7 @@ mod values;
 
 pub use moments::filetime_to_iso8601;
 pub use properties::{WorkbookProperties, workbook_properties_of};
+pub use xls_vba::{Module, Reference, VbaError, VbaPart, VbaProject};
 
 #[cfg(test)]
 mod tests;
