@@ -1,5 +1,5 @@
 -- Laws over the definitions.
-use Rattle.std.specs.Prelude.{◌≡◌, ℕ, List, [], ◌∷◌, Option, Some, None, Bool, if◌then◌else◌}
+use Rattle.std.specs.Prelude.{◌≡◌, ◌↔◌, ◌<◌, length, ℕ, List, [], ◌∷◌, Option, Some, None, Bool, if◌then◌else◌}
 use Rattle.xls_rows.specs.Rows.{Row, Exposed, from_filled, first_header, after_key}
 
 -- the headers and cells of the exposed columns that are not empty, in order
@@ -16,6 +16,12 @@ after_value row = record row { kept = None }
 abbrev pub GivesByKey : {T : Type 0} → (T → Bool) → Row T → List (Option (List ℕ) × T) → Type 0
 GivesByKey empty row [] = from_filled empty row.exposed ≡ []
 GivesByKey empty row (p ∷ ps) =
-    (first_header (from_filled empty row.exposed) ≡ p.0)
+    (0 < length (from_filled empty row.exposed))
+    × (first_header (from_filled empty row.exposed) ≡ p.0)
     × ((after_key empty row).kept ≡ Some p.1)
     × GivesByKey empty (after_value (after_key empty row)) ps
+
+-- a row read so gives the headers and cells of the exposed columns that are not empty, and only these
+abbrev pub ReadsByKey : (T : Type 0) → Type 0
+ReadsByKey T = (empty : T → Bool) (row : Row T) (ps : List (Option (List ℕ) × T))
+    → GivesByKey empty row ps ↔ (ps ≡ named_values empty row.exposed)

@@ -5,6 +5,7 @@ mod builder;
 mod columns;
 mod error;
 mod from_row;
+pub mod laws;
 mod loose;
 mod range_rows;
 mod read_cell;
