@@ -1,0 +1,36 @@
+//! Counts the strings in the string table of a workbook stream on standard input.
+#![tactic(auto)]
+
+use std::alloc::Global;
+use std::io::Read;
+use std::process::ExitCode;
+use xls_biff::{RecordIter, XlsError, parse_sst};
+use xls_model::types::SST;
+
+/// The number of the strings of the first string table; 0 where there is none.
+fn count_strings(alloc: Global, stream: &[u8]) -> Result<usize, XlsError> {
+    let table = RecordIter::new(stream).find(|record| match record {
+        Ok(record) => record.typ == SST,
+        Err(_) => true,
+    });
+    match table {
+        Some(record) => Ok(parse_sst(alloc, &record?)?.len()),
+        None => Ok(0),
+    }
+}
+
+fn main(rt: HostRuntime) -> ExitCode {
+    let alloc = rt.alloc();
+    let mut stream = Vec::new(alloc);
+    if rt.stdin().read_to_end(&mut stream).is_err() {
+        return ExitCode::from(3);
+    }
+    let (written, status) = match count_strings(alloc, &stream) {
+        Ok(count) => (println!(rt; "{count}"), ExitCode::SUCCESS),
+        Err(error) => (println!(rt; "{error}"), ExitCode::from(1)),
+    };
+    match written {
+        Ok(()) => status,
+        Err(_) => ExitCode::from(4),
+    }
+}
