@@ -32,10 +32,11 @@ known_limit = refl
 
 -- two sheets, and one cell in the first
 abbrev book : Workbook
-book = record
-    { sheets = record { name = 65 ∷ []; typ = WorkSheet; visible = Visible }
-        ∷ record { name = 66 ∷ []; typ = ChartSheet; visible = VeryHidden } ∷ []
-    ; values = (((0, 0), float (Whole (pos 1))) ∷ []) ∷ [] ∷ [] }
+book = record {
+  sheets = record { name = 65 ∷ []; typ = WorkSheet; visible = Visible }
+      ∷ record { name = 66 ∷ []; typ = ChartSheet; visible = VeryHidden } ∷ [];
+  values = (((0, 0), float (Whole (pos 1))) ∷ []) ∷ [] ∷ [];
+}
 
 pub known_report : report book ≡ codes "dates\t1900\nsheet\tA\tworksheet\tvisible\ncell\t0\t0\tfloat\t1\nsheet\tB\tchart\tveryhidden\n"
 unfolding digits lib.Utf8.encode
