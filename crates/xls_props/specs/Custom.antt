@@ -30,5 +30,6 @@ last_named q [] = None
 last_named q (p ∷ ps) = option_or (last_named q ps) (if bytes_eq p.0 q then Some p.1 else None)
 
 -- the map has at each name the value that was given to it last, and nothing else
-abbrev pub HasLast : {Y Z : Type 0} → BTreeMap (String Y) (String Z) → List (List ℕ × Value) → Type 0
+abbrev pub HasLast : {Y Z : Type 0} → BTreeMap (String Y) (String Z) → List (List ℕ × Value)
+    → Type 0
 HasLast m ps = (q : List ℕ) → Shows (last_named q ps) (get_by_text m q)

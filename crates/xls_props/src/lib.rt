@@ -1,5 +1,5 @@
-//! The property streams of a workbook file: titles, authors, dates and custom properties. The project
-//! directory of `xls_vba` is handed on.
+//! The property streams of a workbook file: titles, authors, dates and custom properties. The
+//! project directory of `xls_vba` is handed on.
 #![tactic(auto)]
 
 mod bytes;

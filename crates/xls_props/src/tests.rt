@@ -14,8 +14,8 @@ const TITLE: [u8; 95] = [
     0x1E, 0x00, 0x00, 0x00, 0x07, 0x00, 0x00, 0x00, 0xC5, 0x6C, 0x65, 0x73, 0x75, 0x6E, 0x64,
 ];
 
-// A document stream by hand whose one section has custom properties of four types: `I`, `B`, `D` and `T`
-// under page 1200.
+// A document stream by hand whose one section has custom properties of four types: `I`, `B`, `D` and
+// `T` under page 1200.
 const CUSTOM: [u8; 210] = [
     0xFE, 0xFF, 0x00, 0x00, 0x00, 0x00, 0x00, 0x00, 0x00, 0x00, 0x00, 0x00, 0x00, 0x00, 0x00, 0x00,
     0x00, 0x00, 0x00, 0x00, 0x00, 0x00, 0x00, 0x00, 0x01, 0x00, 0x00, 0x00, 0x05, 0xD5, 0xCD, 0xD5,
@@ -33,8 +33,8 @@ const CUSTOM: [u8; 210] = [
     0x00, 0x00,
 ];
 
-// A document stream by hand: two versions, two categories, a manager whose last entry has an unknown
-// type, and a company of one NUL, under page 1200.
+// A document stream by hand: two versions, two categories, a manager whose last entry has an
+// unknown type, and a company of one NUL, under page 1200.
 const FIELDS: [u8; 170] = [
     0xFE, 0xFF, 0x00, 0x00, 0x00, 0x00, 0x00, 0x00, 0x00, 0x00, 0x00, 0x00, 0x00, 0x00, 0x00, 0x00,
     0x00, 0x00, 0x00, 0x00, 0x00, 0x00, 0x00, 0x00, 0x01, 0x00, 0x00, 0x00, 0x02, 0xD5, 0xCD, 0xD5,
@@ -188,7 +188,8 @@ fn reads_a_summary_stream_cut_to_each_length(rt: HostRuntime) -> Result<(), Fail
     Ok(())
 }
 
-// Each property is there from the length on at which its value is whole; the names stand before them.
+// Each property is there from the length on at which its value is whole; the names stand before
+// them.
 #[test]
 fn reads_a_document_stream_cut_to_each_length(rt: HostRuntime) -> Result<(), Fail> {
     let whole_at = [48 + 0x7C, 48 + 0x82, 48 + 0x90, 48 + 0xA2];

@@ -3,3 +3,4 @@ pub mod EndLemmas
 pub mod DirectoryLemmas
 pub mod NameLemmas
 pub mod StandardFacts
+pub mod OneReadingLemmas

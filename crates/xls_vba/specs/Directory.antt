@@ -14,7 +14,8 @@ pub record Project : Type 0 where
   pub modules : List Mod
 
 -- items at the front of the bytes give these references
-pub record Refers (page : XlsEncoding) (bytes : List ℕ) (refs : List Ref) (rest : List ℕ) : Type 0 where
+pub record Refers (page : XlsEncoding) (bytes : List ℕ) (refs : List Ref) (rest : List ℕ)
+    : Type 0 where
   pub elements : List Element
   pub items : Items page bytes elements rest
   pub read_off : refs ≡ references_of elements

@@ -1,5 +1,5 @@
--- Fields of a project directory ([MS-OVBA] dir Stream) from left to right, each with the bytes after
--- it, or the first field that isn't there or differs.
+-- Fields of a project directory ([MS-OVBA] dir Stream) from left to right, each with the bytes
+-- after it, or the first field that isn't there or differs.
 use Rattle.std.specs.Prelude.{◌≡◌, ℕ, List, length, take, drop, Result, Ok, Err, nat_lt, ◌==◌, if◌then◌else◌}
 use Rattle.xls_bytes.specs.Numbers.{le}
 use Rattle.xls_text.specs.declared.encoding.XlsEncoding.{XlsEncoding}

@@ -63,6 +63,7 @@ extended_from bytes = do
   unicode ← skip_rec 0x3E name.1
   id_from 0x30 unicode
 
+-- the second number of a control: 0030, or 0016 with a name between
 unfoldable pub second_from : List ℕ → Result (List ℕ) VbaError
 second_from bytes = do
   id ← u16_from bytes

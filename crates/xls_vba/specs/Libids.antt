@@ -1,5 +1,5 @@
--- Libids ([MS-OVBA] LibidReference): parts between `#`, of which the last is the description and the
--- one before it the path. A text is the list of its bytes in UTF-8.
+-- Libids ([MS-OVBA] LibidReference): parts between `#`, of which the last is the description and
+-- the one before it the path. A text is the list of its bytes in UTF-8.
 use Rattle.std.specs.Prelude.{ℕ, ◌-◌, min, List, [], ◌∷◌, length, drop, Option, Some, None, ◌==◌, ◌||◌, Bool, if◌then◌else◌, Result, Ok, Err}
 use Rattle.std.specs.Option.{option_map}
 use Rattle.std.specs.Str.{encode_utf8_all, bytes_eq}
@@ -43,7 +43,8 @@ behind_last_hash text = behind_or text (at_last_hash text)
 -- an empty libid, and one that ends in ##, change nothing
 abbrev pub says_nothing : List ℕ → Bool
 says_nothing libid =
-    (length libid == 0) || bytes_eq (drop (length libid - min (length libid) 2) libid) (HASH ∷ HASH ∷ [])
+    (length libid == 0)
+    || bytes_eq (drop (length libid - min (length libid) 2) libid) (HASH ∷ HASH ∷ [])
 
 -- the description behind the last #, and the path before it, back to the # before or the beginning
 abbrev pub parted : Option (List ℕ × List ℕ) → Result (Option Said) VbaError
@@ -52,7 +53,8 @@ parted (Some parts) = Ok (Some (behind_last_hash parts.0, parts.1))
 
 -- what the bytes of a libid say
 abbrev pub libid_of : XlsEncoding → List ℕ → Result (Option Said) VbaError
-libid_of page libid = if says_nothing libid then Ok None else parted (at_last_hash (text_of page libid))
+libid_of page libid =
+    if says_nothing libid then Ok None else parted (at_last_hash (text_of page libid))
 
 -- a libid as the code has it
 abbrev pub libid_view : {Y Z : Type 0} → Option (String Y × String Z) → Option Said

@@ -52,7 +52,8 @@ listed_by (c ∷ cs) r = r ∷ []
 abbrev pub listed : Ref → List Ref
 listed r = listed_by r.name r
 
--- the references of items, from one that is begun: each is listed where the next name or the end comes
+-- the references of items, from one that is begun: each is listed where the next name or the end
+-- comes
 abbrev pub references_from : Ref → List items.Element → List Ref
 references_from r [] = listed r
 references_from r (items.named name ∷ es) = listed r ++ references_from (begun name) es

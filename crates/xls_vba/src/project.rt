@@ -98,7 +98,8 @@ impl VbaProject {
         &self.references
     }
 
-    /// The names of the modules, each once, in the order of their bytes. Only want of memory refuses.
+    /// The names of the modules, each once, in the order of their bytes. Only want of memory
+    /// refuses.
     pub fn get_module_names(&self, alloc: Global) -> Result<Vec<&str>, AllocError>
         ensures { IfOk result (λ v. AreNames self.now.modules (map (λ x. x.now) v.items)) }
     {
