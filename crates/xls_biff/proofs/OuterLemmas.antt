@@ -1,12 +1,12 @@
 -- Steps over a sheet part.
-use Rattle.std.proofs.Common.{◌≡◌, ◌≢◌, ℕ, ◌+◌, ◌-◌, ◌<◌, ◌≤◌, List, [], ◌∷◌, ◌++◌, refl, sym, ap, ◌∙◌, append_assoc, arith, inl, inr, Option, None}
+use Rattle.std.proofs.Common.{◌≡◌, true, false, ℕ, ◌+◌, ◌-◌, ◌<◌, ◌≤◌, List, [], ◌∷◌, ◌++◌, refl, sym, ap, ◌∙◌, append_assoc, arith, inl, inr, Option, None}
 use Rattle.std.proofs.lemmas.List.{append-nil}
 use Rattle.xls_model.specs.Stream.{Group, Begins}
-use Rattle.xls_model.specs.Substreams.{IsBof, IsEof, IsPlain}
-use Rattle.xls_model.specs.Counting.{found_from}
+use Rattle.xls_model.specs.Substreams.{IsBof, IsEof, IsPlain, is_sheet_type}
+use Rattle.xls_model.specs.Counting.{Found, with_group, keep, found_from}
 use Rattle.xls_model.specs.declared.part.Part.{Part}
 use Rattle.xls_model.proofs.Runs.{Run-push, begins_fewer}
-use Rattle.xls_model.proofs.Founds.{step_bof, step_nested, step_eof, step_inside, step_kept, step_over, found_nothing}
+use Rattle.xls_model.proofs.Founds.{step_bof, step_eof, step_inside, step_kept, step_over, found_nothing}
 use Rattle.xls_biff.specs.Outer.{Skips, Keeps, Over}
 
 pub skips_none : (b : List ℕ) (n : ℕ) → Skips b n b n
@@ -20,8 +20,8 @@ skips_by b mid after n m k g s h step = record {
   fewer = let f = s.fewer in omega (arith, begins_fewer mid g after h);
 }
 
-pub skips_bof : (b mid after : List ℕ) (n m : ℕ) (g : Group) → Skips b n mid m → Begins mid g after → IsBof g → m ≢ 1 → Skips b n after (m + 1)
-skips_bof b mid after n m g s h e ne = skips_by b mid after n m (m + 1) g s h (λ more cut. step_bof m g more cut ne e)
+pub skips_bof : (b mid after : List ℕ) (n m : ℕ) (g : Group) → Skips b n mid m → Begins mid g after → IsBof g → Skips b n after (m + 1)
+skips_bof b mid after n m g s h e = skips_by b mid after n m (m + 1) g s h (λ more cut. step_bof m g more cut e)
 
 pub skips_eof : (b mid after : List ℕ) (n m : ℕ) (g : Group) → Skips b n mid m → Begins mid g after → IsEof g → 1 < m → Skips b n after (m - 1)
 skips_eof b mid after n m g s h e lt = skips_by b mid after n m (m - 1) g s h (λ more cut. step_eof m g more cut lt e)
@@ -29,19 +29,21 @@ skips_eof b mid after n m g s h e lt = skips_by b mid after n m (m - 1) g s h (�
 pub skips_inside : (b mid after : List ℕ) (n m : ℕ) (g : Group) → Skips b n mid m → Begins mid g after → IsPlain g → 1 < m → Skips b n after m
 skips_inside b mid after n m g s h e lt = skips_by b mid after n m m g s h (λ more cut. step_inside m g more cut lt e)
 
-pub keeps : (b mid after : List ℕ) (n m : ℕ) (g : Group) → Skips b n mid m → Begins mid g after → IsPlain g → m ≤ 1 → Keeps b n g after m
-keeps b mid after n m g s h e le = record {
-  groups = s.groups;
-  run = Run-push b s.groups g mid after s.run h;
-  kept = λ more cut. s.kept (g ∷ more) cut ∙ step_kept m g more cut le e;
-  fewer = let f = s.fewer in omega (arith, begins_fewer mid g after h);
-}
+keep_none : (g : Group) (f : Found) → is_sheet_type g ≡ false → keep g f ≡ f
+keep_none g f t = rw t refl
 
-pub keeps_nested : (b mid after : List ℕ) (n m : ℕ) (g : Group) → Skips b n mid m → Begins mid g after → IsBof g → m ≡ 1 → Keeps b n g after (m + 1)
-keeps_nested b mid after n m g s h e one = record {
+keep_one : (g : Group) (f : Found) → is_sheet_type g ≡ true → keep g f ≡ with_group g f
+keep_one g f t = rw t refl
+
+pub skips_other : (b mid after : List ℕ) (n m : ℕ) (g : Group) → Skips b n mid m → Begins mid g after → IsPlain g → m ≤ 1 → is_sheet_type g ≡ false → Skips b n after m
+skips_other b mid after n m g s h e le t = skips_by b mid after n m m g s h (λ more cut. step_kept m g more cut le e ∙ keep_none g (found_from m more cut) t)
+
+pub keeps : (b mid after : List ℕ) (n m : ℕ) (g : Group) → Skips b n mid m → Begins mid g after → IsPlain g → m ≤ 1 → is_sheet_type g ≡ true → Keeps b n g after m
+keeps b mid after n m g s h e le t = record {
   groups = s.groups;
+  is_kept = t;
   run = Run-push b s.groups g mid after s.run h;
-  kept = λ more cut. s.kept (g ∷ more) cut ∙ step_nested m g more cut one e;
+  kept = λ more cut. s.kept (g ∷ more) cut ∙ step_kept m g more cut le e ∙ keep_one g (found_from m more cut) t;
   fewer = let f = s.fewer in omega (arith, begins_fewer mid g after h);
 }
 

@@ -1,7 +1,8 @@
 -- What a step over a sheet part gives, where some BOF records are open.
-use Rattle.std.specs.Prelude.{◌≡◌, ℕ, ◌<◌, ◌≤◌, List, [], ◌∷◌, ◌++◌, length, Option, Some, None, Result, Ok, Err, ◌⊎◌}
+use Rattle.std.specs.Prelude.{◌≡◌, true, ℕ, ◌<◌, ◌≤◌, List, [], ◌∷◌, ◌++◌, length, Option, Some, None, Result, Ok, Err, ◌⊎◌}
 use Rattle.xls_model.specs.Stream.{Group, Run}
 use Rattle.xls_model.specs.Cut.{Cut}
+use Rattle.xls_model.specs.Substreams.{is_sheet_type}
 use Rattle.xls_model.specs.Counting.{found_from, with_group}
 use Rattle.xls_model.specs.declared.part.Part.{Part}
 use Rattle.xls_biff.specs.declared.record.Record.{Record}
@@ -9,21 +10,22 @@ use Rattle.xls_biff.specs.declared.error.XlsError.{XlsError}
 use Rattle.xls_biff.specs.declared.error.XlsError.TheVariants.{EoStream}
 use Rattle.xls_biff.specs.Walking.{group_of}
 
--- some groups lead from these bytes to those, and have no outer group
+-- some groups lead from these bytes to those, and none of them is kept
 pub record Skips (before : List ℕ) (was : ℕ) (after : List ℕ) (now : ℕ) : Type 0 where
   pub groups : List Group
   pub run : Run before groups after
   pub kept : (more : List Group) (cut : Option Part) → found_from was (groups ++ more) cut ≡ found_from now more cut
   pub fewer : length after ≤ length before
 
--- the next outer group, behind some that aren't
+-- the next kept group, behind some that aren't
 pub record Keeps (before : List ℕ) (was : ℕ) (g : Group) (after : List ℕ) (now : ℕ) : Type 0 where
   pub groups : List Group
+  pub is_kept : is_sheet_type g ≡ true
   pub run : Run before (groups ++ g ∷ []) after
   pub kept : (more : List Group) (cut : Option Part) → found_from was (groups ++ g ∷ more) cut ≡ with_group g (found_from now more cut)
   pub fewer : length after < length before
 
--- the part is over, at its EOF or at the end of the bytes, and has no more outer groups
+-- the part is over, at its EOF or at the end of the bytes, and has no more kept groups
 pub record Over (before : List ℕ) (was : ℕ) : Type 0 where
   pub groups : List Group
   pub rest : List ℕ

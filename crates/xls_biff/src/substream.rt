@@ -1,15 +1,39 @@
 //! The records of a sheet part outside nested substreams.
 
 ghost use Rattle.std.specs.Prelude.{◌≡◌, ◌+◌, ◌<◌, ◌≤◌, ◌^◌, length};
+ghost use Rattle.xls_model.specs.Substreams.{is_among, sheet_types};
 ghost use Rattle.xls_biff.specs.Outer.{OuterSteps};
 
 use crate::error::XlsError;
 use crate::record::Record;
 use crate::walk::RecordIter;
 use std::marker::Model;
-use xls_model::types::{BOF, EOF};
+use xls_model::types::{
+    BOF, BOOL_ERR, DIMENSIONS, EOF, FORMULA, LABEL, LABEL_SST, MERGE_CELLS, MUL_RK, NUMBER,
+    R_STRING, RK, STRING,
+};
 
-/// The next record outside nested substreams, where so many BOF records are open.
+/// Whether records of this type are kept.
+fn is_sheet_type(typ: u16) -> bool
+    ensures { result ≡ is_among typ sheet_types }
+{
+    matches!(
+        typ,
+        NUMBER
+            | DIMENSIONS
+            | LABEL
+            | R_STRING
+            | BOOL_ERR
+            | STRING
+            | RK
+            | LABEL_SST
+            | MUL_RK
+            | MERGE_CELLS
+            | FORMULA
+    )
+}
+
+/// The next record of a sheet's types outside nested substreams, where so many BOF records are open.
 fn next_outer<'a>(
     records: &mut RecordIter<'a>,
     depth: &mut u64,
@@ -25,27 +49,24 @@ fn next_outer<'a>(
         };
         if r.typ == BOF {
             *depth += 1;
-            if *depth == 2 {
-                return Some(Ok(r));
-            }
         } else if r.typ == EOF {
             if *depth <= 1 {
                 *records = RecordIter::new(&[]);
                 return None;
             }
             *depth -= 1;
-        } else if *depth <= 1 {
+        } else if *depth <= 1 && is_sheet_type(r.typ) {
             return Some(Ok(r));
         }
     }
     None
 }
 
-/// The records of a sheet part outside nested substreams, in order, then at most one error, which is
-/// `EoStream`, and `None` for good. Takes no memory.
+/// The records of a sheet part outside nested substreams whose type is one of a sheet's eleven, in
+/// order, then at most one error, which is `EoStream`, and `None` for good. Takes no memory.
 ///
-/// The part's own BOF is passed over, and its EOF ends it. Of each nested substream the BOF is given,
-/// and the rest passed over.
+/// The part's EOF ends it. Nested substreams, from BOF to EOF, are passed over, and so are records of
+/// other types.
 #[derive(Drop)]
 pub struct SheetRecords<'a> {
     records: RecordIter<'a>,

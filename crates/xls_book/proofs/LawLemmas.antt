@@ -6,25 +6,25 @@ use Rattle.std.specs.List.{flat_map, AllByRecursion}
 use Rattle.std.specs.Io.KnownBytes.{Consumes, IsAtEnd}
 use Rattle.std.proofs.lemmas.List.{append-nil}
 use Rattle.xls_model.specs.Walks.{IsBytes}
-use Rattle.xls_model.specs.Listing.{Entry, Item, plain_item, sheet_item, entry_of, Holds, IsWhole, Carries}
+use Rattle.xls_model.specs.Listing.{Entry, Shared, no_table, table_of, table_without, Item, plain_item, table_item, sheet_item, entry_of, Holds, IsWholeTable, IsWhole, Carries}
 use Rattle.xls_model.specs.declared.part.Part.{Part}
 use Rattle.xls_model.proofs.HoldingLemmas.{has_holds, one_holds, one_list}
 use Rattle.xls_data.specs.Sheets.{SheetContent}
 use Rattle.xls_biff.specs.declared.error.XlsError.{XlsError}
 use Rattle.xls_biff.specs.declared.error.XlsError.TheVariants as errors
-use Rattle.xls_biff.specs.Globals.{head_at, sheet_at}
 use Rattle.xls_book.specs.Order.{along, first_of}
-use Rattle.xls_book.specs.RecordTable.{fault_of, second_or}
+use Rattle.xls_book.specs.InForce.{page_in, version_in, Setting, setting_of}
+use Rattle.xls_book.specs.RecordTable.{fault_of, forced_fault, texts_of, sheet_of}
 use Rattle.xls_book.specs.Reading.{Workbook, IsReading}
-use Rattle.xls_book.specs.Faults.{limit_fault, FirstBehind, item_fault, kept_fault, cut_fault, part_places, sheet_places, globals_places, places, FirstFault, IsSound, entry_fault, IsFullSheet, IsFull}
+use Rattle.xls_book.specs.Faults.{limit_fault, outer_fault, item_fault, kept_fault, cut_fault, part_places, sheet_places, globals_places, places, FirstBehind, FirstFault, IsSound, entry_fault, IsFullSheet, IsFull}
 use Rattle.xls_book.specs.Causes.{Rose}
 use Rattle.xls_book.specs.Opening.{ReadCause, OpenCause, IsOpened}
 use Rattle.xls_book.specs.Steps.{Opened, opened_of, IsStreamOpened, StreamFault, OpensStream}
 use Rattle.xls_book.specs.declared.options.XlsOptions.{XlsOptions}
 use Rattle.xls_book.proofs.OrderLemmas.{or_none, none_both, none_append}
 use Rattle.xls_book.proofs.GlobalsLemmas.{entries_push}
-use Rattle.xls_book.proofs.OpenLemmas.{IsFine, opened_places, after_globals, carries_full}
-use Rattle.xls_book.proofs.ClearLemmas.{not_io}
+use Rattle.xls_book.proofs.OpenLemmas.{IsFine, opened_places, after_globals, carries_full, long_sheet, same_fault}
+use Rattle.xls_book.proofs.ClearLemmas.{IsClear, forced_clear, not_io}
 
 -- ---- the byte limit
 
@@ -56,6 +56,24 @@ within_none options bytes h = by_test (nat_lt options.max_bytes (length bytes)) 
     by_test true t = absurd (let u : Some (errors.TooLarge options.max_bytes) ≡ None = rw t at h in cc)
     by_test false t = small t
 
+-- ---- the byte limit and the forced page
+
+outer_none : (options : XlsOptions) (bytes : List ℕ) → length bytes ≤ options.max_bytes
+    → forced_fault options.force_codepage ≡ None → outer_fault options bytes ≡ None
+outer_none options bytes within forced =
+    ap (λ (o : Option XlsError). option_or o (forced_fault options.force_codepage)) (limit_none options bytes within)
+    ∙ forced
+
+record Inside (options : XlsOptions) (bytes : List ℕ) : Type 0 where
+  pub within : length bytes ≤ options.max_bytes
+  pub forced : forced_fault options.force_codepage ≡ None
+
+inside : (options : XlsOptions) (bytes : List ℕ) → outer_fault options bytes ≡ None
+    → Inside options bytes
+inside options bytes h =
+    let both = or_none (limit_fault options bytes) (forced_fault options.force_codepage) h in
+    record { within = within_none options bytes both.0; forced = both.1 }
+
 -- ---- one first fault
 
 one_behind : (options : XlsOptions) (bytes : List ℕ) → IsBytes bytes
@@ -72,7 +90,7 @@ one_behind options bytes fits e f None a b =
 pub one_first_fault : (options : XlsOptions) (bytes : List ℕ) → IsBytes bytes → (e f : XlsError)
     → FirstFault options bytes e → FirstFault options bytes f → e ≡ f
 one_first_fault options bytes fits e f a b =
-    one_behind options bytes fits e f (limit_fault options bytes) a b
+    one_behind options bytes fits e f (outer_fault options bytes) a b
 
 -- ---- without a fault
 
@@ -80,75 +98,86 @@ cut_none : (cut : Option Part) → first_of (cut_fault cut ∷ []) ≡ None → 
 cut_none None h = refl
 cut_none (Some p) h = absurd cc
 
-fine_from : (options : XlsOptions) (os : List Opened)
-    → first_of (flat_map (opened_places options) os) ≡ None → AllByRecursion (IsFine options) os
-fine_from options [] h = tt
-fine_from options (o ∷ os) h =
-    let both = none_both (opened_places options o) (flat_map (opened_places options) os) h in
-    let here = none_both (along (kept_fault options) [] o.kept) (cut_fault o.cut ∷ []) both.0 in
-    ((cut_none o.cut here.1, here.0), fine_from options os both.1)
+fine_from : (options : XlsOptions) (s : Setting) (os : List Opened)
+    → first_of (flat_map (opened_places options s) os) ≡ None → AllByRecursion (IsFine options s) os
+fine_from options s [] h = tt
+fine_from options s (o ∷ os) h =
+    let both = none_both (opened_places options s o) (flat_map (opened_places options s) os) h in
+    let here = none_both (along (kept_fault options s) [] o.kept) (cut_fault o.cut ∷ []) both.0 in
+    ((cut_none o.cut here.1, here.0), fine_from options s os both.1)
 
 faultless_full : (options : XlsOptions) (bytes : List ℕ) (items : List Item) (cut : Option Part)
-    → Holds bytes items cut → first_of (places options items cut) ≡ None → (l : List Entry)
+    → forced_fault options.force_codepage ≡ None → Holds bytes items cut
+    → first_of (places options items cut) ≡ None → (l : List Entry)
     × Carries bytes l × IsFull options l
-faultless_full options bytes items cut h f =
-    let both = none_both (globals_places items cut) (flat_map (sheet_places options) items) f in
-    let globals = none_both (along item_fault [] items) (cut_fault cut ∷ []) both.0 in
+faultless_full options bytes items cut forced h f =
+    let s = setting_of options (map entry_of items) in
+    let both = none_both (globals_places options items cut) (flat_map (sheet_places options s) items) f in
+    let globals = none_both (along (item_fault options) [] items) (cut_fault cut ∷ []) both.0 in
     let whole : cut ≡ None = cut_none cut globals.1 in
     let none : first_of (places options items None) ≡ None =
     ap (λ (c : Option Part). first_of (places options items c)) (sym whole) ∙ f in
-    let all = carries_full bytes options items (subst (Holds bytes items) whole h) globals.0 (fine_from options (opened_of items) (sym (after_globals options items globals.0) ∙ none)) in
+    let all = carries_full bytes options items forced (subst (Holds bytes items) whole h) globals.0 (fine_from options s (opened_of options items) (sym (after_globals options items globals.0) ∙ none)) in
     (map entry_of items, all.0, all.1)
 
 -- ---- with a full list
 
-long_fault : (body : List ℕ) → 6 ≤ length body
-    → sheet_at body ≡ head_at (slice_index body 4) (slice_index body 5) (drop 6 body)
-long_fault body h = let t : nat_lt (length body) 6 ≡ false = test h in rw t refl
-  where
-    test : 6 ≤ length body → nat_lt (length body) 6 ≡ false
-    test h = grind arith
+not_short : (n m : ℕ) → m ≤ n → nat_lt n m ≡ false
+not_short n m h = grind arith
 
-record Clean (options : XlsOptions) (before items : List Item) : Type 0 where
-  pub globals : first_of (along item_fault before items) ≡ None
-  pub sheets : first_of (flat_map (sheet_places options) items) ≡ None
+whole_table : (len : ℕ) (s : Shared) → IsWholeTable s → fault_of (texts_of len s) ≡ None
+whole_table len no_table h = absurd h
+whole_table len (table_of ss) h = refl
+whole_table len (table_without m) h = absurd h
 
-clean : (options : XlsOptions) (items before : List Item) → AllByRecursion IsWhole items
-    → first_of (along entry_fault (map entry_of before) (map entry_of items)) ≡ None
-    → AllByRecursion (IsFullSheet options) (map entry_of items) → Clean options before items
-clean options [] before w f s = record { globals = refl; sheets = refl }
-clean options (plain_item typ body ∷ items) before w f s =
-    let i = plain_item typ body in
-    let parts = or_none (item_fault before i) (first_of (along entry_fault (map entry_of before
-    ++ entry_of i ∷ []) (map entry_of items))) f in
-    let c = clean options items (before
-    ++ i ∷ []) w.1 (ap (λ (b : List Entry). first_of (along entry_fault b (map entry_of items))) (entries_push before i) ∙ parts.1) s.1 in
-    record {
-      globals = ap (λ (o : Option XlsError). option_or o (first_of (along item_fault (before
-          ++ i ∷ []) items))) parts.0 ∙ c.globals;
-      sheets = c.sheets;
-    }
-clean options (sheet_item body kept cut ∷ items) before w f s =
-    let i = sheet_item body kept cut in
-    let parts = or_none (entry_fault (map entry_of before) (entry_of i)) (first_of (along entry_fault (map entry_of before ++ entry_of i ∷ []) (map entry_of items))) f in
-    let c = clean options items (before
-    ++ i ∷ []) w.1 (ap (λ (b : List Entry). first_of (along entry_fault b (map entry_of items))) (entries_push before i) ∙ parts.1) s.1 in
-    let none : item_fault before i ≡ None =
-    ap (λ (r : Result SheetContent XlsError). second_or (map entry_of before) (fault_of r)) (long_fault body w.0.0) ∙ parts.0 in
-    record {
-      globals = ap (λ (o : Option XlsError). option_or o (first_of (along item_fault (before
-          ++ i ∷ []) items))) none ∙ c.globals;
-      sheets = none_append (part_places options kept cut) (flat_map (sheet_places options) items)
-          (none_append (along (kept_fault options) [] kept) (cut_fault cut ∷ []) s.0 (ap (λ (x : Option Part). first_of (cut_fault x ∷ [])) w.0.1)) c.sheets;
-    }
+module _ (options : XlsOptions) (s : Setting) where
+  record Clean (before items : List Item) : Type 0 where
+    pub globals : first_of (along (item_fault options) before items) ≡ None
+    pub sheets : first_of (flat_map (sheet_places options s) items) ≡ None
+
+  clean : (items before : List Item) → AllByRecursion IsWhole items
+      → first_of (along (entry_fault options) (map entry_of before) (map entry_of items)) ≡ None
+      → AllByRecursion (IsFullSheet options s) (map entry_of items) → Clean before items
+  clean [] before w f h = record { globals = refl; sheets = refl }
+  clean (plain_item typ body ∷ items) before w f h =
+      let i = plain_item typ body in
+      let parts = or_none (item_fault options before i) (first_of (along (entry_fault options) (map entry_of before ++ entry_of i ∷ []) (map entry_of items))) f in
+      let c = clean items (before ++ i ∷ []) w.1 (ap (λ (b : List Entry). first_of (along (entry_fault options) b (map entry_of items))) (entries_push before i) ∙ parts.1) h.1 in
+      record {
+        globals = ap (λ (o : Option XlsError). option_or o (first_of (along (item_fault options) (before ++ i ∷ []) items))) parts.0 ∙ c.globals;
+        sheets = c.sheets;
+      }
+  clean (table_item body shared ∷ items) before w f h =
+      let i = table_item body shared in
+      let c = clean items (before ++ i ∷ []) w.1 (ap (λ (b : List Entry). first_of (along (entry_fault options) b (map entry_of items))) (entries_push before i) ∙ f) h.1 in
+      record {
+        globals = ap (λ (o : Option XlsError). option_or o (first_of (along (item_fault options) (before ++ i ∷ []) items))) (whole_table (length body) shared w.0) ∙ c.globals;
+        sheets = c.sheets;
+      }
+  clean (sheet_item body kept cut ∷ items) before w f h =
+      let i = sheet_item body kept cut in
+      let page = page_in options (map entry_of before) in
+      let version = version_in (map entry_of before) in
+      let parts = or_none (entry_fault options (map entry_of before) (entry_of i)) (first_of (along (entry_fault options) (map entry_of before ++ entry_of i ∷ []) (map entry_of items))) f in
+      let c = clean items (before ++ i ∷ []) w.1 (ap (λ (b : List Entry). first_of (along (entry_fault options) b (map entry_of items))) (entries_push before i) ∙ parts.1) h.1 in
+      let none : item_fault options before i ≡ None =
+      ap (fault_of {X = ℕ × SheetContent}) (long_sheet page version body (not_short (length body) 6 w.0.0))
+      ∙ same_fault _ (sheet_of page version (slice_index body 4) (slice_index body 5) (drop 6 body)) ∙ parts.0 in
+      record {
+        globals = ap (λ (o : Option XlsError). option_or o (first_of (along (item_fault options) (before ++ i ∷ []) items))) none ∙ c.globals;
+        sheets = none_append (part_places options s kept cut) (flat_map (sheet_places options s) items)
+            (none_append (along (kept_fault options s) [] kept) (cut_fault cut ∷ []) h.0 (ap (λ (x : Option Part). first_of (cut_fault x ∷ [])) w.0.1)) c.sheets;
+      }
 
 full_clear : (options : XlsOptions) (bytes : List ℕ) → IsBytes bytes → (l : List Entry)
     → Carries bytes l → IsFull options l → (e : XlsError) → FirstBehind None options bytes e → ⊥
 full_clear options bytes fits l c f e h =
     let same = one_holds bytes fits h.0 c.items h.1 None h.2 c.holds in
-    let k = clean options c.items [] c.whole (ap (λ (x : List Entry). first_of (along entry_fault [] x)) (sym c.entries_are) ∙ f.globals) (subst (AllByRecursion (IsFullSheet options)) c.entries_are f.sheets) in
+    let s = setting_of options (map entry_of c.items) in
+    let sheets = subst (λ (x : List Entry). AllByRecursion (IsFullSheet options (setting_of options x)) x) c.entries_are f.sheets in
+    let k = clean options s c.items [] c.whole (ap (λ (x : List Entry). first_of (along (entry_fault options) [] x)) (sym c.entries_are) ∙ f.globals) sheets in
     let none : first_of (places options c.items None) ≡ None =
-    none_append (globals_places c.items None) (flat_map (sheet_places options) c.items) (none_append (along item_fault [] c.items) (None ∷ []) k.globals refl) k.sheets in
+    none_append (globals_places options c.items None) (flat_map (sheet_places options s) c.items) (none_append (along (item_fault options) [] c.items) (None ∷ []) k.globals refl) k.sheets in
     let both : Some e ≡ None =
     sym h.3 ∙ ap (λ (x : List Item). first_of (places options x h.1)) same.0
     ∙ ap (λ (x : Option Part). first_of (places options c.items x)) same.1 ∙ none in
@@ -158,14 +187,14 @@ full_sound : (options : XlsOptions) (bytes : List ℕ) → IsBytes bytes
     → length bytes ≤ options.max_bytes → (l : List Entry) → Carries bytes l → IsFull options l
     → IsSound options bytes
 full_sound options bytes fits within l c f e h =
-    full_clear options bytes fits l c f e (subst (λ (o : Option XlsError). FirstBehind o options bytes e) (limit_none options bytes within) h)
+    full_clear options bytes fits l c f e (subst (λ (o : Option XlsError). FirstBehind o options bytes e) (outer_none options bytes within f.forced) h)
 
 abbrev Full : XlsOptions → List ℕ → Type 0
 Full options bytes =
     (length bytes ≤ options.max_bytes) × (l : List Entry) × Carries bytes l × IsFull options l
 
 sound_behind : (options : XlsOptions) (bytes : List ℕ) → IsBytes bytes → (o : Option XlsError)
-    → limit_fault options bytes ≡ o → ((e : XlsError) → FirstBehind o options bytes e → ⊥)
+    → outer_fault options bytes ≡ o → ((e : XlsError) → FirstBehind o options bytes e → ⊥)
     → Full options bytes
 sound_behind options bytes fits (Some f) t clear = absurd (clear f refl)
 sound_behind options bytes fits None t clear =
@@ -174,8 +203,10 @@ sound_behind options bytes fits None t clear =
     by_first : (o : Option XlsError)
         → first_of (places options (has_holds bytes fits).0 (has_holds bytes fits).1) ≡ o
         → Full options bytes
-    by_first None e = let all =
-        faultless_full options bytes (has_holds bytes fits).0 (has_holds bytes fits).1 (has_holds bytes fits).2 e in (within_none options bytes t, all.0, all.1, all.2)
+    by_first None e =
+        let i = inside options bytes t in
+        let all = faultless_full options bytes (has_holds bytes fits).0 (has_holds bytes fits).1 i.forced (has_holds bytes fits).2 e in
+        (i.within, all.0, all.1, all.2)
     by_first (Some f) e =
         absurd (clear f (
           (has_holds bytes fits).0,
@@ -188,23 +219,35 @@ pub sound_where_full : (options : XlsOptions) (bytes : List ℕ) → IsBytes byt
     → IsSound options bytes
     ↔ ((length bytes ≤ options.max_bytes) × (l : List Entry) × Carries bytes l × IsFull options l)
 sound_where_full options bytes fits = (
-  λ clear. sound_behind options bytes fits (limit_fault options bytes) refl clear,
+  λ clear. sound_behind options bytes fits (outer_fault options bytes) refl clear,
   λ c. full_sound options bytes fits c.0 c.1 c.2 c.3,
 )
 
 -- ---- opening
 
--- the first fault of a stream within the limit
+-- the first fault of a stream within the limit, under a forced page that is kept
 stream_first : (options : XlsOptions) (bytes : List ℕ) (e : XlsError)
-    → length bytes ≤ options.max_bytes → StreamFault options bytes e → FirstFault options bytes e
-stream_first options bytes e within f =
-    subst (λ (o : Option XlsError). FirstBehind o options bytes e) (sym (limit_none options bytes within)) f
+    → length bytes ≤ options.max_bytes → forced_fault options.force_codepage ≡ None
+    → StreamFault options bytes e → FirstFault options bytes e
+stream_first options bytes e within forced f =
+    subst (λ (o : Option XlsError). FirstBehind o options bytes e) (sym (outer_none options bytes within forced)) f
+
+-- under one that isn't kept
+forced_first : (options : XlsOptions) (bytes : List ℕ) (e : XlsError)
+    → length bytes ≤ options.max_bytes → forced_fault options.force_codepage ≡ Some e
+    → FirstFault options bytes e
+forced_first options bytes e within forced =
+    let same : outer_fault options bytes ≡ Some e =
+    ap (λ (o : Option XlsError). option_or o (forced_fault options.force_codepage)) (limit_none options bytes within) ∙ forced in
+    subst (λ (o : Option XlsError). FirstBehind o options bytes e) (sym same) refl
 
 -- and of one past the limit
 limit_first : (options : XlsOptions) (bytes : List ℕ) → options.max_bytes < length bytes
     → FirstFault options bytes (errors.TooLarge options.max_bytes)
 limit_first options bytes past =
-    subst (λ (o : Option XlsError). FirstBehind o options bytes (errors.TooLarge options.max_bytes)) (sym (limit_some options bytes past)) refl
+    let same : outer_fault options bytes ≡ Some (errors.TooLarge options.max_bytes) =
+    ap (λ (o : Option XlsError). option_or o (forced_fault options.force_codepage)) (limit_some options bytes past) in
+    subst (λ (o : Option XlsError). FirstBehind o options bytes (errors.TooLarge options.max_bytes)) (sym same) refl
 
 -- a refusal of the read is one of the open
 pub read_cause : (options : XlsOptions) (left : Option (List ℕ)) (before now : ℕ) (e : XlsError)
@@ -232,15 +275,26 @@ opened_of_stream options bytes book within o = record {
   entries = o.entries;
   carries = o.carries;
   full = o.full;
-  every = λ others c. subst (λ (l : List Entry). IsReading l book) (one_list bytes o.are_bytes o.entries others o.carries c) o.reading;
+  every = λ others c. subst (λ (l : List Entry). IsReading options l book) (one_list bytes o.are_bytes o.entries others o.carries c) o.reading;
 }
 
-stream_cause : (options : XlsOptions) (bytes : List ℕ) (left : Option (List ℕ)) (before now : ℕ) (e : XlsError) → IfSome left (λ all. all ≡ bytes) → length bytes ≤ options.max_bytes → OpensStream options bytes (Err e) → OpenCause options left before now e
-stream_cause options bytes left before now errors.Memory same within o = tt
-stream_cause options bytes left before now errors.Io same within o = absurd (not_io options bytes o)
-stream_cause options bytes None before now e same within o = tt
-stream_cause options bytes (Some all) before now e same within o =
-    subst (λ (x : List ℕ). FirstFault options x e) (sym same) (stream_first options bytes e within o)
+stream_cause : (options : XlsOptions) (bytes : List ℕ) (left : Option (List ℕ)) (before now : ℕ) (e : XlsError) → IfSome left (λ all. all ≡ bytes) → length bytes ≤ options.max_bytes → forced_fault options.force_codepage ≡ None → OpensStream options bytes (Err e) → OpenCause options left before now e
+stream_cause options bytes left before now errors.Memory same within forced o = tt
+stream_cause options bytes left before now errors.Io same within forced o = absurd (not_io options bytes o)
+stream_cause options bytes None before now e same within forced o = tt
+stream_cause options bytes (Some all) before now e same within forced o =
+    subst (λ (x : List ℕ). FirstFault options x e) (sym same) (stream_first options bytes e within forced o)
+
+no_io : (o : Option ℕ) → forced_fault o ≡ Some errors.Io → ⊥
+no_io o h = subst IsClear h (forced_clear o)
+
+-- a forced page that isn't kept
+pub forced_cause : (options : XlsOptions) (bytes : List ℕ) (left : Option (List ℕ)) (before now : ℕ) (e : XlsError) → IfSome left (λ all. all ≡ bytes) → length bytes ≤ options.max_bytes → forced_fault options.force_codepage ≡ Some e → OpenCause options left before now e
+forced_cause options bytes left before now errors.Memory same within h = tt
+forced_cause options bytes left before now errors.Io same within h = absurd (no_io options.force_codepage h)
+forced_cause options bytes None before now e same within h = tt
+forced_cause options bytes (Some all) before now e same within h =
+    subst (λ (x : List ℕ). FirstFault options x e) (sym same) (forced_first options bytes e within h)
 
 pub open_ok : (options : XlsOptions) (bytes : List ℕ) (left : Option (List ℕ)) (r : Result Workbook XlsError) → IfSome left (λ all. all ≡ bytes) → length bytes ≤ options.max_bytes → OpensStream options bytes r → IfOk r (λ book. IfSome left (IsOpened options book))
 open_ok options bytes None (Ok book) same within o = tt
@@ -248,10 +302,10 @@ open_ok options bytes (Some all) (Ok book) same within o =
     subst (IsOpened options book) (sym same) (opened_of_stream options bytes book within o)
 open_ok options bytes left (Err e) same within o = tt
 
-pub open_cause : (options : XlsOptions) (bytes : List ℕ) (left : Option (List ℕ)) (before now : ℕ) (r : Result Workbook XlsError) → IfSome left (λ all. all ≡ bytes) → length bytes ≤ options.max_bytes → OpensStream options bytes r → IfErr r (OpenCause options left before now)
-open_cause options bytes left before now (Ok book) same within o = tt
-open_cause options bytes left before now (Err e) same within o =
-    stream_cause options bytes left before now e same within o
+pub open_cause : (options : XlsOptions) (bytes : List ℕ) (left : Option (List ℕ)) (before now : ℕ) (r : Result Workbook XlsError) → IfSome left (λ all. all ≡ bytes) → length bytes ≤ options.max_bytes → forced_fault options.force_codepage ≡ None → OpensStream options bytes r → IfErr r (OpenCause options left before now)
+open_cause options bytes left before now (Ok book) same within forced o = tt
+open_cause options bytes left before now (Err e) same within forced o =
+    stream_cause options bytes left before now e same within forced o
 
 complete_error : (options : XlsOptions) (left : Option (List ℕ)) (before now : ℕ) (e : XlsError)
     → OpenCause options left before now e → (Rose before now → ⊥)

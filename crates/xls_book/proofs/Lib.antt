@@ -1,9 +1,10 @@
-pub mod NameLemmas
-pub mod OrderLemmas
-pub mod GlobalsLemmas
-pub mod PartLemmas
-pub mod ContentsLemmas
-pub mod OpenLemmas
 pub mod ClearLemmas
+pub mod ContentsLemmas
+pub mod FollowLemmas
+pub mod GlobalsLemmas
+pub mod IndexLemmas
 pub mod LawLemmas
-pub mod StandardFacts
+pub mod NameLemmas
+pub mod OpenLemmas
+pub mod OrderLemmas
+pub mod PartLemmas

@@ -1,8 +1,8 @@
 -- Going along a list, and the first that is there.
-use Rattle.std.proofs.Common.{◌≡◌, List, [], ◌∷◌, ◌++◌, Option, Some, None, refl, sym, ap, ◌∙◌, append_assoc}
+use Rattle.std.proofs.Common.{◌≡◌, List, [], ◌∷◌, ◌++◌, Option, Some, None, refl, sym, ap, ◌∙◌, append_assoc, map}
 use Rattle.std.specs.Option.{option_or}
 use Rattle.std.proofs.lemmas.List.{append-nil}
-use Rattle.xls_book.specs.Order.{along, first_of, somes}
+use Rattle.xls_book.specs.Order.{along, first_of, last_of, somes}
 
 module _ {E : Type 0} where
   option_or_assoc : (a b c : Option E) → option_or (option_or a b) c ≡ option_or a (option_or b c)
@@ -68,3 +68,20 @@ module _ {X E : Type 0} (f : List X → X → Option E) where
   none_push xs x h g =
       ap first_of (along-push f xs x) ∙ first_behind (along f [] xs) (f xs x ∷ []) h
       ∙ ap (λ (o : Option E). option_or o None) g
+
+module _ {X E : Type 0} (f : X → Option E) where
+  option_or_none : (o : Option E) → option_or o None ≡ o
+  option_or_none None = refl
+  option_or_none (Some x) = refl
+
+  or_assoc : (a b c : Option E) → option_or (option_or a b) c ≡ option_or a (option_or b c)
+  or_assoc None b c = refl
+  or_assoc (Some x) b c = refl
+
+  -- the last of one more is its own, if there is one
+  pub last-push : (xs : List X) (x : X)
+      → last_of (map f (xs ++ x ∷ [])) ≡ option_or (f x) (last_of (map f xs))
+  last-push [] x = sym (option_or_none (f x))
+  last-push (y ∷ ys) x =
+      ap (λ (o : Option E). option_or o (f y)) (last-push ys x)
+      ∙ or_assoc (f x) (last_of (map f ys)) (f y)

@@ -1,15 +1,14 @@
 -- The records of a part, one after the other.
-use Rattle.std.proofs.Common.{◌≡◌, ℕ, ◌+◌, ◌<◌, List, [], ◌∷◌, ◌++◌, map, length, refl, sym, ap, subst, ◌∙◌, append_assoc, arith, inl, inr, Bool, true, false, Option, Some, None, Result, Ok, Err}
-use Rattle.std.specs.Prelude.{◌&&◌, ◌==◌, if◌then◌else◌}
+use Rattle.std.proofs.Common.{◌≡◌, ℕ, ◌+◌, ◌<◌, ◌≤◌, ◌-◌, List, [], ◌∷◌, ◌++◌, map, length, refl, sym, ap, subst, ◌∙◌, append_assoc, arith, inl, inr, Bool, true, false, Option, Some, None, Result, Ok, Err}
+use Rattle.std.specs.Prelude.{◌&&◌, ◌==◌, nat_lt, if◌then◌else◌}
 use Rattle.std.specs.Option.{option_or, option_map}
-use Rattle.std.specs.List.{filter, AllByRecursion}
-use Rattle.std.proofs.lemmas.List.{append-nil, map-append, length-append}
-use Rattle.std.proofs.lemmas.List.Elements.{filter-append}
+use Rattle.std.specs.List.{flat_map}
+use Rattle.std.proofs.lemmas.List.{append-nil, map-append}
 use Rattle.xls_model.specs.Stream.{Group}
 use Rattle.xls_model.specs.Counting.{From, found_from, with_group}
 use Rattle.xls_model.specs.Walks.{IsBytes}
 use Rattle.xls_model.specs.Substreams.{SheetPart}
-use Rattle.xls_model.specs.Listing.{is_among, sheet_types, Kept, kept_group, kept_of, is_sheet_type, IsPart}
+use Rattle.xls_model.specs.Listing.{Kept, kept_group, kept_of, IsPart}
 use Rattle.xls_model.specs.declared.part.Part.{Part}
 use Rattle.xls_model.proofs.Runs.{Run-append}
 use Rattle.xls_model.proofs.Founds.{found_nothing}
@@ -17,18 +16,20 @@ use Rattle.xls_model.proofs.Ends.{has_groups}
 use Rattle.xls_model.proofs.Shapes.{run_bytes, has_from, same_parts}
 use Rattle.xls_data.specs.Data.{content_of}
 use Rattle.xls_data.specs.declared.values.Data.{Data}
+use Rattle.xls_data.specs.declared.regions.Dimensions.{Dimensions}
 use Rattle.xls_biff.specs.declared.error.XlsError.{XlsError}
 use Rattle.xls_biff.specs.declared.error.XlsError.TheVariants as errors
 use Rattle.xls_biff.specs.Outer.{Keeps, Over, CutShort}
+use Rattle.xls_biff.specs.Reading.{Fails}
+use Rattle.xls_biff.specs.Checks.{weight_of}
 use Rattle.xls_biff.specs.Cells.{Entry}
-use Rattle.xls_cells.specs.declared.sorted.Given.{Given}
-use Rattle.xls_cells.proofs.LastLemmas.{weaker}
-use Rattle.xls_cells.specs.Positions.{Position, IsNumbered, IsAscending, HasSame, last_at, cell_position, given_entry}
+use Rattle.xls_cells.specs.Positions.{Position, IsAscending, last_at, cell_position}
 use Rattle.xls_book.specs.Order.{along, first_of}
-use Rattle.xls_book.specs.RecordTable.{given_at}
-use Rattle.xls_book.specs.Reading.{given_by, values_of}
-use Rattle.xls_book.specs.Faults.{kept_fault, cut_fault, part_places}
-use Rattle.xls_book.specs.Steps.{cell_content, given_content, listed_cell, IsNumberedTo, IsRead, PartFault, Reads}
+use Rattle.xls_book.specs.InForce.{Setting}
+use Rattle.xls_book.specs.RecordTable.{fault_of, Given, given_at}
+use Rattle.xls_book.specs.Reading.{SheetView, given_by, values_of, merges_of}
+use Rattle.xls_book.specs.Faults.{weight_in, weight_fault, kept_fault, cut_fault, part_places}
+use Rattle.xls_book.specs.Steps.{cell_content, no_view, given_step, weight_left, IsRead, PartFault, Reads}
 use Rattle.xls_book.specs.declared.options.XlsOptions.{XlsOptions}
 use Rattle.xls_book.proofs.OrderLemmas.{first_at, none_push, first_behind}
 
@@ -90,194 +91,207 @@ keeps_bytes : (before : List ℕ) (was : ℕ) (g : Group) (after : List ℕ) (no
     → Keeps before was g after now → IsBytes before → IsBytes after
 keeps_bytes before was g after now k fits = run_bytes before (k.groups ++ g ∷ []) after k.run fits
 
--- ---- what is kept
+-- ---- what one more record gives
 
-kept_more : (gs hs : List Group) → kept_of (gs ++ hs) ≡ kept_of gs ++ kept_of hs
-kept_more gs hs = ap (map kept_group) (filter-append is_sheet_type gs hs)
-    ∙ map-append kept_group (filter is_sheet_type gs) (filter is_sheet_type hs)
+kept_push : (gs : List Group) (g : Group) → kept_of (gs ++ g ∷ []) ≡ kept_of gs ++ kept_group g ∷ []
+kept_push gs g = map-append kept_group gs (g ∷ [])
 
-kept_here : (g : Group) (more : List Group) → is_sheet_type g ≡ true
-    → kept_of (g ∷ more) ≡ kept_group g ∷ kept_of more
-kept_here g more e = rw e refl
+flat_push : {X Y : Type 0} (f : X → List Y) (xs : List X) (x : X)
+    → flat_map f (xs ++ x ∷ []) ≡ flat_map f xs ++ f x
+flat_push f [] x = append-nil (f x)
+flat_push {Y = Y} f (y ∷ ys) x =
+    ap (λ (l : List Y). f y ++ l) (flat_push f ys x) ∙ sym (append_assoc (f y) (flat_map f ys) (f x))
 
-kept_not : (g : Group) (more : List Group) → is_sheet_type g ≡ false
-    → kept_of (g ∷ more) ≡ kept_of more
-kept_not g more e = rw e refl
+weight_push : (ks : List Kept) (k : Kept) → weight_in (ks ++ k ∷ []) ≡ weight_in ks + weight_of k.typ k.body
+weight_push [] k = omega arith
+weight_push (j ∷ ks) k = let on = weight_push ks k in omega (arith, on)
 
-not_number : (n : ℕ) → is_among n sheet_types ≡ false → (n == 515) ≡ false
-not_number n e = by_test (n == 515) refl
+-- behind a record that was taken
+record Took (s : Setting) (k : Kept) (v w : SheetView) : Type 0 where
+  pub none : fault_of (given_at s k) ≡ None
+  pub cells : w.cells ≡ v.cells ++ (given_by (given_at s k)).cells
+  pub merges : w.merges ≡ v.merges ++ (given_by (given_at s k)).regions
+
+took : (s : Setting) (k : Kept) (v w : SheetView) (r : Result Given XlsError) → given_at s k ≡ r
+    → given_step v r ≡ Ok w → Took s k v w
+took s k v w (Err e) f h = absurd cc
+took s k v w (Ok g) f h =
+    let same : record { cells = v.cells ++ g.cells; merges = v.merges ++ g.regions } ≡ w = cc in
+    record {
+      none = ap (fault_of {X = Given}) f;
+      cells = ap (λ (x : SheetView). x.cells) (sym same)
+          ∙ ap (λ (r : Result Given XlsError). v.cells ++ (given_by r).cells) (sym f);
+      merges = ap (λ (x : SheetView). x.merges) (sym same)
+          ∙ ap (λ (r : Result Given XlsError). v.merges ++ (given_by r).regions) (sym f);
+    }
+
+-- behind a record whose weight was taken
+has_room : (limit room weight left : ℕ) → weight_left limit room weight ≡ Ok left → room ≡ left + weight
+has_room limit room weight left h = by_test (nat_lt room weight) refl
   where
-    by_test : (b : Bool) → (n == 515) ≡ b → (n == 515) ≡ false
-    by_test false h = h
-    by_test true h = absurd (let t : true ≡ false = rw h at e in cc)
+    enough : nat_lt room weight ≡ false → ◌≡◌ {A = Result ℕ XlsError} (Ok (room - weight)) (Ok left) → room ≡ left + weight
+    enough t e = let f : room - weight ≡ left = cc in let l : weight ≤ room = grind arith in omega (arith, f, l)
 
-other_cell : (g : Group) → is_sheet_type g ≡ false → given_at g.typ g.body ≡ Ok []
-other_cell g e = rw (e, not_number g.typ e) refl
+    by_test : (b : Bool) → nat_lt room weight ≡ b → room ≡ left + weight
+    by_test true t = absurd (let e : Err (errors.TooManyCells limit) ≡ Ok left = rw t at h in cc)
+    by_test false t = enough t (rw t at h)
 
-values_push : (ks : List Kept) (k : Kept) → values_of (ks ++ k ∷ []) ≡ values_of ks
-    ++ given_by (given_at k.typ k.body)
-values_push [] k = append-nil (given_by (given_at k.typ k.body))
-values_push (j ∷ ks) k =
-    ap (λ (l : List Entry). given_by (given_at j.typ j.body) ++ l) (values_push ks k)
-    ∙ sym (append_assoc (given_by (given_at j.typ j.body)) (values_of ks) (given_by (given_at k.typ k.body)))
+no_room : (limit room weight : ℕ) (e : XlsError) → weight_left limit room weight ≡ Err e
+    → (room < weight) × (e ≡ errors.TooManyCells limit)
+no_room limit room weight e h = by_test (nat_lt room weight) refl
+  where
+    less : nat_lt room weight ≡ true → room < weight
+    less t = grind arith
 
--- ---- numbers
+    by_test : (b : Bool) → nat_lt room weight ≡ b → (room < weight) × (e ≡ errors.TooManyCells limit)
+    by_test true t = (less t, let f : Err (errors.TooManyCells limit) ≡ Err e = rw t at h in cc)
+    by_test false t = absurd (let f : ◌≡◌ {A = Result ℕ XlsError} (Ok (room - weight)) (Err e) = rw t at h in cc)
 
-all_push : {X : Type 0} (P : X → Type 0) (xs : List X) (y : X) → AllByRecursion P xs → P y
-    → AllByRecursion P (xs ++ y ∷ [])
-all_push P [] y a h = (h, tt)
-all_push P (x ∷ xs) y a h = (a.0, all_push P xs y a.1 h)
+light : (options : XlsOptions) (ks : List Kept) → weight_in ks ≤ options.max_cells
+    → weight_fault options ks ≡ None
+light options ks h = let t : nat_lt options.max_cells (weight_in ks) ≡ false = test h in rw t refl
+  where
+    test : weight_in ks ≤ options.max_cells → nat_lt options.max_cells (weight_in ks) ≡ false
+    test l = grind arith
 
-numbers : (n : ℕ) (xs : List (Given Data)) (y : Given Data) → IsNumbered xs
-    → AllByRecursion (λ x. x.number < n) xs → y.number ≡ n → IsNumbered (xs ++ y ∷ [])
-numbers n [] y a b e = (tt, tt)
-numbers n (x ∷ xs) y a b e = let l =
-    b.0 in (all_push (λ z. x.number < z.number) xs y a.0 (omega arith), numbers n xs y a.1 b.1 e)
-
--- one more cell, with the next number
-pub given_push : (xs ys : List (Given Data)) (y : Given Data) (o : Option (Position × Data))
-    → IsNumberedTo (length xs) xs → y.number ≡ length xs → ys ≡ xs ++ y ∷ [] → o ≡ Some y.cell
-    → IsNumberedTo (length ys) ys × (map given_content ys ≡ map given_content xs ++ listed_cell o)
-given_push xs ys y o h n e f =
-    let len : length ys ≡ length xs + 1 =
-    ap length e ∙ omega (arith, length-append xs (y ∷ [])) in (
-      (
-        subst (λ (l : List (Given Data)). IsNumbered l) (sym e) (numbers (length xs) xs y h.0 h.1 n),
-        subst (λ (l : List (Given Data)). AllByRecursion (λ x. x.number < length ys) l) (sym e)
-            (all_push (λ x. x.number < length ys) xs y (weaker (λ x. x.number < length xs) (λ x. x.number < length ys) (λ x l. omega arith) xs h.1) (omega arith)),
-      ),
-      ap (map given_content) e ∙ map-append given_content xs (y ∷ [])
-          ∙ ap (λ (x : Option (Position × Data)). map given_content xs ++ listed_cell x) (sym f),
-    )
+heavy : (options : XlsOptions) (ks : List Kept) → options.max_cells < weight_in ks
+    → weight_fault options ks ≡ Some (errors.TooManyCells options.max_cells)
+heavy options ks h = let t : nat_lt options.max_cells (weight_in ks) ≡ true = test h in rw t refl
+  where
+    test : options.max_cells < weight_in ks → nat_lt options.max_cells (weight_in ks) ≡ true
+    test l = grind arith
 
 -- ---- the part so far
 
-pub record PartSoFar (part rest : List ℕ) (depth : ℕ) (options : XlsOptions) (xs : List (Given Data)) : Type 0 where
+pub record PartSoFar (part rest : List ℕ) (depth : ℕ) (options : XlsOptions) (s : Setting) (v : SheetView) (room : ℕ) : Type 0 where
   pub groups : List Group
   pub joins : (more : List Group) (cut : Option Part) → From (found_from depth) rest more cut
       → From (found_from 0) part (groups ++ more) cut
   pub part_fits : IsBytes part
   pub fits : IsBytes rest
-  pub faultless : first_of (along (kept_fault options) [] (kept_of groups)) ≡ None
-  pub values : map given_content xs ≡ values_of (kept_of groups)
-  pub numbered : IsNumberedTo (length xs) xs
+  pub faultless : first_of (along (kept_fault options s) [] (kept_of groups)) ≡ None
+  pub cells : v.cells ≡ values_of s (kept_of groups)
+  pub merges : v.merges ≡ merges_of s (kept_of groups)
+  pub weighed : room + weight_in (kept_of groups) ≡ options.max_cells
 
-pub part_nothing : (part : List ℕ) (options : XlsOptions) (xs : List (Given Data)) → IsBytes part
-    → xs ≡ [] → PartSoFar part part 0 options xs
-part_nothing part options xs fits e =
-    subst (λ (l : List (Given Data)). PartSoFar part part 0 options l) (sym e) (record {
-      groups = [];
-      joins = λ more cut f. f;
-      part_fits = fits;
-      fits = fits;
-      faultless = refl;
-      values = refl;
-      numbered = (tt, tt);
-    })
+pub part_nothing : (part : List ℕ) (options : XlsOptions) (s : Setting) (v : SheetView) (room : ℕ)
+    → IsBytes part → v ≡ no_view → room ≡ options.max_cells → PartSoFar part part 0 options s v room
+part_nothing part options s v room fits e r = record {
+  groups = [];
+  joins = λ more cut f. f;
+  part_fits = fits;
+  fits = fits;
+  faultless = refl;
+  cells = ap (λ (x : SheetView). x.cells) e;
+  merges = ap (λ (x : SheetView). x.merges) e;
+  weighed = omega (arith, r);
+}
 
-joined : (part rest after : List ℕ) (depth now : ℕ) (options : XlsOptions) (xs : List (Given Data)) (g : Group) (s : PartSoFar part rest depth options xs) → Keeps rest depth g after now
+joined : (part rest after : List ℕ) (depth now : ℕ) (options : XlsOptions) (s : Setting) (v : SheetView) (room : ℕ) (g : Group) (p : PartSoFar part rest depth options s v room) → Keeps rest depth g after now
     → (more : List Group) (cut : Option Part) → From (found_from now) after more cut
-    → From (found_from 0) part (s.groups ++ g ∷ more) cut
-joined part rest after depth now options xs g s k more cut f =
-    s.joins (g ∷ more) cut (keeps_from rest depth g after now more cut k f)
+    → From (found_from 0) part (p.groups ++ g ∷ more) cut
+joined part rest after depth now options s v room g p k more cut f =
+    p.joins (g ∷ more) cut (keeps_from rest depth g after now more cut k f)
 
-pub part_more : (part rest after : List ℕ) (depth now : ℕ) (options : XlsOptions) (xs ys : List (Given Data)) (g : Group) (o : Option (Position × Data)) → PartSoFar part rest depth options xs → Keeps rest depth g after now
-    → given_at g.typ g.body ≡ Ok (listed_cell o) → IsNumberedTo (length ys) ys
-    → map given_content ys ≡ map given_content xs ++ listed_cell o
-    → PartSoFar part after now options ys
-part_more part rest after depth now options xs ys g o s k cell numbered values =
-    by_type (is_sheet_type g) refl
-  where
-    joins : (more : List Group) (cut : Option Part) → From (found_from now) after more cut
-        → From (found_from 0) part ((s.groups ++ g ∷ []) ++ more) cut
-    joins more cut f = subst (λ (x : List Group). From (found_from 0) part x cut) (sym (append_assoc s.groups (g ∷ []) more)) (joined part rest after depth now options xs g s k more cut f)
-
-    by_type : (b : Bool) → is_sheet_type g ≡ b → PartSoFar part after now options ys
-    by_type true t =
-        let old = kept_of s.groups in
-        let new : kept_of (s.groups ++ g ∷ []) ≡ old ++ kept_group g ∷ [] =
-        kept_more s.groups (g ∷ []) ∙ ap (λ (l : List Kept). old ++ l) (kept_here g [] t) in
-        let faultless : kept_fault options old (kept_group g) ≡ None = rw cell refl in
-        record {
-          groups = s.groups ++ g ∷ [];
-          joins = joins;
-          part_fits = s.part_fits;
-          fits = keeps_bytes rest depth g after now k s.fits;
-          faultless = rw new (none_push (kept_fault options) old (kept_group g) s.faultless faultless);
-          values = values ∙ ap (λ (l : List Entry). l ++ listed_cell o) s.values
-              ∙ ap (λ (r : Result (List Entry) XlsError). values_of old ++ given_by r) (sym cell)
-              ∙ sym (values_push old (kept_group g)) ∙ ap values_of (sym new);
-          numbered = numbered;
-        }
-    by_type false t =
-        let old = kept_of s.groups in
-        let new : kept_of (s.groups ++ g ∷ []) ≡ old =
-        kept_more s.groups (g ∷ []) ∙ ap (λ (l : List Kept). old ++ l) (kept_not g [] t)
-        ∙ append-nil old in
-        let other = other_cell g t in
-        let nothing : listed_cell o ≡ [] = let e : Ok (listed_cell o) ≡ Ok [] =
-        sym cell ∙ other in cc in
-        record {
-          groups = s.groups ++ g ∷ [];
-          joins = joins;
-          part_fits = s.part_fits;
-          fits = keeps_bytes rest depth g after now k s.fits;
-          faultless = rw new s.faultless;
-          values = values ∙ ap (λ (x : List Entry). map given_content xs ++ x) nothing
-              ∙ append-nil (map given_content xs) ∙ s.values ∙ ap values_of (sym new);
-          numbered = numbered;
-        }
+pub part_more : (part rest after : List ℕ) (depth now : ℕ) (options : XlsOptions) (s : Setting) (v w : SheetView) (room left : ℕ) (g : Group) → PartSoFar part rest depth options s v room → Keeps rest depth g after now
+    → given_step v (given_at s (kept_group g)) ≡ Ok w
+    → weight_left options.max_cells room (weight_of g.typ g.body) ≡ Ok left
+    → PartSoFar part after now options s w left
+part_more part rest after depth now options s v w room left g p k given weight =
+    let old = kept_of p.groups in
+    let one = kept_group g in
+    let new : kept_of (p.groups ++ g ∷ []) ≡ old ++ one ∷ [] = kept_push p.groups g in
+    let t = took s one v w (given_at s one) refl given in
+    let fits = has_room options.max_cells room (weight_of g.typ g.body) left weight in
+    let heavier = weight_push old one in
+    let had = p.weighed in
+    let sum : left + weight_in (old ++ one ∷ []) ≡ options.max_cells = omega (arith, fits, heavier, had) in
+    let none : kept_fault options s old one ≡ None =
+    ap (λ (o : Option XlsError). option_or o (weight_fault options (old ++ one ∷ []))) t.none
+    ∙ light options (old ++ one ∷ []) (omega (arith, sum)) in
+    record {
+      groups = p.groups ++ g ∷ [];
+      joins = λ more cut f. subst (λ (x : List Group). From (found_from 0) part x cut) (sym (append_assoc p.groups (g ∷ []) more)) (joined part rest after depth now options s v room g p k more cut f);
+      part_fits = p.part_fits;
+      fits = keeps_bytes rest depth g after now k p.fits;
+      faultless = rw new (none_push (kept_fault options s) old one p.faultless none);
+      cells = t.cells ∙ ap (λ (l : List Entry). l ++ (given_by (given_at s one)).cells) p.cells
+          ∙ sym (flat_push (λ (x : Kept). (given_by (given_at s x)).cells) old one)
+          ∙ ap (values_of s) (sym new);
+      merges = t.merges ∙ ap (λ (l : List Dimensions). l ++ (given_by (given_at s one)).regions) p.merges
+          ∙ sym (flat_push (λ (x : Kept). (given_by (given_at s x)).regions) old one)
+          ∙ ap (merges_of s) (sym new);
+      weighed = ap (λ (ks : List Kept). left + weight_in ks) new ∙ sum;
+    }
 
 -- ---- faults
 
-pub faulty : (Stands : List Kept → Option Part → Type 0) (options : XlsOptions) (e : XlsError)
-    → PartFault Stands options e → Reads Stands options (Err e)
-faulty Stands options errors.Memory h = tt
-faulty Stands options e h = h
+pub faulty : (Stands : List Kept → Option Part → Type 0) (options : XlsOptions) (s : Setting) (e : XlsError)
+    → PartFault Stands options s e → Reads Stands options s (Err e)
+faulty Stands options s errors.Memory h = tt
+faulty Stands options s e h = h
 
-record_fault : (part rest after : List ℕ) (depth now : ℕ) (options : XlsOptions) (xs : List (Given Data)) (g : Group) (e : XlsError) (s : PartSoFar part rest depth options xs) → Keeps rest depth g after now
-    → is_sheet_type g ≡ true → kept_fault options (kept_of s.groups) (kept_group g) ≡ Some e
-    → PartFault (IsPart part) options e
-record_fault part rest after depth now options xs g e s k t f =
-    let others = has_from (found_from now) after (keeps_bytes rest depth g after now k s.fits) in
-    let all = s.groups ++ g ∷ others.0 in
-    let kept : kept_of all ≡ kept_of s.groups ++ kept_group g ∷ kept_of others.0 =
-    kept_more s.groups (g ∷ others.0)
-    ∙ ap (λ (l : List Kept). kept_of s.groups ++ l) (kept_here g others.0 t) in (
+record_fault : (part rest after : List ℕ) (depth now : ℕ) (options : XlsOptions) (s : Setting) (v : SheetView) (room : ℕ) (g : Group) (e : XlsError) (p : PartSoFar part rest depth options s v room) → Keeps rest depth g after now
+    → kept_fault options s (kept_of p.groups) (kept_group g) ≡ Some e
+    → PartFault (IsPart part) options s e
+record_fault part rest after depth now options s v room g e p k f =
+    let others = has_from (found_from now) after (keeps_bytes rest depth g after now k p.fits) in
+    let all = p.groups ++ g ∷ others.0 in
+    let kept : kept_of all ≡ kept_of p.groups ++ kept_group g ∷ kept_of others.0 =
+    map-append kept_group p.groups (g ∷ others.0) in (
       kept_of all,
       others.1,
-      (all, part_from part all others.1 s.part_fits (joined part rest after depth now options xs g s k others.0 others.1 others.2), refl),
-      ap (λ (l : List Kept). first_of (part_places options l others.1)) kept
-          ∙ first_at (kept_fault options) (kept_of s.groups) (kept_group g) (kept_of others.0) (cut_fault others.1 ∷ []) e s.faultless f,
+      (all, part_from part all others.1 p.part_fits (joined part rest after depth now options s v room g p k others.0 others.1 others.2), refl),
+      ap (λ (l : List Kept). first_of (part_places options s l others.1)) kept
+          ∙ first_at (kept_fault options s) (kept_of p.groups) (kept_group g) (kept_of others.0) (cut_fault others.1 ∷ []) e p.faultless f,
     )
 
--- a type whose records may fail or count is a sheet type
-is_type : (g : Group) → (is_sheet_type g ≡ false → ⊥) → is_sheet_type g ≡ true
-is_type g h = by_test (is_sheet_type g) refl
-  where
-    by_test : (b : Bool) → is_sheet_type g ≡ b → is_sheet_type g ≡ true
-    by_test true e = e
-    by_test false e = absurd (h e)
+own_fault : (s : Setting) (k : Kept) (v : SheetView) (e : XlsError) (r : Result Given XlsError)
+    → given_at s k ≡ r → given_step v r ≡ Err e → fault_of (given_at s k) ≡ Some e
+own_fault s k v e (Err f) h g = ap (fault_of {X = Given}) h ∙ (let same : f ≡ e = cc in ap (λ (x : XlsError). Some x) same)
+own_fault s k v e (Ok x) h g = absurd cc
 
-pub cell_refused : (part rest after : List ℕ) (depth now : ℕ) (options : XlsOptions) (xs : List (Given Data)) (g : Group) (e : XlsError) → PartSoFar part rest depth options xs → Keeps rest depth g after now
-    → given_at g.typ g.body ≡ Err e → Reads (IsPart part) options (Err e)
-cell_refused part rest after depth now options xs g e s k f =
-    faulty (IsPart part) options e (record_fault part rest after depth now options xs g e s k
-    (is_type g (λ t. let both : Err e ≡ Ok [] = sym f ∙ other_cell g t in cc)) (rw f refl))
+-- a record's own fault
+pub record_refused : (part rest after : List ℕ) (depth now : ℕ) (options : XlsOptions) (s : Setting) (v : SheetView) (room : ℕ) (g : Group) (e : XlsError) → PartSoFar part rest depth options s v room → Keeps rest depth g after now
+    → Fails e (given_step v (given_at s (kept_group g))) → Reads (IsPart part) options s (Err e)
+record_refused part rest after depth now options s v room g errors.Memory p k f = tt
+record_refused part rest after depth now options s v room g e p k f =
+    let one = kept_group g in
+    let own = own_fault s one v e (given_at s one) refl f in
+    faulty (IsPart part) options s e (record_fault part rest after depth now options s v room g e p k
+    (ap (λ (o : Option XlsError). option_or o (weight_fault options (kept_of p.groups ++ one ∷ []))) own))
 
-pub part_cut : (part rest : List ℕ) (depth : ℕ) (options : XlsOptions) (xs : List (Given Data)) (e : XlsError) → PartSoFar part rest depth options xs → CutShort rest depth e → Reads (IsPart part) options (Err e)
-part_cut part rest depth options xs e s c =
-    faulty (IsPart part) options e (
-      kept_of (s.groups ++ []),
+-- too many cells
+pub weight_refused : (part rest after : List ℕ) (depth now : ℕ) (options : XlsOptions) (s : Setting) (v w : SheetView) (room : ℕ) (g : Group) (e : XlsError) → PartSoFar part rest depth options s v room → Keeps rest depth g after now
+    → given_step v (given_at s (kept_group g)) ≡ Ok w
+    → weight_left options.max_cells room (weight_of g.typ g.body) ≡ Err e
+    → Reads (IsPart part) options s (Err e)
+weight_refused part rest after depth now options s v w room g e p k given weight =
+    let old = kept_of p.groups in
+    let one = kept_group g in
+    let t = took s one v w (given_at s one) refl given in
+    let n = no_room options.max_cells room (weight_of g.typ g.body) e weight in
+    let heavier = weight_push old one in
+    let had = p.weighed in
+    let less = n.0 in
+    let over : options.max_cells < weight_in (old ++ one ∷ []) = omega (arith, heavier, had, less) in
+    faulty (IsPart part) options s e (record_fault part rest after depth now options s v room g e p k
+    (ap (λ (o : Option XlsError). option_or o (weight_fault options (old ++ one ∷ []))) t.none
+    ∙ heavy options (old ++ one ∷ []) over ∙ ap (λ (x : XlsError). Some x) (sym n.1)))
+
+pub part_cut : (part rest : List ℕ) (depth : ℕ) (options : XlsOptions) (s : Setting) (v : SheetView) (room : ℕ) (e : XlsError) → PartSoFar part rest depth options s v room → CutShort rest depth e → Reads (IsPart part) options s (Err e)
+part_cut part rest depth options s v room e p c =
+    faulty (IsPart part) options s e (
+      kept_of (p.groups ++ []),
       Some c.part,
       (
-        s.groups ++ [],
-        part_from part (s.groups
-            ++ []) (Some c.part) s.part_fits (s.joins [] (Some c.part) (cut_from rest depth e c)),
+        p.groups ++ [],
+        part_from part (p.groups
+            ++ []) (Some c.part) p.part_fits (p.joins [] (Some c.part) (cut_from rest depth e c)),
         refl,
       ),
-      ap (λ (l : List Group). first_of (part_places options (kept_of l) (Some c.part))) (append-nil s.groups)
-          ∙ first_behind (along (kept_fault options) [] (kept_of s.groups)) (Some (errors.EoStream c.part) ∷ []) s.faultless
+      ap (λ (l : List Group). first_of (part_places options s (kept_of l) (Some c.part))) (append-nil p.groups)
+          ∙ first_behind (along (kept_fault options s) [] (kept_of p.groups)) (Some (errors.EoStream c.part) ∷ []) p.faultless
           ∙ ap (λ (x : XlsError). Some x) (sym c.error),
     )
 
@@ -294,32 +308,28 @@ by_cell (x ∷ xs) p = rw (by_cell xs p) (both (last_at xs p) (x.0.0 == p.0 && x
     both None true = refl
     both None false = refl
 
-given_entries : (xs : List (Given Data))
-    → map given_content xs ≡ map cell_content (map given_entry xs)
-given_entries [] = refl
-given_entries (x ∷ xs) = ap (λ (l : List Entry). given_content x ∷ l) (given_entries xs)
-
 positions : (found : List (Position × Data))
     → map (λ (c : Entry). c.0) (map cell_content found) ≡ map cell_position found
 positions [] = refl
 positions (x ∷ xs) = ap (λ (l : List Position). x.0 ∷ l) (positions xs)
 
-pub part_end : (part rest : List ℕ) (depth : ℕ) (options : XlsOptions) (xs : List (Given Data)) (found : List (Position × Data)) → PartSoFar part rest depth options xs → Over rest depth → IsAscending (map cell_position found) → HasSame found xs
-    → IsRead (IsPart part) options found
-part_end part rest depth options xs found s o a h =
-    let all = s.groups ++ [] in
-    let same : kept_of all ≡ kept_of s.groups = ap kept_of (append-nil s.groups) in
+pub part_end : (part rest : List ℕ) (depth : ℕ) (options : XlsOptions) (s : Setting) (v : SheetView) (room : ℕ) (given found : List (Position × Data)) → PartSoFar part rest depth options s v room → Over rest depth → v.cells ≡ map cell_content given
+    → IsAscending (map cell_position found) → ((p : Position) → last_at found p ≡ last_at given p)
+    → IsRead (IsPart part) options s (record { cells = map cell_content found; merges = v.merges })
+part_end part rest depth options s v room given found p o e a h =
+    let all = p.groups ++ [] in
+    let same : kept_of all ≡ kept_of p.groups = ap kept_of (append-nil p.groups) in
     record {
       kept = kept_of all;
-      stands = (all, part_from part all None s.part_fits (s.joins [] None (over_from rest depth s.fits o)), refl);
-      faultless = rw same s.faultless;
-      values = record {
+      stands = (all, part_from part all None p.part_fits (p.joins [] None (over_from rest depth p.fits o)), refl);
+      faultless = rw same p.faultless;
+      content = record {
         ascending = subst IsAscending (sym (positions found)) a;
-        last = λ p.
-            by_cell found p
-            ∙ ap (option_map content_of) (h p)
-            ∙ sym (by_cell (map given_entry xs) p)
-            ∙ ap (λ (l : List Entry). last_at l p) (sym (given_entries xs) ∙ s.values
-            ∙ ap values_of (sym same));
+        last = λ q.
+            by_cell found q
+            ∙ ap (option_map content_of) (h q)
+            ∙ sym (by_cell given q)
+            ∙ ap (λ (l : List Entry). last_at l q) (sym e ∙ p.cells ∙ ap (values_of s) (sym same));
+        merges = p.merges ∙ ap (merges_of s) (sym same);
       };
     }

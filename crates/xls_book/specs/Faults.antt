@@ -1,14 +1,16 @@
 -- The places of a stream in order, and its first fault.
-use Rattle.std.specs.Prelude.{◌≡◌, ℕ, List, [], ◌∷◌, ◌++◌, map, length, if◌then◌else◌, nat_lt, Option, Some, None}
-use Rattle.std.specs.Option.{option_map}
+use Rattle.std.specs.Prelude.{◌≡◌, ℕ, ◌+◌, List, [], ◌∷◌, ◌++◌, map, length, if◌then◌else◌, nat_lt, Option, Some, None}
+use Rattle.std.specs.Option.{option_map, option_or}
 use Rattle.std.specs.List.{flat_map, AllByRecursion}
-use Rattle.xls_model.specs.Listing.{Kept, Entry, plain_entry, sheet_entry, Item, plain_item, sheet_item, entry_of, Holds}
+use Rattle.xls_model.specs.Listing.{Kept, Shared, Entry, plain_entry, table_entry, sheet_entry, Item, plain_item, table_item, sheet_item, entry_of, Holds}
 use Rattle.xls_model.specs.declared.part.Part.{Part}
 use Rattle.xls_biff.specs.declared.error.XlsError.{XlsError}
-use Rattle.xls_biff.specs.declared.error.XlsError.TheVariants.{EoStream, TooLarge}
-use Rattle.xls_biff.specs.Globals.{head_at, sheet_at}
+use Rattle.xls_biff.specs.declared.error.XlsError.TheVariants.{EoStream, TooLarge, TooManyCells}
+use Rattle.xls_biff.specs.Strings.{bound_sheet_at}
+use Rattle.xls_biff.specs.Checks.{weight_of}
 use Rattle.xls_book.specs.Order.{along, first_of}
-use Rattle.xls_book.specs.RecordTable.{fault_of, plain_fault, second_or, given_at}
+use Rattle.xls_book.specs.InForce.{page_in, version_in, Setting, setting_of}
+use Rattle.xls_book.specs.RecordTable.{fault_of, forced_fault, plain_fault, texts_of, sheet_of, given_at}
 use Rattle.xls_book.specs.declared.options.XlsOptions.{XlsOptions}
 
 -- ---- one place each
@@ -18,15 +20,32 @@ abbrev pub limit_fault : XlsOptions → List ℕ → Option XlsError
 limit_fault options bytes =
     if nat_lt options.max_bytes (length bytes) then Some (TooLarge options.max_bytes) else None
 
--- a record of the globals, under those before it
-abbrev pub item_fault : List Item → Item → Option XlsError
-item_fault before (plain_item typ body) = plain_fault typ body
-item_fault before (sheet_item body kept cut) =
-    second_or (map entry_of before) (fault_of (sheet_at body))
+-- the byte limit, and then the forced page
+abbrev pub outer_fault : XlsOptions → List ℕ → Option XlsError
+outer_fault options bytes = option_or (limit_fault options bytes) (forced_fault options.force_codepage)
 
--- a kept record, behind those before it
-abbrev pub kept_fault : XlsOptions → List Kept → Kept → Option XlsError
-kept_fault options before k = fault_of (given_at k.typ k.body)
+-- a record of the globals, under those before it
+abbrev pub item_fault : XlsOptions → List Item → Item → Option XlsError
+item_fault options before (plain_item typ body) =
+    plain_fault options (version_in (map entry_of before)) typ body
+item_fault options before (table_item body shared) = fault_of (texts_of (length body) shared)
+item_fault options before (sheet_item body kept cut) =
+    fault_of (bound_sheet_at (page_in options (map entry_of before)) (version_in (map entry_of before)) body)
+
+-- the weights of these kept records
+abbrev pub weight_in : List Kept → ℕ
+weight_in [] = 0
+weight_in (k ∷ ks) = weight_of k.typ k.body + weight_in ks
+
+-- these kept records weigh more than a sheet may
+abbrev pub weight_fault : XlsOptions → List Kept → Option XlsError
+weight_fault options ks =
+    if nat_lt options.max_cells (weight_in ks) then Some (TooManyCells options.max_cells) else None
+
+-- a kept record, behind those before it: its own fault, or too many cells with it
+abbrev pub kept_fault : XlsOptions → Setting → List Kept → Kept → Option XlsError
+kept_fault options s before k =
+    option_or (fault_of (given_at s k)) (weight_fault options (before ++ k ∷ []))
 
 abbrev pub cut_fault : Option Part → Option XlsError
 cut_fault cut = option_map EoStream cut
@@ -34,22 +53,26 @@ cut_fault cut = option_map EoStream cut
 -- ---- the places
 
 -- the kept records of a sheet, and its cut, or that its offset passes the end
-abbrev pub part_places : XlsOptions → List Kept → Option Part → List (Option XlsError)
-part_places options kept cut = along (kept_fault options) [] kept ++ cut_fault cut ∷ []
+abbrev pub part_places : XlsOptions → Setting → List Kept → Option Part → List (Option XlsError)
+part_places options s kept cut = along (kept_fault options s) [] kept ++ cut_fault cut ∷ []
 
-abbrev pub sheet_places : XlsOptions → Item → List (Option XlsError)
-sheet_places options (plain_item typ body) = []
-sheet_places options (sheet_item body kept cut) = part_places options kept cut
+abbrev pub sheet_places : XlsOptions → Setting → Item → List (Option XlsError)
+sheet_places options s (plain_item typ body) = []
+sheet_places options s (table_item body shared) = []
+sheet_places options s (sheet_item body kept cut) = part_places options s kept cut
 
 -- the records of the globals, and their cut
-abbrev pub globals_places : List Item → Option Part → List (Option XlsError)
-globals_places items cut = along item_fault [] items ++ cut_fault cut ∷ []
+abbrev pub globals_places : XlsOptions → List Item → Option Part → List (Option XlsError)
+globals_places options items cut = along (item_fault options) [] items ++ cut_fault cut ∷ []
 
--- behind the byte limit: the globals, and then the sheets in order
+-- the globals, and then the sheets in order, under what is in force at the end of the globals
 abbrev pub places : XlsOptions → List Item → Option Part → List (Option XlsError)
-places options items cut = globals_places items cut ++ flat_map (sheet_places options) items
+places options items cut =
+    globals_places options items cut
+    ++ flat_map (sheet_places options (setting_of options (map entry_of items))) items
 
--- e is the fault of a place before which no place has one, where the byte limit has this fault
+-- e is the fault of a place before which no place has one, where the byte limit and the forced page
+-- have this fault
 abbrev pub FirstBehind : Option XlsError → XlsOptions → List ℕ → XlsError → Type 0
 FirstBehind (Some f) options bytes e = e ≡ f
 FirstBehind None options bytes e =
@@ -58,7 +81,7 @@ FirstBehind None options bytes e =
 
 -- e is the fault of a place before which no place has one
 abbrev pub FirstFault : XlsOptions → List ℕ → XlsError → Type 0
-FirstFault options bytes e = FirstBehind (limit_fault options bytes) options bytes e
+FirstFault options bytes e = FirstBehind (outer_fault options bytes) options bytes e
 
 -- no place has a fault
 abbrev pub IsSound : XlsOptions → List ℕ → Type 0
@@ -67,17 +90,21 @@ IsSound options bytes = (e : XlsError) → FirstFault options bytes e → ⊥
 -- ---- lists
 
 -- an entry, under those before it
-abbrev pub entry_fault : List Entry → Entry → Option XlsError
-entry_fault before (plain_entry typ body) = plain_fault typ body
-entry_fault before (sheet_entry state kind name kept) =
-    second_or before (fault_of (head_at state kind name))
+abbrev pub entry_fault : XlsOptions → List Entry → Entry → Option XlsError
+entry_fault options before (plain_entry typ body) = plain_fault options (version_in before) typ body
+entry_fault options before (table_entry strings) = None
+entry_fault options before (sheet_entry state kind name kept) =
+    fault_of (sheet_of (page_in options before) (version_in before) state kind name)
 
-abbrev pub IsFullSheet : XlsOptions → Entry → Type 0
-IsFullSheet options (plain_entry typ body) = Unit {0}
-IsFullSheet options (sheet_entry state kind name kept) =
-    first_of (along (kept_fault options) [] kept) ≡ None
+abbrev pub IsFullSheet : XlsOptions → Setting → Entry → Type 0
+IsFullSheet options s (plain_entry typ body) = Unit {0}
+IsFullSheet options s (table_entry strings) = Unit {0}
+IsFullSheet options s (sheet_entry state kind name kept) =
+    first_of (along (kept_fault options s) [] kept) ≡ None
 
--- no entry and no kept record has a fault
+-- the forced page is kept, and no entry and no kept record has a fault; a sheet's weight passing the
+-- limit is a fault of a kept record
 pub record IsFull (options : XlsOptions) (entries : List Entry) : Type 0 where
-  pub globals : first_of (along entry_fault [] entries) ≡ None
-  pub sheets : AllByRecursion (IsFullSheet options) entries
+  pub forced : forced_fault options.force_codepage ≡ None
+  pub globals : first_of (along (entry_fault options) [] entries) ≡ None
+  pub sheets : AllByRecursion (IsFullSheet options (setting_of options entries)) entries

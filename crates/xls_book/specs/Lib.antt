@@ -1,4 +1,5 @@
 pub mod Order
+pub mod InForce
 pub mod RecordTable
 pub mod Reading
 pub mod Faults

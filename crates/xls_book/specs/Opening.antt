@@ -1,9 +1,10 @@
 -- What reading a source and opening its bytes answer.
-use Rattle.std.specs.Prelude.{◌≡◌, ℕ, ◌+◌, ◌<◌, ◌≤◌, List, length, Option, Result, IfOk, IfErr, IfSome}
+use Rattle.std.specs.Prelude.{◌≡◌, ℕ, ◌+◌, ◌<◌, ◌≤◌, List, length, Option, None, Result, IfOk, IfErr, IfSome}
 use Rattle.std.specs.Io.KnownBytes.{Consumes, IsAtEnd}
 use Rattle.xls_model.specs.Listing.{Entry, Carries}
 use Rattle.xls_biff.specs.declared.error.XlsError.{XlsError}
 use Rattle.xls_biff.specs.declared.error.XlsError.TheVariants as errors
+use Rattle.xls_data.specs.declared.regions.HeaderRow.TheVariants.{FirstNonEmptyRow}
 use Rattle.xls_book.specs.Causes.{Rose}
 use Rattle.xls_book.specs.Reading.{Workbook, IsReading}
 use Rattle.xls_book.specs.Faults.{FirstFault, IsSound, IsFull}
@@ -25,7 +26,12 @@ OpenCause options left before now e = IfSome left (λ bytes. FirstFault options 
 
 -- the options by default
 abbrev pub default_options : XlsOptions
-default_options = record { max_bytes = 268_435_456 }
+default_options = record {
+  force_codepage = None;
+  header_row = FirstNonEmptyRow;
+  max_bytes = 268_435_456;
+  max_cells = 33_554_432;
+}
 
 -- no place of the bytes has a fault; they are within the limit and carry a full list, and the
 -- workbook is the reading of every list that they carry
@@ -35,7 +41,7 @@ pub record IsOpened (options : XlsOptions) (book : Workbook) (bytes : List ℕ) 
   pub entries : List Entry
   pub carries : Carries bytes entries
   pub full : IsFull options entries
-  pub every : (others : List Entry) → Carries bytes others → IsReading others book
+  pub every : (others : List Entry) → Carries bytes others → IsReading options others book
 
 -- of a source that had and has this left, with the count of faults before and after
 pub record Opens (options : XlsOptions) (left after : Option (List ℕ)) (before now : ℕ) (result : Result Workbook XlsError) : Type 0 where

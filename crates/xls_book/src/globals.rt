@@ -1,101 +1,232 @@
-//! The globals: the sheets that they list.
+//! The globals: what is in force, and the sheets that they list.
 
-ghost use Rattle.std.specs.Prelude.{◌≡◌, [], MatchResult, Ok, map};
+ghost use Rattle.std.specs.Prelude.{◌≡◌, ◌++◌, [], true, IfOk, OnOk, OnErr, MatchResult, None, Some, length};
+ghost use Rattle.std.specs.Result.{result_ok};
+ghost use Rattle.xls_data.specs.Sheets.{sheet_content};
 ghost use Rattle.xls_biff.specs.Reading.{Exactly, Fails};
-ghost use Rattle.xls_biff.specs.Globals.{bof_at};
-ghost use Rattle.xls_model.specs.Listing.{is_among, globals_types};
-ghost use Rattle.xls_book.specs.Steps.{bof_step, listed_of, sheet_step, step, ReadsGlobals};
+ghost use Rattle.xls_biff.specs.Walking.{group_of};
+ghost use Rattle.xls_biff.specs.Globals.{bof_at, xf_at, refs_at};
+ghost use Rattle.xls_biff.specs.Strings.{bound_sheet_at, format_at};
+ghost use Rattle.xls_model.specs.Listing.{Shared, IsShared, is_plain_type};
+ghost use Rattle.xls_model.specs.declared.types.TheConstants as types;
+ghost use Rattle.xls_book.specs.RecordTable.{file_pass_fault, texts_of};
+ghost use Rattle.xls_book.specs.Steps.{Follows, bof_step, check_step, page_step, date_step, format_step, xf_step, pass_step, plain_step, table_step, sheet_step, first_state, ReadsGlobals};
+ghost use Rattle.xls_book.specs.InForce.{page_in};
 
-use crate::bound_sheet::parse_sheet;
+use crate::options::XlsOptions;
 use std::alloc::Global;
-use xls_biff::{Biff, Record, RecordIter, XlsError, parse_bof};
-use xls_bytes::read_u32;
-use xls_data::Sheet;
+use std::marker::Model;
+use xls_biff::{
+    Biff, Record, RecordIter, Strings, XlsError, parse_bof, parse_extern_sheet, parse_format,
+    parse_sheet_metadata, parse_sst, parse_xf,
+};
+use xls_bytes::read_u16;
+use xls_data::{CellFormat, Sheet};
+use xls_model::Part;
 use xls_model::types::{
     BOF, BOUND_SHEET_8, CODE_PAGE, DATE_MODE, EOF, EXTERN_SHEET, FILE_PASS, FORMAT, LBL, SST, XF,
 };
+use xls_text::XlsEncoding;
 
 /// A sheet of the globals, and where its part begins.
 #[derive(Drop)]
 pub(crate) struct Listed {
-    pub offset: u32,
+    pub offset: usize,
     pub sheet: Sheet,
 }
 
-/// Whether records of this type in the globals are read, or would have to be.
-fn is_globals_type(typ: u16) -> bool
-    ensures { result ≡ is_among typ globals_types }
+/// What the globals give up to some record.
+#[derive(Drop)]
+pub(crate) struct Globals {
+    /// The page in force.
+    pub page: XlsEncoding,
+    /// The version in force.
+    pub version: Biff,
+    pub is_1904: bool,
+    /// The identifier and the class of each Format.
+    pub formats: Vec<(u16, CellFormat)>,
+    /// The format identifier of each XF.
+    pub identifiers: Vec<u16>,
+    /// The last string table.
+    pub strings: Strings,
+    pub listed: Vec<Listed>,
+}
+
+impl Model for Globals {
+    ghost use Rattle.std.specs.Prelude.{map};
+    ghost use Rattle.xls_book.specs.Steps.{State, listed_of};
+
+    ghost Value = { State };
+
+    ghost view = { λ g. record {
+      page = g.page;
+      version = g.version;
+      is_1904 = g.is_1904;
+      formats = g.formats.items;
+      identifiers = g.identifiers.items;
+      strings = g.strings;
+      sheets = map listed_of g.listed.items;
+    } };
+}
+
+/// A body that is too short for its first number.
+fn too_short(body: &[u8], typ: Part) -> XlsError
+    ensures { result ≡ XlsError.Len 2 (length body.now) typ }
 {
-    matches!(
+    XlsError::Len {
+        expected: 2,
+        found: body.len(),
         typ,
-        BOF | FILE_PASS
-            | CODE_PAGE
-            | DATE_MODE
-            | FORMAT
-            | XF
-            | LBL
-            | EXTERN_SHEET
-            | SST
-            | BOUND_SHEET_8
-    )
-}
-
-/// That a BOF record of the globals says BIFF8.
-fn check_version(r: &Record<'_>) -> Result<(), XlsError>
-    ensures { Exactly (λ _. []) result (bof_step [] (bof_at r.now.body.now)) }
-{
-    match parse_bof(r)?.biff {
-        Biff::Biff8 => Ok(()),
-        _ => Err(XlsError::NotBuilt { typ: BOF }),
     }
 }
 
-/// Takes a BoundSheet8 record, of which there may be one so far.
-fn take_sheet(listed: &mut Vec<Listed>, alloc: Global, body: &[u8]) -> Result<(), XlsError>
-    ensures { MatchResult result
-        (λ _. sheet_step (map listed_of listed.old.items) body.now ≡ Ok (map listed_of listed.new.items))
-        (λ e. Fails e (sheet_step (map listed_of listed.old.items) body.now)) }
+/// That a FilePass record asks for no password.
+fn check_file_pass(body: &[u8]) -> Result<(), XlsError>
+    ensures { MatchResult result (λ _. file_pass_fault body.now ≡ None) (λ e. file_pass_fault body.now ≡ Some e) }
 {
-    if !listed.is_empty() {
-        return Err(XlsError::NotBuilt { typ: BOUND_SHEET_8 });
+    if body.len() < 2 {
+        return Err(too_short(body, Part::FilePass));
     }
-    let sheet = parse_sheet(alloc, body)?;
-    listed.push(Listed {
-        offset: read_u32(body),
-        sheet,
-    })?;
-    Ok(())
-}
-
-/// Takes the next record of the globals.
-fn take_record(listed: &mut Vec<Listed>, alloc: Global, r: &Record<'_>) -> Result<(), XlsError>
-    ensures { MatchResult result
-        (λ _. step (map listed_of listed.old.items) r.now.typ r.now.body.now ≡ Ok (map listed_of listed.new.items))
-        (λ e. Fails e (step (map listed_of listed.old.items) r.now.typ r.now.body.now)) }
-{
-    if r.typ == BOF {
-        return check_version(r);
-    }
-    if r.typ == BOUND_SHEET_8 {
-        return take_sheet(listed, alloc, r.body);
-    }
-    if is_globals_type(r.typ) {
-        return Err(XlsError::NotBuilt { typ: r.typ });
+    if read_u16(body) != 0 {
+        return Err(XlsError::Password);
     }
     Ok(())
 }
 
-/// The sheets that the globals of a stream list, up to their EOF or the end.
-pub(crate) fn read_globals(alloc: Global, stream: &[u8]) -> Result<Vec<Listed>, XlsError>
-    ensures { ReadsGlobals stream.now result }
+impl Globals {
+    /// Before the first record, under this page.
+    fn new(alloc: Global, page: XlsEncoding) -> Globals
+        ensures { result ≡ first_state page }
+    {
+        Globals {
+            page,
+            version: Biff::Biff8,
+            is_1904: false,
+            formats: Vec::new(alloc),
+            identifiers: Vec::new(alloc),
+            strings: Strings::new(alloc),
+            listed: Vec::new(alloc),
+        }
+    }
+
+    fn take_bof(&mut self, r: &Record<'_>) -> Result<(), XlsError>
+        ensures { Follows self.new result (bof_step self.old (bof_at r.now.body.now)) }
+    {
+        self.version = parse_bof(r)?.biff;
+        Ok(())
+    }
+
+    /// Takes a CodePage record, which says nothing under a forced page.
+    fn take_page(&mut self, forced: Option<u16>, body: &[u8]) -> Result<(), XlsError>
+        ensures { Follows self.new result (page_step forced self.old body.now) }
+    {
+        if forced.is_some() {
+            return Ok(());
+        }
+        if body.len() < 2 {
+            return Err(too_short(body, Part::CodePage));
+        }
+        self.page = XlsEncoding::from_codepage(read_u16(body))?;
+        Ok(())
+    }
+
+    fn take_date_mode(&mut self, body: &[u8]) -> Result<(), XlsError>
+        ensures { Follows self.new result (date_step self.old body.now) }
+    {
+        if body.len() < 2 {
+            return Err(too_short(body, Part::DateMode));
+        }
+        if read_u16(body) == 1 {
+            self.is_1904 = true;
+        }
+        Ok(())
+    }
+
+    /// Takes a Format record; one that is refused is passed over.
+    fn take_format(&mut self, alloc: Global, r: &Record<'_>) -> Result<(), XlsError>
+        ensures { Follows self.new result (format_step self.old (format_at self.old.page self.old.version r.now.body.now)) }
+    {
+        match parse_format(alloc, r, &self.page, self.version) {
+            Ok(format) => Ok(self.formats.push(format)?),
+            Err(XlsError::Memory) => Err(XlsError::Memory),
+            Err(_) => Ok(()),
+        }
+    }
+
+    fn take_xf(&mut self, r: &Record<'_>) -> Result<(), XlsError>
+        ensures { Follows self.new result (xf_step self.old (xf_at r.now.body.now)) }
+    {
+        let identifier = parse_xf(r)?;
+        self.identifiers.push(identifier)?;
+        Ok(())
+    }
+
+    /// Takes an ExternSheet record, so far for its faults alone.
+    fn take_extern_sheet(&mut self, alloc: Global, r: &Record<'_>) -> Result<(), XlsError>
+        ensures { Follows self.new result (pass_step self.old (refs_at self.old.version r.now.body.now)) }
+    {
+        parse_extern_sheet(alloc, r, self.version)?;
+        Ok(())
+    }
+
+    fn take_table(&mut self, alloc: Global, r: &Record<'_>) -> Result<(), XlsError>
+        ensures { (shared : Shared) → IsShared (group_of r.now) shared
+            → Follows self.new result (table_step self.old (texts_of (length r.now.body.now) shared)) }
+    {
+        self.strings = parse_sst(alloc, r)?;
+        Ok(())
+    }
+
+    fn take_sheet(&mut self, alloc: Global, r: &Record<'_>) -> Result<(), XlsError>
+        ensures { Follows self.new result (sheet_step self.old (bound_sheet_at self.old.page self.old.version r.now.body.now)) }
+    {
+        let (offset, sheet) = parse_sheet_metadata(alloc, r, &self.page, self.version)?;
+        self.listed.push(Listed { offset, sheet })?;
+        Ok(())
+    }
+
+    /// Takes the next record of the globals.
+    fn take(&mut self, alloc: Global, r: &Record<'_>, options: &XlsOptions) -> Result<(), XlsError>
+        ensures plain { is_plain_type r.now.typ ≡ true
+            → Follows self.new result (plain_step options.now self.old r.now.typ r.now.body.now) }
+        ensures table { r.now.typ ≡ types.SST → (shared : Shared) → IsShared (group_of r.now) shared
+            → Follows self.new result (table_step self.old (texts_of (length r.now.body.now) shared)) }
+        ensures sheet { r.now.typ ≡ types.BOUND_SHEET_8
+            → Follows self.new result (sheet_step self.old (bound_sheet_at self.old.page self.old.version r.now.body.now)) }
+    {
+        match r.typ {
+            BOF => self.take_bof(r),
+            FILE_PASS => check_file_pass(r.body),
+            CODE_PAGE => self.take_page(options.force_codepage, r.body),
+            DATE_MODE => self.take_date_mode(r.body),
+            FORMAT => self.take_format(alloc, r),
+            XF => self.take_xf(r),
+            EXTERN_SHEET => self.take_extern_sheet(alloc, r),
+            SST => self.take_table(alloc, r),
+            BOUND_SHEET_8 => self.take_sheet(alloc, r),
+            LBL => Err(XlsError::NotBuilt { typ: LBL }),
+            _ => Ok(()),
+        }
+    }
+}
+
+/// What the globals of a stream give, up to their EOF or the end. They begin under this page.
+pub(crate) fn read_globals(
+    alloc: Global,
+    stream: &[u8],
+    page: XlsEncoding,
+    options: &XlsOptions,
+) -> Result<Globals, XlsError>
+    requires { page ≡ page_in options.now [] }
+    ensures { ReadsGlobals options.now stream.now result }
 {
-    let mut listed = Vec::new(alloc);
+    let mut globals = Globals::new(alloc, page);
     for record in RecordIter::new(stream) {
         let record = record?;
         if record.typ == EOF {
-            return Ok(listed);
+            return Ok(globals);
         }
-        take_record(&mut listed, alloc, &record)?;
+        globals.take(alloc, &record, options)?;
     }
-    Ok(listed)
+    Ok(globals)
 }

@@ -1,8 +1,9 @@
 //! Opening a workbook stream: the bounded read of a source, the globals, the sheets.
 #![tactic(auto)]
 
-mod bound_sheet;
+mod classes;
 mod globals;
+mod index;
 mod laws;
 mod memory;
 mod options;
@@ -21,6 +22,3 @@ pub use reading::{StreamBytes, read_all};
 pub use source::{ReadFault, Source, StdSource};
 pub use values::Values;
 pub use xls::Xls;
-
-#[cfg(test)]
-mod tests;

@@ -1,24 +1,52 @@
 //! The options of opening.
 
-ghost use Rattle.std.specs.Prelude.{◌≡◌, IfOk};
+ghost use Rattle.std.specs.Prelude.{◌≡◌, [], IfOk, Some, None, MatchResult};
 ghost use Rattle.xls_book.specs.Opening.{default_options};
+ghost use Rattle.xls_book.specs.RecordTable.{forced_fault};
+ghost use Rattle.xls_book.specs.InForce.{page_in};
 
 use std::alloc::{AllocError, Global};
+use xls_biff::XlsError;
+use xls_data::HeaderRow;
+use xls_text::XlsEncoding;
 
-/// How a stream is opened.
+/// How a stream is opened, and which rows of a sheet its range has.
 #[derive(Clone, Copy, Debug, PartialEq, Eq)]
 pub struct XlsOptions {
+    /// A code page to read all texts by, whatever the stream says: 1200, 1252, 28591 or 65001.
+    pub force_codepage: Option<u16>,
+    /// The first row of the range of a sheet.
+    pub header_row: HeaderRow,
     /// How many bytes a stream may have.
     pub max_bytes: u64,
+    /// How many cells the records of one sheet may give.
+    pub max_cells: u64,
 }
 
 impl XlsOptions {
-    /// At most 268,435,456 bytes.
+    /// No forced page, the first row that isn't empty, at most 268,435,456 bytes and at most
+    /// 33,554,432 cells in a sheet.
     pub fn defaults(_alloc: Global) -> Result<XlsOptions, AllocError>
         ensures { IfOk result (λ options. options ≡ default_options) }
     {
         Ok(XlsOptions {
+            force_codepage: None,
+            header_row: HeaderRow::FirstNonEmptyRow,
             max_bytes: 268_435_456,
+            max_cells: 33_554_432,
         })
+    }
+
+    /// The page before the first record: the forced one, or else 1200. `Cfb` where the forced page
+    /// isn't kept.
+    pub(crate) fn first_page(&self) -> Result<XlsEncoding, XlsError>
+        ensures { MatchResult result
+            (λ page. (forced_fault self.now.force_codepage ≡ None) × (page ≡ page_in self.now []))
+            (λ e. forced_fault self.now.force_codepage ≡ Some e) }
+    {
+        match self.force_codepage {
+            Some(number) => Ok(XlsEncoding::from_codepage(number)?),
+            None => Ok(XlsEncoding::Utf16),
+        }
     }
 }

@@ -1,13 +1,7 @@
 //! The values of a sheet.
 
-ghost use Rattle.std.specs.Prelude.{◌≡◌, ◌==◌, length};
-ghost use Rattle.std.specs.Cmp.Lexicographic.{pointwise};
-ghost use Rattle.xls_data.specs.Sheets.{sheet_content};
-ghost use Rattle.std.specs.Str.{chars};
-ghost use Rattle.xls_book.specs.Steps.{cells_named};
-
 use std::marker::Model;
-use xls_data::{Cell, Data, Sheet};
+use xls_data::{Cell, Data};
 
 /// The values of a sheet: absolute row, absolute column and value, by row, then column. Contracts
 /// see the list of those that are left.
@@ -57,30 +51,4 @@ impl<'a> Values<'a> {
     {
         Values { cells }
     }
-}
-
-/// Whether a sheet has this name.
-fn has_name(sheet: &Sheet, name: &str) -> bool
-    ensures { result ≡ pointwise ◌==◌ (sheet_content sheet.now).name (chars name.now) }
-{
-    sheet.name.as_str() == name
-}
-
-/// The cells of the last sheet of a name, where each sheet has its cells at its index.
-pub(crate) fn find_named<'a>(
-    sheets: &[Sheet],
-    cells: &'a [Vec<Cell<Data>>],
-    name: &str,
-) -> &'a [Cell<Data>]
-    requires { length cells.now ≡ length sheets.now }
-    ensures { result.now ≡ cells_named sheets.now cells.now (chars name.now) }
-{
-    let mut found: &'a [Cell<Data>] = &[];
-    for i in 0..sheets.len() {
-        let own = cells[i].as_slice();
-        if has_name(&sheets[i], name) {
-            found = own;
-        }
-    }
-    found
 }

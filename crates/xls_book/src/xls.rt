@@ -1,59 +1,125 @@
 //! The workbook.
 
-ghost use Rattle.std.specs.Prelude.{◌≡◌, ◌+◌, ◌≤◌, ℕ, List, Some, IfErr, IfOk, IfSome, MatchOption, length, map, slice_get};
+ghost use Rattle.std.specs.Prelude.{◌≡◌, ◌+◌, ◌≤◌, ℕ, List, [], Some, None, IfErr, IfOk, IfSome, MatchOption, length, map, slice_get};
+ghost use Rattle.std.specs.Option.{option_copied, option_map};
 ghost use Rattle.std.specs.Io.KnownBytes.{Consumes, IsAtEnd};
-ghost use Rattle.xls_data.specs.Sheets.{sheet_content};
+ghost use Rattle.std.specs.Str.{chars};
+ghost use Rattle.xls_data.specs.Sheets.{SheetContent, sheet_content};
 ghost use Rattle.xls_book.specs.Opening.{IsOpened, OpenCause, Opens};
-ghost use Rattle.xls_book.specs.Steps.{OpensStream};
+ghost use Rattle.xls_book.specs.Reading.{SheetView};
+ghost use Rattle.xls_book.specs.RecordTable.{forced_fault};
+ghost use Rattle.xls_book.specs.InForce.{page_in};
+ghost use Rattle.xls_book.specs.Steps.{OpensStream, ReadsContents, items_of, listed_of, view_named};
 
-use crate::globals::read_globals;
+use crate::classes::classes_of;
+use crate::globals::{Listed, read_globals};
+use crate::index::{find_named, index_of};
 use crate::options::XlsOptions;
-use crate::part::read_sheet;
+use crate::part::{Content, InForce, read_sheet};
 use crate::reading::read_all;
 use crate::source::Source;
-use crate::values::{Values, find_named};
-use std::alloc::Global;
+use crate::values::Values;
+use std::alloc::{AllocError, Global};
+use std::collections::BTreeMap;
 use std::marker::Model;
 use xls_biff::XlsError;
-use xls_data::{Cell, Data, Sheet};
+use xls_data::{CellFormat, Dimensions, Sheet};
+use xls_text::XlsEncoding;
 
 /// A workbook: its sheets in order, and the values of each. Contracts see what it shows.
 #[derive(Drop)]
 pub struct Xls {
+    options: XlsOptions,
     sheets: Vec<Sheet>,
-    /// The cells of each sheet's own part, in order of their positions.
-    cells: Vec<Vec<Cell<Data>>>,
+    /// The content of each sheet's own part.
+    contents: Vec<Content>,
+    /// The place of the last sheet of each name.
+    index: BTreeMap<String, usize>,
+    is_1904: bool,
+    /// The class of each XF.
+    classes: Vec<CellFormat>,
 }
 
 impl Model for Xls {
     ghost use Rattle.std.specs.Prelude.{◌≡◌, length, map};
     ghost use Rattle.xls_data.specs.Sheets.{sheet_content};
     ghost use Rattle.xls_book.specs.Reading.{Workbook};
-    ghost use Rattle.xls_book.specs.Steps.{shown};
+    ghost use Rattle.xls_book.specs.Steps.{paired, shown, IsIndex};
 
     ghost Value = { Workbook };
 
     ghost view = { λ b. record {
+      options = b.options;
       sheets = map sheet_content b.sheets.items;
-      values = shown b.sheets.items b.cells.items b.sheets.items;
+      contents = shown (paired (map sheet_content b.sheets.items) b.contents.items) (map sheet_content b.sheets.items);
+      is_1904 = b.is_1904;
+      classes = b.classes.items;
     } };
 
-    ghost invariant = { λ b. length b.cells.items ≡ length b.sheets.items };
+    ghost invariant = { λ b. (length b.contents.items ≡ length b.sheets.items) × IsIndex b.index b.sheets.items };
 }
 
-/// The workbook of a stream within the limit.
-fn open_stream(alloc: Global, stream: &[u8], options: &XlsOptions) -> Result<Xls, XlsError>
+/// The workbook of a stream within the limit, under a forced page that is kept.
+fn open_stream(
+    alloc: Global,
+    stream: &[u8],
+    options: &XlsOptions,
+    page: XlsEncoding,
+) -> Result<Xls, XlsError>
+    requires kept { forced_fault options.now.force_codepage ≡ None }
+    requires first { page ≡ page_in options.now [] }
     ensures { OpensStream options.now stream.now result }
 {
-    let listed = read_globals(alloc, stream)?;
-    let mut sheets = Vec::new(alloc);
-    let mut cells = Vec::new(alloc);
+    let globals = read_globals(alloc, stream, page, options)?;
+    let classes = classes_of(alloc, &globals.formats, &globals.identifiers)?;
+    let force = InForce {
+        page: globals.page,
+        version: globals.version,
+        classes: &classes,
+        strings: &globals.strings,
+        is_1904: globals.is_1904,
+    };
+    let contents = read_contents(alloc, stream, &globals.listed, &force, options)?;
+    let is_1904 = globals.is_1904;
+    let sheets = sheets_of(alloc, globals.listed)?;
+    let index = index_of(alloc, &sheets)?;
+    Ok(Xls {
+        options: *options,
+        sheets,
+        contents,
+        index,
+        is_1904,
+        classes,
+    })
+}
+
+/// The contents of the sheets that the globals list, in order.
+fn read_contents(
+    alloc: Global,
+    stream: &[u8],
+    listed: &[Listed],
+    force: &InForce<'_>,
+    options: &XlsOptions,
+) -> Result<Vec<Content>, XlsError>
+    ensures { ReadsContents options.now force.now stream.now (map listed_of listed.now) (items_of result) }
+{
+    let mut contents = Vec::new(alloc);
     for next in listed {
-        let found = read_sheet(alloc, stream, next.offset, options)?;
-        sheets.push(next.sheet)?;
-        cells.push(found)?;
+        let content = read_sheet(alloc, stream, next.offset, force, options)?;
+        contents.push(content)?;
     }
-    Ok(Xls { sheets, cells })
+    Ok(contents)
+}
+
+/// The sheets without their offsets.
+fn sheets_of(alloc: Global, listed: Vec<Listed>) -> Result<Vec<Sheet>, AllocError>
+    ensures { IfOk result (λ sheets. map sheet_content sheets.items ≡ map (λ (q : ℕ × SheetContent). q.1) (map listed_of listed.items)) }
+{
+    let mut sheets = Vec::new(alloc);
+    for next in listed {
+        sheets.push(next.sheet)?;
+    }
+    Ok(sheets)
 }
 
 /// Reads the source to its end and opens the bytes. The clauses are those of `new_with_options`.
@@ -66,7 +132,8 @@ fn open<S: Source>(alloc: Global, source: &mut S, options: &XlsOptions) -> Resul
     ensures count { S.faults source.old ≤ S.faults source.new }
 {
     let bytes = read_all(alloc, source, options.max_bytes)?;
-    open_stream(alloc, bytes.as_slice(), options)
+    let page = options.first_page()?;
+    open_stream(alloc, bytes.as_slice(), options, page)
 }
 
 impl Xls {
@@ -87,10 +154,66 @@ impl Xls {
     /// The values of the sheet at an index, which are those of the last sheet of its name. `None`
     /// where no sheet has the index. Takes no memory.
     pub fn values_at(&self, n: usize) -> Option<Values<'_>>
-        ensures { MatchOption result (length self.now.values ≤ n) (λ values. slice_get self.now.values n ≡ Some values) }
+        ensures { result ≡ option_map (λ (v : SheetView). v.cells) (slice_get self.now.contents n) }
     {
-        let sheet = self.sheets.get(n)?;
-        Some(Values::new(find_named(&self.sheets, &self.cells, sheet.name.as_str())))
+        match self.content_at(n) {
+            Some(content) => Some(content.values()),
+            None => None,
+        }
+    }
+
+    /// The merged regions of the sheet at an index, in the order of the stream; they are those of the
+    /// last sheet of its name. `None` where no sheet has the index. Takes no memory.
+    pub fn merges_at(&self, n: usize) -> Option<&[Dimensions]>
+        ensures { option_copied result ≡ option_map (λ (v : SheetView). v.merges) (slice_get self.now.contents n) }
+    {
+        match self.content_at(n) {
+            Some(content) => Some(content.merges()),
+            None => None,
+        }
+    }
+
+    /// Whether dates count from 1904.
+    pub fn has_1904_epoch(&self) -> bool
+        ensures { result ≡ self.now.is_1904 }
+    {
+        self.is_1904
+    }
+
+    /// The format class of each XF record, in order.
+    pub fn formats(&self) -> &[CellFormat]
+        ensures { result.now ≡ self.now.classes }
+    {
+        &self.classes
+    }
+
+    /// The options that the workbook was opened with, the header row as last set.
+    pub fn options(&self) -> &XlsOptions
+        ensures { result.now ≡ self.now.options }
+    {
+        &self.options
+    }
+
+    /// The content of the last sheet of a name, if a sheet has it.
+    pub(crate) fn content_named(&self, name: &str) -> Option<&Content>
+        ensures { option_copied result ≡ view_named self.now (chars name.now) }
+    {
+        find_named(&self.sheets, &self.contents, &self.index, name)
+    }
+
+    /// The content of the last sheet of the name that the sheet at an index has.
+    fn content_at(&self, n: usize) -> Option<&Content>
+        ensures { option_copied result ≡ slice_get self.now.contents n }
+    {
+        match self.sheets.get(n) {
+            Some(sheet) => find_named(
+                &self.sheets,
+                &self.contents,
+                &self.index,
+                sheet.name.as_str(),
+            ),
+            None => None,
+        }
     }
 
     /// The sheets in order.

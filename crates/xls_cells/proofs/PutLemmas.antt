@@ -58,7 +58,7 @@ module _ {V : Type 0} where
 pairs : (a b c d : ℕ) → a ≡ c → b ≡ d → ◌≡◌ {A = Position} (a, b) (c, d)
 pairs a b c d e f = cc
 
-before_trans : (a b c d e f : ℕ) → Precedes (a, b) (c, d) → Precedes (c, d) (e, f)
+pub before_trans : (a b c d e f : ℕ) → Precedes (a, b) (c, d) → Precedes (c, d) (e, f)
     → Precedes (a, b) (e, f)
 before_trans a b c d e f h i = grind arith
 
@@ -88,7 +88,7 @@ ascending_push (q ∷ qs) p a h = (push qs a.0, ascending_push qs p a.1 h.1)
     push [] b = (h.0, tt)
     push (r ∷ rs) b = (b.0, push rs b.1)
 
-all_push : {X : Type 0} (P : X → Type 0) (xs : List X) (y : X) → AllByRecursion P xs → P y
+pub all_push : {X : Type 0} (P : X → Type 0) (xs : List X) (y : X) → AllByRecursion P xs → P y
     → AllByRecursion P (xs ++ y ∷ [])
 all_push P [] y a h = (h, tt)
 all_push P (x ∷ xs) y a h = (a.0, all_push P xs y a.1 h)

@@ -3,4 +3,4 @@
 
 mod sorted;
 
-pub use sorted::{Given, sorted_cells};
+pub use sorted::sorted_cells;

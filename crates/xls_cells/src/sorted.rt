@@ -1,16 +1,48 @@
 //! Cells in order of their positions, from cells in order of a stream.
 
 ghost use Rattle.std.specs.Prelude.{◌≡◌, ◌↔◌, ℕ, IfOk, OnOk, IsTrue, map};
-ghost use Rattle.xls_cells.specs.Positions.{IsAscending, IsNumbered, IsInOrder, cell_position, HasSame, Puts, EndsAt};
+ghost use Rattle.xls_cells.specs.Positions.{Position, Precedes, IsAscending, last_at, IsNumbered, IsInOrder, cell_position, given_entry, HasSame, Puts, EndsAt};
 
 use std::alloc::{AllocError, AllocFailed, Global};
 use xls_data::{Cell, CellType};
 
-/// A cell as a record gave it, and its number in the order of the stream.
+/// A cell, and its number in the order in which the cells were given.
 #[derive(Drop)]
-pub struct Given<T: CellType> {
-    pub cell: Cell<T>,
-    pub number: u64,
+struct Given<T: CellType> {
+    cell: Cell<T>,
+    number: u64,
+}
+
+/// Whether one position comes before another: in an earlier row, or in the same one in an earlier
+/// column.
+fn precedes(before: (u32, u32), after: (u32, u32)) -> bool
+    ensures { IsTrue result ↔ Precedes before after }
+{
+    before.0 < after.0 || before.0 == after.0 && before.1 < after.1
+}
+
+/// Whether each position comes before the next one.
+fn is_ascending<T: CellType>(cells: &[Cell<T>]) -> bool
+    ensures { IsTrue result → IsAscending (map cell_position cells.now) }
+{
+    for i in 1..cells.len() {
+        if !precedes(cells[i - 1].get_position(), cells[i].get_position()) {
+            return false;
+        }
+    }
+    true
+}
+
+/// The cells with their numbers.
+fn numbered<T: CellType>(alloc: Global, cells: Vec<Cell<T>>) -> Result<Vec<Given<T>>, AllocError>
+    ensures { IfOk result (λ v. IsNumbered v.items × (map given_entry v.items ≡ cells.items)) }
+{
+    let mut given = Vec::new(alloc);
+    for cell in cells {
+        let number = given.len() as u64;
+        given.push(Given { cell, number })?;
+    }
+    Ok(given)
 }
 
 /// Whether the last cell has this position.
@@ -52,16 +84,18 @@ fn last_of_each<T: CellType>(
 }
 
 /// The cells in strictly ascending order of their positions, row before column. Of the cells of one
-/// position that with the highest number stays.
+/// position that stays which was given last. Cells that stand so already are handed back as they are.
 pub fn sorted_cells<T: CellType>(
     alloc: Global,
-    given: Vec<Given<T>>,
+    cells: Vec<Cell<T>>,
 ) -> Result<Vec<Cell<T>>, AllocError>
-    requires { IsNumbered given.items }
     ensures ascending { IfOk result (λ v. IsAscending (map cell_position v.items)) }
-    ensures last { IfOk result (λ v. HasSame v.items given.items) }
+    ensures last { IfOk result (λ v. (p : Position) → last_at v.items p ≡ last_at cells.items p) }
 {
-    let mut given = given;
+    if is_ascending(&cells) {
+        return Ok(cells);
+    }
+    let mut given = numbered(alloc, cells)?;
     given.sort_unstable_by_key(|each| {
         let (row, column) = each.cell.get_position();
         (row, column, each.number)

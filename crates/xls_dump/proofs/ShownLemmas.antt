@@ -2,12 +2,12 @@
 use Rattle.std.proofs.Common.{◌≡◌, ℕ, zero, suc, List, [], ◌∷◌, ◌++◌, ◌+◌, ◌<◌, ◌≤◌, length, map, get_or, arith, take, add-one, refl, sym, ap, ◌∙◌, append_assoc, Option, Some, None}
 use Rattle.std.specs.Prelude.{encode_utf8_all, slice_get}
 use Rattle.std.specs.List.{flat_map}
-use Rattle.std.proofs.lemmas.List.{append-nil}
+use Rattle.std.proofs.lemmas.List.{append-nil, take_more}
 use Rattle.std.proofs.lemmas.Str.{encodes-append}
 use Rattle.std.proofs.lemmas.Grind.{flat_map-append}
 use Rattle.xls_data.specs.Sheets.{SheetContent}
-use Rattle.xls_biff.specs.Cells.{Entry}
-use Rattle.xls_dump.specs.Report.{escaped_char, escaped, shown_text, cell_line, sheet_line, sheets_text}
+use Rattle.xls_book.specs.Reading.{SheetView}
+use Rattle.xls_dump.specs.Report.{escaped_char, escaped, shown_text, cells_at, merges_at, view_text, sheet_line, sheets_text}
 
 -- one more character
 pub shown-push : (cs : List ℕ) (c : ℕ) → shown_text (cs ++ c ∷ []) ≡ shown_text cs
@@ -26,10 +26,9 @@ shown-more old text new cs c e f =
 
 -- ---- sheets
 
--- the values at an index, if there are any
-abbrev pub lines_at : Option (List Entry) → List ℕ
-lines_at None = []
-lines_at (Some v) = flat_map cell_line v
+-- the lines at an index, if there are any
+abbrev pub lines_at : Option SheetView → List ℕ
+lines_at o = cells_at o ++ merges_at o
 
 take_nothing : {X : Type 0} (i : ℕ) → take {A = X} i [] ≡ []
 take_nothing zero = refl
@@ -45,32 +44,32 @@ push_bare (t ∷ ss) (suc i) s e =
     ap (λ (l : List ℕ). sheet_line t ++ l) (push_bare ss i s e)
     ∙ sym (append_assoc (sheet_line t) (sheets_text (take i ss) []) (sheet_line s ++ []))
 
-push_here : (t s : SheetContent) (v : List Entry) (o : Option (List Entry)) → t ≡ s → Some v ≡ o
-    → (sheet_line t ++ flat_map cell_line v) ++ [] ≡ sheet_line s ++ lines_at o
+push_here : (t s : SheetContent) (v : SheetView) (o : Option SheetView) → t ≡ s → Some v ≡ o
+    → (sheet_line t ++ view_text v) ++ [] ≡ sheet_line s ++ lines_at o
 push_here t s v o e f =
-    append-nil (sheet_line t ++ flat_map cell_line v)
-    ∙ ap (λ (x : SheetContent). sheet_line x ++ flat_map cell_line v) e
-    ∙ ap (λ (x : Option (List Entry)). sheet_line s ++ lines_at x) f
+    append-nil (sheet_line t ++ view_text v)
+    ∙ ap (λ (x : SheetContent). sheet_line x ++ view_text v) e
+    ∙ ap (λ (x : Option SheetView). sheet_line s ++ lines_at x) f
 
-pub sheets-push : (ss : List SheetContent) (vs : List (List Entry)) (i : ℕ) (s : SheetContent) (o : Option (List Entry)) → slice_get ss i ≡ Some s → slice_get vs i ≡ o
+pub sheets-push : (ss : List SheetContent) (vs : List SheetView) (i : ℕ) (s : SheetContent) (o : Option SheetView) → slice_get ss i ≡ Some s → slice_get vs i ≡ o
     → sheets_text (take (suc i) ss) (take (suc i) vs) ≡ sheets_text (take i ss) (take i vs)
     ++ (sheet_line s ++ lines_at o)
 sheets-push [] vs i s o e f = absurd (let n : None ≡ Some s = e in cc)
 sheets-push (t ∷ ss) [] i s o e f =
     let none : o ≡ None = sym f in
     push_bare (t ∷ ss) i s e
-    ∙ ap (λ (x : Option (List Entry)). sheets_text (take i (t ∷ ss)) []
+    ∙ ap (λ (x : Option SheetView). sheets_text (take i (t ∷ ss)) []
     ++ (sheet_line s ++ lines_at x)) (sym none)
-    ∙ ap (λ (x : List (List Entry)). sheets_text (take i (t ∷ ss)) x
+    ∙ ap (λ (x : List SheetView). sheets_text (take i (t ∷ ss)) x
     ++ (sheet_line s ++ lines_at o)) (sym (take_nothing i))
 sheets-push (t ∷ ss) (v ∷ vs) zero s o e f = let same : t ≡ s = cc in push_here t s v o same f
 sheets-push (t ∷ ss) (v ∷ vs) (suc i) s o e f =
-    ap (λ (l : List ℕ). (sheet_line t ++ flat_map cell_line v) ++ l) (sheets-push ss vs i s o e f)
+    ap (λ (l : List ℕ). (sheet_line t ++ view_text v) ++ l) (sheets-push ss vs i s o e f)
     ∙ sym (append_assoc (sheet_line t
-    ++ flat_map cell_line v) (sheets_text (take i ss) (take i vs)) (sheet_line s ++ lines_at o))
+    ++ view_text v) (sheets_text (take i ss) (take i vs)) (sheet_line s ++ lines_at o))
 
 -- all of them
-pub sheets-all : (ss : List SheetContent) (vs : List (List Entry))
+pub sheets-all : (ss : List SheetContent) (vs : List SheetView)
     → sheets_text (take (length ss) ss) (take (length ss) vs) ≡ sheets_text ss vs
 sheets-all [] vs = refl
 sheets-all (s ∷ ss) [] =
@@ -78,10 +77,10 @@ sheets-all (s ∷ ss) [] =
     ++ l) (ap (sheets_text (take (length ss) ss)) (sym (take_nothing (length ss)))
     ∙ sheets-all ss [])
 sheets-all (s ∷ ss) (v ∷ vs) =
-    ap (λ (l : List ℕ). (sheet_line s ++ flat_map cell_line v) ++ l) (sheets-all ss vs)
+    ap (λ (l : List ℕ). (sheet_line s ++ view_text v) ++ l) (sheets-all ss vs)
 
 -- one more sheet, and its lines
-pub sheets-more : (front old text new : List ℕ) (ss : List SheetContent) (vs : List (List Entry)) (i : ℕ) (s : SheetContent) (o : Option (List Entry)) → slice_get ss i ≡ Some s → slice_get vs i ≡ o
+pub sheets-more : (front old text new : List ℕ) (ss : List SheetContent) (vs : List SheetView) (i : ℕ) (s : SheetContent) (o : Option SheetView) → slice_get ss i ≡ Some s → slice_get vs i ≡ o
     → old ≡ front ++ sheets_text (take i ss) (take i vs) → text ≡ old ++ sheet_line s → new ≡ text
     ++ lines_at o → new ≡ front ++ sheets_text (take (i + 1) ss) (take (i + 1) vs)
 sheets-more front old text new ss vs i s o e f a b c =
@@ -110,9 +109,20 @@ nothing_behind (x ∷ xs) zero l = absurd (omega arith)
 nothing_behind (x ∷ xs) (suc i) l = nothing_behind xs i (omega arith)
 
 -- the whole report
-pub report-all : (front text : List ℕ) (ss : List SheetContent) (vs : List (List Entry)) (i : ℕ)
+pub report-all : (front text : List ℕ) (ss : List SheetContent) (vs : List SheetView) (i : ℕ)
     → i ≡ length ss → text ≡ front ++ sheets_text (take i ss) (take i vs) → text ≡ front
     ++ sheets_text ss vs
 report-all front text ss vs i e t =
     t ∙ ap (λ (n : ℕ). front ++ sheets_text (take n ss) (take n vs)) e
     ∙ ap (λ (l : List ℕ). front ++ l) (sheets-all ss vs)
+
+-- one more element of a list whose lines are written
+pub lines-more : {X : Type 0} (line : X → List ℕ) (xs : List X) (i : ℕ) (d : X) (front old new : List ℕ)
+    → i < length xs → old ≡ front ++ flat_map line (take i xs) → new ≡ old ++ line (get_or xs i d)
+    → new ≡ front ++ flat_map line (take (i + 1) xs)
+lines-more {X} line xs i d front old new l had more =
+    more ∙ ap (λ (t : List ℕ). t ++ line (get_or xs i d)) had
+    ∙ append_assoc front (flat_map line (take i xs)) (line (get_or xs i d))
+    ∙ ap (λ (t : List ℕ). front ++ t) (ap (λ (t : List ℕ). flat_map line (take i xs) ++ t) (sym (append-nil (line (get_or xs i d))))
+    ∙ sym (flat_map-append line (take i xs) (get_or xs i d ∷ []))
+    ∙ ap (flat_map line) (sym (take_more xs i d l)))

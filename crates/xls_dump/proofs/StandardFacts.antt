@@ -1,5 +1,5 @@
 -- Known texts, so that a wrong rule of the report does not check.
-use Rattle.std.proofs.Common.{◌≡◌, ℕ, List, [], ◌∷◌, refl, pos, negsuc, codes}
+use Rattle.std.proofs.Common.{◌≡◌, ℕ, List, [], ◌∷◌, true, refl, pos, negsuc, codes}
 use Rattle.std.specs.Fmt.{digits}
 use Rattle.xls_data.specs.Content.{float}
 use Rattle.xls_data.specs.Sheets.{SheetContent}
@@ -9,6 +9,7 @@ use Rattle.xls_data.specs.declared.sheets.SheetVisible.TheVariants.{Visible, Ver
 use Rattle.xls_biff.specs.declared.error.XlsError.TheVariants.{NotBuilt, TooLarge}
 use Rattle.xls_biff.specs.ErrorText.{four_digits}
 use Rattle.xls_book.specs.Reading.{Workbook}
+use Rattle.xls_book.specs.Opening.{default_options}
 use Rattle.xls_dump.specs.Report.{cell_line, fault_line, report, shown_text}
 
 -- row 4, column 1, -12
@@ -30,14 +31,20 @@ pub known_limit : fault_line (TooLarge 64) ≡ codes "error\tStream larger than 
 unfolding digits
 known_limit = refl
 
--- two sheets, and one cell in the first
+-- two sheets, and one cell and one merged region in the first
 abbrev book : Workbook
 book = record {
+  options = default_options;
   sheets = record { name = 65 ∷ []; typ = WorkSheet; visible = Visible }
       ∷ record { name = 66 ∷ []; typ = ChartSheet; visible = VeryHidden } ∷ [];
-  values = (((0, 0), float (Whole (pos 1))) ∷ []) ∷ [] ∷ [];
+  contents = record {
+    cells = ((0, 0), float (Whole (pos 1))) ∷ [];
+    merges = record { start = (0, 1); end = (2, 3) } ∷ [];
+  } ∷ record { cells = []; merges = [] } ∷ [];
+  is_1904 = true;
+  classes = [];
 }
 
-pub known_report : report book ≡ codes "dates\t1900\nsheet\tA\tworksheet\tvisible\ncell\t0\t0\tfloat\t1\nsheet\tB\tchart\tveryhidden\n"
+pub known_report : report book ≡ codes "dates\t1904\nsheet\tA\tworksheet\tvisible\ncell\t0\t0\tfloat\t1\nmerge\t0\t1\t2\t3\nsheet\tB\tchart\tveryhidden\n"
 unfolding digits lib.Utf8.encode
 known_report = refl

@@ -17,7 +17,8 @@ use Rattle.xls_data.specs.declared.sheets.SheetVisible.TheVariants as states
 use Rattle.xls_biff.specs.Cells.{Entry}
 use Rattle.xls_biff.specs.ErrorText.{error_text}
 use Rattle.xls_biff.specs.declared.error.XlsError.{XlsError}
-use Rattle.xls_book.specs.Reading.{Workbook}
+use Rattle.xls_data.specs.declared.regions.Dimensions.{Dimensions}
+use Rattle.xls_book.specs.Reading.{SheetView, Workbook}
 
 -- ---- texts
 
@@ -86,15 +87,40 @@ abbrev pub sheet_line : SheetContent → List ℕ
 sheet_line s = codes "sheet\t" ++ shown_text s.name ++ codes "\t" ++ type_text s.typ ++ codes "\t"
     ++ visible_text s.visible ++ codes "\n"
 
--- the line of each sheet, and behind it those of its cells
-abbrev pub sheets_text : List SheetContent → List (List Entry) → List ℕ
-sheets_text [] values = []
+-- start row, start column, end row and end column of a merged region
+abbrev pub merge_line : Dimensions → List ℕ
+merge_line d = codes "merge\t" ++ decimal d.start.0 ++ codes "\t" ++ decimal d.start.1 ++ codes "\t"
+    ++ decimal d.end.0 ++ codes "\t" ++ decimal d.end.1 ++ codes "\n"
+
+-- the lines of a sheet's cells, and of its merged regions
+abbrev pub view_text : SheetView → List ℕ
+view_text v = flat_map cell_line v.cells ++ flat_map merge_line v.merges
+
+-- the same of what stands at an index, if there is anything
+abbrev pub cells_at : Option SheetView → List ℕ
+cells_at None = []
+cells_at (Some v) = flat_map cell_line v.cells
+
+abbrev pub merges_at : Option SheetView → List ℕ
+merges_at None = []
+merges_at (Some v) = flat_map merge_line v.merges
+
+-- the line of each sheet, and behind it those of what it shows
+abbrev pub sheets_text : List SheetContent → List SheetView → List ℕ
+sheets_text [] views = []
 sheets_text (s ∷ ss) [] = sheet_line s ++ sheets_text ss []
-sheets_text (s ∷ ss) (v ∷ vs) = (sheet_line s ++ flat_map cell_line v) ++ sheets_text ss vs
+sheets_text (s ∷ ss) (v ∷ vs) = (sheet_line s ++ view_text v) ++ sheets_text ss vs
+
+abbrev pub epoch_text : Bool → List ℕ
+epoch_text true = codes "1904"
+epoch_text false = codes "1900"
+
+abbrev pub dates_line : Bool → List ℕ
+dates_line is_1904 = codes "dates\t" ++ epoch_text is_1904 ++ codes "\n"
 
 -- the date system, and the sheets in workbook order
 abbrev pub report : Workbook → List ℕ
-report book = codes "dates\t1900\n" ++ sheets_text book.sheets book.values
+report book = dates_line book.is_1904 ++ sheets_text book.sheets book.contents
 
 -- the line of a refusal
 abbrev pub fault_line : XlsError → List ℕ

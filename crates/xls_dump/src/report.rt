@@ -1,16 +1,16 @@
 //! The text of the dump.
 
-ghost use Rattle.std.specs.Prelude.{◌≡◌, ◌++◌, IfOk, codes, encode_utf8_all, if◌then◌else◌};
+ghost use Rattle.std.specs.Prelude.{◌≡◌, ◌++◌, IfOk, codes, encode_utf8_all, if◌then◌else◌, slice_get};
 ghost use Rattle.std.specs.List.{flat_map};
 ghost use Rattle.std.specs.String.{string_bytes};
 ghost use Rattle.std.specs.Str.{chars};
 ghost use Rattle.xls_data.specs.Data.{content_of};
 ghost use Rattle.xls_data.specs.Sheets.{sheet_content};
-ghost use Rattle.xls_dump.specs.Report.{cell_line, escaped_char, place_text, report, sheet_line, shown_text, type_text, visible_text};
+ghost use Rattle.xls_dump.specs.Report.{cell_line, cells_at, epoch_text, escaped_char, merge_line, merges_at, place_text, report, sheet_line, shown_text, type_text, visible_text};
 
 use std::alloc::{AllocError, Global};
 use xls_book::{Reader, Values, Xls};
-use xls_data::{Data, Sheet, SheetType, SheetVisible};
+use xls_data::{Data, Dimensions, Sheet, SheetType, SheetVisible};
 
 /// Appends a character, or the two that stand for it.
 fn push_char(text: &mut String, c: char) -> Result<(), AllocError>
@@ -129,18 +129,70 @@ fn push_sheet(text: &mut String, sheet: &Sheet) -> Result<(), AllocError>
     write!(text, "\t{typ}\t{visible}\n")
 }
 
+/// Appends the line of a merged region.
+fn push_merge(text: &mut String, region: Dimensions) -> Result<(), AllocError>
+    ensures { IfOk result (λ _. string_bytes text.new ≡ string_bytes text.old ++ merge_line region) }
+{
+    let (first_row, first_column) = region.start;
+    let (last_row, last_column) = region.end;
+    write!(
+        text,
+        "merge\t{first_row}\t{first_column}\t{last_row}\t{last_column}\n"
+    )
+}
+
+/// Appends the lines of merged regions.
+fn push_merges(text: &mut String, merges: &[Dimensions]) -> Result<(), AllocError>
+    ensures { IfOk result (λ _. string_bytes text.new ≡ string_bytes text.old
+        ++ flat_map merge_line merges.now) }
+{
+    for region in merges {
+        push_merge(text, *region)?;
+    }
+    Ok(())
+}
+
+/// Appends the lines of the cells of the sheet at an index.
+fn push_cells_at(text: &mut String, book: &Xls, n: usize) -> Result<(), AllocError>
+    ensures { IfOk result (λ _. string_bytes text.new ≡ string_bytes text.old
+        ++ cells_at (slice_get book.now.contents n)) }
+{
+    match book.values_at(n) {
+        Some(values) => push_values(text, values),
+        None => Ok(()),
+    }
+}
+
+/// Appends the lines of the merged regions of the sheet at an index.
+fn push_merges_at(text: &mut String, book: &Xls, n: usize) -> Result<(), AllocError>
+    ensures { IfOk result (λ _. string_bytes text.new ≡ string_bytes text.old
+        ++ merges_at (slice_get book.now.contents n)) }
+{
+    match book.merges_at(n) {
+        Some(merges) => push_merges(text, merges),
+        None => Ok(()),
+    }
+}
+
+/// The year from which dates count.
+fn epoch_word(is_1904: bool) -> &'static str
+    ensures { result.now ≡ epoch_text is_1904 }
+{
+    if is_1904 { "1904" } else { "1900" }
+}
+
 /// The text of the dump: the date system, and for each sheet in workbook order its line and those of
-/// its cells.
+/// its cells and of its merged regions.
 pub fn report_of(alloc: Global, book: &Xls) -> Result<String, AllocError>
     ensures { IfOk result (λ text. string_bytes text ≡ report book.now) }
 {
-    let mut text = String::from_str(alloc, "dates\t1900\n")?;
+    let epoch = epoch_word(book.has_1904_epoch());
+    let mut text = format!(in alloc; "dates\t{epoch}\n")?;
     let sheets = book.sheets_metadata();
     for i in 0..sheets.len() {
         push_sheet(&mut text, &sheets[i])?;
-        if let Some(values) = book.values_at(i) {
-            push_values(&mut text, values)?;
-        }
+        push_cells_at(&mut text, book, i)?;
+        push_merges_at(&mut text, book, i)?;
     }
     Ok(text)
 }

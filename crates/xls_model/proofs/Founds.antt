@@ -3,7 +3,7 @@ use Rattle.std.proofs.Common.{◌≡◌, ◌≢◌, ℕ, zero, suc, ◌+◌, ◌
 use Rattle.std.specs.Prelude.{◌==◌}
 use Rattle.xls_model.specs.Stream.{Group}
 use Rattle.xls_model.specs.Substreams.{IsBof, IsEof, IsPlain}
-use Rattle.xls_model.specs.Counting.{bof, eof, other, kind_of, with_group, found_from}
+use Rattle.xls_model.specs.Counting.{bof, eof, other, kind_of, keep, found_from}
 use Rattle.xls_model.specs.declared.part.Part.{Part}
 
 kind_bof : (g : Group) → IsBof g → kind_of g ≡ bof
@@ -24,7 +24,7 @@ unfolding found_from
 at_own_bof g gs cut h = rw (kind_bof g h) refl
 
 pub at_nested_bof : (g : Group) (gs : List Group) (cut : Option Part) → IsBof g
-    → found_from 1 (g ∷ gs) cut ≡ with_group g (found_from 2 gs cut)
+    → found_from 1 (g ∷ gs) cut ≡ found_from 2 gs cut
 unfolding found_from
 at_nested_bof g gs cut h = rw (kind_bof g h) refl
 
@@ -33,17 +33,13 @@ pub at_inner_bof : (n : ℕ) (g : Group) (gs : List Group) (cut : Option Part) �
 unfolding found_from
 at_inner_bof n g gs cut h = rw (kind_bof g h) refl
 
-pub step_bof : (m : ℕ) (g : Group) (more : List Group) (cut : Option Part) → m ≢ 1 → IsBof g
+pub step_bof : (m : ℕ) (g : Group) (more : List Group) (cut : Option Part) → IsBof g
     → found_from m (g ∷ more) cut ≡ found_from (m + 1) more cut
-step_bof zero g more cut ne h = at_own_bof g more cut h
-step_bof (suc zero) g more cut ne h = absurd (ne refl)
-step_bof (suc (suc n)) g more cut ne h =
+step_bof zero g more cut h = at_own_bof g more cut h
+step_bof (suc zero) g more cut h = at_nested_bof g more cut h
+step_bof (suc (suc n)) g more cut h =
     at_inner_bof n g more cut h
     ∙ ap (λ (k : ℕ). found_from k more cut) (sym (add-one (suc (suc n))))
-
-pub step_nested : (m : ℕ) (g : Group) (more : List Group) (cut : Option Part) → m ≡ 1 → IsBof g
-    → found_from m (g ∷ more) cut ≡ with_group g (found_from (m + 1) more cut)
-step_nested m g more cut e h = rw e (at_nested_bof g more cut h)
 
 pub at_inner_eof : (n : ℕ) (g : Group) (gs : List Group) (cut : Option Part) → IsEof g
     → found_from (suc (suc n)) (g ∷ gs) cut ≡ found_from (suc n) gs cut
@@ -66,7 +62,7 @@ step_inside (suc zero) g more cut lt h = absurd (omega arith)
 step_inside (suc (suc n)) g more cut lt h = rw (kind_other g h) refl
 
 pub step_kept : (m : ℕ) (g : Group) (more : List Group) (cut : Option Part) → m ≤ 1 → IsPlain g
-    → found_from m (g ∷ more) cut ≡ with_group g (found_from m more cut)
+    → found_from m (g ∷ more) cut ≡ keep g (found_from m more cut)
 unfolding found_from
 step_kept zero g more cut le h = rw (kind_other g h) refl
 step_kept (suc zero) g more cut le h = rw (kind_other g h) refl

@@ -1,14 +1,17 @@
 -- Every stream holds some items and ends in some way, and no others.
-use Rattle.std.proofs.Common.{◌≡◌, ℕ, List, [], ◌∷◌, map, length, drop, refl, sym, ap, subst, ◌∙◌, arith, inl, inr, Option, Some, None}
+use Rattle.std.proofs.Common.{◌≡◌, ◌≢◌, ℕ, ◌≤◌, true, false, List, [], ◌∷◌, map, length, drop, refl, sym, ap, subst, ◌∙◌, arith, inl, inr, Option, Some, None}
+use Rattle.std.specs.Prelude.{◌==◌}
 use Rattle.std.specs.List.{filter, AllZip}
 use Rattle.std.proofs.lemmas.Bool.{cases_lt, cases_eq}
 use Rattle.xls_model.specs.Stream.{Group}
 use Rattle.xls_model.specs.Walks.{IsBytes}
 use Rattle.xls_model.specs.declared.part.Part.{Part}
 use Rattle.xls_model.specs.declared.part.Part.TheVariants.{SheetOffset}
-use Rattle.xls_model.specs.Listing.{Kept, kept_of, IsPart, IsSheetPart, is_globals_type, offset_at, Item, plain_item, sheet_item, IsItem, Holds, Entry, entry_of, Carries}
+use Rattle.xls_model.specs.Listing.{Kept, kept_of, IsPart, IsSheetPart, Shared, no_table, table_of, table_without, IsShared, is_globals_type, is_plain_type, offset_at, Item, plain_item, table_item, sheet_item, IsItem, Holds, Entry, entry_of, Carries}
+use Rattle.xls_model.specs.StringTable.{OneReading, marked}
 use Rattle.xls_model.proofs.Shapes.{drop_bytes, one_globals_part}
 use Rattle.xls_model.proofs.Shapes as shapes
+use Rattle.xls_model.proofs.TableReadings.{one_reading}
 
 has_part : (part : List ℕ) → IsBytes part → (kept : List Kept) × (cut : Option Part)
     × IsPart part kept cut
@@ -49,7 +52,52 @@ one_sheet_part bytes fits offset k l c d a b =
       ]
     ]
 
+-- ---- what an SST record holds
+
+has_marks : (g : Group) → 8 ≤ length g.body → OneReading (marked (drop 8 g.body) g.tail)
+    → (s : Shared) × IsShared g s
+has_marks g long one = elim one.some [
+  | inl t ↦ (table_of t.0, (long, t.1))
+  | inr f ↦ (table_without f.0, (long, f.1))
+]
+
+has_shared : (g : Group) → (s : Shared) × IsShared g s
+has_shared g = elim (cases_lt (length g.body) 8) [
+  | inl lt ↦ (no_table, lt)
+  | inr ge ↦ has_marks g ge (one_reading (marked (drop 8 g.body) g.tail))
+]
+
+one_shared : (g : Group) (s t : Shared) → IsShared g s → IsShared g t → s ≡ t
+one_shared g no_table no_table a b = refl
+one_shared g no_table (table_of ss) a b = let l = a in let m = b.0 in absurd (omega arith)
+one_shared g no_table (table_without e) a b = let l = a in let m = b.0 in absurd (omega arith)
+one_shared g (table_of ss) no_table a b = let l = b in let m = a.0 in absurd (omega arith)
+one_shared g (table_of ss) (table_of ts) a b =
+    ap table_of ((one_reading (marked (drop 8 g.body) g.tail)).table ss ts a.1 b.1)
+one_shared g (table_of ss) (table_without e) a b =
+    absurd ((one_reading (marked (drop 8 g.body) g.tail)).apart ss e a.1 b.1)
+one_shared g (table_without e) no_table a b = let l = b in let m = a.0 in absurd (omega arith)
+one_shared g (table_without e) (table_of ss) a b =
+    absurd ((one_reading (marked (drop 8 g.body) g.tail)).apart ss e b.1 a.1)
+one_shared g (table_without e) (table_without f) a b =
+    ap table_without ((one_reading (marked (drop 8 g.body) g.tail)).fault e f a.1 b.1)
+
 -- ---- items
+
+apart : (m n : ℕ) → m ≢ n → (m == n) ≡ false
+apart m n h = grind arith
+
+plain_type : (n : ℕ) → n ≢ 252 → n ≢ 133 → is_plain_type n ≡ true
+plain_type n a b = let e = apart n 252 a in let f = apart n 133 b in rw (e, f) refl
+
+table_type : (n : ℕ) → n ≡ 252 → is_plain_type n ≡ true → ⊥
+table_type n e h = let f : false ≡ true = rw e at h in cc
+
+sheet_type : (n : ℕ) → n ≡ 133 → is_plain_type n ≡ true → ⊥
+sheet_type n e h = let f : false ≡ true = rw e at h in cc
+
+apart_types : (n : ℕ) → n ≡ 252 → n ≡ 133 → ⊥
+apart_types n e f = omega arith
 
 pub has_item : (bytes : List ℕ) (g : Group) → IsBytes bytes → (i : Item) × IsItem bytes g i
 has_item bytes g fits =
@@ -58,15 +106,26 @@ has_item bytes g fits =
         sheet_item g.body p.0 p.1,
         (e, refl, p.2),
       )
-      | inr n ↦ (plain_item g.typ g.body, (n, refl, refl))
+      | inr n ↦ elim (cases_eq g.typ 252) [
+        | inl t ↦ let s = has_shared g in (table_item g.body s.0, (t, refl, s.1))
+        | inr m ↦ (plain_item g.typ g.body, (plain_type g.typ m n, refl, refl))
+      ]
     ]
 
 one_item : (bytes : List ℕ) → IsBytes bytes → (g : Group) (i j : Item) → IsItem bytes g i
     → IsItem bytes g j → i ≡ j
 one_item bytes fits g (plain_item t x) (plain_item u y) a b = let e : t ≡ u =
     a.1 ∙ sym b.1 in let f : x ≡ y = a.2 ∙ sym b.2 in cc
-one_item bytes fits g (plain_item t x) (sheet_item y k c) a b = absurd (a.0 b.0)
-one_item bytes fits g (sheet_item y k c) (plain_item t x) a b = absurd (b.0 a.0)
+one_item bytes fits g (plain_item t x) (table_item y s) a b = absurd (table_type g.typ b.0 a.0)
+one_item bytes fits g (plain_item t x) (sheet_item y k c) a b = absurd (sheet_type g.typ b.0 a.0)
+one_item bytes fits g (table_item x r) (plain_item u y) a b = absurd (table_type g.typ a.0 b.0)
+one_item bytes fits g (table_item x r) (table_item y s) a b =
+    let e : x ≡ y = a.1 ∙ sym b.1 in
+    let f : r ≡ s = one_shared g r s a.2 b.2 in
+    cc
+one_item bytes fits g (table_item x r) (sheet_item y k c) a b = absurd (apart_types g.typ a.0 b.0)
+one_item bytes fits g (sheet_item y k c) (plain_item t x) a b = absurd (sheet_type g.typ a.0 b.0)
+one_item bytes fits g (sheet_item y k c) (table_item x s) a b = absurd (apart_types g.typ b.0 a.0)
 one_item bytes fits g (sheet_item x k c) (sheet_item y l d) a b =
     let e : x ≡ y = a.1 ∙ sym b.1 in
     let same = one_sheet_part bytes fits (offset_at g.body) k l c d a.2 b.2 in

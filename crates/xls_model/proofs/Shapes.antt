@@ -1,12 +1,13 @@
 -- The grammar of a sheet part and the count find the same.
-use Rattle.std.proofs.Common.{◌≡◌, ◌≢◌, ℕ, zero, suc, ◌+◌, ◌<◌, ◌≤◌, List, [], ◌∷◌, ◌++◌, length, get_or, drop, false, refl, sym, ap, subst, ◌∙◌, append_assoc, arith, inl, inr, Option, None}
-use Rattle.std.specs.Prelude.{◌↔◌, ◌==◌}
+use Rattle.std.proofs.Common.{◌≡◌, ◌≢◌, ℕ, zero, suc, ◌+◌, ◌<◌, ◌≤◌, List, [], ◌∷◌, ◌++◌, length, get_or, drop, Bool, true, false, refl, sym, ap, subst, ◌∙◌, append_assoc, arith, inl, inr, Option, None}
+use Rattle.std.specs.Prelude.{◌↔◌, ◌==◌, if◌then◌else◌}
 use Rattle.std.specs.List.{AllByRecursion, flat_map}
 use Rattle.std.proofs.lemmas.Bool.{cases_eq}
 use Rattle.std.proofs.lemmas.List.{append-nil, get_or-append-add, get_or-drop}
+use Rattle.std.proofs.lemmas.List.Elements.{filter-append}
 use Rattle.xls_model.specs.Stream.{Group, group_bytes, Run}
-use Rattle.xls_model.specs.Substreams.{IsBof, IsEof, IsPlain, Items, none, plain, nested, AreItems, groups_of, outer_of, Open, no_more, open_at, IsOpen, open_groups, outer_open, Shape, bare_closed, bare_open, own_closed, own_open, IsShape, groups_in, outer_in, EndsSo, SheetPart, GlobalsPart}
-use Rattle.xls_model.specs.Counting.{Found, with_group, found_from, globals_of, From}
+use Rattle.xls_model.specs.Substreams.{IsBof, IsEof, IsPlain, Items, none, plain, nested, AreItems, groups_of, outer_of, Open, no_more, open_at, IsOpen, open_groups, is_sheet_type, kept_groups, Shape, bare_closed, bare_open, own_closed, own_open, IsShape, groups_in, outer_in, EndsSo, SheetPart, GlobalsPart}
+use Rattle.xls_model.specs.Counting.{Found, with_group, keep, found_from, globals_of, From}
 use Rattle.xls_model.specs.Walks.{IsBytes, AtEnd, Groups}
 use Rattle.xls_model.specs.Laws.{HasOne}
 use Rattle.xls_model.specs.declared.part.Part.{Part}
@@ -16,6 +17,16 @@ use Rattle.xls_model.proofs.Founds.{at_own_bof, at_nested_bof, at_inner_bof, at_
 
 abbrev with_all : List Group → Found → Found
 with_all ks f = (ks ++ f.0, f.1)
+
+keep_first : (g : Group) (gs : List Group) (f : Found)
+    → keep g (with_all (kept_groups gs) f) ≡ with_all (kept_groups (g ∷ gs)) f
+keep_first g gs f = by_test (is_sheet_type g)
+  where
+    by_test : (b : Bool)
+        → (if b then with_group g (with_all (kept_groups gs) f) else with_all (kept_groups gs) f)
+        ≡ with_all (if b then g ∷ kept_groups gs else kept_groups gs) f
+    by_test true = refl
+    by_test false = refl
 
 skip_items : (items : Items) → AreItems items → (n : ℕ) (rest : List Group) (cut : Option Part)
     → found_from (suc (suc n)) (groups_of items ++ rest) cut ≡ found_from (suc (suc n)) rest cut
@@ -31,18 +42,19 @@ skip_items (nested b inner e others) h n rest cut =
     ∙ skip_items others h.3 n rest cut
 
 keep_items : (items : Items) → AreItems items → (rest : List Group) (cut : Option Part)
-    → found_from 1 (groups_of items ++ rest) cut ≡ with_all (outer_of items) (found_from 1 rest cut)
+    → found_from 1 (groups_of items ++ rest) cut
+    ≡ with_all (kept_groups (outer_of items)) (found_from 1 rest cut)
 keep_items none h rest cut = refl
 keep_items (plain g others) h rest cut =
     step_kept 1 g (groups_of others ++ rest) cut (omega arith) h.0
-    ∙ ap (with_group g) (keep_items others h.1 rest cut)
+    ∙ ap (keep g) (keep_items others h.1 rest cut)
+    ∙ keep_first g (outer_of others) (found_from 1 rest cut)
 keep_items (nested b inner e others) h rest cut =
     ap (λ (x : List Group). found_from 1 (b ∷ x) cut) (append_assoc (groups_of inner) (e ∷ groups_of others) rest)
     ∙ at_nested_bof b (groups_of inner ++ (e ∷ (groups_of others ++ rest))) cut h.0
-    ∙ ap (with_group b)
-    (skip_items inner h.1 0 (e ∷ (groups_of others ++ rest)) cut
+    ∙ skip_items inner h.1 0 (e ∷ (groups_of others ++ rest)) cut
     ∙ at_inner_eof 0 e (groups_of others ++ rest) cut h.2
-    ∙ keep_items others h.3 rest cut)
+    ∙ keep_items others h.3 rest cut
 
 skip_open : (o : Open) → IsOpen o → (n : ℕ) (cut : Option Part)
     → found_from (suc (suc n)) (open_groups o) cut ≡ ([], cut)
@@ -53,20 +65,21 @@ skip_open (open_at b inner deeper) h n cut =
     ∙ skip_open deeper h.2 (suc n) cut
 
 keep_open : (o : Open) → IsOpen o → (cut : Option Part)
-    → found_from 1 (open_groups o) cut ≡ (outer_open o, cut)
+    → found_from 1 (open_groups o) cut ≡ ([], cut)
 keep_open no_more h cut = found_nothing 1 cut
 keep_open (open_at b inner deeper) h cut =
     at_nested_bof b (groups_of inner ++ open_groups deeper) cut h.0
-    ∙ ap (with_group b) (skip_items inner h.1 0 (open_groups deeper) cut
-    ∙ skip_open deeper h.2 0 cut)
+    ∙ skip_items inner h.1 0 (open_groups deeper) cut
+    ∙ skip_open deeper h.2 0 cut
 
 keep_front : (front : List Group) → AllByRecursion IsPlain front
     → (rest : List Group) (cut : Option Part)
-    → found_from 0 (front ++ rest) cut ≡ with_all front (found_from 0 rest cut)
+    → found_from 0 (front ++ rest) cut ≡ with_all (kept_groups front) (found_from 0 rest cut)
 keep_front [] h rest cut = refl
 keep_front (g ∷ front) h rest cut =
     step_kept 0 g (front ++ rest) cut (omega arith) h.0
-    ∙ ap (with_group g) (keep_front front h.1 rest cut)
+    ∙ ap (keep g) (keep_front front h.1 rest cut)
+    ∙ keep_first g front (found_from 0 rest cut)
 
 all_nil : (ks : List Group) (cut : Option Part) → with_all ks ([], cut) ≡ (ks, cut)
 all_nil ks cut = ap (λ (x : List Group). (x, cut)) (append-nil ks)
@@ -75,24 +88,27 @@ all_nil ks cut = ap (λ (x : List Group). (x, cut)) (append-nil ks)
 
 bare_closed_found : (front : List Group) (e : Group) → AllByRecursion IsPlain front → IsEof e
     → (more : List Group) (stop : Option Part)
-    → found_from 0 ((front ++ e ∷ []) ++ more) stop ≡ (front, None)
+    → found_from 0 ((front ++ e ∷ []) ++ more) stop ≡ (kept_groups front, None)
 bare_closed_found front e h k more stop =
     ap (λ (x : List Group). found_from 0 x stop) (append_assoc front (e ∷ []) more)
     ∙ keep_front front h (e ∷ more) stop
-    ∙ ap (with_all front) (step_over 0 e more stop (omega arith) k) ∙ all_nil front None
+    ∙ ap (with_all (kept_groups front)) (step_over 0 e more stop (omega arith) k)
+    ∙ all_nil (kept_groups front) None
 
 bare_open_found : (front : List Group) → AllByRecursion IsPlain front → (stop : Option Part)
-    → found_from 0 front stop ≡ (front, stop)
+    → found_from 0 front stop ≡ (kept_groups front, stop)
 bare_open_found front h stop =
     ap (λ (x : List Group). found_from 0 x stop) (sym (append-nil front))
-    ∙ keep_front front h [] stop ∙ ap (with_all front) (found_nothing 0 stop)
-    ∙ all_nil front stop
+    ∙ keep_front front h [] stop ∙ ap (with_all (kept_groups front)) (found_nothing 0 stop)
+    ∙ all_nil (kept_groups front) stop
 
-own_found : (front : List Group) (b : Group) (items : Items) (rest ks : List Group) (stop cut : Option Part) → AllByRecursion IsPlain front → IsBof b → AreItems items → found_from 1 rest stop ≡ (ks, cut) → found_from 0 (front ++ b ∷ (groups_of items ++ rest)) stop ≡ (front ++ (outer_of items ++ ks), cut)
-own_found front b items rest ks stop cut h k l e =
+own_found : (front : List Group) (b : Group) (items : Items) (rest : List Group) (stop cut : Option Part) → AllByRecursion IsPlain front → IsBof b → AreItems items → found_from 1 rest stop ≡ ([], cut) → found_from 0 (front ++ b ∷ (groups_of items ++ rest)) stop ≡ (kept_groups (front ++ outer_of items), cut)
+own_found front b items rest stop cut h k l e =
     keep_front front h (b ∷ (groups_of items ++ rest)) stop
-    ∙ ap (with_all front) (at_own_bof b (groups_of items ++ rest) stop k
-    ∙ keep_items items l rest stop ∙ ap (with_all (outer_of items)) e)
+    ∙ ap (with_all (kept_groups front)) (at_own_bof b (groups_of items ++ rest) stop k
+    ∙ keep_items items l rest stop ∙ ap (with_all (kept_groups (outer_of items))) e
+    ∙ all_nil (kept_groups (outer_of items)) cut)
+    ∙ ap (λ (x : List Group). (x, cut)) (sym (filter-append is_sheet_type front (outer_of items)))
 
 regroup : (front : List Group) (b : Group) (items : Items) (e : Group) (more : List Group)
     → (front ++ b ∷ (groups_of items ++ e ∷ [])) ++ more ≡ front
@@ -104,15 +120,11 @@ regroup front b items e more =
 own_closed_found : (front : List Group) (b : Group) (items : Items) (e : Group)
     → AllByRecursion IsPlain front → IsBof b → AreItems items → IsEof e
     → (more : List Group) (stop : Option Part)
-    → found_from 0 ((front ++ b ∷ (groups_of items ++ e ∷ [])) ++ more) stop ≡ (
-      front
-          ++ outer_of items,
-      None,
-    )
+    → found_from 0 ((front ++ b ∷ (groups_of items ++ e ∷ [])) ++ more) stop
+    ≡ (kept_groups (front ++ outer_of items), None)
 own_closed_found front b items e h k l m more stop =
     ap (λ (x : List Group). found_from 0 x stop) (regroup front b items e more)
-    ∙ own_found front b items (e ∷ more) [] stop None h k l (step_over 1 e more stop (omega arith) m)
-    ∙ ap (λ (x : List Group). (front ++ x, None)) (append-nil (outer_of items))
+    ∙ own_found front b items (e ∷ more) stop None h k l (step_over 1 e more stop (omega arith) m)
 
 -- ---- every list of groups has a shape at its front
 
@@ -174,10 +186,10 @@ rest_within (suc fuel) (g ∷ gs) few =
 data Shaped (gs : List Group) : Type 0 where
   closes : (s : Shape) (after : List Group) → IsShape s → gs ≡ groups_in s ++ after
       → ((more : List Group) (stop : Option Part)
-      → found_from 0 (groups_in s ++ more) stop ≡ (outer_in s, None))
+      → found_from 0 (groups_in s ++ more) stop ≡ (kept_groups (outer_in s), None))
       → ((rest : List ℕ) → EndsSo s rest None) → Shaped gs
   stays : (s : Shape) → IsShape s → gs ≡ groups_in s
-      → ((stop : Option Part) → found_from 0 (groups_in s) stop ≡ (outer_in s, stop))
+      → ((stop : Option Part) → found_from 0 (groups_in s) stop ≡ (kept_groups (outer_in s), stop))
       → ((rest : List ℕ) (stop : Option Part) → AtEnd rest stop → EndsSo s rest stop) → Shaped gs
 
 after_bof : (front : List Group) (b : Group) (gs : List Group) → AllByRecursion IsPlain front
@@ -197,7 +209,7 @@ after_bof front b gs p k (at_end items o h a m) =
       a,
       m,
     ) (ap (λ (x : List Group). front
-    ++ b ∷ x) h) (λ stop. own_found front b items (open_groups o) (outer_open o) stop stop p k a (keep_open o m stop)) (λ rest stop e. e)
+    ++ b ∷ x) h) (λ stop. own_found front b items (open_groups o) stop stop p k a (keep_open o m stop)) (λ rest stop e. e)
 
 all_push : (front : List Group) (g : Group) → AllByRecursion IsPlain front → IsPlain g
     → AllByRecursion IsPlain (front ++ g ∷ [])
@@ -230,25 +242,25 @@ run_split bytes (g ∷ gs) hs rest r = let s =
 from_shape : (bytes : List ℕ) (outer : List Group) (cut : Option Part) (all : List Group) (stop : Option Part) → Groups bytes all stop → found_from 0 all stop ≡ (outer, cut) → Shaped all → SheetPart bytes outer cut
 from_shape bytes outer cut all stop w f (closes s after is h found ends) =
     let split = run_split bytes (groups_in s) after w.rest (subst (λ (x : List Group). Run bytes x w.rest) h w.run) in
-    let both : ◌≡◌ {A = Found} (outer, cut) (outer_in s, None) =
+    let both : ◌≡◌ {A = Found} (outer, cut) (kept_groups (outer_in s), None) =
     sym f ∙ ap (λ (x : List Group). found_from 0 x stop) h ∙ found after stop in
     record {
       shape = s;
       is_shape = is;
       rest = split.0;
       run = split.1;
-      outer_is = ap (λ (p : Found). p.0) both;
+      kept_is = ap (λ (p : Found). p.0) both;
       ends = subst (λ (c : Option Part). EndsSo s split.0 c) (sym (ap (λ (p : Found). p.1) both)) (ends split.0);
     }
 from_shape bytes outer cut all stop w f (stays s is h found ends) =
-    let both : ◌≡◌ {A = Found} (outer, cut) (outer_in s, stop) =
+    let both : ◌≡◌ {A = Found} (outer, cut) (kept_groups (outer_in s), stop) =
     sym f ∙ ap (λ (x : List Group). found_from 0 x stop) h ∙ found stop in
     record {
       shape = s;
       is_shape = is;
       rest = w.rest;
       run = subst (λ (x : List Group). Run bytes x w.rest) h w.run;
-      outer_is = ap (λ (p : Found). p.0) both;
+      kept_is = ap (λ (p : Found). p.0) both;
       ends = subst (λ (c : Option Part). EndsSo s w.rest c) (sym (ap (λ (p : Found). p.1) both)) (ends w.rest stop w.end);
     }
 
@@ -283,23 +295,23 @@ counted_open bytes gs outer cut rest run found e =
 
 counted : (bytes : List ℕ) (cut : Option Part) (s : Shape) (rest : List ℕ) → IsBytes bytes
     → IsShape s → Run bytes (groups_in s) rest → EndsSo s rest cut
-    → From (found_from 0) bytes (outer_in s) cut
+    → From (found_from 0) bytes (kept_groups (outer_in s)) cut
 counted bytes cut (bare_closed front e) rest fits is run ends =
     counted_closed bytes (front
-    ++ e ∷ []) front cut rest fits run (bare_closed_found front e is.0 is.1) ends
+    ++ e ∷ []) (kept_groups front) cut rest fits run (bare_closed_found front e is.0 is.1) ends
 counted bytes cut (bare_open front) rest fits is run ends =
-    counted_open bytes front front cut rest run (bare_open_found front is cut) ends
+    counted_open bytes front (kept_groups front) cut rest run (bare_open_found front is cut) ends
 counted bytes cut (own_closed front b items e) rest fits is run ends =
-    counted_closed bytes (front ++ b ∷ (groups_of items ++ e ∷ [])) (front
-    ++ outer_of items) cut rest fits run (own_closed_found front b items e is.0 is.1 is.2 is.3) ends
+    counted_closed bytes (front ++ b ∷ (groups_of items ++ e ∷ [])) (kept_groups (front
+    ++ outer_of items)) cut rest fits run (own_closed_found front b items e is.0 is.1 is.2 is.3) ends
 counted bytes cut (own_open front b items o) rest fits is run ends =
-    counted_open bytes (front ++ b ∷ (groups_of items ++ open_groups o)) (front
-    ++ (outer_of items ++ outer_open o)) cut rest run (own_found front b items (open_groups o) (outer_open o) cut cut is.0 is.1 is.2 (keep_open o is.3 cut)) ends
+    counted_open bytes (front ++ b ∷ (groups_of items ++ open_groups o)) (kept_groups (front
+    ++ outer_of items)) cut rest run (own_found front b items (open_groups o) cut cut is.0 is.1 is.2 (keep_open o is.3 cut)) ends
 
 pub same_parts : (bytes : List ℕ) (outer : List Group) (cut : Option Part) → IsBytes bytes
     → SheetPart bytes outer cut ↔ From (found_from 0) bytes outer cut
 same_parts bytes outer cut fits = (
-  λ p. subst (λ (k : List Group). From (found_from 0) bytes k cut) (sym p.outer_is) (counted bytes cut p.shape p.rest fits p.is_shape p.run p.ends),
+  λ p. subst (λ (k : List Group). From (found_from 0) bytes k cut) (sym p.kept_is) (counted bytes cut p.shape p.rest fits p.is_shape p.run p.ends),
   λ c. from_shape bytes outer cut c.all c.stop c.walk c.is (shaped c.all [] tt),
 )
 

@@ -1,9 +1,8 @@
 -- Known values, so that a wrong rule in the specs does not check.
 use Rattle.std.proofs.Common.{◌≡◌, ℕ, [], ◌∷◌, refl, None, lit<, arith}
 use Rattle.xls_model.specs.Stream.{Group, enc, group_bytes, Begins}
-use Rattle.xls_model.specs.Substreams.{none, plain, nested, Shape, own_closed, groups_in, outer_in}
+use Rattle.xls_model.specs.Substreams.{none, plain, nested, Shape, own_closed, groups_in, outer_in, kept_groups}
 use Rattle.xls_model.specs.Counting.{found_from}
-use Rattle.xls_model.specs.Listing.{kept_of}
 
 -- an EOF record is its type and no byte
 pub eof_bytes : enc 10 [] ≡ 10 ∷ 0 ∷ 0 ∷ 0 ∷ []
@@ -23,20 +22,17 @@ sheet_with_chart = own_closed [] (group 2057) (plain (group 515) (nested (group 
 pub chart_groups : groups_in sheet_with_chart ≡ group 2057 ∷ group 515 ∷ group 2057 ∷ group 516 ∷ group 10 ∷ group 638 ∷ group 10 ∷ []
 chart_groups = refl
 
--- the chart's records aren't the sheet's; its BOF stands for it
-pub chart_outer : outer_in sheet_with_chart ≡ group 515 ∷ group 2057 ∷ group 638 ∷ []
+-- the chart's records aren't the sheet's
+pub chart_outer : outer_in sheet_with_chart ≡ group 515 ∷ group 638 ∷ []
 chart_outer = refl
 
 -- counting finds the same
-pub chart_counted : found_from 0 (groups_in sheet_with_chart) None ≡ (group 515 ∷ group 2057 ∷ group 638 ∷ [], None)
+pub chart_counted : found_from 0 (groups_in sheet_with_chart) None ≡ (group 515 ∷ group 638 ∷ [], None)
 unfolding found_from
 chart_counted = refl
 
 -- a record of a type that isn't named is no kept record
-pub kept_types : kept_of (group 515 ∷ group 520 ∷ group 6 ∷ []) ≡ record {
-  typ = 515;
-  body = [];
-} ∷ record { typ = 6; body = [] } ∷ []
+pub kept_types : kept_groups (group 515 ∷ group 520 ∷ group 6 ∷ []) ≡ group 515 ∷ group 6 ∷ []
 kept_types = refl
 
 -- a whole Continue behind a record belongs to it

@@ -2,6 +2,7 @@
 use Rattle.std.specs.Prelude.{◌≡◌, ℕ, zero, suc, List, [], ◌∷◌, ◌==◌, if◌then◌else◌, Option, None}
 use Rattle.xls_model.specs.Stream.{Group}
 use Rattle.xls_model.specs.Walks.{Groups}
+use Rattle.xls_model.specs.Substreams.{is_sheet_type}
 use Rattle.xls_model.specs.declared.part.Part.{Part}
 use Rattle.xls_model.specs.declared.types.TheConstants.{BOF, EOF}
 
@@ -20,19 +21,23 @@ Found = List Group × Option Part
 abbrev pub with_group : Group → Found → Found
 with_group g f = (g ∷ f.0, f.1)
 
+-- a group is found where its type is one of a sheet's
+abbrev pub keep : Group → Found → Found
+keep g f = if is_sheet_type g then with_group g f else f
+
 -- what is found at a group of this kind, where n BOF records are open and the others give what on says
 abbrev pub found_at : (ℕ → Found) → Group → ℕ → Kind → Found
 found_at on g zero bof = on (suc zero)
-found_at on g (suc zero) bof = with_group g (on (suc (suc zero)))
+found_at on g (suc zero) bof = on (suc (suc zero))
 found_at on g (suc (suc n)) bof = on (suc (suc (suc n)))
 found_at on g zero eof = ([], None)
 found_at on g (suc zero) eof = ([], None)
 found_at on g (suc (suc n)) eof = on (suc n)
-found_at on g zero other = with_group g (on zero)
-found_at on g (suc zero) other = with_group g (on (suc zero))
+found_at on g zero other = keep g (on zero)
+found_at on g (suc zero) other = keep g (on (suc zero))
 found_at on g (suc (suc n)) other = on (suc (suc n))
 
--- The outer groups of a part, of which n BOF records are open: none, its own, or its own and n - 1
+-- The kept groups of a part, of which n BOF records are open: none, its own, or its own and n - 1
 -- substreams. The groups end in this cut, which no longer counts behind the EOF of the part.
 unfoldable pub found_from : ℕ → List Group → Option Part → Found
 found_from n [] cut = ([], cut)

@@ -28,8 +28,8 @@ OneGroups = (bytes : List ℕ) (gs hs : List Group) (s t : Option Part) → Grou
 
 -- the grammar of a sheet part and the count of open substreams find the same
 abbrev pub SameParts : Type 0
-SameParts = (bytes : List ℕ) (outer : List Group) (cut : Option Part) → IsBytes bytes
-    → SheetPart bytes outer cut ↔ From (found_from 0) bytes outer cut
+SameParts = (bytes : List ℕ) (kept : List Group) (cut : Option Part) → IsBytes bytes
+    → SheetPart bytes kept cut ↔ From (found_from 0) bytes kept cut
 
 -- likewise the globals with their first EOF and the walk to the end
 abbrev pub SameGlobals : Type 0

@@ -1,12 +1,13 @@
 -- The globals and the sheet parts of a stream, as a grammar of groups ([MS-XLS] 2.1.7.20: a
 -- substream is from a BOF record, 2.4.21, to an EOF record, 2.4.103). That a sheet part may lack its
 -- BOF, its EOF or the EOF of substreams inside it is this project's rule.
-use Rattle.std.specs.Prelude.{◌≡◌, ◌≢◌, ◌⊎◌, ℕ, List, [], ◌∷◌, ◌++◌, Option, None}
-use Rattle.std.specs.List.{AllByRecursion}
+use Rattle.std.specs.Prelude.{◌≡◌, ◌≢◌, ◌⊎◌, ℕ, List, [], ◌∷◌, ◌++◌, Bool, false, ◌||◌, ◌==◌, Option, None}
+use Rattle.std.specs.List.{filter, AllByRecursion}
 use Rattle.xls_model.specs.Stream.{Group, Run}
 use Rattle.xls_model.specs.Walks.{AtEnd}
 use Rattle.xls_model.specs.declared.part.Part.{Part}
 use Rattle.xls_model.specs.declared.types.TheConstants.{BOF, EOF}
+use Rattle.xls_model.specs.declared.types.TheConstants as types
 
 abbrev pub IsBof : Group → Type 0
 IsBof g = g.typ ≡ BOF
@@ -16,6 +17,25 @@ IsEof g = g.typ ≡ EOF
 
 abbrev pub IsPlain : Group → Type 0
 IsPlain g = (g.typ ≢ BOF) × (g.typ ≢ EOF)
+
+-- ---- the records that are kept
+
+abbrev pub is_among : ℕ → List ℕ → Bool
+is_among typ [] = false
+is_among typ (t ∷ ts) = typ == t || is_among typ ts
+
+-- the eleven types of a sheet's records
+abbrev pub sheet_types : List ℕ
+sheet_types =
+    types.NUMBER ∷ types.DIMENSIONS ∷ types.LABEL ∷ types.R_STRING ∷ types.BOOL_ERR ∷ types.STRING
+    ∷ types.RK ∷ types.LABEL_SST ∷ types.MUL_RK ∷ types.MERGE_CELLS ∷ types.FORMULA ∷ []
+
+abbrev pub is_sheet_type : Group → Bool
+is_sheet_type g = is_among g.typ sheet_types
+
+-- those of these groups whose type is one of the eleven
+abbrev pub kept_groups : List Group → List Group
+kept_groups gs = filter is_sheet_type gs
 
 -- ---- nested substreams
 
@@ -48,15 +68,11 @@ abbrev pub open_groups : Open → List Group
 open_groups no_more = []
 open_groups (open_at bof inner deeper) = bof ∷ (groups_of inner ++ open_groups deeper)
 
--- the outer groups: the plain groups outside nested substreams, and the BOF of each of those
+-- the plain groups outside nested substreams
 abbrev pub outer_of : Items → List Group
 outer_of none = []
 outer_of (plain g others) = g ∷ outer_of others
-outer_of (nested bof inner eof others) = bof ∷ outer_of others
-
-abbrev pub outer_open : Open → List Group
-outer_open no_more = []
-outer_open (open_at bof inner deeper) = bof ∷ []
+outer_of (nested bof inner eof others) = outer_of others
 
 -- ---- a sheet part
 
@@ -86,7 +102,7 @@ abbrev pub outer_in : Shape → List Group
 outer_in (bare_closed front eof) = front
 outer_in (bare_open front) = front
 outer_in (own_closed front bof items eof) = front ++ outer_of items
-outer_in (own_open front bof items deeper) = front ++ (outer_of items ++ outer_open deeper)
+outer_in (own_open front bof items deeper) = front ++ outer_of items
 
 -- closed, a part isn't cut, and else it ends with the bytes or in a cut
 abbrev pub EndsSo : Shape → List ℕ → Option Part → Type 0
@@ -95,13 +111,13 @@ EndsSo (bare_open front) rest cut = AtEnd rest cut
 EndsSo (own_closed front bof items eof) rest cut = cut ≡ None
 EndsSo (own_open front bof items deeper) rest cut = AtEnd rest cut
 
--- the bytes begin with a sheet part of these outer groups; whole, or broken by this cut
-pub record SheetPart (bytes : List ℕ) (outer : List Group) (cut : Option Part) : Type 0 where
+-- the bytes begin with a sheet part of these kept groups; whole, or broken by this cut
+pub record SheetPart (bytes : List ℕ) (kept : List Group) (cut : Option Part) : Type 0 where
   pub shape : Shape
   pub is_shape : IsShape shape
   pub rest : List ℕ
   pub run : Run bytes (groups_in shape) rest
-  pub outer_is : outer ≡ outer_in shape
+  pub kept_is : kept ≡ kept_groups (outer_in shape)
   pub ends : EndsSo shape rest cut
 
 -- ---- the globals

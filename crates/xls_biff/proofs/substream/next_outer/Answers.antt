@@ -1,23 +1,11 @@
-use Rattle.std.proofs.Common.{arith}
+use Rattle.std.proofs.Common.{arith, sym, ◌∙◌}
 use Rattle.xls_model.proofs.Runs.{begins_fewer}
+use Rattle.xls_model.specs.Substreams.{IsPlain}
 use Rattle.xls_biff.specs.Walking.{group_of}
-use Rattle.xls_biff.proofs.OuterLemmas.{keeps_nested, skips_bof, skips_eof, skips_inside, keeps, over_eof, over_end}
+use Rattle.xls_biff.specs.Outer.{Skips}
+use Rattle.xls_biff.proofs.OuterLemmas.{skips_bof, skips_eof, skips_inside, skips_other, keeps, over_eof, over_end}
 use Rattle.xls_biff.proofs.substream.next_outer.Goals as goal
-
--- the BOF of a nested substream
-pub returns-then-depth-eq2-clause-steps : goal.returns-then-depth-eq2-clause-steps
-returns-then-depth-eq2-clause-steps c =
-    let l = c.loop-item in
-    let begun = rw c.in-Ok.is at c.in-Some.ensures.steps in
-    keeps_nested c.args.records.now l.records c.next.new.self c.args.depth.now l.depth (group_of c.in-Ok.r) l.invariant.2 begun c.if-r-eq-BOF.true (omega (arith, c.if-depth-eq2.true))
-
--- the part's own BOF, or one further in
-pub loop-item-preserved-else-depth-eq2 : goal.loop-item-preserved-else-depth-eq2
-loop-item-preserved-else-depth-eq2 c =
-    let l = c.loop-item in
-    let begun = rw c.in-Ok.is at c.in-Some.ensures.steps in
-    let g = group_of c.in-Ok.r in
-    (tt, tt, skips_bof c.args.records.now l.records c.next.new.self c.args.depth.now l.depth g l.invariant.2 begun c.if-r-eq-BOF.true (λ e. c.if-depth-eq2.false (omega (arith, e))), omega (arith, l.invariant.3, begins_fewer l.records g c.next.new.self begun))
+use Rattle.xls_biff.proofs.substream.next_outer.Goals.{else-depth-le1-2-via-then-depth-le1-2+else-is_sheet_type, else-depth-le1-2-via-else-depth-le1-2}
 
 pub returns-then-depth-le1-clause-steps : goal.returns-then-depth-le1-clause-steps
 returns-then-depth-le1-clause-steps c =
@@ -32,18 +20,34 @@ loop-item-preserved-then-r-eq-EOF c =
     let g = group_of c.in-Ok.r in
     (tt, tt, skips_eof c.args.records.now l.records c.next.new.self c.args.depth.now l.depth g l.invariant.2 begun c.if-r-eq-EOF.true c.if-depth-le1.false, omega (arith, l.invariant.3, begins_fewer l.records g c.next.new.self begun))
 
-pub returns-then-depth-le1-2-clause-steps : goal.returns-then-depth-le1-2-clause-steps
-returns-then-depth-le1-2-clause-steps c =
+pub returns-then-is_sheet_type-clause-steps : goal.returns-then-is_sheet_type-clause-steps
+returns-then-is_sheet_type-clause-steps c =
     let l = c.loop-item in
     let begun = rw c.in-Ok.is at c.in-Some.ensures.steps in
-    keeps c.args.records.now l.records c.next.new.self c.args.depth.now l.depth (group_of c.in-Ok.r) l.invariant.2 begun (c.if-r-eq-BOF.false, c.if-r-eq-EOF.false) c.if-depth-le1-2.true
+    keeps c.args.records.now l.records c.next.new.self c.args.depth.now l.depth (group_of c.in-Ok.r) l.invariant.2 begun (c.if-r-eq-BOF.false, c.if-r-eq-EOF.false) c.if-depth-le1-2.true (sym c.is_sheet_type.ensures ∙ c.if-is_sheet_type.true)
 
+-- a BOF opens one more substream
+pub loop-item-preserved-then-r-eq-BOF : goal.loop-item-preserved-then-r-eq-BOF
+loop-item-preserved-then-r-eq-BOF c =
+    let l = c.loop-item in
+    let begun = rw c.in-Ok.is at c.in-Some.ensures.steps in
+    let g = group_of c.in-Ok.r in
+    (tt, tt, skips_bof c.args.records.now l.records c.next.new.self c.args.depth.now l.depth g l.invariant.2 begun c.if-r-eq-BOF.true, omega (arith, l.invariant.3, begins_fewer l.records g c.next.new.self begun))
+
+-- a record of another type, or one of a nested substream
 pub loop-item-preserved : goal.loop-item-preserved
 loop-item-preserved c =
     let l = c.loop-item in
     let begun = rw c.in-Ok.is at c.in-Some.ensures.steps in
     let g = group_of c.in-Ok.r in
-    (tt, tt, skips_inside c.args.records.now l.records c.next.new.self c.args.depth.now l.depth g l.invariant.2 begun (c.if-r-eq-BOF.false, c.if-r-eq-EOF.false) c.if-depth-le1-2.false, omega (arith, l.invariant.3, begins_fewer l.records g c.next.new.self begun))
+    let plain : IsPlain g = (c.if-r-eq-BOF.false, c.if-r-eq-EOF.false) in
+    let skips : Skips c.args.records.now c.args.depth.now c.next.new.self l.depth = elim c.else-depth-le1-2.branch [
+      | else-depth-le1-2-via-then-depth-le1-2+else-is_sheet_type w ↦
+          skips_other c.args.records.now l.records c.next.new.self c.args.depth.now l.depth g l.invariant.2 begun plain w.if-depth-le1-2.true (sym w.is_sheet_type.ensures ∙ w.if-is_sheet_type.false)
+      | else-depth-le1-2-via-else-depth-le1-2 w ↦
+          skips_inside c.args.records.now l.records c.next.new.self c.args.depth.now l.depth g l.invariant.2 begun plain w.if-depth-le1-2.false
+    ] in
+    (tt, tt, skips, omega (arith, l.invariant.3, begins_fewer l.records g c.next.new.self begun))
 
 pub returns-clause-steps : goal.returns-clause-steps
 returns-clause-steps c =

@@ -1,5 +1,3 @@
-use Rattle.std.proofs.Common.{map}
-use Rattle.xls_book.specs.Steps.{listed_of}
 use Rattle.xls_book.proofs.GlobalsLemmas.{GlobalsSoFar}
 use Rattle.xls_book.proofs.globals.read_globals.Given as goal
 
@@ -7,4 +5,4 @@ abbrev pub invariant-loop-record : goal.invariant-loop-record
 invariant-loop-record l =
     (goal.iterator-loop-record).can_next l.record-iterator ×
     (goal.iterator-loop-record).is_finite l.record-iterator ×
-    GlobalsSoFar l.stream l.record-iterator (map listed_of l.listed.items)
+    GlobalsSoFar l.options l.stream l.record-iterator l.globals

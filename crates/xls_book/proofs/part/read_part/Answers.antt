@@ -1,6 +1,8 @@
+use Rattle.std.proofs.Common.{subst, sym, refl}
 use Rattle.std.proofs.lemmas.Result.{err_from_is_err_and}
 use Rattle.xls_biff.specs.Walking.{group_of}
-use Rattle.xls_book.proofs.PartLemmas.{part_more, cell_refused, part_cut, part_end}
+use Rattle.xls_book.specs.Reading.{SheetView}
+use Rattle.xls_book.proofs.PartLemmas.{PartSoFar, part_more, record_refused, weight_refused, part_cut, part_end}
 use Rattle.xls_book.proofs.part.read_part.Goals as goal
 
 -- the part is cut
@@ -9,15 +11,23 @@ returns-in_err-record c =
     let l = c.loop-record in
     let p = err_from_is_err_and c.from_residual.result c.from_residual.ensures.1 in
     let steps = rw c.in_err-record.was at c.in-Some.ensures.steps in
-    rw (p.1, p.2) (part_cut c.args.part.now l.record-iterator.0 l.record-iterator.1 c.args.options.now l.given.items c.in_err-record.field-0.0 l.invariant.2 steps.0)
+    rw (p.1, p.2) (part_cut c.args.part.now l.record-iterator.0 l.record-iterator.1 c.args.options.now c.args.force.now l.content l.room c.in_err-record.field-0.0 l.invariant.2 steps.0)
 
 -- a record's own fault
-pub returns-in_err-cell : goal.returns-in_err-cell
-returns-in_err-cell c =
+pub returns-in_err-take : goal.returns-in_err-take
+returns-in_err-take c =
     let l = c.loop-record in
-    let p = err_from_is_err_and c.from_residual-in_err-cell.result c.from_residual-in_err-cell.ensures.1 in
+    let p = err_from_is_err_and c.from_residual-in_err-take.result c.from_residual-in_err-take.ensures.1 in
     let steps = rw c.in_ok-record.was at c.in-Some.ensures.steps in
-    rw (p.1, p.2) (cell_refused c.args.part.now l.record-iterator.0 c.next.new.self.0 l.record-iterator.1 c.next.new.self.1 c.args.options.now l.given.items (group_of c.in_ok-record.record) c.in_err-cell.field-0.0 l.invariant.2 steps c.in_err-cell.ensures)
+    rw (p.1, p.2) (record_refused c.args.part.now l.record-iterator.0 c.next.new.self.0 l.record-iterator.1 c.next.new.self.1 c.args.options.now c.args.force.now l.content l.room (group_of c.in_ok-record.record) c.in_err-take.field-0.0 l.invariant.2 steps c.in_err-take.ensures)
+
+-- too many cells
+pub returns-in_err-room : goal.returns-in_err-room
+returns-in_err-room c =
+    let l = c.loop-record in
+    let p = err_from_is_err_and c.from_residual-in_err-room.result c.from_residual-in_err-room.ensures.1 in
+    let steps = rw c.in_ok-record.was at c.in-Some.ensures.steps in
+    rw (p.1, p.2) (weight_refused c.args.part.now l.record-iterator.0 c.next.new.self.0 l.record-iterator.1 c.next.new.self.1 c.args.options.now c.args.force.now l.content c.take.new.self l.room (group_of c.in_ok-record.record) c.in_err-room.field-0.0 l.invariant.2 steps c.in_ok-take.ensures c.in_err-room.ensures)
 
 pub loop-record-preserved : goal.loop-record-preserved
 loop-record-preserved c =
@@ -25,11 +35,12 @@ loop-record-preserved c =
     let steps = rw c.in_ok-record.was at c.in-Some.ensures.steps in (
       tt,
       tt,
-      part_more c.args.part.now l.record-iterator.0 c.next.new.self.0 l.record-iterator.1 c.next.new.self.1 c.args.options.now l.given.items c.put_given.new.given.items (group_of c.in_ok-record.record) c.in_ok-cell.cell l.invariant.2 steps c.in_ok-cell.ensures
-          c.in_ok-put_given.ensures.0 c.in_ok-put_given.ensures.1,
+      part_more c.args.part.now l.record-iterator.0 c.next.new.self.0 l.record-iterator.1 c.next.new.self.1 c.args.options.now c.args.force.now l.content c.take.new.self l.room c.in_ok-room.room (group_of c.in_ok-record.record) l.invariant.2 steps c.in_ok-take.ensures
+          c.in_ok-room.ensures,
     )
 
 pub returns : goal.returns
 returns c =
     let l = c.loop-record in
-    part_end c.args.part.now l.record-iterator.0 l.record-iterator.1 c.args.options.now l.given.items c.in_ok-sorted_cells.field-0.items l.invariant.2 c.in-None.ensures.steps.0 c.in_ok-sorted_cells.ensures.ascending c.in_ok-sorted_cells.ensures.last
+    let so_far = subst (λ (v : SheetView). PartSoFar c.args.part.now l.record-iterator.0 l.record-iterator.1 c.args.options.now c.args.force.now v l.room) (sym c.content-2.view_is) l.invariant.2 in
+    part_end c.args.part.now l.record-iterator.0 l.record-iterator.1 c.args.options.now c.args.force.now _ l.room c.content-2.inside.cells.items c.in_ok-cells.cells.items so_far c.in-None.ensures.steps.0 refl c.in_ok-cells.ensures.ascending c.in_ok-cells.ensures.last

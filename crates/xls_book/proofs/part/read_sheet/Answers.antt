@@ -3,5 +3,5 @@ use Rattle.xls_model.specs.declared.part.Part.TheVariants.{SheetOffset}
 use Rattle.xls_book.proofs.part.read_sheet.Goals as goal
 
 -- the offset passes the end
-pub returns-then-stream-begin : goal.returns-then-stream-begin
-returns-then-stream-begin c = ([], Some SheetOffset, inr (c.if-stream-begin.true, refl, refl), refl)
+pub returns-then-stream-offset : goal.returns-then-stream-offset
+returns-then-stream-offset c = ([], Some SheetOffset, inr (c.if-stream-offset.true, refl, refl), refl)

@@ -1,49 +1,47 @@
-use Rattle.std.proofs.Common.{◌≡◌, List, [], subst, arith}
-use Rattle.std.proofs.lemmas.Option.{MatchOption-at_some, MatchOption-at_none}
-use Rattle.std.proofs.lemmas.List.{nil_from_length}
+use Rattle.std.proofs.Common.{refl, sym, ap, subst, ◌∙◌, map, ℕ, arith}
+use Rattle.std.proofs.lemmas.List.{length-map}
 use Rattle.std.proofs.lemmas.Result.{err_from_is_err_and}
-use Rattle.std.specs.Vec.Iter.{into_iter_items}
-use Rattle.xls_book.specs.declared.globals.Listed.{Listed}
-use Rattle.xls_book.proofs.OpenLemmas.{OpenSoFar, open_nothing, open_more, sheet_refused, globals_refused, open_end}
+use Rattle.xls_data.specs.Sheets.{SheetContent, sheet_content}
+use Rattle.xls_book.specs.InForce.{class_in}
+use Rattle.xls_book.specs.Steps.{listed_of, last_place, AreGlobals}
+use Rattle.xls_book.proofs.OpenLemmas.{globals_refused, setting_is, refused_under, opened_under}
 use Rattle.xls_book.proofs.xls.open_stream.Goals as goal
 
-pub returns-in_err-listed : goal.returns-in_err-listed
-returns-in_err-listed c =
+pub returns-in_err-globals : goal.returns-in_err-globals
+returns-in_err-globals c =
     let p = err_from_is_err_and c.from_residual.result c.from_residual.ensures.1 in
-    rw (p.1, p.2) (globals_refused c.args.stream.now c.args.options.now c.in_err-listed.field-0.0 c.in_err-listed.ensures)
+    rw (p.1, p.2) (globals_refused c.args.stream.now c.args.options.now c.in_err-globals.field-0.0 c.in_err-globals.ensures)
 
-pub loop-next-init : goal.loop-next-init
-loop-next-init c =
-    open_nothing c.args.stream.now c.args.options.now c.in_ok-listed.listed.items c.new-sheets.result.items c.new-cells.result.items _ (λ i. omega (arith, c.type_inv.stream i)) c.in_ok-listed.ensures c.new-sheets.ensures.items c.new-cells.ensures.items
-    c.into_iter-next-iterator.ensures.into_iter_gives.0
-
-pub returns-in_err-found : goal.returns-in_err-found
-returns-in_err-found c =
-    let l = c.loop-next in
-    let p = err_from_is_err_and c.from_residual-in_err-found.result c.from_residual-in_err-found.ensures.1 in
-    let at = MatchOption-at_some _ _ _ c.in-Some.is c.next.ensures.steps in
-    let so_far = subst (λ (x : List Listed). OpenSoFar c.args.stream.now c.args.options.now l.sheets.items l.cells.items x) at.0 l.invariant in
-    rw (p.1, p.2) (sheet_refused c.args.stream.now c.args.options.now l.sheets.items l.cells.items c.in-Some.next (into_iter_items c.next.new.self) c.in_err-found.field-0.0 so_far c.in_err-found.ensures)
-
-pub loop-next-preserved : goal.loop-next-preserved
-loop-next-preserved c =
-    let l = c.loop-next in
-    let at = MatchOption-at_some _ _ _ c.in-Some.is c.next.ensures.steps in
-    let so_far = subst (λ (x : List Listed). OpenSoFar c.args.stream.now c.args.options.now l.sheets.items l.cells.items x) at.0 l.invariant in
-    open_more c.args.stream.now c.args.options.now l.sheets.items c.push.new.self.items l.cells.items c.push-in-loop-next.new.self.items c.in-Some.next (into_iter_items c.next.new.self) c.in_ok-found.found so_far c.in_ok-found.ensures c.in_ok-push.ensures.items c.in_ok-push-2.ensures.items
+pub returns-in_err-contents : goal.returns-in_err-contents
+returns-in_err-contents c =
+    let options = c.args.options.now in
+    let p = err_from_is_err_and c.from_residual-in_err-contents.result c.from_residual-in_err-contents.ensures.1 in
+    let a = subst (AreGlobals options c.args.stream.now) (sym c.globals.view_is) c.in_ok-globals.ensures in
+    let classes = c.deref-3.ensures.value ∙ c.in_ok-classes.ensures
+    ∙ ap (λ fs. map (class_in fs) c.deref-2.result.now) c.deref.ensures.value
+    ∙ ap (map (class_in c.globals.inside.formats.items)) c.deref-2.ensures.value in
+    rw (p.1, p.2) (refused_under options c.args.stream.now (λ i. omega (arith, c.type_inv.stream i)) _ a _ _ c.in_err-contents.field-0.0
+    (setting_is options a.items _ c.deref-3.result.now a.state classes) (ap (map listed_of) c.deref-4.ensures.value) c.in_err-contents.ensures)
 
 pub invariant_of-result : goal.invariant_of-result
 invariant_of-result c =
-    let l = c.loop-next in
-    let at = MatchOption-at_none _ _ c.in-None.is c.next.ensures.steps in
-    let none : into_iter_items l.next-iterator ≡ [] =
-    nil_from_length _ (omega (arith, at.0, l.next-iterator.rest.ok.0)) in
-    (open_end c.args.stream.now c.args.options.now l.sheets.items l.cells.items (into_iter_items l.next-iterator) none l.invariant).1
+    let options = c.args.options.now in
+    let a = subst (AreGlobals options c.args.stream.now) (sym c.globals.view_is) c.in_ok-globals.ensures in
+    let classes = c.deref-3.ensures.value ∙ c.in_ok-classes.ensures
+    ∙ ap (λ fs. map (class_in fs) c.deref-2.result.now) c.deref.ensures.value
+    ∙ ap (map (class_in c.globals.inside.formats.items)) c.deref-2.ensures.value in
+    let listed = ap (map listed_of) c.deref-4.ensures.value in
+    let o = opened_under options c.args.stream.now (λ i. omega (arith, c.type_inv.stream i)) _ a _ _ (map sheet_content c.in_ok-sheets.sheets.items) c.in_ok-contents.contents.items c.globals.inside.is_1904 c.in_ok-classes.classes.items
+    (setting_is options a.items _ c.deref-3.result.now a.state classes) listed (c.in_ok-sheets.ensures ∙ ap (map (λ (q : ℕ × SheetContent). q.1)) (sym listed)) c.requires.kept c.in_ok-contents.ensures refl (sym c.deref-3.ensures.value) in
+    (o.1 ∙ length-map c.in_ok-sheets.sheets.items sheet_content, λ name. c.in_ok-index.ensures name ∙ ap (λ ts. last_place ts name) c.deref-5.ensures.value)
 
 pub returns : goal.returns
 returns c =
-    let l = c.loop-next in
-    let at = MatchOption-at_none _ _ c.in-None.is c.next.ensures.steps in
-    let none : into_iter_items l.next-iterator ≡ [] =
-    nil_from_length _ (omega (arith, at.0, l.next-iterator.rest.ok.0)) in
-    (open_end c.args.stream.now c.args.options.now l.sheets.items l.cells.items (into_iter_items l.next-iterator) none l.invariant).0
+    let options = c.args.options.now in
+    let a = subst (AreGlobals options c.args.stream.now) (sym c.globals.view_is) c.in_ok-globals.ensures in
+    let classes = c.deref-3.ensures.value ∙ c.in_ok-classes.ensures
+    ∙ ap (λ fs. map (class_in fs) c.deref-2.result.now) c.deref.ensures.value
+    ∙ ap (map (class_in c.globals.inside.formats.items)) c.deref-2.ensures.value in
+    let listed = ap (map listed_of) c.deref-4.ensures.value in
+    (opened_under options c.args.stream.now (λ i. omega (arith, c.type_inv.stream i)) _ a _ _ (map sheet_content c.in_ok-sheets.sheets.items) c.in_ok-contents.contents.items c.globals.inside.is_1904 c.in_ok-classes.classes.items
+    (setting_is options a.items _ c.deref-3.result.now a.state classes) listed (c.in_ok-sheets.ensures ∙ ap (map (λ (q : ℕ × SheetContent). q.1)) (sym listed)) c.requires.kept c.in_ok-contents.ensures refl (sym c.deref-3.ensures.value)).0

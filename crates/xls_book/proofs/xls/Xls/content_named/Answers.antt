@@ -1,0 +1,19 @@
+use Rattle.std.proofs.Common.{sym, ap, map, ◌∙◌}
+use Rattle.std.specs.Str.{chars}
+use Rattle.std.proofs.lemmas.List.{length-map}
+use Rattle.xls_data.specs.Sheets.{sheet_content}
+use Rattle.xls_book.specs.Reading.{last_named}
+use Rattle.xls_book.specs.Steps.{no_view, paired}
+use Rattle.xls_book.proofs.IndexLemmas.{named_shown}
+use Rattle.xls_book.proofs.xls.Xls.content_named.Goals as goal
+
+pub returns : goal.returns
+returns c =
+    let sheets = c.self.inside.sheets.items in
+    let contents = c.self.inside.contents.items in
+    let name = chars c.args.name.now in
+    rw (← c.self.view_is)
+    (c.find_named.ensures
+    ∙ ap (λ ss. last_named (paired (map sheet_content ss) c.deref-2.result.now) name) c.deref.ensures.value
+    ∙ ap (λ vs. last_named (paired (map sheet_content sheets) vs) name) c.deref-2.ensures.value
+    ∙ sym (named_shown no_view (map sheet_content sheets) contents name (c.self.invariant.0 ∙ sym (length-map sheets sheet_content))))
