@@ -3,6 +3,7 @@ use Rattle.std.proofs.Common.{◌≡◌, ℕ, zero, suc, ◌+◌, ◌-◌, ◌<�
 use Rattle.std.specs.Prelude.{◌==◌, ◌||◌, if◌then◌else◌, is_some, unwrap_or, slice_get, nat_lt, IfSome}
 use Rattle.std.specs.Option.{option_or, option_map, option_copied}
 use Rattle.std.specs.Borrow.{Bor}
+use Rattle.std.specs.List.{AllByRecursion}
 use Rattle.std.specs.String.{string_bytes}
 use Rattle.std.specs.Str.{chars, bytes_eq, IsUtf8}
 use Rattle.std.specs.Cmp.Lexicographic.{pointwise}
@@ -304,6 +305,22 @@ looked {X} xs n None t h = sym (slice_get_past xs n (past t))
     past : false ≡ nat_lt n (length xs) → length xs ≤ n
     past e = grind arith
 looked {X} xs n (Some x) t h = sym (slice_get_read xs (length xs) n x.now refl (within t) h)
+  where
+    within : true ≡ nat_lt n (length xs) → n < length xs
+    within e = grind arith
+
+all_read : {X : Type 0} (P : X → Type 0) (xs : List X) (n : ℕ) (x : X) → AllByRecursion P xs → n < length xs
+    → x ≡ get_or xs n x → P x
+all_read P [] n x a l e = absurd (omega arith)
+all_read P (y ∷ ys) zero x a l e = subst P (sym e) a.0
+all_read P (y ∷ ys) (suc n) x a l e = all_read P ys n x a.1 (omega arith) e
+
+-- what holds of all elements holds of one that was looked up
+pub all_looked : {X : Type 0} (P : X → Type 0) (xs : List X) (n : ℕ) (r : Option (Bor X))
+    → is_some r ≡ nat_lt n (length xs) → IfSome r (λ x. x.now ≡ get_or xs n x.now) → AllByRecursion P xs
+    → IfSome r (λ x. P x.now)
+all_looked P xs n None t h a = tt
+all_looked P xs n (Some x) t h a = all_read P xs n x.now a (within t) h
   where
     within : true ≡ nat_lt n (length xs) → n < length xs
     within e = grind arith

@@ -27,6 +27,7 @@ use Rattle.xls_book.specs.RecordTable.{fault_of, forced_fault, texts_of, sheet_o
 use Rattle.xls_book.specs.Reading.{SheetRecords, SheetView, IsContent, IsShown, sheet_in, sheets_of, Workbook, IsReading}
 use Rattle.xls_book.specs.Faults.{item_fault, kept_fault, cut_fault, part_places, sheet_places, globals_places, places, entry_fault, IsFullSheet, IsFull}
 use Rattle.xls_book.specs.Steps.{IsRead, PartFault, Sheets, Opened, opened_in, opened_of, pair_of, sheets_at, State, IsState, AreGlobals, ReadsGlobals, AreContents, ContentsFault, ReadsContents, AreSheets, paired, shown, IsStreamOpened, StreamFault, OpensStream}
+use Rattle.xls_book.specs.LookUps.{IsOrdered}
 use Rattle.xls_book.specs.declared.options.XlsOptions.{XlsOptions}
 use Rattle.xls_book.proofs.OrderLemmas.{first_behind, first_early, or_none, none_append}
 use Rattle.xls_book.proofs.GlobalsLemmas.{entries_push}
@@ -488,3 +489,12 @@ module _ (options : XlsOptions) (stream : List ℕ) (fits : IsBytes stream) (t :
       refl names (ap (λ (x : List SheetContent). shown (paired x views) x) names)
       (date ∙ ap (λ (x : Setting). x.force.is_1904) same) (formats ∙ ap (λ (x : Setting). x.force.classes) same) in
       (o.0, o.1 ∙ ap length (sym names))
+
+-- what was read stands in order
+pub all_ordered : (options : XlsOptions) (s : Setting) (stream : List ℕ) (sheets : Sheets) (views : List SheetView)
+    → AreContents options s stream sheets views → AllByRecursion IsOrdered views
+all_ordered options s stream [] [] c = tt
+all_ordered options s stream [] (v ∷ views) c = absurd c
+all_ordered options s stream (q ∷ sheets) [] c = absurd c
+all_ordered options s stream (q ∷ sheets) (v ∷ views) c =
+    (c.0.content.ascending, all_ordered options s stream sheets views c.1)

@@ -308,7 +308,7 @@ by_cell (x ∷ xs) p = rw (by_cell xs p) (both (last_at xs p) (x.0.0 == p.0 && x
     both None true = refl
     both None false = refl
 
-positions : (found : List (Position × Data))
+pub positions : (found : List (Position × Data))
     → map (λ (c : Entry). c.0) (map cell_content found) ≡ map cell_position found
 positions [] = refl
 positions (x ∷ xs) = ap (λ (l : List Position). x.0 ∷ l) (positions xs)

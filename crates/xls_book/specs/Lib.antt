@@ -7,4 +7,5 @@ pub mod Causes
 pub mod Feed
 pub mod Opening
 pub mod Steps
+pub mod LookUps
 pub mod Laws

@@ -1,6 +1,7 @@
 //! The last sheet of each name.
 
-ghost use Rattle.std.specs.Prelude.{◌≡◌, ℕ, List, Some, IfOk, OnOk, length, map};
+ghost use Rattle.std.specs.Prelude.{◌≡◌, ℕ, List, Some, IfOk, IfSome, OnOk, length, map};
+ghost use Rattle.std.specs.List.{AllByRecursion};
 ghost use Rattle.std.specs.Option.{option_copied};
 ghost use Rattle.std.specs.Str.{bytes_eq, chars};
 ghost use Rattle.std.specs.BTreeMap.{get_by_text};
@@ -8,6 +9,7 @@ ghost use Rattle.std.specs.Map.{update};
 ghost use Rattle.xls_data.specs.Sheets.{sheet_content};
 ghost use Rattle.xls_book.specs.Reading.{last_named};
 ghost use Rattle.xls_book.specs.Steps.{IsIndex, paired};
+ghost use Rattle.xls_book.specs.LookUps.{IsOrdered};
 
 use crate::part::Content;
 use std::alloc::{AllocError, Global};
@@ -52,7 +54,9 @@ pub(crate) fn find_named<'a>(
 ) -> Option<&'a Content>
     requires index { IsIndex index.now sheets.now }
     requires each { length contents.now ≡ length sheets.now }
-    ensures { option_copied result ≡ last_named (paired (map sheet_content sheets.now) contents.now) (chars name.now) }
+    requires ordered { AllByRecursion IsOrdered contents.now }
+    ensures found { option_copied result ≡ last_named (paired (map sheet_content sheets.now) contents.now) (chars name.now) }
+    ensures ordered { IfSome result (λ content. IsOrdered content.now) }
 {
     match index.get(name) {
         Some(place) => contents.get(*place),

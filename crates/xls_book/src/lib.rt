@@ -8,6 +8,7 @@ mod laws;
 mod memory;
 mod options;
 mod part;
+mod ranges;
 mod reader;
 mod reading;
 mod source;

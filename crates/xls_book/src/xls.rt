@@ -9,6 +9,7 @@ ghost use Rattle.xls_book.specs.Opening.{IsOpened, OpenCause, Opens};
 ghost use Rattle.xls_book.specs.Reading.{SheetView};
 ghost use Rattle.xls_book.specs.RecordTable.{forced_fault};
 ghost use Rattle.xls_book.specs.InForce.{page_in};
+ghost use Rattle.xls_book.specs.LookUps.{IsOrdered, under_header};
 ghost use Rattle.xls_book.specs.Steps.{OpensStream, ReadsContents, items_of, listed_of, view_named};
 
 use crate::classes::classes_of;
@@ -23,14 +24,21 @@ use std::alloc::{AllocError, Global};
 use std::collections::BTreeMap;
 use std::marker::Model;
 use xls_biff::XlsError;
-use xls_data::{CellFormat, Dimensions, Sheet};
+use xls_data::{CellFormat, Dimensions, HeaderRow, Sheet};
 use xls_text::XlsEncoding;
+
+/// What is told of a whole workbook.
+#[derive(Drop)]
+pub struct Metadata {
+    /// The sheets in workbook order.
+    pub sheets: Vec<Sheet>,
+}
 
 /// A workbook: its sheets in order, and the values of each. Contracts see what it shows.
 #[derive(Drop)]
 pub struct Xls {
     options: XlsOptions,
-    sheets: Vec<Sheet>,
+    metadata: Metadata,
     /// The content of each sheet's own part.
     contents: Vec<Content>,
     /// The place of the last sheet of each name.
@@ -44,19 +52,22 @@ impl Model for Xls {
     ghost use Rattle.std.specs.Prelude.{◌≡◌, length, map};
     ghost use Rattle.xls_data.specs.Sheets.{sheet_content};
     ghost use Rattle.xls_book.specs.Reading.{Workbook};
+    ghost use Rattle.std.specs.List.{AllByRecursion};
     ghost use Rattle.xls_book.specs.Steps.{paired, shown, IsIndex};
+    ghost use Rattle.xls_book.specs.LookUps.{IsOrdered};
 
     ghost Value = { Workbook };
 
     ghost view = { λ b. record {
       options = b.options;
-      sheets = map sheet_content b.sheets.items;
-      contents = shown (paired (map sheet_content b.sheets.items) b.contents.items) (map sheet_content b.sheets.items);
+      sheets = map sheet_content b.metadata.sheets.items;
+      contents = shown (paired (map sheet_content b.metadata.sheets.items) b.contents.items) (map sheet_content b.metadata.sheets.items);
       is_1904 = b.is_1904;
       classes = b.classes.items;
     } };
 
-    ghost invariant = { λ b. (length b.contents.items ≡ length b.sheets.items) × IsIndex b.index b.sheets.items };
+    ghost invariant = { λ b. (length b.contents.items ≡ length b.metadata.sheets.items)
+        × IsIndex b.index b.metadata.sheets.items × AllByRecursion IsOrdered b.contents.items };
 }
 
 /// The workbook of a stream within the limit, under a forced page that is kept.
@@ -85,7 +96,7 @@ fn open_stream(
     let index = index_of(alloc, &sheets)?;
     Ok(Xls {
         options: *options,
-        sheets,
+        metadata: Metadata { sheets },
         contents,
         index,
         is_1904,
@@ -196,18 +207,19 @@ impl Xls {
 
     /// The content of the last sheet of a name, if a sheet has it.
     pub(crate) fn content_named(&self, name: &str) -> Option<&Content>
-        ensures { option_copied result ≡ view_named self.now (chars name.now) }
+        ensures found { option_copied result ≡ view_named self.now (chars name.now) }
+        ensures ordered { IfSome result (λ content. IsOrdered content.now) }
     {
-        find_named(&self.sheets, &self.contents, &self.index, name)
+        find_named(&self.metadata.sheets, &self.contents, &self.index, name)
     }
 
     /// The content of the last sheet of the name that the sheet at an index has.
     fn content_at(&self, n: usize) -> Option<&Content>
         ensures { option_copied result ≡ slice_get self.now.contents n }
     {
-        match self.sheets.get(n) {
+        match self.metadata.sheets.get(n) {
             Some(sheet) => find_named(
-                &self.sheets,
+                &self.metadata.sheets,
                 &self.contents,
                 &self.index,
                 sheet.name.as_str(),
@@ -220,6 +232,20 @@ impl Xls {
     pub(crate) fn sheets(&self) -> &[Sheet]
         ensures { map sheet_content result.now ≡ self.now.sheets }
     {
-        &self.sheets
+        &self.metadata.sheets
+    }
+
+    /// What is told of the whole workbook.
+    pub(crate) fn told(&self) -> &Metadata
+        ensures { map sheet_content result.now.sheets.items ≡ self.now.sheets }
+    {
+        &self.metadata
+    }
+
+    /// Sets the header row.
+    pub(crate) fn set_header_row(&mut self, header_row: HeaderRow)
+        ensures { self.new ≡ under_header self.old header_row }
+    {
+        self.options.header_row = header_row;
     }
 }

@@ -4,7 +4,7 @@ use Rattle.std.proofs.lemmas.Result.{err_from_is_err_and}
 use Rattle.xls_data.specs.Sheets.{SheetContent, sheet_content}
 use Rattle.xls_book.specs.InForce.{class_in}
 use Rattle.xls_book.specs.Steps.{listed_of, last_place, AreGlobals}
-use Rattle.xls_book.proofs.OpenLemmas.{globals_refused, setting_is, refused_under, opened_under}
+use Rattle.xls_book.proofs.OpenLemmas.{globals_refused, setting_is, refused_under, opened_under, all_ordered}
 use Rattle.xls_book.proofs.xls.open_stream.Goals as goal
 
 pub returns-in_err-globals : goal.returns-in_err-globals
@@ -33,7 +33,7 @@ invariant_of-result c =
     let listed = ap (map listed_of) c.deref-4.ensures.value in
     let o = opened_under options c.args.stream.now (λ i. omega (arith, c.type_inv.stream i)) _ a _ _ (map sheet_content c.in_ok-sheets.sheets.items) c.in_ok-contents.contents.items c.globals.inside.is_1904 c.in_ok-classes.classes.items
     (setting_is options a.items _ c.deref-3.result.now a.state classes) listed (c.in_ok-sheets.ensures ∙ ap (map (λ (q : ℕ × SheetContent). q.1)) (sym listed)) c.requires.kept c.in_ok-contents.ensures refl (sym c.deref-3.ensures.value) in
-    (o.1 ∙ length-map c.in_ok-sheets.sheets.items sheet_content, λ name. c.in_ok-index.ensures name ∙ ap (λ ts. last_place ts name) c.deref-5.ensures.value)
+    (o.1 ∙ length-map c.in_ok-sheets.sheets.items sheet_content, (λ name. c.in_ok-index.ensures name ∙ ap (λ ts. last_place ts name) c.deref-5.ensures.value), all_ordered options _ c.args.stream.now _ c.in_ok-contents.contents.items c.in_ok-contents.ensures)
 
 pub returns : goal.returns
 returns c =

@@ -10,21 +10,21 @@ use Rattle.xls_book.proofs.xls.Xls.content_at.Goals as goal
 
 pub returns-in-Some : goal.returns-in-Some
 returns-in-Some c =
-    let sheets = c.self.inside.sheets.items in
+    let sheets = c.self.inside.metadata.sheets.items in
     let contents = c.self.inside.contents.items in
     let at = c.get.ensures.lookup in
     let sheet = sym (looked c.deref.result.now c.args.n c.get.result at.0 at.1) ∙ ap option_copied c.in-Some.is in
     rw (← c.self.view_is)
     (shown_at sheets contents c.args.n c.in-Some.sheet.now _ c.self.invariant.0
     (ap (λ ss. slice_get ss c.args.n) (sym c.deref.ensures.value) ∙ sheet)
-    (c.find_named.ensures
+    (c.find_named.ensures.found
     ∙ ap (λ ss. last_named (paired (map sheet_content ss) c.deref-in-Some-2.result.now) (chars c.as_str.result.now)) c.deref-in-Some.ensures.value
     ∙ ap (λ vs. last_named (paired (map sheet_content sheets) vs) (chars c.as_str.result.now)) c.deref-in-Some-2.ensures.value
     ∙ ap (λ name. last_named (paired (map sheet_content sheets) contents) (chars name)) c.as_str.ensures.value))
 
 pub returns-in-None : goal.returns-in-None
 returns-in-None c =
-    let sheets = c.self.inside.sheets.items in
+    let sheets = c.self.inside.metadata.sheets.items in
     let at = c.get.ensures.lookup in
     let nothing = sym (looked c.deref.result.now c.args.n c.get.result at.0 at.1) ∙ ap option_copied c.in-None.is in
     rw (← c.self.view_is)

@@ -7,13 +7,13 @@ use Rattle.xls_book.specs.Steps.{no_view, paired}
 use Rattle.xls_book.proofs.IndexLemmas.{named_shown}
 use Rattle.xls_book.proofs.xls.Xls.content_named.Goals as goal
 
-pub returns : goal.returns
-returns c =
-    let sheets = c.self.inside.sheets.items in
+pub returns-clause-found : goal.returns-clause-found
+returns-clause-found c =
+    let sheets = c.self.inside.metadata.sheets.items in
     let contents = c.self.inside.contents.items in
     let name = chars c.args.name.now in
     rw (← c.self.view_is)
-    (c.find_named.ensures
+    (c.find_named.ensures.found
     ∙ ap (λ ss. last_named (paired (map sheet_content ss) c.deref-2.result.now) name) c.deref.ensures.value
     ∙ ap (λ vs. last_named (paired (map sheet_content sheets) vs) name) c.deref-2.ensures.value
     ∙ sym (named_shown no_view (map sheet_content sheets) contents name (c.self.invariant.0 ∙ sym (length-map sheets sheet_content))))

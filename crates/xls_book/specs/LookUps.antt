@@ -1,0 +1,75 @@
+-- What the look-ups of a workbook answer.
+use Rattle.std.specs.Prelude.{◌≡◌, ℕ, ◌<◌, ◌≤◌, List, [], ◌∷◌, map, Bool, Option, Some, None, Result, Ok, Err, Vec}
+use Rattle.std.specs.List.{AllByRecursion}
+use Rattle.xls_data.specs.Sheets.{SheetContent}
+use Rattle.xls_data.specs.declared.regions.Dimensions.{Dimensions}
+use Rattle.xls_data.specs.declared.regions.HeaderRow.{HeaderRow}
+use Rattle.xls_data.specs.declared.regions.HeaderRow.TheVariants.{FirstNonEmptyRow, Row}
+use Rattle.xls_data.specs.declared.values.Data.{Data}
+use Rattle.xls_range.specs.Grid.{Grid, no_cells, start_of, end_of, cell_at, IsOfCorners, Shows}
+use Rattle.xls_range.specs.Sparse.{IsDense}
+use Rattle.xls_cells.specs.Positions.{Position, IsAscending}
+use Rattle.xls_biff.specs.Cells.{Entry}
+use Rattle.xls_biff.specs.Texts.{text_of}
+use Rattle.xls_biff.specs.declared.error.XlsError.{XlsError}
+use Rattle.xls_biff.specs.declared.error.XlsError.TheVariants as errors
+use Rattle.xls_book.specs.Reading.{SheetView, Workbook}
+use Rattle.xls_book.specs.Steps.{cell_content}
+
+-- the cells of a sheet stand in order
+abbrev pub IsOrdered : SheetView → Type 0
+IsOrdered v = IsAscending (map (λ (c : Entry). c.0) v.cells)
+
+-- the workbook with this header row, and else as it was
+abbrev pub under_header : Workbook → HeaderRow → Workbook
+under_header book header = record book { options = record (book.options) { header_row = header } }
+
+-- ---- ranges
+
+-- which values are equal, and which are blank
+abbrev pub Equal : Type 0
+Equal = Data → Data → Bool
+
+abbrev pub Blank : Type 0
+Blank = Data → Bool
+
+-- the range is the smallest box with cells of these contents, and blanks elsewhere
+pub record IsBox (eq : Equal) (blank : Blank) (entries : List Entry) (box : Grid Data) : Type 0 where
+  pub cells : List (Position × Data)
+  pub contents : map cell_content cells ≡ entries
+  pub dense : IsDense eq blank cells box
+
+-- the range is the box from this row to its end, with the same columns; it has no cells where the box
+-- has none or ends before the row
+pub record IsCut (eq : Equal) (blank : Blank) (row : ℕ) (box range : Grid Data) : Type 0 where
+  pub empty : end_of box ≡ None → range ≡ no_cells
+  pub behind : (end : Position) → end_of box ≡ Some end → end.0 < row → range ≡ no_cells
+  pub corners : (start end : Position) → start_of box ≡ Some start → end_of box ≡ Some end
+      → row ≤ end.0 → IsOfCorners (row, start.1) end range
+  pub shows : (end : Position) → end_of box ≡ Some end → row ≤ end.0
+      → Shows eq blank (cell_at box) range
+
+abbrev pub IsUnder : Equal → Blank → HeaderRow → Grid Data → Grid Data → Type 0
+IsUnder eq blank FirstNonEmptyRow box range = range ≡ box
+IsUnder eq blank (Row row) box range = IsCut eq blank row box range
+
+-- the range of cells of these contents under a header row
+abbrev pub IsRange : Equal → Blank → HeaderRow → List Entry → Grid Data → Type 0
+IsRange eq blank header entries range =
+    (box : Grid Data) × IsBox eq blank entries box × IsUnder eq blank header box range
+
+-- ---- refusals
+
+-- why a look-up by name is refused, where this is shown of the name
+abbrev pub NameCause : Option SheetView → List ℕ → XlsError → Type 0
+NameCause view name errors.Memory = Unit {0}
+NameCause view name (errors.WorksheetNotFound text) = (view ≡ None) × (text_of text ≡ name)
+NameCause view name e = ⊥
+
+-- ---- merged regions
+
+-- the regions of what is shown, if there is anything
+abbrev pub GivesMerges : {A : Type 0} → Option SheetView → Option (Vec Dimensions A) → Type 0
+GivesMerges None None = Unit {0}
+GivesMerges (Some v) (Some regions) = regions.items ≡ v.merges
+GivesMerges view regions = ⊥
