@@ -345,3 +345,19 @@ pub nothing_at : (ts : List Sheet) (all : List (SheetContent × SheetView)) (n :
 nothing_at ts all n at =
     sym (slice_get-map (λ (s : SheetContent). unwrap_or (last_named all s.name) no_view) (map sheet_content ts) n
     ∙ ap (option_map (λ (s : SheetContent). unwrap_or (last_named all s.name) no_view)) (slice_get-map sheet_content ts n ∙ ap (option_map sheet_content) at))
+
+-- ---- names
+
+abbrev names_of : List Sheet → List (List ℕ)
+names_of ts = map (λ (s : SheetContent). s.name) (map sheet_content ts)
+
+-- one more name
+pub names_next : {S : Type 0} (text : S → List ℕ) (ts : List Sheet) (i : ℕ) (t : Sheet) (old new : List S) (name : S)
+    → i < length ts → t ≡ get_or ts i t → map text old ≡ names_of (take i ts) → new ≡ old ++ name ∷ []
+    → text name ≡ chars (string_bytes t.name) → map text new ≡ names_of (take (i + 1) ts)
+names_next {S} text ts i t old new name l e had puts is =
+    ap (map text) puts ∙ map-append text old (name ∷ [])
+    ∙ ap (λ (x : List (List ℕ)). x ++ text name ∷ []) had
+    ∙ ap (λ (x : List ℕ). names_of (take i ts) ++ x ∷ []) is
+    ∙ sym (ap (map (λ (s : SheetContent). s.name)) (map_more sheet_content ts i t l e)
+    ∙ map-append (λ (s : SheetContent). s.name) (map sheet_content (take i ts)) (sheet_content t ∷ []))

@@ -1,6 +1,8 @@
 -- What the look-ups of a workbook answer.
-use Rattle.std.specs.Prelude.{◌≡◌, ℕ, ◌<◌, ◌≤◌, List, [], ◌∷◌, map, Bool, Option, Some, None, Result, Ok, Err, Vec}
+use Rattle.std.specs.Prelude.{◌≡◌, ℕ, ◌<◌, ◌≤◌, List, [], ◌∷◌, ◌++◌, codes, map, Bool, Option, Some, None, Result, Ok, Err, Vec}
 use Rattle.std.specs.List.{AllByRecursion}
+use Rattle.std.specs.Fmt.{decimal}
+use Rattle.std.specs.String.{string_bytes}
 use Rattle.xls_data.specs.Sheets.{SheetContent}
 use Rattle.xls_data.specs.declared.regions.Dimensions.{Dimensions}
 use Rattle.xls_data.specs.declared.regions.HeaderRow.{HeaderRow}
@@ -10,7 +12,6 @@ use Rattle.xls_range.specs.Grid.{Grid, no_cells, start_of, end_of, cell_at, IsOf
 use Rattle.xls_range.specs.Sparse.{IsDense}
 use Rattle.xls_cells.specs.Positions.{Position, IsAscending}
 use Rattle.xls_biff.specs.Cells.{Entry}
-use Rattle.xls_biff.specs.Texts.{text_of}
 use Rattle.xls_biff.specs.declared.error.XlsError.{XlsError}
 use Rattle.xls_biff.specs.declared.error.XlsError.TheVariants as errors
 use Rattle.xls_book.specs.Reading.{SheetView, Workbook}
@@ -58,13 +59,23 @@ abbrev pub IsRange : Equal → Blank → HeaderRow → List Entry → Grid Data 
 IsRange eq blank header entries range =
     (box : Grid Data) × IsBox eq blank entries box × IsUnder eq blank header box range
 
+-- ---- names
+
+-- the names of the sheets in order
+abbrev pub names_in : Workbook → List (List ℕ)
+names_in book = map (λ (s : SheetContent). s.name) book.sheets
+
 -- ---- refusals
 
--- why a look-up by name is refused, where this is shown of the name
+-- why a look-up by name is refused, where this is shown of the name; the text's bytes are these
 abbrev pub NameCause : Option SheetView → List ℕ → XlsError → Type 0
 NameCause view name errors.Memory = Unit {0}
-NameCause view name (errors.WorksheetNotFound text) = (view ≡ None) × (text_of text ≡ name)
+NameCause view name (errors.WorksheetNotFound text) = (view ≡ None) × (string_bytes text ≡ name)
 NameCause view name e = ⊥
+
+-- the text of a refusal that names an index
+abbrev pub out_of_range : ℕ → List ℕ
+out_of_range id = codes "Sheet index " ++ decimal id ++ codes " out of range"
 
 -- ---- merged regions
 

@@ -1,31 +1,151 @@
 //! What every opened workbook tells.
 
-ghost use Rattle.std.specs.Prelude.{◌≡◌, List, map};
+ghost use Rattle.std.specs.Prelude.{◌≡◌, ◌≤◌, ℕ, List, Option, Some, None, Result, IfOk, IfErr, IfSome, MatchOption, map, length, slice_get};
+ghost use Rattle.xls_data.specs.Data.{is_nothing};
+ghost use Rattle.std.specs.Option.{option_map};
+ghost use Rattle.std.specs.Str.{chars};
 ghost use Rattle.xls_data.specs.Sheets.{SheetContent, sheet_content};
+ghost use Rattle.xls_data.specs.declared.regions.HeaderRow.TheVariants.{FirstNonEmptyRow};
+ghost use Rattle.xls_biff.specs.Texts.{text_of};
+ghost use Rattle.xls_book.specs.Reading.{SheetView, Workbook};
+ghost use Rattle.xls_book.specs.Steps.{view_named};
+ghost use Rattle.xls_book.specs.LookUps.{IsRange, NameCause, names_in, under_header};
+ghost use Rattle.xls_book.specs.Opening.{Opens, default_options};
 
-use crate::xls::Xls;
+use crate::options::XlsOptions;
+use crate::ranges::range_of;
+use crate::source::Source;
+use crate::xls::{Metadata, Xls, not_found};
+use std::alloc::{AllocError, Global};
 use xls_biff::XlsError;
-use xls_data::Sheet;
+use xls_data::{Data, HeaderRow, Sheet};
+use xls_range::Range;
 
 /// A workbook that was opened from a stream.
 pub trait Reader: Sized {
-    /// Why a stream is refused.
+    /// Why a stream is refused, or a look-up.
     type Error;
 
-    /// The sheets that a workbook has, in order.
-    ghost sheets: { Self → List SheetContent };
+    /// What a workbook shows.
+    ghost shows: { Self → Workbook };
 
-    /// Name, kind and visibility of each sheet, in workbook order.
+    /// What opening answers of a source that had and has this left, with the count of its faults
+    /// before and after.
+    ghost opens: { Option (List ℕ) → Option (List ℕ) → ℕ → ℕ → Result Self Self.Error → Type 0 };
+
+    /// Reads the source to its end and opens its bytes, with the options by default.
+    fn new<S: Source>(alloc: Global, source: &mut S) -> Result<Self, Self::Error>
+        ensures { opens (S.left source.old) (S.left source.new) (S.faults source.old) (S.faults source.new) result };
+
+    /// Sets the first row of the ranges. Takes no memory.
+    fn with_header_row(&mut self, header_row: HeaderRow) -> &mut Self
+        ensures same { result.ghost_name ≡ self.entry.ghost_name }
+        ensures value { shows result.now ≡ under_header (shows self.entry.now) header_row };
+
+    /// What is told of the whole workbook. Takes no memory.
+    fn metadata(&self) -> &Metadata
+        ensures { map sheet_content result.now.sheets.items ≡ (shows self.now).sheets };
+
+    /// Name, kind and visibility of each sheet, in workbook order. Takes no memory.
     fn sheets_metadata(&self) -> &[Sheet]
-        ensures { map sheet_content result.now ≡ sheets self.now };
+        ensures { map sheet_content result.now ≡ (shows self.now).sheets };
+
+    /// The names of the sheets, in workbook order.
+    fn sheet_names(&self, alloc: Global) -> Result<Vec<String>, Self::Error>
+        ensures { IfOk result (λ names. map text_of names.items ≡ names_in (shows self.now)) };
+
+    /// The range of the last sheet of a name, from the header row on: the smallest box with its cells,
+    /// blanks elsewhere.
+    fn worksheet_range(&self, alloc: Global, name: &str) -> Result<Range<Data>, Self::Error>
+        ensures { IfOk result (λ range. IfSome (view_named (shows self.now) (chars name.now)) (λ view.
+            IsRange ⟦<Data as PartialEq>⟧.eq is_nothing (shows self.now).options.header_row view.cells range)) };
+
+    /// The same of the name of the sheet at an index. `None` exactly where no sheet has the index.
+    fn worksheet_range_at(
+        &self,
+        alloc: Global,
+        n: usize,
+    ) -> Option<Result<Range<Data>, Self::Error>>;
+}
+
+/// Opens a workbook by `Reader::new`, whose relation it promises.
+pub fn open_workbook_from_rs<R: Reader, S: Source>(
+    alloc: Global,
+    source: &mut S,
+) -> Result<R, R::Error>
+    ensures { R.opens (S.left source.old) (S.left source.new) (S.faults source.old) (S.faults source.new) result }
+{
+    R::new(alloc, source)
+}
+
+/// The names of these sheets.
+fn names_of(alloc: Global, sheets: &[Sheet]) -> Result<Vec<String>, AllocError>
+    ensures { IfOk result (λ names. map text_of names.items ≡ map (λ (s : SheetContent). s.name) (map sheet_content sheets.now)) }
+{
+    let mut names = Vec::new(alloc);
+    for sheet in sheets {
+        let name = String::from_str(alloc, sheet.name.as_str())?;
+        names.push(name)?;
+    }
+    Ok(names)
 }
 
 impl Reader for Xls {
     type Error = XlsError;
 
-    ghost sheets = { λ book. book.sheets };
+    ghost shows = { λ book. book };
+
+    ghost opens = { Opens default_options };
+
+    fn new<S: Source>(alloc: Global, source: &mut S) -> Result<Self, XlsError> {
+        let options = XlsOptions::defaults(alloc)?;
+        Xls::new_with_options(alloc, source, options)
+    }
+
+    fn with_header_row(&mut self, header_row: HeaderRow) -> &mut Self {
+        self.set_header_row(header_row);
+        self
+    }
+
+    fn metadata(&self) -> &Metadata {
+        self.told()
+    }
 
     fn sheets_metadata(&self) -> &[Sheet] {
         self.sheets()
+    }
+
+    fn sheet_names(&self, alloc: Global) -> Result<Vec<String>, XlsError>
+        ensures names { IfOk result (λ names. map text_of names.items ≡ names_in self.now) }
+        ensures refused { IfErr result (λ e. e ≡ XlsError.Memory) }
+    {
+        Ok(names_of(alloc, self.sheets())?)
+    }
+
+    /// `WorksheetNotFound` exactly where no sheet has the name, `Memory`.
+    fn worksheet_range(&self, alloc: Global, name: &str) -> Result<Range<Data>, XlsError>
+        ensures range { IfOk result (λ range. (view : SheetView) × (view_named self.now (chars name.now) ≡ Some view)
+            × IsRange ⟦<Data as PartialEq>⟧.eq is_nothing self.now.options.header_row view.cells range) }
+        ensures refused { IfErr result (NameCause (view_named self.now (chars name.now)) name.now) }
+    {
+        match self.content_named(name) {
+            Some(content) => Ok(range_of(alloc, content, self.options().header_row)?),
+            None => Err(not_found(alloc, name)),
+        }
+    }
+
+    /// Never `WorksheetNotFound`.
+    fn worksheet_range_at(&self, alloc: Global, n: usize) -> Option<Result<Range<Data>, XlsError>>
+        ensures { MatchOption result (length self.now.contents ≤ n) (λ answer.
+            (view : SheetView) × (slice_get self.now.contents n ≡ Some view)
+            × IfOk answer (IsRange ⟦<Data as PartialEq>⟧.eq is_nothing self.now.options.header_row view.cells)
+            × IfErr answer (λ e. e ≡ XlsError.Memory)) }
+    {
+        match self.content_at(n) {
+            Some(content) => Some(range_of(alloc, content, self.options().header_row).map_err(
+                |_| XlsError::Memory,
+            )),
+            None => None,
+        }
     }
 }

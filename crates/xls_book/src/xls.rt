@@ -9,7 +9,7 @@ ghost use Rattle.xls_book.specs.Opening.{IsOpened, OpenCause, Opens};
 ghost use Rattle.xls_book.specs.Reading.{SheetView};
 ghost use Rattle.xls_book.specs.RecordTable.{forced_fault};
 ghost use Rattle.xls_book.specs.InForce.{page_in};
-ghost use Rattle.xls_book.specs.LookUps.{IsOrdered, under_header};
+ghost use Rattle.xls_book.specs.LookUps.{GivesMerges, IsOrdered, NameCause, out_of_range, under_header};
 ghost use Rattle.xls_book.specs.Steps.{OpensStream, ReadsContents, items_of, listed_of, view_named};
 
 use crate::classes::classes_of;
@@ -147,6 +147,35 @@ fn open<S: Source>(alloc: Global, source: &mut S, options: &XlsOptions) -> Resul
     open_stream(alloc, bytes.as_slice(), options, page)
 }
 
+/// A copy of some regions.
+fn copy_of(alloc: Global, regions: &[Dimensions]) -> Result<Vec<Dimensions>, AllocError>
+    ensures { IfOk result (λ copy. copy.items ≡ regions.now) }
+{
+    let mut copy = Vec::new(alloc);
+    copy.extend_from_slice(regions)?;
+    Ok(copy)
+}
+
+/// That no sheet has a name.
+pub(crate) fn not_found(alloc: Global, name: &str) -> XlsError
+    ensures { NameCause None name.now result }
+{
+    match String::from_str(alloc, name) {
+        Ok(name) => XlsError::WorksheetNotFound(name),
+        Err(_) => XlsError::Memory,
+    }
+}
+
+/// That no sheet has an index.
+fn no_index(alloc: Global, id: usize) -> XlsError
+    ensures { NameCause None (out_of_range id) result }
+{
+    match format!(in alloc; "Sheet index {id} out of range") {
+        Ok(text) => XlsError::WorksheetNotFound(text),
+        Err(_) => XlsError::Memory,
+    }
+}
+
 impl Xls {
     /// Reads the source to its end, and opens its bytes.
     ///
@@ -184,6 +213,68 @@ impl Xls {
         }
     }
 
+    /// The merged regions of the last sheet of a name, in the order of the stream. `None` where no
+    /// sheet has the name.
+    pub fn worksheet_merge_cells(
+        &self,
+        alloc: Global,
+        name: &str,
+    ) -> Result<Option<Vec<Dimensions>>, AllocError>
+        ensures { IfOk result (GivesMerges (view_named self.now (chars name.now))) }
+    {
+        match self.content_named(name) {
+            Some(content) => Ok(Some(copy_of(alloc, content.merges())?)),
+            None => Ok(None),
+        }
+    }
+
+    /// The merged regions of the sheet at an index, in the order of the stream. `None` where no sheet
+    /// has the index.
+    pub fn worksheet_merge_cells_at(
+        &self,
+        alloc: Global,
+        n: usize,
+    ) -> Result<Option<Vec<Dimensions>>, AllocError>
+        ensures { IfOk result (GivesMerges (slice_get self.now.contents n)) }
+    {
+        match self.content_at(n) {
+            Some(content) => Ok(Some(copy_of(alloc, content.merges())?)),
+            None => Ok(None),
+        }
+    }
+
+    /// The merged regions of the last sheet of a name, in the order of the stream.
+    /// `WorksheetNotFound` exactly where no sheet has the name, `Memory`.
+    pub fn merge_cells_by_sheet_name(
+        &self,
+        alloc: Global,
+        name: &str,
+    ) -> Result<Vec<Dimensions>, XlsError>
+        ensures ok { IfOk result (λ regions. GivesMerges (view_named self.now (chars name.now)) (Some regions)) }
+        ensures refused { IfErr result (NameCause (view_named self.now (chars name.now)) name.now) }
+    {
+        match self.content_named(name) {
+            Some(content) => Ok(copy_of(alloc, content.merges())?),
+            None => Err(not_found(alloc, name)),
+        }
+    }
+
+    /// The merged regions of the sheet at an index, in the order of the stream. `WorksheetNotFound`
+    /// of `Sheet index {id} out of range` exactly where no sheet has the index, `Memory`.
+    pub fn merge_cells_by_sheet_id(
+        &self,
+        alloc: Global,
+        id: usize,
+    ) -> Result<Vec<Dimensions>, XlsError>
+        ensures ok { IfOk result (λ regions. GivesMerges (slice_get self.now.contents id) (Some regions)) }
+        ensures refused { IfErr result (NameCause (slice_get self.now.contents id) (out_of_range id)) }
+    {
+        match self.content_at(id) {
+            Some(content) => Ok(copy_of(alloc, content.merges())?),
+            None => Err(no_index(alloc, id)),
+        }
+    }
+
     /// Whether dates count from 1904.
     pub fn has_1904_epoch(&self) -> bool
         ensures { result ≡ self.now.is_1904 }
@@ -214,8 +305,9 @@ impl Xls {
     }
 
     /// The content of the last sheet of the name that the sheet at an index has.
-    fn content_at(&self, n: usize) -> Option<&Content>
-        ensures { option_copied result ≡ slice_get self.now.contents n }
+    pub(crate) fn content_at(&self, n: usize) -> Option<&Content>
+        ensures found { option_copied result ≡ slice_get self.now.contents n }
+        ensures ordered { IfSome result (λ content. IsOrdered content.now) }
     {
         match self.metadata.sheets.get(n) {
             Some(sheet) => find_named(

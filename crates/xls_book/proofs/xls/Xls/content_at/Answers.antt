@@ -8,8 +8,8 @@ use Rattle.xls_book.specs.Steps.{paired}
 use Rattle.xls_book.proofs.IndexLemmas.{looked, shown_at, nothing_at}
 use Rattle.xls_book.proofs.xls.Xls.content_at.Goals as goal
 
-pub returns-in-Some : goal.returns-in-Some
-returns-in-Some c =
+pub returns-in-Some-clause-found : goal.returns-in-Some-clause-found
+returns-in-Some-clause-found c =
     let sheets = c.self.inside.metadata.sheets.items in
     let contents = c.self.inside.contents.items in
     let at = c.get.ensures.lookup in
@@ -22,8 +22,8 @@ returns-in-Some c =
     ∙ ap (λ vs. last_named (paired (map sheet_content sheets) vs) (chars c.as_str.result.now)) c.deref-in-Some-2.ensures.value
     ∙ ap (λ name. last_named (paired (map sheet_content sheets) contents) (chars name)) c.as_str.ensures.value))
 
-pub returns-in-None : goal.returns-in-None
-returns-in-None c =
+pub returns-in-None-clause-found : goal.returns-in-None-clause-found
+returns-in-None-clause-found c =
     let sheets = c.self.inside.metadata.sheets.items in
     let at = c.get.ensures.lookup in
     let nothing = sym (looked c.deref.result.now c.args.n c.get.result at.0 at.1) ∙ ap option_copied c.in-None.is in
