@@ -14,6 +14,7 @@ use Rattle.xls_biff.specs.ErrorText.{error_text}
 use Rattle.xls_biff.specs.Globals.{refs_at}
 use Rattle.xls_biff.specs.Regions.{bounds}
 use Rattle.xls_biff.specs.Strings.{format_at, short_string_at, string_at}
+use Rattle.xls_biff.specs.Uncounted.{uncounted_at}
 
 -- the RK numbers of 123.45 in hundredths, of the whole numbers 1 and 1,234,567 over 100 twice, of the
 -- double 1 and of the double 1 over 100
@@ -67,6 +68,13 @@ known_zero = refl
 
 pub known_format : format_at Windows1252 Biff5 (0xA4 ∷ 0 ∷ 3 ∷ 0x5B ∷ 0x68 ∷ 0x5D ∷ []) ≡ Ok (164, TimeDelta)
 known_format = refl
+
+-- a name without its count, and a wide unit that isn't there
+pub known_uncounted : uncounted_at 5 (0 ∷ 0x54 ∷ 0x6F ∷ 0x74 ∷ 0x61 ∷ 0x6C ∷ 0x3A ∷ []) ≡ Ok (codes "Total", 6)
+known_uncounted = refl
+
+pub known_missing : uncounted_at 2 (1 ∷ 0x41 ∷ 0 ∷ 0x42 ∷ []) ≡ Err (errors.Len 5 4 parts.NoCch)
+known_missing = refl
 
 -- a reference to sheet 1
 pub known_refs : refs_at Biff8 (2 ∷ 0 ∷ 0 ∷ 0 ∷ 1 ∷ 0 ∷ 1 ∷ 0 ∷ []) ≡ Ok (pos 1 ∷ [])

@@ -16,6 +16,12 @@ fn appends_regions(rt: HostRuntime) -> Result<(), Fail> {
 }
 
 #[test]
+fn expects_all_regions_of_the_count(rt: HostRuntime) {
+    let refused = fault_of(parse_merge_cells(&[0xFF, 0xFF], &mut Vec::new(rt.alloc())));
+    assert_eq!(rt; refused, too_short(Part::MergeCells, 524_282, 2));
+}
+
+#[test]
 fn reads_bounds(rt: HostRuntime) -> Result<(), Fail> {
     let bounds = parse_dimensions(&[0, 0, 0, 0, 3, 0, 0, 0, 0, 0, 3, 0, 0, 0])?;
     assert_eq!(rt; bounds, Dimensions::new((0, 0), (2, 2)));

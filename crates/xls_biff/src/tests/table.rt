@@ -104,3 +104,23 @@ fn allocates_a_text_at_its_size(rt: HostRuntime) -> Result<(), Fail> {
     assert_eq!(rt; text.capacity(), text.len());
     Ok(())
 }
+
+#[test]
+fn steps_over_a_long_string(rt: HostRuntime) -> Result<(), Fail> {
+    // 9,000 units in a body of 8,224 bytes and a piece of 788
+    let mut first = [0x28, 0x23, 0].to_vec(rt.alloc())?;
+    for _ in 0..8_213 {
+        first.push(0x61)?;
+    }
+    let mut second = [0].to_vec(rt.alloc())?;
+    for _ in 0..787 {
+        second.push(0x61)?;
+    }
+    let bytes = table_of(rt.alloc(), &first, &[&second])?;
+    let mut reader = SstReader::new(&record_of(&bytes)?)?;
+    let units = reader.next_units(rt.alloc())?.ok_or("no string")?;
+    assert_eq!(rt; units.len(), 9_000);
+    assert!(rt; units.iter().all(|unit| *unit == 0x61));
+    assert!(rt; reader.next_units(rt.alloc())?.is_none());
+    Ok(())
+}

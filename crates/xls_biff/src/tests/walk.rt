@@ -1,6 +1,10 @@
 //! Records, lists and texts.
 
 use super::*;
+use xls_model::types::{
+    BOF, BOOL_ERR, DIMENSIONS, FORMULA, LABEL, LABEL_SST, MERGE_CELLS, MUL_RK, NUMBER, R_STRING,
+    RK, STRING,
+};
 
 #[test]
 fn hands_out_the_pieces_of_a_record(rt: HostRuntime) -> Result<(), Fail> {
@@ -82,6 +86,41 @@ fn weighs_and_checks_a_record(rt: HostRuntime) -> Result<(), Fail> {
     let short = bytes_of(rt.alloc(), 0x027E, &[0, 0])?;
     let refused = fault_of(check_sheet_record(&record_of(&short)?, Biff::Biff8));
     assert_eq!(rt; refused, too_short(Part::Rk, 10, 2));
+    Ok(())
+}
+
+/// Types of records, and what a body of 20 zero bytes of each weighs.
+const WEIGHTS: [(u16, u64); 12] = [
+    (NUMBER, 1),
+    (LABEL, 1),
+    (R_STRING, 1),
+    (BOOL_ERR, 1),
+    (STRING, 1),
+    (RK, 1),
+    (LABEL_SST, 1),
+    (FORMULA, 1),
+    (DIMENSIONS, 0),
+    (MERGE_CELLS, 0),
+    (MUL_RK, 0),
+    (BOF, 0),
+];
+
+#[test]
+fn weighs_a_cell_as_one(rt: HostRuntime) -> Result<(), Fail> {
+    for (typ, weight) in WEIGHTS {
+        let bytes = bytes_of(rt.alloc(), typ, &[0; 20])?;
+        assert_eq!(rt; sheet_record_weight(&record_of(&bytes)?), weight);
+    }
+    Ok(())
+}
+
+#[test]
+fn weighs_a_row_as_its_cells(rt: HostRuntime) -> Result<(), Fail> {
+    let three = [
+        0, 0, 7, 0, 0, 0, 6, 0, 0, 0, 0, 0, 6, 0, 0, 0, 0, 0, 6, 0, 0, 0, 9, 0,
+    ];
+    let bytes = bytes_of(rt.alloc(), MUL_RK, &three)?;
+    assert_eq!(rt; sheet_record_weight(&record_of(&bytes)?), 3);
     Ok(())
 }
 
