@@ -30,12 +30,13 @@ fn leaves_an_empty_continue_at_the_end(rt: HostRuntime) -> Result<(), Fail> {
     Ok(())
 }
 
-/// The types of the records outside nested substreams, and the error at the end.
+/// The types of the records outside nested substreams, but for BOF, and the error at the end.
 fn outer_of(alloc: Global, part: &[u8]) -> Result<(Vec<u16>, Option<XlsError>), AllocError> {
     let mut types = Vec::new(alloc);
     let mut fault = None;
     for item in SheetRecords::new(part) {
         match item {
+            Ok(r) if r.typ == BOF => {}
             Ok(r) => types.push(r.typ)?,
             Err(e) => fault = Some(e),
         }
@@ -43,16 +44,16 @@ fn outer_of(alloc: Global, part: &[u8]) -> Result<(Vec<u16>, Option<XlsError>), 
     Ok((types, fault))
 }
 
-/// BOF, type 1, a nested BOF with type 2, its EOF, type 3, EOF, type 4.
+/// BOF, Number, a nested BOF with an RK and its EOF, LabelSst, EOF, Formula; all of them empty.
 const PART: [u8; 32] = [
-    9, 8, 0, 0, 1, 0, 0, 0, 9, 8, 0, 0, 2, 0, 0, 0, 10, 0, 0, 0, 3, 0, 0, 0, 10, 0, 0, 0, 4, 0, 0,
-    0,
+    9, 8, 0, 0, 3, 2, 0, 0, 9, 8, 0, 0, 0x7E, 2, 0, 0, 10, 0, 0, 0, 0xFD, 0, 0, 0, 10, 0, 0, 0, 6,
+    0, 0, 0,
 ];
 
 #[test]
 fn passes_over_nested_records(rt: HostRuntime) -> Result<(), Fail> {
     let (types, fault) = outer_of(rt.alloc(), &PART)?;
-    assert_eq!(rt; types.as_slice(), [1, 0x0809, 3].as_slice());
+    assert_eq!(rt; types.as_slice(), [NUMBER, LABEL_SST].as_slice());
     assert_eq!(rt; fault, None);
     Ok(())
 }
@@ -61,8 +62,17 @@ fn passes_over_nested_records(rt: HostRuntime) -> Result<(), Fail> {
 fn ends_once_where_a_part_is_cut(rt: HostRuntime) -> Result<(), Fail> {
     let (part, _) = PART.split_at(22);
     let (types, fault) = outer_of(rt.alloc(), part)?;
-    assert_eq!(rt; types.as_slice(), [1, 0x0809].as_slice());
+    assert_eq!(rt; types.as_slice(), [NUMBER].as_slice());
     assert_eq!(rt; fault, Some(XlsError::EoStream(Part::RecordHeader)));
+    Ok(())
+}
+
+#[test]
+fn takes_an_open_substream_to_the_end(rt: HostRuntime) -> Result<(), Fail> {
+    let (part, _) = PART.split_at(16);
+    let (types, fault) = outer_of(rt.alloc(), part)?;
+    assert_eq!(rt; types.as_slice(), [NUMBER].as_slice());
+    assert_eq!(rt; fault, None);
     Ok(())
 }
 
