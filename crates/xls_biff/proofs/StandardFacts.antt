@@ -1,15 +1,15 @@
 -- Values from outside, so that a wrong rule in the definitions does not check.
-use Rattle.std.proofs.Common.{◌≡◌, ℕ, List, [], ◌∷◌, map, refl, pos, negsuc, codes, false, true, Some, None, Ok, Err}
+use Rattle.std.proofs.Common.{◌≡◌, [], ◌∷◌, map, refl, pos, negsuc, codes, false, Some, None, Ok, Err}
 use Rattle.std.specs.Fmt.{digits}
-use Rattle.xls_model.specs.StringTable.{marked, units_at, tail_at, next_at, short_head, no_units, no_tail}
+use Rattle.xls_model.specs.StringTable.{marked, units_at, tail_at, next_at, no_units, no_tail}
 use Rattle.xls_model.specs.declared.part.Part.TheVariants as parts
 use Rattle.xls_text.specs.declared.encoding.XlsEncoding.TheVariants.{Utf16, Windows1252}
-use Rattle.xls_data.specs.Content.{int, float, date}
+use Rattle.xls_data.specs.Content.{int, float}
 use Rattle.xls_data.specs.declared.numbers.Number.TheVariants.{Bits, Hundredths, BitsOver100}
-use Rattle.xls_data.specs.declared.formats.CellFormat.TheVariants.{DateTime, TimeDelta}
+use Rattle.xls_data.specs.declared.formats.CellFormat.TheVariants.{TimeDelta}
 use Rattle.xls_biff.specs.declared.globals.Biff.TheVariants.{Biff5, Biff8}
 use Rattle.xls_biff.specs.declared.error.XlsError.TheVariants as errors
-use Rattle.xls_biff.specs.Cells.{rk_bits, rk_content, rk_whole, mul_rk_count}
+use Rattle.xls_biff.specs.Cells.{rk_content, rk_whole, mul_rk_count}
 use Rattle.xls_biff.specs.ErrorText.{error_text}
 use Rattle.xls_biff.specs.Globals.{refs_at}
 use Rattle.xls_biff.specs.Regions.{bounds}
