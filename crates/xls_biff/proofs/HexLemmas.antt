@@ -1,5 +1,5 @@
 -- Hexadecimal digits with zeros before them.
-use Rattle.std.proofs.Common.{◌≡◌, ℕ, ◌-◌, ◌^◌, refl, List, [], ◌++◌, true, false, length, replicate}
+use Rattle.std.proofs.Common.{◌≡◌, ℕ, ◌-◌, ◌^◌, [], true, false}
 use Rattle.std.specs.Fmt.{padded_integral, format_spec, digits, char_count}
 use Rattle.std.proofs.Common.{append-nil}
 use Rattle.std.proofs.Math.Nat.{sub-zero}

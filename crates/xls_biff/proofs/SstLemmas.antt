@@ -1,5 +1,5 @@
 -- The strings of a table, one after the other.
-use Rattle.std.proofs.Common.{◌≡◌, ◌≢◌, ℕ, ◌+◌, ◌*◌, ◌-◌, ◌<◌, ◌≤◌, Bool, false, List, [], ◌∷◌, ◌++◌, length, map, Option, Some, None, Result, Ok, Err, refl, sym, ap, subst, ◌∙◌, arith}
+use Rattle.std.proofs.Common.{◌≡◌, ◌≢◌, ℕ, ◌+◌, ◌*◌, ◌-◌, ◌<◌, ◌≤◌, Bool, false, List, [], ◌∷◌, ◌++◌, length, map, Some, None, Result, Ok, Err, refl, sym, ap, subst, ◌∙◌, arith}
 use Rattle.std.specs.Prelude.{IsTrue}
 use Rattle.std.specs.Char.Utf16.{utf16_lossy_chars}
 use Rattle.std.proofs.lemmas.Bool.{false≢true}
@@ -9,7 +9,7 @@ use Rattle.xls_model.proofs.StringUnits.{nothing_marked}
 use Rattle.xls_biff.specs.declared.error.XlsError.{XlsError}
 use Rattle.xls_biff.specs.declared.error.XlsError.TheVariants as errors
 use Rattle.xls_biff.specs.Reading.{Fails}
-use Rattle.xls_model.specs.StringTable.{Missing, next_at, Strings, TableFault}
+use Rattle.xls_model.specs.StringTable.{Missing, next_at, Strings}
 use Rattle.xls_model.proofs.TableReadings.{next_shrinks, Shrinks}
 use Rattle.xls_biff.specs.Sst.{AddsAt, SkipsAt, error_of, as_error, FailsTable, ReadsTable}
 

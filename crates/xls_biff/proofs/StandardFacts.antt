@@ -1,19 +1,20 @@
 -- Values from outside, so that a wrong rule in the definitions does not check.
-use Rattle.std.proofs.Common.{◌≡◌, ℕ, List, [], ◌∷◌, map, refl, pos, negsuc, codes, false, true, Some, None, Ok, Err}
+use Rattle.std.proofs.Common.{◌≡◌, [], ◌∷◌, map, refl, pos, negsuc, codes, false, Some, None, Ok, Err}
 use Rattle.std.specs.Fmt.{digits}
-use Rattle.xls_model.specs.StringTable.{marked, units_at, tail_at, next_at, short_head, no_units, no_tail}
+use Rattle.xls_model.specs.StringTable.{marked, units_at, tail_at, next_at, no_units, no_tail}
 use Rattle.xls_model.specs.declared.part.Part.TheVariants as parts
 use Rattle.xls_text.specs.declared.encoding.XlsEncoding.TheVariants.{Utf16, Windows1252}
-use Rattle.xls_data.specs.Content.{int, float, date}
+use Rattle.xls_data.specs.Content.{int, float}
 use Rattle.xls_data.specs.declared.numbers.Number.TheVariants.{Bits, Hundredths, BitsOver100}
-use Rattle.xls_data.specs.declared.formats.CellFormat.TheVariants.{DateTime, TimeDelta}
+use Rattle.xls_data.specs.declared.formats.CellFormat.TheVariants.{TimeDelta}
 use Rattle.xls_biff.specs.declared.globals.Biff.TheVariants.{Biff5, Biff8}
 use Rattle.xls_biff.specs.declared.error.XlsError.TheVariants as errors
-use Rattle.xls_biff.specs.Cells.{rk_bits, rk_content, rk_whole, mul_rk_count}
+use Rattle.xls_biff.specs.Cells.{rk_content, rk_whole, mul_rk_count}
 use Rattle.xls_biff.specs.ErrorText.{error_text}
 use Rattle.xls_biff.specs.Globals.{refs_at}
 use Rattle.xls_biff.specs.Regions.{bounds}
 use Rattle.xls_biff.specs.Strings.{format_at, short_string_at, string_at}
+use Rattle.xls_biff.specs.Uncounted.{uncounted_at}
 
 -- the RK numbers of 123.45 in hundredths, of the whole numbers 1 and 1,234,567 over 100 twice, of the
 -- double 1 and of the double 1 over 100
@@ -67,6 +68,13 @@ known_zero = refl
 
 pub known_format : format_at Windows1252 Biff5 (0xA4 ∷ 0 ∷ 3 ∷ 0x5B ∷ 0x68 ∷ 0x5D ∷ []) ≡ Ok (164, TimeDelta)
 known_format = refl
+
+-- a name without its count, and a wide unit that isn't there
+pub known_uncounted : uncounted_at 5 (0 ∷ 0x54 ∷ 0x6F ∷ 0x74 ∷ 0x61 ∷ 0x6C ∷ 0x3A ∷ []) ≡ Ok (codes "Total", 6)
+known_uncounted = refl
+
+pub known_missing : uncounted_at 2 (1 ∷ 0x41 ∷ 0 ∷ 0x42 ∷ []) ≡ Err (errors.Len 5 4 parts.NoCch)
+known_missing = refl
 
 -- a reference to sheet 1
 pub known_refs : refs_at Biff8 (2 ∷ 0 ∷ 0 ∷ 0 ∷ 1 ∷ 0 ∷ 1 ∷ 0 ∷ []) ≡ Ok (pos 1 ∷ [])

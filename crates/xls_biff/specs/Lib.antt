@@ -7,6 +7,7 @@ pub mod Cells
 pub mod Regions
 pub mod Texts
 pub mod Strings
+pub mod Uncounted
 pub mod MarkSteps
 pub mod Sst
 pub use Rattle.xls_model.specs.Stream

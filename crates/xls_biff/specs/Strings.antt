@@ -2,7 +2,6 @@
 -- and the byte strings of the versions before BIFF8. Where the count passes the bytes, the text is
 -- the shorter one.
 use Rattle.std.specs.Prelude.{ℕ, ◌%◌, List, [], ◌==◌, ◌&&◌, ◌||◌, Bool, false, if◌then◌else◌, nat_lt, length, take, drop, slice_index, slice_get, Option, Some, None, Result, Ok, Err}
-use Rattle.std.specs.Option.{option_map}
 use Rattle.xls_bytes.specs.Numbers.{le}
 use Rattle.xls_text.specs.Pages.{string_text}
 use Rattle.xls_text.specs.declared.encoding.XlsEncoding.{XlsEncoding}

@@ -17,6 +17,7 @@ mod sheets;
 mod sst;
 mod strings;
 mod substream;
+mod uncounted;
 mod walk;
 
 pub use cells::parse_number;
@@ -33,6 +34,7 @@ pub use sheets::{parse_format, parse_sheet_metadata};
 pub use sst::{SstReader, parse_sst, skip_sst};
 pub use strings::{parse_short_string, parse_string};
 pub use substream::SheetRecords;
+pub use uncounted::{parse_uncounted, size_of_uncounted};
 pub use walk::RecordIter;
 pub use xls_model::Part;
 

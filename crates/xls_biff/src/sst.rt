@@ -126,11 +126,29 @@ fn skip_next(text: &mut Marked<'_>) -> Result<(), XlsError>
     skip_string(text)
 }
 
+/// How many bytes the text of units takes, so that it is allocated once.
+fn text_size(units: &[u16]) -> usize {
+    let mut size: usize = 0;
+    let mut is_behind_high = false;
+    for unit in units {
+        let bytes = match *unit {
+            0..0x80 => 1,
+            0x80..0x800 => 2,
+            // the second half of a pair, which takes four bytes
+            0xDC00..0xE000 if is_behind_high => 1,
+            _ => 3,
+        };
+        size = size.saturating_add(bytes);
+        is_behind_high = matches!(*unit, 0xD800..0xDC00);
+    }
+    size
+}
+
 /// The text of units.
-fn text_of_units(alloc: Global, units: &[u16]) -> Result<String, AllocError>
+pub(crate) fn text_of_units(alloc: Global, units: &[u16]) -> Result<String, AllocError>
     ensures { IfOk result (λ t. text_of t ≡ utf16_lossy_chars units.now) }
 {
-    let mut text = String::with_capacity(alloc, units.len())?;
+    let mut text = String::with_capacity(alloc, text_size(units))?;
     push_units(units, &mut text)?;
     Ok(text)
 }

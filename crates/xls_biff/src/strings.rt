@@ -66,7 +66,7 @@ pub(crate) fn split_string(r: &[u8], biff: Biff) -> Result<(usize, Option<bool>,
 }
 
 /// The text of at most `len` characters at the front of a stream.
-fn decoded(
+pub(crate) fn decoded(
     alloc: Global,
     encoding: &XlsEncoding,
     stream: &[u8],

@@ -1,4 +1,4 @@
-use Rattle.std.proofs.Common.{arith, rules, length, ◌<◌, ◌^◌, ap, ◌∙◌, sym, ◌≡◌}
+use Rattle.std.proofs.Common.{arith, rules, length, ◌<◌, ◌^◌, ap}
 use Rattle.std.specs.List.{flat_map}
 use Rattle.xls_model.specs.StringTable.{marked_piece, weight}
 use Rattle.xls_biff.proofs.MarkLemmas.{weight-marked}

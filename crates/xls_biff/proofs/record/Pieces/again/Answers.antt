@@ -1,7 +1,4 @@
-use Rattle.std.proofs.Common.{◌≡◌, ◌∙◌, List, ℕ, ap, sym, subst, length, arith, ◌≤◌}
-use Rattle.std.specs.List.{flat_map}
-use Rattle.xls_model.specs.Stream.{continues}
-use Rattle.xls_model.specs.StringTable.{marked_piece, weight}
+use Rattle.std.proofs.Common.{◌≡◌, ◌∙◌, ap, sym, length, arith}
 use Rattle.xls_model.proofs.Records.{bodies-are}
 use Rattle.xls_biff.proofs.MarkLemmas.{weight-pieces}
 use Rattle.xls_biff.proofs.record.Pieces.again.Goals as goal

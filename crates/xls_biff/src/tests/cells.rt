@@ -1,0 +1,116 @@
+//! Numbers, truth values and error values.
+
+use super::*;
+use xls_data::{Cell, CellErrorType, CellFormat, Data, Number};
+
+#[test]
+fn reads_a_number(rt: HostRuntime) -> Result<(), Fail> {
+    let body = [3, 0, 1, 0, 0, 0, 0, 0, 0, 0, 0, 0, 8, 0x40];
+    let cell = parse_number(&body, &[], false)?;
+    assert_eq!(rt; cell.get_position(), (3, 1));
+    assert_eq!(rt;
+        cell.get_value(),
+        &Data::Float(Number::Bits(0x4008_0000_0000_0000))
+    );
+    Ok(())
+}
+
+/// RK numbers: 123.45 and 2 in hundredths, -1 and 2 as whole numbers, the double 1 and a hundredth of it.
+const NUMBERS: [([u8; 4], Data); 6] = [
+    ([0xE7, 0xC0, 0, 0], Data::Float(Number::Hundredths(12345))),
+    ([0x23, 3, 0, 0], Data::Int(2)),
+    ([0xFE, 0xFF, 0xFF, 0xFF], Data::Int(-1)),
+    ([10, 0, 0, 0], Data::Int(2)),
+    (
+        [0, 0, 0xF0, 0x3F],
+        Data::Float(Number::Bits(0x3FF0_0000_0000_0000)),
+    ),
+    (
+        [1, 0, 0xF0, 0x3F],
+        Data::Float(Number::BitsOver100(0x3FF0_0000_0000_0000)),
+    ),
+];
+
+#[test]
+fn reads_the_four_forms_of_an_rk(rt: HostRuntime) -> Result<(), Fail> {
+    for (number, wanted) in NUMBERS {
+        let mut body = [0; 10];
+        let (_, rk) = body.split_at_mut(6);
+        rk.copy_from_slice(&number);
+        assert_eq!(rt; parse_rk(&body, &[], false)?.get_value(), &wanted);
+    }
+    Ok(())
+}
+
+#[test]
+fn takes_the_class_of_the_xf_index(rt: HostRuntime) -> Result<(), Fail> {
+    let classes = [CellFormat::Other, CellFormat::DateTime];
+    let body = [0, 0, 0, 0, 1, 0, 10, 0, 0, 0];
+    let date = parse_rk(&body, &classes, false)?;
+    assert!(rt; matches!(date.get_value(), Data::DateTime(_)));
+    let outside = parse_rk(&body, &[CellFormat::DateTime], false)?;
+    assert_eq!(rt; outside.get_value(), &Data::Int(2));
+    Ok(())
+}
+
+#[test]
+fn appends_the_cells_of_a_row(rt: HostRuntime) -> Result<(), Fail> {
+    let mut cells: Vec<Cell<Data>> = Vec::new(rt.alloc());
+    let body = [2, 0, 0, 0, 0, 0, 10, 0, 0, 0, 0, 0, 0xEB, 3, 0, 0, 1, 0];
+    parse_mul_rk(&body, &mut cells, &[], false)?;
+    assert_eq!(rt; cells.len(), 2);
+    assert_eq!(rt; cells[0].get_position(), (2, 0));
+    assert_eq!(rt; cells[0].get_value(), &Data::Int(2));
+    assert_eq!(rt; cells[1].get_position(), (2, 1));
+    assert_eq!(rt; cells[1].get_value(), &Data::Float(Number::Hundredths(250)));
+    Ok(())
+}
+
+#[test]
+fn refuses_a_last_column_before_the_first(rt: HostRuntime) {
+    let mut cells: Vec<Cell<Data>> = Vec::new(rt.alloc());
+    let reversed = [0, 0, 2, 0, 0, 0, 6, 0, 0, 0, 1, 0];
+    let refused = fault_of(parse_mul_rk(&reversed, &mut cells, &[], false));
+    assert_eq!(rt; refused, too_short(Part::Rk, 65_536, 12));
+    assert!(rt; cells.is_empty());
+}
+
+#[test]
+fn reads_truth_values_and_error_values(rt: HostRuntime) -> Result<(), Fail> {
+    let error = parse_bool_err(&[1, 0, 0, 0, 0, 0, 0x2A, 1])?;
+    assert_eq!(rt; error.get_value(), &Data::Error(CellErrorType::NA));
+    assert_eq!(rt; error.get_position(), (1, 0));
+    let truth = parse_bool_err(&[0, 0, 0, 0, 0, 0, 2, 0])?;
+    assert_eq!(rt; truth.get_value(), &Data::Bool(true));
+    Ok(())
+}
+
+#[test]
+fn refuses_other_codes(rt: HostRuntime) {
+    let wanted = XlsError::Unrecognized {
+        typ: Part::FError,
+        val: 2,
+    };
+    let refused = fault_of(parse_bool_err(&[0, 0, 0, 0, 0, 0, 1, 2]));
+    assert_eq!(rt; refused, Some(wanted));
+    let wanted = XlsError::Unrecognized {
+        typ: Part::CellError,
+        val: 1,
+    };
+    let refused = fault_of(parse_bool_err(&[0, 0, 0, 0, 0, 0, 1, 1]));
+    assert_eq!(rt; refused, Some(wanted));
+}
+
+#[test]
+fn reads_the_value_of_a_formula(rt: HostRuntime) -> Result<(), Fail> {
+    let empty = parse_formula_value(rt.alloc(), &[3, 0, 0, 0, 0, 0, 0xFF, 0xFF], None, false)?;
+    assert_eq!(rt; empty, Some(Data::String(String::new(rt.alloc()))));
+    let text = parse_formula_value(rt.alloc(), &[0, 0, 0, 0, 0, 0, 0xFF, 0xFF], None, false)?;
+    assert_eq!(rt; text, None);
+    let double = parse_formula_value(rt.alloc(), &[0, 0, 0, 0, 0, 0, 0x18, 0x40], None, false)?;
+    assert_eq!(rt;
+        double,
+        Some(Data::Float(Number::Bits(0x4018_0000_0000_0000)))
+    );
+    Ok(())
+}
