@@ -31,7 +31,8 @@ impl<'c, T, D> Model for RangeDeserializer<'c, T, D> {
 
     ghost Value = { List (Row T) };
 
-    ghost view = { λ r. rows_from (owned_texts r.headers) r.column_indexes.items r.row r.left r.rows };
+    ghost view = { λ r.
+        rows_from (owned_texts r.headers) r.column_indexes.items r.row r.left r.rows };
 
     ghost invariant = { λ r.
         All (λ cells. AreWithin (owned_texts r.headers) cells r.column_indexes.items) r.rows
@@ -70,7 +71,7 @@ impl<'c, T, D> RangeDeserializer<'c, T, D> {
 impl<'c, T: ReadCell, D: FromRow> Iterator for RangeDeserializer<'c, T, D> {
     type Item = Result<D, DeError>;
 
-    ghost next_gives = { λ rows answer rest. AnswersFirst T.content D.answers rows answer rest };
+    ghost next_gives = { λ rows answer rest. AnswersFirst (D.answers T T.content) rows answer rest };
 
     ghost remaining = { item_count (λ rows. rows) };
 
