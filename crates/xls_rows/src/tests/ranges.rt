@@ -1,5 +1,9 @@
 //! Ranges as rows.
 
+ghost use Rattle.std.specs.Prelude.{◌≡◌};
+ghost use Rattle.xls_rows.specs.Choices.{unnamed};
+ghost use Rattle.xls_rows.specs.Chosen.{chosen};
+
 use super::{shown, text};
 use crate::{DeError, FromRow, RangeDeserializer, RangeDeserializerBuilder, ReadCell, deserialize};
 use std::alloc::Global;
@@ -99,11 +103,19 @@ fn counts_the_rows_behind_the_headers(rt: HostRuntime) -> Result<(), Fail> {
     Ok(())
 }
 
+// What `has_headers` chose is known of the builder when the borrow is over.
+fn builder_without_headers() -> RangeDeserializerBuilder<'static>
+    ensures { chosen result ≡ unnamed }
+{
+    let mut builder = RangeDeserializerBuilder::default();
+    builder.has_headers(false);
+    builder
+}
+
 #[test]
 fn counts_all_rows_without_headers(rt: HostRuntime) -> Result<(), Fail> {
     let range: Range<Data> = Range::new(rt.alloc(), (0, 0), (2, 1))?;
-    let mut builder = RangeDeserializerBuilder::default();
-    builder.has_headers(false);
+    let mut builder = builder_without_headers();
     let rows: RangeDeserializer<'_, Data, Vec<Data>> = builder.from_range(rt.alloc(), &range)?;
     assert_eq!(rt; rows.size_hint().0, 3);
     let rows: RangeDeserializer<'_, Data, Vec<Data>> = builder
