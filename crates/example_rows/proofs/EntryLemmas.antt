@@ -61,13 +61,15 @@ says_anything r f e = rw e tt
 
 -- the name is wrong, or there is no memory for it
 pub name_refused : (place : ℕ × ℕ) (n a : Content) (e f : DeError)
-    → Gives {A = String Global} string_bytes (Err e) (text_in place n) → (e ≡ error.Memory → f ≡ error.Memory)
+    → Gives {A = String Global} string_bytes (Err e) (text_in place n)
+    → (e ≡ error.Memory → f ≡ error.Memory)
     → Places place.0 (place.1 + 0) e f → ReadsPair place n a (Err f)
 name_refused place n a e f g m p = record {
   wrong_name = λ r h.
       let refuses : Refuses r e = rw h at g in
       subst (λ k. Refuses (at_place place.0 k r) f) (add-zero place.1) (p r refuses);
-  wrong_amount = λ ok none. says_anything _ f (m (memory_only {X = String Global} string_bytes e (text_in place n) g ok));
+  wrong_amount = λ ok none.
+      says_anything _ f (m (memory_only {X = String Global} string_bytes e (text_in place n) g ok));
   entry = λ bytes k h found. let wants : e ≡ error.Memory = rw h at g in m wants;
 }
 
@@ -108,21 +110,23 @@ amount_fits : (c : Content) (found : Option ℤ) (k : ℤ) (place : ℕ × ℕ) 
     → Gives (λ n. n) (Ok k) (whole_or (codes "i64") place c found) → SFits w64 k
 amount_fits c None k place is gives = absurd gives
 amount_fits c (Some n) k place is gives =
-    let between : IsBetween (neg_ℤ (pos (2 ^ 63))) (pos (2 ^ 63 - 1)) n = whole_between _ _ c n is in
+    let between : IsBetween (neg_ℤ (pos (2 ^ 63))) (pos (2 ^ 63 - 1)) n =
+    whole_between _ _ c n is in
     rw gives (grind arith)
 
 -- both are read
 pub entry_read : (place : ℕ × ℕ) (n a : Content) (s : String Global) (k : ℤ)
     → Gives string_bytes (Ok s) (text_in place n) → ReadsSigned (codes "i64") 64 a place (Ok k)
     → ReadsPair place n a (Ok record { name = s; amount = to_z w64 (of_z w64 k) })
-entry_read place n a s k g w = rw (to_z-of_z w64 k (amount_fits a w.found k place w.is w.gives)) record {
-  wrong_name = λ r h. absurd (rw h at g);
-  wrong_amount = λ ok none. absurd (rw (amount_once a w.found None w.is none) at w.gives);
-  entry = λ bytes j h found.
-      let same_name : string_bytes s ≡ bytes = rw h at g in
-      let same_amount : k ≡ j = rw (amount_once a w.found (Some j) w.is found) at w.gives in
-      rw (same_name, same_amount) refl;
-}
+entry_read place n a s k g w =
+    rw (to_z-of_z w64 k (amount_fits a w.found k place w.is w.gives)) record {
+      wrong_name = λ r h. absurd (rw h at g);
+      wrong_amount = λ ok none. absurd (rw (amount_once a w.found None w.is none) at w.gives);
+      entry = λ bytes j h found.
+          let same_name : string_bytes s ≡ bytes = rw h at g in
+          let same_amount : k ≡ j = rw (amount_once a w.found (Some j) w.is found) at w.gives in
+          rw (same_name, same_amount) refl;
+    }
 
 -- a row of two cells or more
 pub entry_of : {T : Type 0} (content : T → Content) (row after : Row T) (place : ℕ × ℕ) (x y : T)
