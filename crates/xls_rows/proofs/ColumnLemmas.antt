@@ -1,7 +1,7 @@
 -- Lists of columns, and rows as wide as their range.
-use Rattle.std.proofs.Common.{◌≡◌, ◌∙◌, ℕ, zero, suc, ◌+◌, ◌*◌, ◌-◌, ◌<◌, ◌≤◌, List, [], ◌∷◌, ◌++◌, refl, sym, ap, subst, arith, map, take, drop, length, length-take, length-drop}
-use Rattle.std.specs.Prelude.{All, Option, Some, None, IfSome}
-use Rattle.std.proofs.lemmas.List.Elements.{All-head, All-tail, All-cons}
+use Rattle.std.proofs.Common.{◌≡◌, ◌∙◌, ℕ, zero, suc, ◌+◌, ◌*◌, ◌<◌, ◌≤◌, List, [], ◌∷◌, ◌++◌, sym, ap, subst, arith, take, drop, length, length-take, length-drop}
+use Rattle.std.specs.Prelude.{All, Some, None}
+use Rattle.std.proofs.lemmas.List.Elements.{All-cons}
 use Rattle.xls_range.specs.Lists.{rows_of}
 use Rattle.xls_rows.specs.Columns.{numbers_from}
 use Rattle.xls_rows.specs.Rows.{AreWithin}

@@ -1,6 +1,6 @@
 -- Rows that are read by keys and values in turn.
 use Rattle.std.proofs.Common.{◌≡◌, ◌∙◌, ℕ, List, [], ◌∷◌, refl, sym, ap, arith, drop, length, ◌<◌, Bool, true, false}
-use Rattle.std.specs.Prelude.{Option, Some, None, if◌then◌else◌}
+use Rattle.std.specs.Prelude.{Option, Some, if◌then◌else◌}
 use Rattle.std.proofs.lemmas.Option.{same_Some}
 use Rattle.xls_rows.specs.Rows.{Row, Exposed, from_filled, first_header, first_or, after_key}
 use Rattle.xls_rows.specs.Laws.{named_values, GivesByKey, after_value}

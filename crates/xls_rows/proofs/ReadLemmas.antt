@@ -1,12 +1,12 @@
 -- Lists of cells that are read one after another.
-use Rattle.std.proofs.Common.{◌≡◌, ℕ, List, [], ◌∷◌, ◌++◌, refl, sym, ap, ◌∙◌, append-nil, append_assoc, Result, Ok, Err, length, get_or, drop, ◌<◌, suc, drop-cons, map}
-use Rattle.std.specs.Prelude.{MatchResult, Option, Some, None}
+use Rattle.std.proofs.Common.{◌≡◌, List, [], ◌∷◌, ◌++◌, refl, sym, ap, ◌∙◌, append-nil, append_assoc, Result, Ok, Err, drop, map}
+use Rattle.std.specs.Prelude.{Some, None}
 use Rattle.std.proofs.lemmas.List.{map-append}
 use Rattle.xls_data.specs.Content.{Content}
 use Rattle.xls_rows.specs.declared.error.DeError.{DeError}
 use Rattle.xls_rows.specs.declared.error.DeError.TheVariants as error
-use Rattle.xls_rows.specs.Refusals.{Refusal, Refuses, Gives}
-use Rattle.xls_rows.specs.Rows.{and_then_others, all_read, Exposed, with_content, first_value}
+use Rattle.xls_rows.specs.Refusals.{Refusal, Gives}
+use Rattle.xls_rows.specs.Rows.{and_then_others, all_read, Exposed, contents_of, first_value}
 
 -- what was read before the others
 abbrev pub behind : {A : Type 0} → List A → Result (List A) Refusal → Result (List A) Refusal
@@ -56,10 +56,6 @@ read_ends view whole read acc v (c ∷ cs) all e n w = absurd (cc n)
 -- nothing is read yet
 pub read_begins : {C X A : Type 0} (view : X → A) (read : C → Result A Refusal) (cs : List C) → all_read read cs ≡ behind (map view []) (all_read read cs)
 read_begins view read cs = behind_none (all_read read cs)
-
--- the contents of exposed cells
-abbrev pub contents_of : {T : Type 0} → (T → Content) → List (Exposed T) → List Content
-contents_of content es = map (λ e. e.value) (map (with_content content) es)
 
 pub contents_first : {T : Type 0} (content : T → Content) (es : List (Exposed T)) (x : T) → Some x ≡ first_value es → contents_of content es ≡ content x ∷ contents_of content (drop 1 es)
 contents_first content [] x e = absurd (cc e)

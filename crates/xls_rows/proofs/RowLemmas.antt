@@ -7,7 +7,7 @@ use Rattle.std.specs.Prelude.{All, Option, Some, None, is_some, IfSome, slice_ge
 use Rattle.std.proofs.lemmas.List.Elements.{All-head, All-tail}
 use Rattle.std.proofs.lemmas.Option.{slice_get-map, slice_get-get_or, none-some}
 use Rattle.xls_rows.specs.HeaderTexts.{header_texts}
-use Rattle.xls_rows.specs.Rows.{Exposed, exposed_of, header_at, AreWithin, from_filled}
+use Rattle.xls_rows.specs.Rows.{exposed_of, header_at, AreWithin, from_filled}
 
 -- an index that is one of a cell, and the others
 pub within_rest : {T : Type 0} (headers : Option (List (List ℕ))) (cells : List T) (indexes : List ℕ) (i : ℕ) (is : List ℕ)

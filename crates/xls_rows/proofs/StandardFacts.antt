@@ -1,14 +1,13 @@
 -- Known values of the definitions.
 use Rattle.std.proofs.Common.{◌≡◌, ℕ, refl, [], ◌∷◌, pos, true, false}
 use Rattle.std.specs.Prelude.{codes, Ok, Err, Some, None}
-use Rattle.xls_data.specs.Content.{int, float, text, truth, nothing, failure}
-use Rattle.xls_data.specs.declared.numbers.Number.TheVariants.{Bits, Whole, Hundredths}
+use Rattle.xls_data.specs.Content.{int, truth, nothing, failure}
+use Rattle.xls_data.specs.declared.numbers.Number.TheVariants.{Bits}
 use Rattle.xls_data.specs.declared.errors.CellErrorType.TheVariants.{NA}
-use Rattle.xls_rows.specs.Refusals.{cell_error, custom, no_header}
-use Rattle.xls_rows.specs.Texts.{kind_name}
+use Rattle.xls_rows.specs.Refusals.{cell_error, custom}
 use Rattle.xls_rows.specs.Wholes.{not_whole}
 use Rattle.xls_rows.specs.Readers.{bool_in, unit_in, is_zero, bool_named}
-use Rattle.xls_rows.specs.Rows.{Exposed, exposed_of, all_read}
+use Rattle.xls_rows.specs.Rows.{exposed_of}
 use Rattle.xls_rows.specs.Columns.{numbers_from}
 
 -- an empty cell is false, the bits of negative zero are zero, 1 is true

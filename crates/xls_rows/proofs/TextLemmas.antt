@@ -1,5 +1,5 @@
 -- The texts of cells.
-use Rattle.std.proofs.Common.{◌≡◌, ℕ, List, refl, sym, ap, ◌∙◌, String, Global}
+use Rattle.std.proofs.Common.{◌≡◌, ℕ, refl, sym, ap, String, Global}
 use Rattle.std.specs.Prelude.{encode_utf8_all}
 use Rattle.std.specs.Str.{chars}
 use Rattle.std.specs.String.{string_bytes}
@@ -7,7 +7,7 @@ use Rattle.std.proofs.lemmas.Str.{encodes-chars, IsUtf8-string_bytes}
 use Rattle.xls_data.specs.declared.values.Data.{Data}
 use Rattle.xls_data.specs.declared.values.Data.TheVariants as variant
 use Rattle.xls_data.specs.Data.{content_of, data_text}
-use Rattle.std.specs.Prelude.{Option, Some, None, Result, Ok, Err}
+use Rattle.std.specs.Prelude.{Some, None, Ok, Err}
 use Rattle.std.proofs.lemmas.Option.{none-some, same_Some}
 use Rattle.xls_data.specs.Content.{Content, int, float, text, truth, date, iso_date, iso_duration, failure, nothing}
 use Rattle.xls_data.specs.Kinds.{failure_in}

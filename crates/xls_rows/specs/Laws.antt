@@ -21,7 +21,8 @@ GivesByKey empty row (p ∷ ps) =
     × ((after_key empty row).kept ≡ Some p.1)
     × GivesByKey empty (after_value (after_key empty row)) ps
 
--- a row read so gives the headers and cells of the exposed columns that are not empty, and only these
+-- a row read so gives the headers and cells of the exposed columns that are not empty, and only
+-- these
 abbrev pub ReadsByKey : (T : Type 0) → Type 0
 ReadsByKey T = (empty : T → Bool) (row : Row T) (ps : List (Option (List ℕ) × T))
     → GivesByKey empty row ps ↔ (ps ≡ named_values empty row.exposed)

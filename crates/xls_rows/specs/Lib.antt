@@ -10,4 +10,5 @@ pub mod Laws
 pub mod Loose
 pub mod Filled
 pub mod Ranges
+pub mod Chosen
 pub mod Answers

@@ -19,7 +19,8 @@ choice_of headers.All = every
 choice_of (headers.Custom names) = wanted (map string_bytes names.now)
 
 -- rows from a row's number on, with the same first column
-abbrev pub rows_from : {T : Type 0} → Option (List (List ℕ)) → List ℕ → ℕ → ℕ → List (List T) → List (Row T)
+abbrev pub rows_from : {T : Type 0} → Option (List (List ℕ)) → List ℕ → ℕ → ℕ → List (List T)
+    → List (Row T)
 rows_from headers indexes top left [] = []
 rows_from headers indexes top left (cells ∷ others) =
     row_of headers indexes cells (top, left) ∷ rows_from headers indexes (top + 1) left others
@@ -30,21 +31,25 @@ columns_by (wanted names) width headers = columns_of headers names
 columns_by choice width headers = Ok (numbers_from 0 width)
 
 -- the rows of columns, or the refusal of these
-abbrev pub rows_by : {T : Type 0} → Option (List (List ℕ)) → Result (List ℕ) Refusal → ℕ → ℕ → List (List T) → Result (List (Row T)) Refusal
+abbrev pub rows_by : {T : Type 0} → Option (List (List ℕ)) → Result (List ℕ) Refusal → ℕ → ℕ
+    → List (List T) → Result (List (Row T)) Refusal
 rows_by headers (Err r) top left others = Err r
 rows_by headers (Ok indexes) top left others = Ok (rows_from headers indexes top left others)
 
 -- the rows behind the first one, by its texts as headers, or the refusal of these
-abbrev pub rows_behind : {T : Type 0} → Choice → ℕ → Result (List (List ℕ)) Refusal → ℕ → ℕ → List (List T) → Result (List (Row T)) Refusal
+abbrev pub rows_behind : {T : Type 0} → Choice → ℕ → Result (List (List ℕ)) Refusal → ℕ → ℕ
+    → List (List T) → Result (List (Row T)) Refusal
 rows_behind choice width (Err r) top left others = Err r
 rows_behind choice width (Ok headers) top left others =
     rows_by (Some headers) (columns_by choice width headers) top left others
 
 -- the rows by headers, which the first row has as its printed texts; no rows have no headers
-abbrev pub named_rows : {T : Type 0} → Choice → (T → Content) → ℕ → ℕ → ℕ → List (List T) → Result (List (Row T)) Refusal
+abbrev pub named_rows : {T : Type 0} → Choice → (T → Content) → ℕ → ℕ → ℕ → List (List T)
+    → Result (List (Row T)) Refusal
 named_rows choice content width top left [] = Ok []
 named_rows choice content width top left (first ∷ others) =
-    rows_behind choice width (all_read (text_in (top, left)) (map content first)) (top + 1) left others
+    rows_behind choice width (all_read (text_in (top, left)) (map content first)) (top + 1) left
+    others
 
 -- whether the columns have no headers
 abbrev pub is_unnamed : Choice → Bool
@@ -52,8 +57,10 @@ is_unnamed unnamed = true
 is_unnamed choice = false
 
 -- the rows that a range is read as, or the refusal
-abbrev pub rows_read : {T : Type 0} → Choice → (T → Content) → Grid T → Result (List (Row T)) Refusal
+abbrev pub rows_read : {T : Type 0} → Choice → (T → Content) → Grid T
+    → Result (List (Row T)) Refusal
 rows_read choice content g =
     if is_unnamed choice
-    then Ok (rows_from None (numbers_from 0 g.width) g.top g.left (rows_of g.height g.width g.cells))
+    then Ok (rows_from None (numbers_from 0 g.width) g.top g.left
+    (rows_of g.height g.width g.cells))
     else named_rows choice content g.width g.top g.left (rows_of g.height g.width g.cells)

@@ -1,5 +1,5 @@
 -- What a cell is read as, by its content and the position of its row.
-use Rattle.std.specs.Prelude.{◌≡◌, ◌==◌, ◌^◌, ℕ, ℤ, pos, List, [], ◌∷◌, codes, Option, Some, None, Result, Ok, Err, Bool, true, false, not, ◌||◌, if◌then◌else◌, encode_utf8_all, nat_eq, unsigned_abs}
+use Rattle.std.specs.Prelude.{◌==◌, ◌^◌, ℕ, ℤ, List, [], ◌∷◌, codes, Option, Some, None, Result, Ok, Err, Bool, true, false, not, ◌||◌, if◌then◌else◌, encode_utf8_all, unsigned_abs}
 use Rattle.std.specs.Str.{bytes_eq}
 use Rattle.xls_data.specs.declared.numbers.Number.{Number}
 use Rattle.xls_data.specs.declared.numbers.Number.TheVariants.{Bits, Whole, Hundredths, BitsOver100}
@@ -33,16 +33,19 @@ is_zero (BitsOver100 bits) = is_zero_double bits
 -- the truth value that a text names
 abbrev pub bool_named : List ℕ → Option Bool
 bool_named bytes =
-    if bytes_eq bytes (codes "TRUE") || bytes_eq bytes (codes "true") || bytes_eq bytes (codes "True") then Some true
-    else if bytes_eq bytes (codes "FALSE") || bytes_eq bytes (codes "false") || bytes_eq bytes (codes "False")
-    then Some false else None
+    if bytes_eq bytes (codes "TRUE") || bytes_eq bytes (codes "true")
+    || bytes_eq bytes (codes "True") then Some true
+    else if bytes_eq bytes (codes "FALSE") || bytes_eq bytes (codes "false")
+    || bytes_eq bytes (codes "False") then Some false
+    else None
 
 -- a text as a truth value
 abbrev pub bool_or : List ℕ → Option Bool → Result Bool Refusal
 bool_or bytes (Some b) = Ok b
 bool_or bytes None = Err (custom (expecting (codes "bool") (quoted bytes)))
 
--- a truth value, its name, whether a number or a date is not zero; empty is false, ISO texts are true
+-- a truth value, its name, whether a number or a date is not zero; empty is false, ISO texts are
+-- true
 abbrev pub bool_in : ℕ × ℕ → Content → Result Bool Refusal
 bool_in place (truth b) = Ok b
 bool_in place (text cs) = bool_or (encode_utf8_all cs) (bool_named (encode_utf8_all cs))

@@ -1,7 +1,6 @@
 -- A row as it is read: its exposed cells, in the order of the indexes, and its position.
-use Rattle.std.specs.Prelude.{◌≡◌, ◌<◌, ℕ, List, [], ◌∷◌, ◌++◌, map, length, drop, Option, Some, None, Result, Ok, Err, OnOk, OnErr, Bool, is_some, if◌then◌else◌, All, IfSome, slice_get}
+use Rattle.std.specs.Prelude.{◌≡◌, ◌<◌, ℕ, List, [], ◌∷◌, map, length, drop, Option, Some, None, Result, Ok, Err, OnOk, OnErr, Bool, is_some, if◌then◌else◌, All, IfSome, slice_get}
 use Rattle.std.specs.Borrow.{Bor}
-use Rattle.std.specs.Option.{option_map}
 use Rattle.xls_data.specs.Content.{Content}
 use Rattle.xls_rows.specs.declared.error.DeError.{DeError}
 use Rattle.xls_rows.specs.declared.error.DeError.TheVariants.{UnexpectedEndOfRow}
@@ -27,7 +26,8 @@ header_at None i = None
 header_at (Some headers) i = slice_get headers i
 
 -- the cell of a column before the cells that follow
-abbrev pub expose : {T : Type 0} → ℕ → Option (List ℕ) → Option T → List (Exposed T) → List (Exposed T)
+abbrev pub expose : {T : Type 0} → ℕ → Option (List ℕ) → Option T → List (Exposed T)
+    → List (Exposed T)
 expose i header None rest = rest
 expose i header (Some x) rest = record { column = i; header = header; value = x } ∷ rest
 
@@ -90,20 +90,13 @@ abbrev pub ok_copied : {T E : Type 0} → Result (Bor T) E → Result T E
 ok_copied (Ok x) = Ok x.now
 ok_copied (Err e) = Err e
 
--- the row of the contents of its cells
-abbrev pub with_content : {T : Type 0} → (T → Content) → Exposed T → Exposed Content
-with_content content e = record { column = e.column; header = e.header; value = content e.value }
-
-abbrev pub contents : {T : Type 0} → (T → Content) → Row T → Row Content
-contents content row = record {
-  exposed = map (with_content content) row.exposed;
-  kept = option_map content row.kept;
-  named = row.named;
-  place = row.place;
-}
+-- the contents of exposed cells
+abbrev pub contents_of : {T : Type 0} → (T → Content) → List (Exposed T) → List Content
+contents_of content exposed = map (λ e. content e.value) exposed
 
 -- the answer of one cell before those of the others: the first refusal counts
-abbrev pub and_then_others : {A : Type 0} → Result A Refusal → Result (List A) Refusal → Result (List A) Refusal
+abbrev pub and_then_others : {A : Type 0} → Result A Refusal → Result (List A) Refusal
+    → Result (List A) Refusal
 and_then_others (Err r) others = Err r
 and_then_others (Ok x) (Err r) = Err r
 and_then_others (Ok x) (Ok xs) = Ok (x ∷ xs)
@@ -115,8 +108,9 @@ all_read read (c ∷ cs) = and_then_others (read c) (all_read read cs)
 
 -- the answer is that of all exposed cells, or the first refusal; after an answer nothing is left,
 -- after a refusal the row is as it was
-pub record ReadsRow {A B : Type 0} (view : A → List B) (read : ℕ × ℕ → Content → Result B Refusal)
-    (old : Row Content) (result : Result A DeError) (new : Row Content) : Type 0 where
-  pub gives : Gives view result (all_read (read old.place) (map (λ e. e.value) old.exposed))
+pub record ReadsRow {T A B : Type 0} (view : A → List B)
+    (read : ℕ × ℕ → Content → Result B Refusal) (content : T → Content)
+    (old : Row T) (result : Result A DeError) (new : Row T) : Type 0 where
+  pub gives : Gives view result (all_read (read old.place) (contents_of content old.exposed))
   pub ok : OnOk result (new ≡ record old { exposed = [] })
   pub err : OnErr result (new ≡ old)

@@ -1,7 +1,7 @@
 -- Cells read as a whole number of a type, by the type's name, least and greatest number.
-use Rattle.std.specs.Prelude.{◌≡◌, ℕ, ◌-◌, ◌^◌, List, codes, Option, Some, None, SomeIff, Result, Ok, Err, ℤ, pos, neg_ℤ, ◌≤ℤ◌, int_lt, if◌then◌else◌, encode_utf8_all}
+use Rattle.std.specs.Prelude.{◌≡◌, ℕ, ◌-◌, ◌^◌, List, Option, Some, None, SomeIff, Result, Ok, Err, ℤ, pos, neg_ℤ, ◌≤ℤ◌, int_lt, if◌then◌else◌, encode_utf8_all}
 use Rattle.std.specs.Str.Parse.{IsNumeral, without_leading_sign, without_leading_plus, signed_digits_value, digits_value}
-use Rattle.xls_data.specs.Content.{Content, int, float, text, truth, date, iso_date, iso_duration, failure, nothing}
+use Rattle.xls_data.specs.Content.{Content, int, float, text, failure}
 use Rattle.xls_data.specs.Numbers.{number_trunc_checked}
 use Rattle.xls_rows.specs.declared.error.DeError.{DeError}
 use Rattle.xls_rows.specs.Refusals.{Refusal, cell_error, custom, Gives}
@@ -14,7 +14,8 @@ IsBetween low high n = (low ≤ℤ n) × (n ≤ℤ high)
 -- decimal digits behind an optional plus, or behind a minus where the type has negative numbers
 abbrev pub IsSpelled : ℤ → List ℕ → Type 0
 IsSpelled low bytes =
-    IsNumeral 10 (if int_lt low (pos 0) then without_leading_sign bytes else without_leading_plus bytes)
+    IsNumeral 10
+    (if int_lt low (pos 0) then without_leading_sign bytes else without_leading_plus bytes)
 
 -- the number that they write
 abbrev pub spelled : ℤ → List ℕ → ℤ
@@ -63,4 +64,5 @@ ReadsUnsigned name bits c place result =
 
 abbrev pub ReadsSigned : List ℕ → ℕ → Content → ℕ × ℕ → Result ℤ DeError → Type 0
 ReadsSigned name bits c place result =
-    ReadsWhole (λ n. n) name (neg_ℤ (pos (2 ^ (bits - 1)))) (pos (2 ^ (bits - 1) - 1)) c place result
+    ReadsWhole (λ n. n) name (neg_ℤ (pos (2 ^ (bits - 1)))) (pos (2 ^ (bits - 1) - 1)) c place
+    result

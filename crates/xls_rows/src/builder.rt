@@ -7,13 +7,13 @@ ghost use Rattle.xls_rows.specs.Columns.{numbers_from};
 ghost use Rattle.xls_rows.specs.Readers.{text_in};
 ghost use Rattle.xls_rows.specs.Refusals.{Gives};
 ghost use Rattle.xls_rows.specs.Rows.{all_read};
-ghost use Rattle.xls_rows.specs.Ranges.{choice_of, is_unnamed, columns_by, rows_from, rows_behind, rows_read};
+ghost use Rattle.xls_rows.specs.Ranges.{choice_of, is_unnamed, columns_by};
+ghost use Rattle.xls_rows.specs.Ranges.{rows_from, rows_behind, rows_read};
 
 use crate::columns::{all_columns, columns_with, texts_of};
 use crate::range_rows::RangeDeserializer;
 use crate::{DeError, FromRow, ReadCell};
 use std::alloc::Global;
-use std::marker::Model;
 use xls_data::CellType;
 use xls_range::{Range, Rows};
 
@@ -28,32 +28,23 @@ pub enum Headers<'h> {
     Custom(&'h [String]),
 }
 
-/// Makes the iterator over the rows of a range. Contracts see the choice of the headers.
-#[derive(Debug, Drop)]
+/// Makes the iterator over the rows of a range. Contracts see what it chose.
+#[derive(Clone, Copy, Debug)]
 pub struct RangeDeserializerBuilder<'h> {
     headers: Headers<'h>,
-}
-
-impl<'h> Model for RangeDeserializerBuilder<'h> {
-    ghost use Rattle.xls_rows.specs.Choices.{Choice};
-
-    ghost Value = { Choice };
-
-    ghost use Rattle.xls_rows.specs.Ranges.{choice_of};
-
-    ghost view = { λ b. choice_of b.headers };
 }
 
 impl<'h> RangeDeserializerBuilder<'h> {
     ghost use Rattle.std.specs.Prelude.{◌≡◌, map, if◌then◌else◌};
     ghost use Rattle.std.specs.String.{string_bytes};
-    ghost use Rattle.xls_rows.specs.Choices.{Choice, unnamed, every, wanted};
+    ghost use Rattle.xls_rows.specs.Choices.{unnamed, every, wanted};
+    ghost use Rattle.xls_rows.specs.Chosen.{chosen};
     ghost use Rattle.xls_rows.specs.Refusals.{Gives};
     ghost use Rattle.xls_rows.specs.Ranges.{rows_read};
 
     /// A builder with all headers of the first row.
     pub fn new() -> Self
-        ensures { result ≡ every }
+        ensures { chosen result ≡ every }
     {
         RangeDeserializerBuilder {
             headers: Headers::All,
@@ -62,7 +53,8 @@ impl<'h> RangeDeserializerBuilder<'h> {
 
     /// Whether the first row is one of headers, of which all are read.
     pub fn has_headers(&mut self, yes: bool) -> &mut Self
-        ensures { result.now ≡ (if yes then every else unnamed) }
+        ensures same { result.ghost_name ≡ self.entry.ghost_name }
+        ensures value { chosen result.now ≡ (if yes then every else unnamed) }
     {
         self.headers = if yes { Headers::All } else { Headers::None };
         self
@@ -70,7 +62,7 @@ impl<'h> RangeDeserializerBuilder<'h> {
 
     /// A builder with these headers.
     pub fn with_headers(headers: &'h [String]) -> Self
-        ensures { result ≡ wanted (map string_bytes headers.now) }
+        ensures { chosen result ≡ wanted (map string_bytes headers.now) }
     {
         RangeDeserializerBuilder {
             headers: Headers::Custom(headers),
@@ -78,14 +70,14 @@ impl<'h> RangeDeserializerBuilder<'h> {
     }
 
     /// The rows of a range. `CellError` at the range's start for the first error cell of a row of
-    /// headers; `HeaderNotFound` for the first wanted header, trimmed, that is in no column. An empty
-    /// range gives no rows.
+    /// headers; `HeaderNotFound` for the first wanted header, trimmed, that is in no column. An
+    /// empty range gives no rows.
     pub fn from_range<'c, T: ReadCell, D: FromRow>(
         &self,
         alloc: Global,
         range: &'c Range<T>,
     ) -> Result<RangeDeserializer<'c, T, D>, DeError>
-        ensures { Gives (λ rows. rows) result (rows_read self.now T.content range.now) }
+        ensures { Gives (λ rows. rows) result (rows_read (chosen self.now) T.content range.now) }
     {
         let (top, left) = first_position(range);
         let width = range.width();
@@ -97,6 +89,19 @@ impl<'h> RangeDeserializerBuilder<'h> {
             None => Ok(RangeDeserializer::new(Vec::new(alloc), None, rows, 0, 0)),
             Some(first) => named_rows(alloc, self.headers, first, rows, width, (top, left)),
         }
+    }
+}
+
+impl<'h> Default for RangeDeserializerBuilder<'h> {
+    ghost use Rattle.std.specs.Prelude.{◌≡◌};
+    ghost use Rattle.xls_rows.specs.Choices.{every};
+    ghost use Rattle.xls_rows.specs.Chosen.{chosen};
+
+    ghost is_default = { λ builder. chosen builder ≡ every };
+
+    /// A builder with all headers of the first row.
+    fn default() -> Self {
+        RangeDeserializerBuilder::new()
     }
 }
 

@@ -5,7 +5,7 @@ ghost use Rattle.std.specs.String.{string_bytes};
 ghost use Rattle.xls_data.specs.Content.{Content};
 ghost use Rattle.xls_data.specs.Data.{content_of};
 ghost use Rattle.xls_rows.specs.Readers.{data_in, text_in};
-ghost use Rattle.xls_rows.specs.Rows.{Row, contents, ReadsRow};
+ghost use Rattle.xls_rows.specs.Rows.{Row, ReadsRow};
 ghost use Rattle.xls_rows.specs.declared.error.DeError.{DeError};
 
 use crate::row::RowDeserializer;
@@ -15,19 +15,21 @@ use xls_data::Data;
 
 /// A value that is read from a row.
 pub trait FromRow: Sized {
-    /// How the content of the row, the answer and the content of the row afterwards belong together.
-    ghost answers: { Row Content → Result Self DeError → Row Content → Type 0 };
+    /// How a row, whose cells have these contents, the answer and the row afterwards belong
+    /// together.
+    ghost answers: { (T : Type 0) → (T → Content) → Row T → Result Self DeError → Row T → Type 0 };
 
     /// The value of a row.
     fn from_row<T: ReadCell>(
         alloc: Global,
         row: &mut RowDeserializer<'_, '_, T>,
     ) -> Result<Self, DeError>
-        ensures { answers (contents T.content row.old) result (contents T.content row.new) };
+        ensures { answers T T.content row.old result row.new };
 }
 
 impl FromRow for Vec<Data> {
-    ghost answers = { λ old result new. ReadsRow (λ v. map content_of v.items) data_in old result new };
+    ghost answers = { λ T content old result new.
+        ReadsRow (λ v. map content_of v.items) data_in content old result new };
 
     fn from_row<T: ReadCell>(
         alloc: Global,
@@ -52,7 +54,8 @@ impl FromRow for Vec<Data> {
 }
 
 impl FromRow for Vec<String> {
-    ghost answers = { λ old result new. ReadsRow (λ v. map string_bytes v.items) text_in old result new };
+    ghost answers = { λ T content old result new.
+        ReadsRow (λ v. map string_bytes v.items) text_in content old result new };
 
     fn from_row<T: ReadCell>(
         alloc: Global,

@@ -7,8 +7,8 @@ use crate::{DeError, ReadCell};
 use std::alloc::{AllocError, Global};
 use xls_data::DataType;
 
-/// The whole number that a cell is taken for: a whole number, a number or date cut toward zero, 0 or
-/// 1 for a truth value, or the whole number that a text is read as. None for every other cell.
+/// The whole number that a cell is taken for: a whole number, a number or date cut toward zero, 0
+/// or 1 for a truth value, or the whole number that a text is read as. None for every other cell.
 pub fn deserialize_as_i64_or_none<T: ReadCell>(
     alloc: Global,
     cell: &T,

@@ -13,7 +13,7 @@ use xls_range::Rows;
 
 /// Goes over the rows of a range, and answers for each what it is read as, or why it is not. After
 /// an error it goes on with the next row. Contracts see the rows that are left.
-#[derive(Drop)]
+#[derive(Debug, Drop)]
 pub struct RangeDeserializer<'c, T, D> {
     column_indexes: Vec<usize>,
     headers: Option<Vec<String>>,
@@ -31,7 +31,8 @@ impl<'c, T, D> Model for RangeDeserializer<'c, T, D> {
 
     ghost Value = { List (Row T) };
 
-    ghost view = { λ r. rows_from (owned_texts r.headers) r.column_indexes.items r.row r.left r.rows };
+    ghost view = { λ r.
+        rows_from (owned_texts r.headers) r.column_indexes.items r.row r.left r.rows };
 
     ghost invariant = { λ r.
         All (λ cells. AreWithin (owned_texts r.headers) cells r.column_indexes.items) r.rows
@@ -51,7 +52,8 @@ impl<'c, T, D> RangeDeserializer<'c, T, D> {
         row: usize,
         left: u32,
     ) -> RangeDeserializer<'c, T, D>
-        requires within { All (λ cells. AreWithin (owned_texts headers) cells column_indexes.items) rows }
+        requires within { All
+            (λ cells. AreWithin (owned_texts headers) cells column_indexes.items) rows }
         requires count { row + length rows ≤ 2 ^ 32 }
         ensures { result
             ≡ rows_from (owned_texts headers) column_indexes.items row left rows.entry }
@@ -70,7 +72,8 @@ impl<'c, T, D> RangeDeserializer<'c, T, D> {
 impl<'c, T: ReadCell, D: FromRow> Iterator for RangeDeserializer<'c, T, D> {
     type Item = Result<D, DeError>;
 
-    ghost next_gives = { λ rows answer rest. AnswersFirst T.content D.answers rows answer rest };
+    ghost next_gives = { λ rows answer rest.
+        AnswersFirst (D.answers T T.content) rows answer rest };
 
     ghost remaining = { item_count (λ rows. rows) };
 

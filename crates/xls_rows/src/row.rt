@@ -11,8 +11,8 @@ use crate::{DeError, ReadCell};
 use std::marker::Model;
 
 /// A row of cells that is read from the front. It exposes the cells of some columns, in the order
-/// of their indexes, and may know a header for each column. Contracts see the exposed cells that are
-/// left, the cell that is kept for its value, and the position.
+/// of their indexes, and may know a header for each column. Contracts see the exposed cells that
+/// are left, the cell that is kept for its value, and the position.
 #[derive(Debug, Drop)]
 pub struct RowDeserializer<'h, 'c, T> {
     column_indexes: &'h [usize],
@@ -45,7 +45,8 @@ impl<'h, 'c, T> RowDeserializer<'h, 'c, T> {
     ghost use Rattle.std.specs.Prelude.{◌≡◌, IsTrue, None, []};
     ghost use Rattle.std.specs.Option.{option_copied};
     ghost use Rattle.xls_rows.specs.HeaderTexts.{header_texts};
-    ghost use Rattle.xls_rows.specs.Rows.{row_of, AreWithin, first_value, after_cell, kept_or_end, ok_copied};
+    ghost use Rattle.xls_rows.specs.Rows.{row_of, AreWithin, first_value, after_cell};
+    ghost use Rattle.xls_rows.specs.Rows.{kept_or_end, ok_copied};
 
     /// The row of some cells. Each index is below the number of cells and, with headers, below
     /// theirs. The position is the row's number and the range's first column.

@@ -1,6 +1,7 @@
 use Rattle.std.proofs.Common.{◌≡◌, ◌∷◌, ◌∙◌, sym, false, length}
 use Rattle.xls_range.specs.Lists.{rows_of}
 use Rattle.xls_rows.specs.Ranges.{is_unnamed}
+use Rattle.xls_rows.specs.Chosen.{chosen}
 use Rattle.xls_rows.proofs.ColumnLemmas.{rows_wide}
 use Rattle.xls_rows.proofs.RangeLemmas.{all_behind, named_read}
 use Rattle.xls_rows.proofs.builder.RangeDeserializerBuilder.from_range.Goals as goal
@@ -17,8 +18,8 @@ named_rows-requires-clause-wide g c =
 
 pub returns-in-Some : goal.returns-in-Some
 returns-in-Some g c =
-    let named : is_unnamed c.args.self.now ≡ false = rw (← c.self.view_is, ← c.has_no_names.ensures) c.if-has_no_names.false in
+    let named : is_unnamed (chosen c.args.self.now) ≡ false = rw (← c.has_no_names.ensures) c.if-has_no_names.false in
     let rows : rows_of c.args.range.now.height c.args.range.now.width c.args.range.now.cells ≡ c.in-Some.first.now ∷ c.next.new.self =
     sym c.rows-rows.ensures.items ∙ c.in-Some.ensures.steps in
-    rw (named_read c.args.self.now g.T.ReadCell.content c.args.range.now c.in-Some.first.now c.next.new.self named rows)
-    (rw (c.self.view_is, c.width-width.ensures, c.first_position-top.ensures) at c.named_rows.ensures)
+    rw (named_read (chosen c.args.self.now) g.T.ReadCell.content c.args.range.now c.in-Some.first.now c.next.new.self named rows)
+    (rw (c.width-width.ensures, c.first_position-top.ensures) at c.named_rows.ensures)

@@ -1,8 +1,8 @@
 use Rattle.std.proofs.Common.{◌≡◌, length, map}
 use Rattle.std.specs.String.{string_bytes}
 use Rattle.xls_rows.specs.Readers.{text_in}
-use Rattle.xls_rows.specs.Rows.{all_read}
-use Rattle.xls_rows.proofs.ReadLemmas.{behind, contents_of}
+use Rattle.xls_rows.specs.Rows.{all_read, contents_of}
+use Rattle.xls_rows.proofs.ReadLemmas.{behind}
 use Rattle.xls_rows.proofs.from_row.VecStringFromRow.from_row.Given as goal
 
 abbrev pub invariant-loop-cell : goal.invariant-loop-cell

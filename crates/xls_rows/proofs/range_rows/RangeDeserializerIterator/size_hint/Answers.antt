@@ -1,4 +1,3 @@
-use Rattle.std.proofs.Common.{◌≡◌, length}
 use Rattle.xls_rows.specs.HeaderTexts.{owned_texts}
 use Rattle.xls_rows.proofs.RangeLemmas.{rows_from_count}
 use Rattle.xls_rows.proofs.range_rows.RangeDeserializerIterator.size_hint.Goals as goal
