@@ -1,17 +1,13 @@
 -- The records of the globals, one line of the record table for each type.
-use Rattle.std.specs.Prelude.{ℕ, ◌+◌, ◌-◌, ◌*◌, ◌/◌, ◌%◌, min, ℤ, [], true, false, List, Bool, ◌||◌, ◌&&◌, ◌==◌, if◌then◌else◌, nat_lt, length, take, drop, slice_index, Option, Some, None, Result, Ok, Err}
+use Rattle.std.specs.Prelude.{ℕ, ◌+◌, ◌-◌, ◌*◌, ◌/◌, min, ℤ, [], true, false, List, Bool, ◌||◌, ◌==◌, if◌then◌else◌, nat_lt, length, take, drop, Option, Some, None, Result, Ok, Err}
 use Rattle.std.specs.List.{filter}
 use Rattle.xls_bytes.specs.Numbers.{le, twos_complement}
 use Rattle.xls_model.specs.declared.part.Part.TheVariants as parts
-use Rattle.xls_model.specs.declared.types.TheConstants.{BOUND_SHEET_8}
-use Rattle.xls_data.specs.Sheets.{SheetContent}
-use Rattle.xls_data.specs.declared.sheets.SheetType.TheVariants.{WorkSheet}
-use Rattle.xls_data.specs.declared.sheets.SheetVisible.TheVariants.{Visible}
 use Rattle.xls_biff.specs.declared.globals.Biff.{Biff}
 use Rattle.xls_biff.specs.declared.globals.Biff.TheVariants.{Biff2, Biff3, Biff4, Biff5, Biff8}
 use Rattle.xls_biff.specs.declared.globals.Bof.{Bof}
 use Rattle.xls_biff.specs.declared.error.XlsError.{XlsError}
-use Rattle.xls_biff.specs.declared.error.XlsError.TheVariants.{Len, NotBuilt}
+use Rattle.xls_biff.specs.declared.error.XlsError.TheVariants.{Len}
 use Rattle.xls_biff.specs.Reading.{listed}
 
 -- ---- BOF ([MS-XLS] 2.4.21); the versions before BIFF8 are this project's rule
@@ -40,34 +36,11 @@ bof_at body =
     if nat_lt (length body) 2 then Err (Len 2 (length body) parts.Bof)
     else Ok (record { biff = biff_of (le (take 2 body)) (second_number body) })
 
--- ---- BoundSheet8 ([MS-XLS] 2.4.28): so far a visible worksheet whose name has one byte a character
+-- ---- names of sheets ([MS-XLS] 2.4.28)
 
 -- the characters of a name, without NULs
 abbrev pub without_nuls : List ℕ → List ℕ
 without_nuls cs = filter (λ c. nat_lt 0 c) cs
-
--- ShortXLUnicodeString ([MS-XLS] 2.5.240) of narrow units: a count, a flags byte, and at most so
--- many bytes, each a character
-abbrev pub narrow_string_at : List ℕ → Result (List ℕ) XlsError
-narrow_string_at bytes =
-    if nat_lt (length bytes) 2 then Err (Len 2 (length bytes) parts.ShortString)
-    else if slice_index bytes 1 % 2 == 1 then Err (NotBuilt BOUND_SHEET_8)
-    else Ok (take (slice_index bytes 0) (drop 2 bytes))
-
-abbrev pub with_name : Result (List ℕ) XlsError → Result SheetContent XlsError
-with_name (Ok name) = Ok (record { name = without_nuls name; typ = WorkSheet; visible = Visible })
-with_name (Err e) = Err e
-
--- bytes 4 and 5, and the bytes from 6 on
-abbrev pub head_at : ℕ → ℕ → List ℕ → Result SheetContent XlsError
-head_at state kind name =
-    if state % 64 == 0 && kind == 0 then with_name (narrow_string_at name)
-    else Err (NotBuilt BOUND_SHEET_8)
-
-abbrev pub sheet_at : List ℕ → Result SheetContent XlsError
-sheet_at body =
-    if nat_lt (length body) 6 then Err (Len 6 (length body) parts.BoundSheet)
-    else head_at (slice_index body 4) (slice_index body 5) (drop 6 body)
 
 -- ---- versions
 

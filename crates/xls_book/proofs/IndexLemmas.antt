@@ -1,5 +1,5 @@
 -- The last of a name or of an identifier among the first so many, and the contents by name.
-use Rattle.std.proofs.Common.{◌≡◌, ℕ, zero, suc, ◌+◌, ◌-◌, ◌<◌, ◌≤◌, List, [], ◌∷◌, ◌++◌, length, map, take, get_or, refl, sym, ap, subst, ◌∙◌, arith, Bool, true, false, cond, Option, Some, None, Ok, Err, Result}
+use Rattle.std.proofs.Common.{◌≡◌, ℕ, zero, suc, ◌+◌, ◌<◌, ◌≤◌, List, [], ◌∷◌, ◌++◌, length, map, take, get_or, refl, sym, ap, subst, ◌∙◌, arith, Bool, true, false, cond, Option, Some, None, Err}
 use Rattle.std.specs.Prelude.{◌==◌, ◌||◌, if◌then◌else◌, is_some, unwrap_or, slice_get, nat_lt, IfSome}
 use Rattle.std.specs.Option.{option_or, option_map, option_copied}
 use Rattle.std.specs.Borrow.{Bor}
@@ -167,7 +167,7 @@ module _ (options : XlsOptions) (s : Setting) (stream : List ℕ) where
 -- ---- the content of a name
 
 -- what stands at a place
-abbrev at_place : {X : Type 0} → Option ℕ → List X → Option X
+abbrev pub at_place : {X : Type 0} → Option ℕ → List X → Option X
 at_place None xs = None
 at_place (Some i) xs = slice_get xs i
 
@@ -177,7 +177,7 @@ within_step None true n h i e = let z : 0 ≡ i = cc in omega arith
 within_step None false n h i e = absurd cc
 within_step (Some j) b n h i e = let z : suc j ≡ i = cc in let l = h j refl in omega arith
 
-place_within : (ts : List Sheet) (name : List ℕ) (i : ℕ) → last_place ts name ≡ Some i → i < length ts
+pub place_within : (ts : List Sheet) (name : List ℕ) (i : ℕ) → last_place ts name ≡ Some i → i < length ts
 place_within [] name i e = absurd cc
 place_within (t ∷ ts) name i e =
     within_step (last_place ts name) (bytes_eq (string_bytes t.name) name) (length ts) (λ j f. place_within ts name j f) i e

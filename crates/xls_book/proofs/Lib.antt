@@ -8,3 +8,5 @@ pub mod NameLemmas
 pub mod OpenLemmas
 pub mod OrderLemmas
 pub mod PartLemmas
+pub mod RegionLemmas
+pub mod WorksheetLemmas

@@ -1,6 +1,6 @@
 -- What is in force at an entry of the list, and what all of the list gives: each by the last entry
 -- that says it.
-use Rattle.std.specs.Prelude.{ℕ, List, [], ◌∷◌, Bool, false, ◌||◌, ◌==◌, if◌then◌else◌, nat_lt, length, take, drop, map, Option, Some, None, unwrap_or}
+use Rattle.std.specs.Prelude.{ℕ, List, [], ◌∷◌, Bool, false, ◌||◌, ◌==◌, if◌then◌else◌, take, map, Option, Some, None, unwrap_or}
 use Rattle.std.specs.Result.{result_ok}
 use Rattle.std.specs.Option.{option_or, option_map}
 use Rattle.std.specs.Char.Utf16.{utf16_lossy_chars}

@@ -1,8 +1,13 @@
 -- What the look-ups of a workbook answer.
-use Rattle.std.specs.Prelude.{◌≡◌, ℕ, ◌<◌, ◌≤◌, List, [], ◌∷◌, ◌++◌, codes, map, Bool, Option, Some, None, Result, Ok, Err, Vec}
+use Rattle.std.specs.Prelude.{◌≡◌, ◌⊎◌, ℕ, String, ◌<◌, ◌≤◌, List, [], ◌∷◌, ◌++◌, codes, map, Bool, Option, Some, None, Vec}
 use Rattle.std.specs.List.{AllByRecursion}
 use Rattle.std.specs.Fmt.{decimal}
 use Rattle.std.specs.String.{string_bytes}
+use Rattle.std.specs.Str.{chars}
+use Rattle.std.specs.Global.{Global}
+use Rattle.std.specs.Ordering.{nat_cmp}
+use Rattle.std.specs.Cmp.Lexicographic.{slice_cmp}
+use Rattle.std.specs.List.Sorted.{IsStrictlySortedBy}
 use Rattle.xls_data.specs.Sheets.{SheetContent}
 use Rattle.xls_data.specs.declared.regions.Dimensions.{Dimensions}
 use Rattle.xls_data.specs.declared.regions.HeaderRow.{HeaderRow}
@@ -58,6 +63,28 @@ IsUnder eq blank (Row row) box range = IsCut eq blank row box range
 abbrev pub IsRange : Equal → Blank → HeaderRow → List Entry → Grid Data → Type 0
 IsRange eq blank header entries range =
     (box : Grid Data) × IsBox eq blank entries box × IsUnder eq blank header box range
+
+-- ---- all ranges
+
+-- this text is among those
+abbrev pub IsListed : List (List ℕ) → List ℕ → Type 0
+IsListed [] text = ⊥
+IsListed (t ∷ ts) text = (t ≡ text) ⊎ IsListed ts text
+
+-- a name and its range
+abbrev pub Worksheet : Type 0
+Worksheet = String Global × Grid Data
+
+-- a range without a header row, of what is shown of its name
+abbrev pub IsWorksheet : Equal → Blank → (List ℕ → Option SheetView) → Worksheet → Type 0
+IsWorksheet eq blank named w =
+    (view : SheetView) × (named (chars (string_bytes w.0)) ≡ Some view) × IsBox eq blank view.cells w.1
+
+-- each of these sheets' names once, in the order of their bytes, with its range
+pub record AreWorksheets (eq : Equal) (blank : Blank) (named : List ℕ → Option SheetView) (sheets : List SheetContent) (list : List Worksheet) : Type 0 where
+  pub ordered : IsStrictlySortedBy (slice_cmp nat_cmp) (map (λ (w : Worksheet). string_bytes w.0) list)
+  pub each : AllByRecursion (IsWorksheet eq blank named) list
+  pub every : AllByRecursion (λ (s : SheetContent). IsListed (map (λ (w : Worksheet). chars (string_bytes w.0)) list) s.name) sheets
 
 -- ---- names
 

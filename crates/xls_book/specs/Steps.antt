@@ -1,10 +1,9 @@
 -- What the parts of opening answer: the globals, one sheet part, and the sheets so far.
-use Rattle.std.specs.Prelude.{◌≡◌, ℕ, suc, String, ◌<◌, List, [], ◌∷◌, ◌++◌, ◌-◌, ◌||◌, ◌==◌, Bool, false, if◌then◌else◌, nat_lt, length, take, map, Option, Some, None, unwrap_or, Result, Ok, Err, Vec}
+use Rattle.std.specs.Prelude.{◌≡◌, ℕ, suc, String, List, [], ◌∷◌, ◌++◌, ◌-◌, ◌||◌, ◌==◌, Bool, false, if◌then◌else◌, nat_lt, length, take, map, Option, Some, None, unwrap_or, Result, Ok, Err, Vec}
 use Rattle.std.specs.Result.{result_ok}
 use Rattle.std.specs.Option.{option_map, option_or}
-use Rattle.std.specs.List.{AllByRecursion}
 use Rattle.std.specs.String.{string_bytes}
-use Rattle.std.specs.Str.{chars, bytes_eq}
+use Rattle.std.specs.Str.{bytes_eq}
 use Rattle.std.specs.BTreeMap.{BTreeMap, get_by_text}
 use Rattle.std.specs.Borrow.{Bor}
 use Rattle.xls_bytes.specs.Numbers.{le}
@@ -21,7 +20,6 @@ use Rattle.xls_data.specs.Sheets.{SheetContent, sheet_content}
 use Rattle.xls_data.specs.declared.sheets.Sheet.{Sheet}
 use Rattle.xls_data.specs.declared.values.Data.{Data}
 use Rattle.xls_data.specs.declared.formats.CellFormat.{CellFormat}
-use Rattle.xls_data.specs.declared.regions.Dimensions.{Dimensions}
 use Rattle.xls_cells.specs.Positions.{Position}
 use Rattle.xls_biff.specs.declared.error.XlsError.{XlsError}
 use Rattle.xls_biff.specs.declared.error.XlsError.TheVariants as errors
@@ -34,8 +32,8 @@ use Rattle.xls_biff.specs.Strings.{bound_sheet_at, format_at}
 use Rattle.xls_biff.specs.Cells.{Entry}
 use Rattle.xls_biff.specs.Cells as cells
 use Rattle.xls_book.specs.Order.{along, first_of, somes}
-use Rattle.xls_book.specs.InForce.{page_in, version_in, is_1904_in, formats_in, identifiers_in, texts_in, Setting, setting_of}
-use Rattle.xls_book.specs.RecordTable.{file_pass_fault, date_mode_fault, Given}
+use Rattle.xls_book.specs.InForce.{page_in, version_in, is_1904_in, formats_in, identifiers_in, texts_in, Setting}
+use Rattle.xls_book.specs.RecordTable.{file_pass_fault, Given}
 use Rattle.xls_book.specs.Reading.{SheetRecords, SheetView, IsContent, last_named, Workbook, IsReading}
 use Rattle.xls_book.specs.Faults.{item_fault, kept_fault, part_places, globals_places, FirstBehind, IsFull}
 use Rattle.xls_book.specs.declared.globals.Listed.{Listed}

@@ -1,6 +1,6 @@
-//! Laws over streams and their faults, each on a function with an empty body.
+//! Laws over streams, their faults and readings, each on a function with an empty body.
 
-ghost use Rattle.xls_book.specs.Laws.{OneFirstFault, SoundWhereFull, SteadyCount};
+ghost use Rattle.xls_book.specs.Laws.{OneFirstFault, RegionsByName, SoundWhereFull, SteadyCount};
 
 /// A stream has at most one first fault.
 pub fn one_first_fault()
@@ -15,4 +15,9 @@ pub fn sound_where_full()
 /// The count of a source that never fails doesn't rise, and doesn't stand at its last value.
 pub fn steady_count()
     ensures { SteadyCount }
+{}
+
+/// The merged regions at an index are those of the last sheet of its name.
+pub fn regions_by_name()
+    ensures { RegionsByName }
 {}

@@ -23,3 +23,6 @@ pub use reading::{StreamBytes, read_all};
 pub use source::{ReadFault, Source, StdSource};
 pub use values::Values;
 pub use xls::{Metadata, Xls};
+
+#[cfg(test)]
+mod tests;

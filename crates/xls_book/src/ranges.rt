@@ -1,12 +1,18 @@
 //! The ranges of a sheet.
 
-ghost use Rattle.std.specs.Prelude.{◌≡◌, map, IfOk, IfErr};
+ghost use Rattle.std.specs.Prelude.{◌≡◌, ◌++◌, ◌∷◌, [], map, length, IfOk, OnOk};
+ghost use Rattle.std.specs.List.{AllByRecursion};
+ghost use Rattle.std.specs.String.{string_bytes};
+ghost use Rattle.xls_data.specs.Sheets.{sheet_content};
 ghost use Rattle.xls_data.specs.Data.{is_nothing};
-ghost use Rattle.xls_book.specs.LookUps.{IsBox, IsCut, IsOrdered, IsRange};
+ghost use Rattle.xls_book.specs.LookUps.{AreWorksheets, IsBox, IsCut, IsOrdered, IsRange, Worksheet};
+ghost use Rattle.xls_book.specs.Reading.{last_named};
+ghost use Rattle.xls_book.specs.Steps.{IsIndex, paired};
 
 use crate::part::Content;
 use std::alloc::{AllocError, Global};
-use xls_data::{Data, HeaderRow};
+use std::collections::BTreeMap;
+use xls_data::{Data, HeaderRow, Sheet};
 use xls_range::Range;
 
 /// The smallest box with a sheet's cells, and blanks elsewhere. A box of 2^64 cells or more doesn't fit
@@ -44,4 +50,43 @@ pub(crate) fn range_of(
         HeaderRow::FirstNonEmptyRow => Ok(whole),
         HeaderRow::Row(row) => cut(alloc, &whole, row),
     }
+}
+
+/// Puts a name and the box of a sheet's cells at the end.
+fn push_worksheet(
+    alloc: Global,
+    list: &mut Vec<(String, Range<Data>)>,
+    name: &str,
+    content: &Content,
+) -> Result<(), AllocError>
+    requires { IsOrdered content.now }
+    ensures { OnOk result ((w : Worksheet) × (list.new.items ≡ list.old.items ++ w ∷ [])
+        × (string_bytes w.0 ≡ name.now) × IsBox ⟦<Data as PartialEq>⟧.eq is_nothing content.now.cells w.1) }
+{
+    let range = box_of(alloc, content)?;
+    let name = String::from_str(alloc, name)?;
+    list.push((name, range))?;
+    Ok(())
+}
+
+/// Each name of these sheets once, in byte order, with the box of the cells of its last sheet.
+pub(crate) fn list_worksheets(
+    alloc: Global,
+    sheets: &[Sheet],
+    contents: &[Content],
+    index: &BTreeMap<String, usize>,
+) -> Result<Vec<(String, Range<Data>)>, AllocError>
+    requires index { IsIndex index.now sheets.now }
+    requires each { length contents.now ≡ length sheets.now }
+    requires ordered { AllByRecursion IsOrdered contents.now }
+    ensures { IfOk result (λ list. AreWorksheets ⟦<Data as PartialEq>⟧.eq is_nothing
+        (last_named (paired (map sheet_content sheets.now) contents.now)) (map sheet_content sheets.now) list.items) }
+{
+    let mut list = Vec::new(alloc);
+    for (name, place) in index.iter() {
+        if let Some(content) = contents.get(*place) {
+            push_worksheet(alloc, &mut list, name.as_str(), content)?;
+        }
+    }
+    Ok(list)
 }

@@ -9,7 +9,7 @@ ghost use Rattle.xls_data.specs.declared.regions.HeaderRow.TheVariants.{FirstNon
 ghost use Rattle.xls_biff.specs.Texts.{text_of};
 ghost use Rattle.xls_book.specs.Reading.{SheetView, Workbook};
 ghost use Rattle.xls_book.specs.Steps.{view_named};
-ghost use Rattle.xls_book.specs.LookUps.{IsRange, NameCause, names_in, under_header};
+ghost use Rattle.xls_book.specs.LookUps.{AreWorksheets, IsRange, NameCause, names_in, under_header};
 ghost use Rattle.xls_book.specs.Opening.{Opens, default_options};
 
 use crate::options::XlsOptions;
@@ -60,7 +60,13 @@ pub trait Reader: Sized {
         ensures { IfOk result (λ range. IfSome (view_named (shows self.now) (chars name.now)) (λ view.
             IsRange ⟦<Data as PartialEq>⟧.eq is_nothing (shows self.now).options.header_row view.cells range)) };
 
-    /// The same of the name of the sheet at an index. `None` exactly where no sheet has the index.
+    /// Each name once, in the order of its bytes, with the smallest box of the cells of its last sheet;
+    /// the header row is ignored.
+    fn worksheets(&self, alloc: Global) -> Result<Vec<(String, Range<Data>)>, Self::Error>
+        ensures { IfOk result (λ list.
+            AreWorksheets ⟦<Data as PartialEq>⟧.eq is_nothing (view_named (shows self.now)) (shows self.now).sheets list.items) };
+
+    /// The range of the name of the sheet at an index. `None` exactly where no sheet has the index.
     fn worksheet_range_at(
         &self,
         alloc: Global,
@@ -132,6 +138,15 @@ impl Reader for Xls {
             Some(content) => Ok(range_of(alloc, content, self.options().header_row)?),
             None => Err(not_found(alloc, name)),
         }
+    }
+
+    /// Answers `Memory` alone.
+    fn worksheets(&self, alloc: Global) -> Result<Vec<(String, Range<Data>)>, XlsError>
+        ensures ranges { IfOk result (λ list.
+            AreWorksheets ⟦<Data as PartialEq>⟧.eq is_nothing (view_named self.now) self.now.sheets list.items) }
+        ensures refused { IfErr result (λ e. e ≡ XlsError.Memory) }
+    {
+        Ok(self.named_boxes(alloc)?)
     }
 
     /// Never `WorksheetNotFound`.

@@ -4,12 +4,13 @@ ghost use Rattle.std.specs.Prelude.{◌≡◌, ◌+◌, ◌≤◌, ℕ, List, []
 ghost use Rattle.std.specs.Option.{option_copied, option_map};
 ghost use Rattle.std.specs.Io.KnownBytes.{Consumes, IsAtEnd};
 ghost use Rattle.std.specs.Str.{chars};
+ghost use Rattle.xls_data.specs.Data.{is_nothing};
 ghost use Rattle.xls_data.specs.Sheets.{SheetContent, sheet_content};
 ghost use Rattle.xls_book.specs.Opening.{IsOpened, OpenCause, Opens};
 ghost use Rattle.xls_book.specs.Reading.{SheetView};
 ghost use Rattle.xls_book.specs.RecordTable.{forced_fault};
 ghost use Rattle.xls_book.specs.InForce.{page_in};
-ghost use Rattle.xls_book.specs.LookUps.{GivesMerges, IsOrdered, NameCause, out_of_range, under_header};
+ghost use Rattle.xls_book.specs.LookUps.{AreWorksheets, GivesMerges, IsOrdered, NameCause, out_of_range, under_header};
 ghost use Rattle.xls_book.specs.Steps.{OpensStream, ReadsContents, items_of, listed_of, view_named};
 
 use crate::classes::classes_of;
@@ -17,6 +18,7 @@ use crate::globals::{Listed, read_globals};
 use crate::index::{find_named, index_of};
 use crate::options::XlsOptions;
 use crate::part::{Content, InForce, read_sheet};
+use crate::ranges::list_worksheets;
 use crate::reading::read_all;
 use crate::source::Source;
 use crate::values::Values;
@@ -24,7 +26,8 @@ use std::alloc::{AllocError, Global};
 use std::collections::BTreeMap;
 use std::marker::Model;
 use xls_biff::XlsError;
-use xls_data::{CellFormat, Dimensions, HeaderRow, Sheet};
+use xls_data::{CellFormat, Data, Dimensions, HeaderRow, Sheet};
+use xls_range::Range;
 use xls_text::XlsEncoding;
 
 /// What is told of a whole workbook.
@@ -294,6 +297,16 @@ impl Xls {
         ensures { result.now ≡ self.now.options }
     {
         &self.options
+    }
+
+    /// Each name once, in byte order, with the box of the cells of its last sheet.
+    pub(crate) fn named_boxes(
+        &self,
+        alloc: Global,
+    ) -> Result<Vec<(String, Range<Data>)>, AllocError>
+        ensures { IfOk result (λ list. AreWorksheets ⟦<Data as PartialEq>⟧.eq is_nothing (view_named self.now) self.now.sheets list.items) }
+    {
+        list_worksheets(alloc, &self.metadata.sheets, &self.contents, &self.index)
     }
 
     /// The content of the last sheet of a name, if a sheet has it.

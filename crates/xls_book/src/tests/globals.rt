@@ -1,0 +1,143 @@
+use super::*;
+use std::test::*;
+use xls_biff::Part;
+use xls_data::CellFormat;
+use xls_text::CfbError;
+
+#[test]
+fn an_empty_stream_has_no_sheets(rt: HostRuntime) -> Result<(), Fail> {
+    let book = open(rt.alloc(), &[])?;
+    assert!(rt; book.sheets_metadata().is_empty());
+    assert!(rt; book.values_at(0).is_none());
+    Ok(())
+}
+
+// What is wrong with the first so many bytes.
+fn fault_of_front(len: usize) -> Option<XlsError> {
+    match len {
+        0 | 8 | 25 | 33 | 51 | 55 => None,
+        21 => Some(XlsError::EoStream(Part::SheetOffset)),
+        1..=3 | 9..=11 | 22..=24 | 26..=28 | 34..=36 | 52..=54 => {
+            Some(XlsError::EoStream(Part::RecordHeader))
+        }
+        _ => Some(XlsError::EoStream(Part::RecordLength)),
+    }
+}
+
+#[test]
+fn says_where_each_front_is_cut(rt: HostRuntime) {
+    for len in 0..=THREE.len() {
+        let answer = open(rt.alloc(), &THREE[..len]).err();
+        assert_eq!(rt; answer, fault_of_front(len), "the first {len} bytes");
+    }
+}
+
+#[test]
+fn a_password_is_asked_for(rt: HostRuntime) {
+    let alloc = rt.alloc();
+    let asked = refusal(alloc, &[&G, &[0x2F, 0, 2, 0, 1, 0], &E]);
+    assert_eq!(rt; asked, Some(XlsError::Password));
+    assert_eq!(rt; refusal(alloc, &[&G, &[0x2F, 0, 2, 0, 0, 0], &E]), None);
+}
+
+// Page 437, which isn't kept.
+const PAGE_437: [u8; 6] = [0x42, 0, 2, 0, 0xB5, 1];
+
+fn under_page(alloc: Global, page: u16, parts: &[&[u8]]) -> Result<Option<XlsError>, AllocError> {
+    let mut options = XlsOptions::defaults(alloc)?;
+    options.force_codepage = Some(page);
+    let bytes = joined(alloc, parts)?;
+    Ok(open_under(alloc, bytes.as_slice(), options).err())
+}
+
+#[test]
+fn a_page_that_is_not_kept_is_refused_unless_another_is_forced(
+    rt: HostRuntime,
+) -> Result<(), Fail> {
+    let alloc = rt.alloc();
+    let missing = Some(XlsError::Cfb(CfbError::CodePageNotFound(437)));
+    assert_eq!(rt; refusal(alloc, &[&G, &PAGE_437, &E]), missing);
+    assert_eq!(rt; under_page(alloc, 1252, &[&G, &PAGE_437, &E])?, None);
+    assert_eq!(rt;
+        under_page(alloc, 1252, &[&G, &[0x42, 0, 1, 0, 1], &E])?,
+        None
+    );
+    assert_eq!(rt; under_page(alloc, 437, &[&G, &E])?, missing);
+    assert_eq!(rt;
+        refusal(alloc, &[&G, &[0x42, 0, 2, 0, 0xAF, 0x6F], &E]),
+        None
+    );
+    Ok(())
+}
+
+#[test]
+fn one_date_mode_of_1_sets_1904(rt: HostRuntime) -> Result<(), Fail> {
+    let alloc = rt.alloc();
+    let set = [0x22, 0, 2, 0, 1, 0];
+    let unset = [0x22, 0, 2, 0, 0, 0];
+    assert!(rt; !opened(alloc, &[&G, &unset, &E])?.has_1904_epoch());
+    assert!(rt; opened(alloc, &[&G, &set, &unset, &E])?.has_1904_epoch());
+    Ok(())
+}
+
+#[test]
+fn a_format_may_stand_behind_its_xf(rt: HostRuntime) -> Result<(), Fail> {
+    let alloc = rt.alloc();
+    // XF records of the formats 164 and 14, and Format 164, which is `yyyy`.
+    let own = [0xE0, 0, 4, 0, 0, 0, 164, 0];
+    let built_in = [0xE0, 0, 4, 0, 0, 0, 14, 0];
+    let years = [0x1E, 0x04, 9, 0, 164, 0, 4, 0, 0, 0x79, 0x79, 0x79, 0x79];
+    let book = opened(alloc, &[&G, &own, &built_in, &years, &E])?;
+    assert_eq!(rt;
+        book.formats(),
+        [CellFormat::DateTime, CellFormat::DateTime].as_slice()
+    );
+    let plain = opened(alloc, &[&G, &own, &E])?;
+    assert_eq!(rt; plain.formats(), [CellFormat::Other].as_slice());
+    Ok(())
+}
+
+#[test]
+fn the_first_fault_of_the_globals_is_told(rt: HostRuntime) {
+    let alloc = rt.alloc();
+    let short_mode = [0x22, 0, 1, 0, 1];
+    let short_xf = [0xE0, 0, 0, 0];
+    let first = XlsError::Len {
+        expected: 2,
+        found: 1,
+        typ: Part::DateMode,
+    };
+    assert_eq!(rt;
+        refusal(alloc, &[&G, &short_mode, &short_xf, &E]),
+        Some(first)
+    );
+    let second = XlsError::Len {
+        expected: 4,
+        found: 0,
+        typ: Part::Xf,
+    };
+    assert_eq!(rt;
+        refusal(alloc, &[&G, &short_xf, &short_mode, &E]),
+        Some(second)
+    );
+}
+
+#[test]
+fn names_and_formulas_are_not_built(rt: HostRuntime) {
+    let alloc = rt.alloc();
+    let name = refusal(alloc, &[&G, &[0x18, 0, 0, 0], &E]);
+    assert_eq!(rt; name, Some(XlsError::NotBuilt { typ: 0x18 }));
+    let formula = refusal(alloc, &[&G, &bound(25), &E, &S, &[6, 0, 0, 0], &E]);
+    assert_eq!(rt; formula, Some(XlsError::NotBuilt { typ: 6 }));
+}
+
+#[test]
+fn drops_nuls_of_a_name(rt: HostRuntime) -> Result<(), Fail> {
+    let alloc = rt.alloc();
+    // The name is NUL, the byte E9, NUL.
+    let named = [0x85, 0, 11, 0, 27, 0, 0, 0, 0, 0, 3, 0, 0, 0xE9, 0];
+    let book = opened(alloc, &[&G, &named, &E])?;
+    let wanted = [sheet(alloc, "é")?];
+    assert_eq!(rt; book.sheets_metadata(), wanted.as_slice());
+    Ok(())
+}

@@ -1,0 +1,76 @@
+ghost use Rattle.std.specs.Prelude.{None};
+
+use super::*;
+use std::io::Cursor;
+use std::test::*;
+
+/// A source that never ends and tells nothing.
+#[derive(Drop)]
+struct EndlessSource;
+
+impl Source for EndlessSource {
+    ghost left = { λ _. None };
+
+    ghost faults = { λ _. 0 };
+
+    fn read(&mut self, into: &mut [u8]) -> Result<usize, ReadFault> {
+        Ok(into.len())
+    }
+}
+
+fn up_to(alloc: Global, max_bytes: u64) -> Result<XlsOptions, AllocError> {
+    let mut options = XlsOptions::defaults(alloc)?;
+    options.max_bytes = max_bytes;
+    Ok(options)
+}
+
+#[test]
+fn a_stream_of_the_limit_is_opened(rt: HostRuntime) -> Result<(), Fail> {
+    let alloc = rt.alloc();
+    assert!(rt; open_under(alloc, &THREE, up_to(alloc, 55)?).is_ok());
+    let larger = open_under(alloc, &THREE, up_to(alloc, 54)?);
+    assert!(rt; matches!(larger, Err(XlsError::TooLarge { limit: 54 })));
+    Ok(())
+}
+
+#[test]
+fn a_source_without_end_is_too_large(rt: HostRuntime) -> Result<(), Fail> {
+    let mut source = EndlessSource;
+    let options = up_to(rt.alloc(), 100_000)?;
+    let answer = Xls::new_with_options(rt.alloc(), &mut source, options).err();
+    assert_eq!(rt; answer, Some(XlsError::TooLarge { limit: 100_000 }));
+    Ok(())
+}
+
+#[test]
+fn a_failing_read_is_told(rt: HostRuntime) -> Result<(), Fail> {
+    let alloc = rt.alloc();
+    for call in 0..4 {
+        let failing = Vec::from_array(alloc, [call])?;
+        let mut source = MemorySource::new(THREE.to_vec(alloc)?, 16, failing);
+        let answer = read_all(alloc, &mut source, 99).err();
+        assert_eq!(rt; answer, Some(XlsError::Io), "call {call}");
+    }
+    Ok(())
+}
+
+#[test]
+fn reads_all_in_pieces(rt: HostRuntime) -> Result<(), Fail> {
+    let alloc = rt.alloc();
+    for chunk in [1, 2, 3, 7, 64] {
+        let mut source = MemorySource::new(THREE.to_vec(alloc)?, chunk, Vec::new(alloc));
+        let bytes = read_all(alloc, &mut source, 55)?;
+        assert_eq!(rt; bytes.as_slice(), THREE.as_slice());
+    }
+    let kept = StreamBytes::from_vec(THREE.to_vec(alloc)?);
+    assert_eq!(rt; kept.as_slice(), THREE.as_slice());
+    Ok(())
+}
+
+#[test]
+fn passes_on_what_std_reads(rt: HostRuntime) {
+    let mut source = StdSource::new(Cursor::new(THREE.as_slice()));
+    let mut into = [0; 3];
+    assert_eq!(rt; source.read(&mut into), Ok(3));
+    assert_eq!(rt; into, [9, 8, 4]);
+}
