@@ -4,3 +4,4 @@ pub mod OperandLemmas
 pub mod TextLemmas
 pub mod PutLemmas
 pub mod Rendering
+mod StandardFacts

@@ -12,7 +12,8 @@ use Rattle.xls_biff.specs.Texts.{text_of}
 use Rattle.xls_formula.specs.declared.defined.Lbl.{Lbl}
 use Rattle.xls_formula.specs.declared.defined.Place.{Place}
 use Rattle.xls_formula.specs.declared.defined.Place.TheVariants as places
-use Rattle.xls_formula.specs.Tokens.{sized, sized_as, word_at, pinned, no_cch_at, sheet_index_at, sheet_corner_at, sheet_first_at, sheet_last_at, sheet_reference_size, sheet_area_size}
+use Rattle.xls_formula.specs.Corners.{word_at, pinned, sheet_index_at, sheet_corner_at, sheet_first_at, sheet_last_at, sheet_reference_size, sheet_area_size}
+use Rattle.xls_formula.specs.Tokens.{sized, sized_as, no_cch_at}
 use Rattle.xls_formula.specs.Tree.{corner_text, area_text}
 use Rattle.xls_formula.specs.Fold.{and_then}
 

@@ -11,7 +11,8 @@ use Rattle.xls_biff.specs.declared.error.XlsError.TheVariants as errors
 use Rattle.xls_formula.specs.Words.{word_text, operator_text, sign_text, space_mark}
 use Rattle.xls_formula.specs.Functions.{Function}
 use Rattle.xls_formula.specs.Context.{Context, sheet_text, name_text}
-use Rattle.xls_formula.specs.Tokens.{Token, silent, plain, number, double, quoted, defined, cell, cells, lost, binary, sign, percent, parens, summed, spaced, fixed, counted, sized_as, word_at, token_by}
+use Rattle.xls_formula.specs.Corners.{word_at}
+use Rattle.xls_formula.specs.Tokens.{Token, silent, plain, number, double, quoted, defined, cell, cells, lost, binary, sign, percent, parens, summed, spaced, fixed, counted, sized_as, token_by}
 use Rattle.xls_formula.specs.Tree.{Tree, Trees, word, reference, area, wrap, pair, call, no_trees, tree, render}
 
 -- what a token leaves of the operands, the last one first

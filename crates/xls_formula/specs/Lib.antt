@@ -3,6 +3,7 @@ pub mod Names
 pub mod Functions
 pub mod Context
 pub mod Scopes
+pub mod Corners
 pub mod Tokens
 pub mod Tree
 pub mod Fold

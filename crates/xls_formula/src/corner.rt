@@ -1,7 +1,7 @@
 //! A cell that a token names.
 
 ghost use Rattle.std.specs.Prelude.{◌≡◌, ◌+◌, ◌≤◌, length};
-ghost use Rattle.xls_formula.specs.Tokens.{corner_of, early_corner_of, pinned, word_at};
+ghost use Rattle.xls_formula.specs.Corners.{corner_of, early_corner_of, pinned, word_at};
 
 use xls_bytes::read_u16;
 

@@ -6,7 +6,7 @@ ghost use Rattle.xls_biff.specs.Checks.{fault_in};
 ghost use Rattle.xls_biff.specs.Reading.{Exactly, Gives};
 ghost use Rattle.xls_biff.specs.Texts.{text_of};
 ghost use Rattle.xls_formula.specs.Defined.{area_place, cell_place, defined_at, lbl_at, lbl_parts, located_of, lost_place, name_tokens, name_units, named_of, parts_of, place_at, place_by, place_sheet, place_text};
-ghost use Rattle.xls_formula.specs.Tokens.{pinned};
+ghost use Rattle.xls_formula.specs.Corners.{pinned};
 ghost use Rattle.xls_formula.specs.Tree.{area_text, corner_text};
 
 use crate::corner::{Corner, word_at};

@@ -4,6 +4,7 @@ ghost use Rattle.std.specs.Prelude.{◌≡◌, [], ◌∷◌, ◌++◌, length, 
 ghost use Rattle.std.specs.Option.{option_map};
 ghost use Rattle.std.specs.Str.{chars};
 
+use crate::ftab::{FTAB, FTAB_ARGC};
 use std::alloc::{AllocError, Global};
 use std::marker::Model;
 
@@ -32,6 +33,8 @@ impl Model for FunctionTable {
 }
 
 impl FunctionTable {
+    ghost use Rattle.xls_formula.specs.Functions.{paired, shipped};
+
     /// No functions. Takes no memory.
     pub fn new(alloc: Global) -> FunctionTable
         ensures { result ≡ [] }
@@ -40,6 +43,27 @@ impl FunctionTable {
             alloc,
             entries: Vec::new(alloc),
         }
+    }
+
+    /// Adds functions under the next indexes.
+    fn push_all(&mut self, names: &[&str], counts: &[u8]) -> Result<(), AllocError>
+        requires { length names.now ≡ length counts.now }
+        ensures { OnOk result (self.new ≡ self.old ++ paired names.now counts.now) }
+    {
+        'names: for i in 0..names.len() {
+            self.push(names[i], counts[i])?;
+        }
+        Ok(())
+    }
+
+    /// The functions whose names are shipped, `FTAB`. Only want of memory refuses.
+    #[tactic(auto, unfolding(std::specs::Prelude::chars))]
+    pub fn shipped(alloc: Global) -> Result<FunctionTable, AllocError>
+        ensures { IfOk result (λ table. table ≡ shipped) }
+    {
+        let mut table = FunctionTable::new(alloc);
+        table.push_all(&FTAB, &FTAB_ARGC)?;
+        Ok(table)
     }
 
     /// Adds a function under the next index. Only want of memory refuses, and then the table is as it

@@ -5,6 +5,7 @@ mod buffer;
 mod cite;
 mod corner;
 mod defined;
+mod ftab;
 mod functions;
 mod leaves;
 mod names;
@@ -17,6 +18,7 @@ mod words;
 
 pub use cite::{RawCite, Token, read_token};
 pub use defined::{check_lbl, parse_defined_names, parse_lbl};
+pub use ftab::{FTAB, FTAB_ARGC, FTAB_LEN};
 pub use functions::FunctionTable;
 pub use names::Names;
 pub use parse::parse_formula;

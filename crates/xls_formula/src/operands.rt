@@ -3,7 +3,8 @@
 ghost use Rattle.std.specs.Prelude.{◌≡◌, ◌≤◌, ◌+◌, length, IfOk, if◌then◌else◌};
 ghost use Rattle.xls_biff.specs.Globals.{is_biff8};
 ghost use Rattle.xls_biff.specs.Reading.{Exactly};
-ghost use Rattle.xls_formula.specs.Tokens.{area_at, as_read, counted_at, early_area_at, fixed_at, lost_at, name_at, name_x_at, reference_at, sheet_area_at, sheet_area_size, sheet_corner_at, sheet_first_at, sheet_index_at, sheet_last_at, sheet_lost_at, sheet_reference_at, sheet_reference_size, word_of_size};
+ghost use Rattle.xls_formula.specs.Corners.{sheet_area_size, sheet_corner_at, sheet_first_at, sheet_index_at, sheet_last_at, sheet_reference_size};
+ghost use Rattle.xls_formula.specs.Tokens.{area_at, as_read, counted_at, early_area_at, fixed_at, lost_at, name_at, name_x_at, reference_at, sheet_area_at, sheet_lost_at, sheet_reference_at, word_of_size};
 
 use crate::corner::{Corner, word_at};
 use crate::token::{Lexeme, Word, is_biff8, short};
