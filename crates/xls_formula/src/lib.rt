@@ -22,3 +22,8 @@ pub use ftab::{FTAB, FTAB_ARGC, FTAB_LEN};
 pub use functions::FunctionTable;
 pub use names::Names;
 pub use parse::parse_formula;
+
+#[cfg(test)]
+mod tests;
+#[cfg(test)]
+mod tests_tokens;
