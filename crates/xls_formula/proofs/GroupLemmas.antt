@@ -1,5 +1,5 @@
 -- Operands as groups of leaves, each leaf by its bytes.
-use Rattle.std.proofs.Common.{suc, zero, ◌≡◌, ℕ, ◌+◌, ◌-◌, ◌<◌, ◌≤◌, List, [], ◌∷◌, ◌++◌, length, take, drop, reverse, get_or, Some, refl, sym, ◌∙◌, ap, subst, arith, append_assoc}
+use Rattle.std.proofs.Common.{suc, ◌≡◌, ℕ, ◌+◌, ◌-◌, ◌<◌, ◌≤◌, List, [], ◌∷◌, ◌++◌, length, take, drop, reverse, get_or, Some, refl, sym, ◌∙◌, ap, subst, arith, append_assoc}
 use Rattle.std.proofs.Math.ListN.{set}
 use Rattle.std.specs.List.{slice_get, concat}
 use Rattle.std.proofs.lemmas.List.{append-nil, reverse-append, length-reverse, length-set, length_push, take-append-drop, take_at, drop_at, length-take-le, take-append-le, drop-append-le, drop_more, drop-set, take-set, take_more, take_all, set_at, get_or-reverse}

@@ -1,14 +1,10 @@
 -- Leaves, and the operands that they make.
-use Rattle.std.proofs.Common.{suc, zero, ◌≡◌, ℕ, ◌+◌, ◌-◌, ◌<◌, ◌≤◌, List, [], ◌∷◌, ◌++◌, length, map, take, drop, reverse, get_or, Some, refl, sym, ◌∙◌, ap, subst, arith, append_assoc, length-append, length-drop}
+use Rattle.std.proofs.Common.{suc, zero, ◌≡◌, ℕ, ◌+◌, ◌-◌, ◌<◌, ◌≤◌, List, [], ◌∷◌, ◌++◌, length, take, drop, reverse, get_or, refl, sym, ◌∙◌, ap, subst, arith, append_assoc, length-append, length-drop}
 use Rattle.std.proofs.Math.ListN.{set}
-use Rattle.std.specs.Prelude.{IsUtf8}
-use Rattle.std.specs.List.{slice_get, concat}
-use Rattle.std.specs.Str.{chars}
-use Rattle.std.proofs.lemmas.List.{append-nil, reverse-append, reverse-reverse, length-reverse, length-map, length-set, length_push, take-append-drop, take_at, drop_at, length-take-le, take-append-le, drop-append-le, drop_more, drop-set, take-set, take_more, take_all, drop_all, set_at, get_or-reverse}
-use Rattle.std.proofs.lemmas.Option.{slice_get_within, get_or_from_slice_get}
-use Rattle.xls_formula.specs.Pieces.{with_prefix, with_suffix, with_join}
+use Rattle.std.specs.List.{concat}
+use Rattle.std.proofs.lemmas.List.{append-nil, reverse-append, reverse-reverse, take-append-le, drop-append-le, drop_more, take_all, drop_all}
 use Rattle.xls_formula.specs.declared.buffer.Leaf.{Leaf}
-use Rattle.xls_formula.specs.Leaves.{leaf_texts, AreWhole, operands_down, operands_of, IsGroupedDown, IsGrouped}
+use Rattle.xls_formula.specs.Leaves.{leaf_texts, AreWhole}
 
 pub concat-append : (xs ys : List (List ℕ)) → concat (xs ++ ys) ≡ concat xs ++ concat ys
 concat-append [] ys = refl

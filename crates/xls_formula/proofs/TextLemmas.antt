@@ -1,5 +1,5 @@
 -- Texts by their characters.
-use Rattle.std.proofs.Common.{suc, zero, ◌≡◌, ℕ, ◌+◌, ◌-◌, ◌/◌, ◌%◌, ◌<◌, List, [], ◌∷◌, ◌++◌, length, refl, sym, ◌∙◌, ap, arith, String, Global}
+use Rattle.std.proofs.Common.{suc, zero, ◌≡◌, ℕ, ◌+◌, ◌-◌, ◌/◌, ◌%◌, ◌<◌, List, [], ◌∷◌, ◌++◌, length, sym, ◌∙◌, ap, arith, String, Global}
 use Rattle.std.specs.Prelude.{Bool, false, true, ℤ, pos, negsuc, Option, Some, None, codes, replicate, encode_utf8_all, if◌then◌else◌, ◌==◌, ◌^◌}
 use Rattle.std.specs.Fmt.{decimal, signed_decimal, digits, digits_onto, digit_glyph}
 use Rattle.std.specs.Str.{chars, IsAscii}

@@ -1,5 +1,5 @@
 -- A text with offsets, and what was put before its leaves.
-use Rattle.std.specs.Prelude.{◌≡◌, ℕ, ◌+◌, ◌<◌, ◌≤◌, List, [], ◌∷◌, ◌++◌, length, take, drop, map, reverse, IsUtf8}
+use Rattle.std.specs.Prelude.{◌≡◌, ℕ, ◌<◌, ◌≤◌, List, [], ◌∷◌, ◌++◌, length, take, drop, map, reverse, IsUtf8}
 use Rattle.std.specs.List.{concat}
 use Rattle.std.specs.Str.{chars}
 use Rattle.xls_formula.specs.declared.buffer.Leaf.{Leaf}

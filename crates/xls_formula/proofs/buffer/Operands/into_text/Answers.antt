@@ -1,4 +1,4 @@
-use Rattle.std.proofs.Common.{◌≡◌, ◌≢◌, ℕ, List, sym, ◌∙◌, ap, subst, length, arith, Ok, Err, Vec}
+use Rattle.std.proofs.Common.{◌≡◌, ◌≢◌, ℕ, List, sym, ◌∙◌, ap, subst, length, arith, Ok, Err}
 use Rattle.std.specs.Prelude.{IsUtf8, IfOk}
 use Rattle.std.specs.List.{concat}
 use Rattle.std.specs.Str.{chars}
