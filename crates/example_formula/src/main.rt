@@ -1,0 +1,39 @@
+//! Prints the text of a formula on standard input.
+#![tactic(auto)]
+
+use std::alloc::Global;
+use std::io::Read;
+use std::process::ExitCode;
+use xls_biff::{Biff, Refs, Strings, XlsError};
+use xls_formula::{FunctionTable, Names, parse_formula};
+use xls_text::XlsEncoding;
+
+/// The text of a formula of BIFF8 that may name the shipped functions, and neither sheets nor names.
+fn text_of(alloc: Global, rgce: &[u8]) -> Result<String, XlsError> {
+    parse_formula(
+        alloc,
+        rgce,
+        &Strings::new(alloc),
+        &Names::new(alloc),
+        &Refs::new(alloc),
+        &XlsEncoding::Utf16,
+        Biff::Biff8,
+        &FunctionTable::shipped(alloc)?,
+    )
+}
+
+fn main(rt: HostRuntime) -> ExitCode {
+    let alloc = rt.alloc();
+    let mut rgce = Vec::new(alloc);
+    if rt.stdin().read_to_end(&mut rgce).is_err() {
+        return ExitCode::from(3);
+    }
+    let (written, status) = match text_of(alloc, &rgce) {
+        Ok(text) => (println!(rt; "{text}"), ExitCode::SUCCESS),
+        Err(error) => (println!(rt; "{error}"), ExitCode::from(1)),
+    };
+    match written {
+        Ok(()) => status,
+        Err(_) => ExitCode::from(4),
+    }
+}

@@ -1,0 +1,7 @@
+pub mod LeafLemmas
+pub mod GroupLemmas
+pub mod OperandLemmas
+pub mod TextLemmas
+pub mod PutLemmas
+pub mod Rendering
+mod StandardFacts

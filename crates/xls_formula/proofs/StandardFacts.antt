@@ -1,0 +1,138 @@
+-- Values from outside, so that a wrong rule in the definitions does not check.
+use Rattle.std.proofs.Common.{◌≡◌, [], ◌∷◌, ◌++◌, refl, pos, negsuc, codes, Some, None, Ok, Err, replicate}
+use Rattle.std.specs.Fmt.{digits}
+use Rattle.xls_bytes.specs.Columns.{word_of, column_name}
+use Rattle.xls_bytes.specs.Doubles.{size_of_parts}
+use Rattle.xls_data.specs.Numbers.{sixteen_digits}
+use Rattle.xls_model.specs.declared.part.Part.TheVariants as parts
+use Rattle.xls_text.specs.declared.encoding.XlsEncoding.TheVariants.{Utf16, Windows1252}
+use Rattle.xls_biff.specs.declared.error.XlsError.TheVariants as errors
+use Rattle.xls_biff.specs.declared.globals.Biff.{Biff}
+use Rattle.xls_biff.specs.declared.globals.Biff.TheVariants.{Biff5, Biff8}
+use Rattle.xls_text.specs.declared.encoding.XlsEncoding.{XlsEncoding}
+use Rattle.xls_formula.specs.Context.{Context}
+use Rattle.xls_formula.specs.Defined.{defined_at, lbl_at}
+use Rattle.xls_formula.specs.Fold.{formula_text}
+
+-- a workbook of one sheet, `A`, of one name, `N`, and of a reference to the sheet
+abbrev context : XlsEncoding → Biff → Context
+context page biff = record {
+  sheets = codes "A" ∷ [];
+  names = (codes "N", codes "A!$A$1") ∷ [];
+  refs = pos 0 ∷ negsuc 0 ∷ [];
+  page = page;
+  biff = biff;
+  functions = (codes "PI", 0) ∷ (codes "SUM", 255) ∷ (codes "ROUND", 2) ∷ [];
+}
+
+-- cells on a sheet: the last row and column of BIFF8's, an area, a reference that holds no sheet
+known_cell : formula_text (context Utf16 Biff8) (7 ∷ 0 ∷ 0x3A ∷ 0 ∷ 0 ∷ 0xFF ∷ 0xFF ∷ 0 ∷ 0xC0 ∷ []) ≡ Ok (codes "A!A65536")
+unfolding digits column_name word_of
+known_cell = refl
+
+known_area : formula_text (context Utf16 Biff8) (11 ∷ 0 ∷ 0x3B ∷ 0 ∷ 0 ∷ 0 ∷ 0 ∷ 9 ∷ 0 ∷ 1 ∷ 0xC0 ∷ 2 ∷ 0x40 ∷ []) ≡ Ok (codes "A!$B$1:$C$10")
+unfolding digits column_name word_of
+known_area = refl
+
+known_no_sheet : formula_text (context Utf16 Biff8) (7 ∷ 0 ∷ 0x5A ∷ 1 ∷ 0 ∷ 0 ∷ 0 ∷ 0 ∷ 0 ∷ []) ≡ Ok (codes "#REF!$A$1")
+unfolding digits column_name word_of
+known_no_sheet = refl
+
+-- names count from 1
+known_name : formula_text (context Utf16 Biff8) (5 ∷ 0 ∷ 0x23 ∷ 1 ∷ 0 ∷ 0 ∷ 0 ∷ []) ≡ Ok (codes "N")
+known_name = refl
+
+known_no_name : formula_text (context Utf16 Biff8) (5 ∷ 0 ∷ 0x23 ∷ 0 ∷ 0 ∷ 0 ∷ 0 ∷ []) ≡ Ok (codes "#REF!")
+known_no_name = refl
+
+known_early_name : formula_text (context Utf16 Biff5) (15 ∷ 0 ∷ 0x23 ∷ replicate 14 0) ≡ Ok (codes "#REF!")
+known_early_name = refl
+
+-- a row is relative by 8000, a column by 4000, in the column word and before BIFF8 in the row word
+known_relative : formula_text (context Utf16 Biff8) (5 ∷ 0 ∷ 0x24 ∷ 1 ∷ 0 ∷ 2 ∷ 0x40 ∷ []) ≡ Ok (codes "C$2")
+unfolding digits column_name word_of
+known_relative = refl
+
+known_early_relative : formula_text (context Utf16 Biff5) (4 ∷ 0 ∷ 0x44 ∷ 1 ∷ 0x80 ∷ 2 ∷ []) ≡ Ok (codes "$C2")
+unfolding digits column_name word_of
+known_early_relative = refl
+
+known_early_area : formula_text (context Utf16 Biff5) (7 ∷ 0 ∷ 0x25 ∷ 0 ∷ 0xC0 ∷ 9 ∷ 0xC0 ∷ 0 ∷ 1 ∷ []) ≡ Ok (codes "$A$1:$B$10")
+unfolding digits column_name word_of
+known_early_area = refl
+
+-- strings of both layouts, whole and cut
+known_string : formula_text (context Windows1252 Biff5) (8 ∷ 0 ∷ 0x17 ∷ 6 ∷ codes "SCHUCH") ≡ Ok (codes "\"SCHUCH\"")
+known_string = refl
+
+known_biff8_string : formula_text (context Utf16 Biff8) (9 ∷ 0 ∷ 0x17 ∷ 6 ∷ 0 ∷ codes "SCHUCH") ≡ Ok (codes "\"SCHUCH\"")
+known_biff8_string = refl
+
+known_short_string : formula_text (context Windows1252 Biff5) (5 ∷ 0 ∷ 0x17 ∷ 6 ∷ codes "SCH") ≡ Err (errors.Len 7 4 parts.PtgStr)
+known_short_string = refl
+
+-- the doubles 1 and 2.5
+known_double : formula_text (context Utf16 Biff8) (9 ∷ 0 ∷ 0x1F ∷ 0 ∷ 0 ∷ 0 ∷ 0 ∷ 0 ∷ 0 ∷ 0xF0 ∷ 0x3F ∷ []) ≡ Ok (codes "1")
+unfolding digits size_of_parts
+known_double = refl
+
+known_fraction : formula_text (context Utf16 Biff8) (9 ∷ 0 ∷ 0x1F ∷ 0 ∷ 0 ∷ 0 ∷ 0 ∷ 0 ∷ 0 ∷ 0x04 ∷ 0x40 ∷ []) ≡ Ok (codes "0x4004000000000000")
+unfolding digits size_of_parts sixteen_digits
+known_fraction = refl
+
+-- operands: none, one too many, one too few
+known_empty : formula_text (context Utf16 Biff8) (0 ∷ 0 ∷ []) ≡ Err (errors.InvalidFormula 0)
+known_empty = refl
+
+known_two : formula_text (context Utf16 Biff8) (6 ∷ 0 ∷ 0x1E ∷ 1 ∷ 0 ∷ 0x1E ∷ 5 ∷ 0 ∷ []) ≡ Err (errors.InvalidFormula 2)
+known_two = refl
+
+known_sum : formula_text (context Utf16 Biff8) (7 ∷ 0 ∷ 0x1E ∷ 1 ∷ 0 ∷ 0x1E ∷ 5 ∷ 0 ∷ 3 ∷ []) ≡ Ok (codes "1+5")
+unfolding digits
+known_sum = refl
+
+known_one_operand : formula_text (context Utf16 Biff8) (4 ∷ 0 ∷ 0x1E ∷ 1 ∷ 0 ∷ 3 ∷ []) ≡ Err errors.StackLen
+known_one_operand = refl
+
+-- functions: their operands in order, without any, outside the table before too few operands
+known_call : formula_text (context Utf16 Biff8) (9 ∷ 0 ∷ 0x1E ∷ 1 ∷ 0 ∷ 0x1E ∷ 5 ∷ 0 ∷ 0x21 ∷ 2 ∷ 0 ∷ []) ≡ Ok (codes "ROUND(1,5)")
+unfolding digits
+known_call = refl
+
+known_no_operand : formula_text (context Utf16 Biff8) (3 ∷ 0 ∷ 0x41 ∷ 0 ∷ 0 ∷ []) ≡ Ok (codes "PI()")
+known_no_operand = refl
+
+known_no_function : formula_text (context Utf16 Biff8) (4 ∷ 0 ∷ 0x22 ∷ 1 ∷ 3 ∷ 0 ∷ []) ≡ Err (errors.IfTab 3)
+known_no_function = refl
+
+-- spaces before the last operand, and where there is none
+known_space : formula_text (context Utf16 Biff8) (7 ∷ 0 ∷ 0x1E ∷ 5 ∷ 0 ∷ 0x19 ∷ 0x40 ∷ 0 ∷ 2 ∷ []) ≡ Ok (codes "  5")
+unfolding digits
+known_space = refl
+
+known_lone_space : formula_text (context Utf16 Biff8) (7 ∷ 0 ∷ 0x19 ∷ 0x40 ∷ 0 ∷ 1 ∷ 0x1E ∷ 5 ∷ 0 ∷ []) ≡ Ok (codes "5")
+unfolding digits
+known_lone_space = refl
+
+-- a token that is none, and tokens that are cut
+known_unknown : formula_text (context Utf16 Biff8) (1 ∷ 0 ∷ 0x79 ∷ []) ≡ Err (errors.Unrecognized parts.Ptg 0x79)
+known_unknown = refl
+
+known_cut : formula_text (context Utf16 Biff8) (9 ∷ 0 ∷ 0x16 ∷ []) ≡ Err (errors.Len 11 3 parts.Rgce)
+known_cut = refl
+
+-- names: a cell, nothing, a token that is not read, and a whole record
+known_defined : defined_at Biff8 (0x3A ∷ 0 ∷ 0 ∷ 1 ∷ 0 ∷ 1 ∷ 0 ∷ []) ≡ Ok (Some 0, codes "$B$2")
+unfolding digits column_name word_of
+known_defined = refl
+
+known_nothing : defined_at Biff8 [] ≡ Ok (None, codes "empty rgce")
+known_nothing = refl
+
+known_unsupported : defined_at Biff8 (0x17 ∷ []) ≡ Ok (None, codes "Unsupported ptg: 17")
+unfolding digits
+known_unsupported = refl
+
+known_lbl : lbl_at Utf16 Biff8 ((0 ∷ 0 ∷ 0 ∷ 5 ∷ 7 ∷ replicate 10 0) ++ (codes "Total" ++ (0x3A ∷ 0 ∷ 0 ∷ 1 ∷ 0 ∷ 1 ∷ 0 ∷ []))) ≡ Ok (codes "Total", (Some 0, codes "$B$2"))
+unfolding digits column_name word_of
+known_lbl = refl

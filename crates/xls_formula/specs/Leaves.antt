@@ -1,0 +1,50 @@
+-- A text with offsets, and what was put before its leaves.
+use Rattle.std.specs.Prelude.{◌≡◌, ℕ, ◌<◌, ◌≤◌, List, [], ◌∷◌, ◌++◌, length, take, drop, map, reverse, IsUtf8}
+use Rattle.std.specs.List.{concat}
+use Rattle.std.specs.Str.{chars}
+use Rattle.xls_formula.specs.declared.buffer.Leaf.{Leaf}
+
+-- each leaf: what was put before it, which is kept backwards, and its own bytes of the text
+abbrev pub leaf_texts : List ℕ → List Leaf → List (List ℕ)
+leaf_texts text [] = []
+leaf_texts text (l ∷ ls) =
+    (reverse l.front.items ++ take l.len text) ∷ leaf_texts (drop l.len text) ls
+
+-- the leaves are the whole text
+abbrev pub AreWhole : List ℕ → List Leaf → Type 0
+AreWhole text [] = text ≡ []
+AreWhole text (l ∷ ls) = (l.len ≤ length text) × AreWhole (drop l.len text) ls
+
+-- the operands that begin at these leaves, the last one first
+abbrev pub operands_down : List (List ℕ) → List ℕ → List (List ℕ)
+operands_down leaves [] = []
+operands_down leaves (start ∷ below) =
+    concat (drop start leaves) ∷ operands_down (take start leaves) below
+
+abbrev pub operands_of : List (List ℕ) → List ℕ → List (List ℕ)
+operands_of leaves starts = operands_down leaves (reverse starts)
+
+-- each operand has a leaf, and each leaf an operand
+abbrev pub IsGroupedDown : List (List ℕ) → List ℕ → Type 0
+IsGroupedDown leaves [] = leaves ≡ []
+IsGroupedDown leaves (start ∷ below) =
+    (start < length leaves) × IsGroupedDown (take start leaves) below
+
+abbrev pub IsGrouped : List (List ℕ) → List ℕ → Type 0
+IsGrouped leaves starts = IsGroupedDown leaves (reverse starts)
+
+-- ---- what contracts see
+
+-- the operands as lists of characters, the last one first
+abbrev pub texts_of : List ℕ → List Leaf → List ℕ → List (List ℕ)
+texts_of text leaves starts = map chars (operands_of (leaf_texts text leaves) starts)
+
+-- each is a text
+abbrev pub AreTexts : List (List ℕ) → Type 0
+AreTexts [] = Unit {0}
+AreTexts (t ∷ ts) = IsUtf8 t × AreTexts ts
+
+pub record AreOperands (text : List ℕ) (leaves : List Leaf) (starts : List ℕ) : Type 0 where
+  pub whole : AreWhole text leaves
+  pub grouped : IsGrouped (leaf_texts text leaves) starts
+  pub texts : AreTexts (operands_of (leaf_texts text leaves) starts)

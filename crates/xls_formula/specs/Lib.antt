@@ -1,0 +1,16 @@
+pub mod Words
+pub mod Names
+pub mod Functions
+pub mod Context
+pub mod Scopes
+pub mod Corners
+pub mod Tokens
+pub mod Tree
+pub mod Fold
+pub mod Cites
+pub mod Defined
+pub mod Pieces
+pub mod Leaves
+pub mod Put
+pub mod Steps
+pub use Rattle.xls_biff.specs.Reading

@@ -1,0 +1,100 @@
+//! The text of a formula.
+
+ghost use Rattle.std.specs.Prelude.{◌≡◌};
+ghost use Rattle.xls_biff.specs.Reading.{Exactly, Gives};
+ghost use Rattle.xls_biff.specs.Texts.{text_of};
+ghost use Rattle.xls_formula.specs.Fold.{formula_text, tokens_at};
+ghost use Rattle.xls_formula.specs.Put.{put_all};
+ghost use Rattle.xls_formula.specs.Steps.{Leaves};
+ghost use Rattle.xls_formula.specs.Scopes.{context_of};
+
+use crate::buffer::Operands;
+use crate::corner::word_at;
+use crate::functions::FunctionTable;
+use crate::names::Names;
+use crate::put::put_token;
+use crate::scope::Scope;
+use crate::token::{read_lexeme, short};
+use std::alloc::Global;
+use xls_biff::{Biff, Part, Refs, Strings, XlsError};
+use xls_text::XlsEncoding;
+
+/// The tokens behind their length.
+fn tokens_of(rgce: &[u8]) -> Result<&[u8], XlsError>
+    ensures { Exactly (λ tokens. tokens.now) result (tokens_at rgce.now) }
+{
+    if rgce.len() < 2 {
+        return Err(short(2, rgce.len(), Part::Rgce));
+    }
+    let size = usize::from(word_at(rgce, 0));
+    if rgce.len() < 2 + size {
+        return Err(short(2 + size, rgce.len(), Part::Rgce));
+    }
+    let (_, rest) = rgce.split_at(2);
+    let (tokens, _) = rest.split_at(size);
+    Ok(tokens)
+}
+
+fn put_tokens(
+    alloc: Global,
+    texts: &mut Operands,
+    scope: Scope<'_>,
+    tokens: &[u8],
+) -> Result<(), XlsError>
+    ensures { Leaves result texts.new (put_all (context_of scope.entry) tokens.now 0 texts.old) }
+{
+    let mut rest = tokens;
+    'tokens: while !rest.is_empty() {
+        let (lexeme, more) = read_lexeme(rest, scope.biff)?;
+        put_token(alloc, texts, scope, lexeme)?;
+        let (_, after) = rest.split_at(1);
+        let (_, next) = after.split_at(more);
+        rest = next;
+    }
+    Ok(())
+}
+
+fn text_in_scope(alloc: Global, rgce: &[u8], scope: Scope<'_>) -> Result<String, XlsError>
+    ensures { Gives text_of result (formula_text (context_of scope.entry) rgce.now) }
+{
+    let tokens = tokens_of(rgce)?;
+    let mut texts = Operands::new(alloc);
+    put_tokens(alloc, &mut texts, scope, tokens)?;
+    texts.into_text()
+}
+
+/// The text of a formula, [MS-XLS] CellParsedFormula 2.5.198.3: `rgce` begins with the length of the
+/// tokens in 16 bits, and what stands behind them is not read. Sheets are named by the references'
+/// numbers, names by their index from 1, functions by their index from 0. `Len` of `rgce` at the
+/// length; then the first token that fails, by its bytes (`Len`, `Unrecognized`, `Etpg`), the
+/// function table (`IfTab`) or its operands (`StackLen`); then `InvalidFormula` with the count of
+/// operands where not one is left; besides only want of memory.
+pub fn parse_formula(
+    alloc: Global,
+    rgce: &[u8],
+    sheets: &Strings,
+    names: &Names,
+    refs: &Refs,
+    encoding: &XlsEncoding,
+    biff: Biff,
+    functions: &FunctionTable,
+) -> Result<String, XlsError>
+    ensures exact { Gives text_of result (formula_text (record {
+      sheets = sheets.now;
+      names = names.now;
+      refs = refs.now;
+      page = encoding.now;
+      biff = biff;
+      functions = functions.now;
+    }) rgce.now) }
+{
+    let scope = Scope {
+        sheets,
+        names,
+        refs,
+        encoding: *encoding,
+        biff,
+        functions,
+    };
+    text_in_scope(alloc, rgce, scope)
+}

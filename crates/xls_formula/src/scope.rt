@@ -1,0 +1,50 @@
+//! What a formula may name.
+
+ghost use Rattle.std.specs.Prelude.{◌≡◌};
+ghost use Rattle.std.specs.Str.{chars};
+ghost use Rattle.xls_formula.specs.Context.{name_text, sheet_text};
+ghost use Rattle.xls_formula.specs.Scopes.{context_of};
+
+use crate::functions::FunctionTable;
+use crate::names::Names;
+use xls_biff::{Biff, Refs, Strings};
+use xls_text::XlsEncoding;
+
+/// The lists that a formula names things by, the code page and the version.
+#[derive(Clone, Copy)]
+pub(crate) struct Scope<'a> {
+    pub sheets: &'a Strings,
+    pub names: &'a Names,
+    pub refs: &'a Refs,
+    pub encoding: XlsEncoding,
+    pub biff: Biff,
+    pub functions: &'a FunctionTable,
+}
+
+/// The sheet whose number a reference holds, and `#REF` where either is missing or negative.
+#[tactic(auto, unfolding(std::specs::Prelude::chars))]
+pub(crate) fn sheet_name<'a>(scope: Scope<'a>, index: u16) -> &'a str
+    ensures { chars result.now ≡ sheet_text (context_of scope.entry) index }
+{
+    match scope.refs.first(usize::from(index)) {
+        Some(first) if first >= 0 => match scope.sheets.get(first as usize) {
+            Some(name) => name,
+            None => "#REF",
+        },
+        _ => "#REF",
+    }
+}
+
+/// The name of an index, which counts from 1, and `#REF!` where none has it.
+#[tactic(auto, unfolding(std::specs::Prelude::chars))]
+pub(crate) fn defined_name<'a>(scope: Scope<'a>, index: u32) -> &'a str
+    ensures { chars result.now ≡ name_text (context_of scope.entry) index }
+{
+    if index == 0 {
+        return "#REF!";
+    }
+    match scope.names.name(index as usize - 1) {
+        Some(name) => name,
+        None => "#REF!",
+    }
+}

@@ -1,0 +1,248 @@
+//! Expected values come from [MS-XLS] and from the rules of this project for older layouts.
+
+use super::*;
+use std::alloc::{AllocError, Global};
+use std::test::*;
+use xls_biff::{Biff, Part, Record, RecordIter, Refs, Strings, XlsError};
+use xls_text::XlsEncoding;
+
+const UTF16: XlsEncoding = XlsEncoding::Utf16;
+
+const WINDOWS: XlsEncoding = XlsEncoding::Windows1252;
+
+/// The text of a formula in a workbook of one sheet, `A`, which reference 0 names, and of no names.
+fn text_by(
+    alloc: Global,
+    rgce: &[u8],
+    encoding: XlsEncoding,
+    biff: Biff,
+    functions: &FunctionTable,
+) -> Result<String, XlsError> {
+    let mut sheets = Strings::new(alloc);
+    sheets.push("A")?;
+    let mut refs = Refs::new(alloc);
+    refs.push(0)?;
+    let names = Names::new(alloc);
+    parse_formula(
+        alloc, rgce, &sheets, &names, &refs, &encoding, biff, functions,
+    )
+}
+
+fn text_in(alloc: Global, rgce: &[u8], biff: Biff) -> Result<String, XlsError> {
+    let encoding = if biff == Biff::Biff8 { UTF16 } else { WINDOWS };
+    text_by(alloc, rgce, encoding, biff, &FunctionTable::shipped(alloc)?)
+}
+
+fn prints(alloc: Global, rgce: &[u8], biff: Biff, text: &str) -> bool {
+    match text_in(alloc, rgce, biff) {
+        Ok(printed) => printed.as_str() == text,
+        Err(_) => false,
+    }
+}
+
+fn refuses(alloc: Global, rgce: &[u8], biff: Biff, error: &XlsError) -> bool {
+    match text_in(alloc, rgce, biff) {
+        Ok(_) => false,
+        Err(e) => e == *error,
+    }
+}
+
+#[test]
+fn prints_cells_on_a_sheet(rt: HostRuntime) {
+    let cell = [0x07, 0x00, 0x3A, 0x00, 0x00, 0xFF, 0xFF, 0x00, 0xC0];
+    assert!(rt; prints(rt.alloc(), &cell, Biff::Biff8, "A!A65536"));
+    let area = [
+        0x0B, 0x00, 0x3B, 0x00, 0x00, 0x00, 0x00, 0x09, 0x00, 0x01, 0xC0, 0x02, 0x40,
+    ];
+    assert!(rt; prints(rt.alloc(), &area, Biff::Biff8, "A!$B$1:$C$10"));
+}
+
+#[test]
+fn prints_a_name_outside_the_list(rt: HostRuntime) {
+    let name = [0x05, 0x00, 0x23, 0x00, 0x00, 0x00, 0x00];
+    assert!(rt; prints(rt.alloc(), &name, Biff::Biff8, "#REF!"));
+    let early = [0x0F, 0, 0x23, 0, 0, 0, 0, 0, 0, 0, 0, 0, 0, 0, 0, 0, 0];
+    assert!(rt; prints(rt.alloc(), &early, Biff::Biff5, "#REF!"));
+}
+
+#[test]
+fn refuses_no_tokens(rt: HostRuntime) {
+    let error = XlsError::InvalidFormula { stack_size: 0 };
+    assert!(rt; refuses(rt.alloc(), &[0, 0], Biff::Biff8, &error));
+}
+
+#[test]
+fn prints_strings_of_both_layouts(rt: HostRuntime) {
+    let early = b"\x08\x00\x17\x06SCHUCH";
+    assert!(rt; prints(rt.alloc(), early, Biff::Biff5, "\"SCHUCH\""));
+    let later = b"\x09\x00\x17\x06\x00SCHUCH";
+    assert!(rt; prints(rt.alloc(), later, Biff::Biff8, "\"SCHUCH\""));
+}
+
+#[test]
+fn refuses_a_string_that_is_cut(rt: HostRuntime) {
+    let error = XlsError::Len {
+        expected: 7,
+        found: 4,
+        typ: Part::PtgStr,
+    };
+    assert!(rt; refuses(rt.alloc(), b"\x05\x00\x17\x06SCH", Biff::Biff5, &error));
+}
+
+#[test]
+fn prints_doubles(rt: HostRuntime) {
+    let one = [0x09, 0x00, 0x1F, 0, 0, 0, 0, 0, 0, 0xF0, 0x3F];
+    assert!(rt; prints(rt.alloc(), &one, Biff::Biff8, "1"));
+    let half = [0x09, 0x00, 0x1F, 0, 0, 0, 0, 0, 0, 0x04, 0x40];
+    assert!(rt; prints(rt.alloc(), &half, Biff::Biff8, "0x4004000000000000"));
+}
+
+#[test]
+fn prints_an_operator_between_its_operands(rt: HostRuntime) {
+    let infix = [0x07, 0x00, 0x1E, 0x01, 0x00, 0x1E, 0x05, 0x00, 0x03];
+    assert!(rt; prints(rt.alloc(), &infix, Biff::Biff8, "1+5"));
+    let early = [0x07, 0x00, 0x1E, 0x01, 0x00, 0x03, 0x1E, 0x05, 0x00];
+    assert!(rt; refuses(rt.alloc(), &early, Biff::Biff8, &XlsError::StackLen));
+    assert!(rt; refuses(rt.alloc(), &[1, 0, 3], Biff::Biff8, &XlsError::StackLen));
+}
+
+#[test]
+fn puts_no_space_before_no_operand(rt: HostRuntime) {
+    let space = [0x07, 0x00, 0x19, 0x40, 0x00, 0x01, 0x1E, 0x05, 0x00];
+    assert!(rt; prints(rt.alloc(), &space, Biff::Biff8, "5"));
+}
+
+#[test]
+fn prints_the_functions_of_the_table(rt: HostRuntime) -> Result<(), Fail> {
+    let call = [0x07, 0x00, 0x1E, 0x01, 0x00, 0x22, 0x01, 0x48, 0x00];
+    let mut functions = FunctionTable::shipped(rt.alloc())?;
+    assert_eq!(rt; functions.len(), FTAB_LEN);
+    let missing = text_by(rt.alloc(), &call, UTF16, Biff::Biff8, &functions);
+    assert_eq!(rt; missing.err(), Some(XlsError::IfTab(72)));
+    functions.push("X", 1)?;
+    let text = text_by(rt.alloc(), &call, UTF16, Biff::Biff8, &functions)?;
+    assert_eq!(rt; text.as_str(), "X(1)");
+    Ok(())
+}
+
+#[test]
+fn ships_functions(rt: HostRuntime) -> Result<(), Fail> {
+    let functions = FunctionTable::shipped(rt.alloc())?;
+    assert_eq!(rt; functions.name(0), Some("COUNT"));
+    assert_eq!(rt; functions.argc(11), Some(254));
+    assert_eq!(rt; functions.name(71), Some("HOUR"));
+    assert_eq!(rt; functions.name(72), None);
+    assert_eq!(rt; functions.argc(72), None);
+    assert_eq!(rt; (FTAB[60], FTAB_ARGC[60]), ("RATE", 6));
+    Ok(())
+}
+
+#[test]
+fn keeps_lists(rt: HostRuntime) -> Result<(), Fail> {
+    let mut names = Names::new(rt.alloc());
+    names.push("N", "A!$A$1")?;
+    assert_eq!(rt; names.len(), 1);
+    assert_eq!(rt; names.name(0), Some("N"));
+    assert_eq!(rt; names.name(1), None);
+    let mut functions = FunctionTable::new(rt.alloc());
+    functions.push("X", 1)?;
+    assert_eq!(rt; functions.len(), 1);
+    Ok(())
+}
+
+#[test]
+fn prints_names_by_their_index_from_1(rt: HostRuntime) -> Result<(), Fail> {
+    let mut names = Names::new(rt.alloc());
+    names.push("N", "A!$A$1")?;
+    names.push("M", "A!$A$2")?;
+    let text = parse_formula(
+        rt.alloc(),
+        &[5, 0, 0x43, 2, 0, 0, 0],
+        &Strings::new(rt.alloc()),
+        &names,
+        &Refs::new(rt.alloc()),
+        &UTF16,
+        Biff::Biff8,
+        &FunctionTable::new(rt.alloc()),
+    )?;
+    assert_eq!(rt; text.as_str(), "M");
+    Ok(())
+}
+
+// ---- defined names
+
+fn names(alloc: Global, rgce: &[u8], index: Option<usize>, text: &str) -> bool {
+    match parse_defined_names(alloc, rgce, Biff::Biff8) {
+        Ok((found, printed)) => found == index && printed.as_str() == text,
+        Err(_) => false,
+    }
+}
+
+#[test]
+fn reads_what_a_name_names(rt: HostRuntime) {
+    let cell = [0x3A, 0x00, 0x00, 0x01, 0x00, 0x01, 0x00];
+    assert!(rt; names(rt.alloc(), &cell, Some(0), "$B$2"));
+    assert!(rt; names(rt.alloc(), &[], None, "empty rgce"));
+    assert!(rt; names(rt.alloc(), &[0x17], None, "Unsupported ptg: 17"));
+    assert!(rt; names(rt.alloc(), &[0x01], None, "Unsupported ptg: 1"));
+    assert!(rt; names(rt.alloc(), &[0x5C, 0x02, 0x00], Some(2), "#REF!"));
+}
+
+const TOTAL: &[u8] =
+    b"\x18\x00\x1B\x00\x00\x00\x00\x05\x07\x00\x00\x00\x00\x00\x00\x00\x00\x00\x00Total\x3A\x00\x00\x01\x00\x01\x00";
+
+fn record_of(bytes: &[u8]) -> Result<Record<'_>, XlsError> {
+    match RecordIter::new(bytes).next() {
+        Some(r) => r,
+        None => Err(XlsError::Password),
+    }
+}
+
+#[test]
+fn reads_a_defined_name(rt: HostRuntime) -> Result<(), Fail> {
+    let r = record_of(TOTAL)?;
+    let (name, (index, text)) = parse_lbl(rt.alloc(), &r, &UTF16, Biff::Biff8)?;
+    assert_eq!(rt; name.as_str(), "Total");
+    assert_eq!(rt; (index, text.as_str()), (Some(0), "$B$2"));
+    assert_eq!(rt; check_lbl(&r, Biff::Biff8), Ok(()));
+    Ok(())
+}
+
+#[test]
+fn refuses_a_name_that_is_cut(rt: HostRuntime) -> Result<(), Fail> {
+    let r = record_of(b"\x18\x00\x0D\x00\x00\x00\x00\x00\x00\x00\x00\x00\x00\x00\x00\x00\x00")?;
+    let error = XlsError::Len {
+        expected: 14,
+        found: 13,
+        typ: Part::Lbl,
+    };
+    assert_eq!(rt; check_lbl(&r, Biff::Biff8), Err(error));
+    Ok(())
+}
+
+// ---- nesting
+
+/// A formula of 5,000 pairs of parentheses around 1, and its text.
+fn nested(alloc: Global) -> Result<(Vec<u8>, String), AllocError> {
+    let mut rgce = Vec::new(alloc);
+    rgce.extend_from_slice(&[0x8B, 0x13, 0x1E, 0x01, 0x00])?;
+    let mut text = String::new(alloc);
+    for _ in 0..5_000 {
+        rgce.push(0x15)?;
+        text.push('(')?;
+    }
+    text.push('1')?;
+    for _ in 0..5_000 {
+        text.push(')')?;
+    }
+    Ok((rgce, text))
+}
+
+#[test]
+fn prints_what_nests_5000_deep(rt: HostRuntime) -> Result<(), Fail> {
+    let (rgce, text) = nested(rt.alloc())?;
+    let functions = FunctionTable::new(rt.alloc());
+    let printed = text_by(rt.alloc(), &rgce, UTF16, Biff::Biff8, &functions)?;
+    assert!(rt; printed.as_str() == text.as_str());
+    Ok(())
+}
