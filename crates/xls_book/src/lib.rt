@@ -15,7 +15,7 @@ mod source;
 mod values;
 mod xls;
 
-pub use laws::{one_first_fault, sound_where_full, steady_count};
+pub use laws::{one_first_fault, regions_by_name, sound_where_full, steady_count};
 pub use memory::{MemorySource, SteadySource};
 pub use options::XlsOptions;
 pub use reader::{Reader, open_workbook_from_rs};
