@@ -7,6 +7,7 @@ use Rattle.xls_model.specs.StringTable.{is_wide}
 use Rattle.xls_model.specs.declared.part.Part.{Part}
 use Rattle.xls_model.specs.declared.part.Part.TheVariants as parts
 use Rattle.xls_biff.specs.Globals.{is_biff8}
+use Rattle.xls_biff.specs.Uncounted.{uncounted_size}
 use Rattle.xls_biff.specs.declared.error.XlsError.{XlsError}
 use Rattle.xls_biff.specs.declared.error.XlsError.TheVariants as errors
 use Rattle.xls_biff.specs.declared.globals.Biff.{Biff}
@@ -131,19 +132,14 @@ name_at biff rest =
 
 -- ---- 17 (PtgStr)
 
--- the bytes of so many units
-abbrev pub units_size : ℕ → ℕ → ℕ
-units_size count flags = if is_wide flags then 2 * count else count
+-- what stands behind the flags byte of a string of this size
+abbrev pub units_behind : List ℕ → Result ℕ XlsError → Result (Bool × List ℕ) XlsError
+units_behind bytes (Ok size) = Ok (is_wide (slice_index bytes 0), drop 1 (take size bytes))
+units_behind bytes (Err e) = Err e
 
--- [MS-XLS] XLUnicodeStringNoCch of so many units: a flags byte and the units
+-- [MS-XLS] XLUnicodeStringNoCch of so many units: the width and the bytes of the units
 abbrev pub no_cch_at : ℕ → List ℕ → Result (Bool × List ℕ) XlsError
-no_cch_at count bytes =
-    sized_as parts.NoCch 1 bytes
-    (sized_as parts.NoCch (1 + units_size count (slice_index bytes 0)) bytes
-    (Ok (
-      is_wide (slice_index bytes 0),
-      take (units_size count (slice_index bytes 0)) (drop 1 bytes),
-    )))
+no_cch_at count bytes = units_behind bytes (uncounted_size count bytes)
 
 abbrev pub quoted_units : ℕ → Result (Bool × List ℕ) XlsError → Reading
 quoted_units count (Ok units) =

@@ -2,11 +2,11 @@
 
 ghost use Rattle.std.specs.Prelude.{◌≡◌, ◌≤◌, ◌+◌, length, IfOk};
 ghost use Rattle.xls_biff.specs.Reading.{Exactly};
-ghost use Rattle.xls_formula.specs.Tokens.{as_read, attribute_at, attribute_by, choice_at, double_at, error_at, error_word, no_cch_at, number_at, quoted_at, quoted_bytes, shared_at, skipped_at, space_of, spaced_at, summed_at, truth_at, truth_word, units_size, without_effect_at};
+ghost use Rattle.xls_formula.specs.Tokens.{as_read, attribute_at, attribute_by, choice_at, double_at, error_at, error_word, no_cch_at, number_at, quoted_at, quoted_bytes, shared_at, skipped_at, space_of, spaced_at, summed_at, truth_at, truth_word, without_effect_at};
 
 use crate::corner::word_at;
 use crate::token::{Lexeme, Word, is_biff8, short, unknown};
-use xls_biff::{Biff, Part, XlsError};
+use xls_biff::{Biff, Part, XlsError, size_of_uncounted};
 use xls_bytes::read_bits;
 
 /// 01 (PtgExp): a shared or array formula, whose text is empty.
@@ -106,18 +106,10 @@ pub(crate) fn split_no_cch(count: u8, bytes: &[u8]) -> Result<(bool, &[u8]), Xls
     ensures exact { Exactly (λ x. (x.0, x.1.now)) result (no_cch_at count bytes.now) }
     ensures within { IfOk result (λ x. 1 + length x.1.now ≤ length bytes.now) }
 {
-    if bytes.len() < 1 {
-        return Err(short(1, bytes.len(), Part::NoCch));
-    }
-    let (flags, units) = bytes.split_at(1);
-    let is_wide = flags[0] % 2 == 1;
-    let count = usize::from(count);
-    let size = if is_wide { 2 * count } else { count };
-    if units.len() < size {
-        return Err(short(1 + size, bytes.len(), Part::NoCch));
-    }
-    let (text, _) = units.split_at(size);
-    Ok((is_wide, text))
+    let size = size_of_uncounted(bytes, u16::from(count))?;
+    let (string, _) = bytes.split_at(size);
+    let (_, units) = string.split_at(1);
+    Ok((bytes[0] % 2 == 1, units))
 }
 
 /// The string of a token before BIFF8: a count, and bytes in the page.
