@@ -16,9 +16,16 @@ const THREE: [u8; 55] = [
 
 const THREE_TEXT: &str = "dates\t1900\nsheet\tA\tworksheet\tvisible\ncell\t0\t0\tfloat\t3\n";
 
-// BOF of the globals, a CodePage record, EOF.
+// BOF of the globals, a CodePage record of 437, which isn't kept, EOF.
 const PAGE: [u8; 18] = [
-    9, 8, 4, 0, 0, 6, 5, 0, 0x42, 0, 2, 0, 0xB0, 4, 0x0A, 0, 0, 0,
+    9, 8, 4, 0, 0, 6, 5, 0, 0x42, 0, 2, 0, 0xB5, 1, 0x0A, 0, 0, 0,
+];
+
+// BOF of the globals, BoundSheet8 of a hidden `A` at 25, EOF; BOF of the sheet, MergeCells of the one
+// region from (0, 1) to (2, 3), EOF.
+const HIDDEN: [u8; 51] = [
+    9, 8, 4, 0, 0, 6, 5, 0, 0x85, 0, 9, 0, 25, 0, 0, 0, 1, 0, 1, 0, 0x41, 0x0A, 0, 0, 0, 9, 8, 4,
+    0, 0, 6, 0x10, 0, 0xE5, 0, 10, 0, 1, 0, 0, 0, 2, 0, 1, 0, 3, 0, 0x0A, 0, 0, 0,
 ];
 
 /// A run: the words, what the source gives in which pieces, what the sink takes in which pieces, and
@@ -101,6 +108,12 @@ fn writes_the_sheet_and_its_number(rt: HostRuntime) -> Result<(), Fail> {
 }
 
 #[test]
+fn writes_merged_regions(rt: HostRuntime) -> Result<(), Fail> {
+    let text = b"dates\t1900\nsheet\tA\tworksheet\thidden\nmerge\t0\t1\t2\t3\n";
+    check(&rt, rt.alloc(), &quiet(&[], &HIDDEN), 0, text)
+}
+
+#[test]
 fn does_nothing_for_other_words(rt: HostRuntime) -> Result<(), Fail> {
     check(&rt, rt.alloc(), &quiet(&["dmp"], &THREE), 2, b"")?;
     check(&rt, rt.alloc(), &quiet(&["dump", "dump"], &THREE), 2, b"")
@@ -113,7 +126,7 @@ fn writes_the_first_fault(rt: HostRuntime) -> Result<(), Fail> {
         rt.alloc(),
         &quiet(&[], &PAGE),
         1,
-        b"error\tRecord type 0x0042 not built\n",
+        b"error\tCfb error: Codepage 1B5 not found\n",
     )?;
     check(
         &rt,
