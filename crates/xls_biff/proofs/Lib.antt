@@ -1,4 +1,3 @@
-pub mod HexLemmas
 pub mod OuterLemmas
 pub mod ListLemmas
 pub mod TextLemmas

@@ -1,15 +1,11 @@
 -- The printed text of a refusal.
-use Rattle.std.specs.Prelude.{ℕ, ◌-◌, true, List, ◌++◌, codes, replicate, length}
-use Rattle.std.specs.Fmt.{decimal, digits}
+use Rattle.std.specs.Prelude.{ℕ, List, ◌++◌, codes}
+use Rattle.std.specs.Fmt.{decimal}
 use Rattle.std.specs.String.{string_bytes}
 use Rattle.xls_model.specs.PartText.{part_text}
 use Rattle.xls_text.specs.Errors.{upper_hex, error_text as page_text}
 use Rattle.xls_biff.specs.declared.error.XlsError.{XlsError}
 use Rattle.xls_biff.specs.declared.error.XlsError.TheVariants as errors
-
--- n in upper-case hexadecimal, with zeros before it up to four digits
-unfoldable pub four_digits : ℕ → List ℕ
-four_digits n = replicate (4 - length (digits 16 true n)) 48 ++ digits 16 true n
 
 -- what a refusal prints
 abbrev pub error_text : XlsError → List ℕ
@@ -37,4 +33,3 @@ error_text (errors.Etpg number) = codes "Invalid etpg " ++ upper_hex number
 error_text (errors.InvalidFormat ifmt) = codes "Invalid ifmt value: '" ++ (decimal ifmt ++ codes "'")
 error_text (errors.WorksheetNotFound name) =
     codes "Worksheet '" ++ (string_bytes name ++ codes "' not found")
-error_text (errors.NotBuilt typ) = codes "Record type 0x" ++ (four_digits typ ++ codes " not built")

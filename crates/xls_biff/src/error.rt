@@ -1,8 +1,6 @@
 //! Why a stream is refused.
 
-ghost use Rattle.std.specs.Prelude.{◌≡◌, Some};
-ghost use Rattle.std.specs.Fmt.{DisplaysOnOk};
-ghost use Rattle.xls_biff.specs.ErrorText.{four_digits};
+ghost use Rattle.std.specs.Prelude.{◌≡◌};
 ghost use Rattle.xls_biff.specs.declared.error.XlsError.TheVariants.{Memory, Cfb};
 
 use std::alloc::{AllocError, AllocFailed};
@@ -60,10 +58,6 @@ pub enum XlsError {
     },
     /// No sheet has this name.
     WorksheetNotFound(String),
-    /// Records of the type `typ` are not read yet.
-    NotBuilt {
-        typ: u16,
-    },
 }
 
 impl From<AllocError> for XlsError {
@@ -88,13 +82,6 @@ impl From<CfbError> for XlsError {
     fn from(error: CfbError) -> Self {
         XlsError::Cfb(error)
     }
-}
-
-#[tactic(auto, using(crate::proofs::HexLemmas::padded_hex))]
-fn write_type<W: fmt::Write>(typ: u16, f: &mut fmt::Formatter<W>) -> fmt::Result
-    ensures { DisplaysOnOk W.write_str_gives f.old result (Some (four_digits typ)) f.new }
-{
-    write!(f, "{typ:04X}")
 }
 
 impl fmt::Display for XlsError {
@@ -132,11 +119,6 @@ impl fmt::Display for XlsError {
             XlsError::Etpg(number) => write!(f, "Invalid etpg {number:X}"),
             XlsError::InvalidFormat { ifmt } => write!(f, "Invalid ifmt value: '{ifmt}'"),
             XlsError::WorksheetNotFound(name) => write!(f, "Worksheet '{name}' not found"),
-            XlsError::NotBuilt { typ } => {
-                f.write_str("Record type 0x")?;
-                write_type(*typ, f)?;
-                f.write_str(" not built")
-            }
         }
     }
 }

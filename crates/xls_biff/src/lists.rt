@@ -42,6 +42,15 @@ impl Refs {
         Ok(())
     }
 
+    /// Appends the references of another list. Only want of memory refuses, and then the list is as it
+    /// was.
+    pub fn extend(&mut self, more: &Refs) -> Result<(), AllocError>
+        ensures ok { OnOk result (self.new ≡ self.old ++ more.now) }
+        ensures err { OnErr result (self.new ≡ self.old) }
+    {
+        self.firsts.extend_from_slice(&more.firsts)
+    }
+
     /// How many references there are.
     pub fn len(&self) -> usize
         ensures { result ≡ length self.now }

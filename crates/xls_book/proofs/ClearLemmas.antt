@@ -1,6 +1,7 @@
--- No place of a stream has the fault of the outside.
+-- No place of a stream has the fault of the outside, or one that only a formula, a format or a look-up
+-- has.
 use Rattle.std.proofs.Common.{ℕ, List, [], ◌∷◌, ◌++◌, map, subst, Bool, true, false, Option, Some, None, Result, Ok, Err}
-use Rattle.std.specs.Prelude.{◌==◌, ◌%◌, ◌*◌, ◌+◌, ◌||◌, ◌-◌, if◌then◌else◌, nat_lt, length, take, drop, slice_index}
+use Rattle.std.specs.Prelude.{◌==◌, ◌%◌, ◌*◌, ◌+◌, ◌||◌, ◌-◌, if◌then◌else◌, nat_lt, length, take, drop, slice_index, slice_get}
 use Rattle.std.specs.Option.{option_or}
 use Rattle.std.specs.List.{flat_map, AllByRecursion}
 use Rattle.xls_bytes.specs.Numbers.{le}
@@ -10,6 +11,7 @@ use Rattle.xls_text.specs.declared.error.CfbError.{CfbError}
 use Rattle.xls_model.specs.Listing.{Kept, Shared, no_table, table_of, table_without, Entry, Item, plain_item, table_item, sheet_item, entry_of}
 use Rattle.xls_model.specs.StringTable.{Missing, short_head, no_units, no_tail}
 use Rattle.xls_model.specs.declared.part.Part.{Part}
+use Rattle.xls_model.specs.declared.part.Part.TheVariants as parts
 use Rattle.xls_data.specs.Content.{Content}
 use Rattle.xls_data.specs.Sheets.{SheetContent}
 use Rattle.xls_data.specs.declared.errors.CellErrorType.{CellErrorType}
@@ -24,19 +26,29 @@ use Rattle.xls_biff.specs.Reading.{listed}
 use Rattle.xls_biff.specs.Globals.{is_biff8, bof_at, xf_at, refs_count, ref_at, refs_at}
 use Rattle.xls_biff.specs.Strings.{Front, short_front, is_bare_zero, string_front, text_behind, string_at, text_cell, label_at, label_sst_at, SheetHead, visible_at, kind_at, head_of, sheet_head_at, named_sheet, bound_sheet_at, short_string_at}
 use Rattle.xls_biff.specs.Cells as cells
-use Rattle.xls_biff.specs.Cells.{number_at, rk_at, sized_count, mul_rk_count, mul_rk_at, first_column, last_column, cell_error, failure_of, bes_content, at_position, bool_err_at}
+use Rattle.xls_biff.specs.Cells.{position_at, number_at, rk_at, mul_rk_count, mul_rk_at, first_column, last_column, cell_error, failure_of, bes_content, at_position, bool_err_at, some_content, special_value}
+use Rattle.xls_biff.specs.Checks.{formula_at}
 use Rattle.xls_biff.specs.Regions.{dimensions_at, merge_count, merges_at}
 use Rattle.xls_biff.specs.Sst.{error_of}
+use Rattle.xls_biff.specs.Uncounted.{size_by, uncounted_size}
+use Rattle.xls_formula.specs.Corners.{word_at, sheet_reference_size, sheet_area_size}
+use Rattle.xls_formula.specs.Tokens.{sized_as, no_cch_at, units_behind}
+use Rattle.xls_formula.specs.Fold.{and_then}
+use Rattle.xls_formula.specs.Defined.{index_size, place_at, unit_bytes, name_units, name_tokens, lbl_parts, lbl_at}
+use Rattle.xls_cells.specs.Positions.{Position}
 use Rattle.xls_book.specs.Order.{along, first_of}
 use Rattle.xls_book.specs.InForce.{page_in, version_in, Setting, setting_of}
-use Rattle.xls_book.specs.RecordTable.{fault_of, file_pass_fault, unknown_page, forced_fault, code_page_fault, date_mode_fault, plain_fault, texts_of, Given, cell_given, some_given, cells_given, regions_given, checked_only, text_given, given_at}
+use Rattle.xls_book.specs.RecordTable.{fault_of, file_pass_fault, unknown_page, forced_fault, code_page_fault, date_mode_fault, plain_fault, texts_of}
+use Rattle.xls_book.specs.SheetTable.{cell_given, some_given, cells_given, regions_given, checked_only, text_given, valued, formula_given, given_at, last_formula, given_in}
+use Rattle.xls_book.specs.Opening.{IsOfOpening}
 use Rattle.xls_book.specs.Faults.{item_fault, weight_in, weight_fault, kept_fault, cut_fault, part_places, sheet_places, globals_places, places}
 use Rattle.xls_book.specs.Steps.{StreamFault}
 use Rattle.xls_book.specs.declared.options.XlsOptions.{XlsOptions}
 
 abbrev pub IsClear : Option XlsError → Type 0
 IsClear (Some errors.Io) = ⊥
-IsClear o = Unit {0}
+IsClear (Some e) = IsOfOpening e
+IsClear None = Unit {0}
 
 -- ---- lists of places
 
@@ -124,16 +136,61 @@ refs_clear : (v : Biff) (body : List ℕ) → Clear (refs_at v body)
 refs_clear v body =
     when (is_biff8 v) _ _ (listed_clear (ref_at body) (refs_count body) (when (nat_lt (length body) 2) _ _ tt tt)) tt
 
-plain_clear : (options : XlsOptions) (v : Biff) (typ : ℕ) (body : List ℕ)
-    → IsClear (plain_fault options v typ body)
-plain_clear options v typ body =
+-- ---- Lbl
+
+sized_clear : {X : Type 0} (part : Part) (size : ℕ) (bs : List ℕ) (r : Result X XlsError) → Clear r
+    → Clear (sized_as part size bs r)
+sized_clear part size bs r h = when (nat_lt (length bs) size) _ _ tt h
+
+then_clear : {X Y : Type 0} (r : Result X XlsError) (f : X → Result Y XlsError) → Clear r
+    → ((x : X) → Clear (f x)) → Clear (and_then r f)
+then_clear (Ok x) f h k = k x
+then_clear (Err e) f h k = h
+
+units_clear : (count : ℕ) (r : Result (Bool × List ℕ) XlsError) → Clear r → Clear (unit_bytes count r)
+units_clear count (Ok u) h = tt
+units_clear count (Err e) h = h
+
+behind_flags : (bs : List ℕ) (r : Result ℕ XlsError) → Clear r → Clear (units_behind bs r)
+behind_flags bs (Ok n) h = tt
+behind_flags bs (Err e) h = h
+
+-- a string without a count
+uncounted_clear : (count : ℕ) (bs : List ℕ) → Clear (no_cch_at count bs)
+uncounted_clear count bs =
+    behind_flags bs (uncounted_size count bs)
+    (when (nat_lt (length bs) 1) _ _ tt (when (nat_lt (length bs) (size_by (slice_index bs 0) count)) _ _ tt tt))
+
+place_clear : (v : Biff) (bs : List ℕ) → Clear (place_at v bs)
+place_clear v [] = tt
+place_clear v (ptg ∷ rest) =
+    when (nat_lt ptg 0x20 || nat_lt 0x7F ptg) _ _ tt
+    (when (ptg % 0x20 == 0x1A) _ _ (sized_clear parts.Ptg (sheet_reference_size v) rest _ tt)
+    (when (ptg % 0x20 == 0x1B) _ _ (sized_clear parts.Ptg (sheet_area_size v) rest _ tt)
+    (when ((ptg % 0x20 == 0x1C) || (ptg % 0x20 == 0x1D)) _ _ (sized_clear parts.Ptg (index_size v) rest _ tt) tt)))
+
+lbl_clear : (p : XlsEncoding) (v : Biff) (body : List ℕ) → Clear (lbl_at p v body)
+lbl_clear p v body =
+    then_clear (lbl_parts v body) _
+    (sized_clear parts.Lbl 14 body _
+    (then_clear (name_units v (slice_index body 3) (drop 14 body)) _
+    (when (is_biff8 v) _ _ (units_clear (slice_index body 3) (no_cch_at (slice_index body 3) (drop 14 body)) (uncounted_clear (slice_index body 3) (drop 14 body))) tt)
+    (λ units. then_clear (name_tokens body) _ (sized_clear parts.NameFormula (word_at 4 body) body _ tt)
+    (λ tokens. then_clear (place_at v tokens) _ (place_clear v tokens) (λ place. tt)))))
+    (λ lbl. tt)
+
+-- ---- a record of the globals
+
+plain_clear : (options : XlsOptions) (p : XlsEncoding) (v : Biff) (typ : ℕ) (body : List ℕ)
+    → IsClear (plain_fault options p v typ body)
+plain_clear options p v typ body =
     either (typ == 2057) _ _ (bof_clear body)
     (either (typ == 47) _ _ (pass_clear body)
     (either (typ == 66) _ _ (page_clear options.force_codepage body)
     (either (typ == 34) _ _ (date_clear body)
     (either (typ == 224) _ _ (xf_clear body)
     (either (typ == 23) _ _ (refs_clear v body)
-    (either (typ == 24) _ _ tt tt))))))
+    (either (typ == 24) _ _ (lbl_clear p v body) tt))))))
 
 missing_clear : (m : Missing) → IsClear (Some (error_of m))
 missing_clear (short_head e f) = tt
@@ -172,7 +229,7 @@ sheet_clear p v body =
 
 item_clear : (options : XlsOptions) (before : List Item) (i : Item) → IsClear (item_fault options before i)
 item_clear options before (plain_item typ body) =
-    plain_clear options (version_in (map entry_of before)) typ body
+    plain_clear options (page_in options (map entry_of before)) (version_in (map entry_of before)) typ body
 item_clear options before (table_item body s) = table_clear (length body) s
 item_clear options before (sheet_item body kept cut) =
     sheet_clear (page_in options (map entry_of before)) (version_in (map entry_of before)) body
@@ -248,12 +305,38 @@ checked_clear : {X : Type 0} (r : Result X XlsError) → Clear r → Clear (chec
 checked_clear (Ok x) h = tt
 checked_clear (Err e) h = h
 
-text_clear : (r : Result (List ℕ) XlsError) → Clear r → Clear (text_given r)
-text_clear (Ok x) h = tt
-text_clear (Err e) h = h
+text_clear : (at : Position) (r : Result (List ℕ) XlsError) → Clear r → Clear (text_given at r)
+text_clear at (Ok x) h = tt
+text_clear at (Err e) h = h
 
-given_clear : (s : Setting) (k : Kept) → Clear (given_at s k)
-given_clear s k =
+some_content_clear : (r : Result Content XlsError) → Clear r → Clear (some_content r)
+some_content_clear (Ok x) h = tt
+some_content_clear (Err e) h = h
+
+special_clear : (kind byte : ℕ) → Clear (special_value kind byte)
+special_clear kind byte =
+    when (kind == 0) _ _ tt (when (kind == 1) _ _ tt
+    (when (kind == 2) _ _ (some_content_clear (failure_of (cell_error byte)) (failure_clear (cell_error byte) (error_clear byte)))
+    (when (kind == 3) _ _ tt tt)))
+
+value_clear : (c : Option CellFormat) (b : Bool) (body : List ℕ) → Clear (formula_at c b body)
+value_clear c b body =
+    let bs = take 8 (drop 6 body) in
+    when (nat_lt (length body) 20) _ _ tt
+    (when (le (take 2 (drop 6 bs)) == 65535) _ _ (special_clear (slice_index bs 0) (slice_index bs 2)) tt)
+
+valued_clear : (p : Position) (cs : List ℕ) (r : Result (Option Content) XlsError) → Clear r
+    → Clear (valued p cs r)
+valued_clear p cs (Ok x) h = tt
+valued_clear p cs (Err e) h = h
+
+formula_clear : (s : Setting) (body : List ℕ) → Clear (formula_given s body)
+formula_clear s body =
+    let class = slice_get s.force.classes (le (take 2 (drop 4 body))) in
+    valued_clear (position_at body) _ (formula_at class s.force.is_1904 body) (value_clear class s.force.is_1904 body)
+
+given_clear : (s : Setting) (at : Position) (k : Kept) → Clear (given_at s at k)
+given_clear s at k =
     let f = s.force in
     when (k.typ == 515) _ _ (one_clear (number_at f.classes f.is_1904 k.body) (number_clear f.classes f.is_1904 k.body))
     (when (k.typ == 638) _ _ (one_clear (rk_at f.classes f.is_1904 k.body) (rk_clear f.classes f.is_1904 k.body))
@@ -261,10 +344,10 @@ given_clear s k =
     (when (k.typ == 189) _ _ (many_clear (mul_rk_at f.classes f.is_1904 k.body) (listed_clear _ (mul_rk_count k.body) (count_clear k.body)))
     (when (k.typ == 517) _ _ (one_clear (bool_err_at k.body) (bool_clear k.body))
     (when (k.typ == 516 || k.typ == 214) _ _ (one_clear (label_at f.page s.version k.body) (label_clear f.page s.version k.body))
-    (when (k.typ == 519) _ _ (text_clear (string_at f.page s.version k.body) (string_clear f.page s.version k.body))
+    (when (k.typ == 519) _ _ (text_clear at (string_at f.page s.version k.body) (string_clear f.page s.version k.body))
     (when (k.typ == 229) _ _ (regions_clear (merges_at k.body) (listed_clear _ (merge_count k.body) (merge_clear k.body)))
     (when (k.typ == 512) _ _ (checked_clear (dimensions_at k.body) (bounds_clear k.body))
-    (when (k.typ == 6) _ _ tt tt)))))))))
+    (when (k.typ == 6) _ _ (formula_clear s k.body) tt)))))))))
 
 weight_clear : (options : XlsOptions) (ks : List Kept) → IsClear (weight_fault options ks)
 weight_clear options ks = either (nat_lt options.max_cells (weight_in ks)) _ _ tt tt
@@ -272,7 +355,7 @@ weight_clear options ks = either (nat_lt options.max_cells (weight_in ks)) _ _ t
 kept_clear : (options : XlsOptions) (s : Setting) (before : List Kept) (k : Kept)
     → IsClear (kept_fault options s before k)
 kept_clear options s before k =
-    or_clear (fault_of (given_at s k)) (weight_fault options (before ++ k ∷ [])) (given_clear s k) (weight_clear options (before ++ k ∷ []))
+    or_clear (fault_of (given_in s before k)) (weight_fault options (before ++ k ∷ [])) (given_clear s (last_formula before) k) (weight_clear options (before ++ k ∷ []))
 
 cut_clear : (cut : Option Part) → IsClear (cut_fault cut)
 cut_clear None = tt
@@ -300,6 +383,12 @@ places_clear options items cut =
     (all_append (along (item_fault options) [] items) (cut_fault cut ∷ []) (all_along (item_fault options) (item_clear options) items []) (cut_clear cut, tt))
     (sheets_clear options (setting_of options (map entry_of items)) items)
 
-pub not_io : (options : XlsOptions) (bytes : List ℕ) → StreamFault options bytes errors.Io → ⊥
-not_io options bytes f =
+pub of_stream : (options : XlsOptions) (bytes : List ℕ) (e : XlsError) → StreamFault options bytes e
+    → IsClear (Some e)
+of_stream options bytes e f =
     subst IsClear f.3 (first_clear (places options f.0 f.1) (places_clear options f.0 f.1))
+
+-- what is clear is a refusal of opening
+pub is_of_opening : (e : XlsError) → IsClear (Some e) → IsOfOpening e
+is_of_opening errors.Io h = tt
+is_of_opening e h = h

@@ -34,7 +34,13 @@ module _ (s : Setting) where
 
   shown_so : (a : Option SheetView) (c : Option (List Kept)) → IsSame a c
       → IsContent s (unwrap_or c []) (unwrap_or a no_view)
-  shown_so None None h = record { ascending = tt; last = λ p. refl; merges = refl }
+  shown_so None None h = record {
+    ascending = tt;
+    last = λ p. refl;
+    formulas_ascending = tt;
+    last_formulas = λ p. refl;
+    merges = refl;
+  }
   shown_so None (Some k) h = absurd h
   shown_so (Some v) None h = absurd h
   shown_so (Some v) (Some k) h = h

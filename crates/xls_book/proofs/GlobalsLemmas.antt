@@ -1,12 +1,13 @@
 -- The records of the globals, one after the other.
 use Rattle.std.proofs.Common.{◌≡◌, ◌≢◌, ℕ, List, [], ◌∷◌, ◌++◌, map, length, take, refl, sym, ap, subst, ◌∙◌, append_assoc, arith, inl, inr, Bool, true, false, Option, Some, None, Result, Ok, Err}
-use Rattle.std.specs.Prelude.{◌≡◌, ◌⊎◌, ◌==◌, ◌||◌, nat_lt, if◌then◌else◌, unwrap_or}
+use Rattle.std.specs.Prelude.{ℤ, ◌≡◌, ◌⊎◌, ◌==◌, ◌||◌, nat_lt, if◌then◌else◌, unwrap_or}
 use Rattle.std.specs.Option.{option_or, option_map}
 use Rattle.std.specs.Result.{result_ok}
-use Rattle.std.specs.List.{filter, AllZip}
+use Rattle.std.specs.List.{filter, flat_map, AllZip}
 use Rattle.std.specs.Char.Utf16.{utf16_lossy_chars}
 use Rattle.std.proofs.lemmas.List.{append-nil, map-append}
 use Rattle.std.proofs.lemmas.List.Elements.{filter-append}
+use Rattle.std.proofs.lemmas.Grind.{flat_map-append}
 use Rattle.xls_bytes.specs.Numbers.{le}
 use Rattle.xls_text.specs.Pages.{page_of}
 use Rattle.xls_text.specs.declared.encoding.XlsEncoding.{XlsEncoding}
@@ -34,13 +35,14 @@ use Rattle.xls_biff.specs.Globals.{bof_at, xf_at, refs_at}
 use Rattle.xls_biff.specs.Strings.{bound_sheet_at, format_at}
 use Rattle.xls_biff.specs.Reading.{Fails}
 use Rattle.xls_biff.specs.Sst.{error_of}
+use Rattle.xls_formula.specs.Defined.{lbl_at}
 use Rattle.xls_book.specs.Order.{along, first_of, last_of, somes}
-use Rattle.xls_book.specs.InForce.{of_type, page_at, page_under, page_in, version_at, version_in, date_mode_at, sets_1904, is_1904_in, format_in, formats_in, identifier_at, identifiers_in, table_in, texts_in}
+use Rattle.xls_book.specs.InForce.{of_type, page_at, page_under, page_in, version_at, version_in, date_mode_at, sets_1904, is_1904_in, format_in, formats_in, identifier_at, identifiers_in, table_in, texts_in, refs_in, extern_refs, Named, name_in, lbls_in}
 use Rattle.xls_book.specs.RecordTable.{fault_of, file_pass_fault, date_mode_fault, code_page_fault, unknown_page, plain_fault, texts_of}
 use Rattle.xls_book.specs.Faults.{item_fault, cut_fault}
-use Rattle.xls_book.specs.Steps.{State, first_state, bof_step, check_step, with_page, page_step, date_step, listed_format, format_step, xf_step, pass_step, plain_step, table_step, sheet_step, Opened, opened_in, opened_of, pair_of, sheets_at, IsState, AreGlobals, GlobalsFault, ReadsGlobals}
+use Rattle.xls_book.specs.Steps.{State, first_state, bof_step, check_step, with_page, page_step, date_step, listed_format, format_step, xf_step, refs_step, name_step, plain_step, table_step, sheet_step, Opened, opened_in, opened_of, pair_of, sheets_at, IsState, AreGlobals, GlobalsFault, ReadsGlobals}
 use Rattle.xls_book.specs.declared.options.XlsOptions.{XlsOptions}
-use Rattle.xls_book.proofs.OrderLemmas.{first_at, none_push, first_behind, along-push, somes-append, last-push}
+use Rattle.xls_book.proofs.OrderLemmas.{first_at, none_push, first_behind, along-push, somes-append, last-push, unwrap_push}
 
 globals_from : (bytes : List ℕ) (groups : List Group) (cut : Option Part) → IsBytes bytes
     → From globals_of bytes groups cut → GlobalsPart bytes groups cut
@@ -106,11 +108,6 @@ page_push (Some n) said last = refl
 page_push None None last = refl
 page_push None (Some p) last = refl
 
-unwrap_push : {X : Type 0} (said last : Option X) (x : X)
-    → unwrap_or (option_or said last) x ≡ unwrap_or said (unwrap_or last x)
-unwrap_push None last x = refl
-unwrap_push (Some p) last x = refl
-
 or_push : (es : List Entry) (e : Entry) → is_1904_in (es ++ e ∷ []) ≡ is_1904_in es || sets_1904 e
 or_push [] e = both (sets_1904 e)
   where
@@ -127,6 +124,9 @@ or_push (x ∷ es) e =
 abbrev listed : {X : Type 0} → Option X → List X
 listed o = somes (o ∷ [])
 
+abbrev joined : List (List ℤ) → List ℤ
+joined = flat_map (λ (rs : List ℤ). rs)
+
 -- what the state is behind one more item
 record Grows (options : XlsOptions) (is : List Item) (i : Item) (s t : State) : Type 0 where
   pub page : t.page ≡ page_behind options.force_codepage (of_type 66 page_at (entry_of i)) s.page
@@ -135,6 +135,8 @@ record Grows (options : XlsOptions) (is : List Item) (i : Item) (s t : State) : 
   pub formats : t.formats ≡ s.formats ++ listed (of_type 1054 (λ body. result_ok (format_at s.page s.version body)) (entry_of i))
   pub identifiers : t.identifiers ≡ s.identifiers ++ listed (of_type 224 identifier_at (entry_of i))
   pub strings : t.strings ≡ unwrap_or (option_map (map utf16_lossy_chars) (table_in (entry_of i))) s.strings
+  pub refs : t.refs ≡ s.refs ++ joined (listed (of_type 23 (λ body. result_ok (refs_at s.version body)) (entry_of i)))
+  pub names : t.names ≡ s.names ++ listed (of_type 24 (λ body. result_ok (lbl_at s.page s.version body)) (entry_of i))
   pub sheets : t.sheets ≡ s.sheets ++ map pair_of (listed (opened_in options is i))
 
 texts_push : (said last : Option (List (List ℕ)))
@@ -175,6 +177,20 @@ grown options is i s t h g =
           ∙ sym (texts_push (table_in e) (last_of (map table_in es)))
           ∙ ap (λ (o : Option (List (List ℕ))). map utf16_lossy_chars (unwrap_or o [])) (sym (last-push table_in es e))
           ∙ ap texts_in (sym push);
+      refs = g.refs
+          ∙ ap (λ (x : List ℤ). x ++ joined (listed (of_type 23 (λ body. result_ok (refs_at s.version body)) e))) h.refs
+          ∙ ap (λ (v : Biff). extern_refs es ++ joined (listed (of_type 23 (λ body. result_ok (refs_at v body)) e))) h.version
+          ∙ sym (flat_map-append (λ (rs : List ℤ). rs) (somes (along refs_in [] es)) (listed (refs_in es e)))
+          ∙ ap joined (sym (somes-append (along refs_in [] es) (refs_in es e ∷ [])))
+          ∙ ap (λ (x : List (Option (List ℤ))). joined (somes x)) (sym (along-push refs_in es e))
+          ∙ ap extern_refs (sym push);
+      names = g.names
+          ∙ ap (λ (x : List Named). x ++ listed (of_type 24 (λ body. result_ok (lbl_at s.page s.version body)) e)) h.names
+          ∙ ap (λ (p : XlsEncoding). lbls_in options es ++ listed (of_type 24 (λ body. result_ok (lbl_at p s.version body)) e)) h.page
+          ∙ ap (λ (v : Biff). lbls_in options es ++ listed (of_type 24 (λ body. result_ok (lbl_at (page_in options es) v body)) e)) h.version
+          ∙ sym (somes-append (along (name_in options) [] es) (name_in options es e ∷ []))
+          ∙ ap somes (sym (along-push (name_in options) es e))
+          ∙ ap (lbls_in options) (sym push);
       sheets = g.sheets
           ∙ ap (λ (x : List (ℕ × SheetContent)). x ++ map pair_of (listed (opened_in options is i))) h.sheets
           ∙ sym (map-append pair_of (opened_of options is) (listed (opened_in options is i)))
@@ -191,6 +207,8 @@ nothing_given options page h = record {
   formats = refl;
   identifiers = refl;
   strings = refl;
+  refs = refl;
+  names = refl;
   sheets = refl;
 }
 
@@ -215,8 +233,10 @@ module _ (options : XlsOptions) (is : List Item) (s : State) (h : IsState option
       → sets_1904 (plain_entry typ body) ≡ false
       → of_type 1054 (λ b. result_ok (format_at s.page s.version b)) (plain_entry typ body) ≡ None
       → of_type 224 identifier_at (plain_entry typ body) ≡ None
+      → of_type 23 (λ b. result_ok (refs_at s.version b)) (plain_entry typ body) ≡ None
+      → of_type 24 (λ b. result_ok (lbl_at s.page s.version b)) (plain_entry typ body) ≡ None
       → IsState options (is ++ plain_item typ body ∷ []) s
-  kept typ body a b c d e =
+  kept typ body a b c d e f g =
       grown options is (plain_item typ body) s s h (record {
         page = page_same options.force_codepage s.page
             ∙ ap (λ (o : Option XlsEncoding). page_behind options.force_codepage o s.page) (sym a);
@@ -227,6 +247,9 @@ module _ (options : XlsOptions) (is : List Item) (s : State) (h : IsState option
         identifiers = sym (append-nil s.identifiers)
             ∙ ap (λ (o : Option ℕ). s.identifiers ++ listed o) (sym e);
         strings = refl;
+        refs = sym (append-nil s.refs)
+            ∙ ap (λ (o : Option (List ℤ)). s.refs ++ joined (listed o)) (sym f);
+        names = sym (append-nil s.names) ∙ ap (λ (o : Option Named). s.names ++ listed o) (sym g);
         sheets = sym (append-nil s.sheets);
       })
 
@@ -242,6 +265,8 @@ module _ (options : XlsOptions) (is : List Item) (s : State) (h : IsState option
       formats = sym (append-nil s.formats);
       identifiers = sym (append-nil s.identifiers);
       strings = refl;
+      refs = sym (append-nil s.refs);
+      names = sym (append-nil s.names);
       sheets = sym (append-nil s.sheets);
     }),
   )
@@ -249,7 +274,7 @@ module _ (options : XlsOptions) (is : List Item) (s : State) (h : IsState option
   pass_says : (body : List ℕ) (o : Option XlsError) → file_pass_fault body ≡ o
       → Says options is (plain_item 47 body) (check_step s o)
   pass_says body (Some e) f = f
-  pass_says body None f = (f, kept 47 body refl refl refl refl refl)
+  pass_says body None f = (f, kept 47 body refl refl refl refl refl refl refl)
 
   page_found : (body : List ℕ) (r : Result XlsEncoding CfbError) → page_of (le (take 2 body)) ≡ r
       → options.force_codepage ≡ None → nat_lt (length body) 2 ≡ false
@@ -264,6 +289,8 @@ module _ (options : XlsOptions) (is : List Item) (s : State) (h : IsState option
       formats = sym (append-nil s.formats);
       identifiers = sym (append-nil s.identifiers);
       strings = refl;
+      refs = sym (append-nil s.refs);
+      names = sym (append-nil s.names);
       sheets = sym (append-nil s.sheets);
     }),
   )
@@ -285,6 +312,8 @@ module _ (options : XlsOptions) (is : List Item) (s : State) (h : IsState option
       formats = sym (append-nil s.formats);
       identifiers = sym (append-nil s.identifiers);
       strings = refl;
+      refs = sym (append-nil s.refs);
+      names = sym (append-nil s.names);
       sheets = sym (append-nil s.sheets);
     }),
   )
@@ -301,6 +330,8 @@ module _ (options : XlsOptions) (is : List Item) (s : State) (h : IsState option
       formats = sym (append-nil s.formats);
       identifiers = sym (append-nil s.identifiers);
       strings = refl;
+      refs = sym (append-nil s.refs);
+      names = sym (append-nil s.names);
       sheets = sym (append-nil s.sheets);
     }),
   )
@@ -320,6 +351,8 @@ module _ (options : XlsOptions) (is : List Item) (s : State) (h : IsState option
       formats = ap (λ (x : List (ℕ × CellFormat)). s.formats ++ x) (same_listed (result_ok (format_at s.page s.version body)));
       identifiers = sym (append-nil s.identifiers);
       strings = refl;
+      refs = sym (append-nil s.refs);
+      names = sym (append-nil s.names);
       sheets = sym (append-nil s.sheets);
     }),
   )
@@ -336,15 +369,56 @@ module _ (options : XlsOptions) (is : List Item) (s : State) (h : IsState option
       formats = sym (append-nil s.formats);
       identifiers = ap (λ (r : Result ℕ XlsError). s.identifiers ++ listed (result_ok r)) (sym f);
       strings = refl;
+      refs = sym (append-nil s.refs);
+      names = sym (append-nil s.names);
       sheets = sym (append-nil s.sheets);
     }),
   )
 
-  extern_says : {X : Type 0} (body : List ℕ) (r : Result X XlsError)
-      → item_fault options is (plain_item 23 body) ≡ fault_of r
-      → Says options is (plain_item 23 body) (pass_step s r)
-  extern_says body (Err e) f = f
-  extern_says body (Ok refs) f = (f, kept 23 body refl refl refl refl refl)
+  refs_says : (body : List ℕ) (r : Result (List ℤ) XlsError) → refs_at s.version body ≡ r
+      → Says options is (plain_item 23 body) (refs_step s r)
+  refs_says body (Err e) f =
+      ap (λ (v : Biff). fault_of (refs_at v body)) (sym h.version) ∙ ap (fault_of {X = List ℤ}) f
+  refs_says body (Ok refs) f = (
+    ap (λ (v : Biff). fault_of (refs_at v body)) (sym h.version) ∙ ap (fault_of {X = List ℤ}) f,
+    grown options is (plain_item 23 body) s (record s { refs = s.refs ++ refs }) h (record {
+      page = page_same options.force_codepage s.page;
+      version = refl;
+      is_1904 = or_false s.is_1904;
+      formats = sym (append-nil s.formats);
+      identifiers = sym (append-nil s.identifiers);
+      strings = refl;
+      refs = ap (λ (x : List ℤ). s.refs ++ x) (sym (append-nil refs))
+          ∙ ap (λ (r : Result (List ℤ) XlsError). s.refs ++ joined (listed (result_ok r))) (sym f);
+      names = sym (append-nil s.names);
+      sheets = sym (append-nil s.sheets);
+    }),
+  )
+
+  -- the fault of a Lbl, under what the state has
+  name_fault : (body : List ℕ) (r : Result Named XlsError) → lbl_at s.page s.version body ≡ r
+      → item_fault options is (plain_item 24 body) ≡ fault_of r
+  name_fault body r f =
+      ap (λ (p : XlsEncoding). fault_of (lbl_at p (version_in (map entry_of is)) body)) (sym h.page)
+      ∙ ap (λ (v : Biff). fault_of (lbl_at s.page v body)) (sym h.version) ∙ ap (fault_of {X = Named}) f
+
+  name_says : (body : List ℕ) (r : Result Named XlsError) → lbl_at s.page s.version body ≡ r
+      → Says options is (plain_item 24 body) (name_step s r)
+  name_says body (Err e) f = name_fault body (Err e) f
+  name_says body (Ok n) f = (
+    name_fault body (Ok n) f,
+    grown options is (plain_item 24 body) s (record s { names = s.names ++ n ∷ [] }) h (record {
+      page = page_same options.force_codepage s.page;
+      version = refl;
+      is_1904 = or_false s.is_1904;
+      formats = sym (append-nil s.formats);
+      identifiers = sym (append-nil s.identifiers);
+      strings = refl;
+      refs = sym (append-nil s.refs);
+      names = ap (λ (r : Result Named XlsError). s.names ++ listed (result_ok r)) (sym f);
+      sheets = sym (append-nil s.sheets);
+    }),
+  )
 
   table_says : (body : List ℕ) (shared : Shared) (len : ℕ) → len ≡ length body
       → Says options is (table_item body shared) (table_step s (texts_of len shared))
@@ -359,6 +433,8 @@ module _ (options : XlsOptions) (is : List Item) (s : State) (h : IsState option
       formats = sym (append-nil s.formats);
       identifiers = sym (append-nil s.identifiers);
       strings = refl;
+      refs = sym (append-nil s.refs);
+      names = sym (append-nil s.names);
       sheets = sym (append-nil s.sheets);
     }),
   )
@@ -376,6 +452,8 @@ module _ (options : XlsOptions) (is : List Item) (s : State) (h : IsState option
       formats = sym (append-nil s.formats);
       identifiers = sym (append-nil s.identifiers);
       strings = refl;
+      refs = sym (append-nil s.refs);
+      names = sym (append-nil s.names);
       sheets = ap (λ (r : Result (ℕ × SheetContent) XlsError). s.sheets ++ map pair_of (listed (option_map (λ (x : ℕ × SheetContent). record {
         offset = x.0;
         head = x.1;
@@ -416,9 +494,6 @@ not_among n t [] i h = absurd i
 not_among n t (u ∷ ts) i h = not_step n t u ts (not_among n t ts) (n == u) refl i h
 
 module _ (options : XlsOptions) (is : List Item) (s : State) (h : IsState options is s) where
-  unbuilt_says : (body : List ℕ) → Says options is (plain_item 24 body) (plain_step options s 24 body)
-  unbuilt_says body = refl
-
   plain_says : (typ : ℕ) (body : List ℕ) → is_among typ globals_types ≡ true
       → is_plain_type typ ≡ true → Says options is (plain_item typ body) (plain_step options s typ body)
   plain_says typ body a p = elim (among typ globals_types a) [
@@ -434,9 +509,9 @@ module _ (options : XlsOptions) (is : List Item) (s : State) (h : IsState option
             | inr r ↦ elim r [
               | inl e ↦ rw e (xf_says options is s h body (xf_at body) refl)
               | inr r ↦ elim r [
-                | inl e ↦ rw e (unbuilt_says body)
+                | inl e ↦ rw e (name_says options is s h body (lbl_at s.page s.version body) refl)
                 | inr r ↦ elim r [
-                  | inl e ↦ rw e (extern_says options is s h body (refs_at s.version body) (ap (λ (v : Biff). fault_of (refs_at v body)) (sym h.version)))
+                  | inl e ↦ rw e (refs_says options is s h body (refs_at s.version body) refl)
                   | inr r ↦ elim r [
                     | inl e ↦ absurd (let f : false ≡ true = rw e at p in cc)
                     | inr r ↦ elim r [

@@ -18,13 +18,13 @@ use Rattle.xls_book.specs.RecordTable.{fault_of, forced_fault, texts_of, sheet_o
 use Rattle.xls_book.specs.Reading.{Workbook, IsReading}
 use Rattle.xls_book.specs.Faults.{limit_fault, outer_fault, item_fault, kept_fault, cut_fault, part_places, sheet_places, globals_places, places, FirstBehind, FirstFault, IsSound, entry_fault, IsFullSheet, IsFull}
 use Rattle.xls_book.specs.Causes.{Rose}
-use Rattle.xls_book.specs.Opening.{ReadCause, OpenCause, IsOpened}
+use Rattle.xls_book.specs.Opening.{IsOfOpening, ReadCause, OpenCause, IsOpened}
 use Rattle.xls_book.specs.Steps.{Opened, opened_of, IsStreamOpened, StreamFault, OpensStream}
 use Rattle.xls_book.specs.declared.options.XlsOptions.{XlsOptions}
 use Rattle.xls_book.proofs.OrderLemmas.{or_none, none_both, none_append}
 use Rattle.xls_book.proofs.GlobalsLemmas.{entries_push}
 use Rattle.xls_book.proofs.OpenLemmas.{IsFine, opened_places, after_globals, carries_full, long_sheet, same_fault}
-use Rattle.xls_book.proofs.ClearLemmas.{IsClear, forced_clear, not_io}
+use Rattle.xls_book.proofs.ClearLemmas.{IsClear, forced_clear, of_stream, is_of_opening}
 
 -- ---- the byte limit
 
@@ -280,7 +280,7 @@ opened_of_stream options bytes book within o = record {
 
 stream_cause : (options : XlsOptions) (bytes : List ℕ) (left : Option (List ℕ)) (before now : ℕ) (e : XlsError) → IfSome left (λ all. all ≡ bytes) → length bytes ≤ options.max_bytes → forced_fault options.force_codepage ≡ None → OpensStream options bytes (Err e) → OpenCause options left before now e
 stream_cause options bytes left before now errors.Memory same within forced o = tt
-stream_cause options bytes left before now errors.Io same within forced o = absurd (not_io options bytes o)
+stream_cause options bytes left before now errors.Io same within forced o = absurd (of_stream options bytes errors.Io o)
 stream_cause options bytes None before now e same within forced o = tt
 stream_cause options bytes (Some all) before now e same within forced o =
     subst (λ (x : List ℕ). FirstFault options x e) (sym same) (stream_first options bytes e within forced o)
@@ -306,6 +306,27 @@ pub open_cause : (options : XlsOptions) (bytes : List ℕ) (left : Option (List 
 open_cause options bytes left before now (Ok book) same within forced o = tt
 open_cause options bytes left before now (Err e) same within forced o =
     stream_cause options bytes left before now e same within forced o
+
+-- each refusal is one of opening
+pub read_named : (limit : ℕ) (left : Option (List ℕ)) (before now : ℕ) (e : XlsError)
+    → ReadCause limit left before now e → IsOfOpening e
+read_named limit left before now errors.Io c = tt
+read_named limit left before now errors.Memory c = tt
+read_named limit left before now (errors.TooLarge n) c = tt
+read_named limit left before now e c = absurd c
+
+pub forced_named : (o : Option ℕ) (e : XlsError) → forced_fault o ≡ Some e → IsOfOpening e
+forced_named o e h = is_of_opening e (subst IsClear h (forced_clear o))
+
+stream_named : (options : XlsOptions) (bytes : List ℕ) (e : XlsError) → OpensStream options bytes (Err e)
+    → IsOfOpening e
+stream_named options bytes errors.Memory o = tt
+stream_named options bytes e o = is_of_opening e (of_stream options bytes e o)
+
+pub open_named : (options : XlsOptions) (bytes : List ℕ) (r : Result Workbook XlsError)
+    → OpensStream options bytes r → IfErr r IsOfOpening
+open_named options bytes (Ok book) o = tt
+open_named options bytes (Err e) o = stream_named options bytes e o
 
 complete_error : (options : XlsOptions) (left : Option (List ℕ)) (before now : ℕ) (e : XlsError)
     → OpenCause options left before now e → (Rose before now → ⊥)

@@ -10,3 +10,7 @@ pub mod OrderLemmas
 pub mod PartLemmas
 pub mod RegionLemmas
 pub mod WorksheetLemmas
+pub mod NamingLemmas
+pub mod ShownLemmas
+pub mod FormulaLemmas
+pub mod StandardFacts

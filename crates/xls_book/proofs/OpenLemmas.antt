@@ -21,8 +21,9 @@ use Rattle.xls_biff.specs.declared.error.XlsError.{XlsError}
 use Rattle.xls_biff.specs.declared.error.XlsError.TheVariants as errors
 use Rattle.xls_biff.specs.declared.globals.Biff.{Biff}
 use Rattle.xls_biff.specs.Strings.{head_of, visible_at, kind_at, named_sheet, short_string_at, sheet_head_at, bound_sheet_at}
+use Rattle.xls_formula.specs.Context.{Context}
 use Rattle.xls_book.specs.Order.{along, first_of, somes}
-use Rattle.xls_book.specs.InForce.{page_in, version_in, is_1904_in, formats_in, identifiers_in, class_in, classes_in, texts_in, Setting, setting_of}
+use Rattle.xls_book.specs.InForce.{page_in, version_in, is_1904_in, formats_in, identifiers_in, class_in, classes_in, texts_in, context_of, Setting, setting_of}
 use Rattle.xls_book.specs.RecordTable.{fault_of, forced_fault, texts_of, sheet_of}
 use Rattle.xls_book.specs.Reading.{SheetRecords, SheetView, IsContent, IsShown, sheet_in, sheets_of, Workbook, IsReading}
 use Rattle.xls_book.specs.Faults.{item_fault, kept_fault, cut_fault, part_places, sheet_places, globals_places, places, entry_fault, IsFullSheet, IsFull}
@@ -35,7 +36,7 @@ use Rattle.xls_book.proofs.ContentsLemmas.{heads, same_length, all_shown}
 
 -- ---- a BoundSheet8, by its bytes and by its entry
 
-abbrev Found : Type 0
+abbrev pub Found : Type 0
 Found = Result (ℕ × SheetContent) XlsError
 
 abbrev at_offset : ℕ → Found → Found
@@ -101,7 +102,7 @@ abbrev pub sheet_view : Opened → SheetRecords
 sheet_view o = (o.head, o.kept)
 
 -- what BoundSheet8 of these bytes says behind these items
-abbrev said : XlsOptions → List Item → List ℕ → Found
+abbrev pub said : XlsOptions → List Item → List ℕ → Found
 said options before body =
     bound_sheet_at (page_in options (map entry_of before)) (version_in (map entry_of before)) body
 
@@ -112,7 +113,7 @@ module _ (options : XlsOptions) (s : Setting) where
     pub full : AllByRecursion (IsFullSheet options s) (map entry_of items)
     pub sheets : somes (along (sheet_in options) (map entry_of before) (map entry_of items)) ≡ map sheet_view (somes (along (opened_in options) before items))
 
-  no_head : (before : List Item) (body : List ℕ) (e : XlsError) (os : List (Option XlsError))
+  pub no_head : (before : List Item) (body : List ℕ) (e : XlsError) (os : List (Option XlsError))
       → said options before body ≡ Err e
       → option_or (fault_of (said options before body)) (first_of os) ≡ None → ⊥
   no_head before body e os h f =
@@ -377,30 +378,34 @@ globals_refused stream options e r =
       first_early (globals_places options r.0 r.1) (flat_map (sheet_places options (setting_of options (map entry_of r.0))) r.0) e r.3,
     )
 
-same_setting : (p q : XlsEncoding) (c d : List CellFormat) (ss ts : List (List ℕ)) (x y : Bool) (v w : Biff)
-    → p ≡ q → c ≡ d → ss ≡ ts → x ≡ y → v ≡ w
+same_setting : (p q : XlsEncoding) (c d : List CellFormat) (ss ts : List (List ℕ)) (x y : Bool) (v w : Biff) (n m : Context)
+    → p ≡ q → c ≡ d → ss ≡ ts → x ≡ y → v ≡ w → n ≡ m
     → ◌≡◌ {A = Setting} (record {
       force = record { page = p; classes = c; strings = ss; is_1904 = x };
       version = v;
+      context = n;
     }) (record {
       force = record { page = q; classes = d; strings = ts; is_1904 = y };
       version = w;
+      context = m;
     })
-same_setting p q c d ss ts x y v w e f g h i = rw (e, f, g, h, i) refl
+same_setting p q c d ss ts x y v w n m e f g h i j = rw (e, f, g, h, i, j) refl
 
 -- what the code reads the sheets under is what the items give
-pub setting_is : (options : XlsOptions) (items : List Item) (t : State) (classes : List CellFormat)
+pub setting_is : (options : XlsOptions) (items : List Item) (t : State) (classes : List CellFormat) (context : Context)
     → IsState options items t → classes ≡ map (class_in t.formats) t.identifiers
+    → context ≡ context_of options (map entry_of items)
     → ◌≡◌ {A = Setting} (record {
       force = record { page = t.page; classes = classes; strings = t.strings; is_1904 = t.is_1904 };
       version = t.version;
+      context = context;
     }) (setting_of options (map entry_of items))
-setting_is options items t classes h e =
+setting_is options items t classes context h e c =
     let es = map entry_of items in
-    same_setting t.page (page_in options es) classes (classes_in options es) t.strings (texts_in es) t.is_1904 (is_1904_in es) t.version (version_in es) h.page
+    same_setting t.page (page_in options es) classes (classes_in options es) t.strings (texts_in es) t.is_1904 (is_1904_in es) t.version (version_in es) context (context_of options es) h.page
     (e ∙ ap (λ (fs : List (ℕ × CellFormat)). map (class_in fs) t.identifiers) h.formats
     ∙ ap (map (class_in (formats_in options es))) h.identifiers)
-    h.strings h.is_1904 h.version
+    h.strings h.is_1904 h.version c
 
 module _ (options : XlsOptions) (stream : List ℕ) (fits : IsBytes stream) (t : State) (a : AreGlobals options stream t) where
   -- what the sheets are read under
@@ -432,8 +437,9 @@ module _ (options : XlsOptions) (stream : List ℕ) (fits : IsBytes stream) (t :
       → book.sheets ≡ map (λ (q : ℕ × SheetContent). q.1) t.sheets
       → book.contents ≡ shown (paired (map (λ (q : ℕ × SheetContent). q.1) t.sheets) views) (map (λ (q : ℕ × SheetContent). q.1) t.sheets)
       → book.is_1904 ≡ setting.force.is_1904 → book.classes ≡ setting.force.classes
+      → book.names ≡ setting.context.names
       → IsStreamOpened options stream book × (length views ≡ length (map (λ (q : ℕ × SheetContent). q.1) t.sheets))
-  opened_so views book forced c kept sheets contents date classes =
+  opened_so views book forced c kept sheets contents date classes names =
       let heads_of = map (λ (q : ℕ × SheetContent). q.1) t.sheets in
       let m = matched options setting stream fits (opened_of options a.items) t.sheets views (sym a.state.sheets) stands c in
       let g = good options setting a.items [] a.faultless m.fine in
@@ -447,6 +453,7 @@ module _ (options : XlsOptions) (stream : List ℕ) (fits : IsBytes stream) (t :
           reading = record {
             kept = kept;
             sheets = sheets ∙ heads setting heads_of views (sheets_of options (map entry_of a.items)) are;
+            names = names;
             contents = subst (λ (x : List SheetView). AllZip (IsShown setting (sheets_of options (map entry_of a.items))) x (sheets_of options (map entry_of a.items))) (sym contents)
                 (all_shown setting heads_of views (sheets_of options (map entry_of a.items)) are);
             date_system = date;
@@ -464,30 +471,33 @@ module _ (options : XlsOptions) (stream : List ℕ) (fits : IsBytes stream) (t :
       contents_refused e (subst (λ (x : Sheets). ReadsContents options setting stream x (Err e)) listed
       (subst (λ (x : Setting). ReadsContents options x stream sheets (Err e)) same r))
 
-  pub opened_under : (s : Setting) (sheets : Sheets) (heads_of : List SheetContent) (views : List SheetView) (is_1904 : Bool) (classes : List CellFormat)
+  pub opened_under : (s : Setting) (sheets : Sheets) (heads_of : List SheetContent) (views : List SheetView) (is_1904 : Bool) (classes : List CellFormat) (told : List (List ℕ × List ℕ))
       → s ≡ setting → sheets ≡ t.sheets → heads_of ≡ map (λ (q : ℕ × SheetContent). q.1) sheets
       → forced_fault options.force_codepage ≡ None → AreContents options s stream sheets views
-      → is_1904 ≡ s.force.is_1904 → classes ≡ s.force.classes
+      → is_1904 ≡ s.force.is_1904 → classes ≡ s.force.classes → told ≡ s.context.names
       → IsStreamOpened options stream (record {
         options = options;
         sheets = heads_of;
+        names = told;
         contents = shown (paired heads_of views) heads_of;
         is_1904 = is_1904;
         classes = classes;
       }) × (length views ≡ length heads_of)
-  opened_under s sheets heads_of views is_1904 classes same listed named forced c date formats =
+  opened_under s sheets heads_of views is_1904 classes told same listed named forced c date formats told_is =
       let names : heads_of ≡ map (λ (q : ℕ × SheetContent). q.1) t.sheets =
       named ∙ ap (map (λ (q : ℕ × SheetContent). q.1)) listed in
       let o = opened_so views (record {
         options = options;
         sheets = heads_of;
+        names = told;
         contents = shown (paired heads_of views) heads_of;
         is_1904 = is_1904;
         classes = classes;
       }) forced
       (subst (λ (x : Sheets). AreContents options setting stream x views) listed (subst (λ (x : Setting). AreContents options x stream sheets views) same c))
       refl names (ap (λ (x : List SheetContent). shown (paired x views) x) names)
-      (date ∙ ap (λ (x : Setting). x.force.is_1904) same) (formats ∙ ap (λ (x : Setting). x.force.classes) same) in
+      (date ∙ ap (λ (x : Setting). x.force.is_1904) same) (formats ∙ ap (λ (x : Setting). x.force.classes) same)
+      (told_is ∙ ap (λ (x : Setting). x.context.names) same) in
       (o.0, o.1 ∙ ap length (sym names))
 
 -- what was read stands in order
@@ -497,4 +507,4 @@ all_ordered options s stream [] [] c = tt
 all_ordered options s stream [] (v ∷ views) c = absurd c
 all_ordered options s stream (q ∷ sheets) [] c = absurd c
 all_ordered options s stream (q ∷ sheets) (v ∷ views) c =
-    (c.0.content.ascending, all_ordered options s stream sheets views c.1)
+    ((c.0.content.ascending, c.0.content.formulas_ascending), all_ordered options s stream sheets views c.1)

@@ -1,6 +1,8 @@
 -- Going along a list, and the first that is there.
 use Rattle.std.proofs.Common.{◌≡◌, List, [], ◌∷◌, ◌++◌, Option, Some, None, refl, sym, ap, ◌∙◌, append_assoc, map}
+use Rattle.std.specs.Prelude.{unwrap_or}
 use Rattle.std.specs.Option.{option_or}
+use Rattle.std.specs.List.{flat_map}
 use Rattle.std.proofs.lemmas.List.{append-nil}
 use Rattle.xls_book.specs.Order.{along, first_of, last_of, somes}
 
@@ -85,3 +87,15 @@ module _ {X E : Type 0} (f : X → Option E) where
   last-push (y ∷ ys) x =
       ap (λ (o : Option E). option_or o (f y)) (last-push ys x)
       ∙ or_assoc (f x) (last_of (map f ys)) (f y)
+
+-- behind one more, what is unwrapped is its own, if there is one
+pub unwrap_push : {X : Type 0} (said last : Option X) (x : X)
+    → unwrap_or (option_or said last) x ≡ unwrap_or said (unwrap_or last x)
+unwrap_push None last x = refl
+unwrap_push (Some p) last x = refl
+
+pub flat_push : {X Y : Type 0} (f : X → List Y) (xs : List X) (x : X)
+    → flat_map f (xs ++ x ∷ []) ≡ flat_map f xs ++ f x
+flat_push f [] x = append-nil (f x)
+flat_push {Y = Y} f (y ∷ ys) x =
+    ap (λ (l : List Y). f y ++ l) (flat_push f ys x) ∙ sym (append_assoc (f y) (flat_map f ys) (f x))

@@ -1,6 +1,7 @@
 -- The records of a part, one after the other.
 use Rattle.std.proofs.Common.{◌≡◌, ℕ, ◌+◌, ◌<◌, ◌≤◌, ◌-◌, List, [], ◌∷◌, ◌++◌, map, refl, sym, ap, subst, ◌∙◌, append_assoc, arith, inl, inr, Bool, true, false, Option, Some, None, Result, Ok, Err}
-use Rattle.std.specs.Prelude.{◌&&◌, ◌==◌, nat_lt, if◌then◌else◌}
+use Rattle.std.specs.Prelude.{String, ◌&&◌, ◌==◌, nat_lt, if◌then◌else◌, unwrap_or}
+use Rattle.std.specs.Global.{Global}
 use Rattle.std.specs.Option.{option_or, option_map}
 use Rattle.std.specs.List.{flat_map}
 use Rattle.std.proofs.lemmas.List.{append-nil, map-append}
@@ -21,17 +22,19 @@ use Rattle.xls_biff.specs.declared.error.XlsError.{XlsError}
 use Rattle.xls_biff.specs.declared.error.XlsError.TheVariants as errors
 use Rattle.xls_biff.specs.Outer.{Keeps, Over, CutShort}
 use Rattle.xls_biff.specs.Reading.{Fails}
+use Rattle.xls_biff.specs.Texts.{text_of}
 use Rattle.xls_biff.specs.Checks.{weight_of}
 use Rattle.xls_biff.specs.Cells.{Entry}
 use Rattle.xls_cells.specs.Positions.{Position, IsAscending, last_at, cell_position}
-use Rattle.xls_book.specs.Order.{along, first_of}
+use Rattle.xls_book.specs.Order.{along, first_of, last_of}
 use Rattle.xls_book.specs.InForce.{Setting}
-use Rattle.xls_book.specs.RecordTable.{fault_of, Given, given_at}
-use Rattle.xls_book.specs.Reading.{SheetView, given_by, values_of, merges_of}
+use Rattle.xls_book.specs.RecordTable.{fault_of}
+use Rattle.xls_book.specs.SheetTable.{FormulaEntry, Given, given_at, formula_position, last_formula, given_in}
+use Rattle.xls_book.specs.Reading.{SheetView, given_by, gifts_of, values_of, formulas_of, merges_of}
 use Rattle.xls_book.specs.Faults.{weight_in, weight_fault, kept_fault, cut_fault, part_places}
-use Rattle.xls_book.specs.Steps.{cell_content, no_view, given_step, weight_left, IsRead, PartFault, Reads}
+use Rattle.xls_book.specs.Steps.{cell_content, formula_content, no_view, given_step, weight_left, IsRead, PartFault, Reads}
 use Rattle.xls_book.specs.declared.options.XlsOptions.{XlsOptions}
-use Rattle.xls_book.proofs.OrderLemmas.{first_at, none_push, first_behind}
+use Rattle.xls_book.proofs.OrderLemmas.{first_at, none_push, first_behind, along-push, last-push, unwrap_push, flat_push}
 
 part_from : (part : List ℕ) (groups : List Group) (cut : Option Part) → IsBytes part
     → From (found_from 0) part groups cut → SheetPart part groups cut
@@ -96,34 +99,60 @@ keeps_bytes before was g after now k fits = run_bytes before (k.groups ++ g ∷ 
 kept_push : (gs : List Group) (g : Group) → kept_of (gs ++ g ∷ []) ≡ kept_of gs ++ kept_group g ∷ []
 kept_push gs g = map-append kept_group gs (g ∷ [])
 
-flat_push : {X Y : Type 0} (f : X → List Y) (xs : List X) (x : X)
-    → flat_map f (xs ++ x ∷ []) ≡ flat_map f xs ++ f x
-flat_push f [] x = append-nil (f x)
-flat_push {Y = Y} f (y ∷ ys) x =
-    ap (λ (l : List Y). f y ++ l) (flat_push f ys x) ∙ sym (append_assoc (f y) (flat_map f ys) (f x))
+-- what is given behind one more record
+gifts_push : (s : Setting) (ks : List Kept) (k : Kept)
+    → gifts_of s (ks ++ k ∷ []) ≡ gifts_of s ks ++ given_by (given_in s ks k) ∷ []
+gifts_push s ks k =
+    ap (map given_by) (along-push (given_in s) ks k)
+    ∙ map-append given_by (along (given_in s) [] ks) (given_in s ks k ∷ [])
+
+gift_push : {X : Type 0} (f : Given → List X) (s : Setting) (ks : List Kept) (k : Kept)
+    → flat_map f (gifts_of s (ks ++ k ∷ [])) ≡ flat_map f (gifts_of s ks) ++ f (given_by (given_in s ks k))
+gift_push f s ks k =
+    ap (flat_map f) (gifts_push s ks k) ∙ flat_push f (gifts_of s ks) (given_by (given_in s ks k))
+
+-- where the last Formula stands
+place_push : (ks : List Kept) (k : Kept) (at behind : Position) → at ≡ last_formula ks
+    → behind ≡ unwrap_or (formula_position k) at → behind ≡ last_formula (ks ++ k ∷ [])
+place_push ks k at behind had is =
+    is ∙ ap (unwrap_or (formula_position k)) had
+    ∙ sym (unwrap_push (formula_position k) (last_of (map formula_position ks)) (0, 0))
+    ∙ ap (λ (o : Option Position). unwrap_or o (0, 0)) (sym (last-push formula_position ks k))
 
 weight_push : (ks : List Kept) (k : Kept) → weight_in (ks ++ k ∷ []) ≡ weight_in ks + weight_of k.typ k.body
 weight_push [] k = omega arith
 weight_push (j ∷ ks) k = let on = weight_push ks k in omega (arith, on)
 
 -- behind a record that was taken
-record Took (s : Setting) (k : Kept) (v w : SheetView) : Type 0 where
-  pub none : fault_of (given_at s k) ≡ None
-  pub cells : w.cells ≡ v.cells ++ (given_by (given_at s k)).cells
-  pub merges : w.merges ≡ v.merges ++ (given_by (given_at s k)).regions
+record Took (s : Setting) (before : List Kept) (k : Kept) (v w : SheetView) : Type 0 where
+  pub none : fault_of (given_in s before k) ≡ None
+  pub cells : w.cells ≡ v.cells ++ (given_by (given_in s before k)).cells
+  pub formulas : w.formulas ≡ v.formulas ++ (given_by (given_in s before k)).formulas
+  pub merges : w.merges ≡ v.merges ++ (given_by (given_in s before k)).regions
 
-took : (s : Setting) (k : Kept) (v w : SheetView) (r : Result Given XlsError) → given_at s k ≡ r
-    → given_step v r ≡ Ok w → Took s k v w
-took s k v w (Err e) f h = absurd cc
-took s k v w (Ok g) f h =
-    let same : record { cells = v.cells ++ g.cells; merges = v.merges ++ g.regions } ≡ w = cc in
+took : (s : Setting) (before : List Kept) (k : Kept) (v w : SheetView) (r : Result Given XlsError)
+    → given_in s before k ≡ r → given_step v r ≡ Ok w → Took s before k v w
+took s before k v w (Err e) f h = absurd cc
+took s before k v w (Ok g) f h =
+    let same : record {
+      cells = v.cells ++ g.cells;
+      formulas = v.formulas ++ g.formulas;
+      merges = v.merges ++ g.regions;
+    } ≡ w = cc in
     record {
       none = ap (fault_of {X = Given}) f;
       cells = ap (λ (x : SheetView). x.cells) (sym same)
           ∙ ap (λ (r : Result Given XlsError). v.cells ++ (given_by r).cells) (sym f);
+      formulas = ap (λ (x : SheetView). x.formulas) (sym same)
+          ∙ ap (λ (r : Result Given XlsError). v.formulas ++ (given_by r).formulas) (sym f);
       merges = ap (λ (x : SheetView). x.merges) (sym same)
           ∙ ap (λ (r : Result Given XlsError). v.merges ++ (given_by r).regions) (sym f);
     }
+
+-- the code has the position of the last Formula at hand
+at_last : {X : Type 0} (says : Result SheetView XlsError → X → Type 0) (s : Setting) (before : List Kept) (k : Kept) (at : Position) (v : SheetView) (x : X)
+    → at ≡ last_formula before → says (given_step v (given_at s at k)) x → says (given_step v (given_in s before k)) x
+at_last says s before k at v x e h = subst (λ (q : Position). says (given_step v (given_at s q k)) x) e h
 
 -- behind a record whose weight was taken
 has_room : (limit room weight left : ℕ) → weight_left limit room weight ≡ Ok left → room ≡ left + weight
@@ -163,7 +192,7 @@ heavy options ks h = let t : nat_lt options.max_cells (weight_in ks) ≡ true = 
 
 -- ---- the part so far
 
-pub record PartSoFar (part rest : List ℕ) (depth : ℕ) (options : XlsOptions) (s : Setting) (v : SheetView) (room : ℕ) : Type 0 where
+pub record PartSoFar (part rest : List ℕ) (depth : ℕ) (options : XlsOptions) (s : Setting) (v : SheetView) (room : ℕ) (at : Position) : Type 0 where
   pub groups : List Group
   pub joins : (more : List Group) (cut : Option Part) → From (found_from depth) rest more cut
       → From (found_from 0) part (groups ++ more) cut
@@ -171,11 +200,14 @@ pub record PartSoFar (part rest : List ℕ) (depth : ℕ) (options : XlsOptions)
   pub fits : IsBytes rest
   pub faultless : first_of (along (kept_fault options s) [] (kept_of groups)) ≡ None
   pub cells : v.cells ≡ values_of s (kept_of groups)
+  pub formulas : v.formulas ≡ formulas_of s (kept_of groups)
   pub merges : v.merges ≡ merges_of s (kept_of groups)
   pub weighed : room + weight_in (kept_of groups) ≡ options.max_cells
+  pub place : at ≡ last_formula (kept_of groups)
 
 pub part_nothing : (part : List ℕ) (options : XlsOptions) (s : Setting) (v : SheetView) (room : ℕ)
-    → IsBytes part → v ≡ no_view → room ≡ options.max_cells → PartSoFar part part 0 options s v room
+    → IsBytes part → v ≡ no_view → room ≡ options.max_cells
+    → PartSoFar part part 0 options s v room (0, 0)
 part_nothing part options s v room fits e r = record {
   groups = [];
   joins = λ more cut f. f;
@@ -183,25 +215,28 @@ part_nothing part options s v room fits e r = record {
   fits = fits;
   faultless = refl;
   cells = ap (λ (x : SheetView). x.cells) e;
+  formulas = ap (λ (x : SheetView). x.formulas) e;
   merges = ap (λ (x : SheetView). x.merges) e;
   weighed = omega (arith, r);
+  place = refl;
 }
 
-joined : (part rest after : List ℕ) (depth now : ℕ) (options : XlsOptions) (s : Setting) (v : SheetView) (room : ℕ) (g : Group) (p : PartSoFar part rest depth options s v room) → Keeps rest depth g after now
+joined : (part rest after : List ℕ) (depth now : ℕ) (options : XlsOptions) (s : Setting) (v : SheetView) (room : ℕ) (at : Position) (g : Group) (p : PartSoFar part rest depth options s v room at) → Keeps rest depth g after now
     → (more : List Group) (cut : Option Part) → From (found_from now) after more cut
     → From (found_from 0) part (p.groups ++ g ∷ more) cut
-joined part rest after depth now options s v room g p k more cut f =
+joined part rest after depth now options s v room at g p k more cut f =
     p.joins (g ∷ more) cut (keeps_from rest depth g after now more cut k f)
 
-pub part_more : (part rest after : List ℕ) (depth now : ℕ) (options : XlsOptions) (s : Setting) (v w : SheetView) (room left : ℕ) (g : Group) → PartSoFar part rest depth options s v room → Keeps rest depth g after now
-    → given_step v (given_at s (kept_group g)) ≡ Ok w
+pub part_more : (part rest after : List ℕ) (depth now : ℕ) (options : XlsOptions) (s : Setting) (v w : SheetView) (room left : ℕ) (at behind : Position) (g : Group) → PartSoFar part rest depth options s v room at → Keeps rest depth g after now
+    → given_step v (given_at s at (kept_group g)) ≡ Ok w
     → weight_left options.max_cells room (weight_of g.typ g.body) ≡ Ok left
-    → PartSoFar part after now options s w left
-part_more part rest after depth now options s v w room left g p k given weight =
+    → behind ≡ unwrap_or (formula_position (kept_group g)) at
+    → PartSoFar part after now options s w left behind
+part_more part rest after depth now options s v w room left at behind g p k given weight moved =
     let old = kept_of p.groups in
     let one = kept_group g in
     let new : kept_of (p.groups ++ g ∷ []) ≡ old ++ one ∷ [] = kept_push p.groups g in
-    let t = took s one v w (given_at s one) refl given in
+    let t = took s old one v w (given_in s old one) refl (at_last (λ (r : Result SheetView XlsError) (x : SheetView). r ≡ Ok x) s old one at v w p.place given) in
     let fits = has_room options.max_cells room (weight_of g.typ g.body) left weight in
     let heavier = weight_push old one in
     let had = p.weighed in
@@ -211,17 +246,20 @@ part_more part rest after depth now options s v w room left g p k given weight =
     ∙ light options (old ++ one ∷ []) (omega (arith, sum)) in
     record {
       groups = p.groups ++ g ∷ [];
-      joins = λ more cut f. subst (λ (x : List Group). From (found_from 0) part x cut) (sym (append_assoc p.groups (g ∷ []) more)) (joined part rest after depth now options s v room g p k more cut f);
+      joins = λ more cut f. subst (λ (x : List Group). From (found_from 0) part x cut) (sym (append_assoc p.groups (g ∷ []) more)) (joined part rest after depth now options s v room at g p k more cut f);
       part_fits = p.part_fits;
       fits = keeps_bytes rest depth g after now k p.fits;
       faultless = rw new (none_push (kept_fault options s) old one p.faultless none);
-      cells = t.cells ∙ ap (λ (l : List Entry). l ++ (given_by (given_at s one)).cells) p.cells
-          ∙ sym (flat_push (λ (x : Kept). (given_by (given_at s x)).cells) old one)
-          ∙ ap (values_of s) (sym new);
-      merges = t.merges ∙ ap (λ (l : List Dimensions). l ++ (given_by (given_at s one)).regions) p.merges
-          ∙ sym (flat_push (λ (x : Kept). (given_by (given_at s x)).regions) old one)
-          ∙ ap (merges_of s) (sym new);
+      cells = t.cells ∙ ap (λ (l : List Entry). l ++ (given_by (given_in s old one)).cells) p.cells
+          ∙ sym (gift_push (λ (x : Given). x.cells) s old one) ∙ ap (values_of s) (sym new);
+      formulas = t.formulas
+          ∙ ap (λ (l : List FormulaEntry). l ++ (given_by (given_in s old one)).formulas) p.formulas
+          ∙ sym (gift_push (λ (x : Given). x.formulas) s old one) ∙ ap (formulas_of s) (sym new);
+      merges = t.merges
+          ∙ ap (λ (l : List Dimensions). l ++ (given_by (given_in s old one)).regions) p.merges
+          ∙ sym (gift_push (λ (x : Given). x.regions) s old one) ∙ ap (merges_of s) (sym new);
       weighed = ap (λ (ks : List Kept). left + weight_in ks) new ∙ sum;
+      place = place_push old one at behind p.place moved ∙ ap last_formula (sym new);
     }
 
 -- ---- faults
@@ -231,56 +269,58 @@ pub faulty : (Stands : List Kept → Option Part → Type 0) (options : XlsOptio
 faulty Stands options s errors.Memory h = tt
 faulty Stands options s e h = h
 
-record_fault : (part rest after : List ℕ) (depth now : ℕ) (options : XlsOptions) (s : Setting) (v : SheetView) (room : ℕ) (g : Group) (e : XlsError) (p : PartSoFar part rest depth options s v room) → Keeps rest depth g after now
+record_fault : (part rest after : List ℕ) (depth now : ℕ) (options : XlsOptions) (s : Setting) (v : SheetView) (room : ℕ) (at : Position) (g : Group) (e : XlsError) (p : PartSoFar part rest depth options s v room at) → Keeps rest depth g after now
     → kept_fault options s (kept_of p.groups) (kept_group g) ≡ Some e
     → PartFault (IsPart part) options s e
-record_fault part rest after depth now options s v room g e p k f =
+record_fault part rest after depth now options s v room at g e p k f =
     let others = has_from (found_from now) after (keeps_bytes rest depth g after now k p.fits) in
     let all = p.groups ++ g ∷ others.0 in
     let kept : kept_of all ≡ kept_of p.groups ++ kept_group g ∷ kept_of others.0 =
     map-append kept_group p.groups (g ∷ others.0) in (
       kept_of all,
       others.1,
-      (all, part_from part all others.1 p.part_fits (joined part rest after depth now options s v room g p k others.0 others.1 others.2), refl),
+      (all, part_from part all others.1 p.part_fits (joined part rest after depth now options s v room at g p k others.0 others.1 others.2), refl),
       ap (λ (l : List Kept). first_of (part_places options s l others.1)) kept
           ∙ first_at (kept_fault options s) (kept_of p.groups) (kept_group g) (kept_of others.0) (cut_fault others.1 ∷ []) e p.faultless f,
     )
 
-own_fault : (s : Setting) (k : Kept) (v : SheetView) (e : XlsError) (r : Result Given XlsError)
-    → given_at s k ≡ r → given_step v r ≡ Err e → fault_of (given_at s k) ≡ Some e
-own_fault s k v e (Err f) h g = ap (fault_of {X = Given}) h ∙ (let same : f ≡ e = cc in ap (λ (x : XlsError). Some x) same)
-own_fault s k v e (Ok x) h g = absurd cc
+own_fault : (s : Setting) (before : List Kept) (k : Kept) (v : SheetView) (e : XlsError) (r : Result Given XlsError)
+    → given_in s before k ≡ r → given_step v r ≡ Err e → fault_of (given_in s before k) ≡ Some e
+own_fault s before k v e (Err f) h g = ap (fault_of {X = Given}) h ∙ (let same : f ≡ e = cc in ap (λ (x : XlsError). Some x) same)
+own_fault s before k v e (Ok x) h g = absurd cc
 
 -- a record's own fault
-pub record_refused : (part rest after : List ℕ) (depth now : ℕ) (options : XlsOptions) (s : Setting) (v : SheetView) (room : ℕ) (g : Group) (e : XlsError) → PartSoFar part rest depth options s v room → Keeps rest depth g after now
-    → Fails e (given_step v (given_at s (kept_group g))) → Reads (IsPart part) options s (Err e)
-record_refused part rest after depth now options s v room g errors.Memory p k f = tt
-record_refused part rest after depth now options s v room g e p k f =
-    let one = kept_group g in
-    let own = own_fault s one v e (given_at s one) refl f in
-    faulty (IsPart part) options s e (record_fault part rest after depth now options s v room g e p k
-    (ap (λ (o : Option XlsError). option_or o (weight_fault options (kept_of p.groups ++ one ∷ []))) own))
-
--- too many cells
-pub weight_refused : (part rest after : List ℕ) (depth now : ℕ) (options : XlsOptions) (s : Setting) (v w : SheetView) (room : ℕ) (g : Group) (e : XlsError) → PartSoFar part rest depth options s v room → Keeps rest depth g after now
-    → given_step v (given_at s (kept_group g)) ≡ Ok w
-    → weight_left options.max_cells room (weight_of g.typ g.body) ≡ Err e
-    → Reads (IsPart part) options s (Err e)
-weight_refused part rest after depth now options s v w room g e p k given weight =
+pub record_refused : (part rest after : List ℕ) (depth now : ℕ) (options : XlsOptions) (s : Setting) (v : SheetView) (room : ℕ) (at : Position) (g : Group) (e : XlsError) → PartSoFar part rest depth options s v room at → Keeps rest depth g after now
+    → Fails e (given_step v (given_at s at (kept_group g))) → Reads (IsPart part) options s (Err e)
+record_refused part rest after depth now options s v room at g errors.Memory p k f = tt
+record_refused part rest after depth now options s v room at g e p k f =
     let old = kept_of p.groups in
     let one = kept_group g in
-    let t = took s one v w (given_at s one) refl given in
+    let said : given_step v (given_in s old one) ≡ Err e = at_last (λ (r : Result SheetView XlsError) (x : XlsError). r ≡ Err x) s old one at v e p.place f in
+    let own = own_fault s old one v e (given_in s old one) refl said in
+    faulty (IsPart part) options s e (record_fault part rest after depth now options s v room at g e p k
+    (ap (λ (o : Option XlsError). option_or o (weight_fault options (old ++ one ∷ []))) own))
+
+-- too many cells
+pub weight_refused : (part rest after : List ℕ) (depth now : ℕ) (options : XlsOptions) (s : Setting) (v w : SheetView) (room : ℕ) (at : Position) (g : Group) (e : XlsError) → PartSoFar part rest depth options s v room at → Keeps rest depth g after now
+    → given_step v (given_at s at (kept_group g)) ≡ Ok w
+    → weight_left options.max_cells room (weight_of g.typ g.body) ≡ Err e
+    → Reads (IsPart part) options s (Err e)
+weight_refused part rest after depth now options s v w room at g e p k given weight =
+    let old = kept_of p.groups in
+    let one = kept_group g in
+    let t = took s old one v w (given_in s old one) refl (at_last (λ (r : Result SheetView XlsError) (x : SheetView). r ≡ Ok x) s old one at v w p.place given) in
     let n = no_room options.max_cells room (weight_of g.typ g.body) e weight in
     let heavier = weight_push old one in
     let had = p.weighed in
     let less = n.0 in
     let over : options.max_cells < weight_in (old ++ one ∷ []) = omega (arith, heavier, had, less) in
-    faulty (IsPart part) options s e (record_fault part rest after depth now options s v room g e p k
+    faulty (IsPart part) options s e (record_fault part rest after depth now options s v room at g e p k
     (ap (λ (o : Option XlsError). option_or o (weight_fault options (old ++ one ∷ []))) t.none
     ∙ heavy options (old ++ one ∷ []) over ∙ ap (λ (x : XlsError). Some x) (sym n.1)))
 
-pub part_cut : (part rest : List ℕ) (depth : ℕ) (options : XlsOptions) (s : Setting) (v : SheetView) (room : ℕ) (e : XlsError) → PartSoFar part rest depth options s v room → CutShort rest depth e → Reads (IsPart part) options s (Err e)
-part_cut part rest depth options s v room e p c =
+pub part_cut : (part rest : List ℕ) (depth : ℕ) (options : XlsOptions) (s : Setting) (v : SheetView) (room : ℕ) (at : Position) (e : XlsError) → PartSoFar part rest depth options s v room at → CutShort rest depth e → Reads (IsPart part) options s (Err e)
+part_cut part rest depth options s v room at e p c =
     faulty (IsPart part) options s e (
       kept_of (p.groups ++ []),
       Some c.part,
@@ -297,26 +337,39 @@ part_cut part rest depth options s v room e p c =
 
 -- ---- the end
 
-by_cell : (found : List (Position × Data)) (p : Position)
-    → last_at (map cell_content found) p ≡ option_map content_of (last_at found p)
-by_cell [] p = refl
-by_cell (x ∷ xs) p = rw (by_cell xs p) (both (last_at xs p) (x.0.0 == p.0 && x.0.1 == p.1))
-  where
-    both : (o : Option Data) (b : Bool)
-        → option_or (option_map content_of o) (if b then Some (content_of x.1) else None) ≡ option_map content_of (option_or o (if b then Some x.1 else None))
-    both (Some y) b = refl
-    both None true = refl
-    both None false = refl
+module _ {T X : Type 0} (content : T → X) where
+  by_content : (found : List (Position × T)) (p : Position)
+      → last_at (map (λ (c : Position × T). (c.0, content c.1)) found) p ≡ option_map content (last_at found p)
+  by_content [] p = refl
+  by_content (x ∷ xs) p = rw (by_content xs p) (both (last_at xs p) (x.0.0 == p.0 && x.0.1 == p.1))
+    where
+      both : (o : Option T) (b : Bool)
+          → option_or (option_map content o) (if b then Some (content x.1) else None) ≡ option_map content (option_or o (if b then Some x.1 else None))
+      both (Some y) b = refl
+      both None true = refl
+      both None false = refl
 
-pub positions : (found : List (Position × Data))
-    → map (λ (c : Entry). c.0) (map cell_content found) ≡ map cell_position found
-positions [] = refl
-positions (x ∷ xs) = ap (λ (l : List Position). x.0 ∷ l) (positions xs)
+  -- sorted cells by their contents
+  same_last : (found given : List (Position × T)) (p : Position) → last_at found p ≡ last_at given p
+      → last_at (map (λ (c : Position × T). (c.0, content c.1)) found) p ≡ last_at (map (λ (c : Position × T). (c.0, content c.1)) given) p
+  same_last found given p h =
+      by_content found p ∙ ap (option_map content) h ∙ sym (by_content given p)
 
-pub part_end : (part rest : List ℕ) (depth : ℕ) (options : XlsOptions) (s : Setting) (v : SheetView) (room : ℕ) (given found : List (Position × Data)) → PartSoFar part rest depth options s v room → Over rest depth → v.cells ≡ map cell_content given
-    → IsAscending (map cell_position found) → ((p : Position) → last_at found p ≡ last_at given p)
-    → IsRead (IsPart part) options s (record { cells = map cell_content found; merges = v.merges })
-part_end part rest depth options s v room given found p o e a h =
+  pub positions : (found : List (Position × T))
+      → map (λ (c : Position × X). c.0) (map (λ (c : Position × T). (c.0, content c.1)) found) ≡ map cell_position found
+  positions [] = refl
+  positions (x ∷ xs) = ap (λ (l : List Position). x.0 ∷ l) (positions xs)
+
+-- two lists of cells, of which one is the other in order
+pub record IsSorted {T : Type 0} (given found : List (Position × T)) : Type 0 where
+  pub ascending : IsAscending (map cell_position found)
+  pub last : (p : Position) → last_at found p ≡ last_at given p
+
+pub part_end : (part rest : List ℕ) (depth : ℕ) (options : XlsOptions) (s : Setting) (v : SheetView) (room : ℕ) (at : Position) (cells found_cells : List (Position × Data)) (texts found_texts : List (Position × String Global)) → PartSoFar part rest depth options s v room at → Over rest depth
+    → v.cells ≡ map cell_content cells → v.formulas ≡ map formula_content texts
+    → IsSorted cells found_cells → IsSorted texts found_texts
+    → IsRead (IsPart part) options s (record { cells = map cell_content found_cells; formulas = map formula_content found_texts; merges = v.merges })
+part_end part rest depth options s v room at cells found_cells texts found_texts p o e f c t =
     let all = p.groups ++ [] in
     let same : kept_of all ≡ kept_of p.groups = ap kept_of (append-nil p.groups) in
     record {
@@ -324,12 +377,14 @@ part_end part rest depth options s v room given found p o e a h =
       stands = (all, part_from part all None p.part_fits (p.joins [] None (over_from rest depth p.fits o)), refl);
       faultless = rw same p.faultless;
       content = record {
-        ascending = subst IsAscending (sym (positions found)) a;
+        ascending = subst IsAscending (sym (positions content_of found_cells)) c.ascending;
         last = λ q.
-            by_cell found q
-            ∙ ap (option_map content_of) (h q)
-            ∙ sym (by_cell given q)
+            same_last content_of found_cells cells q (c.last q)
             ∙ ap (λ (l : List Entry). last_at l q) (sym e ∙ p.cells ∙ ap (values_of s) (sym same));
+        formulas_ascending = subst IsAscending (sym (positions text_of found_texts)) t.ascending;
+        last_formulas = λ q.
+            same_last text_of found_texts texts q (t.last q)
+            ∙ ap (λ (l : List FormulaEntry). last_at l q) (sym f ∙ p.formulas ∙ ap (formulas_of s) (sym same));
         merges = p.merges ∙ ap (merges_of s) (sym same);
       };
     }

@@ -10,7 +10,8 @@ use Rattle.xls_biff.specs.Strings.{bound_sheet_at}
 use Rattle.xls_biff.specs.Checks.{weight_of}
 use Rattle.xls_book.specs.Order.{along, first_of}
 use Rattle.xls_book.specs.InForce.{page_in, version_in, Setting, setting_of}
-use Rattle.xls_book.specs.RecordTable.{fault_of, forced_fault, plain_fault, texts_of, sheet_of, given_at}
+use Rattle.xls_book.specs.RecordTable.{fault_of, forced_fault, plain_fault, texts_of, sheet_of}
+use Rattle.xls_book.specs.SheetTable.{given_in}
 use Rattle.xls_book.specs.declared.options.XlsOptions.{XlsOptions}
 
 -- ---- one place each
@@ -27,7 +28,7 @@ outer_fault options bytes = option_or (limit_fault options bytes) (forced_fault 
 -- a record of the globals, under those before it
 abbrev pub item_fault : XlsOptions → List Item → Item → Option XlsError
 item_fault options before (plain_item typ body) =
-    plain_fault options (version_in (map entry_of before)) typ body
+    plain_fault options (page_in options (map entry_of before)) (version_in (map entry_of before)) typ body
 item_fault options before (table_item body shared) = fault_of (texts_of (length body) shared)
 item_fault options before (sheet_item body kept cut) =
     fault_of (bound_sheet_at (page_in options (map entry_of before)) (version_in (map entry_of before)) body)
@@ -45,7 +46,7 @@ weight_fault options ks =
 -- a kept record, behind those before it: its own fault, or too many cells with it
 abbrev pub kept_fault : XlsOptions → Setting → List Kept → Kept → Option XlsError
 kept_fault options s before k =
-    option_or (fault_of (given_at s k)) (weight_fault options (before ++ k ∷ []))
+    option_or (fault_of (given_in s before k)) (weight_fault options (before ++ k ∷ []))
 
 abbrev pub cut_fault : Option Part → Option XlsError
 cut_fault cut = option_map EoStream cut
@@ -91,7 +92,8 @@ IsSound options bytes = (e : XlsError) → FirstFault options bytes e → ⊥
 
 -- an entry, under those before it
 abbrev pub entry_fault : XlsOptions → List Entry → Entry → Option XlsError
-entry_fault options before (plain_entry typ body) = plain_fault options (version_in before) typ body
+entry_fault options before (plain_entry typ body) =
+    plain_fault options (page_in options before) (version_in before) typ body
 entry_fault options before (table_entry strings) = None
 entry_fault options before (sheet_entry state kind name kept) =
     fault_of (sheet_of (page_in options before) (version_in before) state kind name)

@@ -1,24 +1,29 @@
 -- What is in force at an entry of the list, and what all of the list gives: each by the last entry
 -- that says it.
-use Rattle.std.specs.Prelude.{ℕ, List, [], ◌∷◌, Bool, false, ◌||◌, ◌==◌, if◌then◌else◌, take, map, Option, Some, None, unwrap_or}
+use Rattle.std.specs.Prelude.{ℕ, ℤ, pos, List, [], ◌∷◌, ◌++◌, Bool, false, ◌||◌, ◌==◌, if◌then◌else◌, length, min, take, map, slice_get, codes, Option, Some, None, unwrap_or}
 use Rattle.std.specs.Result.{result_ok}
 use Rattle.std.specs.Option.{option_or, option_map}
+use Rattle.std.specs.List.{flat_map, range_with_len}
 use Rattle.std.specs.Char.Utf16.{utf16_lossy_chars}
 use Rattle.xls_bytes.specs.Numbers.{le}
 use Rattle.xls_text.specs.Pages.{page_of}
 use Rattle.xls_text.specs.declared.encoding.XlsEncoding.{XlsEncoding}
 use Rattle.xls_text.specs.declared.encoding.XlsEncoding.TheVariants.{Utf16}
-use Rattle.xls_model.specs.Listing.{Entry, plain_entry, table_entry, sheet_entry}
+use Rattle.xls_model.specs.Listing.{Kept, Entry, plain_entry, table_entry, sheet_entry}
 use Rattle.xls_model.specs.declared.types.TheConstants as types
 use Rattle.xls_data.specs.Builtin.{class_of_code}
+use Rattle.xls_data.specs.Sheets.{SheetContent}
 use Rattle.xls_data.specs.declared.formats.CellFormat.{CellFormat}
 use Rattle.xls_biff.specs.declared.globals.Biff.{Biff}
 use Rattle.xls_biff.specs.declared.globals.Biff.TheVariants.{Biff8}
 use Rattle.xls_biff.specs.declared.globals.Bof.{Bof}
-use Rattle.xls_biff.specs.Globals.{bof_at, xf_at}
+use Rattle.xls_biff.specs.Globals.{is_biff8, bof_at, xf_at, refs_at}
 use Rattle.xls_biff.specs.Strings.{format_at}
 use Rattle.xls_biff.specs.Checks.{InForce}
+use Rattle.xls_formula.specs.Context.{Context, numbered_sheet}
+use Rattle.xls_formula.specs.Defined.{Located, lbl_at}
 use Rattle.xls_book.specs.Order.{along, last_of, somes}
+use Rattle.xls_book.specs.RecordTable.{sheet_of}
 use Rattle.xls_book.specs.declared.options.XlsOptions.{XlsOptions}
 
 -- what f gives for the body of an entry of this type
@@ -108,10 +113,98 @@ texts_in es = map utf16_lossy_chars (unwrap_or (last_of (map table_in es)) [])
 
 -- ---- sheets
 
--- what a sheet's records are read under: page, classes, strings and date system, and the version
+-- a sheet and its kept records
+abbrev pub SheetRecords : Type 0
+SheetRecords = SheetContent × List Kept
+
+abbrev pub sheet_in : XlsOptions → List Entry → Entry → Option SheetRecords
+sheet_in options before (plain_entry typ body) = None
+sheet_in options before (table_entry strings) = None
+sheet_in options before (sheet_entry state kind name kept) =
+    option_map (λ (s : ℕ × SheetContent). (s.1, kept))
+    (result_ok (sheet_of (page_in options before) (version_in before) state kind name))
+
+-- the sheets in order
+abbrev pub sheets_of : XlsOptions → List Entry → List SheetRecords
+sheets_of options es = somes (along (sheet_in options) [] es)
+
+-- their names
+abbrev pub sheet_names_of : List SheetRecords → List (List ℕ)
+sheet_names_of = map (λ (q : SheetRecords). q.0.name)
+
+-- ---- references
+
+-- ExternSheet ([MS-XLS] 2.4.106): the first sheets of its references
+abbrev pub refs_in : List Entry → Entry → Option (List ℤ)
+refs_in before e = of_type types.EXTERN_SHEET (λ body. result_ok (refs_at (version_in before) body)) e
+
+-- those of all ExternSheets in order
+abbrev pub extern_refs : List Entry → List ℤ
+extern_refs es = flat_map (λ (rs : List ℤ). rs) (somes (along refs_in [] es))
+
+-- reference i is sheet i, of so many
+abbrev pub own_refs : ℕ → List ℤ
+own_refs count = map pos (range_with_len 0 count)
+
+-- the references of a workbook of so many sheets; where the version is before BIFF8 and none is kept,
+-- each sheet that an i16 can number has its own
+abbrev pub known_refs : Biff → ℕ → List ℤ → List ℤ
+known_refs version count [] = if is_biff8 version then [] else own_refs (min count 32768)
+known_refs version count (r ∷ rs) = r ∷ rs
+
+-- ---- defined names
+
+-- Lbl ([MS-XLS] 2.4.150): the name and what it names
+abbrev pub Named : Type 0
+Named = List ℕ × Located
+
+abbrev pub name_in : XlsOptions → List Entry → Entry → Option Named
+name_in options before e =
+    of_type types.LBL (λ body. result_ok (lbl_at (page_in options before) (version_in before) body)) e
+
+abbrev pub lbls_in : XlsOptions → List Entry → List Named
+lbls_in options es = somes (along (name_in options) [] es)
+
+-- a text behind the sheet of its reference and `!`, where it has a reference
+abbrev pub placed_text : List (List ℕ) → List ℤ → Located → List ℕ
+placed_text sheets refs (None, cs) = cs
+placed_text sheets refs (Some index, cs) =
+    numbered_sheet sheets (slice_get refs index) ++ (codes "!" ++ cs)
+
+-- a name and its text
+abbrev pub told_name : List (List ℕ) → List ℤ → Named → List ℕ × List ℕ
+told_name sheets refs n = (n.0, placed_text sheets refs n.1)
+
+-- ---- what the sheets are read under
+
+-- what formulas may name, by these sheets, references and Lbls
+abbrev pub context_by : XlsOptions → XlsEncoding → Biff → List (List ℕ) → List ℤ → List Named → Context
+context_by options page version sheets refs names =
+    record {
+      sheets = sheets;
+      names = map (told_name sheets refs) names;
+      refs = refs;
+      page = page;
+      biff = version;
+      functions = options.functions;
+    }
+
+-- by the lists at the end of the globals
+abbrev pub context_of : XlsOptions → List Entry → Context
+context_of options es =
+    context_by options (page_in options es) (version_in es) (sheet_names_of (sheets_of options es))
+    (known_refs (version_in es) (length (sheets_of options es)) (extern_refs es)) (lbls_in options es)
+
+-- each defined name with its text
+abbrev pub names_in : XlsOptions → List Entry → List (List ℕ × List ℕ)
+names_in options es = (context_of options es).names
+
+-- what a sheet's records are read under: page, classes, strings and date system, the version, and
+-- what its formulas may name
 pub record Setting : Type 0 where
   pub force : InForce
   pub version : Biff
+  pub context : Context
 
 -- the last ones of the whole list
 abbrev pub setting_of : XlsOptions → List Entry → Setting
@@ -124,4 +217,5 @@ setting_of options es =
         is_1904 = is_1904_in es;
       };
       version = version_in es;
+      context = context_of options es;
     }

@@ -1,6 +1,7 @@
 pub mod Order
 pub mod InForce
 pub mod RecordTable
+pub mod SheetTable
 pub mod Reading
 pub mod Faults
 pub mod Causes

@@ -8,6 +8,7 @@ use Rattle.std.specs.Global.{Global}
 use Rattle.std.specs.Ordering.{nat_cmp}
 use Rattle.std.specs.Cmp.Lexicographic.{slice_cmp}
 use Rattle.std.specs.List.Sorted.{IsStrictlySortedBy}
+use Rattle.xls_data.specs.Blank.{is_nil}
 use Rattle.xls_data.specs.Sheets.{SheetContent}
 use Rattle.xls_data.specs.declared.regions.Dimensions.{Dimensions}
 use Rattle.xls_data.specs.declared.regions.HeaderRow.{HeaderRow}
@@ -20,11 +21,13 @@ use Rattle.xls_biff.specs.Cells.{Entry}
 use Rattle.xls_biff.specs.declared.error.XlsError.{XlsError}
 use Rattle.xls_biff.specs.declared.error.XlsError.TheVariants as errors
 use Rattle.xls_book.specs.Reading.{SheetView, Workbook}
-use Rattle.xls_book.specs.Steps.{cell_content}
+use Rattle.xls_book.specs.SheetTable.{FormulaEntry}
+use Rattle.xls_book.specs.Steps.{cell_content, formula_content}
 
--- the cells of a sheet stand in order
+-- the cells of a sheet stand in order, and its formulas
 abbrev pub IsOrdered : SheetView → Type 0
 IsOrdered v = IsAscending (map (λ (c : Entry). c.0) v.cells)
+    × IsAscending (map (λ (f : FormulaEntry). f.0) v.formulas)
 
 -- the workbook with this header row, and else as it was
 abbrev pub under_header : Workbook → HeaderRow → Workbook
@@ -39,11 +42,15 @@ Equal = Data → Data → Bool
 abbrev pub Blank : Type 0
 Blank = Data → Bool
 
--- the range is the smallest box with cells of these contents, and blanks elsewhere
-pub record IsBox (eq : Equal) (blank : Blank) (entries : List Entry) (box : Grid Data) : Type 0 where
-  pub cells : List (Position × Data)
-  pub contents : map cell_content cells ≡ entries
+-- the range is the smallest box with cells that are seen so, and blanks elsewhere
+pub record IsBoxOf {T X : Type 0} (seen : Position × T → X) (eq : T → T → Bool) (blank : T → Bool) (entries : List X) (box : Grid T) : Type 0 where
+  pub cells : List (Position × T)
+  pub contents : map seen cells ≡ entries
   pub dense : IsDense eq blank cells box
+
+-- of values, by their contents
+abbrev pub IsBox : Equal → Blank → List Entry → Grid Data → Type 0
+IsBox eq blank entries box = IsBoxOf cell_content eq blank entries box
 
 -- the range is the box from this row to its end, with the same columns; it has no cells where the box
 -- has none or ends before the row
@@ -63,6 +70,16 @@ IsUnder eq blank (Row row) box range = IsCut eq blank row box range
 abbrev pub IsRange : Equal → Blank → HeaderRow → List Entry → Grid Data → Type 0
 IsRange eq blank header entries range =
     (box : Grid Data) × IsBox eq blank entries box × IsUnder eq blank header box range
+
+-- ---- formulas
+
+-- a text without a character
+abbrev pub is_empty_text : String Global → Bool
+is_empty_text s = is_nil (string_bytes s)
+
+-- the range is the smallest box with these texts, and empty texts elsewhere
+abbrev pub IsTextBox : (String Global → String Global → Bool) → (String Global → Bool) → List FormulaEntry → Grid (String Global) → Type 0
+IsTextBox eq blank entries box = IsBoxOf formula_content eq blank entries box
 
 -- ---- all ranges
 

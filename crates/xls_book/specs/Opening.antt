@@ -5,6 +5,7 @@ use Rattle.xls_model.specs.Listing.{Entry, Carries}
 use Rattle.xls_biff.specs.declared.error.XlsError.{XlsError}
 use Rattle.xls_biff.specs.declared.error.XlsError.TheVariants as errors
 use Rattle.xls_data.specs.declared.regions.HeaderRow.TheVariants.{FirstNonEmptyRow}
+use Rattle.xls_formula.specs.Functions.{shipped}
 use Rattle.xls_book.specs.Causes.{Rose}
 use Rattle.xls_book.specs.Reading.{Workbook, IsReading}
 use Rattle.xls_book.specs.Faults.{FirstFault, IsSound, IsFull}
@@ -31,7 +32,20 @@ default_options = record {
   header_row = FirstNonEmptyRow;
   max_bytes = 268_435_456;
   max_cells = 33_554_432;
+  functions = shipped;
+  summary = None;
+  document_summary = None;
 }
+
+-- the refusals that opening may answer: none that only a formula, a format or a look-up has
+abbrev pub IsOfOpening : XlsError → Type 0
+IsOfOpening errors.StackLen = ⊥
+IsOfOpening (errors.InvalidFormula count) = ⊥
+IsOfOpening (errors.IfTab index) = ⊥
+IsOfOpening (errors.Etpg number) = ⊥
+IsOfOpening (errors.InvalidFormat ifmt) = ⊥
+IsOfOpening (errors.WorksheetNotFound name) = ⊥
+IsOfOpening e = Unit {0}
 
 -- no place of the bytes has a fault; they are within the limit and carry a full list, and the
 -- workbook is the reading of every list that they carry
@@ -48,6 +62,7 @@ pub record Opens (options : XlsOptions) (left after : Option (List ℕ)) (before
   pub ok : IfOk result (λ book. IfSome left (IsOpened options book))
   pub end : IfOk result (λ _. IsAtEnd after)
   pub cause : IfErr result (OpenCause options left before now)
+  pub named : IfErr result IsOfOpening
   pub complete : (Rose before now → ⊥)
       → IfSome left (λ bytes. IsSound options bytes → IfErr result (λ e. e ≡ errors.Memory))
   pub front : (taken : List ℕ) × (length taken ≤ options.max_bytes + 1) × Consumes left after taken

@@ -1,9 +1,10 @@
 -- What the parts of opening answer: the globals, one sheet part, and the sheets so far.
-use Rattle.std.specs.Prelude.{◌≡◌, ℕ, suc, String, List, [], ◌∷◌, ◌++◌, ◌-◌, ◌||◌, ◌==◌, Bool, false, if◌then◌else◌, nat_lt, length, take, map, Option, Some, None, unwrap_or, Result, Ok, Err, Vec}
+use Rattle.std.specs.Prelude.{◌≡◌, ℕ, ℤ, suc, String, List, [], ◌∷◌, ◌++◌, ◌-◌, ◌||◌, ◌==◌, Bool, false, if◌then◌else◌, nat_lt, length, take, map, Option, Some, None, unwrap_or, Result, Ok, Err, Vec}
 use Rattle.std.specs.Result.{result_ok}
 use Rattle.std.specs.Option.{option_map, option_or}
 use Rattle.std.specs.String.{string_bytes}
-use Rattle.std.specs.Str.{bytes_eq}
+use Rattle.std.specs.Str.{bytes_eq, chars}
+use Rattle.std.specs.Global.{Global}
 use Rattle.std.specs.BTreeMap.{BTreeMap, get_by_text}
 use Rattle.std.specs.Borrow.{Bor}
 use Rattle.xls_bytes.specs.Numbers.{le}
@@ -27,16 +28,20 @@ use Rattle.xls_biff.specs.declared.globals.Biff.{Biff}
 use Rattle.xls_biff.specs.declared.globals.Biff.TheVariants.{Biff8}
 use Rattle.xls_biff.specs.declared.globals.Bof.{Bof}
 use Rattle.xls_biff.specs.Reading.{Fails}
+use Rattle.xls_biff.specs.Texts.{text_of}
 use Rattle.xls_biff.specs.Globals.{bof_at, xf_at, refs_at}
 use Rattle.xls_biff.specs.Strings.{bound_sheet_at, format_at}
 use Rattle.xls_biff.specs.Cells.{Entry}
 use Rattle.xls_biff.specs.Cells as cells
 use Rattle.xls_book.specs.Order.{along, first_of, somes}
-use Rattle.xls_book.specs.InForce.{page_in, version_in, is_1904_in, formats_in, identifiers_in, texts_in, Setting}
-use Rattle.xls_book.specs.RecordTable.{file_pass_fault, Given}
+use Rattle.xls_formula.specs.Defined.{lbl_at}
+use Rattle.xls_book.specs.InForce.{page_in, version_in, is_1904_in, formats_in, identifiers_in, texts_in, extern_refs, Named, lbls_in, known_refs, told_name, Setting}
+use Rattle.xls_book.specs.RecordTable.{file_pass_fault}
+use Rattle.xls_book.specs.SheetTable.{FormulaEntry, shown_formulas, Given}
 use Rattle.xls_book.specs.Reading.{SheetRecords, SheetView, IsContent, last_named, Workbook, IsReading}
 use Rattle.xls_book.specs.Faults.{item_fault, kept_fault, part_places, globals_places, FirstBehind, IsFull}
 use Rattle.xls_book.specs.declared.globals.Listed.{Listed}
+use Rattle.xls_book.specs.declared.names.Naming.{Naming}
 use Rattle.xls_book.specs.declared.options.XlsOptions.{XlsOptions}
 
 -- ---- steps
@@ -49,6 +54,10 @@ Follows new (Err e) given = Fails e given
 -- a cell by its content
 abbrev pub cell_content : Position × Data → Entry
 cell_content c = cells.entry_of c
+
+-- a formula's cell by its text
+abbrev pub formula_content : Position × String Global → FormulaEntry
+formula_content c = (c.0, text_of c.1)
 
 -- ---- the globals
 
@@ -67,6 +76,8 @@ pub record State : Type 0 where
   pub formats : List (ℕ × CellFormat)
   pub identifiers : List ℕ
   pub strings : List (List ℕ)
+  pub refs : List ℤ
+  pub names : List Named
   pub sheets : Sheets
 
 -- before the first record, under this page
@@ -78,6 +89,8 @@ first_state page = record {
   formats = [];
   identifiers = [];
   strings = [];
+  refs = [];
+  names = [];
   sheets = [];
 }
 
@@ -116,10 +129,13 @@ abbrev pub xf_step : State → Result ℕ XlsError → Result State XlsError
 xf_step s (Ok ifmt) = Ok (record s { identifiers = s.identifiers ++ ifmt ∷ [] })
 xf_step s (Err e) = Err e
 
--- a record that is read for its faults alone
-abbrev pub pass_step : {X : Type 0} → State → Result X XlsError → Result State XlsError
-pass_step s (Ok x) = Ok s
-pass_step s (Err e) = Err e
+abbrev pub refs_step : State → Result (List ℤ) XlsError → Result State XlsError
+refs_step s (Ok refs) = Ok (record s { refs = s.refs ++ refs })
+refs_step s (Err e) = Err e
+
+abbrev pub name_step : State → Result Named XlsError → Result State XlsError
+name_step s (Ok n) = Ok (record s { names = s.names ++ n ∷ [] })
+name_step s (Err e) = Err e
 
 -- a record that is neither SST nor BoundSheet8; those of other types give nothing
 abbrev pub plain_step : XlsOptions → State → ℕ → List ℕ → Result State XlsError
@@ -130,8 +146,8 @@ plain_step options s typ body =
     else if typ == types.DATE_MODE then date_step s body
     else if typ == types.FORMAT then format_step s (format_at s.page s.version body)
     else if typ == types.XF then xf_step s (xf_at body)
-    else if typ == types.EXTERN_SHEET then pass_step s (refs_at s.version body)
-    else if typ == types.LBL then Err (errors.NotBuilt typ)
+    else if typ == types.EXTERN_SHEET then refs_step s (refs_at s.version body)
+    else if typ == types.LBL then name_step s (lbl_at s.page s.version body)
     else Ok s
 
 abbrev pub table_step : State → Result (List (List ℕ)) XlsError → Result State XlsError
@@ -180,6 +196,8 @@ pub record IsState (options : XlsOptions) (items : List Item) (s : State) : Type
   pub formats : s.formats ≡ formats_in options (map entry_of items)
   pub identifiers : s.identifiers ≡ identifiers_in (map entry_of items)
   pub strings : s.strings ≡ texts_in (map entry_of items)
+  pub refs : s.refs ≡ extern_refs (map entry_of items)
+  pub names : s.names ≡ lbls_in options (map entry_of items)
   pub sheets : s.sheets ≡ sheets_at options items
 
 pub record AreGlobals (options : XlsOptions) (bytes : List ℕ) (s : State) : Type 0 where
@@ -198,14 +216,35 @@ ReadsGlobals options bytes (Ok s) = AreGlobals options bytes s
 ReadsGlobals options bytes (Err errors.Memory) = Unit {0}
 ReadsGlobals options bytes (Err e) = GlobalsFault options bytes e
 
+-- ---- what formulas may name
+
+-- a name and its text, by their characters
+abbrev pub told_of : String Global × String Global → List ℕ × List ℕ
+told_of n = (text_of n.0, text_of n.1)
+
+abbrev pub names_listed : Sheets → List (List ℕ)
+names_listed = map (λ (q : ℕ × SheetContent). q.1.name)
+
+-- by a version, sheets, the references of all ExternSheets, and Lbls
+pub record IsNaming (version : Biff) (listed : Sheets) (refs : List ℤ) (lbls : List Named) (n : Naming) : Type 0 where
+  pub sheets : n.sheets ≡ names_listed listed
+  pub known : n.refs ≡ known_refs version (length listed) refs
+  pub names : n.names ≡ map (told_name (names_listed listed) (known_refs version (length listed) refs)) lbls
+  pub told : map told_of n.told.items ≡ n.names
+
 -- ---- a sheet part
 
 abbrev pub no_view : SheetView
-no_view = record { cells = []; merges = [] }
+no_view = record { cells = []; formulas = []; merges = [] }
 
 -- behind one more record
 abbrev pub given_step : SheetView → Result Given XlsError → Result SheetView XlsError
-given_step v (Ok g) = Ok (record { cells = v.cells ++ g.cells; merges = v.merges ++ g.regions })
+given_step v (Ok g) =
+    Ok (record {
+      cells = v.cells ++ g.cells;
+      formulas = v.formulas ++ g.formulas;
+      merges = v.merges ++ g.regions;
+    })
 given_step v (Err e) = Err e
 
 -- how many more cells there may be, of these that there may be, behind a record of this weight
@@ -314,3 +353,25 @@ OpensStream options bytes (Err e) = StreamFault options bytes e
 abbrev pub ValueSteps : List Entry → Option (ℕ × ℕ × Bor Data) → List Entry → Type 0
 ValueSteps before None after = (before ≡ []) × (after ≡ [])
 ValueSteps before (Some v) after = before ≡ cells.entry_of ((v.0, v.1), v.2.now) ∷ after
+
+-- a list of formulas that is empty or begins with one that is shown
+abbrev pub BeginsShown : List (Position × String Global) → Type 0
+BeginsShown [] = Unit {0}
+BeginsShown (f ∷ fs) = string_bytes f.1 ≡ [] → ⊥
+
+-- the same without those at the front that aren't shown
+pub record IsFromShown (all rest : List (Position × String Global)) : Type 0 where
+  pub same : shown_formulas (map formula_content rest) ≡ shown_formulas (map formula_content all)
+  pub begins : BeginsShown rest
+
+-- the first that is shown, and those behind it
+abbrev pub FirstShown : List (Position × String Global) → Option (ℕ × ℕ × Bor (List ℕ) × Bor (List (Position × String Global))) → Type 0
+FirstShown all None = shown_formulas (map formula_content all) ≡ []
+FirstShown all (Some f) =
+    shown_formulas (map formula_content all)
+    ≡ ((f.0, f.1), chars f.2.now) ∷ shown_formulas (map formula_content f.3.now)
+
+-- likewise with these formulas left
+abbrev pub FormulaSteps : List FormulaEntry → Option (ℕ × ℕ × Bor (List ℕ)) → List FormulaEntry → Type 0
+FormulaSteps before None after = (before ≡ []) × (after ≡ [])
+FormulaSteps before (Some v) after = before ≡ ((v.0, v.1), chars v.2.now) ∷ after

@@ -7,21 +7,24 @@ ghost use Rattle.xls_biff.specs.Reading.{Exactly, Fails};
 ghost use Rattle.xls_biff.specs.Walking.{group_of};
 ghost use Rattle.xls_biff.specs.Globals.{bof_at, xf_at, refs_at};
 ghost use Rattle.xls_biff.specs.Strings.{bound_sheet_at, format_at};
+ghost use Rattle.xls_formula.specs.Defined.{lbl_at};
 ghost use Rattle.xls_model.specs.Listing.{Shared, IsShared, is_plain_type};
 ghost use Rattle.xls_model.specs.declared.types.TheConstants as types;
 ghost use Rattle.xls_book.specs.RecordTable.{file_pass_fault, texts_of};
-ghost use Rattle.xls_book.specs.Steps.{Follows, bof_step, check_step, page_step, date_step, format_step, xf_step, pass_step, plain_step, table_step, sheet_step, first_state, ReadsGlobals};
+ghost use Rattle.xls_book.specs.Steps.{Follows, bof_step, check_step, page_step, date_step, format_step, xf_step, refs_step, name_step, plain_step, table_step, sheet_step, first_state, ReadsGlobals};
 ghost use Rattle.xls_book.specs.InForce.{page_in};
 
+use crate::names::Lbl;
 use crate::options::XlsOptions;
 use std::alloc::Global;
 use std::marker::Model;
 use xls_biff::{
-    Biff, Record, RecordIter, Strings, XlsError, parse_bof, parse_extern_sheet, parse_format,
+    Biff, Record, RecordIter, Refs, Strings, XlsError, parse_bof, parse_extern_sheet, parse_format,
     parse_sheet_metadata, parse_sst, parse_xf,
 };
 use xls_bytes::read_u16;
 use xls_data::{CellFormat, Sheet};
+use xls_formula::parse_lbl;
 use xls_model::Part;
 use xls_model::types::{
     BOF, BOUND_SHEET_8, CODE_PAGE, DATE_MODE, EOF, EXTERN_SHEET, FILE_PASS, FORMAT, LBL, SST, XF,
@@ -49,11 +52,16 @@ pub(crate) struct Globals {
     pub identifiers: Vec<u16>,
     /// The last string table.
     pub strings: Strings,
+    /// The first sheets of the references of all ExternSheets.
+    pub refs: Refs,
+    /// The name of each Lbl, and what it names.
+    pub names: Vec<Lbl>,
     pub listed: Vec<Listed>,
 }
 
 impl Model for Globals {
     ghost use Rattle.std.specs.Prelude.{map};
+    ghost use Rattle.xls_formula.specs.Defined.{named_of};
     ghost use Rattle.xls_book.specs.Steps.{State, listed_of};
 
     ghost Value = { State };
@@ -65,6 +73,8 @@ impl Model for Globals {
       formats = g.formats.items;
       identifiers = g.identifiers.items;
       strings = g.strings;
+      refs = g.refs;
+      names = map named_of g.names.items;
       sheets = map listed_of g.listed.items;
     } };
 }
@@ -105,6 +115,8 @@ impl Globals {
             formats: Vec::new(alloc),
             identifiers: Vec::new(alloc),
             strings: Strings::new(alloc),
+            refs: Refs::new(alloc),
+            names: Vec::new(alloc),
             listed: Vec::new(alloc),
         }
     }
@@ -161,11 +173,19 @@ impl Globals {
         Ok(())
     }
 
-    /// Takes an ExternSheet record, so far for its faults alone.
     fn take_extern_sheet(&mut self, alloc: Global, r: &Record<'_>) -> Result<(), XlsError>
-        ensures { Follows self.new result (pass_step self.old (refs_at self.old.version r.now.body.now)) }
+        ensures { Follows self.new result (refs_step self.old (refs_at self.old.version r.now.body.now)) }
     {
-        parse_extern_sheet(alloc, r, self.version)?;
+        let refs = parse_extern_sheet(alloc, r, self.version)?;
+        self.refs.extend(&refs)?;
+        Ok(())
+    }
+
+    fn take_name(&mut self, alloc: Global, r: &Record<'_>) -> Result<(), XlsError>
+        ensures { Follows self.new result (name_step self.old (lbl_at self.old.page self.old.version r.now.body.now)) }
+    {
+        let name = parse_lbl(alloc, r, &self.page, self.version)?;
+        self.names.push(name)?;
         Ok(())
     }
 
@@ -204,7 +224,7 @@ impl Globals {
             EXTERN_SHEET => self.take_extern_sheet(alloc, r),
             SST => self.take_table(alloc, r),
             BOUND_SHEET_8 => self.take_sheet(alloc, r),
-            LBL => Err(XlsError::NotBuilt { typ: LBL }),
+            LBL => self.take_name(alloc, r),
             _ => Ok(()),
         }
     }

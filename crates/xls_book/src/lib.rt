@@ -2,10 +2,12 @@
 #![tactic(auto)]
 
 mod classes;
+mod formulas;
 mod globals;
 mod index;
 mod laws;
 mod memory;
+mod names;
 mod options;
 mod part;
 mod ranges;
@@ -15,6 +17,7 @@ mod source;
 mod values;
 mod xls;
 
+pub use formulas::Formulas;
 pub use laws::{one_first_fault, regions_by_name, sound_where_full, steady_count};
 pub use memory::{MemorySource, SteadySource};
 pub use options::XlsOptions;

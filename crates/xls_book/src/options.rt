@@ -5,13 +5,15 @@ ghost use Rattle.xls_book.specs.Opening.{default_options};
 ghost use Rattle.xls_book.specs.RecordTable.{forced_fault};
 ghost use Rattle.xls_book.specs.InForce.{page_in};
 
+use crate::reading::StreamBytes;
 use std::alloc::{AllocError, Global};
 use xls_biff::XlsError;
 use xls_data::HeaderRow;
+use xls_formula::FunctionTable;
 use xls_text::XlsEncoding;
 
 /// How a stream is opened, and which rows of a sheet its range has.
-#[derive(Clone, Copy, Debug, PartialEq, Eq)]
+#[derive(Drop)]
 pub struct XlsOptions {
     /// A code page to read all texts by, whatever the stream says: 1200, 1252, 28591 or 65001.
     pub force_codepage: Option<u16>,
@@ -21,12 +23,18 @@ pub struct XlsOptions {
     pub max_bytes: u64,
     /// How many cells the records of one sheet may give.
     pub max_cells: u64,
+    /// The functions that formulas name by their index.
+    pub functions: FunctionTable,
+    /// The stream `\x05SummaryInformation` of the file, for the properties of the workbook.
+    pub summary: Option<StreamBytes>,
+    /// The stream `\x05DocumentSummaryInformation` of the file, likewise.
+    pub document_summary: Option<StreamBytes>,
 }
 
 impl XlsOptions {
     /// No forced page, the first row that isn't empty, at most 268,435,456 bytes and at most
-    /// 33,554,432 cells in a sheet.
-    pub fn defaults(_alloc: Global) -> Result<XlsOptions, AllocError>
+    /// 33,554,432 cells in a sheet, the functions whose names are shipped, and no property streams.
+    pub fn defaults(alloc: Global) -> Result<XlsOptions, AllocError>
         ensures { IfOk result (λ options. options ≡ default_options) }
     {
         Ok(XlsOptions {
@@ -34,6 +42,9 @@ impl XlsOptions {
             header_row: HeaderRow::FirstNonEmptyRow,
             max_bytes: 268_435_456,
             max_cells: 33_554_432,
+            functions: FunctionTable::shipped(alloc)?,
+            summary: None,
+            document_summary: None,
         })
     }
 

@@ -1,29 +1,37 @@
 //! The content of a sheet part.
 
-ghost use Rattle.std.specs.Prelude.{◌≡◌, ◌++◌, [], ◌∷◌, ◌≤◌, ◌+◌, MatchResult, Ok, map, length};
+ghost use Rattle.std.specs.Prelude.{◌≡◌, ◌++◌, [], ◌∷◌, ◌≤◌, ◌+◌, false, IfOk, MatchResult, Ok, unwrap_or, map, length, take, drop, slice_get};
 ghost use Rattle.std.specs.List.{AllByRecursion};
+ghost use Rattle.std.specs.Option.{option_copied};
+ghost use Rattle.std.specs.String.{string_bytes};
 ghost use Rattle.xls_biff.specs.Reading.{Exactly, Fails};
-ghost use Rattle.xls_biff.specs.Checks.{weight_of};
+ghost use Rattle.xls_bytes.specs.Numbers.{le};
+ghost use Rattle.xls_biff.specs.Checks.{weight_of, formula_at};
 ghost use Rattle.xls_biff.specs.Walking.{group_of};
-ghost use Rattle.xls_biff.specs.Cells.{number_at, rk_at, mul_rk_at, bool_err_at};
+ghost use Rattle.xls_biff.specs.Texts.{text_of};
+ghost use Rattle.xls_biff.specs.Cells.{position_at, number_at, rk_at, mul_rk_at, bool_err_at, value_of};
 ghost use Rattle.xls_biff.specs.Strings.{label_at, label_sst_at, string_at};
 ghost use Rattle.xls_biff.specs.Regions.{dimensions_at, merges_at};
 ghost use Rattle.xls_model.specs.Listing.{IsPart, IsSheetPart, kept_group};
-ghost use Rattle.xls_book.specs.RecordTable.{cell_given, some_given, cells_given, regions_given, checked_only, text_given, given_at};
+ghost use Rattle.xls_formula.specs.Fold.{formula_text};
+ghost use Rattle.xls_book.specs.SheetTable.{shown_formulas, cell_given, some_given, cells_given, regions_given, checked_only, text_given, refusal_bytes, shown_formula, valued, formula_given, given_at, formula_position};
 ghost use Rattle.xls_book.specs.Reading.{SheetView};
 ghost use Rattle.xls_book.specs.Steps.{Follows, no_view, given_step, cell_content, Reads, weight_left};
 
+use crate::formulas::Formulas;
 use crate::options::XlsOptions;
 use crate::values::Values;
-use std::alloc::Global;
+use std::alloc::{AllocError, Global};
 use std::marker::Model;
 use xls_biff::{
-    Biff, Part, Record, SheetRecords, Strings, XlsError, parse_bool_err, parse_dimensions,
-    parse_label, parse_label_sst, parse_merge_cells, parse_mul_rk, parse_number, parse_rk,
-    parse_string, sheet_record_weight,
+    Biff, Part, Record, Refs, SheetRecords, Strings, XlsError, parse_bool_err, parse_dimensions,
+    parse_formula_value, parse_label, parse_label_sst, parse_merge_cells, parse_mul_rk,
+    parse_number, parse_rk, parse_string, sheet_record_weight,
 };
+use xls_bytes::read_u16;
 use xls_cells::sorted_cells;
 use xls_data::{Cell, CellFormat, Data, Dimensions};
+use xls_formula::{FunctionTable, Names, parse_formula};
 use xls_model::types::{
     BOOL_ERR, DIMENSIONS, FORMULA, LABEL, LABEL_SST, MERGE_CELLS, MUL_RK, NUMBER, R_STRING, RK,
     STRING,
@@ -39,6 +47,12 @@ pub(crate) struct InForce<'a> {
     pub classes: &'a [CellFormat],
     pub strings: &'a Strings,
     pub is_1904: bool,
+    /// The names of the sheets, the defined names, the first sheets of the references, and the
+    /// functions: what formulas may name.
+    pub sheets: &'a Strings,
+    pub names: &'a Names,
+    pub refs: &'a Refs,
+    pub functions: &'a FunctionTable,
 }
 
 impl<'a> Model for InForce<'a> {
@@ -54,24 +68,37 @@ impl<'a> Model for InForce<'a> {
         is_1904 = s.is_1904;
       };
       version = s.version;
+      context = record {
+        sheets = s.sheets.now;
+        names = s.names.now;
+        refs = s.refs.now;
+        page = s.page;
+        biff = s.version;
+        functions = s.functions.now;
+      };
     } };
 }
 
-/// The cells and the merged regions of a sheet.
+/// The cells, the formulas and the merged regions of a sheet.
 #[derive(Drop)]
 pub(crate) struct Content {
     pub cells: Vec<Cell<Data>>,
+    pub formulas: Vec<Cell<String>>,
     pub merges: Vec<Dimensions>,
 }
 
 impl Model for Content {
     ghost use Rattle.std.specs.Prelude.{map};
     ghost use Rattle.xls_book.specs.Reading.{SheetView};
-    ghost use Rattle.xls_book.specs.Steps.{cell_content};
+    ghost use Rattle.xls_book.specs.Steps.{cell_content, formula_content};
 
     ghost Value = { SheetView };
 
-    ghost view = { λ c. record { cells = map cell_content c.cells.items; merges = c.merges.items } };
+    ghost view = { λ c. record {
+      cells = map cell_content c.cells.items;
+      formulas = map formula_content c.formulas.items;
+      merges = c.merges.items;
+    } };
 }
 
 impl Content {
@@ -80,6 +107,7 @@ impl Content {
     {
         Content {
             cells: Vec::new(alloc),
+            formulas: Vec::new(alloc),
             merges: Vec::new(alloc),
         }
     }
@@ -91,6 +119,13 @@ impl Content {
         Values::new(&self.cells)
     }
 
+    /// The formulas whose text isn't empty: absolute row, absolute column and text, by row, then column.
+    pub fn shown_formulas(&self) -> Formulas<'_>
+        ensures { result ≡ shown_formulas self.now.formulas }
+    {
+        Formulas::new(&self.formulas)
+    }
+
     /// The merged regions in the order of the stream.
     pub fn merges(&self) -> &[Dimensions]
         ensures { result.now ≡ self.now.merges }
@@ -100,7 +135,7 @@ impl Content {
 
     /// Puts a cell behind those given so far.
     fn put(&mut self, cell: Cell<Data>) -> Result<(), XlsError>
-        ensures { Follows self.new result (given_step self.old (Ok (record { cells = cell_content cell ∷ []; regions = [] }))) }
+        ensures { Follows self.new result (given_step self.old (Ok (record { cells = cell_content cell ∷ []; regions = []; formulas = [] }))) }
     {
         self.cells.push(cell)?;
         Ok(())
@@ -156,17 +191,49 @@ impl Content {
         self.put(parse_label(alloc, body, &force.page, force.version)?)
     }
 
-    /// Takes a String record, which stands at the first cell while no Formula is read.
+    /// Takes a String record: the text of the last Formula, which stands here.
     fn take_string(
+        &mut self,
+        alloc: Global,
+        body: &[u8],
+        at: (u32, u32),
+        force: &InForce<'_>,
+    ) -> Result<(), XlsError>
+        ensures { Follows self.new result (given_step self.old (text_given at (string_at force.now.force.page force.now.version body.now))) }
+    {
+        let text = parse_string(alloc, body, &force.page, force.version)?;
+        self.put(Cell::new(at, Data::String(text)))
+    }
+
+    /// Puts the value of a formula, if it has one, and its text.
+    fn put_formula(
+        &mut self,
+        position: (u32, u32),
+        value: Option<Data>,
+        text: String,
+    ) -> Result<(), XlsError>
+        ensures { Follows self.new result (given_step self.old (valued position (text_of text) (Ok (value_of value)))) }
+    {
+        if let Some(value) = value {
+            self.cells.push(Cell::new(position, value))?;
+        }
+        self.formulas.push(Cell::new(position, text))?;
+        Ok(())
+    }
+
+    fn take_formula(
         &mut self,
         alloc: Global,
         body: &[u8],
         force: &InForce<'_>,
     ) -> Result<(), XlsError>
-        ensures { Follows self.new result (given_step self.old (text_given (string_at force.now.force.page force.now.version body.now))) }
+        ensures { Follows self.new result (given_step self.old (formula_given force.now body.now)) }
     {
-        let text = parse_string(alloc, body, &force.page, force.version)?;
-        self.put(Cell::new((0, 0), Data::String(text)))
+        let value = formula_value(alloc, body, force)?;
+        let position = position_of(body);
+        let (_, rgce) = body.split_at(20);
+        let text = text_of_formula(alloc, rgce, position, force)?;
+        self.put_formula(position, value, text)
     }
 
     fn take_merge_cells(&mut self, body: &[u8]) -> Result<(), XlsError>
@@ -175,9 +242,15 @@ impl Content {
         parse_merge_cells(body, &mut self.merges)
     }
 
-    /// Takes the next kept record of a part.
-    fn take(&mut self, alloc: Global, r: &Record<'_>, force: &InForce<'_>) -> Result<(), XlsError>
-        ensures { Follows self.new result (given_step self.old (given_at force.now (kept_group (group_of r.now)))) }
+    /// Takes the next kept record of a part, where the last Formula before it stands here.
+    fn take(
+        &mut self,
+        alloc: Global,
+        r: &Record<'_>,
+        at: (u32, u32),
+        force: &InForce<'_>,
+    ) -> Result<(), XlsError>
+        ensures { Follows self.new result (given_step self.old (given_at force.now at (kept_group (group_of r.now)))) }
     {
         match r.typ {
             NUMBER => self.take_number(r.body, force),
@@ -186,10 +259,10 @@ impl Content {
             MUL_RK => self.take_mul_rk(r.body, force),
             BOOL_ERR => self.take_bool_err(r.body),
             LABEL | R_STRING => self.take_label(alloc, r.body, force),
-            STRING => self.take_string(alloc, r.body, force),
+            STRING => self.take_string(alloc, r.body, at, force),
             MERGE_CELLS => self.take_merge_cells(r.body),
             DIMENSIONS => check_dimensions(r.body),
-            FORMULA => Err(XlsError::NotBuilt { typ: FORMULA }),
+            FORMULA => self.take_formula(alloc, r.body, force),
             _ => Ok(()),
         }
     }
@@ -201,6 +274,91 @@ fn check_dimensions(body: &[u8]) -> Result<(), XlsError>
 {
     parse_dimensions(body)?;
     Ok(())
+}
+
+/// The row and the column that a record begins with.
+fn position_of(body: &[u8]) -> (u32, u32)
+    requires { 4 ≤ length body.now }
+    ensures { result ≡ position_at body.now }
+{
+    (u32::from(read_u16(body)), u32::from(read_u16(&body[2..])))
+}
+
+/// The class of the XF index in the bytes 4 and 5, if there is one.
+fn class_of<'a>(body: &[u8], classes: &'a [CellFormat]) -> Option<&'a CellFormat>
+    requires { 6 ≤ length body.now }
+    ensures { option_copied result ≡ slice_get classes.now (le (take 2 (drop 4 body.now))) }
+{
+    classes.get(usize::from(read_u16(&body[4..])))
+}
+
+/// The value of a Formula record, if no String record follows with it.
+fn formula_value(alloc: Global, body: &[u8], force: &InForce<'_>) -> Result<Option<Data>, XlsError>
+    ensures value { Exactly value_of result (formula_at (slice_get force.now.force.classes (le (take 2 (drop 4 body.now)))) force.now.force.is_1904 body.now) }
+    ensures long { IfOk result (λ _. 20 ≤ length body.now) }
+{
+    if body.len() < 20 {
+        return Err(XlsError::Len {
+            expected: 20,
+            found: body.len(),
+            typ: Part::Formula,
+        });
+    }
+    let class = class_of(body, force.classes);
+    parse_formula_value(alloc, &body[6..14], class, force.is_1904)
+}
+
+/// The text of the formula of a cell, or why it is refused.
+fn text_of_formula(
+    alloc: Global,
+    rgce: &[u8],
+    position: (u32, u32),
+    force: &InForce<'_>,
+) -> Result<String, AllocError>
+    ensures { IfOk result (λ text. text_of text ≡ shown_formula position (formula_text force.now.context rgce.now)) }
+{
+    let read = parse_formula(
+        alloc,
+        rgce,
+        force.sheets,
+        force.names,
+        force.refs,
+        &force.page,
+        force.version,
+        force.functions,
+    );
+    match read {
+        Ok(text) => Ok(text),
+        Err(error) if is_memory(&error) => Err(AllocError),
+        Err(error) => refusal_of(alloc, position, &error),
+    }
+}
+
+fn is_memory(error: &XlsError) -> bool
+    ensures { result ≡ false → error.now ≡ XlsError.Memory → ⊥ }
+{
+    matches!(error, XlsError::Memory)
+}
+
+/// What stands in place of a formula that is refused.
+fn refusal_of(alloc: Global, position: (u32, u32), error: &XlsError) -> Result<String, AllocError>
+    ensures { IfOk result (λ text. string_bytes text ≡ refusal_bytes position error.now) }
+{
+    let (row, column) = position;
+    let mut text = format!(in alloc; "Unrecognised formula for cell ({row}, {column}): ")?;
+    write!(text, "{error}")?;
+    Ok(text)
+}
+
+/// Where the last Formula stands behind this record, where it stood here before it.
+fn place_behind(at: (u32, u32), r: &Record<'_>) -> (u32, u32)
+    ensures { result ≡ unwrap_or (formula_position (kept_group (group_of r.now))) at }
+{
+    if r.typ == FORMULA && r.body.len() >= 4 {
+        position_of(r.body)
+    } else {
+        at
+    }
 }
 
 /// How many more cells a sheet may have behind this record, where it may have so many before it.
@@ -226,14 +384,25 @@ fn read_part(
 {
     let mut content = Content::new(alloc);
     let mut room = options.max_cells;
+    let mut at = (0, 0);
     for record in SheetRecords::new(part) {
         let record = record?;
-        content.take(alloc, &record, force)?;
+        content.take(alloc, &record, at, force)?;
         room = room_behind(room, &record, options)?;
+        at = place_behind(at, &record);
     }
-    let Content { cells, merges } = content;
+    let Content {
+        cells,
+        formulas,
+        merges,
+    } = content;
     let cells = sorted_cells(alloc, cells)?;
-    Ok(Content { cells, merges })
+    let formulas = sorted_cells(alloc, formulas)?;
+    Ok(Content {
+        cells,
+        formulas,
+        merges,
+    })
 }
 
 /// The content of the sheet part at an offset of the stream.

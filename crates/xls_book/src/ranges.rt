@@ -5,7 +5,7 @@ ghost use Rattle.std.specs.List.{AllByRecursion};
 ghost use Rattle.std.specs.String.{string_bytes};
 ghost use Rattle.xls_data.specs.Sheets.{sheet_content};
 ghost use Rattle.xls_data.specs.Data.{is_nothing};
-ghost use Rattle.xls_book.specs.LookUps.{AreWorksheets, IsBox, IsCut, IsOrdered, IsRange, Worksheet};
+ghost use Rattle.xls_book.specs.LookUps.{AreWorksheets, IsBox, IsCut, IsOrdered, IsRange, IsTextBox, Worksheet, is_empty_text};
 ghost use Rattle.xls_book.specs.Reading.{last_named};
 ghost use Rattle.xls_book.specs.Steps.{IsIndex, paired};
 
@@ -22,6 +22,14 @@ pub(crate) fn box_of(alloc: Global, content: &Content) -> Result<Range<Data>, Al
     ensures { IfOk result (λ range. IsBox ⟦<Data as PartialEq>⟧.eq is_nothing content.now.cells range) }
 {
     Range::from_sorted(alloc, &content.cells).map_err(|_| AllocError)
+}
+
+/// The smallest box with the texts of a sheet's formulas, and empty texts elsewhere.
+pub(crate) fn text_box_of(alloc: Global, content: &Content) -> Result<Range<String>, AllocError>
+    requires { IsOrdered content.now }
+    ensures { IfOk result (λ range. IsTextBox ⟦<String as PartialEq>⟧.eq is_empty_text content.now.formulas range) }
+{
+    Range::from_sorted(alloc, &content.formulas).map_err(|_| AllocError)
 }
 
 /// The box from a row to its end, with the same columns.

@@ -8,12 +8,12 @@ ghost use Rattle.xls_data.specs.Sheets.{SheetContent, sheet_content};
 ghost use Rattle.xls_data.specs.declared.regions.HeaderRow.TheVariants.{FirstNonEmptyRow};
 ghost use Rattle.xls_biff.specs.Texts.{text_of};
 ghost use Rattle.xls_book.specs.Reading.{SheetView, Workbook};
-ghost use Rattle.xls_book.specs.Steps.{view_named};
-ghost use Rattle.xls_book.specs.LookUps.{AreWorksheets, IsRange, NameCause, names_in, under_header};
+ghost use Rattle.xls_book.specs.Steps.{told_of, view_named};
+ghost use Rattle.xls_book.specs.LookUps.{AreWorksheets, IsRange, IsTextBox, NameCause, is_empty_text, names_in, under_header};
 ghost use Rattle.xls_book.specs.Opening.{Opens, default_options};
 
 use crate::options::XlsOptions;
-use crate::ranges::range_of;
+use crate::ranges::{range_of, text_box_of};
 use crate::source::Source;
 use crate::xls::{Metadata, Xls, not_found};
 use std::alloc::{AllocError, Global};
@@ -44,11 +44,16 @@ pub trait Reader: Sized {
 
     /// What is told of the whole workbook. Takes no memory.
     fn metadata(&self) -> &Metadata
-        ensures { map sheet_content result.now.sheets.items ≡ (shows self.now).sheets };
+        ensures sheets { map sheet_content result.now.sheets.items ≡ (shows self.now).sheets }
+        ensures names { map told_of result.now.names.items ≡ (shows self.now).names };
 
     /// Name, kind and visibility of each sheet, in workbook order. Takes no memory.
     fn sheets_metadata(&self) -> &[Sheet]
         ensures { map sheet_content result.now ≡ (shows self.now).sheets };
+
+    /// The defined names and their texts, in workbook order. Takes no memory.
+    fn defined_names(&self) -> &[(String, String)]
+        ensures { map told_of result.now ≡ (shows self.now).names };
 
     /// The names of the sheets, in workbook order.
     fn sheet_names(&self, alloc: Global) -> Result<Vec<String>, Self::Error>
@@ -65,6 +70,12 @@ pub trait Reader: Sized {
     fn worksheets(&self, alloc: Global) -> Result<Vec<(String, Range<Data>)>, Self::Error>
         ensures { IfOk result (λ list.
             AreWorksheets ⟦<Data as PartialEq>⟧.eq is_nothing (view_named (shows self.now)) (shows self.now).sheets list.items) };
+
+    /// The range of the formula texts of the last sheet of a name: the smallest box with all of them,
+    /// the empty ones too, and empty texts elsewhere. The header row is ignored.
+    fn worksheet_formula(&self, alloc: Global, name: &str) -> Result<Range<String>, Self::Error>
+        ensures { IfOk result (λ range. IfSome (view_named (shows self.now) (chars name.now)) (λ view.
+            IsTextBox ⟦<String as PartialEq>⟧.eq is_empty_text view.formulas range)) };
 
     /// The range of the name of the sheet at an index. `None` exactly where no sheet has the index.
     fn worksheet_range_at(
@@ -121,6 +132,10 @@ impl Reader for Xls {
         self.sheets()
     }
 
+    fn defined_names(&self) -> &[(String, String)] {
+        self.names()
+    }
+
     fn sheet_names(&self, alloc: Global) -> Result<Vec<String>, XlsError>
         ensures names { IfOk result (λ names. map text_of names.items ≡ names_in self.now) }
         ensures refused { IfErr result (λ e. e ≡ XlsError.Memory) }
@@ -147,6 +162,18 @@ impl Reader for Xls {
         ensures refused { IfErr result (λ e. e ≡ XlsError.Memory) }
     {
         Ok(self.named_boxes(alloc)?)
+    }
+
+    /// `WorksheetNotFound` exactly where no sheet has the name, `Memory`.
+    fn worksheet_formula(&self, alloc: Global, name: &str) -> Result<Range<String>, XlsError>
+        ensures range { IfOk result (λ range. (view : SheetView) × (view_named self.now (chars name.now) ≡ Some view)
+            × IsTextBox ⟦<String as PartialEq>⟧.eq is_empty_text view.formulas range) }
+        ensures refused { IfErr result (NameCause (view_named self.now (chars name.now)) name.now) }
+    {
+        match self.content_named(name) {
+            Some(content) => Ok(text_box_of(alloc, content)?),
+            None => Err(not_found(alloc, name)),
+        }
     }
 
     /// Never `WorksheetNotFound`.

@@ -3,7 +3,9 @@ use std::alloc::{AllocError, Global};
 use xls_biff::XlsError;
 use xls_data::{Sheet, SheetType, SheetVisible};
 
+mod formulas;
 mod globals;
+mod ledger;
 mod lookups;
 mod parts;
 mod sources;

@@ -6,20 +6,24 @@ ghost use Rattle.std.specs.Io.KnownBytes.{Consumes, IsAtEnd};
 ghost use Rattle.std.specs.Str.{chars};
 ghost use Rattle.xls_data.specs.Data.{is_nothing};
 ghost use Rattle.xls_data.specs.Sheets.{SheetContent, sheet_content};
-ghost use Rattle.xls_book.specs.Opening.{IsOpened, OpenCause, Opens};
+ghost use Rattle.xls_props.specs.Properties.{IsProperties};
+ghost use Rattle.xls_book.specs.Opening.{IsOfOpening, IsOpened, OpenCause, Opens};
 ghost use Rattle.xls_book.specs.Reading.{SheetView};
 ghost use Rattle.xls_book.specs.RecordTable.{forced_fault};
 ghost use Rattle.xls_book.specs.InForce.{page_in};
 ghost use Rattle.xls_book.specs.LookUps.{AreWorksheets, GivesMerges, IsOrdered, NameCause, out_of_range, under_header};
-ghost use Rattle.xls_book.specs.Steps.{OpensStream, ReadsContents, items_of, listed_of, view_named};
+ghost use Rattle.xls_book.specs.SheetTable.{shown_formulas};
+ghost use Rattle.xls_book.specs.Steps.{OpensStream, ReadsContents, items_of, listed_of, told_of, view_named};
 
 use crate::classes::classes_of;
-use crate::globals::{Listed, read_globals};
+use crate::formulas::Formulas;
+use crate::globals::{Globals, Listed, read_globals};
 use crate::index::{find_named, index_of};
+use crate::names::naming_of;
 use crate::options::XlsOptions;
 use crate::part::{Content, InForce, read_sheet};
 use crate::ranges::list_worksheets;
-use crate::reading::read_all;
+use crate::reading::{StreamBytes, read_all};
 use crate::source::Source;
 use crate::values::Values;
 use std::alloc::{AllocError, Global};
@@ -27,6 +31,7 @@ use std::collections::BTreeMap;
 use std::marker::Model;
 use xls_biff::XlsError;
 use xls_data::{CellFormat, Data, Dimensions, HeaderRow, Sheet};
+use xls_props::{WorkbookProperties, workbook_properties_of};
 use xls_range::Range;
 use xls_text::XlsEncoding;
 
@@ -35,6 +40,8 @@ use xls_text::XlsEncoding;
 pub struct Metadata {
     /// The sheets in workbook order.
     pub sheets: Vec<Sheet>,
+    /// The defined names and their texts in workbook order.
+    pub names: Vec<(String, String)>,
 }
 
 /// A workbook: its sheets in order, and the values of each. Contracts see what it shows.
@@ -56,7 +63,7 @@ impl Model for Xls {
     ghost use Rattle.xls_data.specs.Sheets.{sheet_content};
     ghost use Rattle.xls_book.specs.Reading.{Workbook};
     ghost use Rattle.std.specs.List.{AllByRecursion};
-    ghost use Rattle.xls_book.specs.Steps.{paired, shown, IsIndex};
+    ghost use Rattle.xls_book.specs.Steps.{paired, shown, told_of, IsIndex};
     ghost use Rattle.xls_book.specs.LookUps.{IsOrdered};
 
     ghost Value = { Workbook };
@@ -64,6 +71,7 @@ impl Model for Xls {
     ghost view = { λ b. record {
       options = b.options;
       sheets = map sheet_content b.metadata.sheets.items;
+      names = map told_of b.metadata.names.items;
       contents = shown (paired (map sheet_content b.metadata.sheets.items) b.contents.items) (map sheet_content b.metadata.sheets.items);
       is_1904 = b.is_1904;
       classes = b.classes.items;
@@ -77,29 +85,45 @@ impl Model for Xls {
 fn open_stream(
     alloc: Global,
     stream: &[u8],
-    options: &XlsOptions,
+    options: XlsOptions,
     page: XlsEncoding,
 ) -> Result<Xls, XlsError>
-    requires kept { forced_fault options.now.force_codepage ≡ None }
-    requires first { page ≡ page_in options.now [] }
-    ensures { OpensStream options.now stream.now result }
+    requires kept { forced_fault options.force_codepage ≡ None }
+    requires first { page ≡ page_in options [] }
+    ensures { OpensStream options stream.now result }
 {
-    let globals = read_globals(alloc, stream, page, options)?;
-    let classes = classes_of(alloc, &globals.formats, &globals.identifiers)?;
+    let globals = read_globals(alloc, stream, page, &options)?;
+    let Globals {
+        page,
+        version,
+        is_1904,
+        formats,
+        identifiers,
+        strings,
+        refs,
+        names,
+        listed,
+    } = globals;
+    let classes = classes_of(alloc, &formats, &identifiers)?;
+    let naming = naming_of(alloc, version, &listed, refs, names)?;
     let force = InForce {
-        page: globals.page,
-        version: globals.version,
+        page,
+        version,
         classes: &classes,
-        strings: &globals.strings,
-        is_1904: globals.is_1904,
+        strings: &strings,
+        is_1904,
+        sheets: &naming.sheets,
+        names: &naming.names,
+        refs: &naming.refs,
+        functions: &options.functions,
     };
-    let contents = read_contents(alloc, stream, &globals.listed, &force, options)?;
-    let is_1904 = globals.is_1904;
-    let sheets = sheets_of(alloc, globals.listed)?;
+    let contents = read_contents(alloc, stream, &listed, &force, &options)?;
+    let sheets = sheets_of(alloc, listed)?;
     let index = index_of(alloc, &sheets)?;
+    let names = naming.told;
     Ok(Xls {
-        options: *options,
-        metadata: Metadata { sheets },
+        options,
+        metadata: Metadata { sheets, names },
         contents,
         index,
         is_1904,
@@ -137,11 +161,12 @@ fn sheets_of(alloc: Global, listed: Vec<Listed>) -> Result<Vec<Sheet>, AllocErro
 }
 
 /// Reads the source to its end and opens the bytes. The clauses are those of `new_with_options`.
-fn open<S: Source>(alloc: Global, source: &mut S, options: &XlsOptions) -> Result<Xls, XlsError>
-    ensures ok { IfOk result (λ book. IfSome (S.left source.old) (IsOpened options.now book)) }
+fn open<S: Source>(alloc: Global, source: &mut S, options: XlsOptions) -> Result<Xls, XlsError>
+    ensures ok { IfOk result (λ book. IfSome (S.left source.old) (IsOpened options book)) }
     ensures end { IfOk result (λ _. IsAtEnd (S.left source.new)) }
-    ensures cause { IfErr result (OpenCause options.now (S.left source.old) (S.faults source.old) (S.faults source.new)) }
-    ensures front { (taken : List ℕ) × (length taken ≤ options.now.max_bytes + 1)
+    ensures cause { IfErr result (OpenCause options (S.left source.old) (S.faults source.old) (S.faults source.new)) }
+    ensures named { IfErr result IsOfOpening }
+    ensures front { (taken : List ℕ) × (length taken ≤ options.max_bytes + 1)
         × Consumes (S.left source.old) (S.left source.new) taken }
     ensures count { S.faults source.old ≤ S.faults source.new }
 {
@@ -157,6 +182,16 @@ fn copy_of(alloc: Global, regions: &[Dimensions]) -> Result<Vec<Dimensions>, All
     let mut copy = Vec::new(alloc);
     copy.extend_from_slice(regions)?;
     Ok(copy)
+}
+
+/// The bytes of a stream that may be missing.
+fn slice_of(stream: &Option<StreamBytes>) -> Option<&[u8]>
+    ensures { option_copied result ≡ stream.now }
+{
+    match stream {
+        Some(bytes) => Some(bytes.as_slice()),
+        None => None,
+    }
 }
 
 /// That no sheet has a name.
@@ -191,7 +226,7 @@ impl Xls {
     ) -> Result<Xls, XlsError>
         ensures { Opens options (S.left source.old) (S.left source.new) (S.faults source.old) (S.faults source.new) result }
     {
-        open(alloc, source, &options)
+        open(alloc, source, options)
     }
 
     /// The values of the sheet at an index, which are those of the last sheet of its name. `None`
@@ -201,6 +236,18 @@ impl Xls {
     {
         match self.content_at(n) {
             Some(content) => Some(content.values()),
+            None => None,
+        }
+    }
+
+    /// The formulas of the sheet at an index whose text isn't empty; they are those of the last sheet of
+    /// its name. A formula that is refused has a text that says why. `None` where no sheet has the
+    /// index. Takes no memory.
+    pub fn formulas_at(&self, n: usize) -> Option<Formulas<'_>>
+        ensures { result ≡ option_map (λ (v : SheetView). shown_formulas v.formulas) (slice_get self.now.contents n) }
+    {
+        match self.content_at(n) {
+            Some(content) => Some(content.shown_formulas()),
             None => None,
         }
     }
@@ -292,6 +339,16 @@ impl Xls {
         &self.classes
     }
 
+    /// The properties of the workbook, by the property streams of the options. Answers `Memory` alone.
+    pub fn workbook_properties(&self, alloc: Global) -> Result<WorkbookProperties, XlsError>
+        ensures ok { IfOk result (IsProperties self.now.options.summary self.now.options.document_summary) }
+        ensures refused { IfErr result (λ e. e ≡ XlsError.Memory) }
+    {
+        let summary = slice_of(&self.options.summary);
+        let document = slice_of(&self.options.document_summary);
+        Ok(workbook_properties_of(alloc, summary, document)?)
+    }
+
     /// The options that the workbook was opened with, the header row as last set.
     pub fn options(&self) -> &XlsOptions
         ensures { result.now ≡ self.now.options }
@@ -340,9 +397,17 @@ impl Xls {
         &self.metadata.sheets
     }
 
+    /// The defined names in order.
+    pub(crate) fn names(&self) -> &[(String, String)]
+        ensures { map told_of result.now ≡ self.now.names }
+    {
+        &self.metadata.names
+    }
+
     /// What is told of the whole workbook.
     pub(crate) fn told(&self) -> &Metadata
-        ensures { map sheet_content result.now.sheets.items ≡ self.now.sheets }
+        ensures sheets { map sheet_content result.now.sheets.items ≡ self.now.sheets }
+        ensures names { map told_of result.now.names.items ≡ self.now.names }
     {
         &self.metadata
     }

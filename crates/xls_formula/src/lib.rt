@@ -22,6 +22,7 @@ pub use ftab::{FTAB, FTAB_ARGC, FTAB_LEN};
 pub use functions::FunctionTable;
 pub use names::Names;
 pub use parse::parse_formula;
+pub use scope::sheet_of_reference;
 
 #[cfg(test)]
 mod tests;

@@ -1,8 +1,8 @@
 //! What a formula may name.
 
-ghost use Rattle.std.specs.Prelude.{◌≡◌};
+ghost use Rattle.std.specs.Prelude.{◌≡◌, slice_get};
 ghost use Rattle.std.specs.Str.{chars};
-ghost use Rattle.xls_formula.specs.Context.{name_text, sheet_text};
+ghost use Rattle.xls_formula.specs.Context.{name_text, numbered_sheet, sheet_text};
 ghost use Rattle.xls_formula.specs.Scopes.{context_of};
 
 use crate::functions::FunctionTable;
@@ -21,18 +21,26 @@ pub(crate) struct Scope<'a> {
     pub functions: &'a FunctionTable,
 }
 
-/// The sheet whose number a reference holds, and `#REF` where either is missing or negative.
+/// The name of the sheet whose number a reference holds, and `#REF` where either is missing or
+/// negative. Takes no memory.
 #[tactic(auto, unfolding(std::specs::Prelude::chars))]
-pub(crate) fn sheet_name<'a>(scope: Scope<'a>, index: u16) -> &'a str
-    ensures { chars result.now ≡ sheet_text (context_of scope.entry) index }
+pub fn sheet_of_reference<'a>(sheets: &'a Strings, refs: &Refs, index: usize) -> &'a str
+    ensures { chars result.now ≡ numbered_sheet sheets.now (slice_get refs.now index) }
 {
-    match scope.refs.first(usize::from(index)) {
-        Some(first) if first >= 0 => match scope.sheets.get(first as usize) {
+    match refs.first(index) {
+        Some(first) if first >= 0 => match sheets.get(first as usize) {
             Some(name) => name,
             None => "#REF",
         },
         _ => "#REF",
     }
+}
+
+/// The same of an index in a token.
+pub(crate) fn sheet_name<'a>(scope: Scope<'a>, index: u16) -> &'a str
+    ensures { chars result.now ≡ sheet_text (context_of scope.entry) index }
+{
+    sheet_of_reference(scope.sheets, scope.refs, usize::from(index))
 }
 
 /// The name of an index, which counts from 1, and `#REF!` where none has it.

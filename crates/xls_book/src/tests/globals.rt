@@ -123,15 +123,6 @@ fn the_first_fault_of_the_globals_is_told(rt: HostRuntime) {
 }
 
 #[test]
-fn names_and_formulas_are_not_built(rt: HostRuntime) {
-    let alloc = rt.alloc();
-    let name = refusal(alloc, &[&G, &[0x18, 0, 0, 0], &E]);
-    assert_eq!(rt; name, Some(XlsError::NotBuilt { typ: 0x18 }));
-    let formula = refusal(alloc, &[&G, &bound(25), &E, &S, &[6, 0, 0, 0], &E]);
-    assert_eq!(rt; formula, Some(XlsError::NotBuilt { typ: 6 }));
-}
-
-#[test]
 fn drops_nuls_of_a_name(rt: HostRuntime) -> Result<(), Fail> {
     let alloc = rt.alloc();
     // The name is NUL, the byte E9, NUL.

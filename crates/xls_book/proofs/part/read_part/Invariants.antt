@@ -5,4 +5,4 @@ abbrev pub invariant-loop-record : goal.invariant-loop-record
 invariant-loop-record l =
     (goal.iterator-loop-record).can_next l.record-iterator ×
     (goal.iterator-loop-record).is_finite l.record-iterator ×
-    PartSoFar l.part l.record-iterator.0 l.record-iterator.1 l.options l.force l.content l.room
+    PartSoFar l.part l.record-iterator.0 l.record-iterator.1 l.options l.force l.content l.room l.at

@@ -1,5 +1,6 @@
 use Rattle.std.proofs.Common.{map, sym, ap, subst, ◌∙◌}
 use Rattle.xls_cells.specs.Positions.{IsAscending, cell_position}
+use Rattle.xls_data.specs.Data.{content_of}
 use Rattle.xls_book.specs.LookUps.{IsOrdered}
 use Rattle.xls_book.proofs.PartLemmas.{positions}
 use Rattle.xls_book.proofs.ranges.box_of.Goals as goal
@@ -7,4 +8,4 @@ use Rattle.xls_book.proofs.ranges.box_of.Goals as goal
 pub from_sorted-requires : goal.from_sorted-requires
 from_sorted-requires c =
     let cells = c.content.inside.cells.items in
-    subst IsAscending (positions cells ∙ ap (map cell_position) (sym c.deref.ensures.value)) (subst IsOrdered (sym c.content.view_is) c.requires)
+    subst IsAscending (positions content_of cells ∙ ap (map cell_position) (sym c.deref.ensures.value)) (subst IsOrdered (sym c.content.view_is) c.requires).0

@@ -1,6 +1,7 @@
-use Rattle.std.proofs.Common.{refl, sym, ap, ◌∙◌, ◌∷◌, [], Ok}
+use Rattle.std.proofs.Common.{map, refl, sym, ap, ◌∙◌, ◌∷◌, [], Ok}
 use Rattle.std.proofs.lemmas.Result.{err_from_is_err_and}
 use Rattle.std.proofs.lemmas.List.{map-append}
+use Rattle.xls_formula.specs.Defined.{named_of}
 use Rattle.xls_book.specs.Steps.{listed_of, sheet_step}
 use Rattle.xls_book.proofs.FollowLemmas.{fails_through}
 use Rattle.xls_book.proofs.globals.Globals.take_sheet.Goals as goal
@@ -21,5 +22,7 @@ returns c =
       formats = c.self.inside.formats.items;
       identifiers = c.self.inside.identifiers.items;
       strings = c.self.inside.strings;
+      refs = c.self.inside.refs;
+      names = map named_of c.self.inside.names.items;
       sheets = x;
     })) (sym (map-append listed_of c.self.inside.listed.items (record { offset = c.in_ok-offset.offset; sheet = c.in_ok-offset.sheet } ∷ []))))

@@ -1,6 +1,7 @@
 use Rattle.std.proofs.Common.{map}
 use Rattle.std.proofs.lemmas.Result.{err_from_is_err_and}
 use Rattle.xls_biff.specs.Walking.{group_of}
+use Rattle.xls_formula.specs.Defined.{named_of}
 use Rattle.xls_book.specs.Steps.{State, listed_of}
 use Rattle.xls_book.proofs.FollowLemmas.{table_follows, table_stepped}
 use Rattle.xls_book.proofs.globals.Globals.take_table.Goals as goal
@@ -19,6 +20,8 @@ returns c = λ shared h.
       formats = c.self.inside.formats.items;
       identifiers = c.self.inside.identifiers.items;
       strings = c.self.inside.strings;
+      refs = c.self.inside.refs;
+      names = map named_of c.self.inside.names.items;
       sheets = map listed_of c.self.inside.listed.items;
     } in
     rw (← c.self.view_is) (table_stepped (group_of c.args.r.now) shared before _ h c.in_ok-self-inside.ensures)

@@ -8,6 +8,7 @@ returns g c =
       ok = made.ok;
       end = made.end;
       cause = made.cause;
+      named = made.named;
       complete = λ quiet. complete c.args.options _ _ _ _ made.cause quiet;
       front = made.front;
       count = made.count;

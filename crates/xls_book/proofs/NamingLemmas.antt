@@ -1,0 +1,146 @@
+-- What formulas may name, by the records of the globals.
+use Rattle.std.proofs.Common.{◌≡◌, ℕ, ◌+◌, List, [], ◌∷◌, ◌++◌, map, length, append_assoc, arith, refl, sym, ap, ◌∙◌, Option, Some, None, Result, Ok, Err}
+use Rattle.std.specs.Prelude.{ℤ, pos, codes, String}
+use Rattle.std.specs.Global.{Global}
+use Rattle.std.specs.String.{string_bytes}
+use Rattle.std.specs.Str.{chars, IsAscii}
+use Rattle.std.specs.Option.{option_or, option_map}
+use Rattle.std.specs.Result.{result_ok}
+use Rattle.std.proofs.lemmas.List.{length-map}
+use Rattle.std.proofs.lemmas.List.FromFn.{map-range_with_len_more}
+use Rattle.std.proofs.lemmas.Str.Ascii.{IsAscii-nil, IsAscii-cons}
+use Rattle.xls_text.specs.declared.encoding.XlsEncoding.{XlsEncoding}
+use Rattle.xls_model.specs.Listing.{Kept, Entry, Item, plain_item, table_item, sheet_item, entry_of}
+use Rattle.xls_model.specs.declared.part.Part.{Part}
+use Rattle.xls_data.specs.Sheets.{SheetContent}
+use Rattle.xls_biff.specs.declared.error.XlsError.{XlsError}
+use Rattle.xls_biff.specs.declared.globals.Biff.{Biff}
+use Rattle.xls_biff.specs.Texts.{text_of}
+use Rattle.xls_formula.specs.Context.{Context}
+use Rattle.xls_formula.proofs.TextLemmas.{text_more, ascii_more}
+use Rattle.xls_book.specs.Order.{along, first_of, somes}
+use Rattle.xls_book.specs.InForce.{page_in, version_in, SheetRecords, sheet_in, sheets_of, sheet_names_of, extern_refs, known_refs, own_refs, Named, lbls_in, told_name, context_by, context_of, setting_of}
+use Rattle.xls_book.specs.RecordTable.{fault_of}
+use Rattle.xls_book.specs.Faults.{item_fault}
+use Rattle.xls_book.specs.Steps.{Sheets, Opened, opened_in, pair_of, sheets_at, State, IsState, names_listed, IsNaming}
+use Rattle.xls_book.specs.declared.names.Naming.{Naming}
+use Rattle.xls_book.specs.declared.options.XlsOptions.{XlsOptions}
+use Rattle.xls_book.proofs.OrderLemmas.{or_none}
+use Rattle.xls_book.proofs.GlobalsLemmas.{entries_push}
+use Rattle.xls_book.proofs.OpenLemmas.{Found, said, no_head, is_named}
+
+-- ---- the names of the sheets
+
+module _ (options : XlsOptions) where
+  -- those of the entries, and those of the items
+  abbrev entry_names : List Item → List Item → List (List ℕ)
+  entry_names before items = sheet_names_of (somes (along (sheet_in options) (map entry_of before) (map entry_of items)))
+
+  abbrev item_names : List Item → List Item → List (List ℕ)
+  item_names before items = names_listed (map pair_of (somes (along (opened_in options) before items)))
+
+  name_here : (body : List ℕ) (kept : List Kept) (cut : Option Part) (items before : List Item)
+      → (first_of (along (item_fault options) (before ++ sheet_item body kept cut ∷ []) items) ≡ None
+      → entry_names (before ++ sheet_item body kept cut ∷ []) items ≡ item_names (before ++ sheet_item body kept cut ∷ []) items)
+      → first_of (along (item_fault options) before (sheet_item body kept cut ∷ items)) ≡ None
+      → (r : Found) → said options before body ≡ r
+      → entry_names before (sheet_item body kept cut ∷ items) ≡ item_names before (sheet_item body kept cut ∷ items)
+  name_here body kept cut items before on f (Err e) h =
+      absurd (no_head options (setting_of options []) before body e (along (item_fault options) (before ++ sheet_item body kept cut ∷ []) items) h f)
+  name_here body kept cut items before on f (Ok h) e =
+      let i = sheet_item body kept cut in
+      let o : Opened = record { offset = h.0; head = h.1; kept = kept; cut = cut } in
+      let n = is_named (page_in options (map entry_of before)) (version_in (map entry_of before)) body h e in
+      let opened : opened_in options before i ≡ Some o =
+      ap (λ (r : Found). option_map (λ (x : ℕ × SheetContent). record { offset = x.0; head = x.1; kept = kept; cut = cut }) (result_ok r)) e in
+      let here : sheet_in options (map entry_of before) (entry_of i) ≡ Some (h.1, kept) =
+      ap (λ (r : Found). option_map (λ (x : ℕ × SheetContent). (x.1, kept)) (result_ok r)) n.entry_is
+      ∙ ap (λ (c : SheetContent). Some (c, kept)) n.content in
+      let rest = on (or_none (fault_of (said options before body)) (first_of (along (item_fault options) (before ++ i ∷ []) items)) f).1 in
+      ap (λ (x : Option SheetRecords). sheet_names_of (somes (x ∷ along (sheet_in options) (map entry_of before ++ entry_of i ∷ []) (map entry_of items)))) here
+      ∙ ap (λ (b : List Entry). h.1.name ∷ sheet_names_of (somes (along (sheet_in options) b (map entry_of items)))) (sym (entries_push before i))
+      ∙ ap (λ (l : List (List ℕ)). h.1.name ∷ l) rest
+      ∙ ap (λ (x : Option Opened). names_listed (map pair_of (somes (x ∷ along (opened_in options) (before ++ i ∷ []) items)))) (sym opened)
+
+  name_all : (items before : List Item) → first_of (along (item_fault options) before items) ≡ None
+      → entry_names before items ≡ item_names before items
+  name_all [] before f = refl
+  name_all (plain_item typ body ∷ items) before f =
+      let i = plain_item typ body in
+      ap (λ (b : List Entry). sheet_names_of (somes (along (sheet_in options) b (map entry_of items)))) (sym (entries_push before i))
+      ∙ name_all items (before ++ i ∷ []) (or_none (item_fault options before i) (first_of (along (item_fault options) (before ++ i ∷ []) items)) f).1
+  name_all (table_item body shared ∷ items) before f =
+      let i = table_item body shared in
+      ap (λ (b : List Entry). sheet_names_of (somes (along (sheet_in options) b (map entry_of items)))) (sym (entries_push before i))
+      ∙ name_all items (before ++ i ∷ []) (or_none (item_fault options before i) (first_of (along (item_fault options) (before ++ i ∷ []) items)) f).1
+  name_all (sheet_item body kept cut ∷ items) before f =
+      name_here body kept cut items before (λ g. name_all items (before ++ sheet_item body kept cut ∷ []) g) f (said options before body) refl
+
+  names_same : (items : List Item) → first_of (along (item_fault options) [] items) ≡ None
+      → sheet_names_of (sheets_of options (map entry_of items)) ≡ names_listed (sheets_at options items)
+  names_same items f = name_all items [] f
+
+same_count : (qs : List SheetRecords) (ps : Sheets) → sheet_names_of qs ≡ names_listed ps → length qs ≡ length ps
+same_count qs ps e =
+    sym (length-map qs (λ (q : SheetRecords). q.0.name)) ∙ ap length e
+    ∙ length-map ps (λ (p : ℕ × SheetContent). p.1.name)
+
+-- ---- the context
+
+same_context : (options : XlsOptions) (p q : XlsEncoding) (v w : Biff) (ss ts : List (List ℕ)) (rs us : List ℤ) (ns ms : List Named)
+    → p ≡ q → v ≡ w → ss ≡ ts → rs ≡ us → ns ≡ ms
+    → context_by options p v ss rs ns ≡ context_by options q w ts us ms
+same_context options p q v w ss ts rs us ns ms a b c d e = rw (a, b, c, d, e) refl
+
+same_refs : (v w : Biff) (n m : ℕ) (rs us : List ℤ) → v ≡ w → n ≡ m → rs ≡ us → known_refs v n rs ≡ known_refs w m us
+same_refs v w n m rs us a b c = rw (a, b, c) refl
+
+-- what the code has at hand
+abbrev pub context_at : XlsOptions → XlsEncoding → Biff → Naming → Context
+context_at options page version n = record {
+  sheets = n.sheets;
+  names = n.names;
+  refs = n.refs;
+  page = page;
+  biff = version;
+  functions = options.functions;
+}
+
+by_parts : (options : XlsOptions) (p : XlsEncoding) (v : Biff) (n : Naming) (ss : List (List ℕ)) (rs : List ℤ) (ls : List Named)
+    → n.sheets ≡ ss → n.refs ≡ rs → n.names ≡ map (told_name ss rs) ls
+    → context_at options p v n ≡ context_by options p v ss rs ls
+by_parts options p v n ss rs ls a b c = rw (a, b, c) refl
+
+-- is what the items give
+pub context_is : (options : XlsOptions) (items : List Item) (t : State) (n : Naming) → IsState options items t
+    → first_of (along (item_fault options) [] items) ≡ None
+    → IsNaming t.version t.sheets t.refs t.names n
+    → context_at options t.page t.version n ≡ context_of options (map entry_of items)
+context_is options items t n h f i =
+    let es = map entry_of items in
+    let names : names_listed t.sheets ≡ sheet_names_of (sheets_of options es) =
+    ap names_listed h.sheets ∙ sym (names_same options items f) in
+    let count : length t.sheets ≡ length (sheets_of options es) =
+    sym (same_count (sheets_of options es) t.sheets (sym names)) in
+    by_parts options t.page t.version n (names_listed t.sheets) (known_refs t.version (length t.sheets) t.refs) t.names i.sheets i.known i.names
+    ∙ same_context options t.page (page_in options es) t.version (version_in es) (names_listed t.sheets) (sheet_names_of (sheets_of options es)) (known_refs t.version (length t.sheets) t.refs) (known_refs (version_in es) (length (sheets_of options es)) (extern_refs es)) t.names (lbls_in options es)
+    h.page h.version names
+    (same_refs t.version (version_in es) (length t.sheets) (length (sheets_of options es)) t.refs (extern_refs es) h.version count h.refs)
+    h.names
+
+-- ---- one more
+
+pub refs_next : (i : ℕ) → own_refs (i + 1) ≡ own_refs i ++ pos i ∷ []
+refs_next i = map-range_with_len_more pos 0 i i (omega arith)
+
+pub behind_mark : (start marked whole : String Global) (sheet text : List ℕ) → string_bytes start ≡ sheet
+    → string_bytes marked ≡ string_bytes start ++ codes "!" → string_bytes whole ≡ string_bytes marked ++ text
+    → text_of whole ≡ chars sheet ++ (codes "!" ++ chars text)
+behind_mark start marked whole sheet text a b c =
+    text_more marked whole text c
+    ∙ ap (λ (x : List ℕ). x ++ chars text) (ascii_more start marked (codes "!") mark_ascii b)
+    ∙ append_assoc (text_of start) (codes "!") (chars text)
+    ∙ ap (λ (x : List ℕ). chars x ++ (codes "!" ++ chars text)) a
+  where
+    mark_ascii : IsAscii (codes "!")
+    mark_ascii = IsAscii-cons 33 [] (omega arith) IsAscii-nil

@@ -1,0 +1,12 @@
+use Rattle.std.proofs.Common.{◌≡◌, length, map}
+use Rattle.xls_book.specs.SheetTable.{shown_formulas}
+use Rattle.xls_book.specs.Steps.{formula_content}
+use Rattle.xls_book.proofs.formulas.from_shown.Given as goal
+
+-- what was passed over isn't shown
+abbrev pub invariant-loop-rest : goal.invariant-loop-rest
+invariant-loop-rest l =
+    shown_formulas (map formula_content l.rest) ≡ shown_formulas (map formula_content l.cells)
+
+abbrev pub decreases-loop-rest : goal.decreases-loop-rest
+decreases-loop-rest l = length l.rest

@@ -1,0 +1,169 @@
+use super::*;
+use std::test::*;
+use xls_biff::Part;
+use xls_data::Data;
+
+// The formulas of a sheet, as `row,column=text` with a space behind each.
+pub fn formulas(alloc: Global, book: &Xls, n: usize) -> Result<String, AllocError> {
+    let mut text = String::new(alloc);
+    if let Some(formulas) = book.formulas_at(n) {
+        for (row, column, formula) in formulas {
+            write!(text, "{row},{column}={formula} ")?;
+        }
+    }
+    Ok(text)
+}
+
+// A Formula whose value is the double 6 and whose tokens are these.
+fn formula(alloc: Global, row: u8, tokens: &[u8]) -> Result<Vec<u8>, AllocError> {
+    let size = tokens.len() as u8;
+    let head = [6, 0, size.wrapping_add(22), 0, row, 0, 0, 0, 0, 0];
+    let value = [0, 0, 0, 0, 0, 0, 0x18, 0x40, 0, 0, 0, 0, 0, 0, size, 0];
+    joined(alloc, &[&head, &value, tokens])
+}
+
+// A sheet of these records.
+fn of(alloc: Global, first: &[u8], second: &[u8]) -> Result<Xls, XlsError> {
+    opened(alloc, &[&G, &bound(25), &E, &S, first, second, &E])
+}
+
+#[test]
+fn a_refused_formula_says_why(rt: HostRuntime) -> Result<(), Fail> {
+    let alloc = rt.alloc();
+    let short = formula(alloc, 0, &[0x1E, 1, 0, 3, 0x1E, 5, 0])?;
+    let sum = formula(alloc, 1, &[0x1E, 1, 0, 0x1E, 5, 0, 3])?;
+    let book = of(alloc, short.as_slice(), sum.as_slice())?;
+    assert_eq!(rt; listed(alloc, &book, 0)?.as_str(), "0,0=6 1,0=6 ");
+    let wanted = "0,0=Unrecognised formula for cell (0, 0): Invalid stack length 1,0=1+5 ";
+    assert_eq!(rt; formulas(alloc, &book, 0)?.as_str(), wanted);
+    Ok(())
+}
+
+// A String behind a Formula at (3, 0), and one before any Formula.
+#[test]
+fn a_string_stands_at_the_last_formula(rt: HostRuntime) -> Result<(), Fail> {
+    let alloc = rt.alloc();
+    let text = [7, 2, 4, 0, 1, 0, 0, 0x41];
+    let three = formula(alloc, 3, &[0x1E, 1, 0])?;
+    let behind = of(alloc, three.as_slice(), &text)?;
+    assert_eq!(rt; listed(alloc, &behind, 0)?.as_str(), "3,0=A ");
+    let before = of(alloc, &text, three.as_slice())?;
+    assert_eq!(rt; listed(alloc, &before, 0)?.as_str(), "0,0=A 3,0=6 ");
+    Ok(())
+}
+
+#[test]
+fn an_empty_text_counts_for_the_box_and_is_not_shown(rt: HostRuntime) -> Result<(), Fail> {
+    let alloc = rt.alloc();
+    // PtgExp has an empty text, and so has PtgMissArg.
+    let empty = formula(alloc, 5, &[0x16])?;
+    let one = formula(alloc, 2, &[0x1E, 1, 0])?;
+    let book = of(alloc, empty.as_slice(), one.as_slice())?;
+    assert_eq!(rt; formulas(alloc, &book, 0)?.as_str(), "2,0=1 ");
+    let range = book.worksheet_formula(alloc, "A")?;
+    assert_eq!(rt; (range.start(), range.end()), (Some((2, 0)), Some((5, 0))));
+    Ok(())
+}
+
+#[test]
+fn of_one_position_the_last_formula_stays(rt: HostRuntime) -> Result<(), Fail> {
+    let alloc = rt.alloc();
+    let (first, last) = (
+        formula(alloc, 1, &[0x1E, 1, 0])?,
+        formula(alloc, 1, &[0x1E, 2, 0])?,
+    );
+    let book = of(alloc, first.as_slice(), last.as_slice())?;
+    assert_eq!(rt; formulas(alloc, &book, 0)?.as_str(), "1,0=2 ");
+    Ok(())
+}
+
+// The first fault is the value's, and an error in the tokens is none.
+#[test]
+fn a_formula_has_faults_of_its_head_and_value(rt: HostRuntime) -> Result<(), Fail> {
+    let alloc = rt.alloc();
+    let short = [
+        6, 0, 19, 0, 0, 0, 0, 0, 0, 0, 0, 0, 0, 0, 0, 0, 0, 0, 0, 0, 0, 0, 0,
+    ];
+    let wanted = XlsError::Len {
+        expected: 20,
+        found: 19,
+        typ: Part::Formula,
+    };
+    assert_eq!(rt; of(alloc, &short, &[]).err(), Some(wanted));
+    // An error value of code 1, which has no meaning.
+    let value = [
+        6, 0, 20, 0, 0, 0, 0, 0, 0, 0, 2, 0, 1, 0, 0, 0, 0xFF, 0xFF, 0, 0, 0, 0, 0, 0,
+    ];
+    let wanted = XlsError::Unrecognized {
+        typ: Part::CellError,
+        val: 1,
+    };
+    assert_eq!(rt; of(alloc, &value, &[]).err(), Some(wanted));
+    Ok(())
+}
+
+// A name whose Lbl stands before the ExternSheet that it needs: PtgRef3d of reference 0, B2.
+#[test]
+fn a_name_finds_its_sheet_behind_it(rt: HostRuntime) -> Result<(), Fail> {
+    let alloc = rt.alloc();
+    let name = [
+        0x18, 0, 23, 0, 0, 0, 0, 1, 7, 0, 0, 0, 0, 0, 0, 0, 0, 0, 0, 0x54, 0x3A, 0, 0, 1, 0, 1, 0,
+    ];
+    let refs = [0x17, 0, 8, 0, 1, 0, 0, 0, 0, 0, 0, 0];
+    let book = opened(alloc, &[&G, &name, &refs, &bound(64), &E, &S, &E])?;
+    let (name, text) = &book.defined_names()[0];
+    assert_eq!(rt; (name.as_str(), text.as_str()), ("T", "A!$B$2"));
+    let lost = opened(alloc, &[&G, &[0x18, 0, 0, 0], &E]).err();
+    let wanted = XlsError::Len {
+        expected: 14,
+        found: 0,
+        typ: Part::Lbl,
+    };
+    assert_eq!(rt; lost, Some(wanted));
+    Ok(())
+}
+
+// BIFF5: PtgRef3d of reference 0 at (9, 2), whose row and column are relative.
+#[test]
+fn before_biff8_each_sheet_has_its_own_reference(rt: HostRuntime) -> Result<(), Fail> {
+    let alloc = rt.alloc();
+    let globals = [9, 8, 4, 0, 0, 5, 5, 0];
+    let sheet = [0x85, 0, 8, 0, 24, 0, 0, 0, 0, 0, 1, 0x41];
+    let tokens = [0x3A, 0, 0, 0, 0, 0, 0, 0, 0, 0, 0, 0, 0, 0, 0, 9, 0xC0, 2];
+    let cell = formula(alloc, 1, &tokens)?;
+    let book = opened(alloc, &[&globals, &sheet, &E, &S, cell.as_slice(), &E])?;
+    assert_eq!(rt; formulas(alloc, &book, 0)?.as_str(), "1,0=A!C10 ");
+    Ok(())
+}
+
+#[test]
+fn a_function_of_the_options_is_named(rt: HostRuntime) -> Result<(), Fail> {
+    let alloc = rt.alloc();
+    let mut options = XlsOptions::defaults(alloc)?;
+    options.functions.push("X", 1)?;
+    // A call of function 72 with one operand.
+    let cell = formula(alloc, 0, &[0x1E, 1, 0, 0x22, 1, 72, 0])?;
+    let bytes = joined(alloc, &[&G, &bound(25), &E, &S, cell.as_slice(), &E])?;
+    let book = open_under(alloc, bytes.as_slice(), options)?;
+    assert_eq!(rt; formulas(alloc, &book, 0)?.as_str(), "0,0=X(1) ");
+    let plain = open(alloc, bytes.as_slice())?;
+    let wanted = "0,0=Unrecognised formula for cell (0, 0): Invalid iftab 48 ";
+    assert_eq!(rt; formulas(alloc, &plain, 0)?.as_str(), wanted);
+    Ok(())
+}
+
+// A formula value of kind 3 is an empty text.
+#[test]
+fn a_formula_may_have_an_empty_text(rt: HostRuntime) -> Result<(), Fail> {
+    let alloc = rt.alloc();
+    let cell = [
+        6, 0, 25, 0, 2, 0, 1, 0, 0, 0, 3, 0, 0, 0, 0, 0, 0xFF, 0xFF, 0, 0, 0, 0, 0, 0, 3, 0, 0x1E,
+        7, 0,
+    ];
+    let book = of(alloc, &cell, &[])?;
+    let range = book.worksheet_range(alloc, "A")?;
+    let empty = Data::String(String::new(alloc));
+    assert_eq!(rt; range.get_value((2, 1)), Some(&empty));
+    assert_eq!(rt; formulas(alloc, &book, 0)?.as_str(), "2,1=7 ");
+    Ok(())
+}
