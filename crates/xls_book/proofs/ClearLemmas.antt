@@ -8,12 +8,11 @@ use Rattle.xls_bytes.specs.Numbers.{le}
 use Rattle.xls_text.specs.Pages.{page_of}
 use Rattle.xls_text.specs.declared.encoding.XlsEncoding.{XlsEncoding}
 use Rattle.xls_text.specs.declared.error.CfbError.{CfbError}
-use Rattle.xls_model.specs.Listing.{Kept, Shared, no_table, table_of, table_without, Entry, Item, plain_item, table_item, sheet_item, entry_of}
+use Rattle.xls_model.specs.Listing.{Kept, Shared, no_table, table_of, table_without, Item, plain_item, table_item, sheet_item, entry_of}
 use Rattle.xls_model.specs.StringTable.{Missing, short_head, no_units, no_tail}
 use Rattle.xls_model.specs.declared.part.Part.{Part}
 use Rattle.xls_model.specs.declared.part.Part.TheVariants as parts
 use Rattle.xls_data.specs.Content.{Content}
-use Rattle.xls_data.specs.Sheets.{SheetContent}
 use Rattle.xls_data.specs.declared.errors.CellErrorType.{CellErrorType}
 use Rattle.xls_data.specs.declared.formats.CellFormat.{CellFormat}
 use Rattle.xls_data.specs.declared.regions.Dimensions.{Dimensions}

@@ -1,12 +1,11 @@
 -- The sheets with their contents, and the last sheet of a name, by the list and by the workbook.
-use Rattle.std.proofs.Common.{◌≡◌, ℕ, suc, ◌+◌, List, [], ◌∷◌, ◌++◌, length, map, refl, sym, ap, subst, ◌∙◌, arith, Bool, true, false, Option, Some, None}
+use Rattle.std.proofs.Common.{◌≡◌, ℕ, List, [], ◌∷◌, length, map, refl, ap, subst, ◌∙◌, arith, Bool, true, false, Option, Some, None}
 use Rattle.std.specs.Prelude.{◌==◌, if◌then◌else◌, unwrap_or}
 use Rattle.std.specs.Option.{option_or}
 use Rattle.std.specs.List.{AllZip}
 use Rattle.std.specs.Cmp.Lexicographic.{pointwise}
-use Rattle.xls_model.specs.Listing.{Kept, Entry}
+use Rattle.xls_model.specs.Listing.{Kept}
 use Rattle.xls_data.specs.Sheets.{SheetContent}
-use Rattle.xls_biff.specs.Cells as cells
 use Rattle.xls_book.specs.InForce.{Setting}
 use Rattle.xls_book.specs.Reading.{SheetRecords, SheetView, IsContent, last_named, kept_named, IsShown}
 use Rattle.xls_book.specs.Steps.{AreSheets, paired, no_view, shown}

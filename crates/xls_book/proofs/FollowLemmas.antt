@@ -1,6 +1,6 @@
 -- What a step says where a reader refused, and the string table that a reader found.
-use Rattle.std.proofs.Common.{◌≡◌, ℕ, ◌<◌, ◌≤◌, List, length, map, drop, refl, sym, ap, subst, ◌∙◌, arith, true, false, Result, Ok, Err}
-use Rattle.std.specs.Prelude.{nat_lt, if◌then◌else◌}
+use Rattle.std.proofs.Common.{◌≡◌, ℕ, ◌<◌, ◌≤◌, List, length, map, drop, refl, sym, ap, ◌∙◌, arith, true, false, Result, Ok, Err}
+use Rattle.std.specs.Prelude.{nat_lt}
 use Rattle.std.specs.Char.Utf16.{utf16_lossy_chars}
 use Rattle.xls_model.specs.Stream.{Group}
 use Rattle.xls_model.specs.Listing.{Shared, no_table, table_of, table_without, IsShared}
@@ -10,9 +10,9 @@ use Rattle.xls_model.specs.declared.part.Part.TheVariants.{Sst}
 use Rattle.xls_biff.specs.declared.error.XlsError.{XlsError}
 use Rattle.xls_biff.specs.declared.error.XlsError.TheVariants as errors
 use Rattle.xls_biff.specs.Reading.{Fails, Gives}
-use Rattle.xls_biff.specs.Sst.{error_of, FailsTable, ReadsTable, sst_marks, InTable}
+use Rattle.xls_biff.specs.Sst.{error_of, ReadsTable, sst_marks, InTable}
 use Rattle.xls_book.specs.RecordTable.{texts_of}
-use Rattle.xls_book.specs.Steps.{State, table_step, Follows}
+use Rattle.xls_book.specs.Steps.{State, table_step}
 
 -- a refusal goes through a step that hands refusals on
 pub fails_through : {X Y : Type 0} (f : Result X XlsError → Result Y XlsError)

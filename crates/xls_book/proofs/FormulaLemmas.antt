@@ -1,6 +1,6 @@
 -- Formula records.
-use Rattle.std.proofs.Common.{◌≡◌, ℕ, ◌≤◌, List, length, take, drop, refl, sym, ap, ◌∙◌, subst, arith, Bool, true, false, Option, Result, Ok, Err, IfOk, String, Global}
-use Rattle.std.specs.Prelude.{nat_lt, if◌then◌else◌}
+use Rattle.std.proofs.Common.{◌≡◌, ℕ, List, length, take, drop, refl, sym, ap, ◌∙◌, subst, Bool, false, Option, Result, Ok, Err, IfOk, String, Global}
+use Rattle.std.specs.Prelude.{nat_lt}
 use Rattle.std.specs.String.{string_bytes}
 use Rattle.std.specs.Str.{chars}
 use Rattle.xls_data.specs.declared.formats.CellFormat.{CellFormat}

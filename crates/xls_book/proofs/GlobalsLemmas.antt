@@ -11,14 +11,13 @@ use Rattle.std.proofs.lemmas.Grind.{flat_map-append}
 use Rattle.xls_bytes.specs.Numbers.{le}
 use Rattle.xls_text.specs.Pages.{page_of}
 use Rattle.xls_text.specs.declared.encoding.XlsEncoding.{XlsEncoding}
-use Rattle.xls_text.specs.declared.encoding.XlsEncoding.TheVariants.{Utf16}
 use Rattle.xls_text.specs.declared.error.CfbError.{CfbError}
 use Rattle.xls_model.specs.Stream.{Group, Begins}
 use Rattle.xls_model.specs.Substreams.{GlobalsPart}
 use Rattle.xls_model.specs.Counting.{From, globals_of, with_group}
 use Rattle.xls_model.specs.Cut.{Cut}
 use Rattle.xls_model.specs.Walks.{IsBytes}
-use Rattle.xls_model.specs.Listing.{is_among, globals_types, is_globals_type, is_plain_type, Kept, Shared, no_table, table_of, table_without, IsShared, Entry, plain_entry, table_entry, sheet_entry, Item, plain_item, table_item, sheet_item, entry_of, IsItem, Holds}
+use Rattle.xls_model.specs.Listing.{is_among, globals_types, is_globals_type, is_plain_type, Kept, Shared, no_table, table_of, table_without, IsShared, Entry, plain_entry, Item, plain_item, table_item, sheet_item, entry_of, IsItem, Holds}
 use Rattle.xls_model.specs.declared.part.Part.{Part}
 use Rattle.xls_model.specs.declared.part.Part.TheVariants as parts
 use Rattle.xls_model.proofs.Ends.{has_groups}
@@ -34,13 +33,12 @@ use Rattle.xls_biff.specs.declared.globals.Bof.{Bof}
 use Rattle.xls_biff.specs.Globals.{bof_at, xf_at, refs_at}
 use Rattle.xls_biff.specs.Strings.{bound_sheet_at, format_at}
 use Rattle.xls_biff.specs.Reading.{Fails}
-use Rattle.xls_biff.specs.Sst.{error_of}
 use Rattle.xls_formula.specs.Defined.{lbl_at}
 use Rattle.xls_book.specs.Order.{along, first_of, last_of, somes}
-use Rattle.xls_book.specs.InForce.{of_type, page_at, page_under, page_in, version_at, version_in, date_mode_at, sets_1904, is_1904_in, format_in, formats_in, identifier_at, identifiers_in, table_in, texts_in, refs_in, extern_refs, Named, name_in, lbls_in}
-use Rattle.xls_book.specs.RecordTable.{fault_of, file_pass_fault, date_mode_fault, code_page_fault, unknown_page, plain_fault, texts_of}
+use Rattle.xls_book.specs.InForce.{of_type, page_at, page_under, page_in, version_at, version_in, sets_1904, is_1904_in, format_in, formats_in, identifier_at, identifiers_in, table_in, texts_in, refs_in, extern_refs, Named, name_in, lbls_in}
+use Rattle.xls_book.specs.RecordTable.{fault_of, file_pass_fault, texts_of}
 use Rattle.xls_book.specs.Faults.{item_fault, cut_fault}
-use Rattle.xls_book.specs.Steps.{State, first_state, bof_step, check_step, with_page, page_step, date_step, listed_format, format_step, xf_step, refs_step, name_step, plain_step, table_step, sheet_step, Opened, opened_in, opened_of, pair_of, sheets_at, IsState, AreGlobals, GlobalsFault, ReadsGlobals}
+use Rattle.xls_book.specs.Steps.{State, first_state, bof_step, check_step, with_page, page_step, listed_format, format_step, xf_step, refs_step, name_step, plain_step, table_step, sheet_step, Opened, opened_in, opened_of, pair_of, IsState, AreGlobals, GlobalsFault, ReadsGlobals}
 use Rattle.xls_book.specs.declared.options.XlsOptions.{XlsOptions}
 use Rattle.xls_book.proofs.OrderLemmas.{first_at, none_push, first_behind, along-push, somes-append, last-push, unwrap_push}
 

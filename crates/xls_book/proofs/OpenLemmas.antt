@@ -4,7 +4,6 @@ use Rattle.std.specs.Prelude.{◌%◌, nat_lt, slice_index}
 use Rattle.std.specs.Option.{option_or, option_map}
 use Rattle.std.specs.Result.{result_ok}
 use Rattle.std.specs.List.{flat_map, filter, AllZip, AllByRecursion}
-use Rattle.std.proofs.lemmas.List.{append-nil, map-append}
 use Rattle.xls_bytes.specs.Numbers.{le}
 use Rattle.xls_text.specs.declared.encoding.XlsEncoding.{XlsEncoding}
 use Rattle.xls_model.specs.Stream.{Group}
@@ -20,14 +19,14 @@ use Rattle.xls_data.specs.declared.sheets.SheetVisible.{SheetVisible}
 use Rattle.xls_biff.specs.declared.error.XlsError.{XlsError}
 use Rattle.xls_biff.specs.declared.error.XlsError.TheVariants as errors
 use Rattle.xls_biff.specs.declared.globals.Biff.{Biff}
-use Rattle.xls_biff.specs.Strings.{head_of, visible_at, kind_at, named_sheet, short_string_at, sheet_head_at, bound_sheet_at}
+use Rattle.xls_biff.specs.Strings.{head_of, visible_at, kind_at, named_sheet, short_string_at, bound_sheet_at}
 use Rattle.xls_formula.specs.Context.{Context}
 use Rattle.xls_book.specs.Order.{along, first_of, somes}
-use Rattle.xls_book.specs.InForce.{page_in, version_in, is_1904_in, formats_in, identifiers_in, class_in, classes_in, texts_in, context_of, Setting, setting_of}
+use Rattle.xls_book.specs.InForce.{page_in, version_in, is_1904_in, formats_in, class_in, classes_in, texts_in, context_of, Setting, setting_of}
 use Rattle.xls_book.specs.RecordTable.{fault_of, forced_fault, texts_of, sheet_of}
-use Rattle.xls_book.specs.Reading.{SheetRecords, SheetView, IsContent, IsShown, sheet_in, sheets_of, Workbook, IsReading}
+use Rattle.xls_book.specs.Reading.{SheetRecords, SheetView, IsContent, IsShown, sheet_in, sheets_of, Workbook}
 use Rattle.xls_book.specs.Faults.{item_fault, kept_fault, cut_fault, part_places, sheet_places, globals_places, places, entry_fault, IsFullSheet, IsFull}
-use Rattle.xls_book.specs.Steps.{IsRead, PartFault, Sheets, Opened, opened_in, opened_of, pair_of, sheets_at, State, IsState, AreGlobals, ReadsGlobals, AreContents, ContentsFault, ReadsContents, AreSheets, paired, shown, IsStreamOpened, StreamFault, OpensStream}
+use Rattle.xls_book.specs.Steps.{PartFault, Sheets, Opened, opened_in, opened_of, pair_of, State, IsState, AreGlobals, ReadsGlobals, AreContents, ReadsContents, AreSheets, paired, shown, IsStreamOpened, StreamFault, OpensStream}
 use Rattle.xls_book.specs.LookUps.{IsOrdered}
 use Rattle.xls_book.specs.declared.options.XlsOptions.{XlsOptions}
 use Rattle.xls_book.proofs.OrderLemmas.{first_behind, first_early, or_none, none_append}

@@ -7,7 +7,7 @@ use Rattle.std.proofs.lemmas.Str.Ascii.{IsAscii-nil}
 use Rattle.xls_biff.specs.Texts.{text_of}
 use Rattle.xls_cells.specs.Positions.{Position}
 use Rattle.xls_book.specs.SheetTable.{FormulaEntry, shown_formulas}
-use Rattle.xls_book.specs.Steps.{formula_content, BeginsShown, IsFromShown}
+use Rattle.xls_book.specs.Steps.{formula_content, BeginsShown}
 
 module _ (p : Position) (fs : List FormulaEntry) where
   shown_none : (cs : List ℕ) → cs ≡ [] → shown_formulas ((p, cs) ∷ fs) ≡ shown_formulas fs

@@ -1,6 +1,6 @@
 -- Values that the rules for formulas and names give, so that a wrong rule in the specs does not check.
-use Rattle.std.proofs.Common.{◌≡◌, ℕ, [], ◌∷◌, refl, None, Some, Err}
-use Rattle.std.specs.Prelude.{ℤ, pos, codes}
+use Rattle.std.proofs.Common.{◌≡◌, [], ◌∷◌, refl, None, Some}
+use Rattle.std.specs.Prelude.{pos, codes}
 use Rattle.std.specs.Fmt.{digits}
 use Rattle.xls_model.specs.Listing.{Kept}
 use Rattle.xls_biff.specs.declared.error.XlsError.TheVariants.{StackLen}

@@ -2,6 +2,7 @@
 #![tactic(auto)]
 
 mod classes;
+mod formula;
 mod formulas;
 mod globals;
 mod index;

@@ -1,37 +1,33 @@
 //! The content of a sheet part.
 
-ghost use Rattle.std.specs.Prelude.{◌≡◌, ◌++◌, [], ◌∷◌, ◌≤◌, ◌+◌, false, IfOk, MatchResult, Ok, unwrap_or, map, length, take, drop, slice_get};
+ghost use Rattle.std.specs.Prelude.{◌≡◌, ◌++◌, [], ◌∷◌, ◌≤◌, ◌+◌, MatchResult, Ok, map, length};
 ghost use Rattle.std.specs.List.{AllByRecursion};
-ghost use Rattle.std.specs.Option.{option_copied};
-ghost use Rattle.std.specs.String.{string_bytes};
 ghost use Rattle.xls_biff.specs.Reading.{Exactly, Fails};
-ghost use Rattle.xls_bytes.specs.Numbers.{le};
-ghost use Rattle.xls_biff.specs.Checks.{weight_of, formula_at};
+ghost use Rattle.xls_biff.specs.Checks.{weight_of};
 ghost use Rattle.xls_biff.specs.Walking.{group_of};
 ghost use Rattle.xls_biff.specs.Texts.{text_of};
-ghost use Rattle.xls_biff.specs.Cells.{position_at, number_at, rk_at, mul_rk_at, bool_err_at, value_of};
+ghost use Rattle.xls_biff.specs.Cells.{number_at, rk_at, mul_rk_at, bool_err_at, value_of};
 ghost use Rattle.xls_biff.specs.Strings.{label_at, label_sst_at, string_at};
 ghost use Rattle.xls_biff.specs.Regions.{dimensions_at, merges_at};
 ghost use Rattle.xls_model.specs.Listing.{IsPart, IsSheetPart, kept_group};
-ghost use Rattle.xls_formula.specs.Fold.{formula_text};
-ghost use Rattle.xls_book.specs.SheetTable.{shown_formulas, cell_given, some_given, cells_given, regions_given, checked_only, text_given, refusal_bytes, shown_formula, valued, formula_given, given_at, formula_position};
+ghost use Rattle.xls_book.specs.SheetTable.{shown_formulas, cell_given, some_given, cells_given, regions_given, checked_only, text_given, valued, formula_given, given_at};
 ghost use Rattle.xls_book.specs.Reading.{SheetView};
 ghost use Rattle.xls_book.specs.Steps.{Follows, no_view, given_step, cell_content, Reads, weight_left};
 
+use crate::formula::{formula_value, place_behind, position_of, text_of_formula};
 use crate::formulas::Formulas;
 use crate::options::XlsOptions;
 use crate::values::Values;
-use std::alloc::{AllocError, Global};
+use std::alloc::Global;
 use std::marker::Model;
 use xls_biff::{
     Biff, Part, Record, Refs, SheetRecords, Strings, XlsError, parse_bool_err, parse_dimensions,
-    parse_formula_value, parse_label, parse_label_sst, parse_merge_cells, parse_mul_rk,
-    parse_number, parse_rk, parse_string, sheet_record_weight,
+    parse_label, parse_label_sst, parse_merge_cells, parse_mul_rk, parse_number, parse_rk,
+    parse_string, sheet_record_weight,
 };
-use xls_bytes::read_u16;
 use xls_cells::sorted_cells;
 use xls_data::{Cell, CellFormat, Data, Dimensions};
-use xls_formula::{FunctionTable, Names, parse_formula};
+use xls_formula::{FunctionTable, Names};
 use xls_model::types::{
     BOOL_ERR, DIMENSIONS, FORMULA, LABEL, LABEL_SST, MERGE_CELLS, MUL_RK, NUMBER, R_STRING, RK,
     STRING,
@@ -274,91 +270,6 @@ fn check_dimensions(body: &[u8]) -> Result<(), XlsError>
 {
     parse_dimensions(body)?;
     Ok(())
-}
-
-/// The row and the column that a record begins with.
-fn position_of(body: &[u8]) -> (u32, u32)
-    requires { 4 ≤ length body.now }
-    ensures { result ≡ position_at body.now }
-{
-    (u32::from(read_u16(body)), u32::from(read_u16(&body[2..])))
-}
-
-/// The class of the XF index in the bytes 4 and 5, if there is one.
-fn class_of<'a>(body: &[u8], classes: &'a [CellFormat]) -> Option<&'a CellFormat>
-    requires { 6 ≤ length body.now }
-    ensures { option_copied result ≡ slice_get classes.now (le (take 2 (drop 4 body.now))) }
-{
-    classes.get(usize::from(read_u16(&body[4..])))
-}
-
-/// The value of a Formula record, if no String record follows with it.
-fn formula_value(alloc: Global, body: &[u8], force: &InForce<'_>) -> Result<Option<Data>, XlsError>
-    ensures value { Exactly value_of result (formula_at (slice_get force.now.force.classes (le (take 2 (drop 4 body.now)))) force.now.force.is_1904 body.now) }
-    ensures long { IfOk result (λ _. 20 ≤ length body.now) }
-{
-    if body.len() < 20 {
-        return Err(XlsError::Len {
-            expected: 20,
-            found: body.len(),
-            typ: Part::Formula,
-        });
-    }
-    let class = class_of(body, force.classes);
-    parse_formula_value(alloc, &body[6..14], class, force.is_1904)
-}
-
-/// The text of the formula of a cell, or why it is refused.
-fn text_of_formula(
-    alloc: Global,
-    rgce: &[u8],
-    position: (u32, u32),
-    force: &InForce<'_>,
-) -> Result<String, AllocError>
-    ensures { IfOk result (λ text. text_of text ≡ shown_formula position (formula_text force.now.context rgce.now)) }
-{
-    let read = parse_formula(
-        alloc,
-        rgce,
-        force.sheets,
-        force.names,
-        force.refs,
-        &force.page,
-        force.version,
-        force.functions,
-    );
-    match read {
-        Ok(text) => Ok(text),
-        Err(error) if is_memory(&error) => Err(AllocError),
-        Err(error) => refusal_of(alloc, position, &error),
-    }
-}
-
-fn is_memory(error: &XlsError) -> bool
-    ensures { result ≡ false → error.now ≡ XlsError.Memory → ⊥ }
-{
-    matches!(error, XlsError::Memory)
-}
-
-/// What stands in place of a formula that is refused.
-fn refusal_of(alloc: Global, position: (u32, u32), error: &XlsError) -> Result<String, AllocError>
-    ensures { IfOk result (λ text. string_bytes text ≡ refusal_bytes position error.now) }
-{
-    let (row, column) = position;
-    let mut text = format!(in alloc; "Unrecognised formula for cell ({row}, {column}): ")?;
-    write!(text, "{error}")?;
-    Ok(text)
-}
-
-/// Where the last Formula stands behind this record, where it stood here before it.
-fn place_behind(at: (u32, u32), r: &Record<'_>) -> (u32, u32)
-    ensures { result ≡ unwrap_or (formula_position (kept_group (group_of r.now))) at }
-{
-    if r.typ == FORMULA && r.body.len() >= 4 {
-        position_of(r.body)
-    } else {
-        at
-    }
 }
 
 /// How many more cells a sheet may have behind this record, where it may have so many before it.

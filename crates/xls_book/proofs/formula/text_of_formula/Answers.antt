@@ -1,5 +1,5 @@
 use Rattle.xls_book.proofs.FormulaLemmas.{refused}
-use Rattle.xls_book.proofs.part.text_of_formula.Goals as goal
+use Rattle.xls_book.proofs.formula.text_of_formula.Goals as goal
 
 pub returns-in-Err-2 : goal.returns-in-Err-2
 returns-in-Err-2 c =
