@@ -1,0 +1,20 @@
+-- The sum of the whole numbers in a column of a range. Rows and columns count from 0 in the sheet.
+use Rattle.std.specs.Prelude.{ℕ, zero, suc, ◌+◌, ℤ, pos, ◌+ℤ◌, Option, Some}
+use Rattle.xls_data.specs.declared.values.Data.{Data}
+use Rattle.xls_data.specs.declared.values.Data.TheVariants as variant
+use Rattle.xls_range.specs.Grid.{Grid, cell_at}
+
+-- the whole number that a cell holds, and 0 for any other cell
+abbrev pub int_in : Option Data → ℤ
+int_in (Some (variant.Int n)) = n
+int_in cell = pos 0
+
+-- the sum of those that stand in a column, in so many of the range's first rows
+abbrev pub total_above : Grid Data → ℕ → ℕ → ℤ
+total_above range column zero = pos 0
+total_above range column (suc n) =
+    total_above range column n +ℤ int_in (cell_at range (range.top + n) column)
+
+-- the same in all its rows
+abbrev pub total : Grid Data → ℕ → ℤ
+total range column = total_above range column range.height
