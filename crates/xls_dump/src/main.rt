@@ -1,9 +1,12 @@
 //! Writes what a workbook stream holds.
 #![tactic(auto)]
 
-mod answer;
+mod buffer;
 mod command;
+mod ending;
+mod field;
 mod memory;
+mod perform;
 mod report;
 mod run;
 mod sink;
