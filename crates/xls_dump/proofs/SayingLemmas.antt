@@ -1,20 +1,21 @@
 -- What a command says of what opening and writing answer.
-use Rattle.std.proofs.Common.{◌≡◌, ◌≢◌, ℕ, ◌≤◌, List, [], length, Option, Some, None, IfSome, Result, Ok, Err, inl, inr, refl, sym, ◌∙◌, subst, arith}
+use Rattle.std.proofs.Common.{◌≡◌, ◌≢◌, ℕ, ◌<◌, ◌≤◌, List, [], ◌++◌, append-nil, ap, length, Option, Some, None, IfSome, Result, Ok, Err, inl, inr, refl, sym, ◌∙◌, subst, arith}
 use Rattle.std.specs.Result.{IsErrAnd}
-use Rattle.std.specs.Io.KnownBytes.{Keeps, Appends, IsAtEnd}
+use Rattle.std.specs.Io.KnownBytes.{Keeps, Appends, Consumes, IsAtEnd}
 use Rattle.std.proofs.KnownBytes.{Keeps-refl}
 use Rattle.xls_biff.specs.declared.error.XlsError.{XlsError}
 use Rattle.xls_biff.specs.declared.error.XlsError.TheVariants as errors
 use Rattle.xls_book.specs.Causes.{Rose}
 use Rattle.xls_book.specs.Faults.{IsSound}
 use Rattle.xls_book.specs.Reading.{Workbook}
-use Rattle.xls_book.specs.Opening.{OpenCause, IsOpened, default_options}
+use Rattle.xls_book.specs.Opening.{OpenCause, ReadCause, IsOpened, default_options}
 use Rattle.xls_dump.specs.Written.{WritesPart}
 use Rattle.xls_dump.specs.Gathering.{Stops}
 use Rattle.xls_dump.specs.Report.{fault_line}
-use Rattle.xls_dump.specs.Says.{Tells, Refuses, Says, TellsOf, RefusesFault, Leaves, EndsWell, EndsBySoundness}
-use Rattle.xls_dump.specs.Endings.{Wrote, IsFault, Turns, Ends}
+use Rattle.xls_dump.specs.Says.{Tells, Refuses, Says, TellsOf, IsPropertyText, property_limit, RefusesFault, RefusesLength, Leaves, EndsWell, EndsBySoundness, EndsByLength}
+use Rattle.xls_dump.specs.Endings.{Wrote, IsFault, Turns, TellsProperties, Ends}
 use Rattle.xls_dump.specs.declared.command.Command.{Command}
+use Rattle.xls_dump.specs.declared.command.Command.TheVariants.{Props}
 use Rattle.xls_dump.specs.declared.ending.Ending.{Ending}
 use Rattle.xls_dump.specs.declared.ending.Ending.TheVariants.{Done, Refused}
 use Rattle.xls_dump.specs.declared.ending.Stop.{Stop}
@@ -93,3 +94,73 @@ well_refused (Some bytes) text h = (inr (inl refl), λ _. λ sound. sound h.0 h.
 
 pub well_given_up : (left : Option (List ℕ)) → EndsBySoundness left 5
 well_given_up left = (inr (inr refl), λ e. absurd (omega arith), λ e. absurd (omega arith))
+
+-- ---- properties
+
+-- what was read to the end is all that was left
+whole : (left after : Option (List ℕ)) (bytes : List ℕ) (P : List ℕ → Type 0) → Consumes left after bytes
+    → IsAtEnd after → P bytes → IfSome left P
+whole None after bytes P read end p = tt
+whole (Some xs) None bytes P read end p = absurd read
+whole (Some xs) (Some ys) bytes P read end p =
+    subst P (sym (read ∙ ap (λ (l : List ℕ). bytes ++ l) end ∙ append-nil bytes)) p
+
+-- the line of too many bytes
+pub refuses_length : (left : Option (List ℕ)) (before now : ℕ) (e : XlsError)
+    → ReadCause property_limit left before now e → IsFault e → RefusesLength left (fault_line e)
+refuses_length left before now errors.Io cause fault = absurd (fault.0 refl)
+refuses_length left before now errors.Memory cause fault = absurd (fault.1 refl)
+refuses_length None before now (errors.TooLarge n) cause fault = tt
+refuses_length (Some bytes) before now (errors.TooLarge n) cause fault =
+    (cause.1, ap (λ (k : ℕ). fault_line (errors.TooLarge k)) cause.0)
+refuses_length left before now e cause fault = absurd cause
+
+pub length_rose : (left : Option (List ℕ)) (before now : ℕ) (e : XlsError)
+    → ReadCause property_limit left before now e → e ≡ errors.Io → Rose before now
+length_rose left before now e cause is = subst (ReadCause property_limit left before now) is cause
+
+pub length_refused : (left : Option (List ℕ)) (text : List ℕ) → RefusesLength left text → EndsByLength left 1
+length_refused None text h = (inr (inl refl), λ _. tt, λ e. absurd (omega arith))
+length_refused (Some bytes) text h = (inr (inl refl), λ _. h.0, λ e. absurd (omega arith))
+
+pub length_given_up : (left : Option (List ℕ)) → EndsByLength left 5
+length_given_up left = (inr (inr refl), λ e. absurd (omega arith), λ e. absurd (omega arith))
+
+-- the properties of the bytes that were left
+pub ends_told : (left after : Option (List ℕ)) (s s' : ℕ) (w w' : Option (List ℕ)) (k k' : ℕ) (t : ℕ → Type 0) (bytes : List ℕ) (r : Result Ending Stop)
+    → Consumes left after bytes → IsAtEnd after → length bytes ≤ property_limit
+    → TellsProperties bytes w k t w' k' r → Ends Props left after s s' w w' k k' r
+ends_told left after s s' w w' k k' t bytes (Ok Done) read end le p = (
+  end,
+  (inl refl, λ e. absurd (omega arith), λ _. whole left after bytes (λ b. length b ≤ property_limit) read end le),
+  (p.0, whole left after bytes (λ b. IsPropertyText b p.0) read end p.1, p.2.appends),
+)
+ends_told left after s s' w w' k k' t bytes (Ok Refused) read end le p = absurd p
+ends_told left after s s' w w' k k' t bytes (Err e) read end le (inl p) =
+    subst (λ d. Ends Props left after s s' w w' k k' (Err d)) (sym p.0) (length_given_up left, inl p.1)
+ends_told left after s s' w w' k k' t bytes (Err e) read end le (inr p) =
+    ends-stopped Props left after s s' (Err e) refl (length_given_up left) (inl (whole left after bytes (λ b. IsPropertyText b p.0) read end p.1)) p.2
+
+pub steady_told : (left after w w' : Option (List ℕ)) (k k' : ℕ) (t : ℕ → Type 0) (bytes : List ℕ) (r : Result Ending Stop)
+    → Consumes left after bytes → IsAtEnd after → TellsProperties bytes w k t w' k' r
+    → (n : ℕ) → t n → ((text : List ℕ) → Says Props left text → length text ≤ n) → k' ≡ k
+steady_told left after w w' k k' t bytes (Ok Done) read end p n take all =
+    p.2.kept n (all p.0 (inl (whole left after bytes (λ b. IsPropertyText b p.0) read end p.1))) take
+steady_told left after w w' k k' t bytes (Ok Refused) read end p n take all = absurd p
+steady_told left after w w' k k' t bytes (Err e) read end (inl p) n take all = p.2
+steady_told left after w w' k k' t bytes (Err e) read end (inr p) n take all =
+    p.2.kept n (omega (arith, all p.0 (inl (whole left after bytes (λ b. IsPropertyText b p.0) read end p.1)))) take
+
+-- no memory for the properties
+pub told-memory : (bytes : List ℕ) (w : Option (List ℕ)) (f : ℕ) (t : ℕ → Type 0) (r : Result Ending Stop)
+    → IsErrAnd r (λ d. d ≡ Memory) → TellsProperties bytes w f t w f r
+told-memory bytes w f t (Ok x) none = absurd none
+told-memory bytes w f t (Err e) is = inl (is, Keeps-refl w, refl)
+
+-- their text was given up
+pub told-stop : (bytes : List ℕ) {w w' : Option (List ℕ)} {f f' : ℕ} {t : ℕ → Type 0} {text : List ℕ} {e : Stop} (r : Result Ending Stop)
+    → IsErrAnd r (λ d. d ≡ e) → IsPropertyText bytes text → Stops w f t [] w' f' text e
+    → TellsProperties bytes w f t w' f' r
+told-stop bytes (Ok x) none is p = absurd none
+told-stop bytes {w} {w'} {f} {f'} {t} {text} {e} (Err d) same is p =
+    inr (text, is, subst (Stops w f t [] w' f' text) (sym same) p)

@@ -4,5 +4,6 @@ pub mod Words
 pub mod Lines
 pub mod Gathering
 pub mod Report
+pub mod Properties
 pub mod Says
 pub mod Endings

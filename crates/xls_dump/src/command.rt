@@ -12,6 +12,8 @@ pub enum Command {
     Dump,
     /// Writes the sheets of a workbook alone.
     Sheets,
+    /// Writes the properties in a property stream.
+    Props,
 }
 
 /// The command of this name.
@@ -21,6 +23,7 @@ fn named(word: &str) -> Option<Command>
     match word {
         "dump" => Some(Command::Dump),
         "sheets" => Some(Command::Sheets),
+        "props" => Some(Command::Props),
         _ => None,
     }
 }

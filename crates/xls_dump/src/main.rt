@@ -7,6 +7,7 @@ mod ending;
 mod field;
 mod memory;
 mod perform;
+mod properties;
 mod report;
 mod run;
 mod sink;

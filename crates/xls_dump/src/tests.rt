@@ -28,6 +28,14 @@ const HIDDEN: [u8; 51] = [
     0, 0, 6, 0x10, 0, 0xE5, 0, 10, 0, 1, 0, 0, 0, 2, 0, 1, 0, 3, 0, 0x0A, 0, 0, 0,
 ];
 
+// A property stream with a summary section of two properties: the title in page 1252.
+const TITLE: [u8; 95] = [
+    0xFE, 0xFF, 0, 0, 0, 0, 0, 0, 0, 0, 0, 0, 0, 0, 0, 0, 0, 0, 0, 0, 0, 0, 0, 0, 1, 0, 0, 0, 0xE0,
+    0x85, 0x9F, 0xF2, 0xF9, 0x4F, 0x68, 0x10, 0xAB, 0x91, 0x08, 0x00, 0x2B, 0x27, 0xB3, 0xD9, 0x30,
+    0, 0, 0, 0x2F, 0, 0, 0, 2, 0, 0, 0, 1, 0, 0, 0, 0x18, 0, 0, 0, 2, 0, 0, 0, 0x20, 0, 0, 0, 2, 0,
+    0, 0, 0xE4, 0x04, 0, 0, 0x1E, 0, 0, 0, 7, 0, 0, 0, 0xC5, 0x6C, 0x65, 0x73, 0x75, 0x6E, 0x64,
+];
+
 /// A run: the words, what the source gives in which pieces, what the sink takes in which pieces, and
 /// the calls that fail.
 #[derive(Drop)]
@@ -191,4 +199,29 @@ fn each_room_takes_its_front(rt: HostRuntime) -> Result<(), Fail> {
 fn passes_on_what_std_writes(rt: HostRuntime) {
     let mut sink = StdSink::new(Vec::new(rt.alloc()));
     assert_eq!(rt; sink.write(b"abc"), Ok(3));
+}
+
+#[test]
+fn writes_the_sheets_alone(rt: HostRuntime) -> Result<(), Fail> {
+    let three = b"sheet\tA\tworksheet\tvisible\n";
+    check(&rt, rt.alloc(), &quiet(&["sheets"], &THREE), 0, three)?;
+    let hidden = b"sheet\tA\tworksheet\thidden\n";
+    check(&rt, rt.alloc(), &quiet(&["sheets"], &HIDDEN), 0, hidden)?;
+    let page = b"error\tCfb error: Codepage 1B5 not found\n";
+    check(&rt, rt.alloc(), &quiet(&["sheets"], &PAGE), 1, page)
+}
+
+#[test]
+fn writes_the_properties(rt: HostRuntime) -> Result<(), Fail> {
+    let text = "title\t\u{C5}lesund\n".as_bytes();
+    check(&rt, rt.alloc(), &quiet(&["props"], &TITLE), 0, text)?;
+    check(&rt, rt.alloc(), &quiet(&["props"], &[]), 0, b"")
+}
+
+#[test]
+fn knows_no_other_words(rt: HostRuntime) -> Result<(), Fail> {
+    for words in [&["dump", "x"], &["sheets", "x"], &["props", "props"]] {
+        check(&rt, rt.alloc(), &quiet(words, &THREE), 2, b"")?;
+    }
+    Ok(())
 }
