@@ -4,7 +4,7 @@ use crate::sink::{Sink, StdSink};
 use std::alloc::{AllocError, Global};
 use std::process::Abort;
 use std::test::*;
-use xls_book::MemorySource;
+use xls_book::{MemorySource, SteadySource};
 
 // BOF of the globals, BoundSheet8 of `A` at 25, EOF; BOF of the sheet, a Number of 3 at (0, 0), EOF.
 const THREE: [u8; 55] = [
@@ -223,5 +223,43 @@ fn knows_no_other_words(rt: HostRuntime) -> Result<(), Fail> {
     for words in [&["dump", "x"], &["sheets", "x"], &["props", "props"]] {
         check(&rt, rt.alloc(), &quiet(words, &THREE), 2, b"")?;
     }
+    Ok(())
+}
+
+// The stream of `THREE`, with a Number of 3 in column 0 of each of so many rows.
+fn many_numbers(alloc: Global, rows: u16) -> Result<Vec<u8>, AllocError> {
+    let mut bytes = THREE[..33].to_vec(alloc)?;
+    for row in 0..rows {
+        bytes.extend_from_slice(&[0x03, 0x02, 0x0E, 0x00])?;
+        bytes.extend_from_slice(&row.to_le_bytes())?;
+        bytes.extend_from_slice(&THREE[39..51])?;
+    }
+    bytes.extend_from_slice(&THREE[51..])?;
+    Ok(bytes)
+}
+
+// The status, the written text and the number of writes of a dump of so many rows.
+fn long_dump(alloc: Global, rows: u16, fails: Option<u64>) -> Result<(u8, Vec<u8>), AllocError> {
+    let mut source = SteadySource::new(many_numbers(alloc, rows)?);
+    let mut sink = MemorySink::new(alloc, 999_999, 999_999, listed(alloc, fails)?)?;
+    let status = run(alloc, &Vec::new(alloc), &mut source, &mut sink);
+    Ok((status, sink.as_slice().to_vec(alloc)?))
+}
+
+// 5,000 lines of at most 22 bytes are more than one piece and less than two. The second write is the
+// last, so a sink whose second call fails has the first piece alone.
+#[test]
+fn writes_a_long_text_in_pieces(rt: HostRuntime) -> Result<(), Fail> {
+    let alloc = rt.alloc();
+    let (status, whole) = long_dump(alloc, 5000, None)?;
+    assert_eq!(rt; status, 0);
+    assert!(rt; whole.len() > 65_536);
+    let (stopped, front) = long_dump(alloc, 5000, Some(1))?;
+    assert_eq!(rt; stopped, 4);
+    assert_eq!(rt; front.len(), 65_536);
+    assert!(rt; whole.starts_with(&front));
+    let (unstopped, same) = long_dump(alloc, 5000, Some(2))?;
+    assert_eq!(rt; unstopped, 0);
+    assert_eq!(rt; same.as_slice(), whole.as_slice());
     Ok(())
 }
