@@ -1,19 +1,17 @@
 -- What a command says of what opening and writing answer.
-use Rattle.std.proofs.Common.{◌≡◌, ◌≢◌, ℕ, ◌<◌, ◌≤◌, List, [], ◌++◌, append-nil, ap, length, Option, Some, None, IfSome, Result, Ok, Err, inl, inr, refl, sym, ◌∙◌, subst, arith}
+use Rattle.std.proofs.Common.{◌≡◌, ℕ, ◌≤◌, List, [], ◌++◌, append-nil, ap, length, Option, Some, None, IfSome, Result, Ok, Err, inl, inr, refl, sym, ◌∙◌, subst, arith}
 use Rattle.std.specs.Result.{IsErrAnd}
-use Rattle.std.specs.Io.KnownBytes.{Keeps, Appends, Consumes, IsAtEnd}
+use Rattle.std.specs.Io.KnownBytes.{Consumes, IsAtEnd}
 use Rattle.std.proofs.KnownBytes.{Keeps-refl}
 use Rattle.xls_biff.specs.declared.error.XlsError.{XlsError}
 use Rattle.xls_biff.specs.declared.error.XlsError.TheVariants as errors
 use Rattle.xls_book.specs.Causes.{Rose}
-use Rattle.xls_book.specs.Faults.{IsSound}
 use Rattle.xls_book.specs.Reading.{Workbook}
 use Rattle.xls_book.specs.Opening.{OpenCause, ReadCause, IsOpened, default_options}
-use Rattle.xls_dump.specs.Written.{WritesPart}
 use Rattle.xls_dump.specs.Gathering.{Stops}
 use Rattle.xls_dump.specs.Report.{fault_line}
-use Rattle.xls_dump.specs.Says.{Tells, Refuses, Says, TellsOf, IsPropertyText, property_limit, RefusesFault, RefusesLength, Leaves, EndsWell, EndsBySoundness, EndsByLength}
-use Rattle.xls_dump.specs.Endings.{Wrote, IsFault, Turns, TellsProperties, Ends}
+use Rattle.xls_dump.specs.Says.{Refuses, Says, TellsOf, IsPropertyText, property_limit, RefusesFault, RefusesLength, EndsWell, EndsBySoundness, EndsByLength}
+use Rattle.xls_dump.specs.Endings.{IsFault, Turns, TellsProperties, Ends}
 use Rattle.xls_dump.specs.declared.command.Command.{Command}
 use Rattle.xls_dump.specs.declared.command.Command.TheVariants.{Props}
 use Rattle.xls_dump.specs.declared.ending.Ending.{Ending}

@@ -1,14 +1,13 @@
 -- Shown texts, one character after the other.
 use Rattle.std.proofs.Common.{◌≡◌, ℕ, zero, suc, List, [], ◌∷◌, ◌++◌, ◌+◌, ◌<◌, ◌≤◌, length, map, get_or, arith, take, drop, take-append-drop, add-one, refl, sym, ap, ◌∙◌, append_assoc, Option, Some, None}
 use Rattle.std.specs.Prelude.{encode_utf8_all, slice_get}
-use Rattle.std.specs.List.{flat_map}
 use Rattle.std.proofs.lemmas.List.{append-nil, take_more}
 use Rattle.std.proofs.lemmas.Str.{encodes-append}
 use Rattle.std.proofs.lemmas.Grind.{flat_map-append}
 use Rattle.xls_data.specs.Sheets.{SheetContent}
 use Rattle.xls_book.specs.Reading.{SheetView}
 use Rattle.xls_dump.specs.Lines.{escaped_char, escaped, shown_text}
-use Rattle.xls_dump.specs.Report.{cells_at, merges_at, lines_at, view_text, sheet_line, sheets_text}
+use Rattle.xls_dump.specs.Report.{lines_at, view_text, sheet_line, sheets_text}
 
 -- one more character
 pub shown-push : (cs : List ℕ) (c : ℕ) → shown_text (cs ++ c ∷ []) ≡ shown_text cs

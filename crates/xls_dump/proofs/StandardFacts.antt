@@ -1,8 +1,7 @@
 -- Known texts, so that a wrong rule of the report does not check.
-use Rattle.std.proofs.Common.{◌≡◌, ℕ, List, [], ◌∷◌, true, refl, pos, negsuc, codes}
+use Rattle.std.proofs.Common.{◌≡◌, [], ◌∷◌, true, refl, pos, negsuc, codes}
 use Rattle.std.specs.Fmt.{digits}
 use Rattle.xls_data.specs.Content.{float}
-use Rattle.xls_data.specs.Sheets.{SheetContent}
 use Rattle.xls_data.specs.declared.numbers.Number.TheVariants.{Whole}
 use Rattle.xls_data.specs.declared.sheets.SheetType.TheVariants.{WorkSheet, ChartSheet}
 use Rattle.xls_data.specs.declared.sheets.SheetVisible.TheVariants.{Visible, VeryHidden}

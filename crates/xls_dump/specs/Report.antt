@@ -4,7 +4,6 @@ use Rattle.std.specs.List.{flat_map}
 use Rattle.std.specs.Fmt.{decimal, signed_decimal}
 use Rattle.xls_data.specs.Content.{Content, int, float, text, truth, date, iso_date, iso_duration, failure, nothing}
 use Rattle.xls_data.specs.Data.{bool_text}
-use Rattle.xls_data.specs.Dates.{DateParts}
 use Rattle.xls_data.specs.Errors as cell_errors
 use Rattle.xls_data.specs.Numbers.{number_text}
 use Rattle.xls_data.specs.Sheets.{SheetContent}

@@ -4,7 +4,6 @@ use Rattle.std.proofs.Math.Seq.{take-add}
 use Rattle.std.proofs.lemmas.Grind.{common_steps}
 use Rattle.xls_dump.specs.declared.buffer.TheConstants.{PIECE}
 use Rattle.xls_dump.proofs.GatherLemmas.{gathers-added, gathers-as, gathers-then, memory-inside, puts-stop, stops-inside}
-use Rattle.xls_dump.proofs.PieceLemmas.{take-more}
 use Rattle.xls_dump.proofs.buffer.gather.Goals as goal
 
 add-sub-left : (a b : ℕ) → a + b - a ≡ b

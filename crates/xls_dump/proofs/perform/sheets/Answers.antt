@@ -1,4 +1,4 @@
-use Rattle.std.proofs.Common.{inl, inr, arith, refl}
+use Rattle.std.proofs.Common.{inl, arith}
 use Rattle.xls_dump.specs.Report.{sheet_report}
 use Rattle.xls_dump.specs.declared.command.Command.TheVariants.{Sheets}
 use Rattle.xls_dump.proofs.SayingLemmas.{ends-stopped, ends-turned, read_rose, refuses, steady-turned, tells, well_given_up, well_refused}

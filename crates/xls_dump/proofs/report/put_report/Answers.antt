@@ -1,5 +1,5 @@
 use Rattle.std.proofs.Common.{ap}
-use Rattle.xls_dump.specs.Report.{dates_line, sheets_text}
+use Rattle.xls_dump.specs.Report.{dates_line}
 use Rattle.xls_dump.proofs.GatherLemmas.{gathers-as, gathers-then, puts-stop, stops-as, stops-more, stops-then}
 use Rattle.xls_dump.proofs.report.put_report.Goals as goal
 

@@ -1,4 +1,4 @@
-use Rattle.std.proofs.Common.{[], ◌++◌, ◌∙◌, sym, ap, append_assoc, refl}
+use Rattle.std.proofs.Common.{[], ◌++◌, ◌∙◌, sym, ap, append_assoc}
 use Rattle.std.specs.List.{flat_map}
 use Rattle.xls_dump.specs.Report.{cell_line}
 use Rattle.xls_dump.proofs.GatherLemmas.{gathers-nothing, gathers-then, puts-stop, stops-as, stops-more, stops-then}

@@ -1,6 +1,6 @@
-use Rattle.std.proofs.Common.{◌++◌, ◌∙◌, append_assoc, sym, ap}
+use Rattle.std.proofs.Common.{append_assoc}
 use Rattle.std.specs.Prelude.{slice_get}
-use Rattle.xls_dump.specs.Report.{cells_at, merges_at, sheet_line}
+use Rattle.xls_dump.specs.Report.{merges_at, sheet_line}
 use Rattle.xls_data.specs.Sheets.{sheet_content}
 use Rattle.xls_dump.proofs.GatherLemmas.{gathers-as, gathers-then, puts-stop, stops-as, stops-more, stops-then}
 use Rattle.xls_dump.proofs.report.put_view.Goals as goal

@@ -1,7 +1,7 @@
 use Rattle.std.proofs.Common.{◌≡◌, ℕ, List, ◌++◌, sym, ap, ◌∙◌, append_assoc, codes, arith}
 use Rattle.std.proofs.lemmas.Grind.{common_steps}
 use Rattle.xls_dump.specs.Lines.{field_text}
-use Rattle.xls_dump.proofs.GatherLemmas.{gathers-added, gathers-as, puts-memory, puts-stop, stops-then}
+use Rattle.xls_dump.proofs.GatherLemmas.{gathers-added, puts-memory, puts-stop, stops-then}
 use Rattle.xls_dump.proofs.buffer.Buffer.put_field.Goals as goal
 
 -- what is kept behind a part of a line that grew

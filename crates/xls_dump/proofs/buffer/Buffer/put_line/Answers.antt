@@ -1,4 +1,4 @@
-use Rattle.std.proofs.Common.{◌++◌, sym, ap, ◌∙◌, append_assoc, append-nil, codes, arith}
+use Rattle.std.proofs.Common.{append_assoc, codes, arith}
 use Rattle.std.proofs.lemmas.Grind.{common_steps}
 use Rattle.xls_dump.proofs.GatherLemmas.{gathers-added, gathers-as, gathers-behind, gathers-then, puts-stop, stops-as, stops-behind, stops-memory, stops-more, stops-then}
 use Rattle.xls_dump.proofs.buffer.Buffer.put_line.Goals as goal
