@@ -1,13 +1,13 @@
 -- Shown texts, one character after the other.
-use Rattle.std.proofs.Common.{◌≡◌, ℕ, zero, suc, List, [], ◌∷◌, ◌++◌, ◌+◌, ◌<◌, ◌≤◌, length, map, get_or, arith, take, add-one, refl, sym, ap, ◌∙◌, append_assoc, Option, Some, None}
+use Rattle.std.proofs.Common.{◌≡◌, ℕ, zero, suc, List, [], ◌∷◌, ◌++◌, ◌+◌, ◌<◌, ◌≤◌, length, map, get_or, arith, take, drop, take-append-drop, add-one, refl, sym, ap, ◌∙◌, append_assoc, Option, Some, None}
 use Rattle.std.specs.Prelude.{encode_utf8_all, slice_get}
-use Rattle.std.specs.List.{flat_map}
 use Rattle.std.proofs.lemmas.List.{append-nil, take_more}
 use Rattle.std.proofs.lemmas.Str.{encodes-append}
 use Rattle.std.proofs.lemmas.Grind.{flat_map-append}
 use Rattle.xls_data.specs.Sheets.{SheetContent}
 use Rattle.xls_book.specs.Reading.{SheetView}
-use Rattle.xls_dump.specs.Report.{escaped_char, escaped, shown_text, cells_at, merges_at, view_text, sheet_line, sheets_text}
+use Rattle.xls_dump.specs.Lines.{escaped_char, escaped, shown_text}
+use Rattle.xls_dump.specs.Report.{lines_at, view_text, sheet_line, sheets_text}
 
 -- one more character
 pub shown-push : (cs : List ℕ) (c : ℕ) → shown_text (cs ++ c ∷ []) ≡ shown_text cs
@@ -17,18 +17,22 @@ shown-push cs c =
     ∙ ap (λ (l : List ℕ). escaped cs ++ l) (append-nil (escaped_char c)))
     ∙ encodes-append (escaped cs) (escaped_char c)
 
-pub shown-more : (old text new : List ℕ) (cs : List ℕ) (c : ℕ) → text ≡ old ++ shown_text cs
-    → new ≡ text ++ encode_utf8_all (escaped_char c) → new ≡ old ++ shown_text (cs ++ c ∷ [])
-shown-more old text new cs c e f =
-    f ∙ ap (λ (l : List ℕ). l ++ encode_utf8_all (escaped_char c)) e
-    ∙ append_assoc old (shown_text cs) (encode_utf8_all (escaped_char c))
-    ∙ ap (λ (l : List ℕ). old ++ l) (sym (shown-push cs c))
+-- a text shows what stands in it up to a character, that character, and the rest
+pub shown-inside : (all cs : List ℕ) (c : ℕ) → length cs < length all → c ≡ get_or all (length cs) c
+    → cs ≡ take (length cs) all
+    → (shown_text cs ++ encode_utf8_all (escaped_char c)) ++ shown_text (drop (length cs + 1) all)
+    ≡ shown_text all
+shown-inside all cs c l is front =
+    let more : cs ++ c ∷ [] ≡ take (length cs + 1) all =
+    ap (λ (xs : List ℕ). xs ++ c ∷ []) front ∙ ap (λ (d : ℕ). take (length cs) all ++ d ∷ []) is
+    ∙ sym (take_more all (length cs) c l) in
+    ap (λ (xs : List ℕ). xs ++ shown_text (drop (length cs + 1) all)) (sym (shown-push cs c))
+    ∙ sym (encodes-append (escaped (cs ++ c ∷ [])) (escaped (drop (length cs + 1) all)))
+    ∙ ap encode_utf8_all (sym (flat_map-append escaped_char (cs ++ c ∷ []) (drop (length cs + 1) all)))
+    ∙ ap (λ (xs : List ℕ). shown_text (xs ++ drop (length cs + 1) all)) more
+    ∙ ap shown_text (take-append-drop (length cs + 1) all)
 
 -- ---- sheets
-
--- the lines at an index, if there are any
-abbrev pub lines_at : Option SheetView → List ℕ
-lines_at o = cells_at o ++ merges_at o
 
 take_nothing : {X : Type 0} (i : ℕ) → take {A = X} i [] ≡ []
 take_nothing zero = refl
@@ -79,16 +83,34 @@ sheets-all (s ∷ ss) [] =
 sheets-all (s ∷ ss) (v ∷ vs) =
     ap (λ (l : List ℕ). (sheet_line s ++ view_text v) ++ l) (sheets-all ss vs)
 
+-- all of them, part by part
+pub sheets-split : (ss : List SheetContent) (vs : List SheetView) (n : ℕ) → (rest : List ℕ)
+    × (sheets_text (take n ss) (take n vs) ++ rest ≡ sheets_text ss vs)
+sheets-split [] vs zero = ([], refl)
+sheets-split [] vs (suc n) = ([], refl)
+sheets-split (s ∷ ss) [] zero = (sheets_text (s ∷ ss) [], refl)
+sheets-split (s ∷ ss) (v ∷ vs) zero = (sheets_text (s ∷ ss) (v ∷ vs), refl)
+sheets-split (s ∷ ss) [] (suc n) =
+    let (rest, is) = sheets-split ss [] n in (
+      rest,
+      append_assoc (sheet_line s) (sheets_text (take n ss) []) rest
+          ∙ ap (λ (l : List SheetView). sheet_line s ++ (sheets_text (take n ss) l ++ rest)) (sym (take_nothing n))
+          ∙ ap (λ (l : List ℕ). sheet_line s ++ l) is,
+    )
+sheets-split (s ∷ ss) (v ∷ vs) (suc n) =
+    let (rest, is) = sheets-split ss vs n in (
+      rest,
+      append_assoc (sheet_line s ++ view_text v) (sheets_text (take n ss) (take n vs)) rest
+          ∙ ap (λ (l : List ℕ). (sheet_line s ++ view_text v) ++ l) is,
+    )
+
 -- one more sheet, and its lines
-pub sheets-more : (front old text new : List ℕ) (ss : List SheetContent) (vs : List SheetView) (i : ℕ) (s : SheetContent) (o : Option SheetView) → slice_get ss i ≡ Some s → slice_get vs i ≡ o
-    → old ≡ front ++ sheets_text (take i ss) (take i vs) → text ≡ old ++ sheet_line s → new ≡ text
-    ++ lines_at o → new ≡ front ++ sheets_text (take (i + 1) ss) (take (i + 1) vs)
-sheets-more front old text new ss vs i s o e f a b c =
-    c ∙ ap (λ (l : List ℕ). l ++ lines_at o) (b ∙ ap (λ (l : List ℕ). l ++ sheet_line s) a)
-    ∙ append_assoc (front ++ sheets_text (take i ss) (take i vs)) (sheet_line s) (lines_at o)
-    ∙ append_assoc front (sheets_text (take i ss) (take i vs)) (sheet_line s ++ lines_at o)
-    ∙ ap (λ (l : List ℕ). front ++ l) (sym (sheets-push ss vs i s o e f)
-    ∙ ap (λ (n : ℕ). sheets_text (take n ss) (take n vs)) (sym (add-one i)))
+pub sheets-next : (ss : List SheetContent) (vs : List SheetView) (i : ℕ) (s : SheetContent) (o : Option SheetView)
+    → slice_get ss i ≡ Some s → slice_get vs i ≡ o
+    → sheets_text (take i ss) (take i vs) ++ (sheet_line s ++ lines_at o)
+    ≡ sheets_text (take (i + 1) ss) (take (i + 1) vs)
+sheets-next ss vs i s o e f =
+    sym (sheets-push ss vs i s o e f) ∙ ap (λ (n : ℕ). sheets_text (take n ss) (take n vs)) (sym (add-one i))
 
 -- ---- look-ups
 
@@ -107,22 +129,3 @@ pub nothing_behind : {X : Type 0} (xs : List X) (i : ℕ) → length xs ≤ i �
 nothing_behind [] i l = refl
 nothing_behind (x ∷ xs) zero l = absurd (omega arith)
 nothing_behind (x ∷ xs) (suc i) l = nothing_behind xs i (omega arith)
-
--- the whole report
-pub report-all : (front text : List ℕ) (ss : List SheetContent) (vs : List SheetView) (i : ℕ)
-    → i ≡ length ss → text ≡ front ++ sheets_text (take i ss) (take i vs) → text ≡ front
-    ++ sheets_text ss vs
-report-all front text ss vs i e t =
-    t ∙ ap (λ (n : ℕ). front ++ sheets_text (take n ss) (take n vs)) e
-    ∙ ap (λ (l : List ℕ). front ++ l) (sheets-all ss vs)
-
--- one more element of a list whose lines are written
-pub lines-more : {X : Type 0} (line : X → List ℕ) (xs : List X) (i : ℕ) (d : X) (front old new : List ℕ)
-    → i < length xs → old ≡ front ++ flat_map line (take i xs) → new ≡ old ++ line (get_or xs i d)
-    → new ≡ front ++ flat_map line (take (i + 1) xs)
-lines-more {X} line xs i d front old new l had more =
-    more ∙ ap (λ (t : List ℕ). t ++ line (get_or xs i d)) had
-    ∙ append_assoc front (flat_map line (take i xs)) (line (get_or xs i d))
-    ∙ ap (λ (t : List ℕ). front ++ t) (ap (λ (t : List ℕ). flat_map line (take i xs) ++ t) (sym (append-nil (line (get_or xs i d))))
-    ∙ sym (flat_map-append line (take i xs) (get_or xs i d ∷ []))
-    ∙ ap (flat_map line) (sym (take_more xs i d l)))

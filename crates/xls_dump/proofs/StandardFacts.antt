@@ -1,16 +1,15 @@
 -- Known texts, so that a wrong rule of the report does not check.
-use Rattle.std.proofs.Common.{◌≡◌, ℕ, List, [], ◌∷◌, true, refl, pos, negsuc, codes}
+use Rattle.std.proofs.Common.{◌≡◌, [], ◌∷◌, true, refl, pos, negsuc, codes}
 use Rattle.std.specs.Fmt.{digits}
 use Rattle.xls_data.specs.Content.{float}
-use Rattle.xls_data.specs.Sheets.{SheetContent}
 use Rattle.xls_data.specs.declared.numbers.Number.TheVariants.{Whole}
 use Rattle.xls_data.specs.declared.sheets.SheetType.TheVariants.{WorkSheet, ChartSheet}
 use Rattle.xls_data.specs.declared.sheets.SheetVisible.TheVariants.{Visible, VeryHidden}
-use Rattle.xls_biff.specs.declared.error.XlsError.TheVariants.{NotBuilt, TooLarge}
-use Rattle.xls_biff.specs.ErrorText.{four_digits}
+use Rattle.xls_biff.specs.declared.error.XlsError.TheVariants.{Password, TooLarge}
 use Rattle.xls_book.specs.Reading.{Workbook}
 use Rattle.xls_book.specs.Opening.{default_options}
-use Rattle.xls_dump.specs.Report.{cell_line, fault_line, report, shown_text}
+use Rattle.xls_dump.specs.Lines.{shown_text}
+use Rattle.xls_dump.specs.Report.{cell_line, fault_line, report, sheet_report}
 
 -- row 4, column 1, -12
 pub known_cell : cell_line ((4, 1), float (Whole (negsuc 11))) ≡ codes "cell\t4\t1\tfloat\t-12\n"
@@ -22,9 +21,8 @@ pub known_text : shown_text (65 ∷ 9 ∷ 233 ∷ []) ≡ 65 ∷ 92 ∷ 116 ∷ 
 unfolding lib.Utf8.encode
 known_text = refl
 
--- a Label record, and a stream past its limit
-pub known_fault : fault_line (NotBuilt 516) ≡ codes "error\tRecord type 0x0204 not built\n"
-unfolding digits four_digits
+-- an encrypted workbook, and a stream past its limit
+pub known_fault : fault_line Password ≡ codes "error\tWorkbook is password protected\n"
 known_fault = refl
 
 pub known_limit : fault_line (TooLarge 64) ≡ codes "error\tStream larger than 64 bytes\n"
@@ -48,3 +46,7 @@ book = record {
 pub known_report : report book ≡ codes "dates\t1904\nsheet\tA\tworksheet\tvisible\ncell\t0\t0\tfloat\t1\nmerge\t0\t1\t2\t3\nsheet\tB\tchart\tveryhidden\n"
 unfolding digits lib.Utf8.encode
 known_report = refl
+
+pub known_sheets : sheet_report book ≡ codes "sheet\tA\tworksheet\tvisible\nsheet\tB\tchart\tveryhidden\n"
+unfolding lib.Utf8.encode
+known_sheets = refl

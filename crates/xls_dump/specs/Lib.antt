@@ -1,6 +1,9 @@
 pub mod Written
 pub mod Tape
 pub mod Words
+pub mod Lines
+pub mod Gathering
 pub mod Report
+pub mod Properties
 pub mod Says
-pub mod Answers
+pub mod Endings

@@ -1,10 +1,9 @@
 -- The text of the dump, in UTF-8.
-use Rattle.std.specs.Prelude.{ℕ, List, [], ◌∷◌, ◌++◌, ◌==◌, if◌then◌else◌, Bool, true, false, Option, Some, None, codes, encode_utf8_all}
+use Rattle.std.specs.Prelude.{ℕ, List, [], ◌∷◌, ◌++◌, Bool, true, false, Option, Some, None, codes}
 use Rattle.std.specs.List.{flat_map}
 use Rattle.std.specs.Fmt.{decimal, signed_decimal}
 use Rattle.xls_data.specs.Content.{Content, int, float, text, truth, date, iso_date, iso_duration, failure, nothing}
 use Rattle.xls_data.specs.Data.{bool_text}
-use Rattle.xls_data.specs.Dates.{DateParts}
 use Rattle.xls_data.specs.Errors as cell_errors
 use Rattle.xls_data.specs.Numbers.{number_text}
 use Rattle.xls_data.specs.Sheets.{SheetContent}
@@ -19,24 +18,7 @@ use Rattle.xls_biff.specs.ErrorText.{error_text}
 use Rattle.xls_biff.specs.declared.error.XlsError.{XlsError}
 use Rattle.xls_data.specs.declared.regions.Dimensions.{Dimensions}
 use Rattle.xls_book.specs.Reading.{SheetView, Workbook}
-
--- ---- texts
-
--- a backslash, a newline, a return and a tab as two characters each
-abbrev pub escaped_char : ℕ → List ℕ
-escaped_char c =
-    if c == 92 then codes "\\\\"
-    else if c == 10 then codes "\\n"
-    else if c == 13 then codes "\\r"
-    else if c == 9 then codes "\\t"
-    else c ∷ []
-
-abbrev pub escaped : List ℕ → List ℕ
-escaped cs = flat_map escaped_char cs
-
--- the bytes of a text of these characters
-abbrev pub shown_text : List ℕ → List ℕ
-shown_text cs = encode_utf8_all (escaped cs)
+use Rattle.xls_dump.specs.Lines.{line, shown_text}
 
 -- ---- cells
 
@@ -46,27 +28,25 @@ date_kind DateTime = codes "date"
 date_kind TimeDelta = codes "span"
 
 -- the kind of a value, and its printed text; a blank has none
-abbrev pub value_text : Content → Option (List ℕ)
-value_text (int n) = Some (codes "int\t" ++ signed_decimal n)
-value_text (float n) = Some (codes "float\t" ++ number_text n)
-value_text (text cs) = Some (codes "text\t" ++ shown_text cs)
-value_text (truth b) = Some (codes "bool\t" ++ bool_text b)
-value_text (date d) = Some (date_kind d.kind ++ codes "\t" ++ number_text d.number)
-value_text (iso_date cs) = Some (codes "date\t" ++ shown_text cs)
-value_text (iso_duration cs) = Some (codes "span\t" ++ shown_text cs)
-value_text (failure e) = Some (codes "error\t" ++ cell_errors.error_text e)
-value_text nothing = None
+abbrev pub value_fields : Content → Option (List ℕ × List ℕ)
+value_fields (int n) = Some (codes "int", signed_decimal n)
+value_fields (float n) = Some (codes "float", number_text n)
+value_fields (text cs) = Some (codes "text", shown_text cs)
+value_fields (truth b) = Some (codes "bool", bool_text b)
+value_fields (date d) = Some (date_kind d.kind, number_text d.number)
+value_fields (iso_date cs) = Some (codes "date", shown_text cs)
+value_fields (iso_duration cs) = Some (codes "span", shown_text cs)
+value_fields (failure e) = Some (codes "error", cell_errors.error_text e)
+value_fields nothing = None
 
-abbrev pub place_text : ℕ → ℕ → List ℕ
-place_text row column = codes "cell\t" ++ decimal row ++ codes "\t" ++ decimal column ++ codes "\t"
-
-abbrev pub filled_line : ℕ → ℕ → Option (List ℕ) → List ℕ
+abbrev pub filled_line : ℕ → ℕ → Option (List ℕ × List ℕ) → List ℕ
 filled_line row column None = []
-filled_line row column (Some value) = place_text row column ++ value ++ codes "\n"
+filled_line row column (Some v) =
+    line (codes "cell") (decimal row ∷ decimal column ∷ v.0 ∷ v.1 ∷ [])
 
 -- row, column, kind and printed text of a cell
 abbrev pub cell_line : Entry → List ℕ
-cell_line c = filled_line c.0.0 c.0.1 (value_text c.1)
+cell_line c = filled_line c.0.0 c.0.1 (value_fields c.1)
 
 -- ---- sheets
 
@@ -84,13 +64,13 @@ visible_text states.VeryHidden = codes "veryhidden"
 
 -- name, kind and visibility of a sheet
 abbrev pub sheet_line : SheetContent → List ℕ
-sheet_line s = codes "sheet\t" ++ shown_text s.name ++ codes "\t" ++ type_text s.typ ++ codes "\t"
-    ++ visible_text s.visible ++ codes "\n"
+sheet_line s =
+    line (codes "sheet") (shown_text s.name ∷ type_text s.typ ∷ visible_text s.visible ∷ [])
 
 -- start row, start column, end row and end column of a merged region
 abbrev pub merge_line : Dimensions → List ℕ
-merge_line d = codes "merge\t" ++ decimal d.start.0 ++ codes "\t" ++ decimal d.start.1 ++ codes "\t"
-    ++ decimal d.end.0 ++ codes "\t" ++ decimal d.end.1 ++ codes "\n"
+merge_line d =
+    line (codes "merge") (decimal d.start.0 ∷ decimal d.start.1 ∷ decimal d.end.0 ∷ decimal d.end.1 ∷ [])
 
 -- the lines of a sheet's cells, and of its merged regions
 abbrev pub view_text : SheetView → List ℕ
@@ -105,6 +85,9 @@ abbrev pub merges_at : Option SheetView → List ℕ
 merges_at None = []
 merges_at (Some v) = flat_map merge_line v.merges
 
+abbrev pub lines_at : Option SheetView → List ℕ
+lines_at o = cells_at o ++ merges_at o
+
 -- the line of each sheet, and behind it those of what it shows
 abbrev pub sheets_text : List SheetContent → List SheetView → List ℕ
 sheets_text [] views = []
@@ -116,12 +99,16 @@ epoch_text true = codes "1904"
 epoch_text false = codes "1900"
 
 abbrev pub dates_line : Bool → List ℕ
-dates_line is_1904 = codes "dates\t" ++ epoch_text is_1904 ++ codes "\n"
+dates_line is_1904 = line (codes "dates") (epoch_text is_1904 ∷ [])
 
 -- the date system, and the sheets in workbook order
 abbrev pub report : Workbook → List ℕ
 report book = dates_line book.is_1904 ++ sheets_text book.sheets book.contents
 
+-- the sheets in workbook order, without what they show
+abbrev pub sheet_report : Workbook → List ℕ
+sheet_report book = flat_map sheet_line book.sheets
+
 -- the line of a refusal
 abbrev pub fault_line : XlsError → List ℕ
-fault_line e = codes "error\t" ++ error_text e ++ codes "\n"
+fault_line e = line (codes "error") (error_text e ∷ [])

@@ -1,9 +1,13 @@
 //! Writes what a workbook stream holds.
 #![tactic(auto)]
 
-mod answer;
+mod buffer;
 mod command;
+mod ending;
+mod field;
 mod memory;
+mod perform;
+mod properties;
 mod report;
 mod run;
 mod sink;

@@ -1,58 +1,23 @@
-//! The text of the dump.
+//! The text of the dump, line by line.
 
-ghost use Rattle.std.specs.Prelude.{◌≡◌, ◌++◌, IfOk, codes, encode_utf8_all, if◌then◌else◌, slice_get};
+ghost use Rattle.std.specs.Prelude.{◌≡◌, ◌++◌, [], codes, if◌then◌else◌, slice_get};
 ghost use Rattle.std.specs.List.{flat_map};
-ghost use Rattle.std.specs.String.{string_bytes};
-ghost use Rattle.std.specs.Str.{chars};
-ghost use Rattle.xls_data.specs.Data.{content_of};
+ghost use Rattle.std.specs.Option.{option_map};
+ghost use Rattle.xls_data.specs.Data.{bool_text, content_of};
 ghost use Rattle.xls_data.specs.Sheets.{sheet_content};
-ghost use Rattle.xls_dump.specs.Report.{cell_line, cells_at, epoch_text, escaped_char, merge_line, merges_at, place_text, report, sheet_line, shown_text, type_text, visible_text};
+ghost use Rattle.xls_dump.specs.Endings.{Delivers};
+ghost use Rattle.xls_dump.specs.Gathering.{Puts};
+ghost use Rattle.xls_dump.specs.Lines.{field_text};
+ghost use Rattle.xls_dump.specs.Report.{cell_line, cells_at, dates_line, epoch_text, fault_line, lines_at, merge_line, merges_at, report, sheet_line, sheet_report, sheets_text, type_text, value_fields, visible_text};
 
-use std::alloc::{AllocError, Global};
+use crate::buffer::Buffer;
+use crate::ending::Stop;
+use crate::field::Field;
+use crate::sink::Sink;
+use std::alloc::Global;
+use xls_biff::XlsError;
 use xls_book::{Reader, Values, Xls};
 use xls_data::{Data, Dimensions, Sheet, SheetType, SheetVisible};
-
-/// Appends a character, or the two that stand for it.
-fn push_char(text: &mut String, c: char) -> Result<(), AllocError>
-    ensures { IfOk result (λ _. string_bytes text.new ≡ string_bytes text.old
-        ++ encode_utf8_all (escaped_char c)) }
-{
-    match c {
-        '\\' => text.push_str("\\\\"),
-        '\n' => text.push_str("\\n"),
-        '\r' => text.push_str("\\r"),
-        '\t' => text.push_str("\\t"),
-        _ => text.push(c),
-    }
-}
-
-/// Appends a text with its backslashes, newlines, returns and tabs escaped.
-fn push_text(text: &mut String, shown: &str) -> Result<(), AllocError>
-    ensures { IfOk result (λ _. string_bytes text.new ≡ string_bytes text.old
-        ++ shown_text (chars shown.now)) }
-{
-    for c in shown.chars() {
-        push_char(text, c)?;
-    }
-    Ok(())
-}
-
-/// Appends the line of a text, of this kind.
-fn push_shown(
-    text: &mut String,
-    row: u32,
-    column: u32,
-    kind: &str,
-    shown: &str,
-) -> Result<(), AllocError>
-    ensures { IfOk result (λ _. string_bytes text.new ≡ string_bytes text.old
-        ++ (place_text row column ++ (kind.now ++ codes "\t" ++ shown_text (chars shown.now))
-        ++ codes "\n")) }
-{
-    write!(text, "cell\t{row}\t{column}\t{kind}\t")?;
-    push_text(text, shown)?;
-    text.push_str("\n")
-}
 
 /// The word for a date or a span.
 fn date_kind(is_span: bool) -> &'static str
@@ -61,34 +26,60 @@ fn date_kind(is_span: bool) -> &'static str
     if is_span { "span" } else { "date" }
 }
 
-/// Appends the line of a cell.
-fn push_cell(text: &mut String, row: u32, column: u32, value: &Data) -> Result<(), AllocError>
-    ensures { IfOk result (λ _. string_bytes text.new ≡ string_bytes text.old
-        ++ cell_line ((row, column), content_of value.now)) }
+/// The word for a truth value.
+fn truth_word(is_true: bool) -> &'static str
+    ensures { result.now ≡ bool_text is_true }
+{
+    if is_true { "true" } else { "false" }
+}
+
+/// The kind of a value, and what it prints. A blank has none.
+fn fields_of(value: &Data) -> Option<(&'static str, Field<'_>)>
+    ensures { option_map (λ x. (x.0.now, field_text x.1)) result ≡ value_fields (content_of value.now) }
 {
     match value {
-        Data::Int(n) => write!(text, "cell\t{row}\t{column}\tint\t{n}\n"),
-        Data::Float(n) => write!(text, "cell\t{row}\t{column}\tfloat\t{n}\n"),
-        Data::String(s) => push_shown(text, row, column, "text", s.as_str()),
-        Data::Bool(b) => write!(text, "cell\t{row}\t{column}\tbool\t{b}\n"),
-        Data::DateTime(d) => {
-            let kind = date_kind(d.is_duration());
-            write!(text, "cell\t{row}\t{column}\t{kind}\t{d}\n")
-        }
-        Data::DateTimeIso(s) => push_shown(text, row, column, "date", s.as_str()),
-        Data::DurationIso(s) => push_shown(text, row, column, "span", s.as_str()),
-        Data::Error(e) => write!(text, "cell\t{row}\t{column}\terror\t{e}\n"),
-        Data::Empty => Ok(()),
+        Data::Int(n) => Some(("int", Field::Int(*n))),
+        Data::Float(n) => Some(("float", Field::Fraction(*n))),
+        Data::String(s) => Some(("text", Field::Text(s.as_str()))),
+        Data::Bool(b) => Some(("bool", Field::Word(truth_word(*b)))),
+        Data::DateTime(d) => Some((date_kind(d.is_duration()), Field::Fraction(d.number()))),
+        Data::DateTimeIso(s) => Some(("date", Field::Text(s.as_str()))),
+        Data::DurationIso(s) => Some(("span", Field::Text(s.as_str()))),
+        Data::Error(e) => Some(("error", Field::Failure(*e))),
+        Data::Empty => None,
     }
 }
 
-/// Appends the lines of a sheet's cells.
-fn push_values(text: &mut String, values: Values<'_>) -> Result<(), AllocError>
-    ensures { IfOk result (λ _. string_bytes text.new ≡ string_bytes text.old
-        ++ flat_map cell_line values.entry) }
+/// Puts the line of a cell.
+fn put_cell<K: Sink>(
+    buffer: &mut Buffer,
+    sink: &mut K,
+    row: u32,
+    column: u32,
+    value: &Data,
+) -> Result<(), Stop>
+    ensures { Puts (K.written sink.old) (K.faults sink.old) (K.takes sink.old) buffer.old
+        (K.written sink.new) (K.faults sink.new) (K.takes sink.new) buffer.new
+        (cell_line ((row, column), content_of value.now)) result }
+{
+    match fields_of(value) {
+        Some((kind, shown)) => {
+            let row = Field::Number(u64::from(row));
+            let column = Field::Number(u64::from(column));
+            buffer.put_line(sink, "cell", &[row, column, Field::Word(kind), shown])
+        }
+        None => Ok(()),
+    }
+}
+
+/// Puts the lines of a sheet's cells.
+fn put_values<K: Sink>(buffer: &mut Buffer, sink: &mut K, values: Values<'_>) -> Result<(), Stop>
+    ensures { Puts (K.written sink.old) (K.faults sink.old) (K.takes sink.old) buffer.old
+        (K.written sink.new) (K.faults sink.new) (K.takes sink.new) buffer.new
+        (flat_map cell_line values.entry) result }
 {
     for (row, column, value) in values {
-        push_cell(text, row, column, value)?;
+        put_cell(buffer, sink, row, column, value)?;
     }
     Ok(())
 }
@@ -117,61 +108,109 @@ fn visible_word(visible: SheetVisible) -> &'static str
     }
 }
 
-/// Appends the line of a sheet.
-fn push_sheet(text: &mut String, sheet: &Sheet) -> Result<(), AllocError>
-    ensures { IfOk result (λ _. string_bytes text.new ≡ string_bytes text.old
-        ++ sheet_line (sheet_content sheet.now)) }
+/// Puts the line of a sheet.
+fn put_sheet<K: Sink>(buffer: &mut Buffer, sink: &mut K, sheet: &Sheet) -> Result<(), Stop>
+    ensures { Puts (K.written sink.old) (K.faults sink.old) (K.takes sink.old) buffer.old
+        (K.written sink.new) (K.faults sink.new) (K.takes sink.new) buffer.new
+        (sheet_line (sheet_content sheet.now)) result }
 {
-    text.push_str("sheet\t")?;
-    push_text(text, sheet.name.as_str())?;
-    let typ = type_word(sheet.typ);
-    let visible = visible_word(sheet.visible);
-    write!(text, "\t{typ}\t{visible}\n")
+    let name = Field::Text(sheet.name.as_str());
+    let typ = Field::Word(type_word(sheet.typ));
+    let visible = Field::Word(visible_word(sheet.visible));
+    buffer.put_line(sink, "sheet", &[name, typ, visible])
 }
 
-/// Appends the line of a merged region.
-fn push_merge(text: &mut String, region: Dimensions) -> Result<(), AllocError>
-    ensures { IfOk result (λ _. string_bytes text.new ≡ string_bytes text.old ++ merge_line region) }
+/// Puts the line of a merged region.
+fn put_merge<K: Sink>(buffer: &mut Buffer, sink: &mut K, region: Dimensions) -> Result<(), Stop>
+    ensures { Puts (K.written sink.old) (K.faults sink.old) (K.takes sink.old) buffer.old
+        (K.written sink.new) (K.faults sink.new) (K.takes sink.new) buffer.new (merge_line region) result }
 {
     let (first_row, first_column) = region.start;
     let (last_row, last_column) = region.end;
-    write!(
-        text,
-        "merge\t{first_row}\t{first_column}\t{last_row}\t{last_column}\n"
-    )
+    let fields = [
+        Field::Number(u64::from(first_row)),
+        Field::Number(u64::from(first_column)),
+        Field::Number(u64::from(last_row)),
+        Field::Number(u64::from(last_column)),
+    ];
+    buffer.put_line(sink, "merge", &fields)
 }
 
-/// Appends the lines of merged regions.
-fn push_merges(text: &mut String, merges: &[Dimensions]) -> Result<(), AllocError>
-    ensures { IfOk result (λ _. string_bytes text.new ≡ string_bytes text.old
-        ++ flat_map merge_line merges.now) }
+/// Puts the lines of merged regions.
+fn put_merges<K: Sink>(buffer: &mut Buffer, sink: &mut K, merges: &[Dimensions]) -> Result<(), Stop>
+    ensures { Puts (K.written sink.old) (K.faults sink.old) (K.takes sink.old) buffer.old
+        (K.written sink.new) (K.faults sink.new) (K.takes sink.new) buffer.new
+        (flat_map merge_line merges.now) result }
 {
     for region in merges {
-        push_merge(text, *region)?;
+        put_merge(buffer, sink, *region)?;
     }
     Ok(())
 }
 
-/// Appends the lines of the cells of the sheet at an index.
-fn push_cells_at(text: &mut String, book: &Xls, n: usize) -> Result<(), AllocError>
-    ensures { IfOk result (λ _. string_bytes text.new ≡ string_bytes text.old
-        ++ cells_at (slice_get book.now.contents n)) }
+/// Puts the lines of the cells of the sheet at an index.
+fn put_cells_at<K: Sink>(
+    buffer: &mut Buffer,
+    sink: &mut K,
+    book: &Xls,
+    n: usize,
+) -> Result<(), Stop>
+    ensures { Puts (K.written sink.old) (K.faults sink.old) (K.takes sink.old) buffer.old
+        (K.written sink.new) (K.faults sink.new) (K.takes sink.new) buffer.new
+        (cells_at (slice_get book.now.contents n)) result }
 {
     match book.values_at(n) {
-        Some(values) => push_values(text, values),
+        Some(values) => put_values(buffer, sink, values),
         None => Ok(()),
     }
 }
 
-/// Appends the lines of the merged regions of the sheet at an index.
-fn push_merges_at(text: &mut String, book: &Xls, n: usize) -> Result<(), AllocError>
-    ensures { IfOk result (λ _. string_bytes text.new ≡ string_bytes text.old
-        ++ merges_at (slice_get book.now.contents n)) }
+/// Puts the lines of the merged regions of the sheet at an index.
+fn put_merges_at<K: Sink>(
+    buffer: &mut Buffer,
+    sink: &mut K,
+    book: &Xls,
+    n: usize,
+) -> Result<(), Stop>
+    ensures { Puts (K.written sink.old) (K.faults sink.old) (K.takes sink.old) buffer.old
+        (K.written sink.new) (K.faults sink.new) (K.takes sink.new) buffer.new
+        (merges_at (slice_get book.now.contents n)) result }
 {
     match book.merges_at(n) {
-        Some(merges) => push_merges(text, merges),
+        Some(merges) => put_merges(buffer, sink, merges),
         None => Ok(()),
     }
+}
+
+/// Puts the line of a sheet, and those of what stands at its index.
+fn put_view<K: Sink>(
+    buffer: &mut Buffer,
+    sink: &mut K,
+    book: &Xls,
+    sheet: &Sheet,
+    n: usize,
+) -> Result<(), Stop>
+    ensures { Puts (K.written sink.old) (K.faults sink.old) (K.takes sink.old) buffer.old
+        (K.written sink.new) (K.faults sink.new) (K.takes sink.new) buffer.new
+        (sheet_line (sheet_content sheet.now) ++ lines_at (slice_get book.now.contents n)) result }
+{
+    put_sheet(buffer, sink, sheet)?;
+    put_cells_at(buffer, sink, book, n)?;
+    put_merges_at(buffer, sink, book, n)?;
+    Ok(())
+}
+
+/// Puts the sheets in workbook order, and what they show.
+fn put_views<K: Sink>(buffer: &mut Buffer, sink: &mut K, book: &Xls) -> Result<(), Stop>
+    ensures { Puts (K.written sink.old) (K.faults sink.old) (K.takes sink.old) buffer.old
+        (K.written sink.new) (K.faults sink.new) (K.takes sink.new) buffer.new
+        (sheets_text book.now.sheets book.now.contents) result }
+{
+    let sheets = book.sheets_metadata();
+    for i in 0..sheets.len() {
+        put_view(buffer, sink, book, &sheets[i], i)?;
+    }
+    Ok(())
 }
 
 /// The year from which dates count.
@@ -181,18 +220,66 @@ fn epoch_word(is_1904: bool) -> &'static str
     if is_1904 { "1904" } else { "1900" }
 }
 
-/// The text of the dump: the date system, and for each sheet in workbook order its line and those of
-/// its cells and of its merged regions.
-pub fn report_of(alloc: Global, book: &Xls) -> Result<String, AllocError>
-    ensures { IfOk result (λ text. string_bytes text ≡ report book.now) }
+/// Puts the date system.
+fn put_dates<K: Sink>(buffer: &mut Buffer, sink: &mut K, is_1904: bool) -> Result<(), Stop>
+    ensures { Puts (K.written sink.old) (K.faults sink.old) (K.takes sink.old) buffer.old
+        (K.written sink.new) (K.faults sink.new) (K.takes sink.new) buffer.new (dates_line is_1904) result }
 {
-    let epoch = epoch_word(book.has_1904_epoch());
-    let mut text = format!(in alloc; "dates\t{epoch}\n")?;
-    let sheets = book.sheets_metadata();
-    for i in 0..sheets.len() {
-        push_sheet(&mut text, &sheets[i])?;
-        push_cells_at(&mut text, book, i)?;
-        push_merges_at(&mut text, book, i)?;
+    buffer.put_line(sink, "dates", &[Field::Word(epoch_word(is_1904))])
+}
+
+/// Puts the date system, and the sheets with what they show.
+fn put_report<K: Sink>(buffer: &mut Buffer, sink: &mut K, book: &Xls) -> Result<(), Stop>
+    ensures { Puts (K.written sink.old) (K.faults sink.old) (K.takes sink.old) buffer.old
+        (K.written sink.new) (K.faults sink.new) (K.takes sink.new) buffer.new (report book.now) result }
+{
+    put_dates(buffer, sink, book.has_1904_epoch())?;
+    put_views(buffer, sink, book)?;
+    Ok(())
+}
+
+/// Writes the dump: the date system, and for each sheet in workbook order its line and those of its
+/// cells and of its merged regions.
+pub fn write_report<K: Sink>(alloc: Global, sink: &mut K, book: &Xls) -> Result<(), Stop>
+    ensures { Delivers (K.written sink.old) (K.faults sink.old) (K.takes sink.old) (K.written sink.new) (K.faults sink.new)
+        (report book.now) result }
+{
+    let mut buffer = Buffer::new(alloc);
+    put_report(&mut buffer, sink, book)?;
+    buffer.finish(sink)?;
+    Ok(())
+}
+
+/// Puts the lines of sheets.
+fn put_sheets<K: Sink>(buffer: &mut Buffer, sink: &mut K, sheets: &[Sheet]) -> Result<(), Stop>
+    ensures { Puts (K.written sink.old) (K.faults sink.old) (K.takes sink.old) buffer.old
+        (K.written sink.new) (K.faults sink.new) (K.takes sink.new) buffer.new
+        (flat_map (λ s. sheet_line (sheet_content s)) sheets.now) result }
+{
+    for sheet in sheets {
+        put_sheet(buffer, sink, sheet)?;
     }
-    Ok(text)
+    Ok(())
+}
+
+/// Writes the lines of the sheets alone, in workbook order.
+pub fn write_sheets<K: Sink>(alloc: Global, sink: &mut K, book: &Xls) -> Result<(), Stop>
+    ensures { Delivers (K.written sink.old) (K.faults sink.old) (K.takes sink.old) (K.written sink.new) (K.faults sink.new)
+        (sheet_report book.now) result }
+{
+    let mut buffer = Buffer::new(alloc);
+    put_sheets(&mut buffer, sink, book.sheets_metadata())?;
+    buffer.finish(sink)?;
+    Ok(())
+}
+
+/// Writes the line of a refusal.
+pub fn write_fault<K: Sink>(alloc: Global, sink: &mut K, error: &XlsError) -> Result<(), Stop>
+    ensures { Delivers (K.written sink.old) (K.faults sink.old) (K.takes sink.old) (K.written sink.new) (K.faults sink.new)
+        (fault_line error.now) result }
+{
+    let mut buffer = Buffer::new(alloc);
+    buffer.put_line(sink, "error", &[Field::Fault(error)])?;
+    buffer.finish(sink)?;
+    Ok(())
 }

@@ -9,9 +9,10 @@ ghost use Rattle.xls_dump.specs.Words.{IsCommand};
 ghost use Rattle.xls_dump.specs.Says.{Tells, Refuses, Says, Leaves, EndsWell, IsUnread};
 ghost use Rattle.xls_dump.specs.declared.command.Command.{Command};
 
-use crate::answer::{Answer, Stop, answer_of};
 use crate::command::command_of;
-use crate::sink::{Sink, write_all};
+use crate::ending::{Ending, Stop};
+use crate::perform::perform;
+use crate::sink::Sink;
 use std::alloc::Global;
 use xls_book::Source;
 
@@ -59,14 +60,11 @@ pub fn run<S: Source, K: Sink>(alloc: Global, words: &[String], source: &mut S, 
     let Some(command) = command_of(words) else {
         return 2;
     };
-    let (status, text) = match answer_of(alloc, command, source) {
-        Ok(Answer::Done(text)) => (0, text),
-        Ok(Answer::Refused(text)) => (1, text),
-        Err(Stop::Read) => return 3,
-        Err(Stop::Memory) => return 5,
-    };
-    if write_all(sink, text.as_bytes()).is_err() {
-        return 4;
+    match perform(alloc, command, source, sink) {
+        Ok(Ending::Done) => 0,
+        Ok(Ending::Refused) => 1,
+        Err(Stop::Read) => 3,
+        Err(Stop::Write) => 4,
+        Err(Stop::Memory) => 5,
     }
-    status
 }

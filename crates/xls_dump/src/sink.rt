@@ -39,7 +39,7 @@ pub fn write_all<K: Sink>(sink: &mut K, piece: &[u8]) -> Result<(), WriteFault>
     ensures front { AppendsFront (K.written sink.old) (K.written sink.new) piece.now }
     ensures cause { HasCause (K.faults sink.old) (K.faults sink.new) result }
     ensures kept { (n : ℕ) → length piece.now ≤ n → K.takes sink.old n → IsOk result
-        × (K.faults sink.new ≡ K.faults sink.old) }
+        × (K.faults sink.new ≡ K.faults sink.old) × K.takes sink.new (n - length piece.now) }
 {
     let mut at = 0;
     while at < piece.len() {

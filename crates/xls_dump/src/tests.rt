@@ -4,7 +4,7 @@ use crate::sink::{Sink, StdSink};
 use std::alloc::{AllocError, Global};
 use std::process::Abort;
 use std::test::*;
-use xls_book::MemorySource;
+use xls_book::{MemorySource, SteadySource};
 
 // BOF of the globals, BoundSheet8 of `A` at 25, EOF; BOF of the sheet, a Number of 3 at (0, 0), EOF.
 const THREE: [u8; 55] = [
@@ -26,6 +26,14 @@ const PAGE: [u8; 18] = [
 const HIDDEN: [u8; 51] = [
     9, 8, 4, 0, 0, 6, 5, 0, 0x85, 0, 9, 0, 25, 0, 0, 0, 1, 0, 1, 0, 0x41, 0x0A, 0, 0, 0, 9, 8, 4,
     0, 0, 6, 0x10, 0, 0xE5, 0, 10, 0, 1, 0, 0, 0, 2, 0, 1, 0, 3, 0, 0x0A, 0, 0, 0,
+];
+
+// A property stream with a summary section of two properties: the title in page 1252.
+const TITLE: [u8; 95] = [
+    0xFE, 0xFF, 0, 0, 0, 0, 0, 0, 0, 0, 0, 0, 0, 0, 0, 0, 0, 0, 0, 0, 0, 0, 0, 0, 1, 0, 0, 0, 0xE0,
+    0x85, 0x9F, 0xF2, 0xF9, 0x4F, 0x68, 0x10, 0xAB, 0x91, 0x08, 0x00, 0x2B, 0x27, 0xB3, 0xD9, 0x30,
+    0, 0, 0, 0x2F, 0, 0, 0, 2, 0, 0, 0, 1, 0, 0, 0, 0x18, 0, 0, 0, 2, 0, 0, 0, 0x20, 0, 0, 0, 2, 0,
+    0, 0, 0xE4, 0x04, 0, 0, 0x1E, 0, 0, 0, 7, 0, 0, 0, 0xC5, 0x6C, 0x65, 0x73, 0x75, 0x6E, 0x64,
 ];
 
 /// A run: the words, what the source gives in which pieces, what the sink takes in which pieces, and
@@ -191,4 +199,67 @@ fn each_room_takes_its_front(rt: HostRuntime) -> Result<(), Fail> {
 fn passes_on_what_std_writes(rt: HostRuntime) {
     let mut sink = StdSink::new(Vec::new(rt.alloc()));
     assert_eq!(rt; sink.write(b"abc"), Ok(3));
+}
+
+#[test]
+fn writes_the_sheets_alone(rt: HostRuntime) -> Result<(), Fail> {
+    let three = b"sheet\tA\tworksheet\tvisible\n";
+    check(&rt, rt.alloc(), &quiet(&["sheets"], &THREE), 0, three)?;
+    let hidden = b"sheet\tA\tworksheet\thidden\n";
+    check(&rt, rt.alloc(), &quiet(&["sheets"], &HIDDEN), 0, hidden)?;
+    let page = b"error\tCfb error: Codepage 1B5 not found\n";
+    check(&rt, rt.alloc(), &quiet(&["sheets"], &PAGE), 1, page)
+}
+
+#[test]
+fn writes_the_properties(rt: HostRuntime) -> Result<(), Fail> {
+    let text = "title\t\u{C5}lesund\n".as_bytes();
+    check(&rt, rt.alloc(), &quiet(&["props"], &TITLE), 0, text)?;
+    check(&rt, rt.alloc(), &quiet(&["props"], &[]), 0, b"")
+}
+
+#[test]
+fn knows_no_other_words(rt: HostRuntime) -> Result<(), Fail> {
+    for words in [&["dump", "x"], &["sheets", "x"], &["props", "props"]] {
+        check(&rt, rt.alloc(), &quiet(words, &THREE), 2, b"")?;
+    }
+    Ok(())
+}
+
+// The stream of `THREE`, with a Number of 3 in column 0 of each of so many rows.
+fn many_numbers(alloc: Global, rows: u16) -> Result<Vec<u8>, AllocError> {
+    let mut bytes = THREE[..33].to_vec(alloc)?;
+    for row in 0..rows {
+        bytes.extend_from_slice(&[0x03, 0x02, 0x0E, 0x00])?;
+        bytes.extend_from_slice(&row.to_le_bytes())?;
+        bytes.extend_from_slice(&THREE[39..51])?;
+    }
+    bytes.extend_from_slice(&THREE[51..])?;
+    Ok(bytes)
+}
+
+// The status, the written text and the number of writes of a dump of so many rows.
+fn long_dump(alloc: Global, rows: u16, fails: Option<u64>) -> Result<(u8, Vec<u8>), AllocError> {
+    let mut source = SteadySource::new(many_numbers(alloc, rows)?);
+    let mut sink = MemorySink::new(alloc, 999_999, 999_999, listed(alloc, fails)?)?;
+    let status = run(alloc, &Vec::new(alloc), &mut source, &mut sink);
+    Ok((status, sink.as_slice().to_vec(alloc)?))
+}
+
+// 5,000 lines of at most 22 bytes are more than one piece and less than two. The second write is the
+// last, so a sink whose second call fails has the first piece alone.
+#[test]
+fn writes_a_long_text_in_pieces(rt: HostRuntime) -> Result<(), Fail> {
+    let alloc = rt.alloc();
+    let (status, whole) = long_dump(alloc, 5000, None)?;
+    assert_eq!(rt; status, 0);
+    assert!(rt; whole.len() > 65_536);
+    let (stopped, front) = long_dump(alloc, 5000, Some(1))?;
+    assert_eq!(rt; stopped, 4);
+    assert_eq!(rt; front.len(), 65_536);
+    assert!(rt; whole.starts_with(&front));
+    let (unstopped, same) = long_dump(alloc, 5000, Some(2))?;
+    assert_eq!(rt; unstopped, 0);
+    assert_eq!(rt; same.as_slice(), whole.as_slice());
+    Ok(())
 }

@@ -1,0 +1,13 @@
+use Rattle.std.proofs.Common.{take}
+use Rattle.std.specs.List.{flat_map}
+use Rattle.xls_dump.specs.Gathering.{Gathers}
+use Rattle.xls_dump.specs.Report.{merge_line}
+use Rattle.xls_dump.proofs.report.put_merges.Given as goal
+
+-- the lines of the regions so far are put
+abbrev pub invariant-loop-region : goal.invariant-loop-region
+invariant-loop-region g l =
+    let sink = g.K.Sink in
+    Gathers (sink.written l.fn.sink) (sink.faults l.fn.sink) (sink.takes l.fn.sink) l.fn.buffer
+    (sink.written l.sink) (sink.faults l.sink) (sink.takes l.sink) l.buffer
+    (flat_map merge_line (take l.region-index l.merges))

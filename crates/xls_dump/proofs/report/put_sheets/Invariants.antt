@@ -1,0 +1,14 @@
+use Rattle.std.proofs.Common.{take}
+use Rattle.std.specs.List.{flat_map}
+use Rattle.xls_data.specs.Sheets.{sheet_content}
+use Rattle.xls_dump.specs.Gathering.{Gathers}
+use Rattle.xls_dump.specs.Report.{sheet_line}
+use Rattle.xls_dump.proofs.report.put_sheets.Given as goal
+
+-- the lines of the sheets so far are put
+abbrev pub invariant-loop-sheet : goal.invariant-loop-sheet
+invariant-loop-sheet g l =
+    let sink = g.K.Sink in
+    Gathers (sink.written l.fn.sink) (sink.faults l.fn.sink) (sink.takes l.fn.sink) l.fn.buffer
+    (sink.written l.sink) (sink.faults l.sink) (sink.takes l.sink) l.buffer
+    (flat_map (λ s. sheet_line (sheet_content s)) (take l.sheet-index l.sheets))
