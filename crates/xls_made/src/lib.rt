@@ -1,0 +1,8 @@
+//! A workbook stream of any number of rows, as bytes, and the laws of what is read from it.
+#![tactic(auto)]
+
+mod laws;
+mod words;
+
+pub use laws::made_carries;
+pub use words::word_of;
