@@ -1,2 +1,6 @@
 pub mod RunLemmas
 pub mod CarryLemmas
+pub mod ByteLemmas
+pub mod AscendingLemmas
+pub mod GivenLemmas
+pub mod ReadLemmas
