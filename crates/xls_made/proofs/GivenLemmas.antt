@@ -36,10 +36,10 @@ rk_row : (i : ℕ) → i < 65536 → rk_content None (4 * i + 2) false ≡ int (
 rk_row i h =
     rk_int (4 * i + 2) i (omega arith) (omega arith) (omega arith) (below_test i 536870912 (omega arith))
 
-abbrev int_kept : ℕ → Kept
+abbrev pub int_kept : ℕ → Kept
 int_kept i = record { typ = types.RK; body = int_body i }
 
-abbrev word_kept : ℕ → Kept
+abbrev pub word_kept : ℕ → Kept
 word_kept i = record { typ = types.LABEL_SST; body = word_body i }
 
 pub int_given : (s : Setting) (p : Position) (i : ℕ) → i < 65536 → s.force.classes ≡ []

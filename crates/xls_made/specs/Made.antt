@@ -1,14 +1,25 @@
 -- A workbook stream of so many rows, with a whole number and a word in each: its bytes, the logical
 -- list that they carry, and the cells of its sheet.
-use Rattle.std.specs.Prelude.{ℕ, pos, ◌+◌, ◌*◌, ◌/◌, ◌%◌, List, [], ◌∷◌, ◌++◌, codes, ◌==◌, if◌then◌else◌}
+use Rattle.std.specs.Prelude.{◌≡◌, ℕ, ℤ, pos, ◌+ℤ◌, ◌+◌, ◌-◌, ◌*◌, ◌/◌, ◌%◌, List, [], ◌∷◌, ◌++◌, length, map, codes, ◌==◌, if◌then◌else◌, Some}
 use Rattle.std.specs.List.{flat_map, range_with_len}
 use Rattle.xls_bytes.specs.Numbers.{le16}
 use Rattle.xls_model.specs.Stream.{enc}
 use Rattle.xls_model.specs.Listing.{Kept, plain_entry, table_entry, sheet_entry}
 use Rattle.xls_model.specs.Listing as listing
 use Rattle.xls_model.specs.declared.types.TheConstants as types
-use Rattle.xls_data.specs.Content.{int, text}
+use Rattle.xls_data.specs.Content.{Content, int, text}
+use Rattle.xls_data.specs.Data.{content_of}
+use Rattle.xls_data.specs.Sheets.{SheetContent}
+use Rattle.xls_data.specs.declared.values.Data.{Data}
+use Rattle.xls_data.specs.declared.sheets.SheetType.TheVariants as kinds
+use Rattle.xls_data.specs.declared.sheets.SheetVisible.TheVariants as states
+use Rattle.xls_range.specs.Grid.{Grid}
+use Rattle.xls_range.specs.Lists.{cells_from, used}
 use Rattle.xls_biff.specs.Cells.{Entry}
+use Rattle.xls_book.specs.Reading.{SheetView, Workbook}
+use Rattle.xls_book.specs.Steps.{view_named}
+use Rattle.xls_book.specs.Opening.{default_options}
+use Rattle.xls_book.specs.LookUps.{Blank}
 
 -- ---- words
 
@@ -116,3 +127,55 @@ row_cells i = ((i, 0), int (pos i)) ∷ ((i, 1), text (made_word i)) ∷ []
 -- of the sheet, by row, then column
 abbrev pub made_cells : ℕ → List Entry
 made_cells n = flat_map row_cells (range_with_len 0 n)
+
+-- ---- the workbook
+
+-- a visible worksheet `G`
+abbrev pub made_head : SheetContent
+made_head = record { name = codes "G"; typ = kinds.WorkSheet; visible = states.Visible }
+
+-- the sheet shows its cells, and neither formulas nor merged regions
+abbrev pub made_view : ℕ → SheetView
+made_view n = record { cells = made_cells n; formulas = []; merges = [] }
+
+-- the workbook has the one sheet, under the options by default
+pub record IsMade (n : ℕ) (book : Workbook) : Type 0 where
+  pub options : book.options ≡ default_options
+  pub sheets : book.sheets ≡ made_head ∷ []
+  pub contents : book.contents ≡ made_view n ∷ []
+  pub shown : view_named book (codes "G") ≡ Some (made_view n)
+
+-- ---- the range
+
+-- what the cells contain, row by row
+abbrev pub made_contents : ℕ → List Content
+made_contents n = map (λ (c : Entry). c.1) (made_cells n)
+
+-- the cells of a range that aren't blank, each with its row and its column
+abbrev pub used_in : Blank → Grid Data → List (ℕ × ℕ × Data)
+used_in blank range = used blank (cells_from 0 range.width range.cells)
+
+-- what they contain, row by row
+abbrev pub contents_in : Blank → Grid Data → List Content
+contents_in blank range = map (λ (c : ℕ × ℕ × Data). content_of c.2) (used_in blank range)
+
+-- the whole number, or 0 for any other content
+abbrev pub int_of : Content → ℤ
+int_of (int n) = n
+int_of other = pos 0
+
+-- the sum of the whole numbers among the contents
+abbrev pub sum_of_ints : List Content → ℤ
+sum_of_ints [] = pos 0
+sum_of_ints (c ∷ cs) = int_of c +ℤ sum_of_ints cs
+
+-- the range has a row for each number and two columns, from the first position on; its used cells are
+-- those that were made, two for each row, and the whole numbers from 0 on have their sum
+pub record IsMadeRange (blank : Blank) (n : ℕ) (range : Grid Data) : Type 0 where
+  pub top : range.top ≡ 0
+  pub left : range.left ≡ 0
+  pub height : range.height ≡ n
+  pub width : range.width ≡ 2
+  pub contents : contents_in blank range ≡ made_contents n
+  pub count : length (used_in blank range) ≡ 2 * n
+  pub sum : sum_of_ints (contents_in blank range) ≡ pos (n * (n - 1) / 2)

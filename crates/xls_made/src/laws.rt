@@ -1,8 +1,28 @@
 //! Laws over the stream, each on a function with an empty body.
 
-ghost use Rattle.xls_made.specs.Laws.{MadeCarries};
+ghost use Rattle.xls_made.specs.Laws.{MadeBytes, MadeCarries, MadeLength, MadeOpens, MadeReading};
 
 /// The stream carries its list.
 pub fn made_carries()
     ensures { MadeCarries }
+{}
+
+/// It has 64 bytes, and 28 for each row.
+pub fn made_length()
+    ensures { MadeLength }
+{}
+
+/// With at most 65,536 rows it consists of bytes.
+pub fn made_bytes()
+    ensures { MadeBytes }
+{}
+
+/// Each reading of its list is the workbook that was made.
+pub fn made_reading()
+    ensures { MadeReading }
+{}
+
+/// And each workbook that is opened from it.
+pub fn made_opens()
+    ensures { MadeOpens }
 {}

@@ -2,4 +2,4 @@ use Rattle.xls_made.proofs.CarryLemmas.{carries}
 use Rattle.xls_made.proofs.laws.made_carries.Goals as goal
 
 pub returns : goal.returns
-returns c = λ n h. carries n
+returns c = carries
