@@ -6,3 +6,6 @@ pub mod AscendingLemmas
 pub mod GivenLemmas
 pub mod ReadLemmas
 pub mod StandardFacts
+pub mod CornerLemmas
+pub mod SumLemmas
+pub mod RangeLemmas

@@ -1,6 +1,9 @@
 //! Laws over the stream, each on a function with an empty body.
 
-ghost use Rattle.xls_made.specs.Laws.{MadeBytes, MadeCarries, MadeLength, MadeOpens, MadeReading};
+ghost use Rattle.xls_data.specs.Data.{is_nothing};
+ghost use Rattle.xls_made.specs.Laws.{MadeBytes, MadeCarries, MadeLength, MadeOpens, MadeRange, MadeReading, MadeShows};
+
+use xls_data::Data;
 
 /// The stream carries its list.
 pub fn made_carries()
@@ -25,4 +28,14 @@ pub fn made_reading()
 /// And each workbook that is opened from it.
 pub fn made_opens()
     ensures { MadeOpens }
+{}
+
+/// Each range of the cells that were made has a row for each number, and the sum of the numbers.
+pub fn made_range()
+    ensures { MadeRange ⟦<Data as PartialEq>⟧.eq is_nothing }
+{}
+
+/// And each range of the sheet `G` of a workbook that is opened from the stream.
+pub fn made_shows()
+    ensures { MadeShows ⟦<Data as PartialEq>⟧.eq is_nothing }
 {}
