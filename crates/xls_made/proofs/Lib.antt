@@ -9,3 +9,4 @@ pub mod StandardFacts
 pub mod CornerLemmas
 pub mod SumLemmas
 pub mod RangeLemmas
+pub mod SoundLemmas

@@ -43,15 +43,15 @@ epoch n = refl
 abbrev row_gifts : ℕ → List Given
 row_gifts i = one_cell ((i, 0), int (pos i)) ∷ one_cell ((i, 1), text (made_word i)) ∷ []
 
-abbrev IsRow : ℕ → Type 0
+abbrev pub IsRow : ℕ → Type 0
 IsRow i = i < 65536
 
-rows_below : (a n : ℕ) → a + n ≤ 65536 → AllByRecursion IsRow (range_with_len a n)
+pub rows_below : (a n : ℕ) → a + n ≤ 65536 → AllByRecursion IsRow (range_with_len a n)
 rows_below a zero h = tt
 rows_below a (suc n) h = (omega arith, rows_below (a + 1) n (omega arith))
 
 -- the setting has no class, these strings, and the date system of 1900
-record IsSet (s : Setting) : Type 0 where
+pub record IsSet (s : Setting) : Type 0 where
   pub classes : s.force.classes ≡ []
   pub strings : s.force.strings ≡ made_strings
   pub epoch : s.force.is_1904 ≡ false
@@ -100,7 +100,7 @@ rows_ascend a (suc n) = (
 
 -- ---- the content
 
-is_set : (n : ℕ) → IsSet (setting_of default_options (made_list n))
+pub is_set : (n : ℕ) → IsSet (setting_of default_options (made_list n))
 is_set n = record { classes = classes n; strings = strings n; epoch = epoch n }
 
 same_view : (v w : SheetView) → v.cells ≡ w.cells → v.formulas ≡ w.formulas → v.merges ≡ w.merges

@@ -8,6 +8,7 @@ use Rattle.xls_range.specs.Grid.{Grid}
 use Rattle.xls_range.specs.Grid as grid
 use Rattle.xls_book.specs.Reading.{SheetView, Workbook, IsReading}
 use Rattle.xls_book.specs.Steps.{view_named}
+use Rattle.xls_book.specs.Faults.{IsSound}
 use Rattle.xls_book.specs.Opening.{default_options, IsOpened}
 use Rattle.xls_book.specs.LookUps.{Equal, Blank, IsRange}
 use Rattle.xls_made.specs.Made.{made_stream, made_list, made_cells, IsMade, IsMadeRange}
@@ -23,6 +24,10 @@ MadeLength = (n : ℕ) → length (made_stream n) ≡ 28 * n + 64
 -- with as many rows as there are row numbers at most, it consists of bytes
 abbrev pub MadeBytes : Type 0
 MadeBytes = (n : ℕ) → n ≤ 65536 → IsBytes (made_stream n)
+
+-- no place of it has a fault, under the options by default
+abbrev pub MadeSound : Type 0
+MadeSound = (n : ℕ) → n ≤ 65536 → IsSound default_options (made_stream n)
 
 -- each reading of the list, under the options by default, is the workbook that was made
 abbrev pub MadeReading : Type 0

@@ -1,7 +1,7 @@
 //! Laws over the stream, each on a function with an empty body.
 
 ghost use Rattle.xls_data.specs.Data.{is_nothing};
-ghost use Rattle.xls_made.specs.Laws.{MadeBytes, MadeCarries, MadeLength, MadeOpens, MadeRange, MadeReading, MadeShows};
+ghost use Rattle.xls_made.specs.Laws.{MadeBytes, MadeCarries, MadeLength, MadeOpens, MadeRange, MadeReading, MadeShows, MadeSound};
 
 use xls_data::Data;
 
@@ -18,6 +18,11 @@ pub fn made_length()
 /// With at most 65,536 rows it consists of bytes.
 pub fn made_bytes()
     ensures { MadeBytes }
+{}
+
+/// No place of it has a fault, so that only memory can refuse to open it.
+pub fn made_sound()
+    ensures { MadeSound }
 {}
 
 /// Each reading of its list is the workbook that was made.
