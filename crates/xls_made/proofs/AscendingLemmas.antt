@@ -1,6 +1,6 @@
 -- Two lists of cells in order that have the same value at each position are one list.
-use Rattle.std.proofs.Common.{◌≡◌, ◌≢◌, ℕ, ◌<◌, ◌≤◌, Bool, true, false, List, [], ◌∷◌, map, refl, sym, ap, subst, ◌∙◌, arith, inl, inr, Option, Some, None}
-use Rattle.std.specs.Prelude.{◌⊎◌, ◌==◌, ◌&&◌, if◌then◌else◌}
+use Rattle.std.proofs.Common.{◌≡◌, ℕ, ◌<◌, Bool, true, false, List, [], ◌∷◌, map, refl, sym, ap, subst, ◌∙◌, arith, inl, inr, Option, Some, None}
+use Rattle.std.specs.Prelude.{◌⊎◌, ◌==◌, ◌&&◌}
 use Rattle.std.specs.Option.{option_or}
 use Rattle.std.specs.List.{AllByRecursion}
 use Rattle.xls_range.specs.Sparse.{last_at, Precedes, IsAscending}
@@ -99,18 +99,18 @@ module _ {T : Type 0} where
   same_cells (x ∷ xs) (y ∷ ys) a b h =
       elim (compared x.0.0 x.0.1 y.0.0 y.0.1) [
         | inl before ↦ (let e : Some x.1 ≡ None = sym (first_there x xs a) ∙ h x.0
-          ∙ none_before x.0 (y ∷ ys) (later x.0 y ys before b) in absurd cc)
+            ∙ none_before x.0 (y ∷ ys) (later x.0 y ys before b) in absurd cc)
         | inr others ↦ elim others [
           | inl equal ↦ (
-            let e : x.0 ≡ y.0 = same_pair x.0.0 x.0.1 y.0.0 y.0.1 equal.0 equal.1 in
-            let some : Some x.1 ≡ Some y.1 = sym (first_there x xs a) ∙ h x.0
-                ∙ ap (last_at (y ∷ ys)) e ∙ first_there y ys b in
-            let value : x.1 ≡ y.1 = cc in
-            let first : ◌≡◌ {A = Position × T} x y =
-            ap (λ (p : Position). (p, x.1)) e ∙ ap (λ (v : T). (y.0, v)) value in
-            ap (λ (z : Position × T). z ∷ xs) first
-            ∙ ap (λ (zs : List (Position × T)). y ∷ zs) (same_cells xs ys a.1 b.1 (same_tail x y xs ys e a b h)))
+              let e : x.0 ≡ y.0 = same_pair x.0.0 x.0.1 y.0.0 y.0.1 equal.0 equal.1 in
+              let some : Some x.1 ≡ Some y.1 = sym (first_there x xs a) ∙ h x.0
+              ∙ ap (last_at (y ∷ ys)) e ∙ first_there y ys b in
+              let value : x.1 ≡ y.1 = cc in
+              let first : ◌≡◌ {A = Position × T} x y =
+              ap (λ (p : Position). (p, x.1)) e ∙ ap (λ (v : T). (y.0, v)) value in
+              ap (λ (z : Position × T). z ∷ xs) first
+              ∙ ap (λ (zs : List (Position × T)). y ∷ zs) (same_cells xs ys a.1 b.1 (same_tail x y xs ys e a b h)))
           | inr behind ↦ (let e : Some y.1 ≡ None = sym (first_there y ys b) ∙ sym (h y.0)
-            ∙ none_before y.0 (x ∷ xs) (later y.0 x xs behind a) in absurd cc)
+              ∙ none_before y.0 (x ∷ xs) (later y.0 x xs behind a) in absurd cc)
         ]
       ]

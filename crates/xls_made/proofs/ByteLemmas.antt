@@ -1,6 +1,5 @@
 -- The stream of at most 65536 rows is bytes.
-use Rattle.std.proofs.Common.{◌≡◌, ℕ, zero, suc, ◌+◌, ◌*◌, ◌%◌, ◌<◌, ◌≤◌, List, [], ◌∷◌, ◌++◌, length, refl, lit<, arith, rules}
-use Rattle.std.specs.Prelude.{slice_index}
+use Rattle.std.proofs.Common.{ℕ, zero, suc, ◌+◌, ◌*◌, ◌%◌, ◌<◌, ◌≤◌, List, [], ◌∷◌, ◌++◌, length, lit<, arith, rules}
 use Rattle.std.specs.List.{flat_map, range_with_len, AllByRecursion}
 use Rattle.xls_bytes.specs.Numbers.{le16}
 use Rattle.xls_model.specs.Stream.{enc}

@@ -1,12 +1,12 @@
 -- The stream carries its list.
-use Rattle.std.proofs.Common.{◌≡◌, ◌≢◌, ℕ, ◌≤◌, List, [], ◌∷◌, ◌++◌, length, drop, refl, sym, ap, subst, ◌∙◌, lit<, lit≤, arith, inl, None, Some, Ok}
-use Rattle.std.specs.List.{flat_map, filter, range_with_len}
+use Rattle.std.proofs.Common.{ℕ, ◌≤◌, List, [], ◌∷◌, ◌++◌, length, drop, refl, sym, subst, lit<, lit≤, arith, inl, None}
+use Rattle.std.specs.List.{flat_map, range_with_len}
 use Rattle.xls_model.specs.Stream.{enc, Group, StartsContinue, Run}
 use Rattle.xls_model.specs.Substreams.{own_closed, groups_of, SheetPart, GlobalsPart}
-use Rattle.xls_model.specs.StringTable.{Mark, marked, Table, units_at, tail_at}
+use Rattle.xls_model.specs.StringTable.{marked, Table, units_at, tail_at}
 use Rattle.xls_model.specs.Listing.{IsPart, table_of, plain_item, table_item, sheet_item, Holds, Carries}
 use Rattle.xls_model.specs.declared.types.TheConstants as types
-use Rattle.xls_made.specs.Made.{globals_body, sheet_body, table_body, part_body, made_strings, made_rows, made_part, made_kept, made_stream, made_list, made_row}
+use Rattle.xls_made.specs.Made.{globals_body, sheet_body, table_body, part_body, made_strings, made_part, made_kept, made_stream, made_list, made_row}
 use Rattle.xls_made.proofs.RunLemmas.{bare, no_continue, bare_run, row_groups, rows_run, row_items, rows_plain, groups-rows, kept-rows, rows_kept}
 
 -- ---- the sheet

@@ -1,17 +1,15 @@
 -- What the records of a row give.
-use Rattle.std.proofs.Common.{◌≡◌, ℕ, zero, suc, ◌+◌, ◌*◌, ◌/◌, ◌%◌, ◌<◌, ◌≤◌, Bool, true, false, List, [], ◌∷◌, ◌++◌, map, refl, sym, ap, subst, ◌∙◌, lit<, arith, Option, Some, None, Ok}
+use Rattle.std.proofs.Common.{◌≡◌, ℕ, zero, suc, ◌+◌, ◌*◌, ◌/◌, ◌%◌, ◌<◌, true, false, [], ◌∷◌, refl, arith, Some, None, Ok}
 use Rattle.std.specs.Prelude.{pos, slice_get, nat_lt, codes, ◌==◌, if◌then◌else◌}
-use Rattle.std.specs.List.{flat_map, range_with_len, AllByRecursion}
-use Rattle.xls_bytes.specs.Numbers.{le, le16, twos_complement}
+use Rattle.xls_bytes.specs.Numbers.{le, le16}
 use Rattle.xls_model.specs.Listing.{Kept}
 use Rattle.xls_model.specs.declared.types.TheConstants as types
-use Rattle.xls_data.specs.Content.{Content, int, text}
+use Rattle.xls_data.specs.Content.{int, text}
 use Rattle.xls_cells.specs.Positions.{Position}
 use Rattle.xls_biff.specs.Cells.{Entry, rk_content}
-use Rattle.xls_biff.specs.Cells as cells
 use Rattle.xls_book.specs.InForce.{Setting}
 use Rattle.xls_book.specs.SheetTable.{Given, given_at}
-use Rattle.xls_made.specs.Made.{le32, made_word, made_strings, cell_body, int_body, word_body}
+use Rattle.xls_made.specs.Made.{le32, made_word, made_strings, int_body, word_body}
 
 -- one cell
 abbrev pub one_cell : Entry → Given

@@ -10,3 +10,4 @@ pub mod CornerLemmas
 pub mod SumLemmas
 pub mod RangeLemmas
 pub mod SoundLemmas
+pub mod BuildLemmas

@@ -1,8 +1,8 @@
 -- The range of the cells that were made.
-use Rattle.std.proofs.Common.{◌≡◌, ◌≢◌, ℕ, zero, suc, ◌+◌, ◌-◌, ◌*◌, ◌/◌, ◌%◌, ◌<◌, ◌≤◌, Bool, true, false, List, [], ◌∷◌, map, length, refl, sym, ap, subst, ◌∙◌, arith, inl, inr, Option, Some, None}
-use Rattle.std.specs.Prelude.{pos, codes, slice_get, ◌==◌, ◌&&◌, if◌then◌else◌, MatchOption}
+use Rattle.std.proofs.Common.{◌≡◌, ℕ, zero, suc, ◌+◌, ◌*◌, ◌/◌, ◌%◌, ◌<◌, ◌≤◌, Bool, true, false, List, [], ◌∷◌, map, length, refl, sym, ap, subst, ◌∙◌, arith, inl, inr, Option, Some, None}
+use Rattle.std.specs.Prelude.{pos, codes, slice_get, ◌==◌, ◌&&◌, if◌then◌else◌}
 use Rattle.std.specs.Option.{option_or, option_map}
-use Rattle.std.specs.List.{flat_map, range_with_len}
+use Rattle.std.specs.List.{flat_map, range_with_len, AllByRecursion}
 use Rattle.std.proofs.lemmas.Bool.{cases_eq}
 use Rattle.std.proofs.lemmas.List.{length-map}
 use Rattle.xls_data.specs.Content.{Content, int, text}
@@ -22,11 +22,11 @@ use Rattle.xls_book.specs.Reading.{SheetView, Workbook}
 use Rattle.xls_book.specs.Opening.{default_options, IsOpened}
 use Rattle.xls_book.specs.LookUps.{IsBox, IsRange}
 use Rattle.xls_book.specs.declared.options.XlsOptions.{XlsOptions}
-use Rattle.xls_made.specs.Made.{made_word, row_cells, made_cells, made_view, made_stream, IsMade, made_contents, used_in, contents_in, sum_of_ints, IsMadeRange}
+use Rattle.xls_made.specs.Made.{made_word, row_cells, made_cells, made_view, made_stream, made_contents, used_in, sum_of_ints, IsNatural, IsMadeRange}
 use Rattle.xls_made.proofs.AscendingLemmas.{none_before}
 use Rattle.xls_made.proofs.ReadLemmas.{rows_after, opens}
 use Rattle.xls_made.proofs.CornerLemmas.{corners}
-use Rattle.xls_made.proofs.SumLemmas.{contents_from, contents_length, made_sum, used_contents}
+use Rattle.xls_made.proofs.SumLemmas.{contents_from, contents_length, all_natural, made_sum, used_contents}
 
 -- ---- the value at each position
 
@@ -53,12 +53,12 @@ last_there a zero i column low high h = absurd (omega arith)
 last_there a (suc n) i column low high h =
     elim (cases_eq i a) [
       | inl e ↦ (
-        subst (λ (k : ℕ). last_at (from a (suc n)) (k, column) ≡ Some (value_in k column)) (sym e)
-        (first_row a column (from (a + 1) n) h (none_before (a, column) (from (a + 1) n) (rows_after a column (a + 1) n (omega arith)))))
+          subst (λ (k : ℕ). last_at (from a (suc n)) (k, column) ≡ Some (value_in k column)) (sym e)
+          (first_row a column (from (a + 1) n) h (none_before (a, column) (from (a + 1) n) (rows_after a column (a + 1) n (omega arith)))))
       | inr other ↦ (
-        let rest : last_at (from (a + 1) n) (i, column) ≡ Some (value_in i column) =
-        last_there (a + 1) n i column (omega arith) (omega arith) h in
-        rw rest refl)
+          let rest : last_at (from (a + 1) n) (i, column) ≡ Some (value_in i column) =
+          last_there (a + 1) n i column (omega arith) (omega arith) h in
+          rw rest refl)
     ]
 
 -- ---- by contents
@@ -167,6 +167,7 @@ made_box m g is box =
       height = height;
       width = width;
       contents = used;
+      naturals = subst (λ (cs : List Content). AllByRecursion IsNatural cs) (sym used) (all_natural 0 (suc m));
       count = sym (length-map (used_in is_nothing g) (λ (c : ℕ × ℕ × Data). content_of c.2))
           ∙ ap length used ∙ contents_length 0 (suc m);
       sum = ap sum_of_ints used ∙ made_sum (suc m);

@@ -1,5 +1,5 @@
 -- What the list says of a workbook.
-use Rattle.std.proofs.Common.{◌≡◌, ℕ, zero, suc, ◌+◌, ◌<◌, ◌≤◌, List, [], ◌∷◌, ◌++◌, map, refl, sym, ap, subst, ◌∙◌, false, Some, Result, Ok, lit<, arith, inl, inr}
+use Rattle.std.proofs.Common.{◌≡◌, ℕ, zero, suc, ◌+◌, ◌<◌, ◌≤◌, List, [], ◌∷◌, ◌++◌, map, refl, ap, ◌∙◌, false, Result, lit<, arith, inl, inr}
 use Rattle.std.specs.Prelude.{codes, pos}
 use Rattle.std.specs.Char.Utf16.{utf16_chars}
 use Rattle.std.specs.List.{flat_map, range_with_len, AllByRecursion, AllZip}
@@ -11,11 +11,11 @@ use Rattle.xls_range.specs.Sparse.{last_at, Precedes, IsAscending}
 use Rattle.xls_biff.specs.Cells.{Entry}
 use Rattle.xls_biff.specs.declared.error.XlsError.{XlsError}
 use Rattle.xls_book.specs.Order.{along}
-use Rattle.xls_book.specs.InForce.{SheetRecords, sheets_of, Setting, setting_of, classes_in, texts_in, is_1904_in}
+use Rattle.xls_book.specs.InForce.{sheets_of, Setting, setting_of, classes_in, texts_in, is_1904_in}
 use Rattle.xls_book.specs.SheetTable.{FormulaEntry, Given, given_in, last_formula}
 use Rattle.xls_book.specs.Reading.{SheetView, Workbook, IsReading, IsContent, IsShown, given_by, gifts_of, values_of, formulas_of, merges_of}
 use Rattle.xls_book.specs.Opening.{default_options, IsOpened}
-use Rattle.xls_book.specs.Steps.{view_named, paired}
+use Rattle.xls_book.specs.Steps.{paired}
 use Rattle.xls_book.specs.Reading.{last_named}
 use Rattle.xls_made.specs.Made.{made_word, made_stream, made_list, kept_row, made_kept, made_strings, row_cells, made_cells, made_head, made_view, IsMade}
 use Rattle.xls_made.proofs.CarryLemmas.{carries}

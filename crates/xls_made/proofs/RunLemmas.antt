@@ -1,5 +1,5 @@
 -- The stream as a run of records, none of which has a Continue.
-use Rattle.std.proofs.Common.{◌≡◌, ◌≢◌, ℕ, ◌^◌, ◌<◌, List, [], ◌∷◌, ◌++◌, length, take, refl, sym, ap, subst, ◌∙◌, lit<, arith}
+use Rattle.std.proofs.Common.{◌≡◌, ◌≢◌, ℕ, ◌^◌, ◌<◌, List, [], ◌∷◌, ◌++◌, take, refl, sym, ap, lit<, arith}
 use Rattle.std.specs.List.{flat_map, filter}
 use Rattle.std.proofs.lemmas.List.{append-nil}
 use Rattle.xls_model.specs.Stream.{enc, Group, IsBody, StartsContinue, Begins, Run}

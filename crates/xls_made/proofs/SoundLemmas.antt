@@ -1,5 +1,5 @@
 -- No place of the stream has a fault.
-use Rattle.std.proofs.Common.{◌≡◌, ℕ, zero, suc, ◌+◌, ◌*◌, ◌<◌, ◌≤◌, false, List, [], ◌∷◌, ◌++◌, length, refl, ap, ◌∙◌, arith, Option, Some, None, Result, Ok}
+use Rattle.std.proofs.Common.{◌≡◌, ℕ, ◌+◌, ◌*◌, ◌≤◌, false, List, [], ◌∷◌, ◌++◌, length, refl, ap, ◌∙◌, arith, Option, None, Result, Ok}
 use Rattle.std.specs.Prelude.{pos, nat_lt}
 use Rattle.std.specs.Option.{option_or}
 use Rattle.std.specs.List.{flat_map, range_with_len, AllByRecursion}
@@ -15,7 +15,7 @@ use Rattle.xls_book.specs.SheetTable.{Given, given_in, last_formula}
 use Rattle.xls_book.specs.Faults.{weight_in, weight_fault, kept_fault, IsFull, IsSound}
 use Rattle.xls_book.specs.Opening.{default_options}
 use Rattle.xls_book.proofs.LawLemmas.{sound_where_full}
-use Rattle.xls_made.specs.Made.{made_word, kept_row, made_kept, made_list, made_stream}
+use Rattle.xls_made.specs.Made.{made_word, kept_row, made_list, made_stream}
 use Rattle.xls_made.proofs.ByteLemmas.{are_bytes}
 use Rattle.xls_made.proofs.LengthLemmas.{made_length}
 use Rattle.xls_made.proofs.CarryLemmas.{carries}

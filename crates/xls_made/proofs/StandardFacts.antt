@@ -2,7 +2,7 @@
 use Rattle.std.proofs.Common.{◌≡◌, [], ◌∷◌, ◌++◌, length, refl}
 use Rattle.std.specs.Prelude.{codes, pos}
 use Rattle.xls_data.specs.Content.{int, text}
-use Rattle.xls_made.specs.Made.{made_word, made_globals, made_row, made_part, made_stream, made_cells, made_contents, sum_of_ints}
+use Rattle.xls_made.specs.Made.{made_word, made_globals, made_row, made_stream, made_cells, made_contents, sum_of_ints}
 
 -- 52 bytes stand before the sheet's part
 pub globals_length : length made_globals ≡ 52

@@ -1,14 +1,15 @@
 -- The contents that were made: their number, their sum, and that none is blank.
-use Rattle.std.proofs.Common.{◌≡◌, ℕ, zero, suc, ◌+◌, ◌-◌, ◌*◌, ◌/◌, ◌<◌, ◌≤◌, Bool, true, false, List, [], ◌∷◌, map, length, refl, sym, ap, subst, ◌∙◌, arith}
-use Rattle.std.specs.Prelude.{ℤ, pos, ◌+ℤ◌}
+use Rattle.std.proofs.Common.{◌≡◌, ℕ, zero, suc, ◌+◌, ◌-◌, ◌*◌, ◌/◌, false, List, [], ◌∷◌, ◌++◌, map, length, refl, sym, ap, subst, ◌∙◌, arith}
+use Rattle.std.proofs.lemmas.Int.{ints}
+use Rattle.std.specs.Prelude.{ℤ, pos, ◌+ℤ◌, ◌≤ℤ◌}
 use Rattle.std.specs.List.{flat_map, range_with_len, AllByRecursion}
-use Rattle.xls_data.specs.Content.{Content, int, text, nothing}
+use Rattle.xls_data.specs.Content.{Content, nothing}
 use Rattle.xls_data.specs.Data.{content_of, is_nothing}
 use Rattle.xls_data.specs.declared.values.Data.{Data}
 use Rattle.xls_data.specs.declared.values.Data.TheVariants as variant
 use Rattle.xls_range.specs.Lists.{cells_from, used}
 use Rattle.xls_biff.specs.Cells.{Entry}
-use Rattle.xls_made.specs.Made.{row_cells, made_contents, sum_of_ints}
+use Rattle.xls_made.specs.Made.{row_cells, made_contents, int_of, sum_of_ints, IsNatural}
 
 -- the contents of rows from one on
 abbrev pub contents_from : ℕ → ℕ → List Content
@@ -50,6 +51,39 @@ half (suc n) t h =
 
 pub made_sum : (n : ℕ) → sum_of_ints (made_contents n) ≡ pos (n * (n - 1) / 2)
 made_sum n = sum_total 0 n ∙ ap (λ (t : ℕ). pos t) (sym (half n (total 0 n) (omega (arith, twice 0 n))))
+
+-- ---- steps of a sum
+
+zero_left : (z : ℤ) → pos 0 +ℤ z ≡ z
+zero_left z = omega (arith, ints)
+
+zero_right : (z : ℤ) → z +ℤ pos 0 ≡ z
+zero_right z = omega (arith, ints)
+
+grouped : (x y z : ℤ) → x +ℤ (y +ℤ z) ≡ (x +ℤ y) +ℤ z
+grouped x y z = omega (arith, ints)
+
+-- one content more
+pub sum_more : (cs : List Content) (c : Content)
+    → sum_of_ints (cs ++ c ∷ []) ≡ sum_of_ints cs +ℤ int_of c
+sum_more [] c = zero_right (int_of c) ∙ sym (zero_left (int_of c))
+sum_more (d ∷ cs) c =
+    ap (λ (s : ℤ). int_of d +ℤ s) (sum_more cs c) ∙ grouped (int_of d) (sum_of_ints cs) (int_of c)
+
+natural : (n : ℕ) → pos 0 ≤ℤ pos n
+natural n = omega (arith, ints)
+
+both_natural : (x y : ℤ) → pos 0 ≤ℤ x → pos 0 ≤ℤ y → pos 0 ≤ℤ (x +ℤ y)
+both_natural x y h k = omega (arith, ints)
+
+-- a sum without a negative number isn't negative
+pub sum_natural : (cs : List Content) → AllByRecursion IsNatural cs → pos 0 ≤ℤ sum_of_ints cs
+sum_natural [] h = natural 0
+sum_natural (c ∷ cs) h = both_natural (int_of c) (sum_of_ints cs) h.0 (sum_natural cs h.1)
+
+pub all_natural : (a n : ℕ) → AllByRecursion IsNatural (contents_from a n)
+all_natural a zero = tt
+all_natural a (suc n) = (natural a, (natural 0, all_natural (a + 1) n))
 
 -- ---- none is blank
 

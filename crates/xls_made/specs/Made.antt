@@ -1,7 +1,7 @@
 -- A workbook stream of so many rows, with a whole number and a word in each: its bytes, the logical
 -- list that they carry, and the cells of its sheet.
-use Rattle.std.specs.Prelude.{◌≡◌, ℕ, ℤ, pos, ◌+ℤ◌, ◌+◌, ◌-◌, ◌*◌, ◌/◌, ◌%◌, List, [], ◌∷◌, ◌++◌, length, map, codes, ◌==◌, if◌then◌else◌, Some}
-use Rattle.std.specs.List.{flat_map, range_with_len}
+use Rattle.std.specs.Prelude.{◌≡◌, ℕ, ℤ, pos, ◌+ℤ◌, ◌≤ℤ◌, ◌+◌, ◌-◌, ◌*◌, ◌/◌, ◌%◌, List, [], ◌∷◌, ◌++◌, length, map, codes, ◌==◌, if◌then◌else◌, Some}
+use Rattle.std.specs.List.{flat_map, range_with_len, AllByRecursion}
 use Rattle.xls_bytes.specs.Numbers.{le16}
 use Rattle.xls_model.specs.Stream.{enc}
 use Rattle.xls_model.specs.Listing.{Kept, plain_entry, table_entry, sheet_entry}
@@ -169,13 +169,18 @@ abbrev pub sum_of_ints : List Content → ℤ
 sum_of_ints [] = pos 0
 sum_of_ints (c ∷ cs) = int_of c +ℤ sum_of_ints cs
 
+-- a content that is no negative whole number
+abbrev pub IsNatural : Content → Type 0
+IsNatural c = pos 0 ≤ℤ int_of c
+
 -- the range has a row for each number and two columns, from the first position on; its used cells are
--- those that were made, two for each row, and the whole numbers from 0 on have their sum
+-- those that were made, two for each row; none is negative, and the whole numbers have their sum
 pub record IsMadeRange (blank : Blank) (n : ℕ) (range : Grid Data) : Type 0 where
   pub top : range.top ≡ 0
   pub left : range.left ≡ 0
   pub height : range.height ≡ n
   pub width : range.width ≡ 2
   pub contents : contents_in blank range ≡ made_contents n
+  pub naturals : AllByRecursion IsNatural (contents_in blank range)
   pub count : length (used_in blank range) ≡ 2 * n
   pub sum : sum_of_ints (contents_in blank range) ≡ pos (n * (n - 1) / 2)
