@@ -1,0 +1,68 @@
+-- What the records of a row give.
+use Rattle.std.proofs.Common.{◌≡◌, ℕ, zero, suc, ◌+◌, ◌*◌, ◌/◌, ◌%◌, ◌<◌, true, false, [], ◌∷◌, refl, arith, Some, None, Ok}
+use Rattle.std.specs.Prelude.{pos, slice_get, nat_lt, codes, ◌==◌, if◌then◌else◌}
+use Rattle.xls_bytes.specs.Numbers.{le, le16}
+use Rattle.xls_model.specs.Listing.{Kept}
+use Rattle.xls_model.specs.declared.types.TheConstants as types
+use Rattle.xls_data.specs.Content.{int, text}
+use Rattle.xls_cells.specs.Positions.{Position}
+use Rattle.xls_biff.specs.Cells.{Entry, rk_content}
+use Rattle.xls_book.specs.InForce.{Setting}
+use Rattle.xls_book.specs.SheetTable.{Given, given_at}
+use Rattle.xls_made.specs.Made.{le32, made_word, made_strings, int_body, word_body}
+
+-- one cell
+abbrev pub one_cell : Entry → Given
+one_cell c = record { cells = c ∷ []; regions = []; formulas = [] }
+
+number_16 : (n : ℕ) → le (le16 n) ≡ n
+number_16 n = omega arith
+
+number_32 : (n : ℕ) → le (le32 n) ≡ n
+number_32 n = omega arith
+
+-- the RK number of a row is a whole number
+rk_int : (rk n : ℕ) → rk / 2 % 2 ≡ 1 → rk % 2 ≡ 0 → rk / 4 ≡ n → nat_lt n 536870912 ≡ true
+    → rk_content None rk false ≡ int (pos n)
+unfolding rk_content
+rk_int rk n whole plain value small = rw (whole, plain, value, small) refl
+
+below_test : (n m : ℕ) → n < m → nat_lt n m ≡ true
+below_test n m h = grind arith
+
+rk_row : (i : ℕ) → i < 65536 → rk_content None (4 * i + 2) false ≡ int (pos i)
+rk_row i h =
+    rk_int (4 * i + 2) i (omega arith) (omega arith) (omega arith) (below_test i 536870912 (omega arith))
+
+abbrev pub int_kept : ℕ → Kept
+int_kept i = record { typ = types.RK; body = int_body i }
+
+abbrev pub word_kept : ℕ → Kept
+word_kept i = record { typ = types.LABEL_SST; body = word_body i }
+
+pub int_given : (s : Setting) (p : Position) (i : ℕ) → i < 65536 → s.force.classes ≡ []
+    → s.force.is_1904 ≡ false → given_at s p (int_kept i) ≡ Ok (one_cell ((i, 0), int (pos i)))
+int_given s p i h c e =
+    let row : i % 256 + 256 * (i / 256 + 0) ≡ i = omega arith in
+    let number : le (le32 (4 * i + 2)) ≡ 4 * i + 2 = number_32 (4 * i + 2) in
+    let content : rk_content None (4 * i + 2) false ≡ int (pos i) = rk_row i h in
+    rw (c, e, row, number, content) refl
+
+-- the string of a row's index is its word
+word_by : (m : ℕ) → m < 3
+    → slice_get made_strings m ≡ Some (if m == 0 then codes "a" else if m == 1 then codes "bb" else codes "ccc")
+word_by zero h = refl
+word_by (suc zero) h = refl
+word_by (suc (suc zero)) h = refl
+word_by (suc (suc (suc m))) h = absurd (omega arith)
+
+word_at : (i : ℕ) → slice_get made_strings (i % 3) ≡ Some (made_word i)
+word_at i = word_by (i % 3) (omega arith)
+
+pub word_given : (s : Setting) (p : Position) (i : ℕ) → s.force.strings ≡ made_strings
+    → given_at s p (word_kept i) ≡ Ok (one_cell ((i, 1), text (made_word i)))
+word_given s p i e =
+    let row : i % 256 + 256 * (i / 256 + 0) ≡ i = omega arith in
+    let index : le (le32 (i % 3)) ≡ i % 3 = number_32 (i % 3) in
+    let word : slice_get made_strings (i % 3) ≡ Some (made_word i) = word_at i in
+    rw (e, index, word, row) refl

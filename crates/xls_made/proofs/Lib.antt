@@ -1,0 +1,13 @@
+pub mod RunLemmas
+pub mod CarryLemmas
+pub mod ByteLemmas
+pub mod LengthLemmas
+pub mod AscendingLemmas
+pub mod GivenLemmas
+pub mod ReadLemmas
+pub mod StandardFacts
+pub mod CornerLemmas
+pub mod SumLemmas
+pub mod RangeLemmas
+pub mod SoundLemmas
+pub mod BuildLemmas
