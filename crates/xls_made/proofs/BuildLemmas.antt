@@ -42,6 +42,7 @@ made_front = made_globals ++ enc types.BOF part_body
 
 -- the front, the rows and an EOF record
 pub stream_parts : (n : ℕ) → made_stream n ≡ made_front ++ (made_rows n ++ enc types.EOF [])
+unfolding made_stream
 stream_parts n = refl
 
 -- numbers as std writes them

@@ -66,6 +66,7 @@ bytes_globals =
     (bytes_record types.EOF [] (lit< tt) (lit< tt) tt)))
 
 pub are_bytes : (n : ℕ) → n ≤ 65536 → IsBytes (made_stream n)
+unfolding made_stream
 are_bytes n h = each_byte (made_stream n) (both_bytes made_globals (made_part n) bytes_globals
     (both_bytes (enc types.BOF part_body) (made_rows n ++ enc types.EOF []) (bytes_record types.BOF part_body (lit< tt) (lit< tt) (lit< tt, (lit< tt, (lit< tt, (lit< tt, tt)))))
     (both_bytes (made_rows n) (enc types.EOF []) (bytes_rows 0 n (omega arith)) (bytes_record types.EOF [] (lit< tt) (lit< tt) tt))))

@@ -54,6 +54,7 @@ abbrev made_groups : List Group
 made_groups = bare types.BOF globals_body ∷ bare types.BOUND_SHEET_8 sheet_body ∷ bare types.SST table_body ∷ []
 
 globals_run : (n : ℕ) → Run (made_stream n) (made_groups ++ bare types.EOF [] ∷ []) (made_part n)
+unfolding made_stream
 globals_run n =
     let eof = bare_run types.EOF [] (made_part n) [] (made_part n) (lit< tt) (lit< tt) (no_continue 9 _ (λ e. omega arith)) refl in
     let table = bare_run types.SST table_body (enc types.EOF [] ++ made_part n) (bare types.EOF [] ∷ []) (made_part n) (lit< tt) (lit< tt) (no_continue 10 _ (λ e. omega arith)) eof in
@@ -68,9 +69,11 @@ globals n = record {
 }
 
 reaches : (n : ℕ) → 52 ≤ length (made_stream n)
+unfolding made_stream
 reaches n = omega arith
 
 holds : (n : ℕ) → Holds (made_stream n) (plain_item types.BOF globals_body ∷ sheet_item sheet_body (made_kept n) None ∷ table_item table_body (table_of made_strings) ∷ []) None
+unfolding made_stream
 holds n = record {
   groups = made_groups;
   globals = globals n;
@@ -78,6 +81,7 @@ holds n = record {
 }
 
 pub carries : (n : ℕ) → Carries (made_stream n) (made_list n)
+unfolding made_stream
 carries n = record {
   items = plain_item types.BOF globals_body ∷ sheet_item sheet_body (made_kept n) None ∷ table_item table_body (table_of made_strings) ∷ [];
   holds = holds n;

@@ -11,4 +11,5 @@ rows_length a zero = omega arith
 rows_length a (suc n) = omega (arith, rows_length (a + 1) n)
 
 pub made_length : (n : ℕ) → length (made_stream n) ≡ 28 * n + 64
+unfolding made_stream
 made_length n = omega (arith, rows_length 0 n, length-append (made_rows n) (enc types.EOF []))
