@@ -1,6 +1,7 @@
 -- The contents that were made: their number, their sum, and that none is blank.
-use Rattle.std.proofs.Common.{◌≡◌, ℕ, zero, suc, ◌+◌, ◌-◌, ◌*◌, ◌/◌, false, List, [], ◌∷◌, ◌++◌, map, length, refl, sym, ap, subst, ◌∙◌, arith}
+use Rattle.std.proofs.Common.{◌≡◌, ◌≤◌, ℕ, zero, suc, ◌+◌, ◌-◌, ◌*◌, ◌/◌, false, List, [], ◌∷◌, ◌++◌, map, length, refl, sym, ap, subst, ◌∙◌, arith}
 use Rattle.std.proofs.lemmas.Int.{ints}
+use Rattle.std.proofs.Math.Nat.{mul-le-mul}
 use Rattle.std.specs.Prelude.{ℤ, pos, ◌+ℤ◌, ◌≤ℤ◌}
 use Rattle.std.specs.List.{flat_map, range_with_len, AllByRecursion}
 use Rattle.xls_data.specs.Content.{Content, nothing}
@@ -51,6 +52,13 @@ half (suc n) t h =
 
 pub made_sum : (n : ℕ) → sum_of_ints (made_contents n) ≡ pos (n * (n - 1) / 2)
 made_sum n = sum_total 0 n ∙ ap (λ (t : ℕ). pos t) (sym (half n (total 0 n) (omega (arith, twice 0 n))))
+
+product_small : (a b : ℕ) → a ≤ 65536 → b ≤ 65536 → a * b ≤ 4294967296
+product_small a b h k = omega (arith, mul-le-mul h k)
+
+-- the sum fits 32 bits
+pub sum_small : (n : ℕ) → n ≤ 65536 → n * (n - 1) / 2 ≤ 2147483648
+sum_small n h = let product = product_small n (n - 1) h (omega arith) in omega arith
 
 -- ---- steps of a sum
 
