@@ -23,6 +23,7 @@ range_more a (suc n) =
     next : (a n : ℕ) → a + 1 + n ≡ a + suc n
     next a n = omega arith
 
+-- the rows of the numbers before and the row of the last one
 rows_append : (is : List ℕ) (i : ℕ) → flat_map made_row (is ++ i ∷ []) ≡ flat_map made_row is ++ made_row i
 rows_append [] i = append-nil (made_row i)
 rows_append (j ∷ is) i = ap (λ (x : List ℕ). made_row j ++ x) (rows_append is i)
@@ -51,6 +52,7 @@ le16-to_le_bytes n h =
     let high : n / 256 % 256 ≡ n / 256 = omega arith in
     ap (λ (b : ℕ). n % 256 ∷ b ∷ []) high
 
+-- likewise of 32 bits
 pub le32-to_le_bytes : (n : ℕ) → n < 4294967296 → to_le_bytes w32 n ≡ le32 n
 le32-to_le_bytes n h =
     let high : n / 16777216 % 256 ≡ n / 16777216 = omega arith in
