@@ -5,6 +5,7 @@ use Rattle.std.specs.Option.{option_or}
 use Rattle.std.specs.List.{AllByRecursion}
 use Rattle.xls_range.specs.Sparse.{last_at, Precedes, IsAscending}
 
+-- a row and a column
 abbrev Position : Type 0
 Position = ℕ × ℕ
 
@@ -13,26 +14,33 @@ abbrev Compared : ℕ → ℕ → ℕ → ℕ → Type 0
 Compared a b c d =
     ((a < c) ⊎ ((a ≡ c) × (b < d))) ⊎ (((a ≡ c) × (b ≡ d)) ⊎ ((c < a) ⊎ ((c ≡ a) × (d < b))))
 
+-- any two positions compare so
 compared : (a b c d : ℕ) → Compared a b c d
 compared a b c d = grind arith
 
+-- of two positions in order the test for equal ones is false
 apart : (a b c d : ℕ) → (a < c) ⊎ ((a ≡ c) × (b < d)) → (c == a && d == b) ≡ false
 apart a b c d h = grind arith
 
+-- a position passes the test with itself
 same : (a b : ℕ) → (a == a && b == b) ≡ true
 same a b = grind arith
 
+-- positions that pass the test are equal
 both : (a b c d : ℕ) → (a == c && b == d) ≡ true → (a ≡ c) × (b ≡ d)
 both a b c d h = grind arith
 
+-- equal rows and columns make equal positions
 same_pair : (a b c d : ℕ) → a ≡ c → b ≡ d → ◌≡◌ {A = Position} (a, b) (c, d)
 same_pair a b c d e f = ap (λ (x : ℕ). (x, b)) e ∙ ap (λ (x : ℕ). (c, x)) f
 
+-- nothing after a value leaves the value
 or_none : {X : Type 0} (o : Option X) → option_or o None ≡ o
 or_none None = refl
 or_none (Some x) = refl
 
 module _ {T : Type 0} where
+  -- where a cell stands
   abbrev at : Position × T → Position
   at x = x.0
 
@@ -67,6 +75,7 @@ module _ {T : Type 0} where
               → (a < e) ⊎ ((a ≡ e) × (b < f))
           through a b c d e f h k = grind arith
 
+  -- both have the same value at each position
   abbrev Same : List (Position × T) → List (Position × T) → Type 0
   Same xs ys = (p : Position) → last_at xs p ≡ last_at ys p
 
@@ -89,6 +98,7 @@ module _ {T : Type 0} where
           let right : last_at (y ∷ ys) p ≡ last_at ys p = rw u (or_none (last_at ys p)) in
           sym left ∙ h p ∙ right
 
+  -- so they are one list
   pub same_cells : (xs ys : List (Position × T)) → IsAscending (map at xs) → IsAscending (map at ys)
       → Same xs ys → xs ≡ ys
   same_cells [] [] a b h = refl

@@ -23,6 +23,7 @@ range_more a (suc n) =
     next : (a n : ℕ) → a + 1 + n ≡ a + suc n
     next a n = omega arith
 
+-- the rows of the numbers before and the row of the last one
 rows_append : (is : List ℕ) (i : ℕ) → flat_map made_row (is ++ i ∷ []) ≡ flat_map made_row is ++ made_row i
 rows_append [] i = append-nil (made_row i)
 rows_append (j ∷ is) i = ap (λ (x : List ℕ). made_row j ++ x) (rows_append is i)
@@ -42,6 +43,7 @@ made_front = made_globals ++ enc types.BOF part_body
 
 -- the front, the rows and an EOF record
 pub stream_parts : (n : ℕ) → made_stream n ≡ made_front ++ (made_rows n ++ enc types.EOF [])
+unfolding made_stream
 stream_parts n = refl
 
 -- numbers as std writes them
@@ -50,6 +52,7 @@ le16-to_le_bytes n h =
     let high : n / 256 % 256 ≡ n / 256 = omega arith in
     ap (λ (b : ℕ). n % 256 ∷ b ∷ []) high
 
+-- likewise of 32 bits
 pub le32-to_le_bytes : (n : ℕ) → n < 4294967296 → to_le_bytes w32 n ≡ le32 n
 le32-to_le_bytes n h =
     let high : n / 16777216 % 256 ≡ n / 16777216 = omega arith in

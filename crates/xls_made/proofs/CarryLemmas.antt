@@ -11,12 +11,15 @@ use Rattle.xls_made.proofs.RunLemmas.{bare, no_continue, bare_run, row_groups, r
 
 -- ---- the sheet
 
+-- an EOF record at the end
 eof_run : Run (enc types.EOF []) (bare types.EOF [] ∷ []) []
 eof_run = bare_run types.EOF [] [] [] [] (lit< tt) (lit< tt) (λ s. let r = s.room in omega arith) refl
 
+-- the rows and the EOF record
 rows_behind : (is : List ℕ) → Run (flat_map made_row is ++ enc types.EOF []) (flat_map row_groups is ++ bare types.EOF [] ∷ []) []
 rows_behind is = rows_run is (enc types.EOF []) (bare types.EOF [] ∷ []) [] (no_continue 10 _ (λ e. omega arith)) eof_run
 
+-- the BOF record, the rows and the EOF record
 part_run : (is : List ℕ)
     → Run (enc types.BOF part_body ++ (flat_map made_row is ++ enc types.EOF [])) (bare types.BOF part_body ∷ (groups_of (row_items is) ++ bare types.EOF [] ∷ [])) []
 part_run is =
@@ -27,6 +30,7 @@ part_run is =
     ends [] = no_continue 10 _ (λ e. omega arith)
     ends (i ∷ is) = no_continue 126 _ (λ e. omega arith)
 
+-- they are a sheet part, which is closed
 sheet_part : (n : ℕ) → SheetPart (made_part n) (flat_map row_groups (range_with_len 0 n)) None
 sheet_part n =
     let is = range_with_len 0 n in
@@ -39,27 +43,33 @@ sheet_part n =
       ends = refl;
     }
 
+-- with the records of the sheet
 made_is_part : (n : ℕ) → IsPart (made_part n) (made_kept n) None
 made_is_part n = (flat_map row_groups (range_with_len 0 n), sheet_part n, rows_kept (range_with_len 0 n))
 
 -- ---- the string table
 
+-- the three strings are a table
 table : Table (marked (drop 8 table_body) []) made_strings
 unfolding units_at tail_at
 table = (_, refl, (_, refl, (_, refl, refl)))
 
 -- ---- the globals
 
+-- the records before the EOF of the globals
 abbrev made_groups : List Group
 made_groups = bare types.BOF globals_body ∷ bare types.BOUND_SHEET_8 sheet_body ∷ bare types.SST table_body ∷ []
 
+-- the stream begins with them and that EOF, and then the sheet part stands
 globals_run : (n : ℕ) → Run (made_stream n) (made_groups ++ bare types.EOF [] ∷ []) (made_part n)
+unfolding made_stream
 globals_run n =
     let eof = bare_run types.EOF [] (made_part n) [] (made_part n) (lit< tt) (lit< tt) (no_continue 9 _ (λ e. omega arith)) refl in
     let table = bare_run types.SST table_body (enc types.EOF [] ++ made_part n) (bare types.EOF [] ∷ []) (made_part n) (lit< tt) (lit< tt) (no_continue 10 _ (λ e. omega arith)) eof in
     let sheet = bare_run types.BOUND_SHEET_8 sheet_body (enc types.SST table_body ++ (enc types.EOF [] ++ made_part n)) (bare types.SST table_body ∷ bare types.EOF [] ∷ []) (made_part n) (lit< tt) (lit< tt) (no_continue 252 _ (λ e. omega arith)) table in
     bare_run types.BOF globals_body (enc types.BOUND_SHEET_8 sheet_body ++ (enc types.SST table_body ++ (enc types.EOF [] ++ made_part n))) (bare types.BOUND_SHEET_8 sheet_body ∷ bare types.SST table_body ∷ bare types.EOF [] ∷ []) (made_part n) (lit< tt) (lit< tt) (no_continue 133 _ (λ e. omega arith)) sheet
 
+-- so they are the globals
 globals : (n : ℕ) → GlobalsPart (made_stream n) made_groups None
 globals n = record {
   no_eof = (λ e. omega arith, (λ e. omega arith, (λ e. omega arith, tt)));
@@ -67,17 +77,23 @@ globals n = record {
   ends = inl (bare types.EOF [], refl, globals_run n, refl);
 }
 
+-- the sheet's offset is within the stream
 reaches : (n : ℕ) → 52 ≤ length (made_stream n)
+unfolding made_stream
 reaches n = omega arith
 
+-- what the stream holds
 holds : (n : ℕ) → Holds (made_stream n) (plain_item types.BOF globals_body ∷ sheet_item sheet_body (made_kept n) None ∷ table_item table_body (table_of made_strings) ∷ []) None
+unfolding made_stream
 holds n = record {
   groups = made_groups;
   globals = globals n;
   items_are = ((refl, refl, refl), ((refl, refl, inl (reaches n, made_is_part n)), ((refl, refl, (lit≤ tt, table)), tt)));
 }
 
+-- and the list that it carries
 pub carries : (n : ℕ) → Carries (made_stream n) (made_list n)
+unfolding made_stream
 carries n = record {
   items = plain_item types.BOF globals_body ∷ sheet_item sheet_body (made_kept n) None ∷ table_item table_body (table_of made_strings) ∷ [];
   holds = holds n;

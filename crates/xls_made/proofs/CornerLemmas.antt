@@ -16,6 +16,7 @@ Has P [] = ⊥
 Has P (x ∷ xs) = P x ⊎ Has P xs
 
 module _ {X : Type 0} (P : X → Type 0) where
+  -- so some place has it
   some_of : (xs : List X) → Has P xs → Any P xs
   some_of [] h = absurd h
   some_of (x ∷ xs) (inl p) = (0, x, omega arith, refl, p)
@@ -24,15 +25,18 @@ module _ {X : Type 0} (P : X → Type 0) where
       (suc some.0, some.1, omega (arith, some.2), some.3, some.4)
 
 module _ {X Y : Type 0} (f : X → Y) (P : Y → Type 0) where
+  -- what some image has, some element has before it
   has_before : (xs : List X) → Has P (map f xs) → Has (λ x. P (f x)) xs
   has_before [] h = absurd h
   has_before (x ∷ xs) (inl p) = inl p
   has_before (x ∷ xs) (inr h) = inr (has_before xs h)
 
+  -- and what all have
   all_before : (xs : List X) → AllByRecursion P (map f xs) → AllByRecursion (λ x. P (f x)) xs
   all_before [] h = tt
   all_before (x ∷ xs) h = (h.0, all_before xs h.1)
 
+-- the cells of rows from one on
 abbrev from : ℕ → ℕ → List Entry
 from a n = flat_map row_cells (range_with_len a n)
 
@@ -41,14 +45,17 @@ rows_most : (a n m : ℕ) → a + n ≤ suc m → AllByRecursion (λ (c : Entry)
 rows_most a zero m h = tt
 rows_most a (suc n) m h = (omega arith, (omega arith, rows_most (a + 1) n m (omega arith)))
 
+-- each column is at most 1
 columns_most : (a n : ℕ) → AllByRecursion (λ (c : Entry). c.0.1 ≤ 1) (from a n)
 columns_most a zero = tt
 columns_most a (suc n) = (omega arith, (omega arith, columns_most (a + 1) n))
 
+-- no row is less than 0
 rows_least : (a n : ℕ) → AllByRecursion (λ (c : Entry). 0 ≤ c.0.0) (from a n)
 rows_least a zero = tt
 rows_least a (suc n) = (omega arith, (omega arith, rows_least (a + 1) n))
 
+-- and no column
 columns_least : (a n : ℕ) → AllByRecursion (λ (c : Entry). 0 ≤ c.0.1) (from a n)
 columns_least a zero = tt
 columns_least a (suc n) = (omega arith, (omega arith, columns_least (a + 1) n))

@@ -15,9 +15,11 @@ use Rattle.xls_made.specs.Made.{le32, made_word, made_strings, int_body, word_bo
 abbrev pub one_cell : Entry → Given
 one_cell c = record { cells = c ∷ []; regions = []; formulas = [] }
 
+-- a number of 16 bits from its bytes
 number_16 : (n : ℕ) → le (le16 n) ≡ n
 number_16 n = omega arith
 
+-- a number of 32 bits from its bytes
 number_32 : (n : ℕ) → le (le32 n) ≡ n
 number_32 n = omega arith
 
@@ -27,19 +29,24 @@ rk_int : (rk n : ℕ) → rk / 2 % 2 ≡ 1 → rk % 2 ≡ 0 → rk / 4 ≡ n →
 unfolding rk_content
 rk_int rk n whole plain value small = rw (whole, plain, value, small) refl
 
+-- a smaller number passes the test
 below_test : (n m : ℕ) → n < m → nat_lt n m ≡ true
 below_test n m h = grind arith
 
+-- that of a row is the number of the row
 rk_row : (i : ℕ) → i < 65536 → rk_content None (4 * i + 2) false ≡ int (pos i)
 rk_row i h =
     rk_int (4 * i + 2) i (omega arith) (omega arith) (omega arith) (below_test i 536870912 (omega arith))
 
+-- the record of a row's number
 abbrev pub int_kept : ℕ → Kept
 int_kept i = record { typ = types.RK; body = int_body i }
 
+-- the record of a row's word
 abbrev pub word_kept : ℕ → Kept
 word_kept i = record { typ = types.LABEL_SST; body = word_body i }
 
+-- the first record of a row gives its number
 pub int_given : (s : Setting) (p : Position) (i : ℕ) → i < 65536 → s.force.classes ≡ []
     → s.force.is_1904 ≡ false → given_at s p (int_kept i) ≡ Ok (one_cell ((i, 0), int (pos i)))
 int_given s p i h c e =
@@ -56,9 +63,11 @@ word_by (suc zero) h = refl
 word_by (suc (suc zero)) h = refl
 word_by (suc (suc (suc m))) h = absurd (omega arith)
 
+-- the index of a row is that of its word
 word_at : (i : ℕ) → slice_get made_strings (i % 3) ≡ Some (made_word i)
 word_at i = word_by (i % 3) (omega arith)
 
+-- the second record of a row gives its word
 pub word_given : (s : Setting) (p : Position) (i : ℕ) → s.force.strings ≡ made_strings
     → given_at s p (word_kept i) ≡ Ok (one_cell ((i, 1), text (made_word i)))
 word_given s p i e =

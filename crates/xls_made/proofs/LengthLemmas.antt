@@ -6,9 +6,12 @@ use Rattle.xls_model.specs.Stream.{enc}
 use Rattle.xls_model.specs.declared.types.TheConstants as types
 use Rattle.xls_made.specs.Made.{made_row, made_rows, made_stream}
 
+-- 28 bytes for each row
 rows_length : (a n : ℕ) → length (flat_map made_row (range_with_len a n)) ≡ 28 * n
 rows_length a zero = omega arith
 rows_length a (suc n) = omega (arith, rows_length (a + 1) n)
 
+-- and 64 around them
 pub made_length : (n : ℕ) → length (made_stream n) ≡ 28 * n + 64
+unfolding made_stream
 made_length n = omega (arith, rows_length 0 n, length-append (made_rows n) (enc types.EOF []))

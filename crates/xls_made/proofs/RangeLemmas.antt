@@ -30,6 +30,7 @@ use Rattle.xls_made.proofs.SumLemmas.{contents_from, contents_length, all_natura
 
 -- ---- the value at each position
 
+-- the cells of rows from one on
 abbrev from : ℕ → ℕ → List Entry
 from a n = flat_map row_cells (range_with_len a n)
 
@@ -38,15 +39,18 @@ abbrev value_in : ℕ → ℕ → Content
 value_in i zero = int (pos i)
 value_in i (suc column) = text (made_word i)
 
+-- a number passes the test with itself
 here : (a : ℕ) → (a == a) ≡ true
 here a = grind arith
 
+-- the first row has its values in both columns
 first_row : (a column : ℕ) (rest : List Entry) → column < 2 → last_at rest (a, column) ≡ None
     → last_at (((a, 0), int (pos a)) ∷ ((a, 1), text (made_word a)) ∷ rest) (a, column) ≡ Some (value_in a column)
 first_row a zero rest h none = let t : (a == a) ≡ true = here a in rw (none, t) refl
 first_row a (suc zero) rest h none = let t : (a == a) ≡ true = here a in rw (none, t) refl
 first_row a (suc (suc column)) rest h none = absurd (omega arith)
 
+-- so has each row
 last_there : (a n i column : ℕ) → a ≤ i → i < a + n → column < 2
     → last_at (from a n) (i, column) ≡ Some (value_in i column)
 last_there a zero i column low high h = absurd (omega arith)
@@ -63,6 +67,7 @@ last_there a (suc n) i column low high h =
 
 -- ---- by contents
 
+-- the content of the value that is given last
 by_content : (cells : List (Position × Data)) (p : Position)
     → last_at (map cell_content cells) p ≡ option_map content_of (last_at cells p)
 by_content [] p = refl
@@ -107,19 +112,23 @@ each_content (suc n) a (y ∷ z ∷ ys) l h =
         let column : suc (suc k) % 2 ≡ k % 2 = omega arith in
         h (suc (suc k)) x e ∙ ap (λ (r : ℕ). value_in r (suc (suc k) % 2)) row ∙ ap (λ (c : ℕ). value_in (a + 1 + k / 2) c) column
 
+-- a place with an element is below the length
 within : (ys : List Data) (k : ℕ) (y : Data) → slice_get ys k ≡ Some y → k < length ys
 within [] k y e = absurd cc
 within (x ∷ ys) zero y e = omega arith
 within (x ∷ ys) (suc k) y e = omega (arith, within ys k y e)
 
+-- 0 before a number
 zero_front : (n : ℕ) → 0 + n ≡ n
 zero_front n = omega arith
 
+-- a place of so many rows is in one of them
 row_below : (k m : ℕ) → k < suc m * 2 → 0 + k / 2 < 0 + suc m
 row_below k m h = omega arith
 
 -- ---- the range
 
+-- the cells of the range contain what was made
 pub range_contents : (m : ℕ) (cells : List (Position × Data)) (g : Grid Data) → grid.IsRange g
     → map cell_content cells ≡ made_cells (suc m) → g.top ≡ 0 → g.left ≡ 0 → g.height ≡ suc m → g.width ≡ 2
     → grid.Shows data_impl.ghosts.eq is_nothing (λ row column. last_at cells (row, column)) g
@@ -149,6 +158,7 @@ range_contents m cells g is e top left height width shows =
         ∙ last_there 0 (suc m) (0 + k / 2) (k % 2) (omega arith) (row_below k m few) (omega arith) in
         copy_content (last_at cells p) y (value_in (0 + k / 2) (k % 2)) value (shows.shown (0 + k / 2) (k % 2) y at)
 
+-- the box of the cells is the range that was made
 pub made_box : (m : ℕ) (g : Grid Data) → grid.IsRange g
     → IsBox data_impl.ghosts.eq is_nothing (made_cells (suc m)) g → IsMadeRange is_nothing (suc m) g
 made_box m g is box =
@@ -173,12 +183,14 @@ made_box m g is box =
       sum = ap sum_of_ints used ∙ made_sum (suc m);
     }
 
+-- so is the range under no header row
 pub made_range : (n : ℕ) → 1 ≤ n → (g : Grid Data) → grid.IsRange g
     → IsRange data_impl.ghosts.eq is_nothing FirstNonEmptyRow (made_cells n) g → IsMadeRange is_nothing n g
 made_range zero h g is r = absurd (omega arith)
 made_range (suc m) h g is r =
     made_box m g is (subst (IsBox data_impl.ghosts.eq is_nothing (made_cells (suc m))) (sym r.2) r.1)
 
+-- and the range of what an opened workbook shows
 pub made_shows : (n : ℕ) → 1 ≤ n → n ≤ 65536 → (book : Workbook)
     → IsOpened default_options book (made_stream n) → (view : SheetView)
     → view_named book (codes "G") ≡ Some view → (g : Grid Data) → grid.IsRange g

@@ -24,16 +24,20 @@ use Rattle.xls_made.proofs.GivenLemmas.{one_cell, int_kept, word_kept, int_given
 
 -- ---- the globals
 
+-- one sheet, with its records
 sheets : (n : ℕ) → sheets_of default_options (made_list n) ≡ (made_head, made_kept n) ∷ []
 sheets n = refl
 
+-- no class of a format
 classes : (n : ℕ) → classes_in default_options (made_list n) ≡ []
 classes n = refl
 
+-- the texts of the shared strings
 strings : (n : ℕ) → texts_in (made_list n) ≡ made_strings
 unfolding utf16_chars
 strings n = refl
 
+-- the date system of 1900
 epoch : (n : ℕ) → is_1904_in (made_list n) ≡ false
 epoch n = refl
 
@@ -43,9 +47,11 @@ epoch n = refl
 abbrev row_gifts : ℕ → List Given
 row_gifts i = one_cell ((i, 0), int (pos i)) ∷ one_cell ((i, 1), text (made_word i)) ∷ []
 
+-- a number that a row can have
 abbrev pub IsRow : ℕ → Type 0
 IsRow i = i < 65536
 
+-- the numbers of so many rows
 pub rows_below : (a n : ℕ) → a + n ≤ 65536 → AllByRecursion IsRow (range_with_len a n)
 rows_below a zero h = tt
 rows_below a (suc n) h = (omega arith, rows_below (a + 1) n (omega arith))
@@ -56,6 +62,7 @@ pub record IsSet (s : Setting) : Type 0 where
   pub strings : s.force.strings ≡ made_strings
   pub epoch : s.force.is_1904 ≡ false
 
+-- the records of the rows give these, whatever stands before them
 gifts_along : (s : Setting) → IsSet s → (is : List ℕ) (before : List Kept) → AllByRecursion IsRow is
     → map given_by (along (given_in s) before (flat_map kept_row is)) ≡ flat_map row_gifts is
 gifts_along s f [] before h = refl
@@ -67,30 +74,36 @@ gifts_along s f (i ∷ is) before h =
     ∙ ap (λ (r : Result Given XlsError). one_cell ((i, 0), int (pos i)) ∷ given_by r ∷ others) (word_given s (last_formula middle) i f.strings)
     ∙ ap (λ (gs : List Given). one_cell ((i, 0), int (pos i)) ∷ one_cell ((i, 1), text (made_word i)) ∷ gs) (gifts_along s f is after h.1)
 
+-- the cells among the gifts
 rows_cells : (is : List ℕ)
     → flat_map (λ (g : Given). g.cells) (flat_map row_gifts is) ≡ flat_map row_cells is
 rows_cells [] = refl
 rows_cells (i ∷ is) =
     ap (λ (cs : List Entry). ((i, 0), int (pos i)) ∷ ((i, 1), text (made_word i)) ∷ cs) (rows_cells is)
 
+-- no formula
 rows_formulas : (is : List ℕ) → flat_map (λ (g : Given). g.formulas) (flat_map row_gifts is) ≡ []
 rows_formulas [] = refl
 rows_formulas (i ∷ is) = rows_formulas is
 
+-- no merged region
 rows_regions : (is : List ℕ) → flat_map (λ (g : Given). g.regions) (flat_map row_gifts is) ≡ []
 rows_regions [] = refl
 rows_regions (i ∷ is) = rows_regions is
 
 -- ---- the cells are in order
 
+-- where a cell stands
 abbrev at : Entry → ℕ × ℕ
 at c = c.0
 
+-- later rows come after a position
 pub rows_after : (row column a n : ℕ) → row < a
     → AllByRecursion (Precedes (row, column)) (map at (flat_map row_cells (range_with_len a n)))
 rows_after row column a zero h = tt
 rows_after row column a (suc n) h = (inl h, (inl h, rows_after row column (a + 1) n (omega arith)))
 
+-- the rows come in order
 pub rows_ascend : (a n : ℕ) → IsAscending (map at (flat_map row_cells (range_with_len a n)))
 rows_ascend a zero = tt
 rows_ascend a (suc n) = (
@@ -100,9 +113,11 @@ rows_ascend a (suc n) = (
 
 -- ---- the content
 
+-- the setting of the list
 pub is_set : (n : ℕ) → IsSet (setting_of default_options (made_list n))
 is_set n = record { classes = classes n; strings = strings n; epoch = epoch n }
 
+-- views with equal parts are equal
 same_view : (v w : SheetView) → v.cells ≡ w.cells → v.formulas ≡ w.formulas → v.merges ≡ w.merges
     → v ≡ w
 same_view v w c f m =
@@ -111,6 +126,7 @@ same_view v w c f m =
     ap (λ x. made x v.formulas v.merges) c ∙ ap (λ x. made w.cells x v.merges) f
     ∙ ap (λ x. made w.cells w.formulas x) m
 
+-- the content of the sheet is what was made
 content : (n : ℕ) → n ≤ 65536 → (v : SheetView)
     → IsContent (setting_of default_options (made_list n)) (made_kept n) v → v ≡ made_view n
 content n h v c =
@@ -131,6 +147,7 @@ content n h v c =
 
 -- ---- the workbook
 
+-- it is the one content
 contents : (n : ℕ) → n ≤ 65536 → (views : List SheetView)
     → AllZip (IsShown (setting_of default_options (made_list n)) (sheets_of default_options (made_list n))) views (sheets_of default_options (made_list n))
     → views ≡ made_view n ∷ []
@@ -138,6 +155,7 @@ contents n h [] a = absurd a
 contents n h (v ∷ []) a = ap (λ (w : SheetView). w ∷ []) (content n h v a.0)
 contents n h (v ∷ w ∷ views) a = absurd a.1
 
+-- each reading is the workbook that was made
 pub reading : (n : ℕ) → n ≤ 65536 → (book : Workbook) → IsReading default_options (made_list n) book
     → IsMade n book
 reading n h book r =
@@ -151,6 +169,7 @@ reading n h book r =
           ∙ ap (λ (vs : List SheetView). last_named (paired (made_head ∷ []) vs) (codes "G")) views;
     }
 
+-- and each workbook that is opened
 pub opens : (n : ℕ) → n ≤ 65536 → (book : Workbook)
     → IsOpened default_options book (made_stream n) → IsMade n book
 opens n h book o = reading n h book (o.every (made_list n) (carries n))

@@ -42,6 +42,7 @@ bare_run typ body bytes gs rest small fits ended run =
 abbrev pub row_groups : ℕ → List Group
 row_groups i = bare types.RK (int_body i) ∷ bare types.LABEL_SST (word_body i) ∷ []
 
+-- rows start no Continue where what follows starts none
 rows_end : (is tail : List ℕ) → ¬ StartsContinue tail
     → ¬ StartsContinue (flat_map made_row is ++ tail)
 rows_end [] tail ended = ended
@@ -59,25 +60,30 @@ rows_run (i ∷ is) tail gs rest ended run =
 
 -- ---- rows as items of a sheet
 
+-- the records of rows, one after another
 abbrev pub row_items : List ℕ → Items
 row_items [] = none
 row_items (i ∷ is) =
     plain (bare types.RK (int_body i)) (plain (bare types.LABEL_SST (word_body i)) (row_items is))
 
+-- they are plain
 pub rows_plain : (is : List ℕ) → AreItems (row_items is)
 rows_plain [] = tt
 rows_plain (i ∷ is) = ((λ e. omega arith, λ e. omega arith), ((λ e. omega arith, λ e. omega arith), rows_plain is))
 
+-- they are the groups of the rows
 pub groups-rows : (is : List ℕ) → groups_of (row_items is) ≡ flat_map row_groups is
 groups-rows [] = refl
 groups-rows (i ∷ is) =
     ap (λ (x : List Group). bare types.RK (int_body i) ∷ bare types.LABEL_SST (word_body i) ∷ x) (groups-rows is)
 
+-- all of them are kept
 pub kept-rows : (is : List ℕ) → flat_map row_groups is ≡ filter is_sheet_type (outer_of (row_items is))
 kept-rows [] = refl
 kept-rows (i ∷ is) =
     ap (λ (x : List Group). bare types.RK (int_body i) ∷ bare types.LABEL_SST (word_body i) ∷ x) (kept-rows is)
 
+-- with these types and bodies
 pub rows_kept : (is : List ℕ) → flat_map kept_row is ≡ kept_of (flat_map row_groups is)
 rows_kept [] = refl
 rows_kept (i ∷ is) = ap (λ xs. record { typ = types.RK; body = int_body i } ∷ record { typ = types.LABEL_SST; body = word_body i } ∷ xs) (rows_kept is)

@@ -24,14 +24,17 @@ use Rattle.xls_made.proofs.ReadLemmas.{IsRow, IsSet, is_set, rows_below}
 
 -- ---- weights
 
+-- the weight of one record more
 weight_more : (ks : List Kept) (k : Kept)
     → weight_in (ks ++ k ∷ []) ≡ weight_in ks + weight_of k.typ k.body
 weight_more [] k = omega arith
 weight_more (j ∷ ks) k = omega (arith, weight_more ks k)
 
+-- a number that isn't greater fails the test
 not_below : (n m : ℕ) → m ≤ n → nat_lt n m ≡ false
 not_below n m h = grind arith
 
+-- a weight within the limit is no fault
 light : (ks : List Kept) → weight_in ks ≤ 33554432 → weight_fault default_options ks ≡ None
 light ks h = let t : nat_lt 33554432 (weight_in ks) ≡ false = not_below 33554432 (weight_in ks) h in
     rw t refl
@@ -45,6 +48,7 @@ clear s before k g given small =
     ap (λ (r : Result Given XlsError). option_or (fault_of r) (weight_fault default_options (before ++ k ∷ []))) given
     ∙ light (before ++ k ∷ []) small
 
+-- no record of the rows has a fault
 rows_clear : (s : Setting) → IsSet s → (is : List ℕ) (before : List Kept) → AllByRecursion IsRow is
     → weight_in before + 2 * length is ≤ 33554432
     → first_of (along (kept_fault default_options s) before (flat_map kept_row is)) ≡ None
@@ -63,6 +67,7 @@ rows_clear s f (i ∷ is) before h small =
 
 -- ---- the list and the stream
 
+-- no entry and no record of the list has one
 full : (n : ℕ) → n ≤ 65536 → IsFull default_options (made_list n)
 full n h =
     let count = length-range_with_len 0 n in
@@ -72,9 +77,11 @@ full n h =
       sheets = (tt, (rows_clear (setting_of default_options (made_list n)) (is_set n) (range_with_len 0 n) [] (rows_below 0 n (omega arith)) (omega arith), (tt, tt)));
     }
 
+-- the stream is within the byte limit
 within : (n : ℕ) → n ≤ 65536 → length (made_stream n) ≤ 268435456
 within n h = let size : length (made_stream n) ≡ 28 * n + 64 = made_length n in omega arith
 
+-- no place of the stream has a fault
 pub sound : (n : ℕ) → n ≤ 65536 → IsSound default_options (made_stream n)
 sound n h =
     (sound_where_full default_options (made_stream n) (are_bytes n h)).1 (within n h, made_list n, carries n, full n h)

@@ -97,7 +97,7 @@ abbrev pub made_part : ℕ → List ℕ
 made_part n = enc types.BOF part_body ++ (made_rows n ++ enc types.EOF [])
 
 -- the stream of so many rows
-abbrev pub made_stream : ℕ → List ℕ
+unfoldable pub made_stream : ℕ → List ℕ
 made_stream n = made_globals ++ made_part n
 
 -- ---- the logical list
