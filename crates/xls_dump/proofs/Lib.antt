@@ -3,3 +3,5 @@ pub mod ShownLemmas
 pub mod SayingLemmas
 pub mod StandardFacts
 pub mod GatherLemmas
+pub mod RowsLemmas
+pub mod CountLemmas

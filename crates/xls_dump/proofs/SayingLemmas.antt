@@ -10,10 +10,11 @@ use Rattle.xls_book.specs.Reading.{Workbook}
 use Rattle.xls_book.specs.Opening.{OpenCause, ReadCause, IsOpened, default_options}
 use Rattle.xls_dump.specs.Gathering.{Stops}
 use Rattle.xls_dump.specs.Report.{fault_line}
+use Rattle.xls_dump.specs.Summary.{summary_text}
 use Rattle.xls_dump.specs.Says.{Refuses, Says, TellsOf, IsPropertyText, property_limit, RefusesFault, RefusesLength, EndsWell, EndsBySoundness, EndsByLength}
-use Rattle.xls_dump.specs.Endings.{IsFault, Turns, TellsProperties, Ends}
+use Rattle.xls_dump.specs.Endings.{IsFault, Turns, TellsText, Ends}
 use Rattle.xls_dump.specs.declared.command.Command.{Command}
-use Rattle.xls_dump.specs.declared.command.Command.TheVariants.{Props}
+use Rattle.xls_dump.specs.declared.command.Command.TheVariants.{Props, Generate}
 use Rattle.xls_dump.specs.declared.ending.Ending.{Ending}
 use Rattle.xls_dump.specs.declared.ending.Ending.TheVariants.{Done, Refused}
 use Rattle.xls_dump.specs.declared.ending.Stop.{Stop}
@@ -127,7 +128,7 @@ length_given_up left = (inr (inr refl), λ e. absurd (omega arith), λ e. absurd
 -- the properties of the bytes that were left
 pub ends_told : (left after : Option (List ℕ)) (s s' : ℕ) (w w' : Option (List ℕ)) (k k' : ℕ) (t : ℕ → Type 0) (bytes : List ℕ) (r : Result Ending Stop)
     → Consumes left after bytes → IsAtEnd after → length bytes ≤ property_limit
-    → TellsProperties bytes w k t w' k' r → Ends Props left after s s' w w' k k' r
+    → TellsText (IsPropertyText bytes) w k t w' k' r → Ends Props left after s s' w w' k k' r
 ends_told left after s s' w w' k k' t bytes (Ok Done) read end le p = (
   end,
   (inl refl, λ e. absurd (omega arith), λ _. whole left after bytes (λ b. length b ≤ property_limit) read end le),
@@ -140,7 +141,7 @@ ends_told left after s s' w w' k k' t bytes (Err e) read end le (inr p) =
     ends-stopped Props left after s s' (Err e) refl (length_given_up left) (inl (whole left after bytes (λ b. IsPropertyText b p.0) read end p.1)) p.2
 
 pub steady_told : (left after w w' : Option (List ℕ)) (k k' : ℕ) (t : ℕ → Type 0) (bytes : List ℕ) (r : Result Ending Stop)
-    → Consumes left after bytes → IsAtEnd after → TellsProperties bytes w k t w' k' r
+    → Consumes left after bytes → IsAtEnd after → TellsText (IsPropertyText bytes) w k t w' k' r
     → (n : ℕ) → t n → ((text : List ℕ) → Says Props left text → length text ≤ n) → k' ≡ k
 steady_told left after w w' k k' t bytes (Ok Done) read end p n take all =
     p.2.kept n (all p.0 (inl (whole left after bytes (λ b. IsPropertyText b p.0) read end p.1))) take
@@ -149,16 +150,38 @@ steady_told left after w w' k k' t bytes (Err e) read end (inl p) n take all = p
 steady_told left after w w' k k' t bytes (Err e) read end (inr p) n take all =
     p.2.kept n (omega (arith, all p.0 (inl (whole left after bytes (λ b. IsPropertyText b p.0) read end p.1)))) take
 
--- no memory for the properties
-pub told-memory : (bytes : List ℕ) (w : Option (List ℕ)) (f : ℕ) (t : ℕ → Type 0) (r : Result Ending Stop)
-    → IsErrAnd r (λ d. d ≡ Memory) → TellsProperties bytes w f t w f r
-told-memory bytes w f t (Ok x) none = absurd none
-told-memory bytes w f t (Err e) is = inl (is, Keeps-refl w, refl)
+-- ---- a text of a kind
 
--- their text was given up
-pub told-stop : (bytes : List ℕ) {w w' : Option (List ℕ)} {f f' : ℕ} {t : ℕ → Type 0} {text : List ℕ} {e : Stop} (r : Result Ending Stop)
-    → IsErrAnd r (λ d. d ≡ e) → IsPropertyText bytes text → Stops w f t [] w' f' text e
-    → TellsProperties bytes w f t w' f' r
-told-stop bytes (Ok x) none is p = absurd none
-told-stop bytes {w} {w'} {f} {f'} {t} {text} {e} (Err d) same is p =
+-- no memory to make it
+pub told-memory : (IsText : List ℕ → Type 0) (w : Option (List ℕ)) (f : ℕ) (t : ℕ → Type 0) (r : Result Ending Stop)
+    → IsErrAnd r (λ d. d ≡ Memory) → TellsText IsText w f t w f r
+told-memory IsText w f t (Ok x) none = absurd none
+told-memory IsText w f t (Err e) is = inl (is, Keeps-refl w, refl)
+
+-- it was given up
+pub told-stop : (IsText : List ℕ → Type 0) {w w' : Option (List ℕ)} {f f' : ℕ} {t : ℕ → Type 0} {text : List ℕ} {e : Stop} (r : Result Ending Stop)
+    → IsErrAnd r (λ d. d ≡ e) → IsText text → Stops w f t [] w' f' text e
+    → TellsText IsText w f t w' f' r
+told-stop IsText (Ok x) none is p = absurd none
+told-stop IsText {w} {w'} {f} {f'} {t} {text} {e} (Err d) same is p =
     inr (text, is, subst (Stops w f t [] w' f' text) (sym same) p)
+
+-- ---- a made stream
+
+-- what is told of it, whatever the source is
+pub ends_made : (n : ℕ) (left : Option (List ℕ)) (s : ℕ) (w w' : Option (List ℕ)) (k k' : ℕ) (t : ℕ → Type 0) (r : Result Ending Stop)
+    → TellsText (λ text. text ≡ summary_text n) w k t w' k' r → Ends (Generate n) left left s s w w' k k' r
+ends_made n left s w w' k k' t (Ok Done) p = (refl, inl refl, (p.0, p.1, p.2.appends))
+ends_made n left s w w' k k' t (Ok Refused) p = absurd p
+ends_made n left s w w' k k' t (Err e) (inl p) =
+    subst (λ d. Ends (Generate n) left left s s w w' k k' (Err d)) (sym p.0) (inr refl, inl p.1)
+ends_made n left s w w' k k' t (Err e) (inr p) =
+    ends-stopped (Generate n) left left s s (Err e) refl (inr refl) (inl p.1) p.2
+
+pub steady_made : (n : ℕ) (left w w' : Option (List ℕ)) (k k' : ℕ) (t : ℕ → Type 0) (r : Result Ending Stop)
+    → TellsText (λ text. text ≡ summary_text n) w k t w' k' r
+    → (m : ℕ) → t m → ((text : List ℕ) → Says (Generate n) left text → length text ≤ m) → k' ≡ k
+steady_made n left w w' k k' t (Ok Done) p m take all = p.2.kept m (all p.0 (inl p.1)) take
+steady_made n left w w' k k' t (Ok Refused) p m take all = absurd p
+steady_made n left w w' k k' t (Err e) (inl p) m take all = p.2
+steady_made n left w w' k k' t (Err e) (inr p) m take all = p.2.kept m (omega (arith, all p.0 (inl p.1))) take

@@ -1,13 +1,16 @@
 -- Shown texts, one character after the other.
 use Rattle.std.proofs.Common.{◌≡◌, ℕ, zero, suc, List, [], ◌∷◌, ◌++◌, ◌+◌, ◌<◌, ◌≤◌, length, map, get_or, arith, take, drop, take-append-drop, add-one, refl, sym, ap, ◌∙◌, append_assoc, Option, Some, None}
-use Rattle.std.specs.Prelude.{encode_utf8_all, slice_get}
+use Rattle.std.specs.Prelude.{encode_utf8_all, slice_get, String}
+use Rattle.std.specs.Global.{Global}
+use Rattle.std.specs.List.{flat_map}
 use Rattle.std.proofs.lemmas.List.{append-nil, take_more}
 use Rattle.std.proofs.lemmas.Str.{encodes-append}
 use Rattle.std.proofs.lemmas.Grind.{flat_map-append}
 use Rattle.xls_data.specs.Sheets.{SheetContent}
 use Rattle.xls_book.specs.Reading.{SheetView}
+use Rattle.xls_book.specs.Steps.{told_of}
 use Rattle.xls_dump.specs.Lines.{escaped_char, escaped, shown_text}
-use Rattle.xls_dump.specs.Report.{lines_at, view_text, sheet_line, sheets_text}
+use Rattle.xls_dump.specs.Report.{lines_at, view_text, sheet_line, sheets_text, name_line}
 
 -- one more character
 pub shown-push : (cs : List ℕ) (c : ℕ) → shown_text (cs ++ c ∷ []) ≡ shown_text cs
@@ -129,3 +132,18 @@ pub nothing_behind : {X : Type 0} (xs : List X) (i : ℕ) → length xs ≤ i �
 nothing_behind [] i l = refl
 nothing_behind (x ∷ xs) zero l = absurd (omega arith)
 nothing_behind (x ∷ xs) (suc i) l = nothing_behind xs i (omega arith)
+
+-- ---- names
+
+-- a defined name and its text
+abbrev pub Named : Type 0
+Named = String Global × String Global
+
+-- the lines of the names as they are told
+pub all_names : (names : List Named) (told : List (List ℕ × List ℕ)) → map told_of names ≡ told
+    → flat_map (λ (n : Named). name_line (told_of n)) names ≡ flat_map name_line told
+all_names names told e = each names ∙ ap (flat_map name_line) e
+  where
+    each : (ns : List Named) → flat_map (λ (n : Named). name_line (told_of n)) ns ≡ flat_map name_line (map told_of ns)
+    each [] = refl
+    each (n ∷ ns) = ap (λ (l : List ℕ). name_line (told_of n) ++ l) (each ns)

@@ -9,6 +9,7 @@ use Rattle.xls_biff.specs.declared.error.XlsError.TheVariants.{Password, TooLarg
 use Rattle.xls_book.specs.Reading.{Workbook}
 use Rattle.xls_book.specs.Opening.{default_options}
 use Rattle.xls_dump.specs.Lines.{shown_text}
+use Rattle.xls_dump.specs.Summary.{summary_text}
 use Rattle.xls_dump.specs.Report.{cell_line, fault_line, report, sheet_report}
 
 -- row 4, column 1, -12
@@ -29,24 +30,31 @@ pub known_limit : fault_line (TooLarge 64) ≡ codes "error\tStream larger than 
 unfolding digits
 known_limit = refl
 
--- two sheets, and one cell and one merged region in the first
+-- two sheets, a name, and in the first sheet one cell, a formula, one without a text, and a merged region
 abbrev book : Workbook
 book = record {
   options = default_options;
   sheets = record { name = 65 ∷ []; typ = WorkSheet; visible = Visible }
       ∷ record { name = 66 ∷ []; typ = ChartSheet; visible = VeryHidden } ∷ [];
+  names = (codes "N", codes "A!$B$2") ∷ [];
   contents = record {
     cells = ((0, 0), float (Whole (pos 1))) ∷ [];
+    formulas = ((0, 0), codes "B1") ∷ ((1, 0), []) ∷ [];
     merges = record { start = (0, 1); end = (2, 3) } ∷ [];
-  } ∷ record { cells = []; merges = [] } ∷ [];
+  } ∷ record { cells = []; formulas = []; merges = [] } ∷ [];
   is_1904 = true;
   classes = [];
 }
 
-pub known_report : report book ≡ codes "dates\t1904\nsheet\tA\tworksheet\tvisible\ncell\t0\t0\tfloat\t1\nmerge\t0\t1\t2\t3\nsheet\tB\tchart\tveryhidden\n"
+pub known_report : report book ≡ codes "dates\t1904\nname\tN\tA!$B$2\nsheet\tA\tworksheet\tvisible\ncell\t0\t0\tfloat\t1\nformula\t0\t0\tB1\nmerge\t0\t1\t2\t3\nsheet\tB\tchart\tveryhidden\n"
 unfolding digits lib.Utf8.encode
 known_report = refl
 
 pub known_sheets : sheet_report book ≡ codes "sheet\tA\tworksheet\tvisible\nsheet\tB\tchart\tveryhidden\n"
 unfolding lib.Utf8.encode
 known_sheets = refl
+
+-- four rows, with the numbers 0 to 3
+pub known_summary : summary_text 4 ≡ codes "rows\t4\ncells\t8\nsum\t6\n"
+unfolding digits
+known_summary = refl

@@ -7,7 +7,7 @@ use Rattle.xls_book.specs.Causes.{Rose}
 use Rattle.xls_dump.specs.Written.{Writes, WritesPart}
 use Rattle.xls_dump.specs.Gathering.{Stops}
 use Rattle.xls_dump.specs.Report.{fault_line}
-use Rattle.xls_dump.specs.Says.{IsPropertyText, Tells, Refuses, Says, Leaves, EndsWell}
+use Rattle.xls_dump.specs.Says.{Tells, Refuses, Says, Leaves, EndsWell}
 use Rattle.xls_dump.specs.declared.command.Command.{Command}
 use Rattle.xls_dump.specs.declared.ending.Ending.{Ending}
 use Rattle.xls_dump.specs.declared.ending.Ending.TheVariants.{Done, Refused}
@@ -42,16 +42,16 @@ Turns e w f t w' f' (Err Write) = IsFault e × Stops w f t [] w' f' (fault_line 
 Turns e w f t w' f' (Err Memory) =
     (Keeps w w' × (f' ≡ f)) ⊎ (IsFault e × Stops w f t [] w' f' (fault_line e) Memory)
 
--- ---- properties
+-- ---- a text of a kind
 
--- the properties of the bytes were told; without memory for them nothing was written
-abbrev pub TellsProperties : List ℕ → Option (List ℕ) → ℕ → (ℕ → Type 0) → Option (List ℕ) → ℕ → Result Ending Stop → Type 0
-TellsProperties bytes w f t w' f' (Ok Done) =
-    (text : List ℕ) × IsPropertyText bytes text × Wrote w f t w' f' text
-TellsProperties bytes w f t w' f' (Ok Refused) = ⊥
-TellsProperties bytes w f t w' f' (Err e) =
+-- a text of this kind was written, or a front of it; without memory to make it nothing was written
+abbrev pub TellsText : (List ℕ → Type 0) → Option (List ℕ) → ℕ → (ℕ → Type 0) → Option (List ℕ) → ℕ → Result Ending Stop → Type 0
+TellsText IsText w f t w' f' (Ok Done) =
+    (text : List ℕ) × IsText text × Wrote w f t w' f' text
+TellsText IsText w f t w' f' (Ok Refused) = ⊥
+TellsText IsText w f t w' f' (Err e) =
     ((e ≡ Memory) × Keeps w w' × (f' ≡ f))
-    ⊎ ((text : List ℕ) × IsPropertyText bytes text × Stops w f t [] w' f' text e)
+    ⊎ ((text : List ℕ) × IsText text × Stops w f t [] w' f' text e)
 
 -- ---- a command
 

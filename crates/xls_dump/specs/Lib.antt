@@ -4,6 +4,8 @@ pub mod Words
 pub mod Lines
 pub mod Gathering
 pub mod Report
+pub mod Summary
+pub mod Counting
 pub mod Properties
 pub mod Says
 pub mod Endings

@@ -18,6 +18,7 @@ use Rattle.xls_biff.specs.ErrorText.{error_text}
 use Rattle.xls_biff.specs.declared.error.XlsError.{XlsError}
 use Rattle.xls_data.specs.declared.regions.Dimensions.{Dimensions}
 use Rattle.xls_book.specs.Reading.{SheetView, Workbook}
+use Rattle.xls_book.specs.SheetTable.{FormulaEntry, shown_formulas}
 use Rattle.xls_dump.specs.Lines.{line, shown_text}
 
 -- ---- cells
@@ -72,21 +73,34 @@ abbrev pub merge_line : Dimensions → List ℕ
 merge_line d =
     line (codes "merge") (decimal d.start.0 ∷ decimal d.start.1 ∷ decimal d.end.0 ∷ decimal d.end.1 ∷ [])
 
--- the lines of a sheet's cells, and of its merged regions
+-- row, column and text of a formula
+abbrev pub formula_line : FormulaEntry → List ℕ
+formula_line f = line (codes "formula") (decimal f.0.0 ∷ decimal f.0.1 ∷ shown_text f.1 ∷ [])
+
+-- the lines of the formulas whose text isn't empty
+abbrev pub formula_lines : List FormulaEntry → List ℕ
+formula_lines fs = flat_map formula_line (shown_formulas fs)
+
+-- the lines of a sheet's cells, of its formulas, and of its merged regions
 abbrev pub view_text : SheetView → List ℕ
-view_text v = flat_map cell_line v.cells ++ flat_map merge_line v.merges
+view_text v =
+    flat_map cell_line v.cells ++ (formula_lines v.formulas ++ flat_map merge_line v.merges)
 
 -- the same of what stands at an index, if there is anything
 abbrev pub cells_at : Option SheetView → List ℕ
 cells_at None = []
 cells_at (Some v) = flat_map cell_line v.cells
 
+abbrev pub formulas_at : Option SheetView → List ℕ
+formulas_at None = []
+formulas_at (Some v) = formula_lines v.formulas
+
 abbrev pub merges_at : Option SheetView → List ℕ
 merges_at None = []
 merges_at (Some v) = flat_map merge_line v.merges
 
 abbrev pub lines_at : Option SheetView → List ℕ
-lines_at o = cells_at o ++ merges_at o
+lines_at o = cells_at o ++ (formulas_at o ++ merges_at o)
 
 -- the line of each sheet, and behind it those of what it shows
 abbrev pub sheets_text : List SheetContent → List SheetView → List ℕ
@@ -101,9 +115,14 @@ epoch_text false = codes "1900"
 abbrev pub dates_line : Bool → List ℕ
 dates_line is_1904 = line (codes "dates") (epoch_text is_1904 ∷ [])
 
--- the date system, and the sheets in workbook order
+-- a defined name and its text
+abbrev pub name_line : List ℕ × List ℕ → List ℕ
+name_line n = line (codes "name") (shown_text n.0 ∷ shown_text n.1 ∷ [])
+
+-- the date system, the defined names, and the sheets in workbook order
 abbrev pub report : Workbook → List ℕ
-report book = dates_line book.is_1904 ++ sheets_text book.sheets book.contents
+report book =
+    dates_line book.is_1904 ++ (flat_map name_line book.names ++ sheets_text book.sheets book.contents)
 
 -- the sheets in workbook order, without what they show
 abbrev pub sheet_report : Workbook → List ℕ

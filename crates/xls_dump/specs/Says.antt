@@ -12,8 +12,9 @@ use Rattle.xls_book.specs.Faults.{FirstFault, IsSound}
 use Rattle.xls_book.specs.Opening.{IsOpened, default_options}
 use Rattle.xls_dump.specs.Report.{report, sheet_report, fault_line}
 use Rattle.xls_dump.specs.Properties.{property_lines}
+use Rattle.xls_dump.specs.Summary.{summary_text}
 use Rattle.xls_dump.specs.declared.command.Command.{Command}
-use Rattle.xls_dump.specs.declared.command.Command.TheVariants.{Dump, Sheets, Props}
+use Rattle.xls_dump.specs.declared.command.Command.TheVariants.{Dump, Sheets, Props, Generate}
 
 -- a text of the workbook that the bytes open to
 abbrev pub TellsOf : (Workbook → List ℕ) → Option (List ℕ) → List ℕ → Type 0
@@ -37,6 +38,7 @@ abbrev pub Tells : Command → Option (List ℕ) → List ℕ → Type 0
 Tells Dump left text = TellsOf report left text
 Tells Sheets left text = TellsOf sheet_report left text
 Tells Props left text = IfSome left (λ bytes. IsPropertyText bytes text)
+Tells (Generate n) left text = text ≡ summary_text n
 
 -- the line of the first fault
 abbrev pub RefusesFault : Option (List ℕ) → List ℕ → Type 0
@@ -55,16 +57,18 @@ abbrev pub Refuses : Command → Option (List ℕ) → List ℕ → Type 0
 Refuses Dump left text = RefusesFault left text
 Refuses Sheets left text = RefusesFault left text
 Refuses Props left text = RefusesLength left text
+Refuses (Generate n) left text = ⊥
 
 -- either of them
 abbrev pub Says : Command → Option (List ℕ) → List ℕ → Type 0
 Says c left text = Tells c left text ⊎ Refuses c left text
 
--- what a command that is done leaves of the source
+-- what a command that is done leaves of the source: nothing, or all where it reads nothing
 abbrev pub Leaves : Command → Option (List ℕ) → Option (List ℕ) → Type 0
 Leaves Dump before after = IsAtEnd after
 Leaves Sheets before after = IsAtEnd after
 Leaves Props before after = IsAtEnd after
+Leaves (Generate n) before after = after ≡ before
 
 -- bytes without a fault aren't refused, and those with one aren't told
 abbrev pub EndsBySoundness : Option (List ℕ) → ℕ → Type 0
@@ -83,9 +87,11 @@ abbrev pub EndsWell : Command → Option (List ℕ) → ℕ → Type 0
 EndsWell Dump left status = EndsBySoundness left status
 EndsWell Sheets left status = EndsBySoundness left status
 EndsWell Props left status = EndsByLength left status
+EndsWell (Generate n) left status = (status ≡ 0) ⊎ (status ≡ 5)
 
 -- the command reads nothing
 abbrev pub IsUnread : Command → Type 0
 IsUnread Dump = ⊥
 IsUnread Sheets = ⊥
 IsUnread Props = ⊥
+IsUnread (Generate n) = Unit {0}

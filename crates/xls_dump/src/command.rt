@@ -1,9 +1,12 @@
 //! The words of the command line.
 
-ghost use Rattle.std.specs.Prelude.{MatchOption, map, ◌∷◌, []};
+ghost use Rattle.std.specs.Prelude.{◌↔◌, IsTrue, MatchOption, ℕ, map, ◌∷◌, []};
 ghost use Rattle.std.specs.String.{string_bytes};
 ghost use Rattle.xls_dump.specs.declared.command.Command.{Command};
-ghost use Rattle.xls_dump.specs.Words.{IsCommand};
+ghost use Rattle.xls_dump.specs.Words.{BeginsWell, IsCommand, IsPossible, IsRows};
+
+/// How many rows a made stream may have.
+const MAX_ROWS: u32 = 65_536;
 
 /// What a run does.
 #[derive(Clone, Copy, Debug, PartialEq, Eq)]
@@ -14,11 +17,14 @@ pub enum Command {
     Sheets,
     /// Writes the properties in a property stream.
     Props,
+    /// Makes a stream of so many rows, and writes what is found in it.
+    Generate(u32),
 }
 
 /// The command of this name.
 fn named(word: &str) -> Option<Command>
-    ensures { MatchOption result ((c : Command) → IsCommand (word.now ∷ []) c → ⊥) (IsCommand (word.now ∷ [])) }
+    ensures { MatchOption result ((c : Command) → IsCommand (word.now ∷ []) c → ⊥)
+        (λ c. IsCommand (word.now ∷ []) c × IsPossible c) }
 {
     match word {
         "dump" => Some(Command::Dump),
@@ -28,14 +34,49 @@ fn named(word: &str) -> Option<Command>
     }
 }
 
+/// Whether a text begins with a digit other than 0.
+fn begins_well(text: &[u8]) -> bool
+    ensures { IsTrue result ↔ BeginsWell text.now }
+{
+    match text {
+        [first, ..] => b'1' <= *first && *first <= b'9',
+        [] => false,
+    }
+}
+
+/// The number of rows that a text says in decimal, without zeros in front: 1 to 65,536.
+fn rows_of(text: &str) -> Option<u32>
+    ensures { MatchOption result ((n : ℕ) → IsRows text.now n → ⊥) (IsRows text.now) }
+{
+    if !begins_well(text.as_bytes()) {
+        return None;
+    }
+    match text.parse::<u32>() {
+        Ok(rows) if rows <= MAX_ROWS => Some(rows),
+        _ => None,
+    }
+}
+
+/// The command of two words, of which the second is its number.
+fn counted(word: &str, rows: &str) -> Option<Command>
+    ensures { MatchOption result ((c : Command) → IsCommand (word.now ∷ rows.now ∷ []) c → ⊥)
+        (λ c. IsCommand (word.now ∷ rows.now ∷ []) c × IsPossible c) }
+{
+    match rows_of(rows) {
+        Some(rows) if word == "generate" => Some(Command::Generate(rows)),
+        _ => None,
+    }
+}
+
 /// What the words ask for, if they are those of a command.
 pub fn command_of(words: &[String]) -> Option<Command>
     ensures { MatchOption result ((c : Command) → IsCommand (map string_bytes words.now) c
-        → ⊥) (IsCommand (map string_bytes words.now)) }
+        → ⊥) (λ c. IsCommand (map string_bytes words.now) c × IsPossible c) }
 {
     match words {
         [] => Some(Command::Dump),
         [word] => named(word.as_str()),
+        [word, rows] => counted(word.as_str(), rows.as_str()),
         _ => None,
     }
 }

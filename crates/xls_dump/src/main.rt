@@ -5,12 +5,14 @@ mod buffer;
 mod command;
 mod ending;
 mod field;
+mod made;
 mod memory;
 mod perform;
 mod properties;
 mod report;
 mod run;
 mod sink;
+mod summary;
 #[cfg(test)]
 mod tests;
 

@@ -1,8 +1,10 @@
 //! What each command does.
 
 ghost use Rattle.std.specs.Prelude.{◌≡◌, ◌≤◌, ℕ, List, length};
-ghost use Rattle.xls_dump.specs.Endings.{Ends, TellsProperties, Turns};
-ghost use Rattle.xls_dump.specs.Says.{IsUnread, Says};
+ghost use Rattle.xls_dump.specs.Endings.{Ends, TellsText, Turns};
+ghost use Rattle.xls_dump.specs.Says.{IsPropertyText, IsUnread, Says};
+ghost use Rattle.xls_dump.specs.Summary.{summary_text};
+ghost use Rattle.xls_dump.specs.Words.{IsPossible, max_rows};
 ghost use Rattle.xls_dump.specs.declared.command.Command.TheVariants.{Dump, Sheets, Props};
 
 use crate::command::Command;
@@ -10,6 +12,7 @@ use crate::ending::{Ending, Stop};
 use crate::properties::write_properties;
 use crate::report::{write_fault, write_report, write_sheets};
 use crate::sink::Sink;
+use crate::summary::{summary_of, write_summary};
 use std::alloc::Global;
 use xls_biff::XlsError;
 use xls_book::{Reader, Source, Xls, read_all};
@@ -69,7 +72,7 @@ fn sheets<S: Source, K: Sink>(alloc: Global, source: &mut S, sink: &mut K) -> Re
 
 /// Writes the properties that the bytes hold, as both property streams.
 fn tell_properties<K: Sink>(alloc: Global, sink: &mut K, bytes: &[u8]) -> Result<Ending, Stop>
-    ensures { TellsProperties bytes.now (K.written sink.old) (K.faults sink.old) (K.takes sink.old)
+    ensures { TellsText (IsPropertyText bytes.now) (K.written sink.old) (K.faults sink.old) (K.takes sink.old)
         (K.written sink.new) (K.faults sink.new) result }
 {
     let properties = workbook_properties_of(alloc, Some(bytes), Some(bytes))?;
@@ -91,6 +94,18 @@ fn props<S: Source, K: Sink>(alloc: Global, source: &mut S, sink: &mut K) -> Res
     }
 }
 
+/// Makes a stream of so many rows, opens it, and writes what its range holds.
+fn generate<K: Sink>(alloc: Global, rows: u32, sink: &mut K) -> Result<Ending, Stop>
+    requires least { 1 ≤ rows }
+    requires most { rows ≤ max_rows }
+    ensures { TellsText (λ text. text ≡ summary_text rows) (K.written sink.old) (K.faults sink.old) (K.takes sink.old)
+        (K.written sink.new) (K.faults sink.new) result }
+{
+    let summary = summary_of(alloc, rows)?;
+    write_summary(alloc, sink, summary)?;
+    Ok(Ending::Done)
+}
+
 /// Does what a command says.
 pub fn perform<S: Source, K: Sink>(
     alloc: Global,
@@ -98,6 +113,7 @@ pub fn perform<S: Source, K: Sink>(
     source: &mut S,
     sink: &mut K,
 ) -> Result<Ending, Stop>
+    requires { IsPossible command }
     ensures ends { Ends command (S.left source.old) (S.left source.new) (S.faults source.old) (S.faults source.new)
         (K.written sink.old) (K.written sink.new) (K.faults sink.old) (K.faults sink.new) result }
     ensures steady { (n : ℕ) → K.takes sink.old n
@@ -109,5 +125,6 @@ pub fn perform<S: Source, K: Sink>(
         Command::Dump => dump(alloc, source, sink),
         Command::Sheets => sheets(alloc, source, sink),
         Command::Props => props(alloc, source, sink),
+        Command::Generate(rows) => generate(alloc, rows, sink),
     }
 }

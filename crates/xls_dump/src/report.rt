@@ -3,12 +3,14 @@
 ghost use Rattle.std.specs.Prelude.{◌≡◌, ◌++◌, [], codes, if◌then◌else◌, slice_get};
 ghost use Rattle.std.specs.List.{flat_map};
 ghost use Rattle.std.specs.Option.{option_map};
+ghost use Rattle.std.specs.Str.{chars};
 ghost use Rattle.xls_data.specs.Data.{bool_text, content_of};
 ghost use Rattle.xls_data.specs.Sheets.{sheet_content};
 ghost use Rattle.xls_dump.specs.Endings.{Delivers};
 ghost use Rattle.xls_dump.specs.Gathering.{Puts};
 ghost use Rattle.xls_dump.specs.Lines.{field_text};
-ghost use Rattle.xls_dump.specs.Report.{cell_line, cells_at, dates_line, epoch_text, fault_line, lines_at, merge_line, merges_at, report, sheet_line, sheet_report, sheets_text, type_text, value_fields, visible_text};
+ghost use Rattle.xls_book.specs.Steps.{told_of};
+ghost use Rattle.xls_dump.specs.Report.{cell_line, cells_at, dates_line, epoch_text, fault_line, formula_line, formulas_at, lines_at, merge_line, merges_at, name_line, report, sheet_line, sheet_report, sheets_text, type_text, value_fields, visible_text};
 
 use crate::buffer::Buffer;
 use crate::ending::Stop;
@@ -16,7 +18,7 @@ use crate::field::Field;
 use crate::sink::Sink;
 use std::alloc::Global;
 use xls_biff::XlsError;
-use xls_book::{Reader, Values, Xls};
+use xls_book::{Formulas, Reader, Values, Xls};
 use xls_data::{Data, Dimensions, Sheet, SheetType, SheetVisible};
 
 /// The word for a date or a span.
@@ -120,6 +122,39 @@ fn put_sheet<K: Sink>(buffer: &mut Buffer, sink: &mut K, sheet: &Sheet) -> Resul
     buffer.put_line(sink, "sheet", &[name, typ, visible])
 }
 
+/// Puts the line of a formula.
+fn put_formula<K: Sink>(
+    buffer: &mut Buffer,
+    sink: &mut K,
+    row: u32,
+    column: u32,
+    text: &str,
+) -> Result<(), Stop>
+    ensures { Puts (K.written sink.old) (K.faults sink.old) (K.takes sink.old) buffer.old
+        (K.written sink.new) (K.faults sink.new) (K.takes sink.new) buffer.new
+        (formula_line ((row, column), chars text.now)) result }
+{
+    let row = Field::Number(u64::from(row));
+    let column = Field::Number(u64::from(column));
+    buffer.put_line(sink, "formula", &[row, column, Field::Text(text)])
+}
+
+/// Puts the lines of a sheet's formulas.
+fn put_formulas<K: Sink>(
+    buffer: &mut Buffer,
+    sink: &mut K,
+    formulas: Formulas<'_>,
+) -> Result<(), Stop>
+    ensures { Puts (K.written sink.old) (K.faults sink.old) (K.takes sink.old) buffer.old
+        (K.written sink.new) (K.faults sink.new) (K.takes sink.new) buffer.new
+        (flat_map formula_line formulas.entry) result }
+{
+    for (row, column, text) in formulas {
+        put_formula(buffer, sink, row, column, text)?;
+    }
+    Ok(())
+}
+
 /// Puts the line of a merged region.
 fn put_merge<K: Sink>(buffer: &mut Buffer, sink: &mut K, region: Dimensions) -> Result<(), Stop>
     ensures { Puts (K.written sink.old) (K.faults sink.old) (K.takes sink.old) buffer.old
@@ -165,6 +200,23 @@ fn put_cells_at<K: Sink>(
     }
 }
 
+/// Puts the lines of the formulas of the sheet at an index.
+fn put_formulas_at<K: Sink>(
+    buffer: &mut Buffer,
+    sink: &mut K,
+    book: &Xls,
+    n: usize,
+) -> Result<(), Stop>
+    ensures { Puts (K.written sink.old) (K.faults sink.old) (K.takes sink.old) buffer.old
+        (K.written sink.new) (K.faults sink.new) (K.takes sink.new) buffer.new
+        (formulas_at (slice_get book.now.contents n)) result }
+{
+    match book.formulas_at(n) {
+        Some(formulas) => put_formulas(buffer, sink, formulas),
+        None => Ok(()),
+    }
+}
+
 /// Puts the lines of the merged regions of the sheet at an index.
 fn put_merges_at<K: Sink>(
     buffer: &mut Buffer,
@@ -182,6 +234,23 @@ fn put_merges_at<K: Sink>(
     }
 }
 
+/// Puts the lines of what the sheet at an index shows.
+fn put_lines_at<K: Sink>(
+    buffer: &mut Buffer,
+    sink: &mut K,
+    book: &Xls,
+    n: usize,
+) -> Result<(), Stop>
+    ensures { Puts (K.written sink.old) (K.faults sink.old) (K.takes sink.old) buffer.old
+        (K.written sink.new) (K.faults sink.new) (K.takes sink.new) buffer.new
+        (lines_at (slice_get book.now.contents n)) result }
+{
+    put_cells_at(buffer, sink, book, n)?;
+    put_formulas_at(buffer, sink, book, n)?;
+    put_merges_at(buffer, sink, book, n)?;
+    Ok(())
+}
+
 /// Puts the line of a sheet, and those of what stands at its index.
 fn put_view<K: Sink>(
     buffer: &mut Buffer,
@@ -195,8 +264,7 @@ fn put_view<K: Sink>(
         (sheet_line (sheet_content sheet.now) ++ lines_at (slice_get book.now.contents n)) result }
 {
     put_sheet(buffer, sink, sheet)?;
-    put_cells_at(buffer, sink, book, n)?;
-    put_merges_at(buffer, sink, book, n)?;
+    put_lines_at(buffer, sink, book, n)?;
     Ok(())
 }
 
@@ -228,18 +296,45 @@ fn put_dates<K: Sink>(buffer: &mut Buffer, sink: &mut K, is_1904: bool) -> Resul
     buffer.put_line(sink, "dates", &[Field::Word(epoch_word(is_1904))])
 }
 
-/// Puts the date system, and the sheets with what they show.
+/// Puts the line of a defined name.
+fn put_name<K: Sink>(buffer: &mut Buffer, sink: &mut K, name: &(String, String)) -> Result<(), Stop>
+    ensures { Puts (K.written sink.old) (K.faults sink.old) (K.takes sink.old) buffer.old
+        (K.written sink.new) (K.faults sink.new) (K.takes sink.new) buffer.new
+        (name_line (told_of name.now)) result }
+{
+    let text = Field::Text(name.1.as_str());
+    buffer.put_line(sink, "name", &[Field::Text(name.0.as_str()), text])
+}
+
+/// Puts the lines of the defined names.
+fn put_names<K: Sink>(
+    buffer: &mut Buffer,
+    sink: &mut K,
+    names: &[(String, String)],
+) -> Result<(), Stop>
+    ensures { Puts (K.written sink.old) (K.faults sink.old) (K.takes sink.old) buffer.old
+        (K.written sink.new) (K.faults sink.new) (K.takes sink.new) buffer.new
+        (flat_map (λ n. name_line (told_of n)) names.now) result }
+{
+    for name in names {
+        put_name(buffer, sink, name)?;
+    }
+    Ok(())
+}
+
+/// Puts the date system, the defined names, and the sheets with what they show.
 fn put_report<K: Sink>(buffer: &mut Buffer, sink: &mut K, book: &Xls) -> Result<(), Stop>
     ensures { Puts (K.written sink.old) (K.faults sink.old) (K.takes sink.old) buffer.old
         (K.written sink.new) (K.faults sink.new) (K.takes sink.new) buffer.new (report book.now) result }
 {
     put_dates(buffer, sink, book.has_1904_epoch())?;
+    put_names(buffer, sink, book.defined_names())?;
     put_views(buffer, sink, book)?;
     Ok(())
 }
 
-/// Writes the dump: the date system, and for each sheet in workbook order its line and those of its
-/// cells and of its merged regions.
+/// Writes the dump: the date system, the defined names, and for each sheet in workbook order its line
+/// and those of its cells, of its formulas and of its merged regions.
 pub fn write_report<K: Sink>(alloc: Global, sink: &mut K, book: &Xls) -> Result<(), Stop>
     ensures { Delivers (K.written sink.old) (K.faults sink.old) (K.takes sink.old) (K.written sink.new) (K.faults sink.new)
         (report book.now) result }

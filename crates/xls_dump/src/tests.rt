@@ -6,6 +6,8 @@ use std::process::Abort;
 use std::test::*;
 use xls_book::{MemorySource, SteadySource};
 
+mod ledger;
+
 // BOF of the globals, BoundSheet8 of `A` at 25, EOF; BOF of the sheet, a Number of 3 at (0, 0), EOF.
 const THREE: [u8; 55] = [
     0x09, 0x08, 0x04, 0x00, 0x00, 0x06, 0x05, 0x00, 0x85, 0x00, 0x09, 0x00, 0x19, 0x00, 0x00, 0x00,

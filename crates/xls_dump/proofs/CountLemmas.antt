@@ -1,0 +1,46 @@
+-- Cells that are counted one after the other, and the sum of their whole numbers.
+use Rattle.std.proofs.Common.{◌≡◌, ℕ, ◌+◌, ◌*◌, List, [], ◌∷◌, ◌++◌, length, map, ℤ, pos, neg_ℤ, ◌+ℤ◌, ◌≤ℤ◌, SFits, w64, refl, sym, ap, subst, ◌∙◌, append_assoc, arith}
+use Rattle.std.proofs.lemmas.Int.{ints}
+use Rattle.std.proofs.lemmas.List.{length-append, map-append}
+use Rattle.xls_data.specs.Content.{Content}
+use Rattle.xls_data.specs.Data.{content_of}
+use Rattle.xls_data.specs.declared.values.Data.{Data}
+use Rattle.xls_made.specs.Made.{int_of, sum_of_ints}
+use Rattle.xls_made.proofs.SumLemmas.{sum_more}
+
+-- a cell with its row and its column
+abbrev pub Placed : Type 0
+Placed = ℕ × ℕ × Data
+
+abbrev pub contents : List Placed → List Content
+contents cs = map (λ (c : Placed). content_of c.2) cs
+
+-- of all cells those in front are counted, and these are left; each adds at most 2^63 either way
+pub record SoFar (all left : List Placed) (cells : ℕ) (sum : ℤ) : Type 0 where
+  pub front : List Placed
+  pub whole : all ≡ front ++ left
+  pub counted : cells ≡ length front
+  pub summed : sum ≡ sum_of_ints (contents front)
+  pub low : neg_ℤ (pos (cells * 9_223_372_036_854_775_808)) ≤ℤ sum
+  pub high : sum ≤ℤ pos (cells * 9_223_372_036_854_775_808)
+
+-- one cell more
+count_more : (all left : List Placed) (cell : Placed) (cells : ℕ) (sum next : ℤ) → SoFar all (cell ∷ left) cells sum
+    → SFits w64 next → next ≡ int_of (content_of cell.2) → SoFar all left (cells + 1) (sum +ℤ next)
+count_more all left cell cells sum next so fits is = record {
+  front = so.front ++ cell ∷ [];
+  whole = so.whole ∙ sym (append_assoc so.front (cell ∷ []) left);
+  counted = let n = so.counted in omega (arith, n, length-append so.front (cell ∷ []));
+  summed = rw (so.summed, is) (sym (ap sum_of_ints (map-append (λ (c : Placed). content_of c.2) so.front (cell ∷ [])) ∙ sum_more (contents so.front) (content_of cell.2)));
+  low = let low : _ ≤ℤ _ = so.low in omega (arith, ints);
+  high = let high : _ ≤ℤ _ = so.high in omega (arith, ints);
+}
+
+pub count_nothing : (all : List Placed) → SoFar all all 0 (pos 0)
+count_nothing all = record { front = []; whole = refl; counted = refl; summed = refl; low = omega (arith, ints); high = omega (arith, ints) }
+
+pub count_next : (all old left : List Placed) (cell : Placed) (cells : ℕ) (sum next : ℤ) → SoFar all old cells sum
+    → old ≡ cell ∷ left → SFits w64 next → next ≡ int_of (content_of cell.2)
+    → SoFar all left (cells + 1) (sum +ℤ next)
+count_next all old left cell cells sum next so split fits is =
+    count_more all left cell cells sum next (subst (λ (l : List Placed). SoFar all l cells sum) split so) fits is

@@ -1,0 +1,94 @@
+//! What is told of a made stream.
+
+ghost use Rattle.std.specs.Prelude.{◌≡◌, ◌≤◌, IfOk};
+ghost use Rattle.xls_data.specs.Data.{content_of, is_nothing};
+ghost use Rattle.xls_made.specs.Made.{IsMadeRange, int_of};
+ghost use Rattle.xls_dump.specs.Endings.{Delivers};
+ghost use Rattle.xls_dump.specs.Summary.{counts_text};
+ghost use Rattle.xls_dump.specs.Words.{max_rows};
+ghost use Rattle.xls_dump.specs.Counting.{IsSummary, Measures};
+
+use crate::buffer::Buffer;
+use crate::ending::Stop;
+use crate::field::Field;
+use crate::made::made_bytes;
+use crate::sink::Sink;
+use std::alloc::{AllocError, Global};
+use xls_book::{Reader, SteadySource, Xls};
+use xls_data::Data;
+use xls_range::Range;
+
+/// The height of a range, how many of its cells are used, and the sum of its whole numbers.
+#[derive(Clone, Copy, Debug, PartialEq, Eq)]
+pub struct Summary {
+    rows: u64,
+    cells: u64,
+    sum: u64,
+}
+
+/// The whole number that a cell holds, and 0 for any other.
+fn int_in(cell: &Data) -> i64
+    ensures { result ≡ int_of (content_of cell.now) }
+{
+    match cell {
+        Data::Int(n) => *n,
+        _ => 0,
+    }
+}
+
+/// How many cells of a range are used, and the sum of their whole numbers.
+fn measured(range: &Range<Data>) -> (u64, i128)
+    ensures { Measures range.now result }
+{
+    let mut cells = 0;
+    let mut sum = 0;
+    for (_, _, cell) in range.used_cells() {
+        cells += 1;
+        sum += i128::from(int_in(cell));
+    }
+    (cells, sum)
+}
+
+/// What the range of a made stream holds.
+fn told(range: &Range<Data>, rows: u32) -> Summary
+    requires made { IsMadeRange is_nothing rows range.now }
+    requires most { rows ≤ max_rows }
+    ensures { IsSummary rows result }
+{
+    let (cells, sum) = measured(range);
+    Summary {
+        rows: range.height() as u64,
+        cells,
+        sum: sum as u64,
+    }
+}
+
+/// Makes a stream of so many rows, opens it, and takes the range of its sheet.
+pub fn summary_of(alloc: Global, rows: u32) -> Result<Summary, AllocError>
+    requires least { 1 ≤ rows }
+    requires most { rows ≤ max_rows }
+    ensures { IfOk result (IsSummary rows) }
+{
+    let mut source = SteadySource::new(made_bytes(alloc, rows)?);
+    // A made stream has no fault, and a steady source doesn't fail: only memory may be wanting.
+    let Ok(book) = Xls::new(alloc, &mut source) else {
+        return Err(AllocError);
+    };
+    let Ok(range) = book.worksheet_range(alloc, "G") else {
+        return Err(AllocError);
+    };
+    Ok(told(&range, rows))
+}
+
+/// Writes the three lines of a summary.
+pub fn write_summary<K: Sink>(alloc: Global, sink: &mut K, summary: Summary) -> Result<(), Stop>
+    ensures { Delivers (K.written sink.old) (K.faults sink.old) (K.takes sink.old) (K.written sink.new) (K.faults sink.new)
+        (counts_text summary.rows summary.cells summary.sum) result }
+{
+    let mut buffer = Buffer::new(alloc);
+    buffer.put_line(sink, "rows", &[Field::Number(summary.rows)])?;
+    buffer.put_line(sink, "cells", &[Field::Number(summary.cells)])?;
+    buffer.put_line(sink, "sum", &[Field::Number(summary.sum)])?;
+    buffer.finish(sink)?;
+    Ok(())
+}
