@@ -16,8 +16,8 @@ pub fn formulas(alloc: Global, book: &Xls, n: usize) -> Result<String, AllocErro
 
 // A Formula whose value is the double 6 and whose tokens are these.
 fn formula(alloc: Global, row: u8, tokens: &[u8]) -> Result<Vec<u8>, AllocError> {
-    let size = tokens.len() as u8;
-    let head = [6, 0, size.wrapping_add(22), 0, row, 0, 0, 0, 0, 0];
+    let size = (tokens.len() % 200) as u8;
+    let head = [6, 0, size + 22, 0, row, 0, 0, 0, 0, 0];
     let value = [0, 0, 0, 0, 0, 0, 0x18, 0x40, 0, 0, 0, 0, 0, 0, size, 0];
     joined(alloc, &[&head, &value, tokens])
 }
@@ -111,6 +111,7 @@ fn a_name_finds_its_sheet_behind_it(rt: HostRuntime) -> Result<(), Fail> {
     ];
     let refs = [0x17, 0, 8, 0, 1, 0, 0, 0, 0, 0, 0, 0];
     let book = opened(alloc, &[&G, &name, &refs, &bound(64), &E, &S, &E])?;
+    assert_eq!(rt; book.defined_names().len(), 1);
     let (name, text) = &book.defined_names()[0];
     assert_eq!(rt; (name.as_str(), text.as_str()), ("T", "A!$B$2"));
     let lost = opened(alloc, &[&G, &[0x18, 0, 0, 0], &E]).err();

@@ -54,6 +54,7 @@ fn lists_the_sheets_in_order(rt: HostRuntime) -> Result<(), Fail> {
     let alloc = rt.alloc();
     let book = open(alloc, &LEDGER)?;
     let names = book.sheet_names(alloc)?;
+    assert_eq!(rt; names.len(), 3);
     let shown = [names[0].as_str(), names[1].as_str(), names[2].as_str()];
     assert_eq!(rt; shown, ["Data", "Log", "Old"]);
     assert_eq!(rt; book.worksheets(alloc)?.len(), 3);
