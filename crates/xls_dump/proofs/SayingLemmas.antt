@@ -11,7 +11,7 @@ use Rattle.xls_book.specs.Opening.{OpenCause, ReadCause, IsOpened, default_optio
 use Rattle.xls_dump.specs.Gathering.{Stops}
 use Rattle.xls_dump.specs.Report.{fault_line}
 use Rattle.xls_dump.specs.Summary.{summary_text}
-use Rattle.xls_dump.specs.Says.{Refuses, Says, TellsOf, IsPropertyText, property_limit, RefusesFault, RefusesLength, EndsWell, EndsBySoundness, EndsByLength}
+use Rattle.xls_dump.specs.Says.{Refuses, Says, TellsOf, IsPropertyText, property_limit, RefusesFault, RefusesLength, EndsWell, EndsBySoundness, EndsByLength, IsUnread}
 use Rattle.xls_dump.specs.Endings.{IsFault, Turns, TellsText, Ends}
 use Rattle.xls_dump.specs.declared.command.Command.{Command}
 use Rattle.xls_dump.specs.declared.command.Command.TheVariants.{Props, Generate}
@@ -37,16 +37,16 @@ ends-stopped c left after s s' {w} {w'} {k} {k'} {t} {text} {e} (Err d) is well 
 
 -- an error of reading or opening, where a fault of the bytes is refused
 pub ends-turned : (c : Command) (left after : Option (List ℕ)) (s s' : ℕ) (w w' : Option (List ℕ)) (k k' : ℕ) (t : ℕ → Type 0) (e : XlsError) (r : Result Ending Stop)
-    → (e ≡ errors.Io → Rose s s') → EndsWell c left 5 → (IsFault e → EndsWell c left 1 × Refuses c left (fault_line e))
+    → (IsUnread c → ⊥) → (e ≡ errors.Io → Rose s s') → EndsWell c left 5 → (IsFault e → EndsWell c left 1 × Refuses c left (fault_line e))
     → Turns e w k t w' k' r → Ends c left after s s' w w' k k' r
-ends-turned c left after s s' w w' k k' t e (Ok Done) io well refused p = absurd p
-ends-turned c left after s s' w w' k k' t e (Ok Refused) io well refused p =
+ends-turned c left after s s' w w' k k' t e (Ok Done) reads io well refused p = absurd p
+ends-turned c left after s s' w w' k k' t e (Ok Refused) reads io well refused p =
     let is = refused p.0 in (is.0, (fault_line e, is.1, p.1.appends))
-ends-turned c left after s s' w w' k k' t e (Err Read) io well refused p = (io p.0, p.1)
-ends-turned c left after s s' w w' k k' t e (Err Write) io well refused p =
+ends-turned c left after s s' w w' k k' t e (Err Read) reads io well refused p = (reads, io p.0, p.1)
+ends-turned c left after s s' w w' k k' t e (Err Write) reads io well refused p =
     (p.1.cause, inr (fault_line e, inr (refused p.0).1, p.1.front))
-ends-turned c left after s s' w w' k k' t e (Err Memory) io well refused (inl p) = (well, inl p.0)
-ends-turned c left after s s' w w' k k' t e (Err Memory) io well refused (inr p) =
+ends-turned c left after s s' w w' k k' t e (Err Memory) reads io well refused (inl p) = (well, inl p.0)
+ends-turned c left after s s' w w' k k' t e (Err Memory) reads io well refused (inr p) =
     (well, inr (fault_line e, inr (refused p.0).1, p.1.front))
 
 pub steady-turned : (c : Command) (left w w' : Option (List ℕ)) (k k' : ℕ) (t : ℕ → Type 0) (e : XlsError) (r : Result Ending Stop)

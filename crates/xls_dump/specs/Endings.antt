@@ -7,7 +7,7 @@ use Rattle.xls_book.specs.Causes.{Rose}
 use Rattle.xls_dump.specs.Written.{Writes, WritesPart}
 use Rattle.xls_dump.specs.Gathering.{Stops}
 use Rattle.xls_dump.specs.Report.{fault_line}
-use Rattle.xls_dump.specs.Says.{Tells, Refuses, Says, Leaves, EndsWell}
+use Rattle.xls_dump.specs.Says.{Tells, Refuses, Says, Leaves, EndsWell, IsUnread}
 use Rattle.xls_dump.specs.declared.command.Command.{Command}
 use Rattle.xls_dump.specs.declared.ending.Ending.{Ending}
 use Rattle.xls_dump.specs.declared.ending.Ending.TheVariants.{Done, Refused}
@@ -61,6 +61,6 @@ abbrev pub Ends : Command → Option (List ℕ) → Option (List ℕ) → ℕ �
 Ends c left after s s' w w' k k' (Ok Done) =
     Leaves c left after × EndsWell c left 0 × Writes (Tells c left) w w'
 Ends c left after s s' w w' k k' (Ok Refused) = EndsWell c left 1 × Writes (Refuses c left) w w'
-Ends c left after s s' w w' k k' (Err Read) = Rose s s' × Keeps w w'
+Ends c left after s s' w w' k k' (Err Read) = (IsUnread c → ⊥) × Rose s s' × Keeps w w'
 Ends c left after s s' w w' k k' (Err Write) = Rose k k' × WritesPart (Says c left) w w'
 Ends c left after s s' w w' k k' (Err Memory) = EndsWell c left 5 × WritesPart (Says c left) w w'

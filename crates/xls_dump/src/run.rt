@@ -37,7 +37,8 @@ pub fn run<S: Source, K: Sink>(alloc: Global, words: &[String], source: &mut S, 
     ensures unread { (result ≡ 2 → ⊥) → (c : Command) × IsCommand (map string_bytes words.now) c
         × (IsUnread c → source.new ≡ source.old) }
 
-    // 3: the source failed, and nothing was written.
+    // 3: the source failed, in a command that reads, and nothing was written.
+    ensures reads { result ≡ 3 → (c : Command) × IsCommand (map string_bytes words.now) c × (IsUnread c → ⊥) }
     ensures read_fault { result ≡ 3 → Rose (S.faults source.old) (S.faults source.new) }
     ensures unwritten { result ≡ 3 → Keeps (K.written sink.old) (K.written sink.new) }
 

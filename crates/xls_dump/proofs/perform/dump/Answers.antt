@@ -22,7 +22,7 @@ returns-in_ok-write_report-in-Ok-clause-steady g c n take all =
 pub returns-in-Err-clause-ends : goal.returns-in-Err-clause-ends
 returns-in-Err-clause-ends g c =
     let left = g.S.Source.left c.args.source.now in
-    ends-turned Dump _ _ _ _ _ _ _ _ _ c.in-Err.error c.refuse.result (read_rose left _ _ c.in-Err.error c.in-Err.ensures.cause) (well_given_up left)
+    ends-turned Dump _ _ _ _ _ _ _ _ _ c.in-Err.error c.refuse.result (λ u. u) (read_rose left _ _ c.in-Err.error c.in-Err.ensures.cause) (well_given_up left)
     (λ fault. let line = refuses left _ _ c.in-Err.error c.in-Err.ensures.cause fault in (well_refused left _ line, line)) c.refuse.ensures
 
 pub returns-in-Err-clause-steady : goal.returns-in-Err-clause-steady

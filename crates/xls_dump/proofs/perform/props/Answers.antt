@@ -13,7 +13,7 @@ returns-in-Ok-clause-steady g c =
 pub returns-in-Err-clause-ends : goal.returns-in-Err-clause-ends
 returns-in-Err-clause-ends g c =
     let left = g.S.Source.left c.args.source.now in
-    ends-turned Props _ _ _ _ _ _ _ _ _ c.in-Err.error c.refuse.result (length_rose left _ _ c.in-Err.error c.in-Err.ensures.cause) (length_given_up left)
+    ends-turned Props _ _ _ _ _ _ _ _ _ c.in-Err.error c.refuse.result (λ u. u) (length_rose left _ _ c.in-Err.error c.in-Err.ensures.cause) (length_given_up left)
     (λ fault. let line = refuses_length left _ _ c.in-Err.error c.in-Err.ensures.cause fault in (length_refused left _ line, line)) c.refuse.ensures
 
 pub returns-in-Err-clause-steady : goal.returns-in-Err-clause-steady
