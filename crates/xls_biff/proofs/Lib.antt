@@ -1,7 +1,5 @@
 pub mod OuterLemmas
 pub mod ListLemmas
-pub mod TextLemmas
-pub mod MarkLemmas
-pub mod SstLemmas
-pub mod CheckLemmas
+pub mod TableLemmas
+pub mod PlaceLemmas
 pub mod StandardFacts

@@ -1,94 +1,215 @@
--- Values from outside, so that a wrong rule in the definitions does not check.
-use Rattle.std.proofs.Common.{◌≡◌, [], ◌∷◌, map, refl, pos, negsuc, codes, false, Some, None, Ok, Err}
-use Rattle.std.specs.Fmt.{digits}
-use Rattle.xls_model.specs.StringTable.{marked, units_at, tail_at, next_at, no_units, no_tail}
+-- Values from outside, in the bytes of records, so that a wrong rule in the definitions does not check.
+use Rattle.std.proofs.Common.{◌≡◌, [], ◌∷◌, map, refl, pos, negsuc, codes, true, false, Some, None, Ok, Err}
 use Rattle.xls_model.specs.declared.part.Part.TheVariants as parts
 use Rattle.xls_text.specs.declared.encoding.XlsEncoding.TheVariants.{Utf16, Windows1252}
-use Rattle.xls_data.specs.Content.{int, float}
+use Rattle.xls_text.specs.declared.error.CfbError.TheVariants.{CodePageNotFound}
+use Rattle.xls_data.specs.Content.{int, float, text, truth, failure}
 use Rattle.xls_data.specs.declared.numbers.Number.TheVariants.{Bits, Hundredths, BitsOver100}
-use Rattle.xls_data.specs.declared.formats.CellFormat.TheVariants.{TimeDelta}
-use Rattle.xls_biff.specs.declared.globals.Biff.TheVariants.{Biff5, Biff8}
-use Rattle.xls_biff.specs.declared.error.XlsError.TheVariants as errors
-use Rattle.xls_biff.specs.Cells.{rk_content, rk_whole, mul_rk_count}
-use Rattle.xls_biff.specs.ErrorText.{error_text}
-use Rattle.xls_biff.specs.Globals.{refs_at}
-use Rattle.xls_biff.specs.Regions.{bounds}
-use Rattle.xls_biff.specs.Strings.{format_at, short_string_at, string_at}
-use Rattle.xls_biff.specs.Uncounted.{uncounted_at}
+use Rattle.xls_data.specs.declared.formats.CellFormat.TheVariants.{Other, TimeDelta}
+use Rattle.xls_data.specs.declared.errors.CellErrorType.TheVariants as failures
+use Rattle.xls_data.specs.declared.sheets.SheetType.TheVariants.{Vba, WorkSheet}
+use Rattle.xls_data.specs.declared.sheets.SheetVisible.TheVariants.{VeryHidden, Visible}
+use Rattle.xls_strings.specs.declared.version.Biff.TheVariants.{Biff2, Biff3, Biff4, Biff5, Biff8}
+use Rattle.xls_strings.specs.declared.error.XlsError.TheVariants as errors
+use Rattle.xls_strings.specs.Reading.{fault_in, gives}
+use Rattle.xls_biff.specs.declared.records.bof.Bof.{Bof}
+use Rattle.xls_biff.specs.Cells.{cell_error}
+use Rattle.xls_biff.specs.Records.Bof.{bof_at}
+use Rattle.xls_biff.specs.Records.BoolErr.{bool_err_at}
+use Rattle.xls_biff.specs.Records.BoundSheet.{bound_sheet_at}
+use Rattle.xls_biff.specs.Records.CodePage.{code_page_at}
+use Rattle.xls_biff.specs.Records.DateMode.{date_mode_at}
+use Rattle.xls_biff.specs.Records.Dimensions.{bounds, dimensions_at}
+use Rattle.xls_biff.specs.Records.ExternSheet.{refs_at}
+use Rattle.xls_biff.specs.Records.FilePass.{file_pass_at}
+use Rattle.xls_biff.specs.Records.Format.{format_at}
+use Rattle.xls_biff.specs.Records.Formula.{formula_at, formula_value_at}
+use Rattle.xls_biff.specs.Records.Label.{label_at}
+use Rattle.xls_biff.specs.Records.LabelSst.{label_sst_at}
+use Rattle.xls_biff.specs.Records.MergeCells.{merges_at}
+use Rattle.xls_biff.specs.Records.Number.{number_at}
+use Rattle.xls_biff.specs.Records.Rk.{rk_at, rk_content, rk_whole, mul_rk_at}
+use Rattle.xls_biff.specs.Records.Xf.{xf_at}
+
+-- ---- the globals
+
+-- 0600, 0500, 0400, 0300 and 0200, and 0000 with and without a second number of 1000
+pub known_bof : map (λ body. gives (λ (b : Bof). b.biff) (bof_at body)) (
+    (0x00 ∷ 0x06 ∷ 0x05 ∷ 0x00 ∷ []) ∷ (0x00 ∷ 0x05 ∷ []) ∷ (0x00 ∷ 0x04 ∷ []) ∷ (0x00 ∷ 0x03 ∷ [])
+    ∷ (0x00 ∷ 0x02 ∷ []) ∷ (0x00 ∷ 0x00 ∷ 0x00 ∷ 0x10 ∷ []) ∷ (0x00 ∷ 0x00 ∷ 0x00 ∷ []) ∷ [])
+    ≡ Ok Biff8 ∷ Ok Biff5 ∷ Ok Biff4 ∷ Ok Biff3 ∷ Ok Biff2 ∷ Ok Biff5 ∷ Ok Biff8 ∷ []
+known_bof = refl
+
+-- RC4, and no encryption
+pub known_file_pass : map file_pass_at ((0x01 ∷ 0x00 ∷ []) ∷ (0x00 ∷ 0x00 ∷ []) ∷ [])
+    ≡ Err errors.Password ∷ Ok tt ∷ []
+known_file_pass = refl
+
+-- the pages 1200 and 1252, and 437, which isn't kept
+pub known_code_page : map code_page_at ((0xB0 ∷ 0x04 ∷ []) ∷ (0xE4 ∷ 0x04 ∷ []) ∷ (0xB5 ∷ 0x01 ∷ []) ∷ [])
+    ≡ Ok Utf16 ∷ Ok Windows1252 ∷ Err (errors.Cfb (CodePageNotFound 437)) ∷ []
+known_code_page = refl
+
+pub known_date_mode : map date_mode_at ((0x01 ∷ 0x00 ∷ []) ∷ (0x00 ∷ 0x00 ∷ []) ∷ (0x01 ∷ 0x01 ∷ []) ∷ [])
+    ≡ Ok true ∷ Ok false ∷ Ok false ∷ []
+known_date_mode = refl
+
+-- the format `[h]` of BIFF5, and the identifier 0
+pub known_format : map (format_at Windows1252 Biff5) ((0xA4 ∷ 0x00 ∷ 0x03 ∷ 0x5B ∷ 0x68 ∷ 0x5D ∷ [])
+    ∷ (0x00 ∷ 0x00 ∷ []) ∷ [])
+    ≡ Ok (164, TimeDelta) ∷ Err (errors.InvalidFormat 0) ∷ []
+known_format = refl
+
+pub known_xf : xf_at (0x05 ∷ 0x00 ∷ 0xA4 ∷ 0x00 ∷ []) ≡ Ok 164
+known_xf = refl
+
+-- a worksheet `A` at 25; a very hidden VBA sheet of the name `A`, NUL, `B`, whose byte 4 has its high
+-- bits set; the state 3 before the kind 3; and that kind
+pub known_bound_sheet : map (bound_sheet_at Utf16 Biff8) (
+    (0x19 ∷ 0x00 ∷ 0x00 ∷ 0x00 ∷ 0x00 ∷ 0x00 ∷ 0x01 ∷ 0x00 ∷ 0x41 ∷ [])
+    ∷ (0x00 ∷ 0x01 ∷ 0x00 ∷ 0x00 ∷ 0xC2 ∷ 0x06 ∷ 0x03 ∷ 0x00 ∷ 0x41 ∷ 0x00 ∷ 0x42 ∷ [])
+    ∷ (0x19 ∷ 0x00 ∷ 0x00 ∷ 0x00 ∷ 0x43 ∷ 0x03 ∷ []) ∷ (0x19 ∷ 0x00 ∷ 0x00 ∷ 0x00 ∷ 0x41 ∷ 0x03 ∷ []) ∷ [])
+    ≡ Ok (25, record { name = codes "A"; typ = WorkSheet; visible = Visible })
+    ∷ Ok (256, record { name = codes "AB"; typ = Vba; visible = VeryHidden })
+    ∷ Err (errors.Unrecognized parts.HsState 3) ∷ Err (errors.Unrecognized parts.SheetKind 3) ∷ []
+known_bound_sheet = refl
+
+-- a reference to sheet 1, and half of another one
+pub known_refs : refs_at Biff8 (0x02 ∷ 0x00 ∷ 0x00 ∷ 0x00 ∷ 0x01 ∷ 0x00 ∷ 0x01 ∷ 0x00 ∷ 0x00 ∷ 0x00
+    ∷ 0xFE ∷ [])
+    ≡ Ok (pos 1 ∷ [])
+known_refs = refl
+
+-- ---- cells
+
+-- 3 in row 3, column 1, of class 0
+pub known_number : number_at (Other ∷ []) false (0x03 ∷ 0x00 ∷ 0x01 ∷ 0x00 ∷ 0x00 ∷ 0x00 ∷ 0x00
+    ∷ 0x00 ∷ 0x00 ∷ 0x00 ∷ 0x00 ∷ 0x00 ∷ 0x08 ∷ 0x40 ∷ [])
+    ≡ Ok ((3, 1), float (Bits 0x4008_0000_0000_0000))
+known_number = refl
 
 -- the RK numbers of 123.45 in hundredths, of the whole numbers 1 and 1,234,567 over 100 twice, of the
 -- double 1 and of the double 1 over 100
 pub known_rk : map (λ rk. rk_content None rk false) (0xC0E7 ∷ 0x6 ∷ 0x193 ∷ 0x3FF0_0000 ∷ 0x3FF0_0001 ∷ [])
-    ≡ float (Hundredths (pos 12345)) ∷ int (pos 1) ∷ int (pos 1) ∷ float (Bits 0x3FF0_0000_0000_0000) ∷ float (BitsOver100 0x3FF0_0000_0000_0000) ∷ []
+    ≡ float (Hundredths (pos 12345)) ∷ int (pos 1) ∷ int (pos 1) ∷ float (Bits 0x3FF0_0000_0000_0000)
+    ∷ float (BitsOver100 0x3FF0_0000_0000_0000) ∷ []
 unfolding rk_content
 known_rk = refl
 
 -- the whole numbers -1 and -2^29, and the greatest one
-pub known_signs : map rk_whole (0xFFFF_FFFE ∷ 0x8000_0002 ∷ 0x7FFF_FFFE ∷ []) ≡ negsuc 0 ∷ negsuc 536_870_911 ∷ pos 536_870_911 ∷ []
+pub known_signs : map rk_whole (0xFFFF_FFFE ∷ 0x8000_0002 ∷ 0x7FFF_FFFE ∷ [])
+    ≡ negsuc 0 ∷ negsuc 536_870_911 ∷ pos 536_870_911 ∷ []
 known_signs = refl
 
--- a last column before the first
-pub known_reversed : mul_rk_count (0 ∷ 0 ∷ 2 ∷ 0 ∷ 0 ∷ 0 ∷ 6 ∷ 0 ∷ 0 ∷ 0 ∷ 1 ∷ 0 ∷ []) ≡ Err (errors.Len 65_536 12 parts.Rk)
-known_reversed = refl
+-- 2 in row 1, column 2
+pub known_rk_cell : rk_at [] false (0x01 ∷ 0x00 ∷ 0x02 ∷ 0x00 ∷ 0x00 ∷ 0x00 ∷ 0x0A ∷ 0x00 ∷ 0x00 ∷ 0x00 ∷ [])
+    ≡ Ok ((1, 2), int (pos 2))
+unfolding rk_content
+known_rk_cell = refl
 
--- U+1F600 cut between its units
-pub known_pair : next_at (marked (2 ∷ 0 ∷ 1 ∷ 0x3D ∷ 0xD8 ∷ []) ((1 ∷ 0 ∷ 0xDE ∷ []) ∷ [])) ≡ Ok (0xD83D ∷ 0xDE00 ∷ [], [])
-unfolding units_at tail_at
-known_pair = refl
+-- 2 and 2.5 in row 2, columns 0 and 1; and a last column before the first
+pub known_row : map (mul_rk_at [] false) (
+    (0x02 ∷ 0x00 ∷ 0x00 ∷ 0x00 ∷ 0x00 ∷ 0x00 ∷ 0x0A ∷ 0x00 ∷ 0x00 ∷ 0x00 ∷ 0x00 ∷ 0x00 ∷ 0xEB ∷ 0x03
+    ∷ 0x00 ∷ 0x00 ∷ 0x01 ∷ 0x00 ∷ [])
+    ∷ (0x00 ∷ 0x00 ∷ 0x02 ∷ 0x00 ∷ 0x00 ∷ 0x00 ∷ 0x06 ∷ 0x00 ∷ 0x00 ∷ 0x00 ∷ 0x01 ∷ 0x00 ∷ []) ∷ [])
+    ≡ Ok (((2, 0), int (pos 2)) ∷ ((2, 1), float (Hundredths (pos 250))) ∷ [])
+    ∷ Err (errors.Len 65_536 12 parts.Rk) ∷ []
+unfolding rk_content
+known_row = refl
 
--- `AB`, whose second unit is wide behind the cut
-pub known_width : next_at (marked (2 ∷ 0 ∷ 0 ∷ 0x41 ∷ []) ((1 ∷ 0x42 ∷ 0 ∷ []) ∷ [])) ≡ Ok (0x41 ∷ 0x42 ∷ [], [])
-unfolding units_at tail_at
-known_width = refl
+-- #NULL!, #DIV/0!, #VALUE!, #REF!, #NAME?, #NUM!, #N/A, and the one of data that isn't there yet
+pub known_errors : map cell_error (0x00 ∷ 0x07 ∷ 0x0F ∷ 0x17 ∷ 0x1D ∷ 0x24 ∷ 0x2A ∷ 0x2B ∷ 0x01 ∷ [])
+    ≡ Ok failures.Null ∷ Ok failures.Div0 ∷ Ok failures.Value ∷ Ok failures.Ref ∷ Ok failures.Name
+    ∷ Ok failures.Num ∷ Ok failures.NA ∷ Ok failures.GettingData
+    ∷ Err (errors.Unrecognized parts.CellError 1) ∷ []
+known_errors = refl
 
--- a cut inside a unit
-pub known_half : next_at (marked (2 ∷ 0 ∷ 1 ∷ 0x3D ∷ 0xD8 ∷ 0 ∷ []) ((1 ∷ 0 ∷ 0xDE ∷ []) ∷ [])) ≡ Err no_units
-unfolding units_at tail_at
-known_half = refl
+pub known_bool_err : map bool_err_at (
+    (0x01 ∷ 0x00 ∷ 0x00 ∷ 0x00 ∷ 0x00 ∷ 0x00 ∷ 0x2A ∷ 0x01 ∷ [])
+    ∷ (0x00 ∷ 0x00 ∷ 0x00 ∷ 0x01 ∷ 0x00 ∷ 0x00 ∷ 0x01 ∷ 0x00 ∷ [])
+    ∷ (0x00 ∷ 0x00 ∷ 0x00 ∷ 0x00 ∷ 0x00 ∷ 0x00 ∷ 0x01 ∷ 0x02 ∷ []) ∷ [])
+    ≡ Ok ((1, 0), failure failures.NA) ∷ Ok ((0, 256), truth true)
+    ∷ Err (errors.Unrecognized parts.FError 2) ∷ []
+known_bool_err = refl
 
--- a negative length of the extension
-pub known_negative : next_at (marked (0 ∷ 0 ∷ 4 ∷ 0xFF ∷ 0xFF ∷ 0xFF ∷ 0xFF ∷ []) []) ≡ Err no_tail
-unfolding units_at tail_at
-known_negative = refl
+-- `A` in BIFF8, and U+20AC in BIFF5
+pub known_label : label_at Utf16 Biff8 (0x00 ∷ 0x00 ∷ 0x03 ∷ 0x00 ∷ 0x00 ∷ 0x00 ∷ 0x01 ∷ 0x00 ∷ 0x00
+    ∷ 0x41 ∷ [])
+    ≡ Ok ((0, 3), text (codes "A"))
+known_label = refl
 
--- a run cut inside its four bytes, and a string behind it
-pub known_run : next_at (marked (1 ∷ 0 ∷ 8 ∷ 1 ∷ 0 ∷ 0x61 ∷ 9 ∷ []) ((9 ∷ 9 ∷ 9 ∷ 1 ∷ []) ∷ [])) ≡ Ok (0x61 ∷ [], Some 1 ∷ [])
-unfolding units_at tail_at
-known_run = refl
+pub known_label_5 : label_at Windows1252 Biff5 (0x00 ∷ 0x00 ∷ 0x03 ∷ 0x00 ∷ 0x00 ∷ 0x00 ∷ 0x01 ∷ 0x00
+    ∷ 0x80 ∷ [])
+    ≡ Ok ((0, 3), text (0x20AC ∷ []))
+known_label_5 = refl
 
--- strings of BIFF8 whose counts pass the bytes, and the format `[h]` of BIFF5
-pub known_short : short_string_at Utf16 Biff8 (2 ∷ 0 ∷ 0x41 ∷ 0 ∷ []) ≡ Ok (0x41 ∷ 0 ∷ [])
-known_short = refl
+pub known_shared : map (label_sst_at (codes "a" ∷ codes "b" ∷ [])) (
+    (0x04 ∷ 0x00 ∷ 0x00 ∷ 0x00 ∷ 0x00 ∷ 0x00 ∷ 0x01 ∷ 0x00 ∷ 0x00 ∷ 0x00 ∷ [])
+    ∷ (0x04 ∷ 0x00 ∷ 0x00 ∷ 0x00 ∷ 0x00 ∷ 0x00 ∷ 0x02 ∷ 0x00 ∷ 0x00 ∷ 0x00 ∷ []) ∷ [])
+    ≡ Ok (Some ((4, 0), text (codes "b"))) ∷ Ok None ∷ []
+known_shared = refl
 
-pub known_string : string_at Utf16 Biff8 (5 ∷ 0 ∷ 0 ∷ 0x41 ∷ 0x42 ∷ []) ≡ Ok (0x41 ∷ 0x42 ∷ [])
-known_string = refl
+-- the double 6, text that follows, true, #DIV/0!, the empty text, and another kind
+pub known_values : map (formula_value_at None false) (
+    (0x00 ∷ 0x00 ∷ 0x00 ∷ 0x00 ∷ 0x00 ∷ 0x00 ∷ 0x18 ∷ 0x40 ∷ [])
+    ∷ (0x00 ∷ 0x00 ∷ 0x00 ∷ 0x00 ∷ 0x00 ∷ 0x00 ∷ 0xFF ∷ 0xFF ∷ [])
+    ∷ (0x01 ∷ 0x00 ∷ 0x01 ∷ 0x00 ∷ 0x00 ∷ 0x00 ∷ 0xFF ∷ 0xFF ∷ [])
+    ∷ (0x02 ∷ 0x00 ∷ 0x07 ∷ 0x00 ∷ 0x00 ∷ 0x00 ∷ 0xFF ∷ 0xFF ∷ [])
+    ∷ (0x03 ∷ 0x00 ∷ 0x00 ∷ 0x00 ∷ 0x00 ∷ 0x00 ∷ 0xFF ∷ 0xFF ∷ [])
+    ∷ (0x04 ∷ 0x00 ∷ 0x00 ∷ 0x00 ∷ 0x00 ∷ 0x00 ∷ 0xFF ∷ 0xFF ∷ []) ∷ [])
+    ≡ Ok (Some (float (Bits 0x4018_0000_0000_0000))) ∷ Ok None ∷ Ok (Some (truth true))
+    ∷ Ok (Some (failure failures.Div0)) ∷ Ok (Some (text []))
+    ∷ Err (errors.Unrecognized parts.CellError 4) ∷ []
+known_values = refl
 
-pub known_zero : string_at Utf16 Biff8 (0 ∷ 1 ∷ []) ≡ Err (errors.Len 3 2 parts.Text)
-known_zero = refl
+-- true in row 1, column 2, and the tokens of 5
+pub known_formula : formula_at [] false (
+    0x01 ∷ 0x00 ∷ 0x02 ∷ 0x00 ∷ 0x00 ∷ 0x00 ∷ 0x01 ∷ 0x00 ∷ 0x01 ∷ 0x00 ∷ 0x00 ∷ 0x00 ∷ 0xFF ∷ 0xFF
+    ∷ 0x00 ∷ 0x00 ∷ 0x00 ∷ 0x00 ∷ 0x00 ∷ 0x00 ∷ 0x03 ∷ 0x00 ∷ 0x1E ∷ 0x05 ∷ 0x00 ∷ [])
+    ≡ Ok ((1, 2), Some (truth true), 0x03 ∷ 0x00 ∷ 0x1E ∷ 0x05 ∷ 0x00 ∷ [])
+known_formula = refl
 
-pub known_format : format_at Windows1252 Biff5 (0xA4 ∷ 0 ∷ 3 ∷ 0x5B ∷ 0x68 ∷ 0x5D ∷ []) ≡ Ok (164, TimeDelta)
-known_format = refl
+-- ---- regions
 
--- a name without its count, and a wide unit that isn't there
-pub known_uncounted : uncounted_at 5 (0 ∷ 0x54 ∷ 0x6F ∷ 0x74 ∷ 0x61 ∷ 0x6C ∷ 0x3A ∷ []) ≡ Ok (codes "Total", 6)
-known_uncounted = refl
-
-pub known_missing : uncounted_at 2 (1 ∷ 0x41 ∷ 0 ∷ 0x42 ∷ []) ≡ Err (errors.Len 5 4 parts.NoCch)
-known_missing = refl
-
--- a reference to sheet 1
-pub known_refs : refs_at Biff8 (2 ∷ 0 ∷ 0 ∷ 0 ∷ 1 ∷ 0 ∷ 1 ∷ 0 ∷ []) ≡ Ok (pos 1 ∷ [])
-known_refs = refl
-
--- no rows, and a first column behind the last
+-- no rows, and a first column after the last
 pub known_bounds : bounds 0 0 0 0 ≡ record { start = (0, 0); end = (0, 0) }
 known_bounds = refl
 
 pub known_columns : bounds 1 3 5 4 ≡ record { start = (1, 0); end = (2, 3) }
 known_columns = refl
 
--- printed texts
-pub known_texts : map error_text (errors.Len 14 3 parts.Number ∷ errors.Unrecognized parts.HsState 63 ∷ errors.IfTab 72 ∷ errors.InvalidFormat 4 ∷ [])
-    ≡ codes "Invalid number length, expected at least 14, found 3" ∷ codes "Unrecognized BoundSheet8:hsState: 0x3F" ∷ codes "Invalid iftab 48" ∷ codes "Invalid ifmt value: '4'" ∷ []
-unfolding digits
-known_texts = refl
+-- rows 1 to 3 and columns 2 to 4, in 32 bits and in 16
+pub known_dimensions : map dimensions_at (
+    (0x01 ∷ 0x00 ∷ 0x00 ∷ 0x00 ∷ 0x04 ∷ 0x00 ∷ 0x00 ∷ 0x00 ∷ 0x02 ∷ 0x00 ∷ 0x05 ∷ 0x00 ∷ 0x00 ∷ 0x00 ∷ [])
+    ∷ (0x01 ∷ 0x00 ∷ 0x04 ∷ 0x00 ∷ 0x02 ∷ 0x00 ∷ 0x05 ∷ 0x00 ∷ 0x00 ∷ 0x00 ∷ []) ∷ [])
+    ≡ Ok (record { start = (1, 2); end = (3, 4) }) ∷ Ok (record { start = (1, 2); end = (3, 4) }) ∷ []
+known_dimensions = refl
+
+-- rows 0 to 0 and columns 1 to 2
+pub known_merges : merges_at (0x01 ∷ 0x00 ∷ 0x00 ∷ 0x00 ∷ 0x00 ∷ 0x00 ∷ 0x01 ∷ 0x00 ∷ 0x02 ∷ 0x00 ∷ [])
+    ≡ Ok (record { start = (0, 1); end = (0, 2) } ∷ [])
+known_merges = refl
+
+-- ---- least lengths
+
+-- FilePass, BOF, CodePage, DateMode, Format, XF, BoundSheet8 and ExternSheet
+pub known_lengths : file_pass_at [] ∷ fault_in (bof_at []) ∷ fault_in (code_page_at [])
+    ∷ fault_in (date_mode_at []) ∷ fault_in (format_at Utf16 Biff8 []) ∷ fault_in (xf_at [])
+    ∷ fault_in (bound_sheet_at Utf16 Biff8 []) ∷ fault_in (refs_at Biff8 []) ∷ []
+    ≡ Err (errors.Len 2 0 parts.FilePass) ∷ Err (errors.Len 2 0 parts.Bof)
+    ∷ Err (errors.Len 2 0 parts.CodePage)
+    ∷ Err (errors.Len 2 0 parts.DateMode) ∷ Err (errors.Len 2 0 parts.Format) ∷ Err (errors.Len 4 0 parts.Xf)
+    ∷ Err (errors.Len 6 0 parts.BoundSheet) ∷ Err (errors.Len 2 0 parts.ExternSheet) ∷ []
+known_lengths = refl
+
+-- Number, RK, MulRk, BoolErr, Label, LabelSst, Formula, Dimensions and MergeCells
+pub known_sheet_lengths : fault_in (number_at [] false []) ∷ fault_in (rk_at [] false [])
+    ∷ fault_in (mul_rk_at [] false []) ∷ fault_in (bool_err_at []) ∷ fault_in (label_at Utf16 Biff8 [])
+    ∷ fault_in (label_sst_at [] []) ∷ fault_in (formula_at [] false []) ∷ fault_in (dimensions_at [])
+    ∷ fault_in (merges_at []) ∷ []
+    ≡ Err (errors.Len 14 0 parts.Number) ∷ Err (errors.Len 10 0 parts.Rk) ∷ Err (errors.Len 6 0 parts.Rk)
+    ∷ Err (errors.Len 8 0 parts.BoolErr) ∷ Err (errors.Len 6 0 parts.Label)
+    ∷ Err (errors.Len 10 0 parts.LabelSst)
+    ∷ Err (errors.Len 20 0 parts.Formula) ∷ Err (errors.Len 14 0 parts.Dimensions)
+    ∷ Err (errors.Len 2 0 parts.MergeCells) ∷ []
+known_sheet_lengths = refl

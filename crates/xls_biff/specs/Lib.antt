@@ -1,14 +1,6 @@
-pub mod ErrorText
-pub mod Reading
 pub mod Walking
 pub mod Outer
-pub mod Globals
 pub mod Cells
-pub mod Regions
-pub mod Texts
-pub mod Strings
-pub mod Uncounted
-pub mod MarkSteps
-pub mod Sst
+pub mod Records
+pub mod SheetTable
 pub use Rattle.xls_model.specs.Stream
-pub mod Checks

@@ -5,9 +5,9 @@ use Rattle.xls_model.specs.Cut.{Cut}
 use Rattle.xls_model.specs.Substreams.{is_sheet_type}
 use Rattle.xls_model.specs.Counting.{found_from, with_group}
 use Rattle.xls_model.specs.declared.part.Part.{Part}
-use Rattle.xls_biff.specs.declared.record.Record.{Record}
-use Rattle.xls_biff.specs.declared.error.XlsError.{XlsError}
-use Rattle.xls_biff.specs.declared.error.XlsError.TheVariants.{EoStream}
+use Rattle.xls_strings.specs.declared.record.Record.{Record}
+use Rattle.xls_strings.specs.declared.error.XlsError.{XlsError}
+use Rattle.xls_strings.specs.declared.error.XlsError.TheVariants.{EoStream}
 use Rattle.xls_biff.specs.Walking.{group_of}
 
 -- some groups lead from these bytes to those, and none of them is kept
@@ -17,7 +17,7 @@ pub record Skips (before : List ℕ) (was : ℕ) (after : List ℕ) (now : ℕ) 
   pub kept : (more : List Group) (cut : Option Part) → found_from was (groups ++ more) cut ≡ found_from now more cut
   pub fewer : length after ≤ length before
 
--- the next kept group, behind some that aren't
+-- the next kept group, after some that aren't
 pub record Keeps (before : List ℕ) (was : ℕ) (g : Group) (after : List ℕ) (now : ℕ) : Type 0 where
   pub groups : List Group
   pub is_kept : is_sheet_type g ≡ true

@@ -1,16 +1,15 @@
-//! The records of a sheet.
+//! What the cell records of a sheet have in common.
 
 ghost use Rattle.std.specs.Prelude.{◌≡◌, ◌≤◌, length};
-ghost use Rattle.xls_biff.specs.Cells.{entry_of, number_at, position_at};
-ghost use Rattle.xls_biff.specs.Reading.{Exactly};
+ghost use Rattle.xls_strings.specs.Reading.{Exactly};
+ghost use Rattle.xls_biff.specs.Cells.{cell_error, position_at};
 
-use crate::error::XlsError;
-use crate::fields::{bits_at, u16_at};
+use crate::fields::u16_at;
 use xls_bytes::read_u16;
-use xls_data::{Cell, CellFormat, Data, Number, format_excel_number};
-use xls_model::Part;
+use xls_data::CellErrorType;
+use xls_strings::{Part, XlsError};
 
-/// The row and the column at the front of a cell record.
+/// The row and the column that begin a cell record.
 pub(crate) fn position_of(body: &[u8]) -> (u32, u32)
     requires { 4 ≤ length body.now }
     ensures { result ≡ position_at body.now }
@@ -20,20 +19,23 @@ pub(crate) fn position_of(body: &[u8]) -> (u32, u32)
     (u32::from(row), u32::from(column))
 }
 
-/// The cell of a Number record's body: row, column, XF index and the 64 bits of a double, which
-/// stays in the form `Bits`. The class is that of the XF index, and `Other` where `formats` ends
-/// before it. `Len` for fewer than 14 bytes. Takes no memory.
-pub fn parse_number(r: &[u8], formats: &[CellFormat], is_1904: bool) -> Result<Cell<Data>, XlsError>
-    ensures { Exactly entry_of result (number_at formats.now is_1904 r.now) }
+/// The error value of a code, BErr of [MS-XLS], as cells and formulas have it. `Unrecognized` for the
+/// code of none. Takes no memory.
+pub fn error_of_code(code: u8) -> Result<CellErrorType, XlsError>
+    ensures { Exactly (λ e. e) result (cell_error code) }
 {
-    if r.len() < 14 {
-        return Err(XlsError::Len {
-            expected: 14,
-            found: r.len(),
-            typ: Part::Number,
-        });
+    match code {
+        0x00 => Ok(CellErrorType::Null),
+        0x07 => Ok(CellErrorType::Div0),
+        0x0F => Ok(CellErrorType::Value),
+        0x17 => Ok(CellErrorType::Ref),
+        0x1D => Ok(CellErrorType::Name),
+        0x24 => Ok(CellErrorType::Num),
+        0x2A => Ok(CellErrorType::NA),
+        0x2B => Ok(CellErrorType::GettingData),
+        _ => Err(XlsError::Unrecognized {
+            typ: Part::CellError,
+            val: code,
+        }),
     }
-    let class = formats.get(usize::from(u16_at(r, 4)));
-    let value = format_excel_number(Number::Bits(bits_at(r, 6)), class, is_1904);
-    Ok(Cell::new(position_of(r), value))
 }

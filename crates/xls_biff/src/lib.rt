@@ -3,40 +3,39 @@
 
 mod cells;
 mod checks;
-mod error;
-mod failures;
 mod fields;
-mod globals;
-mod labels;
-mod lists;
-mod marked;
-mod record;
-mod regions;
-mod rk;
-mod sheets;
-mod sst;
-mod strings;
+mod records;
+mod refs;
 mod substream;
-mod uncounted;
 mod walk;
 
-pub use cells::parse_number;
-pub use checks::{check_sheet_metadata, check_sheet_record, sheet_record_weight};
-pub use error::XlsError;
-pub use failures::{parse_bool_err, parse_formula_value};
-pub use globals::{Biff, Bof, parse_bof, parse_extern_sheet, parse_xf};
-pub use labels::{parse_label, parse_label_sst};
-pub use lists::{Refs, Strings};
-pub use record::{Pieces, Record};
-pub use regions::{parse_dimensions, parse_merge_cells};
-pub use rk::{parse_mul_rk, parse_rk};
-pub use sheets::{parse_format, parse_sheet_metadata};
-pub use sst::{SstReader, parse_sst, skip_sst};
-pub use strings::{parse_short_string, parse_string};
+pub use cells::error_of_code;
+pub use checks::{check_sheet_record, sheet_record_weight};
+pub use records::bof::{Bof, parse_bof};
+pub use records::bool_err::parse_bool_err;
+pub use records::bound_sheet::{check_sheet_metadata, parse_sheet_metadata};
+pub use records::code_page::parse_code_page;
+pub use records::date_mode::parse_date_mode;
+pub use records::dimensions::parse_dimensions;
+pub use records::extern_sheet::parse_extern_sheet;
+pub use records::file_pass::parse_file_pass;
+pub use records::format::parse_format;
+pub use records::formula::{
+    FormulaRecord, formula_position, parse_formula_record, parse_formula_value,
+};
+pub use records::label::parse_label;
+pub use records::label_sst::parse_label_sst;
+pub use records::merge_cells::parse_merge_cells;
+pub use records::number::parse_number;
+pub use records::rk::{parse_mul_rk, parse_rk};
+pub use records::xf::parse_xf;
+pub use refs::Refs;
 pub use substream::SheetRecords;
-pub use uncounted::{parse_uncounted, size_of_uncounted};
 pub use walk::RecordIter;
-pub use xls_model::Part;
+pub use xls_strings::{
+    Biff, Part, Pieces, Record, SstReader, Strings, XlsError, parse_short_string, parse_sst,
+    parse_string, parse_uncounted, size_of_uncounted, skip_sst,
+};
 
 #[cfg(test)]
 mod tests;

@@ -4,14 +4,13 @@ ghost use Rattle.std.specs.Prelude.{◌≡◌, ◌+◌, ◌<◌, ◌≤◌, ◌^
 ghost use Rattle.xls_model.specs.Substreams.{is_among, sheet_types};
 ghost use Rattle.xls_biff.specs.Outer.{OuterSteps};
 
-use crate::error::XlsError;
-use crate::record::Record;
 use crate::walk::RecordIter;
 use std::marker::Model;
 use xls_model::types::{
     BOF, BOOL_ERR, DIMENSIONS, EOF, FORMULA, LABEL, LABEL_SST, MERGE_CELLS, MUL_RK, NUMBER,
     R_STRING, RK, STRING,
 };
+use xls_strings::{Record, XlsError};
 
 /// Whether records of this type are kept.
 fn is_sheet_type(typ: u16) -> bool

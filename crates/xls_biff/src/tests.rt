@@ -8,7 +8,6 @@ mod cuts;
 mod globals;
 mod lengths;
 mod regions;
-mod strings;
 mod table;
 mod walk;
 
@@ -18,6 +17,15 @@ fn record_of(bytes: &[u8]) -> Result<Record<'_>, XlsError> {
     match RecordIter::new(bytes).next() {
         Some(r) => r,
         None => Err(XlsError::Password),
+    }
+}
+
+/// A record without Continue records.
+fn record(typ: u16, body: &[u8]) -> Record<'_> {
+    Record {
+        typ,
+        body,
+        pieces: Pieces::new(&[]),
     }
 }
 

@@ -5,11 +5,9 @@ ghost use Rattle.xls_model.specs.Stream.{Begins, IsRecord, StartsContinue};
 ghost use Rattle.xls_model.specs.Cut.{Cut};
 ghost use Rattle.xls_biff.specs.Walking.{group_of, Steps};
 
-use crate::error::XlsError;
-use crate::record::{Pieces, Record};
 use std::marker::Model;
 use xls_bytes::read_u16;
-use xls_model::Part;
+use xls_strings::{Part, Pieces, Record, XlsError};
 
 /// The type and the body of the first record, and the bytes after it.
 fn split_record(bytes: &[u8]) -> Result<(u16, &[u8], &[u8]), Part>
@@ -28,7 +26,7 @@ fn split_record(bytes: &[u8]) -> Result<(u16, &[u8], &[u8]), Part>
     Ok((typ, &record[4..], rest))
 }
 
-/// Whether a Continue record stands at the front that belongs to the record before it.
+/// Whether the next record is a Continue that belongs to the record before it.
 fn starts_continue(bytes: &[u8]) -> bool
     ensures { IsTrue result ↔ StartsContinue bytes.now }
 {

@@ -6,11 +6,11 @@ use Rattle.std.specs.List.{AllZip}
 use Rattle.std.specs.Cmp.Lexicographic.{pointwise}
 use Rattle.xls_model.specs.Listing.{Kept}
 use Rattle.xls_data.specs.Sheets.{SheetContent}
-use Rattle.xls_book.specs.InForce.{Setting}
+use Rattle.xls_book.specs.InForce.{InForce}
 use Rattle.xls_book.specs.Reading.{SheetRecords, SheetView, IsContent, last_named, kept_named, IsShown}
 use Rattle.xls_book.specs.Steps.{AreSheets, paired, no_view, shown}
 
-module _ (s : Setting) where
+module _ (s : InForce) where
   -- ---- the last of two
 
   abbrev IsSame : Option SheetView → Option (List Kept) → Type 0

@@ -1,18 +1,30 @@
 -- What a step says where a reader refused, and the string table that a reader found.
-use Rattle.std.proofs.Common.{◌≡◌, ℕ, ◌<◌, ◌≤◌, List, length, map, drop, refl, sym, ap, ◌∙◌, arith, true, false, Result, Ok, Err}
+use Rattle.std.proofs.Common.{◌≡◌, ℕ, ◌<◌, ◌≤◌, List, [], ◌∷◌, ◌++◌, length, map, drop, refl, sym, ap, ◌∙◌, arith, true, false, Option, Result, Ok, Err}
 use Rattle.std.specs.Prelude.{nat_lt}
 use Rattle.std.specs.Char.Utf16.{utf16_lossy_chars}
 use Rattle.xls_model.specs.Stream.{Group}
-use Rattle.xls_model.specs.Listing.{Shared, no_table, table_of, table_without, IsShared}
+use Rattle.xls_model.specs.Listing.{Shared, no_table, table_of, table_without, IsShared, Kept, plain_item, table_item, sheet_item}
 use Rattle.xls_model.specs.StringTable.{Mark, Missing, marked, Table, TableFault}
 use Rattle.xls_model.proofs.TableReadings.{one_reading}
+use Rattle.xls_text.specs.declared.encoding.XlsEncoding.{XlsEncoding}
+use Rattle.xls_data.specs.Sheets.{SheetContent}
+use Rattle.xls_data.specs.declared.formats.CellFormat.{CellFormat}
+use Rattle.xls_strings.specs.declared.version.Biff.{Biff}
+use Rattle.xls_model.specs.declared.part.Part.{Part}
 use Rattle.xls_model.specs.declared.part.Part.TheVariants.{Sst}
-use Rattle.xls_biff.specs.declared.error.XlsError.{XlsError}
-use Rattle.xls_biff.specs.declared.error.XlsError.TheVariants as errors
-use Rattle.xls_biff.specs.Reading.{Fails, Gives}
-use Rattle.xls_biff.specs.Sst.{error_of, ReadsTable, sst_marks, InTable}
-use Rattle.xls_book.specs.RecordTable.{texts_of}
-use Rattle.xls_book.specs.Steps.{State, table_step}
+use Rattle.xls_strings.specs.declared.error.XlsError.{XlsError}
+use Rattle.xls_strings.specs.declared.error.XlsError.TheVariants as errors
+use Rattle.xls_strings.specs.Reading.{Fails, Gives, gives}
+use Rattle.xls_strings.specs.Sst.{error_of, ReadsTable, sst_marks, InTable}
+use Rattle.xls_biff.specs.Records.BoundSheet.{bound_sheet_at}
+use Rattle.xls_book.specs.GlobalsTable.{strings_record, unless_refused, texts_of}
+use Rattle.xls_biff.specs.Cells.{Position}
+use Rattle.xls_biff.specs.SheetTable.{SheetRecord}
+use Rattle.xls_formula.specs.Context.{Context}
+use Rattle.xls_book.specs.SheetTable.{adds}
+use Rattle.xls_book.specs.Reading.{SheetView}
+use Rattle.xls_book.specs.Steps.{Follows, State, stepped, given_step}
+use Rattle.xls_book.proofs.OpenLemmas.{Found, sheet_line, bound_offset}
 
 -- a refusal goes through a step that hands refusals on
 pub fails_through : {X Y : Type 0} (f : Result X XlsError → Result Y XlsError)
@@ -68,14 +80,53 @@ table_read g (table_without m) r h i =
     let e = long_marks g h.0 in
     read_faulty (marked (drop 8 g.body) g.tail) (length g.body) m r h.1 (rw e at i)
 
--- likewise behind the step
-pub table_follows : (g : Group) (shared : Shared) (s : State) (e : XlsError) → IsShared g shared
-    → InTable ReadsTable (sst_marks g.body g.tail) (Err e)
-    → Fails e (table_step s (texts_of (length g.body) shared))
-table_follows g shared s e h i =
-    fails_through (table_step s) (λ x. refl) e (texts_of (length g.body) shared) (table_read g shared (Err e) h i)
+-- likewise after the step
+module _ (g : Group) (shared : Shared) (s : State) (h : IsShared g shared) where
+  abbrev table_step : Result (List (List ℕ)) XlsError → Result State XlsError
+  table_step r = stepped s (table_item g.body shared) (gives strings_record r)
 
-pub table_stepped : (g : Group) (shared : Shared) (s : State) (texts : List (List ℕ)) → IsShared g shared
-    → InTable ReadsTable (sst_marks g.body g.tail) (Ok texts)
-    → table_step s (texts_of (length g.body) shared) ≡ Ok (record s { strings = texts })
-table_stepped g shared s texts h i = ap (table_step s) (table_read g shared (Ok texts) h i)
+  pub table_follows : (e : XlsError) → InTable ReadsTable (sst_marks g.body g.tail) (Err e)
+      → Fails e (table_step (texts_of (length g.body) shared))
+  table_follows e i = fails_through table_step (λ x. refl) e (texts_of (length g.body) shared) (table_read g shared (Err e) h i)
+
+  pub table_stepped : (texts : List (List ℕ)) → InTable ReadsTable (sst_marks g.body g.tail) (Ok texts)
+      → table_step (texts_of (length g.body) shared) ≡ Ok (record s { strings = texts })
+  table_stepped texts i = ap table_step (table_read g shared (Ok texts) h i)
+
+-- ---- a BoundSheet8
+
+module _ (page : XlsEncoding) (version : Biff) (body : List ℕ) (s : State) (kept : List Kept) (cut : Option Part) where
+  abbrev sheet_stepped_by : Found → Result State XlsError
+  sheet_stepped_by r = stepped s (sheet_item body kept cut) (sheet_line r)
+
+  pub sheet_follows : (e : XlsError) → Fails e (bound_sheet_at page version body)
+      → Fails e (sheet_stepped_by (bound_sheet_at page version body))
+  sheet_follows e h = fails_through sheet_stepped_by (λ x. refl) e (bound_sheet_at page version body) h
+
+  pub sheet_stepped : (o : ℕ) (c : SheetContent) → bound_sheet_at page version body ≡ Ok (o, c)
+      → sheet_stepped_by (bound_sheet_at page version body) ≡ Ok (record s { sheets = s.sheets ++ (o, c) ∷ [] })
+  sheet_stepped o c h =
+      ap sheet_stepped_by h
+      ∙ ap (λ (x : ℕ). Ok (record s { sheets = s.sheets ++ (x, c) ∷ [] })) (sym (bound_offset page version body (o, c) h))
+
+-- ---- a Format
+
+module _ (typ : ℕ) (body : List ℕ) (s : State) (read : Result (ℕ × CellFormat) XlsError) where
+  abbrev format_stepped : Result State XlsError
+  format_stepped = stepped s (plain_item typ body) (unless_refused read)
+
+  pub format_taken : (f : ℕ × CellFormat) → read ≡ Ok f → format_stepped ≡ Ok (record s { formats = s.formats ++ f ∷ [] })
+  format_taken f h = ap (λ (r : Result (ℕ × CellFormat) XlsError). stepped s (plain_item typ body) (unless_refused r)) h
+
+  pub format_passed : (e : XlsError) → Fails e read → (e ≡ errors.Memory → ⊥) → format_stepped ≡ Ok s
+  format_passed errors.Memory h n = absurd (n refl)
+  format_passed e h n = ap (λ (r : Result (ℕ × CellFormat) XlsError). stepped s (plain_item typ body) (unless_refused r)) h
+
+-- ---- a record of a sheet
+
+-- what a reader gave is what the record's line adds
+pub line_taken : {X : Type 0} (new v : SheetView) (result : Result (Unit {0}) XlsError) (c : Context) (at : Position) (f : X → SheetRecord) (r : Result X XlsError)
+    → Follows new result (given_step v (gives (λ x. adds c at (f x)) r))
+    → Follows new result (given_step v (gives (adds c at) (gives f r)))
+line_taken new v result c at f (Ok x) h = h
+line_taken new v result c at f (Err e) h = h

@@ -15,13 +15,13 @@ use Rattle.xls_data.specs.Sheets.{SheetContent, sheet_content}
 use Rattle.xls_data.specs.declared.sheets.Sheet.{Sheet}
 use Rattle.xls_data.specs.Builtin.{class_of_code}
 use Rattle.xls_data.specs.declared.formats.CellFormat.{CellFormat}
-use Rattle.xls_biff.specs.declared.error.XlsError.{XlsError}
-use Rattle.xls_biff.specs.declared.error.XlsError.TheVariants as errors
-use Rattle.xls_book.specs.InForce.{Setting, last_class, class_in}
+use Rattle.xls_strings.specs.declared.error.XlsError.{XlsError}
+use Rattle.xls_strings.specs.declared.error.XlsError.TheVariants as errors
+use Rattle.xls_book.specs.InForce.{InForce, last_class, class_in}
 use Rattle.xls_book.specs.Reading.{SheetView, last_named}
 use Rattle.xls_book.specs.Steps.{last_place, paired, no_view, shown, Sheets, listed_of, IsRead, Reads, AreContents, ContentsFault, ReadsContents}
 use Rattle.xls_book.specs.declared.options.XlsOptions.{XlsOptions}
-use Rattle.xls_book.specs.declared.globals.Listed.{Listed}
+use Rattle.xls_book.specs.declared.listed.Listed.{Listed}
 use Rattle.xls_model.specs.Listing.{IsSheetPart}
 use Rattle.xls_book.proofs.NameLemmas.{same_text}
 
@@ -48,7 +48,7 @@ class_more fs i d q l =
     ap (λ (x : List (ℕ × CellFormat)). last_class x q) (take_more fs i d l)
     ∙ class_push (take i fs) (get_or fs i d) q
 
--- where the map had the classes of the formats so far, it has them behind one more
+-- where the map had the classes of the formats so far, it has them after one more
 pub class_next : (fs : List (ℕ × CellFormat)) (i : ℕ) (d : ℕ × CellFormat) (old new : ℕ → Option CellFormat)
     → i < length fs → ((q : ℕ) → old q ≡ last_class (take i fs) q)
     → ((q : ℕ) → new q ≡ cond ((get_or fs i d).0 == q) (Some (get_or fs i d).1) (old q))
@@ -102,7 +102,7 @@ place_more ts i t name l e =
     ∙ place_push (take i ts) t name
     ∙ ap (λ (k : ℕ). cond (bytes_eq (string_bytes t.name) name) (Some k) (last_place (take i ts) name)) (length-take-le i ts (omega arith))
 
--- where the map had the places of the sheets so far, it has them behind one more
+-- where the map had the places of the sheets so far, it has them after one more
 pub place_next : (ts : List Sheet) (i : ℕ) (t : Sheet) (text : List ℕ) (old new : List ℕ → Option ℕ)
     → i < length ts → t ≡ get_or ts i t → text ≡ string_bytes (get_or ts i t).name
     → ((name : List ℕ) → old name ≡ last_place (take i ts) name)
@@ -116,7 +116,7 @@ place_next ts i t text old new l e is had puts name =
 
 -- ---- contents
 
-module _ (options : XlsOptions) (s : Setting) (stream : List ℕ) where
+module _ (options : XlsOptions) (s : InForce) (stream : List ℕ) where
   are_push : (qs : Sheets) (vs : List SheetView) (q : ℕ × SheetContent) (v : SheetView)
       → AreContents options s stream qs vs → IsRead (IsSheetPart stream q.0) options s v
       → AreContents options s stream (qs ++ q ∷ []) (vs ++ v ∷ [])

@@ -10,11 +10,13 @@ use Rattle.xls_model.specs.Listing.{Entry, Shared, no_table, table_of, table_wit
 use Rattle.xls_model.specs.declared.part.Part.{Part}
 use Rattle.xls_model.proofs.HoldingLemmas.{has_holds, one_holds, one_list}
 use Rattle.xls_data.specs.Sheets.{SheetContent}
-use Rattle.xls_biff.specs.declared.error.XlsError.{XlsError}
-use Rattle.xls_biff.specs.declared.error.XlsError.TheVariants as errors
+use Rattle.xls_strings.specs.declared.error.XlsError.{XlsError}
+use Rattle.xls_strings.specs.declared.error.XlsError.TheVariants as errors
 use Rattle.xls_book.specs.Order.{along, first_of}
-use Rattle.xls_book.specs.InForce.{page_in, version_in, Setting, setting_of}
-use Rattle.xls_book.specs.RecordTable.{fault_of, forced_fault, texts_of, sheet_of}
+use Rattle.xls_book.specs.InForce.{page_in, version_in, InForce, in_force_of}
+use Rattle.xls_strings.specs.Reading.{gives}
+use Rattle.xls_biff.specs.Records.BoundSheet.{sheet_by, bound_sheet_at}
+use Rattle.xls_book.specs.GlobalsTable.{strings_record, sheet_record, fault_of, forced_fault, texts_of}
 use Rattle.xls_book.specs.Reading.{Workbook, IsReading}
 use Rattle.xls_book.specs.Faults.{limit_fault, outer_fault, item_fault, kept_fault, cut_fault, part_places, sheet_places, globals_places, places, FirstBehind, FirstFault, IsSound, entry_fault, IsFullSheet, IsFull}
 use Rattle.xls_book.specs.Causes.{Rose}
@@ -22,8 +24,8 @@ use Rattle.xls_book.specs.Opening.{IsOfOpening, ReadCause, OpenCause, IsOpened}
 use Rattle.xls_book.specs.Steps.{Opened, opened_of, IsStreamOpened, StreamFault, OpensStream}
 use Rattle.xls_book.specs.declared.options.XlsOptions.{XlsOptions}
 use Rattle.xls_book.proofs.OrderLemmas.{or_none, none_both, none_append}
-use Rattle.xls_book.proofs.GlobalsLemmas.{entries_push}
-use Rattle.xls_book.proofs.OpenLemmas.{IsFine, opened_places, after_globals, carries_full, long_sheet, same_fault}
+use Rattle.xls_book.proofs.LineLemmas.{entries_push, long_sheet}
+use Rattle.xls_book.proofs.OpenLemmas.{Found, sheet_line, IsFine, opened_places, after_globals, carries_full}
 use Rattle.xls_book.proofs.ClearLemmas.{IsClear, forced_clear, of_stream, is_of_opening}
 
 -- ---- the byte limit
@@ -98,7 +100,7 @@ cut_none : (cut : Option Part) → first_of (cut_fault cut ∷ []) ≡ None → 
 cut_none None h = refl
 cut_none (Some p) h = absurd cc
 
-fine_from : (options : XlsOptions) (s : Setting) (os : List Opened)
+fine_from : (options : XlsOptions) (s : InForce) (os : List Opened)
     → first_of (flat_map (opened_places options s) os) ≡ None → AllByRecursion (IsFine options s) os
 fine_from options s [] h = tt
 fine_from options s (o ∷ os) h =
@@ -111,7 +113,7 @@ faultless_full : (options : XlsOptions) (bytes : List ℕ) (items : List Item) (
     → first_of (places options items cut) ≡ None → (l : List Entry)
     × Carries bytes l × IsFull options l
 faultless_full options bytes items cut forced h f =
-    let s = setting_of options (map entry_of items) in
+    let s = in_force_of options (map entry_of items) in
     let both = none_both (globals_places options items cut) (flat_map (sheet_places options s) items) f in
     let globals = none_both (along (item_fault options) [] items) (cut_fault cut ∷ []) both.0 in
     let whole : cut ≡ None = cut_none cut globals.1 in
@@ -125,12 +127,18 @@ faultless_full options bytes items cut forced h f =
 not_short : (n m : ℕ) → m ≤ n → nat_lt n m ≡ false
 not_short n m h = grind arith
 
-whole_table : (len : ℕ) (s : Shared) → IsWholeTable s → fault_of (texts_of len s) ≡ None
+whole_table : (len : ℕ) (s : Shared) → IsWholeTable s → fault_of (gives strings_record (texts_of len s)) ≡ None
 whole_table len no_table h = absurd h
 whole_table len (table_of ss) h = refl
 whole_table len (table_without m) h = absurd h
 
-module _ (options : XlsOptions) (s : Setting) where
+-- a sheet is refused as its entry is
+same_fault : (r : Found) (q : Result SheetContent XlsError) → gives (λ (x : ℕ × SheetContent). x.1) r ≡ q
+    → fault_of (sheet_line r) ≡ fault_of (gives sheet_record q)
+same_fault (Ok x) q e = ap (λ (y : Result SheetContent XlsError). fault_of (gives sheet_record y)) e
+same_fault (Err x) q e = ap (λ (y : Result SheetContent XlsError). fault_of (gives sheet_record y)) e
+
+module _ (options : XlsOptions) (s : InForce) where
   record Clean (before items : List Item) : Type 0 where
     pub globals : first_of (along (item_fault options) before items) ≡ None
     pub sheets : first_of (flat_map (sheet_places options s) items) ≡ None
@@ -157,12 +165,12 @@ module _ (options : XlsOptions) (s : Setting) where
   clean (sheet_item body kept cut ∷ items) before w f h =
       let i = sheet_item body kept cut in
       let page = page_in options (map entry_of before) in
-      let version = version_in (map entry_of before) in
+      let version = version_in options (map entry_of before) in
       let parts = or_none (entry_fault options (map entry_of before) (entry_of i)) (first_of (along (entry_fault options) (map entry_of before ++ entry_of i ∷ []) (map entry_of items))) f in
       let c = clean items (before ++ i ∷ []) w.1 (ap (λ (b : List Entry). first_of (along (entry_fault options) b (map entry_of items))) (entries_push before i) ∙ parts.1) h.1 in
       let none : item_fault options before i ≡ None =
-      ap (fault_of {X = ℕ × SheetContent}) (long_sheet page version body (not_short (length body) 6 w.0.0))
-      ∙ same_fault _ (sheet_of page version (slice_index body 4) (slice_index body 5) (drop 6 body)) ∙ parts.0 in
+      same_fault (bound_sheet_at page version body) (sheet_by page version (slice_index body 4) (slice_index body 5) (drop 6 body))
+      (long_sheet page version body (not_short (length body) 6 w.0.0)) ∙ parts.0 in
       record {
         globals = ap (λ (o : Option XlsError). option_or o (first_of (along (item_fault options) (before ++ i ∷ []) items))) none ∙ c.globals;
         sheets = none_append (part_places options s kept cut) (flat_map (sheet_places options s) items)
@@ -173,8 +181,8 @@ full_clear : (options : XlsOptions) (bytes : List ℕ) → IsBytes bytes → (l 
     → Carries bytes l → IsFull options l → (e : XlsError) → FirstBehind None options bytes e → ⊥
 full_clear options bytes fits l c f e h =
     let same = one_holds bytes fits h.0 c.items h.1 None h.2 c.holds in
-    let s = setting_of options (map entry_of c.items) in
-    let sheets = subst (λ (x : List Entry). AllByRecursion (IsFullSheet options (setting_of options x)) x) c.entries_are f.sheets in
+    let s = in_force_of options (map entry_of c.items) in
+    let sheets = subst (λ (x : List Entry). AllByRecursion (IsFullSheet options (in_force_of options x)) x) c.entries_are f.sheets in
     let k = clean options s c.items [] c.whole (ap (λ (x : List Entry). first_of (along (entry_fault options) [] x)) (sym c.entries_are) ∙ f.globals) sheets in
     let none : first_of (places options c.items None) ≡ None =
     none_append (globals_places options c.items None) (flat_map (sheet_places options s) c.items) (none_append (along (item_fault options) [] c.items) (None ∷ []) k.globals refl) k.sheets in
@@ -336,7 +344,7 @@ complete_error options (Some bytes) before now errors.Io cause quiet = λ sound.
 complete_error options (Some bytes) before now errors.Memory cause quiet = λ sound. refl
 complete_error options (Some bytes) before now e cause quiet = λ sound. absurd (sound e cause)
 
--- a source that doesn't fail, and bytes without a fault, leave want of memory alone
+-- a source that doesn't fail, and bytes without a fault, leave only running out of memory
 pub complete : {B : Type 0} (options : XlsOptions) (left : Option (List ℕ)) (before now : ℕ) (r : Result B XlsError) → IfErr r (OpenCause options left before now) → (Rose before now → ⊥)
     → IfSome left (λ bytes. IsSound options bytes → IfErr r (λ e. e ≡ errors.Memory))
 complete options None before now r cause quiet = tt

@@ -1,6 +1,9 @@
 pub mod ClearLemmas
 pub mod ContentsLemmas
 pub mod FollowLemmas
+pub mod WalkLemmas
+pub mod LineLemmas
+pub mod StateLemmas
 pub mod GlobalsLemmas
 pub mod IndexLemmas
 pub mod LawLemmas

@@ -1,32 +1,33 @@
 -- What formulas may name, by the records of the globals.
-use Rattle.std.proofs.Common.{◌≡◌, ℕ, ◌+◌, List, [], ◌∷◌, ◌++◌, map, length, append_assoc, arith, refl, sym, ap, ◌∙◌, Option, Some, None, Ok, Err}
+use Rattle.std.proofs.Common.{◌≡◌, ℕ, ◌+◌, List, [], ◌∷◌, ◌++◌, map, length, append_assoc, arith, refl, sym, ap, ◌∙◌, Option, Some, None, Result, Ok, Err}
 use Rattle.std.specs.Prelude.{ℤ, pos, codes, String}
 use Rattle.std.specs.Global.{Global}
 use Rattle.std.specs.String.{string_bytes}
 use Rattle.std.specs.Str.{chars, IsAscii}
 use Rattle.std.specs.Option.{option_map}
-use Rattle.std.specs.Result.{result_ok}
 use Rattle.std.proofs.lemmas.List.{length-map}
 use Rattle.std.proofs.lemmas.List.FromFn.{map-range_with_len_more}
 use Rattle.std.proofs.lemmas.Str.Ascii.{IsAscii-nil, IsAscii-cons}
 use Rattle.xls_text.specs.declared.encoding.XlsEncoding.{XlsEncoding}
-use Rattle.xls_model.specs.Listing.{Kept, Entry, Item, plain_item, table_item, sheet_item, entry_of}
+use Rattle.xls_model.specs.Listing.{offset_at, Kept, Entry, Item, plain_item, table_item, sheet_item, entry_of}
 use Rattle.xls_model.specs.declared.part.Part.{Part}
 use Rattle.xls_data.specs.Sheets.{SheetContent}
-use Rattle.xls_biff.specs.declared.globals.Biff.{Biff}
-use Rattle.xls_biff.specs.Texts.{text_of}
+use Rattle.xls_strings.specs.declared.version.Biff.{Biff}
+use Rattle.xls_strings.specs.declared.error.XlsError.{XlsError}
+use Rattle.xls_strings.specs.Texts.{text_of}
 use Rattle.xls_formula.specs.Context.{Context}
 use Rattle.xls_formula.proofs.TextLemmas.{text_more, ascii_more}
 use Rattle.xls_book.specs.Order.{along, first_of, somes}
-use Rattle.xls_book.specs.InForce.{page_in, version_in, SheetRecords, sheet_in, sheets_of, sheet_names_of, extern_refs, known_refs, own_refs, Named, lbls_in, told_name, context_by, context_of, setting_of}
-use Rattle.xls_book.specs.RecordTable.{fault_of}
+use Rattle.xls_book.specs.InForce.{page_in, version_in, SheetRecords, sheet_in, sheets_of, sheet_names_of, extern_refs, known_refs, own_refs, lbls_in, told_name, context_by, context_of, in_force_of}
+use Rattle.xls_strings.specs.Reading.{gives}
+use Rattle.xls_book.specs.GlobalsTable.{Named, sheet_record, sheet_given, fault_of}
 use Rattle.xls_book.specs.Faults.{item_fault}
 use Rattle.xls_book.specs.Steps.{Sheets, Opened, opened_in, pair_of, sheets_at, State, IsState, names_listed, IsNaming}
 use Rattle.xls_book.specs.declared.names.Naming.{Naming}
 use Rattle.xls_book.specs.declared.options.XlsOptions.{XlsOptions}
 use Rattle.xls_book.proofs.OrderLemmas.{or_none}
-use Rattle.xls_book.proofs.GlobalsLemmas.{entries_push}
-use Rattle.xls_book.proofs.OpenLemmas.{Found, said, no_head, is_named}
+use Rattle.xls_book.proofs.LineLemmas.{entries_push}
+use Rattle.xls_book.proofs.OpenLemmas.{Found, sheet_line, said, no_head, is_named}
 
 -- ---- the names of the sheets
 
@@ -45,17 +46,15 @@ module _ (options : XlsOptions) where
       → (r : Found) → said options before body ≡ r
       → entry_names before (sheet_item body kept cut ∷ items) ≡ item_names before (sheet_item body kept cut ∷ items)
   name_here body kept cut items before on f (Err e) h =
-      absurd (no_head options (setting_of options []) before body e (along (item_fault options) (before ++ sheet_item body kept cut ∷ []) items) h f)
+      absurd (no_head options (in_force_of options []) before body e (along (item_fault options) (before ++ sheet_item body kept cut ∷ []) items) h f)
   name_here body kept cut items before on f (Ok h) e =
       let i = sheet_item body kept cut in
-      let o : Opened = record { offset = h.0; head = h.1; kept = kept; cut = cut } in
-      let n = is_named (page_in options (map entry_of before)) (version_in (map entry_of before)) body h e in
-      let opened : opened_in options before i ≡ Some o =
-      ap (λ (r : Found). option_map (λ (x : ℕ × SheetContent). record { offset = x.0; head = x.1; kept = kept; cut = cut }) (result_ok r)) e in
+      let o : Opened = record { offset = offset_at body; head = h.1; kept = kept; cut = cut } in
+      let n = is_named (page_in options (map entry_of before)) (version_in options (map entry_of before)) body h e in
+      let opened : opened_in options before i ≡ Some o = rw e refl in
       let here : sheet_in options (map entry_of before) (entry_of i) ≡ Some (h.1, kept) =
-      ap (λ (r : Found). option_map (λ (x : ℕ × SheetContent). (x.1, kept)) (result_ok r)) n.entry_is
-      ∙ ap (λ (c : SheetContent). Some (c, kept)) n.content in
-      let rest = on (or_none (fault_of (said options before body)) (first_of (along (item_fault options) (before ++ i ∷ []) items)) f).1 in
+      ap (λ (r : Result SheetContent XlsError). option_map (λ (x : SheetContent). (x, kept)) (sheet_given (gives sheet_record r))) n.entry in
+      let rest = on (or_none (fault_of (sheet_line (said options before body))) (first_of (along (item_fault options) (before ++ i ∷ []) items)) f).1 in
       ap (λ (x : Option SheetRecords). sheet_names_of (somes (x ∷ along (sheet_in options) (map entry_of before ++ entry_of i ∷ []) (map entry_of items)))) here
       ∙ ap (λ (b : List Entry). h.1.name ∷ sheet_names_of (somes (along (sheet_in options) b (map entry_of items)))) (sym (entries_push before i))
       ∙ ap (λ (l : List (List ℕ)). h.1.name ∷ l) rest
@@ -122,9 +121,9 @@ context_is options items t n h f i =
     let count : length t.sheets ≡ length (sheets_of options es) =
     sym (same_count (sheets_of options es) t.sheets (sym names)) in
     by_parts options t.page t.version n (names_listed t.sheets) (known_refs t.version (length t.sheets) t.refs) t.names i.sheets i.known i.names
-    ∙ same_context options t.page (page_in options es) t.version (version_in es) (names_listed t.sheets) (sheet_names_of (sheets_of options es)) (known_refs t.version (length t.sheets) t.refs) (known_refs (version_in es) (length (sheets_of options es)) (extern_refs es)) t.names (lbls_in options es)
+    ∙ same_context options t.page (page_in options es) t.version (version_in options es) (names_listed t.sheets) (sheet_names_of (sheets_of options es)) (known_refs t.version (length t.sheets) t.refs) (known_refs (version_in options es) (length (sheets_of options es)) (extern_refs options es)) t.names (lbls_in options es)
     h.page h.version names
-    (same_refs t.version (version_in es) (length t.sheets) (length (sheets_of options es)) t.refs (extern_refs es) h.version count h.refs)
+    (same_refs t.version (version_in options es) (length t.sheets) (length (sheets_of options es)) t.refs (extern_refs options es) h.version count h.refs)
     h.names
 
 -- ---- one more

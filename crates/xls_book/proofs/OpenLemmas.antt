@@ -1,10 +1,8 @@
 -- The sheets, one after the other, and what a stream without a fault carries.
 use Rattle.std.proofs.Common.{◌≡◌, ℕ, ◌≤◌, List, [], ◌∷◌, ◌++◌, map, length, drop, take, refl, sym, ap, subst, ◌∙◌, append_assoc, arith, Bool, true, false, Option, Some, None, Result, Ok, Err}
-use Rattle.std.specs.Prelude.{◌%◌, nat_lt, slice_index}
+use Rattle.std.specs.Prelude.{nat_lt, slice_index}
 use Rattle.std.specs.Option.{option_or, option_map}
-use Rattle.std.specs.Result.{result_ok}
 use Rattle.std.specs.List.{flat_map, filter, AllZip, AllByRecursion}
-use Rattle.xls_bytes.specs.Numbers.{le}
 use Rattle.xls_text.specs.declared.encoding.XlsEncoding.{XlsEncoding}
 use Rattle.xls_model.specs.Stream.{Group}
 use Rattle.xls_model.specs.Walks.{IsBytes}
@@ -14,23 +12,22 @@ use Rattle.xls_model.specs.declared.part.Part.TheVariants as parts
 use Rattle.xls_model.proofs.HoldingLemmas.{one_sheet_part}
 use Rattle.xls_data.specs.Sheets.{SheetContent}
 use Rattle.xls_data.specs.declared.formats.CellFormat.{CellFormat}
-use Rattle.xls_data.specs.declared.sheets.SheetType.{SheetType}
-use Rattle.xls_data.specs.declared.sheets.SheetVisible.{SheetVisible}
-use Rattle.xls_biff.specs.declared.error.XlsError.{XlsError}
-use Rattle.xls_biff.specs.declared.error.XlsError.TheVariants as errors
-use Rattle.xls_biff.specs.declared.globals.Biff.{Biff}
-use Rattle.xls_biff.specs.Strings.{head_of, visible_at, kind_at, named_sheet, short_string_at, bound_sheet_at}
+use Rattle.xls_strings.specs.declared.error.XlsError.{XlsError}
+use Rattle.xls_strings.specs.declared.error.XlsError.TheVariants as errors
+use Rattle.xls_strings.specs.declared.version.Biff.{Biff}
 use Rattle.xls_formula.specs.Context.{Context}
 use Rattle.xls_book.specs.Order.{along, first_of, somes}
-use Rattle.xls_book.specs.InForce.{page_in, version_in, is_1904_in, formats_in, class_in, classes_in, texts_in, context_of, Setting, setting_of}
-use Rattle.xls_book.specs.RecordTable.{fault_of, forced_fault, texts_of, sheet_of}
+use Rattle.xls_book.specs.InForce.{page_in, version_in, is_1904_in, formats_in, class_in, classes_in, texts_in, context_of, InForce, in_force_of}
+use Rattle.xls_strings.specs.Reading.{◌>>=◌, gives}
+use Rattle.xls_biff.specs.Records.BoundSheet.{sheet_by, bound_sheet_at}
+use Rattle.xls_book.specs.GlobalsTable.{Line, strings_record, sheet_record, sheet_given, fault_of, forced_fault, texts_of}
 use Rattle.xls_book.specs.Reading.{SheetRecords, SheetView, IsContent, IsShown, sheet_in, sheets_of, Workbook}
-use Rattle.xls_book.specs.Faults.{item_fault, kept_fault, cut_fault, part_places, sheet_places, globals_places, places, entry_fault, IsFullSheet, IsFull}
+use Rattle.xls_book.specs.Faults.{item_line, item_fault, kept_fault, cut_fault, part_places, sheet_places, globals_places, places, entry_fault, IsFullSheet, IsFull}
 use Rattle.xls_book.specs.Steps.{PartFault, Sheets, Opened, opened_in, opened_of, pair_of, State, IsState, AreGlobals, ReadsGlobals, AreContents, ReadsContents, AreSheets, paired, shown, IsStreamOpened, StreamFault, OpensStream}
 use Rattle.xls_book.specs.LookUps.{IsOrdered}
 use Rattle.xls_book.specs.declared.options.XlsOptions.{XlsOptions}
 use Rattle.xls_book.proofs.OrderLemmas.{first_behind, first_early, or_none, none_append}
-use Rattle.xls_book.proofs.GlobalsLemmas.{entries_push}
+use Rattle.xls_book.proofs.LineLemmas.{entries_push, long_sheet}
 use Rattle.xls_book.proofs.ContentsLemmas.{heads, same_length, all_shown}
 
 -- ---- a BoundSheet8, by its bytes and by its entry
@@ -38,47 +35,14 @@ use Rattle.xls_book.proofs.ContentsLemmas.{heads, same_length, all_shown}
 abbrev pub Found : Type 0
 Found = Result (ℕ × SheetContent) XlsError
 
-abbrev at_offset : ℕ → Found → Found
-at_offset o (Ok q) = Ok (o, q.1)
-at_offset o (Err e) = Err e
-
-aligned : (o : ℕ) (v : Result SheetVisible XlsError) (k : Result SheetType XlsError) (n : Result (List ℕ) XlsError)
-    → named_sheet (head_of o v k) n ≡ at_offset o (named_sheet (head_of 0 v k) n)
-aligned o (Err e) k n = refl
-aligned o (Ok v) (Err e) n = refl
-aligned o (Ok v) (Ok k) (Err e) = refl
-aligned o (Ok v) (Ok k) (Ok cs) = refl
-
-pub long_sheet : (page : XlsEncoding) (version : Biff) (body : List ℕ) → nat_lt (length body) 6 ≡ false
-    → bound_sheet_at page version body ≡ at_offset (offset_at body) (sheet_of page version (slice_index body 4) (slice_index body 5) (drop 6 body))
-long_sheet page version body t =
-    rw t (aligned (le (take 4 body)) (visible_at (slice_index body 4 % 64)) (kind_at (slice_index body 5)) (short_string_at page version (drop 6 body)))
-
-pub same_fault : (o : ℕ) (r : Found) → fault_of (at_offset o r) ≡ fault_of r
-same_fault o (Ok q) = refl
-same_fault o (Err e) = refl
+-- the line of a BoundSheet8 that was read so
+abbrev pub sheet_line : Found → Line
+sheet_line = gives (λ (q : ℕ × SheetContent). sheet_record q.1)
 
 -- what a BoundSheet8 without a fault is
 pub record IsNamed (page : XlsEncoding) (version : Biff) (body : List ℕ) (h : ℕ × SheetContent) : Type 0 where
   pub long : 6 ≤ length body
-  pub offset : h.0 ≡ offset_at body
-  pub entry : ℕ × SheetContent
-  pub entry_is : sheet_of page version (slice_index body 4) (slice_index body 5) (drop 6 body) ≡ Ok entry
-  pub content : entry.1 ≡ h.1
-
-named_by : (page : XlsEncoding) (version : Biff) (body : List ℕ) (h : ℕ × SheetContent) (r : Found)
-    → sheet_of page version (slice_index body 4) (slice_index body 5) (drop 6 body) ≡ r
-    → at_offset (offset_at body) r ≡ Ok h → 6 ≤ length body → IsNamed page version body h
-named_by page version body h (Err e) f g l = absurd cc
-named_by page version body h (Ok q) f g l =
-    let same : (offset_at body, q.1) ≡ h = cc in
-    record {
-      long = l;
-      offset = ap (λ (x : ℕ × SheetContent). x.0) (sym same);
-      entry = q;
-      entry_is = f;
-      content = ap (λ (x : ℕ × SheetContent). x.1) same;
-    }
+  pub entry : sheet_by page version (slice_index body 4) (slice_index body 5) (drop 6 body) ≡ Ok h.1
 
 pub is_named : (page : XlsEncoding) (version : Biff) (body : List ℕ) (h : ℕ × SheetContent)
     → bound_sheet_at page version body ≡ Ok h → IsNamed page version body h
@@ -88,24 +52,39 @@ is_named page version body h e = by_test (nat_lt (length body) 6) refl
     long t = grind arith
 
     by_test : (b : Bool) → nat_lt (length body) 6 ≡ b → IsNamed page version body h
-    by_test true t = absurd (let f : Err (errors.Len 6 (length body) parts.BoundSheet) ≡ Ok h = rw t at e in cc)
-    by_test false t =
-        named_by page version body h (sheet_of page version (slice_index body 4) (slice_index body 5) (drop 6 body)) refl (sym (long_sheet page version body t) ∙ e) (long t)
+    by_test true t = absurd (let f : ◌≡◌ {A = Found} (Err (errors.Len 6 (length body) parts.BoundSheet)) (Ok h) = rw t at e in cc)
+    by_test false t = record {
+      long = long t;
+      entry = sym (long_sheet page version body t) ∙ ap (gives (λ (q : ℕ × SheetContent). q.1)) e;
+    }
+
+-- its offset
+pub bound_offset : (page : XlsEncoding) (version : Biff) (body : List ℕ) (h : ℕ × SheetContent)
+    → bound_sheet_at page version body ≡ Ok h → h.0 ≡ offset_at body
+bound_offset page version body h e = by_test (nat_lt (length body) 6) refl
+  where
+    found : (r : Result SheetContent XlsError) → (r >>= (λ s. Ok (offset_at body, s))) ≡ Ok h → h.0 ≡ offset_at body
+    found (Ok s) f = let same : (offset_at body, s) ≡ h = cc in ap (λ (q : ℕ × SheetContent). q.0) (sym same)
+    found (Err x) f = absurd cc
+
+    by_test : (b : Bool) → nat_lt (length body) 6 ≡ b → h.0 ≡ offset_at body
+    by_test true t = absurd (let f : ◌≡◌ {A = Found} (Err (errors.Len 6 (length body) parts.BoundSheet)) (Ok h) = rw t at e in cc)
+    by_test false t = found (sheet_by page version (slice_index body 4) (slice_index body 5) (drop 6 body)) (rw t at e)
 
 -- ---- what a stream without a fault carries
 
-abbrev pub IsFine : XlsOptions → Setting → Opened → Type 0
+abbrev pub IsFine : XlsOptions → InForce → Opened → Type 0
 IsFine options s o = (o.cut ≡ None) × (first_of (along (kept_fault options s) [] o.kept) ≡ None)
 
 abbrev pub sheet_view : Opened → SheetRecords
 sheet_view o = (o.head, o.kept)
 
--- what BoundSheet8 of these bytes says behind these items
+-- what BoundSheet8 of these bytes says after these items
 abbrev pub said : XlsOptions → List Item → List ℕ → Found
 said options before body =
-    bound_sheet_at (page_in options (map entry_of before)) (version_in (map entry_of before)) body
+    bound_sheet_at (page_in options (map entry_of before)) (version_in options (map entry_of before)) body
 
-module _ (options : XlsOptions) (s : Setting) where
+module _ (options : XlsOptions) (s : InForce) where
   record Good (before items : List Item) : Type 0 where
     pub whole : AllByRecursion IsWhole items
     pub entries : first_of (along (entry_fault options) (map entry_of before) (map entry_of items)) ≡ None
@@ -114,10 +93,10 @@ module _ (options : XlsOptions) (s : Setting) where
 
   pub no_head : (before : List Item) (body : List ℕ) (e : XlsError) (os : List (Option XlsError))
       → said options before body ≡ Err e
-      → option_or (fault_of (said options before body)) (first_of os) ≡ None → ⊥
+      → option_or (fault_of (sheet_line (said options before body))) (first_of os) ≡ None → ⊥
   no_head before body e os h f =
-      let t = (or_none (fault_of (said options before body)) (first_of os) f).0 in
-      let u : Some e ≡ None = sym (ap (fault_of {X = ℕ × SheetContent}) h) ∙ t in
+      let t = (or_none (fault_of (sheet_line (said options before body))) (first_of os) f).0 in
+      let u : Some e ≡ None = sym (ap (λ (r : Found). fault_of (sheet_line r)) h) ∙ t in
       cc
 
   good_sheet : (body : List ℕ) (kept : List Kept) (cut : Option Part) (items before : List Item)
@@ -131,20 +110,19 @@ module _ (options : XlsOptions) (s : Setting) where
       absurd (no_head before body e (along (item_fault options) (before ++ sheet_item body kept cut ∷ []) items) h f)
   good_sheet body kept cut items before on f a (Ok h) e =
       let i = sheet_item body kept cut in
-      let o : Opened = record { offset = h.0; head = h.1; kept = kept; cut = cut } in
+      let o : Opened = record { offset = offset_at body; head = h.1; kept = kept; cut = cut } in
       let others = along (opened_in options) (before ++ i ∷ []) items in
-      let parts = or_none (fault_of (said options before body)) (first_of (along (item_fault options) (before ++ i ∷ []) items)) f in
+      let parts = or_none (fault_of (sheet_line (said options before body))) (first_of (along (item_fault options) (before ++ i ∷ []) items)) f in
       let opened : opened_in options before i ≡ Some o = rw e refl in
       let fine : AllByRecursion (IsFine options s) (o ∷ somes others) =
       subst (λ (x : Option Opened). AllByRecursion (IsFine options s) (somes (x ∷ others))) opened a in
       let g = on parts.1 fine.1 in
       let push = entries_push before i in
-      let n = is_named (page_in options (map entry_of before)) (version_in (map entry_of before)) body h e in
+      let n = is_named (page_in options (map entry_of before)) (version_in options (map entry_of before)) body h e in
       let none : entry_fault options (map entry_of before) (entry_of i) ≡ None =
-      ap (fault_of {X = ℕ × SheetContent}) n.entry_is in
+      ap (λ (r : Result SheetContent XlsError). fault_of (gives sheet_record r)) n.entry in
       let here : sheet_in options (map entry_of before) (entry_of i) ≡ Some (h.1, kept) =
-      ap (λ (r : Found). option_map (λ (x : ℕ × SheetContent). (x.1, kept)) (result_ok r)) n.entry_is
-      ∙ ap (λ (c : SheetContent). Some (c, kept)) n.content in
+      ap (λ (r : Result SheetContent XlsError). option_map (λ (x : SheetContent). (x, kept)) (sheet_given (gives sheet_record r))) n.entry in
       record {
         whole = ((n.long, fine.0.0), g.whole);
         entries = ap (λ (x : Option XlsError). option_or x (first_of (along (entry_fault options) (map entry_of before ++ entry_of i ∷ []) (map entry_of items)))) none
@@ -157,7 +135,7 @@ module _ (options : XlsOptions) (s : Setting) where
             ∙ ap (λ (x : Option Opened). map sheet_view (somes (x ∷ others))) (sym opened);
       }
 
-  whole_table : (len : ℕ) (shared : Shared) → fault_of (texts_of len shared) ≡ None → IsWholeTable shared
+  whole_table : (len : ℕ) (shared : Shared) → fault_of (gives strings_record (texts_of len shared)) ≡ None → IsWholeTable shared
   whole_table len no_table h = absurd cc
   whole_table len (table_of ss) h = tt
   whole_table len (table_without m) h = absurd cc
@@ -209,9 +187,9 @@ module _ (options : XlsOptions) (s : Setting) where
       absurd (no_head before body e (along (item_fault options) (before ++ sheet_item body kept cut ∷ []) items) h f)
   places_here body kept cut items before on f (Ok h) e =
       let i = sheet_item body kept cut in
-      let o : Opened = record { offset = h.0; head = h.1; kept = kept; cut = cut } in
+      let o : Opened = record { offset = offset_at body; head = h.1; kept = kept; cut = cut } in
       let opened : opened_in options before i ≡ Some o = rw e refl in
-      let rest = on (or_none (fault_of (said options before body)) (first_of (along (item_fault options) (before ++ i ∷ []) items)) f).1 in
+      let rest = on (or_none (fault_of (sheet_line (said options before body))) (first_of (along (item_fault options) (before ++ i ∷ []) items)) f).1 in
       ap (λ (l : List (Option XlsError)). part_places options s kept cut ++ l) rest
       ∙ ap (λ (x : Option Opened). flat_map opened_places (somes (x ∷ along (opened_in options) (before ++ i ∷ []) items))) (sym opened)
 
@@ -245,14 +223,11 @@ module _ (options : XlsOptions) (s : Setting) where
     abbrev Stands : Opened → Type 0
     Stands o = IsSheetPart bytes o.offset o.kept o.cut
 
-    opened_here : (body : List ℕ) (kept : List Kept) (cut : Option Part) (before : List Item) (os : List (Option Opened))
-        → IsSheetPart bytes (offset_at body) kept cut → AllByRecursion Stands (somes os)
-        → (r : Found) → said options before body ≡ r
-        → AllByRecursion Stands (somes (option_map (λ (h : ℕ × SheetContent). record { offset = h.0; head = h.1; kept = kept; cut = cut }) (result_ok r) ∷ os))
-    opened_here body kept cut before os h a (Err e) f = a
-    opened_here body kept cut before os h a (Ok q) f =
-        let n = is_named (page_in options (map entry_of before)) (version_in (map entry_of before)) body q f in
-        (subst (λ (o : ℕ). IsSheetPart bytes o kept cut) (sym n.offset) h, a)
+    opened_here : (body : List ℕ) (kept : List Kept) (cut : Option Part) (os : List (Option Opened))
+        → IsSheetPart bytes (offset_at body) kept cut → AllByRecursion Stands (somes os) → (o : Option SheetContent)
+        → AllByRecursion Stands (somes (option_map (λ (c : SheetContent). record { offset = offset_at body; head = c; kept = kept; cut = cut }) o ∷ os))
+    opened_here body kept cut os h a None = a
+    opened_here body kept cut os h a (Some c) = (h, a)
 
     all_opened : (gs : List Group) (items before : List Item) → AllZip (IsItem bytes) gs items
         → AllByRecursion Stands (somes (along (opened_in options) before items))
@@ -265,9 +240,9 @@ module _ (options : XlsOptions) (s : Setting) where
         all_opened gs items (before ++ table_item body shared ∷ []) a.1
     all_opened (g ∷ gs) (sheet_item body kept cut ∷ items) before a =
         let is_body : body ≡ g.body = a.0.1 in
-        opened_here body kept cut before (along (opened_in options) (before ++ sheet_item body kept cut ∷ []) items)
+        opened_here body kept cut (along (opened_in options) (before ++ sheet_item body kept cut ∷ []) items)
         (subst (λ (x : List ℕ). IsSheetPart bytes (offset_at x) kept cut) (sym is_body) a.0.2)
-        (all_opened gs items (before ++ sheet_item body kept cut ∷ []) a.1) (said options before body) refl
+        (all_opened gs items (before ++ sheet_item body kept cut ∷ []) a.1) (sheet_given (item_line options before (sheet_item body kept cut)))
 
     -- the sheets that were read so
     record Match (os : List Opened) (sheets : Sheets) (views : List SheetView) : Type 0 where
@@ -344,10 +319,10 @@ module _ (options : XlsOptions) (s : Setting) where
 pub carries_full : (bytes : List ℕ) (options : XlsOptions) (items : List Item)
     → forced_fault options.force_codepage ≡ None → Holds bytes items None
     → first_of (along (item_fault options) [] items) ≡ None
-    → AllByRecursion (IsFine options (setting_of options (map entry_of items))) (opened_of options items)
+    → AllByRecursion (IsFine options (in_force_of options (map entry_of items))) (opened_of options items)
     → Carries bytes (map entry_of items) × IsFull options (map entry_of items)
 carries_full bytes options items forced h f a =
-    let g = good options (setting_of options (map entry_of items)) items [] f a in (
+    let g = good options (in_force_of options (map entry_of items)) items [] f a in (
       record { items = items; holds = h; whole = g.whole; entries_are = refl },
       record { forced = forced; globals = g.entries; sheets = g.full },
     )
@@ -355,9 +330,9 @@ carries_full bytes options items forced h f a =
 -- the places of the globals have no fault, and those of the sheets are these
 pub after_globals : (options : XlsOptions) (items : List Item)
     → first_of (along (item_fault options) [] items) ≡ None
-    → first_of (places options items None) ≡ first_of (flat_map (opened_places options (setting_of options (map entry_of items))) (opened_of options items))
+    → first_of (places options items None) ≡ first_of (flat_map (opened_places options (in_force_of options (map entry_of items))) (opened_of options items))
 after_globals options items f =
-    let s = setting_of options (map entry_of items) in
+    let s = in_force_of options (map entry_of items) in
     first_behind (globals_places options items None) (flat_map (sheet_places options s) items) (first_behind (along (item_fault options) [] items) (None ∷ []) f)
     ∙ ap first_of (same_places options s items [] f)
 
@@ -374,106 +349,103 @@ globals_refused stream options e r =
       r.0,
       r.1,
       r.2,
-      first_early (globals_places options r.0 r.1) (flat_map (sheet_places options (setting_of options (map entry_of r.0))) r.0) e r.3,
+      first_early (globals_places options r.0 r.1) (flat_map (sheet_places options (in_force_of options (map entry_of r.0))) r.0) e r.3,
     )
 
-same_setting : (p q : XlsEncoding) (c d : List CellFormat) (ss ts : List (List ℕ)) (x y : Bool) (v w : Biff) (n m : Context)
-    → p ≡ q → c ≡ d → ss ≡ ts → x ≡ y → v ≡ w → n ≡ m
-    → ◌≡◌ {A = Setting} (record {
-      force = record { page = p; classes = c; strings = ss; is_1904 = x };
-      version = v;
-      context = n;
+same_force : (p q : XlsEncoding) (v w : Biff) (c d : List CellFormat) (ss ts : List (List ℕ)) (x y : Bool) (n m : Context)
+    → p ≡ q → v ≡ w → c ≡ d → ss ≡ ts → x ≡ y → n ≡ m
+    → ◌≡◌ {A = InForce} (record {
+      cells = record { page = p; version = v; classes = c; strings = ss; is_1904 = x };
+      formulas = n;
     }) (record {
-      force = record { page = q; classes = d; strings = ts; is_1904 = y };
-      version = w;
-      context = m;
+      cells = record { page = q; version = w; classes = d; strings = ts; is_1904 = y };
+      formulas = m;
     })
-same_setting p q c d ss ts x y v w n m e f g h i j = rw (e, f, g, h, i, j) refl
+same_force p q v w c d ss ts x y n m e f g h i j = rw (e, f, g, h, i, j) refl
 
 -- what the code reads the sheets under is what the items give
-pub setting_is : (options : XlsOptions) (items : List Item) (t : State) (classes : List CellFormat) (context : Context)
+pub force_is : (options : XlsOptions) (items : List Item) (t : State) (classes : List CellFormat) (context : Context)
     → IsState options items t → classes ≡ map (class_in t.formats) t.identifiers
     → context ≡ context_of options (map entry_of items)
-    → ◌≡◌ {A = Setting} (record {
-      force = record { page = t.page; classes = classes; strings = t.strings; is_1904 = t.is_1904 };
-      version = t.version;
-      context = context;
-    }) (setting_of options (map entry_of items))
-setting_is options items t classes context h e c =
+    → ◌≡◌ {A = InForce} (record {
+      cells = record { page = t.page; version = t.version; classes = classes; strings = t.strings; is_1904 = t.is_1904 };
+      formulas = context;
+    }) (in_force_of options (map entry_of items))
+force_is options items t classes context h e c =
     let es = map entry_of items in
-    same_setting t.page (page_in options es) classes (classes_in options es) t.strings (texts_in es) t.is_1904 (is_1904_in es) t.version (version_in es) context (context_of options es) h.page
+    same_force t.page (page_in options es) t.version (version_in options es) classes (classes_in options es) t.strings (texts_in options es) t.is_1904 (is_1904_in options es) context (context_of options es) h.page h.version
     (e ∙ ap (λ (fs : List (ℕ × CellFormat)). map (class_in fs) t.identifiers) h.formats
     ∙ ap (map (class_in (formats_in options es))) h.identifiers)
-    h.strings h.is_1904 h.version c
+    h.strings h.is_1904 c
 
 module _ (options : XlsOptions) (stream : List ℕ) (fits : IsBytes stream) (t : State) (a : AreGlobals options stream t) where
   -- what the sheets are read under
-  abbrev pub setting : Setting
-  setting = setting_of options (map entry_of a.items)
+  abbrev pub force : InForce
+  force = in_force_of options (map entry_of a.items)
 
   stands : AllByRecursion (λ (o : Opened). IsSheetPart stream o.offset o.kept o.cut) (opened_of options a.items)
-  stands = all_opened options setting stream fits (filter is_globals_type a.holds.groups) a.items [] a.holds.items_are
+  stands = all_opened options force stream fits (filter is_globals_type a.holds.groups) a.items [] a.holds.items_are
 
-  pub contents_refused : (e : XlsError) → ReadsContents options setting stream t.sheets (Err e)
+  pub contents_refused : (e : XlsError) → ReadsContents options force stream t.sheets (Err e)
       → OpensStream options stream (Err e)
   contents_refused errors.Memory r = tt
   contents_refused e r =
-      let b = broken options setting stream fits (opened_of options a.items) r.done r.views r.at r.behind e (sym a.state.sheets ∙ r.split) stands r.were r.fault in
-      let places_of = opened_places options setting in
+      let b = broken options force stream fits (opened_of options a.items) r.done r.views r.at r.behind e (sym a.state.sheets ∙ r.split) stands r.were r.fault in
+      let places_of = opened_places options force in
       faulty options stream e (
         a.items,
         None,
         a.holds,
         after_globals options a.items a.faultless
             ∙ ap (λ (x : List Opened). first_of (flat_map places_of x)) b.split
-            ∙ ap first_of (flat_both options setting b.done (b.at ∷ b.behind))
-            ∙ first_behind (flat_map places_of b.done) (flat_map places_of (b.at ∷ b.behind)) (fine_places options setting b.done b.fine)
+            ∙ ap first_of (flat_both options force b.done (b.at ∷ b.behind))
+            ∙ first_behind (flat_map places_of b.done) (flat_map places_of (b.at ∷ b.behind)) (fine_places options force b.done b.fine)
             ∙ first_early (places_of b.at) (flat_map places_of b.behind) e b.fault,
       )
 
   pub opened_so : (views : List SheetView) (book : Workbook) → forced_fault options.force_codepage ≡ None
-      → AreContents options setting stream t.sheets views → book.options ≡ options
+      → AreContents options force stream t.sheets views → book.options ≡ options
       → book.sheets ≡ map (λ (q : ℕ × SheetContent). q.1) t.sheets
       → book.contents ≡ shown (paired (map (λ (q : ℕ × SheetContent). q.1) t.sheets) views) (map (λ (q : ℕ × SheetContent). q.1) t.sheets)
-      → book.is_1904 ≡ setting.force.is_1904 → book.classes ≡ setting.force.classes
-      → book.names ≡ setting.context.names
+      → book.is_1904 ≡ force.cells.is_1904 → book.classes ≡ force.cells.classes
+      → book.names ≡ force.formulas.names
       → IsStreamOpened options stream book × (length views ≡ length (map (λ (q : ℕ × SheetContent). q.1) t.sheets))
   opened_so views book forced c kept sheets contents date classes names =
       let heads_of = map (λ (q : ℕ × SheetContent). q.1) t.sheets in
-      let m = matched options setting stream fits (opened_of options a.items) t.sheets views (sym a.state.sheets) stands c in
-      let g = good options setting a.items [] a.faultless m.fine in
+      let m = matched options force stream fits (opened_of options a.items) t.sheets views (sym a.state.sheets) stands c in
+      let g = good options force a.items [] a.faultless m.fine in
       let full = carries_full stream options a.items forced a.holds a.faultless m.fine in
-      let are : AreSheets setting heads_of views (sheets_of options (map entry_of a.items)) =
-      subst (AreSheets setting heads_of views) (sym g.sheets) m.are in (
+      let are : AreSheets force heads_of views (sheets_of options (map entry_of a.items)) =
+      subst (AreSheets force heads_of views) (sym g.sheets) m.are in (
         record {
           entries = map entry_of a.items;
           carries = full.0;
           full = full.1;
           reading = record {
             kept = kept;
-            sheets = sheets ∙ heads setting heads_of views (sheets_of options (map entry_of a.items)) are;
+            sheets = sheets ∙ heads force heads_of views (sheets_of options (map entry_of a.items)) are;
             names = names;
-            contents = subst (λ (x : List SheetView). AllZip (IsShown setting (sheets_of options (map entry_of a.items))) x (sheets_of options (map entry_of a.items))) (sym contents)
-                (all_shown setting heads_of views (sheets_of options (map entry_of a.items)) are);
+            contents = subst (λ (x : List SheetView). AllZip (IsShown force (sheets_of options (map entry_of a.items))) x (sheets_of options (map entry_of a.items))) (sym contents)
+                (all_shown force heads_of views (sheets_of options (map entry_of a.items)) are);
             date_system = date;
             classes = classes;
           };
           are_bytes = fits;
         },
-        same_length setting heads_of views (sheets_of options (map entry_of a.items)) are,
+        same_length force heads_of views (sheets_of options (map entry_of a.items)) are,
       )
 
-  -- likewise with the setting and the sheets as the code has them
-  pub refused_under : (s : Setting) (sheets : Sheets) (e : XlsError) → s ≡ setting → sheets ≡ t.sheets
+  -- likewise with the force and the sheets as the code has them
+  pub refused_under : (s : InForce) (sheets : Sheets) (e : XlsError) → s ≡ force → sheets ≡ t.sheets
       → ReadsContents options s stream sheets (Err e) → OpensStream options stream (Err e)
   refused_under s sheets e same listed r =
-      contents_refused e (subst (λ (x : Sheets). ReadsContents options setting stream x (Err e)) listed
-      (subst (λ (x : Setting). ReadsContents options x stream sheets (Err e)) same r))
+      contents_refused e (subst (λ (x : Sheets). ReadsContents options force stream x (Err e)) listed
+      (subst (λ (x : InForce). ReadsContents options x stream sheets (Err e)) same r))
 
-  pub opened_under : (s : Setting) (sheets : Sheets) (heads_of : List SheetContent) (views : List SheetView) (is_1904 : Bool) (classes : List CellFormat) (told : List (List ℕ × List ℕ))
-      → s ≡ setting → sheets ≡ t.sheets → heads_of ≡ map (λ (q : ℕ × SheetContent). q.1) sheets
+  pub opened_under : (s : InForce) (sheets : Sheets) (heads_of : List SheetContent) (views : List SheetView) (is_1904 : Bool) (classes : List CellFormat) (told : List (List ℕ × List ℕ))
+      → s ≡ force → sheets ≡ t.sheets → heads_of ≡ map (λ (q : ℕ × SheetContent). q.1) sheets
       → forced_fault options.force_codepage ≡ None → AreContents options s stream sheets views
-      → is_1904 ≡ s.force.is_1904 → classes ≡ s.force.classes → told ≡ s.context.names
+      → is_1904 ≡ s.cells.is_1904 → classes ≡ s.cells.classes → told ≡ s.formulas.names
       → IsStreamOpened options stream (record {
         options = options;
         sheets = heads_of;
@@ -493,14 +465,14 @@ module _ (options : XlsOptions) (stream : List ℕ) (fits : IsBytes stream) (t :
         is_1904 = is_1904;
         classes = classes;
       }) forced
-      (subst (λ (x : Sheets). AreContents options setting stream x views) listed (subst (λ (x : Setting). AreContents options x stream sheets views) same c))
+      (subst (λ (x : Sheets). AreContents options force stream x views) listed (subst (λ (x : InForce). AreContents options x stream sheets views) same c))
       refl names (ap (λ (x : List SheetContent). shown (paired x views) x) names)
-      (date ∙ ap (λ (x : Setting). x.force.is_1904) same) (formats ∙ ap (λ (x : Setting). x.force.classes) same)
-      (told_is ∙ ap (λ (x : Setting). x.context.names) same) in
+      (date ∙ ap (λ (x : InForce). x.cells.is_1904) same) (formats ∙ ap (λ (x : InForce). x.cells.classes) same)
+      (told_is ∙ ap (λ (x : InForce). x.formulas.names) same) in
       (o.0, o.1 ∙ ap length (sym names))
 
 -- what was read stands in order
-pub all_ordered : (options : XlsOptions) (s : Setting) (stream : List ℕ) (sheets : Sheets) (views : List SheetView)
+pub all_ordered : (options : XlsOptions) (s : InForce) (stream : List ℕ) (sheets : Sheets) (views : List SheetView)
     → AreContents options s stream sheets views → AllByRecursion IsOrdered views
 all_ordered options s stream [] [] c = tt
 all_ordered options s stream [] (v ∷ views) c = absurd c

@@ -55,7 +55,7 @@ module _ {X Y : Type 0} (f : List X → X → Y) where
   along-push xs x = along-append [] xs (x ∷ [])
 
 module _ {X E : Type 0} (f : List X → X → Option E) where
-  -- the element behind those without a fault is the first that has one
+  -- the element after those without a fault is the first that has one
   pub first_at : (xs : List X) (x : X) (more : List X) (os : List (Option E)) (e : E)
       → first_of (along f [] xs) ≡ None → f xs x ≡ Some e
       → first_of (along f [] (xs ++ x ∷ more) ++ os) ≡ Some e
@@ -88,7 +88,7 @@ module _ {X E : Type 0} (f : X → Option E) where
       ap (λ (o : Option E). option_or o (f y)) (last-push ys x)
       ∙ or_assoc (f x) (last_of (map f ys)) (f y)
 
--- behind one more, what is unwrapped is its own, if there is one
+-- after one more, what is unwrapped is its own, if there is one
 pub unwrap_push : {X : Type 0} (said last : Option X) (x : X)
     → unwrap_or (option_or said last) x ≡ unwrap_or said (unwrap_or last x)
 unwrap_push None last x = refl

@@ -18,21 +18,21 @@ use Rattle.xls_model.proofs.Shapes.{run_bytes, has_from, same_parts}
 use Rattle.xls_data.specs.Data.{content_of}
 use Rattle.xls_data.specs.declared.values.Data.{Data}
 use Rattle.xls_data.specs.declared.regions.Dimensions.{Dimensions}
-use Rattle.xls_biff.specs.declared.error.XlsError.{XlsError}
-use Rattle.xls_biff.specs.declared.error.XlsError.TheVariants as errors
+use Rattle.xls_strings.specs.declared.error.XlsError.{XlsError}
+use Rattle.xls_strings.specs.declared.error.XlsError.TheVariants as errors
 use Rattle.xls_biff.specs.Outer.{Keeps, Over, CutShort}
-use Rattle.xls_biff.specs.Reading.{Fails}
-use Rattle.xls_biff.specs.Texts.{text_of}
-use Rattle.xls_biff.specs.Checks.{weight_of}
+use Rattle.xls_strings.specs.Reading.{Fails, gives}
+use Rattle.xls_strings.specs.Texts.{text_of}
+use Rattle.xls_biff.specs.SheetTable.{CellContext, SheetRecord, weight_of, formula_position, position_in}
 use Rattle.xls_biff.specs.Cells.{Entry}
 use Rattle.xls_cells.specs.Positions.{Position, IsAscending, last_at, cell_position}
 use Rattle.xls_book.specs.Order.{along, first_of, last_of}
-use Rattle.xls_book.specs.InForce.{Setting}
-use Rattle.xls_book.specs.RecordTable.{fault_of}
-use Rattle.xls_book.specs.SheetTable.{FormulaEntry, Given, given_at, formula_position, last_formula, given_in}
+use Rattle.xls_book.specs.InForce.{InForce}
+use Rattle.xls_book.specs.GlobalsTable.{fault_of}
+use Rattle.xls_book.specs.SheetTable.{FormulaEntry, Given, adds, kept_line, given_at, last_formula, given_in}
 use Rattle.xls_book.specs.Reading.{SheetView, given_by, gifts_of, values_of, formulas_of, merges_of}
-use Rattle.xls_book.specs.Faults.{weight_in, weight_fault, kept_fault, cut_fault, part_places}
-use Rattle.xls_book.specs.Steps.{cell_content, formula_content, no_view, given_step, weight_left, IsRead, PartFault, Reads}
+use Rattle.xls_book.specs.Faults.{weight_given, weight_in, weight_fault, kept_fault, cut_fault, part_places}
+use Rattle.xls_book.specs.Steps.{cell_content, formula_content, no_view, with_given, given_step, weight_left, IsRead, PartFault, Reads}
 use Rattle.xls_book.specs.declared.options.XlsOptions.{XlsOptions}
 use Rattle.xls_book.proofs.OrderLemmas.{first_at, none_push, first_behind, along-push, last-push, unwrap_push, flat_push}
 
@@ -99,62 +99,64 @@ keeps_bytes before was g after now k fits = run_bytes before (k.groups ++ g ∷ 
 kept_push : (gs : List Group) (g : Group) → kept_of (gs ++ g ∷ []) ≡ kept_of gs ++ kept_group g ∷ []
 kept_push gs g = map-append kept_group gs (g ∷ [])
 
--- what is given behind one more record
-gifts_push : (s : Setting) (ks : List Kept) (k : Kept)
+-- what is given after one more record
+gifts_push : (s : InForce) (ks : List Kept) (k : Kept)
     → gifts_of s (ks ++ k ∷ []) ≡ gifts_of s ks ++ given_by (given_in s ks k) ∷ []
 gifts_push s ks k =
     ap (map given_by) (along-push (given_in s) ks k)
     ∙ map-append given_by (along (given_in s) [] ks) (given_in s ks k ∷ [])
 
-gift_push : {X : Type 0} (f : Given → List X) (s : Setting) (ks : List Kept) (k : Kept)
+gift_push : {X : Type 0} (f : Given → List X) (s : InForce) (ks : List Kept) (k : Kept)
     → flat_map f (gifts_of s (ks ++ k ∷ [])) ≡ flat_map f (gifts_of s ks) ++ f (given_by (given_in s ks k))
 gift_push f s ks k =
     ap (flat_map f) (gifts_push s ks k) ∙ flat_push f (gifts_of s ks) (given_by (given_in s ks k))
 
 -- where the last Formula stands
-place_push : (ks : List Kept) (k : Kept) (at behind : Position) → at ≡ last_formula ks
-    → behind ≡ unwrap_or (formula_position k) at → behind ≡ last_formula (ks ++ k ∷ [])
-place_push ks k at behind had is =
-    is ∙ ap (unwrap_or (formula_position k)) had
-    ∙ sym (unwrap_push (formula_position k) (last_of (map formula_position ks)) (0, 0))
-    ∙ ap (λ (o : Option Position). unwrap_or o (0, 0)) (sym (last-push formula_position ks k))
+place_push : (s : InForce) (ks : List Kept) (k : Kept) (at behind : Position) → at ≡ last_formula s.cells ks
+    → behind ≡ unwrap_or (position_in (kept_line s.cells k)) at → behind ≡ last_formula s.cells (ks ++ k ∷ [])
+place_push s ks k at behind had is =
+    let place : Kept → Option Position = λ (j : Kept). position_in (kept_line s.cells j) in
+    is ∙ ap (unwrap_or (place k)) had
+    ∙ sym (unwrap_push (place k) (last_of (map place ks)) (0, 0))
+    ∙ ap (λ (o : Option Position). unwrap_or o (0, 0)) (sym (last-push place ks k))
 
-weight_push : (ks : List Kept) (k : Kept) → weight_in (ks ++ k ∷ []) ≡ weight_in ks + weight_of k.typ k.body
-weight_push [] k = omega arith
-weight_push (j ∷ ks) k = let on = weight_push ks k in omega (arith, on)
+weight_push : (s : InForce) (ks : List Kept) (k : Kept) → weight_in s (ks ++ k ∷ []) ≡ weight_in s ks + weight_given (kept_line s.cells k)
+weight_push s [] k = omega arith
+weight_push s (j ∷ ks) k = let on = weight_push s ks k in omega (arith, on)
 
--- behind a record that was taken
-record Took (s : Setting) (before : List Kept) (k : Kept) (v w : SheetView) : Type 0 where
-  pub none : fault_of (given_in s before k) ≡ None
+-- after a record that was taken
+record Took (s : InForce) (before : List Kept) (k : Kept) (v w : SheetView) : Type 0 where
+  pub line : SheetRecord
+  pub line_is : kept_line s.cells k ≡ Ok line
   pub cells : w.cells ≡ v.cells ++ (given_by (given_in s before k)).cells
   pub formulas : w.formulas ≡ v.formulas ++ (given_by (given_in s before k)).formulas
   pub merges : w.merges ≡ v.merges ++ (given_by (given_in s before k)).regions
 
-took : (s : Setting) (before : List Kept) (k : Kept) (v w : SheetView) (r : Result Given XlsError)
-    → given_in s before k ≡ r → given_step v r ≡ Ok w → Took s before k v w
+took : (s : InForce) (before : List Kept) (k : Kept) (v w : SheetView) (r : Result SheetRecord XlsError)
+    → kept_line s.cells k ≡ r → given_step v (gives (adds s.formulas (last_formula s.cells before)) r) ≡ Ok w
+    → Took s before k v w
 took s before k v w (Err e) f h = absurd cc
 took s before k v w (Ok g) f h =
-    let same : record {
-      cells = v.cells ++ g.cells;
-      formulas = v.formulas ++ g.formulas;
-      merges = v.merges ++ g.regions;
-    } ≡ w = cc in
+    let same : with_given v (adds s.formulas (last_formula s.cells before) g) ≡ w = cc in
+    let given : Ok (adds s.formulas (last_formula s.cells before) g) ≡ given_in s before k =
+    ap (gives (adds s.formulas (last_formula s.cells before))) (sym f) in
     record {
-      none = ap (fault_of {X = Given}) f;
+      line = g;
+      line_is = f;
       cells = ap (λ (x : SheetView). x.cells) (sym same)
-          ∙ ap (λ (r : Result Given XlsError). v.cells ++ (given_by r).cells) (sym f);
+          ∙ ap (λ (r : Result Given XlsError). v.cells ++ (given_by r).cells) given;
       formulas = ap (λ (x : SheetView). x.formulas) (sym same)
-          ∙ ap (λ (r : Result Given XlsError). v.formulas ++ (given_by r).formulas) (sym f);
+          ∙ ap (λ (r : Result Given XlsError). v.formulas ++ (given_by r).formulas) given;
       merges = ap (λ (x : SheetView). x.merges) (sym same)
-          ∙ ap (λ (r : Result Given XlsError). v.merges ++ (given_by r).regions) (sym f);
+          ∙ ap (λ (r : Result Given XlsError). v.merges ++ (given_by r).regions) given;
     }
 
 -- the code has the position of the last Formula at hand
-at_last : {X : Type 0} (says : Result SheetView XlsError → X → Type 0) (s : Setting) (before : List Kept) (k : Kept) (at : Position) (v : SheetView) (x : X)
-    → at ≡ last_formula before → says (given_step v (given_at s at k)) x → says (given_step v (given_in s before k)) x
+at_last : {X : Type 0} (says : Result SheetView XlsError → X → Type 0) (s : InForce) (before : List Kept) (k : Kept) (at : Position) (v : SheetView) (x : X)
+    → at ≡ last_formula s.cells before → says (given_step v (given_at s at k)) x → says (given_step v (given_in s before k)) x
 at_last says s before k at v x e h = subst (λ (q : Position). says (given_step v (given_at s q k)) x) e h
 
--- behind a record whose weight was taken
+-- after a record whose weight was taken
 has_room : (limit room weight left : ℕ) → weight_left limit room weight ≡ Ok left → room ≡ left + weight
 has_room limit room weight left h = by_test (nat_lt room weight) refl
   where
@@ -176,23 +178,23 @@ no_room limit room weight e h = by_test (nat_lt room weight) refl
     by_test true t = (less t, let f : Err (errors.TooManyCells limit) ≡ Err e = rw t at h in cc)
     by_test false t = absurd (let f : ◌≡◌ {A = Result ℕ XlsError} (Ok (room - weight)) (Err e) = rw t at h in cc)
 
-light : (options : XlsOptions) (ks : List Kept) → weight_in ks ≤ options.max_cells
-    → weight_fault options ks ≡ None
-light options ks h = let t : nat_lt options.max_cells (weight_in ks) ≡ false = test h in rw t refl
+light : (options : XlsOptions) (s : InForce) (ks : List Kept) → weight_in s ks ≤ options.max_cells
+    → weight_fault options s ks ≡ None
+light options s ks h = let t : nat_lt options.max_cells (weight_in s ks) ≡ false = test h in rw t refl
   where
-    test : weight_in ks ≤ options.max_cells → nat_lt options.max_cells (weight_in ks) ≡ false
+    test : weight_in s ks ≤ options.max_cells → nat_lt options.max_cells (weight_in s ks) ≡ false
     test l = grind arith
 
-heavy : (options : XlsOptions) (ks : List Kept) → options.max_cells < weight_in ks
-    → weight_fault options ks ≡ Some (errors.TooManyCells options.max_cells)
-heavy options ks h = let t : nat_lt options.max_cells (weight_in ks) ≡ true = test h in rw t refl
+heavy : (options : XlsOptions) (s : InForce) (ks : List Kept) → options.max_cells < weight_in s ks
+    → weight_fault options s ks ≡ Some (errors.TooManyCells options.max_cells)
+heavy options s ks h = let t : nat_lt options.max_cells (weight_in s ks) ≡ true = test h in rw t refl
   where
-    test : options.max_cells < weight_in ks → nat_lt options.max_cells (weight_in ks) ≡ true
+    test : options.max_cells < weight_in s ks → nat_lt options.max_cells (weight_in s ks) ≡ true
     test l = grind arith
 
 -- ---- the part so far
 
-pub record PartSoFar (part rest : List ℕ) (depth : ℕ) (options : XlsOptions) (s : Setting) (v : SheetView) (room : ℕ) (at : Position) : Type 0 where
+pub record PartSoFar (part rest : List ℕ) (depth : ℕ) (options : XlsOptions) (s : InForce) (v : SheetView) (room : ℕ) (at : Position) : Type 0 where
   pub groups : List Group
   pub joins : (more : List Group) (cut : Option Part) → From (found_from depth) rest more cut
       → From (found_from 0) part (groups ++ more) cut
@@ -202,10 +204,10 @@ pub record PartSoFar (part rest : List ℕ) (depth : ℕ) (options : XlsOptions)
   pub cells : v.cells ≡ values_of s (kept_of groups)
   pub formulas : v.formulas ≡ formulas_of s (kept_of groups)
   pub merges : v.merges ≡ merges_of s (kept_of groups)
-  pub weighed : room + weight_in (kept_of groups) ≡ options.max_cells
-  pub place : at ≡ last_formula (kept_of groups)
+  pub weighed : room + weight_in s (kept_of groups) ≡ options.max_cells
+  pub place : at ≡ last_formula s.cells (kept_of groups)
 
-pub part_nothing : (part : List ℕ) (options : XlsOptions) (s : Setting) (v : SheetView) (room : ℕ)
+pub part_nothing : (part : List ℕ) (options : XlsOptions) (s : InForce) (v : SheetView) (room : ℕ)
     → IsBytes part → v ≡ no_view → room ≡ options.max_cells
     → PartSoFar part part 0 options s v room (0, 0)
 part_nothing part options s v room fits e r = record {
@@ -221,29 +223,41 @@ part_nothing part options s v room fits e r = record {
   place = refl;
 }
 
-joined : (part rest after : List ℕ) (depth now : ℕ) (options : XlsOptions) (s : Setting) (v : SheetView) (room : ℕ) (at : Position) (g : Group) (p : PartSoFar part rest depth options s v room at) → Keeps rest depth g after now
+joined : (part rest after : List ℕ) (depth now : ℕ) (options : XlsOptions) (s : InForce) (v : SheetView) (room : ℕ) (at : Position) (g : Group) (p : PartSoFar part rest depth options s v room at) → Keeps rest depth g after now
     → (more : List Group) (cut : Option Part) → From (found_from now) after more cut
     → From (found_from 0) part (p.groups ++ g ∷ more) cut
 joined part rest after depth now options s v room at g p k more cut f =
     p.joins (g ∷ more) cut (keeps_from rest depth g after now more cut k f)
 
-pub part_more : (part rest after : List ℕ) (depth now : ℕ) (options : XlsOptions) (s : Setting) (v w : SheetView) (room left : ℕ) (at behind : Position) (g : Group) → PartSoFar part rest depth options s v room at → Keeps rest depth g after now
+-- what the code says of a record that was taken: how many more cells there may be, and where the last
+-- Formula stands
+abbrev pub Weighs : XlsOptions → ℕ → Kept → Result ℕ XlsError → Type 0
+Weighs options room k left = (cells : CellContext) (g : SheetRecord) → kept_line cells k ≡ Ok g
+    → weight_left options.max_cells room (weight_of g) ≡ left
+
+abbrev pub Moves : Position → Kept → Position → Type 0
+Moves at k behind = (cells : CellContext) (g : SheetRecord) → kept_line cells k ≡ Ok g
+    → behind ≡ unwrap_or (formula_position g) at
+
+pub part_more : (part rest after : List ℕ) (depth now : ℕ) (options : XlsOptions) (s : InForce) (v w : SheetView) (room left : ℕ) (at behind : Position) (g : Group) → PartSoFar part rest depth options s v room at → Keeps rest depth g after now
     → given_step v (given_at s at (kept_group g)) ≡ Ok w
-    → weight_left options.max_cells room (weight_of g.typ g.body) ≡ Ok left
-    → behind ≡ unwrap_or (formula_position (kept_group g)) at
+    → Weighs options room (kept_group g) (Ok left) → Moves at (kept_group g) behind
     → PartSoFar part after now options s w left behind
-part_more part rest after depth now options s v w room left at behind g p k given weight moved =
+part_more part rest after depth now options s v w room left at behind g p k given weighs moves =
     let old = kept_of p.groups in
     let one = kept_group g in
     let new : kept_of (p.groups ++ g ∷ []) ≡ old ++ one ∷ [] = kept_push p.groups g in
-    let t = took s old one v w (given_in s old one) refl (at_last (λ (r : Result SheetView XlsError) (x : SheetView). r ≡ Ok x) s old one at v w p.place given) in
-    let fits = has_room options.max_cells room (weight_of g.typ g.body) left weight in
-    let heavier = weight_push old one in
+    let t = took s old one v w (kept_line s.cells one) refl (at_last (λ (r : Result SheetView XlsError) (x : SheetView). r ≡ Ok x) s old one at v w p.place given) in
+    let fits = has_room options.max_cells room (weight_of t.line) left (weighs s.cells t.line t.line_is) in
+    let weight : weight_given (kept_line s.cells one) ≡ weight_of t.line = ap weight_given t.line_is in
+    let heavier = weight_push s old one in
     let had = p.weighed in
-    let sum : left + weight_in (old ++ one ∷ []) ≡ options.max_cells = omega (arith, fits, heavier, had) in
+    let sum : left + weight_in s (old ++ one ∷ []) ≡ options.max_cells = omega (arith, fits, heavier, had, weight) in
     let none : kept_fault options s old one ≡ None =
-    ap (λ (o : Option XlsError). option_or o (weight_fault options (old ++ one ∷ []))) t.none
-    ∙ light options (old ++ one ∷ []) (omega (arith, sum)) in
+    ap (λ (r : Result SheetRecord XlsError). option_or (fault_of r) (weight_fault options s (old ++ one ∷ []))) t.line_is
+    ∙ light options s (old ++ one ∷ []) (omega (arith, sum)) in
+    let moved : behind ≡ unwrap_or (position_in (kept_line s.cells one)) at =
+    moves s.cells t.line t.line_is ∙ ap (λ (r : Result SheetRecord XlsError). unwrap_or (position_in r) at) (sym t.line_is) in
     record {
       groups = p.groups ++ g ∷ [];
       joins = λ more cut f. subst (λ (x : List Group). From (found_from 0) part x cut) (sym (append_assoc p.groups (g ∷ []) more)) (joined part rest after depth now options s v room at g p k more cut f);
@@ -258,18 +272,18 @@ part_more part rest after depth now options s v w room left at behind g p k give
       merges = t.merges
           ∙ ap (λ (l : List Dimensions). l ++ (given_by (given_in s old one)).regions) p.merges
           ∙ sym (gift_push (λ (x : Given). x.regions) s old one) ∙ ap (merges_of s) (sym new);
-      weighed = ap (λ (ks : List Kept). left + weight_in ks) new ∙ sum;
-      place = place_push old one at behind p.place moved ∙ ap last_formula (sym new);
+      weighed = ap (λ (ks : List Kept). left + weight_in s ks) new ∙ sum;
+      place = place_push s old one at behind p.place moved ∙ ap (last_formula s.cells) (sym new);
     }
 
 -- ---- faults
 
-pub faulty : (Stands : List Kept → Option Part → Type 0) (options : XlsOptions) (s : Setting) (e : XlsError)
+pub faulty : (Stands : List Kept → Option Part → Type 0) (options : XlsOptions) (s : InForce) (e : XlsError)
     → PartFault Stands options s e → Reads Stands options s (Err e)
 faulty Stands options s errors.Memory h = tt
 faulty Stands options s e h = h
 
-record_fault : (part rest after : List ℕ) (depth now : ℕ) (options : XlsOptions) (s : Setting) (v : SheetView) (room : ℕ) (at : Position) (g : Group) (e : XlsError) (p : PartSoFar part rest depth options s v room at) → Keeps rest depth g after now
+record_fault : (part rest after : List ℕ) (depth now : ℕ) (options : XlsOptions) (s : InForce) (v : SheetView) (room : ℕ) (at : Position) (g : Group) (e : XlsError) (p : PartSoFar part rest depth options s v room at) → Keeps rest depth g after now
     → kept_fault options s (kept_of p.groups) (kept_group g) ≡ Some e
     → PartFault (IsPart part) options s e
 record_fault part rest after depth now options s v room at g e p k f =
@@ -284,42 +298,43 @@ record_fault part rest after depth now options s v room at g e p k f =
           ∙ first_at (kept_fault options s) (kept_of p.groups) (kept_group g) (kept_of others.0) (cut_fault others.1 ∷ []) e p.faultless f,
     )
 
-own_fault : (s : Setting) (before : List Kept) (k : Kept) (v : SheetView) (e : XlsError) (r : Result Given XlsError)
-    → given_in s before k ≡ r → given_step v r ≡ Err e → fault_of (given_in s before k) ≡ Some e
-own_fault s before k v e (Err f) h g = ap (fault_of {X = Given}) h ∙ (let same : f ≡ e = cc in ap (λ (x : XlsError). Some x) same)
-own_fault s before k v e (Ok x) h g = absurd cc
+own_fault : (s : InForce) (at : Position) (v : SheetView) (e : XlsError) (r : Result SheetRecord XlsError)
+    → given_step v (gives (adds s.formulas at) r) ≡ Err e → fault_of r ≡ Some e
+own_fault s at v e (Err f) h = let same : f ≡ e = cc in ap (λ (x : XlsError). Some x) same
+own_fault s at v e (Ok x) h = absurd cc
 
 -- a record's own fault
-pub record_refused : (part rest after : List ℕ) (depth now : ℕ) (options : XlsOptions) (s : Setting) (v : SheetView) (room : ℕ) (at : Position) (g : Group) (e : XlsError) → PartSoFar part rest depth options s v room at → Keeps rest depth g after now
+pub record_refused : (part rest after : List ℕ) (depth now : ℕ) (options : XlsOptions) (s : InForce) (v : SheetView) (room : ℕ) (at : Position) (g : Group) (e : XlsError) → PartSoFar part rest depth options s v room at → Keeps rest depth g after now
     → Fails e (given_step v (given_at s at (kept_group g))) → Reads (IsPart part) options s (Err e)
 record_refused part rest after depth now options s v room at g errors.Memory p k f = tt
 record_refused part rest after depth now options s v room at g e p k f =
     let old = kept_of p.groups in
     let one = kept_group g in
     let said : given_step v (given_in s old one) ≡ Err e = at_last (λ (r : Result SheetView XlsError) (x : XlsError). r ≡ Err x) s old one at v e p.place f in
-    let own = own_fault s old one v e (given_in s old one) refl said in
+    let own = own_fault s (last_formula s.cells old) v e (kept_line s.cells one) said in
     faulty (IsPart part) options s e (record_fault part rest after depth now options s v room at g e p k
-    (ap (λ (o : Option XlsError). option_or o (weight_fault options (old ++ one ∷ []))) own))
+    (ap (λ (o : Option XlsError). option_or o (weight_fault options s (old ++ one ∷ []))) own))
 
 -- too many cells
-pub weight_refused : (part rest after : List ℕ) (depth now : ℕ) (options : XlsOptions) (s : Setting) (v w : SheetView) (room : ℕ) (at : Position) (g : Group) (e : XlsError) → PartSoFar part rest depth options s v room at → Keeps rest depth g after now
+pub weight_refused : (part rest after : List ℕ) (depth now : ℕ) (options : XlsOptions) (s : InForce) (v w : SheetView) (room : ℕ) (at : Position) (g : Group) (e : XlsError) → PartSoFar part rest depth options s v room at → Keeps rest depth g after now
     → given_step v (given_at s at (kept_group g)) ≡ Ok w
-    → weight_left options.max_cells room (weight_of g.typ g.body) ≡ Err e
+    → Weighs options room (kept_group g) (Err e)
     → Reads (IsPart part) options s (Err e)
-weight_refused part rest after depth now options s v w room at g e p k given weight =
+weight_refused part rest after depth now options s v w room at g e p k given weighs =
     let old = kept_of p.groups in
     let one = kept_group g in
-    let t = took s old one v w (given_in s old one) refl (at_last (λ (r : Result SheetView XlsError) (x : SheetView). r ≡ Ok x) s old one at v w p.place given) in
-    let n = no_room options.max_cells room (weight_of g.typ g.body) e weight in
-    let heavier = weight_push old one in
+    let t = took s old one v w (kept_line s.cells one) refl (at_last (λ (r : Result SheetView XlsError) (x : SheetView). r ≡ Ok x) s old one at v w p.place given) in
+    let n = no_room options.max_cells room (weight_of t.line) e (weighs s.cells t.line t.line_is) in
+    let weight : weight_given (kept_line s.cells one) ≡ weight_of t.line = ap weight_given t.line_is in
+    let heavier = weight_push s old one in
     let had = p.weighed in
     let less = n.0 in
-    let over : options.max_cells < weight_in (old ++ one ∷ []) = omega (arith, heavier, had, less) in
+    let over : options.max_cells < weight_in s (old ++ one ∷ []) = omega (arith, heavier, had, less, weight) in
     faulty (IsPart part) options s e (record_fault part rest after depth now options s v room at g e p k
-    (ap (λ (o : Option XlsError). option_or o (weight_fault options (old ++ one ∷ []))) t.none
-    ∙ heavy options (old ++ one ∷ []) over ∙ ap (λ (x : XlsError). Some x) (sym n.1)))
+    (ap (λ (r : Result SheetRecord XlsError). option_or (fault_of r) (weight_fault options s (old ++ one ∷ []))) t.line_is
+    ∙ heavy options s (old ++ one ∷ []) over ∙ ap (λ (x : XlsError). Some x) (sym n.1)))
 
-pub part_cut : (part rest : List ℕ) (depth : ℕ) (options : XlsOptions) (s : Setting) (v : SheetView) (room : ℕ) (at : Position) (e : XlsError) → PartSoFar part rest depth options s v room at → CutShort rest depth e → Reads (IsPart part) options s (Err e)
+pub part_cut : (part rest : List ℕ) (depth : ℕ) (options : XlsOptions) (s : InForce) (v : SheetView) (room : ℕ) (at : Position) (e : XlsError) → PartSoFar part rest depth options s v room at → CutShort rest depth e → Reads (IsPart part) options s (Err e)
 part_cut part rest depth options s v room at e p c =
     faulty (IsPart part) options s e (
       kept_of (p.groups ++ []),
@@ -365,7 +380,7 @@ pub record IsSorted {T : Type 0} (given found : List (Position × T)) : Type 0 w
   pub ascending : IsAscending (map cell_position found)
   pub last : (p : Position) → last_at found p ≡ last_at given p
 
-pub part_end : (part rest : List ℕ) (depth : ℕ) (options : XlsOptions) (s : Setting) (v : SheetView) (room : ℕ) (at : Position) (cells found_cells : List (Position × Data)) (texts found_texts : List (Position × String Global)) → PartSoFar part rest depth options s v room at → Over rest depth
+pub part_end : (part rest : List ℕ) (depth : ℕ) (options : XlsOptions) (s : InForce) (v : SheetView) (room : ℕ) (at : Position) (cells found_cells : List (Position × Data)) (texts found_texts : List (Position × String Global)) → PartSoFar part rest depth options s v room at → Over rest depth
     → v.cells ≡ map cell_content cells → v.formulas ≡ map formula_content texts
     → IsSorted cells found_cells → IsSorted texts found_texts
     → IsRead (IsPart part) options s (record { cells = map cell_content found_cells; formulas = map formula_content found_texts; merges = v.merges })

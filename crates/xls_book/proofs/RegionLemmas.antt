@@ -7,7 +7,7 @@ use Rattle.std.specs.Cmp.Lexicographic.{pointwise}
 use Rattle.std.proofs.lemmas.Slice.Eq.{bytes_eq-Decides}
 use Rattle.xls_model.specs.Listing.{Entry}
 use Rattle.xls_data.specs.Sheets.{SheetContent}
-use Rattle.xls_book.specs.InForce.{Setting, setting_of}
+use Rattle.xls_book.specs.InForce.{InForce, in_force_of}
 use Rattle.xls_book.specs.Reading.{SheetRecords, SheetView, Workbook, IsContent, IsShown, IsReading, sheets_of, kept_named, last_named}
 use Rattle.xls_book.specs.Steps.{paired, no_view, view_named}
 use Rattle.xls_book.specs.declared.options.XlsOptions.{XlsOptions}
@@ -16,7 +16,7 @@ use Rattle.xls_book.proofs.IndexLemmas.{named_some}
 abbrev sheet : SheetRecords → SheetContent
 sheet q = q.0
 
-module _ (s : Setting) (all : List SheetRecords) where
+module _ (s : InForce) (all : List SheetRecords) where
   -- at an index
   content_at : (vs : List SheetView) (qs : List SheetRecords) (n : ℕ) (t : SheetContent) (v : SheetView)
       → AllZip (IsShown s all) vs qs → slice_get (map sheet qs) n ≡ Some t → slice_get vs n ≡ Some v
@@ -73,5 +73,5 @@ pub regions_by_name : (options : XlsOptions) (entries : List Entry) (book : Work
     → (last : SheetView) × (view_named book t.name ≡ Some last) × (v.merges ≡ last.merges)
 regions_by_name options entries book r n t v at found =
     let qs = sheets_of options entries in
-    let found_by = by_name (setting_of options entries) qs book.contents qs n t v r.contents (ap (λ (x : List SheetContent). slice_get x n) (sym r.sheets) ∙ at) found in
+    let found_by = by_name (in_force_of options entries) qs book.contents qs n t v r.contents (ap (λ (x : List SheetContent). slice_get x n) (sym r.sheets) ∙ at) found in
     subst (λ (x : List SheetContent). (last : SheetView) × (last_named (paired x book.contents) t.name ≡ Some last) × (v.merges ≡ last.merges)) (sym r.sheets) found_by

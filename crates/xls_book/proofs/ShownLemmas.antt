@@ -4,7 +4,7 @@ use Rattle.std.specs.Prelude.{encode_utf8_all, ◌==◌}
 use Rattle.std.specs.Str.{chars}
 use Rattle.std.proofs.lemmas.Str.{IsUtf8-string_bytes, chars-IsAscii, encodes-chars}
 use Rattle.std.proofs.lemmas.Str.Ascii.{IsAscii-nil}
-use Rattle.xls_biff.specs.Texts.{text_of}
+use Rattle.xls_strings.specs.Texts.{text_of}
 use Rattle.xls_cells.specs.Positions.{Position}
 use Rattle.xls_book.specs.SheetTable.{FormulaEntry, shown_formulas}
 use Rattle.xls_book.specs.Steps.{formula_content, BeginsShown}

@@ -1,10 +1,12 @@
 -- Values that the rules for formulas and names give, so that a wrong rule in the specs does not check.
-use Rattle.std.proofs.Common.{◌≡◌, [], ◌∷◌, refl, None, Some}
+use Rattle.std.proofs.Common.{◌≡◌, [], ◌∷◌, false, refl, None, Some}
 use Rattle.std.specs.Prelude.{pos, codes}
 use Rattle.std.specs.Fmt.{digits}
+use Rattle.xls_text.specs.declared.encoding.XlsEncoding.TheVariants.{Utf16}
 use Rattle.xls_model.specs.Listing.{Kept}
-use Rattle.xls_biff.specs.declared.error.XlsError.TheVariants.{StackLen}
-use Rattle.xls_biff.specs.declared.globals.Biff.TheVariants.{Biff5, Biff8}
+use Rattle.xls_biff.specs.SheetTable.{CellContext}
+use Rattle.xls_strings.specs.declared.error.XlsError.TheVariants.{StackLen}
+use Rattle.xls_strings.specs.declared.version.Biff.TheVariants.{Biff5, Biff8}
 use Rattle.xls_book.specs.InForce.{known_refs, placed_text, told_name}
 use Rattle.xls_book.specs.SheetTable.{shown_formulas, refusal_bytes, last_formula}
 
@@ -34,20 +36,23 @@ lost = refl
 pub unplaced : placed_text (codes "Data" ∷ []) (pos 0 ∷ []) (None, codes "empty rgce") ≡ codes "empty rgce"
 unplaced = refl
 
--- a Formula of row 3 and column 1, and one that is too short for a position
+-- a Formula of row 3 and column 1, a Number, and a Formula that is too short
 abbrev formula : Kept
-formula = record { typ = 6; body = 3 ∷ 0 ∷ 1 ∷ 0 ∷ [] }
+formula = record { typ = 0x0006; body = 3 ∷ 0 ∷ 1 ∷ 0 ∷ 0 ∷ 0 ∷ 0 ∷ 0 ∷ 0 ∷ 0 ∷ 0 ∷ 0 ∷ 0 ∷ 0 ∷ 0 ∷ 0 ∷ 0 ∷ 0 ∷ 0 ∷ 0 ∷ [] }
 
 abbrev short : Kept
-short = record { typ = 6; body = 3 ∷ 0 ∷ 1 ∷ [] }
+short = record { typ = 0x0006; body = 3 ∷ 0 ∷ 1 ∷ [] }
 
 abbrev number : Kept
-number = record { typ = 515; body = 9 ∷ 0 ∷ 9 ∷ 0 ∷ [] }
+number = record { typ = 0x0203; body = 9 ∷ 0 ∷ 9 ∷ 0 ∷ 0 ∷ 0 ∷ 0 ∷ 0 ∷ 0 ∷ 0 ∷ 0 ∷ 0 ∷ 0 ∷ 0 ∷ [] }
 
-pub last_place : last_formula (formula ∷ number ∷ short ∷ []) ≡ (3, 1)
+abbrev plain : CellContext
+plain = record { page = Utf16; version = Biff8; classes = []; strings = []; is_1904 = false }
+
+pub last_place : last_formula plain (formula ∷ number ∷ short ∷ []) ≡ (3, 1)
 last_place = refl
 
-pub first_place : last_formula (number ∷ []) ≡ (0, 0)
+pub first_place : last_formula plain (number ∷ []) ≡ (0, 0)
 first_place = refl
 
 -- an empty text isn't shown

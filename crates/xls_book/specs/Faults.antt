@@ -1,17 +1,16 @@
 -- The places of a stream in order, and its first fault.
-use Rattle.std.specs.Prelude.{◌≡◌, ℕ, ◌+◌, List, [], ◌∷◌, ◌++◌, map, length, if◌then◌else◌, nat_lt, Option, Some, None}
+use Rattle.std.specs.Prelude.{◌≡◌, ℕ, ◌+◌, List, [], ◌∷◌, ◌++◌, map, length, if◌then◌else◌, nat_lt, Option, Some, None, Result, Ok, Err}
 use Rattle.std.specs.Option.{option_map, option_or}
 use Rattle.std.specs.List.{flat_map, AllByRecursion}
 use Rattle.xls_model.specs.Listing.{Kept, Entry, plain_entry, table_entry, sheet_entry, Item, plain_item, table_item, sheet_item, entry_of, Holds}
 use Rattle.xls_model.specs.declared.part.Part.{Part}
-use Rattle.xls_biff.specs.declared.error.XlsError.{XlsError}
-use Rattle.xls_biff.specs.declared.error.XlsError.TheVariants.{EoStream, TooLarge, TooManyCells}
-use Rattle.xls_biff.specs.Strings.{bound_sheet_at}
-use Rattle.xls_biff.specs.Checks.{weight_of}
+use Rattle.xls_strings.specs.declared.error.XlsError.{XlsError}
+use Rattle.xls_strings.specs.declared.error.XlsError.TheVariants.{EoStream, TooLarge, TooManyCells}
+use Rattle.xls_biff.specs.SheetTable.{SheetRecord, weight_of}
 use Rattle.xls_book.specs.Order.{along, first_of}
-use Rattle.xls_book.specs.InForce.{page_in, version_in, Setting, setting_of}
-use Rattle.xls_book.specs.RecordTable.{fault_of, forced_fault, plain_fault, texts_of, sheet_of}
-use Rattle.xls_book.specs.SheetTable.{given_in}
+use Rattle.xls_book.specs.InForce.{page_in, version_in, line_in, InForce, in_force_of}
+use Rattle.xls_book.specs.GlobalsTable.{Line, item_record_at, fault_of, forced_fault}
+use Rattle.xls_book.specs.SheetTable.{kept_line}
 use Rattle.xls_book.specs.declared.options.XlsOptions.{XlsOptions}
 
 -- ---- one place each
@@ -26,27 +25,32 @@ abbrev pub outer_fault : XlsOptions → List ℕ → Option XlsError
 outer_fault options bytes = option_or (limit_fault options bytes) (forced_fault options.force_codepage)
 
 -- a record of the globals, under those before it
+abbrev pub item_line : XlsOptions → List Item → Item → Line
+item_line options before i =
+    item_record_at options.force_codepage (page_in options (map entry_of before)) (version_in options (map entry_of before)) i
+
 abbrev pub item_fault : XlsOptions → List Item → Item → Option XlsError
-item_fault options before (plain_item typ body) =
-    plain_fault options (page_in options (map entry_of before)) (version_in (map entry_of before)) typ body
-item_fault options before (table_item body shared) = fault_of (texts_of (length body) shared)
-item_fault options before (sheet_item body kept cut) =
-    fault_of (bound_sheet_at (page_in options (map entry_of before)) (version_in (map entry_of before)) body)
+item_fault options before i = fault_of (item_line options before i)
+
+-- a record with a fault weighs nothing
+abbrev pub weight_given : Result SheetRecord XlsError → ℕ
+weight_given (Ok g) = weight_of g
+weight_given (Err e) = 0
 
 -- the weights of these kept records
-abbrev pub weight_in : List Kept → ℕ
-weight_in [] = 0
-weight_in (k ∷ ks) = weight_of k.typ k.body + weight_in ks
+abbrev pub weight_in : InForce → List Kept → ℕ
+weight_in s [] = 0
+weight_in s (k ∷ ks) = weight_given (kept_line s.cells k) + weight_in s ks
 
 -- these kept records weigh more than a sheet may
-abbrev pub weight_fault : XlsOptions → List Kept → Option XlsError
-weight_fault options ks =
-    if nat_lt options.max_cells (weight_in ks) then Some (TooManyCells options.max_cells) else None
+abbrev pub weight_fault : XlsOptions → InForce → List Kept → Option XlsError
+weight_fault options s ks =
+    if nat_lt options.max_cells (weight_in s ks) then Some (TooManyCells options.max_cells) else None
 
--- a kept record, behind those before it: its own fault, or too many cells with it
-abbrev pub kept_fault : XlsOptions → Setting → List Kept → Kept → Option XlsError
+-- a kept record, after those before it: its own fault, or too many cells with it
+abbrev pub kept_fault : XlsOptions → InForce → List Kept → Kept → Option XlsError
 kept_fault options s before k =
-    option_or (fault_of (given_in s before k)) (weight_fault options (before ++ k ∷ []))
+    option_or (fault_of (kept_line s.cells k)) (weight_fault options s (before ++ k ∷ []))
 
 abbrev pub cut_fault : Option Part → Option XlsError
 cut_fault cut = option_map EoStream cut
@@ -54,10 +58,10 @@ cut_fault cut = option_map EoStream cut
 -- ---- the places
 
 -- the kept records of a sheet, and its cut, or that its offset passes the end
-abbrev pub part_places : XlsOptions → Setting → List Kept → Option Part → List (Option XlsError)
+abbrev pub part_places : XlsOptions → InForce → List Kept → Option Part → List (Option XlsError)
 part_places options s kept cut = along (kept_fault options s) [] kept ++ cut_fault cut ∷ []
 
-abbrev pub sheet_places : XlsOptions → Setting → Item → List (Option XlsError)
+abbrev pub sheet_places : XlsOptions → InForce → Item → List (Option XlsError)
 sheet_places options s (plain_item typ body) = []
 sheet_places options s (table_item body shared) = []
 sheet_places options s (sheet_item body kept cut) = part_places options s kept cut
@@ -70,7 +74,7 @@ globals_places options items cut = along (item_fault options) [] items ++ cut_fa
 abbrev pub places : XlsOptions → List Item → Option Part → List (Option XlsError)
 places options items cut =
     globals_places options items cut
-    ++ flat_map (sheet_places options (setting_of options (map entry_of items))) items
+    ++ flat_map (sheet_places options (in_force_of options (map entry_of items))) items
 
 -- e is the fault of a place before which no place has one, where the byte limit and the forced page
 -- have this fault
@@ -92,13 +96,9 @@ IsSound options bytes = (e : XlsError) → FirstFault options bytes e → ⊥
 
 -- an entry, under those before it
 abbrev pub entry_fault : XlsOptions → List Entry → Entry → Option XlsError
-entry_fault options before (plain_entry typ body) =
-    plain_fault options (page_in options before) (version_in before) typ body
-entry_fault options before (table_entry strings) = None
-entry_fault options before (sheet_entry state kind name kept) =
-    fault_of (sheet_of (page_in options before) (version_in before) state kind name)
+entry_fault options before e = fault_of (line_in options before e)
 
-abbrev pub IsFullSheet : XlsOptions → Setting → Entry → Type 0
+abbrev pub IsFullSheet : XlsOptions → InForce → Entry → Type 0
 IsFullSheet options s (plain_entry typ body) = Unit {0}
 IsFullSheet options s (table_entry strings) = Unit {0}
 IsFullSheet options s (sheet_entry state kind name kept) =
@@ -109,4 +109,4 @@ IsFullSheet options s (sheet_entry state kind name kept) =
 pub record IsFull (options : XlsOptions) (entries : List Entry) : Type 0 where
   pub forced : forced_fault options.force_codepage ≡ None
   pub globals : first_of (along (entry_fault options) [] entries) ≡ None
-  pub sheets : AllByRecursion (IsFullSheet options (setting_of options entries)) entries
+  pub sheets : AllByRecursion (IsFullSheet options (in_force_of options entries)) entries

@@ -1,84 +1,73 @@
--- What is in force at an entry of the list, and what all of the list gives: each by the last entry
--- that says it.
-use Rattle.std.specs.Prelude.{ℕ, ℤ, pos, List, [], ◌∷◌, ◌++◌, Bool, false, ◌||◌, ◌==◌, if◌then◌else◌, length, min, take, map, slice_get, codes, Option, Some, None, unwrap_or}
+-- What is in force at an entry of the list, and what all of the list gives: each is a function of the
+-- record table's lines, by the last one that says it.
+use Rattle.std.specs.Prelude.{ℕ, ℤ, pos, List, [], ◌∷◌, ◌++◌, Bool, false, ◌||◌, ◌==◌, if◌then◌else◌, length, min, map, slice_get, codes, Option, Some, None, unwrap_or}
 use Rattle.std.specs.Result.{result_ok}
 use Rattle.std.specs.Option.{option_or, option_map}
 use Rattle.std.specs.List.{flat_map, range_with_len}
-use Rattle.std.specs.Char.Utf16.{utf16_lossy_chars}
-use Rattle.xls_bytes.specs.Numbers.{le}
 use Rattle.xls_text.specs.Pages.{page_of}
 use Rattle.xls_text.specs.declared.encoding.XlsEncoding.{XlsEncoding}
 use Rattle.xls_text.specs.declared.encoding.XlsEncoding.TheVariants.{Utf16}
 use Rattle.xls_model.specs.Listing.{Kept, Entry, plain_entry, table_entry, sheet_entry}
-use Rattle.xls_model.specs.declared.types.TheConstants as types
 use Rattle.xls_data.specs.Builtin.{class_of_code}
 use Rattle.xls_data.specs.Sheets.{SheetContent}
 use Rattle.xls_data.specs.declared.formats.CellFormat.{CellFormat}
-use Rattle.xls_biff.specs.declared.globals.Biff.{Biff}
-use Rattle.xls_biff.specs.declared.globals.Biff.TheVariants.{Biff8}
-use Rattle.xls_biff.specs.declared.globals.Bof.{Bof}
-use Rattle.xls_biff.specs.Globals.{is_biff8, bof_at, xf_at, refs_at}
-use Rattle.xls_biff.specs.Strings.{format_at}
-use Rattle.xls_biff.specs.Checks.{InForce}
+use Rattle.xls_strings.specs.declared.version.Biff.{Biff}
+use Rattle.xls_strings.specs.declared.version.Biff.TheVariants.{Biff8}
+use Rattle.xls_strings.specs.Version.{is_biff8}
+use Rattle.xls_biff.specs.SheetTable.{CellContext}
 use Rattle.xls_formula.specs.Context.{Context, numbered_sheet}
-use Rattle.xls_formula.specs.Defined.{Located, lbl_at}
+use Rattle.xls_formula.specs.Defined.{Located}
 use Rattle.xls_book.specs.Order.{along, last_of, somes}
-use Rattle.xls_book.specs.RecordTable.{sheet_of}
+use Rattle.xls_book.specs.GlobalsTable.{Named, Line, entry_record_at, version_given, page_given, date_given, format_given, xf_given, references_given, name_given, strings_given, sheet_given}
 use Rattle.xls_book.specs.declared.options.XlsOptions.{XlsOptions}
-
--- what f gives for the body of an entry of this type
-abbrev pub of_type : {X : Type 0} → ℕ → (List ℕ → Option X) → Entry → Option X
-of_type typ f (plain_entry t body) = if t == typ then f body else None
-of_type typ f (table_entry strings) = None
-of_type typ f (sheet_entry state kind name kept) = None
 
 -- ---- page and version
 
--- CodePage ([MS-XLS] 2.4.52): the page of its number, where that is kept
-abbrev pub page_at : List ℕ → Option XlsEncoding
-page_at body = result_ok (page_of (le (take 2 body)))
+-- what an entry gives whatever is in force: pages and versions hang on nothing else
+abbrev pub said_by : Option ℕ → Entry → Line
+said_by forced e = entry_record_at forced Utf16 Biff8 e
 
--- the forced page, or else the one that was said last, or else 1200
-abbrev pub page_under : Option ℕ → Option XlsEncoding → XlsEncoding
-page_under (Some n) said = unwrap_or (result_ok (page_of n)) Utf16
-page_under None said = unwrap_or said Utf16
+-- the forced page, or else 1200
+abbrev pub first_page : Option ℕ → XlsEncoding
+first_page None = Utf16
+first_page (Some n) = unwrap_or (result_ok (page_of n)) Utf16
 
--- by the last CodePage
+-- the page that was given last, or else the first one
 abbrev pub page_in : XlsOptions → List Entry → XlsEncoding
 page_in options es =
-    page_under options.force_codepage (last_of (map (of_type types.CODE_PAGE page_at) es))
+    unwrap_or (last_of (map (λ (e : Entry). page_given (said_by options.force_codepage e)) es)) (first_page options.force_codepage)
 
--- BOF ([MS-XLS] 2.4.21)
-abbrev pub version_at : List ℕ → Option Biff
-version_at body = option_map (λ (b : Bof). b.biff) (result_ok (bof_at body))
+-- the version that was given last, or else BIFF8
+abbrev pub version_in : XlsOptions → List Entry → Biff
+version_in options es =
+    unwrap_or (last_of (map (λ (e : Entry). version_given (said_by options.force_codepage e)) es)) Biff8
 
--- the version of the last BOF, or else BIFF8
-abbrev pub version_in : List Entry → Biff
-version_in es = unwrap_or (last_of (map (of_type types.BOF version_at) es)) Biff8
+-- ---- the lines of the table
+
+-- an entry, under the page and the version that are in force at it
+abbrev pub line_in : XlsOptions → List Entry → Entry → Line
+line_in options before e =
+    entry_record_at options.force_codepage (page_in options before) (version_in options before) e
+
+-- each entry in order
+abbrev pub lines_in : XlsOptions → List Entry → List Line
+lines_in options es = along (line_in options) [] es
 
 -- ---- the date system
 
--- DateMode ([MS-XLS] 2.4.77): 1 sets 1904
-abbrev pub date_mode_at : List ℕ → Option Bool
-date_mode_at body = Some (le (take 2 body) == 1)
-
-abbrev pub sets_1904 : Entry → Bool
-sets_1904 e = unwrap_or (of_type types.DATE_MODE date_mode_at e) false
-
 -- whether some DateMode is 1
-abbrev pub is_1904_in : List Entry → Bool
-is_1904_in [] = false
-is_1904_in (e ∷ es) = sets_1904 e || is_1904_in es
+abbrev pub sets_1904 : List Line → Bool
+sets_1904 [] = false
+sets_1904 (line ∷ lines) = unwrap_or (date_given line) false || sets_1904 lines
+
+abbrev pub is_1904_in : XlsOptions → List Entry → Bool
+is_1904_in options es = sets_1904 (lines_in options es)
 
 -- ---- format classes
 
--- Format ([MS-XLS] 2.4.126): an identifier and a class, unless its line of the record table refuses
-abbrev pub format_in : XlsOptions → List Entry → Entry → Option (ℕ × CellFormat)
-format_in options before e =
-    of_type types.FORMAT (λ body. result_ok (format_at (page_in options before) (version_in before) body)) e
-
+-- the identifier and the class of each Format
 abbrev pub formats_in : XlsOptions → List Entry → List (ℕ × CellFormat)
-formats_in options es = somes (along (format_in options) [] es)
+formats_in options es = somes (map format_given (lines_in options es))
 
 -- the class of the last of these formats that has the identifier
 abbrev pub last_class : List (ℕ × CellFormat) → ℕ → Option CellFormat
@@ -89,27 +78,19 @@ last_class (f ∷ fs) ifmt = option_or (last_class fs ifmt) (if f.0 == ifmt then
 abbrev pub class_in : List (ℕ × CellFormat) → ℕ → CellFormat
 class_in formats ifmt = unwrap_or (last_class formats ifmt) (class_of_code ifmt)
 
--- XF ([MS-XLS] 2.4.353): its identifier
-abbrev pub identifier_at : List ℕ → Option ℕ
-identifier_at body = result_ok (xf_at body)
-
-abbrev pub identifiers_in : List Entry → List ℕ
-identifiers_in es = somes (map (of_type types.XF identifier_at) es)
+-- the identifier of each XF
+abbrev pub identifiers_in : XlsOptions → List Entry → List ℕ
+identifiers_in options es = somes (map xf_given (lines_in options es))
 
 -- the class of each XF, by the formats of the whole list
 abbrev pub classes_in : XlsOptions → List Entry → List CellFormat
-classes_in options es = map (class_in (formats_in options es)) (identifiers_in es)
+classes_in options es = map (class_in (formats_in options es)) (identifiers_in options es)
 
 -- ---- shared strings
 
-abbrev pub table_in : Entry → Option (List (List ℕ))
-table_in (plain_entry typ body) = None
-table_in (table_entry strings) = Some strings
-table_in (sheet_entry state kind name kept) = None
-
 -- the texts of the last string table
-abbrev pub texts_in : List Entry → List (List ℕ)
-texts_in es = map utf16_lossy_chars (unwrap_or (last_of (map table_in es)) [])
+abbrev pub texts_in : XlsOptions → List Entry → List (List ℕ)
+texts_in options es = unwrap_or (last_of (map strings_given (lines_in options es))) []
 
 -- ---- sheets
 
@@ -121,8 +102,8 @@ abbrev pub sheet_in : XlsOptions → List Entry → Entry → Option SheetRecord
 sheet_in options before (plain_entry typ body) = None
 sheet_in options before (table_entry strings) = None
 sheet_in options before (sheet_entry state kind name kept) =
-    option_map (λ (s : ℕ × SheetContent). (s.1, kept))
-    (result_ok (sheet_of (page_in options before) (version_in before) state kind name))
+    option_map (λ (s : SheetContent). (s, kept))
+    (sheet_given (line_in options before (sheet_entry state kind name kept)))
 
 -- the sheets in order
 abbrev pub sheets_of : XlsOptions → List Entry → List SheetRecords
@@ -134,13 +115,9 @@ sheet_names_of = map (λ (q : SheetRecords). q.0.name)
 
 -- ---- references
 
--- ExternSheet ([MS-XLS] 2.4.106): the first sheets of its references
-abbrev pub refs_in : List Entry → Entry → Option (List ℤ)
-refs_in before e = of_type types.EXTERN_SHEET (λ body. result_ok (refs_at (version_in before) body)) e
-
--- those of all ExternSheets in order
-abbrev pub extern_refs : List Entry → List ℤ
-extern_refs es = flat_map (λ (rs : List ℤ). rs) (somes (along refs_in [] es))
+-- the first sheets of the references of all ExternSheets in order
+abbrev pub extern_refs : XlsOptions → List Entry → List ℤ
+extern_refs options es = flat_map (λ (rs : List ℤ). rs) (somes (map references_given (lines_in options es)))
 
 -- reference i is sheet i, of so many
 abbrev pub own_refs : ℕ → List ℤ
@@ -154,18 +131,11 @@ known_refs version count (r ∷ rs) = r ∷ rs
 
 -- ---- defined names
 
--- Lbl ([MS-XLS] 2.4.150): the name and what it names
-abbrev pub Named : Type 0
-Named = List ℕ × Located
-
-abbrev pub name_in : XlsOptions → List Entry → Entry → Option Named
-name_in options before e =
-    of_type types.LBL (λ body. result_ok (lbl_at (page_in options before) (version_in before) body)) e
-
+-- each Lbl in order
 abbrev pub lbls_in : XlsOptions → List Entry → List Named
-lbls_in options es = somes (along (name_in options) [] es)
+lbls_in options es = somes (map name_given (lines_in options es))
 
--- a text behind the sheet of its reference and `!`, where it has a reference
+-- a text after the sheet of its reference and `!`, where it has a reference
 abbrev pub placed_text : List (List ℕ) → List ℤ → Located → List ℕ
 placed_text sheets refs (None, cs) = cs
 placed_text sheets refs (Some index, cs) =
@@ -192,30 +162,29 @@ context_by options page version sheets refs names =
 -- by the lists at the end of the globals
 abbrev pub context_of : XlsOptions → List Entry → Context
 context_of options es =
-    context_by options (page_in options es) (version_in es) (sheet_names_of (sheets_of options es))
-    (known_refs (version_in es) (length (sheets_of options es)) (extern_refs es)) (lbls_in options es)
+    context_by options (page_in options es) (version_in options es) (sheet_names_of (sheets_of options es))
+    (known_refs (version_in options es) (length (sheets_of options es)) (extern_refs options es))
+    (lbls_in options es)
 
 -- each defined name with its text
 abbrev pub names_in : XlsOptions → List Entry → List (List ℕ × List ℕ)
 names_in options es = (context_of options es).names
 
--- what a sheet's records are read under: page, classes, strings and date system, the version, and
--- what its formulas may name
-pub record Setting : Type 0 where
-  pub force : InForce
-  pub version : Biff
-  pub context : Context
+-- what is in force for the records of the sheets: for their cells, and for their formulas
+pub record InForce : Type 0 where
+  pub cells : CellContext
+  pub formulas : Context
 
 -- the last ones of the whole list
-abbrev pub setting_of : XlsOptions → List Entry → Setting
-setting_of options es =
+abbrev pub in_force_of : XlsOptions → List Entry → InForce
+in_force_of options es =
     record {
-      force = record {
+      cells = record {
         page = page_in options es;
+        version = version_in options es;
         classes = classes_in options es;
-        strings = texts_in es;
-        is_1904 = is_1904_in es;
+        strings = texts_in options es;
+        is_1904 = is_1904_in options es;
       };
-      version = version_in es;
-      context = context_of options es;
+      formulas = context_of options es;
     }

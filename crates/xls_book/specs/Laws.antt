@@ -3,7 +3,7 @@ use Rattle.std.specs.Prelude.{◌≡◌, ◌↔◌, ℕ, ◌≤◌, List, Some, 
 use Rattle.xls_model.specs.Walks.{IsBytes}
 use Rattle.xls_model.specs.Listing.{Entry, Carries}
 use Rattle.xls_data.specs.Sheets.{SheetContent}
-use Rattle.xls_biff.specs.declared.error.XlsError.{XlsError}
+use Rattle.xls_strings.specs.declared.error.XlsError.{XlsError}
 use Rattle.xls_book.specs.Reading.{SheetView, Workbook, IsReading}
 use Rattle.xls_book.specs.Steps.{view_named}
 use Rattle.xls_book.specs.Faults.{FirstFault, IsSound, IsFull}

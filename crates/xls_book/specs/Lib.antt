@@ -1,6 +1,6 @@
 pub mod Order
 pub mod InForce
-pub mod RecordTable
+pub mod GlobalsTable
 pub mod SheetTable
 pub mod Reading
 pub mod Faults

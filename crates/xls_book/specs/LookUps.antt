@@ -18,8 +18,8 @@ use Rattle.xls_range.specs.Grid.{Grid, no_cells, start_of, end_of, cell_at, IsOf
 use Rattle.xls_range.specs.Sparse.{IsDense}
 use Rattle.xls_cells.specs.Positions.{Position, IsAscending}
 use Rattle.xls_biff.specs.Cells.{Entry}
-use Rattle.xls_biff.specs.declared.error.XlsError.{XlsError}
-use Rattle.xls_biff.specs.declared.error.XlsError.TheVariants as errors
+use Rattle.xls_strings.specs.declared.error.XlsError.{XlsError}
+use Rattle.xls_strings.specs.declared.error.XlsError.TheVariants as errors
 use Rattle.xls_book.specs.Reading.{SheetView, Workbook}
 use Rattle.xls_book.specs.SheetTable.{FormulaEntry}
 use Rattle.xls_book.specs.Steps.{cell_content, formula_content}

@@ -9,10 +9,10 @@ use Rattle.xls_data.specs.Sheets.{SheetContent}
 use Rattle.xls_data.specs.declared.formats.CellFormat.{CellFormat}
 use Rattle.xls_data.specs.declared.regions.Dimensions.{Dimensions}
 use Rattle.xls_cells.specs.Positions.{Position, IsAscending, last_at}
-use Rattle.xls_biff.specs.declared.error.XlsError.{XlsError}
+use Rattle.xls_strings.specs.declared.error.XlsError.{XlsError}
 use Rattle.xls_biff.specs.Cells.{Entry}
 use Rattle.xls_book.specs.Order.{along}
-use Rattle.xls_book.specs.InForce.{is_1904_in, classes_in, names_in, Setting, setting_of}
+use Rattle.xls_book.specs.InForce.{is_1904_in, classes_in, names_in, InForce, in_force_of}
 pub use Rattle.xls_book.specs.InForce.{SheetRecords, sheet_in, sheets_of}
 use Rattle.xls_book.specs.SheetTable.{FormulaEntry, Given, nothing, given_in}
 use Rattle.xls_book.specs.declared.options.XlsOptions.{XlsOptions}
@@ -35,20 +35,20 @@ abbrev pub given_by : Result Given XlsError → Given
 given_by (Ok g) = g
 given_by (Err e) = nothing
 
--- what each kept record gives behind those before it
-abbrev pub gifts_of : Setting → List Kept → List Given
+-- what each kept record gives after those before it
+abbrev pub gifts_of : InForce → List Kept → List Given
 gifts_of s kept = map given_by (along (given_in s) [] kept)
 
 -- the cells in order
-abbrev pub values_of : Setting → List Kept → List Entry
+abbrev pub values_of : InForce → List Kept → List Entry
 values_of s kept = flat_map (λ (g : Given). g.cells) (gifts_of s kept)
 
 -- the texts of formulas in order
-abbrev pub formulas_of : Setting → List Kept → List FormulaEntry
+abbrev pub formulas_of : InForce → List Kept → List FormulaEntry
 formulas_of s kept = flat_map (λ (g : Given). g.formulas) (gifts_of s kept)
 
 -- the merged regions in order
-abbrev pub merges_of : Setting → List Kept → List Dimensions
+abbrev pub merges_of : InForce → List Kept → List Dimensions
 merges_of s kept = flat_map (λ (g : Given). g.regions) (gifts_of s kept)
 
 -- what a sheet shows: its values, the texts of its formulas, and its merged regions
@@ -59,7 +59,7 @@ pub record SheetView : Type 0 where
 
 -- cells and formulas stand by row, then column, and each position has the value and the text that was
 -- given to it last, empty texts too; the regions are those of the kept records
-pub record IsContent (s : Setting) (kept : List Kept) (view : SheetView) : Type 0 where
+pub record IsContent (s : InForce) (kept : List Kept) (view : SheetView) : Type 0 where
   pub ascending : IsAscending (map (λ (c : Entry). c.0) view.cells)
   pub last : (p : Position) → last_at view.cells p ≡ last_at (values_of s kept) p
   pub formulas_ascending : IsAscending (map (λ (f : FormulaEntry). f.0) view.formulas)
@@ -79,7 +79,7 @@ pub record Workbook : Type 0 where
   pub classes : List CellFormat
 
 -- each sheet shows the content of the last sheet of its name
-abbrev pub IsShown : Setting → List SheetRecords → SheetView → SheetRecords → Type 0
+abbrev pub IsShown : InForce → List SheetRecords → SheetView → SheetRecords → Type 0
 IsShown s all view q = IsContent s (kept_named all q.0.name) view
 
 -- the workbook is the reading of the list under these options
@@ -87,6 +87,6 @@ pub record IsReading (options : XlsOptions) (entries : List listing.Entry) (book
   pub kept : book.options ≡ options
   pub sheets : book.sheets ≡ map (λ (q : SheetRecords). q.0) (sheets_of options entries)
   pub names : book.names ≡ names_in options entries
-  pub contents : AllZip (IsShown (setting_of options entries) (sheets_of options entries)) book.contents (sheets_of options entries)
-  pub date_system : book.is_1904 ≡ is_1904_in entries
+  pub contents : AllZip (IsShown (in_force_of options entries) (sheets_of options entries)) book.contents (sheets_of options entries)
+  pub date_system : book.is_1904 ≡ is_1904_in options entries
   pub classes : book.classes ≡ classes_in options entries

@@ -1,46 +1,36 @@
 -- What the parts of opening answer: the globals, one sheet part, and the sheets so far.
 use Rattle.std.specs.Prelude.{◌≡◌, ℕ, ℤ, suc, String, List, [], ◌∷◌, ◌++◌, ◌-◌, ◌||◌, ◌==◌, Bool, false, if◌then◌else◌, nat_lt, length, take, map, Option, Some, None, unwrap_or, Result, Ok, Err, Vec}
-use Rattle.std.specs.Result.{result_ok}
 use Rattle.std.specs.Option.{option_map, option_or}
 use Rattle.std.specs.String.{string_bytes}
 use Rattle.std.specs.Str.{bytes_eq, chars}
 use Rattle.std.specs.Global.{Global}
 use Rattle.std.specs.BTreeMap.{BTreeMap, get_by_text}
 use Rattle.std.specs.Borrow.{Bor}
-use Rattle.xls_bytes.specs.Numbers.{le}
-use Rattle.xls_text.specs.Pages.{page_of}
 use Rattle.xls_text.specs.declared.encoding.XlsEncoding.{XlsEncoding}
-use Rattle.xls_text.specs.declared.error.CfbError.{CfbError}
 use Rattle.xls_model.specs.Listing as listing
 use Rattle.xls_model.specs.Listing.{offset_at, Kept, Item, plain_item, table_item, sheet_item, entry_of, IsPart, IsSheetPart, Holds, Carries}
 use Rattle.xls_model.specs.Walks.{IsBytes}
 use Rattle.xls_model.specs.declared.part.Part.{Part}
-use Rattle.xls_model.specs.declared.part.Part.TheVariants as parts
-use Rattle.xls_model.specs.declared.types.TheConstants as types
 use Rattle.xls_data.specs.Sheets.{SheetContent, sheet_content}
 use Rattle.xls_data.specs.declared.sheets.Sheet.{Sheet}
 use Rattle.xls_data.specs.declared.values.Data.{Data}
 use Rattle.xls_data.specs.declared.formats.CellFormat.{CellFormat}
 use Rattle.xls_cells.specs.Positions.{Position}
-use Rattle.xls_biff.specs.declared.error.XlsError.{XlsError}
-use Rattle.xls_biff.specs.declared.error.XlsError.TheVariants as errors
-use Rattle.xls_biff.specs.declared.globals.Biff.{Biff}
-use Rattle.xls_biff.specs.declared.globals.Biff.TheVariants.{Biff8}
-use Rattle.xls_biff.specs.declared.globals.Bof.{Bof}
-use Rattle.xls_biff.specs.Reading.{Fails}
-use Rattle.xls_biff.specs.Texts.{text_of}
-use Rattle.xls_biff.specs.Globals.{bof_at, xf_at, refs_at}
-use Rattle.xls_biff.specs.Strings.{bound_sheet_at, format_at}
+use Rattle.xls_strings.specs.declared.error.XlsError.{XlsError}
+use Rattle.xls_strings.specs.declared.error.XlsError.TheVariants as errors
+use Rattle.xls_strings.specs.declared.version.Biff.{Biff}
+use Rattle.xls_strings.specs.declared.version.Biff.TheVariants.{Biff8}
+use Rattle.xls_strings.specs.Reading.{Fails, gives}
+use Rattle.xls_strings.specs.Texts.{text_of}
 use Rattle.xls_biff.specs.Cells.{Entry}
 use Rattle.xls_biff.specs.Cells as cells
 use Rattle.xls_book.specs.Order.{along, first_of, somes}
-use Rattle.xls_formula.specs.Defined.{lbl_at}
-use Rattle.xls_book.specs.InForce.{page_in, version_in, is_1904_in, formats_in, identifiers_in, texts_in, extern_refs, Named, lbls_in, known_refs, told_name, Setting}
-use Rattle.xls_book.specs.RecordTable.{file_pass_fault}
+use Rattle.xls_book.specs.InForce.{page_in, version_in, is_1904_in, formats_in, identifiers_in, texts_in, extern_refs, lbls_in, known_refs, told_name, InForce}
+use Rattle.xls_book.specs.GlobalsTable.{Named, GlobalsRecord, Line, item_record_at, version_given, page_given, date_given, format_given, xf_given, references_given, name_given, strings_given, sheet_given}
 use Rattle.xls_book.specs.SheetTable.{FormulaEntry, shown_formulas, Given}
 use Rattle.xls_book.specs.Reading.{SheetRecords, SheetView, IsContent, last_named, Workbook, IsReading}
-use Rattle.xls_book.specs.Faults.{item_fault, kept_fault, part_places, globals_places, FirstBehind, IsFull}
-use Rattle.xls_book.specs.declared.globals.Listed.{Listed}
+use Rattle.xls_book.specs.Faults.{item_line, item_fault, kept_fault, part_places, globals_places, FirstBehind, IsFull}
+use Rattle.xls_book.specs.declared.listed.Listed.{Listed}
 use Rattle.xls_book.specs.declared.names.Naming.{Naming}
 use Rattle.xls_book.specs.declared.options.XlsOptions.{XlsOptions}
 
@@ -94,69 +84,45 @@ first_state page = record {
   sheets = [];
 }
 
-abbrev pub bof_step : State → Result Bof XlsError → Result State XlsError
-bof_step s (Ok b) = Ok (record s { version = b.biff })
-bof_step s (Err e) = Err e
+-- a list with one more at its end, if there is one
+abbrev pub with_one : {X : Type 0} → List X → Option X → List X
+with_one xs None = xs
+with_one xs (Some x) = xs ++ x ∷ []
 
--- a record that has a fault or gives nothing
-abbrev pub check_step : State → Option XlsError → Result State XlsError
-check_step s None = Ok s
-check_step s (Some e) = Err e
+abbrev pub with_all : {X : Type 0} → List X → Option (List X) → List X
+with_all xs None = xs
+with_all xs (Some ys) = xs ++ ys
 
-abbrev pub with_page : State → Result XlsEncoding CfbError → Result State XlsError
-with_page s (Ok page) = Ok (record s { page = page })
-with_page s (Err e) = Err (errors.Cfb e)
+abbrev pub or_also : Bool → Option Bool → Bool
+or_also b None = b
+or_also b (Some c) = b || c
 
-abbrev pub page_step : Option ℕ → State → List ℕ → Result State XlsError
-page_step (Some n) s body = Ok s
-page_step None s body =
-    if nat_lt (length body) 2 then Err (errors.Len 2 (length body) parts.CodePage)
-    else with_page s (page_of (le (take 2 body)))
+-- a sheet at the offset of its BoundSheet8
+abbrev pub placed : Item → SheetContent → ℕ × SheetContent
+placed (plain_item typ body) sheet = (0, sheet)
+placed (table_item body shared) sheet = (0, sheet)
+placed (sheet_item body kept cut) sheet = (offset_at body, sheet)
 
-abbrev pub date_step : State → List ℕ → Result State XlsError
-date_step s body =
-    if nat_lt (length body) 2 then Err (errors.Len 2 (length body) parts.DateMode)
-    else Ok (record s { is_1904 = s.is_1904 || (le (take 2 body) == 1) })
+-- after one more record, by what the table says that it gives
+abbrev pub after : State → Item → Line → State
+after s i line = record {
+  page = unwrap_or (page_given line) s.page;
+  version = unwrap_or (version_given line) s.version;
+  is_1904 = or_also s.is_1904 (date_given line);
+  formats = with_one s.formats (format_given line);
+  identifiers = with_one s.identifiers (xf_given line);
+  strings = unwrap_or (strings_given line) s.strings;
+  refs = with_all s.refs (references_given line);
+  names = with_one s.names (name_given line);
+  sheets = with_one s.sheets (option_map (placed i) (sheet_given line));
+}
 
-abbrev pub listed_format : Option (ℕ × CellFormat) → List (ℕ × CellFormat)
-listed_format None = []
-listed_format (Some f) = f ∷ []
+abbrev pub stepped : State → Item → Line → Result State XlsError
+stepped s i line = gives (λ (g : GlobalsRecord). after s i (Ok g)) line
 
-abbrev pub format_step : State → Result (ℕ × CellFormat) XlsError → Result State XlsError
-format_step s read = Ok (record s { formats = s.formats ++ listed_format (result_ok read) })
-
-abbrev pub xf_step : State → Result ℕ XlsError → Result State XlsError
-xf_step s (Ok ifmt) = Ok (record s { identifiers = s.identifiers ++ ifmt ∷ [] })
-xf_step s (Err e) = Err e
-
-abbrev pub refs_step : State → Result (List ℤ) XlsError → Result State XlsError
-refs_step s (Ok refs) = Ok (record s { refs = s.refs ++ refs })
-refs_step s (Err e) = Err e
-
-abbrev pub name_step : State → Result Named XlsError → Result State XlsError
-name_step s (Ok n) = Ok (record s { names = s.names ++ n ∷ [] })
-name_step s (Err e) = Err e
-
--- a record that is neither SST nor BoundSheet8; those of other types give nothing
-abbrev pub plain_step : XlsOptions → State → ℕ → List ℕ → Result State XlsError
-plain_step options s typ body =
-    if typ == types.BOF then bof_step s (bof_at body)
-    else if typ == types.FILE_PASS then check_step s (file_pass_fault body)
-    else if typ == types.CODE_PAGE then page_step options.force_codepage s body
-    else if typ == types.DATE_MODE then date_step s body
-    else if typ == types.FORMAT then format_step s (format_at s.page s.version body)
-    else if typ == types.XF then xf_step s (xf_at body)
-    else if typ == types.EXTERN_SHEET then refs_step s (refs_at s.version body)
-    else if typ == types.LBL then name_step s (lbl_at s.page s.version body)
-    else Ok s
-
-abbrev pub table_step : State → Result (List (List ℕ)) XlsError → Result State XlsError
-table_step s (Ok texts) = Ok (record s { strings = texts })
-table_step s (Err e) = Err e
-
-abbrev pub sheet_step : State → Result (ℕ × SheetContent) XlsError → Result State XlsError
-sheet_step s (Ok q) = Ok (record s { sheets = s.sheets ++ q ∷ [] })
-sheet_step s (Err e) = Err e
+-- likewise by the record's line, under what the state has in force
+abbrev pub step : XlsOptions → State → Item → Result State XlsError
+step options s i = stepped s i (item_record_at options.force_codepage s.page s.version i)
 
 -- ---- the sheets of the globals
 
@@ -171,12 +137,12 @@ abbrev pub opened_in : XlsOptions → List Item → Item → Option Opened
 opened_in options before (plain_item typ body) = None
 opened_in options before (table_item body shared) = None
 opened_in options before (sheet_item body kept cut) =
-    option_map (λ (h : ℕ × SheetContent). record {
-      offset = h.0;
-      head = h.1;
+    option_map (λ (s : SheetContent). record {
+      offset = offset_at body;
+      head = s;
       kept = kept;
       cut = cut;
-    }) (result_ok (bound_sheet_at (page_in options (map entry_of before)) (version_in (map entry_of before)) body))
+    }) (sheet_given (item_line options before (sheet_item body kept cut)))
 
 abbrev pub opened_of : XlsOptions → List Item → List Opened
 opened_of options items = somes (along (opened_in options) [] items)
@@ -191,12 +157,12 @@ sheets_at options items = map pair_of (opened_of options items)
 -- the state is what these items give
 pub record IsState (options : XlsOptions) (items : List Item) (s : State) : Type 0 where
   pub page : s.page ≡ page_in options (map entry_of items)
-  pub version : s.version ≡ version_in (map entry_of items)
-  pub is_1904 : s.is_1904 ≡ is_1904_in (map entry_of items)
+  pub version : s.version ≡ version_in options (map entry_of items)
+  pub is_1904 : s.is_1904 ≡ is_1904_in options (map entry_of items)
   pub formats : s.formats ≡ formats_in options (map entry_of items)
-  pub identifiers : s.identifiers ≡ identifiers_in (map entry_of items)
-  pub strings : s.strings ≡ texts_in (map entry_of items)
-  pub refs : s.refs ≡ extern_refs (map entry_of items)
+  pub identifiers : s.identifiers ≡ identifiers_in options (map entry_of items)
+  pub strings : s.strings ≡ texts_in options (map entry_of items)
+  pub refs : s.refs ≡ extern_refs options (map entry_of items)
   pub names : s.names ≡ lbls_in options (map entry_of items)
   pub sheets : s.sheets ≡ sheets_at options items
 
@@ -237,35 +203,37 @@ pub record IsNaming (version : Biff) (listed : Sheets) (refs : List ℤ) (lbls :
 abbrev pub no_view : SheetView
 no_view = record { cells = []; formulas = []; merges = [] }
 
--- behind one more record
-abbrev pub given_step : SheetView → Result Given XlsError → Result SheetView XlsError
-given_step v (Ok g) =
-    Ok (record {
+abbrev pub with_given : SheetView → Given → SheetView
+with_given v g =
+    record {
       cells = v.cells ++ g.cells;
       formulas = v.formulas ++ g.formulas;
       merges = v.merges ++ g.regions;
-    })
-given_step v (Err e) = Err e
+    }
 
--- how many more cells there may be, of these that there may be, behind a record of this weight
+-- after one more record
+abbrev pub given_step : SheetView → Result Given XlsError → Result SheetView XlsError
+given_step v line = gives (with_given v) line
+
+-- how many more cells there may be, of these that there may be, after a record of this weight
 abbrev pub weight_left : ℕ → ℕ → ℕ → Result ℕ XlsError
 weight_left limit room weight =
     if nat_lt room weight then Err (errors.TooManyCells limit) else Ok (room - weight)
 
 -- the records of a part that isn't cut have no fault, and this is their content
 pub record IsRead (Stands : List Kept → Option Part
-    → Type 0) (options : XlsOptions) (s : Setting) (view : SheetView) : Type 0 where
+    → Type 0) (options : XlsOptions) (s : InForce) (view : SheetView) : Type 0 where
   pub kept : List Kept
   pub stands : Stands kept None
   pub faultless : first_of (along (kept_fault options s) [] kept) ≡ None
   pub content : IsContent s kept view
 
-abbrev pub PartFault : (List Kept → Option Part → Type 0) → XlsOptions → Setting → XlsError → Type 0
+abbrev pub PartFault : (List Kept → Option Part → Type 0) → XlsOptions → InForce → XlsError → Type 0
 PartFault Stands options s e =
     (kept : List Kept) × (cut : Option Part) × Stands kept cut
     × (first_of (part_places options s kept cut) ≡ Some e)
 
-abbrev pub Reads : (List Kept → Option Part → Type 0) → XlsOptions → Setting
+abbrev pub Reads : (List Kept → Option Part → Type 0) → XlsOptions → InForce
     → Result SheetView XlsError → Type 0
 Reads Stands options s (Ok view) = IsRead Stands options s view
 Reads Stands options s (Err errors.Memory) = Unit {0}
@@ -274,14 +242,14 @@ Reads Stands options s (Err e) = PartFault Stands options s e
 -- ---- the sheets
 
 -- each of these sheets was read so
-abbrev pub AreContents : XlsOptions → Setting → List ℕ → Sheets → List SheetView → Type 0
+abbrev pub AreContents : XlsOptions → InForce → List ℕ → Sheets → List SheetView → Type 0
 AreContents options s stream [] [] = Unit {0}
 AreContents options s stream (q ∷ qs) (v ∷ vs) =
     IsRead (IsSheetPart stream q.0) options s v × AreContents options s stream qs vs
 AreContents options s stream qs vs = ⊥
 
--- behind sheets that were read so, the part of one has this fault
-pub record ContentsFault (options : XlsOptions) (s : Setting) (stream : List ℕ) (sheets : Sheets) (e : XlsError) : Type 0 where
+-- after sheets that were read so, the part of one has this fault
+pub record ContentsFault (options : XlsOptions) (s : InForce) (stream : List ℕ) (sheets : Sheets) (e : XlsError) : Type 0 where
   pub done : Sheets
   pub views : List SheetView
   pub were : AreContents options s stream done views
@@ -290,7 +258,7 @@ pub record ContentsFault (options : XlsOptions) (s : Setting) (stream : List ℕ
   pub split : sheets ≡ done ++ at ∷ behind
   pub fault : PartFault (IsSheetPart stream at.0) options s e
 
-abbrev pub ReadsContents : XlsOptions → Setting → List ℕ → Sheets → Result (List SheetView) XlsError
+abbrev pub ReadsContents : XlsOptions → InForce → List ℕ → Sheets → Result (List SheetView) XlsError
     → Type 0
 ReadsContents options s stream sheets (Ok views) = AreContents options s stream sheets views
 ReadsContents options s stream sheets (Err errors.Memory) = Unit {0}
@@ -302,7 +270,7 @@ items_of (Ok v) = Ok v.items
 items_of (Err e) = Err e
 
 -- these sheets with these contents are those of the list
-abbrev pub AreSheets : Setting → List SheetContent → List SheetView → List SheetRecords → Type 0
+abbrev pub AreSheets : InForce → List SheetContent → List SheetView → List SheetRecords → Type 0
 AreSheets s [] [] [] = Unit {0}
 AreSheets s (t ∷ ts) (v ∷ vs) (q ∷ qs) =
     (t ≡ q.0) × IsContent s q.1 v × AreSheets s ts vs qs
@@ -364,7 +332,7 @@ pub record IsFromShown (all rest : List (Position × String Global)) : Type 0 wh
   pub same : shown_formulas (map formula_content rest) ≡ shown_formulas (map formula_content all)
   pub begins : BeginsShown rest
 
--- the first that is shown, and those behind it
+-- the first that is shown, and those after it
 abbrev pub FirstShown : List (Position × String Global) → Option (ℕ × ℕ × Bor (List ℕ) × Bor (List (Position × String Global))) → Type 0
 FirstShown all None = shown_formulas (map formula_content all) ≡ []
 FirstShown all (Some f) =

@@ -55,7 +55,7 @@ fn from_shown(cells: &[Cell<String>]) -> &[Cell<String>]
 }
 
 /// The first of these cells whose text isn't empty: its row, its column and its text, and the cells
-/// behind it.
+/// after it.
 #[tactic(auto, using(crate::proofs::ShownLemmas::begun))]
 fn first_shown(cells: &[Cell<String>]) -> Option<(u32, u32, &str, &[Cell<String>])>
     ensures { FirstShown cells.now result }

@@ -1,42 +1,41 @@
 //! The globals: what is in force, and the sheets that they list.
 
-ghost use Rattle.std.specs.Prelude.{◌≡◌, ◌++◌, [], true, IfOk, OnOk, OnErr, MatchResult, None, Some, length};
-ghost use Rattle.std.specs.Result.{result_ok};
-ghost use Rattle.xls_data.specs.Sheets.{sheet_content};
-ghost use Rattle.xls_biff.specs.Reading.{Exactly, Fails};
+ghost use Rattle.std.specs.Prelude.{◌≡◌, ◌++◌, [], ℕ, List, Option, true, IfOk, OnOk, OnErr, MatchResult, None, Some, length};
+ghost use Rattle.xls_data.specs.Sheets.{SheetContent};
+ghost use Rattle.xls_strings.specs.Reading.{Exactly, Fails, gives};
 ghost use Rattle.xls_biff.specs.Walking.{group_of};
-ghost use Rattle.xls_biff.specs.Globals.{bof_at, xf_at, refs_at};
-ghost use Rattle.xls_biff.specs.Strings.{bound_sheet_at, format_at};
+ghost use Rattle.xls_biff.specs.Records.Bof.{bof_at};
+ghost use Rattle.xls_biff.specs.Records.Xf.{xf_at};
+ghost use Rattle.xls_biff.specs.Records.ExternSheet.{refs_at};
+ghost use Rattle.xls_biff.specs.Records.Format.{format_at};
+ghost use Rattle.xls_biff.specs.declared.records.bof.Bof.{Bof};
 ghost use Rattle.xls_formula.specs.Defined.{lbl_at};
-ghost use Rattle.xls_model.specs.Listing.{Shared, IsShared, is_plain_type};
+ghost use Rattle.xls_model.specs.Listing.{Kept, Shared, IsShared, is_plain_type, plain_item, table_item, sheet_item};
+ghost use Rattle.xls_model.specs.declared.part.Part.{Part};
 ghost use Rattle.xls_model.specs.declared.types.TheConstants as types;
-ghost use Rattle.xls_book.specs.RecordTable.{file_pass_fault, texts_of};
-ghost use Rattle.xls_book.specs.Steps.{Follows, bof_step, check_step, page_step, date_step, format_step, xf_step, refs_step, name_step, plain_step, table_step, sheet_step, first_state, ReadsGlobals};
+ghost use Rattle.xls_biff.specs.Records.FilePass.{file_pass_at};
+ghost use Rattle.xls_biff.specs.Records.CodePage.{code_page_at};
+ghost use Rattle.xls_biff.specs.Records.DateMode.{date_mode_at};
+ghost use Rattle.xls_biff.specs.Records.BoundSheet.{bound_sheet_at};
+ghost use Rattle.xls_book.specs.GlobalsTable.{other_record, version_record, page_record, date_record, xf_record, references_record, name_record, strings_record, sheet_record, unless_forced, unless_refused, texts_of};
+ghost use Rattle.xls_book.specs.Steps.{Follows, stepped, step, first_state, ReadsGlobals};
 ghost use Rattle.xls_book.specs.InForce.{page_in};
 
-use crate::names::Lbl;
+use crate::formula::is_memory;
+use crate::listed::{Lbl, Listed};
 use crate::options::XlsOptions;
 use std::alloc::Global;
 use std::marker::Model;
 use xls_biff::{
-    Biff, Record, RecordIter, Refs, Strings, XlsError, parse_bof, parse_extern_sheet, parse_format,
-    parse_sheet_metadata, parse_sst, parse_xf,
+    Biff, Record, RecordIter, Refs, Strings, XlsError, parse_bof, parse_code_page, parse_date_mode,
+    parse_extern_sheet, parse_file_pass, parse_format, parse_sheet_metadata, parse_sst, parse_xf,
 };
-use xls_bytes::read_u16;
-use xls_data::{CellFormat, Sheet};
+use xls_data::CellFormat;
 use xls_formula::parse_lbl;
-use xls_model::Part;
 use xls_model::types::{
     BOF, BOUND_SHEET_8, CODE_PAGE, DATE_MODE, EOF, EXTERN_SHEET, FILE_PASS, FORMAT, LBL, SST, XF,
 };
 use xls_text::XlsEncoding;
-
-/// A sheet of the globals, and where its part begins.
-#[derive(Drop)]
-pub(crate) struct Listed {
-    pub offset: usize,
-    pub sheet: Sheet,
-}
 
 /// What the globals give up to some record.
 #[derive(Drop)]
@@ -79,30 +78,6 @@ impl Model for Globals {
     } };
 }
 
-/// A body that is too short for its first number.
-fn too_short(body: &[u8], typ: Part) -> XlsError
-    ensures { result ≡ XlsError.Len 2 (length body.now) typ }
-{
-    XlsError::Len {
-        expected: 2,
-        found: body.len(),
-        typ,
-    }
-}
-
-/// That a FilePass record asks for no password.
-fn check_file_pass(body: &[u8]) -> Result<(), XlsError>
-    ensures { MatchResult result (λ _. file_pass_fault body.now ≡ None) (λ e. file_pass_fault body.now ≡ Some e) }
-{
-    if body.len() < 2 {
-        return Err(too_short(body, Part::FilePass));
-    }
-    if read_u16(body) != 0 {
-        return Err(XlsError::Password);
-    }
-    Ok(())
-}
-
 impl Globals {
     /// Before the first record, under this page.
     fn new(alloc: Global, page: XlsEncoding) -> Globals
@@ -122,51 +97,59 @@ impl Globals {
     }
 
     fn take_bof(&mut self, r: &Record<'_>) -> Result<(), XlsError>
-        ensures { Follows self.new result (bof_step self.old (bof_at r.now.body.now)) }
+        ensures { Follows self.new result (stepped self.old (plain_item r.now.typ r.now.body.now)
+            (gives (λ (b : Bof). version_record b.biff) (bof_at r.now.body.now))) }
     {
-        self.version = parse_bof(r)?.biff;
+        let bof = parse_bof(r)?;
+        self.version = bof.biff;
         Ok(())
     }
 
-    /// Takes a CodePage record, which says nothing under a forced page.
-    fn take_page(&mut self, forced: Option<u16>, body: &[u8]) -> Result<(), XlsError>
-        ensures { Follows self.new result (page_step forced self.old body.now) }
+    fn take_file_pass(&mut self, r: &Record<'_>) -> Result<(), XlsError>
+        ensures { Follows self.new result (stepped self.old (plain_item r.now.typ r.now.body.now)
+            (gives (λ _. other_record) (file_pass_at r.now.body.now))) }
     {
-        if forced.is_some() {
-            return Ok(());
-        }
-        if body.len() < 2 {
-            return Err(too_short(body, Part::CodePage));
-        }
-        self.page = XlsEncoding::from_codepage(read_u16(body))?;
-        Ok(())
+        parse_file_pass(r)
     }
 
-    fn take_date_mode(&mut self, body: &[u8]) -> Result<(), XlsError>
-        ensures { Follows self.new result (date_step self.old body.now) }
+    /// Takes a CodePage record, which under a forced page says nothing.
+    fn take_code_page(&mut self, r: &Record<'_>, forced: Option<u16>) -> Result<(), XlsError>
+        ensures { Follows self.new result (stepped self.old (plain_item r.now.typ r.now.body.now)
+            (unless_forced forced (gives page_record (code_page_at r.now.body.now)))) }
     {
-        if body.len() < 2 {
-            return Err(too_short(body, Part::DateMode));
-        }
-        if read_u16(body) == 1 {
-            self.is_1904 = true;
+        if forced.is_none() {
+            self.page = parse_code_page(r)?;
         }
         Ok(())
     }
 
-    /// Takes a Format record; one that is refused is passed over.
+    fn take_date_mode(&mut self, r: &Record<'_>) -> Result<(), XlsError>
+        ensures { Follows self.new result (stepped self.old (plain_item r.now.typ r.now.body.now)
+            (gives date_record (date_mode_at r.now.body.now))) }
+    {
+        let is_1904 = parse_date_mode(r)?;
+        self.is_1904 = self.is_1904 || is_1904;
+        Ok(())
+    }
+
+    /// Takes a Format record, unless its reader refuses it for another cause than memory.
     fn take_format(&mut self, alloc: Global, r: &Record<'_>) -> Result<(), XlsError>
-        ensures { Follows self.new result (format_step self.old (format_at self.old.page self.old.version r.now.body.now)) }
+        ensures { Follows self.new result (stepped self.old (plain_item r.now.typ r.now.body.now)
+            (unless_refused (format_at self.old.page self.old.version r.now.body.now))) }
     {
         match parse_format(alloc, r, &self.page, self.version) {
-            Ok(format) => Ok(self.formats.push(format)?),
-            Err(XlsError::Memory) => Err(XlsError::Memory),
+            Ok(format) => {
+                self.formats.push(format)?;
+                Ok(())
+            }
+            Err(error) if is_memory(&error) => Err(XlsError::Memory),
             Err(_) => Ok(()),
         }
     }
 
     fn take_xf(&mut self, r: &Record<'_>) -> Result<(), XlsError>
-        ensures { Follows self.new result (xf_step self.old (xf_at r.now.body.now)) }
+        ensures { Follows self.new result (stepped self.old (plain_item r.now.typ r.now.body.now)
+            (gives xf_record (xf_at r.now.body.now))) }
     {
         let identifier = parse_xf(r)?;
         self.identifiers.push(identifier)?;
@@ -174,7 +157,8 @@ impl Globals {
     }
 
     fn take_extern_sheet(&mut self, alloc: Global, r: &Record<'_>) -> Result<(), XlsError>
-        ensures { Follows self.new result (refs_step self.old (refs_at self.old.version r.now.body.now)) }
+        ensures { Follows self.new result (stepped self.old (plain_item r.now.typ r.now.body.now)
+            (gives references_record (refs_at self.old.version r.now.body.now))) }
     {
         let refs = parse_extern_sheet(alloc, r, self.version)?;
         self.refs.extend(&refs)?;
@@ -182,7 +166,8 @@ impl Globals {
     }
 
     fn take_name(&mut self, alloc: Global, r: &Record<'_>) -> Result<(), XlsError>
-        ensures { Follows self.new result (name_step self.old (lbl_at self.old.page self.old.version r.now.body.now)) }
+        ensures { Follows self.new result (stepped self.old (plain_item r.now.typ r.now.body.now)
+            (gives name_record (lbl_at self.old.page self.old.version r.now.body.now))) }
     {
         let name = parse_lbl(alloc, r, &self.page, self.version)?;
         self.names.push(name)?;
@@ -191,14 +176,17 @@ impl Globals {
 
     fn take_table(&mut self, alloc: Global, r: &Record<'_>) -> Result<(), XlsError>
         ensures { (shared : Shared) → IsShared (group_of r.now) shared
-            → Follows self.new result (table_step self.old (texts_of (length r.now.body.now) shared)) }
+            → Follows self.new result (stepped self.old (table_item r.now.body.now shared)
+            (gives strings_record (texts_of (length r.now.body.now) shared))) }
     {
         self.strings = parse_sst(alloc, r)?;
         Ok(())
     }
 
     fn take_sheet(&mut self, alloc: Global, r: &Record<'_>) -> Result<(), XlsError>
-        ensures { Follows self.new result (sheet_step self.old (bound_sheet_at self.old.page self.old.version r.now.body.now)) }
+        ensures { (kept : List Kept) (cut : Option Part)
+            → Follows self.new result (stepped self.old (sheet_item r.now.body.now kept cut)
+            (gives (λ (q : ℕ × SheetContent). sheet_record q.1) (bound_sheet_at self.old.page self.old.version r.now.body.now))) }
     {
         let (offset, sheet) = parse_sheet_metadata(alloc, r, &self.page, self.version)?;
         self.listed.push(Listed { offset, sheet })?;
@@ -208,17 +196,17 @@ impl Globals {
     /// Takes the next record of the globals.
     fn take(&mut self, alloc: Global, r: &Record<'_>, options: &XlsOptions) -> Result<(), XlsError>
         ensures plain { is_plain_type r.now.typ ≡ true
-            → Follows self.new result (plain_step options.now self.old r.now.typ r.now.body.now) }
+            → Follows self.new result (step options.now self.old (plain_item r.now.typ r.now.body.now)) }
         ensures table { r.now.typ ≡ types.SST → (shared : Shared) → IsShared (group_of r.now) shared
-            → Follows self.new result (table_step self.old (texts_of (length r.now.body.now) shared)) }
-        ensures sheet { r.now.typ ≡ types.BOUND_SHEET_8
-            → Follows self.new result (sheet_step self.old (bound_sheet_at self.old.page self.old.version r.now.body.now)) }
+            → Follows self.new result (step options.now self.old (table_item r.now.body.now shared)) }
+        ensures sheet { r.now.typ ≡ types.BOUND_SHEET_8 → (kept : List Kept) (cut : Option Part)
+            → Follows self.new result (step options.now self.old (sheet_item r.now.body.now kept cut)) }
     {
         match r.typ {
             BOF => self.take_bof(r),
-            FILE_PASS => check_file_pass(r.body),
-            CODE_PAGE => self.take_page(options.force_codepage, r.body),
-            DATE_MODE => self.take_date_mode(r.body),
+            FILE_PASS => self.take_file_pass(r),
+            CODE_PAGE => self.take_code_page(r, options.force_codepage),
+            DATE_MODE => self.take_date_mode(r),
             FORMAT => self.take_format(alloc, r),
             XF => self.take_xf(r),
             EXTERN_SHEET => self.take_extern_sheet(alloc, r),

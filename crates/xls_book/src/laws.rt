@@ -12,7 +12,7 @@ pub fn sound_where_full()
     ensures { SoundWhereFull }
 {}
 
-/// The count of a source that never fails doesn't rise, and doesn't stand at its last value.
+/// The count of a source that never fails doesn't rise, and doesn't stand saturated.
 pub fn steady_count()
     ensures { SteadyCount }
 {}

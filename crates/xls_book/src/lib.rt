@@ -2,11 +2,13 @@
 #![tactic(auto)]
 
 mod classes;
+mod force;
 mod formula;
 mod formulas;
 mod globals;
 mod index;
 mod laws;
+mod listed;
 mod memory;
 mod names;
 mod options;

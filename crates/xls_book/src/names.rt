@@ -2,19 +2,16 @@
 
 ghost use Rattle.std.specs.Prelude.{◌≡◌, ◌≤◌, ◌++◌, ℕ, codes, map, IfOk};
 ghost use Rattle.std.specs.Str.{chars};
-ghost use Rattle.xls_biff.specs.Texts.{text_of};
+ghost use Rattle.xls_strings.specs.Texts.{text_of};
 ghost use Rattle.xls_data.specs.Sheets.{SheetContent};
 ghost use Rattle.xls_formula.specs.Defined.{located_of, named_of};
 ghost use Rattle.xls_book.specs.InForce.{known_refs, own_refs, placed_text, told_name};
 ghost use Rattle.xls_book.specs.Steps.{IsNaming, listed_of, told_of};
 
-use crate::globals::Listed;
+use crate::listed::{Lbl, Listed};
 use std::alloc::{AllocError, Global};
 use xls_biff::{Biff, Refs, Strings};
 use xls_formula::{Names, sheet_of_reference};
-
-/// A name and what it names: the index of a reference, if there is one, and a text.
-pub(crate) type Lbl = (String, (Option<usize>, String));
 
 /// What formulas may name, and the defined names once more as the workbook tells them.
 #[derive(Drop)]
@@ -61,7 +58,7 @@ fn known_refs(alloc: Global, version: Biff, count: usize, refs: Refs) -> Result<
     }
 }
 
-/// A text behind the name of its sheet and `!`.
+/// A text after the name of its sheet and `!`.
 #[tactic(auto, using(crate::proofs::NamingLemmas::behind_mark))]
 fn on_sheet(alloc: Global, sheet: &str, text: &str) -> Result<String, AllocError>
     ensures { IfOk result (λ s. text_of s ≡ chars sheet.now ++ (codes "!" ++ chars text.now)) }
@@ -72,7 +69,7 @@ fn on_sheet(alloc: Global, sheet: &str, text: &str) -> Result<String, AllocError
     Ok(whole)
 }
 
-/// The text of a name, behind its sheet where it has a reference.
+/// The text of a name, after its sheet where it has a reference.
 fn placed_text(
     alloc: Global,
     located: (Option<usize>, String),

@@ -2,7 +2,7 @@
 
 ghost use Rattle.std.specs.Prelude.{◌≡◌, [], IfOk, Some, None, MatchResult};
 ghost use Rattle.xls_book.specs.Opening.{default_options};
-ghost use Rattle.xls_book.specs.RecordTable.{forced_fault};
+ghost use Rattle.xls_book.specs.GlobalsTable.{forced_fault};
 ghost use Rattle.xls_book.specs.InForce.{page_in};
 
 use crate::reading::StreamBytes;

@@ -2,78 +2,43 @@
 
 ghost use Rattle.std.specs.Prelude.{◌≡◌, ◌++◌, [], ◌∷◌, ◌≤◌, ◌+◌, MatchResult, Ok, map, length};
 ghost use Rattle.std.specs.List.{AllByRecursion};
-ghost use Rattle.xls_biff.specs.Reading.{Exactly, Fails};
-ghost use Rattle.xls_biff.specs.Checks.{weight_of};
+ghost use Rattle.xls_strings.specs.Reading.{Exactly, Fails, gives};
+ghost use Rattle.xls_strings.specs.Strings.{string_at};
+ghost use Rattle.xls_strings.specs.Texts.{text_of};
+ghost use Rattle.xls_biff.specs.Cells.{value_of};
+ghost use Rattle.xls_biff.specs.Records.BoolErr.{bool_err_at};
+ghost use Rattle.xls_biff.specs.Records.Dimensions.{dimensions_at};
+ghost use Rattle.xls_biff.specs.Records.Formula.{formula_at};
+ghost use Rattle.xls_biff.specs.Records.Label.{label_at};
+ghost use Rattle.xls_biff.specs.Records.LabelSst.{label_sst_at};
+ghost use Rattle.xls_biff.specs.Records.MergeCells.{merges_at};
+ghost use Rattle.xls_biff.specs.Records.Number.{number_at};
+ghost use Rattle.xls_biff.specs.Records.Rk.{rk_at, mul_rk_at};
+ghost use Rattle.xls_biff.specs.SheetTable.{CellContext, SheetRecord, weight_of};
 ghost use Rattle.xls_biff.specs.Walking.{group_of};
-ghost use Rattle.xls_biff.specs.Texts.{text_of};
-ghost use Rattle.xls_biff.specs.Cells.{number_at, rk_at, mul_rk_at, bool_err_at, value_of};
-ghost use Rattle.xls_biff.specs.Strings.{label_at, label_sst_at, string_at};
-ghost use Rattle.xls_biff.specs.Regions.{dimensions_at, merges_at};
 ghost use Rattle.xls_model.specs.Listing.{IsPart, IsSheetPart, kept_group};
-ghost use Rattle.xls_book.specs.SheetTable.{shown_formulas, cell_given, some_given, cells_given, regions_given, checked_only, text_given, valued, formula_given, given_at};
+ghost use Rattle.xls_book.specs.SheetTable.{shown_formulas, nothing, one_cell, many_cells, listed_cell, text_cell, all_regions, listed_value, formula_cell, kept_line, given_at};
 ghost use Rattle.xls_book.specs.Reading.{SheetView};
 ghost use Rattle.xls_book.specs.Steps.{Follows, no_view, given_step, cell_content, Reads, weight_left};
 
-use crate::formula::{formula_value, place_behind, position_of, text_of_formula};
+use crate::force::InForce;
+use crate::formula::text_of_formula;
 use crate::formulas::Formulas;
 use crate::options::XlsOptions;
 use crate::values::Values;
 use std::alloc::Global;
 use std::marker::Model;
 use xls_biff::{
-    Biff, Part, Record, Refs, SheetRecords, Strings, XlsError, parse_bool_err, parse_dimensions,
-    parse_label, parse_label_sst, parse_merge_cells, parse_mul_rk, parse_number, parse_rk,
-    parse_string, sheet_record_weight,
+    Part, Record, SheetRecords, XlsError, formula_position, parse_bool_err, parse_dimensions,
+    parse_formula_record, parse_label, parse_label_sst, parse_merge_cells, parse_mul_rk,
+    parse_number, parse_rk, parse_string, sheet_record_weight,
 };
 use xls_cells::sorted_cells;
-use xls_data::{Cell, CellFormat, Data, Dimensions};
-use xls_formula::{FunctionTable, Names};
+use xls_data::{Cell, Data, Dimensions};
 use xls_model::types::{
     BOOL_ERR, DIMENSIONS, FORMULA, LABEL, LABEL_SST, MERGE_CELLS, MUL_RK, NUMBER, R_STRING, RK,
     STRING,
 };
-use xls_text::XlsEncoding;
-
-/// What the records of a sheet are read under: what is in force at the end of the globals.
-#[derive(Drop)]
-pub(crate) struct InForce<'a> {
-    pub page: XlsEncoding,
-    pub version: Biff,
-    /// The class of each XF.
-    pub classes: &'a [CellFormat],
-    pub strings: &'a Strings,
-    pub is_1904: bool,
-    /// The names of the sheets, the defined names, the first sheets of the references, and the
-    /// functions: what formulas may name.
-    pub sheets: &'a Strings,
-    pub names: &'a Names,
-    pub refs: &'a Refs,
-    pub functions: &'a FunctionTable,
-}
-
-impl<'a> Model for InForce<'a> {
-    ghost use Rattle.xls_book.specs.InForce.{Setting};
-
-    ghost Value = { Setting };
-
-    ghost view = { λ s. record {
-      force = record {
-        page = s.page;
-        classes = s.classes.now;
-        strings = s.strings.now;
-        is_1904 = s.is_1904;
-      };
-      version = s.version;
-      context = record {
-        sheets = s.sheets.now;
-        names = s.names.now;
-        refs = s.refs.now;
-        page = s.page;
-        biff = s.version;
-        functions = s.functions.now;
-      };
-    } };
-}
 
 /// The cells, the formulas and the merged regions of a sheet.
 #[derive(Drop)]
@@ -129,28 +94,28 @@ impl Content {
         &self.merges
     }
 
-    /// Puts a cell behind those given so far.
+    /// Puts a cell after those given so far.
     fn put(&mut self, cell: Cell<Data>) -> Result<(), XlsError>
-        ensures { Follows self.new result (given_step self.old (Ok (record { cells = cell_content cell ∷ []; regions = []; formulas = [] }))) }
+        ensures { Follows self.new result (given_step self.old (Ok (one_cell (cell_content cell)))) }
     {
         self.cells.push(cell)?;
         Ok(())
     }
 
     fn take_number(&mut self, body: &[u8], force: &InForce<'_>) -> Result<(), XlsError>
-        ensures { Follows self.new result (given_step self.old (cell_given (number_at force.now.force.classes force.now.force.is_1904 body.now))) }
+        ensures { Follows self.new result (given_step self.old (gives one_cell (number_at force.now.cells.classes force.now.cells.is_1904 body.now))) }
     {
         self.put(parse_number(body, force.classes, force.is_1904)?)
     }
 
     fn take_rk(&mut self, body: &[u8], force: &InForce<'_>) -> Result<(), XlsError>
-        ensures { Follows self.new result (given_step self.old (cell_given (rk_at force.now.force.classes force.now.force.is_1904 body.now))) }
+        ensures { Follows self.new result (given_step self.old (gives one_cell (rk_at force.now.cells.classes force.now.cells.is_1904 body.now))) }
     {
         self.put(parse_rk(body, force.classes, force.is_1904)?)
     }
 
     fn take_mul_rk(&mut self, body: &[u8], force: &InForce<'_>) -> Result<(), XlsError>
-        ensures { Follows self.new result (given_step self.old (cells_given (mul_rk_at force.now.force.classes force.now.force.is_1904 body.now))) }
+        ensures { Follows self.new result (given_step self.old (gives many_cells (mul_rk_at force.now.cells.classes force.now.cells.is_1904 body.now))) }
     {
         parse_mul_rk(body, &mut self.cells, force.classes, force.is_1904)
     }
@@ -162,7 +127,7 @@ impl Content {
         body: &[u8],
         force: &InForce<'_>,
     ) -> Result<(), XlsError>
-        ensures { Follows self.new result (given_step self.old (some_given (label_sst_at force.now.force.strings body.now))) }
+        ensures { Follows self.new result (given_step self.old (gives (λ cell. many_cells (listed_cell cell)) (label_sst_at force.now.cells.strings body.now))) }
     {
         match parse_label_sst(alloc, body, force.strings)? {
             Some(cell) => self.put(cell),
@@ -171,7 +136,7 @@ impl Content {
     }
 
     fn take_bool_err(&mut self, body: &[u8]) -> Result<(), XlsError>
-        ensures { Follows self.new result (given_step self.old (cell_given (bool_err_at body.now))) }
+        ensures { Follows self.new result (given_step self.old (gives one_cell (bool_err_at body.now))) }
     {
         self.put(parse_bool_err(body)?)
     }
@@ -182,7 +147,7 @@ impl Content {
         body: &[u8],
         force: &InForce<'_>,
     ) -> Result<(), XlsError>
-        ensures { Follows self.new result (given_step self.old (cell_given (label_at force.now.force.page force.now.version body.now))) }
+        ensures { Follows self.new result (given_step self.old (gives one_cell (label_at force.now.cells.page force.now.cells.version body.now))) }
     {
         self.put(parse_label(alloc, body, &force.page, force.version)?)
     }
@@ -195,7 +160,7 @@ impl Content {
         at: (u32, u32),
         force: &InForce<'_>,
     ) -> Result<(), XlsError>
-        ensures { Follows self.new result (given_step self.old (text_given at (string_at force.now.force.page force.now.version body.now))) }
+        ensures { Follows self.new result (given_step self.old (gives (text_cell at) (string_at force.now.cells.page force.now.cells.version body.now))) }
     {
         let text = parse_string(alloc, body, &force.page, force.version)?;
         self.put(Cell::new(at, Data::String(text)))
@@ -208,7 +173,7 @@ impl Content {
         value: Option<Data>,
         text: String,
     ) -> Result<(), XlsError>
-        ensures { Follows self.new result (given_step self.old (valued position (text_of text) (Ok (value_of value)))) }
+        ensures { Follows self.new result (given_step self.old (Ok (record { cells = listed_value position (value_of value); regions = []; formulas = (position, text_of text) ∷ [] }))) }
     {
         if let Some(value) = value {
             self.cells.push(Cell::new(position, value))?;
@@ -223,17 +188,15 @@ impl Content {
         body: &[u8],
         force: &InForce<'_>,
     ) -> Result<(), XlsError>
-        ensures { Follows self.new result (given_step self.old (formula_given force.now body.now)) }
+        ensures { Follows self.new result (given_step self.old (gives (formula_cell force.now.formulas) (formula_at force.now.cells.classes force.now.cells.is_1904 body.now))) }
     {
-        let value = formula_value(alloc, body, force)?;
-        let position = position_of(body);
-        let (_, rgce) = body.split_at(20);
-        let text = text_of_formula(alloc, rgce, position, force)?;
-        self.put_formula(position, value, text)
+        let read = parse_formula_record(alloc, body, force.classes, force.is_1904)?;
+        let text = text_of_formula(alloc, read.rgce, read.position, force)?;
+        self.put_formula(read.position, read.value, text)
     }
 
     fn take_merge_cells(&mut self, body: &[u8]) -> Result<(), XlsError>
-        ensures { Follows self.new result (given_step self.old (regions_given (merges_at body.now))) }
+        ensures { Follows self.new result (given_step self.old (gives all_regions (merges_at body.now))) }
     {
         parse_merge_cells(body, &mut self.merges)
     }
@@ -266,15 +229,17 @@ impl Content {
 
 /// That a Dimensions record has a length of its own; its bounds aren't used.
 fn check_dimensions(body: &[u8]) -> Result<(), XlsError>
-    ensures { (v : SheetView) → Follows v result (given_step v (checked_only (dimensions_at body.now))) }
+    ensures { (v : SheetView) → Follows v result (given_step v (gives (λ d. nothing) (dimensions_at body.now))) }
 {
     parse_dimensions(body)?;
     Ok(())
 }
 
-/// How many more cells a sheet may have behind this record, where it may have so many before it.
+/// How many more cells a sheet may have after this record without a fault, where it may have so many
+/// before it.
 fn room_behind(room: u64, r: &Record<'_>, options: &XlsOptions) -> Result<u64, XlsError>
-    ensures { Exactly (λ left. left) result (weight_left options.now.max_cells room (weight_of r.now.typ r.now.body.now)) }
+    ensures { (cells : CellContext) (g : SheetRecord) → kept_line cells (kept_group (group_of r.now)) ≡ Ok g
+        → Exactly (λ left. left) result (weight_left options.now.max_cells room (weight_of g)) }
 {
     match room.checked_sub(sheet_record_weight(r)) {
         Some(left) => Ok(left),
@@ -300,7 +265,7 @@ fn read_part(
         let record = record?;
         content.take(alloc, &record, at, force)?;
         room = room_behind(room, &record, options)?;
-        at = place_behind(at, &record);
+        at = formula_position(&record).unwrap_or(at);
     }
     let Content {
         cells,

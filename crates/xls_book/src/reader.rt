@@ -6,7 +6,7 @@ ghost use Rattle.std.specs.Option.{option_map};
 ghost use Rattle.std.specs.Str.{chars};
 ghost use Rattle.xls_data.specs.Sheets.{SheetContent, sheet_content};
 ghost use Rattle.xls_data.specs.declared.regions.HeaderRow.TheVariants.{FirstNonEmptyRow};
-ghost use Rattle.xls_biff.specs.Texts.{text_of};
+ghost use Rattle.xls_strings.specs.Texts.{text_of};
 ghost use Rattle.xls_book.specs.Reading.{SheetView, Workbook};
 ghost use Rattle.xls_book.specs.Steps.{told_of, view_named};
 ghost use Rattle.xls_book.specs.LookUps.{AreWorksheets, IsRange, IsTextBox, NameCause, is_empty_text, names_in, under_header};

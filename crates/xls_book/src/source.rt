@@ -14,7 +14,7 @@ pub struct ReadFault;
 
 impl From<ReadFault> for XlsError {
     ghost use Rattle.std.specs.Prelude.{◌≡◌};
-    ghost use Rattle.xls_biff.specs.declared.error.XlsError.TheVariants.{Io};
+    ghost use Rattle.xls_strings.specs.declared.error.XlsError.TheVariants.{Io};
 
     ghost from_gives = { λ _ e. e ≡ Io };
 

@@ -15,12 +15,12 @@ Placed = ℕ × ℕ × Data
 abbrev pub contents : List Placed → List Content
 contents cs = map (λ (c : Placed). content_of c.2) cs
 
--- of all cells those in front are counted, and these are left; each adds at most 2^63 either way
+-- of all cells the first ones are counted, and these are left; each adds at most 2^63 either way
 pub record SoFar (all left : List Placed) (cells : ℕ) (sum : ℤ) : Type 0 where
-  pub front : List Placed
-  pub whole : all ≡ front ++ left
-  pub counted : cells ≡ length front
-  pub summed : sum ≡ sum_of_ints (contents front)
+  pub first : List Placed
+  pub whole : all ≡ first ++ left
+  pub counted : cells ≡ length first
+  pub summed : sum ≡ sum_of_ints (contents first)
   pub low : neg_ℤ (pos (cells * 9_223_372_036_854_775_808)) ≤ℤ sum
   pub high : sum ≤ℤ pos (cells * 9_223_372_036_854_775_808)
 
@@ -28,16 +28,16 @@ pub record SoFar (all left : List Placed) (cells : ℕ) (sum : ℤ) : Type 0 whe
 count_more : (all left : List Placed) (cell : Placed) (cells : ℕ) (sum next : ℤ) → SoFar all (cell ∷ left) cells sum
     → SFits w64 next → next ≡ int_of (content_of cell.2) → SoFar all left (cells + 1) (sum +ℤ next)
 count_more all left cell cells sum next so fits is = record {
-  front = so.front ++ cell ∷ [];
-  whole = so.whole ∙ sym (append_assoc so.front (cell ∷ []) left);
-  counted = let n = so.counted in omega (arith, n, length-append so.front (cell ∷ []));
-  summed = rw (so.summed, is) (sym (ap sum_of_ints (map-append (λ (c : Placed). content_of c.2) so.front (cell ∷ [])) ∙ sum_more (contents so.front) (content_of cell.2)));
+  first = so.first ++ cell ∷ [];
+  whole = so.whole ∙ sym (append_assoc so.first (cell ∷ []) left);
+  counted = let n = so.counted in omega (arith, n, length-append so.first (cell ∷ []));
+  summed = rw (so.summed, is) (sym (ap sum_of_ints (map-append (λ (c : Placed). content_of c.2) so.first (cell ∷ [])) ∙ sum_more (contents so.first) (content_of cell.2)));
   low = let low : _ ≤ℤ _ = so.low in omega (arith, ints);
   high = let high : _ ≤ℤ _ = so.high in omega (arith, ints);
 }
 
 pub count_nothing : (all : List Placed) → SoFar all all 0 (pos 0)
-count_nothing all = record { front = []; whole = refl; counted = refl; summed = refl; low = omega (arith, ints); high = omega (arith, ints) }
+count_nothing all = record { first = []; whole = refl; counted = refl; summed = refl; low = omega (arith, ints); high = omega (arith, ints) }
 
 pub count_next : (all old left : List Placed) (cell : Placed) (cells : ℕ) (sum next : ℤ) → SoFar all old cells sum
     → old ≡ cell ∷ left → SFits w64 next → next ≡ int_of (content_of cell.2)

@@ -1,7 +1,8 @@
 pub mod PieceLemmas
-pub mod ShownLemmas
-pub mod SayingLemmas
+pub mod TextLemmas
+pub mod EndingLemmas
 pub mod StandardFacts
 pub mod GatherLemmas
 pub mod RowsLemmas
 pub mod CountLemmas
+pub mod EscapeLemmas

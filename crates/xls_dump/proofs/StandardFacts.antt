@@ -5,10 +5,10 @@ use Rattle.xls_data.specs.Content.{float}
 use Rattle.xls_data.specs.declared.numbers.Number.TheVariants.{Whole}
 use Rattle.xls_data.specs.declared.sheets.SheetType.TheVariants.{WorkSheet, ChartSheet}
 use Rattle.xls_data.specs.declared.sheets.SheetVisible.TheVariants.{Visible, VeryHidden}
-use Rattle.xls_biff.specs.declared.error.XlsError.TheVariants.{Password, TooLarge}
+use Rattle.xls_strings.specs.declared.error.XlsError.TheVariants.{Password, TooLarge}
 use Rattle.xls_book.specs.Reading.{Workbook}
 use Rattle.xls_book.specs.Opening.{default_options}
-use Rattle.xls_dump.specs.Lines.{shown_text}
+use Rattle.xls_dump.specs.Lines.{escaped_text}
 use Rattle.xls_dump.specs.Summary.{summary_text}
 use Rattle.xls_dump.specs.Report.{cell_line, fault_line, report, sheet_report}
 
@@ -18,7 +18,7 @@ unfolding digits
 known_cell = refl
 
 -- a tab is escaped, and a letter outside ASCII has two bytes
-pub known_text : shown_text (65 ∷ 9 ∷ 233 ∷ []) ≡ 65 ∷ 92 ∷ 116 ∷ 195 ∷ 169 ∷ []
+pub known_text : escaped_text (65 ∷ 9 ∷ 233 ∷ []) ≡ 65 ∷ 92 ∷ 116 ∷ 195 ∷ 169 ∷ []
 unfolding lib.Utf8.encode
 known_text = refl
 

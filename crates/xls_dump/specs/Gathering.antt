@@ -1,37 +1,40 @@
--- What becomes of a text that is gathered before it is written. A sink has written w, has counted f
--- faults, and takes n more bytes where t n; g is gathered behind what it has written.
+-- What becomes of a text that is gathered before it is written, from one state of the sink to the next.
+-- What was gathered and is not yet written is kept.
 use Rattle.std.specs.Prelude.{◌≡◌, ℕ, ◌+◌, ◌≤◌, List, ◌++◌, length, Option, Result, MatchResult}
 use Rattle.std.specs.Io.KnownBytes.{Appends}
 use Rattle.xls_book.specs.Causes.{Rose}
-use Rattle.xls_dump.specs.Written.{AppendsFront}
+use Rattle.xls_dump.specs.SinkState.{SinkState}
+use Rattle.xls_dump.specs.Written.{AppendsPrefix}
 use Rattle.xls_dump.specs.declared.ending.Stop.{Stop}
 use Rattle.xls_dump.specs.declared.ending.Stop.TheVariants.{Read, Write, Memory}
 
--- why a text is not written to its end: a write fault has its count, want of memory is free
+-- why a text is not written to its end: a write fault has its count, out of memory is free
 abbrev pub WriteCause : ℕ → ℕ → Stop → Type 0
 WriteCause before now Read = ⊥
 WriteCause before now Write = Rose before now
 WriteCause before now Memory = Unit {0}
 
--- what is written, and what is gathered behind it, grew by the text
+-- what is written, and what is kept after it, grew by the text
 abbrev pub Grows : Option (List ℕ) → List ℕ → Option (List ℕ) → List ℕ → List ℕ → Type 0
-Grows w g w' g' text = (front : List ℕ) × (g ++ text ≡ front ++ g') × Appends w w' front
+Grows old kept new kept' text =
+    (start : List ℕ) × (kept ++ text ≡ start ++ kept') × Appends old new start
 
 -- the text was gathered; where the sink takes all, no write failed, and it takes as much less
-pub record Gathers (w : Option (List ℕ)) (f : ℕ) (t : ℕ → Type 0) (g : List ℕ) (w' : Option (List ℕ)) (f' : ℕ) (t' : ℕ → Type 0) (g' text : List ℕ) : Type 0 where
-  pub grows : Grows w g w' g' text
-  pub later : f ≤ f'
-  pub kept : (n : ℕ) → length g + length text ≤ n → t n
-      → (f' ≡ f) × (m : ℕ) × t' m × (m + (length g + length text) ≡ n + length g')
+pub record Gathers (before : SinkState) (kept : List ℕ) (after : SinkState) (kept' text : List ℕ) : Type 0 where
+  pub grows : Grows before.written kept after.written kept' text
+  pub later : before.faults ≤ after.faults
+  pub steady : (n : ℕ) → length kept + length text ≤ n → before.takes n
+      → (after.faults ≡ before.faults) × (m : ℕ) × after.takes m
+      × (m + (length kept + length text) ≡ n + length kept')
 
--- a front of what was gathered and of the text was written, and then it was given up
-pub record Stops (w : Option (List ℕ)) (f : ℕ) (t : ℕ → Type 0) (g : List ℕ) (w' : Option (List ℕ)) (f' : ℕ) (text : List ℕ) (e : Stop) : Type 0 where
-  pub front : AppendsFront w w' (g ++ text)
-  pub cause : WriteCause f f' e
-  pub later : f ≤ f'
-  pub kept : (n : ℕ) → length g + length text ≤ n → t n → f' ≡ f
+-- a prefix of what was kept and of the text was written, and then it was given up
+pub record Stops (before : SinkState) (kept : List ℕ) (after : SinkState) (text : List ℕ) (e : Stop) : Type 0 where
+  pub start : AppendsPrefix before.written after.written (kept ++ text)
+  pub cause : WriteCause before.faults after.faults e
+  pub later : before.faults ≤ after.faults
+  pub steady : (n : ℕ) → length kept + length text ≤ n → before.takes n → after.faults ≡ before.faults
 
 -- either of them
-abbrev pub Puts : {X : Type 0} → Option (List ℕ) → ℕ → (ℕ → Type 0) → List ℕ → Option (List ℕ) → ℕ → (ℕ → Type 0) → List ℕ → List ℕ → Result X Stop → Type 0
-Puts w f t g w' f' t' g' text result =
-    MatchResult result (λ _. Gathers w f t g w' f' t' g' text) (Stops w f t g w' f' text)
+abbrev pub Puts : {X : Type 0} → SinkState → List ℕ → SinkState → List ℕ → List ℕ → Result X Stop → Type 0
+Puts before kept after kept' text result =
+    MatchResult result (λ _. Gathers before kept after kept' text) (Stops before kept after text)

@@ -1,5 +1,5 @@
 pub mod Written
-pub mod Tape
+pub mod SinkState
 pub mod Words
 pub mod Lines
 pub mod Gathering
@@ -7,5 +7,5 @@ pub mod Report
 pub mod Summary
 pub mod Counting
 pub mod Properties
-pub mod Says
+pub mod Outputs
 pub mod Endings

@@ -1,11 +1,11 @@
--- Lines of text in UTF-8: a word and the fields behind it, parted by a tab, ended by a newline.
+-- Lines of text in UTF-8: a word and the fields after it, separated by a tab, ended by a newline.
 use Rattle.std.specs.Prelude.{ℕ, List, [], ◌∷◌, ◌++◌, ◌==◌, if◌then◌else◌, codes, encode_utf8_all}
 use Rattle.std.specs.List.{flat_map}
 use Rattle.std.specs.Fmt.{decimal, signed_decimal}
 use Rattle.std.specs.Str.{chars}
 use Rattle.xls_data.specs.Errors as cell_errors
 use Rattle.xls_data.specs.Numbers.{number_text}
-use Rattle.xls_biff.specs.ErrorText.{error_text}
+use Rattle.xls_strings.specs.ErrorText.{error_text}
 use Rattle.xls_dump.specs.declared.field.Field.{Field}
 use Rattle.xls_dump.specs.declared.field.Field.TheVariants.{Word, Text, Number, Int, Fraction, Failure, Fault}
 
@@ -24,16 +24,16 @@ abbrev pub escaped : List ℕ → List ℕ
 escaped cs = flat_map escaped_char cs
 
 -- the bytes of a text of these characters
-abbrev pub shown_text : List ℕ → List ℕ
-shown_text cs = encode_utf8_all (escaped cs)
+abbrev pub escaped_text : List ℕ → List ℕ
+escaped_text cs = encode_utf8_all (escaped cs)
 
 -- ---- lines
 
--- a field behind a tab
+-- a field after a tab
 abbrev pub tabbed : List ℕ → List ℕ
 tabbed field = codes "\t" ++ field
 
--- a word, and the fields behind it
+-- a word, and the fields after it
 abbrev pub line : List ℕ → List (List ℕ) → List ℕ
 line word fields = word ++ (flat_map tabbed fields ++ codes "\n")
 
@@ -42,13 +42,13 @@ line word fields = word ++ (flat_map tabbed fields ++ codes "\n")
 -- what a field prints: a word as it is, a text escaped, a number, the text of an error
 abbrev pub field_text : Field → List ℕ
 field_text (Word word) = word.now
-field_text (Text text) = shown_text (chars text.now)
+field_text (Text text) = escaped_text (chars text.now)
 field_text (Number n) = decimal n
 field_text (Int n) = signed_decimal n
 field_text (Fraction n) = number_text n
 field_text (Failure e) = cell_errors.error_text e
 field_text (Fault e) = error_text e.now
 
--- the same behind a tab
-abbrev pub shown_field : Field → List ℕ
-shown_field field = tabbed (field_text field)
+-- the same after a tab
+abbrev pub tabbed_field : Field → List ℕ
+tabbed_field field = tabbed (field_text field)

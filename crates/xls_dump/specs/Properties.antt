@@ -7,22 +7,22 @@ use Rattle.std.specs.Str.{chars}
 use Rattle.std.specs.String.{string_bytes}
 use Rattle.std.specs.declared.string.String.{String}
 use Rattle.xls_props.specs.declared.properties.WorkbookProperties.{WorkbookProperties}
-use Rattle.xls_dump.specs.Lines.{line, shown_text}
+use Rattle.xls_dump.specs.Lines.{line, escaped_text}
 use Rattle.xls_dump.specs.declared.properties.Property.{Property}
 
 -- the line of a field, if the field is there: its name and its text
 abbrev pub property_line : List ℕ → Option (List ℕ) → List ℕ
 property_line name None = []
-property_line name (Some text) = line name (shown_text (chars text) ∷ [])
+property_line name (Some text) = line name (escaped_text (chars text) ∷ [])
 
 -- the line of a field of a workbook's properties
-abbrev pub shown_property : Property → List ℕ
-shown_property p = property_line p.name.now (option_map string_bytes p.text.now)
+abbrev pub property_text : Property → List ℕ
+property_text p = property_line p.name.now (option_map string_bytes p.text.now)
 
 -- name and value of a custom property
 abbrev pub custom_line : String Global × String Global → List ℕ
 custom_line e =
-    line (codes "custom") (shown_text (chars (string_bytes e.0)) ∷ shown_text (chars (string_bytes e.1)) ∷ [])
+    line (codes "custom") (escaped_text (chars (string_bytes e.0)) ∷ escaped_text (chars (string_bytes e.1)) ∷ [])
 
 -- the fields by their names, in the order of the text
 abbrev pub fields_in : WorkbookProperties → List (List ℕ × Option (String Global))

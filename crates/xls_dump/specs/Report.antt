@@ -14,16 +14,16 @@ use Rattle.xls_data.specs.declared.sheets.SheetType.TheVariants as types
 use Rattle.xls_data.specs.declared.sheets.SheetVisible.{SheetVisible}
 use Rattle.xls_data.specs.declared.sheets.SheetVisible.TheVariants as states
 use Rattle.xls_biff.specs.Cells.{Entry}
-use Rattle.xls_biff.specs.ErrorText.{error_text}
-use Rattle.xls_biff.specs.declared.error.XlsError.{XlsError}
+use Rattle.xls_strings.specs.ErrorText.{error_text}
+use Rattle.xls_strings.specs.declared.error.XlsError.{XlsError}
 use Rattle.xls_data.specs.declared.regions.Dimensions.{Dimensions}
 use Rattle.xls_book.specs.Reading.{SheetView, Workbook}
 use Rattle.xls_book.specs.SheetTable.{FormulaEntry, shown_formulas}
-use Rattle.xls_dump.specs.Lines.{line, shown_text}
+use Rattle.xls_dump.specs.Lines.{line, escaped_text}
 
 -- ---- cells
 
--- a day or a time of day, or a span of time
+-- a day or a time of day, or a duration
 abbrev pub date_kind : ExcelDateTimeType → List ℕ
 date_kind DateTime = codes "date"
 date_kind TimeDelta = codes "span"
@@ -32,11 +32,11 @@ date_kind TimeDelta = codes "span"
 abbrev pub value_fields : Content → Option (List ℕ × List ℕ)
 value_fields (int n) = Some (codes "int", signed_decimal n)
 value_fields (float n) = Some (codes "float", number_text n)
-value_fields (text cs) = Some (codes "text", shown_text cs)
+value_fields (text cs) = Some (codes "text", escaped_text cs)
 value_fields (truth b) = Some (codes "bool", bool_text b)
 value_fields (date d) = Some (date_kind d.kind, number_text d.number)
-value_fields (iso_date cs) = Some (codes "date", shown_text cs)
-value_fields (iso_duration cs) = Some (codes "span", shown_text cs)
+value_fields (iso_date cs) = Some (codes "date", escaped_text cs)
+value_fields (iso_duration cs) = Some (codes "span", escaped_text cs)
 value_fields (failure e) = Some (codes "error", cell_errors.error_text e)
 value_fields nothing = None
 
@@ -66,7 +66,7 @@ visible_text states.VeryHidden = codes "veryhidden"
 -- name, kind and visibility of a sheet
 abbrev pub sheet_line : SheetContent → List ℕ
 sheet_line s =
-    line (codes "sheet") (shown_text s.name ∷ type_text s.typ ∷ visible_text s.visible ∷ [])
+    line (codes "sheet") (escaped_text s.name ∷ type_text s.typ ∷ visible_text s.visible ∷ [])
 
 -- start row, start column, end row and end column of a merged region
 abbrev pub merge_line : Dimensions → List ℕ
@@ -75,7 +75,7 @@ merge_line d =
 
 -- row, column and text of a formula
 abbrev pub formula_line : FormulaEntry → List ℕ
-formula_line f = line (codes "formula") (decimal f.0.0 ∷ decimal f.0.1 ∷ shown_text f.1 ∷ [])
+formula_line f = line (codes "formula") (decimal f.0.0 ∷ decimal f.0.1 ∷ escaped_text f.1 ∷ [])
 
 -- the lines of the formulas whose text isn't empty
 abbrev pub formula_lines : List FormulaEntry → List ℕ
@@ -102,7 +102,7 @@ merges_at (Some v) = flat_map merge_line v.merges
 abbrev pub lines_at : Option SheetView → List ℕ
 lines_at o = cells_at o ++ (formulas_at o ++ merges_at o)
 
--- the line of each sheet, and behind it those of what it shows
+-- the line of each sheet, and after it those of what it shows
 abbrev pub sheets_text : List SheetContent → List SheetView → List ℕ
 sheets_text [] views = []
 sheets_text (s ∷ ss) [] = sheet_line s ++ sheets_text ss []
@@ -117,7 +117,7 @@ dates_line is_1904 = line (codes "dates") (epoch_text is_1904 ∷ [])
 
 -- a defined name and its text
 abbrev pub name_line : List ℕ × List ℕ → List ℕ
-name_line n = line (codes "name") (shown_text n.0 ∷ shown_text n.1 ∷ [])
+name_line n = line (codes "name") (escaped_text n.0 ∷ escaped_text n.1 ∷ [])
 
 -- the date system, the defined names, and the sheets in workbook order
 abbrev pub report : Workbook → List ℕ

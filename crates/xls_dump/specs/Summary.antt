@@ -1,4 +1,4 @@
--- What is told of a made stream of so many rows.
+-- What is written of a made stream of so many rows.
 use Rattle.std.specs.Prelude.{ℕ, ◌-◌, ◌*◌, ◌/◌, List, [], ◌∷◌, ◌++◌, codes}
 use Rattle.std.specs.Fmt.{decimal}
 use Rattle.xls_dump.specs.Lines.{line}

@@ -1,6 +1,9 @@
 -- What the words of the command line ask for.
-use Rattle.std.specs.Prelude.{◌≡◌, ◌⊎◌, ℕ, ◌≤◌, List, [], ◌∷◌, codes}
+use Rattle.std.specs.Prelude.{◌≡◌, ◌⊎◌, ℕ, ◌≤◌, List, [], ◌∷◌, codes, map}
 use Rattle.std.specs.Fmt.{decimal}
+use Rattle.std.specs.Global.{Global}
+use Rattle.std.specs.String.{string_bytes}
+use Rattle.std.specs.declared.string.String.{String}
 use Rattle.xls_dump.specs.declared.command.Command.{Command}
 use Rattle.xls_dump.specs.declared.command.Command.TheVariants.{Dump, Sheets, Props, Generate}
 
@@ -8,7 +11,7 @@ use Rattle.xls_dump.specs.declared.command.Command.TheVariants.{Dump, Sheets, Pr
 abbrev pub max_rows : ℕ
 max_rows = 65536
 
--- a number of rows in decimal, without zeros in front
+-- a number of rows in decimal, without leading zeros
 pub record IsRows (text : List ℕ) (n : ℕ) : Type 0 where
   pub least : 1 ≤ n
   pub most : n ≤ max_rows
@@ -19,7 +22,7 @@ abbrev pub BeginsWell : List ℕ → Type 0
 BeginsWell [] = ⊥
 BeginsWell (b ∷ bs) = (49 ≤ b) × (b ≤ 57)
 
--- a word and the number behind it
+-- a word and the number after it
 pub record IsGenerate (words : List (List ℕ)) (n : ℕ) : Type 0 where
   pub text : List ℕ
   pub rows : IsRows text n
@@ -31,6 +34,10 @@ IsCommand words Dump = (words ≡ []) ⊎ (words ≡ codes "dump" ∷ [])
 IsCommand words Sheets = words ≡ codes "sheets" ∷ []
 IsCommand words Props = words ≡ codes "props" ∷ []
 IsCommand words (Generate n) = IsGenerate words n
+
+-- the words are those of a command of which this holds
+abbrev pub OfCommand : List (String Global) → (Command → Type 0) → Type 0
+OfCommand words Holds = (c : Command) × IsCommand (map string_bytes words) c × Holds c
 
 -- a number of rows is one that may be asked for
 abbrev pub IsPossible : Command → Type 0

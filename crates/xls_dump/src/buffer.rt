@@ -1,29 +1,28 @@
 //! Text that is gathered, and written in large pieces.
 
-ghost use Rattle.std.specs.Prelude.{◌≡◌, ◌++◌, ◌+◌, ◌<◌, ◌≤◌, [], length, IfOk, OnOk, encode_utf8_all, codes};
+ghost use Rattle.std.specs.Prelude.{◌≡◌, ◌∷◌, ◌++◌, ◌+◌, ◌<◌, ◌≤◌, [], true, length, IfOk, OnOk, codes};
 ghost use Rattle.std.specs.List.{flat_map};
-ghost use Rattle.std.specs.String.{string_bytes};
+ghost use Rattle.std.specs.Fmt.{signed_decimal};
 ghost use Rattle.std.specs.Str.{chars};
+ghost use Rattle.xls_data.specs.Numbers.{number_text};
 ghost use Rattle.xls_dump.specs.Gathering.{Puts};
-ghost use Rattle.xls_dump.specs.Lines.{escaped_char, field_text, shown_field, shown_text};
+ghost use Rattle.xls_dump.specs.Lines.{escaped_char, field_text, tabbed_field, escaped_text};
 
 use crate::ending::Stop;
 use crate::field::Field;
 use crate::sink::{Sink, write_all};
-use std::alloc::{AllocError, Global};
+use std::alloc::Global;
 use std::marker::Model;
+use xls_data::Number as Decimal;
 
 /// How many bytes are written at a time, at most.
 const PIECE: usize = 65_536;
 
-/// From so many bytes on a part of a line is moved into the piece.
-const LONG: usize = 4_096;
-
 /// Writes all that is gathered.
 fn flush<K: Sink>(bytes: &mut Vec<u8>, sink: &mut K) -> Result<(), Stop>
     requires { length bytes.old.items ≤ PIECE }
-    ensures puts { Puts (K.written sink.old) (K.faults sink.old) (K.takes sink.old) bytes.old.items
-        (K.written sink.new) (K.faults sink.new) (K.takes sink.new) bytes.new.items [] result }
+    ensures puts { Puts (K.state sink.old) bytes.old.items (K.state sink.new) bytes.new.items
+        [] result }
     ensures none { OnOk result (bytes.new.items ≡ []) }
     ensures bound { length bytes.new.items ≤ PIECE }
 {
@@ -35,8 +34,8 @@ fn flush<K: Sink>(bytes: &mut Vec<u8>, sink: &mut K) -> Result<(), Stop>
 /// The room for more bytes, of which there is some. A full piece is written.
 fn room_in<K: Sink>(bytes: &mut Vec<u8>, sink: &mut K) -> Result<usize, Stop>
     requires { length bytes.old.items ≤ PIECE }
-    ensures puts { Puts (K.written sink.old) (K.faults sink.old) (K.takes sink.old) bytes.old.items
-        (K.written sink.new) (K.faults sink.new) (K.takes sink.new) bytes.new.items [] result }
+    ensures puts { Puts (K.state sink.old) bytes.old.items (K.state sink.new) bytes.new.items
+        [] result }
     ensures room { IfOk result (λ n. (0 < n) × (n + length bytes.new.items ≡ PIECE)) }
     ensures bound { length bytes.new.items ≤ PIECE }
 {
@@ -50,8 +49,22 @@ fn room_in<K: Sink>(bytes: &mut Vec<u8>, sink: &mut K) -> Result<usize, Stop>
 /// Gathers some bytes. Each full piece is written.
 fn gather<K: Sink>(bytes: &mut Vec<u8>, sink: &mut K, text: &[u8]) -> Result<(), Stop>
     requires { length bytes.old.items ≤ PIECE }
-    ensures puts { Puts (K.written sink.old) (K.faults sink.old) (K.takes sink.old) bytes.old.items
-        (K.written sink.new) (K.faults sink.new) (K.takes sink.new) bytes.new.items text.now result }
+    ensures puts { Puts (K.state sink.old) bytes.old.items (K.state sink.new) bytes.new.items
+        text.now result }
+    ensures bound { length bytes.new.items ≤ PIECE }
+{
+    if text.len() <= PIECE - bytes.len() {
+        bytes.extend_from_slice(text)?;
+        return Ok(());
+    }
+    gather_by_pieces(bytes, sink, text)
+}
+
+/// Gathers some bytes, as many at a time as there is room for.
+fn gather_by_pieces<K: Sink>(bytes: &mut Vec<u8>, sink: &mut K, text: &[u8]) -> Result<(), Stop>
+    requires { length bytes.old.items ≤ PIECE }
+    ensures puts { Puts (K.state sink.old) bytes.old.items (K.state sink.new) bytes.new.items
+        text.now result }
     ensures bound { length bytes.new.items ≤ PIECE }
 {
     let mut at = 0;
@@ -64,36 +77,41 @@ fn gather<K: Sink>(bytes: &mut Vec<u8>, sink: &mut K, text: &[u8]) -> Result<(),
     Ok(())
 }
 
-/// Appends a character, or the two that stand for it.
-fn push_char(text: &mut String, c: char) -> Result<(), AllocError>
-    ensures { IfOk result (λ _. string_bytes text.new ≡ string_bytes text.old
-        ++ encode_utf8_all (escaped_char c)) }
+/// Whether a byte stands for itself.
+fn is_plain(byte: u8) -> bool
+    ensures { result ≡ true → escaped_char byte ≡ byte ∷ [] }
 {
-    match c {
-        '\\' => text.push_str("\\\\"),
-        '\n' => text.push_str("\\n"),
-        '\r' => text.push_str("\\r"),
-        '\t' => text.push_str("\\t"),
-        _ => text.push(c),
-    }
+    !matches!(byte, b'\\' | b'\n' | b'\r' | b'\t')
 }
 
-/// Text on its way to a sink: full pieces are written, and at most one piece and a part of a line
-/// are kept. Contracts see the text that is kept.
+/// Whether each byte of a text stands for itself.
+fn is_all_plain(text: &[u8]) -> bool
+    ensures { result ≡ true → flat_map escaped_char text.now ≡ text.now }
+{
+    for byte in text {
+        if !is_plain(*byte) {
+            return false;
+        }
+    }
+    true
+}
+
+/// Text on its way to a sink: full pieces are written, and at most one piece is kept. Contracts see
+/// the text that is kept.
 #[derive(Drop)]
 pub struct Buffer {
     piece: Vec<u8>,
-    line: String,
+    /// The text of the field that is being put, where it has to be printed first.
+    printed: String,
 }
 
 impl Model for Buffer {
-    ghost use Rattle.std.specs.Prelude.{List, ℕ, ◌++◌, ◌≤◌, length};
-    ghost use Rattle.std.specs.String.{string_bytes};
+    ghost use Rattle.std.specs.Prelude.{List, ℕ, ◌≤◌, length};
     ghost use Rattle.xls_dump.specs.declared.buffer.TheConstants.{PIECE};
 
     ghost Value = { List ℕ };
 
-    ghost view = { λ b. b.piece.items ++ string_bytes b.line };
+    ghost view = { λ b. b.piece.items };
 
     ghost invariant = { λ b. length b.piece.items ≤ PIECE };
 }
@@ -105,78 +123,121 @@ impl Buffer {
     {
         Buffer {
             piece: Vec::new(alloc),
-            line: String::new(alloc),
+            printed: String::new(alloc),
         }
-    }
-
-    /// Moves the part of a line into the piece.
-    fn settle<K: Sink>(&mut self, sink: &mut K) -> Result<(), Stop>
-        ensures { Puts (K.written sink.old) (K.faults sink.old) (K.takes sink.old) self.old
-            (K.written sink.new) (K.faults sink.new) (K.takes sink.new) self.new [] result }
-    {
-        gather(&mut self.piece, sink, self.line.as_bytes())?;
-        self.line.clear();
-        Ok(())
     }
 
     /// Writes all that is kept.
     pub fn finish<K: Sink>(&mut self, sink: &mut K) -> Result<(), Stop>
-        ensures puts { Puts (K.written sink.old) (K.faults sink.old) (K.takes sink.old) self.old
-            (K.written sink.new) (K.faults sink.new) (K.takes sink.new) self.new [] result }
+        ensures puts { Puts (K.state sink.old) self.old (K.state sink.new) self.new [] result }
         ensures none { OnOk result (self.new ≡ []) }
     {
-        gather(&mut self.piece, sink, self.line.as_bytes())?;
-        self.line.clear();
-        flush(&mut self.piece, sink)?;
-        Ok(())
+        flush(&mut self.piece, sink)
     }
 
-    /// Puts a character, or the two that stand for it.
-    fn put_char<K: Sink>(&mut self, sink: &mut K, c: char) -> Result<(), Stop>
-        ensures { Puts (K.written sink.old) (K.faults sink.old) (K.takes sink.old) self.old
-            (K.written sink.new) (K.faults sink.new) (K.takes sink.new) self.new (encode_utf8_all (escaped_char c)) result }
+    /// Puts some bytes.
+    fn put<K: Sink>(&mut self, sink: &mut K, bytes: &[u8]) -> Result<(), Stop>
+        ensures { Puts (K.state sink.old) self.old (K.state sink.new) self.new bytes.now result }
     {
-        push_char(&mut self.line, c)?;
-        if self.line.len() < LONG {
-            return Ok(());
+        gather(&mut self.piece, sink, bytes)
+    }
+
+    /// Puts a text as it is.
+    fn put_str<K: Sink>(&mut self, sink: &mut K, text: &str) -> Result<(), Stop>
+        ensures { Puts (K.state sink.old) self.old (K.state sink.new) self.new text.now result }
+    {
+        self.put(sink, text.as_bytes())
+    }
+
+    /// Puts a byte, or the two that stand for it.
+    fn put_escaped<K: Sink>(&mut self, sink: &mut K, byte: u8) -> Result<(), Stop>
+        ensures { Puts (K.state sink.old) self.old (K.state sink.new) self.new (escaped_char byte) result }
+    {
+        match byte {
+            b'\\' => self.put(sink, b"\\\\"),
+            b'\n' => self.put(sink, b"\\n"),
+            b'\r' => self.put(sink, b"\\r"),
+            b'\t' => self.put(sink, b"\\t"),
+            _ => self.put(sink, &[byte]),
         }
-        self.settle(sink)?;
+    }
+
+    /// Puts bytes, each by itself.
+    fn put_each<K: Sink>(&mut self, sink: &mut K, bytes: &[u8]) -> Result<(), Stop>
+        ensures { Puts (K.state sink.old) self.old (K.state sink.new) self.new
+            (flat_map escaped_char bytes.now) result }
+    {
+        for byte in bytes {
+            self.put_escaped(sink, *byte)?;
+        }
         Ok(())
     }
 
     /// Puts a text with its backslashes, newlines, returns and tabs escaped.
     fn put_text<K: Sink>(&mut self, sink: &mut K, text: &str) -> Result<(), Stop>
-        ensures { Puts (K.written sink.old) (K.faults sink.old) (K.takes sink.old) self.old
-            (K.written sink.new) (K.faults sink.new) (K.takes sink.new) self.new (shown_text (chars text.now)) result }
+        ensures { Puts (K.state sink.old) self.old (K.state sink.new) self.new
+            (escaped_text (chars text.now)) result }
     {
-        for c in text.chars() {
-            self.put_char(sink, c)?;
+        let bytes = text.as_bytes();
+        if is_all_plain(bytes) {
+            return self.put(sink, bytes);
         }
-        Ok(())
+        self.put_each(sink, bytes)
     }
 
-    /// Puts a field, behind a tab.
-    fn put_field<K: Sink>(&mut self, sink: &mut K, field: Field<'_>) -> Result<(), Stop>
-        ensures { Puts (K.written sink.old) (K.faults sink.old) (K.takes sink.old) self.old
-            (K.written sink.new) (K.faults sink.new) (K.takes sink.new) self.new (shown_field field.entry) result }
+    /// Puts a whole number.
+    fn put_int<K: Sink>(&mut self, sink: &mut K, n: i64) -> Result<(), Stop>
+        ensures { Puts (K.state sink.old) self.old (K.state sink.new) self.new (signed_decimal n) result }
     {
-        self.line.push_str("\t")?;
+        let mut digits = itoa::Buffer::new();
+        self.put_str(sink, digits.format(n))
+    }
+
+    /// Puts a number as Excel stores it. A whole one is printed in place.
+    fn put_number<K: Sink>(&mut self, sink: &mut K, n: Decimal) -> Result<(), Stop>
+        ensures { Puts (K.state sink.old) self.old (K.state sink.new) self.new (number_text n) result }
+    {
+        if let Decimal::Whole(n) = n {
+            return self.put_int(sink, n);
+        }
+        self.printed.clear();
+        write!(self.printed, "{n}")?;
+        gather(&mut self.piece, sink, self.printed.as_bytes())
+    }
+
+    /// Puts what a field prints.
+    fn put_value<K: Sink>(&mut self, sink: &mut K, field: Field<'_>) -> Result<(), Stop>
+        ensures { Puts (K.state sink.old) self.old (K.state sink.new) self.new (field_text field.entry) result }
+    {
+        self.printed.clear();
         match field {
-            Field::Word(word) => self.line.push_str(word)?,
-            Field::Text(text) => self.put_text(sink, text)?,
-            Field::Number(n) => write!(self.line, "{n}")?,
-            Field::Int(n) => write!(self.line, "{n}")?,
-            Field::Fraction(n) => write!(self.line, "{n}")?,
-            Field::Failure(error) => write!(self.line, "{error}")?,
-            Field::Fault(error) => write!(self.line, "{error}")?,
+            Field::Word(word) => return self.put_str(sink, word),
+            Field::Text(text) => return self.put_text(sink, text),
+            Field::Number(n) => {
+                let mut digits = itoa::Buffer::new();
+                return self.put_str(sink, digits.format(n));
+            }
+            Field::Int(n) => return self.put_int(sink, n),
+            Field::Fraction(n) => return self.put_number(sink, n),
+            Field::Failure(error) => write!(self.printed, "{error}")?,
+            Field::Fault(error) => write!(self.printed, "{error}")?,
         }
+        gather(&mut self.piece, sink, self.printed.as_bytes())
+    }
+
+    /// Puts a field, after a tab.
+    fn put_field<K: Sink>(&mut self, sink: &mut K, field: Field<'_>) -> Result<(), Stop>
+        ensures { Puts (K.state sink.old) self.old (K.state sink.new) self.new (tabbed_field field.entry) result }
+    {
+        self.put_str(sink, "\t")?;
+        self.put_value(sink, field)?;
         Ok(())
     }
 
-    /// Puts fields, each behind a tab.
+    /// Puts fields, each after a tab.
     fn put_fields<K: Sink>(&mut self, sink: &mut K, fields: &[Field<'_>]) -> Result<(), Stop>
-        ensures { Puts (K.written sink.old) (K.faults sink.old) (K.takes sink.old) self.old
-            (K.written sink.new) (K.faults sink.new) (K.takes sink.new) self.new (flat_map shown_field fields.now) result }
+        ensures { Puts (K.state sink.old) self.old (K.state sink.new) self.new
+            (flat_map tabbed_field fields.now) result }
     {
         for field in fields {
             self.put_field(sink, *field)?;
@@ -184,21 +245,19 @@ impl Buffer {
         Ok(())
     }
 
-    /// Puts a line: a word, and fields behind it.
+    /// Puts a line: a word, and fields after it.
     pub fn put_line<K: Sink>(
         &mut self,
         sink: &mut K,
         word: &str,
         fields: &[Field<'_>],
     ) -> Result<(), Stop>
-        ensures { Puts (K.written sink.old) (K.faults sink.old) (K.takes sink.old) self.old
-            (K.written sink.new) (K.faults sink.new) (K.takes sink.new) self.new
-            (word.now ++ (flat_map shown_field fields.now ++ codes "\n")) result }
+        ensures { Puts (K.state sink.old) self.old (K.state sink.new) self.new
+            (word.now ++ (flat_map tabbed_field fields.now ++ codes "\n")) result }
     {
-        self.line.push_str(word)?;
+        self.put_str(sink, word)?;
         self.put_fields(sink, fields)?;
-        self.line.push_str("\n")?;
-        self.settle(sink)?;
+        self.put_str(sink, "\n")?;
         Ok(())
     }
 }

@@ -44,7 +44,7 @@ fn begins_well(text: &[u8]) -> bool
     }
 }
 
-/// The number of rows that a text says in decimal, without zeros in front: 1 to 65,536.
+/// The number of rows that a text says in decimal, without leading zeros: 1 to 65,536.
 fn rows_of(text: &str) -> Option<u32>
     ensures { MatchOption result ((n : ℕ) → IsRows text.now n → ⊥) (IsRows text.now) }
 {

@@ -84,7 +84,7 @@ pub fn made_bytes(alloc: Global, rows: u32) -> Result<Vec<u8>, AllocError>
 }
 
 /// A stream with a sheet `G` of so many rows, 1 to 65,536: in column 0 the number of the row from 0 on, in
-/// column 1 the shared strings `a`, `bb` and `ccc` in turn. Only want of memory refuses.
+/// column 1 the shared strings `a`, `bb` and `ccc` in turn. Only running out of memory refuses.
 pub fn generate_stream(alloc: Global, rows: u32) -> Result<StreamBytes, AllocError>
     requires least { 1 ≤ rows }
     requires most { rows ≤ max_rows }

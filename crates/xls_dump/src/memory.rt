@@ -1,9 +1,10 @@
 //! A sink in memory.
 
-ghost use Rattle.std.specs.Prelude.{◌≡◌, ◌↔◌, ◌⊎◌, ◌+◌, ◌-◌, ◌^◌, ◌<◌, ◌≤◌, [], min, Some, ℕ, IfOk, OnOk, IsOk, IsErr, Contains, length};
+ghost use Rattle.std.specs.Prelude.{◌≡◌, ◌↔◌, ◌⊎◌, ◌+◌, ◌-◌, ◌^◌, ◌<◌, ◌≤◌, [], min, Some, ℕ, IfOk, OnOk, OnErr, IsErr, Contains, length};
 ghost use Rattle.std.specs.Io.{WritesAtMost};
 ghost use Rattle.std.specs.Io.KnownBytes.{WriteAppends};
 ghost use Rattle.xls_book.specs.Causes.{HasCause};
+ghost use Rattle.xls_dump.specs.SinkState.{TakesPiece, empty_memory, memory_state};
 
 use crate::sink::{Sink, WriteFault};
 use std::alloc::{AllocError, Global};
@@ -22,9 +23,9 @@ pub struct MemorySink {
 
 impl Model for MemorySink {
     ghost use Rattle.std.specs.Prelude.{◌≤◌, vec_len, vec_capacity};
-    ghost use Rattle.xls_dump.specs.Tape.{Tape};
+    ghost use Rattle.xls_dump.specs.SinkState.{MemoryText};
 
-    ghost Value = { Tape };
+    ghost Value = { MemoryText };
 
     ghost view = { λ s. record {
       text = s.text.items;
@@ -47,14 +48,7 @@ impl MemorySink {
         failing: Vec<u64>,
     ) -> Result<MemorySink, AllocError>
         requires { 1 ≤ chunk }
-        ensures { IfOk result (λ s. s ≡ record {
-          text = [];
-          room = room;
-          chunk = chunk;
-          failing = failing.items;
-          call = 0;
-          faults = 0;
-        }) }
+        ensures { IfOk result (λ s. s ≡ empty_memory room chunk failing.items) }
     {
         Ok(MemorySink {
             text: Vec::with_capacity(alloc, room)?,
@@ -74,27 +68,26 @@ impl MemorySink {
 }
 
 impl Sink for MemorySink {
-    ghost written = { λ s. Some s.text };
-
-    ghost faults = { λ s. s.faults };
-
-    ghost takes = { λ s n. (s.failing ≡ []) × (length s.text + n ≤ s.room) };
+    ghost state = { λ s. memory_state s };
 
     fn write(&mut self, piece: &[u8]) -> Result<usize, WriteFault>
+        requires not_empty { 0 < length piece.now }
         ensures bound { WritesAtMost result piece.now }
-        ensures moves { IfOk result (λ n. 0 < length piece.now → 0 < n) }
+        ensures moves { IfOk result (λ n. 0 < n) }
         ensures bytes { WriteAppends (Some self.old.text) (Some self.new.text) result piece.now }
         ensures cause { HasCause self.old.faults self.new.faults result }
+        ensures takes { TakesPiece (memory_state self.old) (memory_state self.new) piece.now result }
 
         // A call fails exactly where its number is listed or the room is used up.
         ensures fails { IsErr result
             ↔ (Contains self.old.failing self.old.call ⊎ (self.old.room ≤ length self.old.text)) }
-        ensures count { IfOk result (λ n. n ≡ min self.old.chunk (min (length piece.now) (self.old.room - length self.old.text))) }
-        ensures steady { OnOk result (self.new.faults ≡ self.old.faults) }
+        ensures count { IfOk result (λ n. n
+            ≡ min self.old.chunk (min (length piece.now) (self.old.room - length self.old.text))) }
         ensures calls { self.new.call ≡ min (self.old.call + 1) (2 ^ 64 - 1) }
-        ensures kept { (n : ℕ) → 0 < length piece.now → length piece.now ≤ n
-            → (self.old.failing ≡ []) × (length self.old.text + n ≤ self.old.room)
-            → IsOk result × IfOk result (λ k. (self.new.failing ≡ []) × (length self.new.text + (n - k) ≤ self.new.room)) × (self.new.faults ≡ self.old.faults) }
+
+        // The count rises by one at each call that fails, up to its last value.
+        ensures rises { OnErr result (self.new.faults ≡ min (self.old.faults + 1) (2 ^ 64 - 1)) }
+        ensures steady { OnOk result (self.new.faults ≡ self.old.faults) }
 
         // Room, chunk and the listed calls stay.
         ensures same { (self.new.room ≡ self.old.room) × (self.new.chunk ≡ self.old.chunk)

@@ -1,8 +1,9 @@
 //! What each command does.
 
-ghost use Rattle.std.specs.Prelude.{◌≡◌, ◌≤◌, ℕ, List, length};
-ghost use Rattle.xls_dump.specs.Endings.{Ends, TellsText, Turns};
-ghost use Rattle.xls_dump.specs.Says.{IsPropertyText, IsUnread, Says};
+ghost use Rattle.std.specs.Prelude.{◌≡◌, ◌≤◌};
+ghost use Rattle.xls_dump.specs.Endings.{Ends, EndsWithError, EndsWithText, Reads};
+ghost use Rattle.xls_dump.specs.Outputs.{IsPropertyText, MayWrite, ReadsNothing};
+ghost use Rattle.xls_dump.specs.SinkState.{TakesEach};
 ghost use Rattle.xls_dump.specs.Summary.{summary_text};
 ghost use Rattle.xls_dump.specs.Words.{IsPossible, max_rows};
 ghost use Rattle.xls_dump.specs.declared.command.Command.TheVariants.{Dump, Sheets, Props};
@@ -23,8 +24,7 @@ const MAX_BYTES: u64 = 268_435_456;
 
 /// Writes the line of an error that the bytes have.
 fn refuse<K: Sink>(alloc: Global, sink: &mut K, error: &XlsError) -> Result<Ending, Stop>
-    ensures { Turns error.now (K.written sink.old) (K.faults sink.old) (K.takes sink.old)
-        (K.written sink.new) (K.faults sink.new) result }
+    ensures { EndsWithError error.now (K.state sink.old) (K.state sink.new) result }
 {
     match error {
         XlsError::Io => Err(Stop::Read),
@@ -38,11 +38,11 @@ fn refuse<K: Sink>(alloc: Global, sink: &mut K, error: &XlsError) -> Result<Endi
 
 /// Opens the source with the options by default, and writes the dump.
 fn dump<S: Source, K: Sink>(alloc: Global, source: &mut S, sink: &mut K) -> Result<Ending, Stop>
-    ensures ends { Ends Dump (S.left source.old) (S.left source.new) (S.faults source.old) (S.faults source.new)
-        (K.written sink.old) (K.written sink.new) (K.faults sink.old) (K.faults sink.new) result }
-    ensures steady { (n : ℕ) → K.takes sink.old n
-        → ((text : List ℕ) → Says Dump (S.left source.old) text → length text ≤ n)
-        → K.faults sink.new ≡ K.faults sink.old }
+    ensures reads { Reads Dump (S.left source.old) (S.left source.new)
+        (S.faults source.old) (S.faults source.new) result }
+    ensures ends { Ends Dump (S.left source.old) (K.state sink.old) (K.state sink.new) result }
+    ensures steady { TakesEach (K.state sink.old) (MayWrite Dump (S.left source.old))
+        → (K.state sink.new).faults ≡ (K.state sink.old).faults }
 {
     match Xls::new(alloc, source) {
         Ok(book) => {
@@ -55,11 +55,11 @@ fn dump<S: Source, K: Sink>(alloc: Global, source: &mut S, sink: &mut K) -> Resu
 
 /// Opens the source likewise, and writes the lines of the sheets alone.
 fn sheets<S: Source, K: Sink>(alloc: Global, source: &mut S, sink: &mut K) -> Result<Ending, Stop>
-    ensures ends { Ends Sheets (S.left source.old) (S.left source.new) (S.faults source.old) (S.faults source.new)
-        (K.written sink.old) (K.written sink.new) (K.faults sink.old) (K.faults sink.new) result }
-    ensures steady { (n : ℕ) → K.takes sink.old n
-        → ((text : List ℕ) → Says Sheets (S.left source.old) text → length text ≤ n)
-        → K.faults sink.new ≡ K.faults sink.old }
+    ensures reads { Reads Sheets (S.left source.old) (S.left source.new)
+        (S.faults source.old) (S.faults source.new) result }
+    ensures ends { Ends Sheets (S.left source.old) (K.state sink.old) (K.state sink.new) result }
+    ensures steady { TakesEach (K.state sink.old) (MayWrite Sheets (S.left source.old))
+        → (K.state sink.new).faults ≡ (K.state sink.old).faults }
 {
     match Xls::new(alloc, source) {
         Ok(book) => {
@@ -71,9 +71,8 @@ fn sheets<S: Source, K: Sink>(alloc: Global, source: &mut S, sink: &mut K) -> Re
 }
 
 /// Writes the properties that the bytes hold, as both property streams.
-fn tell_properties<K: Sink>(alloc: Global, sink: &mut K, bytes: &[u8]) -> Result<Ending, Stop>
-    ensures { TellsText (IsPropertyText bytes.now) (K.written sink.old) (K.faults sink.old) (K.takes sink.old)
-        (K.written sink.new) (K.faults sink.new) result }
+fn write_properties_of<K: Sink>(alloc: Global, sink: &mut K, bytes: &[u8]) -> Result<Ending, Stop>
+    ensures { EndsWithText (IsPropertyText bytes.now) (K.state sink.old) (K.state sink.new) result }
 {
     let properties = workbook_properties_of(alloc, Some(bytes), Some(bytes))?;
     write_properties(alloc, sink, &properties)?;
@@ -82,14 +81,14 @@ fn tell_properties<K: Sink>(alloc: Global, sink: &mut K, bytes: &[u8]) -> Result
 
 /// Reads the source, and writes the properties that its bytes hold.
 fn props<S: Source, K: Sink>(alloc: Global, source: &mut S, sink: &mut K) -> Result<Ending, Stop>
-    ensures ends { Ends Props (S.left source.old) (S.left source.new) (S.faults source.old) (S.faults source.new)
-        (K.written sink.old) (K.written sink.new) (K.faults sink.old) (K.faults sink.new) result }
-    ensures steady { (n : ℕ) → K.takes sink.old n
-        → ((text : List ℕ) → Says Props (S.left source.old) text → length text ≤ n)
-        → K.faults sink.new ≡ K.faults sink.old }
+    ensures reads { Reads Props (S.left source.old) (S.left source.new)
+        (S.faults source.old) (S.faults source.new) result }
+    ensures ends { Ends Props (S.left source.old) (K.state sink.old) (K.state sink.new) result }
+    ensures steady { TakesEach (K.state sink.old) (MayWrite Props (S.left source.old))
+        → (K.state sink.new).faults ≡ (K.state sink.old).faults }
 {
     match read_all(alloc, source, MAX_BYTES) {
-        Ok(bytes) => tell_properties(alloc, sink, bytes.as_slice()),
+        Ok(bytes) => write_properties_of(alloc, sink, bytes.as_slice()),
         Err(error) => refuse(alloc, sink, &error),
     }
 }
@@ -98,8 +97,7 @@ fn props<S: Source, K: Sink>(alloc: Global, source: &mut S, sink: &mut K) -> Res
 fn generate<K: Sink>(alloc: Global, rows: u32, sink: &mut K) -> Result<Ending, Stop>
     requires least { 1 ≤ rows }
     requires most { rows ≤ max_rows }
-    ensures { TellsText (λ text. text ≡ summary_text rows) (K.written sink.old) (K.faults sink.old) (K.takes sink.old)
-        (K.written sink.new) (K.faults sink.new) result }
+    ensures { EndsWithText (λ text. text ≡ summary_text rows) (K.state sink.old) (K.state sink.new) result }
 {
     let summary = summary_of(alloc, rows)?;
     write_summary(alloc, sink, summary)?;
@@ -114,12 +112,12 @@ pub fn perform<S: Source, K: Sink>(
     sink: &mut K,
 ) -> Result<Ending, Stop>
     requires { IsPossible command }
-    ensures ends { Ends command (S.left source.old) (S.left source.new) (S.faults source.old) (S.faults source.new)
-        (K.written sink.old) (K.written sink.new) (K.faults sink.old) (K.faults sink.new) result }
-    ensures steady { (n : ℕ) → K.takes sink.old n
-        → ((text : List ℕ) → Says command (S.left source.old) text → length text ≤ n)
-        → K.faults sink.new ≡ K.faults sink.old }
-    ensures unread { IsUnread command → source.new ≡ source.old }
+    ensures reads { Reads command (S.left source.old) (S.left source.new)
+        (S.faults source.old) (S.faults source.new) result }
+    ensures ends { Ends command (S.left source.old) (K.state sink.old) (K.state sink.new) result }
+    ensures steady { TakesEach (K.state sink.old) (MayWrite command (S.left source.old))
+        → (K.state sink.new).faults ≡ (K.state sink.old).faults }
+    ensures unread { ReadsNothing command → source.new ≡ source.old }
 {
     match command {
         Command::Dump => dump(alloc, source, sink),

@@ -7,7 +7,7 @@ ghost use Rattle.std.specs.Option.{option_map};
 ghost use Rattle.std.specs.String.{string_bytes, string_cmp};
 ghost use Rattle.xls_dump.specs.Endings.{Delivers};
 ghost use Rattle.xls_dump.specs.Gathering.{Puts};
-ghost use Rattle.xls_dump.specs.Properties.{custom_line, known_lines, property_lines, shown_property};
+ghost use Rattle.xls_dump.specs.Properties.{custom_line, known_lines, property_lines, property_text};
 
 use crate::buffer::Buffer;
 use crate::ending::Stop;
@@ -30,9 +30,8 @@ fn put_property<K: Sink>(
     sink: &mut K,
     property: Property<'_>,
 ) -> Result<(), Stop>
-    ensures { Puts (K.written sink.old) (K.faults sink.old) (K.takes sink.old) buffer.old
-        (K.written sink.new) (K.faults sink.new) (K.takes sink.new) buffer.new
-        (shown_property property.entry) result }
+    ensures { Puts (K.state sink.old) buffer.old (K.state sink.new) buffer.new
+        (property_text property.entry) result }
 {
     match property.text {
         Some(text) => buffer.put_line(sink, property.name, &[Field::Text(text.as_str())]),
@@ -46,9 +45,8 @@ fn put_fields<K: Sink>(
     sink: &mut K,
     fields: &[Property<'_>],
 ) -> Result<(), Stop>
-    ensures { Puts (K.written sink.old) (K.faults sink.old) (K.takes sink.old) buffer.old
-        (K.written sink.new) (K.faults sink.new) (K.takes sink.new) buffer.new
-        (flat_map shown_property fields.now) result }
+    ensures { Puts (K.state sink.old) buffer.old (K.state sink.new) buffer.new
+        (flat_map property_text fields.now) result }
 {
     for field in fields {
         put_property(buffer, sink, *field)?;
@@ -62,8 +60,7 @@ fn put_known<K: Sink>(
     sink: &mut K,
     properties: &WorkbookProperties,
 ) -> Result<(), Stop>
-    ensures { Puts (K.written sink.old) (K.faults sink.old) (K.takes sink.old) buffer.old
-        (K.written sink.new) (K.faults sink.new) (K.takes sink.new) buffer.new
+    ensures { Puts (K.state sink.old) buffer.old (K.state sink.new) buffer.new
         (known_lines properties.now) result }
 {
     put_fields(
@@ -149,8 +146,7 @@ fn put_custom<K: Sink>(
     name: &String,
     text: &String,
 ) -> Result<(), Stop>
-    ensures { Puts (K.written sink.old) (K.faults sink.old) (K.takes sink.old) buffer.old
-        (K.written sink.new) (K.faults sink.new) (K.takes sink.new) buffer.new
+    ensures { Puts (K.state sink.old) buffer.old (K.state sink.new) buffer.new
         (custom_line (name.now, text.now)) result }
 {
     let fields = [Field::Text(name.as_str()), Field::Text(text.as_str())];
@@ -163,8 +159,7 @@ fn put_customs<K: Sink>(
     sink: &mut K,
     customs: Iter<'_, String, String>,
 ) -> Result<(), Stop>
-    ensures { Puts (K.written sink.old) (K.faults sink.old) (K.takes sink.old) buffer.old
-        (K.written sink.new) (K.faults sink.new) (K.takes sink.new) buffer.new
+    ensures { Puts (K.state sink.old) buffer.old (K.state sink.new) buffer.new
         (flat_map custom_line customs.entry) result }
 {
     for (name, text) in customs {
@@ -179,8 +174,7 @@ fn put_properties<K: Sink>(
     sink: &mut K,
     properties: &WorkbookProperties,
 ) -> Result<(), Stop>
-    ensures puts { Puts (K.written sink.old) (K.faults sink.old) (K.takes sink.old) buffer.old
-        (K.written sink.new) (K.faults sink.new) (K.takes sink.new) buffer.new
+    ensures puts { Puts (K.state sink.old) buffer.old (K.state sink.new) buffer.new
         (property_lines properties.now) result }
     ensures ordered { IsOrdered string_cmp properties.now.custom_properties }
 {
@@ -197,7 +191,7 @@ pub fn write_properties<K: Sink>(
     sink: &mut K,
     properties: &WorkbookProperties,
 ) -> Result<(), Stop>
-    ensures delivers { Delivers (K.written sink.old) (K.faults sink.old) (K.takes sink.old) (K.written sink.new) (K.faults sink.new)
+    ensures delivers { Delivers (K.state sink.old) (K.state sink.new)
         (property_lines properties.now) result }
     ensures ordered { IsOrdered string_cmp properties.now.custom_properties }
 {

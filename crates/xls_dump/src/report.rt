@@ -60,8 +60,7 @@ fn put_cell<K: Sink>(
     column: u32,
     value: &Data,
 ) -> Result<(), Stop>
-    ensures { Puts (K.written sink.old) (K.faults sink.old) (K.takes sink.old) buffer.old
-        (K.written sink.new) (K.faults sink.new) (K.takes sink.new) buffer.new
+    ensures { Puts (K.state sink.old) buffer.old (K.state sink.new) buffer.new
         (cell_line ((row, column), content_of value.now)) result }
 {
     match fields_of(value) {
@@ -76,8 +75,7 @@ fn put_cell<K: Sink>(
 
 /// Puts the lines of a sheet's cells.
 fn put_values<K: Sink>(buffer: &mut Buffer, sink: &mut K, values: Values<'_>) -> Result<(), Stop>
-    ensures { Puts (K.written sink.old) (K.faults sink.old) (K.takes sink.old) buffer.old
-        (K.written sink.new) (K.faults sink.new) (K.takes sink.new) buffer.new
+    ensures { Puts (K.state sink.old) buffer.old (K.state sink.new) buffer.new
         (flat_map cell_line values.entry) result }
 {
     for (row, column, value) in values {
@@ -112,8 +110,7 @@ fn visible_word(visible: SheetVisible) -> &'static str
 
 /// Puts the line of a sheet.
 fn put_sheet<K: Sink>(buffer: &mut Buffer, sink: &mut K, sheet: &Sheet) -> Result<(), Stop>
-    ensures { Puts (K.written sink.old) (K.faults sink.old) (K.takes sink.old) buffer.old
-        (K.written sink.new) (K.faults sink.new) (K.takes sink.new) buffer.new
+    ensures { Puts (K.state sink.old) buffer.old (K.state sink.new) buffer.new
         (sheet_line (sheet_content sheet.now)) result }
 {
     let name = Field::Text(sheet.name.as_str());
@@ -130,8 +127,7 @@ fn put_formula<K: Sink>(
     column: u32,
     text: &str,
 ) -> Result<(), Stop>
-    ensures { Puts (K.written sink.old) (K.faults sink.old) (K.takes sink.old) buffer.old
-        (K.written sink.new) (K.faults sink.new) (K.takes sink.new) buffer.new
+    ensures { Puts (K.state sink.old) buffer.old (K.state sink.new) buffer.new
         (formula_line ((row, column), chars text.now)) result }
 {
     let row = Field::Number(u64::from(row));
@@ -145,8 +141,7 @@ fn put_formulas<K: Sink>(
     sink: &mut K,
     formulas: Formulas<'_>,
 ) -> Result<(), Stop>
-    ensures { Puts (K.written sink.old) (K.faults sink.old) (K.takes sink.old) buffer.old
-        (K.written sink.new) (K.faults sink.new) (K.takes sink.new) buffer.new
+    ensures { Puts (K.state sink.old) buffer.old (K.state sink.new) buffer.new
         (flat_map formula_line formulas.entry) result }
 {
     for (row, column, text) in formulas {
@@ -157,8 +152,8 @@ fn put_formulas<K: Sink>(
 
 /// Puts the line of a merged region.
 fn put_merge<K: Sink>(buffer: &mut Buffer, sink: &mut K, region: Dimensions) -> Result<(), Stop>
-    ensures { Puts (K.written sink.old) (K.faults sink.old) (K.takes sink.old) buffer.old
-        (K.written sink.new) (K.faults sink.new) (K.takes sink.new) buffer.new (merge_line region) result }
+    ensures { Puts (K.state sink.old) buffer.old (K.state sink.new) buffer.new
+        (merge_line region) result }
 {
     let (first_row, first_column) = region.start;
     let (last_row, last_column) = region.end;
@@ -173,8 +168,7 @@ fn put_merge<K: Sink>(buffer: &mut Buffer, sink: &mut K, region: Dimensions) -> 
 
 /// Puts the lines of merged regions.
 fn put_merges<K: Sink>(buffer: &mut Buffer, sink: &mut K, merges: &[Dimensions]) -> Result<(), Stop>
-    ensures { Puts (K.written sink.old) (K.faults sink.old) (K.takes sink.old) buffer.old
-        (K.written sink.new) (K.faults sink.new) (K.takes sink.new) buffer.new
+    ensures { Puts (K.state sink.old) buffer.old (K.state sink.new) buffer.new
         (flat_map merge_line merges.now) result }
 {
     for region in merges {
@@ -190,8 +184,7 @@ fn put_cells_at<K: Sink>(
     book: &Xls,
     n: usize,
 ) -> Result<(), Stop>
-    ensures { Puts (K.written sink.old) (K.faults sink.old) (K.takes sink.old) buffer.old
-        (K.written sink.new) (K.faults sink.new) (K.takes sink.new) buffer.new
+    ensures { Puts (K.state sink.old) buffer.old (K.state sink.new) buffer.new
         (cells_at (slice_get book.now.contents n)) result }
 {
     match book.values_at(n) {
@@ -207,8 +200,7 @@ fn put_formulas_at<K: Sink>(
     book: &Xls,
     n: usize,
 ) -> Result<(), Stop>
-    ensures { Puts (K.written sink.old) (K.faults sink.old) (K.takes sink.old) buffer.old
-        (K.written sink.new) (K.faults sink.new) (K.takes sink.new) buffer.new
+    ensures { Puts (K.state sink.old) buffer.old (K.state sink.new) buffer.new
         (formulas_at (slice_get book.now.contents n)) result }
 {
     match book.formulas_at(n) {
@@ -224,8 +216,7 @@ fn put_merges_at<K: Sink>(
     book: &Xls,
     n: usize,
 ) -> Result<(), Stop>
-    ensures { Puts (K.written sink.old) (K.faults sink.old) (K.takes sink.old) buffer.old
-        (K.written sink.new) (K.faults sink.new) (K.takes sink.new) buffer.new
+    ensures { Puts (K.state sink.old) buffer.old (K.state sink.new) buffer.new
         (merges_at (slice_get book.now.contents n)) result }
 {
     match book.merges_at(n) {
@@ -241,8 +232,7 @@ fn put_lines_at<K: Sink>(
     book: &Xls,
     n: usize,
 ) -> Result<(), Stop>
-    ensures { Puts (K.written sink.old) (K.faults sink.old) (K.takes sink.old) buffer.old
-        (K.written sink.new) (K.faults sink.new) (K.takes sink.new) buffer.new
+    ensures { Puts (K.state sink.old) buffer.old (K.state sink.new) buffer.new
         (lines_at (slice_get book.now.contents n)) result }
 {
     put_cells_at(buffer, sink, book, n)?;
@@ -259,8 +249,7 @@ fn put_view<K: Sink>(
     sheet: &Sheet,
     n: usize,
 ) -> Result<(), Stop>
-    ensures { Puts (K.written sink.old) (K.faults sink.old) (K.takes sink.old) buffer.old
-        (K.written sink.new) (K.faults sink.new) (K.takes sink.new) buffer.new
+    ensures { Puts (K.state sink.old) buffer.old (K.state sink.new) buffer.new
         (sheet_line (sheet_content sheet.now) ++ lines_at (slice_get book.now.contents n)) result }
 {
     put_sheet(buffer, sink, sheet)?;
@@ -270,8 +259,7 @@ fn put_view<K: Sink>(
 
 /// Puts the sheets in workbook order, and what they show.
 fn put_views<K: Sink>(buffer: &mut Buffer, sink: &mut K, book: &Xls) -> Result<(), Stop>
-    ensures { Puts (K.written sink.old) (K.faults sink.old) (K.takes sink.old) buffer.old
-        (K.written sink.new) (K.faults sink.new) (K.takes sink.new) buffer.new
+    ensures { Puts (K.state sink.old) buffer.old (K.state sink.new) buffer.new
         (sheets_text book.now.sheets book.now.contents) result }
 {
     let sheets = book.sheets_metadata();
@@ -290,16 +278,15 @@ fn epoch_word(is_1904: bool) -> &'static str
 
 /// Puts the date system.
 fn put_dates<K: Sink>(buffer: &mut Buffer, sink: &mut K, is_1904: bool) -> Result<(), Stop>
-    ensures { Puts (K.written sink.old) (K.faults sink.old) (K.takes sink.old) buffer.old
-        (K.written sink.new) (K.faults sink.new) (K.takes sink.new) buffer.new (dates_line is_1904) result }
+    ensures { Puts (K.state sink.old) buffer.old (K.state sink.new) buffer.new
+        (dates_line is_1904) result }
 {
     buffer.put_line(sink, "dates", &[Field::Word(epoch_word(is_1904))])
 }
 
 /// Puts the line of a defined name.
 fn put_name<K: Sink>(buffer: &mut Buffer, sink: &mut K, name: &(String, String)) -> Result<(), Stop>
-    ensures { Puts (K.written sink.old) (K.faults sink.old) (K.takes sink.old) buffer.old
-        (K.written sink.new) (K.faults sink.new) (K.takes sink.new) buffer.new
+    ensures { Puts (K.state sink.old) buffer.old (K.state sink.new) buffer.new
         (name_line (told_of name.now)) result }
 {
     let text = Field::Text(name.1.as_str());
@@ -312,8 +299,7 @@ fn put_names<K: Sink>(
     sink: &mut K,
     names: &[(String, String)],
 ) -> Result<(), Stop>
-    ensures { Puts (K.written sink.old) (K.faults sink.old) (K.takes sink.old) buffer.old
-        (K.written sink.new) (K.faults sink.new) (K.takes sink.new) buffer.new
+    ensures { Puts (K.state sink.old) buffer.old (K.state sink.new) buffer.new
         (flat_map (λ n. name_line (told_of n)) names.now) result }
 {
     for name in names {
@@ -324,8 +310,8 @@ fn put_names<K: Sink>(
 
 /// Puts the date system, the defined names, and the sheets with what they show.
 fn put_report<K: Sink>(buffer: &mut Buffer, sink: &mut K, book: &Xls) -> Result<(), Stop>
-    ensures { Puts (K.written sink.old) (K.faults sink.old) (K.takes sink.old) buffer.old
-        (K.written sink.new) (K.faults sink.new) (K.takes sink.new) buffer.new (report book.now) result }
+    ensures { Puts (K.state sink.old) buffer.old (K.state sink.new) buffer.new
+        (report book.now) result }
 {
     put_dates(buffer, sink, book.has_1904_epoch())?;
     put_names(buffer, sink, book.defined_names())?;
@@ -336,8 +322,7 @@ fn put_report<K: Sink>(buffer: &mut Buffer, sink: &mut K, book: &Xls) -> Result<
 /// Writes the dump: the date system, the defined names, and for each sheet in workbook order its line
 /// and those of its cells, of its formulas and of its merged regions.
 pub fn write_report<K: Sink>(alloc: Global, sink: &mut K, book: &Xls) -> Result<(), Stop>
-    ensures { Delivers (K.written sink.old) (K.faults sink.old) (K.takes sink.old) (K.written sink.new) (K.faults sink.new)
-        (report book.now) result }
+    ensures { Delivers (K.state sink.old) (K.state sink.new) (report book.now) result }
 {
     let mut buffer = Buffer::new(alloc);
     put_report(&mut buffer, sink, book)?;
@@ -347,8 +332,7 @@ pub fn write_report<K: Sink>(alloc: Global, sink: &mut K, book: &Xls) -> Result<
 
 /// Puts the lines of sheets.
 fn put_sheets<K: Sink>(buffer: &mut Buffer, sink: &mut K, sheets: &[Sheet]) -> Result<(), Stop>
-    ensures { Puts (K.written sink.old) (K.faults sink.old) (K.takes sink.old) buffer.old
-        (K.written sink.new) (K.faults sink.new) (K.takes sink.new) buffer.new
+    ensures { Puts (K.state sink.old) buffer.old (K.state sink.new) buffer.new
         (flat_map (λ s. sheet_line (sheet_content s)) sheets.now) result }
 {
     for sheet in sheets {
@@ -359,8 +343,7 @@ fn put_sheets<K: Sink>(buffer: &mut Buffer, sink: &mut K, sheets: &[Sheet]) -> R
 
 /// Writes the lines of the sheets alone, in workbook order.
 pub fn write_sheets<K: Sink>(alloc: Global, sink: &mut K, book: &Xls) -> Result<(), Stop>
-    ensures { Delivers (K.written sink.old) (K.faults sink.old) (K.takes sink.old) (K.written sink.new) (K.faults sink.new)
-        (sheet_report book.now) result }
+    ensures { Delivers (K.state sink.old) (K.state sink.new) (sheet_report book.now) result }
 {
     let mut buffer = Buffer::new(alloc);
     put_sheets(&mut buffer, sink, book.sheets_metadata())?;
@@ -370,8 +353,7 @@ pub fn write_sheets<K: Sink>(alloc: Global, sink: &mut K, book: &Xls) -> Result<
 
 /// Writes the line of a refusal.
 pub fn write_fault<K: Sink>(alloc: Global, sink: &mut K, error: &XlsError) -> Result<(), Stop>
-    ensures { Delivers (K.written sink.old) (K.faults sink.old) (K.takes sink.old) (K.written sink.new) (K.faults sink.new)
-        (fault_line error.now) result }
+    ensures { Delivers (K.state sink.old) (K.state sink.new) (fault_line error.now) result }
 {
     let mut buffer = Buffer::new(alloc);
     buffer.put_line(sink, "error", &[Field::Fault(error)])?;

@@ -1,10 +1,11 @@
 //! Where text goes.
 
-ghost use Rattle.std.specs.Prelude.{◌≡◌, ◌-◌, ◌<◌, ◌≤◌, List, Option, ℕ, length, IfOk, IsOk, OnOk, OnErr};
+ghost use Rattle.std.specs.Prelude.{◌≡◌, ◌-◌, ◌<◌, ◌≤◌, ℕ, length, IfOk, IsOk, OnOk};
 ghost use Rattle.std.specs.Io.{WritesAtMost};
 ghost use Rattle.std.specs.Io.KnownBytes.{WriteAppends, Appends};
 ghost use Rattle.xls_book.specs.Causes.{HasCause};
-ghost use Rattle.xls_dump.specs.Written.{AppendsFront};
+ghost use Rattle.xls_dump.specs.SinkState.{SinkState, TakesPiece};
+ghost use Rattle.xls_dump.specs.Written.{AppendsPrefix};
 
 use std::io::Write;
 
@@ -14,32 +15,26 @@ pub struct WriteFault;
 
 /// Where text goes, in pieces.
 pub trait Sink {
-    /// The text that was written, where it tells it.
-    ghost written: { Self → Option (List ℕ) };
+    /// What was written, how often a write has failed, and what is taken without a fault.
+    ghost state: { Self → SinkState };
 
-    /// How often a write has failed, up to a last value.
-    ghost faults: { Self → ℕ };
-
-    /// So many more bytes are taken without a fault, where it promises that.
-    ghost takes: { Self → ℕ → Type 0 };
-
-    /// Appends the first bytes of the piece, at least one of them if there is one.
+    /// Appends the first bytes of the piece, at least one of them.
     fn write(&mut self, piece: &[u8]) -> Result<usize, WriteFault>
+        requires not_empty { 0 < length piece.now }
         ensures bound { WritesAtMost result piece.now }
-        ensures moves { IfOk result (λ n. 0 < length piece.now → 0 < n) }
-        ensures bytes { WriteAppends (written self.old) (written self.new) result piece.now }
-        ensures cause { HasCause (faults self.old) (faults self.new) result }
-        ensures kept { (n : ℕ) → 0 < length piece.now → length piece.now ≤ n → takes self.old n
-            → IsOk result × IfOk result (λ k. takes self.new (n - k)) × (faults self.new ≡ faults self.old) };
+        ensures moves { IfOk result (λ n. 0 < n) }
+        ensures bytes { WriteAppends (state self.old).written (state self.new).written result piece.now }
+        ensures cause { HasCause (state self.old).faults (state self.new).faults result }
+        ensures takes { TakesPiece (state self.old) (state self.new) piece.now result };
 }
 
 /// Writes the whole piece, if no write fails.
 pub fn write_all<K: Sink>(sink: &mut K, piece: &[u8]) -> Result<(), WriteFault>
-    ensures ok { OnOk result (Appends (K.written sink.old) (K.written sink.new) piece.now) }
-    ensures front { AppendsFront (K.written sink.old) (K.written sink.new) piece.now }
-    ensures cause { HasCause (K.faults sink.old) (K.faults sink.new) result }
-    ensures kept { (n : ℕ) → length piece.now ≤ n → K.takes sink.old n → IsOk result
-        × (K.faults sink.new ≡ K.faults sink.old) × K.takes sink.new (n - length piece.now) }
+    ensures ok { OnOk result (Appends (K.state sink.old).written (K.state sink.new).written piece.now) }
+    ensures start { AppendsPrefix (K.state sink.old).written (K.state sink.new).written piece.now }
+    ensures cause { HasCause (K.state sink.old).faults (K.state sink.new).faults result }
+    ensures takes { (n : ℕ) → length piece.now ≤ n → (K.state sink.old).takes n → IsOk result
+        × ((K.state sink.new).faults ≡ (K.state sink.old).faults) × (K.state sink.new).takes (n - length piece.now) }
 {
     let mut at = 0;
     while at < piece.len() {
@@ -48,7 +43,7 @@ pub fn write_all<K: Sink>(sink: &mut K, piece: &[u8]) -> Result<(), WriteFault>
     Ok(())
 }
 
-/// A writer of std, which tells nothing.
+/// A writer of std. What was written is told where that writer tells it.
 #[derive(Drop)]
 pub struct StdSink<W: Write> {
     inner: W,
@@ -62,20 +57,15 @@ impl<W: Write> StdSink<W> {
 }
 
 impl<W: Write> Sink for StdSink<W> {
-    ghost use Rattle.std.specs.Prelude.{None};
-
-    ghost written = { λ _. None };
-
-    ghost faults = { λ s. s.faults };
-
-    ghost takes = { λ _ _. ⊥ };
+    ghost state = { λ s. record { written = W.contents s.inner; faults = s.faults; takes = λ _. ⊥ } };
 
     fn write(&mut self, piece: &[u8]) -> Result<usize, WriteFault> {
-        let count = self.inner.write(piece).unwrap_or(0);
-        if count == 0 && !piece.is_empty() {
-            self.faults = self.faults.saturating_add(1);
-            return Err(WriteFault);
+        match self.inner.write(piece) {
+            Ok(count) if count > 0 => Ok(count),
+            _ => {
+                self.faults = self.faults.saturating_add(1);
+                Err(WriteFault)
+            }
         }
-        Ok(count)
     }
 }

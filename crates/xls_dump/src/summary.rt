@@ -1,4 +1,4 @@
-//! What is told of a made stream.
+//! What is written of a made stream.
 
 ghost use Rattle.std.specs.Prelude.{◌≡◌, ◌≤◌, IfOk};
 ghost use Rattle.xls_data.specs.Data.{content_of, is_nothing};
@@ -50,7 +50,7 @@ fn measured(range: &Range<Data>) -> (u64, i128)
 }
 
 /// What the range of a made stream holds.
-fn told(range: &Range<Data>, rows: u32) -> Summary
+fn summary_in(range: &Range<Data>, rows: u32) -> Summary
     requires made { IsMadeRange is_nothing rows range.now }
     requires most { rows ≤ max_rows }
     ensures { IsSummary rows result }
@@ -70,19 +70,19 @@ pub fn summary_of(alloc: Global, rows: u32) -> Result<Summary, AllocError>
     ensures { IfOk result (IsSummary rows) }
 {
     let mut source = SteadySource::new(made_bytes(alloc, rows)?);
-    // A made stream has no fault, and a steady source doesn't fail: only memory may be wanting.
+    // A made stream has no fault, and a steady source doesn't fail: only memory may run out.
     let Ok(book) = Xls::new(alloc, &mut source) else {
         return Err(AllocError);
     };
     let Ok(range) = book.worksheet_range(alloc, "G") else {
         return Err(AllocError);
     };
-    Ok(told(&range, rows))
+    Ok(summary_in(&range, rows))
 }
 
 /// Writes the three lines of a summary.
 pub fn write_summary<K: Sink>(alloc: Global, sink: &mut K, summary: Summary) -> Result<(), Stop>
-    ensures { Delivers (K.written sink.old) (K.faults sink.old) (K.takes sink.old) (K.written sink.new) (K.faults sink.new)
+    ensures { Delivers (K.state sink.old) (K.state sink.new)
         (counts_text summary.rows summary.cells summary.sum) result }
 {
     let mut buffer = Buffer::new(alloc);

@@ -1,6 +1,7 @@
 use crate::memory::MemorySink;
 use crate::run::run;
-use crate::sink::{Sink, StdSink};
+use crate::sink::{StdSink, write_all};
+use crate::tests::ledger::{LEDGER, LEDGER_SHEETS};
 use std::alloc::{AllocError, Global};
 use std::process::Abort;
 use std::test::*;
@@ -17,6 +18,12 @@ const THREE: [u8; 55] = [
 ];
 
 const THREE_TEXT: &str = "dates\t1900\nsheet\tA\tworksheet\tvisible\ncell\t0\t0\tfloat\t3\n";
+
+// The same without its sheet and the EOF of the globals.
+const NO_SHEET: [u8; 21] = [
+    0x09, 0x08, 0x04, 0x00, 0x00, 0x06, 0x05, 0x00, 0x85, 0x00, 0x09, 0x00, 0x19, 0x00, 0x00, 0x00,
+    0x00, 0x00, 0x01, 0x00, 0x41,
+];
 
 // BOF of the globals, a CodePage record of 437, which isn't kept, EOF.
 const PAGE: [u8; 18] = [
@@ -98,53 +105,64 @@ fn check(rt: &impl Abort, alloc: Global, case: &Case, status: u8, text: &[u8]) -
     Ok(())
 }
 
-#[test]
-fn writes_the_sheet_and_its_number(rt: HostRuntime) -> Result<(), Fail> {
-    check(
-        &rt,
-        rt.alloc(),
-        &quiet(&[], &THREE),
+// Runs in which nothing fails: the words, what the source gives, the status, and what is written.
+const RUNS: [(&[&str], &[u8], u8, &str); 26] = [
+    (&[], &THREE, 0, THREE_TEXT),
+    (&["dump"], &THREE, 0, THREE_TEXT),
+    (&[], &[], 0, "dates\t1900\n"),
+    (
+        &[],
+        &HIDDEN,
         0,
-        THREE_TEXT.as_bytes(),
-    )?;
-    check(
-        &rt,
-        rt.alloc(),
-        &quiet(&["dump"], &THREE),
+        "dates\t1900\nsheet\tA\tworksheet\thidden\nmerge\t0\t1\t2\t3\n",
+    ),
+    (&[], &PAGE, 1, "error\tCfb error: Codepage 1B5 not found\n"),
+    (&[], &NO_SHEET, 1, "error\tEnd of stream 'sheet offset'\n"),
+    (&["sheets"], &THREE, 0, "sheet\tA\tworksheet\tvisible\n"),
+    (&["sheets"], &HIDDEN, 0, "sheet\tA\tworksheet\thidden\n"),
+    (
+        &["sheets"],
+        &PAGE,
+        1,
+        "error\tCfb error: Codepage 1B5 not found\n",
+    ),
+    (&["sheets"], &LEDGER, 0, LEDGER_SHEETS),
+    (&["props"], &TITLE, 0, "title\t\u{C5}lesund\n"),
+    (&["props"], &[], 0, ""),
+    (&["generate", "4"], &THREE, 0, "rows\t4\ncells\t8\nsum\t6\n"),
+    (
+        &["generate", "65536"],
+        &THREE,
         0,
-        THREE_TEXT.as_bytes(),
-    )?;
-    check(&rt, rt.alloc(), &quiet(&[], &[]), 0, b"dates\t1900\n")
-}
+        "rows\t65536\ncells\t131072\nsum\t2147450880\n",
+    ),
+    // Words of no command.
+    (&["dmp"], &THREE, 2, ""),
+    (&["dump", "dump"], &THREE, 2, ""),
+    (&["dump", "x"], &THREE, 2, ""),
+    (&["sheets", "x"], &THREE, 2, ""),
+    (&["props", "props"], &THREE, 2, ""),
+    (&["generate"], &THREE, 2, ""),
+    (&["generate", "0"], &THREE, 2, ""),
+    (&["generate", "04"], &THREE, 2, ""),
+    (&["generate", "65537"], &THREE, 2, ""),
+    (&["generate", "+4"], &THREE, 2, ""),
+    (&["generate", ""], &THREE, 2, ""),
+    (&["generate", "4", "4"], &THREE, 2, ""),
+];
 
 #[test]
-fn writes_merged_regions(rt: HostRuntime) -> Result<(), Fail> {
-    let text = b"dates\t1900\nsheet\tA\tworksheet\thidden\nmerge\t0\t1\t2\t3\n";
-    check(&rt, rt.alloc(), &quiet(&[], &HIDDEN), 0, text)
-}
-
-#[test]
-fn does_nothing_for_other_words(rt: HostRuntime) -> Result<(), Fail> {
-    check(&rt, rt.alloc(), &quiet(&["dmp"], &THREE), 2, b"")?;
-    check(&rt, rt.alloc(), &quiet(&["dump", "dump"], &THREE), 2, b"")
-}
-
-#[test]
-fn writes_the_first_fault(rt: HostRuntime) -> Result<(), Fail> {
-    check(
-        &rt,
-        rt.alloc(),
-        &quiet(&[], &PAGE),
-        1,
-        b"error\tCfb error: Codepage 1B5 not found\n",
-    )?;
-    check(
-        &rt,
-        rt.alloc(),
-        &quiet(&[], &THREE[..21]),
-        1,
-        b"error\tEnd of stream 'sheet offset'\n",
-    )
+fn does_what_the_words_ask_for(rt: HostRuntime) -> Result<(), Fail> {
+    for (words, bytes, status, text) in RUNS {
+        check(
+            &rt,
+            rt.alloc(),
+            &quiet(words, bytes),
+            status,
+            text.as_bytes(),
+        )?;
+    }
+    Ok(())
 }
 
 #[test]
@@ -160,7 +178,7 @@ fn the_pieces_do_not_matter(rt: HostRuntime) -> Result<(), Fail> {
 
 // In chunks of 1, 2 and 16 the stream takes 56, 29 and 5 calls, the last of which gives nothing.
 #[test]
-fn each_failing_read_is_told(rt: HostRuntime) -> Result<(), Fail> {
+fn each_failing_read_ends_with_3(rt: HostRuntime) -> Result<(), Fail> {
     for (chunk, calls) in [(1, 56), (2, 29), (16, 5)] {
         for call in 0..calls {
             let mut case = quiet(&[], &THREE);
@@ -172,59 +190,36 @@ fn each_failing_read_is_told(rt: HostRuntime) -> Result<(), Fail> {
     Ok(())
 }
 
+// The write of each byte fails once, and once the room ends before it.
 #[test]
-fn each_failing_write_leaves_the_front(rt: HostRuntime) -> Result<(), Fail> {
+fn each_failing_write_leaves_the_prefix(rt: HostRuntime) -> Result<(), Fail> {
     let text = THREE_TEXT.as_bytes();
-    for call in 0..text.len() {
+    for len in 0..text.len() {
         let mut case = quiet(&[], &THREE);
         case.write_chunk = 1;
-        case.write_fails = Some(call as u64);
-        check(&rt, rt.alloc(), &case, 4, &text[..call])?;
+        case.write_fails = Some(len as u64);
+        check(&rt, rt.alloc(), &case, 4, &text[..len])?;
+        case.write_chunk = 64;
+        case.write_fails = None;
+        case.room = len;
+        check(&rt, rt.alloc(), &case, 4, &text[..len])?;
     }
     Ok(())
 }
 
 #[test]
-fn each_room_takes_its_front(rt: HostRuntime) -> Result<(), Fail> {
-    let text = THREE_TEXT.as_bytes();
-    let len = text.len();
-    for room in 0..=len {
-        let mut case = quiet(&[], &THREE);
-        case.room = room;
-        let status = if room < len { 4 } else { 0 };
-        check(&rt, rt.alloc(), &case, status, &text[..room])?;
-    }
-    Ok(())
+fn a_text_takes_the_room_of_its_length(rt: HostRuntime) -> Result<(), Fail> {
+    let mut case = quiet(&[], &THREE);
+    case.room = THREE_TEXT.len();
+    check(&rt, rt.alloc(), &case, 0, THREE_TEXT.as_bytes())
 }
 
 #[test]
-fn passes_on_what_std_writes(rt: HostRuntime) {
-    let mut sink = StdSink::new(Vec::new(rt.alloc()));
-    assert_eq!(rt; sink.write(b"abc"), Ok(3));
-}
-
-#[test]
-fn writes_the_sheets_alone(rt: HostRuntime) -> Result<(), Fail> {
-    let three = b"sheet\tA\tworksheet\tvisible\n";
-    check(&rt, rt.alloc(), &quiet(&["sheets"], &THREE), 0, three)?;
-    let hidden = b"sheet\tA\tworksheet\thidden\n";
-    check(&rt, rt.alloc(), &quiet(&["sheets"], &HIDDEN), 0, hidden)?;
-    let page = b"error\tCfb error: Codepage 1B5 not found\n";
-    check(&rt, rt.alloc(), &quiet(&["sheets"], &PAGE), 1, page)
-}
-
-#[test]
-fn writes_the_properties(rt: HostRuntime) -> Result<(), Fail> {
-    let text = "title\t\u{C5}lesund\n".as_bytes();
-    check(&rt, rt.alloc(), &quiet(&["props"], &TITLE), 0, text)?;
-    check(&rt, rt.alloc(), &quiet(&["props"], &[]), 0, b"")
-}
-
-#[test]
-fn knows_no_other_words(rt: HostRuntime) -> Result<(), Fail> {
-    for words in [&["dump", "x"], &["sheets", "x"], &["props", "props"]] {
-        check(&rt, rt.alloc(), &quiet(words, &THREE), 2, b"")?;
-    }
+fn passes_on_what_std_writes(rt: HostRuntime) -> Result<(), Fail> {
+    let mut bytes = Vec::new(rt.alloc());
+    let mut sink = StdSink::new(&mut bytes);
+    assert_eq!(rt; write_all(&mut sink, b"abc"), Ok(()));
+    assert_eq!(rt; bytes.as_slice(), b"abc".as_slice());
     Ok(())
 }
 
@@ -256,12 +251,10 @@ fn writes_a_long_text_in_pieces(rt: HostRuntime) -> Result<(), Fail> {
     let (status, whole) = long_dump(alloc, 5000, None)?;
     assert_eq!(rt; status, 0);
     assert!(rt; whole.len() > 65_536);
-    let (stopped, front) = long_dump(alloc, 5000, Some(1))?;
-    assert_eq!(rt; stopped, 4);
-    assert_eq!(rt; front.len(), 65_536);
-    assert!(rt; whole.starts_with(&front));
-    let (unstopped, same) = long_dump(alloc, 5000, Some(2))?;
-    assert_eq!(rt; unstopped, 0);
-    assert_eq!(rt; same.as_slice(), whole.as_slice());
+    for (fails, wanted, len) in [(0, 4, 0), (1, 4, 65_536), (2, 0, whole.len())] {
+        let (status, text) = long_dump(alloc, 5000, Some(fails))?;
+        assert_eq!(rt; status, wanted);
+        assert_eq!(rt; text.as_slice(), &whole[..len.min(whole.len())]);
+    }
     Ok(())
 }

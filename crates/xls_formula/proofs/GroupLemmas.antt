@@ -4,8 +4,8 @@ use Rattle.std.proofs.Math.ListN.{set}
 use Rattle.std.specs.List.{slice_get, concat}
 use Rattle.std.proofs.lemmas.List.{append-nil, reverse-append, length-reverse, length-set, length_push, take-append-drop, take_at, drop_at, length-take-le, take-append-le, drop-append-le, drop_more, drop-set, take-set, take_more, take_all, set_at, get_or-reverse}
 use Rattle.std.proofs.lemmas.Option.{slice_get_within, get_or_from_slice_get}
-use Rattle.xls_formula.specs.Pieces.{with_prefix, with_suffix, with_join}
-use Rattle.xls_formula.specs.Leaves.{operands_down, operands_of, IsGroupedDown, IsGrouped}
+use Rattle.xls_formula.specs.buffer.Pieces.{with_prefix, with_suffix, with_join}
+use Rattle.xls_formula.specs.buffer.Leaves.{operands_down, operands_of, IsGroupedDown, IsGrouped}
 use Rattle.xls_formula.proofs.LeafLemmas.{concat-append}
 
 length-operands_down : (leaves : List (List ℕ)) (down : List ℕ) → length (operands_down leaves down) ≡ length down

@@ -7,8 +7,8 @@ use Rattle.std.specs.Str.{chars}
 use Rattle.std.proofs.lemmas.List.{append-nil, length-map, length-set}
 use Rattle.std.proofs.lemmas.Str.{chars-append, chars-nil, IsUtf8-append, IsUtf8-nil}
 use Rattle.xls_formula.specs.declared.buffer.Leaf.{Leaf}
-use Rattle.xls_formula.specs.Pieces.{with_prefix, with_suffix, with_join}
-use Rattle.xls_formula.specs.Leaves.{leaf_texts, operands_of, IsGrouped, texts_of, AreTexts, AreOperands}
+use Rattle.xls_formula.specs.buffer.Pieces.{with_prefix, with_suffix, with_join}
+use Rattle.xls_formula.specs.buffer.Leaves.{leaf_texts, operands_of, IsGrouped, texts_of, AreTexts, AreOperands}
 use Rattle.xls_formula.proofs.LeafLemmas.{IsMarked, IsLonger, length-leaf_texts, texts_push, whole_push, texts_set, whole_set, texts_last, whole_last}
 use Rattle.xls_formula.proofs.GroupLemmas.{TopAt, length-operands_of, operands_push, grouped_push, one_alone, within_leaves, operands_before, grouped_after, grouped_less, operands_join, operands_after, some_leaf}
 

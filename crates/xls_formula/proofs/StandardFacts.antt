@@ -6,9 +6,9 @@ use Rattle.xls_bytes.specs.Doubles.{size_of_parts}
 use Rattle.xls_data.specs.Numbers.{sixteen_digits}
 use Rattle.xls_model.specs.declared.part.Part.TheVariants as parts
 use Rattle.xls_text.specs.declared.encoding.XlsEncoding.TheVariants.{Utf16, Windows1252}
-use Rattle.xls_biff.specs.declared.error.XlsError.TheVariants as errors
-use Rattle.xls_biff.specs.declared.globals.Biff.{Biff}
-use Rattle.xls_biff.specs.declared.globals.Biff.TheVariants.{Biff5, Biff8}
+use Rattle.xls_strings.specs.declared.error.XlsError.TheVariants as errors
+use Rattle.xls_strings.specs.declared.version.Biff.{Biff}
+use Rattle.xls_strings.specs.declared.version.Biff.TheVariants.{Biff5, Biff8}
 use Rattle.xls_text.specs.declared.encoding.XlsEncoding.{XlsEncoding}
 use Rattle.xls_formula.specs.Context.{Context}
 use Rattle.xls_formula.specs.Defined.{defined_at, lbl_at}
@@ -80,6 +80,13 @@ known_fraction : formula_text (context Utf16 Biff8) (9 ∷ 0 ∷ 0x1F ∷ 0 ∷ 
 unfolding digits size_of_parts sixteen_digits
 known_fraction = refl
 
+-- an error value as in a cell, and the one that prints otherwise
+known_na : formula_text (context Utf16 Biff8) (2 ∷ 0 ∷ 0x1C ∷ 0x2A ∷ []) ≡ Ok (codes "#N/A")
+known_na = refl
+
+known_getting_data : formula_text (context Utf16 Biff8) (2 ∷ 0 ∷ 0x1C ∷ 0x2B ∷ []) ≡ Ok (codes "#GETTING_DATA")
+known_getting_data = refl
+
 -- operands: none, one too many, one too few
 known_empty : formula_text (context Utf16 Biff8) (0 ∷ 0 ∷ []) ≡ Err (errors.InvalidFormula 0)
 known_empty = refl
@@ -90,6 +97,11 @@ known_two = refl
 known_sum : formula_text (context Utf16 Biff8) (7 ∷ 0 ∷ 0x1E ∷ 1 ∷ 0 ∷ 0x1E ∷ 5 ∷ 0 ∷ 3 ∷ []) ≡ Ok (codes "1+5")
 unfolding digits
 known_sum = refl
+
+-- 0C, which the standard calls PtgGe
+known_ge : formula_text (context Utf16 Biff8) (7 ∷ 0 ∷ 0x1E ∷ 1 ∷ 0 ∷ 0x1E ∷ 5 ∷ 0 ∷ 0x0C ∷ []) ≡ Ok (codes "1>5")
+unfolding digits
+known_ge = refl
 
 known_one_operand : formula_text (context Utf16 Biff8) (4 ∷ 0 ∷ 0x1E ∷ 1 ∷ 0 ∷ 3 ∷ []) ≡ Err errors.StackLen
 known_one_operand = refl

@@ -1,5 +1,5 @@
 -- Texts by their characters.
-use Rattle.std.proofs.Common.{suc, zero, ◌≡◌, ℕ, ◌+◌, ◌-◌, ◌/◌, ◌%◌, ◌<◌, List, [], ◌∷◌, ◌++◌, length, sym, ◌∙◌, ap, arith, String, Global}
+use Rattle.std.proofs.Common.{suc, zero, ◌≡◌, ℕ, ◌+◌, ◌-◌, ◌/◌, ◌%◌, ◌<◌, List, [], ◌∷◌, ◌++◌, length, refl, sym, ◌∙◌, ap, arith, String, Global}
 use Rattle.std.specs.Prelude.{Bool, false, true, ℤ, pos, negsuc, Option, Some, None, codes, replicate, encode_utf8_all, if◌then◌else◌, ◌==◌, ◌^◌}
 use Rattle.std.specs.Fmt.{decimal, signed_decimal, digits, digits_onto, digit_glyph}
 use Rattle.std.specs.Str.{chars, IsAscii}
@@ -11,7 +11,10 @@ use Rattle.std.proofs.lemmas.Str.Ascii.{IsAscii-nil, IsAscii-cons, IsAscii-push,
 use Rattle.xls_bytes.specs.Columns.{word_of, column_name}
 use Rattle.xls_bytes.specs.Doubles.{whole_of}
 use Rattle.xls_data.specs.Numbers.{bits_text, whole_text, sixteen_digits}
-use Rattle.xls_biff.specs.Texts.{text_of}
+use Rattle.xls_data.specs.Errors.{error_text}
+use Rattle.xls_data.specs.declared.errors.CellErrorType.{CellErrorType}
+use Rattle.xls_data.specs.declared.errors.CellErrorType.TheVariants as failures
+use Rattle.xls_strings.specs.Texts.{text_of}
 
 -- ---- appended texts
 
@@ -89,3 +92,16 @@ letters_ascii (suc k) (suc rest) = IsAscii-push (word_of k (rest / 26)) (65 + re
 pub column_ascii : (column : ℕ) → IsAscii (column_name column)
 unfolding column_name
 column_ascii column = letters_ascii (column + 1) (column + 1)
+
+-- ---- error values
+
+pub chars-error_text : (error : CellErrorType) → chars (error_text error) ≡ error_text error
+unfolding chars
+chars-error_text failures.Div0 = refl
+chars-error_text failures.NA = refl
+chars-error_text failures.Name = refl
+chars-error_text failures.Null = refl
+chars-error_text failures.Num = refl
+chars-error_text failures.Ref = refl
+chars-error_text failures.Value = refl
+chars-error_text failures.GettingData = refl

@@ -5,44 +5,43 @@ use Rattle.std.specs.Global.{Global}
 use Rattle.xls_text.specs.declared.encoding.XlsEncoding.{XlsEncoding}
 use Rattle.xls_text.specs.Pages.{string_text}
 use Rattle.xls_model.specs.declared.part.Part.TheVariants as parts
-use Rattle.xls_biff.specs.Globals.{is_biff8}
-use Rattle.xls_biff.specs.declared.error.XlsError.{XlsError}
-use Rattle.xls_biff.specs.declared.globals.Biff.{Biff}
-use Rattle.xls_biff.specs.Texts.{text_of}
+use Rattle.xls_strings.specs.Version.{is_biff8}
+use Rattle.xls_strings.specs.declared.error.XlsError.{XlsError}
+use Rattle.xls_strings.specs.declared.version.Biff.{Biff}
+use Rattle.xls_strings.specs.Texts.{text_of}
 use Rattle.xls_formula.specs.declared.defined.Lbl.{Lbl}
 use Rattle.xls_formula.specs.declared.defined.Place.{Place}
 use Rattle.xls_formula.specs.declared.defined.Place.TheVariants as places
-use Rattle.xls_formula.specs.Corners.{word_at, pinned, sheet_index_at, sheet_corner_at, sheet_first_at, sheet_last_at, sheet_reference_size, sheet_area_size}
-use Rattle.xls_formula.specs.Tokens.{sized, sized_as, no_cch_at}
+use Rattle.xls_ptg.specs.Fields.{word_at, sized, sized_as}
+use Rattle.xls_ptg.specs.Corners.{pinned}
+use Rattle.xls_ptg.specs.PtgStr.{no_cch_at}
+use Rattle.xls_ptg.specs.References3d.{ixti_size, ixti_at, ref3d_size, ref3d_corner, area3d_size, area3d_first, area3d_last}
 use Rattle.xls_formula.specs.Tree.{corner_text, area_text}
-use Rattle.xls_formula.specs.Fold.{and_then}
+use Rattle.xls_strings.specs.Reading.{◌>>=◌, gives}
 
--- 3A
-abbrev pub cell_place : Biff → List ℕ → Result Place XlsError
-cell_place biff rest =
-    sized (sheet_reference_size biff) rest
-    (Ok (places.Cell (sheet_index_at biff rest) (sheet_corner_at biff rest)))
+-- 3A (PtgRef3d)
+abbrev pub ref3d_place : Biff → List ℕ → Result Place XlsError
+ref3d_place biff rest =
+    sized (ref3d_size biff) rest
+    (Ok (places.Ref3d (ixti_at biff rest) (ref3d_corner biff rest)))
 
--- 3B
-abbrev pub area_place : Biff → List ℕ → Result Place XlsError
-area_place biff rest =
-    sized (sheet_area_size biff) rest
-    (Ok (places.Area (sheet_index_at biff rest) (sheet_first_at biff rest) (sheet_last_at biff rest)))
+-- 3B (PtgArea3d)
+abbrev pub area3d_place : Biff → List ℕ → Result Place XlsError
+area3d_place biff rest =
+    sized (area3d_size biff) rest
+    (Ok (places.Area3d (ixti_at biff rest) (area3d_first biff rest) (area3d_last biff rest)))
 
--- 3C and 3D, of which the index alone is needed
-abbrev pub index_size : Biff → ℕ
-index_size biff = if is_biff8 biff then 2 else 12
-
-abbrev pub lost_place : Biff → List ℕ → Result Place XlsError
-lost_place biff rest = sized (index_size biff) rest (Ok (places.Gone (sheet_index_at biff rest)))
+-- 3C and 3D (PtgRefErr3d, PtgAreaErr3d), of which the index alone is needed
+abbrev pub err3d_place : Biff → List ℕ → Result Place XlsError
+err3d_place biff rest = sized (ixti_size biff) rest (Ok (places.Err3d (ixti_at biff rest)))
 
 -- the families of 3A to 3D, by the low five bits of a token from 20 to 7F
 abbrev pub place_by : Biff → ℕ → List ℕ → Result Place XlsError
 place_by biff ptg rest =
     if nat_lt ptg 0x20 || nat_lt 0x7F ptg then Ok (places.Unsupported ptg)
-    else if ptg % 0x20 == 0x1A then cell_place biff rest
-    else if ptg % 0x20 == 0x1B then area_place biff rest
-    else if (ptg % 0x20 == 0x1C) || (ptg % 0x20 == 0x1D) then lost_place biff rest
+    else if ptg % 0x20 == 0x1A then ref3d_place biff rest
+    else if ptg % 0x20 == 0x1B then area3d_place biff rest
+    else if (ptg % 0x20 == 0x1C) || (ptg % 0x20 == 0x1D) then err3d_place biff rest
     else Ok (places.Unsupported ptg)
 
 abbrev pub place_at : Biff → List ℕ → Result Place XlsError
@@ -53,17 +52,17 @@ place_at biff (ptg ∷ rest) = place_by biff ptg rest
 abbrev pub place_text : Place → List ℕ
 place_text places.Nothing = codes "empty rgce"
 place_text (places.Unsupported ptg) = codes "Unsupported ptg: " ++ digits 16 false ptg
-place_text (places.Cell sheet corner) = corner_text (pinned corner)
-place_text (places.Area sheet first last) = area_text (pinned first) (pinned last)
-place_text (places.Gone sheet) = codes "#REF!"
+place_text (places.Ref3d ixti corner) = corner_text (pinned corner)
+place_text (places.Area3d ixti first last) = area_text (pinned first) (pinned last)
+place_text (places.Err3d ixti) = codes "#REF!"
 
 -- the index of the reference, where there is one
 abbrev pub place_sheet : Place → Option ℕ
 place_sheet places.Nothing = None
 place_sheet (places.Unsupported ptg) = None
-place_sheet (places.Cell sheet corner) = Some sheet
-place_sheet (places.Area sheet first last) = Some sheet
-place_sheet (places.Gone sheet) = Some sheet
+place_sheet (places.Ref3d ixti corner) = Some ixti
+place_sheet (places.Area3d ixti first last) = Some ixti
+place_sheet (places.Err3d ixti) = Some ixti
 
 -- both
 abbrev pub Located : Type 0
@@ -73,7 +72,7 @@ abbrev pub located : Place → Located
 located place = (place_sheet place, place_text place)
 
 abbrev pub defined_at : Biff → List ℕ → Result Located XlsError
-defined_at biff rgce = and_then (place_at biff rgce) (λ place. Ok (located place))
+defined_at biff rgce = gives located (place_at biff rgce)
 
 -- ---- Lbl
 
@@ -82,8 +81,7 @@ abbrev pub NameUnits : Type 0
 NameUnits = Option Bool × ℕ × List ℕ
 
 abbrev pub unit_bytes : ℕ → Result (Bool × List ℕ) XlsError → Result NameUnits XlsError
-unit_bytes count (Ok units) = Ok (Some units.0, count, units.1)
-unit_bytes count (Err e) = Err e
+unit_bytes count read = gives (λ units. (Some units.0, count, units.1)) read
 
 -- a string without a count, or before BIFF8 at most so many bytes
 abbrev pub name_units : Biff → ℕ → List ℕ → Result NameUnits XlsError
@@ -103,13 +101,14 @@ name_tokens body =
 abbrev pub lbl_parts : Biff → List ℕ → Result (NameUnits × Place) XlsError
 lbl_parts biff body =
     sized_as parts.Lbl 14 body
-    (and_then (name_units biff (slice_index body 3) (drop 14 body))
-    (λ units. and_then (name_tokens body)
-    (λ tokens. and_then (place_at biff tokens) (λ place. Ok (units, place)))))
+    (do
+      units ← name_units biff (slice_index body 3) (drop 14 body)
+      tokens ← name_tokens body
+      place ← place_at biff tokens
+      Ok (units, place))
 
 abbrev pub lbl_at : XlsEncoding → Biff → List ℕ → Result (List ℕ × Located) XlsError
-lbl_at page biff body =
-    and_then (lbl_parts biff body) (λ lbl. Ok (name_of page lbl.0, located lbl.1))
+lbl_at page biff body = gives (λ lbl. (name_of page lbl.0, located lbl.1)) (lbl_parts biff body)
 
 -- ---- results, as definitions have them
 

@@ -3,7 +3,7 @@
 use Rattle.std.specs.Prelude.{ℕ, List, [], ◌∷◌, codes}
 use Rattle.std.specs.Str.{chars}
 use Rattle.std.specs.Borrow.{Bor}
-use Rattle.xls_biff.specs.Texts.{text_of}
+use Rattle.xls_strings.specs.Texts.{text_of}
 use Rattle.xls_formula.specs.declared.functions.FunctionEntry.{FunctionEntry}
 
 abbrev pub Function : Type 0

@@ -1,6 +1,6 @@
 -- A defined name as contracts see it.
 use Rattle.std.specs.Prelude.{ℕ, List}
-use Rattle.xls_biff.specs.Texts.{text_of}
+use Rattle.xls_strings.specs.Texts.{text_of}
 use Rattle.xls_formula.specs.declared.names.NameEntry.{NameEntry}
 
 -- the name, and the text of what it names

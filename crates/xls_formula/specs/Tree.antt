@@ -2,12 +2,12 @@
 use Rattle.std.specs.Prelude.{ℕ, ◌+◌, List, [], ◌∷◌, ◌++◌, Bool, true, false, codes, Option, Some, None}
 use Rattle.std.specs.Fmt.{decimal}
 use Rattle.xls_bytes.specs.Columns.{column_name}
-use Rattle.xls_formula.specs.declared.corner.Corner.{Corner}
+use Rattle.xls_ptg.specs.declared.corner.Corner.{Corner}
 
 mutual
   pub data Tree : Type 0 where
     word : (text : List ℕ) → Tree
-    reference : (sheet : Option (List ℕ)) (corner : Corner) → Tree
+    ref : (sheet : Option (List ℕ)) (corner : Corner) → Tree
     area : (sheet : Option (List ℕ)) (first last : Corner) → Tree
     wrap : (before : List ℕ) (inner : Tree) (after : List ℕ) → Tree
     pair : (left : Tree) (operator : List ℕ) (right : Tree) → Tree
@@ -37,20 +37,20 @@ on_sheet None = []
 on_sheet (Some sheet) = sheet ++ codes "!"
 
 -- texts with `,` between them
-abbrev pub parted : List (List ℕ) → List ℕ
-parted [] = []
-parted (t ∷ []) = t
-parted (t ∷ u ∷ us) = t ++ (codes "," ++ parted (u ∷ us))
+abbrev pub separated : List (List ℕ) → List ℕ
+separated [] = []
+separated (t ∷ []) = t
+separated (t ∷ u ∷ us) = t ++ (codes "," ++ separated (u ∷ us))
 
 abbrev mutual
   pub render : Tree → List ℕ
   render (word text) = text
-  render (reference sheet corner) = on_sheet sheet ++ corner_text corner
+  render (ref sheet corner) = on_sheet sheet ++ corner_text corner
   render (area sheet first last) = on_sheet sheet ++ area_text first last
   render (wrap before inner after) = before ++ (render inner ++ after)
   render (pair left operator right) = render left ++ (operator ++ render right)
   render (call name operands) =
-      name ++ (codes "(" ++ (parted (render_each operands) ++ codes ")"))
+      name ++ (codes "(" ++ (separated (render_each operands) ++ codes ")"))
 
   pub render_each : Trees → List (List ℕ)
   render_each no_trees = []

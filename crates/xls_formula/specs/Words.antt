@@ -1,35 +1,38 @@
 -- The words that tokens print as they stand, as lists of characters.
-use Rattle.std.specs.Prelude.{ℕ, List, [], ◌==◌, if◌then◌else◌, codes, Bool, true, false}
-use Rattle.xls_formula.specs.declared.token.Word.{Word}
-use Rattle.xls_formula.specs.declared.token.Word.TheVariants as words
+use Rattle.std.specs.Prelude.{ℕ, List, codes, Bool, true, false}
+use Rattle.xls_data.specs.Errors.{error_text}
+use Rattle.xls_data.specs.declared.errors.CellErrorType.{CellErrorType}
+use Rattle.xls_data.specs.declared.errors.CellErrorType.TheVariants as failures
+use Rattle.xls_ptg.specs.declared.operators.Operator.{Operator}
+use Rattle.xls_ptg.specs.declared.operators.Operator.TheVariants as operators
 
-abbrev pub word_text : Word → List ℕ
-word_text words.Nothing = []
-word_text words.False = codes "FALSE"
-word_text words.True = codes "TRUE"
-word_text words.Array = codes "{PtgArray}"
-word_text words.NameX = codes "[PtgNameX]"
-word_text words.Null = codes "#NULL!"
-word_text words.Div0 = codes "#DIV/0!"
-word_text words.Value = codes "#VALUE!"
-word_text words.Ref = codes "#REF!"
-word_text words.Name = codes "#NAME?"
-word_text words.Num = codes "#NUM!"
-word_text words.NA = codes "#N/A"
-word_text words.GettingData = codes "#GETTING_DATA"
+-- Ge prints `>` and Gt `>=`, which is the rule of the crate calamine: [MS-XLS] 2.5.198 has them the
+-- other way round
+abbrev pub operator_text : Operator → List ℕ
+operator_text operators.Add = codes "+"
+operator_text operators.Sub = codes "-"
+operator_text operators.Mul = codes "*"
+operator_text operators.Div = codes "/"
+operator_text operators.Power = codes "^"
+operator_text operators.Concat = codes "&"
+operator_text operators.Lt = codes "<"
+operator_text operators.Le = codes "<="
+operator_text operators.Eq = codes "="
+operator_text operators.Ge = codes ">"
+operator_text operators.Gt = codes ">="
+operator_text operators.Ne = codes "<>"
+operator_text operators.Isect = codes " "
+operator_text operators.Union = codes ","
+operator_text operators.Range = codes ":"
 
--- tokens 03 to 11; [MS-XLS] 2.5.198 has `>=` at 0C and `>` at 0D, this project's rule is the crate's
-abbrev pub operator_text : ℕ → List ℕ
-operator_text ptg =
-    if ptg == 3 then codes "+" else if ptg == 4 then codes "-" else if ptg == 5 then codes "*"
-    else if ptg == 6 then codes "/" else if ptg == 7 then codes "^" else if ptg == 8 then codes "&"
-    else if ptg == 9 then codes "<" else if ptg == 10 then codes "<=" else if ptg == 11 then codes "="
-    else if ptg == 12 then codes ">" else if ptg == 13 then codes ">=" else if ptg == 14 then codes "<>"
-    else if ptg == 15 then codes " " else if ptg == 16 then codes "," else codes ":"
+-- an error value as a cell prints it, but for one
+abbrev pub err_text : CellErrorType → List ℕ
+err_text failures.GettingData = codes "#GETTING_DATA"
+err_text error = error_text error
 
--- tokens 12 and 13
-abbrev pub sign_text : ℕ → List ℕ
-sign_text ptg = if ptg == 18 then codes "+" else codes "-"
+abbrev pub bool_text : Bool → List ℕ
+bool_text true = codes "TRUE"
+bool_text false = codes "FALSE"
 
 -- a return or a space
 abbrev pub space_mark : Bool → ℕ

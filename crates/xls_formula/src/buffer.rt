@@ -4,11 +4,11 @@
 ghost use Rattle.std.specs.Prelude.{◌≡◌, ℕ, List, [], ◌∷◌, ◌++◌, ◌<◌, length, OnOk, OnErr, IfOk, reverse};
 ghost use Rattle.std.specs.List.{concat};
 ghost use Rattle.std.specs.Str.{chars};
-ghost use Rattle.xls_biff.specs.Reading.{Gives};
-ghost use Rattle.xls_biff.specs.Texts.{text_of};
-ghost use Rattle.xls_formula.specs.Leaves.{AreWhole, leaf_texts};
-ghost use Rattle.xls_formula.specs.Pieces.{with_join, with_prefix, with_suffix};
-ghost use Rattle.xls_formula.specs.Put.{one_text};
+ghost use Rattle.xls_strings.specs.Reading.{Gives};
+ghost use Rattle.xls_strings.specs.Texts.{text_of};
+ghost use Rattle.xls_formula.specs.buffer.Leaves.{AreWhole, leaf_texts};
+ghost use Rattle.xls_formula.specs.buffer.Pieces.{with_join, with_prefix, with_suffix};
+ghost use Rattle.xls_formula.specs.buffer.Put.{one_text};
 
 use std::alloc::{AllocError, Global};
 use std::marker::Model;
@@ -38,7 +38,7 @@ impl Model for Operands {
 
     ghost Value = { List (List ℕ) };
 
-    ghost use Rattle.xls_formula.specs.Leaves.{AreOperands, texts_of};
+    ghost use Rattle.xls_formula.specs.buffer.Leaves.{AreOperands, texts_of};
 
     ghost view = { λ b. texts_of b.text.items b.leaves.items b.starts.items };
 
@@ -56,7 +56,7 @@ fn push_backwards(out: &mut Vec<u8>, bytes: &[u8]) -> Result<(), AllocError>
     Ok(())
 }
 
-/// The leaves one after another, each behind what was put before it.
+/// The leaves one after another, each after what was put before it.
 fn joined(alloc: Global, text: &[u8], leaves: &[Leaf]) -> Result<Vec<u8>, AllocError>
     requires { AreWhole text.now leaves.now }
     ensures { IfOk result (λ out. out.items ≡ concat (leaf_texts text.now leaves.now)) }

@@ -2,20 +2,19 @@
 
 ghost use Rattle.std.specs.Prelude.{◌≡◌, ◌≤◌, length, IfOk, codes, if◌then◌else◌};
 ghost use Rattle.xls_text.specs.declared.encoding.XlsEncoding.{XlsEncoding};
-ghost use Rattle.xls_biff.specs.Checks.{fault_in};
-ghost use Rattle.xls_biff.specs.Reading.{Exactly, Gives};
-ghost use Rattle.xls_biff.specs.Texts.{text_of};
-ghost use Rattle.xls_formula.specs.Defined.{area_place, cell_place, defined_at, lbl_at, lbl_parts, located_of, lost_place, name_tokens, name_units, named_of, parts_of, place_at, place_by, place_sheet, place_text};
-ghost use Rattle.xls_formula.specs.Corners.{pinned};
+ghost use Rattle.xls_strings.specs.Reading.{fault_in, Exactly, Gives};
+ghost use Rattle.xls_strings.specs.Texts.{text_of};
+ghost use Rattle.xls_formula.specs.Defined.{area3d_place, defined_at, err3d_place, lbl_at, lbl_parts, located_of, name_tokens, name_units, named_of, parts_of, place_at, place_by, place_sheet, place_text, ref3d_place};
+ghost use Rattle.xls_ptg.specs.Corners.{pinned};
 ghost use Rattle.xls_formula.specs.Tree.{area_text, corner_text};
 
-use crate::corner::{Corner, word_at};
-use crate::leaves::split_no_cch;
-use crate::operands::{area_size, reference_size, sheet_corner, sheet_corners, sheet_index};
-use crate::token::{is_biff8, short};
 use crate::words::{hex, push_area, push_corner, push_decoded, push_text};
 use std::alloc::{AllocError, Global};
 use xls_biff::{Biff, Part, Record, XlsError};
+use xls_ptg::{
+    Corner, area3d_corners, area3d_size, is_biff8, ixti, ref3d_corner, ref3d_size, short,
+    split_no_cch, word_at,
+};
 use xls_text::XlsEncoding;
 
 /// What the first token of a name's formula names.
@@ -25,55 +24,58 @@ enum Place {
     Nothing,
     /// A token that is not read.
     Unsupported(u8),
-    /// A cell on the sheet of a reference.
-    Cell {
-        sheet: u16,
+    /// A cell on the sheet of a reference, whose index is ixti.
+    Ref3d {
+        ixti: u16,
         corner: Corner,
     },
-    Area {
-        sheet: u16,
+    Area3d {
+        ixti: u16,
         first: Corner,
         last: Corner,
     },
     /// Cells that are gone.
-    Gone(u16),
+    Err3d {
+        ixti: u16,
+    },
 }
 
 /// 3A (PtgRef3d).
-fn cell_place(rest: &[u8], biff: Biff) -> Result<Place, XlsError>
-    ensures { Exactly (λ place. place) result (cell_place biff rest.now) }
+fn ref3d_place(rest: &[u8], biff: Biff) -> Result<Place, XlsError>
+    ensures { Exactly (λ place. place) result (ref3d_place biff rest.now) }
 {
-    let size = reference_size(biff);
+    let size = ref3d_size(biff);
     if rest.len() < size {
         return Err(short(size, rest.len(), Part::Ptg));
     }
-    let sheet = sheet_index(rest, biff);
-    let corner = sheet_corner(rest, biff);
-    Ok(Place::Cell { sheet, corner })
+    let ixti = ixti(rest, biff);
+    let corner = ref3d_corner(rest, biff);
+    Ok(Place::Ref3d { ixti, corner })
 }
 
 /// 3B (PtgArea3d).
-fn area_place(rest: &[u8], biff: Biff) -> Result<Place, XlsError>
-    ensures { Exactly (λ place. place) result (area_place biff rest.now) }
+fn area3d_place(rest: &[u8], biff: Biff) -> Result<Place, XlsError>
+    ensures { Exactly (λ place. place) result (area3d_place biff rest.now) }
 {
-    let size = area_size(biff);
+    let size = area3d_size(biff);
     if rest.len() < size {
         return Err(short(size, rest.len(), Part::Ptg));
     }
-    let sheet = sheet_index(rest, biff);
-    let (first, last) = sheet_corners(rest, biff);
-    Ok(Place::Area { sheet, first, last })
+    let ixti = ixti(rest, biff);
+    let (first, last) = area3d_corners(rest, biff);
+    Ok(Place::Area3d { ixti, first, last })
 }
 
 /// 3C and 3D (PtgRefErr3d, PtgAreaErr3d), of which the index alone is needed.
-fn lost_place(rest: &[u8], biff: Biff) -> Result<Place, XlsError>
-    ensures { Exactly (λ place. place) result (lost_place biff rest.now) }
+fn err3d_place(rest: &[u8], biff: Biff) -> Result<Place, XlsError>
+    ensures { Exactly (λ place. place) result (err3d_place biff rest.now) }
 {
     let size = if is_biff8(biff) { 2 } else { 12 };
     if rest.len() < size {
         return Err(short(size, rest.len(), Part::Ptg));
     }
-    Ok(Place::Gone(sheet_index(rest, biff)))
+    let ixti = ixti(rest, biff);
+    Ok(Place::Err3d { ixti })
 }
 
 fn place_by(ptg: u8, rest: &[u8], biff: Biff) -> Result<Place, XlsError>
@@ -83,9 +85,9 @@ fn place_by(ptg: u8, rest: &[u8], biff: Biff) -> Result<Place, XlsError>
         return Ok(Place::Unsupported(ptg));
     }
     match ptg % 0x20 {
-        0x1A => cell_place(rest, biff),
-        0x1B => area_place(rest, biff),
-        0x1C | 0x1D => lost_place(rest, biff),
+        0x1A => ref3d_place(rest, biff),
+        0x1B => area3d_place(rest, biff),
+        0x1C | 0x1D => err3d_place(rest, biff),
         _ => Ok(Place::Unsupported(ptg)),
     }
 }
@@ -148,9 +150,9 @@ fn place_text(alloc: Global, place: Place) -> Result<String, AllocError>
     match place {
         Place::Nothing => fixed_text(alloc, false),
         Place::Unsupported(ptg) => unsupported_text(alloc, ptg),
-        Place::Cell { corner, .. } => cell_text(alloc, corner),
-        Place::Area { first, last, .. } => area_text(alloc, first, last),
-        Place::Gone(_) => fixed_text(alloc, true),
+        Place::Ref3d { corner, .. } => cell_text(alloc, corner),
+        Place::Area3d { first, last, .. } => area_text(alloc, first, last),
+        Place::Err3d { .. } => fixed_text(alloc, true),
     }
 }
 
@@ -161,9 +163,9 @@ fn place_sheet(place: Place) -> Option<usize>
     match place {
         Place::Nothing => None,
         Place::Unsupported(_) => None,
-        Place::Cell { sheet, .. } => Some(usize::from(sheet)),
-        Place::Area { sheet, .. } => Some(usize::from(sheet)),
-        Place::Gone(sheet) => Some(usize::from(sheet)),
+        Place::Ref3d { ixti, .. } => Some(usize::from(ixti)),
+        Place::Area3d { ixti, .. } => Some(usize::from(ixti)),
+        Place::Err3d { ixti } => Some(usize::from(ixti)),
     }
 }
 
@@ -171,7 +173,7 @@ fn place_sheet(place: Place) -> Option<usize>
 /// there is one, and the text. Of the tokens the first alone is read. A cell or area on a sheet is
 /// printed with `$` before each row and column; cells that are gone as `#REF!`; no tokens as
 /// `empty rgce`; another token as `Unsupported ptg: ` and its byte. `Len` where a token of cells on a
-/// sheet is too short, and else only want of memory.
+/// sheet is too short; otherwise only running out of memory refuses.
 pub fn parse_defined_names(
     alloc: Global,
     rgce: &[u8],
@@ -242,7 +244,7 @@ fn split_lbl(body: &[u8], biff: Biff) -> Result<Lbl<'_>, XlsError>
 /// byte 3 and stands at byte 14: a string without a count, or before BIFF8 bytes in the page, at most
 /// so many. Its tokens are the last bytes of the body, so many as the number at byte 4 says, and
 /// are read as by `parse_defined_names`. `Len` in the order of head, name, tokens, first token; else
-/// only want of memory.
+/// only running out of memory.
 #[tactic(auto, unfolding(std::specs::Prelude::chars))]
 pub fn parse_lbl(
     alloc: Global,
@@ -265,7 +267,7 @@ pub fn parse_lbl(
     Ok((name, (place_sheet(lbl.place), text)))
 }
 
-/// The refusal that `parse_lbl` answers for another cause than want of memory, under every page.
+/// The refusal that `parse_lbl` answers for another cause than out of memory, under every page.
 /// Takes no memory.
 pub fn check_lbl(r: &Record<'_>, biff: Biff) -> Result<(), XlsError>
     ensures { (page : XlsEncoding)

@@ -56,7 +56,7 @@ impl FunctionTable {
         Ok(())
     }
 
-    /// The functions whose names are shipped, `FTAB`. Only want of memory refuses.
+    /// The functions whose names are shipped, `FTAB`. Only running out of memory refuses.
     #[tactic(auto, unfolding(std::specs::Prelude::chars))]
     pub fn shipped(alloc: Global) -> Result<FunctionTable, AllocError>
         ensures { IfOk result (λ table. table ≡ shipped) }
@@ -66,8 +66,8 @@ impl FunctionTable {
         Ok(table)
     }
 
-    /// Adds a function under the next index. Only want of memory refuses, and then the table is as it
-    /// was.
+    /// Adds a function under the next index. Refuses only when memory runs out, and then the
+    /// table is as it was.
     pub fn push(&mut self, name: &str, argc: u8) -> Result<(), AllocError>
         ensures ok { OnOk result (self.new ≡ self.old ++ (chars name.now, argc) ∷ []) }
         ensures err { OnErr result (self.new ≡ self.old) }
@@ -75,6 +75,11 @@ impl FunctionTable {
         let name = String::from_str(self.alloc, name)?;
         self.entries.push(FunctionEntry { name, argc })?;
         Ok(())
+    }
+
+    /// The allocator that the table grows in.
+    pub fn allocator(&self) -> Global {
+        self.alloc
     }
 
     /// How many functions there are.

@@ -41,7 +41,7 @@ impl Names {
         }
     }
 
-    /// Appends a name and its text. Only want of memory refuses, and then the list is as it was.
+    /// Appends a name and its text. Only running out of memory refuses, and then the list is as it was.
     pub fn push(&mut self, name: &str, text: &str) -> Result<(), AllocError>
         ensures ok { OnOk result (self.new ≡ self.old ++ (chars name.now, chars text.now) ∷ []) }
         ensures err { OnErr result (self.new ≡ self.old) }

@@ -1,25 +1,24 @@
 //! The text of a formula.
 
 ghost use Rattle.std.specs.Prelude.{◌≡◌};
-ghost use Rattle.xls_biff.specs.Reading.{Exactly, Gives};
-ghost use Rattle.xls_biff.specs.Texts.{text_of};
+ghost use Rattle.xls_strings.specs.Reading.{Exactly, Gives};
+ghost use Rattle.xls_strings.specs.Texts.{text_of};
 ghost use Rattle.xls_formula.specs.Fold.{formula_text, tokens_at};
-ghost use Rattle.xls_formula.specs.Put.{put_all};
-ghost use Rattle.xls_formula.specs.Steps.{Leaves};
-ghost use Rattle.xls_formula.specs.Scopes.{context_of};
+ghost use Rattle.xls_formula.specs.buffer.Put.{put_all};
+ghost use Rattle.xls_formula.specs.buffer.Steps.{Leaves};
+ghost use Rattle.xls_formula.specs.buffer.Scopes.{context_of};
 
 use crate::buffer::Operands;
-use crate::corner::word_at;
 use crate::functions::FunctionTable;
 use crate::names::Names;
-use crate::put::put_token;
+use crate::put::put_ptg;
 use crate::scope::Scope;
-use crate::token::{read_lexeme, short};
 use std::alloc::Global;
 use xls_biff::{Biff, Part, Refs, Strings, XlsError};
+use xls_ptg::{read_ptg, short, word_at};
 use xls_text::XlsEncoding;
 
-/// The tokens behind their length.
+/// The tokens after their length.
 fn tokens_of(rgce: &[u8]) -> Result<&[u8], XlsError>
     ensures { Exactly (λ tokens. tokens.now) result (tokens_at rgce.now) }
 {
@@ -45,8 +44,8 @@ fn put_tokens(
 {
     let mut rest = tokens;
     'tokens: while !rest.is_empty() {
-        let (lexeme, more) = read_lexeme(rest, scope.biff)?;
-        put_token(alloc, texts, scope, lexeme)?;
+        let (ptg, more) = read_ptg(rest, scope.biff)?;
+        put_ptg(alloc, texts, scope, ptg)?;
         let (_, after) = rest.split_at(1);
         let (_, next) = after.split_at(more);
         rest = next;
@@ -64,11 +63,11 @@ fn text_in_scope(alloc: Global, rgce: &[u8], scope: Scope<'_>) -> Result<String,
 }
 
 /// The text of a formula, [MS-XLS] CellParsedFormula 2.5.198.3: `rgce` begins with the length of the
-/// tokens in 16 bits, and what stands behind them is not read. Sheets are named by the references'
+/// tokens in 16 bits, and what stands after them is not read. Sheets are named by the references'
 /// numbers, names by their index from 1, functions by their index from 0. `Len` of `rgce` at the
 /// length; then the first token that fails, by its bytes (`Len`, `Unrecognized`, `Etpg`), the
 /// function table (`IfTab`) or its operands (`StackLen`); then `InvalidFormula` with the count of
-/// operands where not one is left; besides only want of memory.
+/// operands where not one is left. Otherwise only running out of memory refuses.
 pub fn parse_formula(
     alloc: Global,
     rgce: &[u8],

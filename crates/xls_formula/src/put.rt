@@ -6,25 +6,26 @@ ghost use Rattle.std.specs.Option.{option_map};
 ghost use Rattle.std.specs.Str.{chars};
 ghost use Rattle.xls_data.specs.Numbers.{bits_text};
 ghost use Rattle.xls_formula.specs.Context.{name_text, sheet_text};
-ghost use Rattle.xls_formula.specs.Fold.{quoted_text};
-ghost use Rattle.xls_formula.specs.Pieces.{with_join, with_prefix, with_suffix};
-ghost use Rattle.xls_formula.specs.Put.{call_counted, call_fixed, needs, put, with_call, with_wrap};
-ghost use Rattle.xls_formula.specs.Steps.{Leaves};
-ghost use Rattle.xls_formula.specs.Scopes.{context_of};
-ghost use Rattle.xls_formula.specs.Tokens.{token_of};
+ghost use Rattle.xls_formula.specs.Fold.{err3d_text, str_text};
 ghost use Rattle.xls_formula.specs.Tree.{area_text, corner_text, on_sheet};
-ghost use Rattle.xls_formula.specs.Words.{operator_text, sign_text, space_mark, word_text};
+ghost use Rattle.xls_formula.specs.Words.{bool_text, err_text, operator_text, space_mark};
+ghost use Rattle.xls_formula.specs.buffer.Pieces.{with_join, with_prefix, with_suffix};
+ghost use Rattle.xls_formula.specs.buffer.Put.{call_func, call_func_var, needs, put, with_call, with_wrap};
+ghost use Rattle.xls_formula.specs.buffer.Scopes.{context_of};
+ghost use Rattle.xls_formula.specs.buffer.Steps.{Leaves};
+ghost use Rattle.xls_ptg.specs.Readings.{ptg_of};
 
 use crate::buffer::Operands;
-use crate::corner::Corner;
 use crate::functions::FunctionTable;
 use crate::scope::{Scope, defined_name, sheet_name};
-use crate::token::{Lexeme, Word};
 use crate::words::{
-    double, number, on_sheet, operator, push_area, push_corner, quoted, sign, space, word_text,
+    bool_text, double, err_text, number, on_sheet, operator_text, push_area, push_corner, space,
+    str_text,
 };
 use std::alloc::Global;
 use xls_biff::XlsError;
+use xls_data::CellErrorType;
+use xls_ptg::{Corner, Operator, Ptg};
 
 fn need(texts: &Operands, count: usize) -> Result<(), XlsError>
     ensures { MatchResult result (λ _. count ≤ length texts.now)
@@ -56,19 +57,20 @@ fn put_call(texts: &mut Operands, name: &str, count: usize) -> Result<(), XlsErr
     Ok(())
 }
 
-fn put_binary(texts: &mut Operands, ptg: u8) -> Result<(), XlsError>
-    ensures { Leaves result texts.new (needs 2 texts.old (with_join (operator_text ptg) texts.old)) }
+fn put_binary(texts: &mut Operands, operator: Operator) -> Result<(), XlsError>
+    ensures { Leaves result texts.new
+        (needs 2 texts.old (with_join (operator_text operator) texts.old)) }
 {
     need(texts, 2)?;
-    texts.join(operator(ptg))?;
+    texts.join(operator_text(operator))?;
     Ok(())
 }
 
-fn put_sign(texts: &mut Operands, ptg: u8) -> Result<(), XlsError>
-    ensures { Leaves result texts.new (needs 1 texts.old (with_prefix (sign_text ptg) texts.old)) }
+fn put_sign(texts: &mut Operands, sign: &str) -> Result<(), XlsError>
+    ensures { Leaves result texts.new (needs 1 texts.old (with_prefix (chars sign.now) texts.old)) }
 {
     need(texts, 1)?;
-    texts.put_before(sign(ptg))?;
+    texts.put_before(sign)?;
     Ok(())
 }
 
@@ -91,30 +93,29 @@ fn put_wrap(texts: &mut Operands, before: &str, after: &str) -> Result<(), XlsEr
     Ok(())
 }
 
-#[tactic(auto, unfolding(std::specs::Prelude::chars))]
-fn put_parens(texts: &mut Operands) -> Result<(), XlsError>
-    ensures { Leaves result texts.new
-        (needs 1 texts.old (with_wrap (codes "(") (codes ")") texts.old)) }
+fn put_word(texts: &mut Operands, word: &str) -> Result<(), XlsError>
+    ensures { Leaves result texts.new (Ok (chars word.now ∷ texts.old)) }
 {
-    put_wrap(texts, "(", ")")
-}
-
-#[tactic(auto, unfolding(std::specs::Prelude::chars))]
-fn put_sum(texts: &mut Operands) -> Result<(), XlsError>
-    ensures { Leaves result texts.new
-        (needs 1 texts.old (with_wrap (codes "SUM(") (codes ")") texts.old)) }
-{
-    put_wrap(texts, "SUM(", ")")
-}
-
-fn put_word(texts: &mut Operands, word: Word) -> Result<(), XlsError>
-    ensures { Leaves result texts.new (Ok (word_text word ∷ texts.old)) }
-{
-    texts.push(word_text(word))?;
+    texts.push(word)?;
     Ok(())
 }
 
-fn put_number(alloc: Global, texts: &mut Operands, n: u16) -> Result<(), XlsError>
+fn put_err(alloc: Global, texts: &mut Operands, error: CellErrorType) -> Result<(), XlsError>
+    ensures { Leaves result texts.new (Ok (err_text error ∷ texts.old)) }
+{
+    let word = err_text(alloc, error)?;
+    texts.push(&word)?;
+    Ok(())
+}
+
+fn put_bool(texts: &mut Operands, truth: bool) -> Result<(), XlsError>
+    ensures { Leaves result texts.new (Ok (bool_text truth ∷ texts.old)) }
+{
+    texts.push(bool_text(truth))?;
+    Ok(())
+}
+
+fn put_int(alloc: Global, texts: &mut Operands, n: u16) -> Result<(), XlsError>
     ensures { Leaves result texts.new (Ok (decimal n ∷ texts.old)) }
 {
     let word = number(alloc, u32::from(n))?;
@@ -122,7 +123,7 @@ fn put_number(alloc: Global, texts: &mut Operands, n: u16) -> Result<(), XlsErro
     Ok(())
 }
 
-fn put_double(alloc: Global, texts: &mut Operands, bits: u64) -> Result<(), XlsError>
+fn put_num(alloc: Global, texts: &mut Operands, bits: u64) -> Result<(), XlsError>
     ensures { Leaves result texts.new (Ok (bits_text bits ∷ texts.old)) }
 {
     let word = double(alloc, bits)?;
@@ -130,18 +131,18 @@ fn put_double(alloc: Global, texts: &mut Operands, bits: u64) -> Result<(), XlsE
     Ok(())
 }
 
-fn put_quoted(
+fn put_str(
     alloc: Global,
     texts: &mut Operands,
     scope: Scope<'_>,
     high_byte: Option<bool>,
-    bytes: &[u8],
-    count: u8,
+    units: &[u8],
+    cch: u8,
 ) -> Result<(), XlsError>
     ensures { Leaves result texts.new
-        (Ok (quoted_text scope.entry.encoding high_byte bytes.now count ∷ texts.old)) }
+        (Ok (str_text scope.entry.encoding high_byte units.now cch ∷ texts.old)) }
 {
-    let word = quoted(alloc, scope.encoding, high_byte, bytes, usize::from(count))?;
+    let word = str_text(alloc, scope.encoding, high_byte, units, usize::from(cch))?;
     texts.push(&word)?;
     Ok(())
 }
@@ -153,27 +154,17 @@ fn put_name(texts: &mut Operands, scope: Scope<'_>, index: u32) -> Result<(), Xl
     Ok(())
 }
 
-fn sheet_of(scope: Scope<'_>, sheet: Option<u16>) -> Option<&str>
-    ensures { option_map (λ name. chars name.now) result
-        ≡ option_map (sheet_text (context_of scope.entry)) sheet }
-{
-    match sheet {
-        Some(index) => Some(sheet_name(scope, index)),
-        None => None,
-    }
-}
-
-fn put_reference(
+fn put_ref(
     alloc: Global,
     texts: &mut Operands,
-    scope: Scope<'_>,
-    sheet: Option<u16>,
+    sheet: Option<&str>,
     corner: Corner,
 ) -> Result<(), XlsError>
-    ensures { Leaves result texts.new (Ok ((on_sheet (option_map (sheet_text (context_of scope.entry))
-        sheet) ++ corner_text corner) ∷ texts.old)) }
+    ensures { Leaves result texts.new (Ok (
+        (on_sheet (option_map (λ name. chars name.now) sheet.entry) ++ corner_text corner)
+        ∷ texts.old)) }
 {
-    let mut word = on_sheet(alloc, sheet_of(scope, sheet))?;
+    let mut word = on_sheet(alloc, sheet)?;
     push_corner(alloc, &mut word, corner)?;
     texts.push(&word)?;
     Ok(())
@@ -182,25 +173,25 @@ fn put_reference(
 fn put_area(
     alloc: Global,
     texts: &mut Operands,
-    scope: Scope<'_>,
-    sheet: Option<u16>,
+    sheet: Option<&str>,
     corners: (Corner, Corner),
 ) -> Result<(), XlsError>
-    ensures { Leaves result texts.new (Ok ((on_sheet (option_map (sheet_text (context_of scope.entry))
-        sheet) ++ area_text corners.0 corners.1) ∷ texts.old)) }
+    ensures { Leaves result texts.new (Ok (
+        (on_sheet (option_map (λ name. chars name.now) sheet.entry) ++ area_text corners.0 corners.1)
+        ∷ texts.old)) }
 {
-    let mut word = on_sheet(alloc, sheet_of(scope, sheet))?;
+    let mut word = on_sheet(alloc, sheet)?;
     push_area(alloc, &mut word, corners.0, corners.1)?;
     texts.push(&word)?;
     Ok(())
 }
 
+/// PtgRefErr3d and PtgAreaErr3d.
 #[tactic(auto, unfolding(std::specs::Prelude::chars))]
-fn put_lost(texts: &mut Operands, scope: Scope<'_>, sheet: u16) -> Result<(), XlsError>
-    ensures { Leaves result texts.new
-        (Ok ((sheet_text (context_of scope.entry) sheet ++ codes "!#REF!") ∷ texts.old)) }
+fn put_err3d(texts: &mut Operands, scope: Scope<'_>, ixti: u16) -> Result<(), XlsError>
+    ensures { Leaves result texts.new (Ok (err3d_text (context_of scope.entry) ixti ∷ texts.old)) }
 {
-    texts.push(sheet_name(scope, sheet))?;
+    texts.push(sheet_name(scope, ixti))?;
     texts.put_after("!#REF!")?;
     Ok(())
 }
@@ -219,72 +210,90 @@ fn put_space(
     Ok(())
 }
 
-fn put_fixed(texts: &mut Operands, functions: &FunctionTable, index: u16) -> Result<(), XlsError>
+fn put_func(texts: &mut Operands, functions: &FunctionTable, iftab: u16) -> Result<(), XlsError>
     ensures { Leaves result texts.new
-        (call_fixed index (slice_get functions.now index) texts.old) }
+        (call_func iftab (slice_get functions.now iftab) texts.old) }
 {
-    match functions.get(usize::from(index)) {
+    match functions.get(usize::from(iftab)) {
         Some((name, argc)) => {
             need(texts, usize::from(argc))?;
             put_call(texts, name, usize::from(argc))
         }
-        None => Err(XlsError::IfTab(usize::from(index))),
+        None => Err(XlsError::IfTab(usize::from(iftab))),
     }
 }
 
-fn put_counted(
+fn put_func_var(
     texts: &mut Operands,
     functions: &FunctionTable,
-    index: u16,
+    iftab: u16,
     count: u8,
 ) -> Result<(), XlsError>
     ensures { Leaves result texts.new
-        (call_counted index count (slice_get functions.now index) texts.old) }
+        (call_func_var iftab count (slice_get functions.now iftab) texts.old) }
 {
-    match functions.get(usize::from(index)) {
+    match functions.get(usize::from(iftab)) {
         Some((name, _)) => {
             need(texts, usize::from(count))?;
             put_call(texts, name, usize::from(count))
         }
-        None => Err(XlsError::IfTab(usize::from(index))),
+        None => Err(XlsError::IfTab(usize::from(iftab))),
     }
 }
 
 /// Puts one token. `IfTab` for a function outside the table, `StackLen` for too few operands.
-pub(crate) fn put_token(
+#[tactic(auto, unfolding(std::specs::Prelude::chars))]
+pub(crate) fn put_ptg(
     alloc: Global,
     texts: &mut Operands,
     scope: Scope<'_>,
-    lexeme: Lexeme<'_>,
+    ptg: Ptg<&[u8]>,
 ) -> Result<(), XlsError>
     ensures { Leaves result texts.new
-        (put (context_of scope.entry) (token_of lexeme.entry) texts.old) }
+        (put (context_of scope.entry) (ptg_of ptg.entry) texts.old) }
 {
-    match lexeme {
-        Lexeme::Silent => Ok(()),
-        Lexeme::Word(word) => put_word(texts, word),
-        Lexeme::Number(n) => put_number(alloc, texts, n),
-        Lexeme::Double(bits) => put_double(alloc, texts, bits),
-        Lexeme::Quoted {
-            text,
-            count,
+    match ptg {
+        Ptg::Exp => put_word(texts, ""),
+        Ptg::Binary(operator) => put_binary(texts, operator),
+        Ptg::Uplus => put_sign(texts, "+"),
+        Ptg::Uminus => put_sign(texts, "-"),
+        Ptg::Percent => put_percent(texts),
+        Ptg::Paren => put_wrap(texts, "(", ")"),
+        Ptg::MissArg => put_word(texts, ""),
+        Ptg::Str {
+            units,
+            cch,
             high_byte,
-        } => put_quoted(alloc, texts, scope, high_byte, text, count),
-        Lexeme::Name(index) => put_name(texts, scope, index),
-        Lexeme::Reference { sheet, corner } => put_reference(alloc, texts, scope, sheet, corner),
-        Lexeme::Area { sheet, first, last } => {
-            put_area(alloc, texts, scope, sheet, (first, last))
+        } => put_str(alloc, texts, scope, high_byte, units, cch),
+        Ptg::Elf => Ok(()),
+        Ptg::AttrSemi => Ok(()),
+        Ptg::AttrIf => Ok(()),
+        Ptg::AttrChoose => Ok(()),
+        Ptg::AttrGoto => Ok(()),
+        Ptg::AttrSum => put_wrap(texts, "SUM(", ")"),
+        Ptg::AttrBaxcel => Ok(()),
+        Ptg::AttrSpace { is_return, count } => put_space(alloc, texts, is_return, count),
+        Ptg::AttrSpaceSemi { is_return, count } => put_space(alloc, texts, is_return, count),
+        Ptg::Err(error) => put_err(alloc, texts, error),
+        Ptg::Bool(truth) => put_bool(texts, truth),
+        Ptg::Int(n) => put_int(alloc, texts, n),
+        Ptg::Num(bits) => put_num(alloc, texts, bits),
+        Ptg::Array => put_word(texts, "{PtgArray}"),
+        Ptg::Func { iftab } => put_func(texts, scope.functions, iftab),
+        Ptg::FuncVar { count, iftab } => put_func_var(texts, scope.functions, iftab, count),
+        Ptg::Name { index } => put_name(texts, scope, index),
+        Ptg::Ref(corner) => put_ref(alloc, texts, None, corner),
+        Ptg::Area { first, last } => put_area(alloc, texts, None, (first, last)),
+        Ptg::RefErr => put_word(texts, "#REF!"),
+        Ptg::AreaErr => put_word(texts, "#REF!"),
+        Ptg::NameX => put_word(texts, "[PtgNameX]"),
+        Ptg::Ref3d { ixti, corner } => {
+            put_ref(alloc, texts, Some(sheet_name(scope, ixti)), corner)
         }
-        Lexeme::Lost(sheet) => put_lost(texts, scope, sheet),
-        Lexeme::Binary(ptg) => put_binary(texts, ptg),
-        Lexeme::Sign(ptg) => put_sign(texts, ptg),
-        Lexeme::Percent => put_percent(texts),
-        Lexeme::Parens => put_parens(texts),
-        Lexeme::Sum => put_sum(texts),
-        Lexeme::Space { is_return, count } => put_space(alloc, texts, is_return, count),
-        Lexeme::Fixed(index) => put_fixed(texts, scope.functions, index),
-        Lexeme::Counted { function, count } => {
-            put_counted(texts, scope.functions, function, count)
+        Ptg::Area3d { ixti, first, last } => {
+            put_area(alloc, texts, Some(sheet_name(scope, ixti)), (first, last))
         }
+        Ptg::RefErr3d { ixti } => put_err3d(texts, scope, ixti),
+        Ptg::AreaErr3d { ixti } => put_err3d(texts, scope, ixti),
     }
 }

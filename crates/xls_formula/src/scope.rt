@@ -3,7 +3,7 @@
 ghost use Rattle.std.specs.Prelude.{◌≡◌, slice_get};
 ghost use Rattle.std.specs.Str.{chars};
 ghost use Rattle.xls_formula.specs.Context.{name_text, numbered_sheet, sheet_text};
-ghost use Rattle.xls_formula.specs.Scopes.{context_of};
+ghost use Rattle.xls_formula.specs.buffer.Scopes.{context_of};
 
 use crate::functions::FunctionTable;
 use crate::names::Names;

@@ -47,69 +47,65 @@ fn refuses(alloc: Global, rgce: &[u8], biff: Biff, error: &XlsError) -> bool {
     }
 }
 
+/// Formulas with their texts.
+const PRINTED: [(Biff, &[u8], &str); 16] = [
+    // Cells on a sheet: the last row of BIFF8, an area.
+    (Biff::Biff8, b"\x07\0\x3A\0\0\xFF\xFF\0\xC0", "A!A65536"),
+    (
+        Biff::Biff8,
+        b"\x0B\0\x3B\0\0\0\0\x09\0\x01\xC0\x02\x40",
+        "A!$B$1:$C$10",
+    ),
+    // Names outside the list.
+    (Biff::Biff8, b"\x05\0\x23\0\0\0\0", "#REF!"),
+    (
+        Biff::Biff5,
+        b"\x0F\0\x23\0\0\0\0\0\0\0\0\0\0\0\0\0\0",
+        "#REF!",
+    ),
+    // Strings of both layouts.
+    (Biff::Biff5, b"\x08\0\x17\x06SCHUCH", "\"SCHUCH\""),
+    (Biff::Biff8, b"\x09\0\x17\x06\0SCHUCH", "\"SCHUCH\""),
+    // The doubles 1 and 2.5.
+    (Biff::Biff8, b"\x09\0\x1F\0\0\0\0\0\0\xF0\x3F", "1"),
+    (
+        Biff::Biff8,
+        b"\x09\0\x1F\0\0\0\0\0\0\x04\x40",
+        "0x4004000000000000",
+    ),
+    // Operators: PtgGe prints as in the crate calamine.
+    (Biff::Biff8, b"\x07\0\x1E\x01\0\x1E\x05\0\x03", "1+5"),
+    (Biff::Biff8, b"\x07\0\x1E\x01\0\x1E\x05\0\x0C", "1>5"),
+    // A space before no operand.
+    (Biff::Biff8, b"\x07\0\x19\x40\0\x01\x1E\x05\0", "5"),
+    // An error value as in a cell, and the one that prints otherwise; words.
+    (Biff::Biff8, b"\x02\0\x1C\x2A", "#N/A"),
+    (Biff::Biff8, b"\x02\0\x1C\x2B", "#GETTING_DATA"),
+    (Biff::Biff8, b"\x02\0\x1D\x01", "TRUE"),
+    (Biff::Biff8, b"\x07\0\x39\0\0\0\0\0\0", "[PtgNameX]"),
+    (Biff::Biff8, b"\x07\0\x3C\0\0\0\0\0\0", "A!#REF!"),
+];
+
 #[test]
-fn prints_cells_on_a_sheet(rt: HostRuntime) {
-    let cell = [0x07, 0x00, 0x3A, 0x00, 0x00, 0xFF, 0xFF, 0x00, 0xC0];
-    assert!(rt; prints(rt.alloc(), &cell, Biff::Biff8, "A!A65536"));
-    let area = [
-        0x0B, 0x00, 0x3B, 0x00, 0x00, 0x00, 0x00, 0x09, 0x00, 0x01, 0xC0, 0x02, 0x40,
-    ];
-    assert!(rt; prints(rt.alloc(), &area, Biff::Biff8, "A!$B$1:$C$10"));
+fn prints_formulas(rt: HostRuntime) {
+    for (biff, rgce, text) in PRINTED {
+        assert!(rt; prints(rt.alloc(), rgce, biff, text));
+    }
 }
 
 #[test]
-fn prints_a_name_outside_the_list(rt: HostRuntime) {
-    let name = [0x05, 0x00, 0x23, 0x00, 0x00, 0x00, 0x00];
-    assert!(rt; prints(rt.alloc(), &name, Biff::Biff8, "#REF!"));
-    let early = [0x0F, 0, 0x23, 0, 0, 0, 0, 0, 0, 0, 0, 0, 0, 0, 0, 0, 0];
-    assert!(rt; prints(rt.alloc(), &early, Biff::Biff5, "#REF!"));
-}
-
-#[test]
-fn refuses_no_tokens(rt: HostRuntime) {
-    let error = XlsError::InvalidFormula { stack_size: 0 };
-    assert!(rt; refuses(rt.alloc(), &[0, 0], Biff::Biff8, &error));
-}
-
-#[test]
-fn prints_strings_of_both_layouts(rt: HostRuntime) {
-    let early = b"\x08\x00\x17\x06SCHUCH";
-    assert!(rt; prints(rt.alloc(), early, Biff::Biff5, "\"SCHUCH\""));
-    let later = b"\x09\x00\x17\x06\x00SCHUCH";
-    assert!(rt; prints(rt.alloc(), later, Biff::Biff8, "\"SCHUCH\""));
-}
-
-#[test]
-fn refuses_a_string_that_is_cut(rt: HostRuntime) {
-    let error = XlsError::Len {
+fn refuses_formulas(rt: HostRuntime) {
+    let none = XlsError::InvalidFormula { stack_size: 0 };
+    assert!(rt; refuses(rt.alloc(), &[0, 0], Biff::Biff8, &none));
+    let cut = XlsError::Len {
         expected: 7,
         found: 4,
         typ: Part::PtgStr,
     };
-    assert!(rt; refuses(rt.alloc(), b"\x05\x00\x17\x06SCH", Biff::Biff5, &error));
-}
-
-#[test]
-fn prints_doubles(rt: HostRuntime) {
-    let one = [0x09, 0x00, 0x1F, 0, 0, 0, 0, 0, 0, 0xF0, 0x3F];
-    assert!(rt; prints(rt.alloc(), &one, Biff::Biff8, "1"));
-    let half = [0x09, 0x00, 0x1F, 0, 0, 0, 0, 0, 0, 0x04, 0x40];
-    assert!(rt; prints(rt.alloc(), &half, Biff::Biff8, "0x4004000000000000"));
-}
-
-#[test]
-fn prints_an_operator_between_its_operands(rt: HostRuntime) {
-    let infix = [0x07, 0x00, 0x1E, 0x01, 0x00, 0x1E, 0x05, 0x00, 0x03];
-    assert!(rt; prints(rt.alloc(), &infix, Biff::Biff8, "1+5"));
-    let early = [0x07, 0x00, 0x1E, 0x01, 0x00, 0x03, 0x1E, 0x05, 0x00];
-    assert!(rt; refuses(rt.alloc(), &early, Biff::Biff8, &XlsError::StackLen));
-    assert!(rt; refuses(rt.alloc(), &[1, 0, 3], Biff::Biff8, &XlsError::StackLen));
-}
-
-#[test]
-fn puts_no_space_before_no_operand(rt: HostRuntime) {
-    let space = [0x07, 0x00, 0x19, 0x40, 0x00, 0x01, 0x1E, 0x05, 0x00];
-    assert!(rt; prints(rt.alloc(), &space, Biff::Biff8, "5"));
+    assert!(rt; refuses(rt.alloc(), b"\x05\0\x17\x06SCH", Biff::Biff5, &cut));
+    for rgce in [&[1, 0, 3][..], &[7, 0, 0x1E, 1, 0, 3, 0x1E, 5, 0]] {
+        assert!(rt; refuses(rt.alloc(), rgce, Biff::Biff8, &XlsError::StackLen));
+    }
 }
 
 #[test]
@@ -178,14 +174,20 @@ fn names(alloc: Global, rgce: &[u8], index: Option<usize>, text: &str) -> bool {
     }
 }
 
+/// Tokens of a name, with the index of the reference and the text.
+const NAMED: [(&[u8], Option<usize>, &str); 5] = [
+    (&[0x3A, 0x00, 0x00, 0x01, 0x00, 0x01, 0x00], Some(0), "$B$2"),
+    (&[], None, "empty rgce"),
+    (&[0x17], None, "Unsupported ptg: 17"),
+    (&[0x01], None, "Unsupported ptg: 1"),
+    (&[0x5C, 0x02, 0x00], Some(2), "#REF!"),
+];
+
 #[test]
 fn reads_what_a_name_names(rt: HostRuntime) {
-    let cell = [0x3A, 0x00, 0x00, 0x01, 0x00, 0x01, 0x00];
-    assert!(rt; names(rt.alloc(), &cell, Some(0), "$B$2"));
-    assert!(rt; names(rt.alloc(), &[], None, "empty rgce"));
-    assert!(rt; names(rt.alloc(), &[0x17], None, "Unsupported ptg: 17"));
-    assert!(rt; names(rt.alloc(), &[0x01], None, "Unsupported ptg: 1"));
-    assert!(rt; names(rt.alloc(), &[0x5C, 0x02, 0x00], Some(2), "#REF!"));
+    for (rgce, index, text) in NAMED {
+        assert!(rt; names(rt.alloc(), rgce, index, text));
+    }
 }
 
 const TOTAL: &[u8] =

@@ -5,72 +5,50 @@ ghost use Rattle.std.specs.Fmt.{decimal, digits};
 ghost use Rattle.std.specs.Option.{option_map};
 ghost use Rattle.std.specs.Str.{chars};
 ghost use Rattle.xls_bytes.specs.Columns.{column_name};
-ghost use Rattle.xls_biff.specs.Texts.{text_of};
+ghost use Rattle.xls_strings.specs.Texts.{text_of};
 ghost use Rattle.xls_data.specs.Numbers.{bits_text};
 ghost use Rattle.xls_text.specs.Pages.{string_text};
-ghost use Rattle.xls_formula.specs.Fold.{quoted_text};
+ghost use Rattle.xls_formula.specs.Fold.{str_text};
 ghost use Rattle.xls_formula.specs.Tree.{area_text, corner_text, dollar, on_sheet};
-ghost use Rattle.xls_formula.specs.Words.{operator_text, sign_text, space_mark, word_text};
+ghost use Rattle.xls_data.specs.Errors.{error_text};
+ghost use Rattle.xls_formula.specs.Words.{bool_text, err_text, operator_text, space_mark};
 
-use crate::corner::Corner;
-use crate::token::Word;
 use std::alloc::{AllocError, Global};
 use xls_bytes::push_column;
-use xls_data::Number;
+use xls_data::{CellErrorType, Number};
+use xls_ptg::{Corner, Operator};
 use xls_text::XlsEncoding;
 
-/// A word as it is printed.
+/// A binary operator. `Ge` and `Gt` are exchanged, as in the crate calamine.
 #[tactic(auto, unfolding(std::specs::Prelude::chars))]
-pub(crate) fn word_text(word: Word) -> &'static str
-    ensures { chars result.now ≡ word_text word }
+pub(crate) fn operator_text(operator: Operator) -> &'static str
+    ensures { chars result.now ≡ operator_text operator }
 {
-    match word {
-        Word::Nothing => "",
-        Word::False => "FALSE",
-        Word::True => "TRUE",
-        Word::Array => "{PtgArray}",
-        Word::NameX => "[PtgNameX]",
-        Word::Null => "#NULL!",
-        Word::Div0 => "#DIV/0!",
-        Word::Value => "#VALUE!",
-        Word::Ref => "#REF!",
-        Word::Name => "#NAME?",
-        Word::Num => "#NUM!",
-        Word::NA => "#N/A",
-        Word::GettingData => "#GETTING_DATA",
+    match operator {
+        Operator::Add => "+",
+        Operator::Sub => "-",
+        Operator::Mul => "*",
+        Operator::Div => "/",
+        Operator::Power => "^",
+        Operator::Concat => "&",
+        Operator::Lt => "<",
+        Operator::Le => "<=",
+        Operator::Eq => "=",
+        Operator::Ge => ">",
+        Operator::Gt => ">=",
+        Operator::Ne => "<>",
+        Operator::Isect => " ",
+        Operator::Union => ",",
+        Operator::Range => ":",
     }
 }
 
-/// A binary operator, tokens 03 to 11.
+/// A truth value.
 #[tactic(auto, unfolding(std::specs::Prelude::chars))]
-pub(crate) fn operator(ptg: u8) -> &'static str
-    ensures { chars result.now ≡ operator_text ptg }
+pub(crate) fn bool_text(truth: bool) -> &'static str
+    ensures { chars result.now ≡ bool_text truth }
 {
-    match ptg {
-        0x03 => "+",
-        0x04 => "-",
-        0x05 => "*",
-        0x06 => "/",
-        0x07 => "^",
-        0x08 => "&",
-        0x09 => "<",
-        0x0A => "<=",
-        0x0B => "=",
-        0x0C => ">",
-        0x0D => ">=",
-        0x0E => "<>",
-        0x0F => " ",
-        0x10 => ",",
-        _ => ":",
-    }
-}
-
-/// A sign, tokens 12 and 13.
-#[tactic(auto, unfolding(std::specs::Prelude::chars))]
-pub(crate) fn sign(ptg: u8) -> &'static str
-    ensures { chars result.now ≡ sign_text ptg }
-{
-    if ptg == 0x12 { "+" } else { "-" }
+    if truth { "TRUE" } else { "FALSE" }
 }
 
 /// Appends a text.
@@ -105,6 +83,32 @@ pub(crate) fn double(alloc: Global, bits: u64) -> Result<String, AllocError>
     Ok(text)
 }
 
+/// An error value as a cell prints it.
+fn cell_error_text(alloc: Global, error: CellErrorType) -> Result<String, AllocError>
+    ensures { IfOk result (λ s. text_of s ≡ error_text error) }
+{
+    let text = error.to_string(alloc)?;
+    Ok(text)
+}
+
+#[tactic(auto, unfolding(std::specs::Prelude::chars))]
+fn getting_data_text(alloc: Global) -> Result<String, AllocError>
+    ensures { IfOk result (λ s. text_of s ≡ err_text CellErrorType.GettingData) }
+{
+    let text = String::from_str(alloc, "#GETTING_DATA")?;
+    Ok(text)
+}
+
+/// An error value, as a cell prints it but for one.
+pub(crate) fn err_text(alloc: Global, error: CellErrorType) -> Result<String, AllocError>
+    ensures { IfOk result (λ s. text_of s ≡ err_text error) }
+{
+    match error {
+        CellErrorType::GettingData => getting_data_text(alloc),
+        _ => cell_error_text(alloc, error),
+    }
+}
+
 /// Appends the text of a string.
 pub(crate) fn push_decoded(
     out: &mut String,
@@ -122,14 +126,14 @@ pub(crate) fn push_decoded(
 
 /// A string in quotes.
 #[tactic(auto, unfolding(std::specs::Prelude::chars))]
-pub(crate) fn quoted(
+pub(crate) fn str_text(
     alloc: Global,
     encoding: XlsEncoding,
     high_byte: Option<bool>,
     bytes: &[u8],
     count: usize,
 ) -> Result<String, AllocError>
-    ensures { IfOk result (λ s. text_of s ≡ quoted_text encoding high_byte bytes.now count) }
+    ensures { IfOk result (λ s. text_of s ≡ str_text encoding high_byte bytes.now count) }
 {
     let mut text = String::new(alloc);
     push_text(&mut text, "\"")?;

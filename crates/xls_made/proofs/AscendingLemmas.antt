@@ -79,7 +79,7 @@ module _ {T : Type 0} where
   abbrev Same : List (Position × T) → List (Position × T) → Type 0
   Same xs ys = (p : Position) → last_at xs p ≡ last_at ys p
 
-  -- behind equal first cells both have the same values
+  -- after equal first cells both have the same values
   same_tail : (x y : Position × T) (xs ys : List (Position × T)) → x.0 ≡ y.0
       → IsAscending (map at (x ∷ xs)) → IsAscending (map at (y ∷ ys)) → Same (x ∷ xs) (y ∷ ys)
       → Same xs ys

@@ -10,7 +10,7 @@ use Rattle.xls_model.specs.Stream.{enc}
 use Rattle.xls_model.specs.declared.types.TheConstants as types
 use Rattle.xls_made.specs.Made.{le32, part_body, made_globals, made_row, made_rows, made_stream}
 
--- the last number behind the others
+-- the last number after the others
 range_more : (a n : ℕ) → range_with_len a (suc n) ≡ range_with_len a n ++ (a + n) ∷ []
 range_more a zero = ap (λ (k : ℕ). k ∷ []) (zero_behind a)
   where

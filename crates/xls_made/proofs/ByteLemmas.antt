@@ -21,7 +21,7 @@ each_byte [] h i = lit< tt
 each_byte (b ∷ bs) h zero = h.0
 each_byte (b ∷ bs) h (suc i) = each_byte bs h.1 i
 
--- bytes behind bytes
+-- bytes after bytes
 pub both_bytes : (xs ys : List ℕ) → AreBytes xs → AreBytes ys → AreBytes (xs ++ ys)
 both_bytes [] ys a b = b
 both_bytes (x ∷ xs) ys a b = (a.0, both_bytes xs ys a.1 b)

@@ -5,15 +5,10 @@ use Rattle.xls_bytes.specs.Numbers.{le, le16}
 use Rattle.xls_model.specs.Listing.{Kept}
 use Rattle.xls_model.specs.declared.types.TheConstants as types
 use Rattle.xls_data.specs.Content.{int, text}
-use Rattle.xls_cells.specs.Positions.{Position}
-use Rattle.xls_biff.specs.Cells.{Entry, rk_content}
-use Rattle.xls_book.specs.InForce.{Setting}
-use Rattle.xls_book.specs.SheetTable.{Given, given_at}
+use Rattle.xls_biff.specs.Records.Rk.{rk_content}
+use Rattle.xls_biff.specs.SheetTable.{CellContext, SheetRecord, cells_record, shared_record}
+use Rattle.xls_book.specs.SheetTable.{kept_line}
 use Rattle.xls_made.specs.Made.{le32, made_word, made_strings, int_body, word_body}
-
--- one cell
-abbrev pub one_cell : Entry → Given
-one_cell c = record { cells = c ∷ []; regions = []; formulas = [] }
 
 -- a number of 16 bits from its bytes
 number_16 : (n : ℕ) → le (le16 n) ≡ n
@@ -47,13 +42,13 @@ abbrev pub word_kept : ℕ → Kept
 word_kept i = record { typ = types.LABEL_SST; body = word_body i }
 
 -- the first record of a row gives its number
-pub int_given : (s : Setting) (p : Position) (i : ℕ) → i < 65536 → s.force.classes ≡ []
-    → s.force.is_1904 ≡ false → given_at s p (int_kept i) ≡ Ok (one_cell ((i, 0), int (pos i)))
-int_given s p i h c e =
+pub int_line : (c : CellContext) (i : ℕ) → i < 65536 → c.classes ≡ [] → c.is_1904 ≡ false
+    → kept_line c (int_kept i) ≡ Ok (cells_record (((i, 0), int (pos i)) ∷ []))
+int_line c i h none epoch =
     let row : i % 256 + 256 * (i / 256 + 0) ≡ i = omega arith in
     let number : le (le32 (4 * i + 2)) ≡ 4 * i + 2 = number_32 (4 * i + 2) in
     let content : rk_content None (4 * i + 2) false ≡ int (pos i) = rk_row i h in
-    rw (c, e, row, number, content) refl
+    rw (none, epoch, row, number, content) refl
 
 -- the string of a row's index is its word
 word_by : (m : ℕ) → m < 3
@@ -68,9 +63,9 @@ word_at : (i : ℕ) → slice_get made_strings (i % 3) ≡ Some (made_word i)
 word_at i = word_by (i % 3) (omega arith)
 
 -- the second record of a row gives its word
-pub word_given : (s : Setting) (p : Position) (i : ℕ) → s.force.strings ≡ made_strings
-    → given_at s p (word_kept i) ≡ Ok (one_cell ((i, 1), text (made_word i)))
-word_given s p i e =
+pub word_line : (c : CellContext) (i : ℕ) → c.strings ≡ made_strings
+    → kept_line c (word_kept i) ≡ Ok (shared_record (Some ((i, 1), text (made_word i))))
+word_line c i e =
     let row : i % 256 + 256 * (i / 256 + 0) ≡ i = omega arith in
     let index : le (le32 (i % 3)) ≡ i % 3 = number_32 (i % 3) in
     let word : slice_get made_strings (i % 3) ≡ Some (made_word i) = word_at i in

@@ -9,10 +9,12 @@ use Rattle.xls_data.specs.Sheets.{SheetContent}
 use Rattle.xls_data.specs.declared.regions.Dimensions.{Dimensions}
 use Rattle.xls_range.specs.Sparse.{last_at, Precedes, IsAscending}
 use Rattle.xls_biff.specs.Cells.{Entry}
-use Rattle.xls_biff.specs.declared.error.XlsError.{XlsError}
+use Rattle.xls_biff.specs.SheetTable.{CellContext, SheetRecord}
+use Rattle.xls_strings.specs.Reading.{gives}
+use Rattle.xls_strings.specs.declared.error.XlsError.{XlsError}
 use Rattle.xls_book.specs.Order.{along}
-use Rattle.xls_book.specs.InForce.{sheets_of, Setting, setting_of, classes_in, texts_in, is_1904_in}
-use Rattle.xls_book.specs.SheetTable.{FormulaEntry, Given, given_in, last_formula}
+use Rattle.xls_book.specs.InForce.{sheets_of, InForce, in_force_of, classes_in, texts_in, is_1904_in}
+use Rattle.xls_book.specs.SheetTable.{FormulaEntry, Given, one_cell, adds, given_in, last_formula}
 use Rattle.xls_book.specs.Reading.{SheetView, Workbook, IsReading, IsContent, IsShown, given_by, gifts_of, values_of, formulas_of, merges_of}
 use Rattle.xls_book.specs.Opening.{default_options, IsOpened}
 use Rattle.xls_book.specs.Steps.{paired}
@@ -20,7 +22,7 @@ use Rattle.xls_book.specs.Reading.{last_named}
 use Rattle.xls_made.specs.Made.{made_word, made_stream, made_list, kept_row, made_kept, made_strings, row_cells, made_cells, made_head, made_view, IsMade}
 use Rattle.xls_made.proofs.CarryLemmas.{carries}
 use Rattle.xls_made.proofs.AscendingLemmas.{same_cells}
-use Rattle.xls_made.proofs.GivenLemmas.{one_cell, int_kept, word_kept, int_given, word_given}
+use Rattle.xls_made.proofs.GivenLemmas.{int_kept, word_kept, int_line, word_line}
 
 -- ---- the globals
 
@@ -33,12 +35,12 @@ classes : (n : ℕ) → classes_in default_options (made_list n) ≡ []
 classes n = refl
 
 -- the texts of the shared strings
-strings : (n : ℕ) → texts_in (made_list n) ≡ made_strings
+strings : (n : ℕ) → texts_in default_options (made_list n) ≡ made_strings
 unfolding utf16_chars
 strings n = refl
 
 -- the date system of 1900
-epoch : (n : ℕ) → is_1904_in (made_list n) ≡ false
+epoch : (n : ℕ) → is_1904_in default_options (made_list n) ≡ false
 epoch n = refl
 
 -- ---- the gifts of the rows
@@ -56,22 +58,24 @@ pub rows_below : (a n : ℕ) → a + n ≤ 65536 → AllByRecursion IsRow (range
 rows_below a zero h = tt
 rows_below a (suc n) h = (omega arith, rows_below (a + 1) n (omega arith))
 
--- the setting has no class, these strings, and the date system of 1900
-pub record IsSet (s : Setting) : Type 0 where
-  pub classes : s.force.classes ≡ []
-  pub strings : s.force.strings ≡ made_strings
-  pub epoch : s.force.is_1904 ≡ false
+-- cells are read under no class, these strings, and the date system of 1900
+pub record IsSet (c : CellContext) : Type 0 where
+  pub classes : c.classes ≡ []
+  pub strings : c.strings ≡ made_strings
+  pub epoch : c.is_1904 ≡ false
 
 -- the records of the rows give these, whatever stands before them
-gifts_along : (s : Setting) → IsSet s → (is : List ℕ) (before : List Kept) → AllByRecursion IsRow is
+gifts_along : (s : InForce) → IsSet s.cells → (is : List ℕ) (before : List Kept) → AllByRecursion IsRow is
     → map given_by (along (given_in s) before (flat_map kept_row is)) ≡ flat_map row_gifts is
 gifts_along s f [] before h = refl
 gifts_along s f (i ∷ is) before h =
     let middle = before ++ int_kept i ∷ [] in
     let after = middle ++ word_kept i ∷ [] in
     let others = map given_by (along (given_in s) after (flat_map kept_row is)) in
-    ap (λ (r : Result Given XlsError). given_by r ∷ given_by (given_in s middle (word_kept i)) ∷ others) (int_given s (last_formula before) i h.0 f.classes f.epoch)
-    ∙ ap (λ (r : Result Given XlsError). one_cell ((i, 0), int (pos i)) ∷ given_by r ∷ others) (word_given s (last_formula middle) i f.strings)
+    let added : List Kept → Result SheetRecord XlsError → Given =
+    λ (ks : List Kept) (r : Result SheetRecord XlsError). given_by (gives (adds s.formulas (last_formula s.cells ks)) r) in
+    ap (λ (r : Result SheetRecord XlsError). added before r ∷ given_by (given_in s middle (word_kept i)) ∷ others) (int_line s.cells i h.0 f.classes f.epoch)
+    ∙ ap (λ (r : Result SheetRecord XlsError). one_cell ((i, 0), int (pos i)) ∷ added middle r ∷ others) (word_line s.cells i f.strings)
     ∙ ap (λ (gs : List Given). one_cell ((i, 0), int (pos i)) ∷ one_cell ((i, 1), text (made_word i)) ∷ gs) (gifts_along s f is after h.1)
 
 -- the cells among the gifts
@@ -113,8 +117,8 @@ rows_ascend a (suc n) = (
 
 -- ---- the content
 
--- the setting of the list
-pub is_set : (n : ℕ) → IsSet (setting_of default_options (made_list n))
+-- those of the list are
+pub is_set : (n : ℕ) → IsSet (in_force_of default_options (made_list n)).cells
 is_set n = record { classes = classes n; strings = strings n; epoch = epoch n }
 
 -- views with equal parts are equal
@@ -128,9 +132,9 @@ same_view v w c f m =
 
 -- the content of the sheet is what was made
 content : (n : ℕ) → n ≤ 65536 → (v : SheetView)
-    → IsContent (setting_of default_options (made_list n)) (made_kept n) v → v ≡ made_view n
+    → IsContent (in_force_of default_options (made_list n)) (made_kept n) v → v ≡ made_view n
 content n h v c =
-    let s = setting_of default_options (made_list n) in
+    let s = in_force_of default_options (made_list n) in
     let is = range_with_len 0 n in
     let gifts : gifts_of s (made_kept n) ≡ flat_map row_gifts is =
     gifts_along s (is_set n) is [] (rows_below 0 n (omega arith)) in
@@ -149,7 +153,7 @@ content n h v c =
 
 -- it is the one content
 contents : (n : ℕ) → n ≤ 65536 → (views : List SheetView)
-    → AllZip (IsShown (setting_of default_options (made_list n)) (sheets_of default_options (made_list n))) views (sheets_of default_options (made_list n))
+    → AllZip (IsShown (in_force_of default_options (made_list n)) (sheets_of default_options (made_list n))) views (sheets_of default_options (made_list n))
     → views ≡ made_view n ∷ []
 contents n h [] a = absurd a
 contents n h (v ∷ []) a = ap (λ (w : SheetView). w ∷ []) (content n h v a.0)

@@ -75,7 +75,7 @@ sum_small n h = let product = product_small n (n - 1) h (omega arith) in omega a
 zero_left : (z : ℤ) → pos 0 +ℤ z ≡ z
 zero_left z = omega (arith, ints)
 
--- 0 behind one
+-- 0 after one
 zero_right : (z : ℤ) → z +ℤ pos 0 ≡ z
 zero_right z = omega (arith, ints)
 

@@ -1,8 +1,22 @@
 -- Known values, so that a wrong rule in the specs does not check.
 use Rattle.std.proofs.Common.{◌≡◌, ℕ, [], ◌∷◌, refl, None, lit<, arith}
 use Rattle.xls_model.specs.Stream.{Group, enc, group_bytes, Begins}
-use Rattle.xls_model.specs.Substreams.{none, plain, nested, Shape, own_closed, groups_in, outer_in, kept_groups}
+use Rattle.xls_model.specs.declared.types.TheConstants as types
+use Rattle.xls_model.specs.Listing.{globals_types}
+use Rattle.xls_model.specs.Substreams.{sheet_types, none, plain, nested, Shape, own_closed, groups_in, outer_in, kept_groups}
 use Rattle.xls_model.specs.Counting.{found_from}
+
+-- the types of records by their numbers in [MS-XLS]: BOF, EOF and Continue
+pub known_marks : types.BOF ∷ types.EOF ∷ types.CONTINUE ∷ [] ≡ 0x0809 ∷ 0x000A ∷ 0x003C ∷ []
+known_marks = refl
+
+-- BOF, FilePass, CodePage, DateMode, Format, XF, Lbl, ExternSheet, SST and BoundSheet8
+pub known_globals : globals_types ≡ 0x0809 ∷ 0x002F ∷ 0x0042 ∷ 0x0022 ∷ 0x041E ∷ 0x00E0 ∷ 0x0018 ∷ 0x0017 ∷ 0x00FC ∷ 0x0085 ∷ []
+known_globals = refl
+
+-- Number, Dimensions, Label, RString, BoolErr, String, RK, LabelSst, MulRk, MergeCells and Formula
+pub known_sheet : sheet_types ≡ 0x0203 ∷ 0x0200 ∷ 0x0204 ∷ 0x00D6 ∷ 0x0205 ∷ 0x0207 ∷ 0x027E ∷ 0x00FD ∷ 0x00BD ∷ 0x00E5 ∷ 0x0006 ∷ []
+known_sheet = refl
 
 -- an EOF record is its type and no byte
 pub eof_bytes : enc 10 [] ≡ 10 ∷ 0 ∷ 0 ∷ 0 ∷ []

@@ -72,7 +72,7 @@ fn needs_two(units: &[u16]) -> bool {
 }
 
 /// An SST record with the three strings, and a Continue record from the cut on; of these widths
-/// before and behind it.
+/// before and after it.
 fn cut_table(alloc: Global, at: usize, before: bool, after: bool) -> Result<Vec<u8>, AllocError> {
     let mut cut = Cut {
         left: at,
@@ -164,7 +164,7 @@ fn cuts(
             at = at.saturating_add(1);
         }
     }
-    // a cut behind the last byte: the empty piece is an empty string
+    // a cut after the last byte: the empty piece is an empty string
     let bytes = cut_table(alloc, at, before, after)?;
     assert_eq!(rt; skip_sst(&record_of(&bytes)?)?, 4);
     Ok(())

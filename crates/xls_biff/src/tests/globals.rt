@@ -2,12 +2,10 @@
 
 use super::*;
 use xls_data::{CellFormat, SheetType, SheetVisible};
-use xls_model::types::{BOF, BOUND_SHEET_8, EXTERN_SHEET, FORMAT, XF};
-
-fn version_of(alloc: Global, body: &[u8]) -> Result<Biff, XlsError> {
-    let bytes = bytes_of(alloc, BOF, body)?;
-    Ok(parse_bof(&record_of(&bytes)?)?.biff)
-}
+use xls_model::types::{
+    BOF, BOUND_SHEET_8, CODE_PAGE, DATE_MODE, EXTERN_SHEET, FILE_PASS, FORMAT, XF,
+};
+use xls_text::CfbError;
 
 /// BOF bodies, and their versions.
 const VERSIONS: [([u8; 4], Biff); 10] = [
@@ -26,16 +24,15 @@ const VERSIONS: [([u8; 4], Biff); 10] = [
 #[test]
 fn reads_versions(rt: HostRuntime) -> Result<(), Fail> {
     for (body, biff) in VERSIONS {
-        assert_eq!(rt; version_of(rt.alloc(), &body)?, biff);
+        assert_eq!(rt; parse_bof(&record(BOF, &body))?.biff, biff);
     }
-    assert_eq!(rt; version_of(rt.alloc(), &[0, 0])?, Biff::Biff8);
+    assert_eq!(rt; parse_bof(&record(BOF, &[0, 0]))?.biff, Biff::Biff8);
     Ok(())
 }
 
 #[test]
 fn reads_a_sheet(rt: HostRuntime) -> Result<(), Fail> {
-    let bytes = bytes_of(rt.alloc(), BOUND_SHEET_8, &[25, 0, 0, 0, 0, 0, 1, 0, 0x41])?;
-    let r = record_of(&bytes)?;
+    let r = record(BOUND_SHEET_8, &[25, 0, 0, 0, 0, 0, 1, 0, 0x41]);
     let (offset, sheet) = parse_sheet_metadata(rt.alloc(), &r, &UTF16, Biff::Biff8)?;
     assert_eq!(rt; (offset, sheet.typ), (25, SheetType::WorkSheet));
     assert_eq!(rt; sheet.visible, SheetVisible::Visible);
@@ -48,8 +45,7 @@ fn reads_a_sheet(rt: HostRuntime) -> Result<(), Fail> {
 fn drops_the_nuls_of_a_name(rt: HostRuntime) -> Result<(), Fail> {
     // the two high bits of byte 4 don't count
     let body = [0, 0, 0, 0, 0xC2, 6, 3, 1, 0x41, 0, 0, 0, 0x42, 0];
-    let bytes = bytes_of(rt.alloc(), BOUND_SHEET_8, &body)?;
-    let r = record_of(&bytes)?;
+    let r = record(BOUND_SHEET_8, &body);
     let (_, sheet) = parse_sheet_metadata(rt.alloc(), &r, &UTF16, Biff::Biff8)?;
     assert_eq!(rt; sheet.name.as_str(), "AB");
     assert_eq!(rt;
@@ -59,31 +55,29 @@ fn drops_the_nuls_of_a_name(rt: HostRuntime) -> Result<(), Fail> {
     Ok(())
 }
 
-fn sheet_fault(alloc: Global, state: u8, kind: u8) -> Result<Option<XlsError>, XlsError> {
-    let bytes = bytes_of(alloc, BOUND_SHEET_8, &[0, 0, 0, 0, state, kind])?;
-    let r = record_of(&bytes)?;
-    Ok(fault_of(parse_sheet_metadata(alloc, &r, &UTF16, Biff::Biff8)))
-}
+/// The high bits of byte 4, which don't count, and the faults of state and kind.
+const SHEETS: [(u8, u8, Part); 4] = [
+    (0x43, 3, Part::HsState),
+    (3, 0, Part::HsState),
+    (0x41, 3, Part::SheetKind),
+    (2, 3, Part::SheetKind),
+];
 
 #[test]
-fn refuses_other_states_before_other_kinds(rt: HostRuntime) -> Result<(), Fail> {
-    let wanted = XlsError::Unrecognized {
-        typ: Part::HsState,
-        val: 3,
-    };
-    assert_eq!(rt; sheet_fault(rt.alloc(), 0x43, 3)?, Some(wanted));
-    let wanted = XlsError::Unrecognized {
-        typ: Part::SheetKind,
-        val: 3,
-    };
-    assert_eq!(rt; sheet_fault(rt.alloc(), 0x41, 3)?, Some(wanted));
-    Ok(())
+fn refuses_other_states_before_other_kinds(rt: HostRuntime) {
+    for (state, kind, typ) in SHEETS {
+        let body = [0, 0, 0, 0, state, kind];
+        let r = record(BOUND_SHEET_8, &body);
+        let wanted = || -> Option<XlsError> { Some(XlsError::Unrecognized { typ, val: 3 }) };
+        let refused = fault_of(parse_sheet_metadata(rt.alloc(), &r, &UTF16, Biff::Biff8));
+        assert_eq!(rt; refused, wanted());
+        assert_eq!(rt; fault_of(check_sheet_metadata(&r, Biff::Biff8)), wanted());
+    }
 }
 
 #[test]
 fn reads_references(rt: HostRuntime) -> Result<(), Fail> {
-    let bytes = bytes_of(rt.alloc(), EXTERN_SHEET, &[2, 0, 0, 0, 1, 0, 1, 0])?;
-    let r = record_of(&bytes)?;
+    let r = record(EXTERN_SHEET, &[2, 0, 0, 0, 1, 0, 1, 0]);
     let refs = parse_extern_sheet(rt.alloc(), &r, Biff::Biff8)?;
     assert_eq!(rt; refs.len(), 1);
     assert_eq!(rt; (refs.first(0), refs.first(1)), (Some(1), None));
@@ -92,9 +86,12 @@ fn reads_references(rt: HostRuntime) -> Result<(), Fail> {
 }
 
 fn format_of(alloc: Global, biff: Biff, body: &[u8]) -> Result<(u16, CellFormat), XlsError> {
-    let bytes = bytes_of(alloc, FORMAT, body)?;
-    let r = record_of(&bytes)?;
-    parse_format(alloc, &r, &XlsEncoding::Windows1252, biff)
+    parse_format(
+        alloc,
+        &record(FORMAT, body),
+        &XlsEncoding::Windows1252,
+        biff,
+    )
 }
 
 #[test]
@@ -148,8 +145,22 @@ fn refuses_identifiers_outside_the_ranges(rt: HostRuntime) -> Result<(), Fail> {
 }
 
 #[test]
-fn reads_the_identifier_of_a_format(rt: HostRuntime) -> Result<(), Fail> {
-    let bytes = bytes_of(rt.alloc(), XF, &[0, 0, 0xA4, 0])?;
-    assert_eq!(rt; parse_xf(&record_of(&bytes)?)?, 164);
+fn reads_records_of_one_number(rt: HostRuntime) -> Result<(), Fail> {
+    assert_eq!(rt; parse_xf(&record(XF, &[0, 0, 0xA4, 0]))?, 164);
+    parse_file_pass(&record(FILE_PASS, &[0, 0]))?;
+    let refused = fault_of(parse_file_pass(&record(FILE_PASS, &[1, 0])));
+    assert_eq!(rt; refused, Some(XlsError::Password));
+    for (number, is_1904) in [([1, 0], true), ([0, 0], false), ([1, 1], false)] {
+        assert_eq!(rt; parse_date_mode(&record(DATE_MODE, &number))?, is_1904);
+    }
+    let page = parse_code_page(&record(CODE_PAGE, &[0xE4, 4]))?;
+    assert_eq!(rt; page, XlsEncoding::Windows1252);
+    let refused = fault_of(parse_code_page(&record(CODE_PAGE, &[0xB5, 1])));
+    assert_eq!(rt;
+        refused,
+        Some(XlsError::Cfb(CfbError::CodePageNotFound(437)))
+    );
+    let refused = fault_of(parse_code_page(&record(CODE_PAGE, &[0xE4])));
+    assert_eq!(rt; refused, too_short(Part::CodePage, 2, 1));
     Ok(())
 }

@@ -1,7 +1,6 @@
 //! String tables.
 
 use super::*;
-use crate::sst::text_of_units;
 use xls_data::Data;
 
 #[test]
@@ -90,18 +89,6 @@ fn steps_through_the_units(rt: HostRuntime) -> Result<(), Fail> {
         let refused = fault_of(reader.next_units(rt.alloc()));
         assert_eq!(rt; refused, too_short(Part::RichString, 3, 1));
     }
-    Ok(())
-}
-
-#[test]
-fn allocates_a_text_at_its_size(rt: HostRuntime) -> Result<(), Fail> {
-    // one, two and three bytes, a pair, and two surrogates alone
-    let units = [
-        0x7F, 0x80, 0x7FF, 0x800, 0xD83D, 0xDE00, 0xDE00, 0xFFFF, 0xD83D,
-    ];
-    let text = text_of_units(rt.alloc(), &units)?;
-    assert_eq!(rt; text.len(), 1 + 2 + 2 + 3 + 4 + 3 + 3 + 3);
-    assert_eq!(rt; text.capacity(), text.len());
     Ok(())
 }
 

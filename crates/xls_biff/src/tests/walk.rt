@@ -88,15 +88,12 @@ fn lists_grow_by_one(rt: HostRuntime) -> Result<(), Fail> {
 }
 
 #[test]
-fn weighs_and_checks_a_record(rt: HostRuntime) -> Result<(), Fail> {
-    let mul_rk = bytes_of(rt.alloc(), 0xBD, &[0; 12])?;
-    let r = record_of(&mul_rk)?;
+fn weighs_and_checks_a_record(rt: HostRuntime) {
+    let r = record(MUL_RK, &[0; 12]);
     assert_eq!(rt; sheet_record_weight(&r), 1);
     assert!(rt; check_sheet_record(&r, Biff::Biff8).is_ok());
-    let short = bytes_of(rt.alloc(), 0x027E, &[0, 0])?;
-    let refused = fault_of(check_sheet_record(&record_of(&short)?, Biff::Biff8));
+    let refused = fault_of(check_sheet_record(&record(RK, &[0, 0]), Biff::Biff8));
     assert_eq!(rt; refused, too_short(Part::Rk, 10, 2));
-    Ok(())
 }
 
 /// Types of records, and what a body of 20 zero bytes of each weighs.
@@ -116,22 +113,14 @@ const WEIGHTS: [(u16, u64); 12] = [
 ];
 
 #[test]
-fn weighs_a_cell_as_one(rt: HostRuntime) -> Result<(), Fail> {
+fn weighs_cells(rt: HostRuntime) {
     for (typ, weight) in WEIGHTS {
-        let bytes = bytes_of(rt.alloc(), typ, &[0; 20])?;
-        assert_eq!(rt; sheet_record_weight(&record_of(&bytes)?), weight);
+        assert_eq!(rt; sheet_record_weight(&record(typ, &[0; 20])), weight);
     }
-    Ok(())
-}
-
-#[test]
-fn weighs_a_row_as_its_cells(rt: HostRuntime) -> Result<(), Fail> {
     let three = [
         0, 0, 7, 0, 0, 0, 6, 0, 0, 0, 0, 0, 6, 0, 0, 0, 0, 0, 6, 0, 0, 0, 9, 0,
     ];
-    let bytes = bytes_of(rt.alloc(), MUL_RK, &three)?;
-    assert_eq!(rt; sheet_record_weight(&record_of(&bytes)?), 3);
-    Ok(())
+    assert_eq!(rt; sheet_record_weight(&record(MUL_RK, &three)), 3);
 }
 
 #[test]
@@ -154,16 +143,5 @@ fn lists_sixteen_bytes_a_line(rt: HostRuntime) -> Result<(), Fail> {
     let line = "AB AB AB AB AB AB AB AB AB AB AB AB AB AB AB AB \n";
     let wanted = format!(in rt.alloc(); "\nRecord = 0x0809, Length = 0x0011, 17\n{line}AB \n")?;
     assert_eq!(rt; shown.as_str(), wanted.as_str());
-    Ok(())
-}
-
-#[test]
-fn prints_a_refusal(rt: HostRuntime) -> Result<(), Fail> {
-    let error = too_short(Part::Rk, 65_536, 12).ok_or("no error")?;
-    let shown = format!(in rt.alloc(); "{error}")?;
-    assert_eq!(rt;
-        shown.as_str(),
-        "Invalid rk length, expected at least 65536, found 12"
-    );
     Ok(())
 }

@@ -3,7 +3,7 @@ use std::test::*;
 use xls_biff::Part;
 use xls_data::Data;
 
-// The formulas of a sheet, as `row,column=text` with a space behind each.
+// The formulas of a sheet, as `row,column=text` with a space after each.
 pub fn formulas(alloc: Global, book: &Xls, n: usize) -> Result<String, AllocError> {
     let mut text = String::new(alloc);
     if let Some(formulas) = book.formulas_at(n) {
@@ -39,7 +39,7 @@ fn a_refused_formula_says_why(rt: HostRuntime) -> Result<(), Fail> {
     Ok(())
 }
 
-// A String behind a Formula at (3, 0), and one before any Formula.
+// A String after a Formula at (3, 0), and one before any Formula.
 #[test]
 fn a_string_stands_at_the_last_formula(rt: HostRuntime) -> Result<(), Fail> {
     let alloc = rt.alloc();

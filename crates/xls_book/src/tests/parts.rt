@@ -121,7 +121,7 @@ fn a_nested_cell_is_not_counted(rt: HostRuntime) -> Result<(), Fail> {
     Ok(())
 }
 
-// A cell in the last row and column, and behind it one in the first.
+// A cell in the last row and column, and after it one in the first.
 #[test]
 fn a_far_cell_takes_little_memory(rt: HostRuntime) -> Result<(), Fail> {
     let alloc = rt.alloc();

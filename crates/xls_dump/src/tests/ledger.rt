@@ -5,7 +5,7 @@ use crate::made::generate_stream;
 
 // Three sheets: `Data` with numbers, shared texts, a date, a sum and a merged region; `Log` with a formula
 // whose text follows in a String, and an error; `Old`, which is hidden and empty. One defined name.
-const LEDGER: [u8; 609] = [
+pub const LEDGER: [u8; 609] = [
     0x09, 0x08, 0x10, 0x00, 0x00, 0x06, 0x05, 0x00, 0xBB, 0x0D, 0xCC, 0x07, 0x00, 0x00, 0x00, 0x00,
     0x06, 0x00, 0x00, 0x00, 0x42, 0x00, 0x02, 0x00, 0xB0, 0x04, 0x31, 0x00, 0x15, 0x00, 0xC8, 0x00,
     0x00, 0x00, 0xFF, 0x7F, 0x90, 0x01, 0x00, 0x00, 0x00, 0x00, 0x00, 0x00, 0x05, 0x00, 0x41, 0x72,
@@ -91,14 +91,8 @@ const OTHER_LAYOUT: [u8; 609] = [
     0x00,
 ];
 
-const LEDGER_SHEETS: &str =
+pub const LEDGER_SHEETS: &str =
     "sheet\tData\tworksheet\tvisible\nsheet\tLog\tworksheet\tvisible\nsheet\tOld\tworksheet\thidden\n";
-
-#[test]
-fn writes_the_sheets_of_the_ledger(rt: HostRuntime) -> Result<(), Fail> {
-    let case = quiet(&["sheets"], &LEDGER);
-    check(&rt, rt.alloc(), &case, 0, LEDGER_SHEETS.as_bytes())
-}
 
 #[test]
 fn writes_the_same_for_another_layout(rt: HostRuntime) -> Result<(), Fail> {
@@ -111,34 +105,6 @@ fn writes_the_same_for_another_layout(rt: HostRuntime) -> Result<(), Fail> {
         0,
         text.as_slice(),
     )
-}
-
-#[test]
-fn tells_what_a_made_stream_holds(rt: HostRuntime) -> Result<(), Fail> {
-    let four = b"rows\t4\ncells\t8\nsum\t6\n";
-    check(&rt, rt.alloc(), &quiet(&["generate", "4"], &THREE), 0, four)?;
-    let most = b"rows\t65536\ncells\t131072\nsum\t2147450880\n";
-    check(
-        &rt,
-        rt.alloc(),
-        &quiet(&["generate", "65536"], &THREE),
-        0,
-        most,
-    )
-}
-
-#[test]
-fn makes_no_stream_for_other_numbers(rt: HostRuntime) -> Result<(), Fail> {
-    for words in [
-        &["generate", "0"],
-        &["generate", "04"],
-        &["generate", "65537"],
-        &["generate", "+4"],
-        &["generate", ""],
-    ] {
-        check(&rt, rt.alloc(), &quiet(words, &THREE), 2, b"")?;
-    }
-    check(&rt, rt.alloc(), &quiet(&["generate"], &THREE), 2, b"")
 }
 
 // What is generated doesn't come from the source, whose first read would fail.

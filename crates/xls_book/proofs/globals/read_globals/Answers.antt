@@ -1,7 +1,8 @@
 use Rattle.std.proofs.Common.{arith}
 use Rattle.std.proofs.lemmas.Result.{err_from_is_err_and}
 use Rattle.xls_biff.specs.Walking.{group_of}
-use Rattle.xls_book.proofs.GlobalsLemmas.{nothing_given, globals_nothing, globals_more, step_refused, globals_cut, globals_eof, globals_end}
+use Rattle.xls_book.proofs.StateLemmas.{nothing_given}
+use Rattle.xls_book.proofs.GlobalsLemmas.{globals_nothing, globals_more, step_refused, globals_cut, globals_eof, globals_end}
 use Rattle.xls_book.proofs.globals.read_globals.Goals as goal
 
 pub loop-record-init : goal.loop-record-init

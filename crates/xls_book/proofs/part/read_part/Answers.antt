@@ -1,5 +1,7 @@
-use Rattle.std.proofs.Common.{subst, sym, refl}
+use Rattle.std.proofs.Common.{subst, sym, ap, ◌∙◌, refl, Option}
+use Rattle.std.specs.Prelude.{unwrap_or}
 use Rattle.std.proofs.lemmas.Result.{err_from_is_err_and}
+use Rattle.xls_biff.specs.Cells.{Position}
 use Rattle.xls_biff.specs.Walking.{group_of}
 use Rattle.xls_book.specs.Reading.{SheetView}
 use Rattle.xls_book.proofs.PartLemmas.{PartSoFar, part_more, record_refused, weight_refused, part_cut, part_end}
@@ -35,8 +37,8 @@ loop-record-preserved c =
     let steps = rw c.in_ok-record.was at c.in-Some.ensures.steps in (
       tt,
       tt,
-      part_more c.args.part.now l.record-iterator.0 c.next.new.self.0 l.record-iterator.1 c.next.new.self.1 c.args.options.now c.args.force.now l.content c.take.new.self l.room c.in_ok-room.room l.at c.place_behind-at.result (group_of c.in_ok-record.record) l.invariant.2 steps c.in_ok-take.ensures
-          c.in_ok-room.ensures c.place_behind-at.ensures,
+      part_more c.args.part.now l.record-iterator.0 c.next.new.self.0 l.record-iterator.1 c.next.new.self.1 c.args.options.now c.args.force.now l.content c.take.new.self l.room c.in_ok-room.room l.at c.unwrap_or-at.result (group_of c.in_ok-record.record) l.invariant.2 steps c.in_ok-take.ensures
+          c.in_ok-room.ensures (λ cells g h. c.unwrap_or-at.ensures ∙ ap (λ (o : Option Position). unwrap_or o l.at) (c.formula_position.ensures cells g h)),
     )
 
 pub returns : goal.returns

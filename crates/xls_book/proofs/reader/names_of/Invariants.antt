@@ -1,6 +1,6 @@
 use Rattle.std.proofs.Common.{◌≡◌, map, take}
 use Rattle.xls_data.specs.Sheets.{SheetContent, sheet_content}
-use Rattle.xls_biff.specs.Texts.{text_of}
+use Rattle.xls_strings.specs.Texts.{text_of}
 use Rattle.xls_book.proofs.reader.names_of.Given as goal
 
 -- the names of the sheets so far

@@ -3,7 +3,7 @@ use Rattle.std.proofs.lemmas.List.{length-take}
 use Rattle.std.proofs.KnownBytes.{Consumes-trans}
 use Rattle.xls_book.proofs.reading.read_by_pieces.Goals as goal
 
--- memory ran out behind a read: what it gave is taken
+-- memory ran out after a read: what it gave is taken
 pub returns-in_err-extend_from_slice-clause-front :
     goal.returns-in_err-extend_from_slice-clause-front
 returns-in_err-extend_from_slice-clause-front g c =

@@ -6,7 +6,7 @@ use Rattle.xls_book.specs.InForce.{class_in}
 use Rattle.xls_formula.specs.Defined.{named_of}
 use Rattle.xls_book.specs.Steps.{listed_of, last_place, told_of, AreGlobals, IsNaming}
 use Rattle.xls_book.proofs.NamingLemmas.{context_is}
-use Rattle.xls_book.proofs.OpenLemmas.{globals_refused, setting_is, refused_under, opened_under, all_ordered}
+use Rattle.xls_book.proofs.OpenLemmas.{globals_refused, force_is, refused_under, opened_under, all_ordered}
 use Rattle.xls_book.proofs.xls.open_stream.Goals as goal
 
 pub returns-in_err-globals : goal.returns-in_err-globals
@@ -25,7 +25,7 @@ returns-in_err-contents c =
     ∙ ap (λ fs. map (class_in fs) c.deref-2.result.now) c.deref.ensures.value
     ∙ ap (map (class_in c.globals.inside.formats.items)) c.deref-2.ensures.value in
     rw (p.1, p.2) (refused_under options c.args.stream.now (λ i. omega (arith, c.type_inv.stream i)) _ a _ _ c.in_err-contents.field-0.0
-    (setting_is options a.items _ c.deref-4.result.now _ a.state classes context) (ap (map listed_of) c.deref-5.ensures.value) c.in_err-contents.ensures)
+    (force_is options a.items _ c.deref-4.result.now _ a.state classes context) (ap (map listed_of) c.deref-5.ensures.value) c.in_err-contents.ensures)
 
 pub invariant_of-result : goal.invariant_of-result
 invariant_of-result c =
@@ -38,7 +38,7 @@ invariant_of-result c =
     ∙ ap (map (class_in c.globals.inside.formats.items)) c.deref-2.ensures.value in
     let listed = ap (map listed_of) c.deref-5.ensures.value in
     let o = opened_under options c.args.stream.now (λ i. omega (arith, c.type_inv.stream i)) _ a _ _ (map sheet_content c.in_ok-sheets.sheets.items) c.in_ok-contents.contents.items c.globals.inside.is_1904 c.in_ok-classes.classes.items (map told_of c.in_ok-naming.naming.told.items)
-    (setting_is options a.items _ c.deref-4.result.now _ a.state classes context) listed (c.in_ok-sheets.ensures ∙ ap (map (λ (q : ℕ × SheetContent). q.1)) (sym listed)) c.requires.kept c.in_ok-contents.ensures refl (sym c.deref-4.ensures.value) c.in_ok-naming.ensures.told in
+    (force_is options a.items _ c.deref-4.result.now _ a.state classes context) listed (c.in_ok-sheets.ensures ∙ ap (map (λ (q : ℕ × SheetContent). q.1)) (sym listed)) c.requires.kept c.in_ok-contents.ensures refl (sym c.deref-4.ensures.value) c.in_ok-naming.ensures.told in
     (o.1 ∙ length-map c.in_ok-sheets.sheets.items sheet_content, (λ name. c.in_ok-index.ensures name ∙ ap (λ ts. last_place ts name) c.deref-6.ensures.value), all_ordered options _ c.args.stream.now _ c.in_ok-contents.contents.items c.in_ok-contents.ensures)
 
 pub returns : goal.returns
@@ -52,4 +52,4 @@ returns c =
     ∙ ap (map (class_in c.globals.inside.formats.items)) c.deref-2.ensures.value in
     let listed = ap (map listed_of) c.deref-5.ensures.value in
     (opened_under options c.args.stream.now (λ i. omega (arith, c.type_inv.stream i)) _ a _ _ (map sheet_content c.in_ok-sheets.sheets.items) c.in_ok-contents.contents.items c.globals.inside.is_1904 c.in_ok-classes.classes.items (map told_of c.in_ok-naming.naming.told.items)
-    (setting_is options a.items _ c.deref-4.result.now _ a.state classes context) listed (c.in_ok-sheets.ensures ∙ ap (map (λ (q : ℕ × SheetContent). q.1)) (sym listed)) c.requires.kept c.in_ok-contents.ensures refl (sym c.deref-4.ensures.value) c.in_ok-naming.ensures.told).0
+    (force_is options a.items _ c.deref-4.result.now _ a.state classes context) listed (c.in_ok-sheets.ensures ∙ ap (map (λ (q : ℕ × SheetContent). q.1)) (sym listed)) c.requires.kept c.in_ok-contents.ensures refl (sym c.deref-4.ensures.value) c.in_ok-naming.ensures.told).0

@@ -4,7 +4,7 @@ use Rattle.xls_dump.proofs.report.put_merges.Goals as goal
 
 pub returns-in_err-put_merge : goal.returns-in_err-put_merge
 returns-in_err-put_merge g c =
-    puts-stop _ _ c.from_residual.result c.from_residual.ensures.1 (stops-item merge_line c.args.merges.now c.loop-region.region-index _ c.loop-region-test.true c.loop-region.invariant c.in_err-put_merge.ensures)
+    puts-stop _ c.from_residual.result c.from_residual.ensures.1 (stops-item merge_line c.args.merges.now c.loop-region.region-index _ c.loop-region-test.true c.loop-region.invariant c.in_err-put_merge.ensures)
 
 pub loop-region-preserved : goal.loop-region-preserved
 loop-region-preserved g c =

@@ -8,6 +8,5 @@ use Rattle.xls_dump.proofs.report.put_merges.Given as goal
 abbrev pub invariant-loop-region : goal.invariant-loop-region
 invariant-loop-region g l =
     let sink = g.K.Sink in
-    Gathers (sink.written l.fn.sink) (sink.faults l.fn.sink) (sink.takes l.fn.sink) l.fn.buffer
-    (sink.written l.sink) (sink.faults l.sink) (sink.takes l.sink) l.buffer
+    Gathers (sink.state l.fn.sink) l.fn.buffer (sink.state l.sink) l.buffer
     (flat_map merge_line (take l.region-index l.merges))

@@ -3,13 +3,12 @@ use Rattle.std.specs.List.{flat_map}
 use Rattle.xls_book.specs.Steps.{told_of}
 use Rattle.xls_dump.specs.Gathering.{Gathers}
 use Rattle.xls_dump.specs.Report.{name_line}
-use Rattle.xls_dump.proofs.ShownLemmas.{Named}
+use Rattle.xls_dump.proofs.TextLemmas.{Named}
 use Rattle.xls_dump.proofs.report.put_names.Given as goal
 
 -- the lines of the names so far are put
 abbrev pub invariant-loop-name : goal.invariant-loop-name
 invariant-loop-name g l =
     let sink = g.K.Sink in
-    Gathers (sink.written l.fn.sink) (sink.faults l.fn.sink) (sink.takes l.fn.sink) l.fn.buffer
-    (sink.written l.sink) (sink.faults l.sink) (sink.takes l.sink) l.buffer
+    Gathers (sink.state l.fn.sink) l.fn.buffer (sink.state l.sink) l.buffer
     (flat_map (λ (n : Named). name_line (told_of n)) (take l.name-index l.names))

@@ -9,6 +9,5 @@ use Rattle.xls_dump.proofs.report.put_sheets.Given as goal
 abbrev pub invariant-loop-sheet : goal.invariant-loop-sheet
 invariant-loop-sheet g l =
     let sink = g.K.Sink in
-    Gathers (sink.written l.fn.sink) (sink.faults l.fn.sink) (sink.takes l.fn.sink) l.fn.buffer
-    (sink.written l.sink) (sink.faults l.sink) (sink.takes l.sink) l.buffer
+    Gathers (sink.state l.fn.sink) l.fn.buffer (sink.state l.sink) l.buffer
     (flat_map (λ s. sheet_line (sheet_content s)) (take l.sheet-index l.sheets))

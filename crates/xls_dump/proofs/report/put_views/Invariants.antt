@@ -7,6 +7,5 @@ use Rattle.xls_dump.proofs.report.put_views.Given as goal
 abbrev pub invariant-loop-i : goal.invariant-loop-i
 invariant-loop-i g l =
     let sink = g.K.Sink in
-    Gathers (sink.written l.fn.sink) (sink.faults l.fn.sink) (sink.takes l.fn.sink) l.fn.buffer
-    (sink.written l.sink) (sink.faults l.sink) (sink.takes l.sink) l.buffer
+    Gathers (sink.state l.fn.sink) l.fn.buffer (sink.state l.sink) l.buffer
     (sheets_text (take l.i l.book.sheets) (take l.i l.book.contents))

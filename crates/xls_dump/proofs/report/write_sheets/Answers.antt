@@ -3,13 +3,13 @@ use Rattle.std.specs.List.{flat_map}
 use Rattle.xls_data.specs.Sheets.{SheetContent, sheet_content}
 use Rattle.xls_data.specs.declared.sheets.Sheet.{Sheet}
 use Rattle.xls_dump.specs.Report.{sheet_line}
-use Rattle.xls_dump.proofs.GatherLemmas.{delivers-stop, gathers-as, gathers-behind, gathers-from, stops-as, stops-behind, stops-from, wrote}
+use Rattle.xls_dump.proofs.GatherLemmas.{delivers-stop, gathers-as, gathers-after, gathers-from, stops-as, stops-after, stops-from, wrote}
 use Rattle.xls_dump.proofs.report.write_sheets.Goals as goal
 
--- the lines of the sheets as they are told
-all_sheets : (sheets : List Sheet) (told : List SheetContent) → map sheet_content sheets ≡ told
-    → flat_map (λ (s : Sheet). sheet_line (sheet_content s)) sheets ≡ flat_map sheet_line told
-all_sheets sheets told e = each sheets ∙ ap (flat_map sheet_line) e
+-- the lines of the sheets as their content says
+all_sheets : (sheets : List Sheet) (contents : List SheetContent) → map sheet_content sheets ≡ contents
+    → flat_map (λ (s : Sheet). sheet_line (sheet_content s)) sheets ≡ flat_map sheet_line contents
+all_sheets sheets contents e = each sheets ∙ ap (flat_map sheet_line) e
   where
     each : (ss : List Sheet) → flat_map (λ (s : Sheet). sheet_line (sheet_content s)) ss
         ≡ flat_map sheet_line (map sheet_content ss)
@@ -23,8 +23,8 @@ returns-in_err-put_sheets g c =
 pub returns-in_err-finish : goal.returns-in_err-finish
 returns-in_err-finish g c =
     let a = c.from_residual-in_err-finish in
-    delivers-stop a.result a.ensures.1 (stops-behind (gathers-from c.new-buffer.ensures (gathers-as c.in_ok-put_sheets.ensures (all_sheets _ _ c.sheets_metadata.ensures))) c.in_err-finish.ensures.puts)
+    delivers-stop a.result a.ensures.1 (stops-after (gathers-from c.new-buffer.ensures (gathers-as c.in_ok-put_sheets.ensures (all_sheets _ _ c.sheets_metadata.ensures))) c.in_err-finish.ensures.puts)
 
 pub returns : goal.returns
 returns g c =
-    wrote (gathers-behind (gathers-from c.new-buffer.ensures (gathers-as c.in_ok-put_sheets.ensures (all_sheets _ _ c.sheets_metadata.ensures))) c.in_ok-finish.ensures.puts) c.in_ok-finish.ensures.none
+    wrote (gathers-after (gathers-from c.new-buffer.ensures (gathers-as c.in_ok-put_sheets.ensures (all_sheets _ _ c.sheets_metadata.ensures))) c.in_ok-finish.ensures.puts) c.in_ok-finish.ensures.none

@@ -5,8 +5,8 @@ use Rattle.std.proofs.lemmas.Grind.{common_steps}
 use Rattle.xls_dump.proofs.PieceLemmas.{take-more, length-rest}
 use Rattle.xls_dump.proofs.sink.write_all.Goals as goal
 
-pub returns-in_err-at-clause-front : goal.returns-in_err-at-clause-front
-returns-in_err-at-clause-front g c =
+pub returns-in_err-at-clause-start : goal.returns-in_err-at-clause-start
+returns-in_err-at-clause-start g c =
     let at = c.loop-at.at in
     let piece = c.args.piece.now in (
       take at piece,
@@ -22,14 +22,10 @@ loop-at-preserved g c =
       within = grind (arith, common_steps);
       written = subst (Appends _ _) (take-more _ _ _) both;
       later = omega (arith, c.loop-at.invariant.later, c.in_ok-at.ensures.cause.later);
-      kept = λ n le t.
-          let was = c.loop-at.invariant.kept n le t in
+      takes = λ n le t.
+          let was = c.loop-at.invariant.takes n le t in
           let size = length-rest c.loop-at.at c.args.piece.now in
-          let now = c.in_ok-at.ensures.kept (n - c.loop-at.at) (omega (
-            arith,
-            size,
-            c.loop-at-test.true,
-          )) (omega (arith, size)) was.0 in
+          let now = c.in_ok-at.ensures.takes (n - c.loop-at.at) (omega (arith, size)) was.0 in
           let less : n - c.loop-at.at - c.in_ok-at.field-0 ≡ n - (c.loop-at.at + c.in_ok-at.field-0) = omega arith in
-          (subst (g.K.Sink.takes c.write.new.self) less now.1, now.2 ∙ was.1);
+          (subst (g.K.Sink.state c.write.new.self).takes less now.1, now.2 ∙ was.1);
     }

@@ -7,8 +7,8 @@ use Rattle.xls_made.proofs.RangeLemmas.{made_shows}
 use Rattle.xls_dump.proofs.summary.summary_of.Goals as goal
 
 -- the range is that of the sheet of the workbook that the stream opens to
-pub told-requires-clause-made : goal.told-requires-clause-made
-told-requires-clause-made c =
+pub summary_in-requires-clause-made : goal.summary_in-requires-clause-made
+summary_in-requires-clause-made c =
     let book = c.in-Ok.book in
     let opened = subst (IsOpened default_options book) (c.new-source.ensures ∙ c.in_ok-made_bytes.ensures) c.in-Ok.ensures.ok in
     let shown = c.in-Ok-worksheet_range.ensures.range in

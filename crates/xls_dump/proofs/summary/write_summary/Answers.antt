@@ -1,7 +1,7 @@
 use Rattle.std.proofs.Common.{append_assoc}
 use Rattle.std.specs.Prelude.{codes}
 use Rattle.xls_dump.specs.Summary.{count_line}
-use Rattle.xls_dump.proofs.GatherLemmas.{delivers-stop, gathers-as, gathers-behind, gathers-from, gathers-then, stops-as, stops-behind, stops-from, stops-more, stops-then, wrote}
+use Rattle.xls_dump.proofs.GatherLemmas.{delivers-stop, gathers-as, gathers-after, gathers-from, gathers-then, stops-as, stops-after, stops-from, stops-more, stops-then, wrote}
 use Rattle.xls_dump.proofs.summary.write_summary.Goals as goal
 
 pub returns-in_err-put_line : goal.returns-in_err-put_line
@@ -25,10 +25,10 @@ returns-in_err-finish g c =
     let a = c.from_residual-in_err-finish in
     let rows = gathers-from c.new-buffer.ensures c.in_ok-put_line.ensures in
     let all = gathers-as (gathers-then (gathers-then rows c.in_ok-put_line-2.ensures) c.in_ok-put_line-3.ensures) (append_assoc (count_line (codes "rows") c.args.summary.rows) _ _) in
-    delivers-stop a.result a.ensures.1 (stops-behind all c.in_err-finish.ensures.puts)
+    delivers-stop a.result a.ensures.1 (stops-after all c.in_err-finish.ensures.puts)
 
 pub returns : goal.returns
 returns g c =
     let rows = gathers-from c.new-buffer.ensures c.in_ok-put_line.ensures in
     let all = gathers-as (gathers-then (gathers-then rows c.in_ok-put_line-2.ensures) c.in_ok-put_line-3.ensures) (append_assoc (count_line (codes "rows") c.args.summary.rows) _ _) in
-    wrote (gathers-behind all c.in_ok-finish.ensures.puts) c.in_ok-finish.ensures.none
+    wrote (gathers-after all c.in_ok-finish.ensures.puts) c.in_ok-finish.ensures.none

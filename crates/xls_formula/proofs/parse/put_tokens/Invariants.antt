@@ -1,6 +1,6 @@
 use Rattle.std.proofs.Common.{◌≡◌, length}
-use Rattle.xls_formula.specs.Put.{put_all}
-use Rattle.xls_formula.specs.Scopes.{context_of}
+use Rattle.xls_formula.specs.buffer.Put.{put_all}
+use Rattle.xls_formula.specs.buffer.Scopes.{context_of}
 use Rattle.xls_formula.proofs.parse.put_tokens.Given as goal
 
 abbrev pub invariant-tokens : goal.invariant-tokens

@@ -1,5 +1,5 @@
 use Rattle.std.proofs.Common.{◌≡◌, ◌≤◌, ◌+◌, ◌-◌, length}
-use Rattle.xls_formula.specs.Put.{with_joins}
+use Rattle.xls_formula.specs.buffer.Put.{with_joins}
 use Rattle.xls_formula.proofs.put.put_call.Given as goal
 
 abbrev pub invariant-commas : goal.invariant-commas

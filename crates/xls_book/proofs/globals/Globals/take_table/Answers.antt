@@ -9,7 +9,7 @@ use Rattle.xls_book.proofs.globals.Globals.take_table.Goals as goal
 pub returns-in_err-self-inside : goal.returns-in_err-self-inside
 returns-in_err-self-inside c = λ shared h.
     let p = err_from_is_err_and c.from_residual.result c.from_residual.ensures.1 in
-    rw (p.1, p.2) (table_follows (group_of c.args.r.now) shared c.args.self.now c.in_err-self-inside.field-0.0 h c.in_err-self-inside.ensures)
+    rw (p.1, p.2) (table_follows (group_of c.args.r.now) shared c.args.self.now h c.in_err-self-inside.field-0.0 c.in_err-self-inside.ensures)
 
 pub returns : goal.returns
 returns c = λ shared h.
@@ -24,4 +24,4 @@ returns c = λ shared h.
       names = map named_of c.self.inside.names.items;
       sheets = map listed_of c.self.inside.listed.items;
     } in
-    rw (← c.self.view_is) (table_stepped (group_of c.args.r.now) shared before _ h c.in_ok-self-inside.ensures)
+    rw (← c.self.view_is) (table_stepped (group_of c.args.r.now) shared before h _ c.in_ok-self-inside.ensures)

@@ -1,13 +1,12 @@
 use Rattle.std.proofs.Common.{take}
 use Rattle.std.specs.List.{flat_map}
 use Rattle.xls_dump.specs.Gathering.{Gathers}
-use Rattle.xls_dump.specs.Lines.{shown_field}
+use Rattle.xls_dump.specs.Lines.{tabbed_field}
 use Rattle.xls_dump.proofs.buffer.Buffer.put_fields.Given as goal
 
 -- the fields so far are put
 abbrev pub invariant-loop-field : goal.invariant-loop-field
 invariant-loop-field g l =
     let sink = g.K.Sink in
-    Gathers (sink.written l.fn.sink) (sink.faults l.fn.sink) (sink.takes l.fn.sink) l.fn.self
-    (sink.written l.sink) (sink.faults l.sink) (sink.takes l.sink) l.self
-    (flat_map shown_field (take l.field-index l.fields))
+    Gathers (sink.state l.fn.sink) l.fn.self (sink.state l.sink) l.self
+    (flat_map tabbed_field (take l.field-index l.fields))

@@ -3,10 +3,10 @@ use Rattle.std.specs.Prelude.{IsUtf8, IfOk}
 use Rattle.std.specs.List.{concat}
 use Rattle.std.specs.Str.{chars}
 use Rattle.std.specs.String.{string_vec}
-use Rattle.xls_biff.specs.declared.error.XlsError.TheVariants.{InvalidFormula}
+use Rattle.xls_strings.specs.declared.error.XlsError.TheVariants.{InvalidFormula}
 use Rattle.xls_formula.specs.declared.buffer.Leaf.{Leaf}
-use Rattle.xls_formula.specs.Leaves.{leaf_texts}
-use Rattle.xls_formula.specs.Put.{one_text}
+use Rattle.xls_formula.specs.buffer.Leaves.{leaf_texts}
+use Rattle.xls_formula.specs.buffer.Put.{one_text}
 use Rattle.xls_formula.proofs.OperandLemmas.{length-texts_of, alone_texts, alone_utf8}
 use Rattle.xls_formula.proofs.PutLemmas.{not_one}
 use Rattle.xls_formula.proofs.buffer.Operands.into_text.Goals as goal

@@ -3,8 +3,8 @@ use Rattle.std.specs.Str.{chars}
 use Rattle.std.proofs.lemmas.List.{length_push}
 use Rattle.std.proofs.lemmas.Result.{on_ok_weaker}
 use Rattle.xls_formula.specs.declared.buffer.Leaf.{Leaf}
-use Rattle.xls_formula.specs.Leaves.{texts_of}
-use Rattle.xls_formula.specs.Pieces.{with_join}
+use Rattle.xls_formula.specs.buffer.Leaves.{texts_of}
+use Rattle.xls_formula.specs.buffer.Pieces.{with_join}
 use Rattle.xls_formula.proofs.LeafLemmas.{IsMarked}
 use Rattle.xls_formula.proofs.GroupLemmas.{pushed_is_top}
 use Rattle.xls_formula.proofs.OperandLemmas.{length-texts_of, start_within, put_of, joined_operands, joined_texts}

@@ -1,7 +1,7 @@
 use Rattle.std.proofs.Common.{◌≡◌, ◌++◌, ◌∷◌, [], ℕ, List, sym, ◌∙◌, ap, subst, length, arith, refl}
 use Rattle.std.specs.Prelude.{OnOk}
 use Rattle.xls_formula.specs.declared.buffer.Leaf.{Leaf}
-use Rattle.xls_formula.specs.Leaves.{texts_of, AreOperands}
+use Rattle.xls_formula.specs.buffer.Leaves.{texts_of, AreOperands}
 use Rattle.xls_formula.proofs.OperandLemmas.{pushed_operands, pushed_texts}
 use Rattle.xls_formula.proofs.buffer.Operands.push_empty.Goals as goal
 use Rattle.xls_formula.proofs.buffer.Operands.push_empty.Goals.{in-Ok, in-Err}

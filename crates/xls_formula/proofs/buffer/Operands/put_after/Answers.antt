@@ -2,8 +2,8 @@ use Rattle.std.proofs.Common.{◌≡◌, ◌<◌, ◌+◌, ◌-◌, ◌≤◌, �
 use Rattle.std.proofs.Math.ListN.{set}
 use Rattle.std.specs.Str.{chars}
 use Rattle.xls_formula.specs.declared.buffer.Leaf.{Leaf}
-use Rattle.xls_formula.specs.Leaves.{texts_of, AreOperands}
-use Rattle.xls_formula.specs.Pieces.{with_suffix}
+use Rattle.xls_formula.specs.buffer.Leaves.{texts_of, AreOperands}
+use Rattle.xls_formula.specs.buffer.Pieces.{with_suffix}
 use Rattle.xls_formula.proofs.LeafLemmas.{IsLonger, leaf_within}
 use Rattle.xls_formula.proofs.OperandLemmas.{length-texts_of, leaf_there, suffixed_operands, suffixed_texts}
 use Rattle.xls_formula.proofs.buffer.Operands.put_after.Goals as goal

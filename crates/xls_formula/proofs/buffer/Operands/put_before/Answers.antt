@@ -3,8 +3,8 @@ use Rattle.std.specs.List.{slice_get}
 use Rattle.std.specs.Str.{chars}
 use Rattle.std.proofs.lemmas.Result.{on_ok_weaker}
 use Rattle.xls_formula.specs.declared.buffer.Leaf.{Leaf}
-use Rattle.xls_formula.specs.Leaves.{texts_of}
-use Rattle.xls_formula.specs.Pieces.{with_prefix}
+use Rattle.xls_formula.specs.buffer.Leaves.{texts_of}
+use Rattle.xls_formula.specs.buffer.Pieces.{with_prefix}
 use Rattle.xls_formula.proofs.LeafLemmas.{IsMarked}
 use Rattle.xls_formula.proofs.GroupLemmas.{last_is_top}
 use Rattle.xls_formula.proofs.OperandLemmas.{start_within, put_of, prefixed_operands, prefixed_texts}

@@ -1,0 +1,87 @@
+-- Where Formulas stand.
+use Rattle.std.proofs.Common.{◌≡◌, ◌≢◌, ℕ, ◌≤◌, List, [], ◌∷◌, length, take, drop, refl, sym, ap, ◌∙◌, arith, Bool, true, false, Option, Some, None, Result, Ok, Err}
+use Rattle.std.specs.Prelude.{◌==◌, ◌||◌, nat_lt, if◌then◌else◌}
+use Rattle.xls_model.specs.declared.part.Part.TheVariants as parts
+use Rattle.xls_data.specs.Content.{Content}
+use Rattle.xls_data.specs.declared.formats.CellFormat.{CellFormat}
+use Rattle.xls_strings.specs.declared.error.XlsError.{XlsError}
+use Rattle.xls_strings.specs.declared.error.XlsError.TheVariants.{Len}
+use Rattle.xls_strings.specs.Reading.{◌>>=◌, ◌>>◌, gives}
+use Rattle.xls_strings.specs.Strings.{string_at}
+use Rattle.xls_strings.proofs.ReadingLemmas.{gives-ok}
+use Rattle.xls_biff.specs.Cells.{Position, position_at, class_at}
+use Rattle.xls_biff.specs.Records.BoolErr.{bool_err_at}
+use Rattle.xls_biff.specs.Records.Dimensions.{dimensions_at}
+use Rattle.xls_biff.specs.Records.Formula.{formula_value_at, formula_at}
+use Rattle.xls_biff.specs.Records.Label.{label_at}
+use Rattle.xls_biff.specs.Records.LabelSst.{label_sst_at}
+use Rattle.xls_biff.specs.Records.MergeCells.{merges_at}
+use Rattle.xls_biff.specs.Records.Number.{number_at}
+use Rattle.xls_biff.specs.Records.Rk.{mul_rk_at, rk_at}
+use Rattle.xls_biff.specs.SheetTable.{CellContext, SheetRecord, cells_record, shared_record, string_record, formula_record, regions_record, empty_record, sheet_record_at, formula_position, position_in}
+
+-- ---- a Formula
+
+-- what a Formula without a fault is
+record Stands (body : List ℕ) (f : Position × Option Content × List ℕ) : Type 0 where
+  pub long : 20 ≤ length body
+  pub place : f.0 ≡ position_at body
+
+stands : (cs : List CellFormat) (b : Bool) (body : List ℕ) (f : Position × Option Content × List ℕ)
+    → formula_at cs b body ≡ Ok f → Stands body f
+stands cs b body f h = by_test (nat_lt (length body) 20) refl
+  where
+    long : nat_lt (length body) 20 ≡ false → 20 ≤ length body
+    long t = grind arith
+
+    found : 20 ≤ length body → (r : Result (Option Content) XlsError)
+        → (r >>= (λ v. Ok (position_at body, v, drop 20 body))) ≡ Ok f → Stands body f
+    found l (Ok v) e =
+        let same : (position_at body, v, drop 20 body) ≡ f = cc in
+        record { long = l; place = ap (λ (x : Position × Option Content × List ℕ). x.0) (sym same) }
+    found l (Err e) h = absurd cc
+
+    by_test : (t : Bool) → nat_lt (length body) 20 ≡ t → Stands body f
+    by_test true t = absurd (let e : ◌≡◌ {A = Result (Position × Option Content × List ℕ) XlsError} (Err (Len 20 (length body) parts.Formula)) (Ok f) = rw t at h in cc)
+    by_test false t = found (long t) (formula_value_at (class_at cs body) b (take 8 (drop 6 body))) (rw t at h)
+
+pub at_formula : (force : CellContext) (body : List ℕ) (place : Option Position)
+    → (4 ≤ length body → place ≡ Some (position_at body)) → (g : SheetRecord)
+    → sheet_record_at force 6 body ≡ Ok g → place ≡ formula_position g
+at_formula force body place is g h =
+    let f = gives-ok (λ f. formula_record f.0 f.1 f.2) (formula_at force.classes force.is_1904 body) g h in
+    let s = stands force.classes force.is_1904 body f.0 f.1 in
+    let long = s.long in
+    is (omega (arith, long)) ∙ ap (λ (p : Position). Some p) (sym s.place) ∙ ap formula_position f.2
+
+-- ---- another record
+
+choice : (t : Bool) (a b : Result SheetRecord XlsError) → position_in a ≡ None → position_in b ≡ None
+    → position_in (if t then a else b) ≡ None
+choice true a b h k = h
+choice false a b h k = k
+
+none : {X : Type 0} (f : X → SheetRecord) → ((x : X) → formula_position (f x) ≡ None)
+    → (r : Result X XlsError) → position_in (gives f r) ≡ None
+none f h (Ok x) = h x
+none f h (Err e) = refl
+
+no_place : (force : CellContext) (typ : ℕ) (body : List ℕ) → (typ == 6) ≡ false
+    → position_in (sheet_record_at force typ body) ≡ None
+no_place force typ body other =
+    choice (typ == 515) _ _ (none _ (λ c. refl) (number_at force.classes force.is_1904 body))
+    (choice (typ == 638) _ _ (none _ (λ c. refl) (rk_at force.classes force.is_1904 body))
+    (choice (typ == 189) _ _ (none _ (λ c. refl) (mul_rk_at force.classes force.is_1904 body))
+    (choice (typ == 517) _ _ (none _ (λ c. refl) (bool_err_at body))
+    (choice (typ == 516 || typ == 214) _ _ (none _ (λ c. refl) (label_at force.page force.version body))
+    (choice (typ == 253) _ _ (none _ (λ c. refl) (label_sst_at force.strings body))
+    (choice (typ == 519) _ _ (none _ (λ c. refl) (string_at force.page force.version body))
+    (rw other (choice (typ == 229) _ _ (none _ (λ c. refl) (merges_at body))
+    (choice (typ == 512) _ _ (none _ (λ c. refl) (dimensions_at body)) refl)))))))))
+
+pub elsewhere : (force : CellContext) (typ : ℕ) (body : List ℕ) (g : SheetRecord) → (typ == 6) ≡ false
+    → sheet_record_at force typ body ≡ Ok g → None ≡ formula_position g
+elsewhere force typ body g other h = sym (no_place force typ body other) ∙ ap position_in h
+
+pub apart : (typ : ℕ) → typ ≢ 6 → (typ == 6) ≡ false
+apart typ other = grind arith

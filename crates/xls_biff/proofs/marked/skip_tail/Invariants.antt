@@ -1,9 +1,0 @@
-use Rattle.std.proofs.Common.{length, ◌≡◌}
-use Rattle.xls_model.specs.StringTable.{tail_at}
-use Rattle.xls_biff.proofs.marked.skip_tail.Given as goal
-
-abbrev pub invariant-loop-left : goal.invariant-loop-left
-invariant-loop-left l = tail_at l.left l.text ≡ tail_at l.fn.count l.fn.text
-
-abbrev pub decreases-loop-left : goal.decreases-loop-left
-decreases-loop-left l = length l.text

@@ -1,0 +1,21 @@
+-- BoolErr ([MS-XLS] BoolErr): row, column, XF index, and a Bes.
+use Rattle.std.specs.Prelude.{ℕ, List, ◌==◌, if◌then◌else◌, slice_index, Result, Ok, Err}
+use Rattle.xls_model.specs.declared.part.Part.TheVariants as parts
+use Rattle.xls_data.specs.Content.{Content, failure}
+use Rattle.xls_strings.specs.declared.error.XlsError.{XlsError}
+use Rattle.xls_strings.specs.declared.error.XlsError.TheVariants.{Unrecognized}
+use Rattle.xls_strings.specs.Reading.{◌>>=◌, ◌>>◌, at_least, gives}
+use Rattle.xls_biff.specs.Cells.{Entry, cell_error, position_at, truth_of}
+
+-- Bes ([MS-XLS] Bes): a byte (bBoolErr), and whether it is an error's code (fError)
+abbrev pub bes_content : ℕ → ℕ → Result Content XlsError
+bes_content byte is_error =
+    if is_error == 0 then Ok (truth_of byte)
+    else if is_error == 1 then gives failure (cell_error byte)
+    else Err (Unrecognized parts.FError is_error)
+
+abbrev pub bool_err_at : List ℕ → Result Entry XlsError
+bool_err_at body = do
+  at_least 8 parts.BoolErr body
+  content ← bes_content (slice_index body 6) (slice_index body 7)
+  Ok (position_at body, content)

@@ -1,0 +1,13 @@
+-- FilePass ([MS-XLS] 2.4.117): the kind of encryption in bytes 0 and 1. A kind other than 0 is a
+-- password, and nothing is read under one.
+use Rattle.std.specs.Prelude.{ℕ, List, ◌==◌, if◌then◌else◌, take, Result, Ok, Err}
+use Rattle.xls_bytes.specs.Numbers.{le}
+use Rattle.xls_model.specs.declared.part.Part.TheVariants as parts
+use Rattle.xls_strings.specs.declared.error.XlsError.{XlsError}
+use Rattle.xls_strings.specs.declared.error.XlsError.TheVariants.{Password}
+use Rattle.xls_strings.specs.Reading.{◌>>◌, at_least}
+
+abbrev pub file_pass_at : List ℕ → Result (Unit {0}) XlsError
+file_pass_at body = do
+  at_least 2 parts.FilePass body
+  if le (take 2 body) == 0 then Ok tt else Err Password

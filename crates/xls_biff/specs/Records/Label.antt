@@ -1,0 +1,16 @@
+-- Label ([MS-XLS] 2.4.148), and RString likewise: row, column, XF index, and a string.
+use Rattle.std.specs.Prelude.{ℕ, List, drop, Result, Ok}
+use Rattle.xls_text.specs.declared.encoding.XlsEncoding.{XlsEncoding}
+use Rattle.xls_model.specs.declared.part.Part.TheVariants as parts
+use Rattle.xls_data.specs.Content.{text}
+use Rattle.xls_strings.specs.declared.version.Biff.{Biff}
+use Rattle.xls_strings.specs.declared.error.XlsError.{XlsError}
+use Rattle.xls_strings.specs.Reading.{◌>>=◌, ◌>>◌, at_least}
+use Rattle.xls_strings.specs.Strings.{string_at}
+use Rattle.xls_biff.specs.Cells.{Entry, position_at}
+
+abbrev pub label_at : XlsEncoding → Biff → List ℕ → Result Entry XlsError
+label_at page biff body = do
+  at_least 6 parts.Label body
+  cs ← string_at page biff (drop 6 body)
+  Ok (position_at body, text cs)

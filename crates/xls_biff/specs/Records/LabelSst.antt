@@ -1,0 +1,15 @@
+-- LabelSst ([MS-XLS] LabelSst): row, column, XF index, and the index (isst) of a string of the table in
+-- bytes 6 to 9; no cell where the table has no such string.
+use Rattle.std.specs.Prelude.{ℕ, List, take, drop, slice_get, Option, Result, Ok}
+use Rattle.std.specs.Option.{option_map}
+use Rattle.xls_bytes.specs.Numbers.{le}
+use Rattle.xls_model.specs.declared.part.Part.TheVariants as parts
+use Rattle.xls_data.specs.Content.{text}
+use Rattle.xls_strings.specs.declared.error.XlsError.{XlsError}
+use Rattle.xls_strings.specs.Reading.{◌>>◌, at_least}
+use Rattle.xls_biff.specs.Cells.{Entry, position_at}
+
+abbrev pub label_sst_at : List (List ℕ) → List ℕ → Result (Option Entry) XlsError
+label_sst_at strings body = do
+  at_least 10 parts.LabelSst body
+  Ok (option_map (λ cs. (position_at body, text cs)) (slice_get strings (le (take 4 (drop 6 body)))))

@@ -1,0 +1,15 @@
+-- Number ([MS-XLS] Number): row, column, XF index, and the bits of a double in bytes 6 to 13.
+use Rattle.std.specs.Prelude.{ℕ, List, Bool, take, drop, Result, Ok}
+use Rattle.xls_bytes.specs.Numbers.{le}
+use Rattle.xls_model.specs.declared.part.Part.TheVariants as parts
+use Rattle.xls_data.specs.Formatted.{formatted_number}
+use Rattle.xls_data.specs.declared.numbers.Number.TheVariants.{Bits}
+use Rattle.xls_data.specs.declared.formats.CellFormat.{CellFormat}
+use Rattle.xls_strings.specs.declared.error.XlsError.{XlsError}
+use Rattle.xls_strings.specs.Reading.{◌>>◌, at_least}
+use Rattle.xls_biff.specs.Cells.{Entry, class_at, position_at}
+
+abbrev pub number_at : List CellFormat → Bool → List ℕ → Result Entry XlsError
+number_at formats is_1904 body = do
+  at_least 14 parts.Number body
+  Ok (position_at body, formatted_number (class_at formats body) (Bits (le (take 8 (drop 6 body)))) is_1904)

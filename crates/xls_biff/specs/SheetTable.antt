@@ -1,0 +1,81 @@
+-- The records of a sheet: what each gives, or its first fault. One line a type.
+use Rattle.std.specs.Prelude.{ℕ, List, [], ◌∷◌, Bool, ◌==◌, ◌||◌, if◌then◌else◌, length, Option, Some, None, Result, Ok, Err}
+use Rattle.xls_text.specs.declared.encoding.XlsEncoding.{XlsEncoding}
+use Rattle.xls_model.specs.declared.types.TheConstants as types
+use Rattle.xls_data.specs.Content.{Content}
+use Rattle.xls_data.specs.declared.regions.Dimensions.{Dimensions}
+use Rattle.xls_data.specs.declared.formats.CellFormat.{CellFormat}
+use Rattle.xls_strings.specs.declared.version.Biff.{Biff}
+use Rattle.xls_strings.specs.declared.error.XlsError.{XlsError}
+use Rattle.xls_strings.specs.Reading.{gives}
+use Rattle.xls_strings.specs.Strings.{string_at}
+use Rattle.xls_biff.specs.Cells.{Entry, Position}
+use Rattle.xls_biff.specs.Records.BoolErr.{bool_err_at}
+use Rattle.xls_biff.specs.Records.Dimensions.{dimensions_at}
+use Rattle.xls_biff.specs.Records.Formula.{formula_at}
+use Rattle.xls_biff.specs.Records.Label.{label_at}
+use Rattle.xls_biff.specs.Records.LabelSst.{label_sst_at}
+use Rattle.xls_biff.specs.Records.MergeCells.{merges_at}
+use Rattle.xls_biff.specs.Records.Number.{number_at}
+use Rattle.xls_biff.specs.Records.Rk.{mul_rk_at, rk_at}
+
+-- what the records of a sheet are read under: page and version, classes by XF index, strings of the
+-- table and date system
+pub record CellContext : Type 0 where
+  pub page : XlsEncoding
+  pub version : Biff
+  pub classes : List CellFormat
+  pub strings : List (List ℕ)
+  pub is_1904 : Bool
+
+-- what a record of a sheet gives
+pub data SheetRecord : Type 0 where
+  -- nothing: Dimensions, and each type that isn't named here
+  empty_record : SheetRecord
+  -- cells: Number, RK, MulRk, BoolErr, Label, RString
+  cells_record : (cs : List Entry) → SheetRecord
+  -- a cell of a text of the table: LabelSst, none where its index is outside
+  shared_record : (c : Option Entry) → SheetRecord
+  -- the text of the Formula before it: String
+  string_record : (cs : List ℕ) → SheetRecord
+  -- a position, a value, if the record has one, and tokens: Formula
+  formula_record : (at : Position) (value : Option Content) (tokens : List ℕ) → SheetRecord
+  -- regions: MergeCells
+  regions_record : (rs : List Dimensions) → SheetRecord
+
+abbrev pub sheet_record_at : CellContext → ℕ → List ℕ → Result SheetRecord XlsError
+sheet_record_at force typ body =
+    if typ == types.NUMBER
+    then gives (λ c. cells_record (c ∷ [])) (number_at force.classes force.is_1904 body)
+    else if typ == types.RK
+    then gives (λ c. cells_record (c ∷ [])) (rk_at force.classes force.is_1904 body)
+    else if typ == types.MUL_RK then gives cells_record (mul_rk_at force.classes force.is_1904 body)
+    else if typ == types.BOOL_ERR then gives (λ c. cells_record (c ∷ [])) (bool_err_at body)
+    else if typ == types.LABEL || typ == types.R_STRING
+    then gives (λ c. cells_record (c ∷ [])) (label_at force.page force.version body)
+    else if typ == types.LABEL_SST then gives shared_record (label_sst_at force.strings body)
+    else if typ == types.STRING then gives string_record (string_at force.page force.version body)
+    else if typ == types.FORMULA
+    then gives (λ f. formula_record f.0 f.1 f.2) (formula_at force.classes force.is_1904 body)
+    else if typ == types.MERGE_CELLS then gives regions_record (merges_at body)
+    else if typ == types.DIMENSIONS then gives (λ d. empty_record) (dimensions_at body)
+    else Ok empty_record
+
+-- how many cells a record weighs; a Formula and a LabelSst count as one even where they give none
+abbrev pub weight_of : SheetRecord → ℕ
+weight_of empty_record = 0
+weight_of (cells_record cs) = length cs
+weight_of (shared_record c) = 1
+weight_of (string_record cs) = 1
+weight_of (formula_record at value tokens) = 1
+weight_of (regions_record rs) = 0
+
+-- where a Formula stands
+abbrev pub formula_position : SheetRecord → Option Position
+formula_position (formula_record at value tokens) = Some at
+formula_position g = None
+
+-- likewise by its line of the table
+abbrev pub position_in : Result SheetRecord XlsError → Option Position
+position_in (Ok g) = formula_position g
+position_in (Err e) = None

@@ -1,0 +1,19 @@
+//! FilePass.
+
+ghost use Rattle.xls_strings.specs.Reading.{Exactly};
+ghost use Rattle.xls_biff.specs.Records.FilePass.{file_pass_at};
+
+use xls_bytes::read_u16;
+use xls_strings::{Part, Record, XlsError, need};
+
+/// Nothing, where a FilePass record, [MS-XLS] 2.4.117, names no encryption: its first 16-bit number is
+/// 0. `Len` for a body of fewer than 2 bytes, `Password` for every other number. Takes no memory.
+pub fn parse_file_pass(r: &Record<'_>) -> Result<(), XlsError>
+    ensures { Exactly (λ u. u) result (file_pass_at r.now.body.now) }
+{
+    need(r.body, 2, Part::FilePass)?;
+    if read_u16(r.body) != 0 {
+        return Err(XlsError::Password);
+    }
+    Ok(())
+}

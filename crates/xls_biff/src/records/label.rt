@@ -1,0 +1,38 @@
+//! Label and RString.
+
+ghost use Rattle.xls_text.specs.declared.encoding.XlsEncoding.{XlsEncoding};
+ghost use Rattle.xls_strings.specs.Reading.{Exactly, Gives, fault_in};
+ghost use Rattle.xls_biff.specs.Cells.{entry_of};
+ghost use Rattle.xls_biff.specs.Records.Label.{label_at};
+
+use crate::cells::position_of;
+use std::alloc::Global;
+use xls_data::{Cell, Data};
+use xls_strings::{Biff, Part, XlsError, need, parse_string, split_string};
+use xls_text::XlsEncoding;
+
+/// The cell of the body of a Label, [MS-XLS] 2.4.148, or of an RString: row, column, XF index and a
+/// string. `Len` for fewer than 6 bytes and as `parse_string` says; else only running out of memory.
+pub fn parse_label(
+    alloc: Global,
+    r: &[u8],
+    encoding: &XlsEncoding,
+    biff: Biff,
+) -> Result<Cell<Data>, XlsError>
+    ensures { Gives entry_of result (label_at encoding.now biff r.now) }
+{
+    need(r, 6, Part::Label)?;
+    let (_, string) = r.split_at(6);
+    let text = parse_string(alloc, string, encoding, biff)?;
+    Ok(Cell::new(position_of(r), Data::String(text)))
+}
+
+/// The fault of `parse_label`, under all pages. Takes no memory.
+pub(crate) fn check_label(r: &[u8], biff: Biff) -> Result<(), XlsError>
+    ensures { (page : XlsEncoding) → Exactly (λ u. u) result (fault_in (label_at page biff r.now)) }
+{
+    need(r, 6, Part::Label)?;
+    let (_, string) = r.split_at(6);
+    split_string(string, biff)?;
+    Ok(())
+}

@@ -1,0 +1,71 @@
+//! MergeCells.
+
+ghost use Rattle.std.specs.Prelude.{◌≡◌, ◌+◌, ◌*◌, ◌≤◌, length, map, OnOk, IfOk};
+ghost use Rattle.std.specs.List.{range_with_len};
+ghost use Rattle.xls_strings.specs.Reading.{Adds, Appends, Exactly, IsLonger, fault_in};
+ghost use Rattle.xls_biff.specs.Records.MergeCells.{merge_count, merges_at, region_at};
+
+use crate::fields::u16_at;
+use std::alloc::AllocError;
+use xls_bytes::read_u16;
+use xls_data::Dimensions;
+use xls_strings::{Part, XlsError, need};
+
+/// The number of regions of a MergeCells record. Takes no memory.
+fn count_merges(r: &[u8]) -> Result<usize, XlsError>
+    ensures exact { Exactly (λ n. n) result (merge_count r.now) }
+    ensures sized { IfOk result (λ n. 2 + 8 * n ≤ length r.now) }
+{
+    need(r, 2, Part::MergeCells)?;
+    let count = usize::from(read_u16(r));
+    need(r, 2 + 8 * count, Part::MergeCells)?;
+    Ok(count)
+}
+
+/// The region of a number, counted from 0.
+fn region(r: &[u8], i: usize) -> Dimensions
+    requires { 10 + 8 * i ≤ length r.now }
+    ensures { result ≡ region_at r.now i }
+{
+    let top = u32::from(u16_at(r, 2 + 8 * i));
+    let bottom = u32::from(u16_at(r, 4 + 8 * i));
+    let left = u32::from(u16_at(r, 6 + 8 * i));
+    let right = u32::from(u16_at(r, 8 + 8 * i));
+    Dimensions::new((top, left), (bottom, right))
+}
+
+/// Appends so many regions; an error may leave some.
+fn push_merges(r: &[u8], count: usize, merges: &mut Vec<Dimensions>) -> Result<(), AllocError>
+    requires { 2 + 8 * count ≤ length r.now }
+    ensures ok { OnOk result (Adds (λ d. d) merges.old.items merges.new.items
+        (map (region_at r.now) (range_with_len 0 count))) }
+    ensures grown { IsLonger merges.old.items merges.new.items }
+{
+    for i in 0..count {
+        merges.push(region(r, i))?;
+    }
+    Ok(())
+}
+
+/// Appends the regions of a MergeCells record's body: a count, and for each region its first row, last
+/// row, first column and last column. `Len` for fewer than 2 bytes, and for fewer than so many
+/// regions take. After a refusal, out of memory too, `merges` is as it was.
+pub fn parse_merge_cells(r: &[u8], merges: &mut Vec<Dimensions>) -> Result<(), XlsError>
+    ensures { Appends (λ d. d) merges.old.items result merges.new.items (merges_at r.now) }
+{
+    let count = count_merges(r)?;
+    let before = merges.len();
+    let done = push_merges(r, count, merges);
+    if done.is_err() {
+        merges.truncate(before);
+    }
+    Ok(done?)
+}
+
+/// The fault of `parse_merge_cells`. Takes no memory.
+pub(crate) fn check_merge_cells(r: &[u8]) -> Result<(), XlsError>
+    ensures { Exactly (λ u. u) result (fault_in (merges_at r.now)) }
+{
+    count_merges(r)?;
+    Ok(())
+}

@@ -1,0 +1,134 @@
+-- The state of the globals is what their lines give.
+use Rattle.std.proofs.Common.{◌≡◌, ℕ, List, [], ◌∷◌, ◌++◌, map, refl, sym, ap, subst, ◌∙◌, Bool, Option, Some, None, Result, Ok, Err}
+use Rattle.std.specs.Prelude.{ℤ, unwrap_or}
+use Rattle.std.specs.Option.{option_map}
+use Rattle.std.specs.List.{flat_map}
+use Rattle.std.proofs.lemmas.List.{append-nil, map-append}
+use Rattle.xls_text.specs.declared.encoding.XlsEncoding.{XlsEncoding}
+use Rattle.xls_text.specs.declared.encoding.XlsEncoding.TheVariants.{Utf16}
+use Rattle.xls_model.specs.Listing.{offset_at, no_table, table_of, table_without, Entry, Item, plain_item, table_item, sheet_item, entry_of}
+use Rattle.xls_data.specs.Sheets.{SheetContent}
+use Rattle.xls_data.specs.declared.formats.CellFormat.{CellFormat}
+use Rattle.xls_strings.specs.declared.error.XlsError.{XlsError}
+use Rattle.xls_strings.specs.declared.version.Biff.{Biff}
+use Rattle.xls_strings.specs.declared.version.Biff.TheVariants.{Biff8}
+use Rattle.xls_book.specs.Order.{along, last_of, somes}
+use Rattle.xls_book.specs.GlobalsTable.{Named, GlobalsRecord, item_record_at, fault_of, Line, version_given, page_given, date_given, format_given, xf_given, references_given, name_given, strings_given, sheet_given}
+use Rattle.xls_book.specs.InForce.{said_by, first_page, page_in, version_in, line_in, lines_in, sets_1904}
+use Rattle.xls_book.specs.Faults.{item_line, item_fault}
+use Rattle.xls_book.specs.Steps.{Sheets, State, first_state, with_one, with_all, or_also, placed, after, stepped, step, Opened, opened_in, opened_of, pair_of, sheets_at, IsState}
+use Rattle.xls_book.specs.declared.options.XlsOptions.{XlsOptions}
+use Rattle.xls_book.proofs.OrderLemmas.{along-push, somes-append}
+use Rattle.xls_book.proofs.LineLemmas.{entries_push, somes_push, last_or_push, all_push, date_push, no_sheet, same_page, same_version, same_line}
+
+-- ---- the state after one more item
+
+opened_push : (options : XlsOptions) (is : List Item) (i : Item)
+    → option_map pair_of (opened_in options is i) ≡ option_map (placed i) (sheet_given (item_line options is i))
+opened_push options is (plain_item typ body) =
+    sym (ap (option_map (placed (plain_item typ body))) (no_sheet options.force_codepage (page_in options (map entry_of is)) (version_in options (map entry_of is)) typ body))
+opened_push options is (table_item body no_table) = refl
+opened_push options is (table_item body (table_of ss)) = refl
+opened_push options is (table_item body (table_without m)) = refl
+opened_push options is (sheet_item body kept cut) = found (sheet_given (item_line options is (sheet_item body kept cut)))
+  where
+    found : (o : Option SheetContent) → option_map pair_of (option_map (λ (s : SheetContent). record { offset = offset_at body; head = s; kept = kept; cut = cut }) o) ≡ option_map (placed (sheet_item body kept cut)) o
+    found None = refl
+    found (Some s) = refl
+
+sheets_push : (os : List Opened) (o : Option Opened) → map pair_of (with_one os o) ≡ with_one (map pair_of os) (option_map pair_of o)
+sheets_push os None = refl
+sheets_push os (Some o) = map-append pair_of os (o ∷ [])
+
+opened_more : (options : XlsOptions) (is : List Item) (i : Item)
+    → opened_of options (is ++ i ∷ []) ≡ with_one (opened_of options is) (opened_in options is i)
+opened_more options is i =
+    ap somes (along-push (opened_in options) is i)
+    ∙ somes-append (along (opened_in options) [] is) (opened_in options is i ∷ [])
+    ∙ one (opened_of options is) (opened_in options is i)
+  where
+    one : (os : List Opened) (o : Option Opened) → os ++ somes (o ∷ []) ≡ with_one os o
+    one os None = append-nil os
+    one os (Some x) = refl
+
+pub nothing_given : (options : XlsOptions) (page : XlsEncoding) → page ≡ page_in options []
+    → IsState options [] (first_state page)
+nothing_given options page h = record {
+  page = h;
+  version = refl;
+  is_1904 = refl;
+  formats = refl;
+  identifiers = refl;
+  strings = refl;
+  refs = refl;
+  names = refl;
+  sheets = refl;
+}
+
+module _ (options : XlsOptions) (is : List Item) (s : State) (h : IsState options is s) (i : Item) where
+  -- the line of the item, under what the state has in force
+  same_in_force : item_record_at options.force_codepage s.page s.version i ≡ item_line options is i
+  same_in_force =
+      ap (λ (p : XlsEncoding). item_record_at options.force_codepage p s.version i) h.page
+      ∙ ap (λ (v : Biff). item_record_at options.force_codepage (page_in options (map entry_of is)) v i) h.version
+
+  grown : (g : GlobalsRecord) → item_line options is i ≡ Ok g → IsState options (is ++ i ∷ []) (after s i (Ok g))
+  grown g e =
+      let es = map entry_of is in
+      let push = entries_push is i in
+      let forced = options.force_codepage in
+      let line : line_in options es (entry_of i) ≡ Ok g = same_line forced (page_in options es) (version_in options es) i g e in
+      let lines : lines_in options (map entry_of (is ++ i ∷ [])) ≡ lines_in options es ++ Ok g ∷ [] =
+      ap (lines_in options) push ∙ along-push (line_in options) es (entry_of i)
+      ∙ ap (λ (l : Line). lines_in options es ++ l ∷ []) line in
+      let page : page_given (said_by forced (entry_of i)) ≡ page_given (Ok g) =
+      same_page forced Utf16 (page_in options es) Biff8 (version_in options es) (entry_of i) ∙ ap page_given line in
+      let version : version_given (said_by forced (entry_of i)) ≡ version_given (Ok g) =
+      same_version forced Utf16 (page_in options es) Biff8 (version_in options es) (entry_of i) ∙ ap version_given line in
+      record {
+        page = ap (unwrap_or (page_given (Ok g))) h.page
+            ∙ ap (λ (o : Option XlsEncoding). unwrap_or o (page_in options es)) (sym page)
+            ∙ sym (last_or_push (λ (e : Entry). page_given (said_by forced e)) es (entry_of i) (first_page forced))
+            ∙ ap (page_in options) (sym push);
+        version = ap (unwrap_or (version_given (Ok g))) h.version
+            ∙ ap (λ (o : Option Biff). unwrap_or o (version_in options es)) (sym version)
+            ∙ sym (last_or_push (λ (e : Entry). version_given (said_by forced e)) es (entry_of i) Biff8)
+            ∙ ap (version_in options) (sym push);
+        is_1904 = ap (λ (b : Bool). or_also b (date_given (Ok g))) h.is_1904
+            ∙ sym (date_push (lines_in options es) (Ok g)) ∙ ap sets_1904 (sym lines);
+        formats = ap (λ (l : List (ℕ × CellFormat)). with_one l (format_given (Ok g))) h.formats
+            ∙ sym (somes_push format_given (lines_in options es) (Ok g))
+            ∙ ap (λ (l : List Line). somes (map format_given l)) (sym lines);
+        identifiers = ap (λ (l : List ℕ). with_one l (xf_given (Ok g))) h.identifiers
+            ∙ sym (somes_push xf_given (lines_in options es) (Ok g))
+            ∙ ap (λ (l : List Line). somes (map xf_given l)) (sym lines);
+        strings = ap (unwrap_or (strings_given (Ok g))) h.strings
+            ∙ sym (last_or_push strings_given (lines_in options es) (Ok g) [])
+            ∙ ap (λ (l : List Line). unwrap_or (last_of (map strings_given l)) []) (sym lines);
+        refs = ap (λ (l : List ℤ). with_all l (references_given (Ok g))) h.refs
+            ∙ sym (all_push references_given (lines_in options es) (Ok g))
+            ∙ ap (λ (l : List Line). flat_map (λ (rs : List ℤ). rs) (somes (map references_given l))) (sym lines);
+        names = ap (λ (l : List Named). with_one l (name_given (Ok g))) h.names
+            ∙ sym (somes_push name_given (lines_in options es) (Ok g))
+            ∙ ap (λ (l : List Line). somes (map name_given l)) (sym lines);
+        sheets = ap (λ (l : Sheets). with_one l (option_map (placed i) (sheet_given (Ok g)))) h.sheets
+            ∙ ap (λ (l : Line). with_one (sheets_at options is) (option_map (placed i) (sheet_given l))) (sym e)
+            ∙ ap (with_one (sheets_at options is)) (sym (opened_push options is i))
+            ∙ sym (sheets_push (opened_of options is) (opened_in options is i))
+            ∙ ap (map pair_of) (sym (opened_more options is i));
+      }
+
+-- ---- what a step says of the item
+
+abbrev pub Says : XlsOptions → List Item → Item → Result State XlsError → Type 0
+Says options is i (Ok t) = (item_fault options is i ≡ None) × IsState options (is ++ i ∷ []) t
+Says options is i (Err e) = item_fault options is i ≡ Some e
+
+pub step_says : (options : XlsOptions) (is : List Item) (s : State) → IsState options is s → (i : Item)
+    → Says options is i (step options s i)
+step_says options is s h i =
+    subst (λ (l : Line). Says options is i (stepped s i l)) (sym (same_in_force options is s h i)) (by_line (item_line options is i) refl)
+  where
+    by_line : (l : Line) → item_line options is i ≡ l → Says options is i (stepped s i l)
+    by_line (Ok g) e = (ap (fault_of {X = GlobalsRecord}) e, grown options is s h i g e)
+    by_line (Err x) e = ap (fault_of {X = GlobalsRecord}) e

@@ -1,0 +1,235 @@
+-- How a command ends, by what opening, reading and writing answer.
+use Rattle.std.proofs.Common.{◌≡◌, ℕ, ◌≤◌, List, [], ap, length, Option, Some, None, IfSome, Result, Ok, Err, inl, inr, refl, sym, subst, arith}
+use Rattle.std.specs.Result.{IsErrAnd}
+use Rattle.std.specs.Io.KnownBytes.{Consumes, IsAtEnd}
+use Rattle.std.proofs.KnownBytes.{Consumes-whole, Keeps-refl}
+use Rattle.xls_strings.specs.declared.error.XlsError.{XlsError}
+use Rattle.xls_strings.specs.declared.error.XlsError.TheVariants as errors
+use Rattle.xls_book.specs.Reading.{Workbook}
+use Rattle.xls_book.specs.Opening.{OpenCause, ReadCause, IsOpened, default_options}
+use Rattle.xls_dump.specs.SinkState.{SinkState, TakesEach}
+use Rattle.xls_dump.specs.Gathering.{Stops}
+use Rattle.xls_dump.specs.Report.{fault_line, report, sheet_report}
+use Rattle.xls_dump.specs.Summary.{summary_text}
+use Rattle.xls_dump.specs.Outputs.{IsOutput, IsRefusal, MayWrite, IsOutputOf, IsPropertyText, property_limit, IsFaultLine, IsLengthLine, EndsWell, EndsBySoundness, EndsByLength}
+use Rattle.xls_dump.specs.Endings.{IsFault, Wrote, EndsWithError, EndsWithText, Ends}
+use Rattle.xls_dump.specs.declared.command.Command.{Command}
+use Rattle.xls_dump.specs.declared.command.Command.TheVariants.{Dump, Sheets, Props, Generate}
+use Rattle.xls_dump.specs.declared.ending.Ending.{Ending}
+use Rattle.xls_dump.specs.declared.ending.Ending.TheVariants.{Done, Refused}
+use Rattle.xls_dump.specs.declared.ending.Stop.{Stop}
+use Rattle.xls_dump.specs.declared.ending.Stop.TheVariants.{Read, Write, Memory}
+
+-- ---- any command
+
+-- a text that the command may write was given up
+ends-stopped : (c : Command) (left : Option (List ℕ)) {before after : SinkState} {text : List ℕ} (e : Stop)
+    → EndsWell c left 5 → MayWrite c left text → Stops before [] after text e → Ends c left before after (Err e)
+ends-stopped c left {before} {after} {text} Read well may p = absurd p.cause
+ends-stopped c left {before} {after} {text} Write well may p = (p.cause, inr (text, may, p.start))
+ends-stopped c left {before} {after} {text} Memory well may p = (well, inr (text, may, p.start))
+
+-- the command's output was written, or a prefix of it
+pub ends-text : (c : Command) (left : Option (List ℕ)) (before after : SinkState) (r : Result Ending Stop) {IsText : List ℕ → Type 0}
+    → EndsWell c left 0 → EndsWell c left 5 → ((text : List ℕ) → IsText text → IsOutput c left text)
+    → EndsWithText IsText before after r → Ends c left before after r
+ends-text c left before after (Ok Done) done up output p = (done, (p.0, output p.0 p.1, p.2.appends))
+ends-text c left before after (Ok Refused) done up output p = absurd p
+ends-text c left before after (Err e) done up output (inl p) =
+    subst (λ d. Ends c left before after (Err d)) (sym p.0) (up, inl p.1.0)
+ends-text c left before after (Err e) done up output (inr p) =
+    ends-stopped c left e up (inl (output p.0 p.1)) p.2
+
+-- an error of reading or opening, where a fault of the bytes is refused
+pub ends-error : (c : Command) (left : Option (List ℕ)) (before after : SinkState) (r : Result Ending Stop) (e : XlsError)
+    → EndsWell c left 5 → (IsFault e → EndsWell c left 1) → (IsFault e → IsRefusal c left (fault_line e))
+    → EndsWithError e before after r → Ends c left before after r
+ends-error c left before after (Ok Done) e up refused line p = absurd p
+ends-error c left before after (Ok Refused) e up refused line p =
+    (refused p.0, (fault_line e, line p.0, p.1.appends))
+ends-error c left before after (Err Read) e up refused line p = p.1.0
+ends-error c left before after (Err Write) e up refused line p = ends-stopped c left Write up (inr (line p.0)) p.1
+ends-error c left before after (Err Memory) e up refused line (inl p) = (up, inl p.0)
+ends-error c left before after (Err Memory) e up refused line (inr p) = ends-stopped c left Memory up (inr (line p.0)) p.1
+
+-- ---- a sink that takes each text that the command may write
+
+steady-stopped : (c : Command) (left : Option (List ℕ)) {before after : SinkState} {text : List ℕ} {e : Stop}
+    → MayWrite c left text → Stops before [] after text e → TakesEach before (MayWrite c left) → after.faults ≡ before.faults
+steady-stopped c left {before} {after} {text} may p takes = p.steady takes.0 (omega (arith, takes.2 text may)) takes.1
+
+steady-wrote : (c : Command) (left : Option (List ℕ)) {before after : SinkState} {text : List ℕ}
+    → MayWrite c left text → Wrote before after text → TakesEach before (MayWrite c left) → after.faults ≡ before.faults
+steady-wrote c left {before} {after} {text} may p takes = p.steady takes.0 (takes.2 text may) takes.1
+
+pub steady-text : (c : Command) (left : Option (List ℕ)) (before after : SinkState) (r : Result Ending Stop) {IsText : List ℕ → Type 0}
+    → ((text : List ℕ) → IsText text → IsOutput c left text) → EndsWithText IsText before after r
+    → TakesEach before (MayWrite c left) → after.faults ≡ before.faults
+steady-text c left before after (Ok Done) output p takes = steady-wrote c left (inl (output p.0 p.1)) p.2 takes
+steady-text c left before after (Ok Refused) output p takes = absurd p
+steady-text c left before after (Err e) output (inl p) takes = p.1.1
+steady-text c left before after (Err e) output (inr p) takes = steady-stopped c left (inl (output p.0 p.1)) p.2 takes
+
+pub steady-error : (c : Command) (left : Option (List ℕ)) (before after : SinkState) (r : Result Ending Stop) (e : XlsError)
+    → (IsFault e → IsRefusal c left (fault_line e)) → EndsWithError e before after r
+    → TakesEach before (MayWrite c left) → after.faults ≡ before.faults
+steady-error c left before after (Ok Done) e line p takes = absurd p
+steady-error c left before after (Ok Refused) e line p takes = steady-wrote c left (inr (line p.0)) p.1 takes
+steady-error c left before after (Err Read) e line p takes = p.1.1
+steady-error c left before after (Err Write) e line p takes = steady-stopped c left (inr (line p.0)) p.1 takes
+steady-error c left before after (Err Memory) e line (inl p) takes = p.1
+steady-error c left before after (Err Memory) e line (inr p) takes = steady-stopped c left (inr (line p.0)) p.1 takes
+
+-- ---- a text of a kind
+
+-- out of memory to make it
+pub text-memory : (IsText : List ℕ → Type 0) (before : SinkState) (r : Result Ending Stop)
+    → IsErrAnd r (λ d. d ≡ Memory) → EndsWithText IsText before before r
+text-memory IsText before (Ok x) none = absurd none
+text-memory IsText before (Err e) is = inl (is, (Keeps-refl before.written, refl))
+
+-- it was given up
+pub text-stopped : (IsText : List ℕ → Type 0) {before after : SinkState} {text : List ℕ} {e : Stop} (r : Result Ending Stop)
+    → IsErrAnd r (λ d. d ≡ e) → IsText text → Stops before [] after text e → EndsWithText IsText before after r
+text-stopped IsText (Ok x) none is p = absurd none
+text-stopped IsText {before} {after} {text} {e} (Err d) same is p =
+    inr (text, is, subst (Stops before [] after text) (sym same) p)
+
+-- ---- the commands that open the source
+
+-- a command that opens the source, and writes this of the workbook
+pub record IsOpening (c : Command) (text_of : Workbook → List ℕ) : Type 0 where
+  pub output : (left : Option (List ℕ)) (text : List ℕ) → IsOutputOf text_of left text → IsOutput c left text
+  pub refusal : (left : Option (List ℕ)) (text : List ℕ) → IsFaultLine left text → IsRefusal c left text
+  pub well : (left : Option (List ℕ)) (status : ℕ) → EndsBySoundness left status → EndsWell c left status
+
+pub dump_opens : IsOpening Dump report
+dump_opens = record { output = λ left text h. h; refusal = λ left text h. h; well = λ left status h. h }
+
+pub sheets_opens : IsOpening Sheets sheet_report
+sheets_opens = record { output = λ left text h. h; refusal = λ left text h. h; well = λ left status h. h }
+
+-- a text of a workbook that is the reading
+outputs : (text_of : Workbook → List ℕ) (left : Option (List ℕ)) (book : Workbook)
+    → IfSome left (IsOpened default_options book) → IsOutputOf text_of left (text_of book)
+outputs text_of None book h = tt
+outputs text_of (Some bytes) book h = (book, h, refl)
+
+-- the line of an error that is the first fault
+refuses : (left : Option (List ℕ)) (f f' : ℕ) (e : XlsError)
+    → OpenCause default_options left f f' e → IsFault e → IsFaultLine left (fault_line e)
+refuses None f f' e cause fault = tt
+refuses (Some bytes) f f' errors.Io cause fault = absurd (fault.0 refl)
+refuses (Some bytes) f f' errors.Memory cause fault = absurd (fault.1 refl)
+refuses (Some bytes) f f' e cause fault = (e, cause, refl)
+
+-- output and refusal are what the bytes call for
+well_done : (left : Option (List ℕ)) (book : Workbook) → IfSome left (IsOpened default_options book)
+    → EndsBySoundness left 0
+well_done None book h = (inl refl, λ e. absurd (omega arith), λ _. tt)
+well_done (Some bytes) book h = (inl refl, λ e. absurd (omega arith), λ _. h.sound)
+
+well_refused : (left : Option (List ℕ)) (text : List ℕ) → IsFaultLine left text → EndsBySoundness left 1
+well_refused None text h = (inr (inl refl), λ _. tt, λ e. absurd (omega arith))
+well_refused (Some bytes) text h = (inr (inl refl), λ _. λ sound. sound h.0 h.1, λ e. absurd (omega arith))
+
+well_given_up : (left : Option (List ℕ)) → EndsBySoundness left 5
+well_given_up left = (inr (inr refl), λ e. absurd (omega arith), λ e. absurd (omega arith))
+
+-- such a command, where the writing was given up
+pub opened-stopped : {c : Command} {text_of : Workbook → List ℕ} → IsOpening c text_of
+    → (left : Option (List ℕ)) (book : Workbook) {before after : SinkState} {e : Stop} (r : Result Ending Stop)
+    → IfSome left (IsOpened default_options book) → IsErrAnd r (λ d. d ≡ e) → Stops before [] after (text_of book) e
+    → Ends c left before after r
+opened-stopped {c} {text_of} opens left book {before} {after} r h is p =
+    ends-text c left before after r (opens.well left 0 (well_done left book h)) (opens.well left 5 (well_given_up left))
+    (λ text same. subst (IsOutput c left) (sym same) (opens.output left (text_of book) (outputs text_of left book h)))
+    (text-stopped (λ text. text ≡ text_of book) r is refl p)
+
+pub opened-steady : {c : Command} {text_of : Workbook → List ℕ} → IsOpening c text_of
+    → (left : Option (List ℕ)) (book : Workbook) {before after : SinkState} {e : Stop}
+    → IfSome left (IsOpened default_options book) → Stops before [] after (text_of book) e
+    → TakesEach before (MayWrite c left) → after.faults ≡ before.faults
+opened-steady {c} {text_of} opens left book h =
+    steady-stopped c left (inl (opens.output left (text_of book) (outputs text_of left book h)))
+
+pub written-steady : {c : Command} {text_of : Workbook → List ℕ} → IsOpening c text_of
+    → (left : Option (List ℕ)) (book : Workbook) {before after : SinkState}
+    → IfSome left (IsOpened default_options book) → Wrote before after (text_of book)
+    → TakesEach before (MayWrite c left) → after.faults ≡ before.faults
+written-steady {c} {text_of} opens left book h =
+    steady-wrote c left (inl (opens.output left (text_of book) (outputs text_of left book h)))
+
+-- and where the source isn't opened
+pub not_opened : {c : Command} {text_of : Workbook → List ℕ} → IsOpening c text_of
+    → (left : Option (List ℕ)) (f f' : ℕ) (before after : SinkState) (r : Result Ending Stop) (e : XlsError)
+    → OpenCause default_options left f f' e → EndsWithError e before after r → Ends c left before after r
+not_opened {c} opens left f f' before after r e cause =
+    let line = refuses left f f' e cause in
+    ends-error c left before after r e (opens.well left 5 (well_given_up left))
+    (λ fault. opens.well left 1 (well_refused left (fault_line e) (line fault)))
+    (λ fault. opens.refusal left (fault_line e) (line fault))
+
+pub not_opened-steady : {c : Command} {text_of : Workbook → List ℕ} → IsOpening c text_of
+    → (left : Option (List ℕ)) (f f' : ℕ) (before after : SinkState) (r : Result Ending Stop) (e : XlsError)
+    → OpenCause default_options left f f' e → EndsWithError e before after r
+    → TakesEach before (MayWrite c left) → after.faults ≡ before.faults
+not_opened-steady {c} opens left f f' before after r e cause =
+    steady-error c left before after r e (λ fault. opens.refusal left (fault_line e) (refuses left f f' e cause fault))
+
+-- ---- properties
+
+-- the line of too many bytes
+refuses_length : (left : Option (List ℕ)) (f f' : ℕ) (e : XlsError)
+    → ReadCause property_limit left f f' e → IsFault e → IsLengthLine left (fault_line e)
+refuses_length left f f' errors.Io cause fault = absurd (fault.0 refl)
+refuses_length left f f' errors.Memory cause fault = absurd (fault.1 refl)
+refuses_length None f f' (errors.TooLarge n) cause fault = tt
+refuses_length (Some bytes) f f' (errors.TooLarge n) cause fault =
+    (cause.1, ap (λ (k : ℕ). fault_line (errors.TooLarge k)) cause.0)
+refuses_length left f f' e cause fault = absurd cause
+
+length_refused : (left : Option (List ℕ)) (text : List ℕ) → IsLengthLine left text → EndsByLength left 1
+length_refused None text h = (inr (inl refl), λ _. tt, λ e. absurd (omega arith))
+length_refused (Some bytes) text h = (inr (inl refl), λ _. h.0, λ e. absurd (omega arith))
+
+length_given_up : (left : Option (List ℕ)) → EndsByLength left 5
+length_given_up left = (inr (inr refl), λ e. absurd (omega arith), λ e. absurd (omega arith))
+
+-- the properties of the bytes that were left
+pub all_read : (left left' : Option (List ℕ)) (before after : SinkState) (r : Result Ending Stop) (bytes : List ℕ)
+    → Consumes left left' bytes → IsAtEnd left' → length bytes ≤ property_limit
+    → EndsWithText (IsPropertyText bytes) before after r → Ends Props left before after r
+all_read left left' before after r bytes all end le =
+    ends-text Props left before after r
+    (inl refl, λ e. absurd (omega arith), λ _. Consumes-whole left left' bytes (λ b. length b ≤ property_limit) all end le)
+    (length_given_up left) (λ text is. Consumes-whole left left' bytes (λ b. IsPropertyText b text) all end is)
+
+pub not_read : (left : Option (List ℕ)) (f f' : ℕ) (before after : SinkState) (r : Result Ending Stop) (e : XlsError)
+    → ReadCause property_limit left f f' e → EndsWithError e before after r → Ends Props left before after r
+not_read left f f' before after r e cause =
+    let line = refuses_length left f f' e cause in
+    ends-error Props left before after r e (length_given_up left) (λ fault. length_refused left (fault_line e) (line fault)) line
+
+pub all_read-steady : (left left' : Option (List ℕ)) (before after : SinkState) (r : Result Ending Stop) (bytes : List ℕ)
+    → Consumes left left' bytes → IsAtEnd left' → EndsWithText (IsPropertyText bytes) before after r
+    → TakesEach before (MayWrite Props left) → after.faults ≡ before.faults
+all_read-steady left left' before after r bytes all end =
+    steady-text Props left before after r (λ text is. Consumes-whole left left' bytes (λ b. IsPropertyText b text) all end is)
+
+pub not_read-steady : (left : Option (List ℕ)) (f f' : ℕ) (before after : SinkState) (r : Result Ending Stop) (e : XlsError)
+    → ReadCause property_limit left f f' e → EndsWithError e before after r
+    → TakesEach before (MayWrite Props left) → after.faults ≡ before.faults
+not_read-steady left f f' before after r e cause = steady-error Props left before after r e (refuses_length left f f' e cause)
+
+-- ---- a made stream
+
+-- what is written of it, whatever the source is
+pub made : (n : ℕ) (left : Option (List ℕ)) (before after : SinkState) (r : Result Ending Stop)
+    → EndsWithText (λ text. text ≡ summary_text n) before after r → Ends (Generate n) left before after r
+made n left before after r = ends-text (Generate n) left before after r (inl refl) (inr refl) (λ text is. is)
+
+pub made-steady : (n : ℕ) (left : Option (List ℕ)) (before after : SinkState) (r : Result Ending Stop)
+    → EndsWithText (λ text. text ≡ summary_text n) before after r
+    → TakesEach before (MayWrite (Generate n) left) → after.faults ≡ before.faults
+made-steady n left before after r = steady-text (Generate n) left before after r (λ text is. is)

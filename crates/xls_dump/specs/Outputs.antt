@@ -1,0 +1,97 @@
+-- What a command writes, by what a source had left.
+use Rattle.std.specs.Prelude.{◌≡◌, ◌⊎◌, ℕ, ◌<◌, ◌≤◌, List, length, Option, Some, IfSome}
+use Rattle.std.specs.BTreeMap.{IsOrdered}
+use Rattle.std.specs.Io.KnownBytes.{IsAtEnd}
+use Rattle.std.specs.String.{string_cmp}
+use Rattle.xls_strings.specs.declared.error.XlsError.{XlsError}
+use Rattle.xls_strings.specs.declared.error.XlsError.TheVariants.{TooLarge}
+use Rattle.xls_props.specs.Properties.{IsProperties}
+use Rattle.xls_props.specs.declared.properties.WorkbookProperties.{WorkbookProperties}
+use Rattle.xls_book.specs.Reading.{Workbook}
+use Rattle.xls_book.specs.Faults.{FirstFault, IsSound}
+use Rattle.xls_book.specs.Opening.{IsOpened, default_options}
+use Rattle.xls_dump.specs.Report.{report, sheet_report, fault_line}
+use Rattle.xls_dump.specs.Properties.{property_lines}
+use Rattle.xls_dump.specs.Summary.{summary_text}
+use Rattle.xls_dump.specs.declared.command.Command.{Command}
+use Rattle.xls_dump.specs.declared.command.Command.TheVariants.{Dump, Sheets, Props, Generate}
+
+-- a text of the workbook that the bytes open to
+abbrev pub IsOutputOf : (Workbook → List ℕ) → Option (List ℕ) → List ℕ → Type 0
+IsOutputOf text_of left text =
+    IfSome left (λ bytes. (book : Workbook) × IsOpened default_options book bytes
+    × (text ≡ text_of book))
+
+-- the lines of the properties that the bytes hold as both property streams: each field that is there,
+-- and each custom property once, in the byte order of their names
+abbrev pub IsPropertyText : List ℕ → List ℕ → Type 0
+IsPropertyText bytes text =
+    (p : WorkbookProperties) × IsProperties (Some bytes) (Some bytes) p
+    × IsOrdered string_cmp p.custom_properties × (text ≡ property_lines p)
+
+-- how many bytes a property stream may have
+abbrev pub property_limit : ℕ
+property_limit = 268_435_456
+
+-- the text of a command that is done
+abbrev pub IsOutput : Command → Option (List ℕ) → List ℕ → Type 0
+IsOutput Dump left text = IsOutputOf report left text
+IsOutput Sheets left text = IsOutputOf sheet_report left text
+IsOutput Props left text = IfSome left (λ bytes. IsPropertyText bytes text)
+IsOutput (Generate n) left text = text ≡ summary_text n
+
+-- the line of the first fault
+abbrev pub IsFaultLine : Option (List ℕ) → List ℕ → Type 0
+IsFaultLine left text =
+    IfSome left (λ bytes. (e : XlsError) × FirstFault default_options bytes e
+    × (text ≡ fault_line e))
+
+-- the line of too many bytes
+abbrev pub IsLengthLine : Option (List ℕ) → List ℕ → Type 0
+IsLengthLine left text =
+    IfSome left (λ bytes. (property_limit < length bytes)
+    × (text ≡ fault_line (TooLarge property_limit)))
+
+-- the line of a command whose input is refused
+abbrev pub IsRefusal : Command → Option (List ℕ) → List ℕ → Type 0
+IsRefusal Dump left text = IsFaultLine left text
+IsRefusal Sheets left text = IsFaultLine left text
+IsRefusal Props left text = IsLengthLine left text
+IsRefusal (Generate n) left text = ⊥
+
+-- either of them
+abbrev pub MayWrite : Command → Option (List ℕ) → List ℕ → Type 0
+MayWrite c left text = IsOutput c left text ⊎ IsRefusal c left text
+
+-- a command that is done has read all of the source, or leaves it as it was where it reads nothing
+abbrev pub HasRead : Command → Option (List ℕ) → Option (List ℕ) → Type 0
+HasRead Dump before after = IsAtEnd after
+HasRead Sheets before after = IsAtEnd after
+HasRead Props before after = IsAtEnd after
+HasRead (Generate n) before after = after ≡ before
+
+-- bytes without a fault aren't refused, and those with one have no output
+abbrev pub EndsBySoundness : Option (List ℕ) → ℕ → Type 0
+EndsBySoundness left status = ((status ≡ 0) ⊎ (status ≡ 1) ⊎ (status ≡ 5))
+    × (status ≡ 1 → IfSome left (λ bytes. IsSound default_options bytes → ⊥))
+    × (status ≡ 0 → IfSome left (IsSound default_options))
+
+-- exactly too many bytes are refused
+abbrev pub EndsByLength : Option (List ℕ) → ℕ → Type 0
+EndsByLength left status = ((status ≡ 0) ⊎ (status ≡ 1) ⊎ (status ≡ 5))
+    × (status ≡ 1 → IfSome left (λ bytes. property_limit < length bytes))
+    × (status ≡ 0 → IfSome left (λ bytes. length bytes ≤ property_limit))
+
+-- how a command ends where neither source nor sink fails
+abbrev pub EndsWell : Command → Option (List ℕ) → ℕ → Type 0
+EndsWell Dump left status = EndsBySoundness left status
+EndsWell Sheets left status = EndsBySoundness left status
+EndsWell Props left status = EndsByLength left status
+EndsWell (Generate n) left status = (status ≡ 0) ⊎ (status ≡ 5)
+
+-- the command reads nothing
+abbrev pub ReadsNothing : Command → Type 0
+ReadsNothing Dump = ⊥
+ReadsNothing Sheets = ⊥
+ReadsNothing Props = ⊥
+ReadsNothing (Generate n) = Unit {0}

@@ -1,0 +1,83 @@
+-- Values from outside, so that a wrong rule in the definitions does not check.
+use Rattle.std.proofs.Common.{◌≡◌, [], ◌∷◌, refl, false, true, codes, Some, None, Ok, Err, replicate}
+use Rattle.xls_model.specs.declared.part.Part.TheVariants as parts
+use Rattle.xls_data.specs.declared.errors.CellErrorType.TheVariants as failures
+use Rattle.xls_strings.specs.declared.error.XlsError.TheVariants as errors
+use Rattle.xls_strings.specs.declared.version.Biff.TheVariants.{Biff5, Biff8}
+use Rattle.xls_ptg.specs.declared.operators.Operator.TheVariants as operators
+use Rattle.xls_ptg.specs.declared.tokens.Ptg.TheVariants as ptg
+use Rattle.xls_ptg.specs.Cites.{measured}
+use Rattle.xls_ptg.specs.Tokens.{ptg_at}
+
+-- the first and the last operator, and the two that calamine prints the other way round
+known_add : ptg_at Biff8 (0x03 ∷ []) ≡ Ok (ptg.Binary operators.Add, 0)
+known_add = refl
+
+known_ge : ptg_at Biff8 (0x0C ∷ []) ≡ Ok (ptg.Binary operators.Ge, 0)
+known_ge = refl
+
+known_gt : ptg_at Biff5 (0x0D ∷ []) ≡ Ok (ptg.Binary operators.Gt, 0)
+known_gt = refl
+
+known_range : ptg_at Biff8 (0x11 ∷ []) ≡ Ok (ptg.Binary operators.Range, 0)
+known_range = refl
+
+-- error values, and a code that none has
+known_err : ptg_at Biff8 (0x1C ∷ 0x2A ∷ []) ≡ Ok (ptg.Err failures.NA, 1)
+known_err = refl
+
+known_no_err : ptg_at Biff8 (0x1C ∷ 0x08 ∷ []) ≡ Err (errors.Unrecognized parts.BErr 0x08)
+known_no_err = refl
+
+-- strings of both layouts, whole and cut
+known_str : ptg_at Biff8 (0x17 ∷ 6 ∷ 0 ∷ codes "SCHUCH") ≡ Ok (ptg.Str (codes "SCHUCH") 6 (Some false), 8)
+known_str = refl
+
+known_wide_str : ptg_at Biff8 (0x17 ∷ 1 ∷ 1 ∷ 0xAC ∷ 0x20 ∷ []) ≡ Ok (ptg.Str (0xAC ∷ 0x20 ∷ []) 1 (Some true), 4)
+known_wide_str = refl
+
+known_early_str : ptg_at Biff5 (0x17 ∷ 6 ∷ codes "SCHUCH") ≡ Ok (ptg.Str (codes "SCHUCH") 6 None, 7)
+known_early_str = refl
+
+known_short_str : ptg_at Biff5 (0x17 ∷ 6 ∷ codes "SCH") ≡ Err (errors.Len 7 4 parts.PtgStr)
+known_short_str = refl
+
+-- attributes: two jumps, returns, one that isn't known
+known_choose : ptg_at Biff8 (0x19 ∷ 0x04 ∷ 2 ∷ replicate 7 0) ≡ Ok (ptg.AttrChoose, 9)
+known_choose = refl
+
+known_space : ptg_at Biff8 (0x19 ∷ 0x40 ∷ 1 ∷ 3 ∷ []) ≡ Ok (ptg.AttrSpace true 3, 3)
+known_space = refl
+
+known_no_attr : ptg_at Biff8 (0x19 ∷ 0x03 ∷ 0 ∷ 0 ∷ []) ≡ Err (errors.Etpg 0x03)
+known_no_attr = refl
+
+-- functions and names
+known_func_var : ptg_at Biff8 (0x42 ∷ 2 ∷ 4 ∷ 0 ∷ []) ≡ Ok (ptg.FuncVar 2 4, 3)
+known_func_var = refl
+
+known_name : ptg_at Biff8 (0x43 ∷ 1 ∷ 0 ∷ 0 ∷ 0 ∷ []) ≡ Ok (ptg.Name 1, 4)
+known_name = refl
+
+-- a row is relative by 8000, a column by 4000, in the column word and before BIFF8 in the row word
+known_ref : ptg_at Biff8 (0x24 ∷ 1 ∷ 0 ∷ 2 ∷ 0x40 ∷ []) ≡ Ok (ptg.Ref (record { row = 1; column = 2; is_row_relative = false; is_column_relative = true }), 4)
+known_ref = refl
+
+known_early_ref : ptg_at Biff5 (0x44 ∷ 1 ∷ 0x80 ∷ 2 ∷ []) ≡ Ok (ptg.Ref (record { row = 1; column = 2; is_row_relative = true; is_column_relative = false }), 3)
+known_early_ref = refl
+
+-- what cites cells, and what is cut or is no token
+known_cite : measured (ptg_at Biff8 (0x5B ∷ 2 ∷ 0 ∷ 0 ∷ 0 ∷ 9 ∷ 0 ∷ 1 ∷ 0xC0 ∷ 2 ∷ 0x40 ∷ [])) ≡ Ok (record { size = 11; cite = Some (record { sheet = Some 2; first = (0, 1); last = (9, 2) }) })
+known_cite = refl
+
+known_err3d : measured (ptg_at Biff8 (0x3C ∷ replicate 6 0)) ≡ Ok (record { size = 7; cite = None })
+known_err3d = refl
+
+known_cut : ptg_at Biff8 (0x24 ∷ 0 ∷ 0 ∷ []) ≡ Err (errors.Len 4 2 parts.Ptg)
+known_cut = refl
+
+known_exp : ptg_at Biff8 (0x01 ∷ 0 ∷ []) ≡ Err (errors.Len 4 1 parts.PtgExp)
+known_exp = refl
+
+known_unknown : ptg_at Biff8 (0x79 ∷ []) ≡ Err (errors.Unrecognized parts.Ptg 0x79)
+known_unknown = refl

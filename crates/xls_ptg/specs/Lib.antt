@@ -1,0 +1,15 @@
+pub mod Fields
+pub mod Corners
+pub mod Operators
+pub mod Readings
+pub mod Control
+pub mod Constants
+pub mod PtgStr
+pub mod Attributes
+pub mod FunctionTokens
+pub mod NameTokens
+pub mod References
+pub mod References3d
+pub mod Tokens
+pub mod Cites
+pub use Rattle.xls_strings.specs.Reading

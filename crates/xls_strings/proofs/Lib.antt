@@ -1,0 +1,5 @@
+pub mod ReadingLemmas
+pub mod TextLemmas
+pub mod MarkLemmas
+pub mod SstLemmas
+pub mod StandardFacts

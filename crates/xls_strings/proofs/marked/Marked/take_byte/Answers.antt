@@ -1,0 +1,6 @@
+use Rattle.std.proofs.Common.{refl}
+use Rattle.xls_strings.proofs.MarkLemmas.{at_end}
+use Rattle.xls_strings.proofs.marked.Marked.take_byte.Goals as goal
+
+pub returns-in_err-first : goal.returns-in_err-first
+returns-in_err-first c = rw c.from_residual.ensures (refl, at_end c.self.inside.hand.now c.self.inside.pieces c.args.self.now c.self.view_is c.in_err-first.ensures.cases)

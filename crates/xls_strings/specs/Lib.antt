@@ -1,0 +1,8 @@
+pub mod Version
+pub mod ErrorText
+pub mod Reading
+pub mod Texts
+pub mod Strings
+pub mod Uncounted
+pub mod MarkSteps
+pub mod Sst

@@ -1,0 +1,58 @@
+-- Strings in the body of a record: ShortXLUnicodeString ([MS-XLS] 2.5.240), XLUnicodeString (2.5.294),
+-- and the byte strings of the versions before BIFF8. Where the count passes the bytes, the text is
+-- the shorter one.
+use Rattle.std.specs.Prelude.{ℕ, List, [], ◌==◌, ◌&&◌, Bool, false, if◌then◌else◌, length, take, drop, slice_index, Option, Some, None, Result, Ok}
+use Rattle.xls_bytes.specs.Numbers.{le}
+use Rattle.xls_text.specs.Pages.{string_text}
+use Rattle.xls_text.specs.declared.encoding.XlsEncoding.{XlsEncoding}
+use Rattle.xls_model.specs.StringTable.{is_wide}
+use Rattle.xls_model.specs.declared.part.Part.TheVariants as parts
+use Rattle.xls_strings.specs.declared.version.Biff.{Biff}
+use Rattle.xls_strings.specs.declared.error.XlsError.{XlsError}
+use Rattle.xls_strings.specs.Reading.{◌>>◌, at_least, gives}
+use Rattle.xls_strings.specs.Version.{is_biff8}
+
+-- ---- what stands before a text
+
+-- the count, the flag of the width if there is one, and the bytes of the text
+abbrev pub Front : Type 0
+Front = ℕ × Option Bool × List ℕ
+
+-- a count byte, in BIFF8 a flags byte
+abbrev pub short_front : Biff → List ℕ → Result Front XlsError
+short_front biff bytes =
+    if is_biff8 biff
+    then (do
+      at_least 2 parts.ShortString bytes
+      Ok (slice_index bytes 0, Some (is_wide (slice_index bytes 1)), drop 2 bytes))
+    else (do
+      at_least 1 parts.ShortString bytes
+      Ok (slice_index bytes 0, None, drop 1 bytes))
+
+-- a count of 0 and nothing after it: the empty text, even in BIFF8
+abbrev pub is_bare_zero : List ℕ → Bool
+is_bare_zero bytes = length bytes == 2 && le (take 2 bytes) == 0
+
+-- a count of two bytes, in BIFF8 a flags byte
+abbrev pub string_front : Biff → List ℕ → Result Front XlsError
+string_front biff bytes =
+    if is_biff8 biff
+    then (if is_bare_zero bytes then Ok (0, Some false, [])
+    else (do
+      at_least 3 parts.Text bytes
+      Ok (le (take 2 bytes), Some (is_wide (slice_index bytes 2)), drop 3 bytes)))
+    else (do
+      at_least 2 parts.Text bytes
+      Ok (le (take 2 bytes), None, drop 2 bytes))
+
+-- ---- texts, as lists of characters
+
+-- the text after its count
+abbrev pub front_text : XlsEncoding → Front → List ℕ
+front_text page front = string_text page front.1 front.2 front.0
+
+abbrev pub short_string_at : XlsEncoding → Biff → List ℕ → Result (List ℕ) XlsError
+short_string_at page biff bytes = gives (front_text page) (short_front biff bytes)
+
+abbrev pub string_at : XlsEncoding → Biff → List ℕ → Result (List ℕ) XlsError
+string_at page biff bytes = gives (front_text page) (string_front biff bytes)
