@@ -1,40 +1,51 @@
--- Entries as they are read from rows.
-use Rattle.std.specs.Prelude.{◌≡◌, ℕ, ◌+◌, ◌-◌, ◌^◌, ℤ, pos, neg_ℤ, List, ◌∷◌, codes, Option, Some, None, Result, Ok, Err, IsOk}
+-- Entries as they are read from rows. Rows count from 0.
+use Rattle.std.specs.Prelude.{ℕ, List, ◌∷◌, ◌++◌, codes, Result, Ok, Err}
+use Rattle.std.specs.Fmt.{decimal}
 use Rattle.std.specs.String.{string_bytes}
-use Rattle.xls_data.specs.Content.{Content}
-use Rattle.xls_rows.specs.Refusals.{Refusal, end_of_row, Gives}
-use Rattle.xls_rows.specs.Readers.{text_in}
-use Rattle.xls_rows.specs.Wholes.{IsWhole, not_whole}
+use Rattle.xls_data.specs.Content.{Content, int, float}
+use Rattle.xls_data.specs.declared.numbers.Number.{Number}
+use Rattle.xls_data.specs.declared.numbers.Number.TheVariants.{Whole}
+use Rattle.xls_rows.specs.Refusals.{Refusal, end_of_row, custom, Gives}
+use Rattle.xls_rows.specs.Readers.{text_in, data_in}
 use Rattle.xls_rows.specs.Rows.{Row, contents_of}
 use Rattle.xls_rows.specs.declared.error.DeError.{DeError}
-use Rattle.example_rows.specs.Places.{at_place}
 use Rattle.example_rows.specs.declared.entry.Entry.{Entry}
 
--- the bytes of the name, and the amount
-abbrev pub parts_of : Entry → List ℕ × ℤ
-parts_of entry = (string_bytes entry.name, entry.amount)
+-- what follows where something is read
+infixl 10 ◌>>=◌
+abbrev pub ◌>>=◌ : {A B : Type 0} → Result A Refusal → (A → Result B Refusal) → Result B Refusal
+(Ok x) >>= f = f x
+(Err r) >>= f = Err r
 
--- found is the whole number of 64 bits that a cell stands for, and None for other cells
-abbrev pub IsAmount : Content → Option ℤ → Type 0
-IsAmount c found = IsWhole (neg_ℤ (pos (2 ^ 63))) (pos (2 ^ 63 - 1)) c found
+-- the refusal of an amount that is no number
+abbrev pub no_number : ℕ → Refusal
+no_number row = custom (codes "row " ++ (decimal row ++ codes ": the amount isn't a number"))
 
--- the answer is the printed text of the first cell and the number of the second, or the refusal of
--- the first of them that is wrong, at its place; or want of memory
-pub record ReadsPair (place : ℕ × ℕ) (name amount : Content) (answer : Result Entry DeError)
-    : Type 0 where
-  pub wrong_name : (r : Refusal) → text_in place name ≡ Err r
-      → Gives parts_of answer (Err (at_place place.0 place.1 r))
-  pub wrong_amount : IsOk (text_in place name) → IsAmount amount None
-      → Gives parts_of answer
-      (Err (at_place place.0 (place.1 + 1) (not_whole (codes "i64") place amount)))
-  pub entry : (bytes : List ℕ) (n : ℤ) → text_in place name ≡ Ok bytes → IsAmount amount (Some n)
-      → Gives parts_of answer (Ok (bytes, n))
+-- the number that a cell of a row holds
+abbrev pub number_in : ℕ → Content → Result Number Refusal
+number_in row (int n) = Ok (Whole n)
+number_in row (float x) = Ok x
+number_in row c = Err (no_number row)
+
+-- the printed text of the first cell and the number of the second, or the refusal of the first of them
+-- that is wrong
+abbrev pub pair_in : ℕ × ℕ → Content → Content → Result (List ℕ × Number) Refusal
+pair_in place name amount = do
+  text ← text_in place name
+  copy ← data_in place amount
+  number ← number_in place.0 copy
+  Ok (text, number)
 
 -- the same of the cells of a row; fewer than two are too few
-abbrev pub ReadsCells : ℕ × ℕ → List Content → Result Entry DeError → Type 0
-ReadsCells place (name ∷ amount ∷ others) answer = ReadsPair place name amount answer
-ReadsCells place cells answer = Gives parts_of answer (Err (end_of_row place))
+abbrev pub entry_in : ℕ × ℕ → List Content → Result (List ℕ × Number) Refusal
+entry_in place (name ∷ amount ∷ others) = pair_in place name amount
+entry_in place cells = Err (end_of_row place)
 
--- the same of a row that exposes all columns
+-- the bytes of the name, and the amount
+abbrev pub parts_of : Entry → List ℕ × Number
+parts_of entry = (string_bytes entry.name, entry.amount)
+
+-- the answer is that of the exposed cells, or their refusal, or out of memory
 abbrev pub ReadsEntry : {T : Type 0} → (T → Content) → Row T → Result Entry DeError → Type 0
-ReadsEntry content row answer = ReadsCells row.place (contents_of content row.exposed) answer
+ReadsEntry content row answer =
+    Gives parts_of answer (entry_in row.place (contents_of content row.exposed))

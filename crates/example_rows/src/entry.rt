@@ -1,10 +1,11 @@
 //! An entry of a ledger, as it is read from a row.
 
-ghost use Rattle.std.specs.Prelude.{◌≡◌, ◌+◌, MatchResult};
-ghost use Rattle.xls_rows.specs.declared.error.DeError.TheVariants.{Custom, Memory};
-ghost use Rattle.example_rows.specs.Places.{Places};
+ghost use Rattle.xls_data.specs.Data.{content_of};
+ghost use Rattle.xls_rows.specs.Refusals.{Gives, Refuses};
+ghost use Rattle.example_rows.specs.Entries.{number_in, no_number};
 
-use std::alloc::{AllocError, Global};
+use std::alloc::Global;
+use xls_data::{Data, Number};
 use xls_rows::{DeError, FromRow, ReadCell, RowDeserializer};
 
 /// A name and an amount.
@@ -12,8 +13,8 @@ use xls_rows::{DeError, FromRow, ReadCell, RowDeserializer};
 pub struct Entry {
     /// The printed text of the first cell.
     pub name: String,
-    /// The whole number of the second cell.
-    pub amount: i64,
+    /// The number of the second cell.
+    pub amount: Number,
 }
 
 impl FromRow for Entry {
@@ -31,36 +32,35 @@ impl FromRow for Entry {
         };
         let name = match name.read_text(alloc, pos) {
             Ok(name) => name,
-            Err(refusal) => return Err(placed(alloc, pos, 0, refusal)),
+            Err(refusal) => return Err(refusal),
         };
-        match amount.read_i64(alloc, pos) {
+        let amount = match amount.read_data(alloc, pos) {
+            Ok(amount) => amount,
+            Err(refusal) => return Err(refusal),
+        };
+        match number_of(alloc, pos.0, &amount) {
             Ok(amount) => Ok(Entry { name, amount }),
-            Err(refusal) => Err(placed(alloc, pos, 1, refusal)),
+            Err(refusal) => Err(refusal),
         }
     }
 }
 
-// The refusal of a wrong cell of a row with the cell's place before what it says.
-fn placed(alloc: Global, pos: (u32, u32), column: u32, refusal: DeError) -> DeError
-    ensures memory { refusal ≡ Memory → result ≡ Memory }
-    ensures place { Places pos.0 (pos.1 + column) refusal result }
+// The number that a cell of a row holds.
+fn number_of(alloc: Global, row: u32, cell: &Data) -> Result<Number, DeError>
+    ensures { Gives (λ n. n) result (number_in row (content_of cell.now)) }
 {
-    let (row, left) = pos;
-    let column = left as u64 + column as u64;
-    match refusal {
-        DeError::CellError { err, .. } => {
-            custom(format!(in alloc; "row {row}, column {column}: {err}"))
-        }
-        DeError::Custom(got) => custom(format!(in alloc; "row {row}, column {column}: {got}")),
-        other => other,
+    match cell {
+        Data::Int(n) => Ok(Number::Whole(*n)),
+        Data::Float(number) => Ok(*number),
+        _ => Err(not_a_number(alloc, row)),
     }
 }
 
-// The refusal with a text, or want of memory for it.
-fn custom(text: Result<String, AllocError>) -> DeError
-    ensures { MatchResult text (λ t. result ≡ Custom t) (λ _. result ≡ Memory) }
+// The refusal of another cell.
+fn not_a_number(alloc: Global, row: u32) -> DeError
+    ensures { Refuses (no_number row) result }
 {
-    match text {
+    match format!(in alloc; "row {row}: the amount isn't a number") {
         Ok(text) => DeError::Custom(text),
         Err(_) => DeError::Memory,
     }

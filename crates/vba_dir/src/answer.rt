@@ -1,0 +1,58 @@
+//! What is written of a directory.
+
+ghost use Rattle.std.specs.Prelude.{◌≡◌, ◌↔◌, IfOk, IsTrue};
+ghost use Rattle.std.specs.String.{string_bytes};
+ghost use Rattle.xls_vba.specs.Errors.{vba_error_text};
+ghost use Rattle.xls_vba.specs.declared.error.VbaError.TheVariants.{Memory};
+ghost use Rattle.vba_dir.specs.Answers.{IsAnswer, IsListing};
+ghost use Rattle.vba_dir.specs.Lines.{error_line};
+
+use crate::lines::{push_modules, push_references};
+use std::alloc::{AllocError, Global};
+use xls_vba::{VbaError, VbaProject};
+
+/// What is written: the lines of a project, or the line of the refusal.
+#[derive(Drop)]
+pub enum Answer {
+    Listed(String),
+    Refused(String),
+}
+
+/// The lines of a project.
+fn listing_of(alloc: Global, project: &VbaProject) -> Result<String, AllocError>
+    ensures { IfOk result (λ text. IsListing project.now (string_bytes text)) }
+{
+    let mut text = String::new(alloc);
+    push_references(&mut text, project.get_references())?;
+    let names = project.get_module_names(alloc)?;
+    push_modules(alloc, &mut text, project, &names)?;
+    Ok(text)
+}
+
+/// The line of a refusal.
+fn refusal_of(alloc: Global, error: &VbaError) -> Result<String, AllocError>
+    ensures { IfOk result (λ text. string_bytes text ≡ error_line (vba_error_text error.now)) }
+{
+    let mut text = String::new(alloc);
+    write!(text, "error\t{error}\n")?;
+    Ok(text)
+}
+
+/// Whether memory ran out.
+fn is_memory(error: &VbaError) -> bool
+    ensures { IsTrue result ↔ (error.now ≡ Memory) }
+{
+    matches!(error, VbaError::Memory)
+}
+
+/// What is written of the bytes of a directory. Only running out of memory refuses.
+#[tactic(auto, using(crate::proofs::FaultLemmas::refused))]
+pub fn answer_of(alloc: Global, bytes: &[u8]) -> Result<Answer, AllocError>
+    ensures { IfOk result (IsAnswer bytes.now) }
+{
+    match VbaProject::from_dir(alloc, bytes) {
+        Ok(project) => Ok(Answer::Listed(listing_of(alloc, &project)?)),
+        Err(error) if is_memory(&error) => Err(AllocError),
+        Err(error) => Ok(Answer::Refused(refusal_of(alloc, &error)?)),
+    }
+}
