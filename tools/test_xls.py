@@ -1,0 +1,365 @@
+#!/usr/bin/python3
+"""Tests of tools/xls, over compound files made here and the samples. The programs are stood in for by
+small scripts; what needs the built ones is passed over where they aren't there."""
+
+import importlib.machinery
+import importlib.util
+import os
+import re
+import subprocess
+import sys
+import tempfile
+import unittest
+
+TOOLS = os.path.dirname(os.path.realpath(__file__))
+TOP = os.path.dirname(TOOLS)
+sys.path.insert(0, TOOLS)
+sys.dont_write_bytecode = True
+
+from cfb import compound_file  # noqa: E402
+
+loader = importlib.machinery.SourceFileLoader("xls", f"{TOOLS}/xls")
+xls = importlib.util.module_from_spec(importlib.util.spec_from_loader("xls", loader))
+loader.exec_module(xls)
+
+BUILT = {name: f"{TOP}/crates/{name}/out/{name}" for name in ("xls_dump", "vba_dir")}
+
+# A program that writes the words that it was given, and its input in hexadecimal. A word that it
+# doesn't know ends with status 2, input that begins with `bad` with 1, with `big` with 5.
+FAKE = """#!/usr/bin/python3
+import sys
+words, data = sys.argv[1:], sys.stdin.buffer.read()
+if words[:1] and words[0] not in ("dump", "sheets", "props"):
+    sys.exit(2)
+if data.startswith(b"bad"):
+    print("error\\tEnd of stream 'dbcs'")
+    sys.exit(1)
+if data.startswith(b"big"):
+    sys.exit(5)
+if data.startswith(b"dates"):
+    sys.stdout.buffer.write(data)
+else:
+    print(" ".join(words), data.hex())
+"""
+
+DUMP = r"""dates	1900
+name	Total	Data!$B$2
+sheet	Data	worksheet	visible
+cell	0	0	text	a\tb, "c"\\d
+cell	0	2	float	0x3fd5555555555555
+cell	1	0	int	-12
+cell	1	1	date	45351
+cell	1	2	date	0x40e624f2582d82d8
+cell	2	0	span	0x3ff4000c22e45067
+cell	2	1	float	0x4004000000000000/100
+cell	2	2	bool	true
+formula	0	2	IF(A1>0x3fb999999999999a,"0x3fb999999999999a",1)
+sheet	Data	worksheet	hidden
+cell	5	5	text	last
+sheet	a/b	worksheet	visible
+"""
+
+
+class Files(unittest.TestCase):
+    """Files in a folder of their own, and the script run on them."""
+
+    def setUp(self):
+        room = tempfile.TemporaryDirectory()
+        self.addCleanup(room.cleanup)
+        self.room = room.name
+        self.fake = self.put("fake", FAKE.encode())
+        os.chmod(self.fake, 0o755)
+
+    def put(self, name, data):
+        path = f"{self.room}/{name}"
+        os.makedirs(os.path.dirname(path), exist_ok=True)
+        with open(path, "wb") as file:
+            file.write(data)
+        return path
+
+    def book(self, name, streams):
+        return self.put(name, compound_file(streams))
+
+    def run_xls(self, *words, given=b"", **environment):
+        programs = {"XLS_DUMP": self.fake, "VBA_DIR": self.fake}
+        done = subprocess.run(
+            [f"{TOOLS}/xls", *words],
+            input=given,
+            capture_output=True,
+            env={**os.environ, **programs, **environment},
+        )
+        return done.returncode, done.stdout.decode(), done.stderr.decode()
+
+    def refused(self, status, part, *words, **environment):
+        """The script ends with this status, says why, and writes nothing."""
+        found, out, err = self.run_xls(*words, **environment)
+        self.assertEqual((found, out), (status, ""), err)
+        self.assertIn(part, err)
+        self.assertNotIn("Traceback", err)
+
+
+class Streams(Files):
+    def test_finds_the_stream_whatever_its_case(self):
+        for name in ("Workbook", "WORKBOOK", "workbook", "Book", "BOOK"):
+            book = self.book("b.xls", {name: b"ab", "Other": b"x" * 5000})
+            self.assertEqual(self.run_xls(book), (0, "dump 6162\n", ""))
+
+    def test_takes_the_newer_of_both_streams(self):
+        book = self.book("b.xls", {"Book": b"old", "Workbook": b"new" * 2000})
+        self.assertEqual(self.run_xls(book, "--stream")[1], "new" * 2000)
+
+    def test_looks_in_the_root_alone(self):
+        inner = self.book("b.xls", {"Inner": {"Workbook": b"inner"}})
+        self.refused(12, "no stream Workbook or Book", inner)
+
+    def test_both_orders_of_the_words(self):
+        book = self.book("b.xls", {"Workbook": b"ab"})
+        self.assertEqual(self.run_xls(book, "sheets"), (0, "sheets 6162\n", ""))
+        self.assertEqual(self.run_xls("sheets", book), (0, "sheets 6162\n", ""))
+
+    def test_both_property_streams(self):
+        names = ("\x05SummaryInformation", "\x05DocumentSummaryInformation")
+        both = self.book("b.xls", {names[0]: b"ab", names[1]: b"cd", "Workbook": b""})
+        self.assertEqual(self.run_xls(both, "props"), (0, "props 6162\nprops 6364\n", ""))
+        one = self.book("c.xls", {names[1].upper(): b"cd"})
+        self.assertEqual(self.run_xls(one, "props")[1], "props 6364\n")
+        self.refused(12, "no property streams", self.book("d.xls", {"Workbook": b""}), "props")
+
+    def test_the_directory_of_a_macro_project(self):
+        packed = bytes.fromhex("01 19 B0 00") + b"abcdefgh\0ijklmnop\0qrstuv."
+        book = self.book("b.xls", {"_VBA_PROJECT_CUR": {"VBA": {"dir": packed}}})
+        self.assertEqual(self.run_xls("vba", book), (0, " " + b"abcdefghijklmnopqrstuv.".hex() + "\n", ""))
+        self.refused(12, "no macro project", self.book("c.xls", {"Workbook": b""}), "vba")
+        bad = self.book("d.xls", {"VBA": {"dir": b"\x02"}})
+        self.refused(12, "VBA/dir is damaged", bad, "vba")
+
+
+class Refusals(Files):
+    def test_what_is_no_compound_file(self):
+        for data, part in (
+            (b"", "it is empty"),
+            (b"PK\x03\x04..", "ZIP"),
+            (b"\x09\x08\x10\x00", "xls_dump itself"),
+            (b"\x09\x04\x06\x00", "Excel 4"),
+            (b"<html>", "HTML"),
+            (b"a,b\n", "other bytes"),
+        ):
+            self.refused(11, part, self.put("b.xls", data))
+
+    def test_damaged_compound_files(self):
+        whole = compound_file({"Workbook": b"x" * 9000})
+        for length in (8, 300, 512, 700, 1024):
+            status, out, err = self.run_xls(self.put("b.xls", whole[:length]))
+            self.assertIn(status, (11, 12), err)
+            self.assertEqual(out, "")
+            self.assertNotIn("Traceback", err)
+
+    def test_missing_things(self):
+        book = self.book("b.xls", {"Workbook": b"ab"})
+        self.refused(10, "No such file", f"{self.room}/none.xls")
+        self.refused(13, "isn't built", book, XLS_DUMP=f"{self.room}/none")
+        self.put("lib/olefile.py", b"raise ImportError\n")
+        self.refused(14, "python3-olefile", book, PYTHONPATH=f"{self.room}/lib")
+
+    def test_obfuscated_records(self):
+        head = bytes.fromhex("09081000 00060500 BB0D CC07 00000000 06000000")
+        path = head + bytes.fromhex("2F000600 0000 3412 7856") + b"x" * 90
+        self.refused(17, "obfuscated", self.book("b.xls", {"Workbook": path}))
+        path = head + bytes.fromhex("2F000600 0100 0100 0100") + b"x" * 90
+        self.assertEqual(self.run_xls(self.book("c.xls", {"Workbook": path}))[0], 0)
+
+    def test_words(self):
+        book = self.book("b.xls", {"Workbook": b"ab"})
+        for words in ([], [book, "dmp"], [book, "csv"], [book, "sheets", "x"], [book, "--x"], [book, "-j", "0"]):
+            self.refused(15, "tools/xls --help", *words)
+
+    def test_commands_that_are_not_built_yet(self):
+        book = self.book("b.xls", {"Workbook": b"ab"})
+        for command in ("check", "refs", "remake"):
+            self.refused(2, f"doesn't know the command '{command}'", book, command)
+        self.refused(2, "doesn't know", "--exact", "csv", "Data", book)
+        self.refused(2, "doesn't know", "check", self.room)
+
+    def test_the_status_of_the_program(self):
+        book = self.book("b.xls", {"Workbook": b"bad"})
+        self.assertEqual(self.run_xls(book), (1, "error\tEnd of stream 'dbcs'\n", ""))
+        self.refused(5, "out of memory", self.book("c.xls", {"Workbook": b"big"}))
+
+
+class Folders(Files):
+    def setUp(self):
+        super().setUp()
+        self.book("f/a.xls", {"Workbook": b"ab"})
+        self.book("f/g/B.XLS", {"Workbook": b"bad"})
+        self.put("f/c.xls", b"PK\x03\x04")
+        self.book("f/d.xls", {"Workbook": b"big"})
+        self.put("f/readme.txt", b"")
+
+    def test_a_line_for_each_file_and_a_count(self):
+        lines = [
+            f"ok\t{self.room}/f/a.xls",
+            f"unread\t{self.room}/f/c.xls\tno compound file: it is a ZIP file, as .xlsx, .xlsb and .ods are",
+            f"failed\t{self.room}/f/d.xls\tout of memory",
+            f"refused\t{self.room}/f/g/B.XLS\tEnd of stream 'dbcs'",
+        ]
+        count = "files\t4\t1 ok\t1 refused\t1 unread\t1 failed"
+        for jobs in ("1", "3"):
+            status, out, err = self.run_xls("sheets", f"{self.room}/f/", "-j", jobs)
+            self.assertEqual((status, out.splitlines(), err), (1, [*lines, count], ""))
+        names = "".join(f"{line.split(chr(9))[1]}\n" for line in lines).encode()
+        status, out, err = self.run_xls("sheets", "-", given=names)
+        self.assertEqual((status, out.splitlines(), err), (1, lines, count + "\n"))
+
+    def test_all_are_ok(self):
+        status, out, _ = self.run_xls("sheets", f"{self.room}/f/g")
+        self.assertEqual(status, 1)
+        self.book("h/a.xls", {"Workbook": b"ab"})
+        self.assertEqual(self.run_xls("sheets", f"{self.room}/h")[0], 0)
+
+    def test_options_for_one_file(self):
+        self.refused(15, "want one file", f"{self.room}/f", "--stream")
+        self.refused(15, "want one file", f"{self.room}/f", "--all-sheets", f"{self.room}/o")
+
+
+class Decimals(Files):
+    def test_a_dump(self):
+        book = self.book("b.xls", {"Workbook": DUMP.encode()})
+        self.assertEqual(self.run_xls(book)[1], DUMP)
+        for line in (
+            "cell\t0\t2\tfloat\t0.3333333333333333",
+            "cell\t1\t1\tdate\t2024-02-29",
+            "cell\t1\t2\tdate\t2024-02-29T13:45:30",
+            "cell\t2\t0\tspan\tPT30H0M1S",
+            "cell\t2\t1\tfloat\t0.025",
+            'formula\t0\t2\tIF(A1>0.1,"0x3fb999999999999a",1)',
+        ):
+            self.assertIn(line, self.run_xls(book, "--decimal")[1].splitlines())
+
+    def test_csv(self):
+        book = self.book("b.xls", {"Workbook": DUMP.encode()})
+        status, out, _ = self.run_xls(book, "csv", "Data")
+        self.assertEqual((status, out), (0, "last\n"))
+        self.assertEqual(self.run_xls("csv", "a/b", book), (0, "", ""))
+        none = "error\tWorksheet 'c' not found\n"
+        self.assertEqual(self.run_xls("csv", "c", book), (1, none, ""))
+        folder = f"{self.room}/out"
+        status, out, _ = self.run_xls(book, "--all-sheets", folder)
+        files = [f"{folder}/1-Data.csv", f"{folder}/2-Data.csv", f"{folder}/3-a_b.csv"]
+        self.assertEqual((status, out.splitlines()), (0, files))
+        with open(files[0], encoding="utf-8") as file:
+            self.assertEqual(
+                file.read(),
+                '"a\tb, ""c""\\d",,0.3333333333333333\n'
+                "-12,2024-02-29,2024-02-29T13:45:30\nPT30H0M1S,0.025,true\n",
+            )
+        self.refused(16, "", book, "--all-sheets", f"{self.fake}/out")
+
+    def test_numbers(self):
+        for text, number in (
+            ("123.45", "123.45"),
+            ("-0", "-0"),
+            ("0x3fb999999999999a", "0.1"),
+            ("0x4340000000000000", "9007199254740992"),
+            ("0x7fefffffffffffff", "1.7976931348623157e+308"),
+            ("0x0000000000000001", "5e-324"),
+            ("0x7ff8000000000000", "0x7ff8000000000000"),
+            ("0x4004000000000000/100", "0.025"),
+        ):
+            self.assertEqual(xls.number_text(text), number)
+
+    def test_numbers_read_back(self):
+        for bits in range(0, 1 << 63, (1 << 63) // 997):
+            double = xls.struct.unpack(">d", bits.to_bytes(8, "big"))[0]
+            if double == double and abs(double) != float("inf"):
+                self.assertEqual(float(xls.number_text(f"0x{bits:016x}")), double)
+
+    # Excel's own dates: day 60 of 1900 doesn't exist, and 1904 begins with day 0.
+    def test_dates(self):
+        for text, is_1904, date in (
+            ("1", False, "1900-01-01"),
+            ("59", False, "1900-02-28"),
+            ("60", False, "1900-02-29"),
+            ("61", False, "1900-03-01"),
+            ("2958465", False, "9999-12-31"),
+            ("2958466", False, "2958466"),
+            ("1", True, "1904-01-02"),
+            ("2957003", True, "9999-12-31"),
+            ("0.5", False, "12:00:00"),
+            ("0", False, "00:00:00"),
+            ("45351.5", False, "2024-02-29T12:00:00"),
+            ("-1.5", False, "-1.5"),
+        ):
+            self.assertEqual(xls.date_text(text, is_1904), date)
+        # a hundredth of a second below midnight, and below a millisecond
+        self.assertEqual(xls.date_text("45351.99999999999", False), "2024-03-01")
+
+    def test_spans(self):
+        self.assertEqual(xls.span_text("1.25"), "PT30H0M0S")
+        self.assertEqual(xls.span_text("-0.5"), "-PT12H0M0S")
+
+    # The three examples of [MS-OVBA] 3.2.
+    def test_decompression(self):
+        for packed, text in (
+            ("0119B000" + b"abcdefgh\0ijklmnop\0qrstuv.".hex(), "abcdefghijklmnopqrstuv."),
+            (
+                "012FB00023616161626364658266007061676869 6A01380861 6B6C00306D6E6F700671027004107273"
+                "74757610777879 7A003C",
+                "#aaabcdefaaaaghijaaaaaklaaamnopqaaaaaaaaaaaarstuvwxyzaaa",
+            ),
+            ("0103B002614500", "a" * 73),
+        ):
+            self.assertEqual(xls.decompressed(bytes.fromhex(packed)).decode(), text)
+        for packed in ("", "00", "0103", "0103 8002", "0103B0FF FFFF"):
+            with self.assertRaises(ValueError):
+                xls.decompressed(bytes.fromhex(packed))
+
+
+class Documents(unittest.TestCase):
+    def test_quoted_blocks(self):
+        """A block that begins with the name of a file is quoted from it; `..` leaves lines out."""
+        found = 0
+        for document in ("docs/CALLING.md", "crates/xls_rows/README.md"):
+            with open(f"{TOP}/{document}", encoding="utf-8") as file:
+                blocks = re.findall(r"```(?:rust|antt)\n(?://|--) (crates/\S+)\n(.*?)```", file.read(), re.S)
+            for name, block in blocks:
+                with open(f"{TOP}/{name}", encoding="utf-8") as file:
+                    text = file.read()
+                for part in block.split("\n..\n"):
+                    self.assertIn(part.strip("\n"), text, f"{document}: {name}")
+                    found += 1
+        self.assertGreater(found, 6)
+
+
+@unittest.skipUnless(os.access(BUILT["xls_dump"], os.X_OK), "xls_dump isn't built")
+class Built(Files):
+    """The samples, through the built program."""
+
+    def run_built(self, *words):
+        return self.run_xls(*words, XLS_DUMP=BUILT["xls_dump"], VBA_DIR=BUILT["vba_dir"])
+
+    def test_the_ledger(self):
+        status, out, err = self.run_built(f"{TOP}/samples/ledger.xls")
+        with open(f"{TOP}/samples/ledger.xls-stream", "rb") as file:
+            stream = file.read()
+        done = subprocess.run([BUILT["xls_dump"]], input=stream, capture_output=True)
+        self.assertEqual((status, out, err), (0, done.stdout.decode(), ""))
+        self.assertIn("cell\t1\t1\tfloat\t4.5", self.run_built(f"{TOP}/samples/ledger.xls", "--decimal")[1])
+
+    def test_its_properties(self):
+        out = self.run_built("props", f"{TOP}/samples/ledger.xls")
+        self.assertEqual(out, (0, "title\tLedger\ncreator\tAnna\ncompany\tÅlesund AS\n", ""))
+
+    def test_too_little_memory(self):
+        found = self.run_built(f"{TOP}/samples/ledger.xls", "--memory", "1")
+        self.assertNotEqual(found[0], 0)
+        self.assertEqual(found[1], "")
+
+    @unittest.skipUnless(os.access(BUILT["vba_dir"], os.X_OK), "vba_dir isn't built")
+    def test_its_macro_project(self):
+        status, out, _ = self.run_built("vba", f"{TOP}/samples/ledger.xls")
+        self.assertEqual(status, 0)
+        self.assertIn("reference\tstdole\tOLE Automation\tC:\\\\stdole2.tlb\n", out)
+
+
+if __name__ == "__main__":
+    unittest.main()
