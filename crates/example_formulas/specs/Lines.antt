@@ -4,8 +4,8 @@ use Rattle.std.specs.List.{flat_map}
 use Rattle.std.specs.Fmt.{decimal}
 use Rattle.xls_bytes.specs.Columns.{column_name}
 use Rattle.xls_data.specs.Sheets.{SheetContent}
-use Rattle.xls_book.specs.SheetTable.{FormulaEntry, shown_formulas}
-use Rattle.xls_book.specs.Reading.{SheetView}
+use Rattle.xls_reading.specs.SheetTable.{FormulaEntry, shown_formulas}
+use Rattle.xls_reading.specs.Reading.{SheetView}
 
 -- a backslash, a newline, a return and a tab as two characters each
 abbrev pub escaped_char : ℕ → List ℕ

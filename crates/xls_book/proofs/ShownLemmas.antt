@@ -6,8 +6,9 @@ use Rattle.std.proofs.lemmas.Str.{IsUtf8-string_bytes, chars-IsAscii, encodes-ch
 use Rattle.std.proofs.lemmas.Str.Ascii.{IsAscii-nil}
 use Rattle.xls_strings.specs.Texts.{text_of}
 use Rattle.xls_cells.specs.Positions.{Position}
-use Rattle.xls_book.specs.SheetTable.{FormulaEntry, shown_formulas}
-use Rattle.xls_book.specs.Steps.{formula_content, BeginsShown}
+use Rattle.xls_reading.specs.SheetTable.{FormulaEntry, shown_formulas}
+use Rattle.xls_open.specs.Workbook.{formula_content}
+use Rattle.xls_book.specs.Steps.{BeginsShown}
 
 module _ (p : Position) (fs : List FormulaEntry) where
   shown_none : (cs : List ℕ) → cs ≡ [] → shown_formulas ((p, cs) ∷ fs) ≡ shown_formulas fs

@@ -1,12 +1,2 @@
-pub mod Order
-pub mod InForce
-pub mod GlobalsTable
-pub mod SheetTable
-pub mod Reading
-pub mod Faults
-pub mod Causes
-pub mod Feed
-pub mod Opening
 pub mod Steps
 pub mod LookUps
-pub mod Laws

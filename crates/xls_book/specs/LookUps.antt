@@ -16,18 +16,13 @@ use Rattle.xls_data.specs.declared.regions.HeaderRow.TheVariants.{FirstNonEmptyR
 use Rattle.xls_data.specs.declared.values.Data.{Data}
 use Rattle.xls_range.specs.Grid.{Grid, no_cells, start_of, end_of, cell_at, IsOfCorners, Shows}
 use Rattle.xls_range.specs.Sparse.{IsDense}
-use Rattle.xls_cells.specs.Positions.{Position, IsAscending}
+use Rattle.xls_cells.specs.Positions.{Position}
 use Rattle.xls_biff.specs.Cells.{Entry}
 use Rattle.xls_strings.specs.declared.error.XlsError.{XlsError}
 use Rattle.xls_strings.specs.declared.error.XlsError.TheVariants as errors
-use Rattle.xls_book.specs.Reading.{SheetView, Workbook}
-use Rattle.xls_book.specs.SheetTable.{FormulaEntry}
-use Rattle.xls_book.specs.Steps.{cell_content, formula_content}
-
--- the cells of a sheet stand in order, and its formulas
-abbrev pub IsOrdered : SheetView → Type 0
-IsOrdered v = IsAscending (map (λ (c : Entry). c.0) v.cells)
-    × IsAscending (map (λ (f : FormulaEntry). f.0) v.formulas)
+use Rattle.xls_reading.specs.Reading.{SheetView}
+use Rattle.xls_open.specs.Workbook.{Workbook, cell_content, formula_content}
+use Rattle.xls_reading.specs.SheetTable.{FormulaEntry}
 
 -- the workbook with this header row, and else as it was
 abbrev pub under_header : Workbook → HeaderRow → Workbook

@@ -14,9 +14,8 @@ pub struct Formulas<'a> {
 
 impl<'a> Model for Formulas<'a> {
     ghost use Rattle.std.specs.Prelude.{List, map};
-    ghost use Rattle.xls_book.specs.SheetTable.{shown_formulas};
-    ghost use Rattle.xls_book.specs.SheetTable.{FormulaEntry};
-    ghost use Rattle.xls_book.specs.Steps.{formula_content};
+    ghost use Rattle.xls_reading.specs.SheetTable.{shown_formulas, FormulaEntry};
+    ghost use Rattle.xls_open.specs.Workbook.{formula_content};
 
     ghost Value = { List FormulaEntry };
 
@@ -71,8 +70,8 @@ fn first_shown(cells: &[Cell<String>]) -> Option<(u32, u32, &str, &[Cell<String>
 
 impl<'a> Formulas<'a> {
     ghost use Rattle.std.specs.Prelude.{◌≡◌, map};
-    ghost use Rattle.xls_book.specs.SheetTable.{shown_formulas};
-    ghost use Rattle.xls_book.specs.Steps.{formula_content};
+    ghost use Rattle.xls_reading.specs.SheetTable.{shown_formulas};
+    ghost use Rattle.xls_open.specs.Workbook.{formula_content};
 
     pub(crate) fn new(cells: &'a [Cell<String>]) -> Formulas<'a>
         ensures { result ≡ shown_formulas (map formula_content cells.now) }

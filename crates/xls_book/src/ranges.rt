@@ -5,14 +5,16 @@ ghost use Rattle.std.specs.List.{AllByRecursion};
 ghost use Rattle.std.specs.String.{string_bytes};
 ghost use Rattle.xls_data.specs.Sheets.{sheet_content};
 ghost use Rattle.xls_data.specs.Data.{is_nothing};
-ghost use Rattle.xls_book.specs.LookUps.{AreWorksheets, IsBox, IsCut, IsOrdered, IsRange, IsTextBox, Worksheet, is_empty_text};
-ghost use Rattle.xls_book.specs.Reading.{last_named};
-ghost use Rattle.xls_book.specs.Steps.{IsIndex, paired};
+ghost use Rattle.xls_book.specs.LookUps.{AreWorksheets, IsBox, IsCut, IsRange, IsTextBox, Worksheet, is_empty_text};
+ghost use Rattle.xls_open.specs.Workbook.{IsOrdered};
+ghost use Rattle.xls_reading.specs.Reading.{last_named};
+ghost use Rattle.xls_book.specs.Steps.{IsIndex};
+ghost use Rattle.xls_reading.specs.Reading.{paired};
 
-use crate::part::Content;
 use std::alloc::{AllocError, Global};
 use std::collections::BTreeMap;
 use xls_data::{Data, HeaderRow, Sheet};
+use xls_open::Content;
 use xls_range::Range;
 
 /// The smallest box with a sheet's cells, and blanks elsewhere. A box of 2^64 cells or more doesn't fit

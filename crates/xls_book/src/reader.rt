@@ -7,19 +7,19 @@ ghost use Rattle.std.specs.Str.{chars};
 ghost use Rattle.xls_data.specs.Sheets.{SheetContent, sheet_content};
 ghost use Rattle.xls_data.specs.declared.regions.HeaderRow.TheVariants.{FirstNonEmptyRow};
 ghost use Rattle.xls_strings.specs.Texts.{text_of};
-ghost use Rattle.xls_book.specs.Reading.{SheetView, Workbook};
-ghost use Rattle.xls_book.specs.Steps.{told_of, view_named};
+ghost use Rattle.xls_reading.specs.Reading.{SheetView};
+ghost use Rattle.xls_open.specs.Workbook.{Workbook, told_of, view_named};
 ghost use Rattle.xls_book.specs.LookUps.{AreWorksheets, IsRange, IsTextBox, NameCause, is_empty_text, names_in, under_header};
-ghost use Rattle.xls_book.specs.Opening.{Opens, default_options};
+ghost use Rattle.xls_open.specs.Opening.{Opens, default_options};
 
-use crate::options::XlsOptions;
 use crate::ranges::{range_of, text_box_of};
-use crate::source::Source;
 use crate::xls::{Metadata, Xls, not_found};
 use std::alloc::{AllocError, Global};
 use xls_biff::XlsError;
 use xls_data::{Data, HeaderRow, Sheet};
+use xls_open::XlsOptions;
 use xls_range::Range;
+use xls_source::Source;
 
 /// A workbook that was opened from a stream.
 pub trait Reader: Sized {

@@ -13,7 +13,7 @@ pub struct Values<'a> {
 impl<'a> Model for Values<'a> {
     ghost use Rattle.std.specs.Prelude.{List, map};
     ghost use Rattle.xls_biff.specs.Cells.{Entry};
-    ghost use Rattle.xls_book.specs.Steps.{cell_content};
+    ghost use Rattle.xls_open.specs.Workbook.{cell_content};
 
     ghost Value = { List Entry };
 
@@ -44,7 +44,7 @@ impl<'a> Iterator for Values<'a> {
 
 impl<'a> Values<'a> {
     ghost use Rattle.std.specs.Prelude.{◌≡◌, map};
-    ghost use Rattle.xls_book.specs.Steps.{cell_content};
+    ghost use Rattle.xls_open.specs.Workbook.{cell_content};
 
     pub(crate) fn new(cells: &'a [Cell<Data>]) -> Values<'a>
         ensures { result ≡ map cell_content cells.now }

@@ -7,35 +7,26 @@ ghost use Rattle.std.specs.Str.{chars};
 ghost use Rattle.xls_data.specs.Data.{is_nothing};
 ghost use Rattle.xls_data.specs.Sheets.{SheetContent, sheet_content};
 ghost use Rattle.xls_props.specs.Properties.{IsProperties};
-ghost use Rattle.xls_book.specs.Opening.{IsOfOpening, IsOpened, OpenCause, Opens};
-ghost use Rattle.xls_book.specs.Reading.{SheetView};
-ghost use Rattle.xls_book.specs.GlobalsTable.{forced_fault};
-ghost use Rattle.xls_book.specs.InForce.{page_in};
-ghost use Rattle.xls_book.specs.LookUps.{AreWorksheets, GivesMerges, IsOrdered, NameCause, out_of_range, under_header};
-ghost use Rattle.xls_book.specs.SheetTable.{shown_formulas};
-ghost use Rattle.xls_book.specs.Steps.{OpensStream, ReadsContents, items_of, listed_of, told_of, view_named};
+ghost use Rattle.xls_open.specs.Opening.{IsOfOpening, IsOpened, OpenCause, Opens};
+ghost use Rattle.xls_reading.specs.Reading.{SheetView};
+ghost use Rattle.xls_book.specs.LookUps.{AreWorksheets, GivesMerges, NameCause, out_of_range, under_header};
+ghost use Rattle.xls_open.specs.Workbook.{IsOrdered, told_of, view_named};
+ghost use Rattle.xls_reading.specs.SheetTable.{shown_formulas};
+ghost use Rattle.xls_open.specs.Steps.{IsReady, book_of};
 
-use crate::classes::classes_of;
-use crate::force::InForce;
 use crate::formulas::Formulas;
-use crate::globals::{Globals, read_globals};
 use crate::index::{find_named, index_of};
-use crate::listed::Listed;
-use crate::names::naming_of;
-use crate::options::XlsOptions;
-use crate::part::{Content, read_sheet};
 use crate::ranges::list_worksheets;
-use crate::reading::{StreamBytes, read_all};
-use crate::source::Source;
 use crate::values::Values;
 use std::alloc::{AllocError, Global};
 use std::collections::BTreeMap;
 use std::marker::Model;
 use xls_biff::XlsError;
 use xls_data::{CellFormat, Data, Dimensions, HeaderRow, Sheet};
+use xls_open::{Content, Opened, XlsOptions, open};
 use xls_props::{WorkbookProperties, workbook_properties_of};
 use xls_range::Range;
-use xls_text::XlsEncoding;
+use xls_source::{Source, StreamBytes};
 
 /// What is told of a whole workbook.
 #[derive(Drop)]
@@ -63,10 +54,11 @@ pub struct Xls {
 impl Model for Xls {
     ghost use Rattle.std.specs.Prelude.{◌≡◌, length, map};
     ghost use Rattle.xls_data.specs.Sheets.{sheet_content};
-    ghost use Rattle.xls_book.specs.Reading.{Workbook};
+    ghost use Rattle.xls_open.specs.Workbook.{Workbook, told_of, IsOrdered};
     ghost use Rattle.std.specs.List.{AllByRecursion};
-    ghost use Rattle.xls_book.specs.Steps.{paired, shown, told_of, IsIndex};
-    ghost use Rattle.xls_book.specs.LookUps.{IsOrdered};
+    ghost use Rattle.xls_reading.specs.Reading.{paired};
+    ghost use Rattle.xls_open.specs.Steps.{shown};
+    ghost use Rattle.xls_book.specs.Steps.{IsIndex};
 
     ghost Value = { Workbook };
 
@@ -83,46 +75,20 @@ impl Model for Xls {
         × IsIndex b.index b.metadata.sheets.items × AllByRecursion IsOrdered b.contents.items };
 }
 
-/// The workbook of a stream within the limit, under a forced page that is kept.
-fn open_stream(
-    alloc: Global,
-    stream: &[u8],
-    options: XlsOptions,
-    page: XlsEncoding,
-) -> Result<Xls, XlsError>
-    requires kept { forced_fault options.force_codepage ≡ None }
-    requires first { page ≡ page_in options [] }
-    ensures { OpensStream options stream.now result }
+/// The workbook of what was opened, with the place of the last sheet of each name.
+fn indexed(alloc: Global, opened: Opened) -> Result<Xls, AllocError>
+    requires { IsReady opened }
+    ensures { IfOk result (λ book. book ≡ book_of opened) }
 {
-    let globals = read_globals(alloc, stream, page, &options)?;
-    let Globals {
-        page,
-        version,
-        is_1904,
-        formats,
-        identifiers,
-        strings,
-        refs,
+    let Opened {
+        options,
+        sheets,
         names,
-        listed,
-    } = globals;
-    let classes = classes_of(alloc, &formats, &identifiers)?;
-    let naming = naming_of(alloc, version, &listed, refs, names)?;
-    let force = InForce {
-        page,
-        version,
-        classes: &classes,
-        strings: &strings,
+        contents,
         is_1904,
-        sheets: &naming.sheets,
-        names: &naming.names,
-        refs: &naming.refs,
-        functions: &options.functions,
-    };
-    let contents = read_contents(alloc, stream, &listed, &force, &options)?;
-    let sheets = sheets_of(alloc, listed)?;
+        classes,
+    } = opened;
     let index = index_of(alloc, &sheets)?;
-    let names = naming.told;
     Ok(Xls {
         options,
         metadata: Metadata { sheets, names },
@@ -133,37 +99,8 @@ fn open_stream(
     })
 }
 
-/// The contents of the sheets that the globals list, in order.
-fn read_contents(
-    alloc: Global,
-    stream: &[u8],
-    listed: &[Listed],
-    force: &InForce<'_>,
-    options: &XlsOptions,
-) -> Result<Vec<Content>, XlsError>
-    ensures { ReadsContents options.now force.now stream.now (map listed_of listed.now) (items_of result) }
-{
-    let mut contents = Vec::new(alloc);
-    for next in listed {
-        let content = read_sheet(alloc, stream, next.offset, force, options)?;
-        contents.push(content)?;
-    }
-    Ok(contents)
-}
-
-/// The sheets without their offsets.
-fn sheets_of(alloc: Global, listed: Vec<Listed>) -> Result<Vec<Sheet>, AllocError>
-    ensures { IfOk result (λ sheets. map sheet_content sheets.items ≡ map (λ (q : ℕ × SheetContent). q.1) (map listed_of listed.items)) }
-{
-    let mut sheets = Vec::new(alloc);
-    for next in listed {
-        sheets.push(next.sheet)?;
-    }
-    Ok(sheets)
-}
-
 /// Reads the source to its end and opens the bytes. The clauses are those of `new_with_options`.
-fn open<S: Source>(alloc: Global, source: &mut S, options: XlsOptions) -> Result<Xls, XlsError>
+fn read_book<S: Source>(alloc: Global, source: &mut S, options: XlsOptions) -> Result<Xls, XlsError>
     ensures ok { IfOk result (λ book. IfSome (S.left source.old) (IsOpened options book)) }
     ensures end { IfOk result (λ _. IsAtEnd (S.left source.new)) }
     ensures cause { IfErr result (OpenCause options (S.left source.old) (S.faults source.old) (S.faults source.new)) }
@@ -172,9 +109,8 @@ fn open<S: Source>(alloc: Global, source: &mut S, options: XlsOptions) -> Result
         × Consumes (S.left source.old) (S.left source.new) taken }
     ensures count { S.faults source.old ≤ S.faults source.new }
 {
-    let bytes = read_all(alloc, source, options.max_bytes)?;
-    let page = options.first_page()?;
-    open_stream(alloc, bytes.as_slice(), options, page)
+    let opened = open(alloc, source, options)?;
+    Ok(indexed(alloc, opened)?)
 }
 
 /// A copy of some regions.
@@ -228,7 +164,7 @@ impl Xls {
     ) -> Result<Xls, XlsError>
         ensures { Opens options (S.left source.old) (S.left source.new) (S.faults source.old) (S.faults source.new) result }
     {
-        open(alloc, source, options)
+        read_book(alloc, source, options)
     }
 
     /// The values of the sheet at an index, which are those of the last sheet of its name. `None`
@@ -237,7 +173,7 @@ impl Xls {
         ensures { result ≡ option_map (λ (v : SheetView). v.cells) (slice_get self.now.contents n) }
     {
         match self.content_at(n) {
-            Some(content) => Some(content.values()),
+            Some(content) => Some(Values::new(&content.cells)),
             None => None,
         }
     }
@@ -249,7 +185,7 @@ impl Xls {
         ensures { result ≡ option_map (λ (v : SheetView). shown_formulas v.formulas) (slice_get self.now.contents n) }
     {
         match self.content_at(n) {
-            Some(content) => Some(content.shown_formulas()),
+            Some(content) => Some(Formulas::new(&content.formulas)),
             None => None,
         }
     }
@@ -260,7 +196,7 @@ impl Xls {
         ensures { option_copied result ≡ option_map (λ (v : SheetView). v.merges) (slice_get self.now.contents n) }
     {
         match self.content_at(n) {
-            Some(content) => Some(content.merges()),
+            Some(content) => Some(&content.merges),
             None => None,
         }
     }
@@ -275,7 +211,7 @@ impl Xls {
         ensures { IfOk result (GivesMerges (view_named self.now (chars name.now))) }
     {
         match self.content_named(name) {
-            Some(content) => Ok(Some(copy_of(alloc, content.merges())?)),
+            Some(content) => Ok(Some(copy_of(alloc, &content.merges)?)),
             None => Ok(None),
         }
     }
@@ -290,7 +226,7 @@ impl Xls {
         ensures { IfOk result (GivesMerges (slice_get self.now.contents n)) }
     {
         match self.content_at(n) {
-            Some(content) => Ok(Some(copy_of(alloc, content.merges())?)),
+            Some(content) => Ok(Some(copy_of(alloc, &content.merges)?)),
             None => Ok(None),
         }
     }
@@ -306,7 +242,7 @@ impl Xls {
         ensures refused { IfErr result (NameCause (view_named self.now (chars name.now)) name.now) }
     {
         match self.content_named(name) {
-            Some(content) => Ok(copy_of(alloc, content.merges())?),
+            Some(content) => Ok(copy_of(alloc, &content.merges)?),
             None => Err(not_found(alloc, name)),
         }
     }
@@ -322,7 +258,7 @@ impl Xls {
         ensures refused { IfErr result (NameCause (slice_get self.now.contents id) (out_of_range id)) }
     {
         match self.content_at(id) {
-            Some(content) => Ok(copy_of(alloc, content.merges())?),
+            Some(content) => Ok(copy_of(alloc, &content.merges)?),
             None => Err(no_index(alloc, id)),
         }
     }

@@ -5,8 +5,9 @@ use Rattle.std.specs.Io.KnownBytes.{Consumes, IsAtEnd}
 use Rattle.std.proofs.KnownBytes.{Consumes-whole, Keeps-refl}
 use Rattle.xls_strings.specs.declared.error.XlsError.{XlsError}
 use Rattle.xls_strings.specs.declared.error.XlsError.TheVariants as errors
-use Rattle.xls_book.specs.Reading.{Workbook}
-use Rattle.xls_book.specs.Opening.{OpenCause, ReadCause, IsOpened, default_options}
+use Rattle.xls_open.specs.Workbook.{Workbook}
+use Rattle.xls_open.specs.Opening.{OpenCause, IsOpened, default_options}
+use Rattle.xls_source.specs.Bounded.{ReadCause}
 use Rattle.xls_dump.specs.SinkState.{SinkState, TakesEach}
 use Rattle.xls_dump.specs.Gathering.{Stops}
 use Rattle.xls_dump.specs.Report.{fault_line, report, sheet_report}

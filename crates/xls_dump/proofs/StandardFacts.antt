@@ -6,8 +6,8 @@ use Rattle.xls_data.specs.declared.numbers.Number.TheVariants.{Whole}
 use Rattle.xls_data.specs.declared.sheets.SheetType.TheVariants.{WorkSheet, ChartSheet}
 use Rattle.xls_data.specs.declared.sheets.SheetVisible.TheVariants.{Visible, VeryHidden}
 use Rattle.xls_strings.specs.declared.error.XlsError.TheVariants.{Password, TooLarge}
-use Rattle.xls_book.specs.Reading.{Workbook}
-use Rattle.xls_book.specs.Opening.{default_options}
+use Rattle.xls_open.specs.Workbook.{Workbook}
+use Rattle.xls_open.specs.Opening.{default_options}
 use Rattle.xls_dump.specs.Lines.{escaped_text}
 use Rattle.xls_dump.specs.Summary.{summary_text}
 use Rattle.xls_dump.specs.Report.{cell_line, fault_line, report, sheet_report}

@@ -5,8 +5,8 @@ use Rattle.std.specs.Global.{Global}
 use Rattle.std.specs.List.{flat_map}
 use Rattle.std.proofs.lemmas.List.{append-nil}
 use Rattle.xls_data.specs.Sheets.{SheetContent}
-use Rattle.xls_book.specs.Reading.{SheetView}
-use Rattle.xls_book.specs.Steps.{told_of}
+use Rattle.xls_reading.specs.Reading.{SheetView}
+use Rattle.xls_open.specs.Workbook.{told_of}
 use Rattle.xls_dump.specs.Report.{lines_at, view_text, sheet_line, sheets_text, name_line}
 
 -- ---- sheets

@@ -3,7 +3,7 @@ use Rattle.std.specs.Prelude.{◌≡◌, ◌≢◌, ◌⊎◌, ℕ, ◌≤◌, L
 use Rattle.std.specs.Io.KnownBytes.{Appends, Keeps}
 use Rattle.xls_strings.specs.declared.error.XlsError.{XlsError}
 use Rattle.xls_strings.specs.declared.error.XlsError.TheVariants as errors
-use Rattle.xls_book.specs.Causes.{Rose}
+use Rattle.xls_source.specs.Causes.{Rose}
 use Rattle.xls_dump.specs.SinkState.{SinkState}
 use Rattle.xls_dump.specs.Written.{Writes, WritesPart}
 use Rattle.xls_dump.specs.Gathering.{Stops}

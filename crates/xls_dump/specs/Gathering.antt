@@ -2,7 +2,7 @@
 -- What was gathered and is not yet written is kept.
 use Rattle.std.specs.Prelude.{◌≡◌, ℕ, ◌+◌, ◌≤◌, List, ◌++◌, length, Option, Result, MatchResult}
 use Rattle.std.specs.Io.KnownBytes.{Appends}
-use Rattle.xls_book.specs.Causes.{Rose}
+use Rattle.xls_source.specs.Causes.{Rose}
 use Rattle.xls_dump.specs.SinkState.{SinkState}
 use Rattle.xls_dump.specs.Written.{AppendsPrefix}
 use Rattle.xls_dump.specs.declared.ending.Stop.{Stop}

@@ -7,9 +7,9 @@ use Rattle.xls_strings.specs.declared.error.XlsError.{XlsError}
 use Rattle.xls_strings.specs.declared.error.XlsError.TheVariants.{TooLarge}
 use Rattle.xls_props.specs.Properties.{IsProperties}
 use Rattle.xls_props.specs.declared.properties.WorkbookProperties.{WorkbookProperties}
-use Rattle.xls_book.specs.Reading.{Workbook}
-use Rattle.xls_book.specs.Faults.{FirstFault, IsSound}
-use Rattle.xls_book.specs.Opening.{IsOpened, default_options}
+use Rattle.xls_open.specs.Workbook.{Workbook}
+use Rattle.xls_reading.specs.Faults.{FirstFault, IsSound}
+use Rattle.xls_open.specs.Opening.{IsOpened, default_options, default_rules}
 use Rattle.xls_dump.specs.Report.{report, sheet_report, fault_line}
 use Rattle.xls_dump.specs.Properties.{property_lines}
 use Rattle.xls_dump.specs.Summary.{summary_text}
@@ -43,7 +43,7 @@ IsOutput (Generate n) left text = text ≡ summary_text n
 -- the line of the first fault
 abbrev pub IsFaultLine : Option (List ℕ) → List ℕ → Type 0
 IsFaultLine left text =
-    IfSome left (λ bytes. (e : XlsError) × FirstFault default_options bytes e
+    IfSome left (λ bytes. (e : XlsError) × FirstFault default_rules bytes e
     × (text ≡ fault_line e))
 
 -- the line of too many bytes
@@ -73,8 +73,8 @@ HasRead (Generate n) before after = after ≡ before
 -- bytes without a fault aren't refused, and those with one have no output
 abbrev pub EndsBySoundness : Option (List ℕ) → ℕ → Type 0
 EndsBySoundness left status = ((status ≡ 0) ⊎ (status ≡ 1) ⊎ (status ≡ 5))
-    × (status ≡ 1 → IfSome left (λ bytes. IsSound default_options bytes → ⊥))
-    × (status ≡ 0 → IfSome left (IsSound default_options))
+    × (status ≡ 1 → IfSome left (λ bytes. IsSound default_rules bytes → ⊥))
+    × (status ≡ 0 → IfSome left (IsSound default_rules))
 
 -- exactly too many bytes are refused
 abbrev pub EndsByLength : Option (List ℕ) → ℕ → Type 0

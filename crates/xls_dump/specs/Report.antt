@@ -17,8 +17,9 @@ use Rattle.xls_biff.specs.Cells.{Entry}
 use Rattle.xls_strings.specs.ErrorText.{error_text}
 use Rattle.xls_strings.specs.declared.error.XlsError.{XlsError}
 use Rattle.xls_data.specs.declared.regions.Dimensions.{Dimensions}
-use Rattle.xls_book.specs.Reading.{SheetView, Workbook}
-use Rattle.xls_book.specs.SheetTable.{FormulaEntry, shown_formulas}
+use Rattle.xls_reading.specs.Reading.{SheetView}
+use Rattle.xls_open.specs.Workbook.{Workbook}
+use Rattle.xls_reading.specs.SheetTable.{FormulaEntry, shown_formulas}
 use Rattle.xls_dump.specs.Lines.{line, escaped_text}
 
 -- ---- cells

@@ -3,7 +3,7 @@
 ghost use Rattle.std.specs.Prelude.{◌≡◌, ◌↔◌, ◌⊎◌, ◌+◌, ◌-◌, ◌^◌, ◌<◌, ◌≤◌, [], min, Some, ℕ, IfOk, OnOk, OnErr, IsErr, Contains, length};
 ghost use Rattle.std.specs.Io.{WritesAtMost};
 ghost use Rattle.std.specs.Io.KnownBytes.{WriteAppends};
-ghost use Rattle.xls_book.specs.Causes.{HasCause};
+ghost use Rattle.xls_source.specs.Causes.{HasCause};
 ghost use Rattle.xls_dump.specs.SinkState.{TakesPiece, empty_memory, memory_state};
 
 use crate::sink::{Sink, WriteFault};

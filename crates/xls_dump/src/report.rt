@@ -9,7 +9,7 @@ ghost use Rattle.xls_data.specs.Sheets.{sheet_content};
 ghost use Rattle.xls_dump.specs.Endings.{Delivers};
 ghost use Rattle.xls_dump.specs.Gathering.{Puts};
 ghost use Rattle.xls_dump.specs.Lines.{field_text};
-ghost use Rattle.xls_book.specs.Steps.{told_of};
+ghost use Rattle.xls_open.specs.Workbook.{told_of};
 ghost use Rattle.xls_dump.specs.Report.{cell_line, cells_at, dates_line, epoch_text, fault_line, formula_line, formulas_at, lines_at, merge_line, merges_at, name_line, report, sheet_line, sheet_report, sheets_text, type_text, value_fields, visible_text};
 
 use crate::buffer::Buffer;

@@ -3,7 +3,7 @@
 ghost use Rattle.std.specs.Prelude.{◌≡◌, ◌↔◌, ◌<◌, ◌≤◌, List, map};
 ghost use Rattle.std.specs.String.{string_bytes};
 ghost use Rattle.std.specs.Io.KnownBytes.{Keeps};
-ghost use Rattle.xls_book.specs.Causes.{Rose};
+ghost use Rattle.xls_source.specs.Causes.{Rose};
 ghost use Rattle.xls_dump.specs.Written.{Writes, WritesPart};
 ghost use Rattle.xls_dump.specs.Endings.{IsQuiet};
 ghost use Rattle.xls_dump.specs.Words.{IsCommand, OfCommand};

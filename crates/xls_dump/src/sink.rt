@@ -3,7 +3,7 @@
 ghost use Rattle.std.specs.Prelude.{◌≡◌, ◌-◌, ◌<◌, ◌≤◌, ℕ, length, IfOk, IsOk, OnOk};
 ghost use Rattle.std.specs.Io.{WritesAtMost};
 ghost use Rattle.std.specs.Io.KnownBytes.{WriteAppends, Appends};
-ghost use Rattle.xls_book.specs.Causes.{HasCause};
+ghost use Rattle.xls_source.specs.Causes.{HasCause};
 ghost use Rattle.xls_dump.specs.SinkState.{SinkState, TakesPiece};
 ghost use Rattle.xls_dump.specs.Written.{AppendsPrefix};
 

@@ -7,7 +7,7 @@ use Rattle.xls_data.specs.declared.values.Data.{Data}
 use Rattle.xls_range.specs.Sparse.{AreCorners}
 use Rattle.xls_cells.specs.Positions.{Position}
 use Rattle.xls_biff.specs.Cells.{Entry}
-use Rattle.xls_book.specs.Steps.{cell_content}
+use Rattle.xls_open.specs.Workbook.{cell_content}
 use Rattle.xls_made.specs.Made.{row_cells, made_cells}
 
 -- some element has the property

@@ -16,12 +16,12 @@ use Rattle.xls_range.specs.Sparse.{last_at}
 use Rattle.xls_range.proofs.CellLemmas.{cell_at_index}
 use Rattle.xls_cells.specs.Positions.{Position}
 use Rattle.xls_biff.specs.Cells.{Entry}
-use Rattle.xls_book.specs.Steps.{cell_content, view_named}
+use Rattle.xls_open.specs.Workbook.{cell_content, view_named, Workbook}
 use Rattle.xls_data.specs.declared.regions.HeaderRow.TheVariants.{FirstNonEmptyRow}
-use Rattle.xls_book.specs.Reading.{SheetView, Workbook}
-use Rattle.xls_book.specs.Opening.{default_options, IsOpened}
+use Rattle.xls_reading.specs.Reading.{SheetView}
+use Rattle.xls_open.specs.Opening.{default_options, IsOpened}
 use Rattle.xls_book.specs.LookUps.{IsBox, IsRange}
-use Rattle.xls_book.specs.declared.options.XlsOptions.{XlsOptions}
+use Rattle.xls_open.specs.declared.options.XlsOptions.{XlsOptions}
 use Rattle.xls_made.specs.Made.{made_word, row_cells, made_cells, made_view, made_stream, made_contents, used_in, sum_of_ints, IsNatural, IsMadeRange}
 use Rattle.xls_made.proofs.AscendingLemmas.{none_before}
 use Rattle.xls_made.proofs.ReadLemmas.{rows_after, opens}

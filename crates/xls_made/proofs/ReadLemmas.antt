@@ -12,13 +12,12 @@ use Rattle.xls_biff.specs.Cells.{Entry}
 use Rattle.xls_biff.specs.SheetTable.{CellContext, SheetRecord}
 use Rattle.xls_strings.specs.Reading.{gives}
 use Rattle.xls_strings.specs.declared.error.XlsError.{XlsError}
-use Rattle.xls_book.specs.Order.{along}
-use Rattle.xls_book.specs.InForce.{sheets_of, InForce, in_force_of, classes_in, texts_in, is_1904_in}
-use Rattle.xls_book.specs.SheetTable.{FormulaEntry, Given, one_cell, adds, given_in, last_formula}
-use Rattle.xls_book.specs.Reading.{SheetView, Workbook, IsReading, IsContent, IsShown, given_by, gifts_of, values_of, formulas_of, merges_of}
-use Rattle.xls_book.specs.Opening.{default_options, IsOpened}
-use Rattle.xls_book.specs.Steps.{paired}
-use Rattle.xls_book.specs.Reading.{last_named}
+use Rattle.xls_reading.specs.Order.{along}
+use Rattle.xls_reading.specs.InForce.{sheets_of, cells_of, InForce, in_force_of, classes_in, texts_in, is_1904_in}
+use Rattle.xls_reading.specs.SheetTable.{FormulaEntry, Given, one_cell, adds, given_in, last_formula}
+use Rattle.xls_reading.specs.Reading.{SheetView, IsReading, IsContent, IsShown, given_by, gifts_of, values_of, formulas_of, merges_of, last_named, paired}
+use Rattle.xls_open.specs.Workbook.{Workbook, view_of}
+use Rattle.xls_open.specs.Opening.{default_options, default_rules, IsOpened}
 use Rattle.xls_made.specs.Made.{made_word, made_stream, made_list, kept_row, made_kept, made_strings, row_cells, made_cells, made_head, made_view, IsMade}
 use Rattle.xls_made.proofs.CarryLemmas.{carries}
 use Rattle.xls_made.proofs.AscendingLemmas.{same_cells}
@@ -27,20 +26,20 @@ use Rattle.xls_made.proofs.GivenLemmas.{int_kept, word_kept, int_line, word_line
 -- ---- the globals
 
 -- one sheet, with its records
-sheets : (n : ℕ) → sheets_of default_options (made_list n) ≡ (made_head, made_kept n) ∷ []
+sheets : (n : ℕ) → sheets_of default_rules (made_list n) ≡ (made_head, made_kept n) ∷ []
 sheets n = refl
 
 -- no class of a format
-classes : (n : ℕ) → classes_in default_options (made_list n) ≡ []
+classes : (n : ℕ) → classes_in default_rules (made_list n) ≡ []
 classes n = refl
 
 -- the texts of the shared strings
-strings : (n : ℕ) → texts_in default_options (made_list n) ≡ made_strings
+strings : (n : ℕ) → texts_in default_rules (made_list n) ≡ made_strings
 unfolding utf16_chars
 strings n = refl
 
 -- the date system of 1900
-epoch : (n : ℕ) → is_1904_in default_options (made_list n) ≡ false
+epoch : (n : ℕ) → is_1904_in default_rules (made_list n) ≡ false
 epoch n = refl
 
 -- ---- the gifts of the rows
@@ -118,7 +117,7 @@ rows_ascend a (suc n) = (
 -- ---- the content
 
 -- those of the list are
-pub is_set : (n : ℕ) → IsSet (in_force_of default_options (made_list n)).cells
+pub is_set : (n : ℕ) → IsSet (cells_of default_rules (made_list n))
 is_set n = record { classes = classes n; strings = strings n; epoch = epoch n }
 
 -- views with equal parts are equal
@@ -132,9 +131,9 @@ same_view v w c f m =
 
 -- the content of the sheet is what was made
 content : (n : ℕ) → n ≤ 65536 → (v : SheetView)
-    → IsContent (in_force_of default_options (made_list n)) (made_kept n) v → v ≡ made_view n
+    → IsContent (in_force_of default_rules (made_list n)) (made_kept n) v → v ≡ made_view n
 content n h v c =
-    let s = in_force_of default_options (made_list n) in
+    let s = in_force_of default_rules (made_list n) in
     let is = range_with_len 0 n in
     let gifts : gifts_of s (made_kept n) ≡ flat_map row_gifts is =
     gifts_along s (is_set n) is [] (rows_below 0 n (omega arith)) in
@@ -153,20 +152,20 @@ content n h v c =
 
 -- it is the one content
 contents : (n : ℕ) → n ≤ 65536 → (views : List SheetView)
-    → AllZip (IsShown (in_force_of default_options (made_list n)) (sheets_of default_options (made_list n))) views (sheets_of default_options (made_list n))
+    → AllZip (IsShown (in_force_of default_rules (made_list n)) (sheets_of default_rules (made_list n))) views (sheets_of default_rules (made_list n))
     → views ≡ made_view n ∷ []
 contents n h [] a = absurd a
 contents n h (v ∷ []) a = ap (λ (w : SheetView). w ∷ []) (content n h v a.0)
 contents n h (v ∷ w ∷ views) a = absurd a.1
 
 -- each reading is the workbook that was made
-pub reading : (n : ℕ) → n ≤ 65536 → (book : Workbook) → IsReading default_options (made_list n) book
-    → IsMade n book
-reading n h book r =
+pub reading : (n : ℕ) → n ≤ 65536 → (book : Workbook) → book.options ≡ default_options
+    → IsReading default_rules (made_list n) (view_of book) → IsMade n book
+reading n h book kept r =
     let heads : book.sheets ≡ made_head ∷ [] = r.sheets in
     let views : book.contents ≡ made_view n ∷ [] = contents n h book.contents r.contents in
     record {
-      options = r.kept;
+      options = kept;
       sheets = heads;
       contents = views;
       shown = ap (λ (ss : List SheetContent). last_named (paired ss book.contents) (codes "G")) heads
@@ -176,4 +175,4 @@ reading n h book r =
 -- and each workbook that is opened
 pub opens : (n : ℕ) → n ≤ 65536 → (book : Workbook)
     → IsOpened default_options book (made_stream n) → IsMade n book
-opens n h book o = reading n h book (o.every (made_list n) (carries n))
+opens n h book o = reading n h book o.kept (o.every (made_list n) (carries n))

@@ -6,15 +6,15 @@ use Rattle.std.specs.List.{flat_map, range_with_len, AllByRecursion}
 use Rattle.std.proofs.lemmas.List.FromFn.{length-range_with_len}
 use Rattle.xls_model.specs.Listing.{Kept}
 use Rattle.xls_data.specs.Content.{int, text}
-use Rattle.xls_biff.specs.SheetTable.{SheetRecord, cells_record, shared_record}
+use Rattle.xls_biff.specs.SheetTable.{CellContext, SheetRecord, cells_record, shared_record}
 use Rattle.xls_strings.specs.declared.error.XlsError.{XlsError}
-use Rattle.xls_book.specs.Order.{along, first_of}
-use Rattle.xls_book.specs.InForce.{InForce, in_force_of}
-use Rattle.xls_book.specs.GlobalsTable.{fault_of}
-use Rattle.xls_book.specs.SheetTable.{kept_line}
-use Rattle.xls_book.specs.Faults.{weight_given, weight_in, weight_fault, kept_fault, IsFull, IsSound}
-use Rattle.xls_book.specs.Opening.{default_options}
-use Rattle.xls_book.proofs.LawLemmas.{sound_where_full}
+use Rattle.xls_reading.specs.Order.{along, first_of}
+use Rattle.xls_reading.specs.InForce.{cells_of}
+use Rattle.xls_reading.specs.GlobalsTable.{fault_of}
+use Rattle.xls_reading.specs.SheetTable.{kept_line}
+use Rattle.xls_reading.specs.Faults.{weight_given, weight_in, weight_fault, kept_fault, IsFull, IsSound}
+use Rattle.xls_open.specs.Opening.{default_rules}
+use Rattle.xls_reading.proofs.LawLemmas.{sound_where_full}
 use Rattle.xls_made.specs.Made.{made_word, kept_row, made_list, made_stream}
 use Rattle.xls_made.proofs.ByteLemmas.{are_bytes}
 use Rattle.xls_made.proofs.LengthLemmas.{made_length}
@@ -25,8 +25,8 @@ use Rattle.xls_made.proofs.ReadLemmas.{IsRow, IsSet, is_set, rows_below}
 -- ---- weights
 
 -- the weight of one record more
-weight_more : (s : InForce) (ks : List Kept) (k : Kept)
-    → weight_in s (ks ++ k ∷ []) ≡ weight_in s ks + weight_given (kept_line s.cells k)
+weight_more : (s : CellContext) (ks : List Kept) (k : Kept)
+    → weight_in s (ks ++ k ∷ []) ≡ weight_in s ks + weight_given (kept_line s k)
 weight_more s [] k = omega arith
 weight_more s (j ∷ ks) k = omega (arith, weight_more s ks k)
 
@@ -35,50 +35,50 @@ not_below : (n m : ℕ) → m ≤ n → nat_lt n m ≡ false
 not_below n m h = grind arith
 
 -- a weight within the limit is no fault
-light : (s : InForce) (ks : List Kept) → weight_in s ks ≤ 33554432 → weight_fault default_options s ks ≡ None
+light : (s : CellContext) (ks : List Kept) → weight_in s ks ≤ 33554432 → weight_fault default_rules s ks ≡ None
 light s ks h = let t : nat_lt 33554432 (weight_in s ks) ≡ false = not_below 33554432 (weight_in s ks) h in
     rw t refl
 
 -- ---- the rows
 
 -- a record that gives something, after those before it
-clear : (s : InForce) (before : List Kept) (k : Kept) (g : SheetRecord) → kept_line s.cells k ≡ Ok g
-    → weight_in s (before ++ k ∷ []) ≤ 33554432 → kept_fault default_options s before k ≡ None
+clear : (s : CellContext) (before : List Kept) (k : Kept) (g : SheetRecord) → kept_line s k ≡ Ok g
+    → weight_in s (before ++ k ∷ []) ≤ 33554432 → kept_fault default_rules s before k ≡ None
 clear s before k g line small =
-    ap (λ (r : Result SheetRecord XlsError). option_or (fault_of r) (weight_fault default_options s (before ++ k ∷ []))) line
+    ap (λ (r : Result SheetRecord XlsError). option_or (fault_of r) (weight_fault default_rules s (before ++ k ∷ []))) line
     ∙ light s (before ++ k ∷ []) small
 
 -- no record of the rows has a fault
-rows_clear : (s : InForce) → IsSet s.cells → (is : List ℕ) (before : List Kept) → AllByRecursion IsRow is
+rows_clear : (s : CellContext) → IsSet s → (is : List ℕ) (before : List Kept) → AllByRecursion IsRow is
     → weight_in s before + 2 * length is ≤ 33554432
-    → first_of (along (kept_fault default_options s) before (flat_map kept_row is)) ≡ None
+    → first_of (along (kept_fault default_rules s) before (flat_map kept_row is)) ≡ None
 rows_clear s f [] before h small = refl
 rows_clear s f (i ∷ is) before h small =
     let middle = before ++ int_kept i ∷ [] in
     let after = middle ++ word_kept i ∷ [] in
-    let others = along (kept_fault default_options s) after (flat_map kept_row is) in
-    let first : kept_line s.cells (int_kept i) ≡ Ok (cells_record (((i, 0), int (pos i)) ∷ [])) = int_line s.cells i h.0 f.classes f.epoch in
-    let second : kept_line s.cells (word_kept i) ≡ Ok (shared_record (Some ((i, 1), text (made_word i)))) = word_line s.cells i f.strings in
-    let one : weight_in s middle ≡ weight_in s before + weight_given (kept_line s.cells (int_kept i)) = weight_more s before (int_kept i) in
-    let two : weight_in s after ≡ weight_in s middle + weight_given (kept_line s.cells (word_kept i)) = weight_more s middle (word_kept i) in
-    let one_cell : weight_given (kept_line s.cells (int_kept i)) ≡ 1 = ap weight_given first in
-    let one_text : weight_given (kept_line s.cells (word_kept i)) ≡ 1 = ap weight_given second in
+    let others = along (kept_fault default_rules s) after (flat_map kept_row is) in
+    let first : kept_line s (int_kept i) ≡ Ok (cells_record (((i, 0), int (pos i)) ∷ [])) = int_line s i h.0 f.classes f.epoch in
+    let second : kept_line s (word_kept i) ≡ Ok (shared_record (Some ((i, 1), text (made_word i)))) = word_line s i f.strings in
+    let one : weight_in s middle ≡ weight_in s before + weight_given (kept_line s (int_kept i)) = weight_more s before (int_kept i) in
+    let two : weight_in s after ≡ weight_in s middle + weight_given (kept_line s (word_kept i)) = weight_more s middle (word_kept i) in
+    let one_cell : weight_given (kept_line s (int_kept i)) ≡ 1 = ap weight_given first in
+    let one_text : weight_given (kept_line s (word_kept i)) ≡ 1 = ap weight_given second in
     let no_int = clear s before (int_kept i) _ first (omega (arith, one, one_cell)) in
     let no_word = clear s middle (word_kept i) _ second (omega (arith, one, one_cell, two, one_text)) in
-    ap (λ (o : Option XlsError). option_or o (option_or (kept_fault default_options s middle (word_kept i)) (first_of others))) no_int
+    ap (λ (o : Option XlsError). option_or o (option_or (kept_fault default_rules s middle (word_kept i)) (first_of others))) no_int
     ∙ ap (λ (o : Option XlsError). option_or o (first_of others)) no_word
     ∙ rows_clear s f is after h.1 (omega (arith, one, one_cell, two, one_text))
 
 -- ---- the list and the stream
 
 -- no entry and no record of the list has one
-full : (n : ℕ) → n ≤ 65536 → IsFull default_options (made_list n)
+full : (n : ℕ) → n ≤ 65536 → IsFull default_rules (made_list n)
 full n h =
     let count = length-range_with_len 0 n in
     record {
       forced = refl;
       globals = refl;
-      sheets = (tt, (rows_clear (in_force_of default_options (made_list n)) (is_set n) (range_with_len 0 n) [] (rows_below 0 n (omega arith)) (omega arith), (tt, tt)));
+      sheets = (tt, (rows_clear (cells_of default_rules (made_list n)) (is_set n) (range_with_len 0 n) [] (rows_below 0 n (omega arith)) (omega arith), (tt, tt)));
     }
 
 -- the stream is within the byte limit
@@ -86,6 +86,6 @@ within : (n : ℕ) → n ≤ 65536 → length (made_stream n) ≤ 268435456
 within n h = let size : length (made_stream n) ≡ 28 * n + 64 = made_length n in omega arith
 
 -- no place of the stream has a fault
-pub sound : (n : ℕ) → n ≤ 65536 → IsSound default_options (made_stream n)
+pub sound : (n : ℕ) → n ≤ 65536 → IsSound default_rules (made_stream n)
 sound n h =
-    (sound_where_full default_options (made_stream n) (are_bytes n h)).1 (within n h, made_list n, carries n, full n h)
+    (sound_where_full default_rules (made_stream n) (are_bytes n h)).1 (within n h, made_list n, carries n, full n h)

@@ -6,10 +6,10 @@ use Rattle.xls_data.specs.declared.values.Data.{Data}
 use Rattle.xls_data.specs.declared.regions.HeaderRow.TheVariants.{FirstNonEmptyRow}
 use Rattle.xls_range.specs.Grid.{Grid}
 use Rattle.xls_range.specs.Grid as grid
-use Rattle.xls_book.specs.Reading.{SheetView, Workbook, IsReading}
-use Rattle.xls_book.specs.Steps.{view_named}
-use Rattle.xls_book.specs.Faults.{IsSound}
-use Rattle.xls_book.specs.Opening.{default_options, IsOpened}
+use Rattle.xls_reading.specs.Reading.{SheetView, IsReading}
+use Rattle.xls_open.specs.Workbook.{Workbook, view_of, view_named}
+use Rattle.xls_reading.specs.Faults.{IsSound}
+use Rattle.xls_open.specs.Opening.{default_options, default_rules, IsOpened}
 use Rattle.xls_book.specs.LookUps.{Equal, Blank, IsRange}
 use Rattle.xls_made.specs.Made.{made_stream, made_list, made_cells, IsMade, IsMadeRange}
 
@@ -27,12 +27,12 @@ MadeBytes = (n : ℕ) → n ≤ 65536 → IsBytes (made_stream n)
 
 -- no place of it has a fault, under the options by default
 abbrev pub MadeSound : Type 0
-MadeSound = (n : ℕ) → n ≤ 65536 → IsSound default_options (made_stream n)
+MadeSound = (n : ℕ) → n ≤ 65536 → IsSound default_rules (made_stream n)
 
 -- each reading of the list, under the options by default, is the workbook that was made
 abbrev pub MadeReading : Type 0
-MadeReading = (n : ℕ) → n ≤ 65536 → (book : Workbook) → IsReading default_options (made_list n) book
-    → IsMade n book
+MadeReading = (n : ℕ) → n ≤ 65536 → (book : Workbook) → book.options ≡ default_options
+    → IsReading default_rules (made_list n) (view_of book) → IsMade n book
 
 -- and each workbook that is opened from the stream
 abbrev pub MadeOpens : Type 0

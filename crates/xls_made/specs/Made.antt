@@ -16,9 +16,9 @@ use Rattle.xls_data.specs.declared.sheets.SheetVisible.TheVariants as states
 use Rattle.xls_range.specs.Grid.{Grid}
 use Rattle.xls_range.specs.Lists.{cells_from, used}
 use Rattle.xls_biff.specs.Cells.{Entry}
-use Rattle.xls_book.specs.Reading.{SheetView, Workbook}
-use Rattle.xls_book.specs.Steps.{view_named}
-use Rattle.xls_book.specs.Opening.{default_options}
+use Rattle.xls_reading.specs.Reading.{SheetView}
+use Rattle.xls_open.specs.Workbook.{Workbook, view_named}
+use Rattle.xls_open.specs.Opening.{default_options}
 use Rattle.xls_book.specs.LookUps.{Blank}
 
 -- ---- words

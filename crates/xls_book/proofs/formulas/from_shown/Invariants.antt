@@ -1,6 +1,6 @@
 use Rattle.std.proofs.Common.{◌≡◌, length, map}
-use Rattle.xls_book.specs.SheetTable.{shown_formulas}
-use Rattle.xls_book.specs.Steps.{formula_content}
+use Rattle.xls_reading.specs.SheetTable.{shown_formulas}
+use Rattle.xls_open.specs.Workbook.{formula_content}
 use Rattle.xls_book.proofs.formulas.from_shown.Given as goal
 
 -- what was passed over isn't shown

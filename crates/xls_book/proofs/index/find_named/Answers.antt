@@ -1,6 +1,6 @@
 use Rattle.std.proofs.Common.{refl, sym, ap, ◌∙◌}
 use Rattle.std.specs.Option.{option_copied}
-use Rattle.xls_book.specs.LookUps.{IsOrdered}
+use Rattle.xls_open.specs.Workbook.{IsOrdered}
 use Rattle.xls_book.proofs.IndexLemmas.{found_at, looked, all_looked}
 use Rattle.xls_book.proofs.index.find_named.Goals as goal
 

@@ -1,8 +1,8 @@
 use Rattle.std.proofs.Common.{map, sym, ap, subst, ◌∙◌}
 use Rattle.xls_cells.specs.Positions.{IsAscending, cell_position}
 use Rattle.xls_data.specs.Data.{content_of}
-use Rattle.xls_book.specs.LookUps.{IsOrdered}
-use Rattle.xls_book.proofs.PartLemmas.{positions}
+use Rattle.xls_open.specs.Workbook.{IsOrdered}
+use Rattle.xls_open.proofs.PartLemmas.{positions}
 use Rattle.xls_book.proofs.ranges.box_of.Goals as goal
 
 pub from_sorted-requires : goal.from_sorted-requires

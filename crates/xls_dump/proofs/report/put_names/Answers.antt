@@ -1,4 +1,4 @@
-use Rattle.xls_book.specs.Steps.{told_of}
+use Rattle.xls_open.specs.Workbook.{told_of}
 use Rattle.xls_dump.specs.Report.{name_line}
 use Rattle.xls_dump.proofs.GatherLemmas.{gathers-item, puts-stop, stops-item}
 use Rattle.xls_dump.proofs.TextLemmas.{Named}

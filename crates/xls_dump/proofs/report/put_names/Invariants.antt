@@ -1,6 +1,6 @@
 use Rattle.std.proofs.Common.{take}
 use Rattle.std.specs.List.{flat_map}
-use Rattle.xls_book.specs.Steps.{told_of}
+use Rattle.xls_open.specs.Workbook.{told_of}
 use Rattle.xls_dump.specs.Gathering.{Gathers}
 use Rattle.xls_dump.specs.Report.{name_line}
 use Rattle.xls_dump.proofs.TextLemmas.{Named}

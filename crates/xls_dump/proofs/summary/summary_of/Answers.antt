@@ -1,7 +1,7 @@
 use Rattle.std.proofs.Common.{sym, ap, subst, ◌∙◌}
 use Rattle.xls_range.specs.Grid.{IsRange}
-use Rattle.xls_book.specs.Opening.{IsOpened, default_options}
-use Rattle.xls_book.specs.Steps.{view_named}
+use Rattle.xls_open.specs.Opening.{IsOpened, default_options}
+use Rattle.xls_open.specs.Workbook.{view_named}
 use Rattle.xls_made.proofs.BuildLemmas.{name_chars}
 use Rattle.xls_made.proofs.RangeLemmas.{made_shows}
 use Rattle.xls_dump.proofs.summary.summary_of.Goals as goal

@@ -2,9 +2,10 @@ use Rattle.std.proofs.Common.{sym, ap, map, ◌∙◌}
 use Rattle.std.specs.Str.{chars}
 use Rattle.std.proofs.lemmas.List.{length-map}
 use Rattle.xls_data.specs.Sheets.{sheet_content}
-use Rattle.xls_book.specs.Reading.{last_named}
-use Rattle.xls_book.specs.Steps.{no_view, paired}
-use Rattle.xls_book.proofs.IndexLemmas.{named_shown}
+use Rattle.xls_reading.specs.Reading.{last_named}
+use Rattle.xls_reading.specs.Reading.{paired}
+use Rattle.xls_reading.specs.Held.{no_view}
+use Rattle.xls_reading.proofs.NamedLemmas.{named_shown}
 use Rattle.xls_book.proofs.xls.Xls.content_named.Goals as goal
 
 pub returns-clause-found : goal.returns-clause-found

@@ -1,9 +1,9 @@
-use Rattle.xls_book.proofs.LawLemmas.{complete}
+use Rattle.xls_open.proofs.OpeningLemmas.{complete}
 use Rattle.xls_book.proofs.xls.Xls.new_with_options.Goals as goal
 
 pub returns : goal.returns
 returns g c =
-    let made = c.open.ensures in
+    let made = c.read_book.ensures in
     record {
       ok = made.ok;
       end = made.end;

@@ -1,7 +1,0 @@
-use Rattle.std.proofs.Common.{◌≡◌, map, take}
-use Rattle.xls_book.specs.InForce.{class_in}
-use Rattle.xls_book.proofs.classes.classes_of.Given as goal
-
--- the classes of the identifiers so far
-abbrev pub invariant-loop-identifier : goal.invariant-loop-identifier
-invariant-loop-identifier l = l.classes.items ≡ map (class_in l.formats) (take l.identifier-index l.identifiers)

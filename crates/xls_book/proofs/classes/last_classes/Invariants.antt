@@ -1,9 +1,0 @@
-use Rattle.std.proofs.Common.{◌≡◌, ℕ, take}
-use Rattle.std.specs.Ordering.{nat_cmp}
-use Rattle.std.specs.BTreeMap.{get}
-use Rattle.xls_book.specs.InForce.{last_class}
-use Rattle.xls_book.proofs.classes.last_classes.Given as goal
-
--- the classes of the formats so far
-abbrev pub invariant-loop-format : goal.invariant-loop-format
-invariant-loop-format l = (ifmt : ℕ) → get nat_cmp l.classes ifmt ≡ last_class (take l.format-index l.formats) ifmt

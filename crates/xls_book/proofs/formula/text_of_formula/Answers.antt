@@ -1,7 +1,0 @@
-use Rattle.xls_book.proofs.FormulaLemmas.{refused}
-use Rattle.xls_book.proofs.formula.text_of_formula.Goals as goal
-
-pub returns-in-Err-2 : goal.returns-in-Err-2
-returns-in-Err-2 c =
-    rw (← c.force.view_is)
-    (refused c.args.position c.in-Err.error _ c.refusal_of.result c.in-Err.ensures.exact (c.is_memory.ensures c.if-is_memory.false) c.refusal_of.ensures)

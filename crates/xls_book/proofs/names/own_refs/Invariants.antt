@@ -1,7 +1,0 @@
-use Rattle.std.proofs.Common.{◌≡◌}
-use Rattle.xls_book.specs.InForce.{own_refs}
-use Rattle.xls_book.proofs.names.own_refs.Given as goal
-
--- the references of the sheets so far
-abbrev pub invariant-loop-i : goal.invariant-loop-i
-invariant-loop-i l = l.refs ≡ own_refs l.i

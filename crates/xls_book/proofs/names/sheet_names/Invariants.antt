@@ -1,7 +1,0 @@
-use Rattle.std.proofs.Common.{◌≡◌, map, take}
-use Rattle.xls_book.specs.Steps.{listed_of, names_listed}
-use Rattle.xls_book.proofs.names.sheet_names.Given as goal
-
--- the names of the sheets so far
-abbrev pub invariant-loop-next : goal.invariant-loop-next
-invariant-loop-next l = l.names ≡ names_listed (map listed_of (take l.next-index l.listed))

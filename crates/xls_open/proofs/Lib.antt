@@ -1,0 +1,15 @@
+pub mod ClearLemmas
+pub mod ContentsLemmas
+pub mod FollowLemmas
+pub mod WalkLemmas
+pub mod LineLemmas
+pub mod StateLemmas
+pub mod GlobalsLemmas
+pub mod ClassLemmas
+pub mod MapLemmas
+pub mod ReadLemmas
+pub mod OpenLemmas
+pub mod OpeningLemmas
+pub mod PartLemmas
+pub mod NamingLemmas
+pub mod FormulaLemmas

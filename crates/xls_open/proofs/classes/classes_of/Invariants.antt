@@ -1,0 +1,7 @@
+use Rattle.std.proofs.Common.{◌≡◌, map, take}
+use Rattle.xls_reading.specs.InForce.{class_in}
+use Rattle.xls_open.proofs.classes.classes_of.Given as goal
+
+-- the classes of the identifiers so far
+abbrev pub invariant-loop-identifier : goal.invariant-loop-identifier
+invariant-loop-identifier l = l.classes.items ≡ map (class_in l.formats) (take l.identifier-index l.identifiers)

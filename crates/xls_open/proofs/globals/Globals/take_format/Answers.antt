@@ -1,0 +1,12 @@
+use Rattle.xls_open.proofs.FollowLemmas.{format_taken, format_passed}
+use Rattle.xls_open.proofs.globals.Globals.take_format.Goals as goal
+
+pub returns-in_ok-push-in-Ok : goal.returns-in_ok-push-in-Ok
+returns-in_ok-push-in-Ok c =
+    rw (c.in_ok-push-in-Ok.ensures.items, ← c.self.view_is)
+    (format_taken c.args.r.now.typ c.args.r.now.body.now _ _ c.in-Ok.format c.in-Ok.ensures)
+
+pub returns-in-Err-2 : goal.returns-in-Err-2
+returns-in-Err-2 c =
+    rw (← c.self.view_is)
+    (format_passed c.args.r.now.typ c.args.r.now.body.now _ _ c.in-Err.error c.in-Err.ensures (c.is_memory.ensures c.if-is_memory.false))

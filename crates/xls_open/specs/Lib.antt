@@ -1,0 +1,3 @@
+pub mod Workbook
+pub mod Opening
+pub mod Steps

@@ -1,0 +1,69 @@
+-- What reading a source and opening its bytes answer.
+use Rattle.std.specs.Prelude.{◌≡◌, ℕ, ◌+◌, ◌≤◌, List, length, Option, None, Result, IfOk, IfErr, IfSome}
+use Rattle.std.specs.Io.KnownBytes.{Consumes, IsAtEnd}
+use Rattle.xls_model.specs.Listing.{Entry, Carries}
+use Rattle.xls_strings.specs.declared.error.XlsError.{XlsError}
+use Rattle.xls_strings.specs.declared.error.XlsError.TheVariants as errors
+use Rattle.xls_data.specs.declared.regions.HeaderRow.TheVariants.{FirstNonEmptyRow}
+use Rattle.xls_formula.specs.Functions.{shipped}
+use Rattle.xls_source.specs.Causes.{Rose}
+use Rattle.xls_reading.specs.Rules.{Rules}
+use Rattle.xls_open.specs.Workbook.{Workbook, rules_of, view_of}
+use Rattle.xls_reading.specs.Reading.{IsReading}
+use Rattle.xls_reading.specs.Faults.{FirstFault, IsSound, IsFull}
+use Rattle.xls_open.specs.declared.options.XlsOptions.{XlsOptions}
+
+-- why a stream isn't opened: Io by its count, Memory freely, and else the first fault of the bytes
+abbrev pub OpenCause : XlsOptions → Option (List ℕ) → ℕ → ℕ → XlsError → Type 0
+OpenCause options left before now errors.Io = Rose before now
+OpenCause options left before now errors.Memory = Unit {0}
+OpenCause options left before now e = IfSome left (λ bytes. FirstFault (rules_of options) bytes e)
+
+-- the options by default
+abbrev pub default_options : XlsOptions
+default_options = record {
+  force_codepage = None;
+  header_row = FirstNonEmptyRow;
+  max_bytes = 268_435_456;
+  max_cells = 33_554_432;
+  functions = shipped;
+  summary = None;
+  document_summary = None;
+}
+
+-- what the reading hangs on by default
+abbrev pub default_rules : Rules
+default_rules = rules_of default_options
+
+-- the refusals that opening may answer: none that only a formula, a format or a look-up has
+abbrev pub IsOfOpening : XlsError → Type 0
+IsOfOpening errors.StackLen = ⊥
+IsOfOpening (errors.InvalidFormula count) = ⊥
+IsOfOpening (errors.IfTab index) = ⊥
+IsOfOpening (errors.Etpg number) = ⊥
+IsOfOpening (errors.InvalidFormat ifmt) = ⊥
+IsOfOpening (errors.WorksheetNotFound name) = ⊥
+IsOfOpening e = Unit {0}
+
+-- no place of the bytes has a fault; they are within the limit and carry a full list, and the
+-- workbook keeps the options and is the reading of every list that they carry
+pub record IsOpened (options : XlsOptions) (book : Workbook) (bytes : List ℕ) : Type 0 where
+  pub sound : IsSound (rules_of options) bytes
+  pub within : length bytes ≤ options.max_bytes
+  pub entries : List Entry
+  pub carries : Carries bytes entries
+  pub full : IsFull (rules_of options) entries
+  pub kept : book.options ≡ options
+  pub every : (others : List Entry) → Carries bytes others
+      → IsReading (rules_of options) others (view_of book)
+
+-- of a source that had and has this left, with the count of faults before and after
+pub record Opens (options : XlsOptions) (left after : Option (List ℕ)) (before now : ℕ) (result : Result Workbook XlsError) : Type 0 where
+  pub ok : IfOk result (λ book. IfSome left (IsOpened options book))
+  pub end : IfOk result (λ _. IsAtEnd after)
+  pub cause : IfErr result (OpenCause options left before now)
+  pub named : IfErr result IsOfOpening
+  pub complete : (Rose before now → ⊥)
+      → IfSome left (λ bytes. IsSound (rules_of options) bytes → IfErr result (λ e. e ≡ errors.Memory))
+  pub front : (taken : List ℕ) × (length taken ≤ options.max_bytes + 1) × Consumes left after taken
+  pub count : before ≤ now

@@ -1,0 +1,279 @@
+-- Steps of opening, for the proofs.
+use Rattle.std.specs.Prelude.{◌≡◌, ℕ, ℤ, List, [], ◌∷◌, ◌++◌, ◌-◌, ◌||◌, Bool, false, if◌then◌else◌, nat_lt, length, map, Option, Some, None, unwrap_or, Result, Ok, Err, Vec}
+use Rattle.std.specs.Option.{option_map}
+use Rattle.std.specs.List.{AllByRecursion}
+use Rattle.xls_text.specs.declared.encoding.XlsEncoding.{XlsEncoding}
+use Rattle.xls_model.specs.Listing as listing
+use Rattle.xls_model.specs.Listing.{offset_at, Kept, Item, plain_item, table_item, sheet_item, entry_of, IsSheetPart, Holds, Carries}
+use Rattle.xls_model.specs.Walks.{IsBytes}
+use Rattle.xls_model.specs.declared.part.Part.{Part}
+use Rattle.xls_data.specs.Sheets.{SheetContent, sheet_content}
+use Rattle.xls_data.specs.declared.formats.CellFormat.{CellFormat}
+use Rattle.xls_strings.specs.declared.error.XlsError.{XlsError}
+use Rattle.xls_strings.specs.declared.error.XlsError.TheVariants as errors
+use Rattle.xls_strings.specs.declared.version.Biff.{Biff}
+use Rattle.xls_strings.specs.declared.version.Biff.TheVariants.{Biff8}
+use Rattle.xls_strings.specs.Reading.{Fails, gives}
+use Rattle.xls_biff.specs.Cells.{Entry}
+use Rattle.xls_reading.specs.Order.{along, first_of}
+use Rattle.xls_reading.specs.InForce.{page_in, version_in, is_1904_in, formats_in, identifiers_in, texts_in, extern_refs, lbls_in, known_refs, told_name, InForce, SheetRecords}
+use Rattle.xls_reading.specs.GlobalsTable.{Named, GlobalsRecord, Line, item_record_at, version_given, page_given, date_given, format_given, xf_given, references_given, name_given, strings_given, sheet_given}
+use Rattle.xls_reading.specs.SheetTable.{Given}
+use Rattle.xls_reading.specs.Reading.{SheetView, BookView, IsContent, last_named, IsReading, paired}
+use Rattle.xls_open.specs.Workbook.{Workbook, IsOrdered, rules_of, told_of, view_of}
+use Rattle.xls_reading.specs.Faults.{item_fault, kept_fault, part_places, globals_places, FirstBehind, IsFull}
+use Rattle.xls_open.specs.declared.options.XlsOptions.{XlsOptions}
+use Rattle.xls_open.specs.declared.opened.Opened.{Opened}
+use Rattle.xls_open.specs.declared.listed.Listed.{Listed}
+use Rattle.xls_open.specs.declared.names.Naming.{Naming}
+use Rattle.xls_reading.specs.Rules.{Rules}
+use Rattle.xls_reading.specs.Held.{OpenedSheet, opened_of}
+use Rattle.xls_reading.specs.Held.{no_view}
+
+-- ---- steps
+
+-- a step of a definition gives what was made, or the refusal, unless memory ran out
+abbrev pub Follows : {S : Type 0} → S → Result (Unit {0}) XlsError → Result S XlsError → Type 0
+Follows new (Ok u) given = given ≡ Ok new
+Follows new (Err e) given = Fails e given
+
+-- ---- the globals
+
+-- the sheets that the globals list, each with its offset
+abbrev pub Sheets : Type 0
+Sheets = List (ℕ × SheetContent)
+
+abbrev pub listed_of : Listed → ℕ × SheetContent
+listed_of l = (l.offset, sheet_content l.sheet)
+
+-- what the records so far give
+pub record State : Type 0 where
+  pub page : XlsEncoding
+  pub version : Biff
+  pub is_1904 : Bool
+  pub formats : List (ℕ × CellFormat)
+  pub identifiers : List ℕ
+  pub strings : List (List ℕ)
+  pub refs : List ℤ
+  pub names : List Named
+  pub sheets : Sheets
+
+-- before the first record, under this page
+abbrev pub first_state : XlsEncoding → State
+first_state page = record {
+  page = page;
+  version = Biff8;
+  is_1904 = false;
+  formats = [];
+  identifiers = [];
+  strings = [];
+  refs = [];
+  names = [];
+  sheets = [];
+}
+
+-- a list with one more at its end, if there is one
+abbrev pub with_one : {X : Type 0} → List X → Option X → List X
+with_one xs None = xs
+with_one xs (Some x) = xs ++ x ∷ []
+
+abbrev pub with_all : {X : Type 0} → List X → Option (List X) → List X
+with_all xs None = xs
+with_all xs (Some ys) = xs ++ ys
+
+abbrev pub or_also : Bool → Option Bool → Bool
+or_also b None = b
+or_also b (Some c) = b || c
+
+-- a sheet at the offset of its BoundSheet8
+abbrev pub placed : Item → SheetContent → ℕ × SheetContent
+placed (plain_item typ body) sheet = (0, sheet)
+placed (table_item body shared) sheet = (0, sheet)
+placed (sheet_item body kept cut) sheet = (offset_at body, sheet)
+
+-- after one more record, by what the table says that it gives
+abbrev pub after : State → Item → Line → State
+after s i line = record {
+  page = unwrap_or (page_given line) s.page;
+  version = unwrap_or (version_given line) s.version;
+  is_1904 = or_also s.is_1904 (date_given line);
+  formats = with_one s.formats (format_given line);
+  identifiers = with_one s.identifiers (xf_given line);
+  strings = unwrap_or (strings_given line) s.strings;
+  refs = with_all s.refs (references_given line);
+  names = with_one s.names (name_given line);
+  sheets = with_one s.sheets (option_map (placed i) (sheet_given line));
+}
+
+abbrev pub stepped : State → Item → Line → Result State XlsError
+stepped s i line = gives (λ (g : GlobalsRecord). after s i (Ok g)) line
+
+-- likewise by the record's line, under what the state has in force
+abbrev pub step : Rules → State → Item → Result State XlsError
+step rules s i = stepped s i (item_record_at rules.force_codepage s.page s.version i)
+
+-- ---- the sheets of the globals
+
+abbrev pub pair_of : OpenedSheet → ℕ × SheetContent
+pair_of o = (o.offset, o.head)
+
+-- the sheets listed by these items
+abbrev pub sheets_at : Rules → List Item → Sheets
+sheets_at rules items = map pair_of (opened_of rules items)
+
+-- the state is what these items give
+pub record IsState (rules : Rules) (items : List Item) (s : State) : Type 0 where
+  pub page : s.page ≡ page_in rules (map entry_of items)
+  pub version : s.version ≡ version_in rules (map entry_of items)
+  pub is_1904 : s.is_1904 ≡ is_1904_in rules (map entry_of items)
+  pub formats : s.formats ≡ formats_in rules (map entry_of items)
+  pub identifiers : s.identifiers ≡ identifiers_in rules (map entry_of items)
+  pub strings : s.strings ≡ texts_in rules (map entry_of items)
+  pub refs : s.refs ≡ extern_refs rules (map entry_of items)
+  pub names : s.names ≡ lbls_in rules (map entry_of items)
+  pub sheets : s.sheets ≡ sheets_at rules items
+
+pub record AreGlobals (rules : Rules) (bytes : List ℕ) (s : State) : Type 0 where
+  pub items : List Item
+  pub holds : Holds bytes items None
+  pub faultless : first_of (along (item_fault rules) [] items) ≡ None
+  pub state : IsState rules items s
+
+abbrev pub GlobalsFault : Rules → List ℕ → XlsError → Type 0
+GlobalsFault rules bytes e =
+    (items : List Item) × (cut : Option Part) × Holds bytes items cut
+    × (first_of (globals_places rules items cut) ≡ Some e)
+
+abbrev pub ReadsGlobals : Rules → List ℕ → Result State XlsError → Type 0
+ReadsGlobals rules bytes (Ok s) = AreGlobals rules bytes s
+ReadsGlobals rules bytes (Err errors.Memory) = Unit {0}
+ReadsGlobals rules bytes (Err e) = GlobalsFault rules bytes e
+
+-- ---- what formulas may name
+
+abbrev pub names_listed : Sheets → List (List ℕ)
+names_listed = map (λ (q : ℕ × SheetContent). q.1.name)
+
+-- by a version, sheets, the references of all ExternSheets, and Lbls
+pub record IsNaming (version : Biff) (listed : Sheets) (refs : List ℤ) (lbls : List Named) (n : Naming) : Type 0 where
+  pub sheets : n.sheets ≡ names_listed listed
+  pub known : n.refs ≡ known_refs version (length listed) refs
+  pub names : n.names ≡ map (told_name (names_listed listed) (known_refs version (length listed) refs)) lbls
+  pub told : map told_of n.told.items ≡ n.names
+
+-- ---- a sheet part
+
+abbrev pub with_given : SheetView → Given → SheetView
+with_given v g =
+    record {
+      cells = v.cells ++ g.cells;
+      formulas = v.formulas ++ g.formulas;
+      merges = v.merges ++ g.regions;
+    }
+
+-- after one more record
+abbrev pub given_step : SheetView → Result Given XlsError → Result SheetView XlsError
+given_step v line = gives (with_given v) line
+
+-- how many more cells there may be, of these that there may be, after a record of this weight
+abbrev pub weight_left : ℕ → ℕ → ℕ → Result ℕ XlsError
+weight_left limit room weight =
+    if nat_lt room weight then Err (errors.TooManyCells limit) else Ok (room - weight)
+
+-- the records of a part that isn't cut have no fault, and this is their content
+pub record IsRead (Stands : List Kept → Option Part
+    → Type 0) (rules : Rules) (s : InForce) (view : SheetView) : Type 0 where
+  pub kept : List Kept
+  pub stands : Stands kept None
+  pub faultless : first_of (along (kept_fault rules s.cells) [] kept) ≡ None
+  pub content : IsContent s kept view
+
+abbrev pub PartFault : (List Kept → Option Part → Type 0) → Rules → InForce → XlsError → Type 0
+PartFault Stands rules s e =
+    (kept : List Kept) × (cut : Option Part) × Stands kept cut
+    × (first_of (part_places rules s.cells kept cut) ≡ Some e)
+
+abbrev pub Reads : (List Kept → Option Part → Type 0) → Rules → InForce
+    → Result SheetView XlsError → Type 0
+Reads Stands rules s (Ok view) = IsRead Stands rules s view
+Reads Stands rules s (Err errors.Memory) = Unit {0}
+Reads Stands rules s (Err e) = PartFault Stands rules s e
+
+-- ---- the sheets
+
+-- each of these sheets was read so
+abbrev pub AreContents : Rules → InForce → List ℕ → Sheets → List SheetView → Type 0
+AreContents rules s stream [] [] = Unit {0}
+AreContents rules s stream (q ∷ qs) (v ∷ vs) =
+    IsRead (IsSheetPart stream q.0) rules s v × AreContents rules s stream qs vs
+AreContents rules s stream qs vs = ⊥
+
+-- after sheets that were read so, the part of one has this fault
+pub record ContentsFault (rules : Rules) (s : InForce) (stream : List ℕ) (sheets : Sheets) (e : XlsError) : Type 0 where
+  pub done : Sheets
+  pub views : List SheetView
+  pub were : AreContents rules s stream done views
+  pub at : ℕ × SheetContent
+  pub behind : Sheets
+  pub split : sheets ≡ done ++ at ∷ behind
+  pub fault : PartFault (IsSheetPart stream at.0) rules s e
+
+abbrev pub ReadsContents : Rules → InForce → List ℕ → Sheets → Result (List SheetView) XlsError
+    → Type 0
+ReadsContents rules s stream sheets (Ok views) = AreContents rules s stream sheets views
+ReadsContents rules s stream sheets (Err errors.Memory) = Unit {0}
+ReadsContents rules s stream sheets (Err e) = ContentsFault rules s stream sheets e
+
+-- the elements of a vector
+abbrev pub items_of : {T A E : Type 0} → Result (Vec T A) E → Result (List T) E
+items_of (Ok v) = Ok v.items
+items_of (Err e) = Err e
+
+-- these sheets with these contents are those of the list
+abbrev pub AreSheets : InForce → List SheetContent → List SheetView → List SheetRecords → Type 0
+AreSheets s [] [] [] = Unit {0}
+AreSheets s (t ∷ ts) (v ∷ vs) (q ∷ qs) =
+    (t ≡ q.0) × IsContent s q.1 v × AreSheets s ts vs qs
+AreSheets s ts vs qs = ⊥
+
+-- for each of these sheets the content of the last sheet of its name
+abbrev pub shown : List (SheetContent × SheetView) → List SheetContent → List SheetView
+shown all ss = map (λ (s : SheetContent). unwrap_or (last_named all s.name) no_view) ss
+
+-- ---- the workbook of a stream, its byte limit and the forced page apart
+
+pub record IsStreamOpened (rules : Rules) (bytes : List ℕ) (book : BookView) : Type 0 where
+  pub entries : List listing.Entry
+  pub carries : Carries bytes entries
+  pub full : IsFull rules entries
+  pub reading : IsReading rules entries book
+  pub are_bytes : IsBytes bytes
+
+abbrev pub StreamFault : Rules → List ℕ → XlsError → Type 0
+StreamFault rules bytes e = FirstBehind None rules bytes e
+
+-- the first fault of a stream, unless memory ran out
+abbrev pub RefusesStream : Rules → List ℕ → XlsError → Type 0
+RefusesStream rules bytes errors.Memory = Unit {0}
+RefusesStream rules bytes e = StreamFault rules bytes e
+
+-- what is shown of what was opened
+abbrev pub book_of : Opened → Workbook
+book_of o =
+    record {
+      options = o.options;
+      sheets = map sheet_content o.sheets.items;
+      names = map told_of o.names.items;
+      contents = shown (paired (map sheet_content o.sheets.items) o.contents.items) (map sheet_content o.sheets.items);
+      is_1904 = o.is_1904;
+      classes = o.classes.items;
+    }
+
+-- it has the content of each sheet, in order
+abbrev pub IsReady : Opened → Type 0
+IsReady o = (length o.contents.items ≡ length o.sheets.items) × AllByRecursion IsOrdered o.contents.items
+
+abbrev pub OpensStream : XlsOptions → List ℕ → Result Opened XlsError → Type 0
+OpensStream options bytes (Ok o) =
+    (o.options ≡ options) × IsStreamOpened (rules_of options) bytes (view_of (book_of o)) × IsReady o
+OpensStream options bytes (Err e) = RefusesStream (rules_of options) bytes e

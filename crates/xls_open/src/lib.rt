@@ -1,0 +1,16 @@
+//! Opening: what the bytes of a source give, or their first fault.
+#![tactic(auto)]
+
+mod classes;
+mod force;
+mod formula;
+mod globals;
+mod listed;
+mod names;
+mod opened;
+mod options;
+mod part;
+
+pub use opened::{Opened, open};
+pub use options::XlsOptions;
+pub use part::Content;

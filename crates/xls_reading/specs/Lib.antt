@@ -1,0 +1,9 @@
+pub mod Rules
+pub mod Order
+pub mod GlobalsTable
+pub mod InForce
+pub mod SheetTable
+pub mod Reading
+pub mod Faults
+pub mod Held
+pub mod Laws

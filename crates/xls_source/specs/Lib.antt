@@ -1,0 +1,4 @@
+pub mod Causes
+pub mod Bounded
+pub mod Feed
+pub mod Laws

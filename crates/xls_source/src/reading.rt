@@ -1,0 +1,104 @@
+//! The bounded read of a source.
+
+ghost use Rattle.std.specs.Prelude.{◌≡◌, ◌+◌, ◌≤◌, List, ℕ, length, IfOk, IfErr};
+ghost use Rattle.std.specs.Io.KnownBytes.{Consumes, IsAtEnd};
+ghost use Rattle.xls_source.specs.Bounded.{ReadCause};
+
+use crate::source::Source;
+use std::alloc::{AllocError, Global};
+use std::marker::Model;
+use xls_strings::XlsError;
+
+/// How many bytes are asked for at a time.
+const CHUNK: usize = 65_536;
+
+/// The bytes of a stream.
+#[derive(Drop)]
+pub struct StreamBytes {
+    bytes: Vec<u8>,
+}
+
+impl Model for StreamBytes {
+    ghost use Rattle.std.specs.Prelude.{List, ℕ};
+
+    ghost Value = { List ℕ };
+
+    ghost view = { λ s. s.bytes.items };
+}
+
+impl StreamBytes {
+    pub fn from_vec(bytes: Vec<u8>) -> StreamBytes
+        ensures { result ≡ bytes.items }
+    {
+        StreamBytes { bytes }
+    }
+
+    pub fn as_slice(&self) -> &[u8]
+        ensures { result.now ≡ self.now }
+    {
+        &self.bytes
+    }
+}
+
+/// So many zero bytes.
+fn zeros(alloc: Global, count: usize) -> Result<Vec<u8>, AllocError>
+    ensures { IfOk result (λ v. length v.items ≡ count) }
+{
+    vec![in alloc; 0u8; count]
+}
+
+/// Reads all that the source has left, by way of this piece. The clauses are those of `read_all`.
+fn read_by_pieces<S: Source>(
+    alloc: Global,
+    source: &mut S,
+    limit: u64,
+    piece: &mut [u8],
+) -> Result<StreamBytes, XlsError>
+    requires { 1 ≤ length piece.old }
+    ensures within { IfOk result (λ bytes. length bytes ≤ limit) }
+    ensures all { IfOk result (Consumes (S.left source.old) (S.left source.new)) }
+    ensures end { IfOk result (λ _. IsAtEnd (S.left source.new)) }
+    ensures cause { IfErr result (ReadCause limit (S.left source.old) (S.faults source.old) (S.faults source.new)) }
+    ensures front { (taken : List ℕ) × (length taken ≤ limit + 1)
+        × Consumes (S.left source.old) (S.left source.new) taken }
+    ensures count { S.faults source.old ≤ S.faults source.new }
+{
+    let mut bytes = Vec::new(alloc);
+    loop {
+        let room = (limit - bytes.len() as u64).min(piece.len() as u64 - 1) as usize + 1;
+        let count = source.read(&mut piece[..room])?;
+        if count == 0 {
+            return Ok(StreamBytes { bytes });
+        }
+        bytes.extend_from_slice(&piece[..count])?;
+        if bytes.len() as u64 > limit {
+            return Err(XlsError::TooLarge { limit });
+        }
+    }
+}
+
+/// Reads all that the source has left, if that is at most `limit` bytes.
+///
+/// `Io` where a read fails, `TooLarge` for more bytes, `Memory`. At most one byte more than the
+/// limit is taken.
+pub fn read_all<S: Source>(
+    alloc: Global,
+    source: &mut S,
+    limit: u64,
+) -> Result<StreamBytes, XlsError>
+    // All that the source had left, and nothing is left.
+    ensures within { IfOk result (λ bytes. length bytes ≤ limit) }
+    ensures all { IfOk result (Consumes (S.left source.old) (S.left source.new)) }
+    ensures end { IfOk result (λ _. IsAtEnd (S.left source.new)) }
+
+    // Each refusal has its cause.
+    ensures cause { IfErr result (ReadCause limit (S.left source.old) (S.faults source.old) (S.faults source.new)) }
+
+    // Also after a refusal a front was taken, of one byte more than the limit at most.
+    ensures front { (taken : List ℕ) × (length taken ≤ limit + 1)
+        × Consumes (S.left source.old) (S.left source.new) taken }
+    ensures count { S.faults source.old ≤ S.faults source.new }
+{
+    let mut piece = zeros(alloc, CHUNK)?;
+    read_by_pieces(alloc, source, limit, &mut piece)
+}
