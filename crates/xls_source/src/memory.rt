@@ -83,7 +83,9 @@ impl Source for MemorySource {
         ensures fails { IsErr result ↔ Contains self.old.failing self.old.call }
         ensures moves { IfOk result (λ n. n ≡ min self.old.chunk (min (length into.new) (length self.old.bytes))) }
         ensures counts { OnOk result (self.new.faults ≡ self.old.faults) }
+        ensures rises { OnErr result (self.new.faults ≡ min (self.old.faults + 1) (2 ^ 64 - 1)) }
         ensures calls { self.new.call ≡ min (self.old.call + 1) (2 ^ 64 - 1) }
+        ensures same { (self.new.chunk ≡ self.old.chunk) × (self.new.failing ≡ self.old.failing) }
     {
         let call = self.call;
         self.call = call.saturating_add(1);

@@ -39,7 +39,7 @@ pub trait Source {
         ensures cause { HasCause (faults self.old) (faults self.new) result };
 }
 
-/// A reader of std, which tells nothing.
+/// A reader of std. The bytes that are left are told where that reader tells them.
 #[derive(Drop)]
 pub struct StdSource<R: Read> {
     inner: R,
@@ -53,9 +53,7 @@ impl<R: Read> StdSource<R> {
 }
 
 impl<R: Read> Source for StdSource<R> {
-    ghost use Rattle.std.specs.Prelude.{None};
-
-    ghost left = { λ _. None };
+    ghost left = { λ s. R.remaining s.inner };
 
     ghost faults = { λ s. s.faults };
 
