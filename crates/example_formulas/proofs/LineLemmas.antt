@@ -1,4 +1,4 @@
--- Fields, one character after the other, and sheets, one after the other.
+-- Sheets, one after the other.
 use Rattle.std.proofs.Common.{◌≡◌, ℕ, zero, suc, List, [], ◌∷◌, ◌++◌, drop, sym, ap, ◌∙◌, append_assoc, Option, Some, None, refl, ◌<◌, length, map, get_or, subst, arith}
 use Rattle.std.specs.Prelude.{encode_utf8_all, slice_get}
 use Rattle.std.proofs.lemmas.Grind.{flat_map-append}
@@ -6,18 +6,7 @@ use Rattle.std.proofs.lemmas.List.{append-nil}
 use Rattle.xls_data.specs.Sheets.{SheetContent, sheet_content}
 use Rattle.xls_data.specs.declared.sheets.Sheet.{Sheet}
 use Rattle.xls_book.specs.Reading.{SheetView}
-use Rattle.example_formulas.specs.Lines.{escaped, escaped_char, lines_at, listing}
-
--- one character more of a field
-pub one_more : (before cs : List ℕ) (c : ℕ) (old new : List ℕ)
-    → old ≡ before ++ escaped cs → new ≡ old ++ encode_utf8_all (escaped_char c)
-    → new ≡ before ++ escaped (cs ++ c ∷ [])
-one_more before cs c old new so_far more =
-    more ∙ ap (λ (xs : List ℕ). xs ++ encode_utf8_all (escaped_char c)) so_far
-    ∙ append_assoc before (escaped cs) (encode_utf8_all (escaped_char c))
-    ∙ ap (λ (xs : List ℕ). before ++ xs)
-    (sym (flat_map-append (λ e. encode_utf8_all (escaped_char e)) cs (c ∷ [])
-    ∙ ap (λ (xs : List ℕ). escaped cs ++ xs) (append-nil (encode_utf8_all (escaped_char c)))))
+use Rattle.example_formulas.specs.Lines.{lines_at, listing}
 
 listing_of_none : (sheets : List SheetContent) → listing sheets [] ≡ []
 listing_of_none [] = refl

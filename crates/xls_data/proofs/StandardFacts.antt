@@ -55,7 +55,7 @@ pub known_others : map class_of (codes "#,##0*y" ∷ codes "\\Y000000" ∷ codes
     ≡ Other ∷ Other ∷ Other ∷ Other ∷ []
 known_others = refl
 
--- built-in dates and spans, and the codes beside them
+-- built-in dates and durations, and the codes beside them
 pub known_codes : map class_of_code (13 ∷ 14 ∷ 22 ∷ 23 ∷ 27 ∷ 36 ∷ 45 ∷ 46 ∷ 47 ∷ 48 ∷ 50 ∷ 58 ∷ 59 ∷ [])
     ≡ Other ∷ DateTime ∷ DateTime ∷ Other ∷ DateTime ∷ DateTime ∷ DateTime ∷ TimeDelta ∷ DateTime ∷ Other ∷ DateTime ∷ DateTime ∷ Other ∷ []
 known_codes = refl

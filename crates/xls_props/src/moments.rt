@@ -64,7 +64,7 @@ impl fmt::Display for Clock {
 
 /// The text of a FILETIME ([MS-DTYP] FILETIME), which counts 100 nanoseconds from 1601-01-01 UTC:
 /// `2020-02-29T00:00:00Z`, parts of a second dropped. None exactly for 0 and for what is past
-/// 9999-12-31. Only want of memory refuses.
+/// 9999-12-31. Only running out of memory refuses.
 pub fn filetime_to_iso8601(alloc: Global, filetime: u64) -> Result<Option<String>, AllocError>
     ensures { IfOk result (λ t. MatchOption t (IsNoMoment filetime) (λ text.
         (0 < filetime) × (filetime < PAST_LAST_DAY) × IsMoment filetime (string_bytes text))) }
