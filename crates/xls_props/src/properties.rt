@@ -9,7 +9,7 @@ use std::alloc::{AllocError, Global};
 use std::collections::BTreeMap;
 
 /// The properties of a workbook as texts. What can't be read is none, and so is an empty text.
-#[derive(Drop)]
+#[derive(Debug, Drop)]
 pub struct WorkbookProperties {
     /// Who made the workbook.
     pub creator: Option<String>,

@@ -17,7 +17,7 @@ use std::alloc::{AllocError, Global};
 use std::marker::Model;
 
 /// What a macro project refers to, and its modules, in the order of its directory.
-#[derive(Drop)]
+#[derive(Debug, Drop)]
 pub struct VbaProject {
     references: Vec<Reference>,
     modules: Vec<Module>,
