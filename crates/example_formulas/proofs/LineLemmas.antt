@@ -1,10 +1,11 @@
--- Fields, one character after the other, and sheets, one after the other.
+-- Sheets, one after the other.
 use Rattle.std.proofs.Common.{◌≡◌, ℕ, zero, suc, List, [], ◌∷◌, ◌++◌, drop, sym, ap, ◌∙◌, append_assoc, Option, Some, None, refl, ◌<◌, length, map, get_or, subst, arith}
 use Rattle.std.specs.Prelude.{encode_utf8_all, slice_get}
 use Rattle.std.proofs.lemmas.Grind.{flat_map-append}
 use Rattle.std.proofs.lemmas.List.{append-nil}
 use Rattle.xls_data.specs.Sheets.{SheetContent, sheet_content}
 use Rattle.xls_data.specs.declared.sheets.Sheet.{Sheet}
+<<<<<<< HEAD
 use Rattle.xls_reading.specs.Reading.{SheetView}
 use Rattle.example_formulas.specs.Lines.{escaped, escaped_char, lines_at, listing}
 
@@ -18,6 +19,10 @@ one_more before cs c old new so_far more =
     ∙ ap (λ (xs : List ℕ). before ++ xs)
     (sym (flat_map-append (λ e. encode_utf8_all (escaped_char e)) cs (c ∷ [])
     ∙ ap (λ (xs : List ℕ). escaped cs ++ xs) (append-nil (encode_utf8_all (escaped_char c)))))
+=======
+use Rattle.xls_book.specs.Reading.{SheetView}
+use Rattle.example_formulas.specs.Lines.{lines_at, listing}
+>>>>>>> 11b40c830e9ba04c1dad958d515f6a922cfd0b58
 
 listing_of_none : (sheets : List SheetContent) → listing sheets [] ≡ []
 listing_of_none [] = refl

@@ -1,36 +1,21 @@
 //! The lines of references and modules.
 
-ghost use Rattle.std.specs.Prelude.{◌≡◌, ◌++◌, IfOk, map, encode_utf8_all};
+ghost use Rattle.std.specs.Prelude.{◌≡◌, ◌++◌, IfOk, map};
 ghost use Rattle.std.specs.List.{flat_map};
 ghost use Rattle.std.specs.String.{string_bytes};
 ghost use Rattle.xls_vba.specs.References.{reference_view, reference_views};
-ghost use Rattle.vba_dir.specs.Lines.{escaped_char, field, reference_line, named_line};
+ghost use Rattle.vba_dir.specs.Lines.{field, reference_line, named_line};
 
 use std::alloc::{AllocError, Global};
+use xls_bytes::push_escaped;
 use xls_vba::{Reference, VbaProject};
-
-/// Appends a character of a field, escaped.
-fn push_char(text: &mut String, c: char) -> Result<(), AllocError>
-    ensures { IfOk result (λ _. string_bytes text.new ≡ string_bytes text.old ++ encode_utf8_all (escaped_char c)) }
-{
-    match c {
-        '\\' => text.push_str("\\\\"),
-        '\n' => text.push_str("\\n"),
-        '\r' => text.push_str("\\r"),
-        '\t' => text.push_str("\\t"),
-        _ => text.push(c),
-    }
-}
 
 /// Appends a tab and a field.
 fn push_field(text: &mut String, value: &str) -> Result<(), AllocError>
     ensures { IfOk result (λ _. string_bytes text.new ≡ string_bytes text.old ++ field value.now) }
 {
     text.push_str("\t")?;
-    for c in value.chars() {
-        push_char(text, c)?;
-    }
-    Ok(())
+    push_escaped(value, text)
 }
 
 /// Appends the line of a reference.

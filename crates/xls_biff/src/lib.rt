@@ -17,7 +17,7 @@ pub use records::bound_sheet::{check_sheet_metadata, parse_sheet_metadata};
 pub use records::code_page::parse_code_page;
 pub use records::date_mode::parse_date_mode;
 pub use records::dimensions::parse_dimensions;
-pub use records::extern_sheet::parse_extern_sheet;
+pub use records::extern_sheet::{check_extern_sheet, parse_extern_sheet};
 pub use records::file_pass::parse_file_pass;
 pub use records::format::parse_format;
 pub use records::formula::{

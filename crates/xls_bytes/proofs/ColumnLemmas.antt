@@ -246,7 +246,7 @@ letters_at_end left start c letters none long whole =
     let all : take (7 - start) (drop start letters) ≡ drop start letters = take_all (7 - start) (drop start letters) (omega (arith, length-drop start letters)) in
     all ∙ rw (nothing, word_of-none) at whole
 
--- one letter more in front
+-- one letter more before the others
 pub letters_step : (left start c : ℕ) (letters : List ℕ) → 0 < left → 0 < start → start ≤ length letters
     → word_of left left ++ drop start letters ≡ column_name c
     → word_of ((left - 1) / 26) ((left - 1) / 26) ++ drop (start - 1) (set letters (start - 1) (65 + (left - 1) % 26)) ≡ column_name c

@@ -4,4 +4,6 @@ pub mod QuotientLemmas
 pub mod TruncLemmas
 pub mod U32Lemmas
 pub mod ColumnLemmas
+pub mod GrownLemmas
+pub mod EscapeLemmas
 mod StandardFacts

@@ -4,6 +4,7 @@ use Rattle.std.proofs.Common.{◌≡◌, ◌∷◌, [], Some, None, refl, pos, n
 use Rattle.xls_bytes.specs.Numbers.{le, le16, twos_complement, u32s_of}
 use Rattle.xls_bytes.specs.Doubles.{whole_of, size_of_parts, quotient_of, trunc_checked_of, trunc_of}
 use Rattle.xls_bytes.specs.Columns.{column_name, word_of, word_value}
+use Rattle.xls_bytes.specs.Escapes.{escaped_text}
 
 -- the bytes `ABCD` are 44434241 in hexadecimal
 text_number : le (0x41 ∷ 0x42 ∷ 0x43 ∷ 0x44 ∷ []) ≡ 0x44434241
@@ -103,3 +104,9 @@ minus_infinity = refl
 far_below : trunc_of 0xFE37E43C8800759C 1 ≡ negsuc (2 ^ 63 - 1)
 unfolding quotient_of
 far_below = refl
+
+-- a backslash, a newline, a return and a tab have two bytes, e with acute has the two of UTF-8
+escapes : escaped_text (0x5C ∷ 0x0A ∷ 0x0D ∷ 0x09 ∷ 0xE9 ∷ [])
+    ≡ 0x5C ∷ 0x5C ∷ 0x5C ∷ 0x6E ∷ 0x5C ∷ 0x72 ∷ 0x5C ∷ 0x74 ∷ 0xC3 ∷ 0xA9 ∷ []
+unfolding lib.Utf8.encode
+escapes = refl

@@ -1,8 +1,8 @@
--- The numbers of each four bytes, from the front.
+-- The numbers of each four bytes, in order.
 use Rattle.std.proofs.Common.{◌≡◌, ℕ, ◌/◌, ◌≤◌, List, [], ◌∷◌, length, take, drop, refl, arith}
 use Rattle.xls_bytes.specs.Numbers.{le, u32s_of}
 
--- the first four bytes, and the numbers of the bytes behind
+-- the first four bytes, and the numbers of the bytes after them
 pub u32s_of_more : (bytes : List ℕ) → 4 ≤ length bytes → u32s_of bytes ≡ le (take 4 bytes) ∷ u32s_of (drop 4 bytes)
 u32s_of_more [] h = absurd (omega arith)
 u32s_of_more (a ∷ []) h = absurd (omega arith)

@@ -1,3 +1,5 @@
 pub mod Numbers
 pub mod Doubles
 pub mod Columns
+pub mod Escapes
+pub mod Growth

@@ -18,7 +18,7 @@ fn push_ascii(letters: &[u8], buf: &mut String) -> Result<(), AllocError>
 }
 
 /// Appends the name of a column, counted from 0: 0 is `A`, 25 `Z`, 26 `AA`. A name has at most
-/// seven letters. Only want of memory refuses, and then the text is as it was.
+/// seven letters. Only running out of memory refuses, and then the text is as it was.
 pub fn push_column(col: u32, buf: &mut String) -> Result<(), AllocError>
     ensures ok { OnOk result (string_bytes buf.new ≡ string_bytes buf.old ++ column_name col) }
     ensures err { OnErr result (string_bytes buf.new ≡ string_bytes buf.old) }

@@ -1,9 +1,10 @@
-//! Numbers in the bytes of a workbook stream, whole numbers in the bits of doubles, and the names
-//! of columns.
+//! Numbers in the bytes of a workbook stream, whole numbers in the bits of doubles, the names of
+//! columns, and texts with escapes.
 #![tactic(auto)]
 
 mod columns;
 mod doubles;
+mod escapes;
 mod laws;
 mod numbers;
 #[cfg(test)]
@@ -11,6 +12,7 @@ mod tests;
 
 pub use columns::push_column;
 pub use doubles::{trunc_checked_of_bits, trunc_of_bits, whole_of_bits};
+pub use escapes::push_escaped;
 pub use laws::column_names;
 pub use numbers::{
     U32s, read_bits, read_i16, read_i32, read_u16, read_u32, read_u64, read_usize, to_u32,

@@ -1,8 +1,8 @@
 //! Expected values come from IEEE 754, from Rust's `as i64` and from Excel's column letters.
 
 use crate::{
-    column_names, push_column, read_bits, read_i16, read_i32, read_u16, read_u32, read_u64,
-    read_usize, to_u32, trunc_checked_of_bits, trunc_of_bits, whole_of_bits,
+    column_names, push_column, push_escaped, read_bits, read_i16, read_i32, read_u16, read_u32,
+    read_u64, read_usize, to_u32, trunc_checked_of_bits, trunc_of_bits, whole_of_bits,
 };
 use std::test::Fail;
 
@@ -114,4 +114,26 @@ fn a_refusal_leaves_the_text(rt: HostRuntime) {
         expected = "AAA";
     }
     assert_eq!(rt; text.as_str(), expected);
+    text.clear();
+    expected = "";
+    if push_escaped("a\tb\n", &mut text).is_ok() {
+        expected = "a\\tb\\n";
+    }
+    assert_eq!(rt; text.as_str(), expected);
+}
+
+#[test]
+fn escapes_what_ends_a_field(rt: HostRuntime) -> Result<(), Fail> {
+    let texts = [
+        ("", "$"),
+        ("plain", "$plain"),
+        ("a\tb\r\n", "$a\\tb\\r\\n"),
+        ("\\\\ \u{e9}\t\u{20ac}", "$\\\\\\\\ \u{e9}\\t\u{20ac}"),
+    ];
+    for (text, expected) in texts {
+        let mut line = String::from_str(rt.alloc(), "$")?;
+        push_escaped(text, &mut line)?;
+        assert_eq!(rt; line.as_str(), expected);
+    }
+    Ok(())
 }

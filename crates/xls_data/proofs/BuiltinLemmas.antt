@@ -13,7 +13,7 @@ code_low n p = grind (arith, nat_tests)
 code_high : (n : ℕ) → 100 ≤ n → class_of_code n ≡ Other
 code_high n p = grind (arith, nat_tests)
 
--- a text of more than two bytes is no code of a date or span
+-- a text of more than two bytes is no code of a date or duration
 id_long : (ds : List ℕ) → 2 < length ds → class_of_id ds ≡ Other
 id_long [] p = refl
 id_long (a ∷ []) p = refl

@@ -1,4 +1,4 @@
--- What stands behind the first section doesn't count.
+-- What stands after the first section doesn't count.
 use Rattle.std.proofs.Common.{◌≡◌, ℕ, List, [], ◌∷◌, ◌++◌, Bool, true, false, cond, refl}
 use Rattle.xls_data.specs.declared.formats.CellFormat.{CellFormat}
 use Rattle.xls_data.specs.declared.classes.Walk.{Walk}

@@ -1,5 +1,5 @@
 -- Values from outside, so that a wrong rule in the definitions does not check.
-use Rattle.std.proofs.Common.{◌≡◌, ℤ, Bool, Option, Some, None, [], ◌∷◌, map, refl, pos, negsuc, codes}
+use Rattle.std.proofs.Common.{◌≡◌, ℤ, Bool, Option, Some, None, [], ◌∷◌, map, refl, pos, negsuc, ◌+ℤ◌, codes}
 use Rattle.std.specs.Fmt.{digits}
 use Rattle.xls_data.specs.declared.numbers.Number.TheVariants.{Bits, Whole, Hundredths, BitsOver100}
 use Rattle.xls_data.specs.declared.formats.CellFormat.TheVariants.{Other, DateTime, TimeDelta}
@@ -11,7 +11,7 @@ use Rattle.xls_data.specs.Formatted.{formatted_number, formatted_whole, plain}
 use Rattle.xls_data.specs.declared.numbers.Number.{Number}
 use Rattle.xls_data.specs.declared.formats.CellFormat.{CellFormat}
 use Rattle.xls_data.specs.Numbers.{number_text, number_trunc, number_trunc_checked, sixteen_digits}
-use Rattle.xls_data.specs.SerialDays.{day_number}
+use Rattle.xls_data.specs.SerialDays.{day_number, last_day, last_day_of_1904}
 use Rattle.jiff_core.specs.Calendar.{days_from_civil, day_count, days_of_years, days_of_months}
 
 -- hundredths of -5, 150 and 100, and of -101
@@ -55,7 +55,7 @@ pub known_others : map class_of (codes "#,##0*y" ∷ codes "\\Y000000" ∷ codes
     ≡ Other ∷ Other ∷ Other ∷ Other ∷ []
 known_others = refl
 
--- built-in dates and spans, and the codes beside them
+-- built-in dates and durations, and the codes beside them
 pub known_codes : map class_of_code (13 ∷ 14 ∷ 22 ∷ 23 ∷ 27 ∷ 36 ∷ 45 ∷ 46 ∷ 47 ∷ 48 ∷ 50 ∷ 58 ∷ 59 ∷ [])
     ≡ Other ∷ DateTime ∷ DateTime ∷ Other ∷ DateTime ∷ DateTime ∷ DateTime ∷ TimeDelta ∷ DateTime ∷ Other ∷ DateTime ∷ DateTime ∷ Other ∷ []
 known_codes = refl
@@ -69,6 +69,12 @@ pub known_days : (day_number 1904 1 1 ≡ negsuc 24106) × (day_number 1899 12 3
     × (day_number 1899 12 30 ≡ negsuc 25568) × (day_number 9999 12 31 ≡ pos 2932896)
 unfolding days_from_civil day_count days_of_years days_of_months
 known_days = (refl, refl, refl, refl)
+
+-- so that is the last day of the 1900 system, and 1904-01-01 is day 0 of the other one
+pub known_last_days : (day_number 9999 12 31 ≡ day_number 1899 12 30 +ℤ pos last_day)
+    × (day_number 9999 12 31 ≡ day_number 1904 1 1 +ℤ pos last_day_of_1904)
+unfolding days_from_civil day_count days_of_years days_of_months
+known_last_days = (refl, refl)
 
 -- ---- plain values
 

@@ -15,7 +15,7 @@ is_date_code n = between 14 22 n || between 27 36 n || (n == 45) || (n == 47) ||
 abbrev pub class_of_code : ℕ → CellFormat
 class_of_code n = if is_date_code n then DateTime else if n == 46 then TimeDelta else Other
 
--- the class of two digits, the first not 0; every other text is no code of a date or span
+-- the class of two digits, the first not 0; every other text is no code of a date or duration
 abbrev pub class_of_id : List ℕ → CellFormat
 class_of_id (tens ∷ ones ∷ []) =
     if between 49 57 tens && between 48 57 ones

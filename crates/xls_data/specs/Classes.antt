@@ -25,7 +25,7 @@ is_date_letter c =
 abbrev pub ends_ap : ℕ → Bool
 ends_ap c = is_letter 112 c || is_letter 109 c || (c == 47)
 
--- whether a run of h, m or s behind a `[` goes on
+-- whether a run of h, m or s after a `[` goes on
 abbrev pub hms_after : Walk → ℕ → Bool
 hms_after w c =
     if w.hms && (to_ascii_lowercase c == to_ascii_lowercase w.before) then w.hms

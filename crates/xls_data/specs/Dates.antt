@@ -1,4 +1,4 @@
--- What a date or a span of time consists of.
+-- What a date or a duration consists of.
 use Rattle.std.specs.Prelude.{Bool}
 use Rattle.xls_data.specs.declared.numbers.Number.{Number}
 use Rattle.xls_data.specs.declared.dates.ExcelDateTimeType.{ExcelDateTimeType}

@@ -8,7 +8,7 @@ use Rattle.xls_data.specs.declared.formats.CellFormat.TheVariants as class
 use Rattle.xls_data.specs.Content.{Content, int, float, text, truth, date, iso_date, iso_duration, failure, nothing}
 use Rattle.xls_data.specs.Dates.{DateParts}
 
--- the date or span that a number is under a class, if it is one
+-- the date or duration that a number is under a class, if it is one
 abbrev pub date_of : Option CellFormat → Number → Bool → Option DateParts
 date_of (Some class.DateTime) n epoch =
     Some (record { number = n; kind = kind.DateTime; is_1904 = epoch })
@@ -17,7 +17,7 @@ date_of (Some class.TimeDelta) n epoch =
 date_of (Some class.Other) n epoch = None
 date_of None n epoch = None
 
--- a date or span, else another content
+-- a date or duration, else another content
 abbrev pub date_or : Option DateParts → Content → Content
 date_or (Some d) other = date d
 date_or None other = other

@@ -30,7 +30,7 @@ abbrev pub text_in : Content → Option (List ℕ)
 text_in (text cs) = Some cs
 text_in _ = None
 
--- a date or a span of time
+-- a date or a duration
 abbrev pub date_in : Content → Option DateParts
 date_in (date d) = Some d
 date_in _ = None
@@ -40,7 +40,7 @@ abbrev pub iso_date_in : Content → Option (List ℕ)
 iso_date_in (iso_date cs) = Some cs
 iso_date_in _ = None
 
--- the text of a span of time in ISO 8601
+-- the text of a duration in ISO 8601
 abbrev pub iso_duration_in : Content → Option (List ℕ)
 iso_duration_in (iso_duration cs) = Some cs
 iso_duration_in _ = None

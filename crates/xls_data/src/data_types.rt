@@ -38,7 +38,7 @@ pub trait DataType {
     fn get_string(&self) -> Option<&str>
         ensures { option_map (λ s. chars s.now) result ≡ text_in (contains self.now) };
 
-    /// The date or span of time, if it is one.
+    /// The date or duration, if it is one.
     fn get_datetime(&self) -> Option<ExcelDateTime>
         ensures { result ≡ date_in (contains self.now) };
 
@@ -46,7 +46,7 @@ pub trait DataType {
     fn get_datetime_iso(&self) -> Option<&str>
         ensures { option_map (λ s. chars s.now) result ≡ iso_date_in (contains self.now) };
 
-    /// The text of a span of time in ISO 8601, if it is one.
+    /// The text of a duration in ISO 8601, if it is one.
     fn get_duration_iso(&self) -> Option<&str>
         ensures { option_map (λ s. chars s.now) result ≡ iso_duration_in (contains self.now) };
 
@@ -89,14 +89,14 @@ pub trait DataType {
         self.get_error().is_some()
     }
 
-    /// Whether it is the text of a span of time in ISO 8601.
+    /// Whether it is the text of a duration in ISO 8601.
     fn is_duration_iso(&self) -> bool
         ensures { result ≡ is_some (iso_duration_in (contains self.now)) }
     {
         self.get_duration_iso().is_some()
     }
 
-    /// Whether it is a date or a span of time.
+    /// Whether it is a date or a duration.
     fn is_datetime(&self) -> bool
         ensures { result ≡ is_some (date_in (contains self.now)) }
     {

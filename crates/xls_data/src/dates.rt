@@ -1,4 +1,4 @@
-//! Dates and spans of time as a workbook has them: a number, its kind and the date system.
+//! Dates and durations as a workbook has them: a number, its kind and the date system.
 
 ghost use Rattle.std.specs.Prelude.{◌≡◌, ◌↔◌, Some, IsTrue};
 ghost use Rattle.xls_data.specs.Numbers.{number_text};
@@ -12,11 +12,11 @@ use std::marker::Model;
 pub enum ExcelDateTimeType {
     /// A day and a time of day.
     DateTime,
-    /// A span of time.
+    /// A duration.
     TimeDelta,
 }
 
-/// A date or a span of time: a number of days, its kind, and whether days count from 1904.
+/// A date or a duration: a number of days, its kind, and whether days count from 1904.
 #[derive(Clone, Copy, Debug, PartialEq, Eq)]
 pub struct ExcelDateTime {
     value: Number,
@@ -35,7 +35,7 @@ impl Model for ExcelDateTime {
 }
 
 impl ExcelDateTime {
-    /// The date or span of a number, by its kind and date system.
+    /// The date or duration of a number, by its kind and date system.
     pub fn new(value: Number, datetime_type: ExcelDateTimeType, is_1904: bool) -> Self
         ensures { result ≡ record { number = value; kind = datetime_type; is_1904 = is_1904 } }
     {
@@ -46,7 +46,7 @@ impl ExcelDateTime {
         }
     }
 
-    /// Whether it is a span of time.
+    /// Whether it is a duration.
     pub fn is_duration(&self) -> bool
         ensures { IsTrue result ↔ (self.now.kind ≡ ExcelDateTimeType.TimeDelta) }
     {

@@ -11,11 +11,11 @@ use crate::{Data, DataRef, ExcelDateTime, ExcelDateTimeType, Number};
 /// What a number format shows.
 #[derive(Clone, Copy, Debug, PartialEq, Eq)]
 pub enum CellFormat {
-    /// Neither a date nor a span of time.
+    /// Neither a date nor a duration.
     Other,
     /// A day or a time of day.
     DateTime,
-    /// A span of time.
+    /// A duration.
     TimeDelta,
 }
 
@@ -30,8 +30,8 @@ fn date_of(value: Number, format: Option<&CellFormat>, is_1904: bool) -> Option<
     Some(ExcelDateTime::new(value, kind, is_1904))
 }
 
-/// The value of a whole number under a class: an int, or a date or span of that number. No class is
-/// `Other`. Takes no memory.
+/// The value of a whole number under a class: an int, or a date or duration of that number. No
+/// class is `Other`. Takes no memory.
 pub fn format_excel_i64(value: i64, format: Option<&CellFormat>, is_1904: bool) -> Data
     ensures { content_of result ≡ formatted_whole (option_copied format.entry) value is_1904 }
 {
@@ -41,8 +41,8 @@ pub fn format_excel_i64(value: i64, format: Option<&CellFormat>, is_1904: bool) 
     }
 }
 
-/// The value of a number under a class: a float, or a date or span of that number. No class is
-/// `Other`. Takes no memory.
+/// The value of a number under a class: a float, or a date or duration of that number. No class
+/// is `Other`. Takes no memory.
 pub fn format_excel_number(value: Number, format: Option<&CellFormat>, is_1904: bool) -> Data
     ensures { content_of result ≡ formatted_number (option_copied format.entry) value is_1904 }
 {

@@ -2,7 +2,7 @@
 
 ghost use Rattle.std.specs.Prelude.{◌≡◌, ◌<◌, ◌≤◌, true, false, pos, negsuc, ◌+ℤ◌, ◌≤ℤ◌};
 ghost use Rattle.jiff.specs.Words.{epoch_day, IsEpochDay, IsBetween};
-ghost use Rattle.xls_data.specs.SerialDays.{IsDayNumber, day_number};
+ghost use Rattle.xls_data.specs.SerialDays.{IsDayNumber, day_number, last_day, last_day_of_1904};
 
 use jiff::ToSpan;
 use jiff::civil::{Date, date};
@@ -46,12 +46,12 @@ pub fn ymd_of_serial_day(day: u64, is_1904: bool) -> (u16, u8, u8)
     ensures leap { is_1904 ≡ false → day ≡ 60 → result ≡ (1900, 2, 29) }
     ensures early { is_1904 ≡ false → day < 60
         → IsDayNumber (day_number 1899 12 31 +ℤ pos day) result }
-    ensures late { is_1904 ≡ false → 60 < day → day ≤ LAST_DAY
+    ensures late { is_1904 ≡ false → 60 < day → day ≤ last_day
         → IsDayNumber (day_number 1899 12 30 +ℤ pos day) result }
-    ensures past { is_1904 ≡ false → LAST_DAY < day → result ≡ (9999, 12, 31) }
-    ensures from_1904 { is_1904 ≡ true → day ≤ LAST_DAY_OF_1904
+    ensures past { is_1904 ≡ false → last_day < day → result ≡ (9999, 12, 31) }
+    ensures from_1904 { is_1904 ≡ true → day ≤ last_day_of_1904
         → IsDayNumber (day_number 1904 1 1 +ℤ pos day) result }
-    ensures past_1904 { is_1904 ≡ true → LAST_DAY_OF_1904 < day → result ≡ (9999, 12, 31) }
+    ensures past_1904 { is_1904 ≡ true → last_day_of_1904 < day → result ≡ (9999, 12, 31) }
 {
     if is_1904 {
         if day > LAST_DAY_OF_1904 {

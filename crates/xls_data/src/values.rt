@@ -17,11 +17,11 @@ pub enum Data {
     String(String),
     /// A truth value.
     Bool(bool),
-    /// A date or a span of time.
+    /// A date or a duration.
     DateTime(ExcelDateTime),
     /// A date or time in the text of ISO 8601.
     DateTimeIso(String),
-    /// A span of time in the text of ISO 8601.
+    /// A duration in the text of ISO 8601.
     DurationIso(String),
     /// An error value.
     Error(CellErrorType),

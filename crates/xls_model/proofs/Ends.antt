@@ -10,7 +10,7 @@ use Rattle.xls_model.specs.declared.part.Part.TheVariants.{RecordHeader, RecordL
 use Rattle.xls_model.proofs.Unique.{size_is}
 use Rattle.xls_model.proofs.Total.{runs, no_others}
 
--- a whole group at the front is longer than its first record says
+-- a whole group at the start is longer than its first record says
 longer : (bytes : List ℕ) (g : Group) (after : List ℕ) → bytes ≡ group_bytes g ++ after → IsGroup g
     → 4 + le (take 2 (drop 2 bytes)) ≤ length bytes
 longer bytes g after w f =

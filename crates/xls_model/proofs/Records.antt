@@ -1,4 +1,4 @@
--- Records and Continue records at the front of bytes.
+-- Records and Continue records at the start of bytes.
 use Rattle.std.proofs.Common.{◌≡◌, ℕ, zero, suc, ◌+◌, ◌-◌, ◌*◌, ◌/◌, ◌%◌, ◌^◌, ◌<◌, ◌≤◌, List, [], ◌∷◌, ◌++◌, length, get_or, take, drop, refl, sym, ap, subst, ◌∙◌, append_assoc, arith}
 use Rattle.std.specs.List.{AllByRecursion}
 use Rattle.std.proofs.lemmas.List.{take_at, drop_at, length-append, length-take, take-append-drop, take-take, drop-drop, drop-take, flat_map_more}
@@ -61,7 +61,7 @@ continues-push cs c rest =
     ap (λ (x : List ℕ). x ++ rest) (sym (flat_map_more (enc 60) [] cs c))
     ∙ append_assoc (continues cs) (enc 60 c) rest
 
--- what stands behind a Continue at the front, and its body
+-- what stands after a Continue at the start, and its body
 pub after_continue : (c rest : List ℕ) → IsBody c → drop (4 + length c) (enc 60 c ++ rest) ≡ rest
 after_continue c rest fits =
     sym (drop-drop (length c) 4 (enc 60 c ++ rest)) ∙ drop_at c rest (length c) refl

@@ -126,7 +126,7 @@ own_closed_found front b items e h k l m more stop =
     ap (λ (x : List Group). found_from 0 x stop) (regroup front b items e more)
     ∙ own_found front b items (e ∷ more) stop None h k l (step_over 1 e more stop (omega arith) m)
 
--- ---- every list of groups has a shape at its front
+-- ---- every list of groups has a shape at its start
 
 -- items, and then an EOF, or the end inside unclosed substreams
 data Rest (gs : List Group) : Type 0 where
@@ -182,7 +182,7 @@ rest_within (suc fuel) (g ∷ gs) few =
       ]
     ]
 
--- a closed shape and what stands behind it, or an open one
+-- a closed shape and what stands after it, or an open one
 data Shaped (gs : List Group) : Type 0 where
   closes : (s : Shape) (after : List Group) → IsShape s → gs ≡ groups_in s ++ after
       → ((more : List Group) (stop : Option Part)

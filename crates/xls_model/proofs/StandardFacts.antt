@@ -49,7 +49,7 @@ chart_counted = refl
 pub kept_types : kept_groups (group 515 ∷ group 520 ∷ group 6 ∷ []) ≡ group 515 ∷ group 6 ∷ []
 kept_types = refl
 
--- a whole Continue behind a record belongs to it
+-- a whole Continue after a record belongs to it
 abbrev continued : Group
 continued = record { typ = 252; body = 1 ∷ []; tail = (2 ∷ []) ∷ [] }
 

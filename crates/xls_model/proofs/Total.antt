@@ -80,7 +80,7 @@ gather (suc fuel) start after few below fits g =
       | inr n ↦ whole after g n below fits
     ]
 
--- a group at the front, or a cut
+-- a group at the start, or a cut
 data FirstStep (bytes : List ℕ) : Type 0 where
   goes : (g : Group) (rest : List ℕ) → Begins bytes g rest → length rest < length bytes
       → IsBytes rest → FirstStep bytes

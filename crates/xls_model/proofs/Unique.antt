@@ -9,7 +9,7 @@ use Rattle.xls_model.specs.declared.part.Part.{Part}
 use Rattle.xls_model.specs.declared.part.Part.TheVariants.{RecordHeader, RecordLength, ContinueLength}
 use Rattle.xls_model.proofs.Records.{le_le16}
 
--- two lists that go on from fronts of one length
+-- two lists that go on from prefixes of one length
 same_front : (x x' y y' : List ℕ) → length x ≡ length x' → x ++ y ≡ x' ++ y' → (x ≡ x') × (y ≡ y')
 same_front x x' y y' n e =
     let front : x ≡ x' =
@@ -34,7 +34,7 @@ same_record t t' x x' y y' ft ft' fx fx' e =
     let both = same_front x x' y y' n parts in
     record { typ = omega arith; body = both.0; rest = both.1 }
 
--- a Continue at the front, with more than four bytes left
+-- a Continue at the start, with more than four bytes left
 starts : (c rest after : List ℕ) → after ≡ enc 60 c ++ rest → 4 < length after
     → StartsContinue after
 starts c rest after e lt = record { room = lt; typ = rw e refl }

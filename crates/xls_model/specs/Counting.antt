@@ -38,12 +38,12 @@ found_at on g (suc zero) other = keep g (on (suc zero))
 found_at on g (suc (suc n)) other = on (suc (suc n))
 
 -- The kept groups of a part, of which n BOF records are open: none, its own, or its own and n - 1
--- substreams. The groups end in this cut, which no longer counts behind the EOF of the part.
+-- substreams. The groups end in this cut, which no longer counts after the EOF of the part.
 unfoldable pub found_from : ℕ → List Group → Option Part → Found
 found_from n [] cut = ([], cut)
 found_from n (g ∷ gs) cut = found_at (λ k. found_from k gs cut) g n (kind_of g)
 
--- the groups before the first EOF, behind which a cut no longer counts
+-- the groups before the first EOF, after which a cut no longer counts
 abbrev pub globals_of : List Group → Option Part → Found
 globals_of [] cut = ([], cut)
 globals_of (g ∷ gs) cut = if g.typ == EOF then ([], None) else with_group g (globals_of gs cut)

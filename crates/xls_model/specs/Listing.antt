@@ -38,7 +38,7 @@ IsSheetPart bytes offset kept cut =
 -- ---- the string table
 
 -- what an SST record ([MS-XLS] 2.4.265) and the bodies attached to it hold: too few bytes for the two
--- numbers at their front; or strings, as lists of units; or what isn't there first
+-- numbers at their start; or strings, as lists of units; or what isn't there first
 pub data Shared : Type 0 where
   no_table : Shared
   table_of : (strings : List (List ℕ)) → Shared

@@ -45,7 +45,8 @@ abbrev pub HasRoom : List (List ℕ) → List ℕ → Type 0
 HasRoom [] after = Unit {0}
 HasRoom (c ∷ cs) after = (4 < length (continues (c ∷ cs) ++ after)) × HasRoom cs after
 
--- the bytes are a group and then the rest, and the group is whole: no Continue that belongs to it stands in the rest
+-- the bytes are a group and then the rest, and the group is whole: no Continue that belongs to it
+-- stands in the rest
 pub record Begins (bytes : List ℕ) (g : Group) (rest : List ℕ) : Type 0 where
   pub whole : bytes ≡ group_bytes g ++ rest
   pub fits : IsGroup g

@@ -22,7 +22,7 @@ Mark = Option ℕ
 abbrev pub marked_piece : List ℕ → List Mark
 marked_piece body = None ∷ map Some body
 
--- the bytes at the front, and the attached bodies with a mark before each
+-- the bytes at the start, and the attached bodies with a mark before each
 abbrev pub marked : List ℕ → List (List ℕ) → List Mark
 marked front bodies = map Some front ++ flat_map marked_piece bodies
 
@@ -45,12 +45,12 @@ weight (Some b ∷ ms) = 1 + weight ms
 abbrev pub is_wide : ℕ → Bool
 is_wide flags = flags % 2 == 1
 
--- a unit, and the units behind it
+-- a unit, and the units after it
 abbrev pub with_unit : ℕ → Option (List ℕ × List Mark) → Option (List ℕ × List Mark)
 with_unit u None = None
 with_unit u (Some x) = Some (u ∷ x.0, x.1)
 
--- so many units at the front and what stands behind them; None where they aren't there
+-- so many units at the start and what stands after them; None where they aren't there
 unfoldable pub units_at : ℕ → Bool → List Mark → Option (List ℕ × List Mark)
 units_at zero wide ms = Some ([], ms)
 units_at (suc n) wide [] = None
@@ -62,7 +62,7 @@ units_at (suc n) true (Some b ∷ []) = None
 units_at (suc n) true (Some b ∷ None ∷ ms) = None
 units_at (suc n) true (Some b ∷ Some c ∷ ms) = with_unit (b + 256 * c) (units_at n true ms)
 
--- what stands behind so many bytes, whose marks don't count; None where they aren't there
+-- what stands after so many bytes, whose marks don't count; None where they aren't there
 unfoldable pub tail_at : ℕ → List Mark → Option (List Mark)
 tail_at zero ms = Some ms
 tail_at (suc k) [] = None
@@ -144,7 +144,7 @@ abbrev pub with_head : List Mark → Result Head Missing → Result (List ℕ ×
 with_head ms (Err e) = Err e
 with_head ms (Ok h) = with_units h.behind (units_at h.count h.wide (drop h.len ms))
 
--- the string at the front and what stands behind it, or what isn't there
+-- the string at the start and what stands after it, or what isn't there
 abbrev pub str_at : List Mark → Result (List ℕ × List Mark) Missing
 str_at ms = with_head ms (head_at (front_of ms))
 

@@ -125,7 +125,7 @@ pub record SheetPart (bytes : List ℕ) (kept : List Group) (cut : Option Part) 
 abbrev pub IsNotEof : Group → Type 0
 IsNotEof g = g.typ ≢ EOF
 
--- the bytes begin with the globals of these groups, their EOF apart: an EOF stands behind them, or
+-- the bytes begin with the globals of these groups, their EOF apart: an EOF stands after them, or
 -- they end with the bytes or in this cut
 pub record GlobalsPart (bytes : List ℕ) (groups : List Group) (cut : Option Part) : Type 0 where
   pub no_eof : AllByRecursion IsNotEof groups

@@ -1,4 +1,4 @@
--- The groups of a list of bytes, and how the bytes end behind them.
+-- The groups of a list of bytes, and how the bytes end after them.
 use Rattle.std.specs.Prelude.{◌≡◌, ℕ, ◌<◌, List, [], ◌⊎◌, slice_index, Option, Some, None}
 use Rattle.xls_model.specs.Stream.{Group, Run}
 use Rattle.xls_model.specs.Cut.{Cut}

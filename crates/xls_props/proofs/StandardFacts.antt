@@ -1,5 +1,5 @@
 -- Values that [MS-OLEPS] and the calendar give, so that a wrong rule in the specs does not check.
-use Rattle.std.proofs.Common.{◌≡◌, ℕ, [], ◌∷◌, Some, None, negsuc, refl}
+use Rattle.std.proofs.Common.{◌≡◌, ℕ, [], ◌∷◌, Some, None, pos, negsuc, ◌+ℤ◌, ◌/◌, ◌%◌, refl}
 use Rattle.std.specs.Prelude.{codes}
 use Rattle.std.specs.Fmt.{digits}
 use Rattle.xls_text.specs.declared.encoding.XlsEncoding.TheVariants.{Utf8, Utf16, Windows1252}
@@ -7,7 +7,9 @@ use Rattle.xls_props.specs.Bytes.{u16_at, i32_at}
 use Rattle.xls_props.specs.Entries.{entries_of, first_of, last_of}
 use Rattle.xls_props.specs.Values.{without_nuls, page_in, bool_text, version_text, moment_of, Moment}
 use Rattle.xls_props.specs.Names.{name_room}
-use Rattle.xls_props.specs.Moments.{clock_text}
+use Rattle.jiff_core.specs.Calendar.{days_from_civil, day_count, days_of_years, days_of_months}
+use Rattle.xls_data.specs.SerialDays.{day_number}
+use Rattle.xls_props.specs.Moments.{clock_text, past_last_day}
 use Rattle.xls_props.specs.Sections.{section_of, custom_id}
 
 -- numbers at a place, and past the end
@@ -75,6 +77,12 @@ last_moment = refl
 
 past : moment_of 2_650_467_744_000_000_000 ≡ None
 past = refl
+
+-- it is that of the day after 9999-12-31, in units of 100 nanoseconds from 1601-01-01
+last_day : (day_number 9999 12 31 +ℤ pos 1 ≡ day_number 1601 1 1 +ℤ pos (past_last_day / 864_000_000_000))
+    × (past_last_day % 864_000_000_000 ≡ 0)
+unfolding days_from_civil day_count days_of_years days_of_months
+last_day = (refl, refl)
 
 never : moment_of 0 ≡ None
 never = refl

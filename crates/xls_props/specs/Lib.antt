@@ -3,6 +3,7 @@ pub use Rattle.xls_data.specs.Numbers
 pub use Rattle.xls_text.specs.Pages
 pub mod Bytes
 pub mod Entries
+pub mod PropertyTypes
 pub mod Values
 pub mod Moments
 pub mod Names

@@ -4,7 +4,6 @@ use Rattle.std.specs.Fmt.{decimal}
 use Rattle.jiff.specs.Words.{epoch_day, date_text}
 use Rattle.jiff_core.specs.declared.civil.date.Date.{Date}
 use Rattle.xls_data.specs.SerialDays.{day_number}
-use Rattle.xls_props.specs.declared.moments.TheConstants.{PAST_LAST_DAY}
 
 -- the tens and the ones
 abbrev pub two_digits : ℕ → List ℕ
@@ -16,9 +15,13 @@ clock_text s =
     two_digits (s / 3600)
     ++ (codes ":" ++ (two_digits (s / 60 % 60) ++ (codes ":" ++ two_digits (s % 60))))
 
+-- the FILETIME of 10000-01-01, the first whose year has five digits
+abbrev pub past_last_day : ℕ
+past_last_day = 2_650_467_744_000_000_000
+
 -- 0 stands for no moment, and no text has five digits of a year
 abbrev pub IsNoMoment : ℕ → Type 0
-IsNoMoment n = (n ≡ 0) ⊎ (PAST_LAST_DAY ≤ n)
+IsNoMoment n = (n ≡ 0) ⊎ (past_last_day ≤ n)
 
 -- the date so many whole days after 1601-01-01, and the second of that day
 pub record IsMoment (n : ℕ) (text : List ℕ) : Type 0 where

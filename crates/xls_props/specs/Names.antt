@@ -25,7 +25,7 @@ abbrev pub name_room : XlsEncoding → ℕ → ℕ
 name_room Utf16 n = (2 * n + 3) / 4 * 4
 name_room page n = n
 
--- the name at the front, and what follows it: a number, a length and the name make it whole
+-- the name at the start, and what follows it: a number, a length and the name make it whole
 abbrev pub name_at : XlsEncoding → List ℕ → Option (Name × List ℕ)
 name_at page bytes =
     u32_at bytes 0 >>= λ number. u32_at bytes 4 >>= λ n.

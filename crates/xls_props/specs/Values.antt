@@ -11,11 +11,10 @@ use Rattle.xls_text.specs.declared.encoding.XlsEncoding.TheVariants.{Utf8, Utf16
 use Rattle.xls_text.specs.declared.error.CfbError.{CfbError}
 use Rattle.xls_text.specs.Pages.{decoded, page_of}
 use Rattle.xls_data.specs.Numbers.{bits_text}
-use Rattle.xls_props.specs.declared.moments.TheConstants.{PAST_LAST_DAY}
-use Rattle.xls_props.specs.declared.values.TheConstants.{VT_I2, VT_I4, VT_R8, VT_BOOL, VT_UI4, VT_LPSTR, VT_LPWSTR, VT_FILETIME}
+use Rattle.xls_props.specs.PropertyTypes.{VT_I2, VT_I4, VT_R8, VT_BOOL, VT_UI4, VT_LPSTR, VT_LPWSTR, VT_FILETIME}
 use Rattle.xls_props.specs.Bytes.{bytes_at, u16_at, i16_at, u32_at, i32_at, u64_at}
 use Rattle.xls_props.specs.Entries.{Entry, first_of, last_of}
-use Rattle.xls_props.specs.Moments.{IsMoment}
+use Rattle.xls_props.specs.Moments.{IsMoment, past_last_day}
 
 -- what follows where a value is there
 infixl 10 ◌>>=◌
@@ -64,7 +63,7 @@ units_text s at =
 
 -- a FILETIME that has a text
 abbrev pub moment_of : ℕ → Option Value
-moment_of n = if (n == 0) || nat_le PAST_LAST_DAY n then None else Some (Moment n)
+moment_of n = if (n == 0) || nat_le past_last_day n then None else Some (Moment n)
 
 abbrev pub moment_at : List ℕ → ℕ → Option Value
 moment_at s at = u64_at s at >>= moment_of

@@ -10,7 +10,7 @@ use xls_bytes::read_u32;
 /// A property's number, and where its type stands in the section.
 pub(crate) type Entry = (u32, u32);
 
-// The entry at the front, and the bytes after it.
+// The entry at the start, and the bytes after it.
 fn first_entry(bytes: &[u8]) -> Option<(Entry, &[u8])>
     ensures { MatchOption result ((n : ℕ) → entries_from n bytes.now ≡ [])
         (λ x. (n : ℕ) → entries_from (suc n) bytes.now ≡ x.0 ∷ entries_from n x.1.now) }

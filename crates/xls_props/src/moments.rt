@@ -4,7 +4,7 @@ ghost use Rattle.std.specs.Prelude.{◌≡◌, ◌<◌, ◌≤◌, ◌++◌, pos
 ghost use Rattle.std.specs.String.{string_bytes};
 ghost use Rattle.jiff.specs.Words.{epoch_day, IsEpochDay, IsBetween, IsYmd};
 ghost use Rattle.xls_data.specs.SerialDays.{day_number};
-ghost use Rattle.xls_props.specs.Moments.{IsNoMoment, IsMoment};
+ghost use Rattle.xls_props.specs.Moments.{IsNoMoment, IsMoment, past_last_day};
 
 use jiff::ToSpan;
 use jiff::civil::{Date, date};
@@ -12,7 +12,7 @@ use std::alloc::{AllocError, Global};
 use std::fmt;
 
 /// The first FILETIME past 9999-12-31.
-pub const PAST_LAST_DAY: u64 = 2_650_467_744_000_000_000;
+const PAST_LAST_DAY: u64 = 2_650_467_744_000_000_000;
 
 // The FILETIME of a second, and the seconds of a day.
 const SECOND: u64 = 10_000_000;
@@ -64,10 +64,10 @@ impl fmt::Display for Clock {
 
 /// The text of a FILETIME ([MS-DTYP] FILETIME), which counts 100 nanoseconds from 1601-01-01 UTC:
 /// `2020-02-29T00:00:00Z`, parts of a second dropped. None exactly for 0 and for what is past
-/// 9999-12-31. Only want of memory refuses.
+/// 9999-12-31. Only running out of memory refuses.
 pub fn filetime_to_iso8601(alloc: Global, filetime: u64) -> Result<Option<String>, AllocError>
     ensures { IfOk result (λ t. MatchOption t (IsNoMoment filetime) (λ text.
-        (0 < filetime) × (filetime < PAST_LAST_DAY) × IsMoment filetime (string_bytes text))) }
+        (0 < filetime) × (filetime < past_last_day) × IsMoment filetime (string_bytes text))) }
 {
     if filetime == 0 || PAST_LAST_DAY <= filetime {
         return Ok(None);

@@ -46,7 +46,7 @@ fn after(bytes: &[u8], n: usize) -> &[u8]
     rest
 }
 
-// The name at the front, and the bytes after it.
+// The name at the start, and the bytes after it.
 fn first_name(
     alloc: Global,
     page: XlsEncoding,

@@ -9,7 +9,7 @@ use std::alloc::{AllocError, Global};
 use std::collections::BTreeMap;
 
 /// The properties of a workbook as texts. What can't be read is none, and so is an empty text.
-#[derive(Drop)]
+#[derive(Debug, Drop)]
 pub struct WorkbookProperties {
     /// Who made the workbook.
     pub creator: Option<String>,
@@ -141,7 +141,7 @@ fn document_of(alloc: Global, bytes: &[u8]) -> Result<Document, AllocError>
 
 /// The properties in the summary stream and the document stream of a workbook file ([MS-OLEPS]).
 /// The custom ones stand in the document stream. A damaged stream is no error: what can't be read
-/// is none. Only want of memory refuses.
+/// is none. Only running out of memory refuses.
 pub fn workbook_properties_of(
     alloc: Global,
     summary: Option<&[u8]>,

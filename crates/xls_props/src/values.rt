@@ -18,28 +18,28 @@ use xls_data::Number;
 use xls_text::XlsEncoding;
 
 /// A signed number of 16 bits.
-pub const VT_I2: u16 = 0x0002;
+const VT_I2: u16 = 0x0002;
 
 /// A signed number of 32 bits.
-pub const VT_I4: u16 = 0x0003;
+const VT_I4: u16 = 0x0003;
 
 /// A double.
-pub const VT_R8: u16 = 0x0005;
+const VT_R8: u16 = 0x0005;
 
 /// A truth value: a number of 16 bits, 0 for false.
-pub const VT_BOOL: u16 = 0x000B;
+const VT_BOOL: u16 = 0x000B;
 
 /// An unsigned number of 32 bits.
-pub const VT_UI4: u16 = 0x0013;
+const VT_UI4: u16 = 0x0013;
 
 /// Bytes in the section's page.
-pub const VT_LPSTR: u16 = 0x001E;
+const VT_LPSTR: u16 = 0x001E;
 
 /// Units of UTF-16.
-pub const VT_LPWSTR: u16 = 0x001F;
+const VT_LPWSTR: u16 = 0x001F;
 
 /// A moment.
-pub const VT_FILETIME: u16 = 0x0040;
+const VT_FILETIME: u16 = 0x0040;
 
 fn i16_text(alloc: Global, s: &[u8], at: usize) -> Result<Option<String>, AllocError>
     ensures { IfOk result (λ t. option_map string_bytes t

@@ -1,4 +1,4 @@
--- Blanks that are added behind cells, one after another.
+-- Blanks that are added after cells, one after another.
 use Rattle.std.proofs.Common.{◌≡◌, ℕ, zero, suc, ◌+◌, ◌-◌, ◌*◌, ◌<◌, ◌≤◌, inl, inr, arith, refl, List, [], ◌∷◌, ◌++◌, length, take, sym, ◌∙◌, ap, Bool, true, append-nil, append_assoc, length-append}
 use Rattle.std.specs.Prelude.{All, Result, Ok, Err, false, if◌then◌else◌, is_ok}
 use Rattle.std.specs.Result.{is_err}
@@ -36,7 +36,7 @@ pub take-AddsBlanks : {T : Type 0} (blank : T → Bool) (n k : ℕ) (old new : L
     → AddsBlanks blank n old new → k ≡ length old → take k new ≡ old
 take-AddsBlanks blank n k old new added e = rw (e, added.is) (take-append_seam old added.more)
 
--- blanks behind the cells are rows of blanks below them
+-- blanks after the cells are rows of blanks below them
 pub Grows-down : {T : Type 0} (blank : T → Bool) (top left h w rows : ℕ) (xs ys : List T)
     → h ≤ rows → length xs ≡ h * w → AddsBlanks blank (rows * w - length xs) xs ys
     → Grows blank (record { top = top; left = left; height = h; width = w; cells = xs }) (record { top = top; left = left; height = rows; width = w; cells = ys }) rows w
@@ -59,7 +59,7 @@ Grows-down blank top left h w rows xs ys low count added =
           rw (added.is, get_or-append_right xs added.more (length xs) (r * w + c) x refl behind) (added.blanks.all (r * w + c - length xs) x near);
     }
 
--- what a push leaves behind where it succeeded, and where it failed
+-- what a push leaves where it succeeded, and where it failed
 pub if-is_ok-true : {T E A : Type 0} (r : Result T E) (a b : A) → is_err r ≡ false → (if is_ok r then a else b) ≡ a
 if-is_ok-true (Ok x) a b e = refl
 if-is_ok-true (Err x) a b e = cc

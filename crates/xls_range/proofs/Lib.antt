@@ -11,3 +11,4 @@ pub mod EqualLemmas
 pub mod WalkLemmas
 pub mod DenseLemmas
 pub mod StandardFacts
+pub mod CallLemmas

@@ -1,7 +1,7 @@
-use Rattle.std.proofs.Common.{◌≡◌, ℕ, zero, suc, ◌+◌, ◌-◌, ◌*◌, ◌<◌, ◌≤◌, arith, refl, List, [], ◌∷◌, ◌++◌, length, take, drop, ◌∙◌, ap, append-nil, Bool, true, false, ◌/◌, ◌%◌, length-drop, length-append}
+use Rattle.std.proofs.Common.{◌≡◌, ℕ, zero, suc, ◌+◌, ◌-◌, ◌*◌, ◌<◌, ◌≤◌, arith, refl, List, [], ◌∷◌, ◌++◌, length, take, drop, ◌∙◌, ap, append-nil, Bool, true, false, Some, ◌/◌, ◌%◌, length-drop, length-append}
 use Rattle.std.specs.Prelude.{if◌then◌else◌}
 use Rattle.std.proofs.lemmas.List.{take_all, take-take, drop-take, drop-drop}
-use Rattle.xls_range.specs.Lists.{rows_of, cells_from, used}
+use Rattle.xls_range.specs.Lists.{rows_of, cells_from, used, last_used, or_this}
 
 pub rows_count : {T : Type 0} (n width : ℕ) (cells : List T) → length (rows_of n width cells) ≡ n
 rows_count zero width cells = refl
@@ -60,6 +60,23 @@ used_last_kept blank xs x e = used_last blank xs x ∙ rw e
 
 pub used_last_longer : {T : Type 0} (blank : T → Bool) (xs : List (ℕ × ℕ × T)) (x : ℕ × ℕ × T) → blank x.2 ≡ false → length (used blank (xs ++ x ∷ [])) ≡ length (used blank xs) + 1
 used_last_longer blank xs x e = ap length (used_last_kept blank xs x e) ∙ length-append (used blank xs) (x ∷ [])
+
+-- the last cell that is not blank, where one cell more stands at the end
+last_used-append : {T : Type 0} (blank : T → Bool) (xs : List (ℕ × ℕ × T)) (x : ℕ × ℕ × T)
+    → last_used blank (xs ++ x ∷ []) ≡ (if blank x.2 then last_used blank xs else Some (x, xs))
+last_used-append blank [] x = refl
+last_used-append blank (y ∷ xs) x =
+    ap (or_this blank y) (last_used-append blank xs x)
+    ∙ elim (blank x.2) as (λ b. or_this blank y (if b then last_used blank xs else Some (x, xs))
+    ≡ (if b then or_this blank y (last_used blank xs) else Some (x, y ∷ xs))) [ true ↦ refl | false ↦ refl ]
+
+pub last_used_blank : {T : Type 0} (blank : T → Bool) (xs : List (ℕ × ℕ × T)) (x : ℕ × ℕ × T)
+    → blank x.2 ≡ true → last_used blank (xs ++ x ∷ []) ≡ last_used blank xs
+last_used_blank blank xs x e = last_used-append blank xs x ∙ rw e
+
+pub last_used_kept : {T : Type 0} (blank : T → Bool) (xs : List (ℕ × ℕ × T)) (x : ℕ × ℕ × T)
+    → blank x.2 ≡ false → last_used blank (xs ++ x ∷ []) ≡ Some (x, xs)
+last_used_kept blank xs x e = last_used-append blank xs x ∙ rw e
 
 -- at most as many are left as there are cells
 pub used_count : {T : Type 0} (blank : T → Bool) (xs : List (ℕ × ℕ × T)) → length (used blank xs) ≤ length xs

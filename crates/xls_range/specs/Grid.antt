@@ -76,7 +76,7 @@ pub record AreBlank {T : Type 0} (blank : T → Bool) (count : ℕ) (cells : Lis
   pub number : length cells ≡ count
   pub all : All (λ x. blank x ≡ true) cells
 
--- so many blanks stand behind the cells
+-- so many blanks stand after the cells
 pub record AddsBlanks {T : Type 0} (blank : T → Bool) (count : ℕ) (old new : List T) : Type 0 where
   pub more : List T
   pub blanks : AreBlank blank count more

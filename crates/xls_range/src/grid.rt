@@ -40,7 +40,7 @@ pub fn blanks<T: CellType>(alloc: Global, count: usize) -> Result<Vec<T>, AllocE
     Ok(cells)
 }
 
-/// Adds so many blanks at the end, or none where memory is wanting. The room grows by doubling.
+/// Adds so many blanks at the end, or none where memory runs out. The room grows by doubling.
 pub fn push_blanks<T: CellType>(cells: &mut Vec<T>, count: usize) -> Result<(), AllocError>
     ensures ok { OnOk result (AddsBlanks T.blank_test count cells.old.items cells.new.items) }
     ensures err { OnErr result (cells.new.items ≡ cells.old.items) }

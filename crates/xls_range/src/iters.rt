@@ -31,7 +31,7 @@ impl<'a, T> Rows<'a, T> {
     ghost use Rattle.std.specs.Prelude.{◌≡◌, ◌*◌, length};
     ghost use Rattle.xls_range.specs.Lists.{rows_of};
 
-    pub fn new(cells: &'a [T], width: usize, count: usize) -> Rows<'a, T>
+    pub(crate) fn new(cells: &'a [T], width: usize, count: usize) -> Rows<'a, T>
         requires { length cells.now ≡ count * width }
         ensures { result ≡ rows_of count width cells.now }
     {
@@ -117,7 +117,7 @@ impl<'a, T> Cells<'a, T> {
     ghost use Rattle.std.specs.Prelude.{◌≡◌, ◌<◌, ◌^◌, length};
     ghost use Rattle.xls_range.specs.Lists.{cells_from};
 
-    pub fn new(cells: &'a [T], width: usize) -> Cells<'a, T>
+    pub(crate) fn new(cells: &'a [T], width: usize) -> Cells<'a, T>
         requires wide { 0 < length cells.now → 0 < width }
         requires count { length cells.now < 2 ^ 64 }
         ensures { result ≡ cells_from 0 width cells.now }
@@ -191,7 +191,7 @@ impl<'a, T: CellType> Model for UsedCells<'a, T> {
 impl<'a, T: CellType> UsedCells<'a, T> {
     ghost use Rattle.std.specs.Prelude.{◌≡◌};
 
-    pub fn new(cells: Cells<'a, T>) -> UsedCells<'a, T>
+    pub(crate) fn new(cells: Cells<'a, T>) -> UsedCells<'a, T>
         ensures { result ≡ cells.entry }
     {
         UsedCells { cells }
@@ -201,16 +201,26 @@ impl<'a, T: CellType> UsedCells<'a, T> {
 impl<'a, T: CellType> Iterator for UsedCells<'a, T> {
     type Item = (usize, usize, &'a T);
 
-    ghost use Rattle.std.specs.Prelude.{◌≡◌, Some, IfSome, length};
-    ghost use Rattle.std.specs.Iterator.{YieldsFirstBy, item_count, UpTo};
+    ghost use Rattle.std.specs.Prelude.{◌≡◌, [], ⊤, Some, None, IfSome, MatchOption, length};
+    ghost use Rattle.std.specs.Iterator.{YieldsFirstBy, MakesProgress, item_count, UpTo};
     ghost use Rattle.std.specs.Iterator.SizeHint.{IsWithinCount};
-    ghost use Rattle.xls_range.specs.Lists.{used};
+    ghost use Rattle.xls_range.specs.Lists.{used, first_used};
 
     ghost next_gives = { YieldsFirstBy (λ cell. (cell.0, cell.1, cell.2.now)) (used T.blank_test) };
 
     ghost remaining = { item_count (used T.blank_test) };
 
-    fn next(&mut self) -> Option<(usize, usize, &'a T)> {
+    /// The first cell that is not blank. Those after it are left.
+    fn next(&mut self) -> Option<(usize, usize, &'a T)>
+        ensures steps { YieldsFirstBy (λ cell. (cell.0, cell.1, cell.2.now)) (used T.blank_test)
+            self.old result self.new }
+        ensures goes { MakesProgress (λ _. ⊤) (item_count (used T.blank_test))
+            self.old result self.new }
+        ensures exact { MatchOption result
+            ((first_used T.blank_test self.old ≡ None) × (self.new ≡ []))
+            (λ cell. first_used T.blank_test self.old
+            ≡ Some ((cell.0, cell.1, cell.2.now), self.new)) }
+    {
         while let Some(cell) = self.cells.next() {
             if !cell.2.is_blank() {
                 return Some(cell);
@@ -231,13 +241,24 @@ impl<'a, T: CellType> Iterator for UsedCells<'a, T> {
 }
 
 impl<'a, T: CellType> DoubleEndedIterator for UsedCells<'a, T> {
-    ghost use Rattle.std.specs.Iterator.{YieldsLastBy};
-    ghost use Rattle.xls_range.specs.Lists.{used};
+    ghost use Rattle.std.specs.Prelude.{◌≡◌, [], ⊤, Some, None, MatchOption};
+    ghost use Rattle.std.specs.Iterator.{YieldsLastBy, MakesProgress, item_count};
+    ghost use Rattle.xls_range.specs.Lists.{used, last_used};
 
     ghost next_back_gives = { YieldsLastBy (λ cell. (cell.0, cell.1, cell.2.now)) (used T.blank_test) };
 
-    #[tactic(auto, using(crate::proofs::RowLemmas::used_last_blank, crate::proofs::RowLemmas::used_last_kept, crate::proofs::RowLemmas::used_last_longer))]
-    fn next_back(&mut self) -> Option<(usize, usize, &'a T)> {
+    /// The last cell that is not blank. Those before it are left.
+    #[tactic(auto, using(crate::proofs::RowLemmas::used_last_blank, crate::proofs::RowLemmas::used_last_kept, crate::proofs::RowLemmas::used_last_longer, crate::proofs::RowLemmas::last_used_blank, crate::proofs::RowLemmas::last_used_kept))]
+    fn next_back(&mut self) -> Option<(usize, usize, &'a T)>
+        ensures steps { YieldsLastBy (λ cell. (cell.0, cell.1, cell.2.now)) (used T.blank_test)
+            self.old result self.new }
+        ensures goes { MakesProgress (λ _. ⊤) (item_count (used T.blank_test))
+            self.old result self.new }
+        ensures exact { MatchOption result
+            ((last_used T.blank_test self.old ≡ None) × (self.new ≡ []))
+            (λ cell. last_used T.blank_test self.old
+            ≡ Some ((cell.0, cell.1, cell.2.now), self.new)) }
+    {
         while let Some(cell) = self.cells.next_back() {
             if !cell.2.is_blank() {
                 return Some(cell);

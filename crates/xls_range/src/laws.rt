@@ -1,6 +1,10 @@
 //! Laws of ranges. Each function does nothing, and its contract is the law.
 
 ghost use Rattle.xls_range.specs.Laws.{FillsItsBox, EqualWhereSame, HasCorners, LastWins, DenseInAnyOrder, RowsJoinToCells, CellsInPlace, UsedWithoutBlanks, ShowsEachCell, ShowsBlanksOfNone, PlacesAgree, RowsInPlace};
+ghost use Rattle.std.specs.Borrow.{Bor};
+ghost use Rattle.std.specs.Prelude.{ℕ, List};
+ghost use Rattle.xls_range.specs.Calls.{EachOnce};
+ghost use Rattle.xls_range.specs.Lists.{used};
 
 use xls_data::CellType;
 
@@ -63,4 +67,14 @@ pub fn places_agree<T: CellType>()
 /// Each row comes in its turn, with the cells of its places.
 pub fn rows_in_place<T: CellType>()
     ensures { RowsInPlace T }
+{}
+
+/// Each row of `rows`, each cell of `cells` and each one of `used_cells` comes once, in whatever
+/// order `next` and `next_back` are called.
+pub fn each_once<T: CellType>()
+    ensures rows { EachOnce {S = List (List T)} {A = Bor (List T)} (λ row. row.now) (λ rows. rows) }
+    ensures cells { EachOnce {S = List (ℕ × ℕ × T)} {A = ℕ × ℕ × Bor T}
+        (λ cell. (cell.0, cell.1, cell.2.now)) (λ cells. cells) }
+    ensures used { EachOnce {S = List (ℕ × ℕ × T)} {A = ℕ × ℕ × Bor T}
+        (λ cell. (cell.0, cell.1, cell.2.now)) (used T.blank_test) }
 {}

@@ -163,10 +163,12 @@ fn goes_over_cells_from_both_ends(rt: HostRuntime) -> Result<(), Fail> {
         used.next_back()
             .is_some_and(|found| found.0 == 2 && found.1 == 0)
     );
+    assert_eq!(rt; used.size_hint(), (0, Some(4)));
     assert!(rt;
         used.next()
             .is_some_and(|found| found.0 == 0 && found.1 == 0)
     );
+    assert_eq!(rt; used.size_hint(), (0, Some(3)));
     assert_eq!(rt; used.count(), 1);
     Ok(())
 }

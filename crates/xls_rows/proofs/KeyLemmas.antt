@@ -10,7 +10,7 @@ abbrev pub pairs_of : {T : Type 0} → (T → Bool) → List (Exposed T) → Lis
 pairs_of empty [] = []
 pairs_of empty (e ∷ es) = (e.header, e.value) ∷ named_values empty es
 
--- empty cells in front give nothing
+-- empty cells before others give nothing
 named_filled : {T : Type 0} (empty : T → Bool) (es : List (Exposed T)) → named_values empty es ≡ pairs_of empty (from_filled empty es)
 named_filled empty [] = refl
 named_filled empty (e ∷ es) =

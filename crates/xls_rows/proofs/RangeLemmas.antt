@@ -15,14 +15,14 @@ pub rows_from_count : {T : Type 0} (headers : Option (List (List ℕ))) (indexes
 rows_from_count headers indexes top left [] = refl
 rows_from_count headers indexes top left (cells ∷ rows) = ap (λ n. suc n) (rows_from_count headers indexes (top + 1) left rows)
 
--- the others behind the first
+-- the others after the first
 pub all_behind : {X : Type 0} (P : X → Type 0) (xs : List X) (x : X) (others : List X) → xs ≡ x ∷ others → All P xs → All P others
 all_behind P xs x others e a = let b = rw e at a in All-tail P x others b
 
 pub count_behind : {X : Type 0} (top most : ℕ) (xs : List X) (x : X) (others : List X) → xs ≡ x ∷ others → top + length xs ≤ most → top + 1 + length others ≤ most
 count_behind top most xs x others e h = let b = rw e at h in omega arith
 
--- the rows behind a row of headers
+-- the rows after a row of headers
 pub named_read : {T : Type 0} (choice : Choice) (content : T → Content) (g : Grid T) (first : List T) (others : List (List T))
     → is_unnamed choice ≡ false → rows_of g.height g.width g.cells ≡ first ∷ others
     → rows_read choice content g ≡ rows_behind choice g.width (all_read (text_in (g.top, g.left)) (map content first)) (g.top + 1) g.left others

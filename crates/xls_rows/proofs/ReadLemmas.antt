@@ -13,7 +13,7 @@ abbrev pub behind : {A : Type 0} → List A → Result (List A) Refusal → Resu
 behind acc (Err r) = Err r
 behind acc (Ok xs) = Ok (acc ++ xs)
 
--- want of memory is an answer to anything
+-- out of memory is an answer to anything
 pub memory_always : {X A : Type 0} (view : X → A) (read : Result A Refusal) → Gives view (Err error.Memory) read
 memory_always view (Ok y) = refl
 memory_always view (Err r) = tt

@@ -43,7 +43,7 @@ below_first n indexes i is e a = let b = rw e at a in All-head (λ k. k < n) i i
 pub below_rest : (n : ℕ) (indexes : List ℕ) (i : ℕ) (is : List ℕ) → indexes ≡ i ∷ is → All (λ k. k < n) indexes → All (λ k. k < n) is
 below_rest n indexes i is e a = let b = rw e at a in All-tail (λ k. k < n) i is b
 
--- the columns behind one are columns too
+-- the columns after one are columns too
 pub within_later : {T : Type 0} (headers : Option (List (List ℕ))) (cells : List T) (indexes is : List ℕ)
     → ((n : ℕ) → All (λ k. k < n) indexes → All (λ k. k < n) is) → AreWithin headers cells indexes → AreWithin headers cells is
 within_later None cells indexes is later w = (later (length cells) w.0, w.1)

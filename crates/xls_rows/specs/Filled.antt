@@ -3,7 +3,7 @@ use Rattle.std.specs.Prelude.{◌≡◌, ℕ, List, [], ◌∷◌, Option, Some,
 use Rattle.std.specs.Borrow.{Bor}
 use Rattle.xls_rows.specs.Rows.{exposed_of, from_filled, header_at}
 
--- the answer is the first of the columns whose cell is not empty, that cell, and the columns behind
+-- the answer is the first of the columns whose cell is not empty, that cell, and the columns after
 abbrev pub IsFirstFilled : {T : Type 0} → (T → Bool) → Option (List (List ℕ)) → List T → List ℕ
     → Option (ℕ × Bor T × Bor (List ℕ)) → Type 0
 IsFirstFilled empty headers cells indexes None =

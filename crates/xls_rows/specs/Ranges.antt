@@ -36,7 +36,7 @@ abbrev pub rows_by : {T : Type 0} → Option (List (List ℕ)) → Result (List 
 rows_by headers (Err r) top left others = Err r
 rows_by headers (Ok indexes) top left others = Ok (rows_from headers indexes top left others)
 
--- the rows behind the first one, by its texts as headers, or the refusal of these
+-- the rows after the first one, by its texts as headers, or the refusal of these
 abbrev pub rows_behind : {T : Type 0} → Choice → ℕ → Result (List (List ℕ)) Refusal → ℕ → ℕ
     → List (List T) → Result (List (Row T)) Refusal
 rows_behind choice width (Err r) top left others = Err r

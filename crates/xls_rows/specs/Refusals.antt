@@ -12,7 +12,7 @@ pub data Refusal : Type 0 where
   no_header : List ℕ → Refusal
   custom : List ℕ → Refusal
 
--- the error says this refusal, or want of memory
+-- the error says this refusal, or that memory ran out
 abbrev pub Refuses : Refusal → DeError → Type 0
 Refuses r (error.CellError e place) = r ≡ cell_error e place
 Refuses r (error.UnexpectedEndOfRow place) = r ≡ end_of_row place
@@ -20,7 +20,7 @@ Refuses r (error.HeaderNotFound s) = r ≡ no_header (string_bytes s)
 Refuses r (error.Custom s) = r ≡ custom (string_bytes s)
 Refuses r error.Memory = Unit {0}
 
--- the answer is what is to be read, or its refusal, or want of memory
+-- the answer is what is to be read, or its refusal, or that memory ran out
 abbrev pub Gives : {A B : Type 0} → (A → B) → Result A DeError → Result B Refusal → Type 0
 Gives view result (Ok y) = MatchResult result (λ x. view x ≡ y) (λ e. e ≡ error.Memory)
 Gives view result (Err r) = MatchResult result (λ _. ⊥) (Refuses r)

@@ -11,7 +11,7 @@ use Rattle.xls_rows.specs.Texts.{expecting, shown}
 abbrev pub IsBetween : ℤ → ℤ → ℤ → Type 0
 IsBetween low high n = (low ≤ℤ n) × (n ≤ℤ high)
 
--- decimal digits behind an optional plus, or behind a minus where the type has negative numbers
+-- decimal digits after an optional plus, or after a minus where the type has negative numbers
 abbrev pub IsSpelled : ℤ → List ℕ → Type 0
 IsSpelled low bytes =
     IsNumeral 10

@@ -161,7 +161,7 @@ fn unnamed_rows<'c, T, D>(
     }
 }
 
-// The rows behind the first one, whose texts are headers.
+// The rows after the first one, whose texts are headers.
 fn named_rows<'c, T: ReadCell, D>(
     alloc: Global,
     choice: Headers<'_>,

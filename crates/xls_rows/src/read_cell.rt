@@ -18,7 +18,7 @@ use xls_data::{CellType, Data, DataType};
 
 /// A cell that is read as a value of a type. Each reader but the first two is given the position of
 /// the cell's row, and answers `CellError` exactly for an error cell, `Custom` exactly for another
-/// cell that is no such value, and `Memory` for want of memory.
+/// cell that is no such value, and `Memory` where memory runs out.
 pub trait ReadCell: CellType {
     /// The content of the `Data` that the cell stands for.
     ghost content: { Self → Content };

@@ -10,9 +10,9 @@ ghost use Rattle.xls_rows.specs.Filled.{IsFirstFilled};
 use crate::{DeError, ReadCell};
 use std::marker::Model;
 
-/// A row of cells that is read from the front. It exposes the cells of some columns, in the order
-/// of their indexes, and may know a header for each column. Contracts see the exposed cells that
-/// are left, the cell that is kept for its value, and the position.
+/// A row of cells that is read from its first cell on. It exposes the cells of some columns, in the
+/// order of their indexes, and may know a header for each column. Contracts see the exposed cells
+/// that are left, the cell that is kept for its value, and the position.
 #[derive(Debug, Drop)]
 pub struct RowDeserializer<'h, 'c, T> {
     column_indexes: &'h [usize],
@@ -193,7 +193,7 @@ fn header_of<'h>(headers: Option<&'h [String]>, i: usize) -> Option<&'h str>
     }
 }
 
-// The first of some columns whose cell is not empty, that cell, and the columns behind it.
+// The first of some columns whose cell is not empty, that cell, and the columns after it.
 fn first_filled<'i, 'c, T: ReadCell>(
     cells: &'c [T],
     column_indexes: &'i [usize],

@@ -1,5 +1,4 @@
 pub mod UnitLemmas
-pub mod GrownLemmas
 pub mod PageLemmas
 pub mod Utf8Lemmas
 pub mod Utf16Lemmas

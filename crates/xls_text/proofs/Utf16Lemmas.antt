@@ -34,7 +34,7 @@ not_low_below u h = grind (arith, nat_tests)
 not_low_above : (u : ℕ) → 0xE000 ≤ u → is_low_surrogate u ≡ false
 not_low_above u h = grind (arith, nat_tests)
 
--- a character off the front of units, as std has it
+-- the first character of units, as std has it
 record First (u : ℕ) (us : List ℕ) : Type 0 where
   c : ℕ
   rest : List ℕ
@@ -110,7 +110,7 @@ plain_no_surrogate u plain low high = ⊎_elim (λ (below : u < 0xD800). absurd 
 pair_not_alone : (us rest : List ℕ) (low : ℕ) → us ≡ low ∷ rest → IsLow low → StartsLow us
 pair_not_alone us rest low e is = subst StartsLow (sym e) is
 
--- one character comes off the front
+-- one character comes first
 takes_one : (us : List ℕ) (c d : ℕ) (xs ys : List ℕ) → TakesUnits us c xs → TakesUnits us d ys → (c ≡ d) × (xs ≡ ys)
 takes_one [] c d xs ys a b = absurd a
 takes_one (u ∷ us) c d xs ys (inl a) (inl b) = (a.char ∙ sym b.char, a.behind ∙ sym b.behind)

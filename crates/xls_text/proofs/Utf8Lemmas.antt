@@ -29,7 +29,7 @@ three_cells (a ∷ b ∷ c ∷ bs) h = refl
 decodes : (w rest : List ℕ) (c : ℕ) → IsScalar c → w ≡ encode_utf8 c ++ rest → (decoded w).char ≡ Some c
 decodes w rest c is e = ap (λ t. (decoded t).char) e ∙ ap (λ (p : Decoded). p.char) (decoded-encode c rest is)
 
--- bytes that decode whole begin a sequence, and so does each front of them
+-- bytes that decode whole begin a sequence, and so does each prefix of them
 begins : (front more : List ℕ) (c n : ℕ) → decoded (front ++ more) ≡ good c n → length (front ++ more) ≡ n → BeginsSome front
 begins front more c n is whole =
     let char : (decoded (front ++ more)).char ≡ Some c = ap (λ (p : Decoded). p.char) is in
@@ -79,7 +79,7 @@ piece_begun bs none long =
     (λ h. at_three (size _ h.6) (omega arith) (begins_three b c d h.1 h.2 h.3 h.4))
     (λ h. let k = char _ h.6 in cc)
 
--- and no longer front begins one
+-- and no longer prefix begins one
 piece_longest : (bs : List ℕ) → (decoded bs).char ≡ None → (m : ℕ) → (decoded bs).size < m → m ≤ length bs → ¬ (BeginsSome (take m bs))
 piece_longest bs none m above within begun =
     let x = begun.0 in
@@ -158,7 +158,7 @@ longest_one bs m n a b = ⊎_elim
     (λ (less : n ≤ m). less)
     (cases_lt m n)
 
--- one character comes off the front
+-- one character comes first
 takes_one : (bs : List ℕ) (c d : ℕ) (xs ys : List ℕ) → Takes bs c xs → Takes bs d ys → (c ≡ d) × (xs ≡ ys)
 takes_one bs c d xs ys a b = ⊎_elim
     (λ p. ⊎_elim

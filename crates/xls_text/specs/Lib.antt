@@ -3,5 +3,4 @@ pub use Rattle.xls_bytes.specs.Numbers
 pub mod Pages
 pub mod Utf8Reading
 pub mod Utf16Reading
-pub mod Growth
 pub mod Errors

@@ -78,7 +78,7 @@ text_in Wide page bytes = utf16_lossy_chars (units_of bytes)
 text_in Narrow page bytes = bytes
 text_in Paged page bytes = decoded page bytes
 
--- the text of a string of at most so many characters at the front of a stream
+-- the text of a string of at most so many characters at the start of a stream
 abbrev pub string_text : XlsEncoding → Option Bool → List ℕ → ℕ → List ℕ
 string_text page high stream len =
     let form = form_of page high in

@@ -36,7 +36,7 @@ pub record TakesLone (unit : ℕ) (units : List ℕ) (c : ℕ) (rest : List ℕ)
   pub char : c ≡ 0xFFFD
   pub behind : rest ≡ units
 
--- one character off the front, and the units behind it
+-- the first character, and the units after it
 abbrev pub TakesUnits : List ℕ → ℕ → List ℕ → Type 0
 TakesUnits [] c rest = ⊥
 TakesUnits (unit ∷ units) c rest =

@@ -1,5 +1,5 @@
-//! Text at the end of a text. The private functions may stop halfway for want of memory, and then
-//! the text has grown; the public calls cut it back.
+//! Text at the end of a text. The private functions may stop halfway where memory runs out, and
+//! then the text has grown; the public calls cut it back.
 
 ghost use Rattle.std.specs.Prelude.{◌≡◌, ◌++◌, map, OnOk, OnErr, ◌<◌, Some, true, false, None};
 ghost use Rattle.std.specs.String.{string_bytes};
@@ -7,7 +7,7 @@ ghost use Rattle.std.specs.Str.{encode_utf8_all, IsAscii};
 ghost use Rattle.std.specs.Str.Lossy.{utf8_lossy};
 ghost use Rattle.std.specs.Char.Utf16.{utf16_lossy_chars};
 ghost use Rattle.bstr.specs.Utf8.{lossy_chars};
-ghost use Rattle.xls_text.specs.Growth.{IsGrown};
+ghost use Rattle.xls_bytes.specs.Growth.{IsGrown};
 ghost use Rattle.xls_text.specs.Pages.{units_of, windows_1252, byte_character, decoded};
 ghost use Rattle.xls_text.specs.declared.encoding.XlsEncoding.TheVariants.{Utf16};
 
@@ -31,7 +31,8 @@ fn append_units(units: &[u16], s: &mut String) -> Result<(), AllocError>
 }
 
 /// Appends the text of 16-bit units: a unit D800 to DBFF followed by DC00 to DFFF is one character,
-/// each other surrogate is U+FFFD. Only want of memory refuses, and then the text is as it was.
+/// each other surrogate is U+FFFD. Only running out of memory refuses, and then the text is as it
+/// was.
 pub fn push_units(units: &[u16], s: &mut String) -> Result<(), AllocError>
     ensures ok { OnOk result (string_bytes s.new
         ≡ string_bytes s.old ++ encode_utf8_all (utf16_lossy_chars units.now)) }

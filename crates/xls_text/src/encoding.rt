@@ -3,7 +3,7 @@
 ghost use Rattle.std.specs.Prelude.{◌≡◌, ◌++◌, OnOk, OnErr, IfOk, true, false};
 ghost use Rattle.std.specs.String.{string_bytes};
 ghost use Rattle.std.specs.Str.{encode_utf8_all};
-ghost use Rattle.xls_text.specs.Growth.{IsGrown};
+ghost use Rattle.xls_bytes.specs.Growth.{IsGrown};
 ghost use Rattle.xls_text.specs.Pages.{page_of, decoded, string_text, counts};
 
 use crate::append::{append_narrow, append_utf8, append_utf16, append_wide, append_windows_1252};
@@ -91,10 +91,11 @@ impl XlsEncoding {
         Ok((l, l))
     }
 
-    /// Appends the text of at most `len` characters at the front of a stream, and answers how many
+    /// Appends the text of at most `len` characters at the start of a stream, and answers how many
     /// characters and how many bytes were there. `Some(true)`: units of two bytes, the low byte
     /// first. `Some(false)`, and `None` under page 1200: units of one byte. `None` under another
-    /// page: bytes in the page. Only want of memory refuses, and then the text is as it was.
+    /// page: bytes in the page. Only running out of memory refuses, and then the text is as it
+    /// was.
     pub fn decode_to(
         &self,
         stream: &[u8],
@@ -116,7 +117,7 @@ impl XlsEncoding {
     }
 
     /// The text of all bytes by the page. Under page 1200 a last odd byte gives U+FFFD after the
-    /// text of the units. Only want of memory refuses.
+    /// text of the units. Only running out of memory refuses.
     pub fn decode_all(&self, alloc: Global, stream: &[u8]) -> Result<String, AllocError>
         ensures { IfOk result (λ t. string_bytes t
             ≡ encode_utf8_all (decoded self.now stream.now)) }

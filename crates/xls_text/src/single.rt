@@ -35,7 +35,7 @@ pub(crate) fn character(byte: u8, is_windows_1252: bool) -> char
     }
 }
 
-/// The ASCII bytes at the front, the first byte that is none, and the bytes behind it.
+/// The ASCII bytes at the start, the first byte that is none, and the bytes after it.
 pub(crate) fn first_stretch(bytes: &[u8]) -> Option<(&[u8], u8, &[u8])>
     ensures ascii { MatchOption result (IsAscii bytes.now) (λ x. IsAscii x.0.now) }
     ensures whole { MatchOption result (IsAscii bytes.now)

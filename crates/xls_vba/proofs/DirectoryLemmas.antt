@@ -60,13 +60,13 @@ modules_fail front total page count i bytes e below before step =
     let one : modules_from page (count - i) bytes ≡ Err e = rw (k, step) in
     sym before ∙ ap (prefixed front) one
 
--- a fault among the items, behind the header
+-- a fault among the items, after the header
 pub fails_items : (e : VbaError) (bytes : List ℕ) (page : XlsEncoding) (items : List ℕ) → header_from bytes ≡ Ok (page, items)
     → FailsIn e (ItemsFault page items) → FailsIn e (IsFault bytes)
 fails_items errors.Memory bytes page items header h = tt
 fails_items e bytes page items header h = in_items page items header h
 
--- a fault among the modules, behind the references
+-- a fault among the modules, after the references
 pub fails_modules : (e : VbaError) (bytes : List ℕ) (page : XlsEncoding) (items rest : List ℕ) (refs : List Ref) → header_from bytes ≡ Ok (page, items)
     → Refers page items refs rest → Fails e (modules_part page rest) → FailsIn e (IsFault bytes)
 fails_modules errors.Memory bytes page items rest refs header refers h = tt

@@ -1,4 +1,4 @@
--- Texts parted at their last #.
+-- Texts separated at their last #.
 use Rattle.std.proofs.Common.{◌≡◌, ℕ, suc, ◌+◌, ◌<◌, ◌≤◌, ◌≢◌, List, [], ◌∷◌, ◌++◌, length, take, drop, get_or, Option, Some, None, Bor, false, refl, sym, ap, ◌∙◌, arith}
 use Rattle.std.proofs.lemmas.Grind.{common_steps}
 use Rattle.std.proofs.lemmas.List.{take-append-drop}
@@ -17,7 +17,7 @@ none_at (c ∷ cs) alone =
     let test : (c == 35) ≡ false = grind (arith, common_steps) in
     rw (others, test)
 
--- a # with none behind it
+-- a # with none after it
 pub parted_around : (before behind : List ℕ) → at_last_hash behind ≡ None → at_last_hash (before ++ 35 ∷ behind) ≡ Some (before, behind)
 parted_around [] behind none = rw none
 parted_around (c ∷ before) behind none = rw (parted_around before behind none)

@@ -13,7 +13,7 @@ pub record Project : Type 0 where
   pub references : List Ref
   pub modules : List Mod
 
--- items at the front of the bytes give these references
+-- items at the start of the bytes give these references
 pub record Refers (page : XlsEncoding) (bytes : List ℕ) (refs : List Ref) (rest : List ℕ)
     : Type 0 where
   pub elements : List Element
@@ -29,7 +29,7 @@ pub record IsDirectory (bytes : List ℕ) (project : Project) : Type 0 where
   pub refers : Refers page items project.references rest
   pub modules : modules_part page rest ≡ Ok project.modules
 
--- behind whole parts the next field isn't there or differs
+-- after whole parts the next field isn't there or differs
 pub data IsFault (bytes : List ℕ) (e : VbaError) : Type 0 where
   in_header : header_from bytes ≡ Err e → IsFault bytes e
   in_items : (page : XlsEncoding) (items : List ℕ) → header_from bytes ≡ Ok (page, items)

@@ -29,7 +29,7 @@ abbrev pub bytes_from : ℕ → List ℕ → Result (List ℕ × List ℕ) VbaEr
 bytes_from n bytes =
     if nat_lt (length bytes) n then Err errors.Truncated else Ok (take n bytes, drop n bytes)
 
--- over the first n bytes
+-- skips the first n bytes
 unfoldable pub skip : ℕ → List ℕ → Result (List ℕ) VbaError
 skip n bytes = do
   front ← bytes_from n bytes
@@ -65,7 +65,7 @@ rec_from x bytes = do
   size ← id_from x bytes
   var_from size
 
--- over a record of the number x
+-- skips a record of the number x
 unfoldable pub skip_rec : ℕ → List ℕ → Result (List ℕ) VbaError
 skip_rec x bytes = do
   body ← rec_from x bytes
@@ -79,7 +79,7 @@ kept_page (Err error) = Err (errors.Cfb error)
 abbrev pub page_from : ℕ → Result XlsEncoding VbaError
 page_from number = kept_page (text.page_of number)
 
--- over the record of the number 004A (PROJECTCOMPATVERSION), which may be left out
+-- skips the record of the number 004A (PROJECTCOMPATVERSION), which may be left out
 unfoldable pub skip_4a : List ℕ → Result (List ℕ) VbaError
 skip_4a bytes = do
   id ← u16_from bytes

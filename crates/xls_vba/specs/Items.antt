@@ -91,7 +91,7 @@ registered_from page bytes = do
   rest ← skip 6 libid.1
   Ok (Some (registered libid.0), rest)
 
--- a path without `*\C` at its front
+-- a path without `*\C` at its start
 abbrev pub after_mark : List ℕ → List ℕ
 after_mark path = if starts_with nat_eq path (codes "*\\C") then drop 3 path else path
 

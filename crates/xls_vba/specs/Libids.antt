@@ -27,12 +27,12 @@ abbrev pub parts_with : ℕ → List ℕ → Option (List ℕ × List ℕ) → O
 parts_with c cs (Some parts) = Some (c ∷ parts.0, parts.1)
 parts_with c cs None = if c == HASH then Some ([], cs) else None
 
--- what stands before the last # and behind it
+-- what stands before the last # and after it
 abbrev pub at_last_hash : List ℕ → Option (List ℕ × List ℕ)
 at_last_hash [] = None
 at_last_hash (c ∷ cs) = parts_with c cs (at_last_hash cs)
 
--- what stands behind the #, or all
+-- what stands after the #, or all
 abbrev pub behind_or : List ℕ → Option (List ℕ × List ℕ) → List ℕ
 behind_or text None = text
 behind_or text (Some parts) = parts.1
@@ -46,7 +46,7 @@ says_nothing libid =
     (length libid == 0)
     || bytes_eq (drop (length libid - min (length libid) 2) libid) (HASH ∷ HASH ∷ [])
 
--- the description behind the last #, and the path before it, back to the # before or the beginning
+-- the description after the last #, and the path before it, back to the # before or the beginning
 abbrev pub parted : Option (List ℕ × List ℕ) → Result (Option Said) VbaError
 parted None = Err errors.LibId
 parted (Some parts) = Ok (Some (behind_last_hash parts.0, parts.1))

@@ -33,7 +33,7 @@ rec_text_from page x bytes = do
   body ← rec_from x bytes
   Ok (text_of page body.0, body.1)
 
--- over MODULENAMEUNICODE, which may be left out
+-- skips MODULENAMEUNICODE, which may be left out
 unfoldable pub skip_47 : List ℕ → Result (List ℕ) VbaError
 skip_47 bytes = do
   id ← u16_from bytes

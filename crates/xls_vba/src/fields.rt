@@ -18,7 +18,7 @@ fn bytes_of(bytes: &[u8], n: usize) -> Result<(&[u8], &[u8]), VbaError>
     Ok(bytes.split_at(n))
 }
 
-/// Over the first n bytes.
+/// Skips the first n bytes.
 #[tactic(auto, unfolding(crate::specs::Fields::skip))]
 pub(crate) fn skip(bytes: &[u8], n: usize) -> Result<&[u8], VbaError>
     ensures exact { Gives (λ x. x.now) result (skip n bytes.now) }
@@ -85,7 +85,7 @@ pub(crate) fn rec_of(bytes: &[u8], expected: u16) -> Result<(&[u8], &[u8]), VbaE
     var_of(rest)
 }
 
-/// Over a record.
+/// Skips a record.
 #[tactic(auto, unfolding(crate::specs::Fields::skip_rec))]
 pub(crate) fn skip_rec(bytes: &[u8], expected: u16) -> Result<&[u8], VbaError>
     ensures exact { Gives (λ x. x.now) result (skip_rec expected bytes.now) }
@@ -104,7 +104,7 @@ fn page_of(number: u16) -> Result<XlsEncoding, VbaError>
     }
 }
 
-// Over the record of the number 004A, which may be left out.
+// Skips the record of the number 004A, which may be left out.
 #[tactic(auto, unfolding(crate::specs::Fields::skip_4a))]
 fn skip_4a(bytes: &[u8]) -> Result<&[u8], VbaError>
     ensures { Gives (λ x. x.now) result (skip_4a bytes.now) }
@@ -117,7 +117,7 @@ fn skip_4a(bytes: &[u8]) -> Result<&[u8], VbaError>
     }
 }
 
-// Over the project's name, its two documents and its two help files.
+// Skips the project's name, its two documents and its two help files.
 #[tactic(auto, unfolding(crate::specs::Fields::information_from))]
 fn information_of(bytes: &[u8]) -> Result<&[u8], VbaError>
     ensures { Gives (λ x. x.now) result (information_from bytes.now) }

@@ -73,7 +73,7 @@ fn original_of(
     Ok((Some(Item::Registered(libid)), rest))
 }
 
-// Over a name between the two libids of a control.
+// Skips a name between the two libids of a control.
 #[tactic(auto, unfolding(crate::specs::Items::extended_from))]
 fn extended_of(bytes: &[u8]) -> Result<&[u8], VbaError>
     ensures exact { Gives (λ x. x.now) result (extended_from bytes.now) }
@@ -137,7 +137,7 @@ fn registered_of(
     Ok((Some(Item::Registered(libid)), rest))
 }
 
-// A path without `*\C` at its front.
+// A path without `*\C` at its start.
 fn after_mark(path: &str) -> &str
     ensures { result.now ≡ after_mark path.now }
 {

@@ -15,14 +15,14 @@ pub(crate) type Libid = Option<(String, String)>;
 
 const TWO_HASHES: &[u8] = b"##";
 
-// What stands before the last `#` and behind it.
+// What stands before the last `#` and after it.
 fn at_last_hash(text: &str) -> Option<(&str, &str)>
     ensures { option_map (λ x. (x.0.now, x.1.now)) result ≡ at_last_hash text.now }
 {
     text.rsplit_once('#')
 }
 
-// What stands behind the last `#`, or everything.
+// What stands after the last `#`, or everything.
 fn behind_last_hash(text: &str) -> &str
     ensures { result.now ≡ behind_last_hash text.now }
 {

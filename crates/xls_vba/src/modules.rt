@@ -38,7 +38,7 @@ fn rec_text_of(
     Ok((text, rest))
 }
 
-// Over the record of the number 0047, which may be left out.
+// Skips the record of the number 0047, which may be left out.
 #[tactic(auto, unfolding(crate::specs::Modules::skip_47))]
 fn skip_47(bytes: &[u8]) -> Result<&[u8], VbaError>
     ensures { Gives (λ x. x.now) result (skip_47 bytes.now) }
@@ -60,7 +60,7 @@ fn offset_of(bytes: &[u8]) -> Result<(u32, &[u8]), VbaError>
     u32_of(rest)
 }
 
-// Over the help context and the cookie.
+// Skips the help context and the cookie.
 #[tactic(auto, unfolding(crate::specs::Modules::cookie_from))]
 fn cookie_of(bytes: &[u8]) -> Result<&[u8], VbaError>
     ensures { Gives (λ x. x.now) result (cookie_from bytes.now) }
@@ -101,7 +101,7 @@ fn first_end(bytes: &[u8]) -> Result<(u16, &[u8]), VbaError>
     Ok((read_u16(number), rest))
 }
 
-// Over the last numbers of a module.
+// Skips the last numbers of a module.
 fn end_of(bytes: &[u8]) -> Result<&[u8], VbaError>
     ensures { Gives (λ x. x.now) result (end_from bytes.now) }
 {
@@ -121,7 +121,7 @@ fn end_of(bytes: &[u8]) -> Result<&[u8], VbaError>
     }
 }
 
-// The two names of a module, and what follows the records behind them.
+// The two names of a module, and what follows the records after them.
 #[tactic(auto, unfolding(crate::specs::Modules::names_from))]
 fn names_of(
     alloc: Global,

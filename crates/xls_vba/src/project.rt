@@ -17,7 +17,7 @@ use std::alloc::{AllocError, Global};
 use std::marker::Model;
 
 /// What a macro project refers to, and its modules, in the order of its directory.
-#[derive(Drop)]
+#[derive(Debug, Drop)]
 pub struct VbaProject {
     references: Vec<Reference>,
     modules: Vec<Module>,
@@ -77,7 +77,7 @@ fn copied(alloc: Global, source: &Module) -> Result<Module, AllocError>
 impl VbaProject {
     /// The project of plain directory bytes ([MS-OVBA] dir Stream, decompressed). Refuses with the
     /// first field that isn't there or differs: `Truncated`, `Unknown`, `InvalidRecordId`, `LibId`
-    /// or `Cfb`; else only for want of memory. What stands behind the modules is not looked at.
+    /// or `Cfb`; else only where memory runs out. What stands after the modules is not looked at.
     pub fn from_dir(alloc: Global, bytes: &[u8]) -> Result<VbaProject, VbaError>
         ensures { MatchResult result (λ project. IsDirectory bytes.now project)
             (λ e. FailsIn e (IsFault bytes.now)) }
@@ -98,7 +98,7 @@ impl VbaProject {
         &self.references
     }
 
-    /// The names of the modules, each once, in the order of their bytes. Only want of memory
+    /// The names of the modules, each once, in the order of their bytes. Only running out of memory
     /// refuses.
     pub fn get_module_names(&self, alloc: Global) -> Result<Vec<&str>, AllocError>
         ensures { IfOk result (λ v. AreNames self.now.modules (map (λ x. x.now) v.items)) }
@@ -110,7 +110,7 @@ impl VbaProject {
     }
 
     /// A copy of the last module of a name. `ModuleNotFound` with the name exactly where no module
-    /// has it, else only want of memory refuses.
+    /// has it, else only running out of memory refuses.
     pub fn module(&self, alloc: Global, name: &str) -> Result<Module, VbaError>
         ensures found { IfOk result (λ m.
             last_module name.now self.now.modules ≡ Some (module_view m)) }

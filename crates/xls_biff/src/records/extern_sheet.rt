@@ -2,7 +2,7 @@
 
 ghost use Rattle.std.specs.Prelude.{◌≡◌, ◌+◌, ◌*◌, ◌≤◌, length, map, IfOk};
 ghost use Rattle.std.specs.List.{range_with_len};
-ghost use Rattle.xls_strings.specs.Reading.{Exactly, Gives};
+ghost use Rattle.xls_strings.specs.Reading.{Exactly, Gives, fault_in};
 ghost use Rattle.xls_biff.specs.Records.ExternSheet.{ref_at, refs_at, refs_count};
 
 use crate::fields::i16_at;
@@ -42,4 +42,15 @@ pub fn parse_extern_sheet(alloc: Global, r: &Record<'_>, biff: Biff) -> Result<R
     }
     let count = count_refs(r.body)?;
     Ok(first_refs(alloc, r.body, count)?)
+}
+
+/// The error that `parse_extern_sheet` answers, out of memory apart. Takes no memory.
+pub fn check_extern_sheet(r: &Record<'_>, biff: Biff) -> Result<(), XlsError>
+    ensures { Exactly (λ u. u) result (fault_in (refs_at biff r.now.body.now)) }
+{
+    if !is_biff8(biff) {
+        return Ok(());
+    }
+    count_refs(r.body)?;
+    Ok(())
 }

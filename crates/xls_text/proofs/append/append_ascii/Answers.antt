@@ -1,6 +1,6 @@
 use Rattle.std.proofs.Common.{IsOk, refl, Result, Ok, Err, MatchResult}
 use Rattle.std.proofs.lemmas.Str.{IsUtf8-from_ascii}
-use Rattle.xls_text.proofs.GrownLemmas.{IsGrown-refl}
+use Rattle.xls_bytes.proofs.GrownLemmas.{IsGrown-refl}
 use Rattle.xls_text.proofs.append.append_ascii.Goals as goal
 
 is_text : {X E : Type 0} (P : X → Type 0) (Q : Type 0) (R : E → Type 0) (r : Result X E) → MatchResult r P (λ e. ¬ Q × R e) → Q → IsOk r

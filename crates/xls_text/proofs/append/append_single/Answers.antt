@@ -3,7 +3,7 @@ use Rattle.std.specs.Char.{IsScalar}
 use Rattle.std.specs.Str.{IsAscii}
 use Rattle.std.proofs.lemmas.Str.{encodes-IsAscii}
 use Rattle.xls_text.specs.Pages.{byte_character}
-use Rattle.xls_text.proofs.GrownLemmas.{IsGrown-push, IsGrown-trans}
+use Rattle.xls_bytes.proofs.GrownLemmas.{IsGrown-push, IsGrown-trans}
 use Rattle.xls_text.proofs.PageLemmas.{stretch_more, byte_character-IsAscii}
 use Rattle.xls_text.proofs.append.append_single.Goals as goal
 

@@ -2,7 +2,7 @@ use Rattle.std.proofs.Common.{◌≡◌, ◌++◌, map, length}
 use Rattle.std.specs.String.{string_bytes}
 use Rattle.std.specs.Str.{encode_utf8_all}
 use Rattle.xls_text.specs.Pages.{byte_character}
-use Rattle.xls_text.specs.Growth.{IsGrown}
+use Rattle.xls_bytes.specs.Growth.{IsGrown}
 use Rattle.xls_text.proofs.append.append_single.Given as goal
 
 -- the text so far, with that of the bytes left, is the text of all

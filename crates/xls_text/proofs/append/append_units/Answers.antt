@@ -1,7 +1,7 @@
 use Rattle.std.proofs.Common.{rules, ◌≡◌, sym, ◌∙◌, append-nil, append_assoc, length}
 use Rattle.std.specs.Char.{IsScalar}
 use Rattle.xls_text.proofs.UnitLemmas.{units_none}
-use Rattle.xls_text.proofs.GrownLemmas.{IsGrown-push}
+use Rattle.xls_bytes.proofs.GrownLemmas.{IsGrown-push}
 use Rattle.xls_text.proofs.append.append_units.Goals as goal
 
 pub units-preserved : goal.units-preserved

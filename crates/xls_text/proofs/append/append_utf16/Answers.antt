@@ -1,6 +1,6 @@
 use Rattle.std.proofs.Common.{refl, arith}
 use Rattle.std.specs.Char.{IsScalar}
-use Rattle.xls_text.proofs.GrownLemmas.{IsGrown-push}
+use Rattle.xls_bytes.proofs.GrownLemmas.{IsGrown-push}
 use Rattle.xls_text.proofs.PageLemmas.{odd_mark-odd, odd_mark-even, with_mark, no_mark}
 use Rattle.xls_text.proofs.append.append_utf16.Goals as goal
 

@@ -3,8 +3,8 @@ use Rattle.std.specs.Char.{IsScalar}
 use Rattle.std.specs.String.{string_bytes}
 use Rattle.std.proofs.lemmas.Str.{utf8_lossy_chunk, utf8_lossy_last_chunk, utf8_lossy_empty}
 use Rattle.bstr.proofs.lemmas.LossyLemmas.{lossy_chars-utf8_lossy}
-use Rattle.xls_text.specs.Growth.{IsGrown}
-use Rattle.xls_text.proofs.GrownLemmas.{IsGrown-push, IsGrown-append}
+use Rattle.xls_bytes.specs.Growth.{IsGrown}
+use Rattle.xls_bytes.proofs.GrownLemmas.{IsGrown-push, IsGrown-append}
 use Rattle.xls_text.proofs.PageLemmas.{replacement_bytes}
 use Rattle.xls_text.proofs.append.append_utf8.Goals as goal
 

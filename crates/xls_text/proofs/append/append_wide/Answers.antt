@@ -2,7 +2,7 @@ use Rattle.std.proofs.Common.{rules, ◌≡◌, [], sym, ◌∙◌, append-nil, 
 use Rattle.std.specs.Char.{IsScalar}
 use Rattle.xls_text.specs.Pages.{units_of}
 use Rattle.xls_text.proofs.UnitLemmas.{units_nil}
-use Rattle.xls_text.proofs.GrownLemmas.{IsGrown-push}
+use Rattle.xls_bytes.proofs.GrownLemmas.{IsGrown-push}
 use Rattle.xls_text.proofs.append.append_wide.Goals as goal
 
 pub units-preserved : goal.units-preserved

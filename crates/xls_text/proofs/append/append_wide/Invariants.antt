@@ -3,7 +3,7 @@ use Rattle.std.specs.String.{string_bytes}
 use Rattle.std.specs.Str.{encode_utf8_all}
 use Rattle.std.specs.Char.Utf16.{utf16_lossy_chars}
 use Rattle.xls_text.specs.Pages.{units_of}
-use Rattle.xls_text.specs.Growth.{IsGrown}
+use Rattle.xls_bytes.specs.Growth.{IsGrown}
 use Rattle.xls_text.proofs.append.append_wide.Given as goal
 
 -- the text so far, with that of the units left, is the text of all

@@ -1,5 +1,5 @@
 use Rattle.std.proofs.Common.{rules}
-use Rattle.xls_text.proofs.GrownLemmas.{IsGrown-split}
+use Rattle.xls_bytes.proofs.GrownLemmas.{IsGrown-split}
 use Rattle.xls_text.proofs.append.push_units.Goals as goal
 
 pub truncate-requires : goal.truncate-requires

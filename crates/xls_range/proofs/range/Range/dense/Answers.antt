@@ -6,7 +6,7 @@ use Rattle.xls_range.specs.Sparse.{AreCorners}
 use Rattle.xls_range.proofs.SparseLemmas.{IsDense-nil, IsDense-filled, AreCorners-inside, AreCorners-ordered, IsTooLarge-corners}
 use Rattle.xls_range.proofs.range.Range.dense.Goals as goal
 
--- want of memory is no other error
+-- running out of memory is no other error
 only_memory : {T : Type 0} (r : Result T RangeError) → IfErr r (λ e. e ≡ errors.Memory) → IsErrOf r errors.TooLarge → ⊥
 only_memory (Ok x) memory large = cc
 only_memory (Err e) memory large = cc

@@ -3,7 +3,7 @@ use Rattle.std.proofs.Common.{◌≡◌, ℕ, List, [], ◌++◌, length, take, 
 use Rattle.std.specs.Char.{IsScalar}
 use Rattle.std.specs.String.Boundary.{IsSplitPoint}
 use Rattle.std.proofs.lemmas.Str.{IsUtf8-append, IsUtf8-encode, IsUtf8-nil, IsCharBoundary-at_seam}
-use Rattle.xls_text.specs.Growth.{IsGrown}
+use Rattle.xls_bytes.specs.Growth.{IsGrown}
 
 pub IsGrown-refl : (old : List ℕ) → IsGrown old old
 IsGrown-refl old = ([], IsUtf8-nil, sym (append-nil old))
