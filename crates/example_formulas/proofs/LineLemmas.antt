@@ -5,24 +5,8 @@ use Rattle.std.proofs.lemmas.Grind.{flat_map-append}
 use Rattle.std.proofs.lemmas.List.{append-nil}
 use Rattle.xls_data.specs.Sheets.{SheetContent, sheet_content}
 use Rattle.xls_data.specs.declared.sheets.Sheet.{Sheet}
-<<<<<<< HEAD
 use Rattle.xls_reading.specs.Reading.{SheetView}
-use Rattle.example_formulas.specs.Lines.{escaped, escaped_char, lines_at, listing}
-
--- one character more of a field
-pub one_more : (before cs : List ℕ) (c : ℕ) (old new : List ℕ)
-    → old ≡ before ++ escaped cs → new ≡ old ++ encode_utf8_all (escaped_char c)
-    → new ≡ before ++ escaped (cs ++ c ∷ [])
-one_more before cs c old new so_far more =
-    more ∙ ap (λ (xs : List ℕ). xs ++ encode_utf8_all (escaped_char c)) so_far
-    ∙ append_assoc before (escaped cs) (encode_utf8_all (escaped_char c))
-    ∙ ap (λ (xs : List ℕ). before ++ xs)
-    (sym (flat_map-append (λ e. encode_utf8_all (escaped_char e)) cs (c ∷ [])
-    ∙ ap (λ (xs : List ℕ). escaped cs ++ xs) (append-nil (encode_utf8_all (escaped_char c)))))
-=======
-use Rattle.xls_book.specs.Reading.{SheetView}
 use Rattle.example_formulas.specs.Lines.{lines_at, listing}
->>>>>>> 11b40c830e9ba04c1dad958d515f6a922cfd0b58
 
 listing_of_none : (sheets : List SheetContent) → listing sheets [] ≡ []
 listing_of_none [] = refl
