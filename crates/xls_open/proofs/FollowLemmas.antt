@@ -36,13 +36,13 @@ fails_through f h e r p = ap f p ∙ h e
 
 -- ---- the string table
 
-long_marks : (g : Group) → 8 ≤ length g.body → sst_marks g.body g.tail ≡ Ok (marked (drop 8 g.body) g.tail)
+pub long_marks : (g : Group) → 8 ≤ length g.body → sst_marks g.body g.tail ≡ Ok (marked (drop 8 g.body) g.tail)
 long_marks g h = let t : nat_lt (length g.body) 8 ≡ false = test h in rw t refl
   where
     test : 8 ≤ length g.body → nat_lt (length g.body) 8 ≡ false
     test l = grind arith
 
-short_marks : (g : Group) → length g.body < 8 → sst_marks g.body g.tail ≡ Err (errors.Len 8 (length g.body) Sst)
+pub short_marks : (g : Group) → length g.body < 8 → sst_marks g.body g.tail ≡ Err (errors.Len 8 (length g.body) Sst)
 short_marks g h = let t : nat_lt (length g.body) 8 ≡ true = test h in rw t refl
   where
     test : length g.body < 8 → nat_lt (length g.body) 8 ≡ true

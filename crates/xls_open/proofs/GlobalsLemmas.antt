@@ -51,7 +51,7 @@ not_among n t [] after h = (neither (n == t) (is_among n after) h).0
 not_among n t (u ∷ before) after h = not_among n t before after (neither (n == u) (is_among n (before ++ t ∷ after)) h).1
 
 -- a record of another type gives nothing
-other_step : (rules : Rules) (s : State) (g : Group) → is_globals_type g ≡ false
+pub other_step : (rules : Rules) (s : State) (g : Group) → is_globals_type g ≡ false
     → (is_plain_type g.typ ≡ true) × (step rules s (plain_item g.typ g.body) ≡ Ok s)
 other_step rules s g t =
     let n = g.typ in
@@ -69,7 +69,7 @@ other_step rules s g t =
       rw (bof, pass, page, date, format, xf, ext, lbl) refl,
     )
 
-zip_append : (R : Group → Item → Type 0) (gs hs : List Group) (is js : List Item) → AllZip R gs is
+pub zip_append : (R : Group → Item → Type 0) (gs hs : List Group) (is js : List Item) → AllZip R gs is
     → AllZip R hs js → AllZip R (gs ++ hs) (is ++ js)
 zip_append R [] hs [] js a b = b
 zip_append R [] hs (i ∷ is) js a b = absurd a
@@ -103,12 +103,12 @@ globals_nothing rules stream s fits e =
       state = e;
     }
 
-filter_here : (gs more : List Group) (g : Group) → is_globals_type g ≡ true
+pub filter_here : (gs more : List Group) (g : Group) → is_globals_type g ≡ true
     → filter is_globals_type (gs ++ g ∷ more) ≡ filter is_globals_type gs
     ++ g ∷ filter is_globals_type more
 filter_here gs more g t = filter-append is_globals_type gs (g ∷ more) ∙ rw t refl
 
-filter_not : (gs : List Group) (g : Group) → is_globals_type g ≡ false
+pub filter_not : (gs : List Group) (g : Group) → is_globals_type g ≡ false
     → filter is_globals_type (gs ++ g ∷ []) ≡ filter is_globals_type gs
 filter_not gs g t = filter-append is_globals_type gs (g ∷ [])
     ∙ rw t (append-nil (filter is_globals_type gs))

@@ -13,3 +13,9 @@ pub mod OpeningLemmas
 pub mod PartLemmas
 pub mod NamingLemmas
 pub mod FormulaLemmas
+pub mod CheckLineLemmas
+pub mod CheckWalkLemmas
+pub mod CheckGlobalsLemmas
+pub mod CheckPartLemmas
+pub mod CheckLemmas
+pub mod AlikeLemmas

@@ -38,13 +38,13 @@ use Rattle.xls_open.specs.Steps.{with_given, given_step, weight_left, IsRead, Pa
 use Rattle.xls_reading.specs.Rules.{Rules}
 use Rattle.xls_reading.proofs.OrderLemmas.{first_at, none_push, first_behind, along-push, last-push, unwrap_push, flat_push}
 
-part_from : (part : List ℕ) (groups : List Group) (cut : Option Part) → IsBytes part
+pub part_from : (part : List ℕ) (groups : List Group) (cut : Option Part) → IsBytes part
     → From (found_from 0) part groups cut → SheetPart part groups cut
 part_from part groups cut fits f = (same_parts part groups cut fits).1 f
 
 -- ---- steps of the walk
 
-keeps_from : (before : List ℕ) (was : ℕ) (g : Group) (after : List ℕ) (now : ℕ) (more : List Group) (cut : Option Part) → Keeps before was g after now → From (found_from now) after more cut → From (found_from was) before (g ∷ more) cut
+pub keeps_from : (before : List ℕ) (was : ℕ) (g : Group) (after : List ℕ) (now : ℕ) (more : List Group) (cut : Option Part) → Keeps before was g after now → From (found_from now) after more cut → From (found_from was) before (g ∷ more) cut
 keeps_from before was g after now more cut k f = record {
   all = (k.groups ++ g ∷ []) ++ f.all;
   stop = f.stop;
@@ -58,7 +58,7 @@ keeps_from before was g after now more cut k f = record {
       ∙ k.kept f.all f.stop ∙ ap (with_group g) f.is;
 }
 
-over_from : (before : List ℕ) (was : ℕ) → IsBytes before → Over before was
+pub over_from : (before : List ℕ) (was : ℕ) → IsBytes before → Over before was
     → From (found_from was) before [] None
 over_from before was fits o =
     elim o.over [
@@ -82,7 +82,7 @@ over_from before was fits o =
           }
     ]
 
-cut_from : (before : List ℕ) (was : ℕ) (e : XlsError) (c : CutShort before was e)
+pub cut_from : (before : List ℕ) (was : ℕ) (e : XlsError) (c : CutShort before was e)
     → From (found_from was) before [] (Some c.part)
 cut_from before was e c = record {
   all = c.skipped.groups;
@@ -92,13 +92,13 @@ cut_from before was e c = record {
       ∙ c.skipped.kept [] (Some c.part) ∙ found_nothing c.now (Some c.part);
 }
 
-keeps_bytes : (before : List ℕ) (was : ℕ) (g : Group) (after : List ℕ) (now : ℕ)
+pub keeps_bytes : (before : List ℕ) (was : ℕ) (g : Group) (after : List ℕ) (now : ℕ)
     → Keeps before was g after now → IsBytes before → IsBytes after
 keeps_bytes before was g after now k fits = run_bytes before (k.groups ++ g ∷ []) after k.run fits
 
 -- ---- what one more record gives
 
-kept_push : (gs : List Group) (g : Group) → kept_of (gs ++ g ∷ []) ≡ kept_of gs ++ kept_group g ∷ []
+pub kept_push : (gs : List Group) (g : Group) → kept_of (gs ++ g ∷ []) ≡ kept_of gs ++ kept_group g ∷ []
 kept_push gs g = map-append kept_group gs (g ∷ [])
 
 -- what is given after one more record
@@ -122,7 +122,7 @@ place_push s ks k at behind had is =
     ∙ sym (unwrap_push (place k) (last_of (map place ks)) (0, 0))
     ∙ ap (λ (o : Option Position). unwrap_or o (0, 0)) (sym (last-push place ks k))
 
-weight_push : (s : InForce) (ks : List Kept) (k : Kept) → weight_in s.cells (ks ++ k ∷ []) ≡ weight_in s.cells ks + weight_given (kept_line s.cells k)
+pub weight_push : (s : InForce) (ks : List Kept) (k : Kept) → weight_in s.cells (ks ++ k ∷ []) ≡ weight_in s.cells ks + weight_given (kept_line s.cells k)
 weight_push s [] k = omega arith
 weight_push s (j ∷ ks) k = let on = weight_push s ks k in omega (arith, on)
 
@@ -159,7 +159,7 @@ at_last : {X : Type 0} (says : Result SheetView XlsError → X → Type 0) (s : 
 at_last says s before k at v x e h = subst (λ (q : Position). says (given_step v (given_at s q k)) x) e h
 
 -- after a record whose weight was taken
-has_room : (limit room weight left : ℕ) → weight_left limit room weight ≡ Ok left → room ≡ left + weight
+pub has_room : (limit room weight left : ℕ) → weight_left limit room weight ≡ Ok left → room ≡ left + weight
 has_room limit room weight left h = by_test (nat_lt room weight) refl
   where
     enough : nat_lt room weight ≡ false → ◌≡◌ {A = Result ℕ XlsError} (Ok (room - weight)) (Ok left) → room ≡ left + weight
@@ -169,7 +169,7 @@ has_room limit room weight left h = by_test (nat_lt room weight) refl
     by_test true t = absurd (let e : Err (errors.TooManyCells limit) ≡ Ok left = rw t at h in cc)
     by_test false t = enough t (rw t at h)
 
-no_room : (limit room weight : ℕ) (e : XlsError) → weight_left limit room weight ≡ Err e
+pub no_room : (limit room weight : ℕ) (e : XlsError) → weight_left limit room weight ≡ Err e
     → (room < weight) × (e ≡ errors.TooManyCells limit)
 no_room limit room weight e h = by_test (nat_lt room weight) refl
   where
@@ -180,14 +180,14 @@ no_room limit room weight e h = by_test (nat_lt room weight) refl
     by_test true t = (less t, let f : Err (errors.TooManyCells limit) ≡ Err e = rw t at h in cc)
     by_test false t = absurd (let f : ◌≡◌ {A = Result ℕ XlsError} (Ok (room - weight)) (Err e) = rw t at h in cc)
 
-light : (rules : Rules) (s : InForce) (ks : List Kept) → weight_in s.cells ks ≤ rules.max_cells
+pub light : (rules : Rules) (s : InForce) (ks : List Kept) → weight_in s.cells ks ≤ rules.max_cells
     → weight_fault rules s.cells ks ≡ None
 light rules s ks h = let t : nat_lt rules.max_cells (weight_in s.cells ks) ≡ false = test h in rw t refl
   where
     test : weight_in s.cells ks ≤ rules.max_cells → nat_lt rules.max_cells (weight_in s.cells ks) ≡ false
     test l = grind arith
 
-heavy : (rules : Rules) (s : InForce) (ks : List Kept) → rules.max_cells < weight_in s.cells ks
+pub heavy : (rules : Rules) (s : InForce) (ks : List Kept) → rules.max_cells < weight_in s.cells ks
     → weight_fault rules s.cells ks ≡ Some (errors.TooManyCells rules.max_cells)
 heavy rules s ks h = let t : nat_lt rules.max_cells (weight_in s.cells ks) ≡ true = test h in rw t refl
   where

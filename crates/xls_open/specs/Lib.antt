@@ -1,3 +1,6 @@
 pub mod Workbook
 pub mod Opening
+pub mod Checking
+pub mod CheckSteps
 pub mod Steps
+pub mod Laws

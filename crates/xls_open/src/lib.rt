@@ -1,16 +1,20 @@
 //! Opening: what the bytes of a source give, or their first fault.
 #![tactic(auto)]
 
+mod check;
 mod classes;
 mod force;
 mod formula;
 mod globals;
+mod laws;
 mod listed;
 mod names;
 mod opened;
 mod options;
 mod part;
 
+pub use check::check_stream;
+pub use laws::checked_alike;
 pub use opened::{Opened, open};
 pub use options::XlsOptions;
 pub use part::Content;

@@ -1,0 +1,54 @@
+-- What the parts of a check answer: the globals, a sheet part, and all places.
+use Rattle.std.specs.Prelude.{◌≡◌, ℕ, List, [], map, Option, None, unwrap_or, Result, Ok, Err}
+use Rattle.xls_model.specs.Listing.{Kept, Item, entry_of, Holds}
+use Rattle.xls_model.specs.declared.part.Part.{Part}
+use Rattle.xls_strings.specs.declared.error.XlsError.{XlsError}
+use Rattle.xls_strings.specs.declared.version.Biff.{Biff}
+use Rattle.xls_strings.specs.Reading.{gives}
+use Rattle.xls_biff.specs.SheetTable.{CellContext}
+use Rattle.xls_reading.specs.Order.{along, first_of}
+use Rattle.xls_reading.specs.InForce.{version_in, InForce, in_force_of}
+use Rattle.xls_reading.specs.GlobalsTable.{GlobalsRecord, Line, version_given, fault_of}
+use Rattle.xls_reading.specs.Faults.{item_fault, part_places, places}
+use Rattle.xls_open.specs.Steps.{GlobalsFault}
+use Rattle.xls_open.specs.Checking.{checked}
+use Rattle.xls_reading.specs.Rules.{Rules}
+use Rattle.xls_open.specs.declared.check.CheckRules.{CheckRules}
+
+abbrev pub under : CheckRules → Rules
+under r = checked r.force_codepage r.max_cells
+
+-- what is in force at the end of the globals
+abbrev pub force_of : Rules → List Item → InForce
+force_of rules items = in_force_of rules (map entry_of items)
+
+-- ---- the globals
+
+-- after a record of this line the version that it gives, or else this one; or the line's fault
+abbrev pub version_after : Biff → Line → Result Biff XlsError
+version_after biff line = gives (λ (g : GlobalsRecord). unwrap_or (version_given (Ok g)) biff) line
+
+-- the globals aren't cut and have no fault, and at their end this version is in force
+pub record AreChecked (rules : Rules) (bytes : List ℕ) (version : Biff) : Type 0 where
+  pub items : List Item
+  pub holds : Holds bytes items None
+  pub faultless : first_of (along (item_fault rules) [] items) ≡ None
+  pub version_is : version ≡ version_in rules (map entry_of items)
+
+abbrev pub ChecksGlobals : Rules → List ℕ → Result Biff XlsError → Type 0
+ChecksGlobals rules bytes (Ok version) = AreChecked rules bytes version
+ChecksGlobals rules bytes (Err e) = GlobalsFault rules bytes e
+
+-- ---- the sheets
+
+-- the first fault of a part, or that it has none
+abbrev pub ChecksPart : (List Kept → Option Part → Type 0) → Rules → InForce → Result (Unit {0}) XlsError → Type 0
+ChecksPart Stands rules s result =
+    (kept : List Kept) × (cut : Option Part) × Stands kept cut
+    × (first_of (part_places rules s.cells kept cut) ≡ fault_of result)
+
+-- the first fault of all places, the byte limit and the forced page apart, or that none has one
+abbrev pub ChecksPlaces : Rules → List ℕ → Result (Unit {0}) XlsError → Type 0
+ChecksPlaces rules bytes result =
+    (items : List Item) × (cut : Option Part) × Holds bytes items cut
+    × (first_of (places rules items cut) ≡ fault_of result)

@@ -1,0 +1,26 @@
+-- What a check of a stream answers.
+use Rattle.std.specs.Prelude.{ℕ, List, [], Option, Result, Ok, Err}
+use Rattle.xls_strings.specs.declared.error.XlsError.{XlsError}
+use Rattle.xls_reading.specs.GlobalsTable.{forced_fault}
+use Rattle.xls_reading.specs.Faults.{FirstBehind}
+use Rattle.xls_reading.specs.Rules.{Rules}
+
+-- the rules of a check; neither the limit of bytes nor the functions count (`checked_alike`)
+abbrev pub checked : Option ℕ → ℕ → Rules
+checked forced max =
+    record {
+      force_codepage = forced;
+      max_bytes = 0;
+      max_cells = max;
+      functions = [];
+    }
+
+-- e is the first fault of the bytes, the byte limit apart
+abbrev pub FirstChecked : Option ℕ → ℕ → List ℕ → XlsError → Type 0
+FirstChecked forced max bytes e =
+    FirstBehind (forced_fault forced) (checked forced max) bytes e
+
+-- no place has a fault, the byte limit apart, or this is the first one
+abbrev pub Checks : Option ℕ → ℕ → List ℕ → Result (Unit {0}) XlsError → Type 0
+Checks forced max bytes (Ok u) = (e : XlsError) → FirstChecked forced max bytes e → ⊥
+Checks forced max bytes (Err e) = FirstChecked forced max bytes e
