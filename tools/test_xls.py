@@ -29,7 +29,7 @@ BUILT = {name: f"{TOP}/crates/{name}/out/{name}" for name in ("xls_dump", "vba_d
 FAKE = """#!/usr/bin/python3
 import sys
 words, data = sys.argv[1:], sys.stdin.buffer.read()
-if words[:1] and words[0] not in ("dump", "sheets", "props"):
+if words[:1] and words[0] not in ("dump", "sheets", "check", "props"):
     sys.exit(2)
 if data.startswith(b"bad"):
     print("error\\tEnd of stream 'dbcs'")
@@ -175,10 +175,10 @@ class Refusals(Files):
 
     def test_commands_that_are_not_built_yet(self):
         book = self.book("b.xls", {"Workbook": b"ab"})
-        for command in ("check", "refs", "remake"):
+        for command in ("refs", "remake"):
             self.refused(2, f"doesn't know the command '{command}'", book, command)
         self.refused(2, "doesn't know", "--exact", "csv", "Data", book)
-        self.refused(2, "doesn't know", "check", self.room)
+        self.refused(2, "doesn't know", "refs", self.room)
 
     def test_the_status_of_the_program(self):
         book = self.book("b.xls", {"Workbook": b"bad"})
@@ -204,10 +204,10 @@ class Folders(Files):
         ]
         count = "files\t4\t1 ok\t1 refused\t1 unread\t1 failed"
         for jobs in ("1", "3"):
-            status, out, err = self.run_xls("sheets", f"{self.room}/f/", "-j", jobs)
+            status, out, err = self.run_xls("check", f"{self.room}/f/", "-j", jobs)
             self.assertEqual((status, out.splitlines(), err), (1, [*lines, count], ""))
         names = "".join(f"{line.split(chr(9))[1]}\n" for line in lines).encode()
-        status, out, err = self.run_xls("sheets", "-", given=names)
+        status, out, err = self.run_xls("check", "-", given=names)
         self.assertEqual((status, out.splitlines(), err), (1, lines, count + "\n"))
 
     def test_all_are_ok(self):
@@ -344,6 +344,14 @@ class Built(Files):
         done = subprocess.run([BUILT["xls_dump"]], input=stream, capture_output=True)
         self.assertEqual((status, out, err), (0, done.stdout.decode(), ""))
         self.assertIn("cell\t1\t1\tfloat\t4.5", self.run_built(f"{TOP}/samples/ledger.xls", "--decimal")[1])
+
+    def test_its_first_fault(self):
+        self.assertEqual(self.run_built("check", f"{TOP}/samples/ledger.xls"), (0, "ok\n", ""))
+        with open(f"{TOP}/samples/ledger.xls-stream", "rb") as file:
+            cut = self.book("b.xls", {"Workbook": file.read()[:-2]})
+        for command in ("check", "dump"):
+            found = self.run_built(command, cut)
+            self.assertEqual(found[:2], (1, "error\tEnd of stream 'record type and length'\n"))
 
     def test_its_properties(self):
         out = self.run_built("props", f"{TOP}/samples/ledger.xls")

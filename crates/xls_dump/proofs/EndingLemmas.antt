@@ -1,25 +1,27 @@
 -- How a command ends, by what opening, reading and writing answer.
-use Rattle.std.proofs.Common.{◌≡◌, ℕ, ◌≤◌, List, [], ap, length, Option, Some, None, IfSome, Result, Ok, Err, inl, inr, refl, sym, subst, arith}
+use Rattle.std.proofs.Common.{◌≡◌, ◌⊎◌, ℕ, ◌≤◌, List, [], ap, length, Option, Some, None, IfSome, Result, Ok, Err, inl, inr, refl, sym, subst, arith}
 use Rattle.std.specs.Result.{IsErrAnd}
 use Rattle.std.specs.Io.KnownBytes.{Consumes, IsAtEnd}
 use Rattle.std.proofs.KnownBytes.{Consumes-whole, Keeps-refl}
 use Rattle.xls_strings.specs.declared.error.XlsError.{XlsError}
 use Rattle.xls_strings.specs.declared.error.XlsError.TheVariants as errors
 use Rattle.xls_open.specs.Workbook.{Workbook}
-use Rattle.xls_open.specs.Opening.{OpenCause, IsOpened, default_options}
+use Rattle.xls_reading.specs.Faults.{IsSound}
+use Rattle.xls_open.specs.Opening.{OpenCause, IsOpened, default_options, default_rules}
 use Rattle.xls_source.specs.Bounded.{ReadCause}
 use Rattle.xls_dump.specs.SinkState.{SinkState, TakesEach}
 use Rattle.xls_dump.specs.Gathering.{Stops}
 use Rattle.xls_dump.specs.Report.{fault_line, report, sheet_report}
 use Rattle.xls_dump.specs.Summary.{summary_text}
-use Rattle.xls_dump.specs.Outputs.{IsOutput, IsRefusal, MayWrite, IsOutputOf, IsPropertyText, property_limit, IsFaultLine, IsLengthLine, EndsWell, EndsBySoundness, EndsByLength}
-use Rattle.xls_dump.specs.Endings.{IsFault, Wrote, EndsWithError, EndsWithText, Ends}
+use Rattle.xls_dump.specs.Outputs.{IsOutput, IsRefusal, MayWrite, IsOutputOf, IsPropertyText, property_limit, IsSoundLine, IsFirstLine, IsFaultLine, IsLengthLine, EndsWell, EndsBySoundness, EndsByLength}
+use Rattle.xls_dump.specs.Endings.{IsFault, Wrote, EndsWithError, EndsWithText, EndsWithEither, Ends}
 use Rattle.xls_dump.specs.declared.command.Command.{Command}
-use Rattle.xls_dump.specs.declared.command.Command.TheVariants.{Dump, Sheets, Props, Generate}
+use Rattle.xls_dump.specs.declared.command.Command.TheVariants.{Dump, Sheets, Props, Check, Generate}
 use Rattle.xls_dump.specs.declared.ending.Ending.{Ending}
 use Rattle.xls_dump.specs.declared.ending.Ending.TheVariants.{Done, Refused}
 use Rattle.xls_dump.specs.declared.ending.Stop.{Stop}
 use Rattle.xls_dump.specs.declared.ending.Stop.TheVariants.{Read, Write, Memory}
+use Rattle.xls_dump.proofs.CheckLemmas.{too_large}
 
 -- ---- any command
 
@@ -40,6 +42,20 @@ ends-text c left before after (Err e) done up output (inl p) =
     subst (λ d. Ends c left before after (Err d)) (sym p.0) (up, inl p.1.0)
 ends-text c left before after (Err e) done up output (inr p) =
     ends-stopped c left e up (inl (output p.0 p.1)) p.2
+
+-- a text of one of two kinds was written, or a prefix of it
+pub ends-either : (c : Command) (left : Option (List ℕ)) (before after : SinkState) (r : Result Ending Stop) {IsDone IsRefused : List ℕ → Type 0}
+    → EndsWell c left 5 → ((text : List ℕ) → IsDone text → EndsWell c left 0 × IsOutput c left text)
+    → ((text : List ℕ) → IsRefused text → EndsWell c left 1 × IsRefusal c left text)
+    → EndsWithEither IsDone IsRefused before after r → Ends c left before after r
+ends-either c left before after (Ok Done) up output line p =
+    let o = output p.0 p.1 in (o.0, (p.0, o.1, p.2.appends))
+ends-either c left before after (Ok Refused) up output line p =
+    let l = line p.0 p.1 in (l.0, (p.0, l.1, p.2.appends))
+ends-either c left before after (Err e) up output line (text, inl done, p) =
+    ends-stopped c left e up (inl (output text done).1) p
+ends-either c left before after (Err e) up output line (text, inr refused, p) =
+    ends-stopped c left e up (inr (line text refused).1) p
 
 -- an error of reading or opening, where a fault of the bytes is refused
 pub ends-error : (c : Command) (left : Option (List ℕ)) (before after : SinkState) (r : Result Ending Stop) (e : XlsError)
@@ -71,6 +87,14 @@ steady-text c left before after (Ok Refused) output p takes = absurd p
 steady-text c left before after (Err e) output (inl p) takes = p.1.1
 steady-text c left before after (Err e) output (inr p) takes = steady-stopped c left (inl (output p.0 p.1)) p.2 takes
 
+pub steady-either : (c : Command) (left : Option (List ℕ)) (before after : SinkState) (r : Result Ending Stop) {IsDone IsRefused : List ℕ → Type 0}
+    → ((text : List ℕ) → IsDone text → IsOutput c left text) → ((text : List ℕ) → IsRefused text → IsRefusal c left text)
+    → EndsWithEither IsDone IsRefused before after r → TakesEach before (MayWrite c left) → after.faults ≡ before.faults
+steady-either c left before after (Ok Done) output line p takes = steady-wrote c left (inl (output p.0 p.1)) p.2 takes
+steady-either c left before after (Ok Refused) output line p takes = steady-wrote c left (inr (line p.0 p.1)) p.2 takes
+steady-either c left before after (Err e) output line (text, inl done, p) takes = steady-stopped c left (inl (output text done)) p takes
+steady-either c left before after (Err e) output line (text, inr refused, p) takes = steady-stopped c left (inr (line text refused)) p takes
+
 pub steady-error : (c : Command) (left : Option (List ℕ)) (before after : SinkState) (r : Result Ending Stop) (e : XlsError)
     → (IsFault e → IsRefusal c left (fault_line e)) → EndsWithError e before after r
     → TakesEach before (MayWrite c left) → after.faults ≡ before.faults
@@ -95,6 +119,13 @@ pub text-stopped : (IsText : List ℕ → Type 0) {before after : SinkState} {te
 text-stopped IsText (Ok x) none is p = absurd none
 text-stopped IsText {before} {after} {text} {e} (Err d) same is p =
     inr (text, is, subst (Stops before [] after text) (sym same) p)
+
+-- a text of one of two kinds was given up
+pub either-stopped : (IsDone IsRefused : List ℕ → Type 0) {before after : SinkState} {text : List ℕ} {e : Stop} (r : Result Ending Stop)
+    → IsErrAnd r (λ d. d ≡ e) → IsDone text ⊎ IsRefused text → Stops before [] after text e → EndsWithEither IsDone IsRefused before after r
+either-stopped IsDone IsRefused (Ok x) none may p = absurd none
+either-stopped IsDone IsRefused {before} {after} {text} {e} (Err d) same may p =
+    (text, may, subst (Stops before [] after text) (sym same) p)
 
 -- ---- the commands that open the source
 
@@ -222,6 +253,53 @@ pub not_read-steady : (left : Option (List ℕ)) (f f' : ℕ) (before after : Si
     → ReadCause property_limit left f f' e → EndsWithError e before after r
     → TakesEach before (MayWrite Props left) → after.faults ≡ before.faults
 not_read-steady left f f' before after r e cause = steady-error Props left before after r e (refuses_length left f f' e cause)
+
+-- ---- a check
+
+-- the line of too many bytes, which are the first fault
+refuses_large : (left : Option (List ℕ)) (f f' : ℕ) (e : XlsError)
+    → ReadCause default_options.max_bytes left f f' e → IsFault e → IsFaultLine left (fault_line e)
+refuses_large left f f' errors.Io cause fault = absurd (fault.0 refl)
+refuses_large left f f' errors.Memory cause fault = absurd (fault.1 refl)
+refuses_large None f f' (errors.TooLarge n) cause fault = tt
+refuses_large (Some bytes) f f' (errors.TooLarge n) cause fault =
+    (errors.TooLarge n, too_large bytes n cause.0 cause.1, refl)
+refuses_large left f f' e cause fault = absurd cause
+
+-- the line of the bytes that were left
+checks_sound : (left left' : Option (List ℕ)) (bytes text : List ℕ) → Consumes left left' bytes → IsAtEnd left'
+    → IsSoundLine bytes text → IsOutput Check left text
+checks_sound left left' bytes text all end is = (Consumes-whole left left' bytes (IsSound default_rules) all end is.0, is.1)
+
+checks_fault : (left left' : Option (List ℕ)) (bytes text : List ℕ) → Consumes left left' bytes → IsAtEnd left'
+    → IsFirstLine bytes text → IsFaultLine left text
+checks_fault left left' bytes text all end is = Consumes-whole left left' bytes (λ b. IsFirstLine b text) all end is
+
+pub all_checked : (left left' : Option (List ℕ)) (before after : SinkState) (r : Result Ending Stop) (bytes : List ℕ)
+    → Consumes left left' bytes → IsAtEnd left' → EndsWithEither (IsSoundLine bytes) (IsFirstLine bytes) before after r
+    → Ends Check left before after r
+all_checked left left' before after r bytes all end =
+    ends-either Check left before after r (well_given_up left)
+    (λ text is. let o = checks_sound left left' bytes text all end is in ((inl refl, λ e. absurd (omega arith), λ _. o.0), o))
+    (λ text is. let l = checks_fault left left' bytes text all end is in (well_refused left text l, l))
+
+pub all_checked-steady : (left left' : Option (List ℕ)) (before after : SinkState) (r : Result Ending Stop) (bytes : List ℕ)
+    → Consumes left left' bytes → IsAtEnd left' → EndsWithEither (IsSoundLine bytes) (IsFirstLine bytes) before after r
+    → TakesEach before (MayWrite Check left) → after.faults ≡ before.faults
+all_checked-steady left left' before after r bytes all end =
+    steady-either Check left before after r (λ text. checks_sound left left' bytes text all end)
+    (λ text. checks_fault left left' bytes text all end)
+
+pub not_checked : (left : Option (List ℕ)) (f f' : ℕ) (before after : SinkState) (r : Result Ending Stop) (e : XlsError)
+    → ReadCause default_options.max_bytes left f f' e → EndsWithError e before after r → Ends Check left before after r
+not_checked left f f' before after r e cause =
+    let line = refuses_large left f f' e cause in
+    ends-error Check left before after r e (well_given_up left) (λ fault. well_refused left (fault_line e) (line fault)) line
+
+pub not_checked-steady : (left : Option (List ℕ)) (f f' : ℕ) (before after : SinkState) (r : Result Ending Stop) (e : XlsError)
+    → ReadCause default_options.max_bytes left f f' e → EndsWithError e before after r
+    → TakesEach before (MayWrite Check left) → after.faults ≡ before.faults
+not_checked-steady left f f' before after r e cause = steady-error Check left before after r e (refuses_large left f f' e cause)
 
 -- ---- a made stream
 

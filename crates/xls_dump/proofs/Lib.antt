@@ -1,5 +1,6 @@
 pub mod PieceLemmas
 pub mod TextLemmas
+pub mod CheckLemmas
 pub mod EndingLemmas
 pub mod StandardFacts
 pub mod GatherLemmas

@@ -8,7 +8,7 @@ use Rattle.std.proofs.lemmas.Fmt.{parse-decimal, decimal-digits_value, decimal_b
 use Rattle.std.proofs.lemmas.Str.Parse.{IsNumeralModel, parse_plain}
 use Rattle.xls_dump.specs.Words.{BeginsWell, IsRows, IsCommand, IsPossible}
 use Rattle.xls_dump.specs.declared.command.Command.{Command}
-use Rattle.xls_dump.specs.declared.command.Command.TheVariants.{Dump, Sheets, Props, Generate}
+use Rattle.xls_dump.specs.declared.command.Command.TheVariants.{Dump, Sheets, Props, Check, Generate}
 
 model : IsNumeralModel (AllDigits 10) (digits_value 10)
 model = record { to = λ ds h. h; from = λ ds h. h; same = λ ds h. refl }
@@ -82,6 +82,7 @@ no_command word rows h Dump (inl e) = cc
 no_command word rows h Dump (inr e) = cc
 no_command word rows h Sheets e = cc
 no_command word rows h Props e = cc
+no_command word rows h Check e = cc
 no_command word rows h (Generate n) i =
     let first : word ≡ codes "generate" = let e = i.words_are in cc in
     let second : i.text ≡ rows = let e = i.words_are in cc in

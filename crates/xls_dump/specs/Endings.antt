@@ -61,6 +61,16 @@ EndsWithText IsText before after (Err e) =
     ((e ≡ Memory) × IsUntouched before after)
     ⊎ ((text : List ℕ) × IsText text × Stops before [] after text e)
 
+-- ---- a text of one of two kinds
+
+-- a text of the first kind was written at the end, or one of the second at a refusal, or a prefix of one
+abbrev pub EndsWithEither : (IsDone IsRefused : List ℕ → Type 0) → SinkState → SinkState → Result Ending Stop → Type 0
+EndsWithEither IsDone IsRefused before after (Ok Done) = (text : List ℕ) × IsDone text × Wrote before after text
+EndsWithEither IsDone IsRefused before after (Ok Refused) =
+    (text : List ℕ) × IsRefused text × Wrote before after text
+EndsWithEither IsDone IsRefused before after (Err e) =
+    (text : List ℕ) × (IsDone text ⊎ IsRefused text) × Stops before [] after text e
+
 -- ---- a command
 
 -- what a command does to a source that had and has this left, with the counts of its faults

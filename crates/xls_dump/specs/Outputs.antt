@@ -10,11 +10,11 @@ use Rattle.xls_props.specs.declared.properties.WorkbookProperties.{WorkbookPrope
 use Rattle.xls_open.specs.Workbook.{Workbook}
 use Rattle.xls_reading.specs.Faults.{FirstFault, IsSound}
 use Rattle.xls_open.specs.Opening.{IsOpened, default_options, default_rules}
-use Rattle.xls_dump.specs.Report.{report, sheet_report, fault_line}
+use Rattle.xls_dump.specs.Report.{report, sheet_report, sound_line, fault_line}
 use Rattle.xls_dump.specs.Properties.{property_lines}
 use Rattle.xls_dump.specs.Summary.{summary_text}
 use Rattle.xls_dump.specs.declared.command.Command.{Command}
-use Rattle.xls_dump.specs.declared.command.Command.TheVariants.{Dump, Sheets, Props, Generate}
+use Rattle.xls_dump.specs.declared.command.Command.TheVariants.{Dump, Sheets, Props, Check, Generate}
 
 -- a text of the workbook that the bytes open to
 abbrev pub IsOutputOf : (Workbook → List ℕ) → Option (List ℕ) → List ℕ → Type 0
@@ -33,18 +33,26 @@ IsPropertyText bytes text =
 abbrev pub property_limit : ℕ
 property_limit = 268_435_456
 
+-- the line of bytes of which no place has a fault
+abbrev pub IsSoundLine : List ℕ → List ℕ → Type 0
+IsSoundLine bytes text = IsSound default_rules bytes × (text ≡ sound_line)
+
+-- the line of the first fault of the bytes
+abbrev pub IsFirstLine : List ℕ → List ℕ → Type 0
+IsFirstLine bytes text =
+    (e : XlsError) × FirstFault default_rules bytes e × (text ≡ fault_line e)
+
 -- the text of a command that is done
 abbrev pub IsOutput : Command → Option (List ℕ) → List ℕ → Type 0
 IsOutput Dump left text = IsOutputOf report left text
 IsOutput Sheets left text = IsOutputOf sheet_report left text
 IsOutput Props left text = IfSome left (λ bytes. IsPropertyText bytes text)
+IsOutput Check left text = IfSome left (IsSound default_rules) × (text ≡ sound_line)
 IsOutput (Generate n) left text = text ≡ summary_text n
 
 -- the line of the first fault
 abbrev pub IsFaultLine : Option (List ℕ) → List ℕ → Type 0
-IsFaultLine left text =
-    IfSome left (λ bytes. (e : XlsError) × FirstFault default_rules bytes e
-    × (text ≡ fault_line e))
+IsFaultLine left text = IfSome left (λ bytes. IsFirstLine bytes text)
 
 -- the line of too many bytes
 abbrev pub IsLengthLine : Option (List ℕ) → List ℕ → Type 0
@@ -57,6 +65,7 @@ abbrev pub IsRefusal : Command → Option (List ℕ) → List ℕ → Type 0
 IsRefusal Dump left text = IsFaultLine left text
 IsRefusal Sheets left text = IsFaultLine left text
 IsRefusal Props left text = IsLengthLine left text
+IsRefusal Check left text = IsFaultLine left text
 IsRefusal (Generate n) left text = ⊥
 
 -- either of them
@@ -68,6 +77,7 @@ abbrev pub HasRead : Command → Option (List ℕ) → Option (List ℕ) → Typ
 HasRead Dump before after = IsAtEnd after
 HasRead Sheets before after = IsAtEnd after
 HasRead Props before after = IsAtEnd after
+HasRead Check before after = IsAtEnd after
 HasRead (Generate n) before after = after ≡ before
 
 -- bytes without a fault aren't refused, and those with one have no output
@@ -87,6 +97,7 @@ abbrev pub EndsWell : Command → Option (List ℕ) → ℕ → Type 0
 EndsWell Dump left status = EndsBySoundness left status
 EndsWell Sheets left status = EndsBySoundness left status
 EndsWell Props left status = EndsByLength left status
+EndsWell Check left status = EndsBySoundness left status
 EndsWell (Generate n) left status = (status ≡ 0) ⊎ (status ≡ 5)
 
 -- the command reads nothing
@@ -94,4 +105,5 @@ abbrev pub ReadsNothing : Command → Type 0
 ReadsNothing Dump = ⊥
 ReadsNothing Sheets = ⊥
 ReadsNothing Props = ⊥
+ReadsNothing Check = ⊥
 ReadsNothing (Generate n) = Unit {0}

@@ -1,6 +1,7 @@
 -- The text of the properties of a workbook.
 use Rattle.std.specs.Prelude.{ℕ, List, [], ◌∷◌, ◌++◌, Option, Some, None, codes}
 use Rattle.std.specs.List.{flat_map}
+use Rattle.std.specs.Borrow.{Bor}
 use Rattle.std.specs.Option.{option_map}
 use Rattle.std.specs.Global.{Global}
 use Rattle.std.specs.Str.{chars}
@@ -8,16 +9,15 @@ use Rattle.std.specs.String.{string_bytes}
 use Rattle.std.specs.declared.string.String.{String}
 use Rattle.xls_props.specs.declared.properties.WorkbookProperties.{WorkbookProperties}
 use Rattle.xls_dump.specs.Lines.{line, escaped_text}
-use Rattle.xls_dump.specs.declared.properties.Property.{Property}
 
 -- the line of a field, if the field is there: its name and its text
 abbrev pub property_line : List ℕ → Option (List ℕ) → List ℕ
 property_line name None = []
 property_line name (Some text) = line name (escaped_text (chars text) ∷ [])
 
--- the line of a field of a workbook's properties
-abbrev pub property_text : Property → List ℕ
-property_text p = property_line p.name.now (option_map string_bytes p.text.now)
+-- the same of a field by its name and its text
+abbrev pub property_text : Bor (List ℕ) × Bor (Option (String Global)) → List ℕ
+property_text f = property_line f.0.now (option_map string_bytes f.1.now)
 
 -- name and value of a custom property
 abbrev pub custom_line : String Global × String Global → List ℕ

@@ -129,6 +129,10 @@ report book =
 abbrev pub sheet_report : Workbook → List ℕ
 sheet_report book = flat_map sheet_line book.sheets
 
+-- the line of a stream without a fault
+abbrev pub sound_line : List ℕ
+sound_line = line (codes "ok") []
+
 -- the line of a refusal
 abbrev pub fault_line : XlsError → List ℕ
 fault_line e = line (codes "error") (error_text e ∷ [])

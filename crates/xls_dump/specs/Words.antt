@@ -5,7 +5,7 @@ use Rattle.std.specs.Global.{Global}
 use Rattle.std.specs.String.{string_bytes}
 use Rattle.std.specs.declared.string.String.{String}
 use Rattle.xls_dump.specs.declared.command.Command.{Command}
-use Rattle.xls_dump.specs.declared.command.Command.TheVariants.{Dump, Sheets, Props, Generate}
+use Rattle.xls_dump.specs.declared.command.Command.TheVariants.{Dump, Sheets, Props, Check, Generate}
 
 -- how many rows may be made
 abbrev pub max_rows : ℕ
@@ -33,6 +33,7 @@ abbrev pub IsCommand : List (List ℕ) → Command → Type 0
 IsCommand words Dump = (words ≡ []) ⊎ (words ≡ codes "dump" ∷ [])
 IsCommand words Sheets = words ≡ codes "sheets" ∷ []
 IsCommand words Props = words ≡ codes "props" ∷ []
+IsCommand words Check = words ≡ codes "check" ∷ []
 IsCommand words (Generate n) = IsGenerate words n
 
 -- the words are those of a command of which this holds

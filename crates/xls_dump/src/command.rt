@@ -17,6 +17,8 @@ pub enum Command {
     Sheets,
     /// Writes the properties in a property stream.
     Props,
+    /// Writes whether a workbook has a fault, and which is the first.
+    Check,
     /// Makes a stream of so many rows, and writes what is found in it.
     Generate(u32),
 }
@@ -30,6 +32,7 @@ fn named(word: &str) -> Option<Command>
         "dump" => Some(Command::Dump),
         "sheets" => Some(Command::Sheets),
         "props" => Some(Command::Props),
+        "check" => Some(Command::Check),
         _ => None,
     }
 }

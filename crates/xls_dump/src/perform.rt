@@ -1,26 +1,30 @@
 //! What each command does.
 
-ghost use Rattle.std.specs.Prelude.{◌≡◌, ◌≤◌};
-ghost use Rattle.xls_dump.specs.Endings.{Ends, EndsWithError, EndsWithText, Reads};
-ghost use Rattle.xls_dump.specs.Outputs.{IsPropertyText, MayWrite, ReadsNothing};
+ghost use Rattle.std.specs.Prelude.{◌≡◌, ◌≤◌, length};
+ghost use Rattle.xls_open.specs.Opening.{default_options};
+ghost use Rattle.xls_dump.specs.Endings.{Ends, EndsWithEither, EndsWithError, EndsWithText, Reads};
+ghost use Rattle.xls_dump.specs.Outputs.{IsFirstLine, IsPropertyText, IsSoundLine, MayWrite, ReadsNothing};
 ghost use Rattle.xls_dump.specs.SinkState.{TakesEach};
 ghost use Rattle.xls_dump.specs.Summary.{summary_text};
 ghost use Rattle.xls_dump.specs.Words.{IsPossible, max_rows};
-ghost use Rattle.xls_dump.specs.declared.command.Command.TheVariants.{Dump, Sheets, Props};
+ghost use Rattle.xls_dump.specs.declared.command.Command.TheVariants.{Dump, Sheets, Props, Check};
 
 use crate::command::Command;
 use crate::ending::{Ending, Stop};
 use crate::properties::write_properties;
-use crate::report::{write_fault, write_report, write_sheets};
+use crate::report::{write_fault, write_report, write_sheets, write_sound};
 use crate::sink::Sink;
 use crate::summary::{summary_of, write_summary};
 use std::alloc::Global;
 use xls_biff::XlsError;
-use xls_book::{Reader, Source, Xls, read_all};
+use xls_book::{Reader, Source, Xls, check_stream, read_all};
 use xls_props::workbook_properties_of;
 
-/// How many bytes a property stream may have.
+/// How many bytes are read, at most.
 const MAX_BYTES: u64 = 268_435_456;
+
+/// How many cells a sheet may have.
+const MAX_CELLS: u64 = 33_554_432;
 
 /// Writes the line of an error that the bytes have.
 fn refuse<K: Sink>(alloc: Global, sink: &mut K, error: &XlsError) -> Result<Ending, Stop>
@@ -93,6 +97,39 @@ fn props<S: Source, K: Sink>(alloc: Global, source: &mut S, sink: &mut K) -> Res
     }
 }
 
+/// Writes that the bytes have no fault, or which is the first.
+fn write_check<K: Sink>(alloc: Global, sink: &mut K, bytes: &[u8]) -> Result<Ending, Stop>
+    requires within { length bytes.now ≤ default_options.max_bytes }
+    ensures { EndsWithEither (IsSoundLine bytes.now) (IsFirstLine bytes.now)
+        (K.state sink.old) (K.state sink.new) result }
+{
+    match check_stream(bytes, None, MAX_CELLS) {
+        Ok(()) => {
+            write_sound(alloc, sink)?;
+            Ok(Ending::Done)
+        }
+        Err(error) => {
+            write_fault(alloc, sink, &error)?;
+            Ok(Ending::Refused)
+        }
+    }
+}
+
+/// Reads the source, and writes that its bytes have no fault, or which is the first. Nothing is kept
+/// but the bytes.
+fn check<S: Source, K: Sink>(alloc: Global, source: &mut S, sink: &mut K) -> Result<Ending, Stop>
+    ensures reads { Reads Check (S.left source.old) (S.left source.new)
+        (S.faults source.old) (S.faults source.new) result }
+    ensures ends { Ends Check (S.left source.old) (K.state sink.old) (K.state sink.new) result }
+    ensures steady { TakesEach (K.state sink.old) (MayWrite Check (S.left source.old))
+        → (K.state sink.new).faults ≡ (K.state sink.old).faults }
+{
+    match read_all(alloc, source, MAX_BYTES) {
+        Ok(bytes) => write_check(alloc, sink, bytes.as_slice()),
+        Err(error) => refuse(alloc, sink, &error),
+    }
+}
+
 /// Makes a stream of so many rows, opens it, and writes what its range holds.
 fn generate<K: Sink>(alloc: Global, rows: u32, sink: &mut K) -> Result<Ending, Stop>
     requires least { 1 ≤ rows }
@@ -123,6 +160,7 @@ pub fn perform<S: Source, K: Sink>(
         Command::Dump => dump(alloc, source, sink),
         Command::Sheets => sheets(alloc, source, sink),
         Command::Props => props(alloc, source, sink),
+        Command::Check => check(alloc, source, sink),
         Command::Generate(rows) => generate(alloc, rows, sink),
     }
 }

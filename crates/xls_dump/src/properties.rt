@@ -17,24 +17,17 @@ use std::alloc::Global;
 use std::collections::btree_map::Iter;
 use xls_props::WorkbookProperties;
 
-/// A field of the properties: its name, and its text if it is there.
-#[derive(Clone, Copy, Drop)]
-pub struct Property<'a> {
-    name: &'static str,
-    text: &'a Option<String>,
-}
-
-/// Puts the line of a field, if it is there.
+/// Puts the line of a field by its name and its text, if it is there.
 fn put_property<K: Sink>(
     buffer: &mut Buffer,
     sink: &mut K,
-    property: Property<'_>,
+    field: (&'static str, &Option<String>),
 ) -> Result<(), Stop>
     ensures { Puts (K.state sink.old) buffer.old (K.state sink.new) buffer.new
-        (property_text property.entry) result }
+        (property_text field.entry) result }
 {
-    match property.text {
-        Some(text) => buffer.put_line(sink, property.name, &[Field::Text(text.as_str())]),
+    match field.1 {
+        Some(text) => buffer.put_line(sink, field.0, &[Field::Text(text.as_str())]),
         None => Ok(()),
     }
 }
@@ -43,7 +36,7 @@ fn put_property<K: Sink>(
 fn put_fields<K: Sink>(
     buffer: &mut Buffer,
     sink: &mut K,
-    fields: &[Property<'_>],
+    fields: &[(&'static str, &Option<String>)],
 ) -> Result<(), Stop>
     ensures { Puts (K.state sink.old) buffer.old (K.state sink.new) buffer.new
         (flat_map property_text fields.now) result }
@@ -63,80 +56,26 @@ fn put_known<K: Sink>(
     ensures { Puts (K.state sink.old) buffer.old (K.state sink.new) buffer.new
         (known_lines properties.now) result }
 {
-    put_fields(
-        buffer,
-        sink,
-        &[
-            Property {
-                name: "title",
-                text: &properties.title,
-            },
-            Property {
-                name: "subject",
-                text: &properties.subject,
-            },
-            Property {
-                name: "creator",
-                text: &properties.creator,
-            },
-            Property {
-                name: "keywords",
-                text: &properties.keywords,
-            },
-            Property {
-                name: "description",
-                text: &properties.description,
-            },
-            Property {
-                name: "template",
-                text: &properties.template,
-            },
-            Property {
-                name: "last_modified_by",
-                text: &properties.last_modified_by,
-            },
-            Property {
-                name: "revision",
-                text: &properties.revision,
-            },
-            Property {
-                name: "created",
-                text: &properties.created,
-            },
-            Property {
-                name: "modified",
-                text: &properties.modified,
-            },
-            Property {
-                name: "application",
-                text: &properties.application,
-            },
-            Property {
-                name: "category",
-                text: &properties.category,
-            },
-            Property {
-                name: "manager",
-                text: &properties.manager,
-            },
-            Property {
-                name: "company",
-                text: &properties.company,
-            },
-            Property {
-                name: "content_status",
-                text: &properties.content_status,
-            },
-            Property {
-                name: "version",
-                text: &properties.version,
-            },
-            Property {
-                name: "app_version",
-                text: &properties.app_version,
-            },
-        ],
-    )
+    let fields = [
+        ("title", &properties.title),
+        ("subject", &properties.subject),
+        ("creator", &properties.creator),
+        ("keywords", &properties.keywords),
+        ("description", &properties.description),
+        ("template", &properties.template),
+        ("last_modified_by", &properties.last_modified_by),
+        ("revision", &properties.revision),
+        ("created", &properties.created),
+        ("modified", &properties.modified),
+        ("application", &properties.application),
+        ("category", &properties.category),
+        ("manager", &properties.manager),
+        ("company", &properties.company),
+        ("content_status", &properties.content_status),
+        ("version", &properties.version),
+        ("app_version", &properties.app_version),
+    ];
+    put_fields(buffer, sink, &fields)
 }
 
 /// Puts the line of a custom property.

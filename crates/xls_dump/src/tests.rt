@@ -106,7 +106,7 @@ fn check(rt: &impl Abort, alloc: Global, case: &Case, status: u8, text: &[u8]) -
 }
 
 // Runs in which nothing fails: the words, what the source gives, the status, and what is written.
-const RUNS: [(&[&str], &[u8], u8, &str); 26] = [
+const RUNS: [(&[&str], &[u8], u8, &str); 32] = [
     (&[], &THREE, 0, THREE_TEXT),
     (&["dump"], &THREE, 0, THREE_TEXT),
     (&[], &[], 0, "dates\t1900\n"),
@@ -129,6 +129,21 @@ const RUNS: [(&[&str], &[u8], u8, &str); 26] = [
     (&["sheets"], &LEDGER, 0, LEDGER_SHEETS),
     (&["props"], &TITLE, 0, "title\t\u{C5}lesund\n"),
     (&["props"], &[], 0, ""),
+    (&["check"], &THREE, 0, "ok\n"),
+    (&["check"], &[], 0, "ok\n"),
+    (&["check"], &LEDGER, 0, "ok\n"),
+    (
+        &["check"],
+        &PAGE,
+        1,
+        "error\tCfb error: Codepage 1B5 not found\n",
+    ),
+    (
+        &["check"],
+        &NO_SHEET,
+        1,
+        "error\tEnd of stream 'sheet offset'\n",
+    ),
     (&["generate", "4"], &THREE, 0, "rows\t4\ncells\t8\nsum\t6\n"),
     (
         &["generate", "65536"],
@@ -142,6 +157,7 @@ const RUNS: [(&[&str], &[u8], u8, &str); 26] = [
     (&["dump", "x"], &THREE, 2, ""),
     (&["sheets", "x"], &THREE, 2, ""),
     (&["props", "props"], &THREE, 2, ""),
+    (&["check", "check"], &THREE, 2, ""),
     (&["generate"], &THREE, 2, ""),
     (&["generate", "0"], &THREE, 2, ""),
     (&["generate", "04"], &THREE, 2, ""),

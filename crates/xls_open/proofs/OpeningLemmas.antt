@@ -41,7 +41,7 @@ forced_first rules bytes e within forced =
     subst (λ (o : Option XlsError). FirstBehind o rules bytes e) (sym same) refl
 
 -- and of one past the limit
-limit_first : (rules : Rules) (bytes : List ℕ) → rules.max_bytes < length bytes
+pub limit_first : (rules : Rules) (bytes : List ℕ) → rules.max_bytes < length bytes
     → FirstFault rules bytes (errors.TooLarge rules.max_bytes)
 limit_first rules bytes past =
     let same : outer_fault rules bytes ≡ Some (errors.TooLarge rules.max_bytes) =

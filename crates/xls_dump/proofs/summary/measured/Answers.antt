@@ -9,7 +9,7 @@ use Rattle.xls_dump.proofs.summary.measured.Goals as goal
 pub loop-cell-init : goal.loop-cell-init
 loop-cell-init c =
     let all = used_in is_nothing c.args.range.now in
-    (tt, tt, subst (λ l. SoFar all l 0 (pos 0)) (ap (used is_nothing) (sym c.used_cells-cell-items.ensures.items ∙ sym c.into_iter-cell-iterator.ensures.into_iter_gives)) (count_nothing all))
+    subst (λ l. SoFar all l 0 (pos 0)) (ap (used is_nothing) (sym c.used_cells-cell-items.ensures.items ∙ sym c.into_iter-cell-iterator.ensures.into_iter_gives)) (count_nothing all)
 
 -- one cell more, whose sum has 128 bits
 pub loop-cell-preserved : goal.loop-cell-preserved
@@ -19,5 +19,5 @@ loop-cell-preserved c =
     let cell : Placed = (c.in-Some.field-0-0, c.in-Some.field-0-1, c.in-Some.cell.now) in
     let fits : SFits w64 c.int_in.result = search rules in
     let next : c.int_in.result ≡ int_of (content_of c.in-Some.cell.now) = search rules in
-    let more = count_next all _ left cell c.loop-cell.cells _ c.int_in.result c.loop-cell.invariant.2 c.in-Some.ensures.steps fits next in
-    (tt, tt, subst (SoFar all left (c.loop-cell.cells + 1)) (omega (arith, ints)) more)
+    let more = count_next all _ left cell c.loop-cell.cells _ c.int_in.result c.loop-cell.invariant c.in-Some.ensures.steps fits next in
+    subst (SoFar all left (c.loop-cell.cells + 1)) (omega (arith, ints)) more

@@ -1,3 +1,4 @@
+use Rattle.std.proofs.Common.{length}
 use Rattle.xls_data.specs.Data.{is_nothing}
 use Rattle.xls_range.specs.Lists.{used}
 use Rattle.xls_made.specs.Made.{used_in}
@@ -7,6 +8,8 @@ use Rattle.xls_dump.proofs.summary.measured.Given as goal
 -- the cells so far are counted and summed, and the others are left
 abbrev pub invariant-loop-cell : goal.invariant-loop-cell
 invariant-loop-cell l =
-    (goal.iterator-loop-cell).can_next l.cell-iterator ×
-    (goal.iterator-loop-cell).is_finite l.cell-iterator ×
     SoFar (used_in is_nothing l.range) (used is_nothing l.cell-iterator) l.cells l.sum
+
+-- each turn takes a cell that is used
+abbrev pub decreases-loop-cell : goal.decreases-loop-cell
+decreases-loop-cell l = length (used is_nothing l.cell-iterator)
