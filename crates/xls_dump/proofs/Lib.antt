@@ -5,5 +5,6 @@ pub mod EndingLemmas
 pub mod StandardFacts
 pub mod GatherLemmas
 pub mod RowsLemmas
+pub mod ShortLemmas
 pub mod CountLemmas
 pub mod EscapeLemmas

@@ -1,18 +1,21 @@
 //! Text that is gathered, and written in large pieces.
 
-ghost use Rattle.std.specs.Prelude.{◌≡◌, ◌∷◌, ◌++◌, ◌+◌, ◌<◌, ◌≤◌, [], true, length, IfOk, OnOk, codes};
+ghost use Rattle.std.specs.Prelude.{◌≡◌, ◌∷◌, ◌++◌, ◌+◌, ◌<◌, ◌≤◌, [], true, length, Some, IfOk, IfSome, OnOk, codes};
 ghost use Rattle.std.specs.List.{flat_map};
-ghost use Rattle.std.specs.Fmt.{signed_decimal};
+ghost use Rattle.std.specs.Fmt.{decimal, signed_decimal};
 ghost use Rattle.std.specs.Str.{chars};
 ghost use Rattle.xls_data.specs.Numbers.{number_text};
 ghost use Rattle.xls_dump.specs.Gathering.{Puts};
-ghost use Rattle.xls_dump.specs.Lines.{escaped_char, field_text, tabbed_field, escaped_text};
+ghost use Rattle.xls_dump.specs.Lines.{escaped_char, field_text, tabbed, tabbed_field, escaped_text};
+ghost use Rattle.xls_dump.specs.Report.{filled_line};
 
 use crate::ending::Stop;
 use crate::field::Field;
+use crate::short::Short;
 use crate::sink::{Sink, write_all};
 use std::alloc::Global;
 use std::marker::Model;
+use xls_bytes::whole_of_bits;
 use xls_data::Number as Decimal;
 
 /// How many bytes are written at a time, at most.
@@ -94,6 +97,47 @@ fn is_all_plain(text: &[u8]) -> bool
         }
     }
     true
+}
+
+/// The bits of the double negative zero.
+const NEGATIVE_ZERO: u64 = 1 << 63;
+
+/// The whole number that a number prints as, if it is one.
+fn whole_in(n: Decimal) -> Option<i64>
+    ensures { IfSome result (λ whole. number_text n ≡ signed_decimal whole) }
+{
+    match n {
+        Decimal::Whole(whole) => Some(whole),
+        Decimal::Bits(bits) if bits != NEGATIVE_ZERO => whole_of_bits(bits),
+        _ => None,
+    }
+}
+
+/// The whole number that a field prints, if it is one.
+fn whole_of(field: Field<'_>) -> Option<i64>
+    ensures { IfSome result (λ whole. field_text field.entry ≡ signed_decimal whole) }
+{
+    match field {
+        Field::Int(n) => Some(n),
+        Field::Fraction(n) => whole_in(n),
+        _ => None,
+    }
+}
+
+/// Puts all of a cell's line that stands before its text: its row, its column and its kind.
+fn put_head(line: &mut Short, row: u32, column: u32, kind: &str)
+    requires kind { length kind.now ≤ 5 }
+    requires room { length line.old ≤ 25 }
+    ensures { line.new ≡ codes "cell" ++ (tabbed (decimal row) ++ (tabbed (decimal column)
+        ++ (tabbed kind.now ++ (codes "\t" ++ line.old)))) }
+{
+    line.put_byte(b'\t');
+    line.put_word(kind.as_bytes());
+    line.put_byte(b'\t');
+    line.put_digits(u64::from(column));
+    line.put_byte(b'\t');
+    line.put_digits(u64::from(row));
+    line.put_word(b"cell\t");
 }
 
 /// Text on its way to a sink: full pieces are written, and at most one piece is kept. Contracts see
@@ -259,5 +303,65 @@ impl Buffer {
         self.put_fields(sink, fields)?;
         self.put_str(sink, "\n")?;
         Ok(())
+    }
+
+    /// Puts the line of a cell with a whole number, all at once.
+    fn put_whole_cell<K: Sink>(
+        &mut self,
+        sink: &mut K,
+        row: u32,
+        column: u32,
+        kind: &str,
+        n: i64,
+    ) -> Result<(), Stop>
+        requires { length kind.now ≤ 5 }
+        ensures { Puts (K.state sink.old) self.old (K.state sink.new) self.new
+            (filled_line row column (Some (kind.now, signed_decimal n))) result }
+    {
+        let mut line = Short::new();
+        line.put_byte(b'\n');
+        line.put_int(n);
+        put_head(&mut line, row, column, kind);
+        self.put(sink, line.as_slice())
+    }
+
+    /// Puts the line of a cell with another value: what stands before its text all at once.
+    fn put_other_cell<K: Sink>(
+        &mut self,
+        sink: &mut K,
+        row: u32,
+        column: u32,
+        kind: &str,
+        shown: Field<'_>,
+    ) -> Result<(), Stop>
+        requires { length kind.now ≤ 5 }
+        ensures { Puts (K.state sink.old) self.old (K.state sink.new) self.new
+            (filled_line row column (Some (kind.now, field_text shown.entry))) result }
+    {
+        let mut head = Short::new();
+        put_head(&mut head, row, column, kind);
+        self.put(sink, head.as_slice())?;
+        self.put_value(sink, shown)?;
+        self.put_str(sink, "\n")?;
+        Ok(())
+    }
+
+    /// Puts the line of a cell: its row, its column, the word for its kind, and what it prints.
+    pub fn put_cell<K: Sink>(
+        &mut self,
+        sink: &mut K,
+        row: u32,
+        column: u32,
+        kind: &str,
+        shown: Field<'_>,
+    ) -> Result<(), Stop>
+        requires { length kind.now ≤ 5 }
+        ensures { Puts (K.state sink.old) self.old (K.state sink.new) self.new
+            (filled_line row column (Some (kind.now, field_text shown.entry))) result }
+    {
+        match whole_of(shown) {
+            Some(n) => self.put_whole_cell(sink, row, column, kind, n),
+            None => self.put_other_cell(sink, row, column, kind, shown),
+        }
     }
 }

@@ -11,6 +11,7 @@ mod perform;
 mod properties;
 mod report;
 mod run;
+mod short;
 mod sink;
 mod summary;
 #[cfg(test)]

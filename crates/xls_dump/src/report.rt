@@ -1,6 +1,6 @@
 //! The text of the dump, line by line.
 
-ghost use Rattle.std.specs.Prelude.{◌≡◌, ◌++◌, [], codes, if◌then◌else◌, slice_get};
+ghost use Rattle.std.specs.Prelude.{◌≡◌, ◌≤◌, ◌++◌, [], length, codes, if◌then◌else◌, slice_get, IfSome};
 ghost use Rattle.std.specs.List.{flat_map};
 ghost use Rattle.std.specs.Option.{option_map};
 ghost use Rattle.std.specs.Str.{chars};
@@ -23,7 +23,8 @@ use xls_data::{Data, Dimensions, Sheet, SheetType, SheetVisible};
 
 /// The word for a date or a span.
 fn date_kind(is_span: bool) -> &'static str
-    ensures { result.now ≡ (if is_span then codes "span" else codes "date") }
+    ensures word { result.now ≡ (if is_span then codes "span" else codes "date") }
+    ensures short { length result.now ≤ 5 }
 {
     if is_span { "span" } else { "date" }
 }
@@ -37,7 +38,8 @@ fn truth_word(is_true: bool) -> &'static str
 
 /// The kind of a value, and what it prints. A blank has none.
 fn fields_of(value: &Data) -> Option<(&'static str, Field<'_>)>
-    ensures { option_map (λ x. (x.0.now, field_text x.1)) result ≡ value_fields (content_of value.now) }
+    ensures fields { option_map (λ x. (x.0.now, field_text x.1)) result ≡ value_fields (content_of value.now) }
+    ensures short { IfSome result (λ x. length x.0.now ≤ 5) }
 {
     match value {
         Data::Int(n) => Some(("int", Field::Int(*n))),
@@ -64,11 +66,7 @@ fn put_cell<K: Sink>(
         (cell_line ((row, column), content_of value.now)) result }
 {
     match fields_of(value) {
-        Some((kind, shown)) => {
-            let row = Field::Number(u64::from(row));
-            let column = Field::Number(u64::from(column));
-            buffer.put_line(sink, "cell", &[row, column, Field::Word(kind), shown])
-        }
+        Some((kind, shown)) => buffer.put_cell(sink, row, column, kind, shown),
         None => Ok(()),
     }
 }
