@@ -4,7 +4,7 @@ use Rattle.xls_model.specs.Listing.{Kept, Item, entry_of, Holds}
 use Rattle.xls_model.specs.declared.part.Part.{Part}
 use Rattle.xls_strings.specs.declared.error.XlsError.{XlsError}
 use Rattle.xls_strings.specs.declared.version.Biff.{Biff}
-use Rattle.xls_strings.specs.Reading.{gives}
+use Rattle.xls_strings.specs.Reading.{Exactly, gives}
 use Rattle.xls_biff.specs.SheetTable.{CellContext}
 use Rattle.xls_reading.specs.Order.{along, first_of}
 use Rattle.xls_reading.specs.InForce.{version_in, InForce, in_force_of}
@@ -27,6 +27,10 @@ force_of rules items = in_force_of rules (map entry_of items)
 -- after a record of this line the version that it gives, or else this one; or the line's fault
 abbrev pub version_after : Biff → Line → Result Biff XlsError
 version_after biff line = gives (λ (g : GlobalsRecord). unwrap_or (version_given (Ok g)) biff) line
+
+-- a record of this line leaves the version that is the result
+abbrev pub LeavesVersion : Biff → Line → Result Biff XlsError → Type 0
+LeavesVersion biff line result = Exactly (λ v. v) result (version_after biff line)
 
 -- the globals aren't cut and have no fault, and at their end this version is in force
 pub record AreChecked (rules : Rules) (bytes : List ℕ) (version : Biff) : Type 0 where

@@ -6,7 +6,7 @@ ghost use Rattle.xls_model.specs.Listing.{Shared, IsShared, is_plain_type};
 ghost use Rattle.xls_model.specs.declared.types.TheConstants as types;
 ghost use Rattle.xls_data.specs.Sheets.{SheetContent};
 ghost use Rattle.xls_strings.specs.declared.version.Biff.{Biff};
-ghost use Rattle.xls_strings.specs.Reading.{Exactly, gives};
+ghost use Rattle.xls_strings.specs.Reading.{gives};
 ghost use Rattle.xls_biff.specs.Walking.{group_of};
 ghost use Rattle.xls_biff.specs.Records.Bof.{bof_at};
 ghost use Rattle.xls_biff.specs.Records.BoundSheet.{bound_sheet_at};
@@ -18,7 +18,7 @@ ghost use Rattle.xls_biff.specs.Records.Xf.{xf_at};
 ghost use Rattle.xls_biff.specs.declared.records.bof.Bof.{Bof};
 ghost use Rattle.xls_formula.specs.Defined.{lbl_at};
 ghost use Rattle.xls_reading.specs.GlobalsTable.{other_record, version_record, page_record, date_record, xf_record, references_record, name_record, strings_record, sheet_record, unless_forced, texts_of, plain_record_at};
-ghost use Rattle.xls_open.specs.CheckSteps.{under, version_after, ChecksGlobals};
+ghost use Rattle.xls_open.specs.CheckSteps.{under, LeavesVersion, ChecksGlobals};
 
 use crate::check::CheckRules;
 use xls_biff::{
@@ -30,16 +30,18 @@ use xls_model::types::{
     BOF, BOUND_SHEET_8, CODE_PAGE, DATE_MODE, EOF, EXTERN_SHEET, FILE_PASS, FORMAT, LBL, SST, XF,
 };
 
+// After a record of each type: the version in force, or the record's fault.
+
 fn after_bof(r: &Record<'_>) -> Result<Biff, XlsError>
     ensures { (biff : Biff)
-        → Exactly (λ v. v) result (version_after biff (gives (λ (b : Bof). version_record b.biff) (bof_at r.now.body.now))) }
+        → LeavesVersion biff (gives (λ (b : Bof). version_record b.biff) (bof_at r.now.body.now)) result }
 {
     let bof = parse_bof(r)?;
     Ok(bof.biff)
 }
 
 fn after_file_pass(r: &Record<'_>, biff: Biff) -> Result<Biff, XlsError>
-    ensures { Exactly (λ v. v) result (version_after biff (gives (λ _. other_record) (file_pass_at r.now.body.now))) }
+    ensures { LeavesVersion biff (gives (λ _. other_record) (file_pass_at r.now.body.now)) result }
 {
     parse_file_pass(r)?;
     Ok(biff)
@@ -47,7 +49,8 @@ fn after_file_pass(r: &Record<'_>, biff: Biff) -> Result<Biff, XlsError>
 
 /// A CodePage record has no fault under a forced page.
 fn after_code_page(r: &Record<'_>, biff: Biff, forced: Option<u16>) -> Result<Biff, XlsError>
-    ensures { Exactly (λ v. v) result (version_after biff (unless_forced forced (gives page_record (code_page_at r.now.body.now)))) }
+    ensures { LeavesVersion biff
+        (unless_forced forced (gives page_record (code_page_at r.now.body.now))) result }
 {
     if forced.is_none() {
         parse_code_page(r)?;
@@ -56,21 +59,21 @@ fn after_code_page(r: &Record<'_>, biff: Biff, forced: Option<u16>) -> Result<Bi
 }
 
 fn after_date_mode(r: &Record<'_>, biff: Biff) -> Result<Biff, XlsError>
-    ensures { Exactly (λ v. v) result (version_after biff (gives date_record (date_mode_at r.now.body.now))) }
+    ensures { LeavesVersion biff (gives date_record (date_mode_at r.now.body.now)) result }
 {
     parse_date_mode(r)?;
     Ok(biff)
 }
 
 fn after_xf(r: &Record<'_>, biff: Biff) -> Result<Biff, XlsError>
-    ensures { Exactly (λ v. v) result (version_after biff (gives xf_record (xf_at r.now.body.now))) }
+    ensures { LeavesVersion biff (gives xf_record (xf_at r.now.body.now)) result }
 {
     parse_xf(r)?;
     Ok(biff)
 }
 
 fn after_extern_sheet(r: &Record<'_>, biff: Biff) -> Result<Biff, XlsError>
-    ensures { Exactly (λ v. v) result (version_after biff (gives references_record (refs_at biff r.now.body.now))) }
+    ensures { LeavesVersion biff (gives references_record (refs_at biff r.now.body.now)) result }
 {
     check_extern_sheet(r, biff)?;
     Ok(biff)
@@ -78,7 +81,7 @@ fn after_extern_sheet(r: &Record<'_>, biff: Biff) -> Result<Biff, XlsError>
 
 fn after_lbl(r: &Record<'_>, biff: Biff) -> Result<Biff, XlsError>
     ensures { (page : XlsEncoding)
-        → Exactly (λ v. v) result (version_after biff (gives name_record (lbl_at page biff r.now.body.now))) }
+        → LeavesVersion biff (gives name_record (lbl_at page biff r.now.body.now)) result }
 {
     check_lbl(r, biff)?;
     Ok(biff)
@@ -86,7 +89,7 @@ fn after_lbl(r: &Record<'_>, biff: Biff) -> Result<Biff, XlsError>
 
 fn after_table(r: &Record<'_>, biff: Biff) -> Result<Biff, XlsError>
     ensures { (shared : Shared) → IsShared (group_of r.now) shared
-        → Exactly (λ v. v) result (version_after biff (gives strings_record (texts_of (length r.now.body.now) shared))) }
+        → LeavesVersion biff (gives strings_record (texts_of (length r.now.body.now) shared)) result }
 {
     skip_sst(r)?;
     Ok(biff)
@@ -94,7 +97,8 @@ fn after_table(r: &Record<'_>, biff: Biff) -> Result<Biff, XlsError>
 
 fn after_sheet(r: &Record<'_>, biff: Biff) -> Result<Biff, XlsError>
     ensures { (page : XlsEncoding)
-        → Exactly (λ v. v) result (version_after biff (gives (λ (q : ℕ × SheetContent). sheet_record q.1) (bound_sheet_at page biff r.now.body.now))) }
+        → LeavesVersion biff (gives (λ (q : ℕ × SheetContent). sheet_record q.1)
+        (bound_sheet_at page biff r.now.body.now)) result }
 {
     check_sheet_metadata(r, biff)?;
     Ok(biff)
@@ -104,11 +108,12 @@ fn after_sheet(r: &Record<'_>, biff: Biff) -> Result<Biff, XlsError>
 /// reader refuses is none.
 fn check_record(r: &Record<'_>, biff: Biff, forced: Option<u16>) -> Result<Biff, XlsError>
     ensures plain { is_plain_type r.now.typ ≡ true → (page : XlsEncoding)
-        → Exactly (λ v. v) result (version_after biff (plain_record_at forced page biff r.now.typ r.now.body.now)) }
+        → LeavesVersion biff (plain_record_at forced page biff r.now.typ r.now.body.now) result }
     ensures table { r.now.typ ≡ types.SST → (shared : Shared) → IsShared (group_of r.now) shared
-        → Exactly (λ v. v) result (version_after biff (gives strings_record (texts_of (length r.now.body.now) shared))) }
+        → LeavesVersion biff (gives strings_record (texts_of (length r.now.body.now) shared)) result }
     ensures sheet { r.now.typ ≡ types.BOUND_SHEET_8 → (page : XlsEncoding)
-        → Exactly (λ v. v) result (version_after biff (gives (λ (q : ℕ × SheetContent). sheet_record q.1) (bound_sheet_at page biff r.now.body.now))) }
+        → LeavesVersion biff (gives (λ (q : ℕ × SheetContent). sheet_record q.1)
+        (bound_sheet_at page biff r.now.body.now)) result }
 {
     match r.typ {
         BOF => after_bof(r),

@@ -20,7 +20,8 @@ use xls_model::types::{BOUND_SHEET_8, EOF};
 /// How many more cells a sheet may have after this record without a fault, where it may have so many
 /// before it and that many in all.
 fn room_after(room: u64, r: &Record<'_>, max_cells: u64) -> Result<u64, XlsError>
-    ensures { (cells : CellContext) (g : SheetRecord) → kept_line cells (kept_group (group_of r.now)) ≡ Ok g
+    ensures { (cells : CellContext) (g : SheetRecord)
+        → kept_line cells (kept_group (group_of r.now)) ≡ Ok g
         → Exactly (λ left. left) result (weight_left max_cells room (weight_of g)) }
 {
     match room.checked_sub(sheet_record_weight(r)) {
@@ -31,7 +32,8 @@ fn room_after(room: u64, r: &Record<'_>, max_cells: u64) -> Result<u64, XlsError
 
 /// The first fault of a part, whatever else than the version is in force.
 fn check_part(part: &[u8], biff: Biff, rules: CheckRules) -> Result<(), XlsError>
-    ensures { (s : InForce) → s.cells.version ≡ biff → ChecksPart (IsPart part.now) (under rules) s result }
+    ensures { (s : InForce) → s.cells.version ≡ biff
+        → ChecksPart (IsPart part.now) (under rules) s result }
 {
     let mut room = rules.max_cells;
     for record in SheetRecords::new(part) {
@@ -44,7 +46,8 @@ fn check_part(part: &[u8], biff: Biff, rules: CheckRules) -> Result<(), XlsError
 
 /// The first fault of the sheet part at an offset of the stream; an offset past its end is one.
 fn check_sheet(stream: &[u8], offset: usize, biff: Biff, rules: CheckRules) -> Result<(), XlsError>
-    ensures { (s : InForce) → s.cells.version ≡ biff → ChecksPart (IsSheetPart stream.now offset) (under rules) s result }
+    ensures { (s : InForce) → s.cells.version ≡ biff
+        → ChecksPart (IsSheetPart stream.now offset) (under rules) s result }
 {
     if stream.len() < offset {
         return Err(XlsError::EoStream(Part::SheetOffset));
