@@ -58,6 +58,22 @@ fn shown<V: Display + Drop>(alloc: Global, read: Result<V, DeError>) -> Result<S
     }
 }
 
+// The bytes of a cell as a text, or the text of the refusal.
+fn bytes_of<T: ReadCell>(alloc: Global, cell: &T) -> Result<String, AllocError> {
+    match cell.read_bytes(alloc, POS) {
+        Ok(bytes) => String::from_utf8_lossy(alloc, bytes.as_slice()),
+        Err(refusal) => shown::<u8>(alloc, Err(refusal)),
+    }
+}
+
+// `nothing`, or the text of the refusal.
+fn unit_of<T: ReadCell>(alloc: Global, cell: &T) -> Result<String, AllocError> {
+    match cell.read_unit(alloc, POS) {
+        Ok(()) => String::from_str(alloc, "nothing"),
+        Err(refusal) => shown::<u8>(alloc, Err(refusal)),
+    }
+}
+
 // A cell as a value of a type, by the type's name in refusals; `text` is the printed text.
 fn read_as<T: ReadCell>(alloc: Global, name: &str, cell: &T) -> Result<String, AllocError> {
     match name {
@@ -72,6 +88,19 @@ fn read_as<T: ReadCell>(alloc: Global, name: &str, cell: &T) -> Result<String, A
         "bool" => shown(alloc, cell.read_bool(alloc, POS)),
         "char" => shown(alloc, cell.read_char(alloc, POS)),
         "enum" => shown(alloc, cell.read_enum_name(alloc, POS)),
+        "bytes" => bytes_of(alloc, cell),
+        "unit" => unit_of(alloc, cell),
         _ => shown(alloc, cell.read_text(alloc, POS)),
     }
+}
+
+// The index of the first case (a type, a cell, and the text that it gives) that gives another text.
+fn wrong_case(alloc: Global, cases: &[(&str, Given, &str)]) -> Result<Option<usize>, AllocError> {
+    for i in 0..cases.len() {
+        let (name, given, wanted) = &cases[i];
+        if read_as(alloc, name, &cell_of(alloc, given)?)?.as_str() != *wanted {
+            return Ok(Some(i));
+        }
+    }
+    Ok(None)
 }

@@ -1,183 +1,142 @@
 //! Cells as truth values, characters, texts, bytes, nothing, and as whole numbers by a looser rule.
 
-use super::{Given, POS, cell_of, read_as, shown, text};
+use super::{Given, POS, cell_of, shown, text, wrong_case};
 use crate::{DeError, ReadCell, deserialize_as_i64_or_none, deserialize_as_i64_or_string};
 use std::alloc::{AllocError, Global};
 use std::test::Fail;
-use xls_data::{CellErrorType, Data, ExcelDateTime, ExcelDateTimeType, Number};
+use xls_data::{CellErrorType, Data, Number};
 
 // The double with the bits 8000000000000000 is negative zero.
-const TRUTHS: [(Given, &str); 23] = [
-    (Given::Truth(true), "true"),
-    (Given::Truth(false), "false"),
-    (Given::Text("TRUE"), "true"),
-    (Given::Text("true"), "true"),
-    (Given::Text("True"), "true"),
-    (Given::Text("FALSE"), "false"),
-    (Given::Text("false"), "false"),
-    (Given::Text("False"), "false"),
-    (Given::Text("tRUE"), "Expecting bool, got 'tRUE'"),
-    (Given::Text("1"), "Expecting bool, got '1'"),
-    (Given::Nothing, "false"),
-    (Given::Int(0), "false"),
-    (Given::Int(-7), "true"),
-    (Given::Float(Number::Whole(0)), "false"),
-    (Given::Float(Number::Hundredths(1)), "true"),
-    (Given::Float(Number::Bits(0)), "false"),
-    (Given::Float(Number::Bits(0x8000000000000000)), "false"),
+const TRUTHS: [(&str, Given, &str); 23] = [
+    ("bool", Given::Truth(true), "true"),
+    ("bool", Given::Truth(false), "false"),
+    ("bool", Given::Text("TRUE"), "true"),
+    ("bool", Given::Text("true"), "true"),
+    ("bool", Given::Text("True"), "true"),
+    ("bool", Given::Text("FALSE"), "false"),
+    ("bool", Given::Text("false"), "false"),
+    ("bool", Given::Text("False"), "false"),
+    ("bool", Given::Text("tRUE"), "Expecting bool, got 'tRUE'"),
+    ("bool", Given::Text("1"), "Expecting bool, got '1'"),
+    ("bool", Given::Nothing, "false"),
+    ("bool", Given::Int(0), "false"),
+    ("bool", Given::Int(-7), "true"),
+    ("bool", Given::Float(Number::Whole(0)), "false"),
+    ("bool", Given::Float(Number::Hundredths(1)), "true"),
+    ("bool", Given::Float(Number::Bits(0)), "false"),
     (
+        "bool",
+        Given::Float(Number::Bits(0x8000000000000000)),
+        "false",
+    ),
+    (
+        "bool",
         Given::Float(Number::BitsOver100(0x8000000000000000)),
         "false",
     ),
-    (Given::Date(Number::Hundredths(0)), "false"),
-    (Given::Date(Number::Whole(43831)), "true"),
-    (Given::IsoDate("2024-01-15"), "true"),
-    (Given::IsoDuration("PT0S"), "true"),
+    ("bool", Given::Date(Number::Hundredths(0)), "false"),
+    ("bool", Given::Date(Number::Whole(43831)), "true"),
+    ("bool", Given::IsoDate("2024-01-15"), "true"),
+    ("bool", Given::IsoDuration("PT0S"), "true"),
     (
+        "bool",
         Given::Wrong(CellErrorType::Div0),
         "Cell error at position '(1, 0)': #DIV/0!",
     ),
 ];
 
-const CHARACTERS: [(Given, &str); 9] = [
-    (Given::Text("x"), "x"),
-    (Given::Text(""), "Expecting char, got String"),
-    (Given::Text("ab"), "Expecting char, got String"),
-    (Given::Text("é"), "Expecting char, got String"),
-    (Given::IsoDate("x"), "Expecting char, got DateTimeIso"),
-    (Given::Int(7), "Expecting char, got Int"),
-    (Given::Float(Number::Whole(7)), "Expecting char, got Float"),
-    (Given::Nothing, "Expecting char, got Empty"),
+const CHARACTERS: [(&str, Given, &str); 9] = [
+    ("char", Given::Text("x"), "x"),
+    ("char", Given::Text(""), "Expecting char, got String"),
+    ("char", Given::Text("ab"), "Expecting char, got String"),
+    ("char", Given::Text("é"), "Expecting char, got String"),
     (
+        "char",
+        Given::IsoDate("x"),
+        "Expecting char, got DateTimeIso",
+    ),
+    ("char", Given::Int(7), "Expecting char, got Int"),
+    (
+        "char",
+        Given::Float(Number::Whole(7)),
+        "Expecting char, got Float",
+    ),
+    ("char", Given::Nothing, "Expecting char, got Empty"),
+    (
+        "char",
         Given::Wrong(CellErrorType::NA),
         "Cell error at position '(1, 0)': #N/A",
     ),
 ];
 
-const TEXTS: [(Given, &str); 10] = [
-    (Given::Int(-7), "-7"),
-    (Given::Float(Number::Hundredths(-5)), "-0.05"),
-    (Given::Text("Café"), "Café"),
-    (Given::Truth(true), "true"),
-    (Given::Truth(false), "false"),
-    (Given::Date(Number::Whole(43831)), "43831"),
-    (Given::IsoDate("2024-01-15"), "2024-01-15"),
-    (Given::IsoDuration("PT1H"), "PT1H"),
-    (Given::Nothing, ""),
+const TEXTS: [(&str, Given, &str); 10] = [
+    ("text", Given::Int(-7), "-7"),
+    ("text", Given::Float(Number::Hundredths(-5)), "-0.05"),
+    ("text", Given::Text("Café"), "Café"),
+    ("text", Given::Truth(true), "true"),
+    ("text", Given::Truth(false), "false"),
+    ("text", Given::Date(Number::Whole(43831)), "43831"),
+    ("text", Given::IsoDate("2024-01-15"), "2024-01-15"),
+    ("text", Given::IsoDuration("PT1H"), "PT1H"),
+    ("text", Given::Nothing, ""),
     (
+        "text",
         Given::Wrong(CellErrorType::GettingData),
         "Cell error at position '(1, 0)': #DATA!",
     ),
 ];
 
-const ENUM_NAMES: [(Given, &str); 5] = [
-    (Given::Text("Foo"), "Foo"),
-    (Given::Truth(true), "Expecting enum, got Bool"),
-    (Given::IsoDuration("Foo"), "Expecting enum, got DurationIso"),
-    (Given::Nothing, "Expecting enum, got Empty"),
+const ENUM_NAMES: [(&str, Given, &str); 5] = [
+    ("enum", Given::Text("Foo"), "Foo"),
+    ("enum", Given::Truth(true), "Expecting enum, got Bool"),
     (
+        "enum",
+        Given::IsoDuration("Foo"),
+        "Expecting enum, got DurationIso",
+    ),
+    ("enum", Given::Nothing, "Expecting enum, got Empty"),
+    (
+        "enum",
         Given::Wrong(CellErrorType::Ref),
         "Cell error at position '(1, 0)': #REF!",
     ),
 ];
 
-#[test]
-fn reads_truth_values(rt: HostRuntime) -> Result<(), Fail> {
-    let alloc = rt.alloc();
-    for (given, wanted) in TRUTHS.iter() {
-        let read = read_as(alloc, "bool", &cell_of(alloc, given)?)?;
-        assert_eq!(rt; read.as_str(), *wanted);
-    }
-    Ok(())
-}
-
-#[test]
-fn reads_characters(rt: HostRuntime) -> Result<(), Fail> {
-    let alloc = rt.alloc();
-    for (given, wanted) in CHARACTERS.iter() {
-        let read = read_as(alloc, "char", &cell_of(alloc, given)?)?;
-        assert_eq!(rt; read.as_str(), *wanted);
-    }
-    Ok(())
-}
-
-#[test]
-fn reads_printed_texts(rt: HostRuntime) -> Result<(), Fail> {
-    let alloc = rt.alloc();
-    for (given, wanted) in TEXTS.iter() {
-        let read = read_as(alloc, "text", &cell_of(alloc, given)?)?;
-        assert_eq!(rt; read.as_str(), *wanted);
-    }
-    Ok(())
-}
-
-#[test]
-fn reads_names_of_variants(rt: HostRuntime) -> Result<(), Fail> {
-    let alloc = rt.alloc();
-    for (given, wanted) in ENUM_NAMES.iter() {
-        let read = read_as(alloc, "enum", &cell_of(alloc, given)?)?;
-        assert_eq!(rt; read.as_str(), *wanted);
-    }
-    Ok(())
-}
-
-// The bytes of a cell as a text, or the text of the refusal.
-fn bytes_as_text<T: ReadCell>(alloc: Global, cell: &T) -> Result<String, AllocError> {
-    match cell.read_bytes(alloc, POS) {
-        Ok(bytes) => String::from_utf8_lossy(alloc, bytes.as_slice()),
-        Err(refusal) => shown::<u8>(alloc, Err(refusal)),
-    }
-}
-
-const BYTES: [(Given, &str); 5] = [
-    (Given::Text("ab"), "ab"),
-    (Given::Text("é"), "é"),
-    (Given::Nothing, ""),
-    (Given::Int(7), "Expecting bytes, got Int"),
+const BYTES: [(&str, Given, &str); 5] = [
+    ("bytes", Given::Text("ab"), "ab"),
+    ("bytes", Given::Text("é"), "é"),
+    ("bytes", Given::Nothing, ""),
+    ("bytes", Given::Int(7), "Expecting bytes, got Int"),
     (
+        "bytes",
         Given::Wrong(CellErrorType::Null),
         "Cell error at position '(1, 0)': #NULL!",
     ),
 ];
 
-#[test]
-fn reads_bytes(rt: HostRuntime) -> Result<(), Fail> {
-    let alloc = rt.alloc();
-    for (given, wanted) in BYTES.iter() {
-        let read = bytes_as_text(alloc, &cell_of(alloc, given)?)?;
-        assert_eq!(rt; read.as_str(), *wanted);
-    }
-    Ok(())
-}
-
-// `nothing`, or the text of the refusal.
-fn unit_as_text<T: ReadCell>(alloc: Global, cell: &T) -> Result<String, AllocError> {
-    match cell.read_unit(alloc, POS) {
-        Ok(()) => String::from_str(alloc, "nothing"),
-        Err(refusal) => shown::<u8>(alloc, Err(refusal)),
-    }
-}
-
-const UNITS: [(Given, &str); 4] = [
-    (Given::Nothing, "nothing"),
-    (Given::Text(""), "Expecting unit, got String"),
+const UNITS: [(&str, Given, &str); 4] = [
+    ("unit", Given::Nothing, "nothing"),
+    ("unit", Given::Text(""), "Expecting unit, got String"),
     (
+        "unit",
         Given::Date(Number::Whole(0)),
         "Expecting unit, got DateTime",
     ),
     (
+        "unit",
         Given::Wrong(CellErrorType::Value),
         "Cell error at position '(1, 0)': #VALUE!",
     ),
 ];
 
 #[test]
-fn reads_nothing(rt: HostRuntime) -> Result<(), Fail> {
-    let alloc = rt.alloc();
-    for (given, wanted) in UNITS.iter() {
-        let read = unit_as_text(alloc, &cell_of(alloc, given)?)?;
-        assert_eq!(rt; read.as_str(), *wanted);
-    }
+fn reads_values(rt: HostRuntime) -> Result<(), Fail> {
+    assert_eq!(rt; wrong_case(rt.alloc(), &TRUTHS)?, None);
+    assert_eq!(rt; wrong_case(rt.alloc(), &CHARACTERS)?, None);
+    assert_eq!(rt; wrong_case(rt.alloc(), &TEXTS)?, None);
+    assert_eq!(rt; wrong_case(rt.alloc(), &ENUM_NAMES)?, None);
+    assert_eq!(rt; wrong_case(rt.alloc(), &BYTES)?, None);
+    assert_eq!(rt; wrong_case(rt.alloc(), &UNITS)?, None);
     Ok(())
 }
 
@@ -203,8 +162,12 @@ fn copy_of<T: ReadCell>(alloc: Global, cell: &T) -> Result<Data, DeError> {
     cell.read_data(alloc, POS)
 }
 
+fn is_there<T: ReadCell>(cell: &T) -> bool {
+    cell.read_option().is_some() && !cell.is_empty()
+}
+
 #[test]
-fn reads_copies(rt: HostRuntime) -> Result<(), Fail> {
+fn reads_copies_and_tells_empty_cells(rt: HostRuntime) -> Result<(), Fail> {
     let alloc = rt.alloc();
     for (given, wanted) in COPIES.iter() {
         let copy = copy_of(alloc, &cell_of(alloc, given)?)?;
@@ -215,16 +178,6 @@ fn reads_copies(rt: HostRuntime) -> Result<(), Fail> {
         shown(alloc, refused)?.as_str(),
         "Cell error at position '(1, 0)': #N/A"
     );
-    Ok(())
-}
-
-fn is_there<T: ReadCell>(cell: &T) -> bool {
-    cell.read_option().is_some() && !cell.is_empty()
-}
-
-#[test]
-fn tells_empty_cells(rt: HostRuntime) -> Result<(), Fail> {
-    let alloc = rt.alloc();
     assert!(rt; Data::Empty.read_option().is_none());
     assert!(rt; ReadCell::is_empty(&Data::Empty));
     assert!(rt; is_there(&text(alloc, "")?));
@@ -259,19 +212,12 @@ fn loose_or_text<T: ReadCell>(alloc: Global, cell: &T) -> Result<Result<i64, Str
 }
 
 #[test]
-fn takes_cells_for_whole_numbers(rt: HostRuntime) -> Result<(), Fail> {
-    let alloc = rt.alloc();
-    for (given, number, _) in LOOSE.iter() {
-        assert_eq!(rt; loose(alloc, &cell_of(alloc, given)?)?, *number);
-    }
-    Ok(())
-}
-
-#[test]
 fn takes_cells_for_whole_numbers_or_texts(rt: HostRuntime) -> Result<(), Fail> {
     let alloc = rt.alloc();
     for (given, number, printed) in LOOSE.iter() {
-        match loose_or_text(alloc, &cell_of(alloc, given)?)? {
+        let cell = cell_of(alloc, given)?;
+        assert_eq!(rt; loose(alloc, &cell)?, *number);
+        match loose_or_text(alloc, &cell)? {
             Ok(n) => assert_eq!(rt; Some(n), *number),
             Err(text) => {
                 assert_eq!(rt; None, *number);

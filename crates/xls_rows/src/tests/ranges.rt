@@ -56,51 +56,69 @@ fn rows_of<'c, T: ReadCell, D: FromRow>(
     deserialize(alloc, range)
 }
 
-// The text of the next refusal; `no refusal` for an answer.
-fn next_refusal<T: ReadCell, D: FromRow + Drop>(
+// How many rows are left before each row, and its texts, each with a bar after it, or the text of
+// its refusal.
+fn listing<T: ReadCell>(
     alloc: Global,
-    rows: &mut RangeDeserializer<'_, T, D>,
+    rows: Result<RangeDeserializer<'_, T, Vec<String>>, DeError>,
 ) -> Result<String, Fail> {
-    match rows.next() {
-        Some(Err(refusal)) => Ok(shown::<u8>(alloc, Err(refusal))?),
-        _ => Ok(String::from_str(alloc, "no refusal")?),
+    let mut rows = match rows {
+        Ok(rows) => rows,
+        Err(refusal) => return Ok(shown::<u8>(alloc, Err(refusal))?),
+    };
+    let mut text = String::new(alloc);
+    for _ in 0..4 {
+        let (least, most) = rows.size_hint();
+        if most != Some(least) {
+            text.push_str("?")?;
+        }
+        write!(text, "{least}:")?;
+        match rows.next() {
+            None => break,
+            Some(Ok(texts)) => {
+                for cell in &texts {
+                    write!(text, "{cell}|")?;
+                }
+            }
+            Some(Err(refusal)) => {
+                let printed = shown::<u8>(alloc, Err(refusal))?;
+                text.push_str(printed.as_str())?;
+            }
+        }
+        text.push_str(" ")?;
+    }
+    Ok(text)
+}
+
+// A range of a case.
+enum Source {
+    Empty,
+    Blank,
+    Ledger,
+    Table,
+    WrongHeaders,
+}
+
+fn range_of(alloc: Global, source: &Source) -> Result<Range<Data>, Fail> {
+    match source {
+        Source::Empty => Ok(Range::empty(alloc)),
+        Source::Blank => Ok(Range::new(alloc, (0, 0), (2, 1))?),
+        Source::Ledger => ledger(alloc),
+        Source::Table => table(alloc),
+        Source::WrongHeaders => {
+            let mut range = table(alloc)?;
+            range.set_value((3, 3), Data::Error(CellErrorType::Num))?;
+            Ok(range)
+        }
     }
 }
 
-// The text of the refusal of a range's rows; `rows` where there are some.
-fn refusal_of<'c, T>(
-    alloc: Global,
-    rows: Result<RangeDeserializer<'c, T, Vec<Data>>, DeError>,
-) -> Result<String, Fail> {
-    match rows {
-        Ok(_) => Ok(String::from_str(alloc, "rows")?),
-        Err(refusal) => Ok(shown::<u8>(alloc, Err(refusal))?),
-    }
-}
-
-#[test]
-fn gives_no_rows_of_an_empty_range(rt: HostRuntime) -> Result<(), Fail> {
-    let none: Range<Data> = Range::empty(rt.alloc());
-    let rows: RangeDeserializer<'_, Data, Vec<Data>> = rows_of(rt.alloc(), &none)?;
-    assert_eq!(rt; rows.size_hint().0, 0);
-    let wanted = strings(rt.alloc(), &["c"])?;
-    let rows: RangeDeserializer<'_, Data, Vec<Data>> = by_headers(
-        rt.alloc(),
-        &none,
-        wanted.as_slice(),
-    )?;
-    assert_eq!(rt; rows.size_hint(), (0, Some(0)));
-    Ok(())
-}
-
-#[test]
-fn counts_the_rows_behind_the_headers(rt: HostRuntime) -> Result<(), Fail> {
-    let range: Range<Data> = Range::new(rt.alloc(), (0, 0), (2, 1))?;
-    let mut rows: RangeDeserializer<'_, Data, Vec<Data>> = rows_of(rt.alloc(), &range)?;
-    assert_eq!(rt; rows.size_hint(), (2, Some(2)));
-    let _first = rows.next();
-    assert_eq!(rt; rows.size_hint(), (1, Some(1)));
-    Ok(())
+// How the rows of a case are asked for.
+enum Choice {
+    Deserialize,
+    Headers,
+    NoHeaders,
+    Wanted(&'static [&'static str]),
 }
 
 // What `has_headers` chose is known of the builder when the borrow is over.
@@ -112,105 +130,65 @@ fn builder_without_headers() -> RangeDeserializerBuilder<'static>
     builder
 }
 
-#[test]
-fn counts_all_rows_without_headers(rt: HostRuntime) -> Result<(), Fail> {
-    let range: Range<Data> = Range::new(rt.alloc(), (0, 0), (2, 1))?;
-    let mut builder = builder_without_headers();
-    let rows: RangeDeserializer<'_, Data, Vec<Data>> = builder.from_range(rt.alloc(), &range)?;
-    assert_eq!(rt; rows.size_hint().0, 3);
-    let rows: RangeDeserializer<'_, Data, Vec<Data>> = builder
-        .has_headers(true)
-        .from_range(rt.alloc(), &range)?;
-    assert_eq!(rt; rows.size_hint().0, 2);
-    Ok(())
-}
-
-#[test]
-fn names_a_missing_header_trimmed(rt: HostRuntime) -> Result<(), Fail> {
-    let alloc = rt.alloc();
-    let range = ledger(alloc)?;
-    let wanted = strings(alloc, &["b", " c ", "d"])?;
-    let rows = by_headers(alloc, &range, wanted.as_slice());
-    assert_eq!(rt;
-        refusal_of(alloc, rows)?.as_str(),
-        "Cannot find header named 'c'"
-    );
-    Ok(())
-}
-
-#[test]
-fn refuses_an_error_among_the_headers(rt: HostRuntime) -> Result<(), Fail> {
-    let alloc = rt.alloc();
-    let mut range = table(alloc)?;
-    range.set_value((3, 3), Data::Error(CellErrorType::Num))?;
-    let wanted = strings(alloc, &["c"])?;
-    let rows = by_headers(alloc, &range, wanted.as_slice());
-    assert_eq!(rt;
-        refusal_of(alloc, rows)?.as_str(),
-        "Cell error at position '(3, 2)': #NUM!"
-    );
-    Ok(())
-}
-
-#[test]
-fn names_an_error_cell_by_its_row(rt: HostRuntime) -> Result<(), Fail> {
-    let alloc = rt.alloc();
-    let range = ledger(alloc)?;
-    let mut rows: RangeDeserializer<'_, Data, Vec<String>> = rows_of(alloc, &range)?;
-    assert_eq!(rt;
-        next_refusal(alloc, &mut rows)?.as_str(),
-        "Cell error at position '(1, 0)': #N/A"
-    );
-    Ok(())
-}
-
-#[test]
-fn goes_on_behind_a_refused_row(rt: HostRuntime) -> Result<(), Fail> {
-    let alloc = rt.alloc();
-    let range = table(alloc)?;
-    let mut rows: RangeDeserializer<'_, Data, Vec<String>> = rows_of(alloc, &range)?;
-    assert_eq!(rt;
-        next_refusal(alloc, &mut rows)?.as_str(),
-        "Cell error at position '(4, 2)': #N/A"
-    );
-    match rows.next() {
-        Some(texts) => assert!(rt; texts? == strings(alloc, &["7", "x"])?),
-        None => assert!(rt; false, "no row"),
+fn answer(alloc: Global, range: &Range<Data>, choice: &Choice) -> Result<String, Fail> {
+    match choice {
+        Choice::Deserialize => listing(alloc, rows_of(alloc, range)),
+        Choice::Headers => {
+            let mut builder = builder_without_headers();
+            listing(alloc, builder.has_headers(true).from_range(alloc, range))
+        }
+        Choice::NoHeaders => listing(alloc, builder_without_headers().from_range(alloc, range)),
+        Choice::Wanted(texts) => {
+            let headers = strings(alloc, texts)?;
+            listing(alloc, by_headers(alloc, range, headers.as_slice()))
+        }
     }
-    assert!(rt; rows.next().is_none());
-    Ok(())
 }
 
+const CASES: [(Source, Choice, &str); 11] = [
+    (Source::Empty, Choice::Deserialize, "0:"),
+    (Source::Empty, Choice::Wanted(&["c"]), "0:"),
+    (Source::Blank, Choice::Deserialize, "2:|| 1:|| 0:"),
+    (Source::Blank, Choice::NoHeaders, "3:|| 2:|| 1:|| 0:"),
+    (Source::Blank, Choice::Headers, "2:|| 1:|| 0:"),
+    (
+        Source::Ledger,
+        Choice::Wanted(&["b", " c ", "d"]),
+        "Cannot find header named 'c'",
+    ),
+    (
+        Source::WrongHeaders,
+        Choice::Wanted(&["c"]),
+        "Cell error at position '(3, 2)': #NUM!",
+    ),
+    (
+        Source::Ledger,
+        Choice::Deserialize,
+        "1:Cell error at position '(1, 0)': #N/A 0:",
+    ),
+    (
+        Source::Table,
+        Choice::Deserialize,
+        "2:Cell error at position '(4, 2)': #N/A 1:7|x| 0:",
+    ),
+    (
+        Source::Table,
+        Choice::Wanted(&["b", "a "]),
+        "2:Cell error at position '(4, 2)': #N/A 1:x|7| 0:",
+    ),
+    (
+        Source::Table,
+        Choice::NoHeaders,
+        "3:a| b | 2:Cell error at position '(4, 2)': #N/A 1:7|x| 0:",
+    ),
+];
+
 #[test]
-fn reads_the_columns_of_wanted_headers(rt: HostRuntime) -> Result<(), Fail> {
+fn reads_ranges_as_rows(rt: HostRuntime) -> Result<(), Fail> {
     let alloc = rt.alloc();
-    let range = table(alloc)?;
-    let wanted = strings(alloc, &["b", "a "])?;
-    let mut rows: RangeDeserializer<'_, Data, Vec<String>> = by_headers(
-        alloc,
-        &range,
-        wanted.as_slice(),
-    )?;
-    assert_eq!(rt; rows.size_hint().0, 2);
-    let _refused = rows.next();
-    match rows.next() {
-        Some(texts) => assert!(rt; texts? == strings(alloc, &["x", "7"])?),
-        None => assert!(rt; false, "no row"),
+    for (source, choice, wanted) in CASES.iter() {
+        let range = range_of(alloc, source)?;
+        assert_eq!(rt; answer(alloc, &range, choice)?.as_str(), *wanted);
     }
-    Ok(())
-}
-
-#[test]
-fn gives_positions_without_headers(rt: HostRuntime) -> Result<(), Fail> {
-    let alloc = rt.alloc();
-    let range = table(alloc)?;
-    let mut rows: RangeDeserializer<'_, Data, Vec<Data>> = RangeDeserializerBuilder::new()
-        .has_headers(false)
-        .from_range(alloc, &range)?;
-    let _headers = rows.next();
-    assert_eq!(rt;
-        next_refusal(alloc, &mut rows)?.as_str(),
-        "Cell error at position '(4, 2)': #N/A"
-    );
     Ok(())
 }

@@ -1,36 +1,86 @@
 //! Cells as whole numbers of the eight types.
 
-use super::{Given, cell_of, read_as, text};
+use super::{Given, wrong_case};
 use std::test::Fail;
-use xls_data::{CellErrorType, Data, Number};
+use xls_data::{CellErrorType, Number};
 
-// A type's name, the number below its least, its least, its greatest, and the number above.
-const TYPES: [(&str, &str, &str, &str, &str); 8] = [
-    ("i8", "-129", "-128", "127", "128"),
-    ("i16", "-32769", "-32768", "32767", "32768"),
+// For each type 7, the number below its least, its least, its greatest, and the number above.
+const ENDS: [(&str, Given, &str); 40] = [
+    ("i8", Given::Int(7), "7"),
+    ("i8", Given::Text("-129"), "Expecting i8, got '-129'"),
+    ("i8", Given::Text("-128"), "-128"),
+    ("i8", Given::Text("127"), "127"),
+    ("i8", Given::Text("128"), "Expecting i8, got '128'"),
+    ("i16", Given::Int(7), "7"),
+    ("i16", Given::Text("-32769"), "Expecting i16, got '-32769'"),
+    ("i16", Given::Text("-32768"), "-32768"),
+    ("i16", Given::Text("32767"), "32767"),
+    ("i16", Given::Text("32768"), "Expecting i16, got '32768'"),
+    ("i32", Given::Int(7), "7"),
     (
         "i32",
-        "-2147483649",
-        "-2147483648",
-        "2147483647",
-        "2147483648",
+        Given::Text("-2147483649"),
+        "Expecting i32, got '-2147483649'",
+    ),
+    ("i32", Given::Text("-2147483648"), "-2147483648"),
+    ("i32", Given::Text("2147483647"), "2147483647"),
+    (
+        "i32",
+        Given::Text("2147483648"),
+        "Expecting i32, got '2147483648'",
+    ),
+    ("i64", Given::Int(7), "7"),
+    (
+        "i64",
+        Given::Text("-9223372036854775809"),
+        "Expecting i64, got '-9223372036854775809'",
     ),
     (
         "i64",
-        "-9223372036854775809",
+        Given::Text("-9223372036854775808"),
         "-9223372036854775808",
-        "9223372036854775807",
-        "9223372036854775808",
     ),
-    ("u8", "-1", "0", "255", "256"),
-    ("u16", "-1", "0", "65535", "65536"),
-    ("u32", "-1", "0", "4294967295", "4294967296"),
+    (
+        "i64",
+        Given::Text("9223372036854775807"),
+        "9223372036854775807",
+    ),
+    (
+        "i64",
+        Given::Text("9223372036854775808"),
+        "Expecting i64, got '9223372036854775808'",
+    ),
+    ("u8", Given::Int(7), "7"),
+    ("u8", Given::Text("-1"), "Expecting u8, got '-1'"),
+    ("u8", Given::Text("0"), "0"),
+    ("u8", Given::Text("255"), "255"),
+    ("u8", Given::Text("256"), "Expecting u8, got '256'"),
+    ("u16", Given::Int(7), "7"),
+    ("u16", Given::Text("-1"), "Expecting u16, got '-1'"),
+    ("u16", Given::Text("0"), "0"),
+    ("u16", Given::Text("65535"), "65535"),
+    ("u16", Given::Text("65536"), "Expecting u16, got '65536'"),
+    ("u32", Given::Int(7), "7"),
+    ("u32", Given::Text("-1"), "Expecting u32, got '-1'"),
+    ("u32", Given::Text("0"), "0"),
+    ("u32", Given::Text("4294967295"), "4294967295"),
+    (
+        "u32",
+        Given::Text("4294967296"),
+        "Expecting u32, got '4294967296'",
+    ),
+    ("u64", Given::Int(7), "7"),
+    ("u64", Given::Text("-1"), "Expecting u64, got '-1'"),
+    ("u64", Given::Text("0"), "0"),
     (
         "u64",
-        "-1",
-        "0",
+        Given::Text("18446744073709551615"),
         "18446744073709551615",
-        "18446744073709551616",
+    ),
+    (
+        "u64",
+        Given::Text("18446744073709551616"),
+        "Expecting u64, got '18446744073709551616'",
     ),
 ];
 
@@ -128,64 +178,9 @@ const OTHERS: [(&str, Given, &str); 16] = [
 ];
 
 #[test]
-fn reads_seven_as_each_type(rt: HostRuntime) -> Result<(), Fail> {
-    let alloc = rt.alloc();
-    for (name, _, _, _, _) in TYPES.iter() {
-        assert_eq!(rt; read_as(alloc, name, &Data::Int(7))?.as_str(), "7");
-    }
-    Ok(())
-}
-
-#[test]
-fn reads_the_ends_of_each_type(rt: HostRuntime) -> Result<(), Fail> {
-    let alloc = rt.alloc();
-    for (name, _, least, greatest, _) in TYPES.iter() {
-        assert_eq!(rt;
-            read_as(alloc, name, &text(alloc, least)?)?.as_str(),
-            *least
-        );
-        assert_eq!(rt;
-            read_as(alloc, name, &text(alloc, greatest)?)?.as_str(),
-            *greatest
-        );
-    }
-    Ok(())
-}
-
-#[test]
-fn refuses_beyond_the_ends_of_each_type(rt: HostRuntime) -> Result<(), Fail> {
-    let alloc = rt.alloc();
-    for (name, below, _, _, above) in TYPES.iter() {
-        let wanted = format!(in alloc; "Expecting {name}, got '{below}'")?;
-        assert_eq!(rt;
-            read_as(alloc, name, &text(alloc, below)?)?.as_str(),
-            wanted.as_str()
-        );
-        let wanted = format!(in alloc; "Expecting {name}, got '{above}'")?;
-        assert_eq!(rt;
-            read_as(alloc, name, &text(alloc, above)?)?.as_str(),
-            wanted.as_str()
-        );
-    }
-    Ok(())
-}
-
-#[test]
-fn reads_numbers_within_the_type(rt: HostRuntime) -> Result<(), Fail> {
-    let alloc = rt.alloc();
-    for (name, given, wanted) in NUMBERS.iter() {
-        let read = read_as(alloc, name, &cell_of(alloc, given)?)?;
-        assert_eq!(rt; read.as_str(), *wanted);
-    }
-    Ok(())
-}
-
-#[test]
-fn reads_texts_and_no_other_kinds(rt: HostRuntime) -> Result<(), Fail> {
-    let alloc = rt.alloc();
-    for (name, given, wanted) in OTHERS.iter() {
-        let read = read_as(alloc, name, &cell_of(alloc, given)?)?;
-        assert_eq!(rt; read.as_str(), *wanted);
-    }
+fn reads_whole_numbers(rt: HostRuntime) -> Result<(), Fail> {
+    assert_eq!(rt; wrong_case(rt.alloc(), &ENDS)?, None);
+    assert_eq!(rt; wrong_case(rt.alloc(), &NUMBERS)?, None);
+    assert_eq!(rt; wrong_case(rt.alloc(), &OTHERS)?, None);
     Ok(())
 }
