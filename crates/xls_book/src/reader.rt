@@ -29,6 +29,12 @@ pub trait Reader: Sized {
     /// What a workbook shows.
     ghost shows: { Self → Workbook };
 
+    /// Why a look-up by a name is refused, where this is shown of the name.
+    ghost refuses: { Option SheetView → List ℕ → Self.Error → Type 0 };
+
+    /// That memory ran out.
+    ghost runs_out: { Self.Error → Type 0 };
+
     /// What opening answers of a source that had and has this left, with the count of its faults
     /// before and after.
     ghost opens: { Option (List ℕ) → Option (List ℕ) → ℕ → ℕ → Result Self Self.Error → Type 0 };
@@ -57,32 +63,43 @@ pub trait Reader: Sized {
 
     /// The names of the sheets, in workbook order.
     fn sheet_names(&self, alloc: Global) -> Result<Vec<String>, Self::Error>
-        ensures { IfOk result (λ names. map text_of names.items ≡ names_in (shows self.now)) };
+        ensures names { IfOk result (λ names. map text_of names.items ≡ names_in (shows self.now)) }
+        ensures refused { IfErr result runs_out };
 
     /// The range of the last sheet of a name, from the header row on: the smallest box with its cells,
-    /// blanks elsewhere.
+    /// blanks elsewhere. It is refused exactly where no sheet has the name, or where memory runs out.
     fn worksheet_range(&self, alloc: Global, name: &str) -> Result<Range<Data>, Self::Error>
-        ensures { IfOk result (λ range. IfSome (view_named (shows self.now) (chars name.now)) (λ view.
-            IsRange ⟦<Data as PartialEq>⟧.eq is_nothing (shows self.now).options.header_row view.cells range)) };
+        ensures range { IfOk result (λ range. (view : SheetView)
+            × (view_named (shows self.now) (chars name.now) ≡ Some view)
+            × IsRange ⟦<Data as PartialEq>⟧.eq is_nothing (shows self.now).options.header_row view.cells range) }
+        ensures refused { IfErr result (refuses (view_named (shows self.now) (chars name.now)) name.now) };
 
     /// Each name once, in the order of its bytes, with the smallest box of the cells of its last sheet;
     /// the header row is ignored.
     fn worksheets(&self, alloc: Global) -> Result<Vec<(String, Range<Data>)>, Self::Error>
-        ensures { IfOk result (λ list.
-            AreWorksheets ⟦<Data as PartialEq>⟧.eq is_nothing (view_named (shows self.now)) (shows self.now).sheets list.items) };
+        ensures ranges { IfOk result (λ list.
+            AreWorksheets ⟦<Data as PartialEq>⟧.eq is_nothing (view_named (shows self.now)) (shows self.now).sheets list.items) }
+        ensures refused { IfErr result runs_out };
 
     /// The range of the formula texts of the last sheet of a name: the smallest box with all of them,
-    /// the empty ones too, and empty texts elsewhere. The header row is ignored.
+    /// the empty ones too, and empty texts elsewhere. The header row is ignored. It is refused exactly
+    /// where no sheet has the name, or where memory runs out.
     fn worksheet_formula(&self, alloc: Global, name: &str) -> Result<Range<String>, Self::Error>
-        ensures { IfOk result (λ range. IfSome (view_named (shows self.now) (chars name.now)) (λ view.
-            IsTextBox ⟦<String as PartialEq>⟧.eq is_empty_text view.formulas range)) };
+        ensures range { IfOk result (λ range. (view : SheetView)
+            × (view_named (shows self.now) (chars name.now) ≡ Some view)
+            × IsTextBox ⟦<String as PartialEq>⟧.eq is_empty_text view.formulas range) }
+        ensures refused { IfErr result (refuses (view_named (shows self.now) (chars name.now)) name.now) };
 
     /// The range of the name of the sheet at an index. `None` exactly where no sheet has the index.
     fn worksheet_range_at(
         &self,
         alloc: Global,
         n: usize,
-    ) -> Option<Result<Range<Data>, Self::Error>>;
+    ) -> Option<Result<Range<Data>, Self::Error>>
+        ensures { MatchOption result (length (shows self.now).contents ≤ n) (λ answer.
+            (view : SheetView) × (slice_get (shows self.now).contents n ≡ Some view)
+            × IfOk answer (IsRange ⟦<Data as PartialEq>⟧.eq is_nothing (shows self.now).options.header_row view.cells)
+            × IfErr answer runs_out) };
 }
 
 /// Opens a workbook by `Reader::new`, whose relation it promises.
@@ -112,6 +129,10 @@ impl Reader for Xls {
 
     ghost shows = { λ book. book };
 
+    ghost refuses = { NameCause };
+
+    ghost runs_out = { λ e. e ≡ XlsError.Memory };
+
     ghost opens = { Opens default_options };
 
     fn new<S: Source>(alloc: Global, source: &mut S) -> Result<Self, XlsError> {
@@ -136,19 +157,12 @@ impl Reader for Xls {
         self.names()
     }
 
-    fn sheet_names(&self, alloc: Global) -> Result<Vec<String>, XlsError>
-        ensures names { IfOk result (λ names. map text_of names.items ≡ names_in self.now) }
-        ensures refused { IfErr result (λ e. e ≡ XlsError.Memory) }
-    {
+    fn sheet_names(&self, alloc: Global) -> Result<Vec<String>, XlsError> {
         Ok(names_of(alloc, self.sheets())?)
     }
 
     /// `WorksheetNotFound` exactly where no sheet has the name, `Memory`.
-    fn worksheet_range(&self, alloc: Global, name: &str) -> Result<Range<Data>, XlsError>
-        ensures range { IfOk result (λ range. (view : SheetView) × (view_named self.now (chars name.now) ≡ Some view)
-            × IsRange ⟦<Data as PartialEq>⟧.eq is_nothing self.now.options.header_row view.cells range) }
-        ensures refused { IfErr result (NameCause (view_named self.now (chars name.now)) name.now) }
-    {
+    fn worksheet_range(&self, alloc: Global, name: &str) -> Result<Range<Data>, XlsError> {
         match self.content_named(name) {
             Some(content) => Ok(range_of(alloc, content, self.options().header_row)?),
             None => Err(not_found(alloc, name)),
@@ -156,20 +170,12 @@ impl Reader for Xls {
     }
 
     /// Answers `Memory` alone.
-    fn worksheets(&self, alloc: Global) -> Result<Vec<(String, Range<Data>)>, XlsError>
-        ensures ranges { IfOk result (λ list.
-            AreWorksheets ⟦<Data as PartialEq>⟧.eq is_nothing (view_named self.now) self.now.sheets list.items) }
-        ensures refused { IfErr result (λ e. e ≡ XlsError.Memory) }
-    {
+    fn worksheets(&self, alloc: Global) -> Result<Vec<(String, Range<Data>)>, XlsError> {
         Ok(self.named_boxes(alloc)?)
     }
 
     /// `WorksheetNotFound` exactly where no sheet has the name, `Memory`.
-    fn worksheet_formula(&self, alloc: Global, name: &str) -> Result<Range<String>, XlsError>
-        ensures range { IfOk result (λ range. (view : SheetView) × (view_named self.now (chars name.now) ≡ Some view)
-            × IsTextBox ⟦<String as PartialEq>⟧.eq is_empty_text view.formulas range) }
-        ensures refused { IfErr result (NameCause (view_named self.now (chars name.now)) name.now) }
-    {
+    fn worksheet_formula(&self, alloc: Global, name: &str) -> Result<Range<String>, XlsError> {
         match self.content_named(name) {
             Some(content) => Ok(text_box_of(alloc, content)?),
             None => Err(not_found(alloc, name)),
@@ -177,12 +183,7 @@ impl Reader for Xls {
     }
 
     /// Never `WorksheetNotFound`.
-    fn worksheet_range_at(&self, alloc: Global, n: usize) -> Option<Result<Range<Data>, XlsError>>
-        ensures { MatchOption result (length self.now.contents ≤ n) (λ answer.
-            (view : SheetView) × (slice_get self.now.contents n ≡ Some view)
-            × IfOk answer (IsRange ⟦<Data as PartialEq>⟧.eq is_nothing self.now.options.header_row view.cells)
-            × IfErr answer (λ e. e ≡ XlsError.Memory)) }
-    {
+    fn worksheet_range_at(&self, alloc: Global, n: usize) -> Option<Result<Range<Data>, XlsError>> {
         match self.content_at(n) {
             Some(content) => Some(range_of(alloc, content, self.options().header_row).map_err(
                 |_| XlsError::Memory,
