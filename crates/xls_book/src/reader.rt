@@ -7,6 +7,7 @@ ghost use Rattle.std.specs.Str.{chars};
 ghost use Rattle.xls_data.specs.Sheets.{SheetContent, sheet_content};
 ghost use Rattle.xls_data.specs.declared.regions.HeaderRow.TheVariants.{FirstNonEmptyRow};
 ghost use Rattle.xls_strings.specs.Texts.{text_of};
+ghost use Rattle.xls_strings.specs.declared.error.XlsError.TheVariants.{Memory};
 ghost use Rattle.xls_reading.specs.Reading.{SheetView};
 ghost use Rattle.xls_open.specs.Workbook.{Workbook, told_of, view_named};
 ghost use Rattle.xls_book.specs.LookUps.{AreWorksheets, IsRange, IsTextBox, NameCause, is_empty_text, names_in, under_header};
@@ -131,7 +132,7 @@ impl Reader for Xls {
 
     ghost refuses = { NameCause };
 
-    ghost runs_out = { λ e. e ≡ XlsError.Memory };
+    ghost runs_out = { λ e. e ≡ Memory };
 
     ghost opens = { Opens default_options };
 
