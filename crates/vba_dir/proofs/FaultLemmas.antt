@@ -1,6 +1,5 @@
 -- Refusals of a directory.
 use Rattle.std.proofs.Common.{◌≡◌, ℕ, List, refl}
-use Rattle.std.specs.String.{string_bytes}
 use Rattle.xls_vba.specs.declared.error.VbaError.{VbaError}
 use Rattle.xls_vba.specs.declared.error.VbaError.TheVariants as errors
 use Rattle.xls_vba.specs.Directory.{IsFault, FailsIn}

@@ -1,4 +1,4 @@
-use Rattle.std.proofs.Common.{rules, OnOk}
+use Rattle.std.proofs.Common.{rules}
 use Rattle.xls_bytes.proofs.GrownLemmas.{IsGrown-split}
 use Rattle.xls_bytes.proofs.EscapeLemmas.{escaped_text-chars}
 use Rattle.xls_bytes.proofs.escapes.push_escaped.Goals as goal
