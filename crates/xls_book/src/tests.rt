@@ -6,7 +6,6 @@ use xls_data::{Sheet, SheetType, SheetVisible};
 mod check;
 mod formulas;
 mod globals;
-mod ledger;
 mod lookups;
 mod parts;
 mod sources;
@@ -46,13 +45,8 @@ fn whole(row: u8, column: u8, n: u8) -> [u8; 14] {
 // MergeCells of the one region from (0, 1) to (2, 3).
 const MERGE: [u8; 14] = [0xE5, 0, 10, 0, 1, 0, 0, 0, 2, 0, 1, 0, 3, 0];
 
-// BOF of the globals, BoundSheet8 of `A` at 25, EOF; BOF of the sheet, a Number of 3 at (0, 0), EOF.
-const THREE: [u8; 55] = [
-    0x09, 0x08, 0x04, 0x00, 0x00, 0x06, 0x05, 0x00, 0x85, 0x00, 0x09, 0x00, 0x19, 0x00, 0x00, 0x00,
-    0x00, 0x00, 0x01, 0x00, 0x41, 0x0A, 0x00, 0x00, 0x00, 0x09, 0x08, 0x04, 0x00, 0x00, 0x06, 0x10,
-    0x00, 0x03, 0x02, 0x0E, 0x00, 0x00, 0x00, 0x00, 0x00, 0x00, 0x00, 0x00, 0x00, 0x00, 0x00, 0x00,
-    0x00, 0x08, 0x40, 0x0A, 0x00, 0x00, 0x00,
-];
+// RK of 12,345 hundredths at (0, 0).
+const HUNDREDTHS: [u8; 14] = [0x7E, 0x02, 10, 0, 0, 0, 0, 0, 0, 0, 0xE7, 0xC0, 0, 0];
 
 fn joined(alloc: Global, parts: &[&[u8]]) -> Result<Vec<u8>, AllocError> {
     let mut bytes = Vec::new(alloc);
@@ -60,6 +54,11 @@ fn joined(alloc: Global, parts: &[&[u8]]) -> Result<Vec<u8>, AllocError> {
         bytes.extend_from_slice(part)?;
     }
     Ok(bytes)
+}
+
+// A stream of 51 bytes: one sheet with the one number.
+fn plain(alloc: Global) -> Result<Vec<u8>, AllocError> {
+    joined(alloc, &[&G, &bound(25), &E, &S, &HUNDREDTHS, &E])
 }
 
 fn open_under(alloc: Global, bytes: &[u8], options: XlsOptions) -> Result<Xls, XlsError> {

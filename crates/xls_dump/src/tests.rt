@@ -9,48 +9,64 @@ use xls_book::{MemorySource, SteadySource};
 
 mod ledger;
 
-// BOF of the globals, BoundSheet8 of `A` at 25, EOF; BOF of the sheet, a Number of 3 at (0, 0), EOF.
-const THREE: [u8; 55] = [
-    0x09, 0x08, 0x04, 0x00, 0x00, 0x06, 0x05, 0x00, 0x85, 0x00, 0x09, 0x00, 0x19, 0x00, 0x00, 0x00,
-    0x00, 0x00, 0x01, 0x00, 0x41, 0x0A, 0x00, 0x00, 0x00, 0x09, 0x08, 0x04, 0x00, 0x00, 0x06, 0x10,
-    0x00, 0x03, 0x02, 0x0E, 0x00, 0x00, 0x00, 0x00, 0x00, 0x00, 0x00, 0x00, 0x00, 0x00, 0x00, 0x00,
-    0x00, 0x08, 0x40, 0x0A, 0x00, 0x00, 0x00,
+// BOF of the globals and of a sheet in BIFF8, and EOF.
+const GLOBALS: [u8; 8] = [0x09, 0x08, 4, 0, 0, 6, 5, 0];
+
+const SHEET: [u8; 8] = [0x09, 0x08, 4, 0, 0, 6, 0x10, 0];
+
+const EOF: [u8; 4] = [0x0A, 0, 0, 0];
+
+// BoundSheet8 of `A` at 25, visible and hidden.
+const A_SHEET: [u8; 13] = [0x85, 0, 9, 0, 25, 0, 0, 0, 0, 0, 1, 0, 0x41];
+
+const A_HIDDEN: [u8; 13] = [0x85, 0, 9, 0, 25, 0, 0, 0, 1, 0, 1, 0, 0x41];
+
+// A Number of 3 at (0, 0).
+const NUMBER_3: [u8; 18] = [
+    0x03, 0x02, 14, 0, 0, 0, 0, 0, 0, 0, 0, 0, 0, 0, 0, 0, 0x08, 0x40,
 ];
+
+// MergeCells of the one region from (0, 1) to (2, 3).
+const MERGED: [u8; 14] = [0xE5, 0, 10, 0, 1, 0, 0, 0, 2, 0, 1, 0, 3, 0];
+
+// A CodePage record of 437, which isn't kept.
+const PAGE_437: [u8; 6] = [0x42, 0, 2, 0, 0xB5, 1];
+
+// Streams by their records.
+const THREE: [&[u8]; 6] = [&GLOBALS, &A_SHEET, &EOF, &SHEET, &NUMBER_3, &EOF];
 
 const THREE_TEXT: &str = "dates\t1900\nsheet\tA\tworksheet\tvisible\ncell\t0\t0\tfloat\t3\n";
 
-// The same without its sheet and the EOF of the globals.
-const NO_SHEET: [u8; 21] = [
-    0x09, 0x08, 0x04, 0x00, 0x00, 0x06, 0x05, 0x00, 0x85, 0x00, 0x09, 0x00, 0x19, 0x00, 0x00, 0x00,
-    0x00, 0x00, 0x01, 0x00, 0x41,
-];
+const NO_SHEET: [&[u8]; 2] = [&GLOBALS, &A_SHEET];
 
-// BOF of the globals, a CodePage record of 437, which isn't kept, EOF.
-const PAGE: [u8; 18] = [
-    9, 8, 4, 0, 0, 6, 5, 0, 0x42, 0, 2, 0, 0xB5, 1, 0x0A, 0, 0, 0,
-];
+const PAGE: [&[u8]; 3] = [&GLOBALS, &PAGE_437, &EOF];
 
-// BOF of the globals, BoundSheet8 of a hidden `A` at 25, EOF; BOF of the sheet, MergeCells of the one
-// region from (0, 1) to (2, 3), EOF.
-const HIDDEN: [u8; 51] = [
-    9, 8, 4, 0, 0, 6, 5, 0, 0x85, 0, 9, 0, 25, 0, 0, 0, 1, 0, 1, 0, 0x41, 0x0A, 0, 0, 0, 9, 8, 4,
-    0, 0, 6, 0x10, 0, 0xE5, 0, 10, 0, 1, 0, 0, 0, 2, 0, 1, 0, 3, 0, 0x0A, 0, 0, 0,
-];
+const HIDDEN: [&[u8]; 6] = [&GLOBALS, &A_HIDDEN, &EOF, &SHEET, &MERGED, &EOF];
 
 // A property stream with a summary section of two properties: the title in page 1252.
-const TITLE: [u8; 95] = [
+const TITLE_STREAM: [u8; 95] = [
     0xFE, 0xFF, 0, 0, 0, 0, 0, 0, 0, 0, 0, 0, 0, 0, 0, 0, 0, 0, 0, 0, 0, 0, 0, 0, 1, 0, 0, 0, 0xE0,
     0x85, 0x9F, 0xF2, 0xF9, 0x4F, 0x68, 0x10, 0xAB, 0x91, 0x08, 0x00, 0x2B, 0x27, 0xB3, 0xD9, 0x30,
     0, 0, 0, 0x2F, 0, 0, 0, 2, 0, 0, 0, 1, 0, 0, 0, 0x18, 0, 0, 0, 2, 0, 0, 0, 0x20, 0, 0, 0, 2, 0,
     0, 0, 0xE4, 0x04, 0, 0, 0x1E, 0, 0, 0, 7, 0, 0, 0, 0xC5, 0x6C, 0x65, 0x73, 0x75, 0x6E, 0x64,
 ];
 
+const TITLE: [&[u8]; 1] = [&TITLE_STREAM];
+
+fn joined(alloc: Global, parts: &[&[u8]]) -> Result<Vec<u8>, AllocError> {
+    let mut bytes = Vec::new(alloc);
+    for part in parts {
+        bytes.extend_from_slice(part)?;
+    }
+    Ok(bytes)
+}
+
 /// A run: the words, what the source gives in which pieces, what the sink takes in which pieces, and
 /// the calls that fail.
 #[derive(Drop)]
 struct Case {
     words: &'static [&'static str],
-    bytes: &'static [u8],
+    parts: &'static [&'static [u8]],
     chunk: usize,
     read_fails: Option<u64>,
     room: usize,
@@ -59,10 +75,10 @@ struct Case {
 }
 
 // A run in which nothing fails.
-fn quiet(words: &'static [&'static str], bytes: &'static [u8]) -> Case {
+fn quiet(words: &'static [&'static str], parts: &'static [&'static [u8]]) -> Case {
     Case {
         words,
-        bytes,
+        parts,
         chunk: 64,
         read_fails: None,
         room: 999,
@@ -91,7 +107,7 @@ fn listed(alloc: Global, call: Option<u64>) -> Result<Vec<u64>, AllocError> {
 fn outcome(alloc: Global, case: &Case) -> Result<(u8, Vec<u8>), AllocError> {
     let words = words_of(alloc, case.words)?;
     let read_fails = listed(alloc, case.read_fails)?;
-    let mut source = MemorySource::new(case.bytes.to_vec(alloc)?, case.chunk.max(1), read_fails);
+    let mut source = MemorySource::new(joined(alloc, case.parts)?, case.chunk.max(1), read_fails);
     let write_fails = listed(alloc, case.write_fails)?;
     let mut sink = MemorySink::new(alloc, case.room, case.write_chunk.max(1), write_fails)?;
     let status = run(alloc, &words, &mut source, &mut sink);
@@ -106,7 +122,7 @@ fn check(rt: &impl Abort, alloc: Global, case: &Case, status: u8, text: &[u8]) -
 }
 
 // Runs in which nothing fails: the words, what the source gives, the status, and what is written.
-const RUNS: [(&[&str], &[u8], u8, &str); 32] = [
+const RUNS: [(&[&str], &[&[u8]], u8, &str); 32] = [
     (&[], &THREE, 0, THREE_TEXT),
     (&["dump"], &THREE, 0, THREE_TEXT),
     (&[], &[], 0, "dates\t1900\n"),
@@ -169,11 +185,11 @@ const RUNS: [(&[&str], &[u8], u8, &str); 32] = [
 
 #[test]
 fn does_what_the_words_ask_for(rt: HostRuntime) -> Result<(), Fail> {
-    for (words, bytes, status, text) in RUNS {
+    for (words, parts, status, text) in RUNS {
         check(
             &rt,
             rt.alloc(),
-            &quiet(words, bytes),
+            &quiet(words, parts),
             status,
             text.as_bytes(),
         )?;
@@ -241,13 +257,13 @@ fn passes_on_what_std_writes(rt: HostRuntime) -> Result<(), Fail> {
 
 // The stream of `THREE`, with a Number of 3 in column 0 of each of so many rows.
 fn many_numbers(alloc: Global, rows: u16) -> Result<Vec<u8>, AllocError> {
-    let mut bytes = THREE[..33].to_vec(alloc)?;
+    let mut bytes = joined(alloc, &[&GLOBALS, &A_SHEET, &EOF, &SHEET])?;
     for row in 0..rows {
-        bytes.extend_from_slice(&[0x03, 0x02, 0x0E, 0x00])?;
+        bytes.extend_from_slice(&NUMBER_3[..4])?;
         bytes.extend_from_slice(&row.to_le_bytes())?;
-        bytes.extend_from_slice(&THREE[39..51])?;
+        bytes.extend_from_slice(&NUMBER_3[6..])?;
     }
-    bytes.extend_from_slice(&THREE[51..])?;
+    bytes.extend_from_slice(&EOF)?;
     Ok(bytes)
 }
 

@@ -136,10 +136,10 @@ fn lists_each_name_once_in_byte_order(rt: HostRuntime) -> Result<(), Fail> {
 #[test]
 fn opens_by_the_trait(rt: HostRuntime) -> Result<(), Fail> {
     let alloc = rt.alloc();
-    let mut source = SteadySource::new(THREE.to_vec(alloc)?);
+    let mut source = SteadySource::new(plain(alloc)?);
     let book: Xls = open_workbook_from_rs(alloc, &mut source)?;
-    assert_eq!(rt; listed(alloc, &book, 0)?.as_str(), "0,0=3 ");
-    let mut again = SteadySource::new(THREE.to_vec(alloc)?);
+    assert_eq!(rt; listed(alloc, &book, 0)?.as_str(), "0,0=123.45 ");
+    let mut again = SteadySource::new(plain(alloc)?);
     let same = <Xls as Reader>::new(alloc, &mut again)?;
     assert_eq!(rt; same.sheets_metadata().len(), 1);
     Ok(())

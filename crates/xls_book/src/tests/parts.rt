@@ -6,9 +6,7 @@ use xls_data::{Data, Number};
 #[test]
 fn shows_the_number_of_the_sheet(rt: HostRuntime) -> Result<(), Fail> {
     let alloc = rt.alloc();
-    // 123.45 as hundredths.
-    let hundredths = [0x7E, 0x02, 10, 0, 0, 0, 0, 0, 0, 0, 0xE7, 0xC0, 0, 0];
-    let book = opened(alloc, &[&G, &bound(25), &E, &S, &hundredths, &E])?;
+    let book = open(alloc, plain(alloc)?.as_slice())?;
     let wanted = Data::Float(Number::Hundredths(12345));
     let shown = book.values_at(0).and_then(|mut values| values.next());
     assert_eq!(rt; shown, Some((0, 0, &wanted)));

@@ -27,9 +27,10 @@ fn up_to(alloc: Global, max_bytes: u64) -> Result<XlsOptions, AllocError> {
 #[test]
 fn a_stream_of_the_limit_is_opened(rt: HostRuntime) -> Result<(), Fail> {
     let alloc = rt.alloc();
-    assert!(rt; open_under(alloc, &THREE, up_to(alloc, 55)?).is_ok());
-    let larger = open_under(alloc, &THREE, up_to(alloc, 54)?);
-    assert!(rt; matches!(larger, Err(XlsError::TooLarge { limit: 54 })));
+    let bytes = plain(alloc)?;
+    assert!(rt; open_under(alloc, bytes.as_slice(), up_to(alloc, 51)?).is_ok());
+    let larger = open_under(alloc, bytes.as_slice(), up_to(alloc, 50)?);
+    assert!(rt; matches!(larger, Err(XlsError::TooLarge { limit: 50 })));
     Ok(())
 }
 
@@ -47,7 +48,7 @@ fn a_failing_read_is_told(rt: HostRuntime) -> Result<(), Fail> {
     let alloc = rt.alloc();
     for call in 0..4 {
         let failing = Vec::from_array(alloc, [call])?;
-        let mut source = MemorySource::new(THREE.to_vec(alloc)?, 16, failing);
+        let mut source = MemorySource::new(plain(alloc)?, 16, failing);
         let answer = read_all(alloc, &mut source, 99).err();
         assert_eq!(rt; answer, Some(XlsError::Io), "call {call}");
     }
@@ -58,18 +59,18 @@ fn a_failing_read_is_told(rt: HostRuntime) -> Result<(), Fail> {
 fn reads_all_in_pieces(rt: HostRuntime) -> Result<(), Fail> {
     let alloc = rt.alloc();
     for chunk in [1, 2, 3, 7, 64] {
-        let mut source = MemorySource::new(THREE.to_vec(alloc)?, chunk, Vec::new(alloc));
-        let bytes = read_all(alloc, &mut source, 55)?;
-        assert_eq!(rt; bytes.as_slice(), THREE.as_slice());
+        let mut source = MemorySource::new(plain(alloc)?, chunk, Vec::new(alloc));
+        let bytes = read_all(alloc, &mut source, 51)?;
+        assert_eq!(rt; bytes.as_slice(), plain(alloc)?.as_slice());
     }
-    let kept = StreamBytes::from_vec(THREE.to_vec(alloc)?);
-    assert_eq!(rt; kept.as_slice(), THREE.as_slice());
+    let kept = StreamBytes::from_vec(plain(alloc)?);
+    assert_eq!(rt; kept.as_slice(), plain(alloc)?.as_slice());
     Ok(())
 }
 
 #[test]
 fn passes_on_what_std_reads(rt: HostRuntime) {
-    let mut source = StdSource::new(Cursor::new(THREE.as_slice()));
+    let mut source = StdSource::new(Cursor::new(G.as_slice()));
     let mut into = [0; 3];
     assert_eq!(rt; source.read(&mut into), Ok(3));
     assert_eq!(rt; into, [9, 8, 4]);
