@@ -4,7 +4,7 @@
     python3 bench/mixed_stream.py > /tmp/mixed.xls-stream
     bench/run /tmp/mixed.xls-stream
 
-With `open` behind it the stream lists a second sheet whose part is missing. The first sheet is then
+With `open` after it the stream lists a second sheet whose part is missing. The first sheet is then
 read whole before that fault is answered, so the time is that of opening alone.
 """
 import struct

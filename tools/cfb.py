@@ -50,7 +50,7 @@ def compound_file(children):
     while len(entries) % 4:
         add("", 0)
 
-    # the parts behind the header, each from a sector on: directory, small table, small sectors, streams
+    # the parts after the header, each from a sector on: directory, small table, small sectors, streams
     body, table = b"", []
 
     def put(data):

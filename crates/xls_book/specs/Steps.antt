@@ -40,7 +40,7 @@ abbrev pub BeginsShown : List (Position × String Global) → Type 0
 BeginsShown [] = Unit {0}
 BeginsShown (f ∷ fs) = string_bytes f.1 ≡ [] → ⊥
 
--- the same without those at the front that aren't shown
+-- the same without those at the start that aren't shown
 pub record IsFromShown (all rest : List (Position × String Global)) : Type 0 where
   pub same : shown_formulas (map formula_content rest) ≡ shown_formulas (map formula_content all)
   pub begins : BeginsShown rest

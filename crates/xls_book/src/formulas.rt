@@ -40,7 +40,7 @@ impl<'a> Iterator for Formulas<'a> {
     }
 }
 
-/// These cells without those at the front whose text is empty.
+/// These cells without those at the start whose text is empty.
 #[tactic(auto, using(crate::proofs::ShownLemmas::passed))]
 fn from_shown(cells: &[Cell<String>]) -> &[Cell<String>]
     ensures { IsFromShown cells.now result.now }

@@ -94,7 +94,7 @@ pub fn read_all<S: Source>(
     // Each refusal has its cause.
     ensures cause { IfErr result (ReadCause limit (S.left source.old) (S.faults source.old) (S.faults source.new)) }
 
-    // Also after a refusal a front was taken, of one byte more than the limit at most.
+    // Also after a refusal a prefix was taken, of one byte more than the limit at most.
     ensures front { (taken : List ℕ) × (length taken ≤ limit + 1)
         × Consumes (S.left source.old) (S.left source.new) taken }
     ensures count { S.faults source.old ≤ S.faults source.new }

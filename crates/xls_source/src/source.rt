@@ -31,7 +31,7 @@ pub trait Source {
     /// How often a read has failed, up to a last value.
     ghost faults: { Self → ℕ };
 
-    /// Moves the first bytes that are left into the front of the slice. Into a slice with room it
+    /// Moves the first bytes that are left to the start of the slice. Into a slice with room it
     /// moves none only at the end.
     fn read(&mut self, into: &mut [u8]) -> Result<usize, ReadFault>
         ensures bound { ReadsAtMost result into.new }
