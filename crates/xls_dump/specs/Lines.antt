@@ -1,5 +1,5 @@
 -- Lines of text in UTF-8: a word and the fields after it, separated by a tab, ended by a newline.
-use Rattle.std.specs.Prelude.{ℕ, List, [], ◌∷◌, ◌++◌, ◌==◌, if◌then◌else◌, codes, encode_utf8_all}
+use Rattle.std.specs.Prelude.{ℕ, List, ◌++◌, codes}
 use Rattle.std.specs.List.{flat_map}
 use Rattle.std.specs.Fmt.{decimal, signed_decimal}
 use Rattle.std.specs.Str.{chars}
@@ -8,24 +8,9 @@ use Rattle.xls_data.specs.Numbers.{number_text}
 use Rattle.xls_strings.specs.ErrorText.{error_text}
 use Rattle.xls_dump.specs.declared.field.Field.{Field}
 use Rattle.xls_dump.specs.declared.field.Field.TheVariants.{Word, Text, Number, Int, Fraction, Failure, Fault}
+pub use Rattle.xls_bytes.specs.Escapes.{escaped_char, escaped, escaped_text}
 
 -- ---- texts
-
--- a backslash, a newline, a return and a tab as two characters each
-abbrev pub escaped_char : ℕ → List ℕ
-escaped_char c =
-    if c == 92 then codes "\\\\"
-    else if c == 10 then codes "\\n"
-    else if c == 13 then codes "\\r"
-    else if c == 9 then codes "\\t"
-    else c ∷ []
-
-abbrev pub escaped : List ℕ → List ℕ
-escaped cs = flat_map escaped_char cs
-
--- the bytes of a text of these characters
-abbrev pub escaped_text : List ℕ → List ℕ
-escaped_text cs = encode_utf8_all (escaped cs)
 
 -- ---- lines
 
