@@ -10,8 +10,6 @@ use Rattle.xls_dump.specs.declared.field.Field.{Field}
 use Rattle.xls_dump.specs.declared.field.Field.TheVariants.{Word, Text, Number, Int, Fraction, Failure, Fault}
 pub use Rattle.xls_bytes.specs.Escapes.{escaped_char, escaped, escaped_text}
 
--- ---- texts
-
 -- ---- lines
 
 -- a field after a tab
