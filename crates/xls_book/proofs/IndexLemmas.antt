@@ -12,9 +12,8 @@ use Rattle.std.proofs.lemmas.Option.{slice_get-map, slice_get_past, slice_get_re
 use Rattle.std.proofs.lemmas.Str.{IsUtf8-string_bytes}
 use Rattle.xls_data.specs.Sheets.{SheetContent, sheet_content}
 use Rattle.xls_data.specs.declared.sheets.Sheet.{Sheet}
-use Rattle.xls_reading.specs.Reading.{SheetView, last_named}
+use Rattle.xls_reading.specs.Reading.{SheetView, last_named, paired}
 use Rattle.xls_book.specs.Steps.{last_place}
-use Rattle.xls_reading.specs.Reading.{paired}
 use Rattle.xls_reading.specs.Held.{no_view}
 use Rattle.xls_open.specs.Steps.{shown}
 use Rattle.xls_book.proofs.NameLemmas.{same_text}

@@ -1,5 +1,5 @@
 -- The names of a workbook with their ranges, in the order of the index.
-use Rattle.std.proofs.Common.{◌≡◌, ℕ, List, [], ◌∷◌, ◌++◌, length, map, refl, sym, ap, subst, ◌∙◌, append_assoc, arith, inl, inr, Bool, true, false, cond, Option, Some, None}
+use Rattle.std.proofs.Common.{◌≡◌, ℕ, List, [], ◌∷◌, ◌++◌, length, map, refl, sym, ap, subst, ◌∙◌, append_assoc, arith, inl, inr, Bool, true, false, cond, Option, Some, None, Less}
 use Rattle.std.specs.Prelude.{String, Vec, Result, Ok, Err, IfOk, slice_get, nat_lt, get_or, ◌<◌}
 use Rattle.std.specs.Global.{Global}
 use Rattle.std.specs.List.{All, AllByRecursion}
@@ -8,7 +8,6 @@ use Rattle.std.specs.List.Sorted.{IsStrictlySortedBy}
 use Rattle.std.specs.Map.{lookup}
 use Rattle.std.specs.BTreeMap.{BTreeMap, get_by_text, is_at}
 use Rattle.std.specs.Ordering.{nat_cmp}
-use Rattle.std.proofs.Common.{Less}
 use Rattle.std.specs.Cmp.Lexicographic.{slice_cmp}
 use Rattle.std.specs.String.{string_bytes}
 use Rattle.std.specs.Str.{chars}
@@ -19,9 +18,8 @@ use Rattle.std.proofs.lemmas.Slice.Eq.{bytes_eq-Decides}
 use Rattle.std.proofs.lemmas.Str.{IsUtf8-string_bytes}
 use Rattle.xls_data.specs.Sheets.{SheetContent, sheet_content}
 use Rattle.xls_data.specs.declared.sheets.Sheet.{Sheet}
-use Rattle.xls_reading.specs.Reading.{SheetView, last_named}
+use Rattle.xls_reading.specs.Reading.{SheetView, last_named, paired}
 use Rattle.xls_book.specs.Steps.{last_place, IsIndex}
-use Rattle.xls_reading.specs.Reading.{paired}
 use Rattle.xls_reading.specs.Held.{no_view}
 use Rattle.xls_book.specs.LookUps.{Equal, Blank, IsBox, IsListed, Worksheet, IsWorksheet, AreWorksheets}
 use Rattle.xls_book.proofs.IndexLemmas.{at_place, named_place}

@@ -7,9 +7,8 @@ ghost use Rattle.std.specs.Str.{bytes_eq, chars};
 ghost use Rattle.std.specs.BTreeMap.{get_by_text};
 ghost use Rattle.std.specs.Map.{update};
 ghost use Rattle.xls_data.specs.Sheets.{sheet_content};
-ghost use Rattle.xls_reading.specs.Reading.{last_named};
+ghost use Rattle.xls_reading.specs.Reading.{last_named, paired};
 ghost use Rattle.xls_book.specs.Steps.{IsIndex};
-ghost use Rattle.xls_reading.specs.Reading.{paired};
 ghost use Rattle.xls_open.specs.Workbook.{IsOrdered};
 
 use std::alloc::{AllocError, Global};

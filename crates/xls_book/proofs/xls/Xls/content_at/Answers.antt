@@ -3,8 +3,7 @@ use Rattle.std.specs.Prelude.{slice_get}
 use Rattle.std.specs.Option.{option_copied}
 use Rattle.std.specs.Str.{chars}
 use Rattle.xls_data.specs.Sheets.{sheet_content}
-use Rattle.xls_reading.specs.Reading.{last_named}
-use Rattle.xls_reading.specs.Reading.{paired}
+use Rattle.xls_reading.specs.Reading.{last_named, paired}
 use Rattle.xls_book.proofs.IndexLemmas.{looked, shown_at, nothing_at}
 use Rattle.xls_book.proofs.xls.Xls.content_at.Goals as goal
 

@@ -2,8 +2,7 @@ use Rattle.std.proofs.Common.{sym, ap, map, ◌∙◌}
 use Rattle.std.specs.Str.{chars}
 use Rattle.std.proofs.lemmas.List.{length-map}
 use Rattle.xls_data.specs.Sheets.{sheet_content}
-use Rattle.xls_reading.specs.Reading.{last_named}
-use Rattle.xls_reading.specs.Reading.{paired}
+use Rattle.xls_reading.specs.Reading.{last_named, paired}
 use Rattle.xls_reading.specs.Held.{no_view}
 use Rattle.xls_reading.proofs.NamedLemmas.{named_shown}
 use Rattle.xls_book.proofs.xls.Xls.content_named.Goals as goal

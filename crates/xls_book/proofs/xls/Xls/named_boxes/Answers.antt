@@ -5,8 +5,7 @@ use Rattle.xls_data.specs.Data.{is_nothing}
 use Rattle.xls_data.specs.Sheets.{sheet_content}
 use Rattle.xls_data.specs.contracts.values.DataPartialEq.TheImpl as data_impl
 use Rattle.xls_book.specs.LookUps.{AreWorksheets}
-use Rattle.xls_reading.specs.Reading.{last_named}
-use Rattle.xls_reading.specs.Reading.{paired}
+use Rattle.xls_reading.specs.Reading.{last_named, paired}
 use Rattle.xls_reading.specs.Held.{no_view}
 use Rattle.xls_open.specs.Steps.{shown}
 use Rattle.xls_reading.proofs.NamedLemmas.{named_shown}
