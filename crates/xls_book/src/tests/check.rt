@@ -1,7 +1,6 @@
 //! The first fault of a stream by `check_stream`, and by opening it under the same page and bound.
 
 use super::*;
-use std::process::Abort;
 use std::test::*;
 
 // BoundSheet8 of a worksheet `A` at 25, and the same at 38, 64 and 4,294,967,295.
@@ -155,30 +154,18 @@ fn told(alloc: Global, fault: Option<XlsError>) -> Result<String, AllocError> {
     }
 }
 
-// That the check of a stream and its opening tell this.
-fn tell(
-    rt: &impl Abort,
-    alloc: Global,
-    parts: &[&[u8]],
-    forced: Option<u16>,
-    max_cells: u64,
-    wanted: &str,
-) -> Result<(), Fail> {
-    let bytes = joined(alloc, parts)?;
-    let checked = check_stream(bytes.as_slice(), forced, max_cells).err();
-    assert_eq!(rt; told(alloc, checked)?.as_str(), wanted);
-    let mut options = XlsOptions::defaults(alloc)?;
-    options.force_codepage = forced;
-    options.max_cells = max_cells;
-    let opened = open_under(alloc, bytes.as_slice(), options).err();
-    assert_eq!(rt; told(alloc, opened)?.as_str(), wanted);
-    Ok(())
-}
-
 #[test]
 fn a_check_and_an_opening_tell_the_same_first_fault(rt: HostRuntime) -> Result<(), Fail> {
+    let alloc = rt.alloc();
     for (parts, forced, max_cells, wanted) in ROWS {
-        tell(&rt, rt.alloc(), parts, forced, max_cells, wanted)?;
+        let bytes = joined(alloc, parts)?;
+        let checked = check_stream(bytes.as_slice(), forced, max_cells).err();
+        assert_eq!(rt; told(alloc, checked)?.as_str(), wanted);
+        let mut options = XlsOptions::defaults(alloc)?;
+        options.force_codepage = forced;
+        options.max_cells = max_cells;
+        let opened = open_under(alloc, bytes.as_slice(), options).err();
+        assert_eq!(rt; told(alloc, opened)?.as_str(), wanted);
     }
     Ok(())
 }
