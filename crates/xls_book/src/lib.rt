@@ -16,7 +16,8 @@ pub use xls::{Metadata, Xls};
 pub use xls_open::{XlsOptions, check_stream, checked_alike};
 pub use xls_reading::{one_first_fault, regions_by_name, sound_where_full};
 pub use xls_source::{
-    MemorySource, ReadFault, Source, StdSource, SteadySource, StreamBytes, read_all, steady_count,
+    EndlessSource, MemorySource, ReadFault, Source, StdSource, SteadySource, StreamBytes, read_all,
+    steady_count,
 };
 
 #[cfg(test)]

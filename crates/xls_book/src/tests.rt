@@ -3,7 +3,6 @@ use std::alloc::{AllocError, Global};
 use xls_biff::XlsError;
 use xls_data::{Sheet, SheetType, SheetVisible};
 
-mod check;
 mod formulas;
 mod globals;
 mod lookups;

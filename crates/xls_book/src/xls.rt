@@ -13,6 +13,7 @@ ghost use Rattle.xls_book.specs.LookUps.{AreWorksheets, GivesMerges, NameCause, 
 ghost use Rattle.xls_open.specs.Workbook.{IsOrdered, told_of, view_named};
 ghost use Rattle.xls_reading.specs.SheetTable.{shown_formulas};
 ghost use Rattle.xls_open.specs.Steps.{IsReady, book_of};
+ghost use Rattle.xls_source.specs.Bounded.{AnswersAtEnd};
 
 use crate::formulas::Formulas;
 use crate::index::{find_named, index_of};
@@ -105,6 +106,7 @@ fn read_book<S: Source>(alloc: Global, source: &mut S, options: XlsOptions) -> R
     ensures end { IfOk result (λ _. IsAtEnd (S.left source.new)) }
     ensures cause { IfErr result (OpenCause options (S.left source.old) (S.faults source.old) (S.faults source.new)) }
     ensures named { IfErr result IsOfOpening }
+    ensures ended { AnswersAtEnd options.max_bytes (S.ended source.new) result }
     ensures front { (taken : List ℕ) × (length taken ≤ options.max_bytes + 1)
         × Consumes (S.left source.old) (S.left source.new) taken }
     ensures count { S.faults source.old ≤ S.faults source.new }
@@ -162,7 +164,10 @@ impl Xls {
         source: &mut S,
         options: XlsOptions,
     ) -> Result<Xls, XlsError>
-        ensures { Opens options (S.left source.old) (S.left source.new) (S.faults source.old) (S.faults source.new) result }
+        ensures opens { Opens options (S.left source.old) (S.left source.new) (S.faults source.old) (S.faults source.new) result }
+
+        // Another answer than `Io`, `TooLarge` and `Memory` comes only at the end of the source.
+        ensures ended { AnswersAtEnd options.max_bytes (S.ended source.new) result }
     {
         read_book(alloc, source, options)
     }

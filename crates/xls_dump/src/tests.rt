@@ -7,6 +7,7 @@ use std::process::Abort;
 use std::test::*;
 use xls_book::{MemorySource, SteadySource};
 
+mod first_fault;
 mod ledger;
 
 // BOF of the globals and of a sheet in BIFF8, and EOF.
@@ -122,7 +123,7 @@ fn check(rt: &impl Abort, alloc: Global, case: &Case, status: u8, text: &[u8]) -
 }
 
 // Runs in which nothing fails: the words, what the source gives, the status, and what is written.
-const RUNS: [(&[&str], &[&[u8]], u8, &str); 32] = [
+const RUNS: [(&[&str], &[&[u8]], u8, &str); 30] = [
     (&[], &THREE, 0, THREE_TEXT),
     (&["dump"], &THREE, 0, THREE_TEXT),
     (&[], &[], 0, "dates\t1900\n"),
@@ -148,18 +149,6 @@ const RUNS: [(&[&str], &[&[u8]], u8, &str); 32] = [
     (&["check"], &THREE, 0, "ok\n"),
     (&["check"], &[], 0, "ok\n"),
     (&["check"], &LEDGER, 0, "ok\n"),
-    (
-        &["check"],
-        &PAGE,
-        1,
-        "error\tCfb error: Codepage 1B5 not found\n",
-    ),
-    (
-        &["check"],
-        &NO_SHEET,
-        1,
-        "error\tEnd of stream 'sheet offset'\n",
-    ),
     (&["generate", "4"], &THREE, 0, "rows\t4\ncells\t8\nsum\t6\n"),
     (
         &["generate", "65536"],
@@ -208,33 +197,75 @@ fn the_pieces_do_not_matter(rt: HostRuntime) -> Result<(), Fail> {
     Ok(())
 }
 
-// In chunks of 1, 2 and 16 the stream takes 56, 29 and 5 calls, the last of which gives nothing.
+// Commands, what their sources give, and what is written where nothing fails.
+const COMMANDS: [(&[&str], &[&[u8]], &str); 6] = [
+    (&["dump"], &THREE, THREE_TEXT),
+    (&["sheets"], &THREE, "sheet\tA\tworksheet\tvisible\n"),
+    (&["props"], &TITLE, "title\t\u{C5}lesund\n"),
+    (&["check"], &THREE, "ok\n"),
+    (
+        &["check"],
+        &NO_SHEET,
+        "error\tEnd of stream 'sheet offset'\n",
+    ),
+    (&["generate", "4"], &[], "rows\t4\ncells\t8\nsum\t6\n"),
+];
+
+// Each read of a run fails once: so many calls give bytes, and one more none.
+fn fail_each_read(
+    rt: &impl Abort,
+    alloc: Global,
+    words: &'static [&'static str],
+    parts: &'static [&'static [u8]],
+    chunk: usize,
+) -> Result<(), Fail> {
+    let len = joined(alloc, parts)?.len();
+    let calls = len.div_ceil(chunk.max(1)) as u64 + 1;
+    for call in 0..calls {
+        let mut case = quiet(words, parts);
+        case.chunk = chunk;
+        case.read_fails = Some(call);
+        check(rt, alloc, &case, 3, b"")?;
+    }
+    Ok(())
+}
+
 #[test]
 fn each_failing_read_ends_with_3(rt: HostRuntime) -> Result<(), Fail> {
-    for (chunk, calls) in [(1, 56), (2, 29), (16, 5)] {
-        for call in 0..calls {
-            let mut case = quiet(&[], &THREE);
-            case.chunk = chunk;
-            case.read_fails = Some(call);
-            check(&rt, rt.alloc(), &case, 3, b"")?;
+    for (words, parts, _) in COMMANDS {
+        if words.len() == 1 {
+            fail_each_read(&rt, rt.alloc(), words, parts, 1)?;
+            fail_each_read(&rt, rt.alloc(), words, parts, 16)?;
         }
     }
     Ok(())
 }
 
 // The write of each byte fails once, and once the room ends before it.
-#[test]
-fn each_failing_write_leaves_the_prefix(rt: HostRuntime) -> Result<(), Fail> {
-    let text = THREE_TEXT.as_bytes();
+fn fail_each_write(
+    rt: &impl Abort,
+    alloc: Global,
+    words: &'static [&'static str],
+    parts: &'static [&'static [u8]],
+    text: &[u8],
+) -> Result<(), Fail> {
     for len in 0..text.len() {
-        let mut case = quiet(&[], &THREE);
+        let mut case = quiet(words, parts);
         case.write_chunk = 1;
         case.write_fails = Some(len as u64);
-        check(&rt, rt.alloc(), &case, 4, &text[..len])?;
+        check(rt, alloc, &case, 4, &text[..len])?;
         case.write_chunk = 64;
         case.write_fails = None;
         case.room = len;
-        check(&rt, rt.alloc(), &case, 4, &text[..len])?;
+        check(rt, alloc, &case, 4, &text[..len])?;
+    }
+    Ok(())
+}
+
+#[test]
+fn each_failing_write_leaves_the_prefix(rt: HostRuntime) -> Result<(), Fail> {
+    for (words, parts, text) in COMMANDS {
+        fail_each_write(&rt, rt.alloc(), words, parts, text.as_bytes())?;
     }
     Ok(())
 }

@@ -8,6 +8,7 @@ ghost use Rattle.xls_reading.specs.InForce.{page_in};
 ghost use Rattle.xls_open.specs.Opening.{IsOfOpening, IsOpened, OpenCause};
 ghost use Rattle.xls_open.specs.Steps.{IsReady, OpensStream, ReadsContents, book_of, items_of, listed_of};
 ghost use Rattle.xls_open.specs.Workbook.{rules_of};
+ghost use Rattle.xls_source.specs.Bounded.{AnswersAtEnd};
 
 use crate::classes::classes_of;
 use crate::force::InForce;
@@ -131,6 +132,7 @@ pub fn open<S: Source>(
     ensures end { IfOk result (λ _. IsAtEnd (S.left source.new)) }
     ensures cause { IfErr result (OpenCause options (S.left source.old) (S.faults source.old) (S.faults source.new)) }
     ensures named { IfErr result IsOfOpening }
+    ensures ended { AnswersAtEnd options.max_bytes (S.ended source.new) result }
     ensures front { (taken : List ℕ) × (length taken ≤ options.max_bytes + 1)
         × Consumes (S.left source.old) (S.left source.new) taken }
     ensures count { S.faults source.old ≤ S.faults source.new }

@@ -59,6 +59,7 @@ fn read_by_pieces<S: Source>(
     ensures all { IfOk result (Consumes (S.left source.old) (S.left source.new)) }
     ensures end { IfOk result (λ _. IsAtEnd (S.left source.new)) }
     ensures cause { IfErr result (ReadCause limit (S.left source.old) (S.faults source.old) (S.faults source.new)) }
+    ensures ended { IfOk result (λ _. S.ended source.new) }
     ensures front { (taken : List ℕ) × (length taken ≤ limit + 1)
         × Consumes (S.left source.old) (S.left source.new) taken }
     ensures count { S.faults source.old ≤ S.faults source.new }
@@ -90,6 +91,9 @@ pub fn read_all<S: Source>(
     ensures within { IfOk result (λ bytes. length bytes ≤ limit) }
     ensures all { IfOk result (Consumes (S.left source.old) (S.left source.new)) }
     ensures end { IfOk result (λ _. IsAtEnd (S.left source.new)) }
+
+    // A source without end is refused.
+    ensures ended { IfOk result (λ _. S.ended source.new) }
 
     // Each refusal has its cause.
     ensures cause { IfErr result (ReadCause limit (S.left source.old) (S.faults source.old) (S.faults source.new)) }

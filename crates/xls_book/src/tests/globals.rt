@@ -2,7 +2,6 @@ use super::*;
 use std::test::*;
 use xls_biff::Part;
 use xls_data::CellFormat;
-use xls_text::CfbError;
 
 #[test]
 fn an_empty_stream_has_no_sheets(rt: HostRuntime) -> Result<(), Fail> {
@@ -35,44 +34,6 @@ fn says_where_each_prefix_is_cut(rt: HostRuntime) -> Result<(), Fail> {
 }
 
 #[test]
-fn a_password_is_asked_for(rt: HostRuntime) {
-    let alloc = rt.alloc();
-    let asked = refusal(alloc, &[&G, &[0x2F, 0, 2, 0, 1, 0], &E]);
-    assert_eq!(rt; asked, Some(XlsError::Password));
-    assert_eq!(rt; refusal(alloc, &[&G, &[0x2F, 0, 2, 0, 0, 0], &E]), None);
-}
-
-// Page 437, which isn't kept.
-const PAGE_437: [u8; 6] = [0x42, 0, 2, 0, 0xB5, 1];
-
-fn under_page(alloc: Global, page: u16, parts: &[&[u8]]) -> Result<Option<XlsError>, AllocError> {
-    let mut options = XlsOptions::defaults(alloc)?;
-    options.force_codepage = Some(page);
-    let bytes = joined(alloc, parts)?;
-    Ok(open_under(alloc, bytes.as_slice(), options).err())
-}
-
-#[test]
-fn a_page_that_is_not_kept_is_refused_unless_another_is_forced(
-    rt: HostRuntime,
-) -> Result<(), Fail> {
-    let alloc = rt.alloc();
-    let missing = Some(XlsError::Cfb(CfbError::CodePageNotFound(437)));
-    assert_eq!(rt; refusal(alloc, &[&G, &PAGE_437, &E]), missing);
-    assert_eq!(rt; under_page(alloc, 1252, &[&G, &PAGE_437, &E])?, None);
-    assert_eq!(rt;
-        under_page(alloc, 1252, &[&G, &[0x42, 0, 1, 0, 1], &E])?,
-        None
-    );
-    assert_eq!(rt; under_page(alloc, 437, &[&G, &E])?, missing);
-    assert_eq!(rt;
-        refusal(alloc, &[&G, &[0x42, 0, 2, 0, 0xAF, 0x6F], &E]),
-        None
-    );
-    Ok(())
-}
-
-#[test]
 fn one_date_mode_of_1_sets_1904(rt: HostRuntime) -> Result<(), Fail> {
     let alloc = rt.alloc();
     let set = [0x22, 0, 2, 0, 1, 0];
@@ -97,31 +58,6 @@ fn a_format_may_stand_behind_its_xf(rt: HostRuntime) -> Result<(), Fail> {
     let plain = opened(alloc, &[&G, &own, &E])?;
     assert_eq!(rt; plain.formats(), [CellFormat::Other].as_slice());
     Ok(())
-}
-
-#[test]
-fn the_first_fault_of_the_globals_is_told(rt: HostRuntime) {
-    let alloc = rt.alloc();
-    let short_mode = [0x22, 0, 1, 0, 1];
-    let short_xf = [0xE0, 0, 0, 0];
-    let first = XlsError::Len {
-        expected: 2,
-        found: 1,
-        typ: Part::DateMode,
-    };
-    assert_eq!(rt;
-        refusal(alloc, &[&G, &short_mode, &short_xf, &E]),
-        Some(first)
-    );
-    let second = XlsError::Len {
-        expected: 4,
-        found: 0,
-        typ: Part::Xf,
-    };
-    assert_eq!(rt;
-        refusal(alloc, &[&G, &short_xf, &short_mode, &E]),
-        Some(second)
-    );
 }
 
 #[test]

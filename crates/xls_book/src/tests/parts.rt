@@ -1,6 +1,5 @@
 use super::*;
 use std::test::*;
-use xls_biff::Part;
 use xls_data::{Data, Number};
 
 #[test]
@@ -12,18 +11,6 @@ fn shows_the_number_of_the_sheet(rt: HostRuntime) -> Result<(), Fail> {
     assert_eq!(rt; shown, Some((0, 0, &wanted)));
     assert!(rt; book.values_at(1).is_none());
     Ok(())
-}
-
-#[test]
-fn names_both_lengths_of_a_short_number(rt: HostRuntime) {
-    let short = [3, 2, 13, 0, 0, 0, 0, 0, 0, 0, 0, 0, 0, 0, 0, 0, 8];
-    let wanted = XlsError::Len {
-        expected: 14,
-        found: 13,
-        typ: Part::Number,
-    };
-    let answer = refusal(rt.alloc(), &[&G, &bound(25), &E, &S, &short, &E]);
-    assert_eq!(rt; answer, Some(wanted));
 }
 
 #[test]
@@ -66,56 +53,6 @@ fn a_name_shows_its_last_sheet(rt: HostRuntime) -> Result<(), Fail> {
     assert_eq!(rt; listed(alloc, &book, 0)?.as_str(), "0,0=2 ");
     assert_eq!(rt; listed(alloc, &book, 1)?.as_str(), "0,0=2 ");
     assert!(rt; book.worksheet_range_at(alloc, 2).is_none());
-    Ok(())
-}
-
-fn with_cells(alloc: Global, bytes: &[u8], max_cells: u64) -> Result<Option<XlsError>, AllocError> {
-    let mut options = XlsOptions::defaults(alloc)?;
-    options.max_cells = max_cells;
-    Ok(open_under(alloc, bytes, options).err())
-}
-
-#[test]
-fn each_sheet_has_its_own_bound(rt: HostRuntime) -> Result<(), Fail> {
-    let alloc = rt.alloc();
-    assert_eq!(rt; with_cells(alloc, twins(alloc)?.as_slice(), 1)?, None);
-    let (one, two) = (whole(0, 0, 1), whole(1, 0, 2));
-    let both = joined(alloc, &[&G, &bound(25), &E, &S, &one, &two, &E])?;
-    assert_eq!(rt; with_cells(alloc, both.as_slice(), 2)?, None);
-    for limit in [1, 0] {
-        let answer = with_cells(alloc, both.as_slice(), limit)?;
-        assert_eq!(rt; answer, Some(XlsError::TooManyCells { limit }));
-    }
-    Ok(())
-}
-
-#[test]
-fn a_mul_rk_weighs_its_cells_behind_its_own_fault(rt: HostRuntime) -> Result<(), Fail> {
-    let alloc = rt.alloc();
-    // Three cells of row 0, and one whose last column is before the first.
-    let three = [
-        0xBD, 0, 24, 0, 0, 0, 0, 0, 0, 0, 6, 0, 0, 0, 0, 0, 6, 0, 0, 0, 0, 0, 6, 0, 0, 0, 2, 0,
-    ];
-    let reversed = [0xBD, 0, 12, 0, 0, 0, 2, 0, 0, 0, 6, 0, 0, 0, 1, 0];
-    let heavy = joined(alloc, &[&G, &bound(25), &E, &S, &three, &E])?;
-    let answer = with_cells(alloc, heavy.as_slice(), 2)?;
-    assert_eq!(rt; answer, Some(XlsError::TooManyCells { limit: 2 }));
-    let faulty = joined(alloc, &[&G, &bound(25), &E, &S, &reversed, &E])?;
-    let wanted = XlsError::Len {
-        expected: 65_536,
-        found: 12,
-        typ: Part::Rk,
-    };
-    assert_eq!(rt; with_cells(alloc, faulty.as_slice(), 0)?, Some(wanted));
-    Ok(())
-}
-
-#[test]
-fn a_nested_cell_is_not_counted(rt: HostRuntime) -> Result<(), Fail> {
-    let alloc = rt.alloc();
-    let (inner, outer) = (whole(0, 0, 1), whole(1, 1, 2));
-    let bytes = joined(alloc, &[&G, &bound(25), &E, &S, &S, &inner, &E, &outer, &E])?;
-    assert_eq!(rt; with_cells(alloc, bytes.as_slice(), 1)?, None);
     Ok(())
 }
 

@@ -1,24 +1,13 @@
-ghost use Rattle.std.specs.Prelude.{None};
+ghost use Rattle.std.specs.Prelude.{◌≡◌, ◌⊎◌, ◌≤◌, None, IfOk, IfSome};
+ghost use Rattle.xls_strings.specs.declared.error.XlsError.TheVariants.{Memory, TooLarge};
 
 use super::*;
 use std::io::Cursor;
 use std::test::*;
 
-/// A source that never ends and tells nothing.
-#[derive(Drop)]
-struct EndlessSource;
-
-impl Source for EndlessSource {
-    ghost left = { λ _. None };
-
-    ghost faults = { λ _. 0 };
-
-    fn read(&mut self, into: &mut [u8]) -> Result<usize, ReadFault> {
-        Ok(into.len())
-    }
-}
-
-fn up_to(alloc: Global, max_bytes: u64) -> Result<XlsOptions, AllocError> {
+fn up_to(alloc: Global, max_bytes: u64) -> Result<XlsOptions, AllocError>
+    ensures { IfOk result (λ options. options.max_bytes ≡ max_bytes) }
+{
     let mut options = XlsOptions::defaults(alloc)?;
     options.max_bytes = max_bytes;
     Ok(options)
@@ -34,12 +23,26 @@ fn a_stream_of_the_limit_is_opened(rt: HostRuntime) -> Result<(), Fail> {
     Ok(())
 }
 
+// Opening a source without end is refused, and not by a fault of its bytes.
+fn opened_without_end(
+    alloc: Global,
+    chunk: usize,
+    limit: u64,
+) -> Result<Option<XlsError>, AllocError>
+    requires { 1 ≤ chunk }
+    ensures { IfOk result (λ refusal. IfSome refusal (λ e. (e ≡ TooLarge limit) ⊎ (e ≡ Memory)) × (refusal ≡ None → ⊥)) }
+{
+    let mut source = EndlessSource::new(chunk);
+    let options = up_to(alloc, limit)?;
+    Ok(Xls::new_with_options(alloc, &mut source, options).err())
+}
+
 #[test]
 fn a_source_without_end_is_too_large(rt: HostRuntime) -> Result<(), Fail> {
-    let mut source = EndlessSource;
-    let options = up_to(rt.alloc(), 100_000)?;
-    let answer = Xls::new_with_options(rt.alloc(), &mut source, options).err();
-    assert_eq!(rt; answer, Some(XlsError::TooLarge { limit: 100_000 }));
+    for chunk in [1, 4096] {
+        let refusal = opened_without_end(rt.alloc(), chunk, 10_000)?;
+        assert_eq!(rt; refusal, Some(XlsError::TooLarge { limit: 10_000 }));
+    }
     Ok(())
 }
 

@@ -1,8 +1,8 @@
 use Rattle.xls_open.proofs.OpeningLemmas.{complete}
 use Rattle.xls_book.proofs.xls.Xls.new_with_options.Goals as goal
 
-pub returns : goal.returns
-returns g c =
+pub returns-clause-opens : goal.returns-clause-opens
+returns-clause-opens g c =
     let made = c.read_book.ensures in
     record {
       ok = made.ok;

@@ -1,0 +1,275 @@
+//! The first fault of a stream by `check_stream`, by opening it under the same page and bound, and by the
+//! command `check`.
+
+use super::*;
+use xls_biff::XlsError;
+use xls_book::{Xls, XlsOptions, check_stream};
+
+// BoundSheet8 of a worksheet `A` at 38, 64 and 4,294,967,295.
+const A_38: [u8; 13] = [0x85, 0, 9, 0, 38, 0, 0, 0, 0, 0, 1, 0, 0x41];
+
+const A_64: [u8; 13] = [0x85, 0, 9, 0, 64, 0, 0, 0, 0, 0, 1, 0, 0x41];
+
+const A_FAR: [u8; 13] = [0x85, 0, 9, 0, 0xFF, 0xFF, 0xFF, 0xFF, 0, 0, 1, 0, 0x41];
+
+// Its state is 3.
+const A_STATE: [u8; 13] = [0x85, 0, 9, 0, 25, 0, 0, 0, 3, 0, 1, 0, 0x41];
+
+// RK of 1 at (0, 0), and of 2 at (1, 1).
+const ONE: [u8; 14] = [0x7E, 2, 10, 0, 0, 0, 0, 0, 0, 0, 6, 0, 0, 0];
+
+const TWO: [u8; 14] = [0x7E, 2, 10, 0, 1, 0, 1, 0, 0, 0, 10, 0, 0, 0];
+
+// MulRk of three cells of row 0, and one whose last column is before its first.
+const THREE_CELLS: [u8; 28] = [
+    0xBD, 0, 24, 0, 0, 0, 0, 0, 0, 0, 6, 0, 0, 0, 0, 0, 6, 0, 0, 0, 0, 0, 6, 0, 0, 0, 2, 0,
+];
+
+const REVERSED: [u8; 16] = [0xBD, 0, 12, 0, 0, 0, 2, 0, 0, 0, 6, 0, 0, 0, 1, 0];
+
+// A DateMode of one byte, and an XF of none.
+const SHORT_DATE_MODE: [u8; 5] = [0x22, 0, 1, 0, 1];
+
+const SHORT_XF: [u8; 4] = [0xE0, 0, 0, 0];
+
+const CELLS: u64 = 33_554_432;
+
+// A stream by its records, a forced page and a bound of cells, and what is told of it.
+const ROWS: [(&[&[u8]], Option<u16>, u64, &str); 28] = [
+    (
+        &[&GLOBALS, &A_SHEET, &EOF, &SHEET, &ONE, &EOF],
+        None,
+        CELLS,
+        "ok",
+    ),
+    (&NO_SHEET, None, CELLS, "End of stream 'sheet offset'"),
+    (
+        &[&GLOBALS, &A_FAR, &EOF],
+        None,
+        CELLS,
+        "End of stream 'sheet offset'",
+    ),
+    (
+        &[&GLOBALS, &[0x85, 0, 5, 0, 0, 0, 0, 0, 0], &EOF],
+        None,
+        CELLS,
+        "Invalid BoundSheet8 length, expected at least 6, found 5",
+    ),
+    (
+        &[&GLOBALS, &A_STATE, &EOF],
+        None,
+        CELLS,
+        "Unrecognized BoundSheet8:hsState: 0x3",
+    ),
+    (
+        &[&GLOBALS, &[0x2F, 0, 0, 0], &EOF],
+        None,
+        CELLS,
+        "Invalid FilePass length, expected at least 2, found 0",
+    ),
+    (
+        &[
+            &GLOBALS,
+            &[0x18, 0, 13, 0, 0, 0, 0, 0, 0, 0, 0, 0, 0, 0, 0, 0, 0],
+            &EOF,
+        ],
+        None,
+        CELLS,
+        "Invalid Lbl length, expected at least 14, found 13",
+    ),
+    (
+        &[
+            &GLOBALS,
+            &A_SHEET,
+            &EOF,
+            &SHEET,
+            &[0xE5, 0, 2, 0, 0xFF, 0xFF],
+            &EOF,
+        ],
+        None,
+        CELLS,
+        "Invalid merge cells length, expected at least 524282, found 2",
+    ),
+    (
+        &[
+            &GLOBALS,
+            &A_SHEET,
+            &EOF,
+            &SHEET,
+            &[
+                0x06, 0, 19, 0, 0, 0, 0, 0, 0, 0, 0, 0, 0, 0, 0, 0, 0, 0, 0, 0, 0, 0, 0,
+            ],
+            &EOF,
+        ],
+        None,
+        CELLS,
+        "Invalid Formula length, expected at least 20, found 19",
+    ),
+    (
+        &[&GLOBALS, &EOF, &[0x3C, 0, 5, 0, 0]],
+        None,
+        CELLS,
+        "End of stream 'continue record length'",
+    ),
+    // The last four bytes aren't attached, and the walk has ended.
+    (&[&GLOBALS, &EOF, &[0x3C, 0, 5, 0]], None, CELLS, "ok"),
+    (
+        &[&GLOBALS, &A_SHEET, &EOF, &SHEET, &ONE, &TWO, &EOF],
+        None,
+        2,
+        "ok",
+    ),
+    (
+        &[&GLOBALS, &A_SHEET, &EOF, &SHEET, &ONE, &TWO, &EOF],
+        None,
+        1,
+        "Sheet with more than 1 cells",
+    ),
+    (
+        &[&GLOBALS, &A_SHEET, &EOF, &SHEET, &ONE, &TWO, &EOF],
+        None,
+        0,
+        "Sheet with more than 0 cells",
+    ),
+    (
+        &[&GLOBALS, &A_SHEET, &EOF, &SHEET, &THREE_CELLS, &EOF],
+        None,
+        2,
+        "Sheet with more than 2 cells",
+    ),
+    (
+        &[&GLOBALS, &A_SHEET, &EOF, &SHEET, &REVERSED, &EOF],
+        None,
+        0,
+        "Invalid rk length, expected at least 65536, found 12",
+    ),
+    // Each sheet is counted by itself, and a nested cell isn't.
+    (
+        &[
+            &GLOBALS, &A_38, &A_64, &EOF, &SHEET, &ONE, &EOF, &SHEET, &TWO, &EOF,
+        ],
+        None,
+        1,
+        "ok",
+    ),
+    (
+        &[
+            &GLOBALS, &A_SHEET, &EOF, &SHEET, &SHEET, &ONE, &EOF, &TWO, &EOF,
+        ],
+        None,
+        1,
+        "ok",
+    ),
+    (&PAGE, None, CELLS, "Cfb error: Codepage 1B5 not found"),
+    (&PAGE, Some(1252), CELLS, "ok"),
+    (
+        &[&GLOBALS, &EOF],
+        Some(437),
+        CELLS,
+        "Cfb error: Codepage 1B5 not found",
+    ),
+    // Under a forced page a short CodePage isn't read; 28591 is kept.
+    (
+        &[&GLOBALS, &[0x42, 0, 1, 0, 1], &EOF],
+        Some(1252),
+        CELLS,
+        "ok",
+    ),
+    (
+        &[&GLOBALS, &[0x42, 0, 2, 0, 0xAF, 0x6F], &EOF],
+        None,
+        CELLS,
+        "ok",
+    ),
+    (
+        &[&GLOBALS, &[0x2F, 0, 2, 0, 1, 0], &EOF],
+        None,
+        CELLS,
+        "Workbook is password protected",
+    ),
+    (&[&GLOBALS, &[0x2F, 0, 2, 0, 0, 0], &EOF], None, CELLS, "ok"),
+    // Of two short records the first is told.
+    (
+        &[&GLOBALS, &SHORT_DATE_MODE, &SHORT_XF, &EOF],
+        None,
+        CELLS,
+        "Invalid DateMode length, expected at least 2, found 1",
+    ),
+    (
+        &[&GLOBALS, &SHORT_XF, &SHORT_DATE_MODE, &EOF],
+        None,
+        CELLS,
+        "Invalid xf length, expected at least 4, found 0",
+    ),
+    (
+        &[
+            &GLOBALS,
+            &A_SHEET,
+            &EOF,
+            &SHEET,
+            &[3, 2, 13, 0, 0, 0, 0, 0, 0, 0, 0, 0, 0, 0, 0, 0, 8],
+            &EOF,
+        ],
+        None,
+        CELLS,
+        "Invalid number length, expected at least 14, found 13",
+    ),
+];
+
+/// What is told of a fault, or `ok`.
+fn told(alloc: Global, fault: Option<XlsError>) -> Result<String, AllocError> {
+    match fault {
+        None => String::from_str(alloc, "ok"),
+        Some(error) => format!(in alloc; "{error}"),
+    }
+}
+
+/// The first fault under a page and a bound, by the check and by opening.
+fn faults_of(
+    alloc: Global,
+    bytes: &[u8],
+    forced: Option<u16>,
+    max_cells: u64,
+) -> Result<(Option<XlsError>, Option<XlsError>), AllocError> {
+    let mut options = XlsOptions::defaults(alloc)?;
+    options.force_codepage = forced;
+    options.max_cells = max_cells;
+    let mut source = SteadySource::new(bytes.to_vec(alloc)?);
+    let opened = Xls::new_with_options(alloc, &mut source, options).err();
+    Ok((check_stream(bytes, forced, max_cells).err(), opened))
+}
+
+/// The line that the command writes of what is told.
+fn line_of(alloc: Global, told: &str) -> Result<String, AllocError> {
+    match told {
+        "ok" => String::from_str(alloc, "ok\n"),
+        fault => format!(in alloc; "error\t{fault}\n"),
+    }
+}
+
+fn tell(
+    rt: &impl Abort,
+    alloc: Global,
+    parts: &'static [&'static [u8]],
+    forced: Option<u16>,
+    max_cells: u64,
+    wanted: &str,
+) -> Result<(), Fail> {
+    let bytes = joined(alloc, parts)?;
+    let (checked, opened) = faults_of(alloc, bytes.as_slice(), forced, max_cells)?;
+    assert_eq!(rt; told(alloc, checked)?.as_str(), wanted);
+    assert_eq!(rt; told(alloc, opened)?.as_str(), wanted);
+    if forced == None && max_cells == CELLS {
+        let (_, written) = outcome(alloc, &quiet(&["check"], parts))?;
+        assert_eq!(rt; written.as_slice(), line_of(alloc, wanted)?.as_bytes());
+    }
+    Ok(())
+}
+
+#[test]
+fn a_check_and_an_opening_tell_the_same_first_fault(rt: HostRuntime) -> Result<(), Fail> {
+    for (parts, forced, max_cells, wanted) in ROWS {
+        tell(&rt, rt.alloc(), parts, forced, max_cells, wanted)?;
+    }
+    Ok(())
+}
