@@ -6,6 +6,8 @@ ghost use Rattle.std.specs.Io.KnownBytes.{Consumes, IsAtEnd};
 ghost use Rattle.std.specs.Str.{chars};
 ghost use Rattle.xls_data.specs.Data.{is_nothing};
 ghost use Rattle.xls_data.specs.Sheets.{SheetContent, sheet_content};
+ghost use Rattle.xls_cells.specs.Positions.{IsAscending};
+ghost use Rattle.xls_biff.specs.Cells.{Entry};
 ghost use Rattle.xls_props.specs.Properties.{IsProperties};
 ghost use Rattle.xls_open.specs.Opening.{IsOfOpening, IsOpened, OpenCause, Opens};
 ghost use Rattle.xls_reading.specs.Reading.{SheetView};
@@ -178,6 +180,18 @@ impl Xls {
         ensures { result ≡ option_map (λ (v : SheetView). v.cells) (slice_get self.now.contents n) }
     {
         match self.content_at(n) {
+            Some(content) => Some(Values::new(&content.cells)),
+            None => None,
+        }
+    }
+
+    /// The values of the last sheet of a name, by row, then column. `None` where no sheet has the name.
+    /// Takes no memory.
+    pub fn values_named(&self, name: &str) -> Option<Values<'_>>
+        ensures found { result ≡ option_map (λ (v : SheetView). v.cells) (view_named self.now (chars name.now)) }
+        ensures ordered { IfSome result (λ cells. IsAscending (map (λ (c : Entry). c.0) cells)) }
+    {
+        match self.content_named(name) {
             Some(content) => Some(Values::new(&content.cells)),
             None => None,
         }
