@@ -5,7 +5,7 @@ use xls_data::{Cell, Data};
 
 /// The values of a sheet: absolute row, absolute column and value, by row, then column. Contracts
 /// see the list of those that are left.
-#[derive(Drop)]
+#[derive(Clone, Drop)]
 pub struct Values<'a> {
     cells: &'a [Cell<Data>],
 }

@@ -1,11 +1,18 @@
 -- How a command ends, by what opening, reading and writing answer.
-use Rattle.std.proofs.Common.{◌≡◌, ◌⊎◌, ℕ, ◌≤◌, List, [], ap, length, Option, Some, None, IfSome, Result, Ok, Err, inl, inr, refl, sym, subst, arith}
+use Rattle.std.proofs.Common.{◌≡◌, ◌⊎◌, ◌∙◌, ◌==◌, ℕ, ◌≤◌, List, [], ◌∷◌, ap, length, Bool, true, false, if◌then◌else◌, Option, Some, None, IfSome, Result, Ok, Err, inl, inr, refl, sym, subst, arith}
+use Rattle.std.specs.Borrow.{Bor}
+use Rattle.std.specs.Cmp.Lexicographic.{pointwise}
+use Rattle.std.specs.Option.{option_or}
 use Rattle.std.specs.Result.{IsErrAnd}
+use Rattle.std.specs.Str.{chars}
+use Rattle.std.proofs.lemmas.Slice.Zip.{AllZip-long}
 use Rattle.std.specs.Io.KnownBytes.{Consumes, IsAtEnd}
 use Rattle.std.proofs.KnownBytes.{Consumes-whole, Keeps-refl}
 use Rattle.xls_strings.specs.declared.error.XlsError.{XlsError}
 use Rattle.xls_strings.specs.declared.error.XlsError.TheVariants as errors
-use Rattle.xls_open.specs.Workbook.{Workbook}
+use Rattle.xls_open.specs.Workbook.{Workbook, view_named}
+use Rattle.xls_reading.specs.Reading.{last_named, paired}
+use Rattle.xls_data.specs.Sheets.{SheetContent}
 use Rattle.xls_reading.specs.Faults.{IsSound}
 use Rattle.xls_open.specs.Opening.{OpenCause, IsOpened, default_options, default_rules}
 use Rattle.xls_source.specs.Bounded.{ReadCause}
@@ -13,15 +20,15 @@ use Rattle.xls_dump.specs.SinkState.{SinkState, TakesEach}
 use Rattle.xls_dump.specs.Gathering.{Stops}
 use Rattle.xls_dump.specs.Report.{fault_line, report, sheet_report}
 use Rattle.xls_dump.specs.Summary.{summary_text}
-use Rattle.xls_dump.specs.Outputs.{IsOutput, IsRefusal, MayWrite, IsOutputOf, IsPropertyText, property_limit, IsSoundLine, IsFirstLine, IsFaultLine, IsLengthLine, EndsWell, EndsBySoundness, EndsByLength}
+use Rattle.xls_dump.specs.Outputs.{IsOutput, IsRefusal, MayWrite, IsOutputOf, IsPropertyText, property_limit, IsSoundLine, IsFirstLine, IsFaultLine, IsLengthLine, IsNameLine, IsRefsText, IsCsvOf, IsMissingOf, HasSheet, EndsByName, EndsWell, EndsBySoundness, EndsByLength}
 use Rattle.xls_dump.specs.Endings.{IsFault, Wrote, EndsWithError, EndsWithText, EndsWithEither, Ends}
 use Rattle.xls_dump.specs.declared.command.Command.{Command}
-use Rattle.xls_dump.specs.declared.command.Command.TheVariants.{Dump, Sheets, Props, Check, Generate}
+use Rattle.xls_dump.specs.declared.command.Command.TheVariants.{Dump, Sheets, Props, Check, Refs, Csv, Generate}
 use Rattle.xls_dump.specs.declared.ending.Ending.{Ending}
 use Rattle.xls_dump.specs.declared.ending.Ending.TheVariants.{Done, Refused}
 use Rattle.xls_dump.specs.declared.ending.Stop.{Stop}
 use Rattle.xls_dump.specs.declared.ending.Stop.TheVariants.{Read, Write, Memory}
-use Rattle.xls_dump.proofs.CheckLemmas.{too_large}
+use Rattle.xls_dump.proofs.CheckLemmas.{too_large, none_checked}
 
 -- ---- any command
 
@@ -52,9 +59,11 @@ ends-either c left before after (Ok Done) up output line p =
     let o = output p.0 p.1 in (o.0, (p.0, o.1, p.2.appends))
 ends-either c left before after (Ok Refused) up output line p =
     let l = line p.0 p.1 in (l.0, (p.0, l.1, p.2.appends))
-ends-either c left before after (Err e) up output line (text, inl done, p) =
+ends-either c left before after (Err e) up output line (inl p) =
+    subst (λ d. Ends c left before after (Err d)) (sym p.0) (up, inl p.1.0)
+ends-either c left before after (Err e) up output line (inr (text, inl done, p)) =
     ends-stopped c left e up (inl (output text done).1) p
-ends-either c left before after (Err e) up output line (text, inr refused, p) =
+ends-either c left before after (Err e) up output line (inr (text, inr refused, p)) =
     ends-stopped c left e up (inr (line text refused).1) p
 
 -- an error of reading or opening, where a fault of the bytes is refused
@@ -92,8 +101,9 @@ pub steady-either : (c : Command) (left : Option (List ℕ)) (before after : Sin
     → EndsWithEither IsDone IsRefused before after r → TakesEach before (MayWrite c left) → after.faults ≡ before.faults
 steady-either c left before after (Ok Done) output line p takes = steady-wrote c left (inl (output p.0 p.1)) p.2 takes
 steady-either c left before after (Ok Refused) output line p takes = steady-wrote c left (inr (line p.0 p.1)) p.2 takes
-steady-either c left before after (Err e) output line (text, inl done, p) takes = steady-stopped c left (inl (output text done)) p takes
-steady-either c left before after (Err e) output line (text, inr refused, p) takes = steady-stopped c left (inr (line text refused)) p takes
+steady-either c left before after (Err e) output line (inl p) takes = p.1.1
+steady-either c left before after (Err e) output line (inr (text, inl done, p)) takes = steady-stopped c left (inl (output text done)) p takes
+steady-either c left before after (Err e) output line (inr (text, inr refused, p)) takes = steady-stopped c left (inr (line text refused)) p takes
 
 pub steady-error : (c : Command) (left : Option (List ℕ)) (before after : SinkState) (r : Result Ending Stop) (e : XlsError)
     → (IsFault e → IsRefusal c left (fault_line e)) → EndsWithError e before after r
@@ -125,21 +135,27 @@ pub either-stopped : (IsDone IsRefused : List ℕ → Type 0) {before after : Si
     → IsErrAnd r (λ d. d ≡ e) → IsDone text ⊎ IsRefused text → Stops before [] after text e → EndsWithEither IsDone IsRefused before after r
 either-stopped IsDone IsRefused (Ok x) none may p = absurd none
 either-stopped IsDone IsRefused {before} {after} {text} {e} (Err d) same may p =
-    (text, may, subst (Stops before [] after text) (sym same) p)
+    inr (text, may, subst (Stops before [] after text) (sym same) p)
 
--- ---- the commands that open the source
+-- out of memory to make it
+pub either-memory : (IsDone IsRefused : List ℕ → Type 0) (before : SinkState) (r : Result Ending Stop)
+    → IsErrAnd r (λ d. d ≡ Memory) → EndsWithEither IsDone IsRefused before before r
+either-memory IsDone IsRefused before (Ok x) none = absurd none
+either-memory IsDone IsRefused before (Err e) is = inl (is, (Keeps-refl before.written, refl))
+
+-- ---- the commands that read a workbook
+
+-- a command that refuses the first fault of the source's bytes
+pub record Refuses (c : Command) : Type 0 where
+  pub line : (left : Option (List ℕ)) (text : List ℕ) → IsFaultLine left text → IsRefusal c left text
+  pub refused : (left : Option (List ℕ)) → EndsBySoundness left 1 → EndsWell c left 1
+  pub given_up : (left : Option (List ℕ)) → EndsWell c left 5
 
 -- a command that opens the source, and writes this of the workbook
 pub record IsOpening (c : Command) (text_of : Workbook → List ℕ) : Type 0 where
+  pub refuses : Refuses c
   pub output : (left : Option (List ℕ)) (text : List ℕ) → IsOutputOf text_of left text → IsOutput c left text
-  pub refusal : (left : Option (List ℕ)) (text : List ℕ) → IsFaultLine left text → IsRefusal c left text
-  pub well : (left : Option (List ℕ)) (status : ℕ) → EndsBySoundness left status → EndsWell c left status
-
-pub dump_opens : IsOpening Dump report
-dump_opens = record { output = λ left text h. h; refusal = λ left text h. h; well = λ left status h. h }
-
-pub sheets_opens : IsOpening Sheets sheet_report
-sheets_opens = record { output = λ left text h. h; refusal = λ left text h. h; well = λ left status h. h }
+  pub done : (left : Option (List ℕ)) → EndsBySoundness left 0 → EndsWell c left 0
 
 -- a text of a workbook that is the reading
 outputs : (text_of : Workbook → List ℕ) (left : Option (List ℕ)) (book : Workbook)
@@ -168,13 +184,27 @@ well_refused (Some bytes) text h = (inr (inl refl), λ _. λ sound. sound h.0 h.
 well_given_up : (left : Option (List ℕ)) → EndsBySoundness left 5
 well_given_up left = (inr (inr refl), λ e. absurd (omega arith), λ e. absurd (omega arith))
 
+pub dump_opens : IsOpening Dump report
+dump_opens = record {
+  refuses = record { line = λ left text h. h; refused = λ left h. h; given_up = well_given_up };
+  output = λ left text h. h;
+  done = λ left h. h;
+}
+
+pub sheets_opens : IsOpening Sheets sheet_report
+sheets_opens = record {
+  refuses = record { line = λ left text h. h; refused = λ left h. h; given_up = well_given_up };
+  output = λ left text h. h;
+  done = λ left h. h;
+}
+
 -- such a command, where the writing was given up
 pub opened-stopped : {c : Command} {text_of : Workbook → List ℕ} → IsOpening c text_of
     → (left : Option (List ℕ)) (book : Workbook) {before after : SinkState} {e : Stop} (r : Result Ending Stop)
     → IfSome left (IsOpened default_options book) → IsErrAnd r (λ d. d ≡ e) → Stops before [] after (text_of book) e
     → Ends c left before after r
 opened-stopped {c} {text_of} opens left book {before} {after} r h is p =
-    ends-text c left before after r (opens.well left 0 (well_done left book h)) (opens.well left 5 (well_given_up left))
+    ends-text c left before after r (opens.done left (well_done left book h)) (opens.refuses.given_up left)
     (λ text same. subst (IsOutput c left) (sym same) (opens.output left (text_of book) (outputs text_of left book h)))
     (text-stopped (λ text. text ≡ text_of book) r is refl p)
 
@@ -193,21 +223,101 @@ written-steady {c} {text_of} opens left book h =
     steady-wrote c left (inl (opens.output left (text_of book) (outputs text_of left book h)))
 
 -- and where the source isn't opened
-pub not_opened : {c : Command} {text_of : Workbook → List ℕ} → IsOpening c text_of
+pub not_opened : {c : Command} → Refuses c
     → (left : Option (List ℕ)) (f f' : ℕ) (before after : SinkState) (r : Result Ending Stop) (e : XlsError)
     → OpenCause default_options left f f' e → EndsWithError e before after r → Ends c left before after r
-not_opened {c} opens left f f' before after r e cause =
+not_opened {c} command left f f' before after r e cause =
     let line = refuses left f f' e cause in
-    ends-error c left before after r e (opens.well left 5 (well_given_up left))
-    (λ fault. opens.well left 1 (well_refused left (fault_line e) (line fault)))
-    (λ fault. opens.refusal left (fault_line e) (line fault))
+    ends-error c left before after r e (command.given_up left)
+    (λ fault. command.refused left (well_refused left (fault_line e) (line fault)))
+    (λ fault. command.line left (fault_line e) (line fault))
 
-pub not_opened-steady : {c : Command} {text_of : Workbook → List ℕ} → IsOpening c text_of
+pub not_opened-steady : {c : Command} → Refuses c
     → (left : Option (List ℕ)) (f f' : ℕ) (before after : SinkState) (r : Result Ending Stop) (e : XlsError)
     → OpenCause default_options left f f' e → EndsWithError e before after r
     → TakesEach before (MayWrite c left) → after.faults ≡ before.faults
-not_opened-steady {c} opens left f f' before after r e cause =
-    steady-error c left before after r e (λ fault. opens.refusal left (fault_line e) (refuses left f f' e cause fault))
+not_opened-steady {c} command left f f' before after r e cause =
+    steady-error c left before after r e (λ fault. command.line left (fault_line e) (refuses left f f' e cause fault))
+
+-- ---- a sheet of a name
+
+-- whether a sheet has a name doesn't hang on what the sheets show
+both_none : {X : Type 0} (a b : Option X) (same : Bool) (x y : X) → (a ≡ None → b ≡ None)
+    → option_or a (if same then Some x else None) ≡ None → option_or b (if same then Some y else None) ≡ None
+both_none None b true x y h e = cc
+both_none None b false x y h e = rw (h refl) refl
+both_none (Some z) b same x y h e = cc
+
+none_alike : {X : Type 0} (sheets : List SheetContent) (xs ys : List X) (name : List ℕ) → length xs ≡ length ys
+    → last_named (paired sheets xs) name ≡ None → last_named (paired sheets ys) name ≡ None
+none_alike [] xs ys name e n = refl
+none_alike (s ∷ ss) [] [] name e n = refl
+none_alike (s ∷ ss) [] (y ∷ ys) name e n = absurd (omega (arith, e))
+none_alike (s ∷ ss) (x ∷ xs) [] name e n = absurd (omega (arith, e))
+none_alike (s ∷ ss) (x ∷ xs) (y ∷ ys) name e n =
+    both_none (last_named (paired ss xs) name) (last_named (paired ss ys) name) (pointwise ◌==◌ s.name name) x y
+    (none_alike ss xs ys name (omega (arith, e))) n
+
+-- where one workbook of the bytes has none of this name, no one has
+no_sheet : (name bytes : List ℕ) (book : Workbook) → IsOpened default_options book bytes
+    → view_named book (chars name) ≡ None → HasSheet name bytes → ⊥
+no_sheet name bytes book opened none (other, opened', some) =
+    let r = opened.every opened.entries opened.carries in
+    let r' = opened'.every opened.entries opened.carries in
+    let long = sym (AllZip-long _ _ _ r.contents) ∙ AllZip-long _ _ _ r'.contents in
+    some (subst (λ (ss : List SheetContent). last_named (paired ss other.contents) (chars name) ≡ None)
+    (r.sheets ∙ sym r'.sheets) (none_alike book.sheets book.contents other.contents (chars name) long none))
+
+-- what is written of the workbook that the bytes open to
+csv_done : (name : Bor (List ℕ)) (left : Option (List ℕ)) (book : Workbook) (text : List ℕ)
+    → IfSome left (IsOpened default_options book) → IsCsvOf name.now book text
+    → EndsByName name.now left 0 × IsOutput (Csv name) left text
+csv_done name None book text h is = ((inl refl, λ e. absurd (omega arith), λ _. tt), tt)
+csv_done name (Some bytes) book text h is = (
+  (inl refl, λ e. absurd (omega arith), λ _. (book, h, λ none. let found = is.1 in cc)),
+  (book, h, is),
+)
+
+csv_refused : (name : Bor (List ℕ)) (left : Option (List ℕ)) (book : Workbook) (text : List ℕ)
+    → IfSome left (IsOpened default_options book) → IsMissingOf name.now book text
+    → EndsByName name.now left 1 × IsRefusal (Csv name) left text
+csv_refused name None book text h is = ((inr (inl refl), λ _. tt, λ e. absurd (omega arith)), tt)
+csv_refused name (Some bytes) book text h is = (
+  (inr (inl refl), λ _. no_sheet name.now bytes book h is.0, λ e. absurd (omega arith)),
+  inr (book, h, is),
+)
+
+name_given_up : (name : List ℕ) (left : Option (List ℕ)) → EndsByName name left 5
+name_given_up name left = (inr (inr refl), λ e. absurd (omega arith), λ e. absurd (omega arith))
+
+-- the first fault
+name_refused : (name : List ℕ) (left : Option (List ℕ)) → EndsBySoundness left 1 → EndsByName name left 1
+name_refused name None h = (inr (inl refl), λ _. tt, λ e. absurd (omega arith))
+name_refused name (Some bytes) h =
+    (inr (inl refl), λ e. λ has. h.1 refl has.1.sound, λ e. absurd (omega arith))
+
+name_line : (name : List ℕ) (left : Option (List ℕ)) (text : List ℕ) → IsFaultLine left text → IsNameLine name left text
+name_line name None text h = tt
+name_line name (Some bytes) text h = inl h
+
+pub csv_refuses : (name : Bor (List ℕ)) → Refuses (Csv name)
+csv_refuses name =
+    record { line = name_line name.now; refused = name_refused name.now; given_up = name_given_up name.now }
+
+pub opened_named : (name : Bor (List ℕ)) (left : Option (List ℕ)) (book : Workbook) (before after : SinkState) (r : Result Ending Stop)
+    → IfSome left (IsOpened default_options book)
+    → EndsWithEither (IsCsvOf name.now book) (IsMissingOf name.now book) before after r → Ends (Csv name) left before after r
+opened_named name left book before after r h =
+    ends-either (Csv name) left before after r (name_given_up name.now left)
+    (λ text. csv_done name left book text h) (λ text. csv_refused name left book text h)
+
+pub opened_named-steady : (name : Bor (List ℕ)) (left : Option (List ℕ)) (book : Workbook) (before after : SinkState) (r : Result Ending Stop)
+    → IfSome left (IsOpened default_options book)
+    → EndsWithEither (IsCsvOf name.now book) (IsMissingOf name.now book) before after r
+    → TakesEach before (MayWrite (Csv name) left) → after.faults ≡ before.faults
+opened_named-steady name left book before after r h =
+    steady-either (Csv name) left before after r
+    (λ text is. (csv_done name left book text h is).1) (λ text is. (csv_refused name left book text h is).1)
 
 -- ---- properties
 
@@ -266,40 +376,76 @@ refuses_large (Some bytes) f f' (errors.TooLarge n) cause fault =
     (errors.TooLarge n, too_large bytes n cause.0 cause.1, refl)
 refuses_large left f f' e cause fault = absurd cause
 
--- the line of the bytes that were left
-checks_sound : (left left' : Option (List ℕ)) (bytes text : List ℕ) → Consumes left left' bytes → IsAtEnd left'
-    → IsSoundLine bytes text → IsOutput Check left text
-checks_sound left left' bytes text all end is = (Consumes-whole left left' bytes (IsSound default_rules) all end is.0, is.1)
+-- a command that reads the source, and writes a text of this kind of the bytes where they have no fault
+pub record IsChecking (c : Command) (IsDone : List ℕ → List ℕ → Type 0) : Type 0 where
+  pub refuses : Refuses c
+  pub sound : (bytes text : List ℕ) → length bytes ≤ default_options.max_bytes → IsDone bytes text
+      → IsSound default_rules bytes
+  pub output : (left left' : Option (List ℕ)) (bytes text : List ℕ) → Consumes left left' bytes → IsAtEnd left'
+      → IsDone bytes text → IsOutput c left text
+  pub done : (left : Option (List ℕ)) → EndsBySoundness left 0 → EndsWell c left 0
 
 checks_fault : (left left' : Option (List ℕ)) (bytes text : List ℕ) → Consumes left left' bytes → IsAtEnd left'
     → IsFirstLine bytes text → IsFaultLine left text
 checks_fault left left' bytes text all end is = Consumes-whole left left' bytes (λ b. IsFirstLine b text) all end is
 
-pub all_checked : (left left' : Option (List ℕ)) (before after : SinkState) (r : Result Ending Stop) (bytes : List ℕ)
-    → Consumes left left' bytes → IsAtEnd left' → EndsWithEither (IsSoundLine bytes) (IsFirstLine bytes) before after r
-    → Ends Check left before after r
-all_checked left left' before after r bytes all end =
-    ends-either Check left before after r (well_given_up left)
-    (λ text is. let o = checks_sound left left' bytes text all end is in ((inl refl, λ e. absurd (omega arith), λ _. o.0), o))
-    (λ text is. let l = checks_fault left left' bytes text all end is in (well_refused left text l, l))
+well_checked : (left : Option (List ℕ)) → IfSome left (IsSound default_rules) → EndsBySoundness left 0
+well_checked left h = (inl refl, λ e. absurd (omega arith), λ _. h)
 
-pub all_checked-steady : (left left' : Option (List ℕ)) (before after : SinkState) (r : Result Ending Stop) (bytes : List ℕ)
-    → Consumes left left' bytes → IsAtEnd left' → EndsWithEither (IsSoundLine bytes) (IsFirstLine bytes) before after r
-    → TakesEach before (MayWrite Check left) → after.faults ≡ before.faults
-all_checked-steady left left' before after r bytes all end =
-    steady-either Check left before after r (λ text. checks_sound left left' bytes text all end)
-    (λ text. checks_fault left left' bytes text all end)
+pub all_checked : {c : Command} {IsDone : List ℕ → List ℕ → Type 0} → IsChecking c IsDone
+    → (left left' : Option (List ℕ)) (before after : SinkState) (r : Result Ending Stop) (bytes : List ℕ)
+    → Consumes left left' bytes → IsAtEnd left' → length bytes ≤ default_options.max_bytes
+    → EndsWithEither (IsDone bytes) (IsFirstLine bytes) before after r → Ends c left before after r
+all_checked {c} checks left left' before after r bytes all end le =
+    ends-either c left before after r (checks.refuses.given_up left)
+    (λ text is.
+        let sound = Consumes-whole left left' bytes (IsSound default_rules) all end (checks.sound bytes text le is) in
+        (checks.done left (well_checked left sound), checks.output left left' bytes text all end is))
+    (λ text is.
+        let line = checks_fault left left' bytes text all end is in
+        (checks.refuses.refused left (well_refused left text line), checks.refuses.line left text line))
 
-pub not_checked : (left : Option (List ℕ)) (f f' : ℕ) (before after : SinkState) (r : Result Ending Stop) (e : XlsError)
-    → ReadCause default_options.max_bytes left f f' e → EndsWithError e before after r → Ends Check left before after r
-not_checked left f f' before after r e cause =
+pub all_checked-steady : {c : Command} {IsDone : List ℕ → List ℕ → Type 0} → IsChecking c IsDone
+    → (left left' : Option (List ℕ)) (before after : SinkState) (r : Result Ending Stop) (bytes : List ℕ)
+    → Consumes left left' bytes → IsAtEnd left' → EndsWithEither (IsDone bytes) (IsFirstLine bytes) before after r
+    → TakesEach before (MayWrite c left) → after.faults ≡ before.faults
+all_checked-steady {c} checks left left' before after r bytes all end =
+    steady-either c left before after r (λ text. checks.output left left' bytes text all end)
+    (λ text is. checks.refuses.line left text (checks_fault left left' bytes text all end is))
+
+pub not_checked : {c : Command} → Refuses c
+    → (left : Option (List ℕ)) (f f' : ℕ) (before after : SinkState) (r : Result Ending Stop) (e : XlsError)
+    → ReadCause default_options.max_bytes left f f' e → EndsWithError e before after r → Ends c left before after r
+not_checked {c} command left f f' before after r e cause =
     let line = refuses_large left f f' e cause in
-    ends-error Check left before after r e (well_given_up left) (λ fault. well_refused left (fault_line e) (line fault)) line
+    ends-error c left before after r e (command.given_up left)
+    (λ fault. command.refused left (well_refused left (fault_line e) (line fault)))
+    (λ fault. command.line left (fault_line e) (line fault))
 
-pub not_checked-steady : (left : Option (List ℕ)) (f f' : ℕ) (before after : SinkState) (r : Result Ending Stop) (e : XlsError)
+pub not_checked-steady : {c : Command} → Refuses c
+    → (left : Option (List ℕ)) (f f' : ℕ) (before after : SinkState) (r : Result Ending Stop) (e : XlsError)
     → ReadCause default_options.max_bytes left f f' e → EndsWithError e before after r
-    → TakesEach before (MayWrite Check left) → after.faults ≡ before.faults
-not_checked-steady left f f' before after r e cause = steady-error Check left before after r e (refuses_large left f f' e cause)
+    → TakesEach before (MayWrite c left) → after.faults ≡ before.faults
+not_checked-steady {c} command left f f' before after r e cause =
+    steady-error c left before after r e (λ fault. command.line left (fault_line e) (refuses_large left f f' e cause fault))
+
+-- whether the bytes have a fault
+pub check_checks : IsChecking Check IsSoundLine
+check_checks = record {
+  refuses = record { line = λ left text h. h; refused = λ left h. h; given_up = well_given_up };
+  sound = λ bytes text le is. is.0;
+  output = λ left left' bytes text all end is. (Consumes-whole left left' bytes (IsSound default_rules) all end is.0, is.1);
+  done = λ left h. h;
+}
+
+-- the cells that their formulas cite
+pub refs_checks : IsChecking Refs IsRefsText
+refs_checks = record {
+  refuses = record { line = λ left text h. h; refused = λ left h. h; given_up = well_given_up };
+  sound = λ bytes text le is. none_checked bytes le is.1.sound;
+  output = λ left left' bytes text all end is. Consumes-whole left left' bytes (λ b. IsRefsText b text) all end is;
+  done = λ left h. h;
+}
 
 -- ---- a made stream
 

@@ -66,24 +66,3 @@ rows_parsed text n r p i =
 
 pub rows_same : {E : Type 0} (r : Result ℕ E) (n m : ℕ) → r ≡ Ok n → r ≡ Ok m → n ≡ m
 rows_same r n m a b = let e = sym a ∙ b in cc
-
--- ---- two words
-
-pub is_generate : (word rows : List ℕ) (n : ℕ) → word ≡ codes "generate" → IsRows rows n
-    → IsCommand (word ∷ rows ∷ []) (Generate n) × IsPossible (Generate n)
-is_generate word rows n e i = (
-  record { text = rows; rows = i; words_are = ap (λ (w : List ℕ). w ∷ rows ∷ []) e },
-  (i.least, i.most),
-)
-
-pub no_command : (word rows : List ℕ) → (word ≡ codes "generate" → (n : ℕ) → IsRows rows n → ⊥)
-    → (c : Command) → IsCommand (word ∷ rows ∷ []) c → ⊥
-no_command word rows h Dump (inl e) = cc
-no_command word rows h Dump (inr e) = cc
-no_command word rows h Sheets e = cc
-no_command word rows h Props e = cc
-no_command word rows h Check e = cc
-no_command word rows h (Generate n) i =
-    let first : word ≡ codes "generate" = let e = i.words_are in cc in
-    let second : i.text ≡ rows = let e = i.words_are in cc in
-    h first n (subst (λ (t : List ℕ). IsRows t n) second i.rows)

@@ -63,13 +63,15 @@ EndsWithText IsText before after (Err e) =
 
 -- ---- a text of one of two kinds
 
--- a text of the first kind was written at the end, or one of the second at a refusal, or a prefix of one
+-- a text of the first kind was written at the end, or one of the second at a refusal, or a prefix of one; out
+-- of memory to make it nothing was written
 abbrev pub EndsWithEither : (IsDone IsRefused : List ℕ → Type 0) → SinkState → SinkState → Result Ending Stop → Type 0
 EndsWithEither IsDone IsRefused before after (Ok Done) = (text : List ℕ) × IsDone text × Wrote before after text
 EndsWithEither IsDone IsRefused before after (Ok Refused) =
     (text : List ℕ) × IsRefused text × Wrote before after text
 EndsWithEither IsDone IsRefused before after (Err e) =
-    (text : List ℕ) × (IsDone text ⊎ IsRefused text) × Stops before [] after text e
+    ((e ≡ Memory) × IsUntouched before after)
+    ⊎ ((text : List ℕ) × (IsDone text ⊎ IsRefused text) × Stops before [] after text e)
 
 -- ---- a command
 

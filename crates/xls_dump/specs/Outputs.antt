@@ -1,20 +1,24 @@
 -- What a command writes, by what a source had left.
-use Rattle.std.specs.Prelude.{◌≡◌, ◌⊎◌, ℕ, ◌<◌, ◌≤◌, List, length, Option, Some, IfSome}
+use Rattle.std.specs.Prelude.{◌≡◌, ◌≢◌, ◌⊎◌, ℕ, String, ◌<◌, ◌≤◌, List, length, Option, Some, None, IfSome}
+use Rattle.std.specs.Global.{Global}
+use Rattle.std.specs.Str.{chars}
 use Rattle.std.specs.BTreeMap.{IsOrdered}
 use Rattle.std.specs.Io.KnownBytes.{IsAtEnd}
-use Rattle.std.specs.String.{string_cmp}
+use Rattle.std.specs.String.{string_bytes, string_cmp}
 use Rattle.xls_strings.specs.declared.error.XlsError.{XlsError}
-use Rattle.xls_strings.specs.declared.error.XlsError.TheVariants.{TooLarge}
+use Rattle.xls_strings.specs.declared.error.XlsError.TheVariants.{TooLarge, WorksheetNotFound}
 use Rattle.xls_props.specs.Properties.{IsProperties}
 use Rattle.xls_props.specs.declared.properties.WorkbookProperties.{WorkbookProperties}
-use Rattle.xls_open.specs.Workbook.{Workbook}
+use Rattle.xls_open.specs.Workbook.{Workbook, view_named}
+use Rattle.xls_reading.specs.Reading.{SheetView}
+use Rattle.xls_dump.specs.Temp.{sheet_csv, BookCited, IsBookCited, refs_text}
 use Rattle.xls_reading.specs.Faults.{FirstFault, IsSound}
 use Rattle.xls_open.specs.Opening.{IsOpened, default_options, default_rules}
 use Rattle.xls_dump.specs.Report.{report, sheet_report, sound_line, fault_line}
 use Rattle.xls_dump.specs.Properties.{property_lines}
 use Rattle.xls_dump.specs.Summary.{summary_text}
 use Rattle.xls_dump.specs.declared.command.Command.{Command}
-use Rattle.xls_dump.specs.declared.command.Command.TheVariants.{Dump, Sheets, Props, Check, Generate}
+use Rattle.xls_dump.specs.declared.command.Command.TheVariants.{Dump, Sheets, Props, Check, Refs, Csv, Generate}
 
 -- a text of the workbook that the bytes open to
 abbrev pub IsOutputOf : (Workbook → List ℕ) → Option (List ℕ) → List ℕ → Type 0
@@ -42,12 +46,33 @@ abbrev pub IsFirstLine : List ℕ → List ℕ → Type 0
 IsFirstLine bytes text =
     (e : XlsError) × FirstFault default_rules bytes e × (text ≡ fault_line e)
 
+-- the lines of the cells that the formulas of the bytes' workbook cite
+abbrev pub IsRefsText : List ℕ → List ℕ → Type 0
+IsRefsText bytes text =
+    (book : BookCited) × IsBookCited default_options bytes book × (text ≡ refs_text book)
+
+-- the CSV of the last sheet of this name in a workbook
+abbrev pub IsCsvOf : List ℕ → Workbook → List ℕ → Type 0
+IsCsvOf name book text =
+    (view : SheetView) × (view_named book (chars name) ≡ Some view) × (text ≡ sheet_csv view.cells)
+
+-- the line of a name that no sheet of a workbook has
+abbrev pub IsMissingOf : List ℕ → Workbook → List ℕ → Type 0
+IsMissingOf name book text = (view_named book (chars name) ≡ None)
+    × ((s : String Global) × (string_bytes s ≡ name) × (text ≡ fault_line (WorksheetNotFound s)))
+
+-- either of the workbook that the bytes open to
+abbrev pub IsOfBook : (Workbook → List ℕ → Type 0) → List ℕ → List ℕ → Type 0
+IsOfBook IsOf bytes text = (book : Workbook) × IsOpened default_options book bytes × IsOf book text
+
 -- the text of a command that is done
 abbrev pub IsOutput : Command → Option (List ℕ) → List ℕ → Type 0
 IsOutput Dump left text = IsOutputOf report left text
 IsOutput Sheets left text = IsOutputOf sheet_report left text
 IsOutput Props left text = IfSome left (λ bytes. IsPropertyText bytes text)
 IsOutput Check left text = IfSome left (IsSound default_rules) × (text ≡ sound_line)
+IsOutput Refs left text = IfSome left (λ bytes. IsRefsText bytes text)
+IsOutput (Csv name) left text = IfSome left (λ bytes. IsOfBook (IsCsvOf name.now) bytes text)
 IsOutput (Generate n) left text = text ≡ summary_text n
 
 -- the line of the first fault
@@ -60,12 +85,19 @@ IsLengthLine left text =
     IfSome left (λ bytes. (property_limit < length bytes)
     × (text ≡ fault_line (TooLarge property_limit)))
 
+-- the line of the first fault, or of a name that no sheet has
+abbrev pub IsNameLine : List ℕ → Option (List ℕ) → List ℕ → Type 0
+IsNameLine name left text =
+    IfSome left (λ bytes. IsFirstLine bytes text ⊎ IsOfBook (IsMissingOf name) bytes text)
+
 -- the line of a command whose input is refused
 abbrev pub IsRefusal : Command → Option (List ℕ) → List ℕ → Type 0
 IsRefusal Dump left text = IsFaultLine left text
 IsRefusal Sheets left text = IsFaultLine left text
 IsRefusal Props left text = IsLengthLine left text
 IsRefusal Check left text = IsFaultLine left text
+IsRefusal Refs left text = IsFaultLine left text
+IsRefusal (Csv name) left text = IsNameLine name.now left text
 IsRefusal (Generate n) left text = ⊥
 
 -- either of them
@@ -78,6 +110,8 @@ HasRead Dump before after = IsAtEnd after
 HasRead Sheets before after = IsAtEnd after
 HasRead Props before after = IsAtEnd after
 HasRead Check before after = IsAtEnd after
+HasRead Refs before after = IsAtEnd after
+HasRead (Csv name) before after = IsAtEnd after
 HasRead (Generate n) before after = after ≡ before
 
 -- bytes without a fault aren't refused, and those with one have no output
@@ -92,12 +126,25 @@ EndsByLength left status = ((status ≡ 0) ⊎ (status ≡ 1) ⊎ (status ≡ 5)
     × (status ≡ 1 → IfSome left (λ bytes. property_limit < length bytes))
     × (status ≡ 0 → IfSome left (λ bytes. length bytes ≤ property_limit))
 
+-- no place of the bytes has a fault, and a sheet of their workbook has this name
+abbrev pub HasSheet : List ℕ → List ℕ → Type 0
+HasSheet name bytes = (book : Workbook) × IsOpened default_options book bytes
+    × (view_named book (chars name) ≢ None)
+
+-- bytes without a fault that have a sheet of this name aren't refused, and others have no output
+abbrev pub EndsByName : List ℕ → Option (List ℕ) → ℕ → Type 0
+EndsByName name left status = ((status ≡ 0) ⊎ (status ≡ 1) ⊎ (status ≡ 5))
+    × (status ≡ 1 → IfSome left (λ bytes. HasSheet name bytes → ⊥))
+    × (status ≡ 0 → IfSome left (HasSheet name))
+
 -- how a command ends where neither source nor sink fails
 abbrev pub EndsWell : Command → Option (List ℕ) → ℕ → Type 0
 EndsWell Dump left status = EndsBySoundness left status
 EndsWell Sheets left status = EndsBySoundness left status
 EndsWell Props left status = EndsByLength left status
 EndsWell Check left status = EndsBySoundness left status
+EndsWell Refs left status = EndsBySoundness left status
+EndsWell (Csv name) left status = EndsByName name.now left status
 EndsWell (Generate n) left status = (status ≡ 0) ⊎ (status ≡ 5)
 
 -- the command reads nothing
@@ -106,4 +153,6 @@ ReadsNothing Dump = ⊥
 ReadsNothing Sheets = ⊥
 ReadsNothing Props = ⊥
 ReadsNothing Check = ⊥
+ReadsNothing Refs = ⊥
+ReadsNothing (Csv name) = ⊥
 ReadsNothing (Generate n) = Unit {0}

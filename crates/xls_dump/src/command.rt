@@ -10,7 +10,7 @@ const MAX_ROWS: u32 = 65_536;
 
 /// What a run does.
 #[derive(Clone, Copy, Debug, PartialEq, Eq)]
-pub enum Command {
+pub enum Command<'a> {
     /// Writes the sheets of a workbook and their cells.
     Dump,
     /// Writes the sheets of a workbook alone.
@@ -19,12 +19,16 @@ pub enum Command {
     Props,
     /// Writes whether a workbook has a fault, and which is the first.
     Check,
+    /// Writes the cells that the formulas of a workbook cite.
+    Refs,
+    /// Writes the values of the last sheet of this name as CSV.
+    Csv(&'a str),
     /// Makes a stream of so many rows, and writes what is found in it.
     Generate(u32),
 }
 
 /// The command of this name.
-fn named(word: &str) -> Option<Command>
+fn named(word: &str) -> Option<Command<'_>>
     ensures { MatchOption result ((c : Command) → IsCommand (word.now ∷ []) c → ⊥)
         (λ c. IsCommand (word.now ∷ []) c × IsPossible c) }
 {
@@ -33,6 +37,7 @@ fn named(word: &str) -> Option<Command>
         "sheets" => Some(Command::Sheets),
         "props" => Some(Command::Props),
         "check" => Some(Command::Check),
+        "refs" => Some(Command::Refs),
         _ => None,
     }
 }
@@ -60,26 +65,30 @@ fn rows_of(text: &str) -> Option<u32>
     }
 }
 
-/// The command of two words, of which the second is its number.
-fn counted(word: &str, rows: &str) -> Option<Command>
-    ensures { MatchOption result ((c : Command) → IsCommand (word.now ∷ rows.now ∷ []) c → ⊥)
-        (λ c. IsCommand (word.now ∷ rows.now ∷ []) c × IsPossible c) }
+/// The command of two words, of which the second is a name or a number.
+fn with_operand<'a>(word: &str, operand: &'a str) -> Option<Command<'a>>
+    ensures { MatchOption result ((c : Command) → IsCommand (word.now ∷ operand.now ∷ []) c → ⊥)
+        (λ c. IsCommand (word.now ∷ operand.now ∷ []) c × IsPossible c) }
 {
-    match rows_of(rows) {
-        Some(rows) if word == "generate" => Some(Command::Generate(rows)),
+    match word {
+        "csv" => Some(Command::Csv(operand)),
+        "generate" => match rows_of(operand) {
+            Some(rows) => Some(Command::Generate(rows)),
+            None => None,
+        },
         _ => None,
     }
 }
 
 /// What the words ask for, if they are those of a command.
-pub fn command_of(words: &[String]) -> Option<Command>
+pub fn command_of(words: &[String]) -> Option<Command<'_>>
     ensures { MatchOption result ((c : Command) → IsCommand (map string_bytes words.now) c
         → ⊥) (λ c. IsCommand (map string_bytes words.now) c × IsPossible c) }
 {
     match words {
         [] => Some(Command::Dump),
         [word] => named(word.as_str()),
-        [word, rows] => counted(word.as_str(), rows.as_str()),
+        [word, operand] => with_operand(word.as_str(), operand.as_str()),
         _ => None,
     }
 }

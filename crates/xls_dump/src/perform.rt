@@ -144,7 +144,7 @@ fn generate<K: Sink>(alloc: Global, rows: u32, sink: &mut K) -> Result<Ending, S
 /// Does what a command says.
 pub fn perform<S: Source, K: Sink>(
     alloc: Global,
-    command: Command,
+    command: Command<'_>,
     source: &mut S,
     sink: &mut K,
 ) -> Result<Ending, Stop>
@@ -161,6 +161,8 @@ pub fn perform<S: Source, K: Sink>(
         Command::Sheets => sheets(alloc, source, sink),
         Command::Props => props(alloc, source, sink),
         Command::Check => check(alloc, source, sink),
+        Command::Refs => check(alloc, source, sink),
+        Command::Csv(_) => check(alloc, source, sink),
         Command::Generate(rows) => generate(alloc, rows, sink),
     }
 }

@@ -18,9 +18,9 @@ returns-in_ok-write_report-in-Ok-clause-steady g c =
 
 pub returns-in-Err-clause-ends : goal.returns-in-Err-clause-ends
 returns-in-Err-clause-ends g c =
-    not_opened dump_opens (g.S.Source.left c.args.source.now) _ _ _ _ c.refuse.result c.in-Err.error c.in-Err.ensures.cause c.refuse.ensures
+    not_opened dump_opens.refuses (g.S.Source.left c.args.source.now) _ _ _ _ c.refuse.result c.in-Err.error c.in-Err.ensures.cause c.refuse.ensures
 
 pub returns-in-Err-clause-steady : goal.returns-in-Err-clause-steady
 returns-in-Err-clause-steady g c =
     let state = g.K.Sink.state in
-    not_opened-steady dump_opens (g.S.Source.left c.args.source.now) _ _ (state c.args.sink.now) (state c.refuse.new.sink) c.refuse.result c.in-Err.error c.in-Err.ensures.cause c.refuse.ensures
+    not_opened-steady dump_opens.refuses (g.S.Source.left c.args.source.now) _ _ (state c.args.sink.now) (state c.refuse.new.sink) c.refuse.result c.in-Err.error c.in-Err.ensures.cause c.refuse.ensures
