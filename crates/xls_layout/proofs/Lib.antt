@@ -1,0 +1,4 @@
+pub mod LaidTableLemmas
+pub mod LaidGroupLemmas
+pub mod LaidPartLemmas
+pub mod LaidStreamLemmas
