@@ -11,6 +11,7 @@ use Rattle.xls_model.specs.Substreams.{IsNotEof, is_among}
 use Rattle.xls_model.specs.Listing.{Entry, plain_entry, table_entry, sheet_entry, Item, plain_item, table_item, sheet_item, table_of, IsItem, IsPart, IsSheetPart, is_globals_type, is_plain_type, entry_of, IsWhole, Holds, Carries, offset_at}
 use Rattle.xls_model.specs.StringTable.{front_of}
 use Rattle.xls_model.specs.declared.types.TheConstants as types
+use Rattle.xls_model.proofs.HoldingLemmas.{one_list}
 use Rattle.xls_layout.specs.LaidStrings.{le32, LaidString, marks_of_strings, lists_of, table_group, IsLaidTable}
 use Rattle.xls_layout.specs.Layout.{eof_group, LaidPart, no_part, part_at, bytes_of_part, kept_in, LaidItem, a_loose, a_plain, a_sheet, a_table, sheet_body, group_of_item, bytes_of_globals, Layout, offset_in, lay, entries_of_item, list_of, plain_types, IsLaidGroup, IsLaidPart, IsLooseItem, IsPlainItem, IsSheetItem, IsLaidItem, IsLayout}
 use Rattle.xls_layout.proofs.LaidTableLemmas.{laid_sst, laid_eight}
@@ -187,3 +188,6 @@ carries_laid d h = record {
   whole = items_whole d d.globals;
   entries_are = items_entries d d.globals;
 }
+
+pub laid_alone : (d : Layout) → IsLayout d → (entries : List Entry) → Carries (lay d) entries → entries ≡ list_of d
+laid_alone d h entries c = one_list (lay d) h.bytes entries (list_of d) c (carries_laid d h)
