@@ -14,6 +14,7 @@ use Rattle.xls_model.specs.declared.types.TheConstants as types
 use Rattle.xls_model.proofs.HoldingLemmas.{one_list}
 use Rattle.xls_layout.specs.LaidStrings.{le32, LaidString, marks_of_strings, lists_of, table_group, IsLaidTable}
 use Rattle.xls_layout.specs.Layout.{eof_group, LaidPart, no_part, part_at, bytes_of_part, kept_in, LaidItem, a_loose, a_plain, a_sheet, a_table, sheet_body, group_of_item, bytes_of_globals, Layout, offset_in, lay, entries_of_item, list_of, plain_types, IsLaidGroup, IsLaidPart, IsLooseItem, IsPlainItem, IsSheetItem, IsLaidItem, IsLayout}
+use Rattle.xls_layout.proofs.TypeLemmas.{among_apart, plain_read, plain_item_type}
 use Rattle.xls_layout.proofs.LaidTableLemmas.{laid_sst, laid_eight}
 use Rattle.xls_layout.proofs.LaidGroupLemmas.{run_laid}
 use Rattle.xls_layout.proofs.LaidPartLemmas.{parts_start, laid_part}
@@ -58,7 +59,7 @@ from_offset d k lt =
     ∙ drop_both front before after (length (bytes_of_globals (λ k. 0) d.globals)) (same_sizes (λ k. 0) (offset_in d) d.globals)
     ∙ ap (flat_map bytes_of_part) (drop-cons d.parts k no_part lt)
 
-offset_within : (d : Layout) (k : ℕ) → offset_in d k ≤ length (lay d)
+pub offset_within : (d : Layout) (k : ℕ) → offset_in d k ≤ length (lay d)
 offset_within d k =
     let front = bytes_of_globals (offset_in d) d.globals in
     let before = flat_map bytes_of_part (take k d.parts) in
@@ -82,32 +83,6 @@ item_laid parts offset (a_table first strings) h = record { fits = h.fits; no_co
 item_groups : (d : Layout) (items : List LaidItem) → AllByRecursion (IsLaidItem d.parts) items → AllByRecursion IsLaidGroup (map (group_of_item (offset_in d)) items)
 item_groups d [] h = tt
 item_groups d (i ∷ items) h = (item_laid d.parts (offset_in d) i h.0, item_groups d items h.1)
-
--- ---- types
-
--- a type of the list is neither EOF nor that of a record with an item of its own, and it is read
-among_apart : (typ other : ℕ) (ts : List ℕ) → is_among typ ts ≡ true → is_among other ts ≡ false → typ ≢ other
-among_apart typ other ts h f = λ e. let g : is_among other ts ≡ true = rw (sym e) h in cc
-
-among_more : (typ : ℕ) (ts us : List ℕ) → is_among typ ts ≡ true → is_among typ (ts ++ us) ≡ true
-among_more typ [] us h = absurd cc
-among_more typ (t ∷ ts) us h = either (typ == t) (is_among typ ts) (is_among typ (ts ++ us)) h (λ e. among_more typ ts us e)
-  where
-    either : (a b c : Bool) → (a || b) ≡ true → (b ≡ true → c ≡ true) → (a || c) ≡ true
-    either true b c h f = refl
-    either false b c h f = f h
-
-plain_read : (g : Group) → is_among g.typ plain_types ≡ true → is_globals_type g ≡ true
-plain_read g h = among_more g.typ plain_types (types.SST ∷ types.BOUND_SHEET_8 ∷ []) h
-
-apart : (m n : ℕ) → m ≢ n → (m == n) ≡ false
-apart m n h = grind arith
-
-plain_item_type : (n : ℕ) → is_among n plain_types ≡ true → is_plain_type n ≡ true
-plain_item_type n h =
-    let e = apart n types.SST (among_apart n types.SST plain_types h refl) in
-    let f = apart n types.BOUND_SHEET_8 (among_apart n types.BOUND_SHEET_8 plain_types h refl) in
-    rw (e, f) refl
 
 items_not_eof : (d : Layout) (items : List LaidItem) → AllByRecursion (IsLaidItem d.parts) items → AllByRecursion IsNotEof (map (group_of_item (offset_in d)) items)
 items_not_eof d [] h = tt
