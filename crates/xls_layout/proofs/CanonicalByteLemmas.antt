@@ -1,17 +1,16 @@
 -- The canonical layout of a list that fits consists of bytes.
-use Rattle.std.proofs.Common.{◌≡◌, ℕ, zero, suc, ◌+◌, ◌%◌, ◌^◌, ◌<◌, ◌≤◌, Bool, true, false, List, [], ◌∷◌, ◌++◌, length, map, Option, Some, None, refl, sym, ap, subst, arith, lit<}
-use Rattle.std.specs.Prelude.{not}
+use Rattle.std.proofs.Common.{ℕ, zero, suc, ◌^◌, ◌<◌, ◌≤◌, Bool, true, false, List, [], ◌∷◌, ◌++◌, length, map, Some, None, arith, lit<}
 use Rattle.std.specs.List.{flat_map, AllByRecursion}
 use Rattle.xls_bytes.specs.Numbers.{le16}
 use Rattle.xls_model.specs.Stream.{enc, Group, group_bytes, continues, IsBody}
 use Rattle.xls_model.specs.Walks.{IsBytes}
-use Rattle.xls_model.specs.Substreams.{groups_of, is_among, sheet_types}
+use Rattle.xls_model.specs.Substreams.{groups_of}
 use Rattle.xls_model.specs.StringTable.{Mark, front_of}
 use Rattle.xls_model.specs.Listing.{Kept, Entry, plain_entry, table_entry, sheet_entry}
 use Rattle.xls_model.specs.declared.types.TheConstants as types
-use Rattle.xls_layout.specs.LaidStrings.{le32, Step, put, cut, wide_bit, marks_of_steps, units_of_steps, AreSteps, LaidString, units_of, bit_of, head_bytes, marks_of_break, marks_of_string, IsLaidString, marks_of_strings, pieces_of, table_group}
-use Rattle.xls_layout.specs.Layout.{eof_group, group_of_item, bytes_of_globals, bytes_of_part, plain_types, sheet_body, lay, offset_in, Layout}
-use Rattle.xls_layout.specs.Canonical.{canonical_string, canonical_strings, bare_group, canonical_records, sheet_bof, canonical_part, canonical_parts, counts_of, canonical_items, canonical, fill_from, IsByte, AreBytes, FitsKept, FitsString, Fits}
+use Rattle.xls_layout.specs.LaidStrings.{le32, Step, put, cut, marks_of_steps, AreSteps, units_of, head_bytes, marks_of_break, marks_of_string, IsLaidString, marks_of_strings, pieces_of, table_group}
+use Rattle.xls_layout.specs.Layout.{eof_group, bytes_of_globals, bytes_of_part, sheet_body, lay, offset_in}
+use Rattle.xls_layout.specs.Canonical.{canonical_string, canonical_strings, bare_group, canonical_records, sheet_bof, canonical_part, canonical_parts, counts_of, canonical_items, canonical, fill_from, AreBytes, FitsKept, FitsString, Fits}
 use Rattle.xls_layout.proofs.TypeLemmas.{plain_below, sheet_below}
 use Rattle.xls_layout.proofs.LaidStreamLemmas.{offset_within}
 use Rattle.xls_layout.proofs.CanonicalTableLemmas.{laid_canonical, canonical_front, canonical_pieces}

@@ -1,11 +1,11 @@
 -- The grammar of a string table and the order in which it is read tell the same.
-use Rattle.std.proofs.Common.{◌≡◌, ℕ, zero, suc, ◌+◌, ◌*◌, ◌^◌, ◌<◌, ◌≤◌, Bool, true, false, cond, List, [], ◌∷◌, ◌++◌, length, map, take, drop, slice_index, Option, Some, None, Result, Ok, Err, refl, sym, ap, subst, ◌∙◌, append_assoc, arith, inl, inr}
+use Rattle.std.proofs.Common.{◌≡◌, ℕ, zero, suc, ◌+◌, ◌*◌, ◌^◌, ◌<◌, ◌≤◌, Bool, true, false, cond, List, [], ◌∷◌, ◌++◌, length, map, take, drop, slice_index, Option, Some, None, Result, Ok, Err, refl, sym, ap, subst, ◌∙◌, arith, inl, inr}
 use Rattle.std.specs.Prelude.{nat_lt, ◌↔◌}
 use Rattle.std.proofs.lemmas.Bool.{ltb-true, ltb-false}
 use Rattle.std.proofs.lemmas.List.{drop_at, length-map}
 use Rattle.xls_bytes.specs.Numbers.{le}
-use Rattle.xls_model.specs.StringTable.{Mark, Missing, short_head, no_units, no_tail, Head, is_wide, front_of, with_unit, units_at, tail_at, has_runs, has_extension, head_len, runs_at, extension_at, behind_at, head_at, with_tail, tail_of, with_units, with_head, str_at, next_at, Table}
-use Rattle.xls_layout.specs.TableGrammar.{UnitStep, one_byte, two_bytes, flags_byte, marks_of_step, marks_of_units, units_in, AreUnits, IsTail, Str, StartsNoByte, IsElement, IsTable}
+use Rattle.xls_model.specs.StringTable.{Mark, Missing, short_head, is_wide, front_of, with_unit, units_at, tail_at, has_runs, has_extension, head_len, runs_at, extension_at, behind_at, head_at, with_tail, with_units, with_head, str_at, next_at, Table}
+use Rattle.xls_layout.specs.TableGrammar.{UnitStep, one_byte, two_bytes, flags_byte, marks_of_units, units_in, AreUnits, IsTail, Str, StartsNoByte, IsElement, IsTable}
 
 -- ---- units
 

@@ -1,8 +1,8 @@
 -- A laid sheet part is a sheet part, and its kept records are its own.
-use Rattle.std.proofs.Common.{◌≡◌, true, false, List, [], ◌∷◌, ◌++◌, None, refl, sym, ap, subst, ◌∙◌, append_assoc}
+use Rattle.std.proofs.Common.{◌≡◌, List, [], ◌∷◌, ◌++◌, None, refl, sym, subst, append_assoc}
 use Rattle.std.specs.List.{flat_map, AllByRecursion}
 use Rattle.xls_model.specs.Stream.{Group, StartsContinue, Run}
-use Rattle.xls_model.specs.Substreams.{IsPlain, groups_of, outer_of, own_closed, is_sheet_type, kept_groups, SheetPart}
+use Rattle.xls_model.specs.Substreams.{IsPlain, groups_of, outer_of, own_closed, kept_groups, SheetPart}
 use Rattle.xls_model.specs.Listing.{IsPart}
 use Rattle.xls_layout.specs.Layout.{eof_group, LaidPart, open_part, bytes_of_part, kept_in, IsLooseGroup, IsLaidPart}
 use Rattle.xls_layout.proofs.LaidGroupLemmas.{run_laid, laid_starts, nothing_starts}

@@ -1,19 +1,18 @@
 -- A laid stream carries its list.
-use Rattle.std.proofs.Common.{◌≡◌, ◌≢◌, ℕ, zero, suc, ◌+◌, ◌^◌, ◌<◌, ◌≤◌, Bool, true, false, List, [], ◌∷◌, ◌++◌, length, map, take, drop, Some, None, refl, sym, ap, subst, ◌∙◌, arith, lit<, lit≤, inl}
-use Rattle.std.specs.Prelude.{◌==◌, ◌||◌}
+use Rattle.std.proofs.Common.{◌≡◌, ℕ, zero, suc, ◌+◌, ◌^◌, ◌<◌, ◌≤◌, List, [], ◌∷◌, ◌++◌, length, map, take, drop, None, refl, sym, ap, subst, ◌∙◌, arith, lit<, inl}
 use Rattle.std.specs.List.{flat_map, filter, AllZip, AllByRecursion}
 use Rattle.std.proofs.Math.Seq.{drop-cons, drop-append-add, drop-append_seam}
 use Rattle.std.proofs.lemmas.Grind.{flat_map-append}
 use Rattle.std.proofs.lemmas.List.{length-append, take-append-drop}
 use Rattle.xls_bytes.specs.Numbers.{le}
-use Rattle.xls_model.specs.Stream.{Group, group_bytes, IsBody}
-use Rattle.xls_model.specs.Substreams.{IsNotEof, is_among}
-use Rattle.xls_model.specs.Listing.{Entry, plain_entry, table_entry, sheet_entry, Item, plain_item, table_item, sheet_item, table_of, IsItem, IsPart, IsSheetPart, is_globals_type, is_plain_type, entry_of, IsWhole, Holds, Carries, offset_at}
+use Rattle.xls_model.specs.Stream.{group_bytes, IsBody}
+use Rattle.xls_model.specs.Substreams.{IsNotEof}
+use Rattle.xls_model.specs.Listing.{Entry, plain_entry, table_entry, sheet_entry, Item, plain_item, table_item, sheet_item, table_of, IsItem, IsPart, IsSheetPart, is_globals_type, entry_of, IsWhole, Holds, Carries, offset_at}
 use Rattle.xls_model.specs.StringTable.{front_of}
 use Rattle.xls_model.specs.declared.types.TheConstants as types
 use Rattle.xls_model.proofs.HoldingLemmas.{one_list}
-use Rattle.xls_layout.specs.LaidStrings.{le32, LaidString, marks_of_strings, lists_of, table_group, IsLaidTable}
-use Rattle.xls_layout.specs.Layout.{eof_group, LaidPart, no_part, part_at, bytes_of_part, kept_in, LaidItem, a_loose, a_plain, a_sheet, a_table, sheet_body, group_of_item, bytes_of_globals, Layout, offset_in, lay, entries_of_item, list_of, plain_types, IsLaidGroup, IsLaidPart, IsLooseItem, IsPlainItem, IsSheetItem, IsLaidItem, IsLayout}
+use Rattle.xls_layout.specs.LaidStrings.{le32, marks_of_strings, lists_of}
+use Rattle.xls_layout.specs.Layout.{eof_group, LaidPart, no_part, part_at, bytes_of_part, kept_in, LaidItem, a_loose, a_plain, a_sheet, a_table, sheet_body, group_of_item, bytes_of_globals, Layout, offset_in, lay, entries_of_item, list_of, plain_types, IsLaidGroup, IsLaidPart, IsLaidItem, IsLayout}
 use Rattle.xls_layout.proofs.TypeLemmas.{among_apart, plain_read, plain_item_type}
 use Rattle.xls_layout.proofs.LaidTableLemmas.{laid_sst, laid_eight}
 use Rattle.xls_layout.proofs.LaidGroupLemmas.{run_laid}

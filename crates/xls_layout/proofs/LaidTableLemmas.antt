@@ -5,7 +5,7 @@ use Rattle.std.specs.List.{AllByRecursion}
 use Rattle.std.proofs.lemmas.List.{drop_at, length-map, length-append}
 use Rattle.xls_bytes.specs.Numbers.{le, le16}
 use Rattle.xls_model.specs.StringTable.{Mark, is_wide, front_of, marked, with_unit, units_at, tail_at, has_runs, has_extension, head_at, with_tail, with_units, with_head, str_at, next_at, Table}
-use Rattle.xls_layout.specs.LaidStrings.{le32, Step, put, cut, wide_bit, marks_of_steps, units_of_steps, AreSteps, bytes_in, IsCutWell, number_of, LaidString, units_of, head_bytes, marks_of_break, marks_of_string, IsLaidString, marks_of_strings, lists_of, pieces_of, IsLaidTable, table_group}
+use Rattle.xls_layout.specs.LaidStrings.{le32, Step, put, cut, wide_bit, marks_of_steps, units_of_steps, AreSteps, bytes_in, IsCutWell, number_of, LaidString, units_of, head_bytes, marks_of_break, marks_of_string, IsLaidString, marks_of_strings, lists_of, pieces_of, IsLaidTable}
 
 over_mark : (n : ℕ) (wide next : Bool) (ms : List Mark) → 0 < n → units_at n wide (None ∷ Some (wide_bit next) ∷ ms) ≡ units_at n next ms
 unfolding units_at

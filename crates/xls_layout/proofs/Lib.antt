@@ -8,3 +8,5 @@ pub mod TableLemmas
 pub mod CanonicalTableLemmas
 pub mod CanonicalByteLemmas
 pub mod CanonicalListLemmas
+pub mod StandardFacts
+pub mod SampleLayouts

@@ -1,9 +1,9 @@
 -- Laws over layouts.
-use Rattle.std.specs.Prelude.{◌≡◌, ◌↔◌, ℕ, ◌<◌, ◌^◌, List, length, map, drop, Result, Ok, Err}
+use Rattle.std.specs.Prelude.{◌≡◌, ◌↔◌, ℕ, ◌<◌, ◌^◌, List, length, map, Result, Ok, Err}
 use Rattle.std.specs.List.{AllByRecursion}
 use Rattle.std.specs.Char.Utf16.{utf16_lossy_chars}
 use Rattle.xls_model.specs.Stream.{Group}
-use Rattle.xls_model.specs.StringTable.{Mark, Missing, next_at, marked, Table}
+use Rattle.xls_model.specs.StringTable.{Mark, next_at, Table}
 use Rattle.xls_model.specs.Listing.{Entry, Carries}
 use Rattle.xls_strings.specs.declared.error.XlsError.{XlsError}
 use Rattle.xls_strings.specs.declared.error.XlsError.TheVariants as errors

@@ -1,7 +1,7 @@
 -- Layouts of a logical list: the streams of whole records in which it may be written. A layout is a
 -- tree that holds its list (`list_of`), with a printer (`lay`) and a fact that says which are valid
 -- (`IsLayout`).
-use Rattle.std.specs.Prelude.{◌≡◌, ◌≢◌, ℕ, ◌+◌, ◌<◌, ◌^◌, List, [], ◌∷◌, ◌++◌, length, take, map, slice_index_or, Bool, true, false, not, ◌||◌, ◌==◌, ◌&&◌}
+use Rattle.std.specs.Prelude.{◌≡◌, ◌≢◌, ℕ, ◌+◌, ◌<◌, ◌^◌, List, [], ◌∷◌, ◌++◌, length, take, map, slice_index_or, true, false}
 use Rattle.std.specs.List.{flat_map, AllByRecursion}
 use Rattle.xls_model.specs.Stream.{Group, group_bytes, IsGroup, IsBody}
 use Rattle.xls_model.specs.Walks.{IsBytes}
