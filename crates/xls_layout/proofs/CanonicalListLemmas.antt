@@ -8,8 +8,9 @@ use Rattle.xls_model.specs.StringTable.{Mark, front_of}
 use Rattle.xls_model.specs.Listing.{Kept, kept_of, Entry, plain_entry, table_entry, sheet_entry}
 use Rattle.xls_model.specs.declared.types.TheConstants as types
 use Rattle.xls_layout.specs.LaidStrings.{le32, marks_of_strings, pieces_of, table_group, IsLaidTable}
-use Rattle.xls_layout.specs.Layout.{LaidPart, part_at, kept_in, lay, entries_of_item, list_of, plain_types, IsLaidGroup, IsLaidPart, IsPlainItem, IsLaidItem, IsLayout}
+use Rattle.xls_layout.specs.Layout.{LaidPart, Layout, offset_in, part_at, kept_in, lay, entries_of_item, list_of, plain_types, IsLaidGroup, IsLaidPart, IsPlainItem, IsLaidItem, IsLayout}
 use Rattle.xls_layout.specs.Canonical.{canonical_strings, bare_group, canonical_records, sheet_bof, canonical_part, canonical_parts, counts_of, canonical_items, canonical, FitsKept, FitsString, Fits}
+use Rattle.xls_layout.proofs.LaidStreamLemmas.{offset_within}
 use Rattle.xls_layout.proofs.TypeLemmas.{among_apart, plain_below, sheet_below}
 use Rattle.xls_layout.proofs.CanonicalTableLemmas.{same_lists, laid_canonical, canonical_front, canonical_pieces}
 use Rattle.xls_layout.proofs.CanonicalByteLemmas.{canonical_bytes}
@@ -68,13 +69,13 @@ table_laid strings h = record {
   fits = table_fits (length strings) (marks_of_strings (canonical_strings 8 strings)) (canonical_front strings) (short_fit (pieces_of (marks_of_strings (canonical_strings 8 strings))) (canonical_pieces strings));
 }
 
-items_valid : (list : List Entry) (n : ℕ) (parts : List LaidPart) → Fits list → n + length (canonical_parts list) ≤ length parts → AllByRecursion (IsLaidItem parts) (canonical_items n list)
-items_valid [] n parts h le = tt
-items_valid (plain_entry typ body ∷ list) n parts h le = (plain_laid typ body h.0.0 h.0.1.0, items_valid list n parts h.1 le)
-items_valid (sheet_entry state kind name kept ∷ list) n parts h le =
+items_valid : (d : Layout) → ((k : ℕ) → offset_in d k < 2 ^ 32) → (list : List Entry) (n : ℕ) → Fits list → n + length (canonical_parts list) ≤ length d.parts → AllByRecursion (IsLaidItem d) (canonical_items n list)
+items_valid d small [] n h le = tt
+items_valid d small (plain_entry typ body ∷ list) n h le = (plain_laid typ body h.0.0 h.0.1.0, items_valid d small list n h.1 le)
+items_valid d small (sheet_entry state kind name kept ∷ list) n h le =
     let f = h.0 in
-    (record { name_fits = f.name_fits; tail_fits = tt; has_part = omega arith }, items_valid list (suc n) parts h.1 (omega arith))
-items_valid (table_entry strings ∷ list) n parts h le = (table_laid strings h.0.1, items_valid list n parts h.1 le)
+    (record { name_fits = f.name_fits; tail_fits = tt; has_part = omega arith; offset_fits = small n }, items_valid d small list (suc n) h.1 (omega arith))
+items_valid d small (table_entry strings ∷ list) n h le = (table_laid strings h.0.1, items_valid d small list n h.1 le)
 
 records_laid : (kept : List Kept) → AllByRecursion FitsKept kept → AllByRecursion IsLaidGroup (groups_of (canonical_records kept))
 records_laid [] h = tt
@@ -104,10 +105,9 @@ pub canonical_layout : (list : List Entry) → Fits list → length (lay (canoni
     → IsLayout (canonical list) × (list_of (canonical list) ≡ list)
 canonical_layout list h fits = (
   record {
-    globals = items_valid list 0 (canonical_parts list) h (omega arith);
+    globals = items_valid (canonical list) (λ k. let w = offset_within (canonical list) k in omega arith) list 0 h (omega arith);
     parts = parts_valid list h;
     bytes = canonical_bytes list h fits;
-    fits = fits;
   },
   canonical_list list h,
 )

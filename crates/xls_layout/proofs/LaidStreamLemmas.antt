@@ -73,17 +73,17 @@ le-le32 n h = omega arith
 sheet_laid : (n state kind : ℕ) (name : List ℕ) (tail : List (List ℕ)) → 6 + length name < 2 ^ 16 → AllByRecursion IsBody tail → IsLaidGroup (record { typ = types.BOUND_SHEET_8; body = sheet_body n state kind name; tail = tail })
 sheet_laid n state kind name tail h t = record { fits = record { typ = lit< tt; body = omega arith; tail = t }; no_continue = λ e. omega arith }
 
-item_laid : (parts : List LaidPart) (offset : ℕ → ℕ) (item : LaidItem) → IsLaidItem parts item → IsLaidGroup (group_of_item offset item)
-item_laid parts offset (a_loose g) h = h.laid
-item_laid parts offset (a_plain g) h = h.laid
-item_laid parts offset (a_sheet state kind name tail part) h = sheet_laid (offset part) state kind name tail h.name_fits h.tail_fits
-item_laid parts offset (a_table first strings) h = record { fits = h.fits; no_continue = λ e. omega arith }
+item_laid : (d : Layout) (offset : ℕ → ℕ) (item : LaidItem) → IsLaidItem d item → IsLaidGroup (group_of_item offset item)
+item_laid d offset (a_loose g) h = h.laid
+item_laid d offset (a_plain g) h = h.laid
+item_laid d offset (a_sheet state kind name tail part) h = sheet_laid (offset part) state kind name tail h.name_fits h.tail_fits
+item_laid d offset (a_table first strings) h = record { fits = h.fits; no_continue = λ e. omega arith }
 
-item_groups : (d : Layout) (items : List LaidItem) → AllByRecursion (IsLaidItem d.parts) items → AllByRecursion IsLaidGroup (map (group_of_item (offset_in d)) items)
+item_groups : (d : Layout) (items : List LaidItem) → AllByRecursion (IsLaidItem d) items → AllByRecursion IsLaidGroup (map (group_of_item (offset_in d)) items)
 item_groups d [] h = tt
-item_groups d (i ∷ items) h = (item_laid d.parts (offset_in d) i h.0, item_groups d items h.1)
+item_groups d (i ∷ items) h = (item_laid d (offset_in d) i h.0, item_groups d items h.1)
 
-items_not_eof : (d : Layout) (items : List LaidItem) → AllByRecursion (IsLaidItem d.parts) items → AllByRecursion IsNotEof (map (group_of_item (offset_in d)) items)
+items_not_eof : (d : Layout) (items : List LaidItem) → AllByRecursion (IsLaidItem d) items → AllByRecursion IsNotEof (map (group_of_item (offset_in d)) items)
 items_not_eof d [] h = tt
 items_not_eof d (a_loose g ∷ items) h = let i = h.0 in (i.no_eof, items_not_eof d items h.1)
 items_not_eof d (a_plain g ∷ items) h = let i = h.0 in (among_apart g.typ types.EOF plain_types i.is_plain refl, items_not_eof d items h.1)
@@ -100,21 +100,20 @@ item_read d (a_sheet state kind name tail part) =
 item_read d (a_table first strings) =
     table_item (first ++ front_of (marks_of_strings strings)) (table_of (lists_of strings)) ∷ []
 
-sheet_stands : (d : Layout) (state kind : ℕ) (name : List ℕ) (part : ℕ) → IsLayout d → part < length d.parts
+sheet_stands : (d : Layout) (state kind : ℕ) (name : List ℕ) (part : ℕ) → AllByRecursion IsLaidPart d.parts → part < length d.parts → offset_in d part < 2 ^ 32
     → IsSheetPart (lay d) (offset_at (sheet_body (offset_in d part) state kind name)) (kept_in (part_at d.parts part)) None
-sheet_stands d state kind name part h lt =
+sheet_stands d state kind name part ps lt fits =
     let p = part_at d.parts part in
     let more = drop (suc part) d.parts in
     let within = offset_within d part in
-    let fits = h.fits in
-    let n : le (le32 (offset_in d part)) ≡ offset_in d part = le-le32 (offset_in d part) (omega arith) in
+    let n : le (le32 (offset_in d part)) ≡ offset_in d part = le-le32 (offset_in d part) fits in
     let here : drop (le (le32 (offset_in d part))) (lay d) ≡ bytes_of_part p ++ flat_map bytes_of_part more = ap (λ (k : ℕ). drop k (lay d)) n ∙ from_offset d part lt in
     inl (
       subst (λ (k : ℕ). k ≤ length (lay d)) (sym n) within,
-      subst (λ (x : List ℕ). IsPart x (kept_in p) None) (sym here) (laid_part p more (all_at d.parts part h.parts lt) (all_drop d.parts (suc part) h.parts)),
+      subst (λ (x : List ℕ). IsPart x (kept_in p) None) (sym here) (laid_part p more (all_at d.parts part ps lt) (all_drop d.parts (suc part) ps)),
     )
 
-items_are : (d : Layout) → IsLayout d → (items : List LaidItem) → AllByRecursion (IsLaidItem d.parts) items
+items_are : (d : Layout) → AllByRecursion IsLaidPart d.parts → (items : List LaidItem) → AllByRecursion (IsLaidItem d) items
     → AllZip (IsItem (lay d)) (filter is_globals_type (map (group_of_item (offset_in d)) items)) (flat_map (item_read d) items)
 items_are d l [] h = tt
 items_are d l (a_loose g ∷ items) h = let i = h.0 in rw i.not_read (items_are d l items h.1)
@@ -123,7 +122,7 @@ items_are d l (a_plain g ∷ items) h =
     rw (plain_read g i.is_plain) ((plain_item_type g.typ i.is_plain, refl, refl), items_are d l items h.1)
 items_are d l (a_sheet state kind name tail part ∷ items) h =
     let i = h.0 in
-    ((refl, refl, sheet_stands d state kind name part l i.has_part), items_are d l items h.1)
+    ((refl, refl, sheet_stands d state kind name part l i.has_part i.offset_fits), items_are d l items h.1)
 items_are d l (a_table first strings ∷ items) h =
     ((refl, refl, (laid_eight first strings h.0, laid_sst first strings h.0)), items_are d l items h.1)
 
@@ -142,26 +141,33 @@ items_entries d (a_sheet state kind name tail part ∷ items) =
     ap (λ (es : List Entry). sheet_entry state kind name (kept_in (part_at d.parts part)) ∷ es) (items_entries d items)
 items_entries d (a_table first strings ∷ items) = ap (λ (es : List Entry). table_entry (lists_of strings) ∷ es) (items_entries d items)
 
-pub laid_holds : (d : Layout) → IsLayout d → Holds (lay d) (flat_map (item_read d) d.globals) None
-laid_holds d h =
+-- what the bytes hold, also where numbers are no bytes
+pub laid_holds : (d : Layout) → AllByRecursion (IsLaidItem d) d.globals → AllByRecursion IsLaidPart d.parts
+    → Holds (lay d) (flat_map (item_read d) d.globals) None
+laid_holds d is ps =
     let groups = map (group_of_item (offset_in d)) d.globals in
     record {
       groups = groups;
       globals = record {
-        no_eof = items_not_eof d d.globals h.globals;
+        no_eof = items_not_eof d d.globals is;
         rest = flat_map bytes_of_part d.parts;
-        ends = inl (eof_group, refl, run_laid groups (flat_map bytes_of_part d.parts) (item_groups d d.globals h.globals) (parts_start d.parts h.parts), refl);
+        ends = inl (eof_group, refl, run_laid groups (flat_map bytes_of_part d.parts) (item_groups d d.globals is) (parts_start d.parts ps), refl);
       };
-      items_are = items_are d h d.globals h.globals;
+      items_are = items_are d ps d.globals is;
     }
 
-pub carries_laid : (d : Layout) → IsLayout d → Carries (lay d) (list_of d)
-carries_laid d h = record {
+-- and the list that they carry
+pub carries_laid : (d : Layout) → AllByRecursion (IsLaidItem d) d.globals → AllByRecursion IsLaidPart d.parts
+    → Carries (lay d) (list_of d)
+carries_laid d is ps = record {
   items = flat_map (item_read d) d.globals;
-  holds = laid_holds d h;
+  holds = laid_holds d is ps;
   whole = items_whole d d.globals;
   entries_are = items_entries d d.globals;
 }
 
+pub laid_stream : (d : Layout) → IsLayout d → Carries (lay d) (list_of d)
+laid_stream d h = carries_laid d h.globals h.parts
+
 pub laid_alone : (d : Layout) → IsLayout d → (entries : List Entry) → Carries (lay d) entries → entries ≡ list_of d
-laid_alone d h entries c = one_list (lay d) h.bytes entries (list_of d) c (carries_laid d h)
+laid_alone d h entries c = one_list (lay d) h.bytes entries (list_of d) c (laid_stream d h)

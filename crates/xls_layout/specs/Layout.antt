@@ -119,17 +119,18 @@ pub record IsPlainItem (g : Group) : Type 0 where
   pub laid : IsLaidGroup g
   pub is_plain : is_among g.typ plain_types ≡ true
 
--- a body that has a length of 16 bits, and a part
-pub record IsSheetItem (parts : List LaidPart) (name : List ℕ) (tail : List (List ℕ)) (part : ℕ) : Type 0 where
+-- a body that has a length of 16 bits, and a part whose offset has 32 bits
+pub record IsSheetItem (d : Layout) (name : List ℕ) (tail : List (List ℕ)) (part : ℕ) : Type 0 where
   pub name_fits : 6 + length name < 2 ^ 16
   pub tail_fits : AllByRecursion IsBody tail
-  pub has_part : part < length parts
+  pub has_part : part < length d.parts
+  pub offset_fits : offset_in d part < 2 ^ 32
 
-abbrev pub IsLaidItem : List LaidPart → LaidItem → Type 0
-IsLaidItem parts (a_loose g) = IsLooseItem g
-IsLaidItem parts (a_plain g) = IsPlainItem g
-IsLaidItem parts (a_sheet state kind name tail part) = IsSheetItem parts name tail part
-IsLaidItem parts (a_table first strings) = IsLaidTable first strings
+abbrev pub IsLaidItem : Layout → LaidItem → Type 0
+IsLaidItem d (a_loose g) = IsLooseItem g
+IsLaidItem d (a_plain g) = IsPlainItem g
+IsLaidItem d (a_sheet state kind name tail part) = IsSheetItem d name tail part
+IsLaidItem d (a_table first strings) = IsLaidTable first strings
 
 -- in a sheet part: neither BOF nor EOF, and of a type that isn't one of the eleven of a sheet's records
 abbrev pub IsLooseGroup : Group → Type 0
@@ -141,9 +142,8 @@ pub record IsLaidPart (p : LaidPart) : Type 0 where
   pub is_bof : IsBof p.bof
   pub items : AreItems p.items
 
--- valid items and parts; every number is a byte; and each offset has 32 bits
+-- valid items and parts; every number is a byte
 pub record IsLayout (d : Layout) : Type 0 where
-  pub globals : AllByRecursion (IsLaidItem d.parts) d.globals
+  pub globals : AllByRecursion (IsLaidItem d) d.globals
   pub parts : AllByRecursion IsLaidPart d.parts
   pub bytes : IsBytes (lay d)
-  pub fits : length (lay d) < 2 ^ 32

@@ -1,5 +1,5 @@
-use Rattle.xls_layout.proofs.LaidStreamLemmas.{carries_laid}
+use Rattle.xls_layout.proofs.LaidStreamLemmas.{laid_stream}
 use Rattle.xls_layout.proofs.laws.laid_stream.Goals as goal
 
 pub returns : goal.returns
-returns c = carries_laid
+returns c = laid_stream
