@@ -20,7 +20,7 @@ use Rattle.xls_open.specs.Workbook.{Workbook, view_of}
 use Rattle.xls_open.specs.Opening.{default_options, default_rules, IsOpened}
 use Rattle.xls_made.specs.Made.{made_word, made_stream, made_list, kept_row, made_kept, made_strings, row_cells, made_cells, made_head, made_view, IsMade}
 use Rattle.xls_made.proofs.CarryLemmas.{carries}
-use Rattle.xls_made.proofs.AscendingLemmas.{same_cells}
+use Rattle.xls_open.proofs.AscendingLemmas.{same_cells}
 use Rattle.xls_made.proofs.GivenLemmas.{int_kept, word_kept, int_line, word_line}
 
 -- ---- the globals
