@@ -62,7 +62,7 @@ short_fit (b ∷ bodies) h = let x = h.0 in (omega arith, short_fit bodies h.1)
 table_fits : (n : ℕ) (ms : List Mark) → 8 + length (front_of ms) ≤ 8224 → AllByRecursion IsBody (pieces_of ms) → IsGroup (table_group (le32 n ++ le32 n) ms)
 table_fits n ms h t = record { typ = lit< tt; body = omega arith; tail = t }
 
-table_laid : (strings : List (List ℕ)) → AllByRecursion FitsString strings → IsLaidTable (counts_of strings) (canonical_strings 8 strings)
+pub table_laid : (strings : List (List ℕ)) → AllByRecursion FitsString strings → IsLaidTable (counts_of strings) (canonical_strings 8 strings)
 table_laid strings h = record {
   eight = refl;
   are_laid = laid_canonical 8 strings h;
@@ -89,7 +89,7 @@ records_plain (k ∷ kept) h =
     let f = h.0 in
     ((among_apart k.typ types.BOF sheet_types f.is_kept refl, among_apart k.typ types.EOF sheet_types f.is_kept refl), records_plain kept h.1)
 
-bof_laid : IsLaidGroup sheet_bof
+pub bof_laid : IsLaidGroup sheet_bof
 bof_laid = record { fits = record { typ = lit< tt; body = lit< tt; tail = tt }; no_continue = λ e. omega arith }
 
 part_valid : (kept : List Kept) → AllByRecursion FitsKept kept → IsLaidPart (canonical_part kept)

@@ -1,6 +1,5 @@
-pub mod RunLemmas
-pub mod CarryLemmas
 pub mod ByteLemmas
+pub mod LayoutLemmas
 pub mod LengthLemmas
 pub mod GivenLemmas
 pub mod ReadLemmas
