@@ -1,38 +1,14 @@
 -- The stream of at most 65536 rows is bytes.
-use Rattle.std.proofs.Common.{ℕ, zero, suc, ◌+◌, ◌*◌, ◌%◌, ◌<◌, ◌≤◌, List, [], ◌∷◌, ◌++◌, length, lit<, arith, rules}
-use Rattle.std.specs.List.{flat_map, range_with_len, AllByRecursion}
+use Rattle.std.proofs.Common.{ℕ, zero, suc, ◌+◌, ◌*◌, ◌%◌, ◌<◌, ◌≤◌, [], ◌++◌, lit<, arith, rules}
+use Rattle.std.specs.List.{flat_map, range_with_len}
 use Rattle.xls_bytes.specs.Numbers.{le16}
 use Rattle.xls_model.specs.Stream.{enc}
 use Rattle.xls_model.specs.Walks.{IsBytes}
 use Rattle.xls_model.specs.declared.types.TheConstants as types
-use Rattle.xls_made.specs.Made.{le32, globals_body, sheet_body, table_body, part_body, cell_body, int_body, word_body, made_globals, made_row, made_rows, made_part, made_stream}
-
--- a number below 256
-abbrev pub IsByte : ℕ → Type 0
-IsByte b = b < 256
-
--- all of them are
-abbrev pub AreBytes : List ℕ → Type 0
-AreBytes bytes = AllByRecursion IsByte bytes
-
--- so is the one at each place
-pub each_byte : (bytes : List ℕ) → AreBytes bytes → IsBytes bytes
-each_byte [] h i = lit< tt
-each_byte (b ∷ bs) h zero = h.0
-each_byte (b ∷ bs) h (suc i) = each_byte bs h.1 i
-
--- bytes after bytes
-pub both_bytes : (xs ys : List ℕ) → AreBytes xs → AreBytes ys → AreBytes (xs ++ ys)
-both_bytes [] ys a b = b
-both_bytes (x ∷ xs) ys a b = (a.0, both_bytes xs ys a.1 b)
-
--- a number of 16 bits
-bytes_le16 : (n : ℕ) → n < 65536 → AreBytes (le16 n)
-bytes_le16 n h = (omega arith, (omega arith, tt))
-
--- a number of 32 bits
-bytes_le32 : (n : ℕ) → n < 4294967296 → AreBytes (le32 n)
-bytes_le32 n h = (omega arith, (omega arith, (omega arith, (omega arith, tt))))
+use Rattle.xls_layout.specs.LaidStrings.{le32}
+use Rattle.xls_layout.specs.Canonical.{AreBytes}
+use Rattle.xls_layout.proofs.CanonicalByteLemmas.{each_byte, both_bytes, bytes_le16, bytes_le32, bytes_record}
+use Rattle.xls_made.specs.Made.{globals_body, sheet_body, table_body, part_body, cell_body, int_body, word_body, made_globals, made_row, made_rows, made_part, made_stream}
 
 -- the body of a cell
 bytes_cell : (row column number : ℕ) → row < 65536 → column < 65536 → number < 4294967296
@@ -41,13 +17,6 @@ bytes_cell row column number a b c =
     both_bytes (le16 row) (le16 column ++ (le16 0 ++ le32 number)) (bytes_le16 row a)
     (both_bytes (le16 column) (le16 0 ++ le32 number) (bytes_le16 column b)
     (both_bytes (le16 0) (le32 number) (bytes_le16 0 (lit< tt)) (bytes_le32 number c)))
-
--- a record
-bytes_record : (typ : ℕ) (body : List ℕ) → typ < 65536 → length body < 65536 → AreBytes body
-    → AreBytes (enc typ body)
-bytes_record typ body t l b =
-    both_bytes (le16 typ) (le16 (length body) ++ body) (bytes_le16 typ t)
-    (both_bytes (le16 (length body)) body (bytes_le16 (length body) l) b)
 
 -- a row
 bytes_row : (i : ℕ) → i < 65536 → AreBytes (made_row i)

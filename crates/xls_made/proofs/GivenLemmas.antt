@@ -6,7 +6,7 @@ use Rattle.xls_model.specs.Listing.{Kept}
 use Rattle.xls_model.specs.declared.types.TheConstants as types
 use Rattle.xls_data.specs.Content.{int, text}
 use Rattle.xls_biff.specs.Records.Rk.{rk_content}
-use Rattle.xls_biff.specs.SheetTable.{CellContext, SheetRecord, cells_record, shared_record}
+use Rattle.xls_biff.specs.SheetTable.{CellContext, cells_record, shared_record}
 use Rattle.xls_reading.specs.SheetTable.{kept_line}
 use Rattle.xls_made.specs.Made.{le32, made_word, made_strings, int_body, word_body}
 

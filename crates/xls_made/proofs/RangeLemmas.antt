@@ -23,7 +23,7 @@ use Rattle.xls_open.specs.Opening.{default_options, IsOpened}
 use Rattle.xls_book.specs.LookUps.{IsBox, IsRange}
 use Rattle.xls_open.specs.declared.options.XlsOptions.{XlsOptions}
 use Rattle.xls_made.specs.Made.{made_word, row_cells, made_cells, made_view, made_stream, made_contents, used_in, sum_of_ints, IsNatural, IsMadeRange}
-use Rattle.xls_made.proofs.AscendingLemmas.{none_before}
+use Rattle.xls_open.proofs.AscendingLemmas.{none_before}
 use Rattle.xls_made.proofs.ReadLemmas.{rows_after, opens}
 use Rattle.xls_made.proofs.CornerLemmas.{corners}
 use Rattle.xls_made.proofs.SumLemmas.{contents_from, contents_length, all_natural, made_sum, used_contents}

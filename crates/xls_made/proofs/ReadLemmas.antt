@@ -6,7 +6,6 @@ use Rattle.std.specs.List.{flat_map, range_with_len, AllByRecursion, AllZip}
 use Rattle.xls_model.specs.Listing.{Kept}
 use Rattle.xls_data.specs.Content.{int, text}
 use Rattle.xls_data.specs.Sheets.{SheetContent}
-use Rattle.xls_data.specs.declared.regions.Dimensions.{Dimensions}
 use Rattle.xls_range.specs.Sparse.{last_at, Precedes, IsAscending}
 use Rattle.xls_biff.specs.Cells.{Entry}
 use Rattle.xls_biff.specs.SheetTable.{CellContext, SheetRecord}
@@ -18,9 +17,10 @@ use Rattle.xls_reading.specs.SheetTable.{FormulaEntry, Given, one_cell, adds, gi
 use Rattle.xls_reading.specs.Reading.{SheetView, IsReading, IsContent, IsShown, given_by, gifts_of, values_of, formulas_of, merges_of, last_named, paired}
 use Rattle.xls_open.specs.Workbook.{Workbook, view_of}
 use Rattle.xls_open.specs.Opening.{default_options, default_rules, IsOpened}
+use Rattle.xls_open.proofs.SameLemmas.{same_view}
 use Rattle.xls_made.specs.Made.{made_word, made_stream, made_list, kept_row, made_kept, made_strings, row_cells, made_cells, made_head, made_view, IsMade}
-use Rattle.xls_made.proofs.CarryLemmas.{carries}
-use Rattle.xls_made.proofs.AscendingLemmas.{same_cells}
+use Rattle.xls_made.proofs.LayoutLemmas.{carries}
+use Rattle.xls_open.proofs.AscendingLemmas.{same_cells}
 use Rattle.xls_made.proofs.GivenLemmas.{int_kept, word_kept, int_line, word_line}
 
 -- ---- the globals
@@ -119,15 +119,6 @@ rows_ascend a (suc n) = (
 -- those of the list are
 pub is_set : (n : ℕ) → IsSet (cells_of default_rules (made_list n))
 is_set n = record { classes = classes n; strings = strings n; epoch = epoch n }
-
--- views with equal parts are equal
-same_view : (v w : SheetView) → v.cells ≡ w.cells → v.formulas ≡ w.formulas → v.merges ≡ w.merges
-    → v ≡ w
-same_view v w c f m =
-    let made : List Entry → List FormulaEntry → List Dimensions → SheetView =
-    λ cells formulas merges. record { cells = cells; formulas = formulas; merges = merges } in
-    ap (λ x. made x v.formulas v.merges) c ∙ ap (λ x. made w.cells x v.merges) f
-    ∙ ap (λ x. made w.cells w.formulas x) m
 
 -- the content of the sheet is what was made
 content : (n : ℕ) → n ≤ 65536 → (v : SheetView)

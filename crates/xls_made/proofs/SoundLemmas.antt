@@ -1,5 +1,5 @@
 -- No place of the stream has a fault.
-use Rattle.std.proofs.Common.{◌≡◌, ℕ, ◌+◌, ◌*◌, ◌≤◌, false, List, [], ◌∷◌, ◌++◌, length, refl, ap, ◌∙◌, arith, Option, Some, None, Result, Ok}
+use Rattle.std.proofs.Common.{◌≡◌, ℕ, ◌+◌, ◌*◌, ◌≤◌, false, List, [], ◌∷◌, ◌++◌, length, refl, sym, ap, subst, ◌∙◌, arith, Option, Some, None, Result, Ok}
 use Rattle.std.specs.Prelude.{pos, nat_lt}
 use Rattle.std.specs.Option.{option_or}
 use Rattle.std.specs.List.{flat_map, range_with_len, AllByRecursion}
@@ -14,11 +14,10 @@ use Rattle.xls_reading.specs.GlobalsTable.{fault_of}
 use Rattle.xls_reading.specs.SheetTable.{kept_line}
 use Rattle.xls_reading.specs.Faults.{weight_given, weight_in, weight_fault, kept_fault, IsFull, IsSound}
 use Rattle.xls_open.specs.Opening.{default_rules}
-use Rattle.xls_reading.proofs.LawLemmas.{sound_where_full}
-use Rattle.xls_made.specs.Made.{made_word, kept_row, made_list, made_stream}
-use Rattle.xls_made.proofs.ByteLemmas.{are_bytes}
+use Rattle.xls_open.proofs.LaidLemmas.{laid_sound}
+use Rattle.xls_made.specs.Made.{made_word, kept_row, made_list, made_stream, made_layout}
 use Rattle.xls_made.proofs.LengthLemmas.{made_length}
-use Rattle.xls_made.proofs.CarryLemmas.{carries}
+use Rattle.xls_made.proofs.LayoutLemmas.{laid_so, list_so, valid}
 use Rattle.xls_made.proofs.GivenLemmas.{int_kept, word_kept, int_line, word_line}
 use Rattle.xls_made.proofs.ReadLemmas.{IsRow, IsSet, is_set, rows_below}
 
@@ -85,7 +84,9 @@ full n h =
 within : (n : ℕ) → n ≤ 65536 → length (made_stream n) ≤ 268435456
 within n h = let size : length (made_stream n) ≡ 28 * n + 64 = made_length n in omega arith
 
--- no place of the stream has a fault
+-- so no place of the stream has a fault, as of any layout of such a list
 pub sound : (n : ℕ) → n ≤ 65536 → IsSound default_rules (made_stream n)
 sound n h =
-    (sound_where_full default_rules (made_stream n) (are_bytes n h)).1 (within n h, made_list n, carries n, full n h)
+    let full_there = subst (IsFull default_rules) (sym (list_so n)) (full n h) in
+    let within_there = subst (λ (bytes : List ℕ). length bytes ≤ 268435456) (sym (laid_so n)) (within n h) in
+    subst (IsSound default_rules) (laid_so n) (laid_sound default_rules (made_layout n) (valid n h) full_there within_there)

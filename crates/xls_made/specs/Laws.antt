@@ -2,6 +2,7 @@
 use Rattle.std.specs.Prelude.{◌≡◌, ℕ, ◌≤◌, ◌+◌, ◌*◌, length, codes, Some}
 use Rattle.xls_model.specs.Walks.{IsBytes}
 use Rattle.xls_model.specs.Listing.{Carries}
+use Rattle.xls_layout.specs.Layout.{lay, list_of, IsLayout}
 use Rattle.xls_data.specs.declared.values.Data.{Data}
 use Rattle.xls_data.specs.declared.regions.HeaderRow.TheVariants.{FirstNonEmptyRow}
 use Rattle.xls_range.specs.Grid.{Grid}
@@ -11,11 +12,21 @@ use Rattle.xls_open.specs.Workbook.{Workbook, view_of, view_named}
 use Rattle.xls_reading.specs.Faults.{IsSound}
 use Rattle.xls_open.specs.Opening.{default_options, default_rules, IsOpened}
 use Rattle.xls_book.specs.LookUps.{Equal, Blank, IsRange}
-use Rattle.xls_made.specs.Made.{made_stream, made_list, made_cells, IsMade, IsMadeRange}
+use Rattle.xls_made.specs.Made.{made_stream, made_list, made_layout, made_cells, IsMade, IsMadeRange}
 
 -- the stream of any number of rows carries its list
 abbrev pub MadeCarries : Type 0
 MadeCarries = (n : ℕ) → Carries (made_stream n) (made_list n)
+
+-- it is the canonical layout of that list; with as many rows as there are row numbers at most, that is
+-- a valid one
+pub record IsMadeLayout (n : ℕ) : Type 0 where
+  pub bytes : lay (made_layout n) ≡ made_stream n
+  pub list : list_of (made_layout n) ≡ made_list n
+  pub valid : n ≤ 65536 → IsLayout (made_layout n)
+
+abbrev pub MadeLaid : Type 0
+MadeLaid = (n : ℕ) → IsMadeLayout n
 
 -- it has so many bytes
 abbrev pub MadeLength : Type 0

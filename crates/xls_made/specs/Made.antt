@@ -7,6 +7,9 @@ use Rattle.xls_model.specs.Stream.{enc}
 use Rattle.xls_model.specs.Listing.{Kept, plain_entry, table_entry, sheet_entry}
 use Rattle.xls_model.specs.Listing as listing
 use Rattle.xls_model.specs.declared.types.TheConstants as types
+pub use Rattle.xls_layout.specs.LaidStrings.{le32}
+use Rattle.xls_layout.specs.Layout.{Layout}
+use Rattle.xls_layout.specs.Canonical.{canonical}
 use Rattle.xls_data.specs.Content.{Content, int, text}
 use Rattle.xls_data.specs.Data.{content_of}
 use Rattle.xls_data.specs.Sheets.{SheetContent}
@@ -33,10 +36,6 @@ abbrev pub made_strings : List (List ℕ)
 made_strings = codes "a" ∷ codes "bb" ∷ codes "ccc" ∷ []
 
 -- ---- the bodies of the records
-
--- a 32-bit number as four bytes, the lowest first
-abbrev pub le32 : ℕ → List ℕ
-le32 n = n % 256 ∷ n / 256 % 256 ∷ n / 65536 % 256 ∷ n / 16777216 ∷ []
 
 -- the BOF record of the globals ([MS-XLS] 2.4.21): BIFF8, workbook globals
 abbrev pub globals_body : List ℕ
@@ -117,6 +116,10 @@ abbrev pub made_list : ℕ → List listing.Entry
 made_list n =
     plain_entry types.BOF globals_body ∷ sheet_entry 0 0 name_bytes (made_kept n)
     ∷ table_entry made_strings ∷ []
+
+-- its canonical layout, which the stream is (`made_laid`)
+abbrev pub made_layout : ℕ → Layout
+made_layout n = canonical (made_list n)
 
 -- ---- the cells
 

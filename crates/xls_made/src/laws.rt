@@ -1,13 +1,18 @@
 //! Laws over the stream, each on a function with an empty body.
 
 ghost use Rattle.xls_data.specs.Data.{is_nothing};
-ghost use Rattle.xls_made.specs.Laws.{MadeBytes, MadeCarries, MadeLength, MadeOpens, MadeRange, MadeReading, MadeShows, MadeSound};
+ghost use Rattle.xls_made.specs.Laws.{MadeBytes, MadeCarries, MadeLaid, MadeLength, MadeOpens, MadeRange, MadeReading, MadeShows, MadeSound};
 
 use xls_data::Data;
 
 /// The stream carries its list.
 pub fn made_carries()
     ensures { MadeCarries }
+{}
+
+/// It is the canonical layout of its list, a valid one with at most 65,536 rows.
+pub fn made_laid()
+    ensures { MadeLaid }
 {}
 
 /// It has 64 bytes, and 28 for each row.

@@ -19,3 +19,6 @@ pub mod CheckGlobalsLemmas
 pub mod CheckPartLemmas
 pub mod CheckLemmas
 pub mod AlikeLemmas
+pub mod AscendingLemmas
+pub mod SameLemmas
+pub mod LaidLemmas

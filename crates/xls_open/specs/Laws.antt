@@ -1,9 +1,20 @@
 -- Laws over opening and the check of a stream.
-use Rattle.std.specs.Prelude.{◌↔◌, ℕ, ◌≤◌, List, length}
+use Rattle.std.specs.Prelude.{◌≡◌, ◌↔◌, ℕ, ◌≤◌, List, length, Option, None, Some, Result, Ok, Err}
+use Rattle.std.specs.Io.KnownBytes.{IsAtEnd}
+use Rattle.xls_model.specs.Walks.{IsBytes}
+use Rattle.xls_model.specs.Listing.{Entry, Carries}
 use Rattle.xls_strings.specs.declared.error.XlsError.{XlsError}
+use Rattle.xls_strings.specs.declared.error.XlsError.TheVariants as errors
+use Rattle.xls_layout.specs.Layout.{Layout, lay, list_of, IsLayout}
 use Rattle.xls_reading.specs.Rules.{Rules}
-use Rattle.xls_reading.specs.Faults.{FirstFault}
-use Rattle.xls_open.specs.Checking.{FirstChecked}
+use Rattle.xls_reading.specs.GlobalsTable.{forced_fault}
+use Rattle.xls_reading.specs.Reading.{IsReading}
+use Rattle.xls_reading.specs.Faults.{FirstFault, IsSound, IsFull}
+use Rattle.xls_source.specs.Causes.{Rose}
+use Rattle.xls_open.specs.Workbook.{Workbook, rules_of, view_of}
+use Rattle.xls_open.specs.Opening.{IsOpened, Opens}
+use Rattle.xls_open.specs.Checking.{FirstChecked, Checks}
+use Rattle.xls_open.specs.declared.options.XlsOptions.{XlsOptions}
 
 -- within the byte limit, the first fault of a stream is the one that a check finds under the forced page
 -- and the bound of cells, whatever the limit and the functions are
@@ -11,3 +22,55 @@ abbrev pub CheckedAlike : Type 0
 CheckedAlike =
     (rules : Rules) (bytes : List ℕ) → length bytes ≤ rules.max_bytes → (e : XlsError)
     → FirstFault rules bytes e ↔ FirstChecked rules.force_codepage rules.max_cells bytes e
+
+-- ---- one list
+
+-- a stream carries at most one list; within the limit it has no fault exactly where the forced page, if
+-- any, is kept and it carries a full list
+pub record HasOneList (rules : Rules) (bytes : List ℕ) : Type 0 where
+  pub one : (entries others : List Entry) → Carries bytes entries → Carries bytes others → entries ≡ others
+  pub full : length bytes ≤ rules.max_bytes
+      → IsSound rules bytes
+      ↔ ((forced_fault rules.force_codepage ≡ None) × (entries : List Entry) × Carries bytes entries
+      × IsFull rules entries)
+
+abbrev pub OneListPerStream : Type 0
+OneListPerStream = (rules : Rules) (bytes : List ℕ) → IsBytes bytes → HasOneList rules bytes
+
+-- two streams that carry one list, opened under the same options, give one workbook: sheets, values,
+-- formula texts, merged regions, defined names, date system and classes
+abbrev pub SameListSameBook : Type 0
+SameListSameBook =
+    (options : XlsOptions) (bytes others : List ℕ) (entries : List Entry)
+    → Carries bytes entries → Carries others entries
+    → (book second : Workbook) → IsOpened options book bytes → IsOpened options second others
+    → book ≡ second
+
+-- ---- layouts
+
+-- no place of a valid layout within the limit has a fault where its list is full
+abbrev pub LaidSound : Type 0
+LaidSound = (rules : Rules) (d : Layout) → IsLayout d → IsFull rules (list_of d)
+    → length (lay d) ≤ rules.max_bytes → IsSound rules (lay d)
+
+-- the whole reading of the list, with nothing left; or out of memory; or Io by the count
+abbrev pub OpensAs : XlsOptions → List Entry → Option (List ℕ) → ℕ → ℕ → Result Workbook XlsError → Type 0
+OpensAs options entries after before now (Ok book) =
+    (book.options ≡ options) × IsReading (rules_of options) entries (view_of book) × IsAtEnd after
+OpensAs options entries after before now (Err errors.Memory) = Unit {0}
+OpensAs options entries after before now (Err errors.Io) = Rose before now
+OpensAs options entries after before now (Err e) = ⊥
+
+-- so is what opening answers over a source that has such a layout left
+abbrev pub LaidOpens : Type 0
+LaidOpens = (options : XlsOptions) (d : Layout) → IsLayout d → IsFull (rules_of options) (list_of d)
+    → length (lay d) ≤ options.max_bytes
+    → (after : Option (List ℕ)) (before now : ℕ) (result : Result Workbook XlsError)
+    → Opens options (Some (lay d)) after before now result
+    → OpensAs options (list_of d) after before now result
+
+-- and a check of its bytes, whatever their number, has no refusal
+abbrev pub LaidChecks : Type 0
+LaidChecks = (rules : Rules) (d : Layout) → IsLayout d → IsFull rules (list_of d)
+    → (result : Result (Unit {0}) XlsError)
+    → Checks rules.force_codepage rules.max_cells (lay d) result → result ≡ Ok tt

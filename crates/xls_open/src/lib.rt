@@ -14,7 +14,9 @@ mod options;
 mod part;
 
 pub use check::check_stream;
-pub use laws::checked_alike;
+pub use laws::{
+    checked_alike, laid_checks, laid_opens, laid_sound, one_list_per_stream, same_list_same_book,
+};
 pub use opened::{Opened, open};
 pub use options::XlsOptions;
 pub use part::Content;

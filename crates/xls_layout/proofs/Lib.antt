@@ -1,0 +1,12 @@
+pub mod TypeLemmas
+pub mod LaidTableLemmas
+pub mod LaidGroupLemmas
+pub mod LaidPartLemmas
+pub mod LaidStreamLemmas
+pub mod GrammarLemmas
+pub mod TableLemmas
+pub mod CanonicalTableLemmas
+pub mod CanonicalByteLemmas
+pub mod CanonicalListLemmas
+pub mod StandardFacts
+pub mod SampleLayouts
