@@ -1,18 +1,14 @@
 -- How a command ends, by what opening, reading and writing answer.
-use Rattle.std.proofs.Common.{◌≡◌, ◌⊎◌, ◌∙◌, ◌==◌, ℕ, ◌≤◌, List, [], ◌∷◌, ap, length, Bool, true, false, if◌then◌else◌, Option, Some, None, IfSome, Result, Ok, Err, inl, inr, refl, sym, subst, arith}
+use Rattle.std.proofs.Common.{◌≡◌, ◌⊎◌, ℕ, ◌≤◌, List, [], ap, length, Option, Some, None, IfSome, Result, Ok, Err, inl, inr, refl, sym, subst, arith}
 use Rattle.std.specs.Borrow.{Bor}
-use Rattle.std.specs.Cmp.Lexicographic.{pointwise}
-use Rattle.std.specs.Option.{option_or}
 use Rattle.std.specs.Result.{IsErrAnd}
 use Rattle.std.specs.Str.{chars}
-use Rattle.std.proofs.lemmas.Slice.Zip.{AllZip-long}
 use Rattle.std.specs.Io.KnownBytes.{Consumes, IsAtEnd}
 use Rattle.std.proofs.KnownBytes.{Consumes-whole, Keeps-refl}
 use Rattle.xls_strings.specs.declared.error.XlsError.{XlsError}
 use Rattle.xls_strings.specs.declared.error.XlsError.TheVariants as errors
 use Rattle.xls_open.specs.Workbook.{Workbook, view_named}
-use Rattle.xls_reading.specs.Reading.{last_named, paired}
-use Rattle.xls_data.specs.Sheets.{SheetContent}
+use Rattle.xls_open.proofs.SameLemmas.{same_list_same_book}
 use Rattle.xls_reading.specs.Faults.{IsSound}
 use Rattle.xls_open.specs.Opening.{OpenCause, IsOpened, default_options, default_rules}
 use Rattle.xls_source.specs.Bounded.{ReadCause}
@@ -241,32 +237,12 @@ not_opened-steady {c} command left f f' before after r e cause =
 
 -- ---- a sheet of a name
 
--- whether a sheet has a name doesn't hang on what the sheets show
-both_none : {X : Type 0} (a b : Option X) (same : Bool) (x y : X) → (a ≡ None → b ≡ None)
-    → option_or a (if same then Some x else None) ≡ None → option_or b (if same then Some y else None) ≡ None
-both_none None b true x y h e = cc
-both_none None b false x y h e = rw (h refl) refl
-both_none (Some z) b same x y h e = cc
-
-none_alike : {X : Type 0} (sheets : List SheetContent) (xs ys : List X) (name : List ℕ) → length xs ≡ length ys
-    → last_named (paired sheets xs) name ≡ None → last_named (paired sheets ys) name ≡ None
-none_alike [] xs ys name e n = refl
-none_alike (s ∷ ss) [] [] name e n = refl
-none_alike (s ∷ ss) [] (y ∷ ys) name e n = absurd (omega (arith, e))
-none_alike (s ∷ ss) (x ∷ xs) [] name e n = absurd (omega (arith, e))
-none_alike (s ∷ ss) (x ∷ xs) (y ∷ ys) name e n =
-    both_none (last_named (paired ss xs) name) (last_named (paired ss ys) name) (pointwise ◌==◌ s.name name) x y
-    (none_alike ss xs ys name (omega (arith, e))) n
-
--- where one workbook of the bytes has none of this name, no one has
+-- where the workbook of the bytes has no sheet of this name, none of them has
 no_sheet : (name bytes : List ℕ) (book : Workbook) → IsOpened default_options book bytes
     → view_named book (chars name) ≡ None → HasSheet name bytes → ⊥
 no_sheet name bytes book opened none (other, opened', some) =
-    let r = opened.every opened.entries opened.carries in
-    let r' = opened'.every opened.entries opened.carries in
-    let long = sym (AllZip-long _ _ _ r.contents) ∙ AllZip-long _ _ _ r'.contents in
-    some (subst (λ (ss : List SheetContent). last_named (paired ss other.contents) (chars name) ≡ None)
-    (r.sheets ∙ sym r'.sheets) (none_alike book.sheets book.contents other.contents (chars name) long none))
+    let same = same_list_same_book default_options bytes bytes opened.entries opened.carries opened.carries book other opened opened' in
+    some (subst (λ (b : Workbook). view_named b (chars name) ≡ None) same none)
 
 -- what is written of the workbook that the bytes open to
 csv_done : (name : Bor (List ℕ)) (left : Option (List ℕ)) (book : Workbook) (text : List ℕ)
