@@ -2,7 +2,7 @@
 use Rattle.std.specs.Prelude.{ℕ, ◌+◌, ◌-◌, min, max, List, [], ◌∷◌, map, unwrap_or}
 use Rattle.std.specs.List.{flat_map, range_with_len}
 use Rattle.xls_data.specs.Content.{Content, nothing}
-use Rattle.xls_range.specs.Grid.{Grid, no_cells}
+use Rattle.xls_range.specs.Grid.{Grid}
 use Rattle.xls_range.specs.Sparse.{last_at}
 use Rattle.xls_biff.specs.Cells.{Entry}
 use Rattle.xls_csv.specs.Text.{csv_text}

@@ -1,18 +1,14 @@
 -- Laws of the CSV, each over the definitions alone.
-use Rattle.std.specs.Prelude.{◌≡◌, ◌≤◌, ◌<◌, ℕ, ◌+ℤ◌, pos, true, false, Bool, List, map}
-use Rattle.std.specs.String.{string_bytes}
-use Rattle.xls_data.specs.Content.{Content, date}
+use Rattle.std.specs.Prelude.{◌≡◌, Bool, List, map}
+use Rattle.xls_data.specs.Content.{date}
 use Rattle.xls_data.specs.Data.{content_of, data_text}
 use Rattle.xls_data.specs.Dates.{DateParts}
-use Rattle.xls_data.specs.SerialDays.{IsDayNumber, day_number, last_day, last_day_of_1904}
 use Rattle.xls_data.specs.declared.values.Data.{Data}
 use Rattle.xls_range.specs.Grid.{Grid, IsRange}
 use Rattle.xls_range.specs.Sparse.{IsAscending, IsDense}
-use Rattle.xls_range.specs.Lists.{rows_of}
 use Rattle.xls_biff.specs.Cells.{Entry, entry_of, Position}
-use Rattle.xls_csv.specs.Dates.{serial_date}
 use Rattle.xls_csv.specs.Fields.{field}
-use Rattle.xls_csv.specs.Text.{rows_csv, csv_text, contents_of}
+use Rattle.xls_csv.specs.Text.{rows_csv, contents_of}
 use Rattle.xls_csv.specs.Dense.{dense, dense_rows, sheet_csv}
 use Rattle.xls_csv.specs.Walk.{walk}
 

@@ -3,7 +3,8 @@
 ghost use Rattle.std.specs.Prelude.{◌≡◌, ◌++◌, map, IfOk, OnOk};
 ghost use Rattle.xls_data.specs.Data.{content_of};
 ghost use Rattle.xls_csv.specs.Fields.{field};
-ghost use Rattle.xls_csv.specs.Text.{contents_of, csv_text};
+ghost use Rattle.xls_csv.specs.Steps.{IsBetweenRecords, written};
+ghost use Rattle.xls_csv.specs.Text.{contents_of, csv_text, row_csv};
 
 use crate::record::Record;
 use csv::Writer;
@@ -23,6 +24,23 @@ fn fill(fields: &mut Record, row: &[Data]) -> Result<(), AllocError>
     Ok(())
 }
 
+/// Writes the record of a row, whose fields are gathered in another one.
+fn write_row(
+    writer: &mut Writer<Vec<u8>>,
+    fields: &mut Record,
+    row: &[Data],
+) -> Result<(), AllocError>
+    requires { IsBetweenRecords writer.old }
+    ensures between { OnOk result (IsBetweenRecords writer.new) }
+    ensures written { OnOk result (written writer.new ≡ written writer.old ++ row_csv (map content_of row.now)) }
+{
+    fill(fields, row)?;
+    match writer.write_byte_record(fields.as_record()) {
+        Ok(()) => Ok(()),
+        Err(_) => Err(AllocError),
+    }
+}
+
 /// The CSV of a range: a record for each row, in the fields that `field_text` gives, with quotes only
 /// where a field needs them, commas, and a newline at the end of each. An empty range has the empty text.
 pub fn export_csv(alloc: Global, range: &Range<Data>) -> Result<StreamBytes, AllocError>
@@ -31,10 +49,7 @@ pub fn export_csv(alloc: Global, range: &Range<Data>) -> Result<StreamBytes, All
     let mut writer = Writer::from_writer(Vec::new(alloc));
     let mut fields = Record::new(alloc);
     for row in range.rows() {
-        fill(&mut fields, row)?;
-        writer
-            .write_byte_record(fields.as_record())
-            .map_err(|_| AllocError)?;
+        write_row(&mut writer, &mut fields, row)?;
     }
     match writer.into_inner() {
         Ok(bytes) => Ok(StreamBytes::from_vec(bytes)),

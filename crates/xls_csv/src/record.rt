@@ -1,7 +1,7 @@
 //! A record of fields, in memory that is used again for each row.
 
 ghost use Rattle.std.specs.Prelude.{◌≡◌, ◌∷◌, ◌++◌, [], map, IfOk, OnOk};
-ghost use Rattle.csv.specs.Records.{fields_of};
+ghost use Rattle.csv.specs.Records.{fields_of, partial_of};
 ghost use Rattle.xls_data.specs.Data.{content_of};
 ghost use Rattle.xls_csv.specs.Fields.{field};
 
@@ -10,6 +10,21 @@ use csv::ByteRecord;
 use std::alloc::{AllocError, Global};
 use std::marker::Model;
 use xls_data::Data;
+
+/// Adds a field. After a refusal there is none.
+fn add(fields: &mut ByteRecord, field: &[u8]) -> Result<(), AllocError>
+    requires { partial_of fields.old ≡ [] }
+    ensures ok { OnOk result (fields_of fields.new ≡ fields_of fields.old ++ field.now ∷ []) }
+    ensures whole { partial_of fields.new ≡ [] }
+{
+    match fields.push_field(field) {
+        Ok(()) => Ok(()),
+        Err(error) => {
+            fields.clear();
+            Err(error)
+        }
+    }
+}
 
 /// The fields of a row. Contracts see the list of their texts.
 #[derive(Drop)]
@@ -53,11 +68,11 @@ impl Record {
         ensures { OnOk result (self.new ≡ self.old ++ field (content_of value.now) ∷ []) }
     {
         if let Data::String(text) = value {
-            return self.fields.push_field(text.as_bytes());
+            return add(&mut self.fields, text.as_bytes());
         }
         self.printed.clear();
         push_value(value, &mut self.printed)?;
-        self.fields.push_field(self.printed.as_bytes())
+        add(&mut self.fields, self.printed.as_bytes())
     }
 
     pub(crate) fn as_record(&self) -> &ByteRecord

@@ -1,11 +1,11 @@
 //! The CSV of a sheet's cells, row by row.
 
-ghost use Rattle.std.specs.Prelude.{◌≡◌, ◌≤◌, ◌^◌, ◌+◌, [], map, slice_get, OnErr, OnOk, IfOk};
+ghost use Rattle.std.specs.Prelude.{◌≡◌, ◌≤◌, ◌^◌, ◌+◌, ◌++◌, ◌∷◌, [], map, slice_get, OnErr, OnOk, IfOk};
 ghost use Rattle.std.specs.Option.{option_map};
 ghost use Rattle.csv.specs.Writing.{default_writer, row_text};
 ghost use Rattle.xls_reading.specs.Reading.{SheetView};
 ghost use Rattle.xls_csv.specs.Fields.{field};
-ghost use Rattle.xls_csv.specs.Walk.{GivesRow, left_along, row_along, walk};
+ghost use Rattle.xls_csv.specs.Walk.{GivesRow, left_along, row_along, take_at, walk};
 
 use crate::ahead::Ahead;
 use crate::extent::extent_of;
@@ -17,8 +17,23 @@ use std::mem;
 use xls_book::Xls;
 use xls_data::Data;
 
-/// Fills a record with the fields of a row: at each of so many columns the value of the next cell, if
-/// that stands there, and else an empty field.
+/// Adds the field of the next cell, if that stands at this position, and else an empty one.
+fn push_at(
+    fields: &mut Record,
+    cells: &mut Ahead<'_>,
+    row: u64,
+    column: u64,
+) -> Result<(), AllocError>
+    ensures field { OnOk result (fields.new ≡ fields.old ++ field (take_at row column cells.old).0 ∷ []) }
+    ensures cells { cells.new ≡ (take_at row column cells.old).1 }
+{
+    match cells.take_at(row, column) {
+        Some(value) => fields.push(value),
+        None => fields.push(&Data::Empty),
+    }
+}
+
+/// Fills a record with the fields of a row, for so many columns from one on.
 fn fill(
     fields: &mut Record,
     cells: &mut Ahead<'_>,
@@ -32,10 +47,7 @@ fn fill(
 {
     fields.clear();
     for place in column..column + width {
-        match cells.take_at(row, place) {
-            Some(value) => fields.push(value)?,
-            None => fields.push(&Data::Empty)?,
-        }
+        push_at(fields, cells, row, place)?;
     }
     Ok(())
 }
