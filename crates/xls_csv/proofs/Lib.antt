@@ -1,0 +1,6 @@
+pub mod DateLemmas
+pub mod FieldLemmas
+pub mod ExtentLemmas
+pub mod WalkLemmas
+pub mod DenseLemmas
+pub mod BoxLemmas

@@ -1,0 +1,7 @@
+pub mod Dates
+pub mod Fields
+pub mod Text
+pub mod Dense
+pub mod Walk
+pub mod Steps
+pub mod Laws

@@ -1,0 +1,55 @@
+-- What is seen of cells that are gone through once, row by row. Where they ascend, these are the rows of
+-- the dense box.
+use Rattle.std.specs.Prelude.{◌≡◌, ℕ, zero, suc, ◌+◌, ◌==◌, ◌&&◌, if◌then◌else◌, Bool, true, false, List, [], ◌∷◌}
+use Rattle.xls_data.specs.Content.{Content, nothing}
+use Rattle.xls_biff.specs.Cells.{Entry}
+use Rattle.xls_csv.specs.Text.{row_csv}
+use Rattle.xls_csv.specs.Dense.{box_of}
+
+-- ---- rows that are given one after another
+
+-- the bytes of the row that was given last, and the rows that are still to come
+pub record Rows : Type 0 where
+  pub row : List ℕ
+  pub left : List (List Content)
+
+-- a call for the next row: its bytes, or that there is none
+abbrev pub GivesRow : Rows → Bool → Rows → Type 0
+GivesRow before true after =
+    (row : List Content) × (before.left ≡ row ∷ after.left) × (after.row ≡ row_csv row)
+GivesRow before false after = (before.left ≡ []) × (after.left ≡ [])
+
+-- ---- the walk
+
+-- a value, and the cells that are left after it
+abbrev pub Taken : Type 0
+Taken = Content × List Entry
+
+-- the value of the first cell, where it stands at this position, and else nothing
+abbrev pub take_at : ℕ → ℕ → List Entry → Taken
+take_at row column [] = (nothing, [])
+take_at row column (c ∷ cs) =
+    if (c.0.0 == row) && (c.0.1 == column) then (c.1, cs) else (nothing, c ∷ cs)
+
+-- the values of a row from a column on, for so many columns, and the cells that are left after them
+abbrev pub row_along : ℕ → ℕ → ℕ → List Entry → List Content
+row_along row column zero cells = []
+row_along row column (suc n) cells =
+    (take_at row column cells).0 ∷ row_along row (column + 1) n (take_at row column cells).1
+
+abbrev pub left_along : ℕ → ℕ → ℕ → List Entry → List Entry
+left_along row column zero cells = cells
+left_along row column (suc n) cells =
+    left_along row (column + 1) n (take_at row column cells).1
+
+-- so many rows from a row on
+abbrev pub rows_along : ℕ → ℕ → ℕ → ℕ → List Entry → List (List Content)
+rows_along zero row left width cells = []
+rows_along (suc n) row left width cells =
+    row_along row left width cells
+    ∷ rows_along n (row + 1) left width (left_along row left width cells)
+
+-- all rows of these cells
+abbrev pub walk : List Entry → List (List Content)
+walk cells =
+    rows_along (box_of cells).height (box_of cells).top (box_of cells).left (box_of cells).width cells

@@ -1,0 +1,87 @@
+//! The box of a sheet's cells.
+
+ghost use Rattle.std.specs.Prelude.{◌≡◌, ◌≤◌, ◌^◌, ◌+◌, max, min};
+ghost use Rattle.xls_csv.specs.Dense.{box_between, box_of};
+ghost use Rattle.xls_csv.specs.Steps.{IsSpan};
+
+use xls_book::Values;
+
+/// A box: its first row and column, and how many rows and columns it has.
+#[derive(Clone, Copy)]
+pub(crate) struct Extent {
+    pub(crate) top: u64,
+    pub(crate) left: u64,
+    pub(crate) height: u64,
+    pub(crate) width: u64,
+}
+
+/// The first and the last position of a box.
+#[derive(Clone, Copy)]
+struct Corners {
+    start: (u32, u32),
+    end: (u32, u32),
+}
+
+impl Corners {
+    /// Those of the smallest box that holds this one and a position.
+    fn with(self, row: u32, column: u32) -> Corners
+        ensures start { result.start ≡ (min row self.start.0, min column self.start.1) }
+        ensures end { result.end ≡ (max row self.end.0, max column self.end.1) }
+    {
+        Corners {
+            start: (row.min(self.start.0), column.min(self.start.1)),
+            end: (row.max(self.end.0), column.max(self.end.1)),
+        }
+    }
+
+    /// The box.
+    fn extent(self) -> Extent
+        requires rows { self.start.0 ≤ self.end.0 }
+        requires columns { self.start.1 ≤ self.end.1 }
+        ensures between { result ≡ box_between self.start self.end }
+        ensures rows { result.top + result.height ≤ 2 ^ 32 }
+        ensures columns { result.left + result.width ≤ 2 ^ 32 }
+    {
+        let top = u64::from(self.start.0);
+        let left = u64::from(self.start.1);
+        Extent {
+            top,
+            left,
+            height: u64::from(self.end.0) + 1 - top,
+            width: u64::from(self.end.1) + 1 - left,
+        }
+    }
+}
+
+/// The corners of the smallest box that holds a position and those of all these cells.
+fn span(row: u32, column: u32, values: Values<'_>) -> Corners
+    ensures span { IsSpan (row, column) values.entry result }
+    ensures rows { result.start.0 ≤ result.end.0 }
+    ensures columns { result.start.1 ≤ result.end.1 }
+{
+    let mut corners = Corners {
+        start: (row, column),
+        end: (row, column),
+    };
+    for (row, column, _) in values {
+        corners = corners.with(row, column);
+    }
+    corners
+}
+
+/// The smallest box that holds all of these cells, or the one without a position.
+pub(crate) fn extent_of(mut values: Values<'_>) -> Extent
+    ensures smallest { result ≡ box_of values.entry }
+    ensures rows { result.top + result.height ≤ 2 ^ 32 }
+    ensures columns { result.left + result.width ≤ 2 ^ 32 }
+{
+    match values.next() {
+        Some((row, column, _)) => span(row, column, values).extent(),
+        None => Extent {
+            top: 0,
+            left: 0,
+            height: 0,
+            width: 0,
+        },
+    }
+}

@@ -1,0 +1,69 @@
+//! The field of a value.
+
+ghost use Rattle.std.specs.Prelude.{◌≡◌, ◌≤◌, ◌++◌, IfOk, MatchOption, OnOk};
+ghost use Rattle.std.specs.String.{string_bytes};
+ghost use Rattle.std.specs.Str.{IsAscii};
+ghost use Rattle.xls_data.specs.Data.{content_of, data_text};
+ghost use Rattle.xls_csv.specs.Dates.{date_text, last_day_in, serial_date};
+ghost use Rattle.xls_csv.specs.Fields.{field};
+ghost use Rattle.xls_csv.specs.Steps.{IsShownDay};
+
+use crate::dates::{day_of, day_text};
+use std::alloc::{AllocError, Global};
+use std::str::from_utf8;
+use xls_data::Data;
+
+/// The serial day of a value that is shown as a date, and whether days count from 1904.
+fn shown_day(value: &Data) -> Option<(u64, bool)>
+    ensures { IsShownDay value.now result }
+{
+    match value {
+        Data::DateTime(date) => Some((day_of(*date)?, date.has_1904_epoch())),
+        _ => None,
+    }
+}
+
+/// Appends ASCII, which is text as it stands.
+fn push_ascii(bytes: &[u8], text: &mut String) -> Result<(), AllocError>
+    requires { IsAscii bytes.now }
+    ensures { OnOk result (string_bytes text.new ≡ string_bytes text.old ++ bytes.now) }
+{
+    text.push_str(from_utf8(bytes).unwrap())
+}
+
+/// Appends the date of a serial day.
+fn push_day(day: u64, is_1904: bool, text: &mut String) -> Result<(), AllocError>
+    requires first { 1 ≤ day }
+    requires last { day ≤ last_day_in is_1904 }
+    ensures { OnOk result (string_bytes text.new ≡ string_bytes text.old ++ date_text (serial_date is_1904 day)) }
+{
+    push_ascii(&day_text(day, is_1904), text)
+}
+
+/// Appends what a value prints.
+fn push_printed(value: &Data, text: &mut String) -> Result<(), AllocError>
+    ensures { OnOk result (string_bytes text.new ≡ string_bytes text.old ++ data_text value.now) }
+{
+    write!(text, "{value}")?;
+    Ok(())
+}
+
+/// Appends the field of a value.
+pub(crate) fn push_value(value: &Data, text: &mut String) -> Result<(), AllocError>
+    ensures { OnOk result (string_bytes text.new ≡ string_bytes text.old ++ field (content_of value.now)) }
+{
+    match shown_day(value) {
+        Some((day, is_1904)) => push_day(day, is_1904, text),
+        None => push_printed(value, text),
+    }
+}
+
+/// The field of a value in CSV, before any quotes: a date without a time of day is its day, as
+/// `2020-02-29`, from day 1 to 9999-12-31; every other value is its printed text, a blank the empty one.
+pub fn field_text(alloc: Global, value: &Data) -> Result<String, AllocError>
+    ensures { IfOk result (λ text. string_bytes text ≡ field (content_of value.now)) }
+{
+    let mut text = String::new(alloc);
+    push_value(value, &mut text)?;
+    Ok(text)
+}

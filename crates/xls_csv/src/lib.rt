@@ -1,0 +1,19 @@
+//! The CSV of a sheet: of a range at once, or of a sheet's cells row by row.
+#![tactic(auto)]
+
+mod ahead;
+mod dates;
+mod export;
+mod extent;
+mod fields;
+mod laws;
+mod record;
+mod rows;
+
+pub use export::export_csv;
+pub use fields::field_text;
+pub use laws::{dense_boxes, printed_fields, rows_of_sheet};
+pub use rows::CsvRows;
+
+#[cfg(test)]
+mod tests;
