@@ -7,7 +7,7 @@ use xls_data::Cell;
 
 /// The formulas of a sheet whose text isn't empty: absolute row, absolute column and text, by row, then
 /// column. Contracts see the list of those that are left.
-#[derive(Clone, Drop)]
+#[derive(Drop)]
 pub struct Formulas<'a> {
     cells: &'a [Cell<String>],
 }

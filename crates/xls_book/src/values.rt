@@ -5,7 +5,7 @@ use xls_data::{Cell, Data};
 
 /// The values of a sheet: absolute row, absolute column and value, by row, then column. Contracts
 /// see the list of those that are left.
-#[derive(Clone, Drop)]
+#[derive(Drop)]
 pub struct Values<'a> {
     cells: &'a [Cell<Data>],
 }
@@ -45,6 +45,13 @@ impl<'a> Iterator for Values<'a> {
 impl<'a> Values<'a> {
     ghost use Rattle.std.specs.Prelude.{◌≡◌, map};
     ghost use Rattle.xls_open.specs.Workbook.{cell_content};
+
+    /// The same values, to be gone through once more. Takes no memory.
+    pub fn again(&self) -> Values<'a>
+        ensures { result ≡ self.now }
+    {
+        Values { cells: self.cells }
+    }
 
     pub(crate) fn new(cells: &'a [Cell<Data>]) -> Values<'a>
         ensures { result ≡ map cell_content cells.now }

@@ -96,7 +96,7 @@ impl<'a> CsvRows<'a> {
     pub fn new(alloc: Global, values: Values<'a>) -> CsvRows<'a>
         ensures { result.left ≡ walk values.entry }
     {
-        let extent = extent_of(values.clone());
+        let extent = extent_of(values.again());
         CsvRows {
             alloc,
             cells: Ahead::new(values),
