@@ -375,11 +375,11 @@ pub all_checked : {c : Command} {IsDone : List ℕ → List ℕ → Type 0} → 
 all_checked {c} checks left left' before after r bytes all end le =
     ends-either c left before after r (checks.refuses.given_up left)
     (λ text is.
-        let sound = Consumes-whole left left' bytes (IsSound default_rules) all end (checks.sound bytes text le is) in
-        (checks.done left (well_checked left sound), checks.output left left' bytes text all end is))
+    let sound = Consumes-whole left left' bytes (IsSound default_rules) all end (checks.sound bytes text le is) in
+    (checks.done left (well_checked left sound), checks.output left left' bytes text all end is))
     (λ text is.
-        let line = checks_fault left left' bytes text all end is in
-        (checks.refuses.refused left (well_refused left text line), checks.refuses.line left text line))
+    let line = checks_fault left left' bytes text all end is in
+    (checks.refuses.refused left (well_refused left text line), checks.refuses.line left text line))
 
 pub all_checked-steady : {c : Command} {IsDone : List ℕ → List ℕ → Type 0} → IsChecking c IsDone
     → (left left' : Option (List ℕ)) (before after : SinkState) (r : Result Ending Stop) (bytes : List ℕ)

@@ -11,7 +11,8 @@ use Rattle.xls_props.specs.Properties.{IsProperties}
 use Rattle.xls_props.specs.declared.properties.WorkbookProperties.{WorkbookProperties}
 use Rattle.xls_open.specs.Workbook.{Workbook, view_named}
 use Rattle.xls_reading.specs.Reading.{SheetView}
-use Rattle.xls_dump.specs.Temp.{sheet_csv, BookCited, IsBookCited, refs_text}
+use Rattle.xls_csv.specs.Dense.{sheet_csv}
+use Rattle.xls_dump.specs.Temp.{BookCited, IsBookCited, refs_text}
 use Rattle.xls_reading.specs.Faults.{FirstFault, IsSound}
 use Rattle.xls_open.specs.Opening.{IsOpened, default_options, default_rules}
 use Rattle.xls_dump.specs.Report.{report, sheet_report, sound_line, fault_line}

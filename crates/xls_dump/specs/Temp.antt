@@ -1,13 +1,9 @@
 -- temporary
 use Rattle.std.specs.Prelude.{ℕ, List, []}
-use Rattle.xls_biff.specs.Cells.{Entry}
 use Rattle.xls_strings.specs.declared.error.XlsError.{XlsError}
 use Rattle.xls_open.specs.Opening.{default_rules}
 use Rattle.xls_open.specs.Checking.{FirstChecked}
 use Rattle.xls_open.specs.declared.options.XlsOptions.{XlsOptions}
-
-abbrev pub sheet_csv : List Entry → List ℕ
-sheet_csv cells = []
 
 pub record BookCited : Type 0 where
   pub names : List (List ℕ)

@@ -180,7 +180,7 @@ impl Buffer {
     }
 
     /// Puts some bytes.
-    fn put<K: Sink>(&mut self, sink: &mut K, bytes: &[u8]) -> Result<(), Stop>
+    pub fn put<K: Sink>(&mut self, sink: &mut K, bytes: &[u8]) -> Result<(), Stop>
         ensures { Puts (K.state sink.old) self.old (K.state sink.new) self.new bytes.now result }
     {
         gather(&mut self.piece, sink, bytes)

@@ -19,11 +19,7 @@ use xls_book::{Values, Xls};
 use xls_csv::CsvRows;
 
 /// Puts the rows that are still to come.
-fn put_rows<K: Sink>(
-    buffer: &mut Buffer,
-    sink: &mut K,
-    mut rows: CsvRows<'_>,
-) -> Result<(), Stop>
+fn put_rows<K: Sink>(buffer: &mut Buffer, sink: &mut K, mut rows: CsvRows<'_>) -> Result<(), Stop>
     ensures { Puts (K.state sink.old) buffer.old (K.state sink.new) buffer.new
         (rows_csv rows.entry.left) result }
 {
@@ -35,7 +31,7 @@ fn put_rows<K: Sink>(
 
 /// Writes the dense box of a sheet's values as CSV, row by row.
 fn write_values<K: Sink>(alloc: Global, sink: &mut K, values: Values<'_>) -> Result<(), Stop>
-    requires { IsAscending (map (λ (c : Entry). c.0) values.entry) }
+    requires { IsAscending (map (λ (c : Entry). c.0) values) }
     ensures { Delivers (K.state sink.old) (K.state sink.new) (sheet_csv values.entry) result }
 {
     let mut buffer = Buffer::new(alloc);

@@ -3,6 +3,7 @@
 
 mod buffer;
 mod command;
+mod csv;
 mod ending;
 mod field;
 mod made;

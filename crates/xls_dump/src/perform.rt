@@ -7,9 +7,10 @@ ghost use Rattle.xls_dump.specs.Outputs.{IsFirstLine, IsPropertyText, IsSoundLin
 ghost use Rattle.xls_dump.specs.SinkState.{TakesEach};
 ghost use Rattle.xls_dump.specs.Summary.{summary_text};
 ghost use Rattle.xls_dump.specs.Words.{IsPossible, max_rows};
-ghost use Rattle.xls_dump.specs.declared.command.Command.TheVariants.{Dump, Sheets, Props, Check};
+ghost use Rattle.xls_dump.specs.declared.command.Command.TheVariants.{Dump, Sheets, Props, Check, Csv};
 
 use crate::command::Command;
+use crate::csv::write_csv;
 use crate::ending::{Ending, Stop};
 use crate::properties::write_properties;
 use crate::report::{write_fault, write_report, write_sheets, write_sound};
@@ -130,6 +131,25 @@ fn check<S: Source, K: Sink>(alloc: Global, source: &mut S, sink: &mut K) -> Res
     }
 }
 
+/// Opens the source with the options by default, and writes the values of the last sheet of a name as CSV.
+fn csv<S: Source, K: Sink>(
+    alloc: Global,
+    name: &str,
+    source: &mut S,
+    sink: &mut K,
+) -> Result<Ending, Stop>
+    ensures reads { Reads (Csv name.entry) (S.left source.old) (S.left source.new)
+        (S.faults source.old) (S.faults source.new) result }
+    ensures ends { Ends (Csv name.entry) (S.left source.old) (K.state sink.old) (K.state sink.new) result }
+    ensures steady { TakesEach (K.state sink.old) (MayWrite (Csv name.entry) (S.left source.old))
+        → (K.state sink.new).faults ≡ (K.state sink.old).faults }
+{
+    match Xls::new(alloc, source) {
+        Ok(book) => write_csv(alloc, sink, &book, name),
+        Err(error) => refuse(alloc, sink, &error),
+    }
+}
+
 /// Makes a stream of so many rows, opens it, and writes what its range holds.
 fn generate<K: Sink>(alloc: Global, rows: u32, sink: &mut K) -> Result<Ending, Stop>
     requires least { 1 ≤ rows }
@@ -162,7 +182,7 @@ pub fn perform<S: Source, K: Sink>(
         Command::Props => props(alloc, source, sink),
         Command::Check => check(alloc, source, sink),
         Command::Refs => check(alloc, source, sink),
-        Command::Csv(_) => check(alloc, source, sink),
+        Command::Csv(name) => csv(alloc, name, source, sink),
         Command::Generate(rows) => generate(alloc, rows, sink),
     }
 }
