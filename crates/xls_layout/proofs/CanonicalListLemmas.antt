@@ -13,7 +13,7 @@ use Rattle.xls_layout.specs.Canonical.{canonical_strings, bare_group, canonical_
 use Rattle.xls_layout.proofs.LaidStreamLemmas.{offset_within}
 use Rattle.xls_layout.proofs.TypeLemmas.{among_apart, plain_below, sheet_below}
 use Rattle.xls_layout.proofs.CanonicalTableLemmas.{same_lists, laid_canonical, canonical_front, canonical_pieces}
-use Rattle.xls_layout.proofs.CanonicalByteLemmas.{canonical_bytes}
+use Rattle.xls_layout.proofs.CanonicalByteLemmas.{short_fit, canonical_bytes}
 
 -- ---- the list
 
@@ -49,15 +49,11 @@ canonical_list list h = list_same list [] h
 
 -- ---- it is valid
 
-plain_laid : (typ : ℕ) (body : List ℕ) → is_among typ plain_types ≡ true → IsBody body → IsPlainItem (bare_group typ body)
+pub plain_laid : (typ : ℕ) (body : List ℕ) → is_among typ plain_types ≡ true → IsBody body → IsPlainItem (bare_group typ body)
 plain_laid typ body h f = record {
   laid = record { fits = record { typ = plain_below typ h; body = f; tail = tt }; no_continue = among_apart typ types.CONTINUE plain_types h refl };
   is_plain = h;
 }
-
-short_fit : (bodies : List (List ℕ)) → AllByRecursion (λ body. length body ≤ 8224) bodies → AllByRecursion IsBody bodies
-short_fit [] h = tt
-short_fit (b ∷ bodies) h = let x = h.0 in (omega arith, short_fit bodies h.1)
 
 table_fits : (n : ℕ) (ms : List Mark) → 8 + length (front_of ms) ≤ 8224 → AllByRecursion IsBody (pieces_of ms) → IsGroup (table_group (le32 n ++ le32 n) ms)
 table_fits n ms h t = record { typ = lit< tt; body = omega arith; tail = t }
@@ -75,7 +71,7 @@ items_valid d small (plain_entry typ body ∷ list) n h le = (plain_laid typ bod
 items_valid d small (sheet_entry state kind name kept ∷ list) n h le =
     let f = h.0 in
     (record { name_fits = f.name_fits; tail_fits = tt; has_part = omega arith; offset_fits = small n }, items_valid d small list (suc n) h.1 (omega arith))
-items_valid d small (table_entry strings ∷ list) n h le = (table_laid strings h.0.1, items_valid d small list n h.1 le)
+items_valid d small (table_entry strings ∷ list) n h le = (table_laid strings h.0, items_valid d small list n h.1 le)
 
 records_laid : (kept : List Kept) → AllByRecursion FitsKept kept → AllByRecursion IsLaidGroup (groups_of (canonical_records kept))
 records_laid [] h = tt

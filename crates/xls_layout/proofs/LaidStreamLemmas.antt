@@ -33,7 +33,7 @@ same_sizes f g (i ∷ items) =
 
 -- ---- parts at their offsets
 
-all_at : (ps : List LaidPart) (k : ℕ) → AllByRecursion IsLaidPart ps → k < length ps → IsLaidPart (part_at ps k)
+pub all_at : (ps : List LaidPart) (k : ℕ) → AllByRecursion IsLaidPart ps → k < length ps → IsLaidPart (part_at ps k)
 all_at [] k h lt = absurd (omega arith)
 all_at (p ∷ ps) zero h lt = h.0
 all_at (p ∷ ps) (suc k) h lt = all_at ps k h.1 (omega arith)

@@ -136,10 +136,10 @@ pub record FitsSheet (state kind : ℕ) (name : List ℕ) (kept : List Kept) : T
 
 abbrev pub FitsEntry : Entry → Type 0
 FitsEntry (plain_entry typ body) = (is_among typ plain_types ≡ true) × FitsBody body
-FitsEntry (table_entry strings) = (length strings < 2 ^ 32) × AllByRecursion FitsString strings
+FitsEntry (table_entry strings) = AllByRecursion FitsString strings
 FitsEntry (sheet_entry state kind name kept) = FitsSheet state kind name kept
 
--- every body that its records need has a length of 16 bits, and every list of units; the number of
--- strings has 32 bits
+-- every body that its records need has a length of 16 bits, and so has every list of units; bytes are
+-- bytes, and units have 16 bits
 abbrev pub Fits : List Entry → Type 0
 Fits list = AllByRecursion FitsEntry list
