@@ -12,7 +12,7 @@ use Rattle.xls_model.specs.declared.types.TheConstants as types
 use Rattle.xls_layout.specs.LaidStrings.{le32, bytes_in, LaidString, Step, put, cut, marks_of_steps, AreSteps, units_of, head_bytes, marks_of_break, marks_of_string, IsLaidString, marks_of_strings, pieces_of, table_group}
 use Rattle.xls_layout.specs.Layout.{eof_group, bytes_of_globals, bytes_of_part, sheet_body, lay, offset_in}
 use Rattle.xls_layout.specs.Canonical.{canonical_string, canonical_strings, bare_group, canonical_records, sheet_bof, canonical_part, canonical_parts, counts_of, canonical_items, canonical, fill_from, AreBytes, FitsKept, FitsString, Fits}
-use Rattle.xls_layout.proofs.TypeLemmas.{plain_below, sheet_below}
+use Rattle.xls_layout.proofs.TypeLemmas.{globals_below, sheet_below}
 use Rattle.xls_layout.proofs.LaidStreamLemmas.{offset_within}
 use Rattle.xls_layout.proofs.CanonicalTableLemmas.{laid_canonical, canonical_front, canonical_pieces}
 
@@ -187,7 +187,7 @@ globals_bytes offset small n [] h few = bytes_bare types.EOF [] (lit< tt) (lit< 
 globals_bytes offset small n (plain_entry typ body ∷ list) h few =
     let first = group_bytes (bare_group typ body) in
     let others = bytes_of_globals offset (canonical_items n list) in
-    both_bytes first others (bytes_bare typ body (plain_below typ h.0.0) h.0.1.0 h.0.1.1) (globals_bytes offset small n list h.1 (omega (arith, few, length-append first others)))
+    both_bytes first others (bytes_bare typ body (globals_below typ h.0.0.0) h.0.1.0 h.0.1.1) (globals_bytes offset small n list h.1 (omega (arith, few, length-append first others)))
 globals_bytes offset small n (table_entry strings ∷ list) h few =
     let first = group_bytes (table_group (counts_of strings) (marks_of_strings (canonical_strings 8 strings))) in
     let others = bytes_of_globals offset (canonical_items n list) in

@@ -1,17 +1,17 @@
 -- The canonical layout of a list that fits is a valid layout of that list.
-use Rattle.std.proofs.Common.{◌≡◌, ℕ, suc, ◌+◌, ◌^◌, ◌<◌, ◌≤◌, true, List, [], ◌∷◌, ◌++◌, length, refl, sym, ap, ◌∙◌, append_assoc, arith, lit<}
+use Rattle.std.proofs.Common.{◌≡◌, ℕ, suc, ◌+◌, ◌^◌, ◌<◌, ◌≤◌, List, [], ◌∷◌, ◌++◌, length, refl, sym, ap, ◌∙◌, append_assoc, arith, lit<}
 use Rattle.std.specs.List.{flat_map, AllByRecursion}
 use Rattle.std.proofs.lemmas.List.{length-append}
 use Rattle.xls_model.specs.Stream.{IsGroup, IsBody}
-use Rattle.xls_model.specs.Substreams.{AreItems, groups_of, outer_of, is_among, sheet_types, kept_groups}
+use Rattle.xls_model.specs.Substreams.{AreItems, groups_of, outer_of, sheet_types, kept_groups}
 use Rattle.xls_model.specs.StringTable.{Mark, front_of}
-use Rattle.xls_model.specs.Listing.{Kept, kept_of, Entry, plain_entry, table_entry, sheet_entry}
+use Rattle.xls_model.specs.Listing.{globals_types, Kept, kept_of, Entry, plain_entry, table_entry, sheet_entry}
 use Rattle.xls_model.specs.declared.types.TheConstants as types
 use Rattle.xls_layout.specs.LaidStrings.{le32, marks_of_strings, pieces_of, table_group, IsLaidTable}
-use Rattle.xls_layout.specs.Layout.{LaidPart, Layout, offset_in, part_at, kept_in, lay, entries_of_item, list_of, plain_types, IsLaidGroup, IsLaidPart, IsPlainItem, IsLaidItem, IsLayout}
+use Rattle.xls_layout.specs.Layout.{LaidPart, Layout, offset_in, part_at, kept_in, lay, entries_of_item, list_of, IsPlainType, IsLaidGroup, IsLaidPart, IsPlainItem, IsLaidItem, IsLayout}
 use Rattle.xls_layout.specs.Canonical.{canonical_strings, bare_group, canonical_records, sheet_bof, canonical_part, canonical_parts, counts_of, canonical_items, canonical, FitsKept, FitsString, Fits}
 use Rattle.xls_layout.proofs.LaidStreamLemmas.{offset_within}
-use Rattle.xls_layout.proofs.TypeLemmas.{among_apart, plain_below, sheet_below}
+use Rattle.xls_layout.proofs.TypeLemmas.{among_apart, globals_below, sheet_below}
 use Rattle.xls_layout.proofs.CanonicalTableLemmas.{same_lists, laid_canonical, canonical_front, canonical_pieces}
 use Rattle.xls_layout.proofs.CanonicalByteLemmas.{short_fit, canonical_bytes}
 
@@ -49,9 +49,12 @@ canonical_list list h = list_same list [] h
 
 -- ---- it is valid
 
-pub plain_laid : (typ : ℕ) (body : List ℕ) → is_among typ plain_types ≡ true → IsBody body → IsPlainItem (bare_group typ body)
+pub plain_laid : (typ : ℕ) (body : List ℕ) → IsPlainType typ → IsBody body → IsPlainItem (bare_group typ body)
 plain_laid typ body h f = record {
-  laid = record { fits = record { typ = plain_below typ h; body = f; tail = tt }; no_continue = among_apart typ types.CONTINUE plain_types h refl };
+  laid = record {
+    fits = record { typ = globals_below typ h.0; body = f; tail = tt };
+    no_continue = among_apart typ types.CONTINUE globals_types h.0 refl;
+  };
   is_plain = h;
 }
 

@@ -162,17 +162,17 @@ globals_laid : (d : Layout) (first second third : ℕ) (table : LaidItem) → Is
     → offset_in d first < 2 ^ 32 → offset_in d second < 2 ^ 32 → offset_in d third < 2 ^ 32
     → AllByRecursion (IsLaidItem d) (globals_with first second third table)
 globals_laid d first second third table t a b c x y z = (
-  plain_laid _ _ refl (lit< tt),
+  plain_laid _ _ (refl, refl) (lit< tt),
   (
-    plain_laid _ _ refl (lit< tt),
+    plain_laid _ _ (refl, refl) (lit< tt),
     (
       loose_laid _ _ (lit< tt) (λ e. omega arith) refl (λ e. omega arith) (lit< tt),
       (
-        plain_laid _ _ refl (lit< tt),
+        plain_laid _ _ (refl, refl) (lit< tt),
         (
-          plain_laid _ _ refl (lit< tt),
+          plain_laid _ _ (refl, refl) (lit< tt),
           (
-            plain_laid _ _ refl (lit< tt),
+            plain_laid _ _ (refl, refl) (lit< tt),
             (
               record { name_fits = lit< tt; tail_fits = tt; has_part = a; offset_fits = x },
               (
@@ -182,9 +182,9 @@ globals_laid d first second third table t a b c x y z = (
                   (
                     loose_laid _ _ (lit< tt) (λ e. omega arith) refl (λ e. omega arith) (lit< tt),
                     (
-                      plain_laid _ _ refl (lit< tt),
+                      plain_laid _ _ (refl, refl) (lit< tt),
                       (
-                        plain_laid _ _ refl (lit< tt),
+                        plain_laid _ _ (refl, refl) (lit< tt),
                         (t, tt),
                       ),
                     ),
