@@ -1,6 +1,7 @@
 -- The canonical layout of a list that fits consists of bytes.
-use Rattle.std.proofs.Common.{ℕ, zero, suc, ◌^◌, ◌<◌, ◌≤◌, Bool, true, false, List, [], ◌∷◌, ◌++◌, length, map, Some, None, arith, lit<}
+use Rattle.std.proofs.Common.{◌≡◌, ◌+◌, ℕ, zero, suc, ◌^◌, ◌<◌, ◌≤◌, Bool, true, false, List, [], ◌∷◌, ◌++◌, length, map, Some, None, arith, lit<}
 use Rattle.std.specs.List.{flat_map, AllByRecursion}
+use Rattle.std.proofs.lemmas.List.{length-append}
 use Rattle.xls_bytes.specs.Numbers.{le16}
 use Rattle.xls_model.specs.Stream.{enc, Group, group_bytes, continues, IsBody}
 use Rattle.xls_model.specs.Walks.{IsBytes}
@@ -8,10 +9,10 @@ use Rattle.xls_model.specs.Substreams.{groups_of}
 use Rattle.xls_model.specs.StringTable.{Mark, front_of}
 use Rattle.xls_model.specs.Listing.{Kept, Entry, plain_entry, table_entry, sheet_entry}
 use Rattle.xls_model.specs.declared.types.TheConstants as types
-use Rattle.xls_layout.specs.LaidStrings.{le32, Step, put, cut, marks_of_steps, AreSteps, units_of, head_bytes, marks_of_break, marks_of_string, IsLaidString, marks_of_strings, pieces_of, table_group}
+use Rattle.xls_layout.specs.LaidStrings.{le32, bytes_in, LaidString, Step, put, cut, marks_of_steps, AreSteps, units_of, head_bytes, marks_of_break, marks_of_string, IsLaidString, marks_of_strings, pieces_of, table_group}
 use Rattle.xls_layout.specs.Layout.{eof_group, bytes_of_globals, bytes_of_part, sheet_body, lay, offset_in}
 use Rattle.xls_layout.specs.Canonical.{canonical_string, canonical_strings, bare_group, canonical_records, sheet_bof, canonical_part, canonical_parts, counts_of, canonical_items, canonical, fill_from, AreBytes, FitsKept, FitsString, Fits}
-use Rattle.xls_layout.proofs.TypeLemmas.{plain_below, sheet_below}
+use Rattle.xls_layout.proofs.TypeLemmas.{globals_below, sheet_below}
 use Rattle.xls_layout.proofs.LaidStreamLemmas.{offset_within}
 use Rattle.xls_layout.proofs.CanonicalTableLemmas.{laid_canonical, canonical_front, canonical_pieces}
 
@@ -107,9 +108,40 @@ piece_bytes [] h = tt
 piece_bytes (None ∷ ms) h = (front_bytes ms h.1, piece_bytes ms h.1)
 piece_bytes (Some b ∷ ms) h = piece_bytes ms h.1
 
-short_fit : (bodies : List (List ℕ)) → AllByRecursion (λ body. length body ≤ 8224) bodies → AllByRecursion IsBody bodies
+pub short_fit : (bodies : List (List ℕ)) → AllByRecursion (λ body. length body ≤ 8224) bodies → AllByRecursion IsBody bodies
 short_fit [] h = tt
 short_fit (b ∷ bodies) h = let x = h.0 in (omega arith, short_fit bodies h.1)
+
+-- ---- a table has more bytes than strings
+
+bytes_in-append : (xs ys : List Mark) → bytes_in (xs ++ ys) ≡ bytes_in xs + bytes_in ys
+bytes_in-append [] ys = omega arith
+bytes_in-append (None ∷ xs) ys = bytes_in-append xs ys
+bytes_in-append (Some b ∷ xs) ys = omega (arith, bytes_in-append xs ys)
+
+string_some : (b : Bool) (x : ℕ) (ms : List Mark) → 1 ≤ bytes_in (marks_of_break b ++ (Some x ∷ ms))
+string_some true x ms = omega arith
+string_some false x ms = omega arith
+
+some_in : (s : LaidString) → 1 ≤ bytes_in (marks_of_string s)
+some_in s = string_some s.begins_piece _ _
+
+many_bytes : (used : ℕ) (strings : List (List ℕ)) → length strings ≤ bytes_in (marks_of_strings (canonical_strings used strings))
+many_bytes used [] = omega arith
+many_bytes used (us ∷ strings) =
+    let s = canonical_string used us in
+    let next = fill_from used (marks_of_string s) in
+    omega (arith, some_in s, bytes_in-append (marks_of_string s) (marks_of_strings (canonical_strings next strings)), many_bytes next strings)
+
+bytes_stand : (ms : List Mark) → bytes_in ms ≤ length (front_of ms) + length (continues (pieces_of ms))
+bytes_stand [] = omega arith
+bytes_stand (None ∷ ms) = omega (arith, bytes_stand ms, length-append (front_of ms) (continues (pieces_of ms)))
+bytes_stand (Some b ∷ ms) = omega (arith, bytes_stand ms)
+
+few_strings : (strings : List (List ℕ)) → length strings ≤ length (group_bytes (table_group (counts_of strings) (marks_of_strings (canonical_strings 8 strings))))
+few_strings strings =
+    let ms = marks_of_strings (canonical_strings 8 strings) in
+    omega (arith, many_bytes 8 strings, bytes_stand ms, length-append (counts_of strings) (front_of ms), length-append (counts_of strings ++ front_of ms) (continues (pieces_of ms)))
 
 table_bytes : (strings : List (List ℕ)) → length strings < 2 ^ 32 → AllByRecursion FitsString strings
     → AreBytes (group_bytes (table_group (counts_of strings) (marks_of_strings (canonical_strings 8 strings))))
@@ -149,22 +181,29 @@ parts_bytes (sheet_entry state kind name kept ∷ list) h =
 sheet_bytes : (offset state kind : ℕ) (name : List ℕ) → offset < 4294967296 → state < 256 → kind < 256 → AreBytes name → AreBytes (sheet_body offset state kind name)
 sheet_bytes offset state kind name o s k n = both_bytes (le32 offset) (state ∷ kind ∷ name) (bytes_le32 offset o) (s, (k, n))
 
-globals_bytes : (offset : ℕ → ℕ) → ((k : ℕ) → offset k < 4294967296) → (n : ℕ) (list : List Entry) → Fits list → AreBytes (bytes_of_globals offset (canonical_items n list))
-globals_bytes offset small n [] h = bytes_bare types.EOF [] (lit< tt) (lit< tt) tt
-globals_bytes offset small n (plain_entry typ body ∷ list) h =
-    both_bytes (group_bytes (bare_group typ body)) (bytes_of_globals offset (canonical_items n list))
-    (bytes_bare typ body (plain_below typ h.0.0) h.0.1.0 h.0.1.1) (globals_bytes offset small n list h.1)
-globals_bytes offset small n (table_entry strings ∷ list) h =
-    both_bytes (group_bytes (table_group (counts_of strings) (marks_of_strings (canonical_strings 8 strings)))) (bytes_of_globals offset (canonical_items n list))
-    (table_bytes strings h.0.0 h.0.1) (globals_bytes offset small n list h.1)
-globals_bytes offset small n (sheet_entry state kind name kept ∷ list) h =
+globals_bytes : (offset : ℕ → ℕ) → ((k : ℕ) → offset k < 4294967296) → (n : ℕ) (list : List Entry) → Fits list
+    → length (bytes_of_globals offset (canonical_items n list)) < 2 ^ 32 → AreBytes (bytes_of_globals offset (canonical_items n list))
+globals_bytes offset small n [] h few = bytes_bare types.EOF [] (lit< tt) (lit< tt) tt
+globals_bytes offset small n (plain_entry typ body ∷ list) h few =
+    let first = group_bytes (bare_group typ body) in
+    let others = bytes_of_globals offset (canonical_items n list) in
+    both_bytes first others (bytes_bare typ body (globals_below typ h.0.0.0) h.0.1.0 h.0.1.1) (globals_bytes offset small n list h.1 (omega (arith, few, length-append first others)))
+globals_bytes offset small n (table_entry strings ∷ list) h few =
+    let first = group_bytes (table_group (counts_of strings) (marks_of_strings (canonical_strings 8 strings))) in
+    let others = bytes_of_globals offset (canonical_items n list) in
+    let all = length-append first others in
+    both_bytes first others (table_bytes strings (omega (arith, few, few_strings strings, all)) h.0) (globals_bytes offset small n list h.1 (omega (arith, few, all)))
+globals_bytes offset small n (sheet_entry state kind name kept ∷ list) h few =
     let f = h.0 in
     let fits = f.name_fits in
-    both_bytes (group_bytes (bare_group types.BOUND_SHEET_8 (sheet_body (offset n) state kind name))) (bytes_of_globals offset (canonical_items (suc n) list))
-    (bytes_bare types.BOUND_SHEET_8 (sheet_body (offset n) state kind name) (lit< tt) (omega arith) (sheet_bytes (offset n) state kind name (small n) f.state_is f.kind_is f.name_is)) (globals_bytes offset small (suc n) list h.1)
+    let body = sheet_body (offset n) state kind name in
+    let first = group_bytes (bare_group types.BOUND_SHEET_8 body) in
+    let others = bytes_of_globals offset (canonical_items (suc n) list) in
+    both_bytes first others
+    (bytes_bare types.BOUND_SHEET_8 body (lit< tt) (omega arith) (sheet_bytes (offset n) state kind name (small n) f.state_is f.kind_is f.name_is)) (globals_bytes offset small (suc n) list h.1 (omega (arith, few, length-append first others)))
 
 pub canonical_bytes : (list : List Entry) → Fits list → length (lay (canonical list)) < 2 ^ 32 → IsBytes (lay (canonical list))
 canonical_bytes list h fits =
     let d = canonical list in
     each_byte (lay d) (both_bytes (bytes_of_globals (offset_in d) d.globals) (flat_map bytes_of_part d.parts)
-    (globals_bytes (offset_in d) (λ k. let w = offset_within d k in omega arith) 0 list h) (parts_bytes list h))
+    (globals_bytes (offset_in d) (λ k. let w = offset_within d k in omega arith) 0 list h (omega (arith, fits, length-append (bytes_of_globals (offset_in d) d.globals) (flat_map bytes_of_part d.parts)))) (parts_bytes list h))

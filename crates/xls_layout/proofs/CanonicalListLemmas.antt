@@ -1,19 +1,19 @@
 -- The canonical layout of a list that fits is a valid layout of that list.
-use Rattle.std.proofs.Common.{◌≡◌, ℕ, suc, ◌+◌, ◌^◌, ◌<◌, ◌≤◌, true, List, [], ◌∷◌, ◌++◌, length, refl, sym, ap, ◌∙◌, append_assoc, arith, lit<}
+use Rattle.std.proofs.Common.{◌≡◌, ℕ, suc, ◌+◌, ◌^◌, ◌<◌, ◌≤◌, List, [], ◌∷◌, ◌++◌, length, refl, sym, ap, ◌∙◌, append_assoc, arith, lit<}
 use Rattle.std.specs.List.{flat_map, AllByRecursion}
 use Rattle.std.proofs.lemmas.List.{length-append}
 use Rattle.xls_model.specs.Stream.{IsGroup, IsBody}
-use Rattle.xls_model.specs.Substreams.{AreItems, groups_of, outer_of, is_among, sheet_types, kept_groups}
+use Rattle.xls_model.specs.Substreams.{AreItems, groups_of, outer_of, sheet_types, kept_groups}
 use Rattle.xls_model.specs.StringTable.{Mark, front_of}
-use Rattle.xls_model.specs.Listing.{Kept, kept_of, Entry, plain_entry, table_entry, sheet_entry}
+use Rattle.xls_model.specs.Listing.{globals_types, Kept, kept_of, Entry, plain_entry, table_entry, sheet_entry}
 use Rattle.xls_model.specs.declared.types.TheConstants as types
 use Rattle.xls_layout.specs.LaidStrings.{le32, marks_of_strings, pieces_of, table_group, IsLaidTable}
-use Rattle.xls_layout.specs.Layout.{LaidPart, Layout, offset_in, part_at, kept_in, lay, entries_of_item, list_of, plain_types, IsLaidGroup, IsLaidPart, IsPlainItem, IsLaidItem, IsLayout}
+use Rattle.xls_layout.specs.Layout.{LaidPart, Layout, offset_in, part_at, kept_in, lay, entries_of_item, list_of, IsPlainType, IsLaidGroup, IsLaidPart, IsPlainItem, IsLaidItem, IsLayout}
 use Rattle.xls_layout.specs.Canonical.{canonical_strings, bare_group, canonical_records, sheet_bof, canonical_part, canonical_parts, counts_of, canonical_items, canonical, FitsKept, FitsString, Fits}
 use Rattle.xls_layout.proofs.LaidStreamLemmas.{offset_within}
-use Rattle.xls_layout.proofs.TypeLemmas.{among_apart, plain_below, sheet_below}
+use Rattle.xls_layout.proofs.TypeLemmas.{among_apart, globals_below, sheet_below}
 use Rattle.xls_layout.proofs.CanonicalTableLemmas.{same_lists, laid_canonical, canonical_front, canonical_pieces}
-use Rattle.xls_layout.proofs.CanonicalByteLemmas.{canonical_bytes}
+use Rattle.xls_layout.proofs.CanonicalByteLemmas.{short_fit, canonical_bytes}
 
 -- ---- the list
 
@@ -49,15 +49,14 @@ canonical_list list h = list_same list [] h
 
 -- ---- it is valid
 
-plain_laid : (typ : ℕ) (body : List ℕ) → is_among typ plain_types ≡ true → IsBody body → IsPlainItem (bare_group typ body)
+pub plain_laid : (typ : ℕ) (body : List ℕ) → IsPlainType typ → IsBody body → IsPlainItem (bare_group typ body)
 plain_laid typ body h f = record {
-  laid = record { fits = record { typ = plain_below typ h; body = f; tail = tt }; no_continue = among_apart typ types.CONTINUE plain_types h refl };
+  laid = record {
+    fits = record { typ = globals_below typ h.0; body = f; tail = tt };
+    no_continue = among_apart typ types.CONTINUE globals_types h.0 refl;
+  };
   is_plain = h;
 }
-
-short_fit : (bodies : List (List ℕ)) → AllByRecursion (λ body. length body ≤ 8224) bodies → AllByRecursion IsBody bodies
-short_fit [] h = tt
-short_fit (b ∷ bodies) h = let x = h.0 in (omega arith, short_fit bodies h.1)
 
 table_fits : (n : ℕ) (ms : List Mark) → 8 + length (front_of ms) ≤ 8224 → AllByRecursion IsBody (pieces_of ms) → IsGroup (table_group (le32 n ++ le32 n) ms)
 table_fits n ms h t = record { typ = lit< tt; body = omega arith; tail = t }
@@ -75,7 +74,7 @@ items_valid d small (plain_entry typ body ∷ list) n h le = (plain_laid typ bod
 items_valid d small (sheet_entry state kind name kept ∷ list) n h le =
     let f = h.0 in
     (record { name_fits = f.name_fits; tail_fits = tt; has_part = omega arith; offset_fits = small n }, items_valid d small list (suc n) h.1 (omega arith))
-items_valid d small (table_entry strings ∷ list) n h le = (table_laid strings h.0.1, items_valid d small list n h.1 le)
+items_valid d small (table_entry strings ∷ list) n h le = (table_laid strings h.0, items_valid d small list n h.1 le)
 
 records_laid : (kept : List Kept) → AllByRecursion FitsKept kept → AllByRecursion IsLaidGroup (groups_of (canonical_records kept))
 records_laid [] h = tt

@@ -7,13 +7,13 @@ use Rattle.std.proofs.lemmas.List.{length-append, take-append-drop}
 use Rattle.xls_bytes.specs.Numbers.{le}
 use Rattle.xls_model.specs.Stream.{group_bytes, IsBody}
 use Rattle.xls_model.specs.Substreams.{IsNotEof}
-use Rattle.xls_model.specs.Listing.{Entry, plain_entry, table_entry, sheet_entry, Item, plain_item, table_item, sheet_item, table_of, IsItem, IsPart, IsSheetPart, is_globals_type, entry_of, IsWhole, Holds, Carries, offset_at}
+use Rattle.xls_model.specs.Listing.{Entry, plain_entry, table_entry, sheet_entry, Item, plain_item, table_item, sheet_item, table_of, IsItem, IsPart, IsSheetPart, globals_types, is_globals_type, entry_of, IsWhole, Holds, Carries, offset_at}
 use Rattle.xls_model.specs.StringTable.{front_of}
 use Rattle.xls_model.specs.declared.types.TheConstants as types
 use Rattle.xls_model.proofs.HoldingLemmas.{one_list}
 use Rattle.xls_layout.specs.LaidStrings.{le32, marks_of_strings, lists_of}
-use Rattle.xls_layout.specs.Layout.{eof_group, LaidPart, no_part, part_at, bytes_of_part, kept_in, LaidItem, a_loose, a_plain, a_sheet, a_table, sheet_body, group_of_item, bytes_of_globals, Layout, offset_in, lay, entries_of_item, list_of, plain_types, IsLaidGroup, IsLaidPart, IsLaidItem, IsLayout}
-use Rattle.xls_layout.proofs.TypeLemmas.{among_apart, plain_read, plain_item_type}
+use Rattle.xls_layout.specs.Layout.{eof_group, LaidPart, no_part, part_at, bytes_of_part, kept_in, LaidItem, a_loose, a_plain, a_sheet, a_table, sheet_body, group_of_item, bytes_of_globals, Layout, offset_in, lay, entries_of_item, list_of, IsLaidGroup, IsLaidPart, IsLaidItem, IsLayout}
+use Rattle.xls_layout.proofs.TypeLemmas.{among_apart}
 use Rattle.xls_layout.proofs.LaidTableLemmas.{laid_sst, laid_eight}
 use Rattle.xls_layout.proofs.LaidGroupLemmas.{run_laid}
 use Rattle.xls_layout.proofs.LaidPartLemmas.{parts_start, laid_part}
@@ -33,7 +33,7 @@ same_sizes f g (i ∷ items) =
 
 -- ---- parts at their offsets
 
-all_at : (ps : List LaidPart) (k : ℕ) → AllByRecursion IsLaidPart ps → k < length ps → IsLaidPart (part_at ps k)
+pub all_at : (ps : List LaidPart) (k : ℕ) → AllByRecursion IsLaidPart ps → k < length ps → IsLaidPart (part_at ps k)
 all_at [] k h lt = absurd (omega arith)
 all_at (p ∷ ps) zero h lt = h.0
 all_at (p ∷ ps) (suc k) h lt = all_at ps k h.1 (omega arith)
@@ -86,7 +86,7 @@ item_groups d (i ∷ items) h = (item_laid d (offset_in d) i h.0, item_groups d 
 items_not_eof : (d : Layout) (items : List LaidItem) → AllByRecursion (IsLaidItem d) items → AllByRecursion IsNotEof (map (group_of_item (offset_in d)) items)
 items_not_eof d [] h = tt
 items_not_eof d (a_loose g ∷ items) h = let i = h.0 in (i.no_eof, items_not_eof d items h.1)
-items_not_eof d (a_plain g ∷ items) h = let i = h.0 in (among_apart g.typ types.EOF plain_types i.is_plain refl, items_not_eof d items h.1)
+items_not_eof d (a_plain g ∷ items) h = let i = h.0 in (among_apart g.typ types.EOF globals_types i.is_plain.0 refl, items_not_eof d items h.1)
 items_not_eof d (a_sheet state kind name tail part ∷ items) h = (λ e. omega arith, items_not_eof d items h.1)
 items_not_eof d (a_table first strings ∷ items) h = (λ e. omega arith, items_not_eof d items h.1)
 
@@ -119,7 +119,7 @@ items_are d l [] h = tt
 items_are d l (a_loose g ∷ items) h = let i = h.0 in rw i.not_read (items_are d l items h.1)
 items_are d l (a_plain g ∷ items) h =
     let i = h.0 in
-    rw (plain_read g i.is_plain) ((plain_item_type g.typ i.is_plain, refl, refl), items_are d l items h.1)
+    rw i.is_plain.0 ((i.is_plain.1, refl, refl), items_are d l items h.1)
 items_are d l (a_sheet state kind name tail part ∷ items) h =
     let i = h.0 in
     ((refl, refl, sheet_stands d state kind name part l i.has_part i.offset_fits), items_are d l items h.1)

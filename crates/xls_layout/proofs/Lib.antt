@@ -10,3 +10,4 @@ pub mod CanonicalByteLemmas
 pub mod CanonicalListLemmas
 pub mod StandardFacts
 pub mod SampleLayouts
+pub mod LaidFitLemmas

@@ -1,13 +1,19 @@
 -- Two layouts of one list, by hand: a workbook of Excel's record kinds with three sheets. In the first
 -- the string table is cut inside `Café €`, and the parts stand in the order of the sheets; in the
 -- second it isn't cut and has that text in two-byte units, and the parts stand in another order.
-use Rattle.std.proofs.Common.{◌≡◌, ℕ, true, false, List, [], ◌∷◌, ◌++◌, length, map, Some, None, refl}
-use Rattle.std.specs.Prelude.{replicate, codes}
-use Rattle.xls_model.specs.Stream.{Group}
+use Rattle.std.proofs.Common.{◌≡◌, ◌≢◌, ℕ, ◌^◌, ◌<◌, Bool, true, false, List, [], ◌∷◌, ◌++◌, length, map, Some, None, refl, arith, lit<}
+use Rattle.std.specs.Prelude.{replicate, codes, nat_lt, ◌&&◌}
+use Rattle.std.specs.List.{AllByRecursion}
+use Rattle.std.proofs.lemmas.Bool.{ltb-true}
+use Rattle.xls_model.specs.Stream.{Group, IsBody}
 use Rattle.xls_model.specs.Substreams.{Items, none, plain}
-use Rattle.xls_layout.specs.LaidStrings.{Step, put, cut, LaidString}
-use Rattle.xls_layout.specs.Layout.{LaidPart, LaidItem, a_loose, a_plain, a_sheet, a_table, Layout, offset_in, lay, list_of}
-use Rattle.xls_layout.specs.Canonical.{bare_group, canonical}
+use Rattle.xls_model.specs.Listing.{is_globals_type}
+use Rattle.xls_model.specs.declared.types.TheConstants as types
+use Rattle.xls_layout.specs.LaidStrings.{Step, put, cut, LaidString, IsLaidString}
+use Rattle.xls_layout.specs.Layout.{LaidPart, LaidItem, a_loose, a_plain, a_sheet, a_table, Layout, offset_in, lay, list_of, IsLaidGroup, IsLaidPart, IsLooseItem, IsLaidItem, IsLayout}
+use Rattle.xls_layout.specs.Canonical.{bare_group, canonical, AreBytes}
+use Rattle.xls_layout.proofs.CanonicalByteLemmas.{each_byte}
+use Rattle.xls_layout.proofs.CanonicalListLemmas.{plain_laid}
 
 abbrev zeros : ℕ → List ℕ
 zeros n = replicate n 0
@@ -127,3 +133,130 @@ canonical_length = refl
 
 pub canonical_offsets : map (offset_in (canonical (list_of sample))) (0 ∷ 1 ∷ 2 ∷ []) ≡ 226 ∷ 391 ∷ 464 ∷ []
 canonical_offsets = refl
+
+-- ---- both are valid
+
+all_small : List ℕ → Bool
+all_small [] = true
+all_small (b ∷ bs) = nat_lt b 256 && all_small bs
+
+both_true : (a b : Bool) → (a && b) ≡ true → (a ≡ true) × (b ≡ true)
+both_true true b e = (refl, e)
+both_true false b e = absurd cc
+
+small_bytes : (bs : List ℕ) → all_small bs ≡ true → AreBytes bs
+unfolding all_small
+small_bytes [] e = tt
+small_bytes (b ∷ bs) e = let h = both_true (nat_lt b 256) (all_small bs) e in (ltb-true b 256 h.0, small_bytes bs h.1)
+
+loose_laid : (typ : ℕ) (body : List ℕ) → typ < 2 ^ 16 → typ ≢ types.CONTINUE → is_globals_type (bare_group typ body) ≡ false
+    → typ ≢ types.EOF → IsBody body → IsLooseItem (bare_group typ body)
+loose_laid typ body t c f e b = record {
+  laid = record { fits = record { typ = t; body = b; tail = tt }; no_continue = c };
+  not_read = f;
+  no_eof = e;
+}
+
+globals_laid : (d : Layout) (first second third : ℕ) (table : LaidItem) → IsLaidItem d table
+    → first < length d.parts → second < length d.parts → third < length d.parts
+    → offset_in d first < 2 ^ 32 → offset_in d second < 2 ^ 32 → offset_in d third < 2 ^ 32
+    → AllByRecursion (IsLaidItem d) (globals_with first second third table)
+globals_laid d first second third table t a b c x y z = (
+  plain_laid _ _ (refl, refl) (lit< tt),
+  (
+    plain_laid _ _ (refl, refl) (lit< tt),
+    (
+      loose_laid _ _ (lit< tt) (λ e. omega arith) refl (λ e. omega arith) (lit< tt),
+      (
+        plain_laid _ _ (refl, refl) (lit< tt),
+        (
+          plain_laid _ _ (refl, refl) (lit< tt),
+          (
+            plain_laid _ _ (refl, refl) (lit< tt),
+            (
+              record { name_fits = lit< tt; tail_fits = tt; has_part = a; offset_fits = x },
+              (
+                record { name_fits = lit< tt; tail_fits = tt; has_part = b; offset_fits = y },
+                (
+                  record { name_fits = lit< tt; tail_fits = tt; has_part = c; offset_fits = z },
+                  (
+                    loose_laid _ _ (lit< tt) (λ e. omega arith) refl (λ e. omega arith) (lit< tt),
+                    (
+                      plain_laid _ _ (refl, refl) (lit< tt),
+                      (
+                        plain_laid _ _ (refl, refl) (lit< tt),
+                        (t, tt),
+                      ),
+                    ),
+                  ),
+                ),
+              ),
+            ),
+          ),
+        ),
+      ),
+    ),
+  ),
+)
+
+group_laid : (typ : ℕ) (body : List ℕ) → typ < 2 ^ 16 → typ ≢ types.CONTINUE → IsBody body → IsLaidGroup (bare_group typ body)
+group_laid typ body t c b = record { fits = record { typ = t; body = b; tail = tt }; no_continue = c }
+
+bof_laid : IsLaidGroup part_bof
+bof_laid = group_laid _ _ (lit< tt) (λ e. omega arith) (lit< tt)
+
+log_laid : IsLaidPart log_part
+log_laid = record {
+  groups = (bof_laid, (group_laid _ _ (lit< tt) (λ e. omega arith) (lit< tt), (group_laid _ _ (lit< tt) (λ e. omega arith) (lit< tt), (group_laid _ _ (lit< tt) (λ e. omega arith) (lit< tt), tt))));
+  front = tt;
+  is_bof = refl;
+  items = ((λ e. omega arith, λ e. omega arith), ((λ e. omega arith, λ e. omega arith), ((λ e. omega arith, λ e. omega arith), tt)));
+}
+
+old_laid : IsLaidPart old_part
+old_laid = record {
+  groups = (bof_laid, (group_laid _ _ (lit< tt) (λ e. omega arith) (lit< tt), tt));
+  front = tt;
+  is_bof = refl;
+  items = ((λ e. omega arith, λ e. omega arith), tt);
+}
+
+data_laid : IsLaidPart data_part
+data_laid = record {
+  groups = (bof_laid, (group_laid _ _ (lit< tt) (λ e. omega arith) (lit< tt), (group_laid _ _ (lit< tt) (λ e. omega arith) (lit< tt), (group_laid _ _ (lit< tt) (λ e. omega arith) (lit< tt), (group_laid _ _ (lit< tt) (λ e. omega arith) (lit< tt), (group_laid _ _ (lit< tt) (λ e. omega arith) (lit< tt), (group_laid _ _ (lit< tt) (λ e. omega arith) (lit< tt), (group_laid _ _ (lit< tt) (λ e. omega arith) (lit< tt), (group_laid _ _ (lit< tt) (λ e. omega arith) (lit< tt), (group_laid _ _ (lit< tt) (λ e. omega arith) (lit< tt), (group_laid _ _ (lit< tt) (λ e. omega arith) (lit< tt), tt)))))))))));
+  front = tt;
+  is_bof = refl;
+  items = ((λ e. omega arith, λ e. omega arith), ((λ e. omega arith, λ e. omega arith), ((λ e. omega arith, λ e. omega arith), ((λ e. omega arith, λ e. omega arith), ((λ e. omega arith, λ e. omega arith), ((λ e. omega arith, λ e. omega arith), ((λ e. omega arith, λ e. omega arith), ((λ e. omega arith, λ e. omega arith), ((λ e. omega arith, λ e. omega arith), ((λ e. omega arith, λ e. omega arith), tt))))))))));
+}
+
+item_string : IsLaidString (narrow_string (codes "Item"))
+item_string = record { count = lit< tt; steps = (lit< tt, (lit< tt, (lit< tt, (lit< tt, tt)))); runs = lit< tt; extension = lit< tt; cut_well = tt; all_behind = refl }
+
+cut_laid : IsLaidString cut_string
+cut_laid = record { count = lit< tt; steps = (lit< tt, (lit< tt, (lit< tt, (lit< tt, (lit< tt, (lit< tt, (lit< tt, tt))))))); runs = lit< tt; extension = lit< tt; cut_well = tt; all_behind = refl }
+
+wide_laid : IsLaidString wide_string
+wide_laid = record { count = lit< tt; steps = (lit< tt, (lit< tt, (lit< tt, (lit< tt, (lit< tt, (lit< tt, tt)))))); runs = lit< tt; extension = lit< tt; cut_well = tt; all_behind = refl }
+
+run_laid : IsLaidString run_string
+run_laid = record { count = lit< tt; steps = (lit< tt, (lit< tt, (lit< tt, tt))); runs = lit< tt; extension = lit< tt; cut_well = tt; all_behind = refl }
+
+pub sample_valid : IsLayout sample
+unfolding all_small
+sample_valid = record {
+  globals = globals_laid sample 0 1 2 (table_with cut_string)
+      (record { eight = refl; are_laid = (item_string, (cut_laid, (run_laid, tt))); fits = record { typ = lit< tt; body = lit< tt; tail = (lit< tt, tt) } })
+      (lit< tt) (lit< tt) (lit< tt) (lit< tt) (lit< tt) (lit< tt);
+  parts = (data_laid, (log_laid, (old_laid, tt)));
+  bytes = each_byte (lay sample) (small_bytes (lay sample) refl);
+}
+
+pub other_valid : IsLayout other
+unfolding all_small
+other_valid = record {
+  globals = globals_laid other 2 0 1 (table_with wide_string)
+      (record { eight = refl; are_laid = (item_string, (wide_laid, (run_laid, tt))); fits = record { typ = lit< tt; body = lit< tt; tail = tt } })
+      (lit< tt) (lit< tt) (lit< tt) (lit< tt) (lit< tt) (lit< tt);
+  parts = (log_laid, (old_laid, (data_laid, tt)));
+  bytes = each_byte (lay other) (small_bytes (lay other) refl);
+}

@@ -2,13 +2,14 @@
 use Rattle.std.proofs.Common.{◌≡◌, ℕ, true, false, List, [], ◌∷◌, ◌++◌, length, map, Some, None, Ok, Err, refl, arith, lit<}
 use Rattle.std.specs.Prelude.{replicate}
 use Rattle.std.specs.List.{filter}
-use Rattle.xls_model.specs.Stream.{enc, group_bytes, StartsContinue}
-use Rattle.xls_model.specs.Substreams.{kept_groups}
+use Rattle.xls_bytes.specs.Numbers.{le16}
+use Rattle.xls_model.specs.Stream.{enc, group_bytes, Begins}
+use Rattle.xls_model.specs.Substreams.{none, plain, nested, kept_groups}
 use Rattle.xls_model.specs.StringTable.{front_of, marked, short_head, no_units, no_tail, units_at, tail_at, next_at, Table}
 use Rattle.xls_model.specs.Listing.{plain_entry, sheet_entry, is_globals_type}
 use Rattle.xls_layout.specs.TableGrammar.{one_byte, two_bytes, flags_byte, Str}
-use Rattle.xls_layout.specs.LaidStrings.{put, cut, AreSteps, IsCutWell, marks_of_steps, marks_of_string, marks_of_strings, pieces_of}
-use Rattle.xls_layout.specs.Layout.{lay, eof_group}
+use Rattle.xls_layout.specs.LaidStrings.{le32, put, cut, AreSteps, IsCutWell, marks_of_steps, marks_of_string, marks_of_strings, pieces_of}
+use Rattle.xls_layout.specs.Layout.{LaidPart, lay, eof_group, bytes_of_part, kept_in}
 use Rattle.xls_layout.specs.Canonical.{bare_group, canonical, canonical_strings}
 
 -- ---- canonical layouts
@@ -138,6 +139,39 @@ loose_number = refl
 pub loose_format : filter is_globals_type (bare_group 0x041E [] ∷ bare_group 0x0031 [] ∷ []) ≡ bare_group 0x041E [] ∷ []
 loose_format = refl
 
--- a part that begins with a Continue: it would be attached to the EOF of what stands before
-pub continue_first : StartsContinue (enc 0x003C (1 ∷ []) ++ group_bytes eof_group)
-continue_first = record { room = lit< tt; typ = refl }
+-- a part that begins with a Continue: the EOF before the part takes it
+pub continue_first : Begins (group_bytes eof_group ++ (enc 0x003C (1 ∷ []) ++ group_bytes eof_group)) (record { typ = 0x000A; body = []; tail = (1 ∷ []) ∷ [] }) (group_bytes eof_group)
+continue_first = record {
+  whole = refl;
+  fits = record { typ = lit< tt; body = lit< tt; tail = (lit< tt, tt) };
+  room = (lit< tt, tt);
+  ended = λ s. let t = s.typ in cc;
+}
+
+-- a body, a count of units or of runs of 65,536, and an offset of 2 ^ 32: what is written is no byte
+pub sixteen_bits : le16 65536 ≡ 0 ∷ 256 ∷ []
+sixteen_bits = refl
+
+pub thirty_two_bits : le32 4294967296 ≡ 0 ∷ 0 ∷ 0 ∷ 256 ∷ []
+thirty_two_bits = refl
+
+-- ---- a sheet part
+
+-- a loose record before the BOF; a Number with a Continue, a chart with a Number of its own, a loose
+-- record and a Formula
+abbrev chart_part : LaidPart
+chart_part = record {
+  front = bare_group 0x0208 [] ∷ [];
+  bof = bare_group 0x0809 [];
+  items = plain (record { typ = 0x0203; body = 1 ∷ []; tail = (9 ∷ []) ∷ [] }) (nested (bare_group 0x0809 []) (plain (bare_group 0x0203 (2 ∷ [])) none) (bare_group 0x000A []) (plain (bare_group 0x0208 []) (plain (bare_group 0x0006 (3 ∷ [])) none)));
+}
+
+-- the Number and the Formula are its sheet's, without the Continue
+pub chart_kept : kept_in chart_part ≡ record { typ = 0x0203; body = 1 ∷ [] } ∷ record { typ = 0x0006; body = 3 ∷ [] } ∷ []
+chart_kept = refl
+
+pub chart_bytes : bytes_of_part chart_part
+    ≡ 0x08 ∷ 0x02 ∷ 0 ∷ 0 ∷ 0x09 ∷ 0x08 ∷ 0 ∷ 0 ∷ 0x03 ∷ 0x02 ∷ 1 ∷ 0 ∷ 1 ∷ 0x3C ∷ 0 ∷ 1 ∷ 0 ∷ 9
+    ∷ 0x09 ∷ 0x08 ∷ 0 ∷ 0 ∷ 0x03 ∷ 0x02 ∷ 1 ∷ 0 ∷ 2 ∷ 0x0A ∷ 0 ∷ 0 ∷ 0
+    ∷ 0x08 ∷ 0x02 ∷ 0 ∷ 0 ∷ 0x06 ∷ 0 ∷ 1 ∷ 0 ∷ 3 ∷ 0x0A ∷ 0 ∷ 0 ∷ 0 ∷ []
+chart_bytes = refl

@@ -7,7 +7,7 @@ use Rattle.xls_model.specs.StringTable.{Mark}
 use Rattle.xls_model.specs.Listing.{Kept, Entry, plain_entry, table_entry, sheet_entry}
 use Rattle.xls_model.specs.declared.types.TheConstants as types
 use Rattle.xls_layout.specs.LaidStrings.{le32, Step, put, cut, LaidString, marks_of_string}
-use Rattle.xls_layout.specs.Layout.{LaidPart, LaidItem, a_plain, a_sheet, a_table, Layout, plain_types}
+use Rattle.xls_layout.specs.Layout.{LaidPart, LaidItem, a_plain, a_sheet, a_table, Layout, IsPlainType}
 
 -- ---- the cuts of a string table
 
@@ -135,11 +135,11 @@ pub record FitsSheet (state kind : ℕ) (name : List ℕ) (kept : List Kept) : T
   pub kept_fit : AllByRecursion FitsKept kept
 
 abbrev pub FitsEntry : Entry → Type 0
-FitsEntry (plain_entry typ body) = (is_among typ plain_types ≡ true) × FitsBody body
-FitsEntry (table_entry strings) = (length strings < 2 ^ 32) × AllByRecursion FitsString strings
+FitsEntry (plain_entry typ body) = IsPlainType typ × FitsBody body
+FitsEntry (table_entry strings) = AllByRecursion FitsString strings
 FitsEntry (sheet_entry state kind name kept) = FitsSheet state kind name kept
 
--- every body that its records need has a length of 16 bits, and every list of units; the number of
--- strings has 32 bits
+-- every body that its records need has a length of 16 bits, and so has every list of units; bytes are
+-- bytes, and units have 16 bits
 abbrev pub Fits : List Entry → Type 0
 Fits list = AllByRecursion FitsEntry list

@@ -63,6 +63,10 @@ LaidStream = (d : Layout) → IsLayout d → Carries (lay d) (list_of d)
 abbrev pub LaidAlone : Type 0
 LaidAlone = (d : Layout) → IsLayout d → (entries : List Entry) → Carries (lay d) entries → entries ≡ list_of d
 
+-- a list that has a valid layout fits
+abbrev pub LaidFits : Type 0
+LaidFits = (d : Layout) → IsLayout d → Fits (list_of d)
+
 -- the canonical layout of a list that fits, where its bytes have offsets of 32 bits, is a valid layout
 -- of that list
 abbrev pub CanonicalLayout : Type 0

@@ -6,7 +6,7 @@ use Rattle.std.specs.List.{flat_map, AllByRecursion}
 use Rattle.xls_model.specs.Stream.{Group, group_bytes, IsGroup, IsBody}
 use Rattle.xls_model.specs.Walks.{IsBytes}
 use Rattle.xls_model.specs.Substreams.{IsBof, IsPlain, Items, none, AreItems, groups_of, outer_of, is_sheet_type, kept_groups, is_among}
-use Rattle.xls_model.specs.Listing.{Kept, kept_of, Entry, plain_entry, table_entry, sheet_entry, is_globals_type}
+use Rattle.xls_model.specs.Listing.{Kept, kept_of, Entry, plain_entry, table_entry, sheet_entry, globals_types, is_globals_type, is_plain_type}
 use Rattle.xls_model.specs.declared.types.TheConstants as types
 use Rattle.xls_layout.specs.LaidStrings.{le32, LaidString, marks_of_strings, lists_of, table_group, IsLaidTable}
 
@@ -98,11 +98,9 @@ list_of d = flat_map (entries_of_item d.parts) d.globals
 
 -- ---- valid layouts
 
--- the eight types of the plain records of a list
-abbrev pub plain_types : List ℕ
-plain_types =
-    types.BOF ∷ types.FILE_PASS ∷ types.CODE_PAGE ∷ types.DATE_MODE ∷ types.FORMAT ∷ types.XF
-    ∷ types.LBL ∷ types.EXTERN_SHEET ∷ []
+-- a type that is read in the globals, but neither SST nor BoundSheet8
+abbrev pub IsPlainType : ℕ → Type 0
+IsPlainType typ = (is_among typ globals_types ≡ true) × (is_plain_type typ ≡ true)
 
 -- a record that is no Continue, and bodies that have a length of 16 bits
 pub record IsLaidGroup (g : Group) : Type 0 where
@@ -117,7 +115,7 @@ pub record IsLooseItem (g : Group) : Type 0 where
 
 pub record IsPlainItem (g : Group) : Type 0 where
   pub laid : IsLaidGroup g
-  pub is_plain : is_among g.typ plain_types ≡ true
+  pub is_plain : IsPlainType g.typ
 
 -- a body that has a length of 16 bits, and a part whose offset has 32 bits
 pub record IsSheetItem (d : Layout) (name : List ℕ) (tail : List (List ℕ)) (part : ℕ) : Type 0 where

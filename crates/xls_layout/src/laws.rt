@@ -1,6 +1,6 @@
 //! Laws over layouts, each on a function with an empty body.
 
-ghost use Rattle.xls_layout.specs.Laws.{CanonicalLayout, LaidAlone, LaidCount, LaidStream, LaidStrings, LaidTexts, SameElements, SameTables};
+ghost use Rattle.xls_layout.specs.Laws.{CanonicalLayout, LaidAlone, LaidCount, LaidFits, LaidStream, LaidStrings, LaidTexts, SameElements, SameTables};
 
 /// What is read as the next string of a table is an element of its grammar, and each element is read so.
 pub fn same_elements()
@@ -35,6 +35,11 @@ pub fn laid_stream()
 /// And no other.
 pub fn laid_alone()
     ensures { LaidAlone }
+{}
+
+/// A list that has a valid layout fits.
+pub fn laid_fits()
+    ensures { LaidFits }
 {}
 
 /// The canonical layout of a list that fits is a valid layout of that list.

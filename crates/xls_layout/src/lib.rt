@@ -4,6 +4,6 @@
 mod laws;
 
 pub use laws::{
-    canonical_layout, laid_alone, laid_count, laid_stream, laid_strings, laid_texts, same_elements,
-    same_tables,
+    canonical_layout, laid_alone, laid_count, laid_fits, laid_stream, laid_strings, laid_texts,
+    same_elements, same_tables,
 };

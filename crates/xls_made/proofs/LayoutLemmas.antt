@@ -71,7 +71,7 @@ pub items_laid : (n : ℕ) → AllByRecursion (IsLaidItem (made_layout n)) (made
 items_laid n = (
   record {
     laid = record { fits = record { typ = lit< tt; body = lit< tt; tail = tt }; no_continue = λ e. omega arith };
-    is_plain = refl;
+    is_plain = (refl, refl);
   },
   (
     record { name_fits = lit< tt; tail_fits = tt; has_part = lit< tt; offset_fits = lit< tt },
