@@ -14,7 +14,10 @@ mod options;
 mod part;
 
 pub use check::check_stream;
+pub use globals::{Globals, read_globals};
 pub use laws::checked_alike;
+pub use listed::{Lbl, Listed};
+pub use names::{Naming, naming_of};
 pub use opened::{Opened, open};
 pub use options::XlsOptions;
 pub use part::Content;
