@@ -47,15 +47,17 @@ abbrev mutual
 
 -- ---- without repeats
 
+abbrev pub same_position : Position → Position → Bool
+same_position p q = (p.0 == q.0) && (p.1 == q.1)
+
 abbrev pub same_cells : Citation → Citation → Bool
 same_cells c d =
-    option_eq (pointwise ◌==◌) c.sheet d.sheet
-    && ((c.first.0 == d.first.0) && (c.first.1 == d.first.1))
-    && ((c.last.0 == d.last.0) && (c.last.1 == d.last.1))
+    (option_eq (pointwise ◌==◌) c.sheet d.sheet && same_position c.first d.first)
+    && same_position c.last d.last
 
 -- a citation, where none before it is equal
 abbrev pub unless_before : List Citation → Citation → Option Citation
-unless_before before c = if list_any (same_cells c) before then None else Some c
+unless_before before c = if list_any (λ b. same_cells b c) before then None else Some c
 
 -- every later repeat of an equal one left out
 abbrev pub distinct : List Citation → List Citation

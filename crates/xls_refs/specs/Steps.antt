@@ -1,7 +1,14 @@
 -- What the code keeps of operands, citations and sheets, for the proofs. What the contracts of public
 -- calls say doesn't depend on it.
-use Rattle.std.specs.Prelude.{◌≡◌, ℕ, zero, suc, ℤ, List, [], ◌∷◌, map, length, slice_get, unwrap_or, Option, Some, None, Result, Ok, Err}
-use Rattle.std.specs.Option.{option_map}
+use Rattle.std.specs.Prelude.{◌≡◌, ℕ, zero, suc, ℤ, List, [], ◌∷◌, map, length, slice_get, unwrap_or, IfSome, Option, Some, None, Result, Ok, Err}
+use Rattle.std.specs.BTreeSet.{BTreeSet, contains}
+use Rattle.std.specs.Borrow.{Bor}
+use Rattle.std.specs.Cmp.Lexicographic.{slice_cmp}
+use Rattle.std.specs.List.{list_any}
+use Rattle.std.specs.Option.{option_cmp, option_map}
+use Rattle.std.specs.Ordering.{nat_cmp, ordering_then}
+use Rattle.std.specs.declared.cmp.Ordering.{Ordering}
+use Rattle.std.specs.Str.{chars, IsUtf8}
 use Rattle.xls_text.specs.declared.encoding.XlsEncoding.{XlsEncoding}
 use Rattle.xls_model.specs.Listing.{Kept, IsSheetPart}
 use Rattle.xls_model.specs.declared.part.Part.{Part}
@@ -17,7 +24,7 @@ use Rattle.xls_ptg.specs.declared.tokens.Ptg.TheVariants as ptg
 use Rattle.xls_formula.specs.Context.{Context, numbered_sheet}
 use Rattle.xls_formula.specs.Fold.{fold, fold_tokens, one_tree}
 use Rattle.xls_formula.specs.Functions.{Function}
-use Rattle.xls_refs.specs.Citations.{Citation, leaves}
+use Rattle.xls_refs.specs.Citations.{Citation, same_cells, distinct, leaves}
 use Rattle.xls_reading.specs.InForce.{known_refs}
 use Rattle.xls_reading.specs.Reading.{paired}
 use Rattle.xls_open.specs.Steps.{Sheets, names_listed}
@@ -97,6 +104,35 @@ leaves_of context tokens = gives leaves (fold_tokens context tokens 0 [] >>= one
 -- of the tree of a formula
 abbrev pub leaves_at : Context → List ℕ → Result (List Citation) XlsError
 leaves_at context rgce = gives leaves (fold context rgce)
+
+-- ---- repeats
+
+-- what the set has: the text of a sheet, and two positions
+abbrev pub Key : Type 0
+Key = Option (Bor (List ℕ)) × (ℕ × ℕ) × (ℕ × ℕ)
+
+abbrev pub by_text : Bor (List ℕ) → Bor (List ℕ) → Ordering
+by_text a b = slice_cmp nat_cmp a.now b.now
+
+abbrev pub by_position : ℕ × ℕ → ℕ × ℕ → Ordering
+by_position p q = ordering_then (nat_cmp p.0 q.0) (nat_cmp p.1 q.1)
+
+abbrev pub by_key : Key → Key → Ordering
+by_key k q = ordering_then (ordering_then (option_cmp by_text k.0 q.0) (by_position k.1 q.1)) (by_position k.2 q.2)
+
+abbrev pub key_cite : Key → Citation
+key_cite k = record { sheet = option_map (λ (t : Bor (List ℕ)). chars t.now) k.0; first = k.1; last = k.2 }
+
+abbrev pub IsText : Key → Type 0
+IsText k = IfSome k.0 (λ (t : Bor (List ℕ)). IsUtf8 t.now)
+
+-- the set has exactly the citations so far
+abbrev pub SeenSo : BTreeSet Key → List Citation → Type 0
+SeenSo seen before = (q : Key) → IsText q → contains by_key seen q ≡ list_any (λ (b : Citation). same_cells b (key_cite q)) before
+
+-- the set has exactly the citations so far, and these are they without repeats
+abbrev pub IsDistinctSoFar : BTreeSet Key → List Citation → List Citation → Type 0
+IsDistinctSoFar seen items before = SeenSo seen before × (items ≡ distinct before)
 
 -- ---- sheets
 
