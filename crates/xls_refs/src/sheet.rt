@@ -74,6 +74,17 @@ fn take<'a>(
     Ok(())
 }
 
+/// Formulas in order of their positions, of those of one position the last.
+fn in_order<'a>(
+    alloc: Global,
+    formulas: Vec<Cell<Tokens<'a>>>,
+) -> Result<Vec<Cell<Tokens<'a>>>, AllocError>
+    ensures { IfOk result (λ v. AreLast (map formula_content formulas.entry.items) (map formula_content v.items)) }
+{
+    let sorted = sorted_cells(alloc, formulas)?;
+    Ok(sorted)
+}
+
 /// The formulas of a part in order of their positions, of those of one position the last.
 fn formulas_of_part<'a>(alloc: Global, part: &'a [u8]) -> Result<Vec<Cell<Tokens<'a>>>, AllocError>
     ensures { IfOk result (λ v. (kept : List Kept) (cut : Option Part) → IsPart part.now kept cut
@@ -81,13 +92,14 @@ fn formulas_of_part<'a>(alloc: Global, part: &'a [u8]) -> Result<Vec<Cell<Tokens
 {
     let mut formulas = Vec::new(alloc);
     for record in SheetRecords::new(part) {
-        let Ok(record) = record else {
+        let record = match record {
+            Ok(record) => record,
             // Here the part is cut.
-            return sorted_cells(alloc, formulas);
+            Err(_) => return in_order(alloc, formulas),
         };
         take(alloc, &mut formulas, &record)?;
     }
-    sorted_cells(alloc, formulas)
+    in_order(alloc, formulas)
 }
 
 /// Those of the part at an offset of the stream; none where it passes the end.
