@@ -1,5 +1,5 @@
 -- The operands and the leaves that the tokens so far leave.
-use Rattle.std.proofs.Common.{suc, zero, ◌≡◌, ℕ, ◌+◌, ◌-◌, ◌<◌, ◌≤◌, List, [], ◌∷◌, ◌++◌, length, drop, map, Option, Some, None, Result, Ok, Err, refl, sym, ◌∙◌, ap, subst, arith, append_assoc}
+use Rattle.std.proofs.Common.{suc, zero, ◌≡◌, ℕ, ◌+◌, ◌<◌, ◌≤◌, List, [], ◌∷◌, ◌++◌, length, drop, map, Option, Some, None, Result, Ok, Err, refl, sym, ◌∙◌, ap, arith, append_assoc}
 use Rattle.std.specs.List.{slice_get}
 use Rattle.std.specs.Option.{option_map}
 use Rattle.std.proofs.lemmas.List.{append-nil, map-append}
@@ -14,12 +14,12 @@ use Rattle.xls_ptg.specs.declared.cite.Token.{Token}
 use Rattle.xls_ptg.specs.declared.tokens.Ptg.{Ptg}
 use Rattle.xls_ptg.specs.declared.tokens.Ptg.TheVariants as ptg
 use Rattle.xls_formula.specs.Context.{Context}
-use Rattle.xls_formula.specs.Fold.{Folded, apply, gather, on_one, on_two, call_func, call_func_var, space_before, fold_tokens, tokens_at, one_tree}
+use Rattle.xls_formula.specs.Fold.{Folded, apply, gather, on_one, on_two, call_func, call_func_var, space_before, fold_tokens, one_tree}
 use Rattle.xls_formula.specs.Functions.{Function}
 use Rattle.xls_formula.specs.Tree.{Tree, Trees, no_trees, tree}
 use Rattle.xls_reading.specs.Order.{somes}
 use Rattle.xls_refs.specs.Citations.{Citation, leaves, leaves_each}
-use Rattle.xls_refs.specs.Steps.{arity, known_arity, joined, left_after, counted, cited, context_under, leaves_of, leaves_at}
+use Rattle.xls_refs.specs.Steps.{arity, known_arity, joined, left_after, counted, cited, context_under, leaves_of}
 use Rattle.xls_refs.specs.declared.walk.Scope.{Scope}
 use Rattle.xls_text.specs.declared.encoding.XlsEncoding.{XlsEncoding}
 

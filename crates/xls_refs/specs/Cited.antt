@@ -1,5 +1,5 @@
 -- The cells that the formulas of a workbook cite, by its logical list.
-use Rattle.std.specs.Prelude.{◌≡◌, ℕ, zero, suc, List, [], ◌∷◌, ◌++◌, map, ◌==◌, false, if◌then◌else◌, Option, Some, None, unwrap_or, Result, Ok, Err}
+use Rattle.std.specs.Prelude.{◌≡◌, ℕ, suc, List, [], ◌∷◌, ◌++◌, map, ◌==◌, false, if◌then◌else◌, Option, Some, None, unwrap_or, Result, Ok, Err}
 use Rattle.std.specs.List.{flat_map}
 use Rattle.xls_model.specs.Listing.{Kept, Entry}
 use Rattle.xls_model.specs.declared.types.TheConstants as types

@@ -11,12 +11,12 @@ ghost use Rattle.xls_strings.specs.declared.error.XlsError.{XlsError};
 ghost use Rattle.xls_reading.specs.Reading.{paired};
 ghost use Rattle.xls_open.specs.Steps.{listed_of};
 ghost use Rattle.xls_book.specs.Steps.{IsIndex, last_place};
-ghost use Rattle.xls_refs.specs.Citations.{citation_of};
-ghost use Rattle.xls_refs.specs.Cited.{AreCited, AreLast, book_citation_of, cited_by, formulas_of, on_own_sheet};
+ghost use Rattle.xls_refs.specs.Citations.{citation_of, cites_at};
+ghost use Rattle.xls_refs.specs.Cited.{AreCited, AreLast, book_citation_of, cited_by, cited_from, formulas_of, on_own_sheet, unless_refused};
 ghost use Rattle.xls_refs.specs.Citing.{CitingCause, IsBookCited, IsFault};
 ghost use Rattle.xls_refs.specs.Steps.{AreListedCited, AreParts, context_under, formula_content, kept_at};
 
-use crate::cite::{BookCite, BookCites, Cite};
+use crate::cite::{BookCite, BookCites, Cite, Cites};
 use crate::formula::cites_in_scope;
 use crate::sheet::{Tokens, formulas_at};
 use crate::walk::Scope;
@@ -50,25 +50,33 @@ fn on_own_sheet(alloc: Global, name: &str, cite: Cite) -> Result<Cite, AllocErro
     })
 }
 
-/// Puts what a formula of a sheet cites after what was cited so far.
-fn cite_formula(
+/// What a formula cites; nothing where it is refused.
+fn cites_unless_refused(alloc: Global, rgce: &[u8], scope: Scope<'_>) -> Result<Cites, AllocError>
+    ensures { IfOk result (λ cites. (names : List (List ℕ × List ℕ)) (page : XlsEncoding)
+        → cites ≡ unless_refused (cites_at (context_under names page scope.entry) rgce.now)) }
+{
+    match cites_in_scope(alloc, rgce, scope) {
+        Ok(cites) => Ok(cites),
+        Err(error) if is_memory(&error) => Err(AllocError),
+        Err(_) => Ok(Cites {
+            items: Vec::new(alloc),
+        }),
+    }
+}
+
+/// Puts citations of the formula at a position after what was cited so far.
+fn put_cites(
     alloc: Global,
     out: &mut Vec<BookCite>,
-    formula: Cell<Tokens<'_>>,
+    cites: Cites,
+    position: (u32, u32),
     sheet: usize,
     name: &str,
-    scope: Scope<'_>,
 ) -> Result<(), AllocError>
-    ensures { OnOk result ((names : List (List ℕ × List ℕ)) (page : XlsEncoding)
-        → map book_citation_of out.new.items ≡ map book_citation_of out.old.items
-        ++ cited_by (context_under names page scope.entry) sheet (chars name.now) (formula_content formula.entry)) }
+    ensures { OnOk result (map book_citation_of out.new.items ≡ map book_citation_of out.old.items
+        ++ map (cited_from sheet (chars name.now) position) cites) }
 {
-    let (row, col) = formula.get_position();
-    let cites = match cites_in_scope(alloc, formula.get_value().bytes, scope) {
-        Ok(cites) => cites,
-        Err(error) if is_memory(&error) => return Err(AllocError),
-        Err(_) => return Ok(()),
-    };
+    let (row, col) = position;
     for cite in cites.items {
         let cite = on_own_sheet(alloc, name, cite)?;
         out.push(BookCite {
@@ -81,21 +89,22 @@ fn cite_formula(
     Ok(())
 }
 
-/// Likewise of all formulas of a sheet.
+/// Likewise all that the formulas of a sheet cite.
 fn cite_formulas(
     alloc: Global,
     out: &mut Vec<BookCite>,
-    formulas: Vec<Cell<Tokens<'_>>>,
+    formulas: &[Cell<Tokens<'_>>],
     sheet: usize,
     name: &str,
     scope: Scope<'_>,
 ) -> Result<(), AllocError>
     ensures { OnOk result ((names : List (List ℕ × List ℕ)) (page : XlsEncoding)
         → map book_citation_of out.new.items ≡ map book_citation_of out.old.items
-        ++ flat_map (cited_by (context_under names page scope.entry) sheet (chars name.now)) (map formula_content formulas.entry.items)) }
+        ++ flat_map (cited_by (context_under names page scope.entry) sheet (chars name.now)) (map formula_content formulas.now)) }
 {
     for formula in formulas {
-        cite_formula(alloc, out, formula, sheet, name, scope)?;
+        let cites = cites_unless_refused(alloc, formula.get_value().bytes, scope)?;
+        put_cites(alloc, out, cites, formula.get_position(), sheet, name)?;
     }
     Ok(())
 }
@@ -139,7 +148,7 @@ fn cites_of_sheets(
     for i in 0..sheets.len() {
         let name = sheets[i].name.as_str();
         let formulas = formulas_named(alloc, stream, offsets, &index, name)?;
-        cite_formulas(alloc, &mut out, formulas, i, name, scope)?;
+        cite_formulas(alloc, &mut out, &formulas, i, name, scope)?;
     }
     Ok(out)
 }

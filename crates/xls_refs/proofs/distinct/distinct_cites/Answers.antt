@@ -1,5 +1,5 @@
-use Rattle.std.proofs.Common.{subst, List, map, take}
-use Rattle.xls_refs.specs.Citations.{Citation, citation_of}
+use Rattle.std.proofs.Common.{subst, map, take}
+use Rattle.xls_refs.specs.Citations.{citation_of}
 use Rattle.xls_refs.specs.Steps.{cited, IsDistinctSoFar}
 use Rattle.xls_refs.proofs.DistinctLemmas.{taken_more}
 use Rattle.xls_refs.proofs.distinct.distinct_cites.Goals as goal

@@ -1,10 +1,8 @@
-use Rattle.std.proofs.Common.{◌≡◌, ◌++◌, ◌∷◌, [], ℕ, List, ◌+◌, ◌≤◌, drop, length, sym, subst, ◌∙◌, ap, arith, length-drop}
+use Rattle.std.proofs.Common.{◌≡◌, ◌++◌, ◌∷◌, [], ℕ, List, ◌+◌, drop, length, sym, subst, ◌∙◌, ap, arith, length-drop}
 use Rattle.std.proofs.lemmas.List.{drop-drop}
 use Rattle.std.proofs.lemmas.Result.{err_from_is_err_and}
-use Rattle.xls_text.specs.declared.encoding.XlsEncoding.{XlsEncoding}
 use Rattle.xls_ptg.specs.Readings.{ptg_of}
 use Rattle.xls_ptg.specs.Tokens.{ptg_at}
-use Rattle.xls_ptg.specs.declared.cite.RawCite.{RawCite}
 use Rattle.xls_reading.specs.Order.{somes}
 use Rattle.xls_refs.proofs.WalkLemmas.{SoFar, refused_by_bytes, refused_by_operands, refused, one_more, one_left, other_count, counted_within, cite_same}
 use Rattle.xls_refs.proofs.walk.cites_of_tokens.Goals as goal

@@ -1,4 +1,4 @@
-use Rattle.std.proofs.Common.{◌≡◌, arith}
+use Rattle.std.proofs.Common.{arith}
 use Rattle.xls_refs.proofs.WalkLemmas.{joined_enough, joined_few}
 use Rattle.xls_refs.proofs.walk.join.Goals as goal
 
