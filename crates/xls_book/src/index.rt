@@ -32,7 +32,7 @@ fn put(
 }
 
 /// The place of the last sheet of each name.
-pub(crate) fn index_of(
+pub fn index_of(
     alloc: Global,
     sheets: &[Sheet],
 ) -> Result<BTreeMap<String, usize>, AllocError>

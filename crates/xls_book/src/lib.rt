@@ -10,6 +10,7 @@ mod values;
 mod xls;
 
 pub use formulas::Formulas;
+pub use index::index_of;
 pub use reader::{Reader, open_workbook_from_rs};
 pub use values::Values;
 pub use xls::{Metadata, Xls};

@@ -61,7 +61,7 @@ module _ (rules : Rules) where
 
   -- ---- all places
 
-  places_same : (items : List Item) (cut : Option Part) → places rules items cut ≡ places same items cut
+  pub places_same : (items : List Item) (cut : Option Part) → places rules items cut ≡ places same items cut
   places_same items cut =
       ap (λ (l : List (Option XlsError)). globals_places rules items cut ++ l) (sheets_same (force_of rules items) (force_of same items) refl items)
 

@@ -75,11 +75,11 @@ module _ (rules : Rules) where
   name_all (sheet_item body kept cut ∷ items) before f =
       name_here body kept cut items before (λ g. name_all items (before ++ sheet_item body kept cut ∷ []) g) f (said rules before body) refl
 
-  names_same : (items : List Item) → first_of (along (item_fault rules) [] items) ≡ None
+  pub names_same : (items : List Item) → first_of (along (item_fault rules) [] items) ≡ None
       → sheet_names_of (sheets_of rules (map entry_of items)) ≡ names_listed (sheets_at rules items)
   names_same items f = name_all items [] f
 
-same_count : (qs : List SheetRecords) (ps : Sheets) → sheet_names_of qs ≡ names_listed ps → length qs ≡ length ps
+pub same_count : (qs : List SheetRecords) (ps : Sheets) → sheet_names_of qs ≡ names_listed ps → length qs ≡ length ps
 same_count qs ps e =
     sym (length-map qs (λ (q : SheetRecords). q.0.name)) ∙ ap length e
     ∙ length-map ps (λ (p : ℕ × SheetContent). p.1.name)
@@ -91,7 +91,7 @@ same_context : (rules : Rules) (p q : XlsEncoding) (v w : Biff) (ss ts : List (L
     → context_by rules p v ss rs ns ≡ context_by rules q w ts us ms
 same_context rules p q v w ss ts rs us ns ms a b c d e = rw (a, b, c, d, e) refl
 
-same_refs : (v w : Biff) (n m : ℕ) (rs us : List ℤ) → v ≡ w → n ≡ m → rs ≡ us → known_refs v n rs ≡ known_refs w m us
+pub same_refs : (v w : Biff) (n m : ℕ) (rs us : List ℤ) → v ≡ w → n ≡ m → rs ≡ us → known_refs v n rs ≡ known_refs w m us
 same_refs v w n m rs us a b c = rw (a, b, c) refl
 
 -- what the code has at hand

@@ -367,7 +367,7 @@ module _ {T X : Type 0} (content : T → X) where
       both None false = refl
 
   -- sorted cells by their contents
-  same_last : (found given : List (Position × T)) (p : Position) → last_at found p ≡ last_at given p
+  pub same_last : (found given : List (Position × T)) (p : Position) → last_at found p ≡ last_at given p
       → last_at (map (λ (c : Position × T). (c.0, content c.1)) found) p ≡ last_at (map (λ (c : Position × T). (c.0, content c.1)) given) p
   same_last found given p h =
       by_content found p ∙ ap (option_map content) h ∙ sym (by_content given p)

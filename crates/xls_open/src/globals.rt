@@ -40,7 +40,7 @@ use xls_text::XlsEncoding;
 
 /// What the globals give up to some record.
 #[derive(Drop)]
-pub(crate) struct Globals {
+pub struct Globals {
     /// The page in force.
     pub page: XlsEncoding,
     /// The version in force.
@@ -56,6 +56,7 @@ pub(crate) struct Globals {
     pub refs: Refs,
     /// The name of each Lbl, and what it names.
     pub names: Vec<Lbl>,
+    /// The sheets, and where their parts begin.
     pub listed: Vec<Listed>,
 }
 
@@ -219,8 +220,9 @@ impl Globals {
     }
 }
 
-/// What the globals of a stream give, up to their EOF or the end. They begin under this page.
-pub(crate) fn read_globals(
+/// What the globals of a stream give, up to their EOF or the end. They begin under this page, which is
+/// `first_page` of the options. `Memory`, and else their first fault.
+pub fn read_globals(
     alloc: Global,
     stream: &[u8],
     page: XlsEncoding,

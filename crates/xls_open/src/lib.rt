@@ -14,9 +14,12 @@ mod options;
 mod part;
 
 pub use check::check_stream;
+pub use globals::{Globals, read_globals};
 pub use laws::{
     checked_alike, laid_checks, laid_opens, laid_sound, one_list_per_stream, same_list_same_book,
 };
+pub use listed::{Lbl, Listed};
+pub use names::{Naming, naming_of};
 pub use opened::{Opened, open};
 pub use options::XlsOptions;
 pub use part::Content;

@@ -16,7 +16,7 @@ use xls_formula::{Names, sheet_of_reference};
 
 /// What formulas may name, and the defined names once more as the workbook tells them.
 #[derive(Drop)]
-pub(crate) struct Naming {
+pub struct Naming {
     pub sheets: Strings,
     pub refs: Refs,
     pub names: Names,
@@ -121,7 +121,7 @@ fn names_of(alloc: Global, told: &[(String, String)]) -> Result<Names, AllocErro
 
 /// What formulas may name in a workbook of these sheets, whose globals gave these references and
 /// names, under this version.
-pub(crate) fn naming_of(
+pub fn naming_of(
     alloc: Global,
     version: Biff,
     listed: &[Listed],

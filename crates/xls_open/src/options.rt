@@ -52,7 +52,7 @@ impl XlsOptions {
 
     /// The page before the first record: the forced one, or else 1200. `Cfb` where the forced page
     /// isn't kept.
-    pub(crate) fn first_page(&self) -> Result<XlsEncoding, XlsError>
+    pub fn first_page(&self) -> Result<XlsEncoding, XlsError>
         ensures { MatchResult result
             (λ page. (forced_fault self.now.force_codepage ≡ None) × (page ≡ page_in (rules_of self.now) []))
             (λ e. forced_fault self.now.force_codepage ≡ Some e) }

@@ -1,0 +1,5 @@
+pub mod WalkLemmas
+pub mod DistinctLemmas
+pub mod PartLemmas
+pub mod BookLemmas
+pub mod FinalLemmas

@@ -1,0 +1,97 @@
+-- The cells that the formulas of a workbook cite, by its logical list.
+use Rattle.std.specs.Prelude.{◌≡◌, ℕ, suc, List, [], ◌∷◌, ◌++◌, map, ◌==◌, false, if◌then◌else◌, Option, Some, None, unwrap_or, Result, Ok, Err}
+use Rattle.std.specs.List.{flat_map}
+use Rattle.xls_model.specs.Listing.{Kept, Entry}
+use Rattle.xls_model.specs.declared.types.TheConstants as types
+use Rattle.xls_data.specs.Content.{Content}
+use Rattle.xls_cells.specs.Positions.{Position, IsAscending, last_at}
+use Rattle.xls_strings.specs.declared.error.XlsError.{XlsError}
+use Rattle.xls_biff.specs.Records.Formula.{formula_at}
+use Rattle.xls_formula.specs.Context.{Context}
+use Rattle.xls_reading.specs.Order.{somes}
+use Rattle.xls_reading.specs.InForce.{SheetRecords, sheets_of, sheet_names_of, context_of}
+use Rattle.xls_reading.specs.Reading.{kept_named}
+use Rattle.xls_reading.specs.Rules.{Rules}
+use Rattle.xls_refs.specs.Citations.{Citation, citation_of, cites_at}
+use Rattle.xls_refs.specs.declared.cite.BookCite.{BookCite}
+
+-- ---- the formulas of a sheet
+
+-- where a formula stands, and its tokens
+abbrev pub Formula : Type 0
+Formula = Position × List ℕ
+
+abbrev pub formula_in : Result (Position × Option Content × List ℕ) XlsError → Option Formula
+formula_in (Ok f) = Some (f.0, f.2)
+formula_in (Err e) = None
+
+-- that of a Formula record ([MS-XLS] Formula); position and tokens hang on no class and no date system
+abbrev pub formula_of : Kept → Option Formula
+formula_of k = if k.typ == types.FORMULA then formula_in (formula_at [] false k.body) else None
+
+-- those of a sheet's records in order
+abbrev pub formulas_of : List Kept → List Formula
+formulas_of kept = somes (map formula_of kept)
+
+-- by row, then column, and of these formulas at each position the last one alone
+pub record AreLast (given formulas : List Formula) : Type 0 where
+  pub ascending : IsAscending (map (λ (f : Formula). f.0) formulas)
+  pub last : (p : Position) → last_at formulas p ≡ last_at given p
+
+-- ---- what a formula of a sheet cites
+
+-- a sheet by its index, the row and the column of a formula, and cells that it cites
+pub record BookCitation : Type 0 where
+  pub sheet : ℕ
+  pub row : ℕ
+  pub col : ℕ
+  pub cite : Citation
+
+abbrev pub book_citation_of : BookCite → BookCitation
+book_citation_of c = record { sheet = c.sheet; row = c.row; col = c.col; cite = citation_of c.cite }
+
+-- on the sheet of this name, where the formula tells none
+abbrev pub on_own_sheet : List ℕ → Citation → Citation
+on_own_sheet name c =
+    record { sheet = Some (unwrap_or c.sheet name); first = c.first; last = c.last }
+
+abbrev pub cited_from : ℕ → List ℕ → Position → Citation → BookCitation
+cited_from index name p c =
+    record { sheet = index; row = p.0; col = p.1; cite = on_own_sheet name c }
+
+-- a formula that is refused cites nothing
+abbrev pub unless_refused : Result (List Citation) XlsError → List Citation
+unless_refused (Ok cs) = cs
+unless_refused (Err e) = []
+
+-- what a formula of the sheet of this index and name cites, in order
+abbrev pub cited_by : Context → ℕ → List ℕ → Formula → List BookCitation
+cited_by context index name f =
+    map (cited_from index name f.0) (unless_refused (cites_at context f.1))
+
+-- ---- the workbook
+
+-- what the formulas among these kept records cite, for the sheet of this index and name
+pub record IsSheetCited (context : Context) (index : ℕ) (name : List ℕ) (kept : List Kept) (cited : List BookCitation) : Type 0 where
+  pub formulas : List Formula
+  pub last : AreLast (formulas_of kept) formulas
+  pub cited_is : cited ≡ flat_map (cited_by context index name) formulas
+
+-- these sheets in order, of which the first has this index, each by the formulas of the last of all
+-- sheets of its name
+abbrev pub AreCited : Context → List SheetRecords → ℕ → List SheetRecords → List BookCitation → Type 0
+AreCited context all index [] cited = cited ≡ []
+AreCited context all index (q ∷ qs) cited =
+    (here : List BookCitation) × (others : List BookCitation) × (cited ≡ here ++ others)
+    × IsSheetCited context index q.0.name (kept_named all q.0.name) here
+    × AreCited context all (suc index) qs others
+
+-- the names of the sheets in order, and what their formulas cite
+pub record BookCited : Type 0 where
+  pub names : List (List ℕ)
+  pub cites : List BookCitation
+
+-- what the formulas of a list's sheets cite
+pub record IsCited (rules : Rules) (entries : List Entry) (book : BookCited) : Type 0 where
+  pub names : book.names ≡ sheet_names_of (sheets_of rules entries)
+  pub cites : AreCited (context_of rules entries) (sheets_of rules entries) 0 (sheets_of rules entries) book.cites

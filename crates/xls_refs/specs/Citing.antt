@@ -1,0 +1,28 @@
+-- What the citations of a stream answer.
+use Rattle.std.specs.Prelude.{ℕ, List}
+use Rattle.xls_model.specs.Listing.{Entry, Carries}
+use Rattle.xls_strings.specs.declared.error.XlsError.{XlsError}
+use Rattle.xls_strings.specs.declared.error.XlsError.TheVariants as errors
+use Rattle.xls_reading.specs.Faults.{IsFull}
+use Rattle.xls_open.specs.Checking.{FirstChecked}
+use Rattle.xls_open.specs.Workbook.{rules_of}
+use Rattle.xls_open.specs.declared.options.XlsOptions.{XlsOptions}
+use Rattle.xls_refs.specs.Cited.{BookCited, IsCited}
+
+-- e is the first fault of the bytes, the byte limit apart
+abbrev pub IsFault : XlsOptions → List ℕ → XlsError → Type 0
+IsFault options bytes e = FirstChecked options.force_codepage options.max_cells bytes e
+
+-- no place of the bytes has a fault; they carry a full list, and this is what the formulas of every
+-- list that they carry cite
+pub record IsBookCited (options : XlsOptions) (bytes : List ℕ) (book : BookCited) : Type 0 where
+  pub sound : (e : XlsError) → IsFault options bytes e → ⊥
+  pub entries : List Entry
+  pub carries : Carries bytes entries
+  pub full : IsFull (rules_of options) entries
+  pub every : (others : List Entry) → Carries bytes others → IsCited (rules_of options) others book
+
+-- why there is no answer: out of memory, or else the first fault of the bytes
+abbrev pub CitingCause : XlsOptions → List ℕ → XlsError → Type 0
+CitingCause options bytes errors.Memory = Unit {0}
+CitingCause options bytes e = IsFault options bytes e

@@ -1,0 +1,4 @@
+pub mod Citations
+pub mod Cited
+pub mod Citing
+pub mod Steps

@@ -1,0 +1,13 @@
+//! The cells that formulas cite, of one formula and of all formulas of a workbook.
+#![tactic(auto)]
+
+mod book;
+mod cite;
+mod distinct;
+mod formula;
+mod sheet;
+mod walk;
+
+pub use book::cites_of_book;
+pub use cite::{BookCite, BookCites, Cite, Cites};
+pub use formula::cites_of_formula;
