@@ -7,6 +7,6 @@ pub mod Report
 pub mod Summary
 pub mod Counting
 pub mod Properties
-pub mod Temp
+pub mod Refs
 pub mod Outputs
 pub mod Endings

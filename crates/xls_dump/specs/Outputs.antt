@@ -12,7 +12,9 @@ use Rattle.xls_props.specs.declared.properties.WorkbookProperties.{WorkbookPrope
 use Rattle.xls_open.specs.Workbook.{Workbook, view_named}
 use Rattle.xls_reading.specs.Reading.{SheetView}
 use Rattle.xls_csv.specs.Dense.{sheet_csv}
-use Rattle.xls_dump.specs.Temp.{BookCited, IsBookCited, refs_text}
+use Rattle.xls_refs.specs.Cited.{BookCited}
+use Rattle.xls_refs.specs.Citing.{IsBookCited}
+use Rattle.xls_dump.specs.Refs.{refs_text}
 use Rattle.xls_reading.specs.Faults.{FirstFault, IsSound}
 use Rattle.xls_open.specs.Opening.{IsOpened, default_options, default_rules}
 use Rattle.xls_dump.specs.Report.{report, sheet_report, sound_line, fault_line}

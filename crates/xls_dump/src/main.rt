@@ -10,6 +10,7 @@ mod made;
 mod memory;
 mod perform;
 mod properties;
+mod refs;
 mod report;
 mod run;
 mod short;
