@@ -133,6 +133,16 @@ either-stopped IsDone IsRefused (Ok x) none may p = absurd none
 either-stopped IsDone IsRefused {before} {after} {text} {e} (Err d) same may p =
     inr (text, may, subst (Stops before [] after text) (sym same) p)
 
+-- a text of one of two kinds is one of two others
+pub either-as : {A B C D : List ℕ → Type 0} (before after : SinkState) (r : Result Ending Stop)
+    → ((text : List ℕ) → A text → C text) → ((text : List ℕ) → B text → D text)
+    → EndsWithEither A B before after r → EndsWithEither C D before after r
+either-as before after (Ok Done) f h p = (p.0, f p.0 p.1, p.2)
+either-as before after (Ok Refused) f h p = (p.0, h p.0 p.1, p.2)
+either-as before after (Err e) f h (inl p) = inl p
+either-as before after (Err e) f h (inr (text, inl x, p)) = inr (text, inl (f text x), p)
+either-as before after (Err e) f h (inr (text, inr x, p)) = inr (text, inr (h text x), p)
+
 -- out of memory to make it
 pub either-memory : (IsDone IsRefused : List ℕ → Type 0) (before : SinkState) (r : Result Ending Stop)
     → IsErrAnd r (λ d. d ≡ Memory) → EndsWithEither IsDone IsRefused before before r

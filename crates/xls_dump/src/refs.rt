@@ -1,14 +1,16 @@
 //! The cells that the formulas of a workbook cite.
 
-ghost use Rattle.std.specs.Prelude.{◌≡◌, ◌≤◌, length, unwrap_or, []};
+ghost use Rattle.std.specs.Prelude.{◌≡◌, ◌≢◌, ◌≤◌, ℕ, List, length, slice_get, unwrap_or, []};
 ghost use Rattle.std.specs.Str.{chars};
 ghost use Rattle.xls_open.specs.Opening.{default_options};
 ghost use Rattle.xls_refs.specs.Citations.{citation_of};
 ghost use Rattle.xls_refs.specs.Cited.{book_citation_of};
 ghost use Rattle.xls_dump.specs.Endings.{Delivers, EndsWithEither};
 ghost use Rattle.xls_dump.specs.Gathering.{Puts};
+ghost use Rattle.xls_strings.specs.declared.error.XlsError.TheVariants.{Memory};
 ghost use Rattle.xls_dump.specs.Outputs.{IsFirstLine, IsRefsText};
-ghost use Rattle.xls_dump.specs.Refs.{ref_line, refs_text};
+ghost use Rattle.xls_dump.specs.Report.{fault_line};
+ghost use Rattle.xls_dump.specs.Refs.{cited_line, ref_at, ref_line, refs_text};
 
 use crate::buffer::Buffer;
 use crate::ending::{Ending, Stop};
@@ -30,31 +32,80 @@ fn sheet_of(cite: &Cite) -> &str
     }
 }
 
-/// Puts the line of cells that a formula cites: the formula's sheet, row and column, and of the cells the
-/// sheet, and row and column of the first and of the last.
+/// The name of the sheet at an index, and the empty text where there is none.
+fn name_of(cites: &BookCites, sheet: usize) -> &str
+    ensures { chars result.now ≡ unwrap_or (slice_get cites.now.names sheet) [] }
+{
+    match cites.sheet_name(sheet) {
+        Some(name) => name,
+        None => "",
+    }
+}
+
+/// Puts the line of cells that are cited: sheet, row and column of the formula, and of the cells the sheet,
+/// and row and column of the first and of the last.
+fn put_cited<'x, K: Sink>(
+    buffer: &mut Buffer,
+    sink: &mut K,
+    name: &'x str,
+    formula: (u32, u32),
+    sheet: &'x str,
+    first: (u32, u32),
+    last: (u32, u32),
+) -> Result<(), Stop>
+    ensures { Puts (K.state sink.old) buffer.old (K.state sink.new) buffer.new
+        (cited_line (chars name.now) formula (chars sheet.now) first last) result }
+{
+    let fields = [
+        Field::Text(name),
+        Field::Number(u64::from(formula.0)),
+        Field::Number(u64::from(formula.1)),
+        Field::Text(sheet),
+        Field::Number(u64::from(first.0)),
+        Field::Number(u64::from(first.1)),
+        Field::Number(u64::from(last.0)),
+        Field::Number(u64::from(last.1)),
+    ];
+    buffer.put_line(sink, "ref", &fields)
+}
+
+/// Puts the line of cells that a formula cites.
 fn put_cite<K: Sink>(
     buffer: &mut Buffer,
     sink: &mut K,
-    cites: &BookCites,
+    name: &str,
     cite: &BookCite,
 ) -> Result<(), Stop>
-    ensures { Puts (K.state sink.old) buffer.old (K.state sink.new) buffer.new
-        (ref_line cites.now.names (book_citation_of cite.now)) result }
+    ensures { (names : List (List ℕ)) → chars name.now ≡ unwrap_or (slice_get names cite.now.sheet) []
+        → Puts (K.state sink.old) buffer.old (K.state sink.new) buffer.new
+        (ref_line names (book_citation_of cite.now)) result }
 {
-    let name = cites.sheet_name(cite.sheet).unwrap_or("");
-    let (first_row, first_column) = cite.cite.first;
-    let (last_row, last_column) = cite.cite.last;
-    let fields = [
-        Field::Text(name),
-        Field::Number(u64::from(cite.row)),
-        Field::Number(u64::from(cite.col)),
-        Field::Text(sheet_of(&cite.cite)),
-        Field::Number(u64::from(first_row)),
-        Field::Number(u64::from(first_column)),
-        Field::Number(u64::from(last_row)),
-        Field::Number(u64::from(last_column)),
-    ];
-    buffer.put_line(sink, "ref", &fields)
+    let cells = &cite.cite;
+    put_cited(
+        buffer,
+        sink,
+        name,
+        (cite.row, cite.col),
+        sheet_of(cells),
+        cells.first,
+        cells.last,
+    )
+}
+
+/// Puts the line at an index.
+fn put_cite_at<K: Sink>(
+    buffer: &mut Buffer,
+    sink: &mut K,
+    cites: &BookCites,
+    i: usize,
+) -> Result<(), Stop>
+    ensures { Puts (K.state sink.old) buffer.old (K.state sink.new) buffer.new
+        (ref_at cites.now.names (slice_get cites.now.cites i)) result }
+{
+    match cites.get(i) {
+        Some(cite) => put_cite(buffer, sink, name_of(cites, cite.sheet), cite),
+        None => Ok(()),
+    }
 }
 
 /// Puts the lines of all cells that are cited.
@@ -63,9 +114,7 @@ fn put_cites<K: Sink>(buffer: &mut Buffer, sink: &mut K, cites: &BookCites) -> R
         (refs_text cites.now) result }
 {
     for i in 0..cites.len() {
-        if let Some(cite) = cites.get(i) {
-            put_cite(buffer, sink, cites, cite)?;
-        }
+        put_cite_at(buffer, sink, cites, i)?;
     }
     Ok(())
 }
@@ -80,6 +129,20 @@ fn write_cites<K: Sink>(alloc: Global, sink: &mut K, cites: &BookCites) -> Resul
     Ok(())
 }
 
+/// Writes the line of a refusal, unless memory ran out.
+fn write_refusal<K: Sink>(alloc: Global, sink: &mut K, error: &XlsError) -> Result<Ending, Stop>
+    ensures { EndsWithEither (λ _. ⊥) (λ text. (error.now ≢ Memory) × (text ≡ fault_line error.now))
+        (K.state sink.old) (K.state sink.new) result }
+{
+    match error {
+        XlsError::Memory => Err(Stop::Memory),
+        _ => {
+            write_fault(alloc, sink, error)?;
+            Ok(Ending::Refused)
+        }
+    }
+}
+
 /// Writes the cells that the formulas of the bytes' workbook cite, or the first fault of the bytes.
 pub fn write_refs<K: Sink>(alloc: Global, sink: &mut K, bytes: &[u8]) -> Result<Ending, Stop>
     requires { length bytes.now ≤ default_options.max_bytes }
@@ -92,10 +155,6 @@ pub fn write_refs<K: Sink>(alloc: Global, sink: &mut K, bytes: &[u8]) -> Result<
             write_cites(alloc, sink, &cites)?;
             Ok(Ending::Done)
         }
-        Err(XlsError::Memory) => Err(Stop::Memory),
-        Err(error) => {
-            write_fault(alloc, sink, &error)?;
-            Ok(Ending::Refused)
-        }
+        Err(error) => write_refusal(alloc, sink, &error),
     }
 }
