@@ -13,6 +13,7 @@ use Rattle.xls_strings.specs.declared.error.XlsError.TheVariants as errors
 use Rattle.xls_strings.specs.declared.version.Biff.{Biff}
 use Rattle.xls_biff.specs.SheetTable.{CellContext}
 use Rattle.xls_formula.specs.Context.{Context}
+use Rattle.xls_formula.specs.Functions.{Function}
 use Rattle.xls_reading.specs.Order.{along, first_of}
 use Rattle.xls_reading.specs.GlobalsTable.{forced_fault}
 use Rattle.xls_reading.specs.InForce.{SheetRecords, sheets_of, sheet_names_of, known_refs, version_in, extern_refs, context_of, cells_of}
@@ -156,3 +157,11 @@ module _ (options : XlsOptions) (bytes : List ℕ) (fits : IsBytes bytes) where
             full = full.1;
             every = λ others c. subst (λ (l : List Entry). IsCited rules l book) (one_list bytes fits entries others full.0 c) reading;
           }
+
+-- the code has the globals apart
+pub as_read : (v w : Biff) (ls ms : Sheets) (rs us : List ℤ) (functions : List Function) (stream : List ℕ) (book : BookCited) → v ≡ w → ls ≡ ms → rs ≡ us
+    → AreListedCited v ls rs functions stream book → AreListedCited w ms us functions stream book
+as_read v w ls ms rs us functions stream book a b c h =
+    subst (λ (x : Biff). AreListedCited x ms us functions stream book) a
+    (subst (λ (x : Sheets). AreListedCited v x us functions stream book) b
+    (subst (λ (x : List ℤ). AreListedCited v ls x functions stream book) c h))

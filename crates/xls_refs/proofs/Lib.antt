@@ -3,3 +3,4 @@ pub mod DistinctLemmas
 pub mod PartLemmas
 pub mod BookLemmas
 pub mod FinalLemmas
+mod StandardFacts

@@ -167,6 +167,15 @@ fn split_listed(alloc: Global, listed: Vec<Listed>) -> Result<(Vec<Sheet>, Vec<u
     Ok((sheets, offsets))
 }
 
+/// What citations take of the globals. All else, the string table too, is let go here.
+fn needed_of(globals: Globals) -> (Biff, Refs, Vec<Listed>)
+    ensures version { result.0 ≡ globals.version }
+    ensures refs { result.1 ≡ globals.refs }
+    ensures sheets { map listed_of result.2.items ≡ globals.sheets }
+{
+    (globals.version, globals.refs, globals.listed)
+}
+
 /// What the formulas of the sheets that the globals list cite.
 fn cites_of_listed(
     alloc: Global,
@@ -215,11 +224,6 @@ pub fn cites_of_book(
     check_stream(bytes, options.force_codepage, options.max_cells)?;
     let page = options.first_page()?;
     let globals = read_globals(alloc, bytes, page, options)?;
-    let Globals {
-        version,
-        refs,
-        listed,
-        ..
-    } = globals;
+    let (version, refs, listed) = needed_of(globals);
     Ok(cites_of_listed(alloc, bytes, version, listed, refs, options)?)
 }

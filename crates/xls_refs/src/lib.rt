@@ -11,3 +11,6 @@ mod walk;
 pub use book::cites_of_book;
 pub use cite::{BookCite, BookCites, Cite, Cites};
 pub use formula::cites_of_formula;
+
+#[cfg(test)]
+mod tests;

@@ -1,9 +1,7 @@
-use Rattle.std.proofs.Common.{sym, ap, subst, arith, Err}
+use Rattle.std.proofs.Common.{ap, arith, Err}
 use Rattle.std.proofs.lemmas.Result.{err_from_is_err_and}
 use Rattle.xls_strings.specs.declared.error.XlsError.{XlsError}
-use Rattle.xls_open.specs.Steps.{AreGlobals}
-use Rattle.xls_open.specs.Workbook.{rules_of}
-use Rattle.xls_refs.proofs.FinalLemmas.{one_fault, globals_cause, cited_all}
+use Rattle.xls_refs.proofs.FinalLemmas.{one_fault, globals_cause, cited_all, as_read}
 use Rattle.xls_refs.proofs.book.cites_of_book.Goals as goal
 
 -- a stream has one first fault
@@ -19,5 +17,7 @@ returns-in_err-globals-clause-cause c =
 
 pub returns-clause-ok : goal.returns-clause-ok
 returns-clause-ok c =
-    let a = subst (AreGlobals (rules_of c.args.options.now) c.args.bytes.now) (sym c.globals.view_is) c.in_ok-globals.ensures in
-    cited_all c.args.options.now c.args.bytes.now (λ i. omega (arith, c.type_inv.bytes i)) c.in_ok-page.ensures.0 c.in_ok-check_stream.ensures _ a c.in_ok-cites_of_listed.field-0 c.in_ok-cites_of_listed.ensures
+    let g = c.in_ok-globals.globals in
+    let needed = c.needed_of-version in
+    cited_all c.args.options.now c.args.bytes.now (λ i. omega (arith, c.type_inv.bytes i)) c.in_ok-page.ensures.0 c.in_ok-check_stream.ensures g c.in_ok-globals.ensures c.in_ok-cites_of_listed.field-0
+    (as_read _ g.version _ g.sheets _ g.refs c.args.options.now.functions c.args.bytes.now c.in_ok-cites_of_listed.field-0 needed.ensures.version needed.ensures.sheets needed.ensures.refs c.in_ok-cites_of_listed.ensures)
