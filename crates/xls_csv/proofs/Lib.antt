@@ -4,3 +4,4 @@ pub mod ExtentLemmas
 pub mod WalkLemmas
 pub mod DenseLemmas
 pub mod BoxLemmas
+pub mod LineLemmas
