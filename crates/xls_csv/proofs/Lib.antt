@@ -5,3 +5,4 @@ pub mod WalkLemmas
 pub mod DenseLemmas
 pub mod BoxLemmas
 pub mod LineLemmas
+pub mod StandardFacts

@@ -1,6 +1,6 @@
 //! The CSV of a sheet's cells, row by row.
 
-ghost use Rattle.std.specs.Prelude.{◌≡◌, ◌≤◌, ◌^◌, ◌+◌, ◌++◌, ◌∷◌, [], map, slice_get, OnErr, OnOk, IfOk};
+ghost use Rattle.std.specs.Prelude.{◌≡◌, ◌≤◌, ◌^◌, ◌+◌, ◌++◌, ◌∷◌, [], map, slice_get, OnErr, OnOk, IfOk, IfSome};
 ghost use Rattle.std.specs.Option.{option_map};
 ghost use Rattle.csv.specs.Writing.{default_writer, field_text, row_body};
 ghost use Rattle.xls_reading.specs.Reading.{SheetView};
@@ -91,11 +91,13 @@ impl<'a> Model for CsvRows<'a> {
 }
 
 impl<'a> CsvRows<'a> {
-    /// The rows of the sheet at an index, whose cells are those of the last sheet of its name. The header
-    /// row of the options plays no part. `None` exactly where no sheet has the index. Takes no memory.
+    /// The rows of the sheet at an index, whose cells are those of the last sheet of its name; no row was
+    /// made so far. The header row of the options plays no part. `None` exactly where no sheet has the
+    /// index. Takes no memory.
     pub fn new(alloc: Global, book: &'a Xls, n: usize) -> Option<CsvRows<'a>>
-        ensures { option_map (λ r. r.left) result
+        ensures rows { option_map (λ r. r.left) result
             ≡ option_map (λ (v : SheetView). walk v.cells) (slice_get book.now.contents n) }
+        ensures first { IfSome result (λ r. r.row ≡ []) }
     {
         let extent = extent_of(book.values_at(n)?);
         let values = book.values_at(n)?;
@@ -132,7 +134,7 @@ impl<'a> CsvRows<'a> {
         Ok(true)
     }
 
-    /// The bytes of the row that was made last.
+    /// The bytes of the row that was made last, and none where none was. After a refusal they are no row.
     pub fn row(&self) -> &[u8]
         ensures { result.now ≡ self.now.row }
     {
