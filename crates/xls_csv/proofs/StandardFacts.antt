@@ -1,14 +1,13 @@
 -- Values from outside, so that a wrong rule in the definitions does not check.
-use Rattle.std.proofs.Common.{◌≡◌, ℕ, [], ◌∷◌, ◌++◌, map, refl, pos, negsuc, true, false, codes, Some, None}
+use Rattle.std.proofs.Common.{◌≡◌, [], ◌∷◌, map, refl, pos, negsuc, true, false, codes, Some, None}
 use Rattle.std.specs.Fmt.{digits}
 use Rattle.csv.specs.Writing.{escaped, fields_text, is_blank}
 use Rattle.xls_bytes.specs.Doubles.{size_of_parts}
 use Rattle.xls_data.specs.Content.{int, text, date, truth, nothing}
 use Rattle.xls_data.specs.declared.numbers.Number.TheVariants.{Bits, Whole, Hundredths}
-use Rattle.xls_data.specs.declared.dates.ExcelDateTimeType.TheVariants.{DateTime, TimeDelta}
-use Rattle.xls_csv.specs.Dates.{Ymd, days_after, date_text, day_in, serial_date}
-use Rattle.xls_csv.specs.Dense.{dense, dense_rows, sheet_csv}
-use Rattle.xls_csv.specs.Fields.{field}
+use Rattle.xls_data.specs.declared.dates.ExcelDateTimeType.TheVariants.{DateTime}
+use Rattle.xls_csv.specs.Dates.{days_after, date_text, day_in, serial_date}
+use Rattle.xls_csv.specs.Dense.{sheet_csv}
 use Rattle.xls_csv.specs.Text.{row_csv}
 
 -- days of Excel: its first day, the day that the calendar lacks with those beside it, and 1 January 2020
