@@ -4,3 +4,5 @@ pub mod ExtentLemmas
 pub mod WalkLemmas
 pub mod DenseLemmas
 pub mod BoxLemmas
+pub mod LineLemmas
+pub mod StandardFacts

@@ -1,5 +1,5 @@
 -- Cells that ascend, gone through once, give the rows of the dense box.
-use Rattle.std.proofs.Common.{◌≡◌, ℕ, zero, suc, ◌+◌, ◌-◌, ◌<◌, ◌≤◌, ◌⊎◌, inl, inr, Bool, true, false, List, [], ◌∷◌, ◌++◌, map, append_assoc, refl, sym, ap, ◌∙◌, arith, Option, Some, None}
+use Rattle.std.proofs.Common.{◌≡◌, ℕ, zero, suc, ◌+◌, ◌-◌, ◌<◌, ◌≤◌, ◌⊎◌, inl, inr, Bool, true, false, List, [], ◌∷◌, map, refl, sym, ap, ◌∙◌, arith, Option, Some, None}
 use Rattle.std.specs.Prelude.{◌==◌, ◌&&◌, unwrap_or}
 use Rattle.std.specs.Option.{option_or}
 use Rattle.std.specs.List.{AllByRecursion, range_with_len}
@@ -7,29 +7,9 @@ use Rattle.xls_cells.proofs.PutLemmas.{before_trans}
 use Rattle.xls_range.specs.Sparse.{last_at, Precedes, IsAscending}
 use Rattle.xls_data.specs.Content.{Content, nothing}
 use Rattle.xls_biff.specs.Cells.{Entry}
-use Rattle.xls_csv.specs.Fields.{field}
 use Rattle.xls_csv.specs.Walk.{take_at, row_along, left_along, rows_along}
 use Rattle.xls_csv.specs.Dense.{least, greatest, rows_at, columns_at, value_at}
 use Rattle.xls_csv.specs.Laws.{WalksDense, positions_of}
-
--- ---- a row, column by column
-
--- the first of the columns that are left, and those after it
-pub row_more : (fields whole : List (List ℕ)) (row place end : ℕ) (cells : List Entry) → place < end
-    → fields ++ map field (row_along row place (end - place) cells) ≡ whole
-    → (fields ++ field (take_at row place cells).0 ∷ [])
-    ++ map field (row_along row (place + 1) (end - (place + 1)) (take_at row place cells).1) ≡ whole
-row_more fields whole row place end cells l h =
-    let e : end - place ≡ suc (end - (place + 1)) = omega arith in
-    append_assoc fields (field (take_at row place cells).0 ∷ []) (map field (row_along row (place + 1) (end - (place + 1)) (take_at row place cells).1))
-    ∙ rw e at h
-
-pub left_more : (whole : List Entry) (row place end : ℕ) (cells : List Entry) → place < end
-    → left_along row place (end - place) cells ≡ whole
-    → left_along row (place + 1) (end - (place + 1)) (take_at row place cells).1 ≡ whole
-left_more whole row place end cells l h =
-    let e : end - place ≡ suc (end - (place + 1)) = omega arith in
-    rw e at h
 
 -- ---- where the cells that are left stand
 

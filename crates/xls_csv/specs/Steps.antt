@@ -1,5 +1,5 @@
 -- Words of private calls, for the proofs.
-use Rattle.std.specs.Prelude.{◌≡◌, ℕ, ◌≤◌, Bool, List, [], ◌∷◌, Option, Some, None, Vec, false, ◌++◌}
+use Rattle.std.specs.Prelude.{◌≡◌, ℕ, ◌≤◌, Bool, List, [], ◌∷◌, Option, Some, None, Vec, false, ◌++◌, ◌==◌, length, if◌then◌else◌}
 use Rattle.std.specs.Borrow.{Bor}
 use Rattle.std.specs.Global.{Global}
 use Rattle.csv.specs.Writing.{default_writer, writer_setup, fields_written, has_written, writer_under, writer_pending}
@@ -52,3 +52,7 @@ pub record IsBetweenRecords (w : Writer (Vec ℕ Global)) : Type 0 where
 -- what was written into it
 abbrev pub written : Writer (Vec ℕ Global) → List ℕ
 written w = (writer_under w).items ++ writer_pending w
+
+-- what ends a row of these bytes
+abbrev pub end_after : List ℕ → List ℕ
+end_after bytes = (if length bytes == 0 then 34 ∷ 34 ∷ [] else []) ++ 10 ∷ []

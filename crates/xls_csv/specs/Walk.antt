@@ -17,7 +17,7 @@ pub record Rows : Type 0 where
 abbrev pub GivesRow : Rows → Bool → Rows → Type 0
 GivesRow before true after =
     (row : List Content) × (before.left ≡ row ∷ after.left) × (after.row ≡ row_csv row)
-GivesRow before false after = (before.left ≡ []) × (after.left ≡ [])
+GivesRow before false after = (before.left ≡ []) × (after ≡ before)
 
 -- ---- the walk
 

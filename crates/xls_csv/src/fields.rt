@@ -14,7 +14,7 @@ use std::str::from_utf8;
 use xls_data::Data;
 
 /// The serial day of a value that is shown as a date, and whether days count from 1904.
-fn shown_day(value: &Data) -> Option<(u64, bool)>
+pub(crate) fn shown_day(value: &Data) -> Option<(u64, bool)>
     ensures { IsShownDay value.now result }
 {
     match value {
@@ -41,7 +41,7 @@ fn push_day(day: u64, is_1904: bool, text: &mut String) -> Result<(), AllocError
 }
 
 /// Appends what a value prints.
-fn push_printed(value: &Data, text: &mut String) -> Result<(), AllocError>
+pub(crate) fn push_printed(value: &Data, text: &mut String) -> Result<(), AllocError>
     ensures { OnOk result (string_bytes text.new ≡ string_bytes text.old ++ data_text value.now) }
 {
     write!(text, "{value}")?;

@@ -7,6 +7,7 @@ mod export;
 mod extent;
 mod fields;
 mod laws;
+mod line;
 mod record;
 mod rows;
 

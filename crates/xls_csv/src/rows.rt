@@ -1,72 +1,71 @@
 //! The CSV of a sheet's cells, row by row.
 
 ghost use Rattle.std.specs.Prelude.{◌≡◌, ◌≤◌, ◌^◌, ◌+◌, ◌++◌, ◌∷◌, [], map, OnErr, OnOk, IfOk};
-ghost use Rattle.csv.specs.Writing.{default_writer, row_text};
+ghost use Rattle.csv.specs.Writing.{default_writer, field_text, row_body};
 ghost use Rattle.xls_csv.specs.Fields.{field};
+ghost use Rattle.xls_csv.specs.Text.{row_csv};
 ghost use Rattle.xls_csv.specs.Walk.{GivesRow, left_along, row_along, take_at, walk};
 
 use crate::ahead::Ahead;
 use crate::extent::extent_of;
-use crate::record::Record;
-use csv::Writer;
+use crate::line::Line;
 use std::alloc::{AllocError, Global};
 use std::marker::Model;
 use std::mem;
 use xls_book::Values;
-use xls_data::Data;
 
-/// Adds the field of the next cell, if that stands at this position, and else an empty one.
-fn push_at(
-    fields: &mut Record,
-    cells: &mut Ahead<'_>,
-    row: u64,
-    column: u64,
-) -> Result<(), AllocError>
-    ensures field { OnOk result (fields.new ≡ fields.old ++ field (take_at row column cells.old).0 ∷ []) }
+/// Appends the field of the next cell, if that stands at this position, and else an empty one.
+fn push_at(line: &mut Line, cells: &mut Ahead<'_>, row: u64, column: u64) -> Result<(), AllocError>
+    ensures field { OnOk result (line.new ≡ line.old ++ field_text default_writer (field (take_at row column cells.old).0)) }
     ensures cells { cells.new ≡ (take_at row column cells.old).1 }
 {
     match cells.take_at(row, column) {
-        Some(value) => fields.push(value),
-        None => fields.push(&Data::Empty),
+        Some(value) => line.push_value(value),
+        None => Ok(()),
     }
 }
 
-/// Fills a record with the fields of a row, for so many columns from one on.
-fn fill(
-    fields: &mut Record,
+/// Makes the fields of a row, for so many columns from one on.
+fn push_fields(
+    line: &mut Line,
+    cells: &mut Ahead<'_>,
+    row: u64,
+    column: u64,
+    width: u64,
+) -> Result<(), AllocError>
+    requires columns { column + width ≤ 2 ^ 32 }
+    requires empty { line.old ≡ [] }
+    ensures fields { OnOk result (line.new ≡ row_body default_writer (map field (row_along row column width cells.old))) }
+    ensures cells { OnOk result (cells.new ≡ left_along row column width cells.old) }
+{
+    for i in 0..width {
+        line.separate(i)?;
+        push_at(line, cells, row, column + i)?;
+    }
+    Ok(())
+}
+
+/// Makes a row, for so many columns from one on.
+fn push_row(
+    line: &mut Line,
     cells: &mut Ahead<'_>,
     row: u64,
     column: u64,
     width: u64,
 ) -> Result<(), AllocError>
     requires { column + width ≤ 2 ^ 32 }
-    ensures fields { OnOk result (fields.new ≡ map field (row_along row column width cells.old)) }
+    ensures fields { OnOk result (line.new ≡ row_csv (row_along row column width cells.old)) }
     ensures cells { OnOk result (cells.new ≡ left_along row column width cells.old) }
 {
-    fields.clear();
-    for place in column..column + width {
-        push_at(fields, cells, row, place)?;
-    }
-    Ok(())
-}
-
-/// The bytes of a record, in memory that may hold others.
-fn bytes_of(fields: &Record, mut bytes: Vec<u8>) -> Result<Vec<u8>, AllocError>
-    ensures { IfOk result (λ v. v.items ≡ row_text default_writer fields.now) }
-{
-    bytes.clear();
-    let mut writer = Writer::from_writer(bytes);
-    writer
-        .write_byte_record(fields.as_record())
-        .map_err(|_| AllocError)?;
-    writer.into_inner().map_err(|_| AllocError)
+    line.clear();
+    push_fields(line, cells, row, column, width)?;
+    line.end()
 }
 
 /// The rows of a sheet's dense box as CSV, one after another; the box is never made. Contracts see the
 /// bytes of the row that was made last, and the rows that are still to come.
 #[derive(Drop)]
 pub struct CsvRows<'a> {
-    alloc: Global,
     /// The cells that are left.
     cells: Ahead<'a>,
     /// The row that is made next, and how many are left.
@@ -75,8 +74,7 @@ pub struct CsvRows<'a> {
     /// The first column, and how many there are.
     column: u64,
     width: u64,
-    fields: Record,
-    bytes: Vec<u8>,
+    line: Line,
 }
 
 impl<'a> Model for CsvRows<'a> {
@@ -85,27 +83,26 @@ impl<'a> Model for CsvRows<'a> {
 
     ghost Value = { Rows };
 
-    ghost view = { λ r. record { row = r.bytes.items; left = rows_along r.left r.row r.column r.width r.cells } };
+    ghost view = { λ r. record { row = r.line; left = rows_along r.left r.row r.column r.width r.cells } };
 
     ghost invariant = { λ r. (r.row + r.left ≤ 2 ^ 32) × (r.column + r.width ≤ 2 ^ 32) };
 }
 
 impl<'a> CsvRows<'a> {
-    /// The rows of a sheet with these values, by row, then column. The header row of the options plays no
-    /// part. Takes no memory.
+    /// The rows of a sheet with these values, by row, then column; no row was made so far. The header row of
+    /// the options plays no part. Takes no memory.
     pub fn new(alloc: Global, values: Values<'a>) -> CsvRows<'a>
-        ensures { result.left ≡ walk values.entry }
+        ensures rows { result.left ≡ walk values.entry }
+        ensures first { result.row ≡ [] }
     {
         let extent = extent_of(values.again());
         CsvRows {
-            alloc,
             cells: Ahead::new(values),
             row: extent.top,
             left: extent.height,
             column: extent.left,
             width: extent.width,
-            fields: Record::new(alloc),
-            bytes: Vec::new(alloc),
+            line: Line::new(alloc),
         }
     }
 
@@ -120,24 +117,22 @@ impl<'a> CsvRows<'a> {
         if left == 0 {
             return Ok(false);
         }
-        fill(
-            &mut self.fields,
+        push_row(
+            &mut self.line,
             &mut self.cells,
             self.row,
             self.column,
             self.width,
         )?;
-        let used = mem::replace(&mut self.bytes, Vec::new(self.alloc));
-        self.bytes = bytes_of(&self.fields, used)?;
         self.row += 1;
         self.left = left - 1;
         Ok(true)
     }
 
-    /// The bytes of the row that was made last.
+    /// The bytes of the row that was made last, and none where none was. After a refusal they are no row.
     pub fn row(&self) -> &[u8]
         ensures { result.now ≡ self.now.row }
     {
-        &self.bytes
+        self.line.as_slice()
     }
 }
