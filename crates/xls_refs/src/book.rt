@@ -187,7 +187,7 @@ fn cites_of_listed(
 ) -> Result<BookCites, AllocError>
     ensures { IfOk result (λ b. AreListedCited version (map listed_of listed.items) refs options.now.functions stream.now b) }
 {
-    // Names cite nothing, so none is made.
+    // Names cite nothing, so none is handed on.
     let naming = naming_of(alloc, version, &listed, refs, Vec::new(alloc))?;
     let (sheets, offsets) = split_listed(alloc, listed)?;
     let scope = Scope {

@@ -155,6 +155,13 @@ fn bound(offset: u8, name: u8) -> [u8; 13] {
     [0x85, 0, 9, 0, offset, 0, 0, 0, 0, 0, 1, 0, name]
 }
 
+// BoundSheet8 of `Data` and of `Log`.
+const DATA: [u8; 16] = [
+    0x85, 0, 12, 0, 61, 0, 0, 0, 0, 0, 4, 0, b'D', b'a', b't', b'a',
+];
+
+const LOG: [u8; 15] = [0x85, 0, 11, 0, 151, 0, 0, 0, 0, 0, 3, 0, b'L', b'o', b'g'];
+
 // ExternSheet of two references, to the second sheet and to the first.
 const REFERENCES: [u8; 18] = [0x17, 0, 14, 0, 2, 0, 0, 0, 1, 0, 1, 0, 0, 0, 0, 0, 0, 0];
 
@@ -179,6 +186,9 @@ const SUM: [u8; 13] = [0x25, 2, 0, 2, 0, 0x00, 0xC0, 0x01, 0xC0, 0x19, 0x10, 0, 
 
 // "x"&A2 on the sheet of the second reference
 const JOINED: [u8; 12] = [0x17, 1, 0, 0x78, 0x3A, 1, 0, 1, 0, 0, 0xC0, 0x08];
+
+// A1 and A1 on the sheet of the second reference, added
+const TWICE: [u8; 13] = [0x24, 0, 0, 0, 0xC0, 0x3A, 1, 0, 0, 0, 0, 0xC0, 0x03];
 
 fn joined(alloc: Global, parts: &[&[u8]]) -> Result<Vec<u8>, AllocError> {
     let mut bytes = Vec::new(alloc);
@@ -208,6 +218,7 @@ fn book_of(alloc: Global, parts: &[&[u8]]) -> Result<BookCites, XlsError> {
     )
 }
 
+// A cell without a sheet stands on its formula's own, after repeats were left out.
 #[test]
 fn cites_what_the_formulas_of_a_ledger_do(rt: HostRuntime) -> Result<(), Fail> {
     let alloc = rt.alloc();
@@ -215,13 +226,15 @@ fn cites_what_the_formulas_of_a_ledger_do(rt: HostRuntime) -> Result<(), Fail> {
         alloc,
         &[
             &G,
-            &bound(56, b'D'),
-            &bound(107, b'L'),
+            &DATA,
+            &LOG,
             &REFERENCES,
             &E,
             &S,
             &head(1, 1, 13),
             &SUM,
+            &head(2, 0, 13),
+            &TWICE,
             &E,
             &S,
             &head(0, 0, 12),
@@ -229,12 +242,14 @@ fn cites_what_the_formulas_of_a_ledger_do(rt: HostRuntime) -> Result<(), Fail> {
             &E,
         ],
     )?;
+    let data = "0 1 1 Data!2,0:2,1 0 2 0 Data!0,0:0,0 0 2 0 Data!0,0:0,0 ";
+    let told = told(alloc, &book)?;
+    assert_eq!(rt; told.strip_prefix(data), Some("1 0 0 Data!1,0:1,0 "));
     assert_eq!(rt;
-        told(alloc, &book)?.as_str(),
-        "0 1 1 D!2,0:2,1 1 0 0 D!1,0:1,0 "
+        (book.sheet_name(1), book.sheet_name(2)),
+        (Some("Log"), None)
     );
-    assert_eq!(rt; (book.sheet_name(1), book.sheet_name(2)), (Some("L"), None));
-    assert!(rt; book.get(2).is_none());
+    assert!(rt; book.get(4).is_none());
     Ok(())
 }
 
