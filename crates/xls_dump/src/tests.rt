@@ -1,7 +1,7 @@
 use crate::memory::MemorySink;
 use crate::run::run;
 use crate::sink::{StdSink, write_all};
-use crate::tests::ledger::{LEDGER, LEDGER_SHEETS};
+use crate::tests::ledger::{LEDGER, LEDGER_CSV, LEDGER_REFS, LEDGER_SHEETS};
 use std::alloc::{AllocError, Global};
 use std::process::Abort;
 use std::test::*;
@@ -43,6 +43,14 @@ const NO_SHEET: [&[u8]; 2] = [&GLOBALS, &A_SHEET];
 const PAGE: [&[u8]; 3] = [&GLOBALS, &PAGE_437, &EOF];
 
 const HIDDEN: [&[u8]; 6] = [&GLOBALS, &A_HIDDEN, &EOF, &SHEET, &MERGED, &EOF];
+
+// A Formula at (0, 0) whose one token is the cell B3, and a stream with it.
+const FORMULA_B3: [u8; 31] = [
+    0x06, 0, 27, 0, 0, 0, 0, 0, 0, 0, 0, 0, 0, 0, 0, 0, 0, 0, 0, 0, 0, 0, 0, 0, 5, 0, 0x24, 2, 0,
+    1, 0xC0,
+];
+
+const CITING: [&[u8]; 6] = [&GLOBALS, &A_SHEET, &EOF, &SHEET, &FORMULA_B3, &EOF];
 
 // A property stream with a summary section of two properties: the title in page 1252.
 const TITLE_STREAM: [u8; 95] = [
@@ -123,7 +131,7 @@ fn check(rt: &impl Abort, alloc: Global, case: &Case, status: u8, text: &[u8]) -
 }
 
 // Runs in which nothing fails: the words, what the source gives, the status, and what is written.
-const RUNS: [(&[&str], &[&[u8]], u8, &str); 30] = [
+const RUNS: [(&[&str], &[&[u8]], u8, &str); 41] = [
     (&[], &THREE, 0, THREE_TEXT),
     (&["dump"], &THREE, 0, THREE_TEXT),
     (&[], &[], 0, "dates\t1900\n"),
@@ -149,6 +157,29 @@ const RUNS: [(&[&str], &[&[u8]], u8, &str); 30] = [
     (&["check"], &THREE, 0, "ok\n"),
     (&["check"], &[], 0, "ok\n"),
     (&["check"], &LEDGER, 0, "ok\n"),
+    (&["csv", "Data"], &LEDGER, 0, LEDGER_CSV),
+    (
+        &["csv", "X"],
+        &LEDGER,
+        1,
+        "error\tWorksheet 'X' not found\n",
+    ),
+    (&["csv", "A"], &HIDDEN, 0, ""),
+    (
+        &["csv", "A"],
+        &PAGE,
+        1,
+        "error\tCfb error: Codepage 1B5 not found\n",
+    ),
+    (&["csv", ""], &[], 1, "error\tWorksheet '' not found\n"),
+    (&["refs"], &LEDGER, 0, LEDGER_REFS),
+    (&["refs"], &[], 0, ""),
+    (
+        &["refs"],
+        &NO_SHEET,
+        1,
+        "error\tEnd of stream 'sheet offset'\n",
+    ),
     (&["generate", "4"], &THREE, 0, "rows\t4\ncells\t8\nsum\t6\n"),
     (
         &["generate", "65536"],
@@ -163,6 +194,9 @@ const RUNS: [(&[&str], &[&[u8]], u8, &str); 30] = [
     (&["sheets", "x"], &THREE, 2, ""),
     (&["props", "props"], &THREE, 2, ""),
     (&["check", "check"], &THREE, 2, ""),
+    (&["csv"], &THREE, 2, ""),
+    (&["csv", "A", "A"], &THREE, 2, ""),
+    (&["refs", "x"], &THREE, 2, ""),
     (&["generate"], &THREE, 2, ""),
     (&["generate", "0"], &THREE, 2, ""),
     (&["generate", "04"], &THREE, 2, ""),
@@ -198,7 +232,7 @@ fn the_pieces_do_not_matter(rt: HostRuntime) -> Result<(), Fail> {
 }
 
 // Commands, what their sources give, and what is written where nothing fails.
-const COMMANDS: [(&[&str], &[&[u8]], &str); 6] = [
+const COMMANDS: [(&[&str], &[&[u8]], &str); 9] = [
     (&["dump"], &THREE, THREE_TEXT),
     (&["sheets"], &THREE, "sheet\tA\tworksheet\tvisible\n"),
     (&["props"], &TITLE, "title\t\u{C5}lesund\n"),
@@ -208,6 +242,9 @@ const COMMANDS: [(&[&str], &[&[u8]], &str); 6] = [
         &NO_SHEET,
         "error\tEnd of stream 'sheet offset'\n",
     ),
+    (&["csv", "A"], &THREE, "3\n"),
+    (&["csv", "B"], &THREE, "error\tWorksheet 'B' not found\n"),
+    (&["refs"], &CITING, "ref\tA\t0\t0\tA\t2\t1\t2\t1\n"),
     (&["generate", "4"], &[], "rows\t4\ncells\t8\nsum\t6\n"),
 ];
 
@@ -233,7 +270,7 @@ fn fail_each_read(
 #[test]
 fn each_failing_read_ends_with_3(rt: HostRuntime) -> Result<(), Fail> {
     for (words, parts, _) in COMMANDS {
-        if words.len() == 1 {
+        if !parts.is_empty() {
             fail_each_read(&rt, rt.alloc(), words, parts, 1)?;
             fail_each_read(&rt, rt.alloc(), words, parts, 16)?;
         }

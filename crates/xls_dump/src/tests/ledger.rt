@@ -252,6 +252,11 @@ const OTHER_LAYOUT: [&[u8]; 34] = [
 pub const LEDGER_SHEETS: &str =
     "sheet\tData\tworksheet\tvisible\nsheet\tLog\tworksheet\tvisible\nsheet\tOld\tworksheet\thidden\n";
 
+pub const LEDGER_CSV: &str = "Item,Café €,\nSum,0x4012000000000000,\n2,2.5,2020-01-01\n";
+
+pub const LEDGER_REFS: &str =
+    "ref\tData\t1\t1\tData\t2\t0\t2\t1\nref\tLog\t0\t0\tData\t1\t0\t1\t0\n";
+
 #[test]
 fn writes_the_same_for_another_layout(rt: HostRuntime) -> Result<(), Fail> {
     let alloc = rt.alloc();
