@@ -1,14 +1,11 @@
 -- A number of rows in decimal.
-use Rattle.std.proofs.Common.{◌≡◌, ℕ, zero, suc, ◌+◌, ◌/◌, ◌%◌, ◌<◌, ◌≤◌, ◌^◌, List, [], ◌∷◌, ◌++◌, length, get_or, refl, sym, ap, subst, ◌∙◌, arith, inl, inr, Result, Ok}
-use Rattle.std.specs.Prelude.{codes}
+use Rattle.std.proofs.Common.{◌≡◌, ℕ, zero, suc, ◌+◌, ◌/◌, ◌%◌, ◌<◌, ◌≤◌, ◌^◌, List, [], ◌∷◌, ◌++◌, length, get_or, refl, sym, ap, subst, ◌∙◌, arith, Result, Ok}
 use Rattle.std.specs.Fmt.{decimal, digits}
 use Rattle.std.specs.Str.Parse.{ParsesUnsigned, AllDigits, digits_value}
 use Rattle.std.proofs.lemmas.Result.{OkIff-at_ok}
 use Rattle.std.proofs.lemmas.Fmt.{parse-decimal, decimal-digits_value, decimal_by_steps}
 use Rattle.std.proofs.lemmas.Str.Parse.{IsNumeralModel, parse_plain}
-use Rattle.xls_dump.specs.Words.{BeginsWell, IsRows, IsCommand, IsPossible}
-use Rattle.xls_dump.specs.declared.command.Command.{Command}
-use Rattle.xls_dump.specs.declared.command.Command.TheVariants.{Dump, Sheets, Props, Check, Generate}
+use Rattle.xls_dump.specs.Words.{BeginsWell, IsRows}
 
 model : IsNumeralModel (AllDigits 10) (digits_value 10)
 model = record { to = λ ds h. h; from = λ ds h. h; same = λ ds h. refl }

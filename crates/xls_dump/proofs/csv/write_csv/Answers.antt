@@ -1,6 +1,5 @@
-use Rattle.std.proofs.Common.{◌≡◌, List, Option, Some, None, refl, inr}
+use Rattle.std.proofs.Common.{◌≡◌, Option, Some, None, refl, inr}
 use Rattle.std.specs.Option.{option_map}
-use Rattle.xls_biff.specs.Cells.{Entry}
 use Rattle.xls_reading.specs.Reading.{SheetView}
 use Rattle.xls_strings.specs.declared.error.XlsError.TheVariants.{WorksheetNotFound}
 use Rattle.xls_dump.specs.Report.{fault_line}

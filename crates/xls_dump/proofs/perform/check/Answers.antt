@@ -1,4 +1,4 @@
-use Rattle.xls_dump.proofs.EndingLemmas.{all_checked, all_checked-steady, check_checks, not_checked, not_checked-steady}
+use Rattle.xls_dump.proofs.CommandLemmas.{all_checked, all_checked-steady, check_checks, not_checked, not_checked-steady}
 use Rattle.xls_dump.proofs.perform.check.Goals as goal
 
 pub returns-in-Ok-clause-ends : goal.returns-in-Ok-clause-ends

@@ -1,4 +1,4 @@
-use Rattle.xls_dump.proofs.EndingLemmas.{csv_refuses, not_opened, not_opened-steady, opened_named, opened_named-steady}
+use Rattle.xls_dump.proofs.CommandLemmas.{csv_refuses, not_opened, not_opened-steady, opened_named, opened_named-steady}
 use Rattle.xls_dump.proofs.perform.csv.Goals as goal
 
 pub returns-in-Ok-clause-ends : goal.returns-in-Ok-clause-ends

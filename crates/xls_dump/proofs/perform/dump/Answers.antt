@@ -1,4 +1,4 @@
-use Rattle.xls_dump.proofs.EndingLemmas.{dump_opens, not_opened, not_opened-steady, opened-steady, opened-stopped, written-steady}
+use Rattle.xls_dump.proofs.CommandLemmas.{dump_opens, not_opened, not_opened-steady, opened-steady, opened-stopped, written-steady}
 use Rattle.xls_dump.proofs.perform.dump.Goals as goal
 
 pub returns-in_err-write_report-in-Ok-clause-ends :

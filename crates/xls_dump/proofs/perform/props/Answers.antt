@@ -1,4 +1,4 @@
-use Rattle.xls_dump.proofs.EndingLemmas.{all_read, all_read-steady, not_read, not_read-steady}
+use Rattle.xls_dump.proofs.CommandLemmas.{all_read, all_read-steady, not_read, not_read-steady}
 use Rattle.xls_dump.proofs.perform.props.Goals as goal
 
 pub returns-in-Ok-clause-ends : goal.returns-in-Ok-clause-ends

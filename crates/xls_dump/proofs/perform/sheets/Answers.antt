@@ -1,4 +1,4 @@
-use Rattle.xls_dump.proofs.EndingLemmas.{sheets_opens, not_opened, not_opened-steady, opened-steady, opened-stopped, written-steady}
+use Rattle.xls_dump.proofs.CommandLemmas.{sheets_opens, not_opened, not_opened-steady, opened-steady, opened-stopped, written-steady}
 use Rattle.xls_dump.proofs.perform.sheets.Goals as goal
 
 pub returns-in_err-write_sheets-in-Ok-clause-ends :
