@@ -29,7 +29,7 @@ BUILT = {name: f"{TOP}/crates/{name}/out/{name}" for name in ("xls_dump", "vba_d
 FAKE = """#!/usr/bin/python3
 import sys
 words, data = sys.argv[1:], sys.stdin.buffer.read()
-if words[:1] and words[0] not in ("dump", "sheets", "check", "props"):
+if words[:1] and words[0] not in ("dump", "sheets", "check", "csv", "refs", "remake", "props"):
     sys.exit(2)
 if data.startswith(b"bad"):
     print("error\\tEnd of stream 'dbcs'")
@@ -173,12 +173,19 @@ class Refusals(Files):
         for words in ([], [book, "dmp"], [book, "csv"], [book, "sheets", "x"], [book, "--x"], [book, "-j", "0"]):
             self.refused(15, "tools/xls --help", *words)
 
-    def test_commands_that_are_not_built_yet(self):
+    def test_a_program_that_does_not_know_a_command(self):
         book = self.book("b.xls", {"Workbook": b"ab"})
+        older = self.put("older", b"#!/bin/sh\nexit 2\n")
+        os.chmod(older, 0o755)
         for command in ("refs", "remake"):
-            self.refused(2, f"doesn't know the command '{command}'", book, command)
-        self.refused(2, "doesn't know", "--exact", "csv", "Data", book)
-        self.refused(2, "doesn't know", "refs", self.room)
+            self.refused(2, f"doesn't know the command '{command}'", book, command, XLS_DUMP=older)
+        self.refused(2, "doesn't know", "--exact", "csv", "Data", book, XLS_DUMP=older)
+        self.refused(2, "doesn't know", "refs", self.room, XLS_DUMP=older)
+
+    def test_commands_are_handed_on(self):
+        book = self.book("b.xls", {"Workbook": b"ab"})
+        for words in (["refs"], ["remake"], ["csv", "Data", "--exact"], ["check"]):
+            self.assertEqual(self.run_xls(book, *words)[0], 0)
 
     def test_the_status_of_the_program(self):
         book = self.book("b.xls", {"Workbook": b"bad"})
