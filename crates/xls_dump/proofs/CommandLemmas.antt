@@ -16,10 +16,10 @@ use Rattle.xls_dump.specs.SinkState.{SinkState, TakesEach}
 use Rattle.xls_dump.specs.Gathering.{Stops}
 use Rattle.xls_dump.specs.Report.{fault_line, report, sheet_report}
 use Rattle.xls_dump.specs.Summary.{summary_text}
-use Rattle.xls_dump.specs.Outputs.{IsOutput, IsRefusal, MayWrite, IsOutputOf, IsPropertyText, property_limit, IsSoundLine, IsFirstLine, IsFaultLine, IsLengthLine, IsNameLine, IsRefsText, IsCsvOf, IsMissingOf, HasSheet, EndsByName, EndsWell, EndsBySoundness, EndsByLength}
+use Rattle.xls_dump.specs.Outputs.{IsOutput, IsRefusal, MayWrite, IsOutputOf, IsPropertyText, property_limit, IsSoundLine, IsFirstLine, IsFaultLine, IsLengthLine, IsNameLine, IsRefsText, IsRemadeText, IsUnremadeLine, EndsByRemaking, IsCsvOf, IsMissingOf, HasSheet, EndsByName, EndsWell, EndsBySoundness, EndsByLength}
 use Rattle.xls_dump.specs.Endings.{IsFault, Wrote, EndsWithError, EndsWithText, EndsWithEither, Ends}
 use Rattle.xls_dump.specs.declared.command.Command.{Command}
-use Rattle.xls_dump.specs.declared.command.Command.TheVariants.{Dump, Sheets, Props, Check, Refs, Csv, Generate}
+use Rattle.xls_dump.specs.declared.command.Command.TheVariants.{Dump, Sheets, Props, Check, Refs, Remake, Csv, Generate}
 use Rattle.xls_dump.specs.declared.ending.Ending.{Ending}
 use Rattle.xls_dump.specs.declared.ending.Stop.{Stop}
 use Rattle.xls_dump.proofs.CheckLemmas.{too_large, none_checked}
@@ -308,6 +308,55 @@ refs_checks = record {
   output = λ left left' bytes text all end is. Consumes-whole left left' bytes (λ b. IsRefsText b text) all end is;
   done = λ left h. h;
 }
+
+-- ---- canonical bytes
+
+remade : (left : Option (List ℕ)) (text : List ℕ) → IfSome left (λ bytes. IsRemadeText bytes text)
+    → EndsByRemaking left 0
+remade None text h = (inl refl, λ e. absurd (omega arith), λ _. tt)
+remade (Some bytes) text h =
+    (inl refl, λ e. absurd (omega arith), λ _. (h.sound, (h.list, h.carries, (h.every h.list h.carries).0)))
+
+unremade : (left : Option (List ℕ)) (text : List ℕ) → IfSome left (λ bytes. IsUnremadeLine bytes text)
+    → EndsByRemaking left 1
+unremade None text h = (inr (inl refl), λ _. tt, λ e. absurd (omega arith))
+unremade (Some bytes) text (inl first) =
+    (inr (inl refl), λ _. λ has. has.0 first.0 first.1, λ e. absurd (omega arith))
+unremade (Some bytes) text (inr long) =
+    (inr (inl refl), λ _. λ has. omega (arith, (long.every has.1.0 has.1.1).0, has.1.2), λ e. absurd (omega arith))
+
+remake_given_up : (left : Option (List ℕ)) → EndsByRemaking left 5
+remake_given_up left = (inr (inr refl), λ e. absurd (omega arith), λ e. absurd (omega arith))
+
+-- the first fault
+remake_refused : (left : Option (List ℕ)) → EndsBySoundness left 1 → EndsByRemaking left 1
+remake_refused None h = (inr (inl refl), λ _. tt, λ e. absurd (omega arith))
+remake_refused (Some bytes) h = (inr (inl refl), λ _. λ has. h.1 refl has.0, λ e. absurd (omega arith))
+
+remake_line : (left : Option (List ℕ)) (text : List ℕ) → IsFaultLine left text
+    → IfSome left (λ bytes. IsUnremadeLine bytes text)
+remake_line None text h = tt
+remake_line (Some bytes) text h = inl h
+
+pub remake_refuses : Refuses Remake
+remake_refuses = record { line = remake_line; refused = remake_refused; given_up = remake_given_up }
+
+pub all_remade : (left left' : Option (List ℕ)) (before after : SinkState) (r : Result Ending Stop) (bytes : List ℕ)
+    → Consumes left left' bytes → IsAtEnd left'
+    → EndsWithEither (IsRemadeText bytes) (IsUnremadeLine bytes) before after r → Ends Remake left before after r
+all_remade left left' before after r bytes all end =
+    ends-either Remake left before after r (remake_given_up left)
+    (λ text is. let o = Consumes-whole left left' bytes (λ b. IsRemadeText b text) all end is in (remade left text o, o))
+    (λ text is. let l = Consumes-whole left left' bytes (λ b. IsUnremadeLine b text) all end is in (unremade left text l, l))
+
+pub all_remade-steady : (left left' : Option (List ℕ)) (before after : SinkState) (r : Result Ending Stop) (bytes : List ℕ)
+    → Consumes left left' bytes → IsAtEnd left'
+    → EndsWithEither (IsRemadeText bytes) (IsUnremadeLine bytes) before after r
+    → TakesEach before (MayWrite Remake left) → after.faults ≡ before.faults
+all_remade-steady left left' before after r bytes all end =
+    steady-either Remake left before after r
+    (λ text. Consumes-whole left left' bytes (λ b. IsRemadeText b text) all end)
+    (λ text. Consumes-whole left left' bytes (λ b. IsUnremadeLine b text) all end)
 
 -- ---- a made stream
 

@@ -8,5 +8,6 @@ pub mod Summary
 pub mod Counting
 pub mod Properties
 pub mod Refs
+pub mod Remaking
 pub mod Outputs
 pub mod Endings

@@ -6,8 +6,9 @@ use Rattle.std.specs.Str.{chars}
 use Rattle.xls_data.specs.Errors as cell_errors
 use Rattle.xls_data.specs.Numbers.{number_text}
 use Rattle.xls_strings.specs.ErrorText.{error_text}
+use Rattle.xls_lay.specs.ErrorText as lay_errors
 use Rattle.xls_dump.specs.declared.field.Field.{Field}
-use Rattle.xls_dump.specs.declared.field.Field.TheVariants.{Word, Text, Number, Int, Fraction, Failure, Fault}
+use Rattle.xls_dump.specs.declared.field.Field.TheVariants.{Word, Text, Number, Int, Fraction, Failure, Fault, Unwritten}
 pub use Rattle.xls_bytes.specs.Escapes.{escaped_char, escaped, escaped_text}
 
 -- ---- lines
@@ -31,6 +32,7 @@ field_text (Int n) = signed_decimal n
 field_text (Fraction n) = number_text n
 field_text (Failure e) = cell_errors.error_text e
 field_text (Fault e) = error_text e.now
+field_text (Unwritten e) = lay_errors.error_text e
 
 -- the same after a tab
 abbrev pub tabbed_field : Field → List ℕ

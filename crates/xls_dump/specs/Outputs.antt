@@ -1,5 +1,5 @@
 -- What a command writes, by what a source had left.
-use Rattle.std.specs.Prelude.{◌≡◌, ◌≢◌, ◌⊎◌, ℕ, String, ◌<◌, ◌≤◌, List, length, Option, Some, None, IfSome}
+use Rattle.std.specs.Prelude.{◌≡◌, ◌≢◌, ◌⊎◌, ℕ, String, ◌<◌, ◌≤◌, ◌^◌, List, length, Option, Some, None, IfSome}
 use Rattle.std.specs.Global.{Global}
 use Rattle.std.specs.Str.{chars}
 use Rattle.std.specs.BTreeMap.{IsOrdered}
@@ -15,13 +15,16 @@ use Rattle.xls_csv.specs.Dense.{sheet_csv}
 use Rattle.xls_refs.specs.Cited.{BookCited}
 use Rattle.xls_refs.specs.Citing.{IsBookCited}
 use Rattle.xls_dump.specs.Refs.{refs_text}
+use Rattle.xls_model.specs.Listing.{Entry, Carries}
+use Rattle.xls_lay.specs.Writing.{canonical_bytes}
+use Rattle.xls_dump.specs.Remaking.{IsWrittenOf, IsUnwrittenOf}
 use Rattle.xls_reading.specs.Faults.{FirstFault, IsSound}
 use Rattle.xls_open.specs.Opening.{IsOpened, default_options, default_rules}
 use Rattle.xls_dump.specs.Report.{report, sheet_report, sound_line, fault_line}
 use Rattle.xls_dump.specs.Properties.{property_lines}
 use Rattle.xls_dump.specs.Summary.{summary_text}
 use Rattle.xls_dump.specs.declared.command.Command.{Command}
-use Rattle.xls_dump.specs.declared.command.Command.TheVariants.{Dump, Sheets, Props, Check, Refs, Csv, Generate}
+use Rattle.xls_dump.specs.declared.command.Command.TheVariants.{Dump, Sheets, Props, Check, Refs, Remake, Csv, Generate}
 
 -- a text of the workbook that the bytes open to
 abbrev pub IsOutputOf : (Workbook → List ℕ) → Option (List ℕ) → List ℕ → Type 0
@@ -54,6 +57,21 @@ abbrev pub IsRefsText : List ℕ → List ℕ → Type 0
 IsRefsText bytes text =
     (book : BookCited) × IsBookCited default_options bytes book × (text ≡ refs_text book)
 
+-- no place of the bytes has a fault, and this text is of each list that they carry, of which there is one
+pub record IsOfList (IsOf : List Entry → List ℕ → Type 0) (bytes text : List ℕ) : Type 0 where
+  pub sound : IsSound default_rules bytes
+  pub list : List Entry
+  pub carries : Carries bytes list
+  pub every : (other : List Entry) → Carries bytes other → IsOf other text
+
+-- the canonical bytes of the list that the bytes carry
+abbrev pub IsRemadeText : List ℕ → List ℕ → Type 0
+IsRemadeText bytes text = IsOfList IsWrittenOf bytes text
+
+-- the line of the first fault, or of a list whose canonical bytes are too many
+abbrev pub IsUnremadeLine : List ℕ → List ℕ → Type 0
+IsUnremadeLine bytes text = IsFirstLine bytes text ⊎ IsOfList IsUnwrittenOf bytes text
+
 -- the CSV of the last sheet of this name in a workbook
 abbrev pub IsCsvOf : List ℕ → Workbook → List ℕ → Type 0
 IsCsvOf name book text =
@@ -75,6 +93,7 @@ IsOutput Sheets left text = IsOutputOf sheet_report left text
 IsOutput Props left text = IfSome left (λ bytes. IsPropertyText bytes text)
 IsOutput Check left text = IfSome left (IsSound default_rules) × (text ≡ sound_line)
 IsOutput Refs left text = IfSome left (λ bytes. IsRefsText bytes text)
+IsOutput Remake left text = IfSome left (λ bytes. IsRemadeText bytes text)
 IsOutput (Csv name) left text = IfSome left (λ bytes. IsOfBook (IsCsvOf name.now) bytes text)
 IsOutput (Generate n) left text = text ≡ summary_text n
 
@@ -100,6 +119,7 @@ IsRefusal Sheets left text = IsFaultLine left text
 IsRefusal Props left text = IsLengthLine left text
 IsRefusal Check left text = IsFaultLine left text
 IsRefusal Refs left text = IsFaultLine left text
+IsRefusal Remake left text = IfSome left (λ bytes. IsUnremadeLine bytes text)
 IsRefusal (Csv name) left text = IsNameLine name.now left text
 IsRefusal (Generate n) left text = ⊥
 
@@ -114,6 +134,7 @@ HasRead Sheets before after = IsAtEnd after
 HasRead Props before after = IsAtEnd after
 HasRead Check before after = IsAtEnd after
 HasRead Refs before after = IsAtEnd after
+HasRead Remake before after = IsAtEnd after
 HasRead (Csv name) before after = IsAtEnd after
 HasRead (Generate n) before after = after ≡ before
 
@@ -140,6 +161,17 @@ EndsByName name left status = ((status ≡ 0) ⊎ (status ≡ 1) ⊎ (status ≡
     × (status ≡ 1 → IfSome left (λ bytes. HasSheet name bytes → ⊥))
     × (status ≡ 0 → IfSome left (HasSheet name))
 
+-- no place of the bytes has a fault, and the canonical bytes of their list have offsets of 32 bits
+abbrev pub HasCanonical : List ℕ → Type 0
+HasCanonical bytes = IsSound default_rules bytes
+    × (list : List Entry) × Carries bytes list × (length (canonical_bytes list) < 2 ^ 32)
+
+-- bytes without a fault whose canonical bytes aren't too many aren't refused, and others have no output
+abbrev pub EndsByRemaking : Option (List ℕ) → ℕ → Type 0
+EndsByRemaking left status = ((status ≡ 0) ⊎ (status ≡ 1) ⊎ (status ≡ 5))
+    × (status ≡ 1 → IfSome left (λ bytes. HasCanonical bytes → ⊥))
+    × (status ≡ 0 → IfSome left HasCanonical)
+
 -- how a command ends where neither source nor sink fails
 abbrev pub EndsWell : Command → Option (List ℕ) → ℕ → Type 0
 EndsWell Dump left status = EndsBySoundness left status
@@ -147,6 +179,7 @@ EndsWell Sheets left status = EndsBySoundness left status
 EndsWell Props left status = EndsByLength left status
 EndsWell Check left status = EndsBySoundness left status
 EndsWell Refs left status = EndsBySoundness left status
+EndsWell Remake left status = EndsByRemaking left status
 EndsWell (Csv name) left status = EndsByName name.now left status
 EndsWell (Generate n) left status = (status ≡ 0) ⊎ (status ≡ 5)
 
@@ -157,5 +190,6 @@ ReadsNothing Sheets = ⊥
 ReadsNothing Props = ⊥
 ReadsNothing Check = ⊥
 ReadsNothing Refs = ⊥
+ReadsNothing Remake = ⊥
 ReadsNothing (Csv name) = ⊥
 ReadsNothing (Generate n) = Unit {0}

@@ -15,6 +15,8 @@ use Rattle.xls_data.specs.declared.sheets.SheetVisible.{SheetVisible}
 use Rattle.xls_data.specs.declared.sheets.SheetVisible.TheVariants as states
 use Rattle.xls_biff.specs.Cells.{Entry}
 use Rattle.xls_strings.specs.ErrorText.{error_text}
+use Rattle.xls_lay.specs.ErrorText as lay_errors
+use Rattle.xls_lay.specs.declared.error.LayError.{LayError}
 use Rattle.xls_strings.specs.declared.error.XlsError.{XlsError}
 use Rattle.xls_data.specs.declared.regions.Dimensions.{Dimensions}
 use Rattle.xls_reading.specs.Reading.{SheetView}
@@ -132,6 +134,10 @@ sheet_report book = flat_map sheet_line book.sheets
 -- the line of a stream without a fault
 abbrev pub sound_line : List ℕ
 sound_line = line (codes "ok") []
+
+-- the line of a list whose canonical stream isn't written
+abbrev pub unwritten_line : LayError → List ℕ
+unwritten_line e = line (codes "error") (lay_errors.error_text e ∷ [])
 
 -- the line of a refusal
 abbrev pub fault_line : XlsError → List ℕ

@@ -5,7 +5,7 @@ use Rattle.std.specs.Global.{Global}
 use Rattle.std.specs.String.{string_bytes}
 use Rattle.std.specs.declared.string.String.{String}
 use Rattle.xls_dump.specs.declared.command.Command.{Command}
-use Rattle.xls_dump.specs.declared.command.Command.TheVariants.{Dump, Sheets, Props, Check, Refs, Csv, Generate}
+use Rattle.xls_dump.specs.declared.command.Command.TheVariants.{Dump, Sheets, Props, Check, Refs, Remake, Csv, Generate}
 
 -- how many rows may be made
 abbrev pub max_rows : ℕ
@@ -35,6 +35,7 @@ IsCommand words Sheets = words ≡ codes "sheets" ∷ []
 IsCommand words Props = words ≡ codes "props" ∷ []
 IsCommand words Check = words ≡ codes "check" ∷ []
 IsCommand words Refs = words ≡ codes "refs" ∷ []
+IsCommand words Remake = words ≡ codes "remake" ∷ []
 IsCommand words (Csv name) = words ≡ codes "csv" ∷ name.now ∷ []
 IsCommand words (Generate n) = IsGenerate words n
 

@@ -265,6 +265,7 @@ impl Buffer {
             Field::Fraction(n) => return self.put_number(sink, n),
             Field::Failure(error) => write!(self.printed, "{error}")?,
             Field::Fault(error) => write!(self.printed, "{error}")?,
+            Field::Unwritten(error) => write!(self.printed, "{error}")?,
         }
         gather(&mut self.piece, sink, self.printed.as_bytes())
     }

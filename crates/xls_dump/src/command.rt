@@ -21,6 +21,8 @@ pub enum Command<'a> {
     Check,
     /// Writes the cells that the formulas of a workbook cite.
     Refs,
+    /// Writes the canonical stream of the list that a workbook's bytes carry.
+    Remake,
     /// Writes the values of the last sheet of this name as CSV.
     Csv(&'a str),
     /// Makes a stream of so many rows, and writes what is found in it.
@@ -38,6 +40,7 @@ fn named(word: &str) -> Option<Command<'_>>
         "props" => Some(Command::Props),
         "check" => Some(Command::Check),
         "refs" => Some(Command::Refs),
+        "remake" => Some(Command::Remake),
         _ => None,
     }
 }

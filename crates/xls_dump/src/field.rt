@@ -2,6 +2,7 @@
 
 use xls_biff::XlsError;
 use xls_data::{CellErrorType, Number as Decimal};
+use xls_lay::LayError;
 
 /// What stands between the tabs of a line.
 #[derive(Clone, Copy, Drop)]
@@ -20,4 +21,6 @@ pub enum Field<'a> {
     Failure(CellErrorType),
     /// Why a stream is refused.
     Fault(&'a XlsError),
+    /// Why a canonical stream isn't written.
+    Unwritten(LayError),
 }

@@ -11,6 +11,7 @@ mod memory;
 mod perform;
 mod properties;
 mod refs;
+mod remake;
 mod report;
 mod run;
 mod short;

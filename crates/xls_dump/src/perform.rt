@@ -7,13 +7,14 @@ ghost use Rattle.xls_dump.specs.Outputs.{IsFirstLine, IsPropertyText, IsSoundLin
 ghost use Rattle.xls_dump.specs.SinkState.{TakesEach};
 ghost use Rattle.xls_dump.specs.Summary.{summary_text};
 ghost use Rattle.xls_dump.specs.Words.{IsPossible, max_rows};
-ghost use Rattle.xls_dump.specs.declared.command.Command.TheVariants.{Dump, Sheets, Props, Check, Refs, Csv};
+ghost use Rattle.xls_dump.specs.declared.command.Command.TheVariants.{Dump, Sheets, Props, Check, Refs, Remake, Csv};
 
 use crate::command::Command;
 use crate::csv::write_csv;
 use crate::ending::{Ending, Stop};
 use crate::properties::write_properties;
 use crate::refs::write_refs;
+use crate::remake::write_remake;
 use crate::report::{write_fault, write_report, write_sheets, write_sound};
 use crate::sink::Sink;
 use crate::summary::{summary_of, write_summary};
@@ -146,6 +147,20 @@ fn refs<S: Source, K: Sink>(alloc: Global, source: &mut S, sink: &mut K) -> Resu
     }
 }
 
+/// Reads the source, and writes the canonical stream of the list that its bytes carry.
+fn remake<S: Source, K: Sink>(alloc: Global, source: &mut S, sink: &mut K) -> Result<Ending, Stop>
+    ensures reads { Reads Remake (S.left source.old) (S.left source.new)
+        (S.faults source.old) (S.faults source.new) result }
+    ensures ends { Ends Remake (S.left source.old) (K.state sink.old) (K.state sink.new) result }
+    ensures steady { TakesEach (K.state sink.old) (MayWrite Remake (S.left source.old))
+        → (K.state sink.new).faults ≡ (K.state sink.old).faults }
+{
+    match read_all(alloc, source, MAX_BYTES) {
+        Ok(bytes) => write_remake(alloc, sink, bytes.as_slice()),
+        Err(error) => refuse(alloc, sink, &error),
+    }
+}
+
 /// Opens the source with the options by default, and writes the values of the last sheet of a name as CSV.
 fn csv<S: Source, K: Sink>(
     alloc: Global,
@@ -197,6 +212,7 @@ pub fn perform<S: Source, K: Sink>(
         Command::Props => props(alloc, source, sink),
         Command::Check => check(alloc, source, sink),
         Command::Refs => refs(alloc, source, sink),
+        Command::Remake => remake(alloc, source, sink),
         Command::Csv(name) => csv(alloc, name, source, sink),
         Command::Generate(rows) => generate(alloc, rows, sink),
     }

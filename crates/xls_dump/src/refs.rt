@@ -1,21 +1,19 @@
 //! The cells that the formulas of a workbook cite.
 
-ghost use Rattle.std.specs.Prelude.{◌≡◌, ◌≢◌, ◌≤◌, ℕ, List, length, slice_get, unwrap_or, []};
+ghost use Rattle.std.specs.Prelude.{◌≡◌, ◌≤◌, ℕ, List, length, slice_get, unwrap_or, []};
 ghost use Rattle.std.specs.Str.{chars};
 ghost use Rattle.xls_open.specs.Opening.{default_options};
 ghost use Rattle.xls_refs.specs.Citations.{citation_of};
 ghost use Rattle.xls_refs.specs.Cited.{book_citation_of};
 ghost use Rattle.xls_dump.specs.Endings.{Delivers, EndsWithEither};
 ghost use Rattle.xls_dump.specs.Gathering.{Puts};
-ghost use Rattle.xls_strings.specs.declared.error.XlsError.TheVariants.{Memory};
 ghost use Rattle.xls_dump.specs.Outputs.{IsFirstLine, IsRefsText};
-ghost use Rattle.xls_dump.specs.Report.{fault_line};
 ghost use Rattle.xls_dump.specs.Refs.{cited_line, ref_at, ref_line, refs_text};
 
 use crate::buffer::Buffer;
 use crate::ending::{Ending, Stop};
 use crate::field::Field;
-use crate::report::write_fault;
+use crate::report::write_refusal;
 use crate::sink::Sink;
 use std::alloc::Global;
 use xls_biff::XlsError;
@@ -127,20 +125,6 @@ fn write_cites<K: Sink>(alloc: Global, sink: &mut K, cites: &BookCites) -> Resul
     put_cites(&mut buffer, sink, cites)?;
     buffer.finish(sink)?;
     Ok(())
-}
-
-/// Writes the line of a refusal, unless memory ran out.
-fn write_refusal<K: Sink>(alloc: Global, sink: &mut K, error: &XlsError) -> Result<Ending, Stop>
-    ensures { EndsWithEither (λ _. ⊥) (λ text. (error.now ≢ Memory) × (text ≡ fault_line error.now))
-        (K.state sink.old) (K.state sink.new) result }
-{
-    match error {
-        XlsError::Memory => Err(Stop::Memory),
-        _ => {
-            write_fault(alloc, sink, error)?;
-            Ok(Ending::Refused)
-        }
-    }
 }
 
 /// Writes the cells that the formulas of the bytes' workbook cite, or the first fault of the bytes.

@@ -1,24 +1,26 @@
 //! The text of the dump, line by line.
 
-ghost use Rattle.std.specs.Prelude.{◌≡◌, ◌≤◌, ◌++◌, [], length, codes, if◌then◌else◌, slice_get, IfSome};
+ghost use Rattle.std.specs.Prelude.{◌≡◌, ◌≢◌, ◌≤◌, ◌++◌, [], length, codes, if◌then◌else◌, slice_get, IfSome};
 ghost use Rattle.std.specs.List.{flat_map};
 ghost use Rattle.std.specs.Option.{option_map};
 ghost use Rattle.std.specs.Str.{chars};
 ghost use Rattle.xls_data.specs.Data.{bool_text, content_of};
 ghost use Rattle.xls_data.specs.Sheets.{sheet_content};
-ghost use Rattle.xls_dump.specs.Endings.{Delivers};
+ghost use Rattle.xls_strings.specs.declared.error.XlsError.TheVariants.{Memory};
+ghost use Rattle.xls_dump.specs.Endings.{Delivers, EndsWithEither};
 ghost use Rattle.xls_dump.specs.Gathering.{Puts};
 ghost use Rattle.xls_dump.specs.Lines.{field_text};
 ghost use Rattle.xls_open.specs.Workbook.{told_of};
-ghost use Rattle.xls_dump.specs.Report.{cell_line, cells_at, dates_line, epoch_text, fault_line, formula_line, formulas_at, lines_at, merge_line, merges_at, name_line, report, sheet_line, sheet_report, sheets_text, sound_line, type_text, value_fields, visible_text};
+ghost use Rattle.xls_dump.specs.Report.{cell_line, cells_at, dates_line, epoch_text, fault_line, formula_line, formulas_at, lines_at, merge_line, merges_at, name_line, report, sheet_line, sheet_report, sheets_text, sound_line, type_text, unwritten_line, value_fields, visible_text};
 
 use crate::buffer::Buffer;
-use crate::ending::Stop;
+use crate::ending::{Ending, Stop};
 use crate::field::Field;
 use crate::sink::Sink;
 use std::alloc::Global;
 use xls_biff::XlsError;
 use xls_book::{Formulas, Reader, Values, Xls};
+use xls_lay::LayError;
 use xls_data::{Data, Dimensions, Sheet, SheetType, SheetVisible};
 
 /// The word for a date or a span.
@@ -365,6 +367,30 @@ pub fn write_fault<K: Sink>(alloc: Global, sink: &mut K, error: &XlsError) -> Re
 {
     let mut buffer = Buffer::new(alloc);
     buffer.put_line(sink, "error", &[Field::Fault(error)])?;
+    buffer.finish(sink)?;
+    Ok(())
+}
+
+/// Writes the line of a refusal, unless memory ran out.
+pub fn write_refusal<K: Sink>(alloc: Global, sink: &mut K, error: &XlsError) -> Result<Ending, Stop>
+    ensures { EndsWithEither (λ _. ⊥) (λ text. (error.now ≢ Memory) × (text ≡ fault_line error.now))
+        (K.state sink.old) (K.state sink.new) result }
+{
+    match error {
+        XlsError::Memory => Err(Stop::Memory),
+        _ => {
+            write_fault(alloc, sink, error)?;
+            Ok(Ending::Refused)
+        }
+    }
+}
+
+/// Writes that a canonical stream isn't written, and why.
+pub fn write_unwritten<K: Sink>(alloc: Global, sink: &mut K, error: LayError) -> Result<(), Stop>
+    ensures { Delivers (K.state sink.old) (K.state sink.new) (unwritten_line error) result }
+{
+    let mut buffer = Buffer::new(alloc);
+    buffer.put_line(sink, "error", &[Field::Unwritten(error)])?;
     buffer.finish(sink)?;
     Ok(())
 }

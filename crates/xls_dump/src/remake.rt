@@ -1,0 +1,54 @@
+//! The canonical stream of a workbook.
+
+ghost use Rattle.std.specs.Prelude.{◌≤◌, length};
+ghost use Rattle.xls_open.specs.Opening.{default_options};
+ghost use Rattle.xls_dump.specs.Endings.{Delivers, EndsWithEither};
+ghost use Rattle.xls_dump.specs.Outputs.{IsRemadeText, IsUnremadeLine};
+ghost use Rattle.xls_dump.specs.Remaking.{IsUnwrittenOf, IsWrittenOf};
+
+use crate::buffer::Buffer;
+use crate::ending::{Ending, Stop};
+use crate::report::{write_refusal, write_unwritten};
+use crate::sink::Sink;
+use std::alloc::Global;
+use xls_lay::{LayError, Logical, logical_of, write_workbook};
+
+/// Writes bytes.
+fn write_bytes<K: Sink>(alloc: Global, sink: &mut K, bytes: &[u8]) -> Result<(), Stop>
+    ensures { Delivers (K.state sink.old) (K.state sink.new) bytes.now result }
+{
+    let mut buffer = Buffer::new(alloc);
+    buffer.put(sink, bytes)?;
+    buffer.finish(sink)?;
+    Ok(())
+}
+
+/// Writes the canonical stream of a list, or that it is too long.
+fn write_list<K: Sink>(alloc: Global, sink: &mut K, list: &Logical) -> Result<Ending, Stop>
+    ensures { EndsWithEither (IsWrittenOf list.now) (IsUnwrittenOf list.now)
+        (K.state sink.old) (K.state sink.new) result }
+{
+    match write_workbook(alloc, list) {
+        Ok(bytes) => {
+            write_bytes(alloc, sink, bytes.as_slice())?;
+            Ok(Ending::Done)
+        }
+        Err(LayError::Memory) => Err(Stop::Memory),
+        Err(LayError::TooLong { found }) => {
+            write_unwritten(alloc, sink, LayError::TooLong { found })?;
+            Ok(Ending::Refused)
+        }
+    }
+}
+
+/// Writes the canonical stream of the list that bytes carry, or their first fault, or that it is too long.
+pub fn write_remake<K: Sink>(alloc: Global, sink: &mut K, bytes: &[u8]) -> Result<Ending, Stop>
+    requires { length bytes.now ≤ default_options.max_bytes }
+    ensures { EndsWithEither (IsRemadeText bytes.now) (IsUnremadeLine bytes.now)
+        (K.state sink.old) (K.state sink.new) result }
+{
+    match logical_of(alloc, bytes) {
+        Ok(list) => write_list(alloc, sink, &list),
+        Err(error) => write_refusal(alloc, sink, &error),
+    }
+}
