@@ -1,9 +1,9 @@
 //! How many bytes a string table takes, cut where a record body or piece is full.
 
-ghost use Rattle.std.specs.Prelude.{◌≡◌, not};
+ghost use Rattle.std.specs.Prelude.{◌≡◌, ◌+◌, ◌≤◌};
 ghost use Rattle.xls_layout.specs.LaidStrings.{marks_of_steps, marks_of_string};
-ghost use Rattle.xls_layout.specs.Canonical.{canonical_steps, canonical_string, is_narrow};
-ghost use Rattle.xls_lay.specs.Filling.{Fills, Takes};
+ghost use Rattle.xls_layout.specs.Canonical.{unit_size, canonical_steps, canonical_string, is_narrow};
+ghost use Rattle.xls_lay.specs.Filling.{IsFilled, Fills, Takes};
 
 /// How many bytes a record body or piece has at most.
 pub(crate) const FULL: usize = 8224;
@@ -18,6 +18,13 @@ pub(crate) fn is_all_narrow(units: &[u16]) -> bool
         }
     }
     true
+}
+
+/// How many bytes a unit has.
+pub(crate) fn size_of_unit(is_wide: bool) -> usize
+    ensures { result ≡ unit_size is_wide }
+{
+    if is_wide { 2 } else { 1 }
 }
 
 /// What is used of the last record body or piece, and how many bytes were added, saturated.
@@ -38,6 +45,8 @@ impl Fill {
     /// Adds so many bytes that aren't parted, to a new piece that begins with so many where they would take this
     /// one past its size.
     fn add(&mut self, front: usize, more: usize)
+        requires room { IsFilled self.old }
+        requires short { front + more ≤ 8224 }
         ensures { Takes self.old front more self.new }
     {
         if self.used + more > FULL {
@@ -49,9 +58,10 @@ impl Fill {
     }
 
     fn add_units(&mut self, is_wide: bool, units: &[u16])
+        requires { IsFilled self.old }
         ensures { Fills self.old (marks_of_steps is_wide (canonical_steps is_wide self.old.used units.now)) self.new }
     {
-        let size = if is_wide { 2 } else { 1 };
+        let size = size_of_unit(is_wide);
         for _ in units {
             self.add(1, size);
         }
@@ -59,6 +69,7 @@ impl Fill {
 
     /// Adds a string.
     pub(crate) fn add_string(&mut self, units: &[u16])
+        requires { IsFilled self.old }
         ensures { Fills self.old (marks_of_string (canonical_string self.old.used units.now)) self.new }
     {
         let is_wide = !is_all_narrow(units);

@@ -4,6 +4,7 @@ ghost use Rattle.std.specs.Prelude.{◌≡◌, ◌<◌, ◌^◌, ◌++◌, ◌�
 ghost use Rattle.std.specs.List.{flat_map};
 ghost use Rattle.xls_lay.specs.Writing.{saturated};
 ghost use Rattle.xls_lay.specs.Cutting.{kept_bytes};
+ghost use Rattle.xls_lay.specs.Inside.{records_of, sizes_sum};
 
 use crate::write::put_record;
 use std::alloc::{AllocError, Global};
@@ -14,6 +15,20 @@ use std::marker::Model;
 pub(crate) struct RecordHead {
     pub typ: u16,
     pub size: u16,
+}
+
+/// Appends the records of these heads, whose bodies stand one after the other.
+fn put_records(heads: &[RecordHead], bytes: &[u8], out: &mut Vec<u8>) -> Result<(), AllocError>
+    requires { sizes_sum heads.now ≡ length bytes.now }
+    ensures { OnOk result (out.new.items ≡ out.old.items ++ flat_map kept_bytes (records_of heads.now bytes.now)) }
+{
+    let mut rest = bytes;
+    for head in heads {
+        let (body, others) = rest.split_at(head.size as usize);
+        put_record(out, head.typ, body)?;
+        rest = others;
+    }
+    Ok(())
 }
 
 /// Kept records in order. Contracts see the list of them.
@@ -78,12 +93,6 @@ impl KeptRecords {
     pub(crate) fn put(&self, out: &mut Vec<u8>) -> Result<(), AllocError>
         ensures { OnOk result (out.new.items ≡ out.old.items ++ flat_map kept_bytes self.now) }
     {
-        let mut rest = self.bytes.as_slice();
-        for head in &self.heads {
-            let (body, others) = rest.split_at(head.size as usize);
-            put_record(out, head.typ, body)?;
-            rest = others;
-        }
-        Ok(())
+        put_records(&self.heads, &self.bytes, out)
     }
 }

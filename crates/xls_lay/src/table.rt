@@ -1,14 +1,14 @@
 //! A string table that is written, cut where a record body or piece is full.
 
-ghost use Rattle.std.specs.Prelude.{◌≡◌, ◌≤◌, ◌<◌, ◌^◌, ◌++◌, ◌∷◌, [], length, map, not, Some, None, OnOk, IfOk};
+ghost use Rattle.std.specs.Prelude.{◌≡◌, ◌+◌, ◌≤◌, ◌<◌, ◌^◌, ◌++◌, ◌∷◌, [], length, map, not, Some, None, OnOk, IfOk};
 ghost use Rattle.std.specs.List.{AllByRecursion};
 ghost use Rattle.xls_model.specs.declared.types.TheConstants as types;
-ghost use Rattle.xls_layout.specs.LaidStrings.{head_bytes, le32, marks_of_break, marks_of_steps, marks_of_string, put, FitsWidth};
-ghost use Rattle.xls_layout.specs.Canonical.{passes, unit_size, cut_if, canonical_steps, canonical_string};
+ghost use Rattle.xls_layout.specs.LaidStrings.{head_bytes, le32, marks_of_break, marks_of_steps, marks_of_string, unit_bytes, FitsWidth};
+ghost use Rattle.xls_layout.specs.Canonical.{passes, unit_size, canonical_steps, canonical_string};
 ghost use Rattle.xls_lay.specs.Cutting.{rest_bytes};
-ghost use Rattle.xls_lay.specs.Pieces.{Puts, HasRoom};
+ghost use Rattle.xls_lay.specs.Pieces.{Puts, HasRoom, cut_marks};
 
-use crate::fill::{FULL, is_all_narrow};
+use crate::fill::{FULL, is_all_narrow, size_of_unit};
 use crate::write::{push_u32, put_record};
 use std::alloc::{AllocError, Global};
 use xls_model::types::{CONTINUE, SST};
@@ -40,10 +40,10 @@ impl Pieces {
         })
     }
 
-    fn push(&mut self, byte: u8) -> Result<(), AllocError>
-        ensures { OnOk result (Puts self.old (Some byte ∷ []) self.new) }
+    fn push(&mut self, bytes: &[u8]) -> Result<(), AllocError>
+        ensures { OnOk result (Puts self.old (map Some bytes.now) self.new) }
     {
-        self.body.push(byte)?;
+        self.body.extend_from_slice(bytes)?;
         Ok(())
     }
 
@@ -58,23 +58,51 @@ impl Pieces {
         Ok(())
     }
 
+    /// Begins one where a head would pass.
+    fn cut_before_head(&mut self) -> Result<(), AllocError>
+        requires { HasRoom self.old }
+        ensures puts { OnOk result (Puts self.old (marks_of_break (passes (length self.old.body.items) 3)) self.new) }
+        ensures room { OnOk result (length self.new.body.items + 3 ≤ 8224) }
+    {
+        if self.body.len() + 3 <= FULL {
+            return Ok(());
+        }
+        self.cut()
+    }
+
+    /// Begins one, with its flags byte, where a unit would pass.
+    fn cut_before_unit(&mut self, is_wide: bool) -> Result<(), AllocError>
+        requires { HasRoom self.old }
+        ensures puts { OnOk result (Puts self.old (cut_marks is_wide (length self.old.body.items)) self.new) }
+        ensures room { OnOk result (length self.new.body.items + unit_size is_wide ≤ 8224) }
+    {
+        if self.body.len() + size_of_unit(is_wide) <= FULL {
+            return Ok(());
+        }
+        self.cut()?;
+        self.push(&[u8::from(is_wide)])?;
+        Ok(())
+    }
+
+    fn push_unit(&mut self, is_wide: bool, unit: u16) -> Result<(), AllocError>
+        requires { FitsWidth is_wide unit }
+        ensures { OnOk result (Puts self.old (map Some (unit_bytes is_wide unit)) self.new) }
+    {
+        if is_wide {
+            return self.push(&[(unit % 256) as u8, (unit / 256) as u8]);
+        }
+        self.push(&[unit as u8])
+    }
+
     fn put_unit(&mut self, is_wide: bool, unit: u16) -> Result<(), AllocError>
         requires width { FitsWidth is_wide unit }
         requires room { HasRoom self.old }
-        ensures puts { OnOk result (Puts self.old (marks_of_steps is_wide
-            (cut_if (passes (length self.old.body.items) (unit_size is_wide)) is_wide (put unit ∷ []))) self.new) }
+        ensures puts { OnOk result (Puts self.old
+            (cut_marks is_wide (length self.old.body.items) ++ map Some (unit_bytes is_wide unit)) self.new) }
         ensures room { OnOk result (HasRoom self.new) }
     {
-        let size = if is_wide { 2 } else { 1 };
-        if self.body.len() + size > FULL {
-            self.cut()?;
-            self.push(u8::from(is_wide))?;
-        }
-        self.push((unit % 256) as u8)?;
-        if is_wide {
-            self.push((unit / 256) as u8)?;
-        }
-        Ok(())
+        self.cut_before_unit(is_wide)?;
+        self.push_unit(is_wide, unit)
     }
 
     fn put_units(&mut self, is_wide: bool, units: &[u16]) -> Result<(), AllocError>
@@ -96,12 +124,12 @@ impl Pieces {
             ++ map Some (head_bytes is_wide count None None)) self.new) }
         ensures room { OnOk result (HasRoom self.new) }
     {
-        if self.body.len() + 3 > FULL {
-            self.cut()?;
-        }
-        self.push((count % 256) as u8)?;
-        self.push((count / 256) as u8)?;
-        self.push(u8::from(is_wide))
+        self.cut_before_head()?;
+        self.push(&[
+            (count % 256) as u8,
+            (count / 256) as u8,
+            u8::from(is_wide),
+        ])
     }
 
     /// Puts a string.
@@ -114,7 +142,8 @@ impl Pieces {
     {
         let is_wide = !is_all_narrow(units);
         self.put_head(is_wide, units.len() as u16)?;
-        self.put_units(is_wide, units)
+        self.put_units(is_wide, units)?;
+        Ok(())
     }
 
     /// All records.

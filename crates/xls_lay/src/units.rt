@@ -5,12 +5,45 @@ ghost use Rattle.xls_layout.specs.LaidStrings.{marks_of_strings};
 ghost use Rattle.xls_layout.specs.Canonical.{canonical_strings};
 ghost use Rattle.xls_lay.specs.Writing.{saturated};
 ghost use Rattle.xls_lay.specs.Cutting.{marks_size};
+ghost use Rattle.xls_lay.specs.Filling.{IsFilled, Fills};
+ghost use Rattle.xls_lay.specs.Inside.{parts_of, total};
 ghost use Rattle.xls_lay.specs.Pieces.{Puts, HasRoom};
 
 use crate::fill::Fill;
 use crate::table::Pieces;
 use std::alloc::{AllocError, Global};
 use std::marker::Model;
+
+/// Adds the strings of these sizes, whose units stand one after the other.
+fn fill_strings(sizes: &[u16], units: &[u16], fill: &mut Fill)
+    requires sizes { total sizes.now ≡ length units.now }
+    requires room { IsFilled fill.old }
+    ensures { Fills fill.old (marks_of_strings (canonical_strings fill.old.used (parts_of sizes.now units.now))) fill.new }
+{
+    let mut rest = units;
+    for size in sizes {
+        let (string, others) = rest.split_at(*size as usize);
+        fill.add_string(string);
+        rest = others;
+    }
+}
+
+/// Puts them.
+fn put_strings(sizes: &[u16], units: &[u16], pieces: &mut Pieces) -> Result<(), AllocError>
+    requires sizes { total sizes.now ≡ length units.now }
+    requires room { HasRoom pieces.old }
+    ensures puts { OnOk result (Puts pieces.old
+        (marks_of_strings (canonical_strings (length pieces.old.body.items) (parts_of sizes.now units.now))) pieces.new) }
+    ensures room { OnOk result (HasRoom pieces.new) }
+{
+    let mut rest = units;
+    for size in sizes {
+        let (string, others) = rest.split_at(*size as usize);
+        pieces.put_string(string)?;
+        rest = others;
+    }
+    Ok(())
+}
 
 /// Strings in order. Contracts see each as the list of its units.
 #[derive(Drop)]
@@ -65,15 +98,11 @@ impl UnitLists {
     pub(crate) fn size(&self) -> u64
         ensures { result ≡ saturated (marks_size (marks_of_strings (canonical_strings 8 self.now))) }
     {
-        let mut rest = self.units.as_slice();
         let mut fill = Fill::new();
-        for size in &self.sizes {
-            let (units, others) = rest.split_at(*size as usize);
-            fill.add_string(units);
-            rest = others;
-        }
+        fill_strings(&self.sizes, &self.units, &mut fill);
         fill.size
     }
+
     /// Puts the strings one after the other.
     pub(crate) fn put(&self, pieces: &mut Pieces) -> Result<(), AllocError>
         requires { HasRoom pieces.old }
@@ -81,12 +110,6 @@ impl UnitLists {
             (marks_of_strings (canonical_strings (length pieces.old.body.items) self.now)) pieces.new) }
         ensures room { OnOk result (HasRoom pieces.new) }
     {
-        let mut rest = self.units.as_slice();
-        for size in &self.sizes {
-            let (units, others) = rest.split_at(*size as usize);
-            pieces.put_string(units)?;
-            rest = others;
-        }
-        Ok(())
+        put_strings(&self.sizes, &self.units, pieces)
     }
 }
