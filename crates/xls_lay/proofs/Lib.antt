@@ -5,3 +5,5 @@ pub mod FilledLemmas
 pub mod InsideLemmas
 pub mod PieceLemmas
 pub mod StringLemmas
+pub mod SizeLemmas
+pub mod WholeLemmas

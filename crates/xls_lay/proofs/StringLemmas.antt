@@ -19,17 +19,17 @@ strings_marks used strings = marks_of_strings (canonical_strings used strings)
 -- these marks are those of some strings, and where so much is used then, the others are still to come
 pub record Walked (from now : ℕ) (sizes units rest : List ℕ) (i : ℕ) (ms : List Mark) : Type 0 where
   pub whole : ms ++ strings_marks now (parts_of (drop i sizes) rest) ≡ strings_marks from (parts_of sizes units)
-  pub sizes : total (drop i sizes) ≡ length rest
+  pub left : total (drop i sizes) ≡ length rest
 
 walked_none : (from : ℕ) (sizes units : List ℕ) → total sizes ≡ length units → Walked from from sizes units units 0 []
-walked_none from sizes units e = record { whole = refl; sizes = e }
+walked_none from sizes units e = record { whole = refl; left = e }
 
 module _ (from now : ℕ) (sizes units rest : List ℕ) (i : ℕ) (ms : List Mark) (w : Walked from now sizes units rest i ms) where
   abbrev size : ℕ
   size = get_or sizes i 0
 
   pub walked_within : i < length sizes → size ≤ length rest
-  walked_within lt = let e = rw (next_size sizes i lt) at w.sizes in omega (arith, e)
+  walked_within lt = let e = rw (next_size sizes i lt) at w.left in omega (arith, e)
 
   abbrev string : List Mark
   string = marks_of_string (canonical_string now (take size rest))
@@ -37,7 +37,7 @@ module _ (from now : ℕ) (sizes units rest : List ℕ) (i : ℕ) (ms : List Mar
   walked_more : (next : ℕ) → i < length sizes → next ≡ fill_from now string
       → Walked from next sizes units (drop size rest) (i + 1) (ms ++ string)
   walked_more next lt e =
-      let sizes_are = rw (next_size sizes i lt) at w.sizes in
+      let sizes_are = rw (next_size sizes i lt) at w.left in
       let others = parts_of (drop (i + 1) sizes) (drop size rest) in
       record {
         whole =
@@ -45,7 +45,7 @@ module _ (from now : ℕ) (sizes units rest : List ℕ) (i : ℕ) (ms : List Mar
             ∙ ap (λ (n : ℕ). ms ++ (string ++ strings_marks n others)) e
             ∙ ap (λ (ns : List ℕ). ms ++ strings_marks now (parts_of ns rest)) (sym (next_size sizes i lt))
             ∙ w.whole;
-        sizes = omega (arith, sizes_are, length-drop size rest);
+        left = omega (arith, sizes_are, length-drop size rest);
       }
 
   walked_all : length sizes ≤ i → ms ≡ strings_marks from (parts_of sizes units)

@@ -2,7 +2,7 @@
 
 ghost use Rattle.std.specs.Prelude.{◌≡◌, length};
 ghost use Rattle.xls_lay.specs.Writing.{canonical_size, saturated};
-ghost use Rattle.xls_lay.specs.Entries.{entry_in};
+ghost use Rattle.xls_lay.specs.Entries.{entry_in, entries_in};
 ghost use Rattle.xls_lay.specs.Cutting.{globals_size, part_size as size_of_part, globals_from, parts_from};
 
 use crate::entry::Entry;
@@ -30,22 +30,22 @@ pub(crate) fn part_size(entry: &Entry) -> u64
 }
 
 /// How many bytes the globals have, with their EOF.
-pub(crate) fn globals_length(list: &Logical) -> u64
-    ensures { result ≡ saturated (length (globals_from 0 list.now)) }
+pub(crate) fn globals_length(entries: &[Entry]) -> u64
+    ensures { result ≡ saturated (length (globals_from 0 (entries_in entries.now))) }
 {
     let mut size = 4u64;
-    for entry in list.entries() {
+    for entry in entries {
         size = size.saturating_add(entry_size(entry));
     }
     size
 }
 
 /// How many bytes the parts have.
-pub(crate) fn parts_length(list: &Logical) -> u64
-    ensures { result ≡ saturated (length (parts_from list.now)) }
+pub(crate) fn parts_length(entries: &[Entry]) -> u64
+    ensures { result ≡ saturated (length (parts_from (entries_in entries.now))) }
 {
     let mut size = 0u64;
-    for entry in list.entries() {
+    for entry in entries {
         size = size.saturating_add(part_size(entry));
     }
     size
@@ -55,5 +55,6 @@ pub(crate) fn parts_length(list: &Logical) -> u64
 pub fn canonical_length(list: &Logical) -> u64
     ensures { result ≡ canonical_size list.now }
 {
-    globals_length(list).saturating_add(parts_length(list))
+    let entries = list.entries();
+    globals_length(entries).saturating_add(parts_length(entries))
 }

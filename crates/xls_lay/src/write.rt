@@ -5,9 +5,9 @@ ghost use Rattle.xls_model.specs.Stream.{enc};
 ghost use Rattle.xls_model.specs.declared.types.TheConstants as types;
 ghost use Rattle.xls_layout.specs.LaidStrings.{le32};
 ghost use Rattle.xls_layout.specs.Layout.{sheet_body};
-ghost use Rattle.xls_layout.specs.Canonical.{FitsEntry};
+ghost use Rattle.xls_layout.specs.Canonical.{FitsEntry, Fits};
 ghost use Rattle.xls_lay.specs.Writing.{Writes};
-ghost use Rattle.xls_lay.specs.Entries.{entry_in};
+ghost use Rattle.xls_lay.specs.Entries.{entry_in, entries_in};
 ghost use Rattle.xls_lay.specs.Cutting.{part_of, table_bytes, entry_bytes, globals_from, parts_from};
 
 use crate::entry::Entry;
@@ -109,12 +109,13 @@ fn put_globals(
     alloc: Global,
     mut out: Vec<u8>,
     mut offset: u64,
-    list: &Logical,
+    entries: &[Entry],
 ) -> Result<Vec<u8>, AllocError>
-    requires { offset + length (parts_from list.now) < 2 ^ 32 }
-    ensures { IfOk result (λ v. v.items ≡ out.items ++ globals_from offset list.now) }
+    requires fits { Fits (entries_in entries.now) }
+    requires short { offset + length (parts_from (entries_in entries.now)) < 2 ^ 32 }
+    ensures { IfOk result (λ v. v.items ≡ out.items ++ globals_from offset (entries_in entries.now)) }
 {
-    for entry in list.entries() {
+    for entry in entries {
         out = put_entry(alloc, out, offset as u32, entry)?;
         offset += part_size(entry);
     }
@@ -132,10 +133,10 @@ fn put_part(out: &mut Vec<u8>, kept: &KeptRecords) -> Result<(), AllocError>
 }
 
 /// Appends the parts of the sheets in order.
-fn put_parts(out: &mut Vec<u8>, list: &Logical) -> Result<(), AllocError>
-    ensures { OnOk result (out.new.items ≡ out.old.items ++ parts_from list.now) }
+fn put_parts(out: &mut Vec<u8>, entries: &[Entry]) -> Result<(), AllocError>
+    ensures { OnOk result (out.new.items ≡ out.old.items ++ parts_from (entries_in entries.now)) }
 {
-    for entry in list.entries() {
+    for entry in entries {
         if let Entry::Sheet { kept, .. } = entry {
             put_part(out, kept)?;
         }
@@ -148,13 +149,14 @@ fn put_parts(out: &mut Vec<u8>, list: &Logical) -> Result<(), AllocError>
 pub fn write_workbook(alloc: Global, list: &Logical) -> Result<StreamBytes, LayError>
     ensures { Writes list.now result }
 {
-    let globals = globals_length(list);
-    let found = globals.saturating_add(parts_length(list));
+    let entries = list.entries();
+    let globals = globals_length(entries);
+    let found = globals.saturating_add(parts_length(entries));
     if found >= TOO_LONG {
         return Err(LayError::TooLong { found });
     }
     let out = Vec::with_capacity(alloc, found as usize)?;
-    let mut out = put_globals(alloc, out, globals, list)?;
-    put_parts(&mut out, list)?;
+    let mut out = put_globals(alloc, out, globals, entries)?;
+    put_parts(&mut out, entries)?;
     Ok(StreamBytes::from_vec(out))
 }
