@@ -7,3 +7,5 @@ pub mod PieceLemmas
 pub mod StringLemmas
 pub mod SizeLemmas
 pub mod WholeLemmas
+pub mod PushLemmas
+pub mod WriteLemmas

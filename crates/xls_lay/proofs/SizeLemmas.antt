@@ -62,7 +62,7 @@ pub summed_none : (f : Entry → ℕ) (first : ℕ) (entries : List Inner) → f
     → Summed f (first + sum_by f (entries_in entries)) first entries 0
 summed_none f first entries h = record { whole = refl; small = h }
 
-next_entry : (entries : List Inner) (i : ℕ) (e : Inner) → i < length entries → get_or entries i e ≡ e
+pub next_entry : (entries : List Inner) (i : ℕ) (e : Inner) → i < length entries → get_or entries i e ≡ e
     → drop i entries ≡ e ∷ drop (i + 1) entries
 next_entry entries i e lt here =
     let next : suc i ≡ i + 1 = omega arith in

@@ -86,10 +86,11 @@ impl Logical {
         ensures ok { OnOk result (AddsKept self.old self.new typ body.now) }
         ensures err { OnErr result (self.new ≡ self.old) }
     {
-        match self.entries.last_mut() {
-            Some(Entry::Sheet { kept, .. }) => kept.push(typ, body),
-            _ => Ok(()),
-        }
+        let Some(entry) = self.entries.last_mut() else {
+            return Ok(());
+        };
+        entry.push_kept(typ, body)?;
+        Ok(())
     }
 
     /// Appends an empty string table. Refuses only when memory runs out, and then the list is as it was.
@@ -113,24 +114,31 @@ impl Logical {
         ensures ok { OnOk result (AddsString self.old self.new units.now) }
         ensures err { OnErr result (self.new ≡ self.old) }
     {
-        match self.entries.last_mut() {
-            Some(Entry::Table { strings }) => strings.push(units),
-            _ => Ok(()),
-        }
+        let Some(entry) = self.entries.last_mut() else {
+            return Ok(());
+        };
+        entry.push_string(units)?;
+        Ok(())
     }
 
     /// Whether the last entry is a sheet.
     pub fn ends_in_sheet(&self) -> bool
         ensures { IsTrue result ↔ EndsInSheet self.now }
     {
-        matches!(self.entries.last(), Some(Entry::Sheet { .. }))
+        match self.entries.last() {
+            Some(entry) => entry.is_sheet(),
+            None => false,
+        }
     }
 
     /// Whether the last entry is a string table.
     pub fn ends_in_table(&self) -> bool
         ensures { IsTrue result ↔ EndsInTable self.now }
     {
-        matches!(self.entries.last(), Some(Entry::Table { .. }))
+        match self.entries.last() {
+            Some(entry) => entry.is_table(),
+            None => false,
+        }
     }
 
     /// How many records the sheet has that the list ends in, or how many strings the table; else 0.
@@ -138,9 +146,8 @@ impl Logical {
         ensures { result ≡ last_count self.now }
     {
         match self.entries.last() {
-            Some(Entry::Sheet { kept, .. }) => kept.len(),
-            Some(Entry::Table { strings }) => strings.len(),
-            _ => 0,
+            Some(entry) => entry.count(),
+            None => 0,
         }
     }
 

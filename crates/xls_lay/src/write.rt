@@ -8,7 +8,7 @@ ghost use Rattle.xls_layout.specs.Layout.{sheet_body};
 ghost use Rattle.xls_layout.specs.Canonical.{FitsEntry, Fits};
 ghost use Rattle.xls_lay.specs.Writing.{Writes};
 ghost use Rattle.xls_lay.specs.Entries.{entry_in, entries_in};
-ghost use Rattle.xls_lay.specs.Cutting.{part_of, table_bytes, entry_bytes, globals_from, parts_from};
+ghost use Rattle.xls_lay.specs.Cutting.{part_of, part_bytes, table_bytes, entry_bytes, globals_from, parts_from};
 
 use crate::entry::Entry;
 use crate::error::LayError;
@@ -78,7 +78,8 @@ fn put_table(alloc: Global, out: Vec<u8>, strings: &UnitLists) -> Result<Vec<u8>
 {
     let mut pieces = Pieces::new(alloc, out, strings.len() as u32)?;
     strings.put(&mut pieces)?;
-    pieces.finish()
+    let out = pieces.finish()?;
+    Ok(out)
 }
 
 /// Appends an entry of the globals; its part begins at this offset, if it is a sheet.
@@ -124,7 +125,7 @@ fn put_globals(
 }
 
 /// Appends the part of a sheet.
-fn put_part(out: &mut Vec<u8>, kept: &KeptRecords) -> Result<(), AllocError>
+fn put_sheet_part(out: &mut Vec<u8>, kept: &KeptRecords) -> Result<(), AllocError>
     ensures { OnOk result (out.new.items ≡ out.old.items ++ part_of kept.now) }
 {
     put_record(out, BOF, &[0x00, 0x06, 0x10, 0x00])?;
@@ -132,16 +133,41 @@ fn put_part(out: &mut Vec<u8>, kept: &KeptRecords) -> Result<(), AllocError>
     put_record(out, EOF, &[])
 }
 
+/// Appends the part of an entry, if it is a sheet.
+fn put_part(out: &mut Vec<u8>, entry: &Entry) -> Result<(), AllocError>
+    ensures { OnOk result (out.new.items ≡ out.old.items ++ part_bytes (entry_in entry.now)) }
+{
+    match entry {
+        Entry::Sheet { kept, .. } => put_sheet_part(out, kept),
+        _ => Ok(()),
+    }
+}
+
 /// Appends the parts of the sheets in order.
 fn put_parts(out: &mut Vec<u8>, entries: &[Entry]) -> Result<(), AllocError>
     ensures { OnOk result (out.new.items ≡ out.old.items ++ parts_from (entries_in entries.now)) }
 {
     for entry in entries {
-        if let Entry::Sheet { kept, .. } = entry {
-            put_part(out, kept)?;
-        }
+        put_part(out, entry)?;
     }
     Ok(())
+}
+
+/// The globals and then the parts, which have so many bytes; the first part begins at this offset.
+fn put_all(
+    alloc: Global,
+    size: usize,
+    offset: u64,
+    entries: &[Entry],
+) -> Result<Vec<u8>, AllocError>
+    requires fits { Fits (entries_in entries.now) }
+    requires short { offset + length (parts_from (entries_in entries.now)) < 2 ^ 32 }
+    ensures { IfOk result (λ v. v.items ≡ globals_from offset (entries_in entries.now) ++ parts_from (entries_in entries.now)) }
+{
+    let out = Vec::with_capacity(alloc, size)?;
+    let mut out = put_globals(alloc, out, offset, entries)?;
+    put_parts(&mut out, entries)?;
+    Ok(out)
 }
 
 /// The canonical stream of a list. `TooLong` exactly where it would have 2^32 bytes or more; else only
@@ -155,8 +181,6 @@ pub fn write_workbook(alloc: Global, list: &Logical) -> Result<StreamBytes, LayE
     if found >= TOO_LONG {
         return Err(LayError::TooLong { found });
     }
-    let out = Vec::with_capacity(alloc, found as usize)?;
-    let mut out = put_globals(alloc, out, globals, entries)?;
-    put_parts(&mut out, entries)?;
-    Ok(StreamBytes::from_vec(out))
+    let bytes = put_all(alloc, found as usize, globals, entries)?;
+    Ok(StreamBytes::from_vec(bytes))
 }
