@@ -9,3 +9,6 @@ pub mod SizeLemmas
 pub mod WholeLemmas
 pub mod PushLemmas
 pub mod WriteLemmas
+pub mod UnitLemmas
+pub mod TableReadLemmas
+pub mod PartReadLemmas

@@ -22,12 +22,22 @@ fits_split : (list : List listing.Entry) (e : listing.Entry) → Fits (list ++ e
 fits_split [] e h = (tt, h.0)
 fits_split (x ∷ list) e h = let s = fits_split list e h.1 in ((h.0, s.0), s.1)
 
-count_last : (list : List listing.Entry) (e : listing.Entry) → last_count (list ++ e ∷ []) ≡ count_in e
+pub count_last : (list : List listing.Entry) (e : listing.Entry) → last_count (list ++ e ∷ []) ≡ count_in e
 count_last [] e = refl
 count_last (x ∷ []) e = refl
 count_last (x ∷ y ∷ list) e = count_last (y ∷ list) e
 
-same_last : (xs ys : List listing.Entry) (x y : listing.Entry) → xs ++ x ∷ [] ≡ ys ++ y ∷ [] → x ≡ y
+pub same_front : (xs ys : List listing.Entry) (x y : listing.Entry) → xs ++ x ∷ [] ≡ ys ++ y ∷ [] → xs ≡ ys
+same_front [] [] x y e = refl
+same_front [] (b ∷ []) x y e = absurd cc
+same_front [] (b ∷ c ∷ ys) x y e = absurd cc
+same_front (a ∷ []) [] x y e = absurd cc
+same_front (a ∷ c ∷ xs) [] x y e = absurd cc
+same_front (a ∷ xs) (b ∷ ys) x y e =
+    let here : a ≡ b = cc in
+    ap (λ (z : listing.Entry). z ∷ xs) here ∙ ap (λ (zs : List listing.Entry). b ∷ zs) (same_front xs ys x y cc)
+
+pub same_last : (xs ys : List listing.Entry) (x y : listing.Entry) → xs ++ x ∷ [] ≡ ys ++ y ∷ [] → x ≡ y
 same_last [] [] x y e = cc
 same_last [] (b ∷ []) x y e = absurd cc
 same_last [] (b ∷ c ∷ ys) x y e = absurd cc

@@ -2,6 +2,7 @@
 
 ghost use Rattle.std.specs.Prelude.{◌≡◌, ℕ, List, ◌<◌, ◌≤◌, ◌^◌, length, drop, slice_index, None, true, false};
 ghost use Rattle.xls_model.specs.Stream.{group_bytes};
+ghost use Rattle.xls_model.specs.Walks.{IsBytes};
 ghost use Rattle.xls_model.specs.Listing.{Kept, Item, IsItem, IsWhole, entry_of, is_globals_type, IsShared, table_of, IsPart, IsSheetPart, offset_at, table_entry, sheet_entry, is_among};
 ghost use Rattle.xls_layout.specs.Layout.{plain_types};
 ghost use Rattle.xls_biff.specs.Walking.{group_of};
@@ -33,7 +34,8 @@ fn is_plain_type(typ: u16) -> bool
 
 /// Appends the string table of an SST record.
 fn take_table(alloc: Global, list: &mut Logical, r: &Record<'_>) -> Result<(), XlsError>
-    requires { length (group_bytes (group_of r.now)) < 2 ^ 32 }
+    requires small { length (group_bytes (group_of r.now)) < 2 ^ 32 }
+    requires bytes { IsBytes (group_bytes (group_of r.now)) }
     ensures { (strings : List (List ℕ)) → IsShared (group_of r.now) (table_of strings)
         → Takes list.old (table_entry strings) result list.new }
 {
@@ -77,6 +79,7 @@ fn take_record(
     r: &Record<'_>,
 ) -> Result<(), XlsError>
     requires small { length (group_bytes (group_of r.now)) < 2 ^ 32 }
+    requires bytes { IsBytes (group_bytes (group_of r.now)) }
     requires whole { is_globals_type (group_of r.now) ≡ true
         → (i : Item) × IsItem stream.now (group_of r.now) i × IsWhole i }
     ensures entry { is_globals_type (group_of r.now) ≡ true
