@@ -12,3 +12,4 @@ pub mod WriteLemmas
 pub mod UnitLemmas
 pub mod TableReadLemmas
 pub mod PartReadLemmas
+pub mod ReadLemmas

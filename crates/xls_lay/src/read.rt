@@ -67,8 +67,10 @@ fn take_sheet(list: &mut Logical, stream: &[u8], body: &[u8]) -> Result<(), XlsE
     ensures { (kept : List Kept) → IsSheetPart stream.now (offset_at body.now) kept None
         → Takes list.old (sheet_entry (slice_index body.now 4) (slice_index body.now 5) (drop 6 body.now) kept) result list.new }
 {
-    list.push_sheet(body[4], body[5], &body[6..])?;
-    take_part(list, &stream[read_usize(body)..])
+    let (_, name) = body.split_at(6);
+    list.push_sheet(body[4], body[5], name)?;
+    let (_, part) = stream.split_at(read_usize(body));
+    take_part(list, part)
 }
 
 /// Appends the entry of a record of the globals, if it has one.
@@ -80,6 +82,7 @@ fn take_record(
 ) -> Result<(), XlsError>
     requires small { length (group_bytes (group_of r.now)) < 2 ^ 32 }
     requires bytes { IsBytes (group_bytes (group_of r.now)) }
+    requires fits { length r.now.body.now < 2 ^ 16 }
     requires whole { is_globals_type (group_of r.now) ≡ true
         → (i : Item) × IsItem stream.now (group_of r.now) i × IsWhole i }
     ensures entry { is_globals_type (group_of r.now) ≡ true
