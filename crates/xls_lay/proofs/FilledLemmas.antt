@@ -1,5 +1,5 @@
 -- How many bytes units and strings add, one after the other.
-use Rattle.std.proofs.Common.{◌≡◌, ℕ, ◌+◌, ◌<◌, ◌≤◌, ◌^◌, Bool, List, [], ◌∷◌, ◌++◌, length, drop, get_or, refl, sym, ap, subst, ◌∙◌, append_assoc, arith}
+use Rattle.std.proofs.Common.{◌≡◌, ℕ, ◌+◌, ◌<◌, ◌≤◌, ◌^◌, Bool, List, [], ◌++◌, length, drop, get_or, refl, sym, ap, subst, ◌∙◌, append_assoc, arith}
 use Rattle.std.specs.Prelude.{not}
 use Rattle.std.proofs.lemmas.List.{drop_all, append-nil}
 use Rattle.xls_model.specs.StringTable.{Mark}
@@ -7,7 +7,7 @@ use Rattle.xls_layout.specs.LaidStrings.{marks_of_string}
 use Rattle.xls_layout.specs.Canonical.{passes, fill_from, unit_size, used_after, canonical_string, is_narrow}
 use Rattle.xls_lay.specs.Writing.{saturated}
 use Rattle.xls_lay.specs.Cutting.{marks_size}
-use Rattle.xls_lay.specs.Filling.{IsFilled, Fills, Takes, size_after}
+use Rattle.xls_lay.specs.Filling.{IsFilled, Fills, Takes}
 use Rattle.xls_lay.specs.declared.fill.Fill.{Fill}
 use Rattle.xls_lay.proofs.FillLemmas.{fill-append, size-append, saturated-add}
 use Rattle.xls_lay.proofs.CutLemmas.{unit_marks, units_marks, marks_next, fill_unit, size_unit, next_is, head_marks, fill_head, size_head, string_marks}

@@ -1,8 +1,8 @@
 -- Records and strings as they are kept in memory.
-use Rattle.std.proofs.Common.{◌≡◌, ℕ, suc, ◌+◌, ◌*◌, ◌<◌, ◌≤◌, List, [], ◌∷◌, ◌++◌, length, take, drop, get_or, refl, sym, ap, subst, ◌∙◌, append_assoc, arith}
+use Rattle.std.proofs.Common.{◌≡◌, ℕ, suc, ◌+◌, ◌*◌, ◌<◌, ◌≤◌, List, [], ◌∷◌, ◌++◌, length, take, drop, get_or, refl, sym, ap, ◌∙◌, append_assoc, arith}
 use Rattle.std.specs.List.{flat_map}
-use Rattle.std.proofs.Math.Seq.{drop-cons, take-length, drop-length}
-use Rattle.std.proofs.lemmas.List.{append-nil, drop_all, length-append, length-take-le, length-drop, take-append-le, drop-append-le, take-append-drop}
+use Rattle.std.proofs.Math.Seq.{drop-cons, take-length}
+use Rattle.std.proofs.lemmas.List.{append-nil, drop_all, length-append, length-take-le, length-drop, take-append-le, drop-append-le}
 use Rattle.xls_model.specs.Stream.{enc}
 use Rattle.xls_model.specs.Listing.{Kept}
 use Rattle.xls_lay.specs.Inside.{total, parts_of, sizes_sum, records_of}

@@ -1,7 +1,7 @@
 -- Canonical bytes carry their list, and are equal where the lists are.
 use Rattle.std.proofs.Common.{◌≡◌, ◌↔◌, ℕ, ◌^◌, ◌<◌, List, length, ap, subst, ◌∙◌}
 use Rattle.xls_model.specs.Listing.{Entry, Carries}
-use Rattle.xls_layout.specs.Layout.{lay, list_of}
+use Rattle.xls_layout.specs.Layout.{lay}
 use Rattle.xls_layout.specs.Canonical.{canonical, Fits}
 use Rattle.xls_layout.proofs.LaidStreamLemmas.{laid_stream, laid_alone}
 use Rattle.xls_layout.proofs.CanonicalListLemmas.{canonical_layout}

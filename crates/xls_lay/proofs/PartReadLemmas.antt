@@ -1,5 +1,5 @@
 -- A sheet part as far as it was read.
-use Rattle.std.proofs.Common.{◌≡◌, ℕ, List, [], ◌∷◌, ◌++◌, refl, sym, ap, subst, ◌∙◌, append_assoc, arith, Option, Some, None}
+use Rattle.std.proofs.Common.{◌≡◌, ℕ, List, [], ◌∷◌, ◌++◌, refl, sym, ap, subst, ◌∙◌, append_assoc, Option, Some, None}
 use Rattle.std.proofs.lemmas.List.{append-nil, map-append}
 use Rattle.xls_model.specs.Stream.{Group, Run, IsBody}
 use Rattle.xls_model.specs.Counting.{From, found_from}
@@ -11,7 +11,6 @@ use Rattle.xls_strings.specs.declared.error.XlsError.{XlsError}
 use Rattle.xls_biff.specs.Outer.{Keeps, Over, CutShort}
 use Rattle.xls_open.proofs.PartLemmas.{part_from, keeps_from, over_from, cut_from, keeps_bytes}
 use Rattle.xls_lay.specs.Pushing.{EndsInSheet, AddsKept}
-use Rattle.xls_lay.specs.Taking.{TakesPart}
 use Rattle.xls_lay.proofs.PushLemmas.{same_front, same_last}
 
 -- the sheet that a list ends in has these records more

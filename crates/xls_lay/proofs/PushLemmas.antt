@@ -1,12 +1,12 @@
 -- The last entry of a list, as it is kept, and how it grows.
-use Rattle.std.proofs.Common.{◌≡◌, ◌↔◌, ℕ, zero, suc, ◌+◌, ◌-◌, ◌<◌, ◌≤◌, ◌^◌, true, false, List, [], ◌∷◌, ◌++◌, length, map, get_or, refl, sym, ap, subst, ◌∙◌, append_assoc, arith}
+use Rattle.std.proofs.Common.{◌≡◌, ◌↔◌, ℕ, zero, suc, ◌+◌, ◌<◌, ◌≤◌, ◌^◌, true, false, List, [], ◌∷◌, ◌++◌, length, get_or, refl, sym, ap, subst, ◌∙◌, arith}
 use Rattle.std.specs.Prelude.{set, Bool, IsTrue}
 use Rattle.std.specs.List.{AllByRecursion}
 use Rattle.std.proofs.lemmas.List.{map-append, length-append}
-use Rattle.xls_model.specs.Substreams.{is_among, sheet_types}
+use Rattle.xls_model.specs.Substreams.{is_among}
 use Rattle.xls_model.specs.Listing.{Kept, plain_entry, table_entry, sheet_entry}
 use Rattle.xls_model.specs.Listing as listing
-use Rattle.xls_layout.specs.Canonical.{AreBytes, IsUnit, FitsBody, FitsKept, FitsString, FitsSheet, FitsEntry, Fits}
+use Rattle.xls_layout.specs.Canonical.{AreBytes, IsUnit, FitsKept, FitsString, FitsEntry, Fits}
 use Rattle.xls_lay.specs.Pushing.{EndsInSheet, EndsInTable, count_in, last_count, AddsKept, AddsString}
 use Rattle.xls_lay.specs.Entries.{entry_in, entries_in, is_sheet, is_table, KeptPushed, StringPushed}
 use Rattle.xls_lay.specs.declared.entry.Entry.{Entry}

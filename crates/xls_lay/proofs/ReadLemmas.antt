@@ -1,6 +1,5 @@
 -- A stream as far as it was read.
 use Rattle.std.proofs.Common.{◌≡◌, ℕ, ◌+◌, ◌<◌, ◌≤◌, ◌^◌, Bool, true, false, List, [], ◌∷◌, ◌++◌, length, map, drop, slice_index, refl, sym, ap, subst, ◌∙◌, arith, inl, inr, Option, Some, None, Result, Ok, Err}
-use Rattle.std.specs.Prelude.{◌⊎◌}
 use Rattle.std.specs.List.{AllByRecursion}
 use Rattle.std.proofs.lemmas.List.{map-append, length-append}
 use Rattle.xls_model.specs.Stream.{Group, Begins, group_bytes}
@@ -8,17 +7,20 @@ use Rattle.xls_model.specs.Cut.{Cut}
 use Rattle.xls_model.specs.Walks.{IsBytes}
 use Rattle.xls_model.specs.Listing.{Kept, Entry, sheet_entry, entry_of, is_globals_type, offset_at, is_plain_type, Item, plain_item, table_item, sheet_item, IsItem, IsWhole, IsPart, IsSheetPart, Holds, Carries}
 use Rattle.xls_model.specs.declared.part.Part.{Part}
-use Rattle.xls_model.specs.declared.part.Part.TheVariants.{SheetOffset}
 use Rattle.xls_model.proofs.HoldingLemmas.{has_item, one_holds}
 use Rattle.xls_strings.specs.declared.error.XlsError.{XlsError}
 use Rattle.xls_strings.specs.declared.error.XlsError.TheVariants as errors
 use Rattle.xls_reading.specs.Rules.{Rules}
-use Rattle.xls_reading.specs.Faults.{FirstFault, IsSound}
+use Rattle.xls_reading.specs.Faults.{IsSound}
 use Rattle.xls_open.proofs.AlikeLemmas.{checked_alike}
 use Rattle.xls_open.proofs.LaidLemmas.{one_list_per_stream}
 use Rattle.xls_open.proofs.CheckWalkLemmas.{Passed, passed_nothing, passed_item, passed_other, holds_at, passed_cut, passed_eof, passed_end}
-use Rattle.xls_lay.specs.Reading.{IsFirst, IsFaultless}
+use Rattle.xls_layout.specs.Canonical.{AreBytes}
+use Rattle.xls_layout.proofs.CanonicalByteLemmas.{each_byte}
+use Rattle.xls_lay.specs.Reading.{IsFaultless}
 use Rattle.xls_lay.specs.Taking.{Takes, TakesNothing, TakesPart}
+use Rattle.xls_lay.proofs.PushLemmas.{are_bytes}
+use Rattle.xls_lay.proofs.UnitLemmas.{bytes_split}
 
 -- ---- a sheet
 
@@ -82,22 +84,44 @@ module _ (stream rest after : List ℕ) (list : List Entry) (c : (all : List Ent
       let same = one_holds stream r.passed.whole (r.items ++ i.0 ∷ held.0) c.1.items held.1 None held.2 c.1.holds in
       (i.0, i.1, all_split r.items i.0 held.0 (subst (λ (x : List Item). AllByRecursion IsWhole x) (sym same.0) c.1.whole))
 
-  pub read_item : (t : is_globals_type g ≡ true) (new : List Entry) → Takes list (entry_of (whole_item t).0) (Ok tt) new → Read stream after new
-  read_item t new h =
-      let i = whole_item t in record {
-        items = r.items ++ i.0 ∷ [];
-        passed = passed_item stream rest after r.items g r.passed b n i.0 t i.1;
-        taken = h ∙ ap (λ (x : List Entry). x ++ entry_of i.0 ∷ []) r.taken ∙ sym (map-append entry_of r.items (i.0 ∷ []));
+  pub group_fits : IsBytes (group_bytes g)
+  group_fits =
+      let all : AreBytes rest = are_bytes rest r.passed.fits in
+      let w = b.whole in
+      each_byte (group_bytes g) (bytes_split (group_bytes g) after (subst (λ (x : List ℕ). AreBytes x) w all)).0
+
+  -- what appending its entry gave
+  abbrev Appended : Result (Unit {0}) XlsError → List Entry → Type 0
+  Appended result new = is_globals_type g ≡ true → (i : Item) → IsItem stream g i → IsWhole i → Takes list (entry_of i) result new
+
+  abbrev Passed_by : Result (Unit {0}) XlsError → List Entry → Type 0
+  Passed_by result new = is_globals_type g ≡ false → TakesNothing list result new
+
+  pub read_more : (new : List Entry) → Appended (Ok tt) new → Passed_by (Ok tt) new → Read stream after new
+  read_more new entry other = by_type (is_globals_type g) refl
+    where
+      by_type : (u : Bool) → is_globals_type g ≡ u → Read stream after new
+      by_type true t =
+          let i = whole_item t in record {
+            items = r.items ++ i.0 ∷ [];
+            passed = passed_item stream rest after r.items g r.passed b n i.0 t i.1;
+            taken = entry t i.0 i.1 i.2 ∙ ap (λ (x : List Entry). x ++ entry_of i.0 ∷ []) r.taken ∙ sym (map-append entry_of r.items (i.0 ∷ []));
+            within = omega (arith, sizes, r.within);
+          }
+      by_type false t = record {
+        items = r.items;
+        passed = passed_other stream rest after r.items g r.passed b n t;
+        taken = other t ∙ r.taken;
         within = omega (arith, sizes, r.within);
       }
 
-  pub read_other : is_globals_type g ≡ false → (new : List Entry) → new ≡ list → Read stream after new
-  read_other t new e = record {
-    items = r.items;
-    passed = passed_other stream rest after r.items g r.passed b n t;
-    taken = e ∙ r.taken;
-    within = omega (arith, sizes, r.within);
-  }
+  -- only want of memory refuses
+  pub read_refused : (e : XlsError) (new : List Entry) → Appended (Err e) new → Passed_by (Err e) new → e ≡ errors.Memory
+  read_refused e new entry other = by_type (is_globals_type g) refl
+    where
+      by_type : (u : Bool) → is_globals_type g ≡ u → e ≡ errors.Memory
+      by_type true t = let i = whole_item t in entry t i.0 i.1 i.2
+      by_type false t = absurd (other t)
 
 module _ (stream rest : List ℕ) (list : List Entry) (c : (all : List Entry) × Carries stream all) (r : Read stream rest list) where
   -- the globals aren't cut

@@ -1,25 +1,21 @@
 -- A string table as far as it was read.
-use Rattle.std.proofs.Common.{◌≡◌, ◌≢◌, ℕ, suc, ◌+◌, ◌*◌, ◌<◌, ◌≤◌, ◌^◌, true, false, List, [], ◌∷◌, ◌++◌, length, map, drop, Some, None, Ok, Err, Result, refl, sym, ap, subst, ◌∙◌, arith}
-use Rattle.std.specs.Prelude.{nat_lt, if◌then◌else◌}
-use Rattle.std.specs.List.{flat_map}
+use Rattle.std.proofs.Common.{◌≡◌, ◌≢◌, ℕ, ◌+◌, ◌*◌, ◌<◌, ◌≤◌, ◌^◌, true, false, List, [], ◌∷◌, ◌++◌, length, drop, Ok, Err, Result, refl, sym, ap, subst, ◌∙◌, arith}
+use Rattle.std.specs.Prelude.{nat_lt}
 use Rattle.std.proofs.lemmas.List.{length-append, length-drop}
-use Rattle.std.specs.Global.{Vec}
 use Rattle.xls_model.specs.Stream.{Group, enc, continues, group_bytes}
 use Rattle.xls_model.specs.Walks.{IsBytes}
-use Rattle.xls_model.specs.StringTable.{Mark, Missing, marked, marked_piece, weight, next_at, Strings, Table, TableFault}
+use Rattle.xls_model.specs.StringTable.{Mark, Missing, marked, weight, next_at, Strings, Table}
 use Rattle.xls_model.specs.Listing.{Entry, table_entry, IsShared, table_of}
-use Rattle.xls_model.specs.declared.part.Part.TheVariants.{Sst}
 use Rattle.xls_model.proofs.TableReadings.{one_reading}
 use Rattle.xls_strings.specs.declared.error.XlsError.{XlsError}
 use Rattle.xls_strings.specs.declared.error.XlsError.TheVariants as errors
 use Rattle.xls_strings.specs.Reading.{Fails}
-use Rattle.xls_strings.specs.Sst.{error_of, as_error, NextUnits, sst_marks}
+use Rattle.xls_strings.specs.Sst.{as_error, sst_marks}
 use Rattle.xls_strings.proofs.SstLemmas.{Strings-push, next_lighter}
 use Rattle.xls_strings.proofs.MarkLemmas.{weight-pieces, weight-marked}
-use Rattle.xls_lay.specs.Pushing.{EndsInTable, last_count, count_in, AddsString}
-use Rattle.xls_lay.specs.Taking.{Takes}
+use Rattle.xls_lay.specs.Pushing.{EndsInTable, last_count, AddsString}
 use Rattle.xls_lay.proofs.PushLemmas.{count_last, same_last, same_front}
-use Rattle.xls_lay.proofs.FillLemmas.{below, not_below}
+use Rattle.xls_lay.proofs.FillLemmas.{not_below}
 use Rattle.xls_lay.proofs.UnitLemmas.{AreSmall, marked_small, string_short}
 
 -- the table that the list ends in has the strings so far, and these marks are left
@@ -105,6 +101,7 @@ module _ (old now : List Entry) (start rest : List Mark) (r : ReadSoFar old now 
       no_error : (e : XlsError) (x : List ℕ × List Mark) → Fails e (as_error (Ok x)) → e ≡ errors.Memory
       no_error errors.Memory x h = refl
       no_error e x h = absurd cc
+
       by_reading : (n : Result (List ℕ × List Mark) Missing) → next_at rest ≡ n → e ≡ errors.Memory
       by_reading (Ok x) n = no_error e x (subst (λ (y : Result (List ℕ × List Mark) Missing). Fails e (as_error y)) n f)
       by_reading (Err m) n = absurd ((one_reading start).apart strings m t (record { strings = r.strings; rest = rest; before = r.run; some = some; fault = n }))

@@ -1,5 +1,5 @@
 -- The strings that are read of bytes have fewer than 65,536 units.
-use Rattle.std.proofs.Common.{◌≡◌, ℕ, suc, ◌+◌, ◌*◌, ◌<◌, ◌≤◌, ◌^◌, Bool, List, [], ◌∷◌, ◌++◌, length, map, take, drop, get_or, Some, None, Ok, refl, sym, ap, subst, ◌∙◌, arith, inl, inr}
+use Rattle.std.proofs.Common.{◌≡◌, ℕ, ◌<◌, ◌^◌, Bool, List, [], ◌∷◌, ◌++◌, length, map, take, drop, Some, None, Ok, sym, ap, subst, arith, inl, inr}
 use Rattle.std.specs.List.{flat_map, AllByRecursion}
 use Rattle.std.proofs.lemmas.List.{take-append-drop}
 use Rattle.xls_bytes.specs.Numbers.{le}
@@ -36,7 +36,7 @@ bytes_small : (bs : List ℕ) → AreBytes bs → AreSmall (map Some bs)
 bytes_small [] h = tt
 bytes_small (b ∷ bs) h = (h.0, bytes_small bs h.1)
 
-bytes_split : (xs ys : List ℕ) → AreBytes (xs ++ ys) → AreBytes xs × AreBytes ys
+pub bytes_split : (xs ys : List ℕ) → AreBytes (xs ++ ys) → AreBytes xs × AreBytes ys
 bytes_split [] ys h = (tt, h)
 bytes_split (x ∷ xs) ys h = let s = bytes_split xs ys h.1 in ((h.0, s.0), s.1)
 

@@ -1,7 +1,7 @@
 -- For the proofs: the canonical bytes of a list entry by entry, and how many they are.
-use Rattle.std.specs.Prelude.{◌≡◌, ℕ, ◌+◌, List, [], ◌∷◌, ◌++◌, length, Some, None}
+use Rattle.std.specs.Prelude.{ℕ, ◌+◌, List, [], ◌∷◌, ◌++◌, length, Some, None}
 use Rattle.std.specs.List.{flat_map}
-use Rattle.xls_model.specs.Stream.{Group, enc, group_bytes}
+use Rattle.xls_model.specs.Stream.{enc, group_bytes}
 use Rattle.xls_model.specs.StringTable.{Mark, front_of}
 use Rattle.xls_model.specs.Listing.{Kept, Entry, plain_entry, table_entry, sheet_entry}
 use Rattle.xls_model.specs.declared.types.TheConstants as types

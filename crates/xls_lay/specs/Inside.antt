@@ -1,5 +1,5 @@
 -- For the proofs: how records and strings are kept in memory.
-use Rattle.std.specs.Prelude.{◌≡◌, ℕ, ◌+◌, List, [], ◌∷◌, take, drop}
+use Rattle.std.specs.Prelude.{ℕ, ◌+◌, List, [], ◌∷◌, take, drop}
 use Rattle.xls_model.specs.Listing.{Kept}
 use Rattle.xls_lay.specs.declared.kept.RecordHead.{RecordHead}
 

@@ -1,5 +1,5 @@
 -- Laws over canonical bytes.
-use Rattle.std.specs.Prelude.{◌≡◌, ◌↔◌, ℕ, ◌<◌, ◌^◌, List, length}
+use Rattle.std.specs.Prelude.{◌≡◌, ◌↔◌, ◌<◌, ◌^◌, List, length}
 use Rattle.xls_model.specs.Listing.{Entry, Carries}
 use Rattle.xls_layout.specs.Canonical.{Fits}
 use Rattle.xls_lay.specs.Writing.{canonical_bytes}

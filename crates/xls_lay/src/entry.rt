@@ -52,6 +52,7 @@ impl Entry {
             _ => Ok(()),
         }
     }
+
     pub(crate) fn is_sheet(&self) -> bool
         ensures { result ≡ is_sheet (entry_in self.now) }
     {

@@ -125,11 +125,7 @@ impl Pieces {
         ensures room { OnOk result (HasRoom self.new) }
     {
         self.cut_before_head()?;
-        self.push(&[
-            (count % 256) as u8,
-            (count / 256) as u8,
-            u8::from(is_wide),
-        ])
+        self.push(&[(count % 256) as u8, (count / 256) as u8, u8::from(is_wide)])
     }
 
     /// Puts a string.

@@ -28,7 +28,10 @@ fn writes_what_was_pushed(rt: HostRuntime) -> Result<(), Fail> {
         list.push_kept(0x027E, &[0, 0, 0, 0, 0, 0, 0xE7, 0xC0, 0, 0])?;
     }
     assert_eq!(rt; canonical_length(&list), 51);
-    assert_eq!(rt; write_workbook(alloc, &list)?.as_slice(), ONE_CELL.as_slice());
+    assert_eq!(rt;
+        write_workbook(alloc, &list)?.as_slice(),
+        ONE_CELL.as_slice()
+    );
     Ok(())
 }
 
@@ -38,7 +41,10 @@ fn reads_what_a_stream_carries(rt: HostRuntime) -> Result<(), Fail> {
     let list = logical_of(alloc, &ONE_CELL)?;
     assert!(rt; list.ends_in_sheet());
     assert_eq!(rt; list.last_len(), 1);
-    assert_eq!(rt; write_workbook(alloc, &list)?.as_slice(), ONE_CELL.as_slice());
+    assert_eq!(rt;
+        write_workbook(alloc, &list)?.as_slice(),
+        ONE_CELL.as_slice()
+    );
     Ok(())
 }
 

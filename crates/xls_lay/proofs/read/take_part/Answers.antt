@@ -1,5 +1,4 @@
 use Rattle.std.proofs.Common.{arith}
-use Rattle.std.proofs.lemmas.Result.{err_from_is_err_and}
 use Rattle.xls_biff.specs.Walking.{group_of}
 use Rattle.xls_lay.proofs.PartReadLemmas.{part_none, part_more, part_all, part_uncut, keeps_fits}
 use Rattle.xls_lay.proofs.read.take_part.Goals as goal

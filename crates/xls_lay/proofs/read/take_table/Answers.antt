@@ -1,11 +1,10 @@
-use Rattle.std.proofs.Common.{◌≡◌, ◌∙◌, ◌<◌, ◌≤◌, ◌^◌, ℕ, List, length, sym, ap, subst, arith}
+use Rattle.std.proofs.Common.{◌<◌, ◌^◌, ℕ, List, length, sym, subst, arith}
 use Rattle.std.proofs.lemmas.Result.{err_from_is_err_and}
 use Rattle.xls_biff.specs.Walking.{group_of}
-use Rattle.xls_model.specs.Stream.{group_bytes}
 use Rattle.xls_model.specs.StringTable.{Mark, weight, Table}
 use Rattle.xls_lay.specs.Pushing.{AddsString}
 use Rattle.xls_strings.proofs.SstLemmas.{next_lighter}
-use Rattle.xls_lay.proofs.TableReadLemmas.{marks_long, marks_there, marks_weight, read_none, read_count, read_size, read_more, read_all, read_fails}
+use Rattle.xls_lay.proofs.TableReadLemmas.{marks_long, marks_weight, read_none, read_count, read_size, read_more, read_all, read_fails}
 use Rattle.xls_lay.proofs.read.take_table.Goals as goal
 
 pub loop-units-init : goal.loop-units-init
@@ -18,7 +17,6 @@ loop-units-init c =
       subst (λ (x : List Mark). weight x < 2 ^ 32) (sym (marks_long g ms e)) (omega (arith, marks_weight g, c.requires.small)),
       read_none c.args.list.now g ms e c.requires.bytes c.push_table.new.self c.in_ok-push_table.ensures.ok,
     )
-
 
 pub returns-in_err-units : goal.returns-in_err-units
 returns-in_err-units c = λ strings h.

@@ -1,4 +1,3 @@
-use Rattle.std.proofs.Common.{rules, ◌≡◌, length}
 use Rattle.xls_lay.proofs.WriteLemmas.{table_put}
 use Rattle.xls_lay.proofs.write.put_table.Goals as goal
 

@@ -1,7 +1,7 @@
-use Rattle.std.proofs.Common.{rules, ◌≡◌, ◌^◌, ◌<◌, ◌≤◌, ◌∙◌, List, ℕ, length, ap, subst, sym, Err}
+use Rattle.std.proofs.Common.{◌≡◌, ◌^◌, ◌<◌, ◌≤◌, ◌∙◌, List, length, subst}
 use Rattle.std.proofs.lemmas.Result.{err_from_is_err_and}
 use Rattle.xls_model.specs.Listing as listing
-use Rattle.xls_lay.specs.Writing.{canonical_bytes, canonical_size, Writes}
+use Rattle.xls_lay.specs.Writing.{canonical_bytes, canonical_size}
 use Rattle.xls_lay.specs.Entries.{entries_in}
 use Rattle.xls_lay.proofs.WriteLemmas.{too_long, not_long, all_put}
 use Rattle.xls_lay.proofs.write.write_workbook.Goals as goal

@@ -1,4 +1,4 @@
-use Rattle.std.proofs.Common.{◌≡◌, ◌∙◌, ◌++◌, ◌∷◌, [], ℕ, ◌+◌, List, refl, sym, ap, length, arith}
+use Rattle.std.proofs.Common.{◌≡◌, ◌∙◌, ◌++◌, ◌∷◌, [], ℕ, ◌+◌, List, refl, sym, ap, length}
 use Rattle.std.proofs.lemmas.List.{length-append}
 use Rattle.xls_model.specs.Listing.{Kept}
 use Rattle.xls_lay.specs.Inside.{sizes_sum, records_of}

@@ -1,4 +1,4 @@
-use Rattle.std.proofs.Common.{◌≡◌, ◌∙◌, ◌+◌, ◌*◌, sym, ap, length, arith, List, ℕ}
+use Rattle.std.proofs.Common.{◌≡◌, ◌∙◌, ◌+◌, ◌*◌, sym, ap, length, arith, List}
 use Rattle.std.specs.List.{flat_map}
 use Rattle.xls_model.specs.Listing.{Kept}
 use Rattle.xls_lay.specs.Writing.{saturated}

@@ -1,5 +1,4 @@
-use Rattle.std.proofs.Common.{rules, ◌≡◌, ℕ, suc, ◌-◌, length, get_or}
-use Rattle.std.specs.Prelude.{vec_len}
+use Rattle.std.proofs.Common.{rules, ◌≡◌, suc, ◌-◌, length, get_or}
 use Rattle.xls_lay.proofs.PushLemmas.{table_exactly}
 use Rattle.xls_lay.proofs.logical.Logical.ends_in_table.Goals as goal
 

@@ -1,4 +1,4 @@
-use Rattle.std.proofs.Common.{rules, ◌≡◌, ◌∙◌, ℕ, suc, ◌-◌, sym, length, get_or}
+use Rattle.std.proofs.Common.{rules, ◌≡◌, ◌∙◌, suc, ◌-◌, sym, length, get_or}
 use Rattle.xls_lay.proofs.PushLemmas.{count_is}
 use Rattle.xls_lay.proofs.logical.Logical.last_len.Goals as goal
 

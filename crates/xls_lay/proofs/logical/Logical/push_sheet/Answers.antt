@@ -1,4 +1,4 @@
-use Rattle.std.proofs.Common.{List, ℕ, [], ◌++◌, ◌∙◌, ap, sym, subst}
+use Rattle.std.proofs.Common.{List, ℕ, ◌++◌, ◌∙◌, ap, sym, subst}
 use Rattle.xls_model.specs.Listing.{Kept, sheet_entry}
 use Rattle.xls_layout.specs.Canonical.{FitsEntry}
 use Rattle.xls_lay.proofs.PushLemmas.{fits_pushed, sheet_fits}

@@ -1,4 +1,4 @@
-use Rattle.std.proofs.Common.{rules, ◌≡◌, subst, arith, ℕ, ◌+◌, ◌<◌, length, Some, [], ◌∷◌}
+use Rattle.std.proofs.Common.{rules, ◌≡◌, subst, ℕ, ◌+◌, ◌<◌, length, Some, [], ◌∷◌}
 use Rattle.xls_layout.specs.LaidStrings.{wide_bit}
 use Rattle.xls_layout.specs.Canonical.{unit_size}
 use Rattle.xls_lay.specs.Pieces.{Puts}
