@@ -7,9 +7,11 @@ use Rattle.xls_cells.proofs.PutLemmas.{before_trans}
 use Rattle.xls_range.specs.Sparse.{last_at, Precedes, IsAscending}
 use Rattle.xls_data.specs.Content.{Content, nothing}
 use Rattle.xls_biff.specs.Cells.{Entry}
+use Rattle.xls_csv.specs.Text.{rows_csv}
+use Rattle.xls_csv.proofs.DenseLemmas.{rows_of_dense}
 use Rattle.xls_csv.specs.Walk.{take_at, row_along, left_along, rows_along}
 use Rattle.xls_csv.specs.Dense.{least, greatest, rows_at, columns_at, value_at}
-use Rattle.xls_csv.specs.Laws.{WalksDense, positions_of}
+use Rattle.xls_csv.specs.Laws.{JoinsToCsv, WalksDense, positions_of}
 
 -- ---- where the cells that are left stand
 
@@ -199,3 +201,7 @@ walks_dense (c ∷ cs) h =
       stand = stand_all c.0.0 c.0.1 c.0.1 top left (left + width) (c ∷ cs) (omega (arith, high_row)) (omega (arith, low)) (omega (arith, low, high));
       same = λ r k from. refl;
     })
+
+-- so the rows joined are the CSV of the dense box
+pub joins_to_csv : JoinsToCsv
+joins_to_csv cells h = ap rows_csv (walks_dense cells h ∙ sym (rows_of_dense cells))

@@ -8,7 +8,7 @@ use std::test::Fail;
 
 // The texts of exact values: of hundredths, of the doubles at the ends of what is a whole number, and
 // of two doubles over 100.
-const NUMBERS: [(Number, &str); 16] = [
+static NUMBERS: [(Number, &str); 16] = [
     (Number::Hundredths(-5), "-0.05"),
     (Number::Hundredths(150), "1.5"),
     (Number::Hundredths(100), "1"),
@@ -55,72 +55,76 @@ fn cuts_numbers_toward_zero(rt: HostRuntime) {
 }
 
 // The calendar, with the day that the 1900 system has and the calendar lacks.
+static DAYS: [(u64, bool, (u16, u8, u8)); 12] = [
+    (0, false, (1899, 12, 31)),
+    (59, false, (1900, 2, 28)),
+    (60, false, (1900, 2, 29)),
+    (61, false, (1900, 3, 1)),
+    (366, false, (1900, 12, 31)),
+    (2958465, false, (9999, 12, 31)),
+    (2958466, false, (9999, 12, 31)),
+    (u64::MAX, false, (9999, 12, 31)),
+    (0, true, (1904, 1, 1)),
+    (60, true, (1904, 3, 1)),
+    (2957003, true, (9999, 12, 31)),
+    (2957004, true, (9999, 12, 31)),
+];
+
 #[test]
 fn gives_the_calendar_dates_of_serial_days(rt: HostRuntime) {
-    let days: [(u64, bool, (u16, u8, u8)); 12] = [
-        (0, false, (1899, 12, 31)),
-        (59, false, (1900, 2, 28)),
-        (60, false, (1900, 2, 29)),
-        (61, false, (1900, 3, 1)),
-        (366, false, (1900, 12, 31)),
-        (2958465, false, (9999, 12, 31)),
-        (2958466, false, (9999, 12, 31)),
-        (u64::MAX, false, (9999, 12, 31)),
-        (0, true, (1904, 1, 1)),
-        (60, true, (1904, 3, 1)),
-        (2957003, true, (9999, 12, 31)),
-        (2957004, true, (9999, 12, 31)),
-    ];
-    for (day, is_1904, date) in days.iter() {
+    for (day, is_1904, date) in DAYS.iter() {
         assert_eq!(rt; ymd_of_serial_day(*day, *is_1904), *date);
     }
 }
 
-// Formats of calamine's own tests.
+// Formats of calamine's own tests, and their classes.
+static FORMATS: [(&str, CellFormat); 28] = [
+    ("DD/MM/YY", CellFormat::DateTime),
+    ("m\"M\"d\"D\";@", CellFormat::DateTime),
+    (
+        "[$-404]e\"\\xfc\"m\"\\xfc\"d\"\\xfc\"",
+        CellFormat::DateTime,
+    ),
+    ("ha/p\\\\m", CellFormat::DateTime),
+    ("*-yyyy-mm-dd", CellFormat::DateTime),
+    ("H:MM:SS;@", CellFormat::DateTime),
+    ("[h]", CellFormat::TimeDelta),
+    ("[ss]", CellFormat::TimeDelta),
+    ("[s].000", CellFormat::TimeDelta),
+    ("[m]", CellFormat::TimeDelta),
+    ("[mm]", CellFormat::TimeDelta),
+    (
+        "[Blue]\\+[h]:mm;[Red]\\-[h]:mm;[Green][h]:mm",
+        CellFormat::TimeDelta,
+    ),
+    ("[>=100][Magenta][s].00", CellFormat::TimeDelta),
+    ("[h]:mm;[=0]\\-", CellFormat::TimeDelta),
+    ("[h]:mm:ss", CellFormat::TimeDelta),
+    ("#,##0\\ [$\\u20bd-46D]", CellFormat::Other),
+    (
+        "\"Y: \"0.00\"m\";\"Y: \"-0.00\"m\";\"Y: <num>m\";@",
+        CellFormat::Other,
+    ),
+    ("#,##0\\ [$''u20bd-46D]", CellFormat::Other),
+    ("\"$\"#,##0_);[Red](\"$\"#,##0)", CellFormat::Other),
+    ("0_ ;[Red]\\-0", CellFormat::Other),
+    ("#,##0.0####\" YMD\"", CellFormat::Other),
+    ("[>=100][Magenta].00", CellFormat::Other),
+    ("[>=100][Magenta]General", CellFormat::Other),
+    (
+        "#,##0.00\\ _M\"H\"_);[Red]#,##0.00\\ _M\"S\"_)",
+        CellFormat::Other,
+    ),
+    ("0\"x\"*d", CellFormat::Other),
+    ("*-#,##0", CellFormat::Other),
+    ("#,##0*y", CellFormat::Other),
+    ("\\Y000000", CellFormat::Other),
+];
+
 #[test]
 fn tells_the_classes_of_formats(rt: HostRuntime) {
-    let dates = [
-        "DD/MM/YY",
-        "m\"M\"d\"D\";@",
-        "[$-404]e\"\\xfc\"m\"\\xfc\"d\"\\xfc\"",
-        "ha/p\\\\m",
-        "*-yyyy-mm-dd",
-        "H:MM:SS;@",
-    ];
-    for format in dates.iter() {
-        assert_eq!(rt; detect_custom_number_format(*format), CellFormat::DateTime);
-    }
-    let spans = [
-        "[h]",
-        "[ss]",
-        "[s].000",
-        "[m]",
-        "[mm]",
-        "[Blue]\\+[h]:mm;[Red]\\-[h]:mm;[Green][h]:mm",
-        "[>=100][Magenta][s].00",
-        "[h]:mm;[=0]\\-",
-        "[h]:mm:ss",
-    ];
-    for format in spans.iter() {
-        assert_eq!(rt; detect_custom_number_format(*format), CellFormat::TimeDelta);
-    }
-    let others = [
-        "#,##0\\ [$\\u20bd-46D]",
-        "\"Y: \"0.00\"m\";\"Y: \"-0.00\"m\";\"Y: <num>m\";@",
-        "#,##0\\ [$''u20bd-46D]",
-        "\"$\"#,##0_);[Red](\"$\"#,##0)",
-        "0_ ;[Red]\\-0",
-        "#,##0.0####\" YMD\"",
-        "[>=100][Magenta].00",
-        "[>=100][Magenta]General",
-        "#,##0.00\\ _M\"H\"_);[Red]#,##0.00\\ _M\"S\"_)",
-        "0\"x\"*d",
-        "*-#,##0",
-        "#,##0*y",
-        "\\Y000000",
-    ];
-    for format in others.iter() {
-        assert_eq!(rt; detect_custom_number_format(*format), CellFormat::Other);
+    for (format, class) in FORMATS.iter() {
+        assert_eq!(rt; detect_custom_number_format(format), *class);
     }
 }
 
@@ -181,40 +185,68 @@ fn copies<T: CellType>(alloc: Global, value: &T) -> Result<bool, AllocError> {
     Ok(copy == *value && blank.is_blank() && value.is_blank() == (*value == blank))
 }
 
+// A value of a table of cases.
+#[derive(Clone, Copy)]
+enum Given {
+    Int(i64),
+    Float(Number),
+    Text(&'static str),
+    Truth(bool),
+    Date(Number, bool),
+    IsoDate(&'static str),
+    IsoDuration(&'static str),
+    Wrong(CellErrorType),
+    Nothing,
+}
+
+fn date_of(number: Number, is_1904: bool) -> ExcelDateTime {
+    ExcelDateTime::new(number, ExcelDateTimeType::DateTime, is_1904)
+}
+
+fn data_of(alloc: Global, given: Given) -> Result<Data, AllocError> {
+    match given {
+        Given::Int(n) => Ok(Data::Int(n)),
+        Given::Float(x) => Ok(Data::Float(x)),
+        Given::Text(s) => Data::from_text(alloc, s),
+        Given::Truth(b) => Ok(Data::Bool(b)),
+        Given::Date(x, is_1904) => Ok(Data::DateTime(date_of(x, is_1904))),
+        Given::IsoDate(s) => Ok(Data::DateTimeIso(String::from_str(alloc, s)?)),
+        Given::IsoDuration(s) => Ok(Data::DurationIso(String::from_str(alloc, s)?)),
+        Given::Wrong(e) => Ok(Data::Error(e)),
+        Given::Nothing => Ok(Data::Empty),
+    }
+}
+
+static VALUES: [Given; 10] = [
+    Given::Int(1),
+    Given::Float(Number::Hundredths(1)),
+    Given::Text("x"),
+    Given::Text(""),
+    Given::Truth(true),
+    Given::Date(Number::Whole(2), true),
+    Given::IsoDate("2020-02-29"),
+    Given::IsoDuration("PT1H"),
+    Given::Wrong(CellErrorType::NA),
+    Given::Nothing,
+];
+
 #[test]
 fn copies_every_value(rt: HostRuntime) -> Result<(), Fail> {
-    let date = ExcelDateTime::new(Number::Whole(2), ExcelDateTimeType::DateTime, true);
-    let text = String::from_str(rt.alloc(), "x")?;
-    assert!(rt; copies(rt.alloc(), &text)?);
+    for given in VALUES.iter() {
+        assert!(rt; copies(rt.alloc(), &data_of(rt.alloc(), *given)?)?);
+    }
+    assert!(rt; copies(rt.alloc(), &String::from_str(rt.alloc(), "x")?)?);
     assert!(rt; copies(rt.alloc(), &3usize)?);
-    assert!(rt; copies(rt.alloc(), &Data::Int(1))?);
-    assert!(rt; copies(rt.alloc(), &Data::Float(Number::Hundredths(1)))?);
-    assert!(rt; copies(rt.alloc(), &Data::from_text(rt.alloc(), "x")?)?);
-    assert!(rt; copies(rt.alloc(), &Data::from_text(rt.alloc(), "")?)?);
-    assert!(rt; copies(rt.alloc(), &Data::Bool(true))?);
-    assert!(rt; copies(rt.alloc(), &Data::DateTime(date))?);
-    assert!(rt;
-        copies(
-            rt.alloc(),
-            &Data::DateTimeIso(String::from_str(rt.alloc(), "2020-02-29")?)
-        )?
-    );
-    assert!(rt;
-        copies(
-            rt.alloc(),
-            &Data::DurationIso(String::from_str(rt.alloc(), "PT1H")?)
-        )?
-    );
-    assert!(rt; copies(rt.alloc(), &Data::Error(CellErrorType::NA))?);
-    assert!(rt; copies(rt.alloc(), &Data::Empty)?);
+    Ok(())
+}
+
+#[test]
+fn copies_every_reference(rt: HostRuntime) -> Result<(), Fail> {
+    let text = DataRef::String(String::from_str(rt.alloc(), "x")?);
+    assert!(rt; copies(rt.alloc(), &text)?);
     assert!(rt; copies(rt.alloc(), &DataRef::Int(1))?);
     assert!(rt; copies(rt.alloc(), &DataRef::SharedString("x"))?);
-    assert!(rt;
-        copies(
-            rt.alloc(),
-            &DataRef::String(String::from_str(rt.alloc(), "x")?)
-        )?
-    );
+    let date = date_of(Number::Whole(2), true);
     assert!(rt; copies(rt.alloc(), &DataRef::DateTime(date))?);
     assert!(rt; copies(rt.alloc(), &DataRef::Empty)?);
     Ok(())
@@ -280,29 +312,46 @@ fn takes_values_for_whole_numbers(rt: HostRuntime) -> Result<(), Fail> {
     Ok(())
 }
 
+// Values, and the texts of a reference to them and of an owned copy of it.
+static PRINTED: [(Given, &str); 14] = [
+    (Given::Int(-1), "-1"),
+    (Given::Float(Number::Hundredths(5)), "0.05"),
+    (Given::Text("ä"), "ä"),
+    (Given::Truth(false), "false"),
+    (Given::Date(Number::Hundredths(250), false), "2.5"),
+    (Given::Wrong(CellErrorType::GettingData), "#DATA!"),
+    (Given::Wrong(CellErrorType::Div0), "#DIV/0!"),
+    (Given::Wrong(CellErrorType::NA), "#N/A"),
+    (Given::Wrong(CellErrorType::Name), "#NAME?"),
+    (Given::Wrong(CellErrorType::Null), "#NULL!"),
+    (Given::Wrong(CellErrorType::Num), "#NUM!"),
+    (Given::Wrong(CellErrorType::Ref), "#REF!"),
+    (Given::Wrong(CellErrorType::Value), "#VALUE!"),
+    (Given::Nothing, ""),
+];
+
+fn ref_of(given: Given) -> DataRef<'static> {
+    match given {
+        Given::Int(n) => DataRef::Int(n),
+        Given::Float(x) => DataRef::Float(x),
+        Given::Text(s) => DataRef::SharedString(s),
+        Given::Truth(b) => DataRef::Bool(b),
+        Given::Date(x, is_1904) => DataRef::DateTime(date_of(x, is_1904)),
+        Given::Wrong(e) => DataRef::Error(e),
+        Given::IsoDate(_) | Given::IsoDuration(_) | Given::Nothing => DataRef::Empty,
+    }
+}
+
+fn owned_text(alloc: Global, value: &DataRef<'_>) -> Result<String, AllocError> {
+    Data::from_ref(alloc, value.try_copy(alloc)?)?.to_string(alloc)
+}
+
 #[test]
 fn prints_values(rt: HostRuntime) -> Result<(), Fail> {
-    let date = ExcelDateTime::new(Number::Hundredths(250), ExcelDateTimeType::DateTime, false);
-    let values = [
-        (DataRef::Int(-1), "-1"),
-        (DataRef::Float(Number::Hundredths(5)), "0.05"),
-        (DataRef::SharedString("ä"), "ä"),
-        (DataRef::Bool(false), "false"),
-        (DataRef::DateTime(date), "2.5"),
-        (DataRef::Error(CellErrorType::GettingData), "#DATA!"),
-        (DataRef::Error(CellErrorType::Div0), "#DIV/0!"),
-        (DataRef::Error(CellErrorType::NA), "#N/A"),
-        (DataRef::Error(CellErrorType::Name), "#NAME?"),
-        (DataRef::Error(CellErrorType::Null), "#NULL!"),
-        (DataRef::Error(CellErrorType::Num), "#NUM!"),
-        (DataRef::Error(CellErrorType::Ref), "#REF!"),
-        (DataRef::Error(CellErrorType::Value), "#VALUE!"),
-        (DataRef::Empty, ""),
-    ];
-    for (value, text) in values.iter() {
+    for (given, text) in PRINTED.iter() {
+        let value = ref_of(*given);
         assert_eq!(rt; value.to_string(rt.alloc())?.as_str(), *text);
-        let printed = Data::from_ref(rt.alloc(), value.try_copy(rt.alloc())?)?;
-        assert_eq!(rt; printed.to_string(rt.alloc())?.as_str(), *text);
+        assert_eq!(rt; owned_text(rt.alloc(), &value)?.as_str(), *text);
     }
     Ok(())
 }

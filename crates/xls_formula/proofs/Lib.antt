@@ -1,3 +1,4 @@
+pub mod FrontLemmas
 pub mod LeafLemmas
 pub mod GroupLemmas
 pub mod OperandLemmas

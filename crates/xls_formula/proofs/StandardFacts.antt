@@ -1,5 +1,5 @@
 -- Values from outside, so that a wrong rule in the definitions does not check.
-use Rattle.std.proofs.Common.{◌≡◌, [], ◌∷◌, ◌++◌, refl, pos, negsuc, codes, Some, None, Ok, Err, replicate}
+use Rattle.std.proofs.Common.{◌≡◌, ℕ, List, [], ◌∷◌, ◌++◌, refl, pos, negsuc, codes, Some, None, Ok, Err, replicate}
 use Rattle.std.specs.Fmt.{digits}
 use Rattle.xls_bytes.specs.Columns.{word_of, column_name}
 use Rattle.xls_bytes.specs.Doubles.{size_of_parts}
@@ -60,6 +60,40 @@ known_early_relative = refl
 known_early_area : formula_text (context Utf16 Biff5) (7 ∷ 0 ∷ 0x25 ∷ 0 ∷ 0xC0 ∷ 9 ∷ 0xC0 ∷ 0 ∷ 1 ∷ []) ≡ Ok (codes "$A$1:$B$10")
 unfolding digits column_name word_of
 known_early_area = refl
+
+-- each corner of BIFF8's area has its own flags, and on a sheet both have `$`
+known_mixed_area : formula_text (context Utf16 Biff8) (9 ∷ 0 ∷ 0x25 ∷ 1 ∷ 0 ∷ 9 ∷ 0 ∷ 2 ∷ 0x40 ∷ 3 ∷ 0x80 ∷ []) ≡ Ok (codes "C$2:$D10")
+unfolding digits column_name word_of
+known_mixed_area = refl
+
+-- before BIFF8 a reference has its index at bytes 10 and 11 and its row word at byte 14: here the one of
+-- index 1, which holds the second of two sheets
+abbrev early : Context
+early = record {
+  sheets = codes "A" ∷ codes "B" ∷ [];
+  names = [];
+  refs = pos 0 ∷ pos 1 ∷ [];
+  page = Windows1252;
+  biff = Biff5;
+  functions = [];
+}
+
+abbrev early_front : List ℕ
+early_front = 9 ∷ 8 ∷ 7 ∷ 6 ∷ 5 ∷ 4 ∷ 3 ∷ 2 ∷ 1 ∷ 0 ∷ 1 ∷ 0 ∷ 0xEE ∷ 0xEE ∷ []
+
+known_early_cell : formula_text early (18 ∷ 0 ∷ 0x3A ∷ early_front ++ (1 ∷ 0x40 ∷ 2 ∷ [])) ≡ Ok (codes "B!C$2")
+unfolding digits column_name word_of
+known_early_cell = refl
+
+known_early_sheet_area : formula_text early (21 ∷ 0 ∷ 0x3B ∷ early_front ++ (1 ∷ 0x40 ∷ 9 ∷ 0xC0 ∷ 2 ∷ 4 ∷ [])) ≡ Ok (codes "B!$C$2:$E$10")
+unfolding digits column_name word_of
+known_early_sheet_area = refl
+
+known_early_ref_err : formula_text early (18 ∷ 0 ∷ 0x3C ∷ early_front ++ replicate 3 0) ≡ Ok (codes "B!#REF!")
+known_early_ref_err = refl
+
+known_early_area_err : formula_text early (21 ∷ 0 ∷ 0x3D ∷ early_front ++ replicate 6 0) ≡ Ok (codes "B!#REF!")
+known_early_area_err = refl
 
 -- strings of both layouts, whole and cut
 known_string : formula_text (context Windows1252 Biff5) (8 ∷ 0 ∷ 0x17 ∷ 6 ∷ codes "SCHUCH") ≡ Ok (codes "\"SCHUCH\"")
@@ -148,3 +182,29 @@ known_unsupported = refl
 known_lbl : lbl_at Utf16 Biff8 ((0 ∷ 0 ∷ 0 ∷ 5 ∷ 7 ∷ replicate 10 0) ++ (codes "Total" ++ (0x3A ∷ 0 ∷ 0 ∷ 1 ∷ 0 ∷ 1 ∷ 0 ∷ []))) ≡ Ok (codes "Total", (Some 0, codes "$B$2"))
 unfolding digits column_name word_of
 known_lbl = refl
+
+-- before BIFF8: a cell and an area, both with `$`, and cells that are gone, of which the index is enough
+known_early_defined : defined_at Biff5 (0x3A ∷ early_front ++ (1 ∷ 0xC0 ∷ 2 ∷ [])) ≡ Ok (Some 1, codes "$C$2")
+unfolding digits column_name word_of
+known_early_defined = refl
+
+known_early_defined_area : defined_at Biff5 (0x3B ∷ early_front ++ (1 ∷ 0xC0 ∷ 9 ∷ 0x40 ∷ 2 ∷ 4 ∷ [])) ≡ Ok (Some 1, codes "$C$2:$E$10")
+unfolding digits column_name word_of
+known_early_defined_area = refl
+
+known_early_gone : defined_at Biff5 (0x3C ∷ 9 ∷ 8 ∷ 7 ∷ 6 ∷ 5 ∷ 4 ∷ 3 ∷ 2 ∷ 1 ∷ 0 ∷ 1 ∷ 0 ∷ []) ≡ Ok (Some 1, codes "#REF!")
+known_early_gone = refl
+
+known_early_gone_area : defined_at Biff5 (0x3D ∷ 9 ∷ 8 ∷ 7 ∷ 6 ∷ 5 ∷ 4 ∷ 3 ∷ 2 ∷ 1 ∷ 0 ∷ 1 ∷ 0 ∷ []) ≡ Ok (Some 1, codes "#REF!")
+known_early_gone_area = refl
+
+known_early_gone_cut : defined_at Biff5 (0x3D ∷ 9 ∷ 8 ∷ 7 ∷ 6 ∷ 5 ∷ 4 ∷ 3 ∷ 2 ∷ 1 ∷ 0 ∷ 1 ∷ []) ≡ Err (errors.Len 12 11 parts.Ptg)
+known_early_gone_cut = refl
+
+-- a name without a flags byte: as many bytes from byte 14 as byte 3 says, and the tokens at the end
+known_early_lbl : lbl_at Windows1252 Biff5 ((0 ∷ 0 ∷ 0 ∷ 5 ∷ 18 ∷ replicate 9 0) ++ (codes "Total" ++ (0x3A ∷ early_front ++ (1 ∷ 0xC0 ∷ 2 ∷ [])))) ≡ Ok (codes "Total", (Some 1, codes "$C$2"))
+unfolding digits column_name word_of
+known_early_lbl = refl
+
+known_short_lbl : lbl_at Windows1252 Biff5 (replicate 13 0) ≡ Err (errors.Len 14 13 parts.Lbl)
+known_short_lbl = refl

@@ -1,5 +1,5 @@
 -- Defined names: Lbl ([MS-XLS] 2.4.150) and the tokens of its formula, of which the first is read.
-use Rattle.std.specs.Prelude.{ℕ, ◌-◌, ◌%◌, false, List, [], ◌∷◌, ◌++◌, length, drop, slice_index, Bool, ◌||◌, ◌==◌, nat_lt, if◌then◌else◌, codes, String, Option, Some, None, Result, Ok, Err}
+use Rattle.std.specs.Prelude.{ℕ, ◌-◌, ◌%◌, false, List, [], ◌∷◌, ◌++◌, length, drop, slice_index, Bool, ◌||◌, ◌==◌, nat_lt, if◌then◌else◌, codes, String, Option, Some, None, Result, Ok}
 use Rattle.std.specs.Fmt.{digits}
 use Rattle.std.specs.Global.{Global}
 use Rattle.xls_text.specs.declared.encoding.XlsEncoding.{XlsEncoding}

@@ -2,6 +2,7 @@
 -- the contracts of public calls say doesn't depend on it.
 pub mod Scopes
 pub mod Pieces
+pub mod Fronts
 pub mod Leaves
 pub mod Put
 pub mod Steps

@@ -1,23 +1,25 @@
-//! Texts of operands in one text. What is put before an operand is kept at its first leaf, backwards,
+//! Texts of operands in one text. What is put before an operand is kept apart and chained to its first leaf,
 //! so that no text is moved.
 
-ghost use Rattle.std.specs.Prelude.{◌≡◌, ℕ, List, [], ◌∷◌, ◌++◌, ◌<◌, length, OnOk, OnErr, IfOk, reverse};
+ghost use Rattle.std.specs.Prelude.{◌≡◌, ℕ, List, [], ◌∷◌, ◌<◌, length, OnOk, OnErr, IfOk};
 ghost use Rattle.std.specs.List.{concat};
 ghost use Rattle.std.specs.Str.{chars};
 ghost use Rattle.xls_strings.specs.Reading.{Gives};
 ghost use Rattle.xls_strings.specs.Texts.{text_of};
-ghost use Rattle.xls_formula.specs.buffer.Leaves.{AreWhole, leaf_texts};
+ghost use Rattle.xls_formula.specs.buffer.Fronts.{IsChain};
+ghost use Rattle.xls_formula.specs.buffer.Leaves.{AreChained, AreWhole, IsMarked, leaf_texts};
 ghost use Rattle.xls_formula.specs.buffer.Pieces.{with_join, with_prefix, with_suffix};
 ghost use Rattle.xls_formula.specs.buffer.Put.{one_text};
 
+use crate::fronts::Fronts;
 use std::alloc::{AllocError, Global};
 use std::marker::Model;
 use xls_biff::XlsError;
 
-/// A leaf of a formula: so many bytes of the text, and what was put before it, backwards.
+/// A leaf of a formula: so many bytes of the text, and the newest piece of what was put before it.
 #[derive(Drop)]
 struct Leaf {
-    front: Vec<u8>,
+    front: Option<usize>,
     len: usize,
 }
 
@@ -29,6 +31,8 @@ pub(crate) struct Operands {
     /// The leaves' bytes, one after another.
     text: Vec<u8>,
     leaves: Vec<Leaf>,
+    /// What was put before leaves.
+    fronts: Fronts,
     /// The first leaf of each operand.
     starts: Vec<usize>,
 }
@@ -40,31 +44,36 @@ impl Model for Operands {
 
     ghost use Rattle.xls_formula.specs.buffer.Leaves.{AreOperands, texts_of};
 
-    ghost view = { λ b. texts_of b.text.items b.leaves.items b.starts.items };
+    ghost view = { λ b. texts_of b.fronts b.text.items b.leaves.items b.starts.items };
 
-    ghost invariant = { λ b. AreOperands b.text.items b.leaves.items b.starts.items };
+    ghost invariant = { λ b. AreOperands b.fronts b.text.items b.leaves.items b.starts.items };
 }
 
-/// Appends bytes backwards.
-fn push_backwards(out: &mut Vec<u8>, bytes: &[u8]) -> Result<(), AllocError>
-    ensures ok { OnOk result (out.new.items ≡ out.old.items ++ reverse bytes.now) }
-    ensures err { OnErr result (out.new.items ≡ out.old.items) }
+/// Puts a mark before a leaf.
+fn put_at(fronts: &mut Fronts, leaf: &mut Leaf, mark: &str) -> Result<(), AllocError>
+    requires { IsChain (length fronts.old) leaf.old.front }
+    ensures ok { OnOk result (IsMarked fronts.old fronts.new leaf.old leaf.new mark.now) }
+    ensures err { OnErr result ((fronts.new ≡ fronts.old) × (leaf.new ≡ leaf.old)) }
 {
-    let start = out.len();
-    out.extend_from_slice(bytes)?;
-    out[start..].reverse();
+    leaf.front = Some(fronts.push(mark.as_bytes(), leaf.front)?);
     Ok(())
 }
 
 /// The leaves one after another, each after what was put before it.
-fn joined(alloc: Global, text: &[u8], leaves: &[Leaf]) -> Result<Vec<u8>, AllocError>
-    requires { AreWhole text.now leaves.now }
-    ensures { IfOk result (λ out. out.items ≡ concat (leaf_texts text.now leaves.now)) }
+fn joined(
+    alloc: Global,
+    text: &[u8],
+    fronts: &Fronts,
+    leaves: &[Leaf],
+) -> Result<Vec<u8>, AllocError>
+    requires whole { AreWhole text.now leaves.now }
+    requires chained { AreChained (length fronts.now) leaves.now }
+    ensures { IfOk result (λ out. out.items ≡ concat (leaf_texts fronts.now text.now leaves.now)) }
 {
     let mut out = Vec::new(alloc);
     let mut rest = text;
     'leaves: for leaf in leaves {
-        push_backwards(&mut out, &leaf.front)?;
+        fronts.write(leaf.front, &mut out)?;
         let (body, after) = rest.split_at(leaf.len);
         out.extend_from_slice(body)?;
         rest = after;
@@ -81,6 +90,7 @@ impl Operands {
             alloc,
             text: Vec::new(alloc),
             leaves: Vec::new(alloc),
+            fronts: Fronts::new(alloc),
             starts: Vec::new(alloc),
         }
     }
@@ -98,7 +108,7 @@ impl Operands {
     {
         self.starts.push(self.leaves.len())?;
         let leaf = Leaf {
-            front: Vec::new(self.alloc),
+            front: None,
             len: 0,
         };
         match self.leaves.push(leaf) {
@@ -123,7 +133,7 @@ impl Operands {
         ensures { OnOk result (self.new ≡ with_prefix (chars mark.now) self.old) }
     {
         match self.starts.last() {
-            Some(start) => push_backwards(&mut self.leaves[*start].front, mark.as_bytes()),
+            Some(start) => put_at(&mut self.fronts, &mut self.leaves[*start], mark),
             None => Ok(()),
         }
     }
@@ -145,7 +155,7 @@ impl Operands {
         ensures { OnOk result (self.new ≡ with_join (chars mark.now) self.old) }
     {
         match self.starts.pop() {
-            Some(start) => push_backwards(&mut self.leaves[start].front, mark.as_bytes()),
+            Some(start) => put_at(&mut self.fronts, &mut self.leaves[start], mark),
             None => Ok(()),
         }
     }
@@ -159,7 +169,7 @@ impl Operands {
                 stack_size: self.starts.len(),
             });
         }
-        let out = joined(self.alloc, &self.text, &self.leaves)?;
+        let out = joined(self.alloc, &self.text, &self.fronts, &self.leaves)?;
         Ok(String::from_utf8(out).unwrap())
     }
 }

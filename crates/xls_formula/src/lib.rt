@@ -3,6 +3,7 @@
 
 mod buffer;
 mod defined;
+mod fronts;
 mod ftab;
 mod functions;
 mod names;

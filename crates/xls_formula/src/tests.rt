@@ -240,6 +240,27 @@ fn nested(alloc: Global) -> Result<(Vec<u8>, String), AllocError> {
     Ok((rgce, text))
 }
 
+/// A formula of 5,000 missing arguments with `+` between them, and its text.
+fn summed(alloc: Global) -> Result<(Vec<u8>, String), AllocError> {
+    let mut rgce = Vec::new(alloc);
+    rgce.extend_from_slice(&[0x0F, 0x27, 0x16])?;
+    let mut text = String::new(alloc);
+    for _ in 1..5_000 {
+        rgce.extend_from_slice(&[0x16, 0x03])?;
+        text.push('+')?;
+    }
+    Ok((rgce, text))
+}
+
+#[test]
+fn prints_the_sum_of_5000_missing_arguments(rt: HostRuntime) -> Result<(), Fail> {
+    let (rgce, text) = summed(rt.alloc())?;
+    let functions = FunctionTable::new(rt.alloc());
+    let printed = text_by(rt.alloc(), &rgce, UTF16, Biff::Biff8, &functions)?;
+    assert!(rt; printed.as_str() == text.as_str());
+    Ok(())
+}
+
 #[test]
 fn prints_what_nests_5000_deep(rt: HostRuntime) -> Result<(), Fail> {
     let (rgce, text) = nested(rt.alloc())?;

@@ -1,11 +1,12 @@
 //! Known streams, and each public call once with ample memory.
 
 use crate::*;
+use std::alloc::{AllocError, Global};
 use std::process::Abort;
 use std::test::Fail;
 
 // A summary stream by hand, by [MS-OLEPS]: page 1252, and a title.
-const TITLE: [u8; 95] = [
+static TITLE: [u8; 95] = [
     0xFE, 0xFF, 0x00, 0x00, 0x00, 0x00, 0x00, 0x00, 0x00, 0x00, 0x00, 0x00, 0x00, 0x00, 0x00, 0x00,
     0x00, 0x00, 0x00, 0x00, 0x00, 0x00, 0x00, 0x00, 0x01, 0x00, 0x00, 0x00, 0xE0, 0x85, 0x9F, 0xF2,
     0xF9, 0x4F, 0x68, 0x10, 0xAB, 0x91, 0x08, 0x00, 0x2B, 0x27, 0xB3, 0xD9, 0x30, 0x00, 0x00, 0x00,
@@ -16,7 +17,7 @@ const TITLE: [u8; 95] = [
 
 // A document stream by hand whose one section has custom properties of four types: `I`, `B`, `D` and
 // `T` under page 1200.
-const CUSTOM: [u8; 210] = [
+static CUSTOM: [u8; 210] = [
     0xFE, 0xFF, 0x00, 0x00, 0x00, 0x00, 0x00, 0x00, 0x00, 0x00, 0x00, 0x00, 0x00, 0x00, 0x00, 0x00,
     0x00, 0x00, 0x00, 0x00, 0x00, 0x00, 0x00, 0x00, 0x01, 0x00, 0x00, 0x00, 0x05, 0xD5, 0xCD, 0xD5,
     0x9C, 0x2E, 0x1B, 0x10, 0x93, 0x97, 0x08, 0x00, 0x2B, 0x2C, 0xF9, 0xAE, 0x30, 0x00, 0x00, 0x00,
@@ -35,7 +36,7 @@ const CUSTOM: [u8; 210] = [
 
 // A document stream by hand: two versions, two categories, a manager whose last entry has an
 // unknown type, and a company of one NUL, under page 1200.
-const FIELDS: [u8; 170] = [
+static FIELDS: [u8; 170] = [
     0xFE, 0xFF, 0x00, 0x00, 0x00, 0x00, 0x00, 0x00, 0x00, 0x00, 0x00, 0x00, 0x00, 0x00, 0x00, 0x00,
     0x00, 0x00, 0x00, 0x00, 0x00, 0x00, 0x00, 0x00, 0x01, 0x00, 0x00, 0x00, 0x02, 0xD5, 0xCD, 0xD5,
     0x9C, 0x2E, 0x1B, 0x10, 0x93, 0x97, 0x08, 0x00, 0x2B, 0x2C, 0xF9, 0xAE, 0x30, 0x00, 0x00, 0x00,
@@ -102,58 +103,65 @@ fn reads_a_title_by_its_page(rt: HostRuntime) -> Result<(), Fail> {
     Ok(())
 }
 
+// Whether streams have no property at all.
+fn have_none(
+    alloc: Global,
+    summary: Option<&[u8]>,
+    document: Option<&[u8]>,
+) -> Result<bool, AllocError> {
+    let none = workbook_properties_of(alloc, summary, document)?;
+    Ok(has_no_field(&none) && none.custom_properties.len() == 0)
+}
+
 #[test]
 fn finds_nothing_in_damaged_streams(rt: HostRuntime) -> Result<(), Fail> {
     let mut damaged = [0xFF; 68];
     damaged[0] = 0xFE;
     damaged[2] = 0;
     damaged[3] = 0;
-    let streams: [&[u8]; 3] = [&[], &damaged, &TITLE];
-    for stream in streams {
-        let none = workbook_properties_of(rt.alloc(), None, Some(stream))?;
-        assert!(rt; has_no_field(&none));
-        assert_eq!(rt; none.custom_properties.len(), 0);
-    }
-    let summary = workbook_properties_of(rt.alloc(), Some(&damaged), Some(&damaged))?;
-    assert!(rt; has_no_field(&summary));
-    assert_eq!(rt; summary.custom_properties.len(), 0);
+    assert!(rt; have_none(rt.alloc(), None, Some(&[]))?);
+    assert!(rt; have_none(rt.alloc(), None, Some(&damaged))?);
+    assert!(rt; have_none(rt.alloc(), None, Some(&TITLE))?);
+    assert!(rt; have_none(rt.alloc(), Some(&damaged), Some(&damaged))?);
     Ok(())
 }
 
 // A moment of the calendar each; 116444736000000000 is 1970-01-01, 10,000,000 a second.
+static MOMENTS: [(u64, Option<&str>); 9] = [
+    (0, None),
+    (1, Some("1601-01-01T00:00:00Z")),
+    (9_999_999, Some("1601-01-01T00:00:00Z")),
+    (10_000_000, Some("1601-01-01T00:00:01Z")),
+    (116_444_736_000_000_000, Some("1970-01-01T00:00:00Z")),
+    (133_497_810_000_000_000, Some("2024-01-15T08:30:00Z")),
+    (132_274_080_000_000_000, Some("2020-02-29T00:00:00Z")),
+    (2_650_467_743_999_999_999, Some("9999-12-31T23:59:59Z")),
+    (2_650_467_744_000_000_000, None),
+];
+
 #[test]
 fn prints_moments_as_iso_8601(rt: HostRuntime) -> Result<(), Fail> {
-    let moments: [(u64, Option<&str>); 9] = [
-        (0, None),
-        (1, Some("1601-01-01T00:00:00Z")),
-        (9_999_999, Some("1601-01-01T00:00:00Z")),
-        (10_000_000, Some("1601-01-01T00:00:01Z")),
-        (116_444_736_000_000_000, Some("1970-01-01T00:00:00Z")),
-        (133_497_810_000_000_000, Some("2024-01-15T08:30:00Z")),
-        (132_274_080_000_000_000, Some("2020-02-29T00:00:00Z")),
-        (2_650_467_743_999_999_999, Some("9999-12-31T23:59:59Z")),
-        (2_650_467_744_000_000_000, None),
-    ];
-    for (filetime, wanted) in moments {
-        let text = filetime_to_iso8601(rt.alloc(), filetime)?;
-        assert!(rt; is_text(&text, wanted));
+    for (filetime, wanted) in MOMENTS.iter() {
+        let text = filetime_to_iso8601(rt.alloc(), *filetime)?;
+        assert!(rt; is_text(&text, *wanted));
     }
     Ok(())
 }
 
+static PROPERTIES: [(&str, &str); 4] = [
+    ("I", "-4"),
+    ("B", "true"),
+    ("D", "1970-01-01T00:00:00Z"),
+    ("T", "Café"),
+];
+
 #[test]
 fn reads_custom_properties_by_their_names(rt: HostRuntime) -> Result<(), Fail> {
     let properties = workbook_properties_of(rt.alloc(), None, Some(&CUSTOM))?;
-    let wanted = [
-        ("I", "-4"),
-        ("B", "true"),
-        ("D", "1970-01-01T00:00:00Z"),
-        ("T", "Café"),
-    ];
     assert_eq!(rt; properties.custom_properties.len(), 4);
-    for (name, value) in wanted {
-        let found = properties.custom_properties.get(name).ok_or("missing")?;
-        assert_eq!(rt; found.as_str(), value);
+    for (name, value) in PROPERTIES.iter() {
+        let found = properties.custom_properties.get(*name).ok_or("missing")?;
+        assert_eq!(rt; found.as_str(), *value);
     }
     assert!(rt; has_no_field(&properties));
     Ok(())
@@ -188,20 +196,28 @@ fn reads_a_summary_stream_cut_to_each_length(rt: HostRuntime) -> Result<(), Fail
     Ok(())
 }
 
+// How many values are whole within so many bytes.
+fn whole_within(n: usize) -> usize {
+    if n < 48 + 0x7C {
+        0
+    } else if n < 48 + 0x82 {
+        1
+    } else if n < 48 + 0x90 {
+        2
+    } else if n < 48 + 0xA2 {
+        3
+    } else {
+        4
+    }
+}
+
 // Each property is there from the length on at which its value is whole; the names stand before
 // them.
 #[test]
 fn reads_a_document_stream_cut_to_each_length(rt: HostRuntime) -> Result<(), Fail> {
-    let whole_at = [48 + 0x7C, 48 + 0x82, 48 + 0x90, 48 + 0xA2];
     for n in 0..CUSTOM.len() + 1 {
         let cut = workbook_properties_of(rt.alloc(), None, Some(front(&CUSTOM, n)))?;
-        let mut wanted: usize = 0;
-        for at in whole_at {
-            if at <= n && wanted < 4 {
-                wanted += 1;
-            }
-        }
-        assert_eq!(rt; cut.custom_properties.len(), wanted);
+        assert_eq!(rt; cut.custom_properties.len(), whole_within(n));
     }
     Ok(())
 }

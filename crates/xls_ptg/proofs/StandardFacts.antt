@@ -1,9 +1,10 @@
 -- Values from outside, so that a wrong rule in the definitions does not check.
-use Rattle.std.proofs.Common.{◌≡◌, [], ◌∷◌, refl, false, true, codes, Some, None, Ok, Err, replicate}
+use Rattle.std.proofs.Common.{◌≡◌, ℕ, List, [], ◌∷◌, ◌++◌, refl, false, true, codes, Some, None, Ok, Err, replicate}
 use Rattle.xls_model.specs.declared.part.Part.TheVariants as parts
 use Rattle.xls_data.specs.declared.errors.CellErrorType.TheVariants as failures
 use Rattle.xls_strings.specs.declared.error.XlsError.TheVariants as errors
-use Rattle.xls_strings.specs.declared.version.Biff.TheVariants.{Biff5, Biff8}
+use Rattle.xls_strings.specs.declared.version.Biff.TheVariants.{Biff2, Biff4, Biff5, Biff8}
+use Rattle.xls_ptg.specs.declared.corner.Corner.{Corner}
 use Rattle.xls_ptg.specs.declared.operators.Operator.TheVariants as operators
 use Rattle.xls_ptg.specs.declared.tokens.Ptg.TheVariants as ptg
 use Rattle.xls_ptg.specs.Cites.{measured}
@@ -81,3 +82,51 @@ known_exp = refl
 
 known_unknown : ptg_at Biff8 (0x79 ∷ []) ≡ Err (errors.Unrecognized parts.Ptg 0x79)
 known_unknown = refl
+
+-- a cell with `$` before its column and row, before its row, and before its column
+abbrev fixed : ℕ → ℕ → Corner
+fixed row column = record { row = row; column = column; is_row_relative = false; is_column_relative = false }
+
+abbrev row_fixed : ℕ → ℕ → Corner
+row_fixed row column = record { row = row; column = column; is_row_relative = false; is_column_relative = true }
+
+abbrev column_fixed : ℕ → ℕ → Corner
+column_fixed row column = record { row = row; column = column; is_row_relative = true; is_column_relative = false }
+
+-- an area of BIFF8 has two rows and two column words, and each corner the flags of its own
+known_area : ptg_at Biff8 (0x25 ∷ 1 ∷ 0 ∷ 9 ∷ 0 ∷ 2 ∷ 0x40 ∷ 3 ∷ 0x80 ∷ []) ≡ Ok (ptg.Area (row_fixed 1 2) (column_fixed 9 3), 8)
+known_area = refl
+
+known_other_area : ptg_at Biff8 (0x65 ∷ 1 ∷ 0 ∷ 9 ∷ 0 ∷ 2 ∷ 0x80 ∷ 3 ∷ 0x00 ∷ []) ≡ Ok (ptg.Area (column_fixed 1 2) (fixed 9 3), 8)
+known_other_area = refl
+
+-- an area on a sheet has `$` everywhere
+known_area3d : ptg_at Biff8 (0x3B ∷ 5 ∷ 0 ∷ 1 ∷ 0 ∷ 9 ∷ 0 ∷ 2 ∷ 0x40 ∷ 3 ∷ 0x80 ∷ []) ≡ Ok (ptg.Area3d 5 (fixed 1 2) (fixed 9 3), 10)
+known_area3d = refl
+
+known_area_err3d : ptg_at Biff8 (0x3D ∷ 5 ∷ 0 ∷ replicate 8 0) ≡ Ok (ptg.AreaErr3d 5, 10)
+known_area_err3d = refl
+
+-- before BIFF8: two row words and two column bytes, with `$` everywhere
+known_early_area : ptg_at Biff4 (0x25 ∷ 1 ∷ 0xC0 ∷ 9 ∷ 0x80 ∷ 2 ∷ 3 ∷ []) ≡ Ok (ptg.Area (fixed 1 2) (fixed 9 3), 6)
+known_early_area = refl
+
+-- on a sheet: the index at bytes 10 and 11, the row word at byte 14, the column at byte 16
+abbrev early_front : List ℕ
+early_front = 9 ∷ 8 ∷ 7 ∷ 6 ∷ 5 ∷ 4 ∷ 3 ∷ 2 ∷ 1 ∷ 0 ∷ 5 ∷ 1 ∷ 0xEE ∷ 0xEE ∷ []
+
+known_early_ref3d : ptg_at Biff5 (0x3A ∷ early_front ++ (1 ∷ 0x40 ∷ 2 ∷ [])) ≡ Ok (ptg.Ref3d 261 (row_fixed 1 2), 17)
+known_early_ref3d = refl
+
+-- likewise an area: two row words from byte 14, then two column bytes
+known_early_area3d : ptg_at Biff5 (0x5B ∷ early_front ++ (1 ∷ 0x40 ∷ 9 ∷ 0xC0 ∷ 2 ∷ 4 ∷ [])) ≡ Ok (ptg.Area3d 261 (fixed 1 2) (fixed 9 4), 20)
+known_early_area3d = refl
+
+known_early_err3d : ptg_at Biff2 (0x3C ∷ early_front ++ (0 ∷ 0 ∷ 0 ∷ [])) ≡ Ok (ptg.RefErr3d 261, 17)
+known_early_err3d = refl
+
+known_early_area_err3d : ptg_at Biff5 (0x7D ∷ early_front ++ (0 ∷ 0 ∷ 0 ∷ 0 ∷ 0 ∷ 0 ∷ [])) ≡ Ok (ptg.AreaErr3d 261, 20)
+known_early_area_err3d = refl
+
+known_early_cut : ptg_at Biff5 (0x3D ∷ early_front ++ (0 ∷ 0 ∷ 0 ∷ [])) ≡ Err (errors.Len 20 17 parts.Ptg)
+known_early_cut = refl

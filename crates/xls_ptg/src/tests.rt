@@ -8,7 +8,7 @@ use xls_biff::{Biff, Part, XlsError};
 
 /// Tokens with their sizes in BIFF8 and before, the part that is named where they are cut, and
 /// whether they cite cells.
-const CLASSES: [(u8, usize, usize, Part, bool); 52] = [
+static CLASSES: [(u8, usize, usize, Part, bool); 52] = [
     (0x01, 4, 4, Part::PtgExp, false),
     (0x03, 0, 0, Part::Ptg, false),
     (0x0A, 0, 0, Part::Ptg, false),
@@ -64,7 +64,7 @@ const CLASSES: [(u8, usize, usize, Part, bool); 52] = [
 ];
 
 /// Attributes with their sizes.
-const ATTRIBUTES: [(u8, usize); 8] = [
+static ATTRIBUTES: [(u8, usize); 8] = [
     (0x01, 2),
     (0x02, 2),
     (0x08, 2),
@@ -115,18 +115,34 @@ fn has_size(
 
 #[test]
 fn reads_tokens_of_their_size_alone(rt: HostRuntime) -> Result<(), Fail> {
-    for (ptg, size, early, typ, _) in CLASSES {
-        assert!(rt; has_size(rt.alloc(), &[ptg], size, typ, Biff::Biff8)?);
-        assert!(rt; has_size(rt.alloc(), &[ptg], early, typ, Biff::Biff5)?);
+    for (ptg, size, early, typ, _) in CLASSES.iter() {
+        assert!(rt; has_size(rt.alloc(), &[*ptg], *size, *typ, Biff::Biff8)?);
+        assert!(rt; has_size(rt.alloc(), &[*ptg], *early, *typ, Biff::Biff5)?);
     }
     Ok(())
 }
 
 #[test]
 fn reads_attributes_of_their_size_alone(rt: HostRuntime) -> Result<(), Fail> {
-    for (attribute, size) in ATTRIBUTES {
-        assert!(rt; has_size(rt.alloc(), &[0x19, attribute], size, Part::Ptg, Biff::Biff8)?);
-        assert!(rt; has_size(rt.alloc(), &[0x19, attribute], size, Part::Ptg, Biff::Biff5)?);
+    for (attribute, size) in ATTRIBUTES.iter() {
+        assert!(rt;
+            has_size(
+                rt.alloc(),
+                &[0x19, *attribute],
+                *size,
+                Part::Ptg,
+                Biff::Biff8
+            )?
+        );
+        assert!(rt;
+            has_size(
+                rt.alloc(),
+                &[0x19, *attribute],
+                *size,
+                Part::Ptg,
+                Biff::Biff5
+            )?
+        );
     }
     Ok(())
 }
@@ -144,9 +160,9 @@ fn cites(alloc: Global, ptg: u8, size: usize, biff: Biff) -> Result<Option<bool>
 
 #[test]
 fn tells_which_tokens_cite_cells(rt: HostRuntime) -> Result<(), Fail> {
-    for (ptg, size, early, _, is_cite) in CLASSES {
-        assert!(rt; cites(rt.alloc(), ptg, size, Biff::Biff8)? == Some(is_cite));
-        assert!(rt; cites(rt.alloc(), ptg, early, Biff::Biff5)? == Some(is_cite));
+    for (ptg, size, early, _, is_cite) in CLASSES.iter() {
+        assert!(rt; cites(rt.alloc(), *ptg, *size, Biff::Biff8)? == Some(*is_cite));
+        assert!(rt; cites(rt.alloc(), *ptg, *early, Biff::Biff5)? == Some(*is_cite));
     }
     Ok(())
 }
@@ -163,7 +179,7 @@ fn is_short(bytes: &[u8], biff: Biff, expected: usize, found: usize, typ: Part) 
 
 /// Tokens that are cut: their bytes, the version, and how many bytes of which part are expected and
 /// found.
-const CUT: [(&[u8], Biff, usize, usize, Part); 11] = [
+static CUT: [(&[u8], Biff, usize, usize, Part); 11] = [
     (&[0x17], Biff::Biff8, 1, 0, Part::PtgStr),
     (&[0x17, 2], Biff::Biff8, 1, 0, Part::NoCch),
     (&[0x17, 2, 0, 65], Biff::Biff8, 3, 2, Part::NoCch),
@@ -179,8 +195,8 @@ const CUT: [(&[u8], Biff, usize, usize, Part); 11] = [
 
 #[test]
 fn reads_no_token_that_is_cut(rt: HostRuntime) {
-    for (bytes, biff, expected, found, typ) in CUT {
-        assert!(rt; is_short(bytes, biff, expected, found, typ));
+    for (bytes, biff, expected, found, typ) in CUT.iter() {
+        assert!(rt; is_short(bytes, *biff, *expected, *found, *typ));
     }
 }
 

@@ -113,61 +113,78 @@ fn spans_sorted_cells_alike(rt: HostRuntime) -> Result<(), Fail> {
     Ok(())
 }
 
-// Int 1, 2, 3 at (1, 1), (1, 2), (3, 1): from (0, 0) to (2, 1) they are 1, 2, blank, blank, 3
-// and blank.
-#[test]
-fn goes_over_cells_from_both_ends(rt: HostRuntime) -> Result<(), Fail> {
-    let mut given = Vec::new(rt.alloc());
+// Int 1, 2, 3 at (1, 1), (1, 2), (3, 1).
+fn three_cells(alloc: Global) -> Result<Range<Data>, Fail> {
+    let mut given = Vec::new(alloc);
     given.push(Cell::new((1, 1), Data::Int(1)))?;
     given.push(Cell::new((1, 2), Data::Int(2)))?;
     given.push(Cell::new((3, 1), Data::Int(3)))?;
-    let range = Range::from_sparse(rt.alloc(), given)?;
-    let wanted = [
-        (0, 0, Data::Int(1)),
-        (0, 1, Data::Int(2)),
-        (1, 0, Data::Empty),
-        (1, 1, Data::Empty),
-        (2, 0, Data::Int(3)),
-        (2, 1, Data::Empty),
-    ];
+    Ok(Range::from_sparse(alloc, given)?)
+}
+
+// From (0, 0) to (2, 1) they are 1, 2, blank, blank, 3 and blank.
+static THREE_CELLS: [(usize, usize, Option<i64>); 6] = [
+    (0, 0, Some(1)),
+    (0, 1, Some(2)),
+    (1, 0, None),
+    (1, 1, None),
+    (2, 0, Some(3)),
+    (2, 1, None),
+];
+
+fn is_cell(found: Option<(usize, usize, &Data)>, wanted: (usize, usize, Option<i64>)) -> bool {
+    let Some((row, column, value)) = found else {
+        return false;
+    };
+    let data = match wanted.2 {
+        Some(n) => Data::Int(n),
+        None => Data::Empty,
+    };
+    row == wanted.0 && column == wanted.1 && *value == data
+}
+
+fn is_row(found: Option<&[Data]>, wanted: &[Data]) -> bool {
+    match found {
+        Some(row) => row == wanted,
+        None => false,
+    }
+}
+
+#[test]
+fn goes_over_cells_from_both_ends(rt: HostRuntime) -> Result<(), Fail> {
+    let range = three_cells(rt.alloc())?;
     let mut cells = range.cells();
-    for (row, column, value) in wanted.iter() {
-        let cell = cells.next();
-        assert!(rt;
-            cell.is_some_and(|found| found.0 == *row && found.1 == *column && *found.2 == *value)
-        );
+    for wanted in THREE_CELLS.iter() {
+        assert!(rt; is_cell(cells.next(), *wanted));
     }
     assert!(rt; cells.next().is_none());
     let mut backward = range.cells();
-    for (row, column, value) in wanted.iter().rev() {
-        let cell = backward.next_back();
-        assert!(rt;
-            cell.is_some_and(|found| found.0 == *row && found.1 == *column && *found.2 == *value)
-        );
+    for wanted in THREE_CELLS.iter().rev() {
+        assert!(rt; is_cell(backward.next_back(), *wanted));
     }
     assert!(rt; backward.next_back().is_none());
+    Ok(())
+}
+
+#[test]
+fn goes_over_rows_from_both_ends(rt: HostRuntime) -> Result<(), Fail> {
+    let range = three_cells(rt.alloc())?;
     let mut rows = range.rows();
     assert_eq!(rt; rows.len(), 3);
-    assert!(rt;
-        rows.next_back()
-            .is_some_and(|row| row == [Data::Int(3), Data::Empty].as_slice())
-    );
-    assert!(rt;
-        rows.next()
-            .is_some_and(|row| row == [Data::Int(1), Data::Int(2)].as_slice())
-    );
+    assert!(rt; is_row(rows.next_back(), &[Data::Int(3), Data::Empty]));
+    assert!(rt; is_row(rows.next(), &[Data::Int(1), Data::Int(2)]));
     assert_eq!(rt; rows.size_hint(), (1, Some(1)));
+    Ok(())
+}
+
+#[test]
+fn goes_over_used_cells_from_both_ends(rt: HostRuntime) -> Result<(), Fail> {
+    let range = three_cells(rt.alloc())?;
     let mut used = range.used_cells();
     assert_eq!(rt; used.size_hint(), (0, Some(6)));
-    assert!(rt;
-        used.next_back()
-            .is_some_and(|found| found.0 == 2 && found.1 == 0)
-    );
+    assert!(rt; is_cell(used.next_back(), (2, 0, Some(3))));
     assert_eq!(rt; used.size_hint(), (0, Some(4)));
-    assert!(rt;
-        used.next()
-            .is_some_and(|found| found.0 == 0 && found.1 == 0)
-    );
+    assert!(rt; is_cell(used.next(), (0, 0, Some(1))));
     assert_eq!(rt; used.size_hint(), (0, Some(3)));
     assert_eq!(rt; used.count(), 1);
     Ok(())
@@ -227,8 +244,18 @@ fn holds_texts(rt: HostRuntime) -> Result<(), Fail> {
     Ok(())
 }
 
-// Each request for memory is refused in turn by a run with a failing allocation: the range is then
-// as it was.
+// Whether a range takes a value, or refuses it for want of memory and stays as it was.
+fn takes_or_stays(range: &mut Range<usize>, position: (u32, u32)) -> bool {
+    let size = range.get_size();
+    let used = range.used_cells().count();
+    match range.set_value(position, 1) {
+        Ok(()) => true,
+        Err(RangeError::Memory) => range.get_size() == size && range.used_cells().count() == used,
+        Err(_) => false,
+    }
+}
+
+// Each request for memory is refused in turn by a run with a failing allocation.
 #[test]
 fn stays_as_it_was_without_memory(rt: HostRuntime) {
     let made: Result<Range<usize>, RangeError> = Range::new(rt.alloc(), (0, 0), (1, 1));
@@ -236,12 +263,6 @@ fn stays_as_it_was_without_memory(rt: HostRuntime) {
         return;
     };
     for position in [(1, 1), (5, 1), (5, 7), (9, 9)] {
-        let size = range.get_size();
-        let used = range.used_cells().count();
-        if let Err(error) = range.set_value(position, 1) {
-            assert!(rt; matches!(error, RangeError::Memory));
-            assert_eq!(rt; range.get_size(), size);
-            assert_eq!(rt; range.used_cells().count(), used);
-        }
+        assert!(rt; takes_or_stays(&mut range, position));
     }
 }

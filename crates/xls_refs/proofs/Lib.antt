@@ -3,4 +3,6 @@ pub mod DistinctLemmas
 pub mod PartLemmas
 pub mod BookLemmas
 pub mod FinalLemmas
+pub mod TableLemmas
+pub mod EqualLemmas
 mod StandardFacts

@@ -1,4 +1,5 @@
 pub mod Citations
 pub mod Cited
 pub mod Citing
+pub mod Laws
 pub mod Steps

@@ -84,52 +84,54 @@ fn counts_no_more_than_asked_or_there(rt: HostRuntime) -> Result<(), Fail> {
     Ok(())
 }
 
+static PAIRS: [(&[u8], &str); 6] = [
+    (&[0x41, 0x00, 0x42], "A\u{FFFD}"),
+    (&[0x3D, 0xD8, 0x00, 0xDE], "\u{1F600}"),
+    (&[0x3D, 0xD8, 0x41, 0x00], "\u{FFFD}A"),
+    (&[0x00, 0xDE, 0x3D, 0xD8], "\u{FFFD}\u{FFFD}"),
+    (&[0xFF, 0xFE, 0x41, 0x00], "\u{FEFF}A"),
+    // A half of a pair and an odd byte are one each.
+    (&[0x3D, 0xD8, 0x00], "\u{FFFD}\u{FFFD}"),
+];
+
 #[test]
 fn reads_utf_16(rt: HostRuntime) -> Result<(), Fail> {
-    let cases: [(&[u8], &str); 6] = [
-        (&[0x41, 0x00, 0x42], "A\u{FFFD}"),
-        (&[0x3D, 0xD8, 0x00, 0xDE], "\u{1F600}"),
-        (&[0x3D, 0xD8, 0x41, 0x00], "\u{FFFD}A"),
-        (&[0x00, 0xDE, 0x3D, 0xD8], "\u{FFFD}\u{FFFD}"),
-        (&[0xFF, 0xFE, 0x41, 0x00], "\u{FEFF}A"),
-        // A half of a pair and an odd byte are one each.
-        (&[0x3D, 0xD8, 0x00], "\u{FFFD}\u{FFFD}"),
-    ];
-    for (bytes, expected) in cases {
+    for (bytes, expected) in PAIRS.iter() {
         let text = XlsEncoding::Utf16.decode_all(rt.alloc(), bytes)?;
-        assert_eq!(rt; text.as_str(), expected);
+        assert_eq!(rt; text.as_str(), *expected);
     }
     Ok(())
 }
 
+static SEQUENCES: [(&[u8], &str); 10] = [
+    (&[0x41, 0xFF], "A\u{FFFD}"),
+    (&[0xE0, 0x80], "\u{FFFD}\u{FFFD}"),
+    (&[0xED, 0xA0, 0x80], "\u{FFFD}\u{FFFD}\u{FFFD}"),
+    (&[0xF0, 0x9F, 0x98], "\u{FFFD}"),
+    (&[0xC3, 0x28], "\u{FFFD}("),
+    (
+        &[0xF4, 0x90, 0x80, 0x80],
+        "\u{FFFD}\u{FFFD}\u{FFFD}\u{FFFD}",
+    ),
+    (&[0xF0, 0x9F, 0x98, 0x41], "\u{FFFD}A"),
+    (
+        &[0xE2, 0x82, 0xAC, 0xE2, 0x82, 0xE2],
+        "\u{20AC}\u{FFFD}\u{FFFD}",
+    ),
+    (
+        &[
+            0x61, 0xC3, 0xA9, 0xFF, 0x62, 0xF0, 0x9F, 0x98, 0x80, 0xE2, 0x82,
+        ],
+        "a\u{E9}\u{FFFD}b\u{1F600}\u{FFFD}",
+    ),
+    (&[0xEF, 0xBB, 0xBF, 0x41], "\u{FEFF}A"),
+];
+
 #[test]
 fn reads_utf_8_by_the_longest_begun_sequence(rt: HostRuntime) -> Result<(), Fail> {
-    let cases: [(&[u8], &str); 10] = [
-        (&[0x41, 0xFF], "A\u{FFFD}"),
-        (&[0xE0, 0x80], "\u{FFFD}\u{FFFD}"),
-        (&[0xED, 0xA0, 0x80], "\u{FFFD}\u{FFFD}\u{FFFD}"),
-        (&[0xF0, 0x9F, 0x98], "\u{FFFD}"),
-        (&[0xC3, 0x28], "\u{FFFD}("),
-        (
-            &[0xF4, 0x90, 0x80, 0x80],
-            "\u{FFFD}\u{FFFD}\u{FFFD}\u{FFFD}",
-        ),
-        (&[0xF0, 0x9F, 0x98, 0x41], "\u{FFFD}A"),
-        (
-            &[0xE2, 0x82, 0xAC, 0xE2, 0x82, 0xE2],
-            "\u{20AC}\u{FFFD}\u{FFFD}",
-        ),
-        (
-            &[
-                0x61, 0xC3, 0xA9, 0xFF, 0x62, 0xF0, 0x9F, 0x98, 0x80, 0xE2, 0x82,
-            ],
-            "a\u{E9}\u{FFFD}b\u{1F600}\u{FFFD}",
-        ),
-        (&[0xEF, 0xBB, 0xBF, 0x41], "\u{FEFF}A"),
-    ];
-    for (bytes, expected) in cases {
+    for (bytes, expected) in SEQUENCES.iter() {
         let text = XlsEncoding::Utf8.decode_all(rt.alloc(), bytes)?;
-        assert_eq!(rt; text.as_str(), expected);
+        assert_eq!(rt; text.as_str(), *expected);
     }
     Ok(())
 }

@@ -6,7 +6,7 @@ use std::process::Abort;
 use std::test::Fail;
 
 // A header by hand, by [MS-OVBA]: page 1252, and empty texts.
-const HEADER: [u8; 112] = [
+static HEADER: [u8; 112] = [
     0x01, 0x00, 0x04, 0x00, 0x00, 0x00, 0x01, 0x00, 0x00, 0x00, 0x02, 0x00, 0x00, 0x00, 0x00, 0x00,
     0x00, 0x00, 0x00, 0x00, 0x00, 0x00, 0x00, 0x00, 0x00, 0x00, 0x00, 0x00, 0x00, 0x00, 0x03, 0x00,
     0x02, 0x00, 0x00, 0x00, 0xE4, 0x04, 0x04, 0x00, 0x00, 0x00, 0x00, 0x00, 0x05, 0x00, 0x00, 0x00,
@@ -18,7 +18,7 @@ const HEADER: [u8; 112] = [
 
 // A whole directory by hand: the references `stdole`, `Forms`, `Other` and `Last`, one without a
 // name, and the modules `b`, `a` and `b`.
-const PROJECT: [u8; 653] = [
+static PROJECT: [u8; 653] = [
     0x01, 0x00, 0x04, 0x00, 0x00, 0x00, 0x01, 0x00, 0x00, 0x00, 0x02, 0x00, 0x00, 0x00, 0x00, 0x00,
     0x00, 0x00, 0x00, 0x00, 0x00, 0x00, 0x00, 0x00, 0x00, 0x00, 0x00, 0x00, 0x00, 0x00, 0x03, 0x00,
     0x02, 0x00, 0x00, 0x00, 0xE4, 0x04, 0x04, 0x00, 0x00, 0x00, 0x00, 0x00, 0x05, 0x00, 0x00, 0x00,
@@ -63,7 +63,7 @@ const PROJECT: [u8; 653] = [
 ];
 
 // The end of the references and no module.
-const NO_MODULES: [u8; 16] = [0x0F, 0, 0, 0, 0, 0, 0, 0, 0, 0, 0, 0, 0, 0, 0, 0];
+static NO_MODULES: [u8; 16] = [0x0F, 0, 0, 0, 0, 0, 0, 0, 0, 0, 0, 0, 0, 0, 0, 0];
 
 fn behind_header(alloc: Global, bytes: &[u8]) -> Result<Vec<u8>, AllocError> {
     let mut all = HEADER.to_vec(alloc)?;
@@ -85,23 +85,28 @@ fn refusal(alloc: Global, bytes: &[u8]) -> Result<String, AllocError> {
     }
 }
 
+// Name, description and path of each reference.
+static REFERENCES: [(&str, &str, &str); 4] = [
+    ("stdole", "OLE Automation", "C:\\stdole2.tlb"),
+    ("Forms", "Forms", "C:\\a.ocx"),
+    ("Other", "Other", "C:\\b.xls"),
+    ("Last", "Last", ""),
+];
+
+fn is_reference(found: &Reference, wanted: (&str, &str, &str)) -> bool {
+    let (name, description, path) = wanted;
+    found.name.as_str() == name
+        && found.description.as_str() == description
+        && found.path.as_str() == path
+}
+
 #[test]
 fn lists_references_as_they_stand(rt: HostRuntime) -> Result<(), Fail> {
     let project = VbaProject::from_dir(rt.alloc(), &PROJECT)?;
-    let wanted = [
-        ("stdole", "OLE Automation", "C:\\stdole2.tlb"),
-        ("Forms", "Forms", "C:\\a.ocx"),
-        ("Other", "Other", "C:\\b.xls"),
-        ("Last", "Last", ""),
-    ];
     let references = project.get_references();
     assert_eq!(rt; references.len(), 4);
-    for i in 0..4 {
-        let found = references.get(i).ok_or("missing")?;
-        let reference = wanted[i];
-        assert_eq!(rt; found.name.as_str(), reference.0);
-        assert_eq!(rt; found.description.as_str(), reference.1);
-        assert_eq!(rt; found.path.as_str(), reference.2);
+    for (found, wanted) in references.iter().zip(REFERENCES.iter()) {
+        assert!(rt; is_reference(found, *wanted));
     }
     Ok(())
 }
@@ -157,30 +162,32 @@ fn reads_a_directory_cut_to_each_length(rt: HostRuntime) -> Result<(), Fail> {
     Ok(())
 }
 
+// What stands behind a header, and what is refused.
+static PARTS: [(&[u8], &str); 7] = [
+    (&[], "Unexpected end of directory"),
+    (&[0x33, 0, 1, 0, 0, 0, 0x41], "Unexpected libid format"),
+    (&[0x1A, 0], "Unknown check id '1A'"),
+    (
+        &[0x16, 0, 0, 0, 0, 0, 0x3F, 0],
+        "Invalid record id: expecting 3E found 3F",
+    ),
+    (
+        &[0x2F, 0, 0, 0, 0, 0, 0, 0, 0, 0, 0, 0, 0, 0, 0, 0, 0x31, 0],
+        "Unknown token in reference control '31'",
+    ),
+    (
+        &[0x0F, 0, 0, 0, 0, 0, 1, 0, 0, 0, 0, 0, 0, 0, 0, 0, 0x20, 0],
+        "Invalid record id: expecting 19 found 20",
+    ),
+    (&[0x33, 0, 0, 0, 0, 0, 0x0F], "Unexpected end of directory"),
+];
+
 #[test]
 fn refuses_the_first_field_that_differs(rt: HostRuntime) -> Result<(), Fail> {
-    let parts: [(&[u8], &str); 7] = [
-        (&[], "Unexpected end of directory"),
-        (&[0x33, 0, 1, 0, 0, 0, 0x41], "Unexpected libid format"),
-        (&[0x1A, 0], "Unknown check id '1A'"),
-        (
-            &[0x16, 0, 0, 0, 0, 0, 0x3F, 0],
-            "Invalid record id: expecting 3E found 3F",
-        ),
-        (
-            &[0x2F, 0, 0, 0, 0, 0, 0, 0, 0, 0, 0, 0, 0, 0, 0, 0, 0x31, 0],
-            "Unknown token in reference control '31'",
-        ),
-        (
-            &[0x0F, 0, 0, 0, 0, 0, 1, 0, 0, 0, 0, 0, 0, 0, 0, 0, 0x20, 0],
-            "Invalid record id: expecting 19 found 20",
-        ),
-        (&[0x33, 0, 0, 0, 0, 0, 0x0F], "Unexpected end of directory"),
-    ];
-    for (part, wanted) in parts {
+    for (part, wanted) in PARTS.iter() {
         let bytes = behind_header(rt.alloc(), part)?;
         let text = refusal(rt.alloc(), bytes.as_slice())?;
-        assert_eq!(rt; text.as_str(), wanted);
+        assert_eq!(rt; text.as_str(), *wanted);
     }
     Ok(())
 }

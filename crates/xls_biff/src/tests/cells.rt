@@ -15,29 +15,37 @@ fn reads_a_number(rt: HostRuntime) -> Result<(), Fail> {
     Ok(())
 }
 
-/// RK numbers: 123.45 and 2 in hundredths, -1 and 2 as whole numbers, the double 1 and a hundredth of it.
-const NUMBERS: [([u8; 4], Data); 6] = [
-    ([0xE7, 0xC0, 0, 0], Data::Float(Number::Hundredths(12345))),
-    ([0x23, 3, 0, 0], Data::Int(2)),
-    ([0xFE, 0xFF, 0xFF, 0xFF], Data::Int(-1)),
-    ([10, 0, 0, 0], Data::Int(2)),
-    (
-        [0, 0, 0xF0, 0x3F],
-        Data::Float(Number::Bits(0x3FF0_0000_0000_0000)),
-    ),
+/// RK numbers: 2 in hundredths, -1 and 2.
+static WHOLES: [([u8; 4], i64); 3] = [
+    ([0x23, 3, 0, 0], 2),
+    ([0xFE, 0xFF, 0xFF, 0xFF], -1),
+    ([10, 0, 0, 0], 2),
+];
+
+/// RK numbers: 123.45 in hundredths, the double 1 and a hundredth of it.
+static NUMBERS: [([u8; 4], Number); 3] = [
+    ([0xE7, 0xC0, 0, 0], Number::Hundredths(12345)),
+    ([0, 0, 0xF0, 0x3F], Number::Bits(0x3FF0_0000_0000_0000)),
     (
         [1, 0, 0xF0, 0x3F],
-        Data::Float(Number::BitsOver100(0x3FF0_0000_0000_0000)),
+        Number::BitsOver100(0x3FF0_0000_0000_0000),
     ),
 ];
 
+/// Whether an RK record of a number has this value.
+fn is_rk_of(number: &[u8; 4], wanted: &Data) -> Result<bool, XlsError> {
+    let [a, b, c, d] = *number;
+    let cell = parse_rk(&[0, 0, 0, 0, 0, 0, a, b, c, d], &[], false)?;
+    Ok(cell.get_value() == wanted)
+}
+
 #[test]
 fn reads_the_four_forms_of_an_rk(rt: HostRuntime) -> Result<(), Fail> {
-    for (number, wanted) in NUMBERS {
-        let mut body = [0; 10];
-        let (_, rk) = body.split_at_mut(6);
-        rk.copy_from_slice(&number);
-        assert_eq!(rt; parse_rk(&body, &[], false)?.get_value(), &wanted);
+    for (number, n) in WHOLES.iter() {
+        assert!(rt; is_rk_of(number, &Data::Int(*n))?);
+    }
+    for (number, x) in NUMBERS.iter() {
+        assert!(rt; is_rk_of(number, &Data::Float(*x))?);
     }
     Ok(())
 }

@@ -8,7 +8,7 @@ use xls_model::types::{
 use xls_text::CfbError;
 
 /// BOF bodies, and their versions.
-const VERSIONS: [([u8; 4], Biff); 10] = [
+static VERSIONS: [([u8; 4], Biff); 10] = [
     ([0, 2, 0, 0], Biff::Biff2),
     ([2, 0, 0, 0], Biff::Biff2),
     ([7, 0, 0, 0], Biff::Biff2),
@@ -23,8 +23,8 @@ const VERSIONS: [([u8; 4], Biff); 10] = [
 
 #[test]
 fn reads_versions(rt: HostRuntime) -> Result<(), Fail> {
-    for (body, biff) in VERSIONS {
-        assert_eq!(rt; parse_bof(&record(BOF, &body))?.biff, biff);
+    for (body, biff) in VERSIONS.iter() {
+        assert_eq!(rt; parse_bof(&record(BOF, body))?.biff, *biff);
     }
     assert_eq!(rt; parse_bof(&record(BOF, &[0, 0]))?.biff, Biff::Biff8);
     Ok(())
@@ -56,22 +56,25 @@ fn drops_the_nuls_of_a_name(rt: HostRuntime) -> Result<(), Fail> {
 }
 
 /// The high bits of byte 4, which don't count, and the faults of state and kind.
-const SHEETS: [(u8, u8, Part); 4] = [
+static SHEETS: [(u8, u8, Part); 4] = [
     (0x43, 3, Part::HsState),
     (3, 0, Part::HsState),
     (0x41, 3, Part::SheetKind),
     (2, 3, Part::SheetKind),
 ];
 
+fn of_code_3(typ: Part) -> Option<XlsError> {
+    Some(XlsError::Unrecognized { typ, val: 3 })
+}
+
 #[test]
 fn refuses_other_states_before_other_kinds(rt: HostRuntime) {
-    for (state, kind, typ) in SHEETS {
-        let body = [0, 0, 0, 0, state, kind];
+    for (state, kind, typ) in SHEETS.iter() {
+        let body = [0, 0, 0, 0, *state, *kind];
         let r = record(BOUND_SHEET_8, &body);
-        let wanted = || -> Option<XlsError> { Some(XlsError::Unrecognized { typ, val: 3 }) };
         let refused = fault_of(parse_sheet_metadata(rt.alloc(), &r, &UTF16, Biff::Biff8));
-        assert_eq!(rt; refused, wanted());
-        assert_eq!(rt; fault_of(check_sheet_metadata(&r, Biff::Biff8)), wanted());
+        assert!(rt; refused == of_code_3(*typ));
+        assert!(rt; fault_of(check_sheet_metadata(&r, Biff::Biff8)) == of_code_3(*typ));
     }
 }
 
@@ -104,7 +107,7 @@ fn reads_formats(rt: HostRuntime) -> Result<(), Fail> {
 }
 
 /// The identifiers at the edges of the ranges that a Format record may have, and whether it may.
-const IDENTIFIERS: [(u16, bool); 20] = [
+static IDENTIFIERS: [(u16, bool); 20] = [
     (4, false),
     (5, true),
     (8, true),
@@ -127,17 +130,25 @@ const IDENTIFIERS: [(u16, bool); 20] = [
     (383, false),
 ];
 
+/// The fault of a Format record with this identifier.
+fn fault_of_identifier(alloc: Global, ifmt: u16) -> Option<XlsError> {
+    let [low, high] = ifmt.to_le_bytes();
+    fault_of(format_of(alloc, Biff::Biff8, &[low, high, 0, 0, 0]))
+}
+
+fn fault_wanted(ifmt: u16, is_kept: bool) -> Option<XlsError> {
+    if is_kept {
+        None
+    } else {
+        Some(XlsError::InvalidFormat { ifmt })
+    }
+}
+
 #[test]
 fn refuses_identifiers_outside_the_ranges(rt: HostRuntime) -> Result<(), Fail> {
-    for (ifmt, is_kept) in IDENTIFIERS {
-        let [low, high] = ifmt.to_le_bytes();
-        let refused = fault_of(format_of(rt.alloc(), Biff::Biff8, &[low, high, 0, 0, 0]));
-        let wanted = if is_kept {
-            None
-        } else {
-            Some(XlsError::InvalidFormat { ifmt })
-        };
-        assert_eq!(rt; refused, wanted);
+    for (ifmt, is_kept) in IDENTIFIERS.iter() {
+        let refused = fault_of_identifier(rt.alloc(), *ifmt);
+        assert_eq!(rt; refused, fault_wanted(*ifmt, *is_kept));
     }
     let refused = fault_of(format_of(rt.alloc(), Biff::Biff8, &[0, 0]));
     assert_eq!(rt; refused, Some(XlsError::InvalidFormat { ifmt: 0 }));

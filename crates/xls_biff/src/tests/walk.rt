@@ -97,7 +97,7 @@ fn weighs_and_checks_a_record(rt: HostRuntime) {
 }
 
 /// Types of records, and what a body of 20 zero bytes of each weighs.
-const WEIGHTS: [(u16, u64); 12] = [
+static WEIGHTS: [(u16, u64); 12] = [
     (NUMBER, 1),
     (LABEL, 1),
     (R_STRING, 1),
@@ -114,8 +114,8 @@ const WEIGHTS: [(u16, u64); 12] = [
 
 #[test]
 fn weighs_cells(rt: HostRuntime) {
-    for (typ, weight) in WEIGHTS {
-        assert_eq!(rt; sheet_record_weight(&record(typ, &[0; 20])), weight);
+    for (typ, weight) in WEIGHTS.iter() {
+        assert_eq!(rt; sheet_record_weight(&record(*typ, &[0; 20])), *weight);
     }
     let three = [
         0, 0, 7, 0, 0, 0, 6, 0, 0, 0, 0, 0, 6, 0, 0, 0, 0, 0, 6, 0, 0, 0, 9, 0,

@@ -7,7 +7,7 @@ use std::test::Fail;
 use xls_data::{CellErrorType, Data, Number};
 
 // The double with the bits 8000000000000000 is negative zero.
-const TRUTHS: [(&str, Given, &str); 23] = [
+static VALUES: [(&str, Given, &str); 56] = [
     ("bool", Given::Truth(true), "true"),
     ("bool", Given::Truth(false), "false"),
     ("bool", Given::Text("TRUE"), "true"),
@@ -43,9 +43,6 @@ const TRUTHS: [(&str, Given, &str); 23] = [
         Given::Wrong(CellErrorType::Div0),
         "Cell error at position '(1, 0)': #DIV/0!",
     ),
-];
-
-const CHARACTERS: [(&str, Given, &str); 9] = [
     ("char", Given::Text("x"), "x"),
     ("char", Given::Text(""), "Expecting char, got String"),
     ("char", Given::Text("ab"), "Expecting char, got String"),
@@ -67,9 +64,6 @@ const CHARACTERS: [(&str, Given, &str); 9] = [
         Given::Wrong(CellErrorType::NA),
         "Cell error at position '(1, 0)': #N/A",
     ),
-];
-
-const TEXTS: [(&str, Given, &str); 10] = [
     ("text", Given::Int(-7), "-7"),
     ("text", Given::Float(Number::Hundredths(-5)), "-0.05"),
     ("text", Given::Text("Café"), "Café"),
@@ -84,9 +78,6 @@ const TEXTS: [(&str, Given, &str); 10] = [
         Given::Wrong(CellErrorType::GettingData),
         "Cell error at position '(1, 0)': #DATA!",
     ),
-];
-
-const ENUM_NAMES: [(&str, Given, &str); 5] = [
     ("enum", Given::Text("Foo"), "Foo"),
     ("enum", Given::Truth(true), "Expecting enum, got Bool"),
     (
@@ -100,9 +91,6 @@ const ENUM_NAMES: [(&str, Given, &str); 5] = [
         Given::Wrong(CellErrorType::Ref),
         "Cell error at position '(1, 0)': #REF!",
     ),
-];
-
-const BYTES: [(&str, Given, &str); 5] = [
     ("bytes", Given::Text("ab"), "ab"),
     ("bytes", Given::Text("é"), "é"),
     ("bytes", Given::Nothing, ""),
@@ -112,9 +100,6 @@ const BYTES: [(&str, Given, &str); 5] = [
         Given::Wrong(CellErrorType::Null),
         "Cell error at position '(1, 0)': #NULL!",
     ),
-];
-
-const UNITS: [(&str, Given, &str); 4] = [
     ("unit", Given::Nothing, "nothing"),
     ("unit", Given::Text(""), "Expecting unit, got String"),
     (
@@ -131,17 +116,12 @@ const UNITS: [(&str, Given, &str); 4] = [
 
 #[test]
 fn reads_values(rt: HostRuntime) -> Result<(), Fail> {
-    assert_eq!(rt; wrong_case(rt.alloc(), &TRUTHS)?, None);
-    assert_eq!(rt; wrong_case(rt.alloc(), &CHARACTERS)?, None);
-    assert_eq!(rt; wrong_case(rt.alloc(), &TEXTS)?, None);
-    assert_eq!(rt; wrong_case(rt.alloc(), &ENUM_NAMES)?, None);
-    assert_eq!(rt; wrong_case(rt.alloc(), &BYTES)?, None);
-    assert_eq!(rt; wrong_case(rt.alloc(), &UNITS)?, None);
+    assert_eq!(rt; wrong_case(rt.alloc(), &VALUES)?, None);
     Ok(())
 }
 
 // Each cell, and what a copy of it is.
-const COPIES: [(Given, Given); 8] = [
+static COPIES: [(Given, Given); 8] = [
     (Given::Int(7), Given::Int(7)),
     (
         Given::Float(Number::Hundredths(150)),
@@ -162,30 +142,38 @@ fn copy_of<T: ReadCell>(alloc: Global, cell: &T) -> Result<Data, DeError> {
     cell.read_data(alloc, POS)
 }
 
+fn copies_to(alloc: Global, given: &Given, wanted: &Given) -> Result<bool, Fail> {
+    Ok(copy_of(alloc, &cell_of(alloc, given)?)? == cell_of(alloc, wanted)?)
+}
+
 fn is_there<T: ReadCell>(cell: &T) -> bool {
     cell.read_option().is_some() && !cell.is_empty()
 }
 
 #[test]
-fn reads_copies_and_tells_empty_cells(rt: HostRuntime) -> Result<(), Fail> {
+fn reads_copies(rt: HostRuntime) -> Result<(), Fail> {
     let alloc = rt.alloc();
     for (given, wanted) in COPIES.iter() {
-        let copy = copy_of(alloc, &cell_of(alloc, given)?)?;
-        assert!(rt; copy == cell_of(alloc, wanted)?);
+        assert!(rt; copies_to(alloc, given, wanted)?);
     }
     let refused = copy_of(alloc, &Data::Error(CellErrorType::NA));
     assert_eq!(rt;
         shown(alloc, refused)?.as_str(),
         "Cell error at position '(1, 0)': #N/A"
     );
+    Ok(())
+}
+
+#[test]
+fn tells_empty_cells(rt: HostRuntime) -> Result<(), Fail> {
     assert!(rt; Data::Empty.read_option().is_none());
     assert!(rt; ReadCell::is_empty(&Data::Empty));
-    assert!(rt; is_there(&text(alloc, "")?));
+    assert!(rt; is_there(&text(rt.alloc(), "")?));
     assert!(rt; is_there(&Data::Error(CellErrorType::NA)));
     Ok(())
 }
 
-const LOOSE: [(Given, Option<i64>, &str); 11] = [
+static LOOSE: [(Given, Option<i64>, &str); 11] = [
     (Given::Int(7), Some(7), "7"),
     (Given::Float(Number::Hundredths(-199)), Some(-1), "-1.99"),
     (Given::Truth(true), Some(1), "true"),
@@ -211,19 +199,25 @@ fn loose_or_text<T: ReadCell>(alloc: Global, cell: &T) -> Result<Result<i64, Str
     deserialize_as_i64_or_string(alloc, cell)
 }
 
+// Whether a cell is this number, or this text where there is none.
+fn is_number_or_text(
+    alloc: Global,
+    cell: &Data,
+    number: Option<i64>,
+    printed: &str,
+) -> Result<bool, AllocError> {
+    match loose_or_text(alloc, cell)? {
+        Ok(n) => Ok(number == Some(n)),
+        Err(text) => Ok(number.is_none() && text.as_str() == printed),
+    }
+}
+
 #[test]
 fn takes_cells_for_whole_numbers_or_texts(rt: HostRuntime) -> Result<(), Fail> {
-    let alloc = rt.alloc();
     for (given, number, printed) in LOOSE.iter() {
-        let cell = cell_of(alloc, given)?;
-        assert_eq!(rt; loose(alloc, &cell)?, *number);
-        match loose_or_text(alloc, &cell)? {
-            Ok(n) => assert_eq!(rt; Some(n), *number),
-            Err(text) => {
-                assert_eq!(rt; None, *number);
-                assert_eq!(rt; text.as_str(), *printed);
-            }
-        }
+        let cell = cell_of(rt.alloc(), given)?;
+        assert_eq!(rt; loose(rt.alloc(), &cell)?, *number);
+        assert!(rt; is_number_or_text(rt.alloc(), &cell, *number, printed)?);
     }
     Ok(())
 }

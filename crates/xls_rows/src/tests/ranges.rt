@@ -6,7 +6,7 @@ ghost use Rattle.xls_rows.specs.Chosen.{chosen};
 
 use super::{shown, text};
 use crate::{DeError, FromRow, RangeDeserializer, RangeDeserializerBuilder, ReadCell, deserialize};
-use std::alloc::Global;
+use std::alloc::{AllocError, Global};
 use std::test::Fail;
 use xls_data::{CellErrorType, Data};
 use xls_range::Range;
@@ -56,8 +56,20 @@ fn rows_of<'c, T: ReadCell, D: FromRow>(
     deserialize(alloc, range)
 }
 
-// How many rows are left before each row, and its texts, each with a bar after it, or the text of
-// its refusal.
+// The texts of a row, each with a bar after it, or the text of its refusal.
+fn row_text(alloc: Global, row: Result<Vec<String>, DeError>) -> Result<String, AllocError> {
+    let texts = match row {
+        Ok(texts) => texts,
+        Err(refusal) => return shown::<u8>(alloc, Err(refusal)),
+    };
+    let mut text = String::new(alloc);
+    for cell in &texts {
+        write!(text, "{cell}|")?;
+    }
+    Ok(text)
+}
+
+// How many rows are left before each row, and the row's text.
 fn listing<T: ReadCell>(
     alloc: Global,
     rows: Result<RangeDeserializer<'_, T, Vec<String>>, DeError>,
@@ -73,18 +85,10 @@ fn listing<T: ReadCell>(
             text.push_str("?")?;
         }
         write!(text, "{least}:")?;
-        match rows.next() {
-            None => break,
-            Some(Ok(texts)) => {
-                for cell in &texts {
-                    write!(text, "{cell}|")?;
-                }
-            }
-            Some(Err(refusal)) => {
-                let printed = shown::<u8>(alloc, Err(refusal))?;
-                text.push_str(printed.as_str())?;
-            }
-        }
+        let Some(row) = rows.next() else {
+            break;
+        };
+        text.push_str(row_text(alloc, row)?.as_str())?;
         text.push_str(" ")?;
     }
     Ok(text)
@@ -145,7 +149,7 @@ fn answer(alloc: Global, range: &Range<Data>, choice: &Choice) -> Result<String,
     }
 }
 
-const CASES: [(Source, Choice, &str); 11] = [
+static CASES: [(Source, Choice, &str); 11] = [
     (Source::Empty, Choice::Deserialize, "0:"),
     (Source::Empty, Choice::Wanted(&["c"]), "0:"),
     (Source::Blank, Choice::Deserialize, "2:|| 1:|| 0:"),
@@ -187,8 +191,8 @@ const CASES: [(Source, Choice, &str); 11] = [
 fn reads_ranges_as_rows(rt: HostRuntime) -> Result<(), Fail> {
     let alloc = rt.alloc();
     for (source, choice, wanted) in CASES.iter() {
-        let range = range_of(alloc, source)?;
-        assert_eq!(rt; answer(alloc, &range, choice)?.as_str(), *wanted);
+        let text = answer(alloc, &range_of(alloc, source)?, choice)?;
+        assert_eq!(rt; text.as_str(), *wanted);
     }
     Ok(())
 }

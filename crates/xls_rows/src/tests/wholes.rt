@@ -4,8 +4,8 @@ use super::{Given, wrong_case};
 use std::test::Fail;
 use xls_data::{CellErrorType, Number};
 
-// For each type 7, the number below its least, its least, its greatest, and the number above.
-const ENDS: [(&str, Given, &str); 40] = [
+static WHOLES: [(&str, Given, &str); 76] = [
+    // For each type 7, the number below its least, its least, its greatest, and the number above.
     ("i8", Given::Int(7), "7"),
     ("i8", Given::Text("-129"), "Expecting i8, got '-129'"),
     ("i8", Given::Text("-128"), "-128"),
@@ -82,11 +82,8 @@ const ENDS: [(&str, Given, &str); 40] = [
         Given::Text("18446744073709551616"),
         "Expecting u64, got '18446744073709551616'",
     ),
-];
-
-// Whole numbers and numbers. The double 2.5 is 4004000000000000, 200 is 4069000000000000, 2^63 is
-// 43e0000000000000, 1e300 is 7e37e43c8800759c, infinity 7ff0000000000000.
-const NUMBERS: [(&str, Given, &str); 20] = [
+    // Whole numbers and numbers. The double 2.5 is 4004000000000000, 200 is 4069000000000000, 2^63 is
+    // 43e0000000000000, 1e300 is 7e37e43c8800759c, infinity 7ff0000000000000.
     ("u8", Given::Int(255), "255"),
     ("u8", Given::Int(300), "Expecting u8, got 300"),
     ("u8", Given::Int(-1), "Expecting u8, got -1"),
@@ -143,10 +140,7 @@ const NUMBERS: [(&str, Given, &str); 20] = [
         Given::Float(Number::BitsOver100(0x7ff0000000000000)),
         "Expecting i64, got 0x7ff0000000000000/100",
     ),
-];
-
-// Texts as std's `parse` reads them, and the cells that are no numbers.
-const OTHERS: [(&str, Given, &str); 16] = [
+    // Texts as std's `parse` reads them, and the cells that are no numbers.
     ("u8", Given::Text("+7"), "7"),
     ("i8", Given::Text("+7"), "7"),
     ("i8", Given::Text("-7"), "-7"),
@@ -179,8 +173,6 @@ const OTHERS: [(&str, Given, &str); 16] = [
 
 #[test]
 fn reads_whole_numbers(rt: HostRuntime) -> Result<(), Fail> {
-    assert_eq!(rt; wrong_case(rt.alloc(), &ENDS)?, None);
-    assert_eq!(rt; wrong_case(rt.alloc(), &NUMBERS)?, None);
-    assert_eq!(rt; wrong_case(rt.alloc(), &OTHERS)?, None);
+    assert_eq!(rt; wrong_case(rt.alloc(), &WHOLES)?, None);
     Ok(())
 }

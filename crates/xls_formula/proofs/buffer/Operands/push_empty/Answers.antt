@@ -1,37 +1,29 @@
-use Rattle.std.proofs.Common.{◌≡◌, ◌++◌, ◌∷◌, [], ℕ, List, sym, ◌∙◌, ap, subst, length, arith, refl}
-use Rattle.std.specs.Prelude.{OnOk}
+use Rattle.std.proofs.Common.{◌≡◌, ◌++◌, ◌∷◌, [], ℕ, List, sym, ◌∙◌, ap, subst, length, arith, refl, None}
 use Rattle.xls_formula.specs.declared.buffer.Leaf.{Leaf}
 use Rattle.xls_formula.specs.buffer.Leaves.{texts_of, AreOperands}
 use Rattle.xls_formula.proofs.OperandLemmas.{pushed_operands, pushed_texts}
 use Rattle.xls_formula.proofs.buffer.Operands.push_empty.Goals as goal
-use Rattle.xls_formula.proofs.buffer.Operands.push_empty.Goals.{in-Ok, in-Err}
 
 -- the lists that the code left
-operands_left : (text : List ℕ) (leaves after : List Leaf) (starts pushed : List ℕ) (leaf : Leaf) (n : ℕ) → after ≡ leaves ++ leaf ∷ [] → pushed ≡ starts ++ n ∷ [] → AreOperands text (leaves ++ leaf ∷ []) (starts ++ n ∷ []) → AreOperands text after pushed
-operands_left text leaves after starts pushed leaf n e f a =
-    subst (λ (x : List Leaf). AreOperands text x pushed) (sym e) (subst (AreOperands text (leaves ++ leaf ∷ [])) (sym f) a)
+operands_left : (fronts : List (List ℕ)) (text : List ℕ) (leaves after : List Leaf) (starts pushed : List ℕ) (leaf : Leaf) (n : ℕ) → after ≡ leaves ++ leaf ∷ [] → pushed ≡ starts ++ n ∷ [] → AreOperands fronts text (leaves ++ leaf ∷ []) (starts ++ n ∷ []) → AreOperands fronts text after pushed
+operands_left fronts text leaves after starts pushed leaf n e f a =
+    subst (λ (x : List Leaf). AreOperands fronts text x pushed) (sym e) (subst (AreOperands fronts text (leaves ++ leaf ∷ [])) (sym f) a)
 
-texts_left : (text : List ℕ) (leaves after : List Leaf) (starts pushed : List ℕ) (leaf : Leaf) (n : ℕ) → after ≡ leaves ++ leaf ∷ [] → pushed ≡ starts ++ n ∷ [] → texts_of text after pushed ≡ texts_of text (leaves ++ leaf ∷ []) (starts ++ n ∷ [])
-texts_left text leaves after starts pushed leaf n e f =
-    ap (λ (x : List Leaf). texts_of text x pushed) e ∙ ap (texts_of text (leaves ++ leaf ∷ [])) f
+texts_left : (fronts : List (List ℕ)) (text : List ℕ) (leaves after : List Leaf) (starts pushed : List ℕ) (leaf : Leaf) (n : ℕ) → after ≡ leaves ++ leaf ∷ [] → pushed ≡ starts ++ n ∷ [] → texts_of fronts text after pushed ≡ texts_of fronts text (leaves ++ leaf ∷ []) (starts ++ n ∷ [])
+texts_left fronts text leaves after starts pushed leaf n e f =
+    ap (λ (x : List Leaf). texts_of fronts text x pushed) e ∙ ap (texts_of fronts text (leaves ++ leaf ∷ [])) f
 
 pub invariant_of-self-in-Ok : goal.invariant_of-self-in-Ok
 invariant_of-self-in-Ok c =
-    let leaf : Leaf = record { front = c.new.result; len = 0 } in
+    let leaf : Leaf = record { front = None; len = 0 } in
     let n : c.len.result ≡ length c.self.inside.leaves.items = omega (arith, c.len.ensures, c.self.inside.leaves.ok.0) in
-    operands_left c.self.inside.text.items c.self.inside.leaves.items c.push-2.new.self.items c.self.inside.starts.items c.push.new.self.items leaf c.len.result c.in-Ok.ensures.items c.in_ok-push.ensures.items
-    (pushed_operands c.self.inside.text.items c.self.inside.leaves.items c.self.inside.starts.items leaf c.len.result refl c.new.ensures.items n c.self.invariant)
+    operands_left c.self.inside.fronts c.self.inside.text.items c.self.inside.leaves.items c.push-2.new.self.items c.self.inside.starts.items c.push.new.self.items leaf c.len.result c.in-Ok.ensures.items c.in_ok-push.ensures.items
+    (pushed_operands c.self.inside.fronts c.self.inside.text.items c.self.inside.leaves.items c.self.inside.starts.items leaf c.len.result refl refl n c.self.invariant)
 
-pub returns : goal.returns
-returns c =
-    let leaf : Leaf = record { front = c.new.result; len = 0 } in
+pub returns-in-Ok : goal.returns-in-Ok
+returns-in-Ok c =
+    let leaf : Leaf = record { front = None; len = 0 } in
     let n : c.len.result ≡ length c.self.inside.leaves.items = omega (arith, c.len.ensures, c.self.inside.leaves.ok.0) in
-    elim c.match-push.branch [
-      | in-Ok w ↦
-          subst (λ r. OnOk r (c.match-push.self ≡ [] ∷ c.args.self.now)) (sym w.result-is)
-          (w.self-is
-          ∙ (texts_left c.self.inside.text.items c.self.inside.leaves.items c.push-2.new.self.items c.self.inside.starts.items c.push.new.self.items leaf c.len.result w.in-Ok.ensures.items c.in_ok-push.ensures.items
-          ∙ (pushed_texts c.self.inside.text.items c.self.inside.leaves.items c.self.inside.starts.items leaf c.len.result refl c.new.ensures.items n
-          ∙ ap (λ (x : List (List ℕ)). [] ∷ x) c.self.view_is)))
-      | in-Err w ↦ subst (λ r. OnOk r (c.match-push.self ≡ [] ∷ c.args.self.now)) (sym w.result-is) tt
-    ]
+    texts_left c.self.inside.fronts c.self.inside.text.items c.self.inside.leaves.items c.push-2.new.self.items c.self.inside.starts.items c.push.new.self.items leaf c.len.result c.in-Ok.ensures.items c.in_ok-push.ensures.items
+    ∙ (pushed_texts c.self.inside.fronts c.self.inside.text.items c.self.inside.leaves.items c.self.inside.starts.items leaf c.len.result refl refl n
+    ∙ ap (λ (x : List (List ℕ)). [] ∷ x) c.self.view_is)

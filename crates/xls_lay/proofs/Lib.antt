@@ -1,0 +1,15 @@
+pub mod LawLemmas
+pub mod FillLemmas
+pub mod CutLemmas
+pub mod FilledLemmas
+pub mod InsideLemmas
+pub mod PieceLemmas
+pub mod StringLemmas
+pub mod SizeLemmas
+pub mod WholeLemmas
+pub mod PushLemmas
+pub mod WriteLemmas
+pub mod UnitLemmas
+pub mod TableReadLemmas
+pub mod PartReadLemmas
+pub mod ReadLemmas

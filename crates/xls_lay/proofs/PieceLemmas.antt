@@ -1,0 +1,165 @@
+-- Marks that are put one after the other.
+use Rattle.std.proofs.Common.{◌≡◌, ℕ, suc, ◌+◌, ◌<◌, ◌≤◌, ◌^◌, Bool, true, false, List, [], ◌∷◌, ◌++◌, length, map, drop, get_or, Some, None, refl, sym, ap, subst, ◌∙◌, append_assoc, arith}
+use Rattle.std.specs.Prelude.{not}
+use Rattle.std.specs.List.{flat_map, AllByRecursion}
+use Rattle.std.proofs.lemmas.List.{append-nil, drop_all, length-append}
+use Rattle.xls_model.specs.Stream.{enc}
+use Rattle.xls_model.specs.StringTable.{Mark, front_of}
+use Rattle.xls_layout.specs.LaidStrings.{put, wide_bit, unit_bytes, marks_of_break, marks_of_steps, pieces_of, marks_of_string, FitsWidth}
+use Rattle.xls_layout.specs.Canonical.{passes, cut_if, fill_from, unit_size, used_after, canonical_string, is_narrow, IsUnit}
+use Rattle.xls_layout.proofs.CanonicalTableLemmas.{fit_width}
+use Rattle.xls_lay.specs.Cutting.{rest_bytes}
+use Rattle.xls_lay.specs.Pieces.{with_marks, Puts, cut_marks}
+use Rattle.xls_lay.specs.declared.table.Pieces.{Pieces}
+use Rattle.xls_lay.proofs.FillLemmas.{fill-append, below, not_below}
+use Rattle.xls_lay.proofs.CutLemmas.{unit_marks, units_marks, marks_next, fill_unit, next_is, head_marks, fill_head, string_marks}
+
+pub puts_same : (p : Pieces) → Puts p [] p
+puts_same p = record { whole = λ more. refl; used = refl }
+
+pub puts_both : (a b c : Pieces) (ms ns : List Mark) → Puts a ms b → Puts b ns c → Puts a (ms ++ ns) c
+puts_both a b c ms ns h k = record {
+  whole = λ more. k.whole more ∙ h.whole (ns ++ more) ∙ ap (λ (x : List Mark). with_marks a x) (sym (append_assoc ms ns more));
+  used = k.used ∙ ap (λ (n : ℕ). fill_from n ns) h.used ∙ sym (fill-append (length a.body.items) ms ns);
+}
+
+-- ---- bytes, and a mark
+
+fronts : (bs : List ℕ) (more : List Mark) → front_of (map Some bs ++ more) ≡ bs ++ front_of more
+fronts [] more = refl
+fronts (b ∷ bs) more = ap (λ (x : List ℕ). b ∷ x) (fronts bs more)
+
+others : (bs : List ℕ) (more : List Mark) → pieces_of (map Some bs ++ more) ≡ pieces_of more
+others [] more = refl
+others (b ∷ bs) more = others bs more
+
+pub fill-bytes : (used : ℕ) (bs : List ℕ) → fill_from used (map Some bs) ≡ used + length bs
+fill-bytes used [] = omega arith
+fill-bytes used (b ∷ bs) = fill-bytes (suc used) bs ∙ omega arith
+
+pub puts_bytes : (a b : Pieces) (bytes : List ℕ) → b.done.items ≡ a.done.items → b.typ ≡ a.typ
+    → b.body.items ≡ a.body.items ++ bytes → Puts a (map Some bytes) b
+puts_bytes a b bytes d t e = record {
+  whole = λ more.
+      ap (λ (x : List ℕ). x ++ rest_bytes b.typ b.body.items more) d
+      ∙ ap (λ (n : ℕ). a.done.items ++ rest_bytes n b.body.items more) t
+      ∙ ap (λ (x : List ℕ). a.done.items ++ rest_bytes a.typ x more) e
+      ∙ ap (λ (x : List ℕ). a.done.items ++ (enc a.typ x ++ flat_map (enc 60) (pieces_of more))) (append_assoc a.body.items bytes (front_of more))
+      ∙ ap (λ (x : List ℕ). a.done.items ++ (enc a.typ (a.body.items ++ x) ++ flat_map (enc 60) (pieces_of more))) (sym (fronts bytes more))
+      ∙ ap (λ (x : List (List ℕ)). a.done.items ++ (enc a.typ (a.body.items ++ front_of (map Some bytes ++ more)) ++ flat_map (enc 60) x)) (sym (others bytes more));
+  used = ap length e ∙ length-append a.body.items bytes ∙ sym (fill-bytes (length a.body.items) bytes);
+}
+
+pub puts_mark : (a b : Pieces) → b.done.items ≡ a.done.items ++ enc a.typ a.body.items → b.typ ≡ 60
+    → b.body.items ≡ [] → Puts a (None ∷ []) b
+puts_mark a b d t e = record {
+  whole = λ more.
+      ap (λ (x : List ℕ). x ++ rest_bytes b.typ b.body.items more) d
+      ∙ ap (λ (n : ℕ). (a.done.items ++ enc a.typ a.body.items) ++ rest_bytes n b.body.items more) t
+      ∙ ap (λ (x : List ℕ). (a.done.items ++ enc a.typ a.body.items) ++ rest_bytes 60 x more) e
+      ∙ append_assoc a.done.items (enc a.typ a.body.items) (rest_bytes 60 [] more)
+      ∙ ap (λ (x : List ℕ). a.done.items ++ (enc a.typ x ++ rest_bytes 60 [] more)) (sym (append-nil a.body.items));
+  used = ap length e;
+}
+
+-- ---- units
+
+pub record PutUnits (old now : Pieces) (wide : Bool) (units : List ℕ) (i : ℕ) : Type 0 where
+  pub ms : List Mark
+  pub puts : Puts old ms now
+  pub whole : ms ++ units_marks wide (length now.body.items) (drop i units) ≡ units_marks wide (length old.body.items) units
+  pub fit : AllByRecursion (FitsWidth wide) (drop i units)
+
+pub units_none : (old : Pieces) (wide : Bool) (units : List ℕ) → AllByRecursion (FitsWidth wide) units
+    → PutUnits old old wide units 0
+units_none old wide units h = record { ms = []; puts = puts_same old; whole = refl; fit = h }
+
+module _ (old now : Pieces) (wide : Bool) (units : List ℕ) (i : ℕ) (h : PutUnits old now wide units i) where
+  pub units_fit : i < length units → FitsWidth wide (get_or units i 0)
+  units_fit lt = (rw (next_is units i lt) at h.fit).0
+
+  pub units_more : (new : Pieces) → i < length units
+      → Puts now (unit_marks wide (length now.body.items) (get_or units i 0)) new → PutUnits old new wide units (i + 1)
+  units_more new lt p =
+      let used = length now.body.items in
+      let u = get_or units i 0 in
+      let um = unit_marks wide used u in
+      let rest = drop (i + 1) units in
+      record {
+        ms = h.ms ++ um;
+        puts = puts_both old now new h.ms um h.puts p;
+        whole =
+            append_assoc h.ms um (units_marks wide (length new.body.items) rest)
+            ∙ ap (λ (n : ℕ). h.ms ++ (um ++ units_marks wide n rest)) (p.used ∙ fill_unit wide used u)
+            ∙ ap (λ (x : List Mark). h.ms ++ x) (sym (marks_next wide used u rest))
+            ∙ ap (λ (x : List ℕ). h.ms ++ units_marks wide used x) (sym (next_is units i lt))
+            ∙ h.whole;
+        fit = (rw (next_is units i lt) at h.fit).1;
+      }
+
+  pub units_all : length units ≤ i → Puts old (units_marks wide (length old.body.items) units) now
+  units_all le =
+      let all : h.ms ≡ units_marks wide (length old.body.items) units =
+      sym (append-nil h.ms) ∙ ap (λ (x : List ℕ). h.ms ++ units_marks wide (length now.body.items) x) (sym (drop_all i units le)) ∙ h.whole in
+      subst (λ (x : List Mark). Puts old x now) all h.puts
+
+-- ---- a string
+
+pub puts_string : (old middle new : Pieces) (us : List ℕ) (narrow : Bool) → narrow ≡ is_narrow us
+    → Puts old (head_marks (passes (length old.body.items) 3) (not narrow) (length us)) middle
+    → Puts middle (units_marks (not narrow) (length middle.body.items) us) new
+    → Puts old (marks_of_string (canonical_string (length old.body.items) us)) new
+puts_string old middle new us narrow e t f =
+    let used = length old.body.items in
+    let wide = not (is_narrow us) in
+    let head = head_marks (passes used 3) wide (length us) in
+    let h : Puts old head middle = subst (λ (b : Bool). Puts old (head_marks (passes used 3) (not b) (length us)) middle) e t in
+    let units = units_marks wide (used_after (passes used 3) 0 used 3) us in
+    let g : Puts middle units new =
+    subst (λ (n : ℕ). Puts middle (units_marks wide n us) new) (h.used ∙ fill_head (passes used 3) wide used (length us))
+    (subst (λ (b : Bool). Puts middle (units_marks (not b) (length middle.body.items) us) new) e f) in
+    subst (λ (x : List Mark). Puts old x new) (sym (string_marks used us)) (puts_both old middle new head units h g)
+
+-- ---- cuts
+
+-- what stays within may stand in the same record
+pub within_passes : (used more : ℕ) → used + more ≤ 8224 → passes used more ≡ false
+within_passes used more h = not_below 8224 (used + more) h
+
+pub beyond_passes : (used more : ℕ) → 8224 < used + more → passes used more ≡ true
+beyond_passes used more h = below 8224 (used + more) h
+
+pub head_uncut : (a : Pieces) → length a.body.items + 3 ≤ 8224 → Puts a (marks_of_break (passes (length a.body.items) 3)) a
+head_uncut a h = subst (λ (p : Bool). Puts a (marks_of_break p) a) (sym (within_passes (length a.body.items) 3 h)) (puts_same a)
+
+pub head_cut : (a b : Pieces) → 8224 < length a.body.items + 3 → Puts a (None ∷ []) b → Puts a (marks_of_break (passes (length a.body.items) 3)) b
+head_cut a b h p = subst (λ (q : Bool). Puts a (marks_of_break q) b) (sym (beyond_passes (length a.body.items) 3 h)) p
+
+pub unit_uncut : (a : Pieces) (wide : Bool) → length a.body.items + unit_size wide ≤ 8224 → Puts a (cut_marks wide (length a.body.items)) a
+unit_uncut a wide h =
+    subst (λ (p : Bool). Puts a (marks_of_steps wide (cut_if p wide [])) a) (sym (within_passes (length a.body.items) (unit_size wide) h)) (puts_same a)
+
+pub unit_cut : (a b c : Pieces) (wide : Bool) → 8224 < length a.body.items + unit_size wide → Puts a (None ∷ []) b
+    → Puts b (Some (wide_bit wide) ∷ []) c → Puts a (cut_marks wide (length a.body.items)) c
+unit_cut a b c wide h p q =
+    subst (λ (x : Bool). Puts a (marks_of_steps wide (cut_if x wide [])) c) (sym (beyond_passes (length a.body.items) (unit_size wide) h))
+    (puts_both a b c (None ∷ []) (Some (wide_bit wide) ∷ []) p q)
+
+cut_then : (p wide : Bool) (u : ℕ) → marks_of_steps wide (cut_if p wide []) ++ map Some (unit_bytes wide u) ≡ marks_of_steps wide (cut_if p wide (put u ∷ []))
+cut_then true true u = refl
+cut_then true false u = refl
+cut_then false true u = refl
+cut_then false false u = refl
+
+pub cut_unit : (wide : Bool) (used u : ℕ) → cut_marks wide used ++ map Some (unit_bytes wide u) ≡ unit_marks wide used u
+cut_unit wide used u = cut_then (passes used (unit_size wide)) wide u
+
+-- ---- the width of a string
+
+all_units : (us : List ℕ) → ((i : ℕ) → get_or us i 0 < 2 ^ 16) → AllByRecursion IsUnit us
+all_units [] h = tt
+all_units (u ∷ us) h = (h 0, all_units us (λ i. h (suc i)))
+
+pub units_fit_width : (us : List ℕ) (narrow : Bool) → narrow ≡ is_narrow us → ((i : ℕ) → get_or us i 0 < 2 ^ 16)
+    → AllByRecursion (FitsWidth (not narrow)) us
+units_fit_width us narrow e h = fit_width us narrow (sym e) (all_units us h)

@@ -1,0 +1,11 @@
+use Rattle.std.proofs.Common.{rules, ◌≡◌, suc, ◌-◌, length, get_or}
+use Rattle.xls_lay.proofs.PushLemmas.{sheet_exactly}
+use Rattle.xls_lay.proofs.logical.Logical.ends_in_sheet.Goals as goal
+
+pub returns-in-Some : goal.returns-in-Some
+returns-in-Some c =
+    let es = c.self.inside.entries.items in
+    let i = length es - 1 in
+    let some : length es ≡ suc i = search rules in
+    let here : c.in-Some.entry.now ≡ get_or es i c.in-Some.entry.now = search rules in
+    sheet_exactly es i some c.in-Some.entry.now here c.args.self.now c.self.view_is c.is_sheet.result c.is_sheet.ensures

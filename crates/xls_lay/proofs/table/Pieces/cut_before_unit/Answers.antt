@@ -1,0 +1,13 @@
+use Rattle.std.proofs.Common.{rules, ◌≡◌, subst, ℕ, ◌+◌, ◌<◌, length, Some, [], ◌∷◌}
+use Rattle.xls_layout.specs.LaidStrings.{wide_bit}
+use Rattle.xls_layout.specs.Canonical.{unit_size}
+use Rattle.xls_lay.specs.Pieces.{Puts}
+use Rattle.xls_lay.proofs.PieceLemmas.{unit_cut}
+use Rattle.xls_lay.proofs.table.Pieces.cut_before_unit.Goals as goal
+
+pub returns-clause-puts : goal.returns-clause-puts
+returns-clause-puts c =
+    let over : 8224 < length c.args.self.now.body.items + unit_size c.args.is_wide = search rules in
+    let bit : c.from.result ≡ wide_bit c.args.is_wide = search rules in
+    unit_cut c.args.self.now c.cut.new.self c.push.new.self c.args.is_wide over c.in_ok-cut.ensures
+    (subst (λ (n : ℕ). Puts c.cut.new.self (Some n ∷ []) c.push.new.self) bit c.in_ok-push.ensures)

@@ -1,0 +1,13 @@
+use Rattle.std.proofs.Common.{List, subst, get_or}
+use Rattle.xls_model.specs.StringTable.{Mark}
+use Rattle.xls_lay.specs.Pieces.{Puts}
+use Rattle.xls_lay.proofs.PieceLemmas.{units_more, cut_unit}
+use Rattle.xls_lay.proofs.table.Pieces.put_units.Goals as goal
+
+pub loop-unit-preserved : goal.loop-unit-preserved
+loop-unit-preserved c =
+    let l = c.loop-unit in (
+      units_more c.args.self.now l.self c.args.is_wide c.args.units.now l.unit-index l.invariant.0 c.put_unit.new.self c.loop-unit-test.true
+          (subst (λ (x : List Mark). Puts l.self x c.put_unit.new.self) (cut_unit c.args.is_wide _ (get_or c.args.units.now l.unit-index 0)) c.in_ok-put_unit.ensures.puts),
+      c.in_ok-put_unit.ensures.room,
+    )

@@ -1,0 +1,11 @@
+pub mod Pushing
+pub mod Writing
+pub mod Reading
+pub mod Laws
+pub mod ErrorText
+pub mod Inside
+pub mod Entries
+pub mod Cutting
+pub mod Filling
+pub mod Pieces
+pub mod Taking

@@ -1,0 +1,24 @@
+//! Logical lists: put together entry by entry, or read from a stream, and written as canonical streams.
+#![tactic(auto)]
+
+mod entry;
+mod error;
+mod fill;
+mod kept;
+mod laws;
+mod length;
+mod logical;
+mod read;
+mod table;
+mod units;
+mod write;
+
+pub use error::LayError;
+pub use laws::{canonical_carries, canonical_equality, written_again};
+pub use length::canonical_length;
+pub use logical::Logical;
+pub use read::logical_of;
+pub use write::write_workbook;
+
+#[cfg(test)]
+mod tests;

@@ -1,0 +1,154 @@
+//! A string table that is written, cut where a record body or piece is full.
+
+ghost use Rattle.std.specs.Prelude.{◌≡◌, ◌+◌, ◌≤◌, ◌<◌, ◌^◌, ◌++◌, ◌∷◌, [], length, map, not, Some, None, OnOk, IfOk};
+ghost use Rattle.std.specs.List.{AllByRecursion};
+ghost use Rattle.xls_model.specs.declared.types.TheConstants as types;
+ghost use Rattle.xls_layout.specs.LaidStrings.{head_bytes, le32, marks_of_break, marks_of_steps, marks_of_string, unit_bytes, FitsWidth};
+ghost use Rattle.xls_layout.specs.Canonical.{passes, unit_size, canonical_steps, canonical_string};
+ghost use Rattle.xls_lay.specs.Cutting.{rest_bytes};
+ghost use Rattle.xls_lay.specs.Pieces.{Puts, HasRoom, cut_marks};
+
+use crate::fill::{FULL, is_all_narrow, size_of_unit};
+use crate::write::{push_u32, put_record};
+use std::alloc::{AllocError, Global};
+use xls_model::types::{CONTINUE, SST};
+
+/// The records before the current one, and the type and the body of that.
+#[derive(Drop)]
+pub(crate) struct Pieces {
+    done: Vec<u8>,
+    typ: u16,
+    body: Vec<u8>,
+}
+
+impl Pieces {
+    ghost use Rattle.xls_layout.specs.Canonical.{counts_of};
+
+    /// The SST record of so many strings, after what is done. The number stands twice.
+    pub(crate) fn new(alloc: Global, done: Vec<u8>, count: u32) -> Result<Pieces, AllocError>
+        ensures done { IfOk result (λ p. p.done.items ≡ done.items) }
+        ensures typ { IfOk result (λ p. p.typ ≡ types.SST) }
+        ensures body { IfOk result (λ p. p.body.items ≡ le32 count ++ le32 count) }
+    {
+        let mut body = Vec::with_capacity(alloc, FULL)?;
+        push_u32(&mut body, count)?;
+        push_u32(&mut body, count)?;
+        Ok(Pieces {
+            done,
+            typ: SST,
+            body,
+        })
+    }
+
+    fn push(&mut self, bytes: &[u8]) -> Result<(), AllocError>
+        ensures { OnOk result (Puts self.old (map Some bytes.now) self.new) }
+    {
+        self.body.extend_from_slice(bytes)?;
+        Ok(())
+    }
+
+    /// Begins a Continue record.
+    fn cut(&mut self) -> Result<(), AllocError>
+        requires { HasRoom self.old }
+        ensures { OnOk result (Puts self.old (None ∷ []) self.new) }
+    {
+        put_record(&mut self.done, self.typ, &self.body)?;
+        self.typ = CONTINUE;
+        self.body.clear();
+        Ok(())
+    }
+
+    /// Begins one where a head would pass.
+    fn cut_before_head(&mut self) -> Result<(), AllocError>
+        requires { HasRoom self.old }
+        ensures puts { OnOk result (Puts self.old (marks_of_break (passes (length self.old.body.items) 3)) self.new) }
+        ensures room { OnOk result (length self.new.body.items + 3 ≤ 8224) }
+    {
+        if self.body.len() + 3 <= FULL {
+            return Ok(());
+        }
+        self.cut()
+    }
+
+    /// Begins one, with its flags byte, where a unit would pass.
+    fn cut_before_unit(&mut self, is_wide: bool) -> Result<(), AllocError>
+        requires { HasRoom self.old }
+        ensures puts { OnOk result (Puts self.old (cut_marks is_wide (length self.old.body.items)) self.new) }
+        ensures room { OnOk result (length self.new.body.items + unit_size is_wide ≤ 8224) }
+    {
+        if self.body.len() + size_of_unit(is_wide) <= FULL {
+            return Ok(());
+        }
+        self.cut()?;
+        self.push(&[u8::from(is_wide)])?;
+        Ok(())
+    }
+
+    fn push_unit(&mut self, is_wide: bool, unit: u16) -> Result<(), AllocError>
+        requires { FitsWidth is_wide unit }
+        ensures { OnOk result (Puts self.old (map Some (unit_bytes is_wide unit)) self.new) }
+    {
+        if is_wide {
+            return self.push(&[(unit % 256) as u8, (unit / 256) as u8]);
+        }
+        self.push(&[unit as u8])
+    }
+
+    fn put_unit(&mut self, is_wide: bool, unit: u16) -> Result<(), AllocError>
+        requires width { FitsWidth is_wide unit }
+        requires room { HasRoom self.old }
+        ensures puts { OnOk result (Puts self.old
+            (cut_marks is_wide (length self.old.body.items) ++ map Some (unit_bytes is_wide unit)) self.new) }
+        ensures room { OnOk result (HasRoom self.new) }
+    {
+        self.cut_before_unit(is_wide)?;
+        self.push_unit(is_wide, unit)
+    }
+
+    fn put_units(&mut self, is_wide: bool, units: &[u16]) -> Result<(), AllocError>
+        requires width { AllByRecursion (FitsWidth is_wide) units.now }
+        requires room { HasRoom self.old }
+        ensures puts { OnOk result (Puts self.old
+            (marks_of_steps is_wide (canonical_steps is_wide (length self.old.body.items) units.now)) self.new) }
+        ensures room { OnOk result (HasRoom self.new) }
+    {
+        for unit in units {
+            self.put_unit(is_wide, *unit)?;
+        }
+        Ok(())
+    }
+
+    fn put_head(&mut self, is_wide: bool, count: u16) -> Result<(), AllocError>
+        requires room { HasRoom self.old }
+        ensures puts { OnOk result (Puts self.old (marks_of_break (passes (length self.old.body.items) 3)
+            ++ map Some (head_bytes is_wide count None None)) self.new) }
+        ensures room { OnOk result (HasRoom self.new) }
+    {
+        self.cut_before_head()?;
+        self.push(&[(count % 256) as u8, (count / 256) as u8, u8::from(is_wide)])
+    }
+
+    /// Puts a string.
+    pub(crate) fn put_string(&mut self, units: &[u16]) -> Result<(), AllocError>
+        requires size { length units.now < 2 ^ 16 }
+        requires room { HasRoom self.old }
+        ensures puts { OnOk result (Puts self.old
+            (marks_of_string (canonical_string (length self.old.body.items) units.now)) self.new) }
+        ensures room { OnOk result (HasRoom self.new) }
+    {
+        let is_wide = !is_all_narrow(units);
+        self.put_head(is_wide, units.len() as u16)?;
+        self.put_units(is_wide, units)?;
+        Ok(())
+    }
+
+    /// All records.
+    pub(crate) fn finish(self) -> Result<Vec<u8>, AllocError>
+        requires { HasRoom self }
+        ensures { IfOk result (λ out. out.items ≡ self.done.items ++ rest_bytes self.typ self.body.items []) }
+    {
+        let mut out = self.done;
+        put_record(&mut out, self.typ, &self.body)?;
+        Ok(out)
+    }
+}
