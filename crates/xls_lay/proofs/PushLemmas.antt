@@ -4,6 +4,7 @@ use Rattle.std.specs.Prelude.{set, Bool, IsTrue}
 use Rattle.std.specs.List.{AllByRecursion}
 use Rattle.std.proofs.lemmas.List.{map-append, length-append}
 use Rattle.xls_model.specs.Substreams.{is_among}
+use Rattle.xls_layout.specs.Layout.{IsPlainType}
 use Rattle.xls_model.specs.Listing.{Kept, plain_entry, table_entry, sheet_entry}
 use Rattle.xls_model.specs.Listing as listing
 use Rattle.xls_layout.specs.Canonical.{AreBytes, IsUnit, FitsKept, FitsString, FitsEntry, Fits}
@@ -55,7 +56,7 @@ are_units (u ∷ us) h = (h 0, are_units us (λ i. h (suc i)))
 
 -- ---- entries that are pushed
 
-pub plain_fits : (typ : ℕ) (body : List ℕ) → is_among typ Rattle.xls_layout.specs.Layout.plain_types ≡ true → length body < 2 ^ 16 → ((i : ℕ) → get_or body i 0 < 256)
+pub plain_fits : (typ : ℕ) (body : List ℕ) → IsPlainType typ → length body < 2 ^ 16 → ((i : ℕ) → get_or body i 0 < 256)
     → FitsEntry (plain_entry typ body)
 plain_fits typ body t l b = (t, (l, are_bytes body b))
 

@@ -2,7 +2,6 @@
 use Rattle.std.specs.Prelude.{◌≡◌, ℕ, List, [], ◌∷◌, ◌++◌, length}
 use Rattle.xls_model.specs.Listing.{Kept, Entry, plain_entry, table_entry, sheet_entry}
 pub use Rattle.xls_model.specs.Listing.{is_among, sheet_types}
-pub use Rattle.xls_layout.specs.Layout.{plain_types}
 pub use Rattle.xls_layout.specs.Canonical.{Fits}
 
 -- the last entry is a sheet

@@ -2,7 +2,7 @@
 
 ghost use Rattle.std.specs.Prelude.{◌≡◌, ◌↔◌, ◌≢◌, ◌+◌, ◌<◌, ◌≤◌, ◌^◌, ◌++◌, ◌∷◌, [], length, map, true, IsTrue, OnOk, OnErr};
 ghost use Rattle.xls_model.specs.Listing.{plain_entry, table_entry, sheet_entry, is_among, sheet_types};
-ghost use Rattle.xls_layout.specs.Layout.{plain_types};
+ghost use Rattle.xls_layout.specs.Layout.{IsPlainType};
 ghost use Rattle.xls_layout.specs.Canonical.{Fits};
 ghost use Rattle.xls_lay.specs.Pushing.{EndsInSheet, EndsInTable, AddsKept, AddsString, last_count};
 ghost use Rattle.xls_lay.specs.Entries.{entries_in};
@@ -46,7 +46,7 @@ impl Logical {
     /// Appends a record of the globals: BOF, FilePass, CodePage, DateMode, Format, XF, Lbl or ExternSheet,
     /// with a body of at most 65,535 bytes. Refuses only when memory runs out, and then the list is as it was.
     pub fn push_plain(&mut self, typ: u16, body: &[u8]) -> Result<(), AllocError>
-        requires typ { is_among typ plain_types ≡ true }
+        requires typ { IsPlainType typ }
         requires size { length body.now < 2 ^ 16 }
         ensures ok { OnOk result (self.new ≡ self.old ++ plain_entry typ body.now ∷ []) }
         ensures err { OnErr result (self.new ≡ self.old) }

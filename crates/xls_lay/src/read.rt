@@ -1,10 +1,10 @@
 //! The logical list that a stream carries.
 
-ghost use Rattle.std.specs.Prelude.{◌≡◌, ℕ, List, ◌<◌, ◌≤◌, ◌^◌, length, drop, slice_index, None, true, false};
+ghost use Rattle.std.specs.Prelude.{◌≡◌, ◌↔◌, IsTrue, ℕ, List, ◌<◌, ◌≤◌, ◌^◌, length, drop, slice_index, None, true, false};
 ghost use Rattle.xls_model.specs.Stream.{group_bytes};
 ghost use Rattle.xls_model.specs.Walks.{IsBytes};
 ghost use Rattle.xls_model.specs.Listing.{Kept, Item, IsItem, IsWhole, entry_of, is_globals_type, IsShared, table_of, IsPart, IsSheetPart, offset_at, table_entry, sheet_entry, is_among};
-ghost use Rattle.xls_layout.specs.Layout.{plain_types};
+ghost use Rattle.xls_layout.specs.Layout.{IsPlainType};
 ghost use Rattle.xls_biff.specs.Walking.{group_of};
 ghost use Rattle.xls_lay.specs.Reading.{ReadsList};
 ghost use Rattle.xls_lay.specs.Pushing.{EndsInSheet};
@@ -24,7 +24,7 @@ const MAX_CELLS: u64 = 33_554_432;
 
 /// Whether records of this type are plain records of the globals.
 fn is_plain_type(typ: u16) -> bool
-    ensures { result ≡ is_among typ plain_types }
+    ensures { IsTrue result ↔ IsPlainType typ }
 {
     matches!(
         typ,
