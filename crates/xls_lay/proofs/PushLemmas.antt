@@ -7,7 +7,8 @@ use Rattle.xls_model.specs.Substreams.{is_among}
 use Rattle.xls_layout.specs.Layout.{IsPlainType}
 use Rattle.xls_model.specs.Listing.{Kept, plain_entry, table_entry, sheet_entry}
 use Rattle.xls_model.specs.Listing as listing
-use Rattle.xls_layout.specs.Canonical.{AreBytes, IsUnit, FitsKept, FitsString, FitsEntry, Fits}
+use Rattle.xls_layout.specs.Canonical.{AreBytes, IsUnit, FitsKept, FitsString}
+use Rattle.xls_lay.specs.Counted.{CountedEntry, Counted}
 use Rattle.xls_lay.specs.Pushing.{EndsInSheet, EndsInTable, count_in, last_count, AddsKept, AddsString}
 use Rattle.xls_lay.specs.Entries.{entry_in, entries_in, is_sheet, is_table, KeptPushed, StringPushed}
 use Rattle.xls_lay.specs.declared.entry.Entry.{Entry}
@@ -15,11 +16,11 @@ use Rattle.xls_lay.specs.declared.entry.Entry.TheVariants.{Plain, Table, Sheet}
 
 -- ---- lists that grow at their end
 
-pub fits_push : (list : List listing.Entry) (e : listing.Entry) → Fits list → FitsEntry e → Fits (list ++ e ∷ [])
+pub fits_push : (list : List listing.Entry) (e : listing.Entry) → Counted list → CountedEntry e → Counted (list ++ e ∷ [])
 fits_push [] e h f = (f, tt)
 fits_push (x ∷ list) e h f = (h.0, fits_push list e h.1 f)
 
-fits_split : (list : List listing.Entry) (e : listing.Entry) → Fits (list ++ e ∷ []) → Fits list × FitsEntry e
+fits_split : (list : List listing.Entry) (e : listing.Entry) → Counted (list ++ e ∷ []) → Counted list × CountedEntry e
 fits_split [] e h = (tt, h.0)
 fits_split (x ∷ list) e h = let s = fits_split list e h.1 in ((h.0, s.0), s.1)
 
@@ -57,11 +58,11 @@ are_units (u ∷ us) h = (h 0, are_units us (λ i. h (suc i)))
 -- ---- entries that are pushed
 
 pub plain_fits : (typ : ℕ) (body : List ℕ) → IsPlainType typ → length body < 2 ^ 16 → ((i : ℕ) → get_or body i 0 < 256)
-    → FitsEntry (plain_entry typ body)
+    → CountedEntry (plain_entry typ body)
 plain_fits typ body t l b = (t, (l, are_bytes body b))
 
 pub sheet_fits : (state kind : ℕ) (name : List ℕ) → state < 256 → kind < 256 → length name ≤ 65529 → ((i : ℕ) → get_or name i 0 < 256)
-    → FitsEntry (sheet_entry state kind name [])
+    → CountedEntry (sheet_entry state kind name [])
 sheet_fits state kind name s k l b = record {
   state_is = s;
   kind_is = k;
@@ -98,10 +99,10 @@ last_at (e ∷ f ∷ es) (suc i) h =
 push_in : (front : List Entry) (e : Entry) → entries_in (front ++ e ∷ []) ≡ entries_in front ++ entry_in e ∷ []
 push_in front e = map-append entry_in front (e ∷ [])
 
-pub fits_pushed : (old new : List Entry) (e : Entry) → new ≡ old ++ e ∷ [] → Fits (entries_in old) → FitsEntry (entry_in e)
-    → Fits (entries_in new)
+pub fits_pushed : (old new : List Entry) (e : Entry) → new ≡ old ++ e ∷ [] → Counted (entries_in old) → CountedEntry (entry_in e)
+    → Counted (entries_in new)
 fits_pushed old new e n h f =
-    subst (λ (x : List listing.Entry). Fits x) (sym (ap entries_in n ∙ push_in old e)) (fits_push (entries_in old) (entry_in e) h f)
+    subst (λ (x : List listing.Entry). Counted x) (sym (ap entries_in n ∙ push_in old e)) (fits_push (entries_in old) (entry_in e) h f)
 
 -- ---- a record for a sheet
 
@@ -112,15 +113,15 @@ kept_fits (x ∷ kept) k h f = (h.0, kept_fits kept k h.1 f)
 abbrev pub one_kept : ℕ → List ℕ → Kept
 one_kept typ body = record { typ = typ; body = body }
 
-fits_kept : (front : List Entry) (e new : Entry) (typ : ℕ) (body : List ℕ) → Fits (entries_in front ++ entry_in e ∷ [])
-    → FitsKept (one_kept typ body) → KeptPushed e typ body new → Fits (entries_in front ++ entry_in new ∷ [])
-fits_kept front (Plain t b) new typ body h f p = subst (λ (x : Entry). Fits (entries_in front ++ entry_in x ∷ [])) (sym p) h
-fits_kept front (Table strings) new typ body h f p = subst (λ (x : Entry). Fits (entries_in front ++ entry_in x ∷ [])) (sym p) h
+fits_kept : (front : List Entry) (e new : Entry) (typ : ℕ) (body : List ℕ) → Counted (entries_in front ++ entry_in e ∷ [])
+    → FitsKept (one_kept typ body) → KeptPushed e typ body new → Counted (entries_in front ++ entry_in new ∷ [])
+fits_kept front (Plain t b) new typ body h f p = subst (λ (x : Entry). Counted (entries_in front ++ entry_in x ∷ [])) (sym p) h
+fits_kept front (Table strings) new typ body h f p = subst (λ (x : Entry). Counted (entries_in front ++ entry_in x ∷ [])) (sym p) h
 fits_kept front (Sheet state kind name kept) new typ body h f p =
     let s = fits_split (entries_in front) (entry_in (Sheet state kind name kept)) h in
     let own = s.1 in
     let k = one_kept typ body in
-    subst (λ (x : Entry). Fits (entries_in front ++ entry_in x ∷ [])) (sym p)
+    subst (λ (x : Entry). Counted (entries_in front ++ entry_in x ∷ [])) (sym p)
     (fits_push (entries_in front) (sheet_entry state kind name.items (kept ++ k ∷ [])) s.0 (record {
       state_is = own.state_is;
       kind_is = own.kind_is;
@@ -152,14 +153,14 @@ strings_fit : (strings : List (List ℕ)) (us : List ℕ) → AllByRecursion Fit
 strings_fit [] us h f = (f, tt)
 strings_fit (x ∷ strings) us h f = (h.0, strings_fit strings us h.1 f)
 
-fits_string : (front : List Entry) (e new : Entry) (us : List ℕ) → Fits (entries_in front ++ entry_in e ∷ [])
-    → FitsString us → last_count (entries_in front ++ entry_in e ∷ []) + 1 < 2 ^ 32 → StringPushed e us new → Fits (entries_in front ++ entry_in new ∷ [])
-fits_string front (Plain t b) new us h f n p = subst (λ (x : Entry). Fits (entries_in front ++ entry_in x ∷ [])) (sym p) h
-fits_string front (Sheet state kind name kept) new us h f n p = subst (λ (x : Entry). Fits (entries_in front ++ entry_in x ∷ [])) (sym p) h
+fits_string : (front : List Entry) (e new : Entry) (us : List ℕ) → Counted (entries_in front ++ entry_in e ∷ [])
+    → FitsString us → last_count (entries_in front ++ entry_in e ∷ []) + 1 < 2 ^ 32 → StringPushed e us new → Counted (entries_in front ++ entry_in new ∷ [])
+fits_string front (Plain t b) new us h f n p = subst (λ (x : Entry). Counted (entries_in front ++ entry_in x ∷ [])) (sym p) h
+fits_string front (Sheet state kind name kept) new us h f n p = subst (λ (x : Entry). Counted (entries_in front ++ entry_in x ∷ [])) (sym p) h
 fits_string front (Table strings) new us h f n p =
     let s = fits_split (entries_in front) (table_entry strings) h in
     let count : last_count (entries_in front ++ table_entry strings ∷ []) ≡ length strings = count_last (entries_in front) (table_entry strings) in
-    subst (λ (x : Entry). Fits (entries_in front ++ entry_in x ∷ [])) (sym p)
+    subst (λ (x : Entry). Counted (entries_in front ++ entry_in x ∷ [])) (sym p)
     (fits_push (entries_in front) (table_entry (strings ++ us ∷ [])) s.0
     (omega (arith, count, n, length-append strings (us ∷ [])), strings_fit strings us s.1.1 f))
 
@@ -223,11 +224,11 @@ module _ (es : List Entry) (i : ℕ) (some : length es ≡ suc i) (e : Entry) (h
   new_is : (x : Entry) → entries_in (set es i x) ≡ entries_in l.front ++ entry_in x ∷ []
   new_is x = ap entries_in (l.set_is x) ∙ push_in l.front x
 
-  pub kept_pushed_fits : (new : Entry) (typ : ℕ) (body : List ℕ) → Fits (entries_in es) → FitsKept (one_kept typ body) → KeptPushed e typ body new
-      → Fits (entries_in (set es i new))
+  pub kept_pushed_fits : (new : Entry) (typ : ℕ) (body : List ℕ) → Counted (entries_in es) → FitsKept (one_kept typ body) → KeptPushed e typ body new
+      → Counted (entries_in (set es i new))
   kept_pushed_fits new typ body h f p =
-      subst (λ (x : List listing.Entry). Fits x) (sym (new_is new))
-      (fits_kept l.front e new typ body (subst (λ (x : List listing.Entry). Fits x) list_is h) f p)
+      subst (λ (x : List listing.Entry). Counted x) (sym (new_is new))
+      (fits_kept l.front e new typ body (subst (λ (x : List listing.Entry). Counted x) list_is h) f p)
 
   pub kept_pushed : (new : Entry) (typ : ℕ) (body : List ℕ) (list : List listing.Entry) → entries_in es ≡ list → EndsInSheet list → KeptPushed e typ body new
       → AddsKept list (entries_in (set es i new)) typ body
@@ -236,10 +237,10 @@ module _ (es : List Entry) (i : ℕ) (some : length es ≡ suc i) (e : Entry) (h
       (adds_kept l.front e new typ body list (sym is ∙ list_is) s p)
 
   pub string_pushed_fits : (new : Entry) (us : List ℕ) (list : List listing.Entry) → entries_in es ≡ list → last_count list + 1 < 2 ^ 32
-      → Fits (entries_in es) → FitsString us → StringPushed e us new → Fits (entries_in (set es i new))
+      → Counted (entries_in es) → FitsString us → StringPushed e us new → Counted (entries_in (set es i new))
   string_pushed_fits new us list is n h f p =
-      subst (λ (x : List listing.Entry). Fits x) (sym (new_is new))
-      (fits_string l.front e new us (subst (λ (x : List listing.Entry). Fits x) list_is h) f
+      subst (λ (x : List listing.Entry). Counted x) (sym (new_is new))
+      (fits_string l.front e new us (subst (λ (x : List listing.Entry). Counted x) list_is h) f
       (subst (λ (x : List listing.Entry). last_count x + 1 < 2 ^ 32) (sym is ∙ list_is) n) p)
 
   pub string_pushed : (new : Entry) (us : List ℕ) (list : List listing.Entry) → entries_in es ≡ list → EndsInTable list → StringPushed e us new

@@ -1,7 +1,7 @@
 -- The canonical bytes of a list that are written entry by entry.
 use Rattle.std.proofs.Common.{◌≡◌, ℕ, ◌+◌, ◌<◌, ◌≤◌, ◌^◌, List, [], ◌++◌, length, drop, get_or, refl, sym, ap, subst, ◌∙◌, append_assoc, arith}
 use Rattle.std.proofs.lemmas.List.{append-nil, drop_all, length-append}
-use Rattle.xls_layout.specs.Canonical.{Fits, FitsEntry}
+use Rattle.xls_lay.specs.Counted.{Counted, CountedEntry}
 use Rattle.xls_model.specs.Listing as listing
 use Rattle.xls_model.specs.StringTable.{Mark}
 use Rattle.xls_model.specs.declared.types.TheConstants as types
@@ -21,15 +21,15 @@ use Rattle.xls_lay.proofs.SizeLemmas.{next_entry}
 -- some entries are written, and the others are still to come
 pub record PutGlobals (old out : List ℕ) (first offset : ℕ) (entries : List Entry) (i : ℕ) : Type 0 where
   pub whole : out ++ globals_from offset (entries_in (drop i entries)) ≡ old ++ globals_from first (entries_in entries)
-  pub fits : Fits (entries_in (drop i entries))
+  pub fits : Counted (entries_in (drop i entries))
   pub short : offset + length (parts_from (entries_in (drop i entries))) < 2 ^ 32
 
-pub globals_none : (old : List ℕ) (first : ℕ) (entries : List Entry) → Fits (entries_in entries)
+pub globals_none : (old : List ℕ) (first : ℕ) (entries : List Entry) → Counted (entries_in entries)
     → first + length (parts_from (entries_in entries)) < 2 ^ 32 → PutGlobals old old first first entries 0
 globals_none old first entries f s = record { whole = refl; fits = f; short = s }
 
 module _ (old out : List ℕ) (first offset : ℕ) (entries : List Entry) (i : ℕ) (p : PutGlobals old out first offset entries i) where
-  pub globals_fit : (e : Entry) → i < length entries → get_or entries i e ≡ e → FitsEntry (entry_in e)
+  pub globals_fit : (e : Entry) → i < length entries → get_or entries i e ≡ e → CountedEntry (entry_in e)
   globals_fit e lt here = (rw (next_entry entries i e lt here) at p.fits).0
 
   pub globals_offset : offset < 2 ^ 32

@@ -4,6 +4,7 @@ pub mod Reading
 pub mod Laws
 pub mod ErrorText
 pub mod Inside
+pub mod Counted
 pub mod Entries
 pub mod Cutting
 pub mod Filling

@@ -3,7 +3,7 @@
 ghost use Rattle.std.specs.Prelude.{◌≡◌, ◌↔◌, ◌≢◌, ◌+◌, ◌<◌, ◌≤◌, ◌^◌, ◌++◌, ◌∷◌, [], length, map, true, IsTrue, OnOk, OnErr};
 ghost use Rattle.xls_model.specs.Listing.{plain_entry, table_entry, sheet_entry, is_among, sheet_types};
 ghost use Rattle.xls_layout.specs.Layout.{IsPlainType};
-ghost use Rattle.xls_layout.specs.Canonical.{Fits};
+ghost use Rattle.xls_lay.specs.Counted.{Counted};
 ghost use Rattle.xls_lay.specs.Pushing.{EndsInSheet, EndsInTable, AddsKept, AddsString, last_count};
 ghost use Rattle.xls_lay.specs.Entries.{entries_in};
 
@@ -23,14 +23,14 @@ pub struct Logical {
 impl Model for Logical {
     ghost use Rattle.std.specs.Prelude.{List};
     ghost use Rattle.xls_model.specs.Listing as listing;
-    ghost use Rattle.xls_layout.specs.Canonical.{Fits};
+    ghost use Rattle.xls_lay.specs.Counted.{Counted};
     ghost use Rattle.xls_lay.specs.Entries.{entries_in};
 
     ghost Value = { List listing.Entry };
 
     ghost view = { λ l. entries_in l.entries.items };
 
-    ghost invariant = { λ l. Fits (entries_in l.entries.items) };
+    ghost invariant = { λ l. Counted (entries_in l.entries.items) };
 }
 
 impl Logical {
@@ -154,7 +154,7 @@ impl Logical {
     /// The entries as they are kept.
     pub(crate) fn entries(&self) -> &[Entry]
         ensures same { entries_in result.now ≡ self.now }
-        ensures fits { Fits (entries_in result.now) }
+        ensures fits { Counted (entries_in result.now) }
     {
         &self.entries
     }

@@ -5,7 +5,7 @@ ghost use Rattle.xls_model.specs.Stream.{enc};
 ghost use Rattle.xls_model.specs.declared.types.TheConstants as types;
 ghost use Rattle.xls_layout.specs.LaidStrings.{le32};
 ghost use Rattle.xls_layout.specs.Layout.{sheet_body};
-ghost use Rattle.xls_layout.specs.Canonical.{FitsEntry, Fits};
+ghost use Rattle.xls_lay.specs.Counted.{CountedEntry, Counted};
 ghost use Rattle.xls_lay.specs.Writing.{Writes};
 ghost use Rattle.xls_lay.specs.Entries.{entry_in, entries_in};
 ghost use Rattle.xls_lay.specs.Cutting.{part_of, part_bytes, table_bytes, entry_bytes, globals_from, parts_from};
@@ -89,7 +89,7 @@ fn put_entry(
     offset: u32,
     entry: &Entry,
 ) -> Result<Vec<u8>, AllocError>
-    requires { FitsEntry (entry_in entry.now) }
+    requires { CountedEntry (entry_in entry.now) }
     ensures { IfOk result (λ v. v.items ≡ out.items ++ entry_bytes offset (entry_in entry.now)) }
 {
     match entry {
@@ -112,7 +112,7 @@ fn put_globals(
     mut offset: u64,
     entries: &[Entry],
 ) -> Result<Vec<u8>, AllocError>
-    requires fits { Fits (entries_in entries.now) }
+    requires fits { Counted (entries_in entries.now) }
     requires short { offset + length (parts_from (entries_in entries.now)) < 2 ^ 32 }
     ensures { IfOk result (λ v. v.items ≡ out.items ++ globals_from offset (entries_in entries.now)) }
 {
@@ -160,7 +160,7 @@ fn put_all(
     offset: u64,
     entries: &[Entry],
 ) -> Result<Vec<u8>, AllocError>
-    requires fits { Fits (entries_in entries.now) }
+    requires fits { Counted (entries_in entries.now) }
     requires short { offset + length (parts_from (entries_in entries.now)) < 2 ^ 32 }
     ensures { IfOk result (λ v. v.items ≡ globals_from offset (entries_in entries.now) ++ parts_from (entries_in entries.now)) }
 {
