@@ -315,7 +315,7 @@ remade : (left : Option (List ℕ)) (text : List ℕ) → IfSome left (λ bytes.
     → EndsByRemaking left 0
 remade None text h = (inl refl, λ e. absurd (omega arith), λ _. tt)
 remade (Some bytes) text h =
-    (inl refl, λ e. absurd (omega arith), λ _. (h.sound, (h.list, h.carries, (h.every h.list h.carries).0)))
+    (inl refl, λ e. absurd (omega arith), λ _. (h.sound, h.list, h.carries, (h.every h.list h.carries).0))
 
 unremade : (left : Option (List ℕ)) (text : List ℕ) → IfSome left (λ bytes. IsUnremadeLine bytes text)
     → EndsByRemaking left 1
@@ -323,7 +323,7 @@ unremade None text h = (inr (inl refl), λ _. tt, λ e. absurd (omega arith))
 unremade (Some bytes) text (inl first) =
     (inr (inl refl), λ _. λ has. has.0 first.0 first.1, λ e. absurd (omega arith))
 unremade (Some bytes) text (inr long) =
-    (inr (inl refl), λ _. λ has. omega (arith, (long.every has.1.0 has.1.1).0, has.1.2), λ e. absurd (omega arith))
+    (inr (inl refl), λ _. λ has. omega (arith, (long.every has.1 has.2).0, has.3), λ e. absurd (omega arith))
 
 remake_given_up : (left : Option (List ℕ)) → EndsByRemaking left 5
 remake_given_up left = (inr (inr refl), λ e. absurd (omega arith), λ e. absurd (omega arith))

@@ -20,8 +20,8 @@ use crate::sink::Sink;
 use std::alloc::Global;
 use xls_biff::XlsError;
 use xls_book::{Formulas, Reader, Values, Xls};
-use xls_lay::LayError;
 use xls_data::{Data, Dimensions, Sheet, SheetType, SheetVisible};
+use xls_lay::LayError;
 
 /// The word for a date or a span.
 fn date_kind(is_span: bool) -> &'static str
