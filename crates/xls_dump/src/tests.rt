@@ -131,7 +131,7 @@ fn check(rt: &impl Abort, alloc: Global, case: &Case, status: u8, text: &[u8]) -
 }
 
 // Runs in which nothing fails: the words, what the source gives, the status, and what is written.
-const RUNS: [(&[&str], &[&[u8]], u8, &str); 41] = [
+const RUNS: [(&[&str], &[&[u8]], u8, &str); 44] = [
     (&[], &THREE, 0, THREE_TEXT),
     (&["dump"], &THREE, 0, THREE_TEXT),
     (&[], &[], 0, "dates\t1900\n"),
@@ -157,6 +157,13 @@ const RUNS: [(&[&str], &[&[u8]], u8, &str); 41] = [
     (&["check"], &THREE, 0, "ok\n"),
     (&["check"], &[], 0, "ok\n"),
     (&["check"], &LEDGER, 0, "ok\n"),
+    (&["remake"], &[], 0, "\n\0\0\0"),
+    (
+        &["remake"],
+        &NO_SHEET,
+        1,
+        "error\tEnd of stream 'sheet offset'\n",
+    ),
     (&["csv", "Data"], &LEDGER, 0, LEDGER_CSV),
     (
         &["csv", "X"],
@@ -197,6 +204,7 @@ const RUNS: [(&[&str], &[&[u8]], u8, &str); 41] = [
     (&["csv"], &THREE, 2, ""),
     (&["csv", "A", "A"], &THREE, 2, ""),
     (&["refs", "x"], &THREE, 2, ""),
+    (&["remake", "x"], &THREE, 2, ""),
     (&["generate"], &THREE, 2, ""),
     (&["generate", "0"], &THREE, 2, ""),
     (&["generate", "04"], &THREE, 2, ""),
@@ -232,7 +240,7 @@ fn the_pieces_do_not_matter(rt: HostRuntime) -> Result<(), Fail> {
 }
 
 // Commands, what their sources give, and what is written where nothing fails.
-const COMMANDS: [(&[&str], &[&[u8]], &str); 9] = [
+const COMMANDS: [(&[&str], &[&[u8]], &str); 11] = [
     (&["dump"], &THREE, THREE_TEXT),
     (&["sheets"], &THREE, "sheet\tA\tworksheet\tvisible\n"),
     (&["props"], &TITLE, "title\t\u{C5}lesund\n"),
@@ -245,6 +253,12 @@ const COMMANDS: [(&[&str], &[&[u8]], &str); 9] = [
     (&["csv", "A"], &THREE, "3\n"),
     (&["csv", "B"], &THREE, "error\tWorksheet 'B' not found\n"),
     (&["refs"], &CITING, "ref\tA\t0\t0\tA\t2\t1\t2\t1\n"),
+    (&["remake"], &[&EOF], "\n\0\0\0"),
+    (
+        &["remake"],
+        &NO_SHEET,
+        "error\tEnd of stream 'sheet offset'\n",
+    ),
     (&["generate", "4"], &[], "rows\t4\ncells\t8\nsum\t6\n"),
 ];
 

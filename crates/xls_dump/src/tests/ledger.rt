@@ -257,6 +257,32 @@ pub const LEDGER_CSV: &str = "Item,Café €,\nSum,0x4012000000000000,\n2,2.5,20
 pub const LEDGER_REFS: &str =
     "ref\tData\t1\t1\tData\t2\t0\t2\t1\nref\tLog\t0\t0\tData\t1\t0\t1\t0\n";
 
+// What a command writes of a stream.
+fn written(alloc: Global, word: &str, bytes: &[u8]) -> Result<Vec<u8>, AllocError> {
+    let mut source = SteadySource::new(bytes.to_vec(alloc)?);
+    let mut sink = MemorySink::new(alloc, 999, 999, Vec::new(alloc))?;
+    let _ = run(alloc, &words_of(alloc, &[word])?, &mut source, &mut sink);
+    sink.as_slice().to_vec(alloc)
+}
+
+// Whether a command writes this of a stream.
+fn writes(alloc: Global, word: &str, bytes: &[u8], wanted: &[u8]) -> Result<bool, AllocError> {
+    Ok(written(alloc, word, bytes)?.as_slice() == wanted)
+}
+
+#[test]
+fn remakes_both_layouts_alike(rt: HostRuntime) -> Result<(), Fail> {
+    let alloc = rt.alloc();
+    let ledger = joined(alloc, &LEDGER)?;
+    let other = joined(alloc, &OTHER_LAYOUT)?;
+    let remade = written(alloc, "remake", &ledger)?;
+    assert_eq!(rt; remade.len(), 494);
+    assert!(rt; writes(alloc, "remake", &other, &remade)?);
+    assert!(rt; writes(alloc, "remake", &remade, &remade)?);
+    assert!(rt; writes(alloc, "dump", &remade, &written(alloc, "dump", &ledger)?)?);
+    Ok(())
+}
+
 #[test]
 fn writes_the_same_for_another_layout(rt: HostRuntime) -> Result<(), Fail> {
     let alloc = rt.alloc();
