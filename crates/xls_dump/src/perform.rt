@@ -156,7 +156,7 @@ fn remake<S: Source, K: Sink>(alloc: Global, source: &mut S, sink: &mut K) -> Re
         → (K.state sink.new).faults ≡ (K.state sink.old).faults }
 {
     match read_all(alloc, source, MAX_BYTES) {
-        Ok(bytes) => write_remake(alloc, sink, bytes.as_slice()),
+        Ok(bytes) => write_remake(alloc, sink, bytes),
         Err(error) => refuse(alloc, sink, &error),
     }
 }

@@ -4,13 +4,15 @@ ghost use Rattle.std.specs.Prelude.{◌≤◌, length};
 ghost use Rattle.xls_open.specs.Opening.{default_options};
 ghost use Rattle.xls_dump.specs.Endings.{Delivers, EndsWithEither};
 ghost use Rattle.xls_dump.specs.Outputs.{IsRemadeText, IsUnremadeLine};
-ghost use Rattle.xls_dump.specs.Remaking.{IsUnwrittenOf, IsWrittenOf};
+ghost use Rattle.xls_dump.specs.Remaking.{IsUnwrittenOf, IsWrittenOf, TellsList};
 
 use crate::buffer::Buffer;
 use crate::ending::{Ending, Stop};
 use crate::report::{write_refusal, write_unwritten};
 use crate::sink::Sink;
 use std::alloc::Global;
+use xls_biff::XlsError;
+use xls_book::StreamBytes;
 use xls_lay::{LayError, Logical, logical_of, write_workbook};
 
 /// Writes bytes.
@@ -41,13 +43,28 @@ fn write_list<K: Sink>(alloc: Global, sink: &mut K, list: &Logical) -> Result<En
     }
 }
 
-/// Writes the canonical stream of the list that bytes carry, or their first fault, or that it is too long.
-pub fn write_remake<K: Sink>(alloc: Global, sink: &mut K, bytes: &[u8]) -> Result<Ending, Stop>
+/// The one list that bytes carry, or their first fault.
+fn list_of(alloc: Global, bytes: &[u8]) -> Result<Logical, XlsError>
     requires { length bytes.now ≤ default_options.max_bytes }
-    ensures { EndsWithEither (IsRemadeText bytes.now) (IsUnremadeLine bytes.now)
+    ensures { TellsList bytes.now result }
+{
+    logical_of(alloc, bytes)
+}
+
+/// Writes the canonical stream of the list that bytes carry, or their first fault, or that it is too long. The
+/// bytes are given back before anything is written.
+pub fn write_remake<K: Sink>(
+    alloc: Global,
+    sink: &mut K,
+    bytes: StreamBytes,
+) -> Result<Ending, Stop>
+    requires { length bytes ≤ default_options.max_bytes }
+    ensures { EndsWithEither (IsRemadeText bytes) (IsUnremadeLine bytes)
         (K.state sink.old) (K.state sink.new) result }
 {
-    match logical_of(alloc, bytes) {
+    let list = list_of(alloc, bytes.as_slice());
+    drop(bytes);
+    match list {
         Ok(list) => write_list(alloc, sink, &list),
         Err(error) => write_refusal(alloc, sink, &error),
     }

@@ -3,12 +3,12 @@ use Rattle.xls_dump.proofs.perform.remake.Goals as goal
 
 pub returns-in-Ok-clause-ends : goal.returns-in-Ok-clause-ends
 returns-in-Ok-clause-ends g c =
-    all_remade _ _ _ _ c.write_remake.result _ c.in-Ok.ensures.all c.in-Ok.ensures.end (rw c.as_slice.ensures at c.write_remake.ensures)
+    all_remade _ _ _ _ c.write_remake.result _ c.in-Ok.ensures.all c.in-Ok.ensures.end c.write_remake.ensures
 
 pub returns-in-Ok-clause-steady : goal.returns-in-Ok-clause-steady
 returns-in-Ok-clause-steady g c =
     let state = g.K.Sink.state in
-    all_remade-steady _ _ (state c.args.sink.now) (state c.write_remake.new.sink) c.write_remake.result _ c.in-Ok.ensures.all c.in-Ok.ensures.end (rw c.as_slice.ensures at c.write_remake.ensures)
+    all_remade-steady _ _ (state c.args.sink.now) (state c.write_remake.new.sink) c.write_remake.result _ c.in-Ok.ensures.all c.in-Ok.ensures.end c.write_remake.ensures
 
 pub returns-in-Err-clause-ends : goal.returns-in-Err-clause-ends
 returns-in-Err-clause-ends g c =
