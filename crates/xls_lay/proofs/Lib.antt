@@ -13,3 +13,4 @@ pub mod UnitLemmas
 pub mod TableReadLemmas
 pub mod PartReadLemmas
 pub mod ReadLemmas
+pub mod StandardFacts

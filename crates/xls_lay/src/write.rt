@@ -173,7 +173,8 @@ fn put_all(
 /// The canonical stream of a list. `TooLong` exactly where it would have 2^32 bytes or more; else only
 /// running out of memory.
 pub fn write_workbook(alloc: Global, list: &Logical) -> Result<StreamBytes, LayError>
-    ensures { Writes list.now result }
+    ensures writes { Writes list.now result }
+    ensures fits { Fits list.now }
 {
     let entries = list.entries();
     let globals = globals_length(entries);
