@@ -13,3 +13,5 @@ pub mod UnitLemmas
 pub mod TableReadLemmas
 pub mod PartReadLemmas
 pub mod ReadLemmas
+pub mod StandardFacts
+pub mod CountedLemmas

@@ -5,6 +5,7 @@ ghost use Rattle.xls_model.specs.Stream.{enc};
 ghost use Rattle.xls_model.specs.declared.types.TheConstants as types;
 ghost use Rattle.xls_layout.specs.LaidStrings.{le32};
 ghost use Rattle.xls_layout.specs.Layout.{sheet_body};
+ghost use Rattle.xls_layout.specs.Canonical.{Fits};
 ghost use Rattle.xls_lay.specs.Counted.{CountedEntry, Counted};
 ghost use Rattle.xls_lay.specs.Writing.{Writes};
 ghost use Rattle.xls_lay.specs.Entries.{entry_in, entries_in};
@@ -173,7 +174,8 @@ fn put_all(
 /// The canonical stream of a list. `TooLong` exactly where it would have 2^32 bytes or more; else only
 /// running out of memory.
 pub fn write_workbook(alloc: Global, list: &Logical) -> Result<StreamBytes, LayError>
-    ensures { Writes list.now result }
+    ensures writes { Writes list.now result }
+    ensures fits { Fits list.now }
 {
     let entries = list.entries();
     let globals = globals_length(entries);
