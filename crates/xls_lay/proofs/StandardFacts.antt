@@ -1,10 +1,8 @@
 -- Known values of this crate's definitions.
-use Rattle.std.proofs.Common.{◌≡◌, List, [], ◌∷◌, refl, codes}
+use Rattle.std.proofs.Common.{◌≡◌, [], ◌∷◌, refl, codes}
 use Rattle.xls_model.specs.Listing.{plain_entry, table_entry, sheet_entry}
 use Rattle.xls_lay.specs.Pushing.{last_count}
 use Rattle.xls_lay.specs.Writing.{canonical_bytes, saturated}
-use Rattle.xls_lay.specs.ErrorText.{error_text}
-use Rattle.xls_lay.specs.declared.error.LayError.TheVariants.{TooLong}
 
 -- nothing but the EOF of the globals
 pub nothing : canonical_bytes [] ≡ 0x0A ∷ 0x00 ∷ 0x00 ∷ 0x00 ∷ []
@@ -22,6 +20,3 @@ small = refl
 
 pub large : saturated 18_446_744_073_709_551_616 ≡ 18_446_744_073_709_551_615
 large = refl
-
-pub long : error_text (TooLong 4_294_967_296) ≡ codes "Workbook of 4294967296 bytes is too long"
-long = refl
