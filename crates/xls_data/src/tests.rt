@@ -157,34 +157,6 @@ fn tells_the_classes_of_built_in_formats(rt: HostRuntime) {
     order_of_regions();
 }
 
-#[test]
-fn gives_numbers_their_values_under_a_class(rt: HostRuntime) {
-    let two = Number::Whole(2);
-    let day = ExcelDateTime::new(two, ExcelDateTimeType::DateTime, true);
-    let span = ExcelDateTime::new(two, ExcelDateTimeType::TimeDelta, false);
-    assert!(rt; format_excel_i64(2, None, false) == Data::Int(2));
-    assert!(rt; format_excel_i64(2, Some(&CellFormat::DateTime), true) == Data::DateTime(day));
-    assert!(rt;
-        format_excel_number(two, Some(&CellFormat::TimeDelta), false) == Data::DateTime(span)
-    );
-    assert!(rt; format_excel_number(two, Some(&CellFormat::Other), false) == Data::Float(two));
-    assert!(rt; format_excel_i64_ref(2, None, false) == DataRef::Int(2));
-    assert!(rt; format_excel_number_ref(two, None, false) == DataRef::Float(two));
-    assert!(rt; day.is_datetime() && !day.is_duration() && day.has_1904_epoch());
-    assert!(rt; span.is_duration() && !span.has_1904_epoch() && span.number() == two);
-    assert!(rt;
-        ExcelDateTime::default()
-            == ExcelDateTime::new(Number::Whole(0), ExcelDateTimeType::DateTime, false)
-    );
-}
-
-// A copy of a value is equal to it, and only the blank equals the blank.
-fn copies<T: CellType>(alloc: Global, value: &T) -> Result<bool, AllocError> {
-    let copy = value.try_copy(alloc)?;
-    let blank = T::blank(alloc);
-    Ok(copy == *value && blank.is_blank() && value.is_blank() == (*value == blank))
-}
-
 // A value of a table of cases.
 #[derive(Clone, Copy)]
 enum Given {
@@ -215,6 +187,60 @@ fn data_of(alloc: Global, given: Given) -> Result<Data, AllocError> {
         Given::Wrong(e) => Ok(Data::Error(e)),
         Given::Nothing => Ok(Data::Empty),
     }
+}
+
+fn ref_of(given: Given) -> DataRef<'static> {
+    match given {
+        Given::Int(n) => DataRef::Int(n),
+        Given::Float(x) => DataRef::Float(x),
+        Given::Text(s) => DataRef::SharedString(s),
+        Given::Truth(b) => DataRef::Bool(b),
+        Given::Date(x, is_1904) => DataRef::DateTime(date_of(x, is_1904)),
+        Given::Wrong(e) => DataRef::Error(e),
+        Given::IsoDate(_) | Given::IsoDuration(_) | Given::Nothing => DataRef::Empty,
+    }
+}
+
+fn is_value(alloc: Global, found: Data, wanted: Given) -> Result<bool, AllocError> {
+    Ok(found == data_of(alloc, wanted)?)
+}
+
+fn is_ref(found: DataRef<'_>, wanted: Given) -> bool {
+    found == ref_of(wanted)
+}
+
+#[test]
+fn gives_numbers_their_values_under_a_class(rt: HostRuntime) -> Result<(), Fail> {
+    let (alloc, two) = (rt.alloc(), Number::Whole(2));
+    let date = format_excel_i64(2, Some(&CellFormat::DateTime), true);
+    assert!(rt; is_value(alloc, date, Given::Date(two, true))?);
+    assert!(rt; is_value(alloc, format_excel_i64(2, None, false), Given::Int(2))?);
+    let float = format_excel_number(two, Some(&CellFormat::Other), false);
+    assert!(rt; is_value(alloc, float, Given::Float(two))?);
+    let span = ExcelDateTime::new(two, ExcelDateTimeType::TimeDelta, false);
+    assert!(rt;
+        format_excel_number(two, Some(&CellFormat::TimeDelta), false) == Data::DateTime(span)
+    );
+    assert!(rt; is_ref(format_excel_i64_ref(2, None, false), Given::Int(2)));
+    assert!(rt; is_ref(format_excel_number_ref(two, None, false), Given::Float(two)));
+    Ok(())
+}
+
+#[test]
+fn tells_dates_from_spans(rt: HostRuntime) {
+    let two = Number::Whole(2);
+    let day = date_of(two, true);
+    assert!(rt; day.is_datetime() && !day.is_duration() && day.has_1904_epoch());
+    let span = ExcelDateTime::new(two, ExcelDateTimeType::TimeDelta, false);
+    assert!(rt; span.is_duration() && !span.has_1904_epoch() && span.number() == two);
+    assert!(rt; ExcelDateTime::default() == date_of(Number::Whole(0), false));
+}
+
+// A copy of a value is equal to it, and only the blank equals the blank.
+fn copies<T: CellType>(alloc: Global, value: &T) -> Result<bool, AllocError> {
+    let copy = value.try_copy(alloc)?;
+    let blank = T::blank(alloc);
+    Ok(copy == *value && blank.is_blank() && value.is_blank() == (*value == blank))
 }
 
 static VALUES: [Given; 10] = [
@@ -330,18 +356,6 @@ static PRINTED: [(Given, &str); 14] = [
     (Given::Nothing, ""),
 ];
 
-fn ref_of(given: Given) -> DataRef<'static> {
-    match given {
-        Given::Int(n) => DataRef::Int(n),
-        Given::Float(x) => DataRef::Float(x),
-        Given::Text(s) => DataRef::SharedString(s),
-        Given::Truth(b) => DataRef::Bool(b),
-        Given::Date(x, is_1904) => DataRef::DateTime(date_of(x, is_1904)),
-        Given::Wrong(e) => DataRef::Error(e),
-        Given::IsoDate(_) | Given::IsoDuration(_) | Given::Nothing => DataRef::Empty,
-    }
-}
-
 fn owned_text(alloc: Global, value: &DataRef<'_>) -> Result<String, AllocError> {
     Data::from_ref(alloc, value.try_copy(alloc)?)?.to_string(alloc)
 }
@@ -358,14 +372,17 @@ fn prints_values(rt: HostRuntime) -> Result<(), Fail> {
 
 #[test]
 fn converts_into_values(rt: HostRuntime) -> Result<(), Fail> {
-    assert!(rt; Data::from(3i64) == Data::Int(3));
-    assert!(rt; Data::from(true) == Data::Bool(true));
-    assert!(rt; Data::from(Number::Whole(1)) == Data::Float(Number::Whole(1)));
-    assert!(rt; Data::from(CellErrorType::Num) == Data::Error(CellErrorType::Num));
-    assert!(rt; Data::from(()) == Data::Empty);
-    assert!(rt; Data::from(Some(3i64)) == Data::Int(3));
-    assert!(rt; Data::from(None::<bool>) == Data::Empty);
-    let text = Data::from(String::from_str(rt.alloc(), "x")?);
+    let alloc = rt.alloc();
+    assert!(rt; is_value(alloc, Data::from(3i64), Given::Int(3))?);
+    assert!(rt; is_value(alloc, Data::from(true), Given::Truth(true))?);
+    let one = Number::Whole(1);
+    assert!(rt; is_value(alloc, Data::from(one), Given::Float(one))?);
+    let error = CellErrorType::Num;
+    assert!(rt; is_value(alloc, Data::from(error), Given::Wrong(error))?);
+    assert!(rt; is_value(alloc, Data::from(()), Given::Nothing)?);
+    assert!(rt; is_value(alloc, Data::from(Some(3i64)), Given::Int(3))?);
+    assert!(rt; is_value(alloc, Data::from(None::<bool>), Given::Nothing)?);
+    let text = Data::from(String::from_str(alloc, "x")?);
     assert!(rt; text.eq_text("x"));
     Ok(())
 }

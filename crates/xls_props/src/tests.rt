@@ -65,33 +65,24 @@ fn front(bytes: &[u8], n: usize) -> &[u8] {
     front
 }
 
-fn has_no_field(properties: &WorkbookProperties) -> bool {
-    let p = properties;
-    let fields = [
-        &p.creator,
-        &p.last_modified_by,
-        &p.created,
-        &p.modified,
-        &p.title,
-        &p.subject,
-        &p.description,
-        &p.keywords,
-        &p.category,
-        &p.content_status,
-        &p.revision,
-        &p.version,
-        &p.application,
-        &p.app_version,
-        &p.company,
-        &p.template,
-        &p.manager,
-    ];
-    for field in fields {
-        if field.is_some() {
-            return false;
-        }
-    }
-    true
+fn has_no_field(p: &WorkbookProperties) -> bool {
+    p.creator.is_none()
+        && p.last_modified_by.is_none()
+        && p.created.is_none()
+        && p.modified.is_none()
+        && p.title.is_none()
+        && p.subject.is_none()
+        && p.description.is_none()
+        && p.keywords.is_none()
+        && p.category.is_none()
+        && p.content_status.is_none()
+        && p.revision.is_none()
+        && p.version.is_none()
+        && p.application.is_none()
+        && p.app_version.is_none()
+        && p.company.is_none()
+        && p.template.is_none()
+        && p.manager.is_none()
 }
 
 #[test]

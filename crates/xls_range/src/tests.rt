@@ -28,17 +28,29 @@ fn same(range: &Range<usize>, wanted: &[usize]) -> bool {
 
 // Growing down adds the rows that are missing and no more.
 #[test]
-fn grows_down_and_right(rt: HostRuntime) -> Result<(), Fail> {
+fn grows_down(rt: HostRuntime) -> Result<(), Fail> {
     let mut range: Range<usize> = Range::new(rt.alloc(), (0, 0), (5, 2))?;
     range.set_value((6, 0), 1)?;
     assert_eq!(rt; range.height(), 7);
     assert_eq!(rt; range.cells().len(), 21);
     assert_eq!(rt; range.get_value((6, 0)), Some(&1));
+    Ok(())
+}
+
+#[test]
+fn grows_right(rt: HostRuntime) -> Result<(), Fail> {
+    let mut range: Range<usize> = Range::new(rt.alloc(), (0, 0), (5, 2))?;
+    range.set_value((6, 0), 1)?;
     range.set_value((6, 3), 2)?;
     assert_eq!(rt; range.get_size(), (7, 4));
     assert_eq!(rt; range.get_value((6, 0)), Some(&1));
     assert_eq!(rt; range.get((6, 3)), Some(&2));
     assert_eq!(rt; range.used_cells().count(), 2);
+    Ok(())
+}
+
+#[test]
+fn grows_from_nothing(rt: HostRuntime) -> Result<(), Fail> {
     let mut empty: Range<usize> = Range::empty(rt.alloc());
     empty.set_value((1, 1), 7)?;
     assert_eq!(rt; empty.get_size(), (2, 2));
@@ -54,6 +66,11 @@ fn refuses_by_its_bounds(rt: HostRuntime) -> Result<(), Fail> {
     assert_eq!(rt; range.start(), Some((1, 1)));
     assert_eq!(rt; range.end(), Some((2, 2)));
     assert!(rt; same(&range, &[0, 0, 0, 0]));
+    Ok(())
+}
+
+#[test]
+fn refuses_other_boxes(rt: HostRuntime) -> Result<(), Fail> {
     let whole: Result<Range<usize>, RangeError> = Range::new(
         rt.alloc(),
         (0, 0),
@@ -92,6 +109,11 @@ fn spans_the_given_cells(rt: HostRuntime) -> Result<(), Fail> {
     assert_eq!(rt; range.used_cells().count(), 3);
     assert_eq!(rt; range.start(), Some((2, 2)));
     assert_eq!(rt; range.end(), Some((9, 2)));
+    Ok(())
+}
+
+#[test]
+fn shows_the_last_cell_of_a_position(rt: HostRuntime) -> Result<(), Fail> {
     let twice = usize_cells(rt.alloc(), &[(3, 4, 1), (2, 5, 2), (3, 4, 3)])?;
     let last = Range::from_sparse(rt.alloc(), twice)?;
     assert!(rt; same(&last, &[0, 2, 3, 0]));
@@ -202,6 +224,15 @@ fn lends_rows_and_cells(rt: HostRuntime) -> Result<(), Fail> {
     Ok(())
 }
 
+fn are_texts(found: &[String], wanted: &[&str]) -> bool {
+    for (text, other) in found.iter().zip(wanted.iter()) {
+        if text.as_str() != *other {
+            return false;
+        }
+    }
+    found.len() == wanted.len()
+}
+
 #[test]
 fn prints_the_first_row(rt: HostRuntime) -> Result<(), Fail> {
     let mut range: Range<Data> = Range::empty(rt.alloc());
@@ -210,11 +241,7 @@ fn prints_the_first_row(rt: HostRuntime) -> Result<(), Fail> {
     range.set_value((0, 1), Data::Int(1))?;
     range.set_value((0, 2), Data::Bool(true))?;
     let headers = range.headers(rt.alloc())?.expect(&rt, "a range of one row");
-    let mut texts = Vec::new(rt.alloc());
-    for header in &headers {
-        texts.push(header.as_str())?;
-    }
-    assert_eq!(rt; texts.as_slice(), ["a", "1", "true"].as_slice());
+    assert!(rt; are_texts(&headers, &["a", "1", "true"]));
     Ok(())
 }
 
@@ -239,8 +266,15 @@ fn holds_texts(rt: HostRuntime) -> Result<(), Fail> {
     range.set_value((0, 1), String::from_str(rt.alloc(), "two")?)?;
     assert!(rt; copy != range);
     assert_eq!(rt; copy.used_cells().count(), 1);
+    Ok(())
+}
+
+#[test]
+fn prints_a_row_of_texts(rt: HostRuntime) -> Result<(), Fail> {
+    let mut range: Range<String> = Range::empty(rt.alloc());
+    range.set_value((0, 1), String::from_str(rt.alloc(), "two")?)?;
     let headers = range.headers(rt.alloc())?.expect(&rt, "a range of one row");
-    assert_eq!(rt; headers.len(), 2);
+    assert!(rt; are_texts(&headers, &["", "two"]));
     Ok(())
 }
 

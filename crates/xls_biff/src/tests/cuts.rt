@@ -4,16 +4,16 @@ use super::*;
 use std::process::Abort;
 
 /// The units of the strings; the middle one has U+1F600, which is a pair.
-const UNITS: [&[u16]; 3] = [&[0x61, 0x62], &[0x78, 0xD83D, 0xDE00, 0x79], &[0xE9]];
+static UNITS: [&[u16]; 3] = [&[0x61, 0x62], &[0x78, 0xD83D, 0xDE00, 0x79], &[0xE9]];
 
-const TEXTS: [&str; 3] = ["ab", "x\u{1F600}y", "\u{E9}"];
+static TEXTS: [&str; 3] = ["ab", "x\u{1F600}y", "\u{E9}"];
 
 /// What a cut before each byte of each string gives, where units have one byte if that serves: `t` is
 /// the three texts, `1` and `2` so many bytes of a head, `h` half a unit.
-const NARROW: [&[u8]; 3] = [b"t12tt", b"t12thththth", b"t12t"];
+static NARROW: [&[u8]; 3] = [b"t12tt", b"t12thththth", b"t12t"];
 
 /// The same for units of two bytes.
-const WIDE: [&[u8]; 3] = [b"t12thth", b"t12thththth", b"t12th"];
+static WIDE: [&[u8]; 3] = [b"t12thth", b"t12thththth", b"t12th"];
 
 /// A table that is written into two pieces, so many bytes into the first one.
 #[derive(Drop)]
@@ -79,7 +79,7 @@ fn cut_table(alloc: Global, at: usize, before: bool, after: bool) -> Result<Vec<
         first: Vec::new(alloc),
         second: Vec::new(alloc),
     };
-    for units in UNITS {
+    for units in UNITS.iter() {
         cut.put_string(units, before, after)?;
     }
     table_of(alloc, &cut.first, &[&cut.second])
@@ -95,61 +95,68 @@ fn fault_by(letter: u8) -> Option<XlsError> {
     }
 }
 
-/// The texts, or the fault.
-fn reads_as(rt: &impl Abort, alloc: Global, r: &Record<'_>, letter: u8) -> Result<(), Fail> {
-    let fault = fault_by(letter);
+fn are_the_texts(strings: &Strings) -> bool {
+    for (i, text) in TEXTS.iter().enumerate() {
+        if strings.get(i) != Some(*text) {
+            return false;
+        }
+    }
+    strings.len() == 3
+}
+
+/// Whether a table gives the texts, or the fault.
+fn reads_as(alloc: Global, r: &Record<'_>, letter: u8) -> bool {
     match parse_sst(alloc, r) {
-        Ok(strings) => {
-            assert!(rt; fault.is_none());
-            assert_eq!(rt; strings.len(), 3);
-            for (i, text) in TEXTS.iter().enumerate() {
-                assert_eq!(rt; strings.get(i), Some(*text));
-            }
-        }
-        Err(e) => assert_eq!(rt; Some(e), fault),
+        Ok(strings) => fault_by(letter).is_none() && are_the_texts(&strings),
+        Err(e) => fault_by(letter) == Some(e),
     }
-    Ok(())
 }
 
-/// The number of the strings, or the fault.
-fn counts_as(rt: &impl Abort, r: &Record<'_>, letter: u8) {
-    let fault = fault_by(letter);
+/// Whether a table gives the number of the strings, or the fault.
+fn counts_as(r: &Record<'_>, letter: u8) -> bool {
     match skip_sst(r) {
-        Ok(count) => {
-            assert_eq!(rt; count, 3);
-            assert!(rt; fault.is_none());
-        }
-        Err(e) => assert_eq!(rt; Some(e), fault),
+        Ok(count) => fault_by(letter).is_none() && count == 3,
+        Err(e) => fault_by(letter) == Some(e),
     }
 }
 
-/// The units of each string, or of those before the cut one and then the fault.
-fn steps_as(
-    rt: &impl Abort,
-    alloc: Global,
-    r: &Record<'_>,
-    letter: u8,
-    whole: usize,
-) -> Result<(), Fail> {
-    let mut reader = SstReader::new(r)?;
-    let fault = fault_by(letter);
-    let count = if fault.is_some() { whole } else { 3 };
-    for wanted in UNITS.iter().take(count) {
-        let units = reader.next_units(alloc)?.ok_or("no string")?;
-        assert_eq!(rt; units.as_slice(), *wanted);
+fn is_next(alloc: Global, reader: &mut SstReader<'_>, wanted: &[u16]) -> Result<bool, XlsError> {
+    match reader.next_units(alloc)? {
+        Some(units) => Ok(units.as_slice() == wanted),
+        None => Ok(false),
     }
+}
+
+fn ends_as(alloc: Global, reader: &mut SstReader<'_>, letter: u8) -> bool {
     match reader.next_units(alloc) {
-        Ok(none) => assert!(rt; none.is_none() && fault.is_none()),
-        Err(e) => assert_eq!(rt; Some(e), fault),
+        Ok(none) => fault_by(letter).is_none() && none.is_none(),
+        Err(e) => fault_by(letter) == Some(e),
     }
-    Ok(())
+}
+
+/// Whether a table gives the units of each string, or of those before the cut one and then the fault.
+fn steps_as(alloc: Global, r: &Record<'_>, letter: u8, whole: usize) -> Result<bool, XlsError> {
+    let mut reader = SstReader::new(r)?;
+    let count = if letter == b't' { 3 } else { whole };
+    for wanted in UNITS.iter().take(count) {
+        if !is_next(alloc, &mut reader, wanted)? {
+            return Ok(false);
+        }
+    }
+    Ok(ends_as(alloc, &mut reader, letter))
+}
+
+/// Whether a table gives what the letter of its cut says, which is in the string of this index.
+fn gives(alloc: Global, bytes: &[u8], letter: u8, whole: usize) -> Result<bool, XlsError> {
+    let r = record_of(bytes)?;
+    Ok(reads_as(alloc, &r, letter) && counts_as(&r, letter) && steps_as(alloc, &r, letter, whole)?)
 }
 
 /// Cuts the table at each byte.
 fn cuts(
     rt: &impl Abort,
     alloc: Global,
-    letters: [&[u8]; 3],
+    letters: &[&[u8]],
     before: bool,
     after: bool,
 ) -> Result<(), Fail> {
@@ -157,10 +164,7 @@ fn cuts(
     for (whole, row) in letters.iter().enumerate() {
         for letter in *row {
             let bytes = cut_table(alloc, at, before, after)?;
-            let r = record_of(&bytes)?;
-            reads_as(rt, alloc, &r, *letter)?;
-            counts_as(rt, &r, *letter);
-            steps_as(rt, alloc, &r, *letter, whole)?;
+            assert!(rt; gives(alloc, &bytes, *letter, whole)?);
             at = at.saturating_add(1);
         }
     }
@@ -172,26 +176,26 @@ fn cuts(
 
 #[test]
 fn cuts_units_of_one_byte(rt: HostRuntime) -> Result<(), Fail> {
-    cuts(&rt, rt.alloc(), NARROW, false, false)
+    cuts(&rt, rt.alloc(), &NARROW, false, false)
 }
 
 #[test]
 fn cuts_units_that_become_wide(rt: HostRuntime) -> Result<(), Fail> {
-    cuts(&rt, rt.alloc(), NARROW, false, true)
+    cuts(&rt, rt.alloc(), &NARROW, false, true)
 }
 
 #[test]
 fn cuts_units_of_two_bytes(rt: HostRuntime) -> Result<(), Fail> {
-    cuts(&rt, rt.alloc(), WIDE, true, true)
+    cuts(&rt, rt.alloc(), &WIDE, true, true)
 }
 
 #[test]
 fn cuts_units_that_become_narrow(rt: HostRuntime) -> Result<(), Fail> {
-    cuts(&rt, rt.alloc(), WIDE, true, false)
+    cuts(&rt, rt.alloc(), &WIDE, true, false)
 }
 
 /// `a` with one run and three bytes of an extension, and `z`.
-const WITH_TAIL: [u8; 21] = [
+static WITH_TAIL: [u8; 21] = [
     1, 0, 12, 1, 0, 3, 0, 0, 0, 0x61, 9, 9, 9, 9, 7, 7, 7, 1, 0, 0, 0x7A,
 ];
 

@@ -158,12 +158,22 @@ fn refuses_identifiers_outside_the_ranges(rt: HostRuntime) -> Result<(), Fail> {
 #[test]
 fn reads_records_of_one_number(rt: HostRuntime) -> Result<(), Fail> {
     assert_eq!(rt; parse_xf(&record(XF, &[0, 0, 0xA4, 0]))?, 164);
+    assert!(rt; parse_date_mode(&record(DATE_MODE, &[1, 0]))?);
+    assert!(rt; !parse_date_mode(&record(DATE_MODE, &[0, 0]))?);
+    assert!(rt; !parse_date_mode(&record(DATE_MODE, &[1, 1]))?);
+    Ok(())
+}
+
+#[test]
+fn takes_one_number_for_a_password(rt: HostRuntime) -> Result<(), Fail> {
     parse_file_pass(&record(FILE_PASS, &[0, 0]))?;
     let refused = fault_of(parse_file_pass(&record(FILE_PASS, &[1, 0])));
     assert_eq!(rt; refused, Some(XlsError::Password));
-    for (number, is_1904) in [([1, 0], true), ([0, 0], false), ([1, 1], false)] {
-        assert_eq!(rt; parse_date_mode(&record(DATE_MODE, &number))?, is_1904);
-    }
+    Ok(())
+}
+
+#[test]
+fn reads_pages(rt: HostRuntime) -> Result<(), Fail> {
     let page = parse_code_page(&record(CODE_PAGE, &[0xE4, 4]))?;
     assert_eq!(rt; page, XlsEncoding::Windows1252);
     let refused = fault_of(parse_code_page(&record(CODE_PAGE, &[0xB5, 1])));

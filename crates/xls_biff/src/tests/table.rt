@@ -21,17 +21,17 @@ fn sets_the_width_anew_in_each_piece(rt: HostRuntime) -> Result<(), Fail> {
 }
 
 /// `a`, an empty piece, and `b`.
-const FIRST: [u8; 4] = [1, 0, 0, 0x61];
+static FIRST: [u8; 4] = [1, 0, 0, 0x61];
 
-const OTHERS: [&[u8]; 2] = [&[], &[1, 0, 0, 0x62]];
+static OTHERS: [&[u8]; 2] = [&[], &[1, 0, 0, 0x62]];
 
 #[test]
 fn an_empty_piece_is_an_empty_string(rt: HostRuntime) -> Result<(), Fail> {
     let strings = strings_of(rt.alloc(), &FIRST, &OTHERS)?;
     assert_eq!(rt; strings.len(), 3);
-    for (i, text) in ["a", "", "b"].iter().enumerate() {
-        assert_eq!(rt; strings.get(i), Some(*text));
-    }
+    assert!(rt; strings.get(0) == Some("a"));
+    assert!(rt; strings.get(1) == Some(""));
+    assert!(rt; strings.get(2) == Some("b"));
     assert_eq!(rt; count_of(rt.alloc(), &FIRST, &OTHERS)?, 3);
     Ok(())
 }
@@ -92,17 +92,20 @@ fn steps_through_the_units(rt: HostRuntime) -> Result<(), Fail> {
     Ok(())
 }
 
+/// Bytes, and so many letters after them.
+fn with_letters(alloc: Global, head: &[u8], count: usize) -> Result<Vec<u8>, AllocError> {
+    let mut bytes = head.to_vec(alloc)?;
+    for _ in 0..count {
+        bytes.push(0x61)?;
+    }
+    Ok(bytes)
+}
+
 #[test]
 fn steps_over_a_long_string(rt: HostRuntime) -> Result<(), Fail> {
     // 9,000 units in a body of 8,224 bytes and a piece of 788
-    let mut first = [0x28, 0x23, 0].to_vec(rt.alloc())?;
-    for _ in 0..8_213 {
-        first.push(0x61)?;
-    }
-    let mut second = [0].to_vec(rt.alloc())?;
-    for _ in 0..787 {
-        second.push(0x61)?;
-    }
+    let first = with_letters(rt.alloc(), &[0x28, 0x23, 0], 8_213)?;
+    let second = with_letters(rt.alloc(), &[0], 787)?;
     let bytes = table_of(rt.alloc(), &first, &[&second])?;
     let mut reader = SstReader::new(&record_of(&bytes)?)?;
     let units = reader.next_units(rt.alloc())?.ok_or("no string")?;

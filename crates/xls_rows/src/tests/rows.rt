@@ -59,12 +59,17 @@ fn gives_the_cells_in_the_order_of_the_indexes(rt: HostRuntime) -> Result<(), Fa
     assert!(rt; row.next_cell().is_none());
     let mut row = RowDeserializer::new(&[0, 1], None, &cells, (1, 0));
     assert_eq!(rt; cells_of(rt.alloc(), &mut row)?.as_str(), "7||");
+    Ok(())
+}
+
+#[test]
+fn has_no_value_without_a_key(rt: HostRuntime) {
+    let cells = [Data::Int(7)];
     let mut row = RowDeserializer::new(&[0], None, &cells, (1, 0));
     match row.next_value() {
         Err(DeError::UnexpectedEndOfRow { pos }) => assert_eq!(rt; pos, (1, 0)),
         _ => assert!(rt; false, "another answer"),
     }
-    Ok(())
 }
 
 #[test]
