@@ -32,10 +32,7 @@ fn put(
 }
 
 /// The place of the last sheet of each name.
-pub fn index_of(
-    alloc: Global,
-    sheets: &[Sheet],
-) -> Result<BTreeMap<String, usize>, AllocError>
+pub fn index_of(alloc: Global, sheets: &[Sheet]) -> Result<BTreeMap<String, usize>, AllocError>
     ensures { IfOk result (λ m. IsIndex m sheets.now) }
 {
     let mut index = BTreeMap::new(alloc);
