@@ -52,6 +52,13 @@ const FORMULA_B3: [u8; 31] = [
 
 const CITING: [&[u8]; 6] = [&GLOBALS, &A_SHEET, &EOF, &SHEET, &FORMULA_B3, &EOF];
 
+// RK of 1 at (0, 0) and of 2 at (65535, 65535), whose box has 2^32 cells.
+const NEAR: [u8; 14] = [0x7E, 2, 10, 0, 0, 0, 0, 0, 0, 0, 6, 0, 0, 0];
+
+const FAR: [u8; 14] = [0x7E, 2, 10, 0, 0xFF, 0xFF, 0xFF, 0xFF, 0, 0, 10, 0, 0, 0];
+
+const FAR_CELLS: [&[u8]; 7] = [&GLOBALS, &A_SHEET, &EOF, &SHEET, &NEAR, &FAR, &EOF];
+
 // A property stream with a summary section of two properties: the title in page 1252.
 const TITLE_STREAM: [u8; 95] = [
     0xFE, 0xFF, 0, 0, 0, 0, 0, 0, 0, 0, 0, 0, 0, 0, 0, 0, 0, 0, 0, 0, 0, 0, 0, 0, 1, 0, 0, 0, 0xE0,
@@ -326,6 +333,14 @@ fn a_text_takes_the_room_of_its_length(rt: HostRuntime) -> Result<(), Fail> {
     let mut case = quiet(&[], &THREE);
     case.room = THREE_TEXT.len();
     check(&rt, rt.alloc(), &case, 0, THREE_TEXT.as_bytes())
+}
+
+// The first row is written before the others are made.
+#[test]
+fn a_far_cell_is_written_row_by_row(rt: HostRuntime) -> Result<(), Fail> {
+    let mut case = quiet(&["csv", "A"], &FAR_CELLS);
+    case.room = 5;
+    check(&rt, rt.alloc(), &case, 4, b"1,,,,")
 }
 
 #[test]
