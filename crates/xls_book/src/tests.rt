@@ -10,11 +10,11 @@ mod parts;
 mod sources;
 
 // BOF of the globals and of a sheet in BIFF8, and EOF.
-const G: [u8; 8] = [0x09, 0x08, 4, 0, 0x00, 0x06, 0x05, 0x00];
+static G: [u8; 8] = [0x09, 0x08, 4, 0, 0x00, 0x06, 0x05, 0x00];
 
-const S: [u8; 8] = [0x09, 0x08, 4, 0, 0x00, 0x06, 0x10, 0x00];
+static S: [u8; 8] = [0x09, 0x08, 4, 0, 0x00, 0x06, 0x10, 0x00];
 
-const E: [u8; 4] = [0x0A, 0, 0, 0];
+static E: [u8; 4] = [0x0A, 0, 0, 0];
 
 // BoundSheet8 of a visible worksheet `A` whose part begins at this byte.
 fn bound(offset: u8) -> [u8; 13] {
@@ -42,10 +42,10 @@ fn whole(row: u8, column: u8, n: u8) -> [u8; 14] {
 }
 
 // MergeCells of the one region from (0, 1) to (2, 3).
-const MERGE: [u8; 14] = [0xE5, 0, 10, 0, 1, 0, 0, 0, 2, 0, 1, 0, 3, 0];
+static MERGE: [u8; 14] = [0xE5, 0, 10, 0, 1, 0, 0, 0, 2, 0, 1, 0, 3, 0];
 
 // RK of 12,345 hundredths at (0, 0).
-const HUNDREDTHS: [u8; 14] = [0x7E, 0x02, 10, 0, 0, 0, 0, 0, 0, 0, 0xE7, 0xC0, 0, 0];
+static HUNDREDTHS: [u8; 14] = [0x7E, 0x02, 10, 0, 0, 0, 0, 0, 0, 0, 0xE7, 0xC0, 0, 0];
 
 fn joined(alloc: Global, parts: &[&[u8]]) -> Result<Vec<u8>, AllocError> {
     let mut bytes = Vec::new(alloc);
@@ -77,12 +77,20 @@ fn refusal(alloc: Global, parts: &[&[u8]]) -> Option<XlsError> {
     opened(alloc, parts).err()
 }
 
-fn sheet(alloc: Global, name: &str) -> Result<Sheet, AllocError> {
-    Ok(Sheet {
-        name: String::from_str(alloc, name)?,
-        typ: SheetType::WorkSheet,
-        visible: SheetVisible::Visible,
-    })
+fn is_visible_worksheet(sheet: &Sheet, name: &str) -> bool {
+    sheet.name.as_str() == name
+        && sheet.typ == SheetType::WorkSheet
+        && sheet.visible == SheetVisible::Visible
+}
+
+// Whether these are visible worksheets of these names.
+fn are_worksheets(sheets: &[Sheet], names: &[&str]) -> bool {
+    for (sheet, name) in sheets.iter().zip(names.iter()) {
+        if !is_visible_worksheet(sheet, *name) {
+            return false;
+        }
+    }
+    sheets.len() == names.len()
 }
 
 // The values of a sheet, as `row,column=value` with a space between them.
@@ -94,4 +102,9 @@ fn listed(alloc: Global, book: &Xls, n: usize) -> Result<String, AllocError> {
         }
     }
     Ok(text)
+}
+
+// The values of the first sheet of a stream of these parts.
+fn values_of(alloc: Global, parts: &[&[u8]]) -> Result<String, XlsError> {
+    Ok(listed(alloc, &opened(alloc, parts)?, 0)?)
 }

@@ -27,15 +27,24 @@ fn of(alloc: Global, first: &[u8], second: &[u8]) -> Result<Xls, XlsError> {
     opened(alloc, &[&G, &bound(25), &E, &S, first, second, &E])
 }
 
+// The values, or the formulas, of a sheet of these records.
+fn values_in(alloc: Global, first: &[u8], second: &[u8]) -> Result<String, XlsError> {
+    Ok(listed(alloc, &of(alloc, first, second)?, 0)?)
+}
+
+fn formulas_in(alloc: Global, first: &[u8], second: &[u8]) -> Result<String, XlsError> {
+    Ok(formulas(alloc, &of(alloc, first, second)?, 0)?)
+}
+
 #[test]
 fn a_refused_formula_says_why(rt: HostRuntime) -> Result<(), Fail> {
     let alloc = rt.alloc();
     let short = formula(alloc, 0, &[0x1E, 1, 0, 3, 0x1E, 5, 0])?;
     let sum = formula(alloc, 1, &[0x1E, 1, 0, 0x1E, 5, 0, 3])?;
-    let book = of(alloc, short.as_slice(), sum.as_slice())?;
-    assert_eq!(rt; listed(alloc, &book, 0)?.as_str(), "0,0=6 1,0=6 ");
+    let values = values_in(alloc, &short, &sum)?;
+    assert_eq!(rt; values.as_str(), "0,0=6 1,0=6 ");
     let wanted = "0,0=Unrecognised formula for cell (0, 0): Invalid stack length 1,0=1+5 ";
-    assert_eq!(rt; formulas(alloc, &book, 0)?.as_str(), wanted);
+    assert_eq!(rt; formulas_in(alloc, &short, &sum)?.as_str(), wanted);
     Ok(())
 }
 
@@ -45,10 +54,8 @@ fn a_string_stands_at_the_last_formula(rt: HostRuntime) -> Result<(), Fail> {
     let alloc = rt.alloc();
     let text = [7, 2, 4, 0, 1, 0, 0, 0x41];
     let three = formula(alloc, 3, &[0x1E, 1, 0])?;
-    let behind = of(alloc, three.as_slice(), &text)?;
-    assert_eq!(rt; listed(alloc, &behind, 0)?.as_str(), "3,0=A ");
-    let before = of(alloc, &text, three.as_slice())?;
-    assert_eq!(rt; listed(alloc, &before, 0)?.as_str(), "0,0=A 3,0=6 ");
+    assert_eq!(rt; values_in(alloc, &three, &text)?.as_str(), "3,0=A ");
+    assert_eq!(rt; values_in(alloc, &text, &three)?.as_str(), "0,0=A 3,0=6 ");
     Ok(())
 }
 
@@ -68,12 +75,9 @@ fn an_empty_text_counts_for_the_box_and_is_not_shown(rt: HostRuntime) -> Result<
 #[test]
 fn of_one_position_the_last_formula_stays(rt: HostRuntime) -> Result<(), Fail> {
     let alloc = rt.alloc();
-    let (first, last) = (
-        formula(alloc, 1, &[0x1E, 1, 0])?,
-        formula(alloc, 1, &[0x1E, 2, 0])?,
-    );
-    let book = of(alloc, first.as_slice(), last.as_slice())?;
-    assert_eq!(rt; formulas(alloc, &book, 0)?.as_str(), "1,0=2 ");
+    let first = formula(alloc, 1, &[0x1E, 1, 0])?;
+    let last = formula(alloc, 1, &[0x1E, 2, 0])?;
+    assert_eq!(rt; formulas_in(alloc, &first, &last)?.as_str(), "1,0=2 ");
     Ok(())
 }
 
@@ -124,6 +128,10 @@ fn a_name_finds_its_sheet_behind_it(rt: HostRuntime) -> Result<(), Fail> {
     Ok(())
 }
 
+fn formulas_under(alloc: Global, bytes: &[u8], options: XlsOptions) -> Result<String, XlsError> {
+    Ok(formulas(alloc, &open_under(alloc, bytes, options)?, 0)?)
+}
+
 // BIFF5: PtgRef3d of reference 0 at (9, 2), whose row and column are relative.
 #[test]
 fn before_biff8_each_sheet_has_its_own_reference(rt: HostRuntime) -> Result<(), Fail> {
@@ -132,8 +140,9 @@ fn before_biff8_each_sheet_has_its_own_reference(rt: HostRuntime) -> Result<(), 
     let sheet = [0x85, 0, 8, 0, 24, 0, 0, 0, 0, 0, 1, 0x41];
     let tokens = [0x3A, 0, 0, 0, 0, 0, 0, 0, 0, 0, 0, 0, 0, 0, 0, 9, 0xC0, 2];
     let cell = formula(alloc, 1, &tokens)?;
-    let book = opened(alloc, &[&globals, &sheet, &E, &S, cell.as_slice(), &E])?;
-    assert_eq!(rt; formulas(alloc, &book, 0)?.as_str(), "1,0=A!C10 ");
+    let bytes = joined(alloc, &[&globals, &sheet, &E, &S, cell.as_slice(), &E])?;
+    let shown = formulas_under(alloc, &bytes, XlsOptions::defaults(alloc)?)?;
+    assert_eq!(rt; shown.as_str(), "1,0=A!C10 ");
     Ok(())
 }
 
@@ -145,11 +154,11 @@ fn a_function_of_the_options_is_named(rt: HostRuntime) -> Result<(), Fail> {
     // A call of function 72 with one operand.
     let cell = formula(alloc, 0, &[0x1E, 1, 0, 0x22, 1, 72, 0])?;
     let bytes = joined(alloc, &[&G, &bound(25), &E, &S, cell.as_slice(), &E])?;
-    let book = open_under(alloc, bytes.as_slice(), options)?;
-    assert_eq!(rt; formulas(alloc, &book, 0)?.as_str(), "0,0=X(1) ");
-    let plain = open(alloc, bytes.as_slice())?;
+    let named = formulas_under(alloc, &bytes, options)?;
+    assert_eq!(rt; named.as_str(), "0,0=X(1) ");
+    let plain = formulas_under(alloc, &bytes, XlsOptions::defaults(alloc)?)?;
     let wanted = "0,0=Unrecognised formula for cell (0, 0): Invalid iftab 48 ";
-    assert_eq!(rt; formulas(alloc, &plain, 0)?.as_str(), wanted);
+    assert_eq!(rt; plain.as_str(), wanted);
     Ok(())
 }
 

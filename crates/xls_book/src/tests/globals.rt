@@ -23,14 +23,21 @@ fn fault_of_prefix(len: usize) -> Option<XlsError> {
     }
 }
 
+fn is_cut(alloc: Global, bytes: &[u8]) -> bool {
+    open(alloc, bytes).err() == fault_of_prefix(bytes.len())
+}
+
 #[test]
 fn says_where_each_prefix_is_cut(rt: HostRuntime) -> Result<(), Fail> {
     let bytes = plain(rt.alloc())?;
     for len in 0..=bytes.len() {
-        let answer = open(rt.alloc(), &bytes[..len]).err();
-        assert_eq!(rt; answer, fault_of_prefix(len), "the first {len} bytes");
+        assert!(rt; is_cut(rt.alloc(), &bytes[..len]), "the first {len} bytes");
     }
     Ok(())
+}
+
+fn is_1904(alloc: Global, parts: &[&[u8]]) -> Result<bool, XlsError> {
+    Ok(opened(alloc, parts)?.has_1904_epoch())
 }
 
 #[test]
@@ -38,9 +45,13 @@ fn one_date_mode_of_1_sets_1904(rt: HostRuntime) -> Result<(), Fail> {
     let alloc = rt.alloc();
     let set = [0x22, 0, 2, 0, 1, 0];
     let unset = [0x22, 0, 2, 0, 0, 0];
-    assert!(rt; !opened(alloc, &[&G, &unset, &E])?.has_1904_epoch());
-    assert!(rt; opened(alloc, &[&G, &set, &unset, &E])?.has_1904_epoch());
+    assert!(rt; !is_1904(alloc, &[&G, &unset, &E])?);
+    assert!(rt; is_1904(alloc, &[&G, &set, &unset, &E])?);
     Ok(())
+}
+
+fn has_formats(alloc: Global, parts: &[&[u8]], wanted: &[CellFormat]) -> Result<bool, XlsError> {
+    Ok(opened(alloc, parts)?.formats() == wanted)
 }
 
 #[test]
@@ -50,13 +61,9 @@ fn a_format_may_stand_behind_its_xf(rt: HostRuntime) -> Result<(), Fail> {
     let own = [0xE0, 0, 4, 0, 0, 0, 164, 0];
     let built_in = [0xE0, 0, 4, 0, 0, 0, 14, 0];
     let years = [0x1E, 0x04, 9, 0, 164, 0, 4, 0, 0, 0x79, 0x79, 0x79, 0x79];
-    let book = opened(alloc, &[&G, &own, &built_in, &years, &E])?;
-    assert_eq!(rt;
-        book.formats(),
-        [CellFormat::DateTime, CellFormat::DateTime].as_slice()
-    );
-    let plain = opened(alloc, &[&G, &own, &E])?;
-    assert_eq!(rt; plain.formats(), [CellFormat::Other].as_slice());
+    let dates = [CellFormat::DateTime, CellFormat::DateTime];
+    assert!(rt; has_formats(alloc, &[&G, &own, &built_in, &years, &E], &dates)?);
+    assert!(rt; has_formats(alloc, &[&G, &own, &E], &[CellFormat::Other])?);
     Ok(())
 }
 
@@ -66,7 +73,6 @@ fn drops_nuls_of_a_name(rt: HostRuntime) -> Result<(), Fail> {
     // The name is NUL, the byte E9, NUL.
     let named = [0x85, 0, 11, 0, 27, 0, 0, 0, 0, 0, 3, 0, 0, 0xE9, 0];
     let book = opened(alloc, &[&G, &named, &E])?;
-    let wanted = [sheet(alloc, "é")?];
-    assert_eq!(rt; book.sheets_metadata(), wanted.as_slice());
+    assert!(rt; are_worksheets(book.sheets_metadata(), &["é"]));
     Ok(())
 }
