@@ -17,6 +17,9 @@ fn shows_the_number_of_the_sheet(rt: HostRuntime) -> Result<(), Fail> {
     let mut values = book.values_at(0).ok_or("no sheet")?;
     assert!(rt; is_hundredths(values.next(), 12345));
     assert!(rt; book.values_at(1).is_none());
+    let mut named = book.values_named("A").ok_or("no sheet")?.again();
+    assert!(rt; is_hundredths(named.next(), 12345));
+    assert!(rt; book.values_named("B").is_none());
     Ok(())
 }
 
