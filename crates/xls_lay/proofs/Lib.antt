@@ -3,7 +3,7 @@ pub mod FillLemmas
 pub mod CutLemmas
 pub mod FilledLemmas
 pub mod InsideLemmas
-pub mod PieceLemmas
+pub mod PutLemmas
 pub mod StringLemmas
 pub mod SizeLemmas
 pub mod WholeLemmas

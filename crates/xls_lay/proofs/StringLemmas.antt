@@ -6,12 +6,12 @@ use Rattle.xls_layout.specs.LaidStrings.{marks_of_string, marks_of_strings}
 use Rattle.xls_layout.specs.Canonical.{fill_from, canonical_string, canonical_strings}
 use Rattle.xls_lay.specs.Inside.{total, parts_of}
 use Rattle.xls_lay.specs.Filling.{IsFilled, Fills}
-use Rattle.xls_lay.specs.Pieces.{Puts}
+use Rattle.xls_lay.specs.Putting.{Puts}
 use Rattle.xls_lay.specs.declared.fill.Fill.{Fill}
-use Rattle.xls_lay.specs.declared.table.Pieces.{Pieces}
+use Rattle.xls_lay.specs.declared.table.TableWriter.{TableWriter}
 use Rattle.xls_lay.proofs.InsideLemmas.{next_size}
 use Rattle.xls_lay.proofs.FilledLemmas.{fills_both, fills_same}
-use Rattle.xls_lay.proofs.PieceLemmas.{puts_both, puts_same}
+use Rattle.xls_lay.proofs.PutLemmas.{puts_both, puts_same}
 
 abbrev pub strings_marks : ℕ → List (List ℕ) → List Mark
 strings_marks used strings = marks_of_strings (canonical_strings used strings)
@@ -90,12 +90,12 @@ module _ (old now : Fill) (sizes units rest : List ℕ) (i : ℕ) (h : Counted o
 
 -- ---- strings that are put
 
-pub record PutStrings (old now : Pieces) (sizes units rest : List ℕ) (i : ℕ) : Type 0 where
+pub record PutStrings (old now : TableWriter) (sizes units rest : List ℕ) (i : ℕ) : Type 0 where
   pub ms : List Mark
   pub puts : Puts old ms now
   pub walked : Walked (length old.body.items) (length now.body.items) sizes units rest i ms
 
-pub strings_none : (old : Pieces) (sizes units : List ℕ) → total sizes ≡ length units
+pub strings_none : (old : TableWriter) (sizes units : List ℕ) → total sizes ≡ length units
     → PutStrings old old sizes units units 0
 strings_none old sizes units e = record {
   ms = [];
@@ -103,11 +103,11 @@ strings_none old sizes units e = record {
   walked = walked_none (length old.body.items) sizes units e;
 }
 
-module _ (old now : Pieces) (sizes units rest : List ℕ) (i : ℕ) (h : PutStrings old now sizes units rest i) where
+module _ (old now : TableWriter) (sizes units rest : List ℕ) (i : ℕ) (h : PutStrings old now sizes units rest i) where
   pub strings_within : i < length sizes → get_or sizes i 0 ≤ length rest
   strings_within lt = walked_within (length old.body.items) (length now.body.items) sizes units rest i h.ms h.walked lt
 
-  pub strings_more : (new : Pieces) → i < length sizes
+  pub strings_more : (new : TableWriter) → i < length sizes
       → Puts now (marks_of_string (canonical_string (length now.body.items) (take (get_or sizes i 0) rest))) new
       → PutStrings old new sizes units (drop (get_or sizes i 0) rest) (i + 1)
   strings_more new lt f =

@@ -9,8 +9,8 @@ use Rattle.xls_layout.specs.LaidStrings.{le32, marks_of_strings}
 use Rattle.xls_layout.specs.Canonical.{canonical_strings, counts_of}
 use Rattle.xls_lay.specs.Writing.{saturated, canonical_bytes, canonical_size}
 use Rattle.xls_lay.specs.Cutting.{eof_bytes, part_bytes, part_size, entry_bytes, table_bytes, rest_bytes, globals_from, parts_from}
-use Rattle.xls_lay.specs.Pieces.{Puts}
-use Rattle.xls_lay.specs.declared.table.Pieces.{Pieces}
+use Rattle.xls_lay.specs.Putting.{Puts}
+use Rattle.xls_lay.specs.declared.table.TableWriter.{TableWriter}
 use Rattle.xls_lay.proofs.WholeLemmas.{whole, whole_length}
 use Rattle.xls_lay.specs.Entries.{entry_in, entries_in}
 use Rattle.xls_lay.specs.declared.entry.Entry.{Entry}
@@ -89,7 +89,7 @@ module _ (old out : List ℕ) (entries : List Entry) (i : ℕ) (p : PutParts old
 
 -- ---- a string table
 
-pub table_put : (out new : List ℕ) (strings : List (List ℕ)) (count : ℕ) (a b : Pieces) → count ≡ length strings
+pub table_put : (out new : List ℕ) (strings : List (List ℕ)) (count : ℕ) (a b : TableWriter) → count ≡ length strings
     → a.done.items ≡ out → a.typ ≡ types.SST → a.body.items ≡ le32 count ++ le32 count
     → Puts a (marks_of_strings (canonical_strings (length a.body.items) strings)) b
     → new ≡ b.done.items ++ rest_bytes b.typ b.body.items [] → new ≡ out ++ table_bytes strings

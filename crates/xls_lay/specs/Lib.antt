@@ -8,5 +8,5 @@ pub mod Counted
 pub mod Entries
 pub mod Cutting
 pub mod Filling
-pub mod Pieces
+pub mod Putting
 pub mod Taking

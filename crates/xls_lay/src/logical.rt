@@ -1,6 +1,6 @@
 //! A logical list, put together from its start.
 
-ghost use Rattle.std.specs.Prelude.{◌≡◌, ◌↔◌, ◌≢◌, ◌+◌, ◌<◌, ◌≤◌, ◌^◌, ◌++◌, ◌∷◌, [], length, map, true, IsTrue, OnOk, OnErr};
+ghost use Rattle.std.specs.Prelude.{◌≡◌, ◌↔◌, ◌+◌, ◌<◌, ◌≤◌, ◌^◌, ◌++◌, ◌∷◌, [], length, true, IsTrue, OnOk, OnErr};
 ghost use Rattle.xls_model.specs.Listing.{plain_entry, table_entry, sheet_entry, is_among, sheet_types};
 ghost use Rattle.xls_layout.specs.Layout.{IsPlainType};
 ghost use Rattle.xls_lay.specs.Counted.{Counted};

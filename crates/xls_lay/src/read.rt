@@ -3,7 +3,8 @@
 ghost use Rattle.std.specs.Prelude.{◌≡◌, ◌↔◌, IsTrue, ℕ, List, ◌<◌, ◌≤◌, ◌^◌, length, drop, slice_index, None, true, false};
 ghost use Rattle.xls_model.specs.Stream.{group_bytes};
 ghost use Rattle.xls_model.specs.Walks.{IsBytes};
-ghost use Rattle.xls_model.specs.Listing.{Kept, Item, IsItem, IsWhole, entry_of, is_globals_type, IsShared, table_of, IsPart, IsSheetPart, offset_at, table_entry, sheet_entry, is_among};
+ghost use Rattle.xls_model.specs.Listing.{Kept, Item, IsItem, IsWhole, entry_of, is_globals_type, IsShared, table_of};
+ghost use Rattle.xls_model.specs.Listing.{IsPart, IsSheetPart, offset_at, table_entry, sheet_entry};
 ghost use Rattle.xls_layout.specs.Layout.{IsPlainType};
 ghost use Rattle.xls_biff.specs.Walking.{group_of};
 ghost use Rattle.xls_lay.specs.Reading.{ReadsList};

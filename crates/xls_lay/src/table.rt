@@ -1,12 +1,12 @@
 //! A string table that is written, cut where a record body or piece is full.
 
-ghost use Rattle.std.specs.Prelude.{◌≡◌, ◌+◌, ◌≤◌, ◌<◌, ◌^◌, ◌++◌, ◌∷◌, [], length, map, not, Some, None, OnOk, IfOk};
+ghost use Rattle.std.specs.Prelude.{◌≡◌, ◌+◌, ◌≤◌, ◌<◌, ◌^◌, ◌++◌, ◌∷◌, [], length, map, Some, None, OnOk, IfOk};
 ghost use Rattle.std.specs.List.{AllByRecursion};
 ghost use Rattle.xls_model.specs.declared.types.TheConstants as types;
 ghost use Rattle.xls_layout.specs.LaidStrings.{head_bytes, le32, marks_of_break, marks_of_steps, marks_of_string, unit_bytes, FitsWidth};
 ghost use Rattle.xls_layout.specs.Canonical.{passes, unit_size, canonical_steps, canonical_string};
 ghost use Rattle.xls_lay.specs.Cutting.{rest_bytes};
-ghost use Rattle.xls_lay.specs.Pieces.{Puts, HasRoom, cut_marks};
+ghost use Rattle.xls_lay.specs.Putting.{Puts, HasRoom, cut_marks};
 
 use crate::fill::{FULL, is_all_narrow, size_of_unit};
 use crate::write::{push_u32, put_record};
@@ -15,17 +15,17 @@ use xls_model::types::{CONTINUE, SST};
 
 /// The records before the current one, and the type and the body of that.
 #[derive(Drop)]
-pub(crate) struct Pieces {
+pub(crate) struct TableWriter {
     done: Vec<u8>,
     typ: u16,
     body: Vec<u8>,
 }
 
-impl Pieces {
+impl TableWriter {
     ghost use Rattle.xls_layout.specs.Canonical.{counts_of};
 
     /// The SST record of so many strings, after what is done. The number stands twice.
-    pub(crate) fn new(alloc: Global, done: Vec<u8>, count: u32) -> Result<Pieces, AllocError>
+    pub(crate) fn new(alloc: Global, done: Vec<u8>, count: u32) -> Result<TableWriter, AllocError>
         ensures done { IfOk result (λ p. p.done.items ≡ done.items) }
         ensures typ { IfOk result (λ p. p.typ ≡ types.SST) }
         ensures body { IfOk result (λ p. p.body.items ≡ le32 count ++ le32 count) }
@@ -33,7 +33,7 @@ impl Pieces {
         let mut body = Vec::with_capacity(alloc, FULL)?;
         push_u32(&mut body, count)?;
         push_u32(&mut body, count)?;
-        Ok(Pieces {
+        Ok(TableWriter {
             done,
             typ: SST,
             body,

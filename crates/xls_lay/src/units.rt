@@ -7,10 +7,10 @@ ghost use Rattle.xls_lay.specs.Writing.{saturated};
 ghost use Rattle.xls_lay.specs.Cutting.{marks_size};
 ghost use Rattle.xls_lay.specs.Filling.{IsFilled, Fills};
 ghost use Rattle.xls_lay.specs.Inside.{parts_of, total};
-ghost use Rattle.xls_lay.specs.Pieces.{Puts, HasRoom};
+ghost use Rattle.xls_lay.specs.Putting.{Puts, HasRoom};
 
 use crate::fill::Fill;
-use crate::table::Pieces;
+use crate::table::TableWriter;
 use std::alloc::{AllocError, Global};
 use std::marker::Model;
 
@@ -29,17 +29,17 @@ fn fill_strings(sizes: &[u16], units: &[u16], fill: &mut Fill)
 }
 
 /// Puts them.
-fn put_strings(sizes: &[u16], units: &[u16], pieces: &mut Pieces) -> Result<(), AllocError>
+fn put_strings(sizes: &[u16], units: &[u16], writer: &mut TableWriter) -> Result<(), AllocError>
     requires sizes { total sizes.now ≡ length units.now }
-    requires room { HasRoom pieces.old }
-    ensures puts { OnOk result (Puts pieces.old
-        (marks_of_strings (canonical_strings (length pieces.old.body.items) (parts_of sizes.now units.now))) pieces.new) }
-    ensures room { OnOk result (HasRoom pieces.new) }
+    requires room { HasRoom writer.old }
+    ensures puts { OnOk result (Puts writer.old
+        (marks_of_strings (canonical_strings (length writer.old.body.items) (parts_of sizes.now units.now))) writer.new) }
+    ensures room { OnOk result (HasRoom writer.new) }
 {
     let mut rest = units;
     for size in sizes {
         let (string, others) = rest.split_at(*size as usize);
-        pieces.put_string(string)?;
+        writer.put_string(string)?;
         rest = others;
     }
     Ok(())
@@ -104,12 +104,12 @@ impl UnitLists {
     }
 
     /// Puts the strings one after the other.
-    pub(crate) fn put(&self, pieces: &mut Pieces) -> Result<(), AllocError>
-        requires { HasRoom pieces.old }
-        ensures puts { OnOk result (Puts pieces.old
-            (marks_of_strings (canonical_strings (length pieces.old.body.items) self.now)) pieces.new) }
-        ensures room { OnOk result (HasRoom pieces.new) }
+    pub(crate) fn put(&self, writer: &mut TableWriter) -> Result<(), AllocError>
+        requires { HasRoom writer.old }
+        ensures puts { OnOk result (Puts writer.old
+            (marks_of_strings (canonical_strings (length writer.old.body.items) self.now)) writer.new) }
+        ensures room { OnOk result (HasRoom writer.new) }
     {
-        put_strings(&self.sizes, &self.units, pieces)
+        put_strings(&self.sizes, &self.units, writer)
     }
 }

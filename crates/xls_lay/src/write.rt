@@ -16,7 +16,7 @@ use crate::error::LayError;
 use crate::kept::KeptRecords;
 use crate::length::{globals_length, part_size, parts_length};
 use crate::logical::Logical;
-use crate::table::Pieces;
+use crate::table::TableWriter;
 use crate::units::UnitLists;
 use std::alloc::{AllocError, Global};
 use xls_model::types::{BOF, EOF};
@@ -77,9 +77,9 @@ fn put_table(alloc: Global, out: Vec<u8>, strings: &UnitLists) -> Result<Vec<u8>
     requires { length strings.now < 2 ^ 32 }
     ensures { IfOk result (λ v. v.items ≡ out.items ++ table_bytes strings.now) }
 {
-    let mut pieces = Pieces::new(alloc, out, strings.len() as u32)?;
-    strings.put(&mut pieces)?;
-    let out = pieces.finish()?;
+    let mut writer = TableWriter::new(alloc, out, strings.len() as u32)?;
+    strings.put(&mut writer)?;
+    let out = writer.finish()?;
     Ok(out)
 }
 

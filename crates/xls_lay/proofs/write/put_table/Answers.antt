@@ -3,5 +3,5 @@ use Rattle.xls_lay.proofs.write.put_table.Goals as goal
 
 pub returns : goal.returns
 returns c =
-    table_put c.args.out.items c.in_ok-out.out.items c.args.strings.now _ c.in_ok-pieces.pieces c.put.new.pieces c.len.ensures
-    c.in_ok-pieces.ensures.done c.in_ok-pieces.ensures.typ c.in_ok-pieces.ensures.body c.in_ok-put.ensures.puts c.in_ok-out.ensures
+    table_put c.args.out.items c.in_ok-out.out.items c.args.strings.now _ c.in_ok-writer.writer c.put.new.writer c.len.ensures
+    c.in_ok-writer.ensures.done c.in_ok-writer.ensures.typ c.in_ok-writer.ensures.body c.in_ok-put.ensures.puts c.in_ok-out.ensures

@@ -1,5 +1,5 @@
-use Rattle.xls_lay.proofs.PieceLemmas.{units_fit_width, puts_string}
-use Rattle.xls_lay.proofs.table.Pieces.put_string.Goals as goal
+use Rattle.xls_lay.proofs.PutLemmas.{units_fit_width, puts_string}
+use Rattle.xls_lay.proofs.table.TableWriter.put_string.Goals as goal
 
 pub put_units-requires-clause-width : goal.put_units-requires-clause-width
 put_units-requires-clause-width c =

@@ -1,9 +1,9 @@
 use Rattle.std.proofs.Common.{rules, ◌≡◌, subst, ℕ, ◌+◌, ◌<◌, length, Some, [], ◌∷◌}
 use Rattle.xls_layout.specs.LaidStrings.{wide_bit}
 use Rattle.xls_layout.specs.Canonical.{unit_size}
-use Rattle.xls_lay.specs.Pieces.{Puts}
-use Rattle.xls_lay.proofs.PieceLemmas.{unit_cut}
-use Rattle.xls_lay.proofs.table.Pieces.cut_before_unit.Goals as goal
+use Rattle.xls_lay.specs.Putting.{Puts}
+use Rattle.xls_lay.proofs.PutLemmas.{unit_cut}
+use Rattle.xls_lay.proofs.table.TableWriter.cut_before_unit.Goals as goal
 
 pub returns-clause-puts : goal.returns-clause-puts
 returns-clause-puts c =

@@ -9,15 +9,15 @@ use Rattle.xls_layout.specs.LaidStrings.{put, wide_bit, unit_bytes, marks_of_bre
 use Rattle.xls_layout.specs.Canonical.{passes, cut_if, fill_from, unit_size, used_after, canonical_string, is_narrow, IsUnit}
 use Rattle.xls_layout.proofs.CanonicalTableLemmas.{fit_width}
 use Rattle.xls_lay.specs.Cutting.{rest_bytes}
-use Rattle.xls_lay.specs.Pieces.{with_marks, Puts, cut_marks}
-use Rattle.xls_lay.specs.declared.table.Pieces.{Pieces}
+use Rattle.xls_lay.specs.Putting.{with_marks, Puts, cut_marks}
+use Rattle.xls_lay.specs.declared.table.TableWriter.{TableWriter}
 use Rattle.xls_lay.proofs.FillLemmas.{fill-append, below, not_below}
 use Rattle.xls_lay.proofs.CutLemmas.{unit_marks, units_marks, marks_next, fill_unit, next_is, head_marks, fill_head, string_marks}
 
-pub puts_same : (p : Pieces) → Puts p [] p
+pub puts_same : (p : TableWriter) → Puts p [] p
 puts_same p = record { whole = λ more. refl; used = refl }
 
-pub puts_both : (a b c : Pieces) (ms ns : List Mark) → Puts a ms b → Puts b ns c → Puts a (ms ++ ns) c
+pub puts_both : (a b c : TableWriter) (ms ns : List Mark) → Puts a ms b → Puts b ns c → Puts a (ms ++ ns) c
 puts_both a b c ms ns h k = record {
   whole = λ more. k.whole more ∙ h.whole (ns ++ more) ∙ ap (λ (x : List Mark). with_marks a x) (sym (append_assoc ms ns more));
   used = k.used ∙ ap (λ (n : ℕ). fill_from n ns) h.used ∙ sym (fill-append (length a.body.items) ms ns);
@@ -37,7 +37,7 @@ pub fill-bytes : (used : ℕ) (bs : List ℕ) → fill_from used (map Some bs) �
 fill-bytes used [] = omega arith
 fill-bytes used (b ∷ bs) = fill-bytes (suc used) bs ∙ omega arith
 
-pub puts_bytes : (a b : Pieces) (bytes : List ℕ) → b.done.items ≡ a.done.items → b.typ ≡ a.typ
+pub puts_bytes : (a b : TableWriter) (bytes : List ℕ) → b.done.items ≡ a.done.items → b.typ ≡ a.typ
     → b.body.items ≡ a.body.items ++ bytes → Puts a (map Some bytes) b
 puts_bytes a b bytes d t e = record {
   whole = λ more.
@@ -50,7 +50,7 @@ puts_bytes a b bytes d t e = record {
   used = ap length e ∙ length-append a.body.items bytes ∙ sym (fill-bytes (length a.body.items) bytes);
 }
 
-pub puts_mark : (a b : Pieces) → b.done.items ≡ a.done.items ++ enc a.typ a.body.items → b.typ ≡ 60
+pub puts_mark : (a b : TableWriter) → b.done.items ≡ a.done.items ++ enc a.typ a.body.items → b.typ ≡ 60
     → b.body.items ≡ [] → Puts a (None ∷ []) b
 puts_mark a b d t e = record {
   whole = λ more.
@@ -64,21 +64,21 @@ puts_mark a b d t e = record {
 
 -- ---- units
 
-pub record PutUnits (old now : Pieces) (wide : Bool) (units : List ℕ) (i : ℕ) : Type 0 where
+pub record PutUnits (old now : TableWriter) (wide : Bool) (units : List ℕ) (i : ℕ) : Type 0 where
   pub ms : List Mark
   pub puts : Puts old ms now
   pub whole : ms ++ units_marks wide (length now.body.items) (drop i units) ≡ units_marks wide (length old.body.items) units
   pub fit : AllByRecursion (FitsWidth wide) (drop i units)
 
-pub units_none : (old : Pieces) (wide : Bool) (units : List ℕ) → AllByRecursion (FitsWidth wide) units
+pub units_none : (old : TableWriter) (wide : Bool) (units : List ℕ) → AllByRecursion (FitsWidth wide) units
     → PutUnits old old wide units 0
 units_none old wide units h = record { ms = []; puts = puts_same old; whole = refl; fit = h }
 
-module _ (old now : Pieces) (wide : Bool) (units : List ℕ) (i : ℕ) (h : PutUnits old now wide units i) where
+module _ (old now : TableWriter) (wide : Bool) (units : List ℕ) (i : ℕ) (h : PutUnits old now wide units i) where
   pub units_fit : i < length units → FitsWidth wide (get_or units i 0)
   units_fit lt = (rw (next_is units i lt) at h.fit).0
 
-  pub units_more : (new : Pieces) → i < length units
+  pub units_more : (new : TableWriter) → i < length units
       → Puts now (unit_marks wide (length now.body.items) (get_or units i 0)) new → PutUnits old new wide units (i + 1)
   units_more new lt p =
       let used = length now.body.items in
@@ -105,7 +105,7 @@ module _ (old now : Pieces) (wide : Bool) (units : List ℕ) (i : ℕ) (h : PutU
 
 -- ---- a string
 
-pub puts_string : (old middle new : Pieces) (us : List ℕ) (narrow : Bool) → narrow ≡ is_narrow us
+pub puts_string : (old middle new : TableWriter) (us : List ℕ) (narrow : Bool) → narrow ≡ is_narrow us
     → Puts old (head_marks (passes (length old.body.items) 3) (not narrow) (length us)) middle
     → Puts middle (units_marks (not narrow) (length middle.body.items) us) new
     → Puts old (marks_of_string (canonical_string (length old.body.items) us)) new
@@ -129,17 +129,17 @@ within_passes used more h = not_below 8224 (used + more) h
 pub beyond_passes : (used more : ℕ) → 8224 < used + more → passes used more ≡ true
 beyond_passes used more h = below 8224 (used + more) h
 
-pub head_uncut : (a : Pieces) → length a.body.items + 3 ≤ 8224 → Puts a (marks_of_break (passes (length a.body.items) 3)) a
+pub head_uncut : (a : TableWriter) → length a.body.items + 3 ≤ 8224 → Puts a (marks_of_break (passes (length a.body.items) 3)) a
 head_uncut a h = subst (λ (p : Bool). Puts a (marks_of_break p) a) (sym (within_passes (length a.body.items) 3 h)) (puts_same a)
 
-pub head_cut : (a b : Pieces) → 8224 < length a.body.items + 3 → Puts a (None ∷ []) b → Puts a (marks_of_break (passes (length a.body.items) 3)) b
+pub head_cut : (a b : TableWriter) → 8224 < length a.body.items + 3 → Puts a (None ∷ []) b → Puts a (marks_of_break (passes (length a.body.items) 3)) b
 head_cut a b h p = subst (λ (q : Bool). Puts a (marks_of_break q) b) (sym (beyond_passes (length a.body.items) 3 h)) p
 
-pub unit_uncut : (a : Pieces) (wide : Bool) → length a.body.items + unit_size wide ≤ 8224 → Puts a (cut_marks wide (length a.body.items)) a
+pub unit_uncut : (a : TableWriter) (wide : Bool) → length a.body.items + unit_size wide ≤ 8224 → Puts a (cut_marks wide (length a.body.items)) a
 unit_uncut a wide h =
     subst (λ (p : Bool). Puts a (marks_of_steps wide (cut_if p wide [])) a) (sym (within_passes (length a.body.items) (unit_size wide) h)) (puts_same a)
 
-pub unit_cut : (a b c : Pieces) (wide : Bool) → 8224 < length a.body.items + unit_size wide → Puts a (None ∷ []) b
+pub unit_cut : (a b c : TableWriter) (wide : Bool) → 8224 < length a.body.items + unit_size wide → Puts a (None ∷ []) b
     → Puts b (Some (wide_bit wide) ∷ []) c → Puts a (cut_marks wide (length a.body.items)) c
 unit_cut a b c wide h p q =
     subst (λ (x : Bool). Puts a (marks_of_steps wide (cut_if x wide [])) c) (sym (beyond_passes (length a.body.items) (unit_size wide) h))

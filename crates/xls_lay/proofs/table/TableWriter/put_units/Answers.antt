@@ -1,8 +1,8 @@
 use Rattle.std.proofs.Common.{List, subst, get_or}
 use Rattle.xls_model.specs.StringTable.{Mark}
-use Rattle.xls_lay.specs.Pieces.{Puts}
-use Rattle.xls_lay.proofs.PieceLemmas.{units_more, cut_unit}
-use Rattle.xls_lay.proofs.table.Pieces.put_units.Goals as goal
+use Rattle.xls_lay.specs.Putting.{Puts}
+use Rattle.xls_lay.proofs.PutLemmas.{units_more, cut_unit}
+use Rattle.xls_lay.proofs.table.TableWriter.put_units.Goals as goal
 
 pub loop-unit-preserved : goal.loop-unit-preserved
 loop-unit-preserved c =
