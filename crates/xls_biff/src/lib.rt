@@ -34,7 +34,7 @@ pub use substream::SheetRecords;
 pub use walk::RecordIter;
 pub use xls_strings::{
     Biff, Part, Pieces, Record, SstReader, Strings, XlsError, parse_short_string, parse_sst,
-    parse_string, parse_uncounted, size_of_uncounted, skip_sst,
+    parse_string, size_of_uncounted, skip_sst,
 };
 
 #[cfg(test)]

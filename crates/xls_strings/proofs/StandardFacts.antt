@@ -8,7 +8,7 @@ use Rattle.xls_strings.specs.declared.version.Biff.TheVariants.{Biff8}
 use Rattle.xls_strings.specs.declared.error.XlsError.TheVariants as errors
 use Rattle.xls_strings.specs.ErrorText.{error_text}
 use Rattle.xls_strings.specs.Strings.{short_string_at, string_at}
-use Rattle.xls_strings.specs.Uncounted.{uncounted_at}
+use Rattle.xls_strings.specs.Uncounted.{uncounted_size}
 
 -- U+1F600 cut between its units
 pub known_pair : next_at (marked (2 ∷ 0 ∷ 1 ∷ 0x3D ∷ 0xD8 ∷ []) ((1 ∷ 0 ∷ 0xDE ∷ []) ∷ [])) ≡ Ok (0xD83D ∷ 0xDE00 ∷ [], [])
@@ -46,10 +46,10 @@ pub known_zero : string_at Utf16 Biff8 (0 ∷ 1 ∷ []) ≡ Err (errors.Len 3 2 
 known_zero = refl
 
 -- a name without its count, and a wide unit that isn't there
-pub known_uncounted : uncounted_at 5 (0 ∷ 0x54 ∷ 0x6F ∷ 0x74 ∷ 0x61 ∷ 0x6C ∷ 0x3A ∷ []) ≡ Ok (codes "Total", 6)
+pub known_uncounted : uncounted_size 5 (0 ∷ 0x54 ∷ 0x6F ∷ 0x74 ∷ 0x61 ∷ 0x6C ∷ 0x3A ∷ []) ≡ Ok 6
 known_uncounted = refl
 
-pub known_missing : uncounted_at 2 (1 ∷ 0x41 ∷ 0 ∷ 0x42 ∷ []) ≡ Err (errors.Len 5 4 parts.NoCch)
+pub known_missing : uncounted_size 2 (1 ∷ 0x41 ∷ 0 ∷ 0x42 ∷ []) ≡ Err (errors.Len 5 4 parts.NoCch)
 known_missing = refl
 
 -- printed texts

@@ -1,7 +1,6 @@
 //! Strings of one piece.
 
 use super::*;
-use std::alloc::Global;
 
 #[test]
 fn reads_a_short_string(rt: HostRuntime) -> Result<(), Fail> {
@@ -37,15 +36,6 @@ fn refuses_a_string_without_flags(rt: HostRuntime) {
     assert_eq!(rt; short, too_short(Part::Text, 3, 2));
 }
 
-#[test]
-fn reads_a_string_without_a_count(rt: HostRuntime) -> Result<(), Fail> {
-    let (text, size) = parse_uncounted(rt.alloc(), &[0, 0x41, 0xE9, 0x42], 2)?;
-    assert_eq!(rt; (text.as_str(), size), ("A\u{E9}", 3));
-    let (text, size) = parse_uncounted(rt.alloc(), &[1, 0x3D, 0xD8, 0, 0xDE], 2)?;
-    assert_eq!(rt; (text.as_str(), size), ("\u{1F600}", 5));
-    Ok(())
-}
-
 /// A count below the size is refused, and no other.
 fn below(typ: Part, size: usize, found: usize) -> Option<XlsError> {
     if found < size {
@@ -56,10 +46,8 @@ fn below(typ: Part, size: usize, found: usize) -> Option<XlsError> {
 }
 
 /// Whether three units in fewer bytes than the size are refused, and in no fewer read.
-fn is_below(alloc: Global, bytes: &[u8], size: usize) -> bool {
-    let wanted = below(Part::NoCch, size, bytes.len());
-    fault_of(parse_uncounted(alloc, bytes, 3)) == wanted
-        && fault_of(size_of_uncounted(bytes, 3)) == wanted
+fn is_below(bytes: &[u8], size: usize) -> bool {
+    fault_of(size_of_uncounted(bytes, 3)) == below(Part::NoCch, size, bytes.len())
 }
 
 #[test]
@@ -68,7 +56,7 @@ fn strings_without_a_count_have_all_their_units(rt: HostRuntime) {
         let whole = [flags; 9];
         for len in 1..10 {
             let (bytes, _) = whole.split_at(len);
-            assert!(rt; is_below(rt.alloc(), bytes, size));
+            assert!(rt; is_below(bytes, size));
         }
     }
     assert_eq!(rt;
