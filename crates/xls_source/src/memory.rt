@@ -138,6 +138,7 @@ impl Source for SteadySource {
         ensures bytes { ReadConsumes (Some self.old) (Some self.new) result into.new }
         ensures cause { HasCause 0 0 result }
         ensures ok { IsOk result }
+        ensures moves { IfOk result (λ n. n ≡ min (length into.new) (length self.old)) }
     {
         let count = copy_front(&self.bytes[self.at..], usize::MAX, into);
         self.at += count;

@@ -1,11 +1,12 @@
 //! Where bytes come from.
 
-ghost use Rattle.std.specs.Prelude.{◌≡◌, ◌<◌, List, Option, ℕ, IfOk, length};
+ghost use Rattle.std.specs.Prelude.{◌≡◌, ◌<◌, ◌+◌, ◌-◌, ◌^◌, List, Option, ℕ, IfOk, OnOk, OnErr, length, min};
 ghost use Rattle.std.specs.Io.{ReadsAtMost};
 ghost use Rattle.std.specs.Io.KnownBytes.{ReadConsumes};
 ghost use Rattle.xls_source.specs.Causes.{HasCause};
 
 use std::io::Read;
+use std::marker::Model;
 use xls_strings::XlsError;
 
 /// A read failed.
@@ -43,27 +44,45 @@ pub trait Source {
         ensures end { IfOk result (λ n. n ≡ 0 → 0 < length into.new → ended self.new) };
 }
 
-/// A reader of std. The bytes that are left are told where that reader tells them.
+/// A reader of std. The bytes that are left are told where that reader tells them. Contracts see the reader and
+/// the count of faults.
 #[derive(Drop)]
 pub struct StdSource<R: Read> {
     inner: R,
     faults: u64,
 }
 
+impl<R: Read> Model for StdSource<R> {
+    ghost use Rattle.std.specs.Prelude.{ℕ};
+
+    ghost Value = { R × ℕ };
+
+    ghost view = { λ s. (s.inner, s.faults) };
+}
+
 impl<R: Read> StdSource<R> {
-    pub fn new(inner: R) -> StdSource<R> {
+    /// A source of this reader's bytes, of which no read has failed.
+    pub fn new(inner: R) -> StdSource<R>
+        ensures { result ≡ (inner, 0) }
+    {
         StdSource { inner, faults: 0 }
     }
 }
 
 impl<R: Read> Source for StdSource<R> {
-    ghost left = { λ s. R.remaining s.inner };
+    ghost left = { λ s. R.remaining s.0 };
 
-    ghost faults = { λ s. s.faults };
+    ghost faults = { λ s. s.1 };
 
     ghost ended = { λ _. Unit {0} };
 
-    fn read(&mut self, into: &mut [u8]) -> Result<usize, ReadFault> {
+    fn read(&mut self, into: &mut [u8]) -> Result<usize, ReadFault>
+        ensures bound { ReadsAtMost result into.new }
+        ensures bytes { ReadConsumes (R.remaining self.old.0) (R.remaining self.new.0) result into.new }
+        ensures cause { HasCause self.old.1 self.new.1 result }
+        ensures counts { OnOk result (self.new.1 ≡ self.old.1) }
+        ensures rises { OnErr result (self.new.1 ≡ min (self.old.1 + 1) (2 ^ 64 - 1)) }
+    {
         match self.inner.read(into) {
             Ok(count) => Ok(count),
             Err(_) => {
