@@ -16,7 +16,7 @@ pub use defined::{check_lbl, parse_defined_names, parse_lbl};
 pub use ftab::{FTAB, FTAB_ARGC, FTAB_LEN};
 pub use functions::FunctionTable;
 pub use names::Names;
-pub use parse::parse_formula;
+pub use parse::{parse_formula, tokens_of};
 pub use scope::sheet_of_reference;
 pub use xls_ptg::{RawCite, Token, read_token};
 

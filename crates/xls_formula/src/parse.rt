@@ -18,8 +18,9 @@ use xls_biff::{Biff, Part, Refs, Strings, XlsError};
 use xls_ptg::{read_ptg, short, word_at};
 use xls_text::XlsEncoding;
 
-/// The tokens after their length.
-fn tokens_of(rgce: &[u8]) -> Result<&[u8], XlsError>
+/// The tokens after their length in 16 bits, CellParsedFormula of [MS-XLS] 2.5.198.3; what stands after
+/// them is left out. `Len` of `rgce` where fewer bytes are there. Takes no memory.
+pub fn tokens_of(rgce: &[u8]) -> Result<&[u8], XlsError>
     ensures { Exactly (λ tokens. tokens.now) result (tokens_at rgce.now) }
 {
     if rgce.len() < 2 {
