@@ -37,6 +37,16 @@ impl<'a> Ahead<'a> {
         }
     }
 
+    /// The same cells, to be taken apart from these. Takes no memory.
+    pub(crate) fn again(&self) -> Ahead<'a>
+        ensures { result ≡ self.now }
+    {
+        Ahead {
+            next: self.next,
+            others: self.others.again(),
+        }
+    }
+
     /// The value of the next cell, if that stands at this position; then the cell is taken.
     pub(crate) fn take_at(&mut self, row: u64, column: u64) -> Option<&'a Data>
         ensures { Takes self.old row column result self.new }

@@ -74,7 +74,9 @@ pub struct CsvRows<'a> {
     /// The first column, and how many there are.
     column: u64,
     width: u64,
+    /// The row that was made last, and the memory in which the next one is made.
     line: Line,
+    next: Line,
 }
 
 impl<'a> Model for CsvRows<'a> {
@@ -103,33 +105,36 @@ impl<'a> CsvRows<'a> {
             column: extent.left,
             width: extent.width,
             line: Line::new(alloc),
+            next: Line::new(alloc),
         }
     }
 
     /// Makes the next row: from the first column of the sheet to its last, an empty field where no cell
-    /// stands, and a newline at its end. `false` at the end. Out of memory is the one refusal, and no row
-    /// is left after it.
+    /// stands, and a newline at its end. `false` at the end. Out of memory is the one refusal; after it the
+    /// same row is still to come.
     pub fn next_row(&mut self) -> Result<bool, AllocError>
         ensures row { IfOk result (λ more. GivesRow self.old more self.new) }
-        ensures refused { OnErr result (self.new.left ≡ []) }
+        ensures refused { OnErr result (self.new ≡ self.old) }
     {
-        let left = mem::replace(&mut self.left, 0);
-        if left == 0 {
+        if self.left == 0 {
             return Ok(false);
         }
+        let mut cells = self.cells.again();
         push_row(
-            &mut self.line,
-            &mut self.cells,
+            &mut self.next,
+            &mut cells,
             self.row,
             self.column,
             self.width,
         )?;
+        mem::swap(&mut self.line, &mut self.next);
+        self.cells = cells;
         self.row += 1;
-        self.left = left - 1;
+        self.left -= 1;
         Ok(true)
     }
 
-    /// The bytes of the row that was made last, and none where none was. After a refusal they are no row.
+    /// The bytes of the row that was made last, and none where none was.
     pub fn row(&self) -> &[u8]
         ensures { result.now ≡ self.now.row }
     {
