@@ -38,7 +38,8 @@ abbrev pub Blank : Type 0
 Blank = Data → Bool
 
 -- the range is the smallest box with cells that are seen so, and blanks elsewhere
-pub record IsBoxOf {T X : Type 0} (seen : Position × T → X) (eq : T → T → Bool) (blank : T → Bool) (entries : List X) (box : Grid T) : Type 0 where
+pub record IsBoxOf {T X : Type 0} (seen : Position × T → X) (eq : T → T → Bool) (blank : T → Bool)
+    (entries : List X) (box : Grid T) : Type 0 where
   pub cells : List (Position × T)
   pub contents : map seen cells ≡ entries
   pub dense : IsDense eq blank cells box
@@ -73,7 +74,8 @@ abbrev pub is_empty_text : String Global → Bool
 is_empty_text s = is_nil (string_bytes s)
 
 -- the range is the smallest box with these texts, and empty texts elsewhere
-abbrev pub IsTextBox : (String Global → String Global → Bool) → (String Global → Bool) → List FormulaEntry → Grid (String Global) → Type 0
+abbrev pub IsTextBox : (String Global → String Global → Bool) → (String Global → Bool)
+    → List FormulaEntry → Grid (String Global) → Type 0
 IsTextBox eq blank entries box = IsBoxOf formula_content eq blank entries box
 
 -- ---- all ranges
@@ -93,7 +95,8 @@ IsWorksheet eq blank named w =
     (view : SheetView) × (named (chars (string_bytes w.0)) ≡ Some view) × IsBox eq blank view.cells w.1
 
 -- each of these sheets' names once, in the order of their bytes, with its range
-pub record AreWorksheets (eq : Equal) (blank : Blank) (named : List ℕ → Option SheetView) (sheets : List SheetContent) (list : List Worksheet) : Type 0 where
+pub record AreWorksheets (eq : Equal) (blank : Blank) (named : List ℕ → Option SheetView)
+    (sheets : List SheetContent) (list : List Worksheet) : Type 0 where
   pub ordered : IsStrictlySortedBy (slice_cmp nat_cmp) (map (λ (w : Worksheet). string_bytes w.0) list)
   pub each : AllByRecursion (IsWorksheet eq blank named) list
   pub every : AllByRecursion (λ (s : SheetContent). IsListed (map (λ (w : Worksheet). chars (string_bytes w.0)) list) s.name) sheets

@@ -46,7 +46,8 @@ pub record IsFromShown (all rest : List (Position × String Global)) : Type 0 wh
   pub begins : BeginsShown rest
 
 -- the first that is shown, and those after it
-abbrev pub FirstShown : List (Position × String Global) → Option (ℕ × ℕ × Bor (List ℕ) × Bor (List (Position × String Global))) → Type 0
+abbrev pub FirstShown : List (Position × String Global)
+    → Option (ℕ × ℕ × Bor (List ℕ) × Bor (List (Position × String Global))) → Type 0
 FirstShown all None = shown_formulas (map formula_content all) ≡ []
 FirstShown all (Some f) =
     shown_formulas (map formula_content all)

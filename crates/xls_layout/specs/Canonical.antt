@@ -39,7 +39,8 @@ used_after false front used more = used + more
 abbrev pub canonical_steps : Bool → ℕ → List ℕ → List Step
 canonical_steps wide used [] = []
 canonical_steps wide used (u ∷ us) =
-    cut_if (passes used (unit_size wide)) wide (put u ∷ canonical_steps wide (used_after (passes used (unit_size wide)) 1 used (unit_size wide)) us)
+    cut_if (passes used (unit_size wide)) wide
+    (put u ∷ canonical_steps wide (used_after (passes used (unit_size wide)) 1 used (unit_size wide)) us)
 
 -- all units are below 256
 abbrev pub is_narrow : List ℕ → Bool

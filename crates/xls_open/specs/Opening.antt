@@ -58,7 +58,8 @@ pub record IsOpened (options : XlsOptions) (book : Workbook) (bytes : List ℕ) 
       → IsReading (rules_of options) others (view_of book)
 
 -- of a source that had and has this left, with the count of faults before and after
-pub record Opens (options : XlsOptions) (left after : Option (List ℕ)) (before now : ℕ) (result : Result Workbook XlsError) : Type 0 where
+pub record Opens (options : XlsOptions) (left after : Option (List ℕ)) (before now : ℕ)
+    (result : Result Workbook XlsError) : Type 0 where
   pub ok : IfOk result (λ book. IfSome left (IsOpened options book))
   pub end : IfOk result (λ _. IsAtEnd after)
   pub cause : IfErr result (OpenCause options left before now)
