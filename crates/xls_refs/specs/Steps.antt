@@ -165,9 +165,11 @@ listed_context names page version listed refs functions =
 
 -- what the formulas of these sheets cite, under a version, the references of all ExternSheets and the
 -- functions
-pub record AreListedCited (version : Biff) (listed : Sheets) (refs : List ℤ) (functions : List Function) (stream : List ℕ) (book : BookCited) : Type 0 where
+pub record AreListedCited (version : Biff) (listed : Sheets) (refs : List ℤ) (functions : List Function)
+    (stream : List ℕ) (book : BookCited) : Type 0 where
   pub names : book.names ≡ names_listed listed
   pub cites : (names : List (List ℕ × List ℕ)) (page : XlsEncoding) (kepts : List (List Kept))
       → AreParts stream (map (λ (q : ℕ × SheetContent). q.0) listed) kepts → length kepts ≡ length listed
-      → AreCited (listed_context names page version listed refs functions) (paired (map (λ (q : ℕ × SheetContent). q.1) listed) kepts) 0
+      → AreCited (listed_context names page version listed refs functions)
+      (paired (map (λ (q : ℕ × SheetContent). q.1) listed) kepts) 0
       (paired (map (λ (q : ℕ × SheetContent). q.1) listed) kepts) book.cites

@@ -4,14 +4,13 @@ ghost use Rattle.std.specs.Prelude.{◌≡◌, ◌++◌, ◌∷◌, [], ℕ, ◌
 ghost use Rattle.xls_text.specs.declared.encoding.XlsEncoding.{XlsEncoding};
 ghost use Rattle.xls_strings.specs.Reading.{Exactly, Gives};
 ghost use Rattle.xls_ptg.specs.Readings.{ptg_of};
-ghost use Rattle.xls_formula.specs.Fold.{tokens_at};
 ghost use Rattle.xls_reading.specs.Order.{somes};
 ghost use Rattle.xls_refs.specs.Steps.{arity, cited, context_under, counted, joined, leaves_at, leaves_of};
 
 use std::alloc::{AllocError, Global};
-use xls_biff::{Biff, Part, Refs, Strings, XlsError};
-use xls_formula::{FunctionTable, RawCite, read_token};
-use xls_ptg::{Ptg, read_ptg, short, word_at};
+use xls_biff::{Biff, Refs, Strings, XlsError};
+use xls_formula::{FunctionTable, RawCite, read_token, tokens_of};
+use xls_ptg::{Ptg, read_ptg};
 
 /// What citations hang on, of all that a formula may name.
 #[derive(Clone, Copy)]
@@ -20,22 +19,6 @@ pub(crate) struct Scope<'a> {
     pub refs: &'a Refs,
     pub biff: Biff,
     pub functions: &'a FunctionTable,
-}
-
-/// The tokens after their length.
-fn tokens_of(rgce: &[u8]) -> Result<&[u8], XlsError>
-    ensures { Exactly (λ tokens. tokens.now) result (tokens_at rgce.now) }
-{
-    if rgce.len() < 2 {
-        return Err(short(2, rgce.len(), Part::Rgce));
-    }
-    let size = usize::from(word_at(rgce, 0));
-    if rgce.len() < 2 + size {
-        return Err(short(2 + size, rgce.len(), Part::Rgce));
-    }
-    let (_, rest) = rgce.split_at(2);
-    let (tokens, _) = rest.split_at(size);
-    Ok(tokens)
 }
 
 /// Of how many operands a token makes one, and `None` where it leaves them as many as they are.
