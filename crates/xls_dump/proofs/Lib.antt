@@ -8,4 +8,3 @@ pub mod GatherLemmas
 pub mod RowsLemmas
 pub mod ShortLemmas
 pub mod CountLemmas
-pub mod EscapeLemmas

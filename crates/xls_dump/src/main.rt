@@ -19,17 +19,18 @@ mod sink;
 mod summary;
 #[cfg(test)]
 mod tests;
+mod words;
 
 use crate::run::run;
 use crate::sink::StdSink;
-use std::env;
+use crate::words::words_in;
 use std::io::ErrorKind;
 use std::process::ExitCode;
 use xls_book::StdSource;
 
 fn main(rt: HostRuntime) -> ExitCode {
     let alloc = rt.alloc();
-    let mut words = match env::args(&rt) {
+    let words = match words_in(alloc, &rt) {
         Ok(words) => words,
         Err(error) => {
             return match error.kind() {
@@ -37,10 +38,6 @@ fn main(rt: HostRuntime) -> ExitCode {
                 _ => ExitCode::from(2),
             };
         }
-    };
-    let _program = words.next();
-    let Ok(words) = words.collect::<Vec<String>>(alloc) else {
-        return ExitCode::from(5);
     };
     let mut source = StdSource::new(rt.stdin());
     let mut sink = StdSink::new(rt.stdout());

@@ -50,7 +50,8 @@ pub fn run<S: Source, K: Sink>(alloc: Global, words: &[String], source: &mut S, 
 
     // Where neither fails, a command ends with its text, its refusal or out of memory.
     ensures complete { (result ≡ 2 → ⊥) → IsQuiet (S.faults source.old) (S.faults source.new)
-        → IsQuiet (K.state sink.old).faults (K.state sink.new).faults → OfCommand words.now (λ c. EndsWell c (S.left source.old) result) }
+        → IsQuiet (K.state sink.old).faults (K.state sink.new).faults
+        → OfCommand words.now (λ c. EndsWell c (S.left source.old) result) }
 
     // A sink that takes each text that may be written doesn't fail.
     ensures steady { TakesEach (K.state sink.old) (λ text. OfCommand words.now (λ c. MayWrite c (S.left source.old) text))

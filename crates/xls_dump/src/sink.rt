@@ -1,6 +1,6 @@
 //! Where text goes.
 
-ghost use Rattle.std.specs.Prelude.{◌≡◌, ◌-◌, ◌<◌, ◌≤◌, ℕ, length, IfOk, IsOk, OnOk};
+ghost use Rattle.std.specs.Prelude.{◌≡◌, ◌+◌, ◌-◌, ◌^◌, ◌<◌, ◌≤◌, ℕ, length, min, IfOk, IsOk, OnOk, OnErr};
 ghost use Rattle.std.specs.Io.{WritesAtMost};
 ghost use Rattle.std.specs.Io.KnownBytes.{WriteAppends, Appends};
 ghost use Rattle.xls_source.specs.Causes.{HasCause};
@@ -8,6 +8,7 @@ ghost use Rattle.xls_dump.specs.SinkState.{SinkState, TakesPiece};
 ghost use Rattle.xls_dump.specs.Written.{AppendsPrefix};
 
 use std::io::Write;
+use std::marker::Model;
 
 /// A write failed.
 #[derive(Clone, Copy, Debug, PartialEq, Eq)]
@@ -43,23 +44,42 @@ pub fn write_all<K: Sink>(sink: &mut K, piece: &[u8]) -> Result<(), WriteFault>
     Ok(())
 }
 
-/// A writer of std. What was written is told where that writer tells it.
+/// A writer of std. What was written is told where that writer tells it. Contracts see the writer and
+/// the count of faults.
 #[derive(Drop)]
 pub struct StdSink<W: Write> {
     inner: W,
     faults: u64,
 }
 
+impl<W: Write> Model for StdSink<W> {
+    ghost use Rattle.std.specs.Prelude.{ℕ};
+
+    ghost Value = { W × ℕ };
+
+    ghost view = { λ s. (s.inner, s.faults) };
+}
+
 impl<W: Write> StdSink<W> {
-    pub fn new(inner: W) -> StdSink<W> {
+    /// A sink that hands its text on to this writer, of which no write has failed.
+    pub fn new(inner: W) -> StdSink<W>
+        ensures { result ≡ (inner, 0) }
+    {
         StdSink { inner, faults: 0 }
     }
 }
 
 impl<W: Write> Sink for StdSink<W> {
-    ghost state = { λ s. record { written = W.contents s.inner; faults = s.faults; takes = λ _. ⊥ } };
+    ghost state = { λ s. record { written = W.contents s.0; faults = s.1; takes = λ _. ⊥ } };
 
-    fn write(&mut self, piece: &[u8]) -> Result<usize, WriteFault> {
+    fn write(&mut self, piece: &[u8]) -> Result<usize, WriteFault>
+        ensures bound { WritesAtMost result piece.now }
+        ensures moves { IfOk result (λ n. 0 < n) }
+        ensures bytes { WriteAppends (W.contents self.old.0) (W.contents self.new.0) result piece.now }
+        ensures cause { HasCause self.old.1 self.new.1 result }
+        ensures counts { OnOk result (self.new.1 ≡ self.old.1) }
+        ensures rises { OnErr result (self.new.1 ≡ min (self.old.1 + 1) (2 ^ 64 - 1)) }
+    {
         match self.inner.write(piece) {
             Ok(count) if count > 0 => Ok(count),
             _ => {

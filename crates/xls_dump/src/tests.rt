@@ -2,7 +2,9 @@ use crate::memory::MemorySink;
 use crate::run::run;
 use crate::sink::{StdSink, write_all};
 use crate::tests::ledger::{LEDGER, LEDGER_CSV, LEDGER_REFS, LEDGER_SHEETS};
+use crate::words::words_in;
 use std::alloc::{AllocError, Global};
+use std::env::{Env, FillError};
 use std::process::Abort;
 use std::test::*;
 use xls_book::{MemorySource, SteadySource};
@@ -27,6 +29,9 @@ const NUMBER_3: [u8; 18] = [
     0x03, 0x02, 14, 0, 0, 0, 0, 0, 0, 0, 0, 0, 0, 0, 0, 0, 0x08, 0x40,
 ];
 
+// RK of 12,345 hundredths at (0, 0).
+const HUNDREDTHS: [u8; 14] = [0x7E, 2, 10, 0, 0, 0, 0, 0, 0, 0, 0xE7, 0xC0, 0, 0];
+
 // MergeCells of the one region from (0, 1) to (2, 3).
 const MERGED: [u8; 14] = [0xE5, 0, 10, 0, 1, 0, 0, 0, 2, 0, 1, 0, 3, 0];
 
@@ -37,6 +42,10 @@ const PAGE_437: [u8; 6] = [0x42, 0, 2, 0, 0xB5, 1];
 const THREE: [&[u8]; 6] = [&GLOBALS, &A_SHEET, &EOF, &SHEET, &NUMBER_3, &EOF];
 
 const THREE_TEXT: &str = "dates\t1900\nsheet\tA\tworksheet\tvisible\ncell\t0\t0\tfloat\t3\n";
+
+const PLAIN: [&[u8]; 6] = [&GLOBALS, &A_SHEET, &EOF, &SHEET, &HUNDREDTHS, &EOF];
+
+const PLAIN_TEXT: &str = "dates\t1900\nsheet\tA\tworksheet\tvisible\ncell\t0\t0\tfloat\t123.45\n";
 
 const NO_SHEET: [&[u8]; 2] = [&GLOBALS, &A_SHEET];
 
@@ -246,27 +255,29 @@ fn the_pieces_do_not_matter(rt: HostRuntime) -> Result<(), Fail> {
     Ok(())
 }
 
-// Commands, what their sources give, and what is written where nothing fails.
-const COMMANDS: [(&[&str], &[&[u8]], &str); 11] = [
-    (&["dump"], &THREE, THREE_TEXT),
-    (&["sheets"], &THREE, "sheet\tA\tworksheet\tvisible\n"),
-    (&["props"], &TITLE, "title\t\u{C5}lesund\n"),
-    (&["check"], &THREE, "ok\n"),
+// Commands, what their sources give, and how they end and what they write where nothing fails.
+const COMMANDS: [(&[&str], &[&[u8]], u8, &str); 11] = [
+    (&["dump"], &PLAIN, 0, PLAIN_TEXT),
+    (&["sheets"], &PLAIN, 0, "sheet\tA\tworksheet\tvisible\n"),
+    (&["props"], &TITLE, 0, "title\t\u{C5}lesund\n"),
+    (&["check"], &PLAIN, 0, "ok\n"),
     (
         &["check"],
         &NO_SHEET,
+        1,
         "error\tEnd of stream 'sheet offset'\n",
     ),
-    (&["csv", "A"], &THREE, "3\n"),
-    (&["csv", "B"], &THREE, "error\tWorksheet 'B' not found\n"),
-    (&["refs"], &CITING, "ref\tA\t0\t0\tA\t2\t1\t2\t1\n"),
-    (&["remake"], &[&EOF], "\n\0\0\0"),
+    (&["csv", "A"], &PLAIN, 0, "123.45\n"),
+    (&["csv", "B"], &PLAIN, 1, "error\tWorksheet 'B' not found\n"),
+    (&["refs"], &CITING, 0, "ref\tA\t0\t0\tA\t2\t1\t2\t1\n"),
+    (&["remake"], &[&EOF], 0, "\n\0\0\0"),
     (
         &["remake"],
         &NO_SHEET,
+        1,
         "error\tEnd of stream 'sheet offset'\n",
     ),
-    (&["generate", "4"], &[], "rows\t4\ncells\t8\nsum\t6\n"),
+    (&["generate", "4"], &[], 0, "rows\t4\ncells\t8\nsum\t6\n"),
 ];
 
 // Each read of a run fails once: so many calls give bytes, and one more none.
@@ -290,7 +301,7 @@ fn fail_each_read(
 
 #[test]
 fn each_failing_read_ends_with_3(rt: HostRuntime) -> Result<(), Fail> {
-    for (words, parts, _) in COMMANDS {
+    for (words, parts, _, _) in COMMANDS {
         if !parts.is_empty() {
             fail_each_read(&rt, rt.alloc(), words, parts, 1)?;
             fail_each_read(&rt, rt.alloc(), words, parts, 16)?;
@@ -299,40 +310,36 @@ fn each_failing_read_ends_with_3(rt: HostRuntime) -> Result<(), Fail> {
     Ok(())
 }
 
-// The write of each byte fails once, and once the room ends before it.
+// The write of each byte fails once, and once the room ends before it. Where no byte is left, nothing
+// fails, though each write is short.
 fn fail_each_write(
     rt: &impl Abort,
     alloc: Global,
     words: &'static [&'static str],
     parts: &'static [&'static [u8]],
+    whole: u8,
     text: &[u8],
 ) -> Result<(), Fail> {
-    for len in 0..text.len() {
+    for len in 0..text.len() + 1 {
+        let status = if len < text.len() { 4 } else { whole };
         let mut case = quiet(words, parts);
         case.write_chunk = 1;
         case.write_fails = Some(len as u64);
-        check(rt, alloc, &case, 4, &text[..len])?;
+        check(rt, alloc, &case, status, &text[..len])?;
         case.write_chunk = 64;
         case.write_fails = None;
         case.room = len;
-        check(rt, alloc, &case, 4, &text[..len])?;
+        check(rt, alloc, &case, status, &text[..len])?;
     }
     Ok(())
 }
 
 #[test]
 fn each_failing_write_leaves_the_prefix(rt: HostRuntime) -> Result<(), Fail> {
-    for (words, parts, text) in COMMANDS {
-        fail_each_write(&rt, rt.alloc(), words, parts, text.as_bytes())?;
+    for (words, parts, status, text) in COMMANDS {
+        fail_each_write(&rt, rt.alloc(), words, parts, status, text.as_bytes())?;
     }
     Ok(())
-}
-
-#[test]
-fn a_text_takes_the_room_of_its_length(rt: HostRuntime) -> Result<(), Fail> {
-    let mut case = quiet(&[], &THREE);
-    case.room = THREE_TEXT.len();
-    check(&rt, rt.alloc(), &case, 0, THREE_TEXT.as_bytes())
 }
 
 // The first row is written before the others are made.
@@ -341,6 +348,50 @@ fn a_far_cell_is_written_row_by_row(rt: HostRuntime) -> Result<(), Fail> {
     let mut case = quiet(&["csv", "A"], &FAR_CELLS);
     case.room = 5;
     check(&rt, rt.alloc(), &case, 4, b"1,,,,")
+}
+
+// A command line whose program's name isn't UTF-8.
+#[derive(Drop)]
+struct Line {
+    words: [&'static [u8]; 3],
+}
+
+impl Env for Line {
+    fn arg(&self, i: usize, buf: &mut [u8]) -> Result<usize, FillError> {
+        if i >= self.words.len() {
+            return Err(FillError::NotPresent);
+        }
+        let word = self.words[i];
+        if word.len() > buf.len() {
+            return Err(FillError::TooLong);
+        }
+        buf[..word.len()].copy_from_slice(word);
+        Ok(word.len())
+    }
+
+    fn var(&self, _name: &str, _buf: &mut [u8]) -> Result<usize, FillError> {
+        Err(FillError::NotPresent)
+    }
+
+    fn var_at(&self, _i: usize, _buf: &mut [u8]) -> Result<usize, FillError> {
+        Err(FillError::NotPresent)
+    }
+}
+
+#[test]
+fn the_name_of_the_program_may_be_any_bytes(rt: HostRuntime) -> Result<(), Fail> {
+    let line = Line {
+        words: [b"\xFF", b"csv", b"A"],
+    };
+    let words = words_in(rt.alloc(), &line)?;
+    assert_eq!(rt; words.len(), 2);
+    assert_eq!(rt; words[0].as_str(), "csv");
+    assert_eq!(rt; words[1].as_str(), "A");
+    let line = Line {
+        words: [b"x", b"csv", b"\xFF"],
+    };
+    assert!(rt; words_in(rt.alloc(), &line).is_err());
+    Ok(())
 }
 
 #[test]

@@ -1,7 +1,7 @@
 use Rattle.std.proofs.Common.{◌∙◌, refl, sym, ap}
 use Rattle.std.specs.List.{flat_map}
 use Rattle.xls_dump.specs.Lines.{escaped_char}
-use Rattle.xls_dump.proofs.EscapeLemmas.{escaped_text-chars}
+use Rattle.xls_bytes.proofs.EscapeLemmas.{escaped_text-chars}
 use Rattle.xls_dump.proofs.GatherLemmas.{puts-as}
 use Rattle.xls_dump.proofs.buffer.Buffer.put_text.Goals as goal
 
