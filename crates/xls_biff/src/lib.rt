@@ -36,6 +36,3 @@ pub use xls_strings::{
     Biff, Part, Pieces, Record, SstReader, Strings, XlsError, parse_short_string, parse_sst,
     parse_string, size_of_uncounted, skip_sst,
 };
-
-#[cfg(test)]
-mod tests;

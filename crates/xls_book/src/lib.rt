@@ -23,6 +23,3 @@ pub use xls_source::{
     EndlessSource, MemorySource, ReadFault, Source, StdSource, SteadySource, StreamBytes, read_all,
     steady_count,
 };
-
-#[cfg(test)]
-mod tests;

@@ -7,8 +7,6 @@ mod doubles;
 mod escapes;
 mod laws;
 mod numbers;
-#[cfg(test)]
-mod tests;
 
 pub use columns::push_column;
 pub use doubles::{trunc_checked_of_bits, trunc_of_bits, whole_of_bits};

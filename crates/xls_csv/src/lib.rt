@@ -15,6 +15,3 @@ pub use export::export_csv;
 pub use fields::field_text;
 pub use laws::{dense_boxes, printed_fields, rows_of_sheet};
 pub use rows::CsvRows;
-
-#[cfg(test)]
-mod tests;

@@ -40,6 +40,3 @@ pub use regions::{Dimensions, HeaderRow};
 pub use serial_days::ymd_of_serial_day;
 pub use sheets::{Sheet, SheetType, SheetVisible};
 pub use values::Data;
-
-#[cfg(test)]
-mod tests;

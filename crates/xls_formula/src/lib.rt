@@ -19,6 +19,3 @@ pub use names::Names;
 pub use parse::{parse_formula, tokens_of};
 pub use scope::sheet_of_reference;
 pub use xls_ptg::{RawCite, Token, read_token};
-
-#[cfg(test)]
-mod tests;

@@ -6,6 +6,3 @@ mod push;
 mod table;
 
 pub use push::push_functions;
-
-#[cfg(test)]
-mod tests;

@@ -19,6 +19,3 @@ pub use length::canonical_length;
 pub use logical::Logical;
 pub use read::logical_of;
 pub use write::write_workbook;
-
-#[cfg(test)]
-mod tests;

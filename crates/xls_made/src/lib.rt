@@ -9,6 +9,3 @@ pub use laws::{
     made_shows, made_sound,
 };
 pub use words::word_of;
-
-#[cfg(test)]
-mod tests;

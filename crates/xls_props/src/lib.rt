@@ -15,6 +15,3 @@ mod values;
 pub use moments::filetime_to_iso8601;
 pub use properties::{WorkbookProperties, workbook_properties_of};
 pub use xls_vba::{Module, Reference, VbaError, VbaPart, VbaProject};
-
-#[cfg(test)]
-mod tests;

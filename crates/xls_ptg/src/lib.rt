@@ -25,6 +25,3 @@ pub use read::read_ptg;
 pub use references3d::{area3d_corners, area3d_size, ixti, ref3d_corner, ref3d_size};
 pub use strings::split_no_cch;
 pub use tokens::Ptg;
-
-#[cfg(test)]
-mod tests;

@@ -12,6 +12,3 @@ mod sparse;
 pub use error::RangeError;
 pub use iters::{Cells, Rows, UsedCells};
 pub use range::Range;
-
-#[cfg(test)]
-mod tests;

@@ -13,6 +13,3 @@ pub use book::cites_of_book;
 pub use cite::{BookCite, BookCites, Cite, Cites};
 pub use formula::cites_of_formula;
 pub use laws::{formulas_by_the_table, repeats_are_equal};
-
-#[cfg(test)]
-mod tests;

@@ -21,6 +21,3 @@ pub use loose::{deserialize_as_i64_or_none, deserialize_as_i64_or_string};
 pub use range_rows::RangeDeserializer;
 pub use read_cell::ReadCell;
 pub use row::RowDeserializer;
-
-#[cfg(test)]
-mod tests;

@@ -1,24 +1,16 @@
-use super::*;
-use std::test::*;
-use xls_text::XlsEncoding;
+//! What no other crate can see.
 
-mod strings;
-mod table;
+use crate::sst::text_of_units;
+use std::test::Fail;
 
-const UTF16: XlsEncoding = XlsEncoding::Utf16;
-
-fn fault_of<T: Drop>(answer: Result<T, XlsError>) -> Option<XlsError> {
-    match answer {
-        Ok(_) => None,
-        Err(e) => Some(e),
-    }
-}
-
-/// The refusal of a part that is too short.
-fn too_short(typ: Part, expected: usize, found: usize) -> Option<XlsError> {
-    Some(XlsError::Len {
-        expected,
-        found,
-        typ,
-    })
+#[test]
+fn allocates_a_text_at_its_size(rt: HostRuntime) -> Result<(), Fail> {
+    // one, two and three bytes, a pair, and two surrogates alone
+    let units = [
+        0x7F, 0x80, 0x7FF, 0x800, 0xD83D, 0xDE00, 0xDE00, 0xFFFF, 0xD83D,
+    ];
+    let text = text_of_units(rt.alloc(), &units)?;
+    assert_eq!(rt; text.len(), 1 + 2 + 2 + 3 + 4 + 3 + 3 + 3);
+    assert_eq!(rt; text.capacity(), text.len());
+    Ok(())
 }

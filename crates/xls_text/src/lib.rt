@@ -6,8 +6,6 @@ mod encoding;
 mod error;
 mod laws;
 mod single;
-#[cfg(test)]
-mod tests;
 mod units;
 
 pub use append::push_units;

@@ -16,6 +16,3 @@ pub use laws::one_reading;
 pub use modules::Module;
 pub use project::VbaProject;
 pub use references::Reference;
-
-#[cfg(test)]
-mod tests;

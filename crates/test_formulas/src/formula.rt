@@ -1,0 +1,271 @@
+//! Expected values come from [MS-XLS] and from the rules of this project for older layouts.
+
+use std::alloc::{AllocError, Global};
+use std::test::*;
+use xls_biff::{Biff, Part, Record, RecordIter, Refs, Strings, XlsError};
+use xls_formula::*;
+use xls_text::XlsEncoding;
+
+const UTF16: XlsEncoding = XlsEncoding::Utf16;
+
+const WINDOWS: XlsEncoding = XlsEncoding::Windows1252;
+
+/// The text of a formula in a workbook of one sheet, `A`, which reference 0 names, and of no names.
+fn text_by(
+    alloc: Global,
+    rgce: &[u8],
+    encoding: XlsEncoding,
+    biff: Biff,
+    functions: &FunctionTable,
+) -> Result<String, XlsError> {
+    let mut sheets = Strings::new(alloc);
+    sheets.push("A")?;
+    let mut refs = Refs::new(alloc);
+    refs.push(0)?;
+    let names = Names::new(alloc);
+    parse_formula(
+        alloc, rgce, &sheets, &names, &refs, &encoding, biff, functions,
+    )
+}
+
+fn text_in(alloc: Global, rgce: &[u8], biff: Biff) -> Result<String, XlsError> {
+    let encoding = if biff == Biff::Biff8 { UTF16 } else { WINDOWS };
+    text_by(alloc, rgce, encoding, biff, &FunctionTable::shipped(alloc)?)
+}
+
+fn prints(alloc: Global, rgce: &[u8], biff: Biff, text: &str) -> bool {
+    match text_in(alloc, rgce, biff) {
+        Ok(printed) => printed.as_str() == text,
+        Err(_) => false,
+    }
+}
+
+fn refuses(alloc: Global, rgce: &[u8], biff: Biff, error: &XlsError) -> bool {
+    match text_in(alloc, rgce, biff) {
+        Ok(_) => false,
+        Err(e) => e == *error,
+    }
+}
+
+/// Formulas with their texts.
+const PRINTED: [(Biff, &[u8], &str); 16] = [
+    // Cells on a sheet: the last row of BIFF8, an area.
+    (Biff::Biff8, b"\x07\0\x3A\0\0\xFF\xFF\0\xC0", "A!A65536"),
+    (
+        Biff::Biff8,
+        b"\x0B\0\x3B\0\0\0\0\x09\0\x01\xC0\x02\x40",
+        "A!$B$1:$C$10",
+    ),
+    // Names outside the list.
+    (Biff::Biff8, b"\x05\0\x23\0\0\0\0", "#REF!"),
+    (
+        Biff::Biff5,
+        b"\x0F\0\x23\0\0\0\0\0\0\0\0\0\0\0\0\0\0",
+        "#REF!",
+    ),
+    // Strings of both layouts.
+    (Biff::Biff5, b"\x08\0\x17\x06SCHUCH", "\"SCHUCH\""),
+    (Biff::Biff8, b"\x09\0\x17\x06\0SCHUCH", "\"SCHUCH\""),
+    // The doubles 1 and 2.5.
+    (Biff::Biff8, b"\x09\0\x1F\0\0\0\0\0\0\xF0\x3F", "1"),
+    (
+        Biff::Biff8,
+        b"\x09\0\x1F\0\0\0\0\0\0\x04\x40",
+        "0x4004000000000000",
+    ),
+    // Operators: PtgGe prints as in the crate calamine.
+    (Biff::Biff8, b"\x07\0\x1E\x01\0\x1E\x05\0\x03", "1+5"),
+    (Biff::Biff8, b"\x07\0\x1E\x01\0\x1E\x05\0\x0C", "1>5"),
+    // A space before no operand.
+    (Biff::Biff8, b"\x07\0\x19\x40\0\x01\x1E\x05\0", "5"),
+    // An error value as in a cell, and the one that prints otherwise; words.
+    (Biff::Biff8, b"\x02\0\x1C\x2A", "#N/A"),
+    (Biff::Biff8, b"\x02\0\x1C\x2B", "#GETTING_DATA"),
+    (Biff::Biff8, b"\x02\0\x1D\x01", "TRUE"),
+    (Biff::Biff8, b"\x07\0\x39\0\0\0\0\0\0", "[PtgNameX]"),
+    (Biff::Biff8, b"\x07\0\x3C\0\0\0\0\0\0", "A!#REF!"),
+];
+
+#[test]
+fn prints_formulas(rt: HostRuntime) {
+    for (biff, rgce, text) in PRINTED {
+        assert!(rt; prints(rt.alloc(), rgce, biff, text));
+    }
+}
+
+#[test]
+fn refuses_formulas(rt: HostRuntime) {
+    let none = XlsError::InvalidFormula { stack_size: 0 };
+    assert!(rt; refuses(rt.alloc(), &[0, 0], Biff::Biff8, &none));
+    let cut = XlsError::Len {
+        expected: 7,
+        found: 4,
+        typ: Part::PtgStr,
+    };
+    assert!(rt; refuses(rt.alloc(), b"\x05\0\x17\x06SCH", Biff::Biff5, &cut));
+    for rgce in [&[1, 0, 3][..], &[7, 0, 0x1E, 1, 0, 3, 0x1E, 5, 0]] {
+        assert!(rt; refuses(rt.alloc(), rgce, Biff::Biff8, &XlsError::StackLen));
+    }
+}
+
+#[test]
+fn prints_the_functions_of_the_table(rt: HostRuntime) -> Result<(), Fail> {
+    let call = [0x07, 0x00, 0x1E, 0x01, 0x00, 0x22, 0x01, 0x48, 0x00];
+    let mut functions = FunctionTable::shipped(rt.alloc())?;
+    assert_eq!(rt; functions.len(), FTAB_LEN);
+    let missing = text_by(rt.alloc(), &call, UTF16, Biff::Biff8, &functions);
+    assert_eq!(rt; missing.err(), Some(XlsError::IfTab(72)));
+    functions.push("X", 1)?;
+    let text = text_by(rt.alloc(), &call, UTF16, Biff::Biff8, &functions)?;
+    assert_eq!(rt; text.as_str(), "X(1)");
+    Ok(())
+}
+
+#[test]
+fn ships_functions(rt: HostRuntime) -> Result<(), Fail> {
+    let functions = FunctionTable::shipped(rt.alloc())?;
+    assert_eq!(rt; functions.name(0), Some("COUNT"));
+    assert_eq!(rt; functions.argc(11), Some(254));
+    assert_eq!(rt; functions.name(71), Some("HOUR"));
+    assert_eq!(rt; functions.name(72), None);
+    assert_eq!(rt; functions.argc(72), None);
+    assert_eq!(rt; (FTAB[60], FTAB_ARGC[60]), ("RATE", 6));
+    Ok(())
+}
+
+#[test]
+fn keeps_lists(rt: HostRuntime) -> Result<(), Fail> {
+    let mut names = Names::new(rt.alloc());
+    names.push("N", "A!$A$1")?;
+    assert_eq!(rt; names.len(), 1);
+    assert_eq!(rt; names.name(0), Some("N"));
+    assert_eq!(rt; names.name(1), None);
+    let mut functions = FunctionTable::new(rt.alloc());
+    functions.push("X", 1)?;
+    assert_eq!(rt; functions.len(), 1);
+    Ok(())
+}
+
+#[test]
+fn prints_names_by_their_index_from_1(rt: HostRuntime) -> Result<(), Fail> {
+    let mut names = Names::new(rt.alloc());
+    names.push("N", "A!$A$1")?;
+    names.push("M", "A!$A$2")?;
+    let text = parse_formula(
+        rt.alloc(),
+        &[5, 0, 0x43, 2, 0, 0, 0],
+        &Strings::new(rt.alloc()),
+        &names,
+        &Refs::new(rt.alloc()),
+        &UTF16,
+        Biff::Biff8,
+        &FunctionTable::new(rt.alloc()),
+    )?;
+    assert_eq!(rt; text.as_str(), "M");
+    Ok(())
+}
+
+// ---- defined names
+
+fn names(alloc: Global, rgce: &[u8], index: Option<usize>, text: &str) -> bool {
+    match parse_defined_names(alloc, rgce, Biff::Biff8) {
+        Ok((found, printed)) => found == index && printed.as_str() == text,
+        Err(_) => false,
+    }
+}
+
+/// Tokens of a name, with the index of the reference and the text.
+const NAMED: [(&[u8], Option<usize>, &str); 5] = [
+    (&[0x3A, 0x00, 0x00, 0x01, 0x00, 0x01, 0x00], Some(0), "$B$2"),
+    (&[], None, "empty rgce"),
+    (&[0x17], None, "Unsupported ptg: 17"),
+    (&[0x01], None, "Unsupported ptg: 1"),
+    (&[0x5C, 0x02, 0x00], Some(2), "#REF!"),
+];
+
+#[test]
+fn reads_what_a_name_names(rt: HostRuntime) {
+    for (rgce, index, text) in NAMED {
+        assert!(rt; names(rt.alloc(), rgce, index, text));
+    }
+}
+
+const TOTAL: &[u8] =
+    b"\x18\x00\x1B\x00\x00\x00\x00\x05\x07\x00\x00\x00\x00\x00\x00\x00\x00\x00\x00Total\x3A\x00\x00\x01\x00\x01\x00";
+
+fn record_of(bytes: &[u8]) -> Result<Record<'_>, XlsError> {
+    match RecordIter::new(bytes).next() {
+        Some(r) => r,
+        None => Err(XlsError::Password),
+    }
+}
+
+#[test]
+fn reads_a_defined_name(rt: HostRuntime) -> Result<(), Fail> {
+    let r = record_of(TOTAL)?;
+    let (name, (index, text)) = parse_lbl(rt.alloc(), &r, &UTF16, Biff::Biff8)?;
+    assert_eq!(rt; name.as_str(), "Total");
+    assert_eq!(rt; (index, text.as_str()), (Some(0), "$B$2"));
+    assert_eq!(rt; check_lbl(&r, Biff::Biff8), Ok(()));
+    Ok(())
+}
+
+#[test]
+fn refuses_a_name_that_is_cut(rt: HostRuntime) -> Result<(), Fail> {
+    let r = record_of(b"\x18\x00\x0D\x00\x00\x00\x00\x00\x00\x00\x00\x00\x00\x00\x00\x00\x00")?;
+    let error = XlsError::Len {
+        expected: 14,
+        found: 13,
+        typ: Part::Lbl,
+    };
+    assert_eq!(rt; check_lbl(&r, Biff::Biff8), Err(error));
+    Ok(())
+}
+
+// ---- nesting
+
+/// A formula of 5,000 pairs of parentheses around 1, and its text.
+fn nested(alloc: Global) -> Result<(Vec<u8>, String), AllocError> {
+    let mut rgce = Vec::new(alloc);
+    rgce.extend_from_slice(&[0x8B, 0x13, 0x1E, 0x01, 0x00])?;
+    let mut text = String::new(alloc);
+    for _ in 0..5_000 {
+        rgce.push(0x15)?;
+        text.push('(')?;
+    }
+    text.push('1')?;
+    for _ in 0..5_000 {
+        text.push(')')?;
+    }
+    Ok((rgce, text))
+}
+
+/// A formula of 5,000 missing arguments with `+` between them, and its text.
+fn summed(alloc: Global) -> Result<(Vec<u8>, String), AllocError> {
+    let mut rgce = Vec::new(alloc);
+    rgce.extend_from_slice(&[0x0F, 0x27, 0x16])?;
+    let mut text = String::new(alloc);
+    for _ in 1..5_000 {
+        rgce.extend_from_slice(&[0x16, 0x03])?;
+        text.push('+')?;
+    }
+    Ok((rgce, text))
+}
+
+#[test]
+fn prints_the_sum_of_5000_missing_arguments(rt: HostRuntime) -> Result<(), Fail> {
+    let (rgce, text) = summed(rt.alloc())?;
+    let functions = FunctionTable::new(rt.alloc());
+    let printed = text_by(rt.alloc(), &rgce, UTF16, Biff::Biff8, &functions)?;
+    assert!(rt; printed.as_str() == text.as_str());
+    Ok(())
+}
+
+#[test]
+fn prints_what_nests_5000_deep(rt: HostRuntime) -> Result<(), Fail> {
+    let (rgce, text) = nested(rt.alloc())?;
+    let functions = FunctionTable::new(rt.alloc());
+    let printed = text_by(rt.alloc(), &rgce, UTF16, Biff::Biff8, &functions)?;
+    assert!(rt; printed.as_str() == text.as_str());
+    Ok(())
+}

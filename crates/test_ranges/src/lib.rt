@@ -1,0 +1,7 @@
+//! Tests of ranges and rows.
+#![tactic(auto)]
+
+#[cfg(test)]
+mod range;
+#[cfg(test)]
+mod rows;

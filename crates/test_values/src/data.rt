@@ -1,0 +1,423 @@
+//! Known values, and each public call once with ample memory.
+
+use std::alloc::{AllocError, Global};
+use std::collections::HashMap;
+use std::process::Abort;
+use std::test::Fail;
+use xls_data::*;
+
+// The texts of exact values: of hundredths, of the doubles at the ends of what is a whole number, and
+// of two doubles over 100.
+static NUMBERS: [(Number, &str); 16] = [
+    (Number::Hundredths(-5), "-0.05"),
+    (Number::Hundredths(150), "1.5"),
+    (Number::Hundredths(100), "1"),
+    (Number::Hundredths(12345), "123.45"),
+    (Number::Hundredths(-100), "-1"),
+    (Number::Hundredths(0), "0"),
+    (Number::Bits(0x8000000000000000), "-0"),
+    (Number::Bits(0x433fffffffffffff), "9007199254740991"),
+    (Number::Bits(0x4340000000000000), "0x4340000000000000"),
+    (Number::Bits(0x4012000000000000), "0x4012000000000000"),
+    (Number::Bits(0xc008000000000000), "-3"),
+    (Number::Bits(0), "0"),
+    (Number::BitsOver100(0x4059000000000000), "1"),
+    (
+        Number::BitsOver100(0x4004000000000000),
+        "0x4004000000000000/100",
+    ),
+    (Number::BitsOver100(0x8000000000000000), "-0"),
+    (Number::Whole(-17), "-17"),
+];
+
+#[test]
+fn prints_numbers_exactly(rt: HostRuntime) -> Result<(), Fail> {
+    for (number, text) in NUMBERS.iter() {
+        let printed = number.to_string(rt.alloc())?;
+        assert_eq!(rt; printed.as_str(), *text);
+    }
+    Ok(())
+}
+
+// The double 2.5 is 4004000000000000, 1e300 is 7e37e43c8800759c, infinity 7ff0000000000000.
+#[test]
+fn cuts_numbers_toward_zero(rt: HostRuntime) {
+    assert_eq!(rt; Number::Whole(-7).trunc(), -7);
+    assert_eq!(rt; Number::Hundredths(-199).trunc(), -1);
+    assert_eq!(rt; Number::Hundredths(199).trunc_checked(), Some(1));
+    assert_eq!(rt; Number::Bits(0x4004000000000000).trunc(), 2);
+    assert_eq!(rt; Number::Bits(0xc004000000000000).trunc_checked(), Some(-2));
+    assert_eq!(rt; Number::BitsOver100(0x4069000000000000).trunc(), 2);
+    assert_eq!(rt; Number::Bits(0x7e37e43c8800759c).trunc(), i64::MAX);
+    assert_eq!(rt; Number::Bits(0x7e37e43c8800759c).trunc_checked(), None);
+    assert_eq!(rt; Number::Bits(0x7ff0000000000000).trunc_checked(), None);
+    assert_eq!(rt; Number::BitsOver100(0x7ff8000000000000).trunc(), 0);
+}
+
+// The calendar, with the day that the 1900 system has and the calendar lacks.
+static DAYS: [(u64, bool, (u16, u8, u8)); 12] = [
+    (0, false, (1899, 12, 31)),
+    (59, false, (1900, 2, 28)),
+    (60, false, (1900, 2, 29)),
+    (61, false, (1900, 3, 1)),
+    (366, false, (1900, 12, 31)),
+    (2958465, false, (9999, 12, 31)),
+    (2958466, false, (9999, 12, 31)),
+    (u64::MAX, false, (9999, 12, 31)),
+    (0, true, (1904, 1, 1)),
+    (60, true, (1904, 3, 1)),
+    (2957003, true, (9999, 12, 31)),
+    (2957004, true, (9999, 12, 31)),
+];
+
+#[test]
+fn gives_the_calendar_dates_of_serial_days(rt: HostRuntime) {
+    for (day, is_1904, date) in DAYS.iter() {
+        assert_eq!(rt; ymd_of_serial_day(*day, *is_1904), *date);
+    }
+}
+
+// Formats of calamine's own tests, and their classes.
+static FORMATS: [(&str, CellFormat); 28] = [
+    ("DD/MM/YY", CellFormat::DateTime),
+    ("m\"M\"d\"D\";@", CellFormat::DateTime),
+    (
+        "[$-404]e\"\\xfc\"m\"\\xfc\"d\"\\xfc\"",
+        CellFormat::DateTime,
+    ),
+    ("ha/p\\\\m", CellFormat::DateTime),
+    ("*-yyyy-mm-dd", CellFormat::DateTime),
+    ("H:MM:SS;@", CellFormat::DateTime),
+    ("[h]", CellFormat::TimeDelta),
+    ("[ss]", CellFormat::TimeDelta),
+    ("[s].000", CellFormat::TimeDelta),
+    ("[m]", CellFormat::TimeDelta),
+    ("[mm]", CellFormat::TimeDelta),
+    (
+        "[Blue]\\+[h]:mm;[Red]\\-[h]:mm;[Green][h]:mm",
+        CellFormat::TimeDelta,
+    ),
+    ("[>=100][Magenta][s].00", CellFormat::TimeDelta),
+    ("[h]:mm;[=0]\\-", CellFormat::TimeDelta),
+    ("[h]:mm:ss", CellFormat::TimeDelta),
+    ("#,##0\\ [$\\u20bd-46D]", CellFormat::Other),
+    (
+        "\"Y: \"0.00\"m\";\"Y: \"-0.00\"m\";\"Y: <num>m\";@",
+        CellFormat::Other,
+    ),
+    ("#,##0\\ [$''u20bd-46D]", CellFormat::Other),
+    ("\"$\"#,##0_);[Red](\"$\"#,##0)", CellFormat::Other),
+    ("0_ ;[Red]\\-0", CellFormat::Other),
+    ("#,##0.0####\" YMD\"", CellFormat::Other),
+    ("[>=100][Magenta].00", CellFormat::Other),
+    ("[>=100][Magenta]General", CellFormat::Other),
+    (
+        "#,##0.00\\ _M\"H\"_);[Red]#,##0.00\\ _M\"S\"_)",
+        CellFormat::Other,
+    ),
+    ("0\"x\"*d", CellFormat::Other),
+    ("*-#,##0", CellFormat::Other),
+    ("#,##0*y", CellFormat::Other),
+    ("\\Y000000", CellFormat::Other),
+];
+
+#[test]
+fn tells_the_classes_of_formats(rt: HostRuntime) {
+    for (format, class) in FORMATS.iter() {
+        assert_eq!(rt; detect_custom_number_format(format), *class);
+    }
+}
+
+// 256 brackets that stay open.
+#[test]
+fn counts_more_than_255_open_brackets(rt: HostRuntime) -> Result<(), Fail> {
+    let mut format = String::new(rt.alloc());
+    for _ in 0..256 {
+        format.push('[')?;
+    }
+    assert_eq!(rt;
+        detect_custom_number_format(format.as_str()),
+        CellFormat::Other
+    );
+    Ok(())
+}
+
+#[test]
+fn tells_the_classes_of_built_in_formats(rt: HostRuntime) {
+    assert_eq!(rt; builtin_format_by_code(14), CellFormat::DateTime);
+    assert_eq!(rt; builtin_format_by_code(46), CellFormat::TimeDelta);
+    assert_eq!(rt; builtin_format_by_code(49), CellFormat::Other);
+    assert_eq!(rt; builtin_format_by_id("58"), CellFormat::DateTime);
+    assert_eq!(rt; builtin_format_by_id("46"), CellFormat::TimeDelta);
+    assert_eq!(rt; builtin_format_by_id("046"), CellFormat::Other);
+    assert_eq!(rt; builtin_format_by_id("+46"), CellFormat::Other);
+    class_of_first_section();
+    class_of_decimal_text();
+    equality_by_content();
+    order_of_regions();
+}
+
+// A value of a table of cases.
+#[derive(Clone, Copy)]
+enum Given {
+    Int(i64),
+    Float(Number),
+    Text(&'static str),
+    Truth(bool),
+    Date(Number, bool),
+    IsoDate(&'static str),
+    IsoDuration(&'static str),
+    Wrong(CellErrorType),
+    Nothing,
+}
+
+fn date_of(number: Number, is_1904: bool) -> ExcelDateTime {
+    ExcelDateTime::new(number, ExcelDateTimeType::DateTime, is_1904)
+}
+
+fn data_of(alloc: Global, given: Given) -> Result<Data, AllocError> {
+    match given {
+        Given::Int(n) => Ok(Data::Int(n)),
+        Given::Float(x) => Ok(Data::Float(x)),
+        Given::Text(s) => Data::from_text(alloc, s),
+        Given::Truth(b) => Ok(Data::Bool(b)),
+        Given::Date(x, is_1904) => Ok(Data::DateTime(date_of(x, is_1904))),
+        Given::IsoDate(s) => Ok(Data::DateTimeIso(String::from_str(alloc, s)?)),
+        Given::IsoDuration(s) => Ok(Data::DurationIso(String::from_str(alloc, s)?)),
+        Given::Wrong(e) => Ok(Data::Error(e)),
+        Given::Nothing => Ok(Data::Empty),
+    }
+}
+
+fn ref_of(given: Given) -> DataRef<'static> {
+    match given {
+        Given::Int(n) => DataRef::Int(n),
+        Given::Float(x) => DataRef::Float(x),
+        Given::Text(s) => DataRef::SharedString(s),
+        Given::Truth(b) => DataRef::Bool(b),
+        Given::Date(x, is_1904) => DataRef::DateTime(date_of(x, is_1904)),
+        Given::Wrong(e) => DataRef::Error(e),
+        Given::IsoDate(_) | Given::IsoDuration(_) | Given::Nothing => DataRef::Empty,
+    }
+}
+
+fn is_value(alloc: Global, found: Data, wanted: Given) -> Result<bool, AllocError> {
+    Ok(found == data_of(alloc, wanted)?)
+}
+
+fn is_ref(found: DataRef<'_>, wanted: Given) -> bool {
+    found == ref_of(wanted)
+}
+
+#[test]
+fn gives_numbers_their_values_under_a_class(rt: HostRuntime) -> Result<(), Fail> {
+    let (alloc, two) = (rt.alloc(), Number::Whole(2));
+    let date = format_excel_i64(2, Some(&CellFormat::DateTime), true);
+    assert!(rt; is_value(alloc, date, Given::Date(two, true))?);
+    assert!(rt; is_value(alloc, format_excel_i64(2, None, false), Given::Int(2))?);
+    let float = format_excel_number(two, Some(&CellFormat::Other), false);
+    assert!(rt; is_value(alloc, float, Given::Float(two))?);
+    let span = ExcelDateTime::new(two, ExcelDateTimeType::TimeDelta, false);
+    assert!(rt;
+        format_excel_number(two, Some(&CellFormat::TimeDelta), false) == Data::DateTime(span)
+    );
+    assert!(rt; is_ref(format_excel_i64_ref(2, None, false), Given::Int(2)));
+    assert!(rt; is_ref(format_excel_number_ref(two, None, false), Given::Float(two)));
+    Ok(())
+}
+
+#[test]
+fn tells_dates_from_spans(rt: HostRuntime) {
+    let two = Number::Whole(2);
+    let day = date_of(two, true);
+    assert!(rt; day.is_datetime() && !day.is_duration() && day.has_1904_epoch());
+    let span = ExcelDateTime::new(two, ExcelDateTimeType::TimeDelta, false);
+    assert!(rt; span.is_duration() && !span.has_1904_epoch() && span.number() == two);
+    assert!(rt; ExcelDateTime::default() == date_of(Number::Whole(0), false));
+}
+
+// A copy of a value is equal to it, and only the blank equals the blank.
+fn copies<T: CellType>(alloc: Global, value: &T) -> Result<bool, AllocError> {
+    let copy = value.try_copy(alloc)?;
+    let blank = T::blank(alloc);
+    Ok(copy == *value && blank.is_blank() && value.is_blank() == (*value == blank))
+}
+
+static VALUES: [Given; 10] = [
+    Given::Int(1),
+    Given::Float(Number::Hundredths(1)),
+    Given::Text("x"),
+    Given::Text(""),
+    Given::Truth(true),
+    Given::Date(Number::Whole(2), true),
+    Given::IsoDate("2020-02-29"),
+    Given::IsoDuration("PT1H"),
+    Given::Wrong(CellErrorType::NA),
+    Given::Nothing,
+];
+
+#[test]
+fn copies_every_value(rt: HostRuntime) -> Result<(), Fail> {
+    for given in VALUES.iter() {
+        assert!(rt; copies(rt.alloc(), &data_of(rt.alloc(), *given)?)?);
+    }
+    assert!(rt; copies(rt.alloc(), &String::from_str(rt.alloc(), "x")?)?);
+    assert!(rt; copies(rt.alloc(), &3usize)?);
+    Ok(())
+}
+
+#[test]
+fn copies_every_reference(rt: HostRuntime) -> Result<(), Fail> {
+    let text = DataRef::String(String::from_str(rt.alloc(), "x")?);
+    assert!(rt; copies(rt.alloc(), &text)?);
+    assert!(rt; copies(rt.alloc(), &DataRef::Int(1))?);
+    assert!(rt; copies(rt.alloc(), &DataRef::SharedString("x"))?);
+    let date = date_of(Number::Whole(2), true);
+    assert!(rt; copies(rt.alloc(), &DataRef::DateTime(date))?);
+    assert!(rt; copies(rt.alloc(), &DataRef::Empty)?);
+    Ok(())
+}
+
+// The text of a value, read through the bound.
+fn text_of<T: DataType>(alloc: Global, value: &T) -> Result<Option<String>, AllocError> {
+    value.as_string(alloc)
+}
+
+#[test]
+fn reads_values_through_the_bound(rt: HostRuntime) -> Result<(), Fail> {
+    let text = Data::from_text(rt.alloc(), "x")?;
+    let read = text_of(rt.alloc(), &text)?.ok_or("no text")?;
+    assert_eq!(rt; read.as_str(), "x");
+    let read = text_of(rt.alloc(), &DataRef::SharedString("y"))?.ok_or("no text")?;
+    assert_eq!(rt; read.as_str(), "y");
+    let read = text_of(rt.alloc(), &Data::Float(Number::Hundredths(150)))?.ok_or("no text")?;
+    assert_eq!(rt; read.as_str(), "1.5");
+    let read = text_of(rt.alloc(), &Data::Int(-3))?.ok_or("no text")?;
+    assert_eq!(rt; read.as_str(), "-3");
+    assert!(rt; text_of(rt.alloc(), &Data::Bool(true))?.is_none());
+    let owned = Data::from_ref(rt.alloc(), DataRef::SharedString("x"))?;
+    assert!(rt; owned == text);
+    Ok(())
+}
+
+#[test]
+fn tells_the_kind_of_a_value(rt: HostRuntime) -> Result<(), Fail> {
+    let date = ExcelDateTime::default();
+    let number = Number::Whole(5);
+    assert!(rt; Data::Empty.is_empty() && !Data::Int(0).is_empty());
+    assert!(rt; Data::Int(5).is_int() && Data::Int(5).get_int() == Some(5));
+    assert!(rt; Data::Float(number).is_float() && Data::Float(number).get_float() == Some(number));
+    assert!(rt; Data::Bool(true).is_bool() && Data::Bool(true).get_bool() == Some(true));
+    assert!(rt; DataRef::SharedString("a").is_string() && !DataRef::SharedString("a").is_int());
+    assert!(rt;
+        Data::DateTime(date).is_datetime() && Data::DateTime(date).get_datetime() == Some(date)
+    );
+    let iso = Data::DateTimeIso(String::from_str(rt.alloc(), "2020-02-29")?);
+    assert!(rt; iso.is_datetime_iso() && iso.get_datetime_iso() == Some("2020-02-29"));
+    let span = Data::DurationIso(String::from_str(rt.alloc(), "PT1H")?);
+    assert!(rt; span.is_duration_iso() && span.get_duration_iso() == Some("PT1H"));
+    let error = Data::Error(CellErrorType::Ref);
+    assert!(rt; error.is_error() && error.get_error() == Some(&CellErrorType::Ref));
+    Ok(())
+}
+
+#[test]
+fn takes_values_for_whole_numbers(rt: HostRuntime) -> Result<(), Fail> {
+    assert_eq!(rt; Data::Int(-7).as_i64(), Some(-7));
+    assert_eq!(rt; Data::Float(Number::Hundredths(-199)).as_i64(), Some(-1));
+    assert_eq!(rt; Data::Bool(true).as_i64(), Some(1));
+    assert_eq!(rt; Data::from_text(rt.alloc(), "-12")?.as_i64(), Some(-12));
+    assert_eq!(rt; Data::from_text(rt.alloc(), "1.5")?.as_i64(), None);
+    assert_eq!(rt; DataRef::SharedString("9223372036854775808").as_i64(), None);
+    assert_eq!(rt; Data::Empty.as_i64(), None);
+    assert!(rt;
+        DataRef::SharedString("x").eq_text("x") && !DataRef::SharedString("x").eq_text("y")
+    );
+    assert!(rt; Data::Int(1).eq_int(1) && !Data::Float(Number::Whole(1)).eq_int(1));
+    assert!(rt; Data::Bool(false).eq_bool(false) && !Data::Empty.eq_bool(false));
+    Ok(())
+}
+
+// Values, and the texts of a reference to them and of an owned copy of it.
+static PRINTED: [(Given, &str); 14] = [
+    (Given::Int(-1), "-1"),
+    (Given::Float(Number::Hundredths(5)), "0.05"),
+    (Given::Text("ä"), "ä"),
+    (Given::Truth(false), "false"),
+    (Given::Date(Number::Hundredths(250), false), "2.5"),
+    (Given::Wrong(CellErrorType::GettingData), "#DATA!"),
+    (Given::Wrong(CellErrorType::Div0), "#DIV/0!"),
+    (Given::Wrong(CellErrorType::NA), "#N/A"),
+    (Given::Wrong(CellErrorType::Name), "#NAME?"),
+    (Given::Wrong(CellErrorType::Null), "#NULL!"),
+    (Given::Wrong(CellErrorType::Num), "#NUM!"),
+    (Given::Wrong(CellErrorType::Ref), "#REF!"),
+    (Given::Wrong(CellErrorType::Value), "#VALUE!"),
+    (Given::Nothing, ""),
+];
+
+fn owned_text(alloc: Global, value: &DataRef<'_>) -> Result<String, AllocError> {
+    Data::from_ref(alloc, value.try_copy(alloc)?)?.to_string(alloc)
+}
+
+#[test]
+fn prints_values(rt: HostRuntime) -> Result<(), Fail> {
+    for (given, text) in PRINTED.iter() {
+        let value = ref_of(*given);
+        assert_eq!(rt; value.to_string(rt.alloc())?.as_str(), *text);
+        assert_eq!(rt; owned_text(rt.alloc(), &value)?.as_str(), *text);
+    }
+    Ok(())
+}
+
+#[test]
+fn converts_into_values(rt: HostRuntime) -> Result<(), Fail> {
+    let alloc = rt.alloc();
+    assert!(rt; is_value(alloc, Data::from(3i64), Given::Int(3))?);
+    assert!(rt; is_value(alloc, Data::from(true), Given::Truth(true))?);
+    let one = Number::Whole(1);
+    assert!(rt; is_value(alloc, Data::from(one), Given::Float(one))?);
+    let error = CellErrorType::Num;
+    assert!(rt; is_value(alloc, Data::from(error), Given::Wrong(error))?);
+    assert!(rt; is_value(alloc, Data::from(()), Given::Nothing)?);
+    assert!(rt; is_value(alloc, Data::from(Some(3i64)), Given::Int(3))?);
+    assert!(rt; is_value(alloc, Data::from(None::<bool>), Given::Nothing)?);
+    let text = Data::from(String::from_str(alloc, "x")?);
+    assert!(rt; text.eq_text("x"));
+    Ok(())
+}
+
+#[test]
+fn compares_and_counts_regions(rt: HostRuntime) -> Result<(), Fail> {
+    let region = Dimensions::new((1, 2), (3, 4));
+    assert!(rt; region.contains(1, 2) && region.contains(3, 4) && !region.contains(4, 4));
+    assert_eq!(rt; region.len(), 9);
+    assert!(rt; Dimensions::new((1, 2), (9, 9)) < Dimensions::new((2, 0), (0, 0)));
+    assert!(rt; Dimensions::new((1, 2), (3, 4)) < Dimensions::new((1, 2), (3, 5)));
+    assert!(rt; Dimensions::default() == Dimensions::new((0, 0), (0, 0)));
+    let mut seen = HashMap::new(rt.alloc());
+    seen.insert(region, 1u8)?;
+    assert!(rt; seen.contains_key(&Dimensions::new((1, 2), (3, 4))));
+    assert!(rt; HeaderRow::default() == HeaderRow::FirstNonEmptyRow);
+    assert!(rt; HeaderRow::Row(1) != HeaderRow::default());
+    Ok(())
+}
+
+#[test]
+fn keeps_cells_and_sheets(rt: HostRuntime) -> Result<(), Fail> {
+    let cell = Cell::new((3, 4), Data::Int(5));
+    assert_eq!(rt; cell.get_position(), (3, 4));
+    assert!(rt; *cell.get_value() == Data::Int(5));
+    let sheet = Sheet {
+        name: String::from_str(rt.alloc(), "A")?,
+        typ: SheetType::WorkSheet,
+        visible: SheetVisible::VeryHidden,
+    };
+    let other = Sheet {
+        name: String::from_str(rt.alloc(), "A")?,
+        typ: SheetType::WorkSheet,
+        visible: SheetVisible::Hidden,
+    };
+    assert!(rt; sheet != other);
+    Ok(())
+}

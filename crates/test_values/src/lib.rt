@@ -1,0 +1,13 @@
+//! Tests of values and properties.
+#![tactic(auto)]
+
+#[cfg(test)]
+mod bytes;
+#[cfg(test)]
+mod data;
+#[cfg(test)]
+mod props;
+#[cfg(test)]
+mod text;
+#[cfg(test)]
+mod vba;

@@ -1,0 +1,205 @@
+//! Expected values are those of the Unicode Standard, of CPython 3.11's decoders (`utf-8` and
+//! `utf-16-le` with `replace`) and of the Windows code page table.
+
+use std::test::Fail;
+use xls_text::{CfbError, XlsEncoding, one_utf8_reading, one_utf16_reading, push_units};
+
+#[test]
+fn knows_four_pages(rt: HostRuntime) {
+    assert_eq!(rt; XlsEncoding::from_codepage(1200), Ok(XlsEncoding::Utf16));
+    assert_eq!(rt;
+        XlsEncoding::from_codepage(1252),
+        Ok(XlsEncoding::Windows1252)
+    );
+    assert_eq!(rt; XlsEncoding::from_codepage(65001), Ok(XlsEncoding::Utf8));
+    assert_eq!(rt; XlsEncoding::from_codepage(28591), Ok(XlsEncoding::Latin1));
+    assert_eq!(rt;
+        XlsEncoding::from_codepage(932),
+        Err(CfbError::CodePageNotFound(932))
+    );
+    assert_eq!(rt;
+        XlsEncoding::from_codepage(1201),
+        Err(CfbError::CodePageNotFound(1201))
+    );
+}
+
+#[test]
+fn prints_a_page_in_upper_hexadecimal(rt: HostRuntime) -> Result<(), Fail> {
+    let text = format!(in rt.alloc(); "{}", CfbError::CodePageNotFound(932))?;
+    assert_eq!(rt; text.as_str(), "Codepage 3A4 not found");
+    let text = format!(in rt.alloc(); "{}", CfbError::CodePageNotFound(0))?;
+    assert_eq!(rt; text.as_str(), "Codepage 0 not found");
+    Ok(())
+}
+
+#[test]
+fn appends_what_is_there(rt: HostRuntime) -> Result<(), Fail> {
+    let mut text = String::new(rt.alloc());
+    let wide = XlsEncoding::Utf16.decode_to(&[0x41, 0x00], 1, &mut text, Some(true))?;
+    assert_eq!(rt; wide, (1, 2));
+    assert_eq!(rt; text.as_str(), "A");
+    let narrow = XlsEncoding::Utf16.decode_to(&[0x41], 1, &mut text, None)?;
+    assert_eq!(rt; narrow, (1, 1));
+    assert_eq!(rt; text.as_str(), "AA");
+    let mut text = String::from_str(rt.alloc(), "prefix:")?;
+    let paged = XlsEncoding::Windows1252.decode_to(&[0x63, 0x61, 0x66, 0xE9], 4, &mut text, None)?;
+    assert_eq!(rt; paged, (4, 4));
+    assert_eq!(rt; text.as_str(), "prefix:caf\u{E9}");
+    Ok(())
+}
+
+#[test]
+fn counts_no_more_than_asked_or_there(rt: HostRuntime) -> Result<(), Fail> {
+    let mut text = String::new(rt.alloc());
+    let bytes = [0x41, 0x00, 0x42, 0x00, 0x43];
+    assert_eq!(rt;
+        XlsEncoding::Windows1252.decode_to(&bytes, 9, &mut text, Some(true))?,
+        (2, 4)
+    );
+    assert_eq!(rt; text.as_str(), "AB");
+    assert_eq!(rt;
+        XlsEncoding::Utf8.decode_to(&bytes, 1, &mut text, Some(true))?,
+        (1, 2)
+    );
+    assert_eq!(rt;
+        XlsEncoding::Utf8.decode_to(&[0xE9, 0x80], 1, &mut text, Some(false))?,
+        (1, 1)
+    );
+    assert_eq!(rt; text.as_str(), "ABA\u{E9}");
+    assert_eq!(rt;
+        XlsEncoding::Utf8.decode_to(&[0xC3, 0xA9, 0x41], 2, &mut text, None)?,
+        (2, 2)
+    );
+    assert_eq!(rt; text.as_str(), "ABA\u{E9}\u{E9}");
+    assert_eq!(rt;
+        XlsEncoding::Latin1.decode_to(&[], 9, &mut text, None)?,
+        (0, 0)
+    );
+    // A unit of one byte is a character of its own number, whatever the page.
+    assert_eq!(rt;
+        XlsEncoding::Windows1252.decode_to(&[0x80], 1, &mut text, Some(false))?,
+        (1, 1)
+    );
+    assert_eq!(rt; text.as_str(), "ABA\u{E9}\u{E9}\u{80}");
+    Ok(())
+}
+
+static PAIRS: [(&[u8], &str); 6] = [
+    (&[0x41, 0x00, 0x42], "A\u{FFFD}"),
+    (&[0x3D, 0xD8, 0x00, 0xDE], "\u{1F600}"),
+    (&[0x3D, 0xD8, 0x41, 0x00], "\u{FFFD}A"),
+    (&[0x00, 0xDE, 0x3D, 0xD8], "\u{FFFD}\u{FFFD}"),
+    (&[0xFF, 0xFE, 0x41, 0x00], "\u{FEFF}A"),
+    // A half of a pair and an odd byte are one each.
+    (&[0x3D, 0xD8, 0x00], "\u{FFFD}\u{FFFD}"),
+];
+
+#[test]
+fn reads_utf_16(rt: HostRuntime) -> Result<(), Fail> {
+    for (bytes, expected) in PAIRS.iter() {
+        let text = XlsEncoding::Utf16.decode_all(rt.alloc(), bytes)?;
+        assert_eq!(rt; text.as_str(), *expected);
+    }
+    Ok(())
+}
+
+static SEQUENCES: [(&[u8], &str); 10] = [
+    (&[0x41, 0xFF], "A\u{FFFD}"),
+    (&[0xE0, 0x80], "\u{FFFD}\u{FFFD}"),
+    (&[0xED, 0xA0, 0x80], "\u{FFFD}\u{FFFD}\u{FFFD}"),
+    (&[0xF0, 0x9F, 0x98], "\u{FFFD}"),
+    (&[0xC3, 0x28], "\u{FFFD}("),
+    (
+        &[0xF4, 0x90, 0x80, 0x80],
+        "\u{FFFD}\u{FFFD}\u{FFFD}\u{FFFD}",
+    ),
+    (&[0xF0, 0x9F, 0x98, 0x41], "\u{FFFD}A"),
+    (
+        &[0xE2, 0x82, 0xAC, 0xE2, 0x82, 0xE2],
+        "\u{20AC}\u{FFFD}\u{FFFD}",
+    ),
+    (
+        &[
+            0x61, 0xC3, 0xA9, 0xFF, 0x62, 0xF0, 0x9F, 0x98, 0x80, 0xE2, 0x82,
+        ],
+        "a\u{E9}\u{FFFD}b\u{1F600}\u{FFFD}",
+    ),
+    (&[0xEF, 0xBB, 0xBF, 0x41], "\u{FEFF}A"),
+];
+
+#[test]
+fn reads_utf_8_by_the_longest_begun_sequence(rt: HostRuntime) -> Result<(), Fail> {
+    for (bytes, expected) in SEQUENCES.iter() {
+        let text = XlsEncoding::Utf8.decode_all(rt.alloc(), bytes)?;
+        assert_eq!(rt; text.as_str(), *expected);
+    }
+    Ok(())
+}
+
+// The upper half of page 1252, from 80 on.
+const UPPER: &str =
+    "€\u{81}‚ƒ„…†‡ˆ‰Š‹Œ\u{8D}Ž\u{8F}\u{90}‘’“”•–—˜™š›œ\u{9D}žŸ\u{A0}¡¢£¤¥¦§¨©ª«¬\u{AD}®¯°±²³´µ¶·¸¹º»¼½¾¿ÀÁÂÃÄÅÆÇÈÉÊËÌÍÎÏÐÑÒÓÔÕÖ×ØÙÚÛÜÝÞßàáâãäåæçèéêëìíîïðñòóôõö÷øùúûüýþÿ";
+
+#[test]
+fn reads_every_byte_of_page_1252(rt: HostRuntime) -> Result<(), Fail> {
+    let mut bytes = Vec::new(rt.alloc());
+    let mut expected = String::new(rt.alloc());
+    for byte in 0..128u8 {
+        bytes.push(byte)?;
+        expected.push(char::from(byte))?;
+    }
+    for byte in 128..=255u8 {
+        bytes.push(byte)?;
+    }
+    expected.push_str(UPPER)?;
+    let text = XlsEncoding::Windows1252.decode_all(rt.alloc(), bytes.as_slice())?;
+    assert_eq!(rt; text.as_str(), expected.as_str());
+    assert_eq!(rt; text.as_str().chars().count(), 256);
+    Ok(())
+}
+
+#[test]
+fn reads_page_28591_as_numbers(rt: HostRuntime) -> Result<(), Fail> {
+    let text = XlsEncoding::Latin1.decode_all(rt.alloc(), &[0x80, 0xE9])?;
+    assert_eq!(rt; text.as_str(), "\u{80}\u{E9}");
+    let text = XlsEncoding::Windows1252.decode_all(rt.alloc(), &[0x80])?;
+    assert_eq!(rt; text.as_str(), "\u{20AC}");
+    Ok(())
+}
+
+#[test]
+fn appends_units(rt: HostRuntime) -> Result<(), Fail> {
+    let mut text = String::from_str(rt.alloc(), "x")?;
+    push_units(&[0x41, 0xD83D, 0xDE00, 0xD83D], &mut text)?;
+    assert_eq!(rt; text.as_str(), "xA\u{1F600}\u{FFFD}");
+    push_units(&[0xDBFF, 0xDFFF, 0xE000], &mut text)?;
+    assert_eq!(rt; text.as_str(), "xA\u{1F600}\u{FFFD}\u{10FFFF}\u{E000}");
+    one_utf8_reading();
+    one_utf16_reading();
+    Ok(())
+}
+
+// With memory refused at any number, what is written is all of the text or none of it.
+#[test]
+fn a_refusal_leaves_the_text(rt: HostRuntime) {
+    let Ok(mut text) = String::from_str(rt.alloc(), "old") else {
+        return;
+    };
+    let mut expected = "old";
+    let bytes = [0x41, 0xE9, 0x42, 0x80, 0x43, 0xE9, 0x44, 0xE9, 0x45, 0xE9];
+    if XlsEncoding::Windows1252
+        .decode_to(&bytes, 10, &mut text, None)
+        .is_ok()
+    {
+        expected = "oldA\u{E9}B\u{20AC}C\u{E9}D\u{E9}E\u{E9}";
+    }
+    assert_eq!(rt; text.as_str(), expected);
+    let Ok(mut text) = String::from_str(rt.alloc(), "old") else {
+        return;
+    };
+    let mut expected = "old";
+    if push_units(&[0x41, 0xD83D, 0xDE00, 0x20AC, 0xD83D, 0x42], &mut text).is_ok() {
+        expected = "oldA\u{1F600}\u{20AC}\u{FFFD}B";
+    }
+    assert_eq!(rt; text.as_str(), expected);
+}
