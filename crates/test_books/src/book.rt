@@ -83,14 +83,14 @@ fn is_visible_worksheet(sheet: &Sheet, name: &str) -> bool {
         && sheet.visible == SheetVisible::Visible
 }
 
-// Whether these are visible worksheets of these names.
-fn are_worksheets(sheets: &[Sheet], names: &[&str]) -> bool {
-    for (sheet, name) in sheets.iter().zip(names.iter()) {
-        if !is_visible_worksheet(sheet, *name) {
+// Whether these are visible worksheets, all of this name.
+fn are_worksheets(sheets: &[Sheet], name: &str) -> bool {
+    for sheet in sheets {
+        if !is_visible_worksheet(sheet, name) {
             return false;
         }
     }
-    sheets.len() == names.len()
+    true
 }
 
 // The values of a sheet, as `row,column=value` with a space between them.

@@ -48,7 +48,7 @@ fn refuses(alloc: Global, rgce: &[u8], biff: Biff, error: &XlsError) -> bool {
 }
 
 /// Formulas with their texts.
-const PRINTED: [(Biff, &[u8], &str); 16] = [
+static PRINTED: [(Biff, &[u8], &str); 16] = [
     // Cells on a sheet: the last row of BIFF8, an area.
     (Biff::Biff8, b"\x07\0\x3A\0\0\xFF\xFF\0\xC0", "A!A65536"),
     (
@@ -88,8 +88,8 @@ const PRINTED: [(Biff, &[u8], &str); 16] = [
 
 #[test]
 fn prints_formulas(rt: HostRuntime) {
-    for (biff, rgce, text) in PRINTED {
-        assert!(rt; prints(rt.alloc(), rgce, biff, text));
+    for (biff, rgce, text) in PRINTED.iter() {
+        assert!(rt; prints(rt.alloc(), rgce, *biff, text));
     }
 }
 
@@ -175,7 +175,7 @@ fn names(alloc: Global, rgce: &[u8], index: Option<usize>, text: &str) -> bool {
 }
 
 /// Tokens of a name, with the index of the reference and the text.
-const NAMED: [(&[u8], Option<usize>, &str); 5] = [
+static NAMED: [(&[u8], Option<usize>, &str); 5] = [
     (&[0x3A, 0x00, 0x00, 0x01, 0x00, 0x01, 0x00], Some(0), "$B$2"),
     (&[], None, "empty rgce"),
     (&[0x17], None, "Unsupported ptg: 17"),
@@ -185,8 +185,8 @@ const NAMED: [(&[u8], Option<usize>, &str); 5] = [
 
 #[test]
 fn reads_what_a_name_names(rt: HostRuntime) {
-    for (rgce, index, text) in NAMED {
-        assert!(rt; names(rt.alloc(), rgce, index, text));
+    for (rgce, index, text) in NAMED.iter() {
+        assert!(rt; names(rt.alloc(), rgce, *index, text));
     }
 }
 

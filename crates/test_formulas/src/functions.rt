@@ -5,7 +5,7 @@ use xls_formula::FunctionTable;
 use xls_functions::push_functions;
 
 // The first and the last, and some between.
-const KNOWN: [(usize, &str, u8); 7] = [
+static KNOWN: [(usize, &str, u8); 7] = [
     (72, "MINUTE", 1),
     (82, "SEARCH", 3),
     (102, "VLOOKUP", 4),
@@ -20,9 +20,9 @@ fn names_functions_by_their_indexes(rt: HostRuntime) -> Result<(), Fail> {
     let mut table = FunctionTable::shipped(rt.alloc())?;
     push_functions(&mut table)?;
     assert_eq!(rt; table.len(), 381);
-    for (index, name, count) in KNOWN {
-        assert_eq!(rt; table.name(index), Some(name));
-        assert_eq!(rt; table.argc(index), Some(count));
+    for (index, name, count) in KNOWN.iter() {
+        assert_eq!(rt; table.name(*index), Some(*name));
+        assert_eq!(rt; table.argc(*index), Some(*count));
     }
     Ok(())
 }

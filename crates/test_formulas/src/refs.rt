@@ -56,7 +56,7 @@ fn cites_so(alloc: Global, rgce: &[u8], biff: Biff, wanted: &str) -> Result<bool
 }
 
 /// Formulas and the cells that they cite, counted from 0.
-const CITED: [(Biff, &[u8], &str); 11] = [
+static CITED: [(Biff, &[u8], &str); 11] = [
     // A1+A1: a repeat.
     (
         Biff::Biff8,
@@ -110,8 +110,8 @@ const CITED: [(Biff, &[u8], &str); 11] = [
 
 #[test]
 fn cites_the_cells_of_formulas(rt: HostRuntime) -> Result<(), Fail> {
-    for (biff, rgce, wanted) in CITED {
-        assert!(rt; cites_so(rt.alloc(), rgce, biff, wanted)?);
+    for (biff, rgce, wanted) in CITED.iter() {
+        assert!(rt; cites_so(rt.alloc(), rgce, *biff, wanted)?);
     }
     Ok(())
 }

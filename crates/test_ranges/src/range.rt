@@ -42,9 +42,8 @@ fn grows_right(rt: HostRuntime) -> Result<(), Fail> {
     let mut range: Range<usize> = Range::new(rt.alloc(), (0, 0), (5, 2))?;
     range.set_value((6, 0), 1)?;
     range.set_value((6, 3), 2)?;
-    assert_eq!(rt; range.get_size(), (7, 4));
-    assert_eq!(rt; range.get_value((6, 0)), Some(&1));
-    assert_eq!(rt; range.get((6, 3)), Some(&2));
+    let cells = (range.get_value((6, 0)), range.get((6, 3)));
+    assert!(rt; range.get_size() == (7, 4) && cells == (Some(&1), Some(&2)));
     assert_eq!(rt; range.used_cells().count(), 2);
     Ok(())
 }
@@ -89,14 +88,15 @@ fn refuses_other_boxes(rt: HostRuntime) -> Result<(), Fail> {
     Ok(())
 }
 
+fn prints(alloc: Global, refusal: RangeError, wanted: &str) -> Result<bool, AllocError> {
+    Ok(refusal.to_string(alloc)?.as_str() == wanted)
+}
+
 #[test]
 fn prints_its_refusals(rt: HostRuntime) -> Result<(), Fail> {
-    let bounds = RangeError::Bounds.to_string(rt.alloc())?;
-    assert_eq!(rt; bounds.as_str(), "invalid range bounds");
-    let large = RangeError::TooLarge.to_string(rt.alloc())?;
-    assert_eq!(rt; large.as_str(), "range too large");
-    let memory = RangeError::Memory.to_string(rt.alloc())?;
-    assert_eq!(rt; memory.as_str(), "Out of memory");
+    assert!(rt; prints(rt.alloc(), RangeError::Bounds, "invalid range bounds")?);
+    assert!(rt; prints(rt.alloc(), RangeError::TooLarge, "range too large")?);
+    assert!(rt; prints(rt.alloc(), RangeError::Memory, "Out of memory")?);
     Ok(())
 }
 
@@ -104,11 +104,10 @@ fn prints_its_refusals(rt: HostRuntime) -> Result<(), Fail> {
 fn spans_the_given_cells(rt: HostRuntime) -> Result<(), Fail> {
     let given = usize_cells(rt.alloc(), &[(2, 2, 1), (5, 2, 2), (9, 2, 3)])?;
     let range = Range::from_sparse(rt.alloc(), given)?;
-    assert_eq!(rt; range.get_size(), (8, 1));
-    assert_eq!(rt; range.cells().len(), 8);
-    assert_eq!(rt; range.used_cells().count(), 3);
-    assert_eq!(rt; range.start(), Some((2, 2)));
-    assert_eq!(rt; range.end(), Some((9, 2)));
+    let counts = [range.cells().len(), range.used_cells().count()];
+    let corners = [range.start(), range.end()];
+    assert!(rt; range.get_size() == (8, 1) && counts == [8, 3]);
+    assert_eq!(rt; corners, [Some((2, 2)), Some((9, 2))]);
     Ok(())
 }
 
@@ -203,34 +202,34 @@ fn goes_over_rows_from_both_ends(rt: HostRuntime) -> Result<(), Fail> {
 fn goes_over_used_cells_from_both_ends(rt: HostRuntime) -> Result<(), Fail> {
     let range = three_cells(rt.alloc())?;
     let mut used = range.used_cells();
-    assert_eq!(rt; used.size_hint(), (0, Some(6)));
-    assert!(rt; is_cell(used.next_back(), (2, 0, Some(3))));
-    assert_eq!(rt; used.size_hint(), (0, Some(4)));
-    assert!(rt; is_cell(used.next(), (0, 0, Some(1))));
-    assert_eq!(rt; used.size_hint(), (0, Some(3)));
+    let before = used.size_hint();
+    let last = used.next_back();
+    let between = used.size_hint();
+    let first = used.next();
+    let counts = [before, between, used.size_hint()];
+    assert!(rt; is_cell(first, (0, 0, Some(1))) && is_cell(last, (2, 0, Some(3))));
+    assert_eq!(rt; counts, [(0, Some(6)), (0, Some(4)), (0, Some(3))]);
     assert_eq!(rt; used.count(), 1);
     Ok(())
 }
 
 #[test]
 fn lends_rows_and_cells(rt: HostRuntime) -> Result<(), Fail> {
-    let mut range: Range<Data> = Range::new(rt.alloc(), (1, 1), (3, 3))?;
-    range.set_value((2, 2), Data::Int(123))?;
-    assert_eq!(rt; range.get_size(), (3, 3));
-    assert!(rt; range.row(1) == [Data::Empty, Data::Int(123), Data::Empty].as_slice());
-    assert!(rt; range[(1, 1)] == Data::Int(123));
-    range[(0, 2)] = Data::Bool(true);
-    assert_eq!(rt; range.get_value((1, 3)), Some(&Data::Bool(true)));
+    let mut range: Range<usize> = Range::new(rt.alloc(), (1, 1), (3, 3))?;
+    range.set_value((2, 2), 123)?;
+    range[(0, 2)] = 7;
+    assert!(rt; range.row(1) == [0, 123, 0].as_slice() && range[(1, 1)] == 123);
+    assert_eq!(rt; range.get_value((1, 3)), Some(&7));
     Ok(())
 }
 
-fn are_texts(found: &[String], wanted: &[&str]) -> bool {
-    for (text, other) in found.iter().zip(wanted.iter()) {
-        if text.as_str() != *other {
-            return false;
-        }
+// The texts, each with a bar after it.
+fn listed(alloc: Global, texts: &[String]) -> Result<String, AllocError> {
+    let mut all = String::new(alloc);
+    for text in texts {
+        write!(all, "{text}|")?;
     }
-    found.len() == wanted.len()
+    Ok(all)
 }
 
 #[test]
@@ -241,7 +240,7 @@ fn prints_the_first_row(rt: HostRuntime) -> Result<(), Fail> {
     range.set_value((0, 1), Data::Int(1))?;
     range.set_value((0, 2), Data::Bool(true))?;
     let headers = range.headers(rt.alloc())?.expect(&rt, "a range of one row");
-    assert!(rt; are_texts(&headers, &["a", "1", "true"]));
+    assert_eq!(rt; listed(rt.alloc(), &headers)?.as_str(), "a|1|true|");
     Ok(())
 }
 
@@ -262,10 +261,9 @@ fn holds_texts(rt: HostRuntime) -> Result<(), Fail> {
     let mut range: Range<String> = Range::empty(rt.alloc());
     range.set_value((0, 1), String::from_str(rt.alloc(), "one")?)?;
     let copy = range.range(rt.alloc(), (0, 0), (0, 1))?;
-    assert!(rt; copy == range);
+    let is_equal = copy == range;
     range.set_value((0, 1), String::from_str(rt.alloc(), "two")?)?;
-    assert!(rt; copy != range);
-    assert_eq!(rt; copy.used_cells().count(), 1);
+    assert!(rt; is_equal && copy != range && copy.used_cells().count() == 1);
     Ok(())
 }
 
@@ -274,7 +272,7 @@ fn prints_a_row_of_texts(rt: HostRuntime) -> Result<(), Fail> {
     let mut range: Range<String> = Range::empty(rt.alloc());
     range.set_value((0, 1), String::from_str(rt.alloc(), "two")?)?;
     let headers = range.headers(rt.alloc())?.expect(&rt, "a range of one row");
-    assert!(rt; are_texts(&headers, &["", "two"]));
+    assert_eq!(rt; listed(rt.alloc(), &headers)?.as_str(), "|two|");
     Ok(())
 }
 

@@ -1,3 +1,4 @@
+use crate::answers::{UTF16, fault_of, too_short};
 use std::alloc::{AllocError, Global};
 use std::test::*;
 use xls_biff::*;
@@ -10,8 +11,6 @@ mod lengths;
 mod regions;
 mod table;
 mod walk;
-
-const UTF16: XlsEncoding = XlsEncoding::Utf16;
 
 fn record_of(bytes: &[u8]) -> Result<Record<'_>, XlsError> {
     match RecordIter::new(bytes).next() {
@@ -30,9 +29,9 @@ fn record(typ: u16, body: &[u8]) -> Record<'_> {
 }
 
 fn push_record(bytes: &mut Vec<u8>, typ: u16, front: &[u8], body: &[u8]) -> Result<(), AllocError> {
-    let len = front.len().saturating_add(body.len());
+    let len = u16::try_from(front.len().saturating_add(body.len())).unwrap_or(u16::MAX);
     bytes.extend_from_slice(&typ.to_le_bytes())?;
-    bytes.extend_from_slice(&[(len % 256) as u8, (len / 256 % 256) as u8])?;
+    bytes.extend_from_slice(&len.to_le_bytes())?;
     bytes.extend_from_slice(front)?;
     bytes.extend_from_slice(body)
 }
@@ -66,20 +65,4 @@ fn count_of(alloc: Global, first: &[u8], others: &[&[u8]]) -> Result<usize, XlsE
     let bytes = table_of(alloc, first, others)?;
     let r = record_of(&bytes)?;
     skip_sst(&r)
-}
-
-fn fault_of<T: Drop>(answer: Result<T, XlsError>) -> Option<XlsError> {
-    match answer {
-        Ok(_) => None,
-        Err(e) => Some(e),
-    }
-}
-
-/// The refusal of a part that is too short.
-fn too_short(typ: Part, expected: usize, found: usize) -> Option<XlsError> {
-    Some(XlsError::Len {
-        expected,
-        found,
-        typ,
-    })
 }

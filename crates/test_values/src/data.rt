@@ -40,18 +40,22 @@ fn prints_numbers_exactly(rt: HostRuntime) -> Result<(), Fail> {
 }
 
 // The double 2.5 is 4004000000000000, 1e300 is 7e37e43c8800759c, infinity 7ff0000000000000.
+static CUTS: [(Number, i64, Option<i64>); 8] = [
+    (Number::Whole(-7), -7, Some(-7)),
+    (Number::Hundredths(-199), -1, Some(-1)),
+    (Number::Hundredths(199), 1, Some(1)),
+    (Number::Bits(0x4004000000000000), 2, Some(2)),
+    (Number::Bits(0xc004000000000000), -2, Some(-2)),
+    (Number::BitsOver100(0x4069000000000000), 2, Some(2)),
+    (Number::Bits(0x7e37e43c8800759c), i64::MAX, None),
+    (Number::BitsOver100(0x7ff8000000000000), 0, None),
+];
+
 #[test]
 fn cuts_numbers_toward_zero(rt: HostRuntime) {
-    assert_eq!(rt; Number::Whole(-7).trunc(), -7);
-    assert_eq!(rt; Number::Hundredths(-199).trunc(), -1);
-    assert_eq!(rt; Number::Hundredths(199).trunc_checked(), Some(1));
-    assert_eq!(rt; Number::Bits(0x4004000000000000).trunc(), 2);
-    assert_eq!(rt; Number::Bits(0xc004000000000000).trunc_checked(), Some(-2));
-    assert_eq!(rt; Number::BitsOver100(0x4069000000000000).trunc(), 2);
-    assert_eq!(rt; Number::Bits(0x7e37e43c8800759c).trunc(), i64::MAX);
-    assert_eq!(rt; Number::Bits(0x7e37e43c8800759c).trunc_checked(), None);
-    assert_eq!(rt; Number::Bits(0x7ff0000000000000).trunc_checked(), None);
-    assert_eq!(rt; Number::BitsOver100(0x7ff8000000000000).trunc(), 0);
+    for (number, cut, checked) in CUTS.iter() {
+        assert_eq!(rt; (number.trunc(), number.trunc_checked()), (*cut, *checked));
+    }
 }
 
 // The calendar, with the day that the 1900 system has and the calendar lacks.
@@ -373,8 +377,8 @@ fn prints_values(rt: HostRuntime) -> Result<(), Fail> {
 #[test]
 fn converts_into_values(rt: HostRuntime) -> Result<(), Fail> {
     let alloc = rt.alloc();
-    assert!(rt; is_value(alloc, Data::from(3i64), Given::Int(3))?);
-    assert!(rt; is_value(alloc, Data::from(true), Given::Truth(true))?);
+    let is_number = is_value(alloc, Data::from(3i64), Given::Int(3))?;
+    assert!(rt; is_number && is_value(alloc, Data::from(true), Given::Truth(true))?);
     let one = Number::Whole(1);
     assert!(rt; is_value(alloc, Data::from(one), Given::Float(one))?);
     let error = CellErrorType::Num;

@@ -4,22 +4,23 @@
 use std::test::Fail;
 use xls_text::{CfbError, XlsEncoding, one_utf8_reading, one_utf16_reading, push_units};
 
+static PAGES: [(u16, Option<XlsEncoding>); 6] = [
+    (1200, Some(XlsEncoding::Utf16)),
+    (1252, Some(XlsEncoding::Windows1252)),
+    (65001, Some(XlsEncoding::Utf8)),
+    (28591, Some(XlsEncoding::Latin1)),
+    (932, None),
+    (1201, None),
+];
+
 #[test]
 fn knows_four_pages(rt: HostRuntime) {
-    assert_eq!(rt; XlsEncoding::from_codepage(1200), Ok(XlsEncoding::Utf16));
-    assert_eq!(rt;
-        XlsEncoding::from_codepage(1252),
-        Ok(XlsEncoding::Windows1252)
-    );
-    assert_eq!(rt; XlsEncoding::from_codepage(65001), Ok(XlsEncoding::Utf8));
-    assert_eq!(rt; XlsEncoding::from_codepage(28591), Ok(XlsEncoding::Latin1));
+    for (number, page) in PAGES.iter() {
+        assert_eq!(rt; XlsEncoding::from_codepage(*number).ok(), *page);
+    }
     assert_eq!(rt;
         XlsEncoding::from_codepage(932),
         Err(CfbError::CodePageNotFound(932))
-    );
-    assert_eq!(rt;
-        XlsEncoding::from_codepage(1201),
-        Err(CfbError::CodePageNotFound(1201))
     );
 }
 
@@ -52,34 +53,15 @@ fn appends_what_is_there(rt: HostRuntime) -> Result<(), Fail> {
 fn counts_no_more_than_asked_or_there(rt: HostRuntime) -> Result<(), Fail> {
     let mut text = String::new(rt.alloc());
     let bytes = [0x41, 0x00, 0x42, 0x00, 0x43];
-    assert_eq!(rt;
-        XlsEncoding::Windows1252.decode_to(&bytes, 9, &mut text, Some(true))?,
-        (2, 4)
-    );
-    assert_eq!(rt; text.as_str(), "AB");
-    assert_eq!(rt;
-        XlsEncoding::Utf8.decode_to(&bytes, 1, &mut text, Some(true))?,
-        (1, 2)
-    );
-    assert_eq!(rt;
-        XlsEncoding::Utf8.decode_to(&[0xE9, 0x80], 1, &mut text, Some(false))?,
-        (1, 1)
-    );
-    assert_eq!(rt; text.as_str(), "ABA\u{E9}");
-    assert_eq!(rt;
-        XlsEncoding::Utf8.decode_to(&[0xC3, 0xA9, 0x41], 2, &mut text, None)?,
-        (2, 2)
-    );
-    assert_eq!(rt; text.as_str(), "ABA\u{E9}\u{E9}");
-    assert_eq!(rt;
-        XlsEncoding::Latin1.decode_to(&[], 9, &mut text, None)?,
-        (0, 0)
-    );
+    let two = XlsEncoding::Windows1252.decode_to(&bytes, 9, &mut text, Some(true))?;
+    let one = XlsEncoding::Utf8.decode_to(&bytes, 1, &mut text, Some(true))?;
+    let narrow = XlsEncoding::Utf8.decode_to(&[0xE9, 0x80], 1, &mut text, Some(false))?;
+    let mark = XlsEncoding::Utf8.decode_to(&[0xC3, 0xA9, 0x41], 2, &mut text, None)?;
+    let none = XlsEncoding::Latin1.decode_to(&[], 9, &mut text, None)?;
     // A unit of one byte is a character of its own number, whatever the page.
-    assert_eq!(rt;
-        XlsEncoding::Windows1252.decode_to(&[0x80], 1, &mut text, Some(false))?,
-        (1, 1)
-    );
+    let own = XlsEncoding::Windows1252.decode_to(&[0x80], 1, &mut text, Some(false))?;
+    let counts = [two, one, narrow, mark, none, own];
+    assert_eq!(rt; counts, [(2, 4), (1, 2), (1, 1), (2, 2), (0, 0), (1, 1)]);
     assert_eq!(rt; text.as_str(), "ABA\u{E9}\u{E9}\u{80}");
     Ok(())
 }

@@ -2,6 +2,7 @@ use super::*;
 use std::test::*;
 use xls_biff::Part;
 use xls_data::Data;
+use xls_range::Range;
 
 // The formulas of a sheet, as `row,column=text` with a space after each.
 pub fn formulas(alloc: Global, book: &Xls, n: usize) -> Result<String, AllocError> {
@@ -36,15 +37,21 @@ fn formulas_in(alloc: Global, first: &[u8], second: &[u8]) -> Result<String, Xls
     Ok(formulas(alloc, &of(alloc, first, second)?, 0)?)
 }
 
+// What a sheet of these records shows: its values, and its formulas behind them.
+fn both_in(alloc: Global, first: &[u8], second: &[u8]) -> Result<String, XlsError> {
+    let mut text = values_in(alloc, first, second)?;
+    text.push_str(formulas_in(alloc, first, second)?.as_str())?;
+    Ok(text)
+}
+
 #[test]
 fn a_refused_formula_says_why(rt: HostRuntime) -> Result<(), Fail> {
     let alloc = rt.alloc();
     let short = formula(alloc, 0, &[0x1E, 1, 0, 3, 0x1E, 5, 0])?;
     let sum = formula(alloc, 1, &[0x1E, 1, 0, 0x1E, 5, 0, 3])?;
-    let values = values_in(alloc, &short, &sum)?;
-    assert_eq!(rt; values.as_str(), "0,0=6 1,0=6 ");
-    let wanted = "0,0=Unrecognised formula for cell (0, 0): Invalid stack length 1,0=1+5 ";
-    assert_eq!(rt; formulas_in(alloc, &short, &sum)?.as_str(), wanted);
+    let wanted =
+        "0,0=6 1,0=6 0,0=Unrecognised formula for cell (0, 0): Invalid stack length 1,0=1+5 ";
+    assert_eq!(rt; both_in(alloc, &short, &sum)?.as_str(), wanted);
     Ok(())
 }
 
@@ -59,6 +66,14 @@ fn a_string_stands_at_the_last_formula(rt: HostRuntime) -> Result<(), Fail> {
     Ok(())
 }
 
+// The formulas of a sheet, and the corners of their range.
+type Shown = (String, Option<(u32, u32)>, Option<(u32, u32)>);
+
+fn formulas_and_box(alloc: Global, book: &Xls) -> Result<Shown, XlsError> {
+    let range = book.worksheet_formula(alloc, "A")?;
+    Ok((formulas(alloc, book, 0)?, range.start(), range.end()))
+}
+
 #[test]
 fn an_empty_text_counts_for_the_box_and_is_not_shown(rt: HostRuntime) -> Result<(), Fail> {
     let alloc = rt.alloc();
@@ -66,9 +81,8 @@ fn an_empty_text_counts_for_the_box_and_is_not_shown(rt: HostRuntime) -> Result<
     let empty = formula(alloc, 5, &[0x16])?;
     let one = formula(alloc, 2, &[0x1E, 1, 0])?;
     let book = of(alloc, empty.as_slice(), one.as_slice())?;
-    assert_eq!(rt; formulas(alloc, &book, 0)?.as_str(), "2,0=1 ");
-    let range = book.worksheet_formula(alloc, "A")?;
-    assert_eq!(rt; (range.start(), range.end()), (Some((2, 0)), Some((5, 0))));
+    let (text, start, end) = formulas_and_box(alloc, &book)?;
+    assert!(rt; text.as_str() == "2,0=1 " && (start, end) == (Some((2, 0)), Some((5, 0))));
     Ok(())
 }
 
@@ -107,25 +121,36 @@ fn a_formula_has_faults_of_its_head_and_value(rt: HostRuntime) -> Result<(), Fai
 }
 
 // A name whose Lbl stands before the ExternSheet that it needs: PtgRef3d of reference 0, B2.
+static NAME_T: [u8; 27] = [
+    0x18, 0, 23, 0, 0, 0, 0, 1, 7, 0, 0, 0, 0, 0, 0, 0, 0, 0, 0, 0x54, 0x3A, 0, 0, 1, 0, 1, 0,
+];
+
+static REFERENCE: [u8; 12] = [0x17, 0, 8, 0, 1, 0, 0, 0, 0, 0, 0, 0];
+
+fn is_name_t(names: &[(String, String)]) -> bool {
+    match names {
+        [(name, text)] => name.as_str() == "T" && text.as_str() == "A!$B$2",
+        _ => false,
+    }
+}
+
 #[test]
 fn a_name_finds_its_sheet_behind_it(rt: HostRuntime) -> Result<(), Fail> {
     let alloc = rt.alloc();
-    let name = [
-        0x18, 0, 23, 0, 0, 0, 0, 1, 7, 0, 0, 0, 0, 0, 0, 0, 0, 0, 0, 0x54, 0x3A, 0, 0, 1, 0, 1, 0,
-    ];
-    let refs = [0x17, 0, 8, 0, 1, 0, 0, 0, 0, 0, 0, 0];
-    let book = opened(alloc, &[&G, &name, &refs, &bound(64), &E, &S, &E])?;
-    assert_eq!(rt; book.defined_names().len(), 1);
-    let (name, text) = &book.defined_names()[0];
-    assert_eq!(rt; (name.as_str(), text.as_str()), ("T", "A!$B$2"));
-    let lost = opened(alloc, &[&G, &[0x18, 0, 0, 0], &E]).err();
+    let book = opened(alloc, &[&G, &NAME_T, &REFERENCE, &bound(64), &E, &S, &E])?;
+    assert!(rt; is_name_t(book.defined_names()));
+    Ok(())
+}
+
+#[test]
+fn a_name_has_faults_of_its_head(rt: HostRuntime) {
     let wanted = XlsError::Len {
         expected: 14,
         found: 0,
         typ: Part::Lbl,
     };
+    let lost = refusal(rt.alloc(), &[&G, &[0x18, 0, 0, 0], &E]);
     assert_eq!(rt; lost, Some(wanted));
-    Ok(())
 }
 
 fn formulas_under(alloc: Global, bytes: &[u8], options: XlsOptions) -> Result<String, XlsError> {
@@ -146,34 +171,42 @@ fn before_biff8_each_sheet_has_its_own_reference(rt: HostRuntime) -> Result<(), 
     Ok(())
 }
 
-#[test]
-fn a_function_of_the_options_is_named(rt: HostRuntime) -> Result<(), Fail> {
-    let alloc = rt.alloc();
+// A call of function 72 with one operand, under the shipped functions, or one more named `X`.
+fn called(alloc: Global, has_x: bool) -> Result<String, XlsError> {
     let mut options = XlsOptions::defaults(alloc)?;
-    options.functions.push("X", 1)?;
-    // A call of function 72 with one operand.
+    if has_x {
+        options.functions.push("X", 1)?;
+    }
     let cell = formula(alloc, 0, &[0x1E, 1, 0, 0x22, 1, 72, 0])?;
     let bytes = joined(alloc, &[&G, &bound(25), &E, &S, cell.as_slice(), &E])?;
-    let named = formulas_under(alloc, &bytes, options)?;
-    assert_eq!(rt; named.as_str(), "0,0=X(1) ");
-    let plain = formulas_under(alloc, &bytes, XlsOptions::defaults(alloc)?)?;
+    formulas_under(alloc, &bytes, options)
+}
+
+#[test]
+fn a_function_of_the_options_is_named(rt: HostRuntime) -> Result<(), Fail> {
+    assert_eq!(rt; called(rt.alloc(), true)?.as_str(), "0,0=X(1) ");
     let wanted = "0,0=Unrecognised formula for cell (0, 0): Invalid iftab 48 ";
-    assert_eq!(rt; plain.as_str(), wanted);
+    assert_eq!(rt; called(rt.alloc(), false)?.as_str(), wanted);
     Ok(())
 }
 
 // A formula value of kind 3 is an empty text.
+static EMPTY_TEXT: [u8; 29] = [
+    6, 0, 25, 0, 2, 0, 1, 0, 0, 0, 3, 0, 0, 0, 0, 0, 0xFF, 0xFF, 0, 0, 0, 0, 0, 0, 3, 0, 0x1E, 7, 0,
+];
+
+fn has_empty_text(range: &Range<Data>, position: (u32, u32)) -> bool {
+    match range.get_value(position) {
+        Some(Data::String(text)) => text.is_empty(),
+        _ => false,
+    }
+}
+
 #[test]
 fn a_formula_may_have_an_empty_text(rt: HostRuntime) -> Result<(), Fail> {
     let alloc = rt.alloc();
-    let cell = [
-        6, 0, 25, 0, 2, 0, 1, 0, 0, 0, 3, 0, 0, 0, 0, 0, 0xFF, 0xFF, 0, 0, 0, 0, 0, 0, 3, 0, 0x1E,
-        7, 0,
-    ];
-    let book = of(alloc, &cell, &[])?;
-    let range = book.worksheet_range(alloc, "A")?;
-    let empty = Data::String(String::new(alloc));
-    assert_eq!(rt; range.get_value((2, 1)), Some(&empty));
+    let book = of(alloc, &EMPTY_TEXT, &[])?;
+    assert!(rt; has_empty_text(&book.worksheet_range(alloc, "A")?, (2, 1)));
     assert_eq!(rt; formulas(alloc, &book, 0)?.as_str(), "2,1=7 ");
     Ok(())
 }

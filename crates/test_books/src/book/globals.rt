@@ -73,6 +73,6 @@ fn drops_nuls_of_a_name(rt: HostRuntime) -> Result<(), Fail> {
     // The name is NUL, the byte E9, NUL.
     let named = [0x85, 0, 11, 0, 27, 0, 0, 0, 0, 0, 3, 0, 0, 0xE9, 0];
     let book = opened(alloc, &[&G, &named, &E])?;
-    assert!(rt; are_worksheets(book.sheets_metadata(), &["é"]));
+    assert!(rt; book.sheets_metadata().len() == 1 && are_worksheets(book.sheets_metadata(), "é"));
     Ok(())
 }

@@ -22,58 +22,81 @@ fn is_missing(error: Option<XlsError>, text: &str) -> bool {
     }
 }
 
+// Whether the workbook has the one worksheet `A`, and no name.
+fn has_one_sheet(alloc: Global, book: &Xls) -> Result<bool, XlsError> {
+    let names = book.sheet_names(alloc)?;
+    let is_named = match names.as_slice() {
+        [name] => name.as_str() == "A",
+        _ => false,
+    };
+    let sheets = book.metadata().sheets.as_slice();
+    Ok(is_named && are_worksheets(sheets, "A") && book.defined_names().is_empty())
+}
+
 #[test]
 fn tells_names_and_sheets(rt: HostRuntime) -> Result<(), Fail> {
     let alloc = rt.alloc();
     let book = ledger(alloc)?;
-    assert!(rt; are_worksheets(book.metadata().sheets.as_slice(), &["A"]));
-    let names = book.sheet_names(alloc)?;
-    assert_eq!(rt; names.len(), 1);
-    assert_eq!(rt; names[0].as_str(), "A");
+    assert!(rt; has_one_sheet(alloc, &book)?);
     assert_eq!(rt; book.options().max_bytes, 268_435_456);
-    assert!(rt; book.defined_names().is_empty());
     Ok(())
+}
+
+// Whether the one region is found by the name, and none by another.
+fn finds_by_name(alloc: Global, book: &Xls) -> Result<bool, XlsError> {
+    let by_name = book.merge_cells_by_sheet_name(alloc, "A")?;
+    let count = book
+        .worksheet_merge_cells(alloc, "A")?
+        .map(|regions| regions.len());
+    let other = book.worksheet_merge_cells(alloc, "X")?;
+    Ok(by_name.as_slice() == [REGION].as_slice() && count == Some(1) && other.is_none())
 }
 
 #[test]
 fn finds_merged_regions_by_name(rt: HostRuntime) -> Result<(), Fail> {
     let alloc = rt.alloc();
     let book = ledger(alloc)?;
-    let by_name = book.merge_cells_by_sheet_name(alloc, "A")?;
-    assert_eq!(rt; by_name.as_slice(), [REGION].as_slice());
-    let some = book.worksheet_merge_cells(alloc, "A")?;
-    assert_eq!(rt; some.map(|regions| regions.len()), Some(1));
-    assert!(rt; book.worksheet_merge_cells(alloc, "X")?.is_none());
+    assert!(rt; finds_by_name(alloc, &book)?);
     let missing = book.merge_cells_by_sheet_name(alloc, "X").err();
     assert!(rt; is_missing(missing, "X"));
     Ok(())
+}
+
+// Whether the one region is found by the index 0, and none by another.
+fn finds_by_index(alloc: Global, book: &Xls) -> Result<bool, XlsError> {
+    let by_index = book.merge_cells_by_sheet_id(alloc, 0)?;
+    let some = book.worksheet_merge_cells_at(alloc, 0)?;
+    let other = book.worksheet_merge_cells_at(alloc, 3)?;
+    Ok(by_index.as_slice() == [REGION].as_slice() && some.is_some() && other.is_none())
+}
+
+fn lends_regions(book: &Xls) -> bool {
+    book.merges_at(0) == Some([REGION].as_slice()) && book.merges_at(1).is_none()
 }
 
 #[test]
 fn finds_merged_regions_by_index(rt: HostRuntime) -> Result<(), Fail> {
     let alloc = rt.alloc();
     let book = ledger(alloc)?;
-    assert_eq!(rt; book.merges_at(0), Some([REGION].as_slice()));
-    assert!(rt; book.merges_at(1).is_none());
-    assert_eq!(rt;
-        book.merge_cells_by_sheet_id(alloc, 0)?.as_slice(),
-        [REGION].as_slice()
-    );
-    assert!(rt; book.worksheet_merge_cells_at(alloc, 0)?.is_some());
-    assert!(rt; book.worksheet_merge_cells_at(alloc, 3)?.is_none());
+    assert!(rt; lends_regions(&book) && finds_by_index(alloc, &book)?);
     let missing = book.merge_cells_by_sheet_id(alloc, 2).err();
     assert!(rt; is_missing(missing, "Sheet index 2 out of range"));
     Ok(())
+}
+
+// Whether a range from (1, 1) to (2, 2) has 1 at its start, and a blank beside it.
+fn is_the_box(range: &Range<Data>) -> bool {
+    let corners = (range.start(), range.end());
+    corners == (Some((1, 1)), Some((2, 2)))
+        && range.get_value((1, 1)) == Some(&Data::Int(1))
+        && range.get_value((1, 2)) == Some(&Data::Empty)
 }
 
 #[test]
 fn a_range_is_the_box_of_the_cells(rt: HostRuntime) -> Result<(), Fail> {
     let alloc = rt.alloc();
     let book = ledger(alloc)?;
-    let range = book.worksheet_range(alloc, "A")?;
-    assert_eq!(rt; (range.start(), range.end()), (Some((1, 1)), Some((2, 2))));
-    assert_eq!(rt; range.get_value((1, 1)), Some(&Data::Int(1)));
-    assert_eq!(rt; range.get_value((1, 2)), Some(&Data::Empty));
+    assert!(rt; is_the_box(&book.worksheet_range(alloc, "A")?));
     assert!(rt; is_missing(book.worksheet_range(alloc, "X").err(), "X"));
     Ok(())
 }
@@ -143,14 +166,19 @@ fn lists_each_name_once_in_byte_order(rt: HostRuntime) -> Result<(), Fail> {
     Ok(())
 }
 
+// How many sheets are there where the trait's own call opens.
+fn sheets_by_the_trait(alloc: Global) -> Result<usize, XlsError> {
+    let mut source = SteadySource::new(plain(alloc)?);
+    let book = <Xls as Reader>::new(alloc, &mut source)?;
+    Ok(book.sheets_metadata().len())
+}
+
 #[test]
 fn opens_by_the_trait(rt: HostRuntime) -> Result<(), Fail> {
     let alloc = rt.alloc();
     let mut source = SteadySource::new(plain(alloc)?);
     let book: Xls = open_workbook_from_rs(alloc, &mut source)?;
     assert_eq!(rt; listed(alloc, &book, 0)?.as_str(), "0,0=123.45 ");
-    let mut again = SteadySource::new(plain(alloc)?);
-    let same = <Xls as Reader>::new(alloc, &mut again)?;
-    assert_eq!(rt; same.sheets_metadata().len(), 1);
+    assert_eq!(rt; sheets_by_the_trait(alloc)?, 1);
     Ok(())
 }

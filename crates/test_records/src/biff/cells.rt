@@ -130,24 +130,35 @@ fn reads_the_value_of_a_formula(rt: HostRuntime) -> Result<(), Fail> {
     Ok(())
 }
 
+fn is_truth(value: &Option<Data>) -> bool {
+    match value {
+        Some(Data::Bool(is_true)) => *is_true,
+        _ => false,
+    }
+}
+
 #[test]
 fn reads_a_formula(rt: HostRuntime) -> Result<(), Fail> {
     let body = [
         1, 0, 2, 0, 0, 0, 1, 0, 1, 0, 0, 0, 0xFF, 0xFF, 0, 0, 0, 0, 0, 0, 3, 0, 0x1E, 5, 0,
     ];
     let formula = parse_formula_record(rt.alloc(), &body, &[], false)?;
-    assert_eq!(rt; formula.position, (1, 2));
-    assert_eq!(rt; formula.value, Some(Data::Bool(true)));
+    assert!(rt; formula.position == (1, 2) && is_truth(&formula.value));
     assert_eq!(rt; formula.rgce, [3, 0, 0x1E, 5, 0].as_slice());
     Ok(())
+}
+
+fn is_text(value: &Data, wanted: &str) -> bool {
+    match value {
+        Data::String(text) => text.as_str() == wanted,
+        _ => false,
+    }
 }
 
 #[test]
 fn reads_a_label(rt: HostRuntime) -> Result<(), Fail> {
     let body = [0, 0, 0, 0, 0, 0, 1, 0, 0, 0x41];
     let cell = parse_label(rt.alloc(), &body, &UTF16, Biff::Biff8)?;
-    let wanted = Data::String(String::from_str(rt.alloc(), "A")?);
-    assert_eq!(rt; cell.get_value(), &wanted);
-    assert_eq!(rt; cell.get_position(), (0, 0));
+    assert!(rt; is_text(cell.get_value(), "A") && cell.get_position() == (0, 0));
     Ok(())
 }
