@@ -1,6 +1,14 @@
 //! Prints the text of a formula on standard input.
 #![tactic(auto)]
 
+ghost use Rattle.std.specs.Prelude.{[]};
+ghost use Rattle.xls_text.specs.declared.encoding.XlsEncoding.TheVariants.{Utf16};
+ghost use Rattle.xls_strings.specs.declared.version.Biff.TheVariants.{Biff8};
+ghost use Rattle.xls_strings.specs.Reading.{Gives};
+ghost use Rattle.xls_strings.specs.Texts.{text_of};
+ghost use Rattle.xls_formula.specs.Fold.{formula_text};
+ghost use Rattle.xls_formula.specs.Functions.{shipped};
+
 use std::alloc::Global;
 use std::io::Read;
 use std::process::ExitCode;
@@ -9,7 +17,16 @@ use xls_formula::{FunctionTable, Names, parse_formula};
 use xls_text::XlsEncoding;
 
 /// The text of a formula of BIFF8 that may name the shipped functions, and neither sheets nor names.
-fn text_of(alloc: Global, rgce: &[u8]) -> Result<String, XlsError> {
+fn spelled(alloc: Global, rgce: &[u8]) -> Result<String, XlsError>
+    ensures { Gives text_of result (formula_text (record {
+      sheets = [];
+      names = [];
+      refs = [];
+      page = Utf16;
+      biff = Biff8;
+      functions = shipped;
+    }) rgce.now) }
+{
     parse_formula(
         alloc,
         rgce,
@@ -28,7 +45,7 @@ fn main(rt: HostRuntime) -> ExitCode {
     if rt.stdin().read_to_end(&mut rgce).is_err() {
         return ExitCode::from(3);
     }
-    let (written, status) = match text_of(alloc, &rgce) {
+    let (written, status) = match spelled(alloc, &rgce) {
         Ok(text) => (println!(rt; "{text}"), ExitCode::SUCCESS),
         Err(error) => (println!(rt; "{error}"), ExitCode::from(1)),
     };

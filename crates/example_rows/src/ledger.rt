@@ -1,5 +1,8 @@
 //! The rows of a sheet.
 
+ghost use Rattle.std.specs.Prelude.{◌≡◌, IfOk, [], ◌∷◌, codes, map};
+ghost use Rattle.std.specs.String.{string_bytes};
+
 use crate::entry::Entry;
 use crate::error::LedgerError;
 use crate::fields::Fields;
@@ -18,7 +21,9 @@ pub fn sheet_of(alloc: Global, bytes: Vec<u8>, sheet: &str) -> Result<Range<Data
 }
 
 /// The headers of the columns that an entry is read from, in the order of its fields.
-fn headers(alloc: Global) -> Result<Vec<String>, AllocError> {
+fn headers(alloc: Global) -> Result<Vec<String>, AllocError>
+    ensures { IfOk result (λ all. map string_bytes all.items ≡ codes "name" ∷ codes "amount" ∷ []) }
+{
     let mut headers = Vec::new(alloc);
     headers.push(String::from_str(alloc, "name")?)?;
     headers.push(String::from_str(alloc, "amount")?)?;

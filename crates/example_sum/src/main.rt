@@ -2,9 +2,10 @@
 //! sheet's name and the column, counted from 0, as words.
 #![tactic(auto)]
 
-ghost use Rattle.std.specs.Prelude.{◌≡◌, MatchOption, FitsSigned, option_copied};
+ghost use Rattle.std.specs.Prelude.{◌≡◌, IfOk, MatchOption, FitsSigned, option_copied};
 ghost use Rattle.std.specs.Int.{w64};
-ghost use Rattle.example_sum.specs.Sums.{int_in, total};
+ghost use Rattle.xls_open.specs.Opening.{IsOpened, default_options};
+ghost use Rattle.example_sum.specs.Sums.{IsSumIn, int_in, total};
 
 use anyhow::{Context, Result, anyhow, bail};
 use std::alloc::Global;
@@ -49,13 +50,17 @@ fn sum_of(range: &Range<Data>, column: u32) -> Option<i64>
 }
 
 /// The workbook whose stream these bytes are.
-fn opened(alloc: Global, bytes: Vec<u8>) -> Result<Xls> {
+fn opened(alloc: Global, bytes: Vec<u8>) -> Result<Xls>
+    ensures { IfOk result (λ book. IsOpened default_options book bytes.items) }
+{
     let mut source = SteadySource::new(bytes);
     open_workbook_from_rs::<Xls, _>(alloc, &mut source).map_err(|error| anyhow!("{error}"))
 }
 
 /// The sum of a column of the sheet of this name.
-fn sum_in(alloc: Global, book: &Xls, name: &str, column: u32) -> Result<i64> {
+fn sum_in(alloc: Global, book: &Xls, name: &str, column: u32) -> Result<i64>
+    ensures { IfOk result (IsSumIn ⟦<Data as PartialEq>⟧.eq book.now name.now column) }
+{
     let range = book
         .worksheet_range(alloc, name)
         .map_err(|error| anyhow!("{error}"))?;
