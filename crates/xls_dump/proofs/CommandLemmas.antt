@@ -12,18 +12,21 @@ use Rattle.xls_open.proofs.SameLemmas.{same_list_same_book}
 use Rattle.xls_reading.specs.Faults.{IsSound}
 use Rattle.xls_open.specs.Opening.{OpenCause, IsOpened, default_options, default_rules}
 use Rattle.xls_source.specs.Bounded.{ReadCause}
-use Rattle.xls_dump.specs.SinkState.{SinkState, TakesEach}
-use Rattle.xls_dump.specs.Gathering.{Stops}
-use Rattle.xls_dump.specs.Report.{fault_line, report, sheet_report}
+use Rattle.xls_lines.specs.SinkState.{SinkState, TakesEach}
+use Rattle.xls_lines.specs.Gathering.{Stops, Wrote}
+use Rattle.xls_report.specs.Report.{fault_line, report, sheet_report}
 use Rattle.xls_dump.specs.Summary.{summary_text}
-use Rattle.xls_dump.specs.Outputs.{IsOutput, IsRefusal, MayWrite, IsOutputOf, IsPropertyText, property_limit, IsSoundLine, IsFirstLine, IsFaultLine, IsLengthLine, IsNameLine, IsRefsText, IsRemadeText, IsUnremadeLine, EndsByRemaking, IsCsvOf, IsMissingOf, HasSheet, EndsByName, EndsWell, EndsBySoundness, EndsByLength}
-use Rattle.xls_dump.specs.Endings.{IsFault, Wrote, EndsWithError, EndsWithText, EndsWithEither, Ends}
+use Rattle.xls_dump.specs.Outputs.{IsOutput, IsRefusal, MayWrite, IsOutputOf, property_limit, IsFaultLine, IsLengthLine, IsNameLine, EndsByRemaking, HasSheet, EndsByName, EndsWell, EndsBySoundness, EndsByLength}
+use Rattle.xls_report.specs.Texts.{IsPropertyText, IsSoundLine, IsFirstLine, IsRefsText, IsRemadeText, IsUnremadeLine, IsCsvOf, IsMissingOf}
+use Rattle.xls_report.specs.Endings.{IsFault, EndsWithError, EndsWithText, EndsWithEither}
+use Rattle.xls_dump.specs.Endings.{Ends}
 use Rattle.xls_dump.specs.declared.command.Command.{Command}
 use Rattle.xls_dump.specs.declared.command.Command.TheVariants.{Dump, Sheets, Props, Check, Refs, Remake, Csv, Generate}
-use Rattle.xls_dump.specs.declared.ending.Ending.{Ending}
-use Rattle.xls_dump.specs.declared.ending.Stop.{Stop}
-use Rattle.xls_dump.proofs.CheckLemmas.{too_large, none_checked}
-use Rattle.xls_dump.proofs.EndingLemmas.{ends-text, ends-either, ends-error, steady-stopped, steady-wrote, steady-text, steady-either, steady-error, text-stopped}
+use Rattle.xls_report.specs.declared.ending.Ending.{Ending}
+use Rattle.xls_lines.specs.declared.stop.Stop.{Stop}
+use Rattle.xls_report.proofs.CheckLemmas.{too_large, none_checked}
+use Rattle.xls_dump.proofs.EndingLemmas.{ends-text, ends-either, ends-error, steady-stopped, steady-wrote, steady-text, steady-either, steady-error}
+use Rattle.xls_report.proofs.EndingLemmas.{text-stopped}
 
 -- ---- the commands that read a workbook
 

@@ -1,18 +1,17 @@
 -- How any command ends, by what was written.
-use Rattle.std.proofs.Common.{◌≡◌, ◌⊎◌, ℕ, List, [], Option, Result, Ok, Err, inl, inr, refl, sym, subst, arith}
-use Rattle.std.specs.Result.{IsErrAnd}
-use Rattle.std.proofs.KnownBytes.{Keeps-refl}
+use Rattle.std.proofs.Common.{◌≡◌, ℕ, List, [], Option, Result, Ok, Err, inl, inr, sym, subst, arith}
 use Rattle.xls_strings.specs.declared.error.XlsError.{XlsError}
-use Rattle.xls_dump.specs.SinkState.{SinkState, TakesEach}
-use Rattle.xls_dump.specs.Gathering.{Stops}
-use Rattle.xls_dump.specs.Report.{fault_line}
+use Rattle.xls_lines.specs.SinkState.{SinkState, TakesEach}
+use Rattle.xls_lines.specs.Gathering.{Stops, Wrote}
+use Rattle.xls_report.specs.Report.{fault_line}
 use Rattle.xls_dump.specs.Outputs.{IsOutput, IsRefusal, MayWrite, EndsWell}
-use Rattle.xls_dump.specs.Endings.{IsFault, Wrote, EndsWithError, EndsWithText, EndsWithEither, Ends}
+use Rattle.xls_report.specs.Endings.{IsFault, EndsWithError, EndsWithText, EndsWithEither}
+use Rattle.xls_dump.specs.Endings.{Ends}
 use Rattle.xls_dump.specs.declared.command.Command.{Command}
-use Rattle.xls_dump.specs.declared.ending.Ending.{Ending}
-use Rattle.xls_dump.specs.declared.ending.Ending.TheVariants.{Done, Refused}
-use Rattle.xls_dump.specs.declared.ending.Stop.{Stop}
-use Rattle.xls_dump.specs.declared.ending.Stop.TheVariants.{Read, Write, Memory}
+use Rattle.xls_report.specs.declared.ending.Ending.{Ending}
+use Rattle.xls_report.specs.declared.ending.Ending.TheVariants.{Done, Refused}
+use Rattle.xls_lines.specs.declared.stop.Stop.{Stop}
+use Rattle.xls_lines.specs.declared.stop.Stop.TheVariants.{Read, Write, Memory}
 
 -- ---- any command
 
@@ -98,41 +97,3 @@ steady-error c left before after (Err Read) e line p takes = p.1.1
 steady-error c left before after (Err Write) e line p takes = steady-stopped c left (inr (line p.0)) p.1 takes
 steady-error c left before after (Err Memory) e line (inl p) takes = p.1
 steady-error c left before after (Err Memory) e line (inr p) takes = steady-stopped c left (inr (line p.0)) p.1 takes
-
--- ---- a text of a kind
-
--- out of memory to make it
-pub text-memory : (IsText : List ℕ → Type 0) (before : SinkState) (r : Result Ending Stop)
-    → IsErrAnd r (λ d. d ≡ Memory) → EndsWithText IsText before before r
-text-memory IsText before (Ok x) none = absurd none
-text-memory IsText before (Err e) is = inl (is, (Keeps-refl before.written, refl))
-
--- it was given up
-pub text-stopped : (IsText : List ℕ → Type 0) {before after : SinkState} {text : List ℕ} {e : Stop} (r : Result Ending Stop)
-    → IsErrAnd r (λ d. d ≡ e) → IsText text → Stops before [] after text e → EndsWithText IsText before after r
-text-stopped IsText (Ok x) none is p = absurd none
-text-stopped IsText {before} {after} {text} {e} (Err d) same is p =
-    inr (text, is, subst (Stops before [] after text) (sym same) p)
-
--- a text of one of two kinds was given up
-pub either-stopped : (IsDone IsRefused : List ℕ → Type 0) {before after : SinkState} {text : List ℕ} {e : Stop} (r : Result Ending Stop)
-    → IsErrAnd r (λ d. d ≡ e) → IsDone text ⊎ IsRefused text → Stops before [] after text e → EndsWithEither IsDone IsRefused before after r
-either-stopped IsDone IsRefused (Ok x) none may p = absurd none
-either-stopped IsDone IsRefused {before} {after} {text} {e} (Err d) same may p =
-    inr (text, may, subst (Stops before [] after text) (sym same) p)
-
--- a text of one of two kinds is one of two others
-pub either-as : {A B C D : List ℕ → Type 0} (before after : SinkState) (r : Result Ending Stop)
-    → ((text : List ℕ) → A text → C text) → ((text : List ℕ) → B text → D text)
-    → EndsWithEither A B before after r → EndsWithEither C D before after r
-either-as before after (Ok Done) f h p = (p.0, f p.0 p.1, p.2)
-either-as before after (Ok Refused) f h p = (p.0, h p.0 p.1, p.2)
-either-as before after (Err e) f h (inl p) = inl p
-either-as before after (Err e) f h (inr (text, inl x, p)) = inr (text, inl (f text x), p)
-either-as before after (Err e) f h (inr (text, inr x, p)) = inr (text, inr (h text x), p)
-
--- out of memory to make it
-pub either-memory : (IsDone IsRefused : List ℕ → Type 0) (before : SinkState) (r : Result Ending Stop)
-    → IsErrAnd r (λ d. d ≡ Memory) → EndsWithEither IsDone IsRefused before before r
-either-memory IsDone IsRefused before (Ok x) none = absurd none
-either-memory IsDone IsRefused before (Err e) is = inl (is, (Keeps-refl before.written, refl))

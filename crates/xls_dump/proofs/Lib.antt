@@ -1,10 +1,5 @@
-pub mod PieceLemmas
-pub mod TextLemmas
-pub mod CheckLemmas
 pub mod EndingLemmas
 pub mod CommandLemmas
 pub mod StandardFacts
-pub mod GatherLemmas
 pub mod RowsLemmas
-pub mod ShortLemmas
 pub mod CountLemmas

@@ -1,13 +1,5 @@
-pub mod Written
-pub mod SinkState
 pub mod Words
-pub mod Lines
-pub mod Gathering
-pub mod Report
 pub mod Summary
 pub mod Counting
-pub mod Properties
-pub mod Refs
-pub mod Remaking
 pub mod Outputs
 pub mod Endings

@@ -1,7 +1,7 @@
 -- What is written of a made stream of so many rows.
 use Rattle.std.specs.Prelude.{ℕ, ◌-◌, ◌*◌, ◌/◌, List, [], ◌∷◌, ◌++◌, codes}
 use Rattle.std.specs.Fmt.{decimal}
-use Rattle.xls_dump.specs.Lines.{line}
+use Rattle.xls_lines.specs.Lines.{line}
 
 -- a word and a number
 abbrev pub count_line : List ℕ → ℕ → List ℕ

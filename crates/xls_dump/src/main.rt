@@ -1,32 +1,21 @@
 //! Writes what a workbook stream holds.
 #![tactic(auto)]
 
-mod buffer;
 mod command;
-mod csv;
-mod ending;
-mod field;
 mod made;
-mod memory;
 mod perform;
-mod properties;
-mod refs;
-mod remake;
-mod report;
 mod run;
-mod short;
-mod sink;
 mod summary;
 #[cfg(test)]
 mod tests;
 mod words;
 
 use crate::run::run;
-use crate::sink::StdSink;
 use crate::words::words_in;
 use std::io::ErrorKind;
 use std::process::ExitCode;
 use xls_book::StdSource;
+pub use xls_lines::{MemorySink, Sink, StdSink, WriteFault};
 
 fn main(rt: HostRuntime) -> ExitCode {
     let alloc = rt.alloc();

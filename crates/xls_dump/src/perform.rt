@@ -2,26 +2,26 @@
 
 ghost use Rattle.std.specs.Prelude.{◌≡◌, ◌≤◌, length};
 ghost use Rattle.xls_open.specs.Opening.{default_options};
-ghost use Rattle.xls_dump.specs.Endings.{Ends, EndsWithEither, EndsWithError, EndsWithText, Reads};
-ghost use Rattle.xls_dump.specs.Outputs.{IsFirstLine, IsPropertyText, IsSoundLine, MayWrite, ReadsNothing};
-ghost use Rattle.xls_dump.specs.SinkState.{TakesEach};
+ghost use Rattle.xls_dump.specs.Endings.{Ends, Reads};
+ghost use Rattle.xls_report.specs.Endings.{EndsWithEither, EndsWithError, EndsWithText};
+ghost use Rattle.xls_report.specs.Texts.{IsFirstLine, IsPropertyText, IsSoundLine};
+ghost use Rattle.xls_dump.specs.Outputs.{MayWrite, ReadsNothing};
+ghost use Rattle.xls_lines.specs.SinkState.{TakesEach};
 ghost use Rattle.xls_dump.specs.Summary.{summary_text};
 ghost use Rattle.xls_dump.specs.Words.{IsPossible, max_rows};
 ghost use Rattle.xls_dump.specs.declared.command.Command.TheVariants.{Dump, Sheets, Props, Check, Refs, Remake, Csv};
 
 use crate::command::Command;
-use crate::csv::write_csv;
-use crate::ending::{Ending, Stop};
-use crate::properties::write_properties;
-use crate::refs::write_refs;
-use crate::remake::write_remake;
-use crate::report::{write_fault, write_report, write_sheets, write_sound};
-use crate::sink::Sink;
 use crate::summary::{summary_of, write_summary};
 use std::alloc::Global;
 use xls_biff::XlsError;
 use xls_book::{Reader, Source, Xls, check_stream, read_all};
+use xls_lines::{Sink, Stop};
 use xls_props::workbook_properties_of;
+use xls_report::{
+    Ending, write_csv, write_fault, write_properties, write_refs, write_remake, write_report,
+    write_sheets, write_sound,
+};
 
 /// How many bytes are read, at most.
 const MAX_BYTES: u64 = 268_435_456;

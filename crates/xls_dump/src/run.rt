@@ -4,19 +4,19 @@ ghost use Rattle.std.specs.Prelude.{◌≡◌, ◌↔◌, ◌<◌, ◌≤◌, Li
 ghost use Rattle.std.specs.String.{string_bytes};
 ghost use Rattle.std.specs.Io.KnownBytes.{Keeps};
 ghost use Rattle.xls_source.specs.Causes.{Rose};
-ghost use Rattle.xls_dump.specs.Written.{Writes, WritesPart};
+ghost use Rattle.xls_lines.specs.Written.{Writes, WritesPart};
 ghost use Rattle.xls_dump.specs.Endings.{IsQuiet};
 ghost use Rattle.xls_dump.specs.Words.{IsCommand, OfCommand};
 ghost use Rattle.xls_dump.specs.Outputs.{EndsWell, HasRead, IsOutput, IsRefusal, MayWrite, ReadsNothing};
-ghost use Rattle.xls_dump.specs.SinkState.{TakesEach};
+ghost use Rattle.xls_lines.specs.SinkState.{TakesEach};
 ghost use Rattle.xls_dump.specs.declared.command.Command.{Command};
 
 use crate::command::command_of;
-use crate::ending::{Ending, Stop};
 use crate::perform::perform;
-use crate::sink::Sink;
 use std::alloc::Global;
 use xls_book::Source;
+use xls_lines::{Sink, Stop};
+use xls_report::Ending;
 
 /// Does what the words ask for, and answers the status.
 pub fn run<S: Source, K: Sink>(alloc: Global, words: &[String], source: &mut S, sink: &mut K) -> u8

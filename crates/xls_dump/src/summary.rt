@@ -3,19 +3,16 @@
 ghost use Rattle.std.specs.Prelude.{◌≡◌, ◌≤◌, IfOk};
 ghost use Rattle.xls_data.specs.Data.{content_of, is_nothing};
 ghost use Rattle.xls_made.specs.Made.{IsMadeRange, int_of};
-ghost use Rattle.xls_dump.specs.Endings.{Delivers};
+ghost use Rattle.xls_lines.specs.Gathering.{Delivers};
 ghost use Rattle.xls_dump.specs.Summary.{counts_text};
 ghost use Rattle.xls_dump.specs.Words.{max_rows};
 ghost use Rattle.xls_dump.specs.Counting.{IsSummary, Measures};
 
-use crate::buffer::Buffer;
-use crate::ending::Stop;
-use crate::field::Field;
 use crate::made::made_bytes;
-use crate::sink::Sink;
 use std::alloc::{AllocError, Global};
 use xls_book::{Reader, SteadySource, Xls};
 use xls_data::Data;
+use xls_lines::{Buffer, Field, Sink, Stop};
 use xls_range::Range;
 
 /// The height of a range, how many of its cells are used, and the sum of its whole numbers.

@@ -1,6 +1,4 @@
-use crate::memory::MemorySink;
 use crate::run::run;
-use crate::sink::{StdSink, write_all};
 use crate::tests::ledger::{LEDGER, LEDGER_CSV, LEDGER_REFS, LEDGER_SHEETS};
 use crate::words::words_in;
 use std::alloc::{AllocError, Global};
@@ -8,6 +6,7 @@ use std::env::{Env, FillError};
 use std::process::Abort;
 use std::test::*;
 use xls_book::{MemorySource, SteadySource};
+use xls_lines::{MemorySink, StdSink, write_all};
 
 mod first_fault;
 mod ledger;
@@ -147,7 +146,7 @@ fn check(rt: &impl Abort, alloc: Global, case: &Case, status: u8, text: &[u8]) -
 }
 
 // Runs in which nothing fails: the words, what the source gives, the status, and what is written.
-const RUNS: [(&[&str], &[&[u8]], u8, &str); 44] = [
+static RUNS: [(&[&str], &[&[u8]], u8, &str); 44] = [
     (&[], &THREE, 0, THREE_TEXT),
     (&["dump"], &THREE, 0, THREE_TEXT),
     (&[], &[], 0, "dates\t1900\n"),
@@ -232,12 +231,12 @@ const RUNS: [(&[&str], &[&[u8]], u8, &str); 44] = [
 
 #[test]
 fn does_what_the_words_ask_for(rt: HostRuntime) -> Result<(), Fail> {
-    for (words, parts, status, text) in RUNS {
+    for (words, parts, status, text) in RUNS.iter() {
         check(
             &rt,
             rt.alloc(),
             &quiet(words, parts),
-            status,
+            *status,
             text.as_bytes(),
         )?;
     }
@@ -256,7 +255,7 @@ fn the_pieces_do_not_matter(rt: HostRuntime) -> Result<(), Fail> {
 }
 
 // Commands, what their sources give, and how they end and what they write where nothing fails.
-const COMMANDS: [(&[&str], &[&[u8]], u8, &str); 11] = [
+static COMMANDS: [(&[&str], &[&[u8]], u8, &str); 11] = [
     (&["dump"], &PLAIN, 0, PLAIN_TEXT),
     (&["sheets"], &PLAIN, 0, "sheet\tA\tworksheet\tvisible\n"),
     (&["props"], &TITLE, 0, "title\t\u{C5}lesund\n"),
@@ -301,7 +300,7 @@ fn fail_each_read(
 
 #[test]
 fn each_failing_read_ends_with_3(rt: HostRuntime) -> Result<(), Fail> {
-    for (words, parts, _, _) in COMMANDS {
+    for (words, parts, _, _) in COMMANDS.iter() {
         if !parts.is_empty() {
             fail_each_read(&rt, rt.alloc(), words, parts, 1)?;
             fail_each_read(&rt, rt.alloc(), words, parts, 16)?;
@@ -336,8 +335,8 @@ fn fail_each_write(
 
 #[test]
 fn each_failing_write_leaves_the_prefix(rt: HostRuntime) -> Result<(), Fail> {
-    for (words, parts, status, text) in COMMANDS {
-        fail_each_write(&rt, rt.alloc(), words, parts, status, text.as_bytes())?;
+    for (words, parts, status, text) in COMMANDS.iter() {
+        fail_each_write(&rt, rt.alloc(), words, parts, *status, text.as_bytes())?;
     }
     Ok(())
 }

@@ -35,7 +35,7 @@ const SHORT_XF: [u8; 4] = [0xE0, 0, 0, 0];
 const CELLS: u64 = 33_554_432;
 
 // A stream by its records, a forced page and a bound of cells, and what is told of it.
-const ROWS: [(&[&[u8]], Option<u16>, u64, &str); 28] = [
+static ROWS: [(&[&[u8]], Option<u16>, u64, &str); 28] = [
     (
         &[&GLOBALS, &A_SHEET, &EOF, &SHEET, &ONE, &EOF],
         None,
@@ -268,8 +268,8 @@ fn tell(
 
 #[test]
 fn a_check_and_an_opening_tell_the_same_first_fault(rt: HostRuntime) -> Result<(), Fail> {
-    for (parts, forced, max_cells, wanted) in ROWS {
-        tell(&rt, rt.alloc(), parts, forced, max_cells, wanted)?;
+    for (parts, forced, max_cells, wanted) in ROWS.iter() {
+        tell(&rt, rt.alloc(), parts, *forced, *max_cells, wanted)?;
     }
     Ok(())
 }

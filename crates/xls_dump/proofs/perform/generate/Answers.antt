@@ -1,6 +1,6 @@
 use Rattle.std.proofs.Common.{◌≡◌, ℕ, List}
 use Rattle.xls_dump.specs.Summary.{summary_text}
-use Rattle.xls_dump.proofs.EndingLemmas.{text-memory}
+use Rattle.xls_report.proofs.EndingLemmas.{text-memory}
 use Rattle.xls_dump.proofs.perform.generate.Goals as goal
 
 pub returns-in_err-summary : goal.returns-in_err-summary

@@ -1,8 +1,8 @@
 use Rattle.std.proofs.Common.{inl, inr, refl}
-use Rattle.xls_dump.specs.Report.{sound_line, fault_line}
-use Rattle.xls_dump.specs.Outputs.{IsSoundLine, IsFirstLine}
-use Rattle.xls_dump.proofs.CheckLemmas.{first_checked, none_checked}
-use Rattle.xls_dump.proofs.EndingLemmas.{either-stopped}
+use Rattle.xls_report.specs.Report.{sound_line, fault_line}
+use Rattle.xls_report.specs.Texts.{IsSoundLine, IsFirstLine}
+use Rattle.xls_report.proofs.CheckLemmas.{first_checked, none_checked}
+use Rattle.xls_report.proofs.EndingLemmas.{either-stopped}
 use Rattle.xls_dump.proofs.perform.write_check.Goals as goal
 
 pub returns-in_err-write_sound-in-Ok : goal.returns-in_err-write_sound-in-Ok

@@ -1,7 +1,7 @@
 use Rattle.std.proofs.Common.{refl}
-use Rattle.xls_dump.specs.Properties.{property_lines}
-use Rattle.xls_dump.specs.Outputs.{IsPropertyText}
-use Rattle.xls_dump.proofs.EndingLemmas.{text-memory, text-stopped}
+use Rattle.xls_report.specs.Properties.{property_lines}
+use Rattle.xls_report.specs.Texts.{IsPropertyText}
+use Rattle.xls_report.proofs.EndingLemmas.{text-memory, text-stopped}
 use Rattle.xls_dump.proofs.perform.write_properties_of.Goals as goal
 
 pub returns-in_err-properties : goal.returns-in_err-properties

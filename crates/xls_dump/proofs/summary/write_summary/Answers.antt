@@ -1,7 +1,7 @@
 use Rattle.std.proofs.Common.{append_assoc}
 use Rattle.std.specs.Prelude.{codes}
 use Rattle.xls_dump.specs.Summary.{count_line}
-use Rattle.xls_dump.proofs.GatherLemmas.{delivers-stop, gathers-as, gathers-after, gathers-from, gathers-then, stops-as, stops-after, stops-from, stops-more, stops-then, wrote}
+use Rattle.xls_lines.proofs.GatherLemmas.{delivers-stop, gathers-as, gathers-after, gathers-from, gathers-then, stops-as, stops-after, stops-from, stops-more, stops-then, wrote}
 use Rattle.xls_dump.proofs.summary.write_summary.Goals as goal
 
 pub returns-in_err-put_line : goal.returns-in_err-put_line

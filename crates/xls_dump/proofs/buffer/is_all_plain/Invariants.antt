@@ -1,8 +1,0 @@
-use Rattle.std.proofs.Common.{◌≡◌, take}
-use Rattle.std.specs.List.{flat_map}
-use Rattle.xls_dump.specs.Lines.{escaped_char}
-use Rattle.xls_dump.proofs.buffer.is_all_plain.Given as goal
-
--- the bytes so far stand for themselves
-abbrev pub invariant-loop-byte : goal.invariant-loop-byte
-invariant-loop-byte l = flat_map escaped_char (take l.byte-index l.text) ≡ take l.byte-index l.text

@@ -1,0 +1,4 @@
+pub mod Written
+pub mod SinkState
+pub mod Lines
+pub mod Gathering

@@ -1,0 +1,366 @@
+//! Text that is gathered, and written in large pieces.
+
+ghost use Rattle.std.specs.Prelude.{◌≡◌, ◌∷◌, ◌++◌, ◌+◌, ◌<◌, ◌≤◌, [], true, length, Some, IfOk, IfSome, OnOk, codes};
+ghost use Rattle.std.specs.List.{flat_map};
+ghost use Rattle.std.specs.Fmt.{decimal, signed_decimal};
+ghost use Rattle.std.specs.Str.{chars};
+ghost use Rattle.xls_data.specs.Numbers.{number_text};
+ghost use Rattle.xls_lines.specs.Gathering.{Puts};
+ghost use Rattle.xls_lines.specs.Lines.{escaped_char, field_text, filled_line, tabbed, tabbed_field, escaped_text};
+
+use crate::field::Field;
+use crate::short::Short;
+use crate::sink::{Sink, write_all};
+use crate::stop::Stop;
+use std::alloc::Global;
+use std::marker::Model;
+use xls_bytes::whole_of_bits;
+use xls_data::Number as Decimal;
+
+/// How many bytes are written at a time, at most.
+const PIECE: usize = 65_536;
+
+/// Writes all that is gathered.
+fn flush<K: Sink>(bytes: &mut Vec<u8>, sink: &mut K) -> Result<(), Stop>
+    requires { length bytes.old.items ≤ PIECE }
+    ensures puts { Puts (K.state sink.old) bytes.old.items (K.state sink.new) bytes.new.items
+        [] result }
+    ensures none { OnOk result (bytes.new.items ≡ []) }
+    ensures bound { length bytes.new.items ≤ PIECE }
+{
+    write_all(sink, bytes)?;
+    bytes.clear();
+    Ok(())
+}
+
+/// The room for more bytes, of which there is some. A full piece is written.
+fn room_in<K: Sink>(bytes: &mut Vec<u8>, sink: &mut K) -> Result<usize, Stop>
+    requires { length bytes.old.items ≤ PIECE }
+    ensures puts { Puts (K.state sink.old) bytes.old.items (K.state sink.new) bytes.new.items
+        [] result }
+    ensures room { IfOk result (λ n. (0 < n) × (n + length bytes.new.items ≡ PIECE)) }
+    ensures bound { length bytes.new.items ≤ PIECE }
+{
+    if bytes.len() < PIECE {
+        return Ok(PIECE - bytes.len());
+    }
+    flush(bytes, sink)?;
+    Ok(PIECE)
+}
+
+/// Gathers some bytes. Each full piece is written.
+fn gather<K: Sink>(bytes: &mut Vec<u8>, sink: &mut K, text: &[u8]) -> Result<(), Stop>
+    requires { length bytes.old.items ≤ PIECE }
+    ensures puts { Puts (K.state sink.old) bytes.old.items (K.state sink.new) bytes.new.items
+        text.now result }
+    ensures bound { length bytes.new.items ≤ PIECE }
+{
+    if text.len() <= PIECE - bytes.len() {
+        bytes.extend_from_slice(text)?;
+        return Ok(());
+    }
+    gather_by_pieces(bytes, sink, text)
+}
+
+/// Gathers some bytes, as many at a time as there is room for.
+fn gather_by_pieces<K: Sink>(bytes: &mut Vec<u8>, sink: &mut K, text: &[u8]) -> Result<(), Stop>
+    requires { length bytes.old.items ≤ PIECE }
+    ensures puts { Puts (K.state sink.old) bytes.old.items (K.state sink.new) bytes.new.items
+        text.now result }
+    ensures bound { length bytes.new.items ≤ PIECE }
+{
+    let mut at = 0;
+    while at < text.len() {
+        let room = room_in(bytes, sink)?;
+        let end = at + room.min(text.len() - at);
+        bytes.extend_from_slice(&text[at..end])?;
+        at = end;
+    }
+    Ok(())
+}
+
+/// Whether a byte stands for itself.
+fn is_plain(byte: u8) -> bool
+    ensures { result ≡ true → escaped_char byte ≡ byte ∷ [] }
+{
+    !matches!(byte, b'\\' | b'\n' | b'\r' | b'\t')
+}
+
+/// Whether each byte of a text stands for itself.
+fn is_all_plain(text: &[u8]) -> bool
+    ensures { result ≡ true → flat_map escaped_char text.now ≡ text.now }
+{
+    for byte in text {
+        if !is_plain(*byte) {
+            return false;
+        }
+    }
+    true
+}
+
+/// The bits of the double negative zero.
+const NEGATIVE_ZERO: u64 = 1 << 63;
+
+/// The whole number that a number prints as, if it is one.
+fn whole_in(n: Decimal) -> Option<i64>
+    ensures { IfSome result (λ whole. number_text n ≡ signed_decimal whole) }
+{
+    match n {
+        Decimal::Whole(whole) => Some(whole),
+        Decimal::Bits(bits) if bits != NEGATIVE_ZERO => whole_of_bits(bits),
+        _ => None,
+    }
+}
+
+/// The whole number that a field prints, if it is one.
+fn whole_of(field: Field<'_>) -> Option<i64>
+    ensures { IfSome result (λ whole. field_text field.entry ≡ signed_decimal whole) }
+{
+    match field {
+        Field::Int(n) => Some(n),
+        Field::Fraction(n) => whole_in(n),
+        _ => None,
+    }
+}
+
+/// Puts all of a cell's line that stands before its text: its row, its column and its kind.
+fn put_head(line: &mut Short, row: u32, column: u32, kind: &str)
+    requires kind { length kind.now ≤ 5 }
+    requires room { length line.old ≤ 25 }
+    ensures { line.new ≡ codes "cell" ++ (tabbed (decimal row) ++ (tabbed (decimal column)
+        ++ (tabbed kind.now ++ (codes "\t" ++ line.old)))) }
+{
+    line.put_byte(b'\t');
+    line.put_word(kind.as_bytes());
+    line.put_byte(b'\t');
+    line.put_digits(u64::from(column));
+    line.put_byte(b'\t');
+    line.put_digits(u64::from(row));
+    line.put_word(b"cell\t");
+}
+
+/// Text on its way to a sink: full pieces are written, and at most one piece is kept. Contracts see
+/// the text that is kept.
+#[derive(Drop)]
+pub struct Buffer {
+    piece: Vec<u8>,
+    /// The text of the field that is being put, where it has to be printed first.
+    printed: String,
+}
+
+impl Model for Buffer {
+    ghost use Rattle.std.specs.Prelude.{List, ℕ, ◌≤◌, length};
+    ghost use Rattle.xls_lines.specs.declared.buffer.TheConstants.{PIECE};
+
+    ghost Value = { List ℕ };
+
+    ghost view = { λ b. b.piece.items };
+
+    ghost invariant = { λ b. length b.piece.items ≤ PIECE };
+}
+
+impl Buffer {
+    /// Nothing is kept.
+    pub fn new(alloc: Global) -> Buffer
+        ensures { result ≡ [] }
+    {
+        Buffer {
+            piece: Vec::new(alloc),
+            printed: String::new(alloc),
+        }
+    }
+
+    /// Writes all that is kept.
+    pub fn finish<K: Sink>(&mut self, sink: &mut K) -> Result<(), Stop>
+        ensures puts { Puts (K.state sink.old) self.old (K.state sink.new) self.new [] result }
+        ensures none { OnOk result (self.new ≡ []) }
+    {
+        flush(&mut self.piece, sink)
+    }
+
+    /// Puts some bytes.
+    pub fn put<K: Sink>(&mut self, sink: &mut K, bytes: &[u8]) -> Result<(), Stop>
+        ensures { Puts (K.state sink.old) self.old (K.state sink.new) self.new bytes.now result }
+    {
+        gather(&mut self.piece, sink, bytes)
+    }
+
+    /// Puts a text as it is.
+    fn put_str<K: Sink>(&mut self, sink: &mut K, text: &str) -> Result<(), Stop>
+        ensures { Puts (K.state sink.old) self.old (K.state sink.new) self.new text.now result }
+    {
+        self.put(sink, text.as_bytes())
+    }
+
+    /// Puts a byte, or the two that stand for it.
+    fn put_escaped<K: Sink>(&mut self, sink: &mut K, byte: u8) -> Result<(), Stop>
+        ensures { Puts (K.state sink.old) self.old (K.state sink.new) self.new (escaped_char byte) result }
+    {
+        match byte {
+            b'\\' => self.put(sink, b"\\\\"),
+            b'\n' => self.put(sink, b"\\n"),
+            b'\r' => self.put(sink, b"\\r"),
+            b'\t' => self.put(sink, b"\\t"),
+            _ => self.put(sink, &[byte]),
+        }
+    }
+
+    /// Puts bytes, each by itself.
+    fn put_each<K: Sink>(&mut self, sink: &mut K, bytes: &[u8]) -> Result<(), Stop>
+        ensures { Puts (K.state sink.old) self.old (K.state sink.new) self.new
+            (flat_map escaped_char bytes.now) result }
+    {
+        for byte in bytes {
+            self.put_escaped(sink, *byte)?;
+        }
+        Ok(())
+    }
+
+    /// Puts a text with its backslashes, newlines, returns and tabs escaped.
+    fn put_text<K: Sink>(&mut self, sink: &mut K, text: &str) -> Result<(), Stop>
+        ensures { Puts (K.state sink.old) self.old (K.state sink.new) self.new
+            (escaped_text (chars text.now)) result }
+    {
+        let bytes = text.as_bytes();
+        if is_all_plain(bytes) {
+            return self.put(sink, bytes);
+        }
+        self.put_each(sink, bytes)
+    }
+
+    /// Puts a whole number.
+    fn put_int<K: Sink>(&mut self, sink: &mut K, n: i64) -> Result<(), Stop>
+        ensures { Puts (K.state sink.old) self.old (K.state sink.new) self.new (signed_decimal n) result }
+    {
+        let mut digits = itoa::Buffer::new();
+        self.put_str(sink, digits.format(n))
+    }
+
+    /// Puts a number as Excel stores it. A whole one is printed in place.
+    fn put_number<K: Sink>(&mut self, sink: &mut K, n: Decimal) -> Result<(), Stop>
+        ensures { Puts (K.state sink.old) self.old (K.state sink.new) self.new (number_text n) result }
+    {
+        if let Decimal::Whole(n) = n {
+            return self.put_int(sink, n);
+        }
+        self.printed.clear();
+        write!(self.printed, "{n}")?;
+        gather(&mut self.piece, sink, self.printed.as_bytes())
+    }
+
+    /// Puts what a field prints.
+    fn put_value<K: Sink>(&mut self, sink: &mut K, field: Field<'_>) -> Result<(), Stop>
+        ensures { Puts (K.state sink.old) self.old (K.state sink.new) self.new (field_text field.entry) result }
+    {
+        self.printed.clear();
+        match field {
+            Field::Word(word) => return self.put_str(sink, word),
+            Field::Text(text) => return self.put_text(sink, text),
+            Field::Number(n) => {
+                let mut digits = itoa::Buffer::new();
+                return self.put_str(sink, digits.format(n));
+            }
+            Field::Int(n) => return self.put_int(sink, n),
+            Field::Fraction(n) => return self.put_number(sink, n),
+            Field::Failure(error) => write!(self.printed, "{error}")?,
+            Field::Fault(error) => write!(self.printed, "{error}")?,
+        }
+        gather(&mut self.piece, sink, self.printed.as_bytes())
+    }
+
+    /// Puts a field, after a tab.
+    fn put_field<K: Sink>(&mut self, sink: &mut K, field: Field<'_>) -> Result<(), Stop>
+        ensures { Puts (K.state sink.old) self.old (K.state sink.new) self.new (tabbed_field field.entry) result }
+    {
+        self.put_str(sink, "\t")?;
+        self.put_value(sink, field)?;
+        Ok(())
+    }
+
+    /// Puts fields, each after a tab.
+    fn put_fields<K: Sink>(&mut self, sink: &mut K, fields: &[Field<'_>]) -> Result<(), Stop>
+        ensures { Puts (K.state sink.old) self.old (K.state sink.new) self.new
+            (flat_map tabbed_field fields.now) result }
+    {
+        for field in fields {
+            self.put_field(sink, *field)?;
+        }
+        Ok(())
+    }
+
+    /// Puts a line: a word, and fields after it.
+    pub fn put_line<K: Sink>(
+        &mut self,
+        sink: &mut K,
+        word: &str,
+        fields: &[Field<'_>],
+    ) -> Result<(), Stop>
+        ensures { Puts (K.state sink.old) self.old (K.state sink.new) self.new
+            (word.now ++ (flat_map tabbed_field fields.now ++ codes "\n")) result }
+    {
+        self.put_str(sink, word)?;
+        self.put_fields(sink, fields)?;
+        self.put_str(sink, "\n")?;
+        Ok(())
+    }
+
+    /// Puts the line of a cell with a whole number, all at once.
+    fn put_whole_cell<K: Sink>(
+        &mut self,
+        sink: &mut K,
+        row: u32,
+        column: u32,
+        kind: &str,
+        n: i64,
+    ) -> Result<(), Stop>
+        requires { length kind.now ≤ 5 }
+        ensures { Puts (K.state sink.old) self.old (K.state sink.new) self.new
+            (filled_line row column (Some (kind.now, signed_decimal n))) result }
+    {
+        let mut line = Short::new();
+        line.put_byte(b'\n');
+        line.put_int(n);
+        put_head(&mut line, row, column, kind);
+        self.put(sink, line.as_slice())
+    }
+
+    /// Puts the line of a cell with another value: what stands before its text all at once.
+    fn put_other_cell<K: Sink>(
+        &mut self,
+        sink: &mut K,
+        row: u32,
+        column: u32,
+        kind: &str,
+        shown: Field<'_>,
+    ) -> Result<(), Stop>
+        requires { length kind.now ≤ 5 }
+        ensures { Puts (K.state sink.old) self.old (K.state sink.new) self.new
+            (filled_line row column (Some (kind.now, field_text shown.entry))) result }
+    {
+        let mut head = Short::new();
+        put_head(&mut head, row, column, kind);
+        self.put(sink, head.as_slice())?;
+        self.put_value(sink, shown)?;
+        self.put_str(sink, "\n")?;
+        Ok(())
+    }
+
+    /// Puts the line of a cell: its row, its column, the word for its kind, and what it prints.
+    pub fn put_cell<K: Sink>(
+        &mut self,
+        sink: &mut K,
+        row: u32,
+        column: u32,
+        kind: &str,
+        shown: Field<'_>,
+    ) -> Result<(), Stop>
+        requires { length kind.now ≤ 5 }
+        ensures { Puts (K.state sink.old) self.old (K.state sink.new) self.new
+            (filled_line row column (Some (kind.now, field_text shown.entry))) result }
+    {
+        match whole_of(shown) {
+            Some(n) => self.put_whole_cell(sink, row, column, kind, n),
+            None => self.put_other_cell(sink, row, column, kind, shown),
+        }
+    }
+}

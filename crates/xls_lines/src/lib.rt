@@ -1,0 +1,15 @@
+//! Where text goes, and lines of text that are gathered before they are written.
+#![tactic(auto)]
+
+mod buffer;
+mod field;
+mod memory;
+mod short;
+mod sink;
+mod stop;
+
+pub use buffer::Buffer;
+pub use field::Field;
+pub use memory::MemorySink;
+pub use sink::{Sink, StdSink, WriteFault, write_all};
+pub use stop::Stop;

@@ -1,0 +1,4 @@
+pub mod TextLemmas
+pub mod CheckLemmas
+pub mod EndingLemmas
+pub mod StandardFacts

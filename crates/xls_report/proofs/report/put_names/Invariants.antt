@@ -1,0 +1,14 @@
+use Rattle.std.proofs.Common.{take}
+use Rattle.std.specs.List.{flat_map}
+use Rattle.xls_open.specs.Workbook.{told_of}
+use Rattle.xls_lines.specs.Gathering.{Gathers}
+use Rattle.xls_report.specs.Report.{name_line}
+use Rattle.xls_report.proofs.TextLemmas.{Named}
+use Rattle.xls_report.proofs.report.put_names.Given as goal
+
+-- the lines of the names so far are put
+abbrev pub invariant-loop-name : goal.invariant-loop-name
+invariant-loop-name g l =
+    let sink = g.K.Sink in
+    Gathers (sink.state l.fn.sink) l.fn.buffer (sink.state l.sink) l.buffer
+    (flat_map (λ (n : Named). name_line (told_of n)) (take l.name-index l.names))

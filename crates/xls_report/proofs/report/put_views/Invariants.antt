@@ -1,0 +1,11 @@
+use Rattle.std.proofs.Common.{take}
+use Rattle.xls_lines.specs.Gathering.{Gathers}
+use Rattle.xls_report.specs.Report.{sheets_text}
+use Rattle.xls_report.proofs.report.put_views.Given as goal
+
+-- the sheets so far are put
+abbrev pub invariant-loop-i : goal.invariant-loop-i
+invariant-loop-i g l =
+    let sink = g.K.Sink in
+    Gathers (sink.state l.fn.sink) l.fn.buffer (sink.state l.sink) l.buffer
+    (sheets_text (take l.i l.book.sheets) (take l.i l.book.contents))

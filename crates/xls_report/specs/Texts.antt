@@ -1,0 +1,68 @@
+-- Which text a writer is to write, by the bytes or the workbook that it is of.
+use Rattle.std.specs.Prelude.{◌≡◌, ◌⊎◌, ℕ, String, List, Some, None}
+use Rattle.std.specs.Global.{Global}
+use Rattle.std.specs.Str.{chars}
+use Rattle.std.specs.BTreeMap.{IsOrdered}
+use Rattle.std.specs.String.{string_bytes, string_cmp}
+use Rattle.xls_strings.specs.declared.error.XlsError.{XlsError}
+use Rattle.xls_strings.specs.declared.error.XlsError.TheVariants.{WorksheetNotFound}
+use Rattle.xls_props.specs.Properties.{IsProperties}
+use Rattle.xls_props.specs.declared.properties.WorkbookProperties.{WorkbookProperties}
+use Rattle.xls_open.specs.Workbook.{Workbook, view_named}
+use Rattle.xls_reading.specs.Reading.{SheetView}
+use Rattle.xls_csv.specs.Dense.{sheet_csv}
+use Rattle.xls_refs.specs.Cited.{BookCited}
+use Rattle.xls_refs.specs.Citing.{IsBookCited}
+use Rattle.xls_report.specs.Refs.{refs_text}
+use Rattle.xls_model.specs.Listing.{Entry, Carries}
+use Rattle.xls_report.specs.Remaking.{IsWrittenOf, IsUnwrittenOf}
+use Rattle.xls_reading.specs.Faults.{FirstFault, IsSound}
+use Rattle.xls_open.specs.Opening.{default_options, default_rules}
+use Rattle.xls_report.specs.Report.{sound_line, fault_line}
+use Rattle.xls_report.specs.Properties.{property_lines}
+
+-- the lines of the properties that the bytes hold as both property streams: each field that is there,
+-- and each custom property once, in the byte order of their names
+abbrev pub IsPropertyText : List ℕ → List ℕ → Type 0
+IsPropertyText bytes text =
+    (p : WorkbookProperties) × IsProperties (Some bytes) (Some bytes) p
+    × IsOrdered string_cmp p.custom_properties × (text ≡ property_lines p)
+
+-- the line of bytes of which no place has a fault
+abbrev pub IsSoundLine : List ℕ → List ℕ → Type 0
+IsSoundLine bytes text = IsSound default_rules bytes × (text ≡ sound_line)
+
+-- the line of the first fault of the bytes
+abbrev pub IsFirstLine : List ℕ → List ℕ → Type 0
+IsFirstLine bytes text =
+    (e : XlsError) × FirstFault default_rules bytes e × (text ≡ fault_line e)
+
+-- the lines of the cells that the formulas of the bytes' workbook cite
+abbrev pub IsRefsText : List ℕ → List ℕ → Type 0
+IsRefsText bytes text =
+    (book : BookCited) × IsBookCited default_options bytes book × (text ≡ refs_text book)
+
+-- no place of the bytes has a fault, and this text is of each list that they carry, of which there is one
+pub record IsOfList (IsOf : List Entry → List ℕ → Type 0) (bytes text : List ℕ) : Type 0 where
+  pub sound : IsSound default_rules bytes
+  pub list : List Entry
+  pub carries : Carries bytes list
+  pub every : (other : List Entry) → Carries bytes other → IsOf other text
+
+-- the canonical bytes of the list that the bytes carry
+abbrev pub IsRemadeText : List ℕ → List ℕ → Type 0
+IsRemadeText bytes text = IsOfList IsWrittenOf bytes text
+
+-- the line of the first fault, or of a list whose canonical bytes are too many
+abbrev pub IsUnremadeLine : List ℕ → List ℕ → Type 0
+IsUnremadeLine bytes text = IsFirstLine bytes text ⊎ IsOfList IsUnwrittenOf bytes text
+
+-- the CSV of the last sheet of this name in a workbook
+abbrev pub IsCsvOf : List ℕ → Workbook → List ℕ → Type 0
+IsCsvOf name book text =
+    (view : SheetView) × (view_named book (chars name) ≡ Some view) × (text ≡ sheet_csv view.cells)
+
+-- the line of a name that no sheet of a workbook has
+abbrev pub IsMissingOf : List ℕ → Workbook → List ℕ → Type 0
+IsMissingOf name book text = (view_named book (chars name) ≡ None)
+    × ((s : String Global) × (string_bytes s ≡ name) × (text ≡ fault_line (WorksheetNotFound s)))
