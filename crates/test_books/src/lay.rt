@@ -56,6 +56,21 @@ fn writes_what_was_pushed(rt: HostRuntime) -> Result<(), Fail> {
     Ok(())
 }
 
+// How many bytes stand in the table's record and in the one Continue record behind it, if it is one string
+// of these units.
+fn cut_of(alloc: Global, stream: &[u8], units: &[u16]) -> Result<(usize, usize), Fail> {
+    let record = RecordIter::new(stream).next().ok_or("no record")??;
+    let mut reader = SstReader::new(&record)?;
+    let is_whole = reader.next_units(alloc)?.ok_or("no string")?.as_slice() == units;
+    let has_more = reader.next_units(alloc)?.is_some();
+    let mut pieces = record.pieces;
+    let piece = pieces.next_piece().ok_or("no piece")?;
+    if !is_whole || has_more || !pieces.is_empty() {
+        return Err(Fail::from("another string or piece"));
+    }
+    Ok((record.body.len(), piece.len()))
+}
+
 #[test]
 fn cuts_a_long_string(rt: HostRuntime) -> Result<(), Fail> {
     let alloc = rt.alloc();
@@ -66,16 +81,7 @@ fn cuts_a_long_string(rt: HostRuntime) -> Result<(), Fail> {
         list.push_string(&units)?;
     }
     let stream = write_workbook(alloc, &list)?;
-    let mut records = RecordIter::new(stream.as_slice());
-    let record = records.next().ok_or("no record")??;
-    assert_eq!(rt; record.body.len(), 8224);
-    let mut reader = SstReader::new(&record)?;
-    assert_eq!(rt; reader.next_units(alloc)?, Some(units));
-    assert!(rt; reader.next_units(alloc)?.is_none());
-    let mut pieces = record.pieces;
-    let piece = pieces.next_piece().ok_or("no piece")?;
-    assert_eq!(rt; piece.len(), 788);
-    assert!(rt; pieces.is_empty());
+    assert_eq!(rt; cut_of(alloc, stream.as_slice(), &units)?, (8224, 788));
     Ok(())
 }
 

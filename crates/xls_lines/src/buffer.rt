@@ -5,7 +5,7 @@ ghost use Rattle.std.specs.List.{flat_map};
 ghost use Rattle.std.specs.Fmt.{decimal, signed_decimal};
 ghost use Rattle.std.specs.Str.{chars};
 ghost use Rattle.xls_data.specs.Numbers.{number_text};
-ghost use Rattle.xls_lines.specs.Gathering.{Puts};
+ghost use Rattle.xls_lines.specs.Gathering.{Delivers, Puts};
 ghost use Rattle.xls_lines.specs.Lines.{escaped_char, field_text, filled_line, tabbed, tabbed_field, escaped_text};
 
 use crate::field::Field;
@@ -363,4 +363,20 @@ impl Buffer {
             None => self.put_other_cell(sink, row, column, kind, shown),
         }
     }
+}
+
+/// Writes one line: a word, and fields after it.
+pub fn write_line<K: Sink>(
+    alloc: Global,
+    sink: &mut K,
+    word: &str,
+    fields: &[Field<'_>],
+) -> Result<(), Stop>
+    ensures { Delivers (K.state sink.old) (K.state sink.new)
+        (word.now ++ (flat_map tabbed_field fields.now ++ codes "\n")) result }
+{
+    let mut buffer = Buffer::new(alloc);
+    buffer.put_line(sink, word, fields)?;
+    buffer.finish(sink)?;
+    Ok(())
 }

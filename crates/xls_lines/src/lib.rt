@@ -8,7 +8,7 @@ mod short;
 mod sink;
 mod stop;
 
-pub use buffer::Buffer;
+pub use buffer::{Buffer, write_line};
 pub use field::Field;
 pub use memory::MemorySink;
 pub use sink::{Sink, StdSink, WriteFault, write_all};

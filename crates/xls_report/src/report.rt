@@ -11,7 +11,7 @@ ghost use Rattle.xls_lines.specs.Gathering.{Delivers, Puts};
 ghost use Rattle.xls_report.specs.Endings.{EndsWithEither};
 ghost use Rattle.xls_lines.specs.Lines.{field_text};
 ghost use Rattle.xls_open.specs.Workbook.{told_of};
-ghost use Rattle.xls_report.specs.Report.{cell_line, cells_at, dates_line, epoch_text, error_line, fault_line, formula_line, formulas_at, lines_at, merge_line, merges_at, name_line, report, sheet_line, sheet_report, sheets_text, sound_line, type_text, unwritten_line, value_fields, visible_text};
+ghost use Rattle.xls_report.specs.Report.{cell_line, cells_at, dates_line, epoch_text, fault_line, formula_line, formulas_at, lines_at, merge_line, merges_at, name_line, report, sheet_line, sheet_report, sheets_text, sound_line, type_text, unwritten_line, value_fields, visible_text};
 
 use crate::ending::Ending;
 use std::alloc::Global;
@@ -19,7 +19,7 @@ use xls_biff::XlsError;
 use xls_book::{Formulas, Reader, Values, Xls};
 use xls_data::{Data, Dimensions, Sheet, SheetType, SheetVisible};
 use xls_lay::LayError;
-use xls_lines::{Buffer, Field, Sink, Stop};
+use xls_lines::{Buffer, Field, Sink, Stop, write_line};
 
 /// The word for a date or a span.
 fn date_kind(is_span: bool) -> &'static str
@@ -353,20 +353,14 @@ pub fn write_sheets<K: Sink>(alloc: Global, sink: &mut K, book: &Xls) -> Result<
 pub fn write_sound<K: Sink>(alloc: Global, sink: &mut K) -> Result<(), Stop>
     ensures { Delivers (K.state sink.old) (K.state sink.new) sound_line result }
 {
-    let mut buffer = Buffer::new(alloc);
-    buffer.put_line(sink, "ok", &[])?;
-    buffer.finish(sink)?;
-    Ok(())
+    write_line(alloc, sink, "ok", &[])
 }
 
 /// Writes the line of a refusal.
 pub fn write_fault<K: Sink>(alloc: Global, sink: &mut K, error: &XlsError) -> Result<(), Stop>
     ensures { Delivers (K.state sink.old) (K.state sink.new) (fault_line error.now) result }
 {
-    let mut buffer = Buffer::new(alloc);
-    buffer.put_line(sink, "error", &[Field::Fault(error)])?;
-    buffer.finish(sink)?;
-    Ok(())
+    write_line(alloc, sink, "error", &[Field::Fault(error)])
 }
 
 /// Writes the line of a refusal, unless memory ran out.
@@ -383,20 +377,10 @@ pub fn write_refusal<K: Sink>(alloc: Global, sink: &mut K, error: &XlsError) -> 
     }
 }
 
-/// Writes the line of an error's text.
-fn write_error<K: Sink>(alloc: Global, sink: &mut K, text: &str) -> Result<(), Stop>
-    ensures { Delivers (K.state sink.old) (K.state sink.new) (error_line text.now) result }
-{
-    let mut buffer = Buffer::new(alloc);
-    buffer.put_line(sink, "error", &[Field::Word(text)])?;
-    buffer.finish(sink)?;
-    Ok(())
-}
-
 /// Writes that a canonical stream isn't written, and why.
 pub fn write_unwritten<K: Sink>(alloc: Global, sink: &mut K, error: LayError) -> Result<(), Stop>
     ensures { Delivers (K.state sink.old) (K.state sink.new) (unwritten_line error) result }
 {
     let text = format!(in alloc; "{error}")?;
-    write_error(alloc, sink, text.as_str())
+    write_line(alloc, sink, "error", &[Field::Word(text.as_str())])
 }

@@ -247,6 +247,29 @@ fn line_of(alloc: Global, told: &str) -> Result<String, AllocError> {
     }
 }
 
+// Whether the check and opening tell this of the bytes.
+fn both_tell(
+    alloc: Global,
+    bytes: &[u8],
+    forced: Option<u16>,
+    max_cells: u64,
+    wanted: &str,
+) -> Result<bool, AllocError> {
+    let (checked, opened) = faults_of(alloc, bytes, forced, max_cells)?;
+    let is_checked = told(alloc, checked)?.as_str() == wanted;
+    Ok(is_checked && told(alloc, opened)?.as_str() == wanted)
+}
+
+// Whether the command writes this.
+fn writes_line(
+    alloc: Global,
+    parts: &'static [&'static [u8]],
+    wanted: &str,
+) -> Result<bool, AllocError> {
+    let (_, written) = outcome(alloc, &quiet(&["check"], parts))?;
+    Ok(written.as_slice() == line_of(alloc, wanted)?.as_bytes())
+}
+
 fn tell(
     rt: &impl Abort,
     alloc: Global,
@@ -256,12 +279,12 @@ fn tell(
     wanted: &str,
 ) -> Result<(), Fail> {
     let bytes = joined(alloc, parts)?;
-    let (checked, opened) = faults_of(alloc, bytes.as_slice(), forced, max_cells)?;
-    assert_eq!(rt; told(alloc, checked)?.as_str(), wanted);
-    assert_eq!(rt; told(alloc, opened)?.as_str(), wanted);
+    assert!(rt;
+        both_tell(alloc, &bytes, forced, max_cells, wanted)?,
+        "{wanted}"
+    );
     if forced == None && max_cells == CELLS {
-        let (_, written) = outcome(alloc, &quiet(&["check"], parts))?;
-        assert_eq!(rt; written.as_slice(), line_of(alloc, wanted)?.as_bytes());
+        assert!(rt; writes_line(alloc, parts, wanted)?, "{wanted}");
     }
     Ok(())
 }

@@ -348,39 +348,70 @@ fn values(alloc: Global, book: &Xls, n: usize) -> Result<String, AllocError> {
     Ok(text)
 }
 
+// The names of the sheets, each with a bar after it.
+fn sheets(alloc: Global, book: &Xls) -> Result<String, XlsError> {
+    let mut all = String::new(alloc);
+    for name in &book.sheet_names(alloc)? {
+        write!(all, "{name}|")?;
+    }
+    Ok(all)
+}
+
 #[test]
 fn lists_the_sheets_in_order(rt: HostRuntime) -> Result<(), Fail> {
     let alloc = rt.alloc();
     let book = ledger(alloc)?;
-    let names = book.sheet_names(alloc)?;
-    assert_eq!(rt; names.len(), 3);
-    let shown = [names[0].as_str(), names[1].as_str(), names[2].as_str()];
-    assert_eq!(rt; shown, ["Data", "Log", "Old"]);
+    assert_eq!(rt; sheets(alloc, &book)?.as_str(), "Data|Log|Old|");
     assert_eq!(rt; book.worksheets(alloc)?.len(), 3);
     Ok(())
 }
 
+fn is_total(names: &[(String, String)]) -> bool {
+    match names {
+        [(name, text)] => name.as_str() == "Total" && text.as_str() == "Data!$B$2",
+        _ => false,
+    }
+}
+
 #[test]
 fn tells_the_defined_names(rt: HostRuntime) -> Result<(), Fail> {
-    let alloc = rt.alloc();
-    let book = ledger(alloc)?;
-    assert_eq!(rt; book.defined_names().len(), 1);
-    let (name, text) = &book.defined_names()[0];
-    assert_eq!(rt; (name.as_str(), text.as_str()), ("Total", "Data!$B$2"));
-    assert_eq!(rt; book.metadata().names.len(), 1);
+    let book = ledger(rt.alloc())?;
+    assert!(rt; is_total(book.defined_names()) && is_total(&book.metadata().names));
     Ok(())
+}
+
+// The formulas of the first two sheets, a bar after each sheet, and the values of the second.
+fn shown(alloc: Global, book: &Xls) -> Result<String, AllocError> {
+    let mut all = formulas(alloc, book, 0)?;
+    write!(all, "|{}|", formulas(alloc, book, 1)?)?;
+    all.push_str(values(alloc, book, 1)?.as_str())?;
+    Ok(all)
+}
+
+// Neither the third sheet nor a missing one shows a formula.
+fn has_no_other(book: &Xls) -> bool {
+    match book.formulas_at(2) {
+        Some(mut formulas) => formulas.next().is_none() && book.formulas_at(3).is_none(),
+        None => false,
+    }
 }
 
 #[test]
 fn shows_the_formulas(rt: HostRuntime) -> Result<(), Fail> {
     let alloc = rt.alloc();
     let book = ledger(alloc)?;
-    assert_eq!(rt; formulas(alloc, &book, 0)?.as_str(), "1,1=SUM(A3:B3) ");
-    assert_eq!(rt; formulas(alloc, &book, 1)?.as_str(), "0,0=\"x\"&Data!A2 ");
-    assert_eq!(rt; formulas(alloc, &book, 2)?.as_str(), "");
-    assert!(rt; book.formulas_at(3).is_none());
-    assert_eq!(rt; values(alloc, &book, 1)?.as_str(), "0,0=xSum 1,0=#N/A ");
+    let wanted = "1,1=SUM(A3:B3) |0,0=\"x\"&Data!A2 |0,0=xSum 1,0=#N/A ";
+    assert_eq!(rt; shown(alloc, &book)?.as_str(), wanted);
+    assert!(rt; has_no_other(&book));
     Ok(())
+}
+
+// The size of the range of a sheet's formulas, or whose name no sheet has.
+fn formula_box(alloc: Global, book: &Xls, name: &str) -> Result<String, AllocError> {
+    match book.worksheet_formula(alloc, name) {
+        Ok(range) => format!(in alloc; "{} by {}", range.height(), range.width()),
+        Err(error) => format!(in alloc; "{error}"),
+    }
 }
 
 #[test]
@@ -388,28 +419,31 @@ fn a_range_of_formulas_is_their_box(rt: HostRuntime) -> Result<(), Fail> {
     let alloc = rt.alloc();
     let mut book = ledger(alloc)?;
     book.with_header_row(HeaderRow::Row(9));
-    let range = book.worksheet_formula(alloc, "Log")?;
-    assert_eq!(rt; range.get_size(), (1, 1));
-    let missing = XlsError::WorksheetNotFound(String::from_str(alloc, "X")?);
-    assert_eq!(rt; book.worksheet_formula(alloc, "X").err(), Some(missing));
+    assert_eq!(rt; formula_box(alloc, &book, "Log")?.as_str(), "1 by 1");
+    let missing = formula_box(alloc, &book, "X")?;
+    assert_eq!(rt; missing.as_str(), "Worksheet 'X' not found");
     Ok(())
+}
+
+const REGION: [Dimensions; 1] = [Dimensions {
+    start: (0, 1),
+    end: (0, 2),
+}];
+
+// Whether the region is lent, and found by the name of its sheet, and none by another name or index.
+fn finds_the_region(alloc: Global, book: &Xls) -> Result<bool, XlsError> {
+    let by_name = book.merge_cells_by_sheet_name(alloc, "Data")?;
+    let is_found = by_name.as_slice() == REGION.as_slice();
+    let has_other = book.worksheet_merge_cells(alloc, "X")?.is_some()
+        || book.worksheet_merge_cells_at(alloc, 3)?.is_some();
+    Ok(is_found && book.merges_at(0) == Some(REGION.as_slice()) && !has_other)
 }
 
 #[test]
 fn finds_the_merged_region(rt: HostRuntime) -> Result<(), Fail> {
     let alloc = rt.alloc();
     let book = ledger(alloc)?;
-    let region = [Dimensions {
-        start: (0, 1),
-        end: (0, 2),
-    }];
-    assert_eq!(rt; book.merges_at(0), Some(region.as_slice()));
-    assert_eq!(rt;
-        book.merge_cells_by_sheet_name(alloc, "Data")?.as_slice(),
-        region.as_slice()
-    );
-    assert!(rt; book.worksheet_merge_cells(alloc, "X")?.is_none());
-    assert!(rt; book.worksheet_merge_cells_at(alloc, 3)?.is_none());
+    assert!(rt; finds_the_region(alloc, &book)?);
     Ok(())
 }
 

@@ -10,4 +10,4 @@ returns-in_err-text g c =
 
 pub returns : goal.returns
 returns g c =
-    subst (λ (t : List ℕ). Delivers (g.K.Sink.state c.args.sink.now) (g.K.Sink.state c.write_error.new.sink) (error_line t) c.write_error.result) (c.as_str.ensures.value ∙ c.in_ok-text.ensures.ok) c.write_error.ensures
+    subst (λ (t : List ℕ). Delivers (g.K.Sink.state c.args.sink.now) (g.K.Sink.state c.write_line.new.sink) (error_line t) c.write_line.result) (c.as_str.ensures.value ∙ c.in_ok-text.ensures.ok) c.write_line.ensures

@@ -1,5 +1,5 @@
 use Rattle.xls_lines.proofs.GatherLemmas.{delivers-stop, gathers-after, gathers-from, stops-after, stops-from, wrote}
-use Rattle.xls_report.proofs.report.write_sound.Goals as goal
+use Rattle.xls_lines.proofs.buffer.write_line.Goals as goal
 
 pub returns-in_err-put_line : goal.returns-in_err-put_line
 returns-in_err-put_line g c =
