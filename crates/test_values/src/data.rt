@@ -40,7 +40,7 @@ fn prints_numbers_exactly(rt: HostRuntime) -> Result<(), Fail> {
 }
 
 // The double 2.5 is 4004000000000000, 1e300 is 7e37e43c8800759c, infinity 7ff0000000000000.
-static CUTS: [(Number, i64, Option<i64>); 8] = [
+static CUTS: [(Number, i64, Option<i64>); 9] = [
     (Number::Whole(-7), -7, Some(-7)),
     (Number::Hundredths(-199), -1, Some(-1)),
     (Number::Hundredths(199), 1, Some(1)),
@@ -48,6 +48,7 @@ static CUTS: [(Number, i64, Option<i64>); 8] = [
     (Number::Bits(0xc004000000000000), -2, Some(-2)),
     (Number::BitsOver100(0x4069000000000000), 2, Some(2)),
     (Number::Bits(0x7e37e43c8800759c), i64::MAX, None),
+    (Number::Bits(0x7ff0000000000000), i64::MAX, None),
     (Number::BitsOver100(0x7ff8000000000000), 0, None),
 ];
 
