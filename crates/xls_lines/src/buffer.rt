@@ -8,7 +8,7 @@ ghost use Rattle.xls_data.specs.Numbers.{number_text};
 ghost use Rattle.xls_lines.specs.Gathering.{Delivers, Puts};
 ghost use Rattle.xls_lines.specs.Lines.{escaped_char, field_text, filled_line, tabbed, tabbed_field, escaped_text};
 
-use crate::field::Field;
+use crate::field::{Field, printed};
 use crate::short::Short;
 use crate::sink::{Sink, write_all};
 use crate::stop::Stop;
@@ -79,25 +79,6 @@ fn gather_by_pieces<K: Sink>(bytes: &mut Vec<u8>, sink: &mut K, text: &[u8]) -> 
     Ok(())
 }
 
-/// Whether a byte stands for itself.
-fn is_plain(byte: u8) -> bool
-    ensures { result ≡ true → escaped_char byte ≡ byte ∷ [] }
-{
-    !matches!(byte, b'\\' | b'\n' | b'\r' | b'\t')
-}
-
-/// Whether each byte of a text stands for itself.
-fn is_all_plain(text: &[u8]) -> bool
-    ensures { result ≡ true → flat_map escaped_char text.now ≡ text.now }
-{
-    for byte in text {
-        if !is_plain(*byte) {
-            return false;
-        }
-    }
-    true
-}
-
 /// The bits of the double negative zero.
 const NEGATIVE_ZERO: u64 = 1 << 63;
 
@@ -123,10 +104,13 @@ fn whole_of(field: Field<'_>) -> Option<i64>
     }
 }
 
+/// How long a text is, at most, that is put into its line at once.
+const SHORT: usize = 42;
+
 /// Puts all of a cell's line that stands before its text: its row, its column and its kind.
 fn put_head(line: &mut Short, row: u32, column: u32, kind: &str)
     requires kind { length kind.now ≤ 5 }
-    requires room { length line.old ≤ 25 }
+    requires room { length line.old ≤ SHORT + 1 }
     ensures { line.new ≡ codes "cell" ++ (tabbed (decimal row) ++ (tabbed (decimal column)
         ++ (tabbed kind.now ++ (codes "\t" ++ line.old)))) }
 {
@@ -137,6 +121,55 @@ fn put_head(line: &mut Short, row: u32, column: u32, kind: &str)
     line.put_byte(b'\t');
     line.put_digits(u64::from(row));
     line.put_word(b"cell\t");
+}
+
+/// Gathers the line of a cell: all at once where its text is short.
+fn gather_cell<K: Sink>(
+    bytes: &mut Vec<u8>,
+    sink: &mut K,
+    row: u32,
+    column: u32,
+    kind: &str,
+    text: &[u8],
+) -> Result<(), Stop>
+    requires kind { length kind.now ≤ 5 }
+    requires old { length bytes.old.items ≤ PIECE }
+    ensures puts { Puts (K.state sink.old) bytes.old.items (K.state sink.new) bytes.new.items
+        (filled_line row column (Some (kind.now, text.now))) result }
+    ensures bound { length bytes.new.items ≤ PIECE }
+{
+    if text.len() <= SHORT {
+        return gather_short_cell(bytes, sink, row, column, kind, text);
+    }
+    let mut head = Short::new();
+    put_head(&mut head, row, column, kind);
+    gather(bytes, sink, head.as_slice())?;
+    gather(bytes, sink, text)?;
+    gather(bytes, sink, b"\n")?;
+    Ok(())
+}
+
+/// Gathers the line of a cell with a short text.
+fn gather_short_cell<K: Sink>(
+    bytes: &mut Vec<u8>,
+    sink: &mut K,
+    row: u32,
+    column: u32,
+    kind: &str,
+    text: &[u8],
+) -> Result<(), Stop>
+    requires kind { length kind.now ≤ 5 }
+    requires text { length text.now ≤ SHORT }
+    requires old { length bytes.old.items ≤ PIECE }
+    ensures puts { Puts (K.state sink.old) bytes.old.items (K.state sink.new) bytes.new.items
+        (filled_line row column (Some (kind.now, text.now))) result }
+    ensures bound { length bytes.new.items ≤ PIECE }
+{
+    let mut line = Short::new();
+    line.put_byte(b'\n');
+    line.put_word(text);
+    put_head(&mut line, row, column, kind);
+    gather(bytes, sink, line.as_slice())
 }
 
 /// Text on its way to a sink: full pieces are written, and at most one piece is kept. Contracts see
@@ -192,80 +225,12 @@ impl Buffer {
         self.put(sink, text.as_bytes())
     }
 
-    /// Puts a byte, or the two that stand for it.
-    fn put_escaped<K: Sink>(&mut self, sink: &mut K, byte: u8) -> Result<(), Stop>
-        ensures { Puts (K.state sink.old) self.old (K.state sink.new) self.new (escaped_char byte) result }
-    {
-        match byte {
-            b'\\' => self.put(sink, b"\\\\"),
-            b'\n' => self.put(sink, b"\\n"),
-            b'\r' => self.put(sink, b"\\r"),
-            b'\t' => self.put(sink, b"\\t"),
-            _ => self.put(sink, &[byte]),
-        }
-    }
-
-    /// Puts bytes, each by itself.
-    fn put_each<K: Sink>(&mut self, sink: &mut K, bytes: &[u8]) -> Result<(), Stop>
-        ensures { Puts (K.state sink.old) self.old (K.state sink.new) self.new
-            (flat_map escaped_char bytes.now) result }
-    {
-        for byte in bytes {
-            self.put_escaped(sink, *byte)?;
-        }
-        Ok(())
-    }
-
-    /// Puts a text with its backslashes, newlines, returns and tabs escaped.
-    fn put_text<K: Sink>(&mut self, sink: &mut K, text: &str) -> Result<(), Stop>
-        ensures { Puts (K.state sink.old) self.old (K.state sink.new) self.new
-            (escaped_text (chars text.now)) result }
-    {
-        let bytes = text.as_bytes();
-        if is_all_plain(bytes) {
-            return self.put(sink, bytes);
-        }
-        self.put_each(sink, bytes)
-    }
-
-    /// Puts a whole number.
-    fn put_int<K: Sink>(&mut self, sink: &mut K, n: i64) -> Result<(), Stop>
-        ensures { Puts (K.state sink.old) self.old (K.state sink.new) self.new (signed_decimal n) result }
-    {
-        let mut digits = itoa::Buffer::new();
-        self.put_str(sink, digits.format(n))
-    }
-
-    /// Puts a number as Excel stores it. A whole one is printed in place.
-    fn put_number<K: Sink>(&mut self, sink: &mut K, n: Decimal) -> Result<(), Stop>
-        ensures { Puts (K.state sink.old) self.old (K.state sink.new) self.new (number_text n) result }
-    {
-        if let Decimal::Whole(n) = n {
-            return self.put_int(sink, n);
-        }
-        self.printed.clear();
-        write!(self.printed, "{n}")?;
-        gather(&mut self.piece, sink, self.printed.as_bytes())
-    }
-
     /// Puts what a field prints.
     fn put_value<K: Sink>(&mut self, sink: &mut K, field: Field<'_>) -> Result<(), Stop>
         ensures { Puts (K.state sink.old) self.old (K.state sink.new) self.new (field_text field.entry) result }
     {
-        self.printed.clear();
-        match field {
-            Field::Word(word) => return self.put_str(sink, word),
-            Field::Text(text) => return self.put_text(sink, text),
-            Field::Number(n) => {
-                let mut digits = itoa::Buffer::new();
-                return self.put_str(sink, digits.format(n));
-            }
-            Field::Int(n) => return self.put_int(sink, n),
-            Field::Fraction(n) => return self.put_number(sink, n),
-            Field::Failure(error) => write!(self.printed, "{error}")?,
-            Field::Fault(error) => write!(self.printed, "{error}")?,
-        }
-        gather(&mut self.piece, sink, self.printed.as_bytes())
+        let text = printed(field, &mut self.printed)?;
+        gather(&mut self.piece, sink, text.as_bytes())
     }
 
     /// Puts a field, after a tab.
@@ -324,7 +289,7 @@ impl Buffer {
         self.put(sink, line.as_slice())
     }
 
-    /// Puts the line of a cell with another value: what stands before its text all at once.
+    /// Puts the line of a cell with what it prints.
     fn put_other_cell<K: Sink>(
         &mut self,
         sink: &mut K,
@@ -337,12 +302,8 @@ impl Buffer {
         ensures { Puts (K.state sink.old) self.old (K.state sink.new) self.new
             (filled_line row column (Some (kind.now, field_text shown.entry))) result }
     {
-        let mut head = Short::new();
-        put_head(&mut head, row, column, kind);
-        self.put(sink, head.as_slice())?;
-        self.put_value(sink, shown)?;
-        self.put_str(sink, "\n")?;
-        Ok(())
+        let text = printed(shown, &mut self.printed)?;
+        gather_cell(&mut self.piece, sink, row, column, kind, text.as_bytes())
     }
 
     /// Puts the line of a cell: its row, its column, the word for its kind, and what it prints.
