@@ -2,7 +2,9 @@
 //! `utf-16-le` with `replace`) and of the Windows code page table.
 
 use std::test::Fail;
-use xls_text::{CfbError, XlsEncoding, one_utf8_reading, one_utf16_reading, push_units};
+use xls_text::{
+    CfbError, XlsEncoding, one_utf8_reading, one_utf16_reading, push_units, text_of_units,
+};
 
 static PAGES: [(u16, Option<XlsEncoding>); 6] = [
     (1200, Some(XlsEncoding::Utf16)),
@@ -158,6 +160,19 @@ fn appends_units(rt: HostRuntime) -> Result<(), Fail> {
     assert_eq!(rt; text.as_str(), "xA\u{1F600}\u{FFFD}\u{10FFFF}\u{E000}");
     one_utf8_reading();
     one_utf16_reading();
+    Ok(())
+}
+
+// Units of one, two and three bytes, a pair, and surrogates alone.
+static UNITS: [u16; 9] = [
+    0x7F, 0x80, 0x7FF, 0x800, 0xD83D, 0xDE00, 0xDE00, 0xFFFF, 0xD83D,
+];
+
+#[test]
+fn allocates_a_text_at_its_size(rt: HostRuntime) -> Result<(), Fail> {
+    let text = text_of_units(rt.alloc(), &UNITS)?;
+    assert_eq!(rt; text.len(), 1 + 2 + 2 + 3 + 4 + 3 + 3 + 3);
+    assert_eq!(rt; text.capacity(), text.len());
     Ok(())
 }
 

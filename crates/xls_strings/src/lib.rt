@@ -22,6 +22,3 @@ pub use strings::{parse_short_string, parse_string, split_short, split_string};
 pub use uncounted::size_of_uncounted;
 pub use version::{Biff, is_biff8};
 pub use xls_model::Part;
-
-#[cfg(test)]
-mod tests;

@@ -1,23 +1,21 @@
 //! The string table, cut anywhere by Continue records.
 
 ghost use Rattle.std.specs.Prelude.{◌≡◌, ◌<◌, ◌^◌, IfOk};
-ghost use Rattle.std.specs.Char.Utf16.{utf16_lossy_chars};
 ghost use Rattle.xls_model.specs.StringTable.{head_at, next_at, str_at, weight};
 ghost use Rattle.xls_strings.specs.Reading.{Exactly};
 ghost use Rattle.xls_strings.specs.MarkSteps.{SkipsBehind};
 ghost use Rattle.xls_strings.specs.Sst.{AddsAt, CountsTable, GivesHead, InTable, ReadsTable, SkipsAt, sst_marks};
-ghost use Rattle.xls_strings.specs.Texts.{text_of};
 
 use crate::error::XlsError;
 use crate::lengths::need;
 use crate::lists::Strings;
 use crate::marked::{Marked, read_units, skip_tail, skip_units};
 use crate::record::Record;
-use std::alloc::{AllocError, Global};
+use std::alloc::Global;
 use std::marker::Model;
 use xls_bytes::{read_u16, read_u32};
 use xls_model::Part;
-use xls_text::push_units;
+use xls_text::text_of_units;
 
 /// What stands before the units of a string.
 #[derive(Clone, Copy)]
@@ -111,33 +109,6 @@ fn skip_next(text: &mut Marked<'_>) -> Result<(), XlsError>
         return Ok(());
     }
     skip_string(text)
-}
-
-/// How many bytes the text of units takes, so that it is allocated once.
-fn text_size(units: &[u16]) -> usize {
-    let mut size: usize = 0;
-    let mut is_behind_high = false;
-    for unit in units {
-        let bytes = match *unit {
-            0..0x80 => 1,
-            0x80..0x800 => 2,
-            // the second half of a pair, which takes four bytes
-            0xDC00..0xE000 if is_behind_high => 1,
-            _ => 3,
-        };
-        size = size.saturating_add(bytes);
-        is_behind_high = matches!(*unit, 0xD800..0xDC00);
-    }
-    size
-}
-
-/// The text of units.
-pub(crate) fn text_of_units(alloc: Global, units: &[u16]) -> Result<String, AllocError>
-    ensures { IfOk result (λ t. text_of t ≡ utf16_lossy_chars units.now) }
-{
-    let mut text = String::with_capacity(alloc, text_size(units))?;
-    push_units(units, &mut text)?;
-    Ok(text)
 }
 
 /// The texts of a table.

@@ -1,7 +1,7 @@
 //! Text at the end of a text. The private functions may stop halfway where memory runs out, and
 //! then the text has grown; the public calls cut it back.
 
-ghost use Rattle.std.specs.Prelude.{◌≡◌, ◌++◌, map, OnOk, OnErr, ◌<◌, Some, true, false, None};
+ghost use Rattle.std.specs.Prelude.{◌≡◌, ◌++◌, map, IfOk, OnOk, OnErr, ◌<◌, Some, true, false, None};
 ghost use Rattle.std.specs.String.{string_bytes};
 ghost use Rattle.std.specs.Str.{encode_utf8_all, IsAscii};
 ghost use Rattle.std.specs.Str.Lossy.{utf8_lossy};
@@ -12,8 +12,8 @@ ghost use Rattle.xls_text.specs.Pages.{units_of, windows_1252, byte_character, d
 ghost use Rattle.xls_text.specs.declared.encoding.XlsEncoding.TheVariants.{Utf16};
 
 use crate::single::{character, first_stretch};
-use crate::units::{first_char, first_wide_char};
-use std::alloc::AllocError;
+use crate::units::{first_char, first_wide_char, text_size};
+use std::alloc::{AllocError, Global};
 use std::str::from_utf8;
 
 // Units of UTF-16.
@@ -44,6 +44,16 @@ pub fn push_units(units: &[u16], s: &mut String) -> Result<(), AllocError>
         s.truncate(before);
     }
     done
+}
+
+/// The text of 16-bit units, by the same rule, allocated once at its size. Only running out of memory
+/// refuses.
+pub fn text_of_units(alloc: Global, units: &[u16]) -> Result<String, AllocError>
+    ensures { IfOk result (λ t. string_bytes t ≡ encode_utf8_all (utf16_lossy_chars units.now)) }
+{
+    let mut text = String::with_capacity(alloc, text_size(units))?;
+    append_units(units, &mut text)?;
+    Ok(text)
 }
 
 /// Units of two bytes each. A last odd byte is passed over.

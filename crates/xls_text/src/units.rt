@@ -64,6 +64,24 @@ pub(crate) fn first_char(units: &[u16]) -> Option<(char, &[u16])>
     Some(char_at(*unit, rest))
 }
 
+/// How many bytes the text of units takes, so that it is allocated once.
+pub(crate) fn text_size(units: &[u16]) -> usize {
+    let mut size: usize = 0;
+    let mut is_behind_high = false;
+    for unit in units {
+        let bytes = match *unit {
+            0..0x80 => 1,
+            0x80..0x800 => 2,
+            // the second half of a pair, which takes four bytes
+            0xDC00..0xE000 if is_behind_high => 1,
+            _ => 3,
+        };
+        size = size.saturating_add(bytes);
+        is_behind_high = is_high(*unit);
+    }
+    size
+}
+
 // The first unit of two bytes, and the bytes after it.
 #[tactic(auto, using(crate::proofs::UnitLemmas::units_of_more, crate::proofs::UnitLemmas::units_of_few))]
 fn first_unit(bytes: &[u8]) -> Option<(u16, &[u8])>
