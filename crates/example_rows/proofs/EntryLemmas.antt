@@ -1,7 +1,7 @@
 -- Rows that are read as entries.
 use Rattle.std.proofs.Common.{◌≡◌, ℕ, List, [], ◌∷◌, refl, drop, Result, Ok, Err, subst}
 use Rattle.std.proofs.lemmas.Option.{same_Some}
-use Rattle.std.specs.Prelude.{Option, Some, None}
+use Rattle.std.specs.Prelude.{Some}
 use Rattle.xls_data.specs.Content.{Content}
 use Rattle.xls_rows.specs.Refusals.{Refusal, Gives}
 use Rattle.xls_rows.specs.Rows.{Row, Exposed, contents_of, first_value, after_cell}

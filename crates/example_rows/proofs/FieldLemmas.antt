@@ -1,5 +1,5 @@
 -- Rows that are read field by field.
-use Rattle.std.proofs.Common.{◌≡◌, ℕ, List, [], ◌∷◌, refl, sym, ap, ◌∙◌, ◌<◌, ◌≤◌, length, drop, arith, Bool, true, false, Result, Ok, Err}
+use Rattle.std.proofs.Common.{◌≡◌, ℕ, List, [], ◌∷◌, refl, sym, ap, ◌∙◌, ◌<◌, ◌≤◌, length, drop, arith, Bool, true, false, Ok, Err}
 use Rattle.std.specs.Prelude.{Option, Some, None, if◌then◌else◌}
 use Rattle.xls_rows.specs.Rows.{Row, Exposed, from_filled, first_header, first_or, after_key, kept_or_end}
 use Rattle.xls_rows.specs.Laws.{named_values, after_value}

@@ -1,6 +1,9 @@
 //! Counts the strings in the string table of a workbook stream on standard input.
 #![tactic(auto)]
 
+ghost use Rattle.std.specs.Prelude.{IfOk};
+ghost use Rattle.example_strings.specs.Counts.{IsCount};
+
 use std::alloc::Global;
 use std::io::Read;
 use std::process::ExitCode;
@@ -8,15 +11,16 @@ use xls_biff::{RecordIter, XlsError, parse_sst};
 use xls_model::types::SST;
 
 /// The number of the strings of the first string table; 0 where there is none.
-fn count_strings(alloc: Global, stream: &[u8]) -> Result<usize, XlsError> {
-    let table = RecordIter::new(stream).find(|record| match record {
-        Ok(record) => record.typ == SST,
-        Err(_) => true,
-    });
-    match table {
-        Some(record) => Ok(parse_sst(alloc, &record?)?.len()),
-        None => Ok(0),
+fn count_strings(alloc: Global, stream: &[u8]) -> Result<usize, XlsError>
+    ensures { IfOk result (IsCount stream.now) }
+{
+    for record in RecordIter::new(stream) {
+        let record = record?;
+        if record.typ == SST {
+            return Ok(parse_sst(alloc, &record)?.len());
+        }
     }
+    Ok(0)
 }
 
 fn main(rt: HostRuntime) -> ExitCode {

@@ -2,3 +2,4 @@ pub mod PieceLemmas
 pub mod GatherLemmas
 pub mod ShortLemmas
 pub mod StandardFacts
+pub mod HexLemmas

@@ -6,7 +6,7 @@ ghost use Rattle.std.specs.Fmt.{decimal, signed_decimal};
 ghost use Rattle.std.specs.Str.{chars};
 ghost use Rattle.xls_data.specs.Numbers.{number_text};
 ghost use Rattle.xls_lines.specs.Gathering.{Delivers, Puts};
-ghost use Rattle.xls_lines.specs.Lines.{escaped_char, field_text, filled_line, tabbed, tabbed_field, escaped_text};
+ghost use Rattle.xls_lines.specs.Lines.{field_text, filled_line, numeral_text, tabbed, tabbed_field};
 
 use crate::field::{Field, printed};
 use crate::short::Short;
@@ -82,25 +82,52 @@ fn gather_by_pieces<K: Sink>(bytes: &mut Vec<u8>, sink: &mut K, text: &[u8]) -> 
 /// The bits of the double negative zero.
 const NEGATIVE_ZERO: u64 = 1 << 63;
 
-/// The whole number that a number prints as, if it is one.
-fn whole_in(n: Decimal) -> Option<i64>
-    ensures { IfSome result (λ whole. number_text n ≡ signed_decimal whole) }
+/// A number that is printed in place.
+#[derive(Clone, Copy)]
+enum Numeral {
+    /// In decimal.
+    Whole(i64),
+    /// The bits of a double, in hexadecimal.
+    Bits(u64),
+}
+
+/// How a number is printed in place, if it is.
+fn numeral_in(n: Decimal) -> Option<Numeral>
+    ensures { IfSome result (λ numeral. number_text n ≡ numeral_text numeral) }
 {
     match n {
-        Decimal::Whole(whole) => Some(whole),
-        Decimal::Bits(bits) if bits != NEGATIVE_ZERO => whole_of_bits(bits),
+        Decimal::Whole(whole) => Some(Numeral::Whole(whole)),
+        Decimal::Bits(bits) if bits != NEGATIVE_ZERO => Some(match whole_of_bits(bits) {
+            Some(whole) => Numeral::Whole(whole),
+            None => Numeral::Bits(bits),
+        }),
         _ => None,
     }
 }
 
-/// The whole number that a field prints, if it is one.
-fn whole_of(field: Field<'_>) -> Option<i64>
-    ensures { IfSome result (λ whole. field_text field.entry ≡ signed_decimal whole) }
+/// How a field is printed in place, if it is.
+fn numeral_of(field: Field<'_>) -> Option<Numeral>
+    ensures { IfSome result (λ numeral. field_text field.entry ≡ numeral_text numeral) }
 {
     match field {
-        Field::Int(n) => Some(n),
-        Field::Fraction(n) => whole_in(n),
+        Field::Int(n) => Some(Numeral::Whole(n)),
+        Field::Fraction(n) => numeral_in(n),
         _ => None,
+    }
+}
+
+/// Puts a number that is printed in place before a text.
+fn put_numeral(line: &mut Short, numeral: Numeral)
+    requires { length line.old ≤ 1 }
+    ensures puts { line.new ≡ numeral_text numeral ++ line.old }
+    ensures room { length line.new ≤ 22 }
+{
+    match numeral {
+        Numeral::Whole(n) => line.put_int(n),
+        Numeral::Bits(bits) => {
+            line.put_hex(bits);
+            line.put_word(b"0x");
+        }
     }
 }
 
@@ -269,22 +296,22 @@ impl Buffer {
         Ok(())
     }
 
-    /// Puts the line of a cell with a whole number, all at once.
-    fn put_whole_cell<K: Sink>(
+    /// Puts the line of a cell with a number that is printed in place, all at once.
+    fn put_number_cell<K: Sink>(
         &mut self,
         sink: &mut K,
         row: u32,
         column: u32,
         kind: &str,
-        n: i64,
+        numeral: Numeral,
     ) -> Result<(), Stop>
         requires { length kind.now ≤ 5 }
         ensures { Puts (K.state sink.old) self.old (K.state sink.new) self.new
-            (filled_line row column (Some (kind.now, signed_decimal n))) result }
+            (filled_line row column (Some (kind.now, numeral_text numeral))) result }
     {
         let mut line = Short::new();
         line.put_byte(b'\n');
-        line.put_int(n);
+        put_numeral(&mut line, numeral);
         put_head(&mut line, row, column, kind);
         self.put(sink, line.as_slice())
     }
@@ -319,8 +346,8 @@ impl Buffer {
         ensures { Puts (K.state sink.old) self.old (K.state sink.new) self.new
             (filled_line row column (Some (kind.now, field_text shown.entry))) result }
     {
-        match whole_of(shown) {
-            Some(n) => self.put_whole_cell(sink, row, column, kind, n),
+        match numeral_of(shown) {
+            Some(numeral) => self.put_number_cell(sink, row, column, kind, numeral),
             None => self.put_other_cell(sink, row, column, kind, shown),
         }
     }

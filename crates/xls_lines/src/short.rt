@@ -1,13 +1,22 @@
 //! A short text, made from its end to its beginning, as digits are.
 
-ghost use Rattle.std.specs.Prelude.{◌≡◌, ◌∷◌, ◌++◌, ◌+◌, ◌<◌, ◌≤◌, [], length};
-ghost use Rattle.std.specs.Fmt.{decimal, signed_decimal};
+ghost use Rattle.std.specs.Prelude.{◌≡◌, ◌∷◌, ◌++◌, ◌+◌, ◌<◌, ◌≤◌, [], false, length};
+ghost use Rattle.std.specs.Fmt.{decimal, digit_glyph, signed_decimal};
+ghost use Rattle.xls_data.specs.Numbers.{sixteen_digits};
 
 use itoa::write_digits;
 use std::marker::Model;
 
 /// How long a short text may be.
 const ROOM: usize = 96;
+
+/// A digit in hexadecimal.
+fn hex_digit(n: u8) -> u8
+    requires { n < 16 }
+    ensures { result ≡ digit_glyph false n }
+{
+    if n < 10 { b'0' + n } else { b'a' - 10 + n }
+}
 
 /// A text of at most 96 bytes, which grows at its beginning. Contracts see the text.
 #[derive(Drop)]
@@ -81,6 +90,19 @@ impl Short {
         self.put_digits(n.unsigned_abs());
         if n < 0 {
             self.put_byte(b'-');
+        }
+    }
+
+    /// Puts a number in hexadecimal, with sixteen digits, before the text.
+    pub fn put_hex(&mut self, n: u64)
+        requires { length self.old + 16 ≤ ROOM }
+        ensures puts { self.new ≡ sixteen_digits n ++ self.old }
+        ensures room { length self.new ≤ length self.old + 16 }
+    {
+        let mut left = n;
+        for i in 0..16_usize {
+            self.put_byte(hex_digit((left % 16) as u8));
+            left /= 16;
         }
     }
 }
