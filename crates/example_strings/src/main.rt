@@ -1,8 +1,8 @@
 //! Counts the strings in the string table of a workbook stream on standard input.
 #![tactic(auto)]
 
-ghost use Rattle.std.specs.Prelude.{IfOk};
-ghost use Rattle.example_strings.specs.Counts.{IsCount};
+ghost use Rattle.std.specs.Prelude.{IfErr, IfOk};
+ghost use Rattle.example_strings.specs.Counts.{IsCount, IsRefusal};
 
 use std::alloc::Global;
 use std::io::Read;
@@ -12,7 +12,8 @@ use xls_model::types::SST;
 
 /// The number of the strings of the first string table; 0 where there is none.
 fn count_strings(alloc: Global, stream: &[u8]) -> Result<usize, XlsError>
-    ensures { IfOk result (IsCount stream.now) }
+    ensures count { IfOk result (IsCount stream.now) }
+    ensures refused { IfErr result (IsRefusal stream.now) }
 {
     for record in RecordIter::new(stream) {
         let record = record?;

@@ -288,20 +288,35 @@ fn text_of<T: DataType>(alloc: Global, value: &T) -> Result<Option<String>, Allo
     value.as_string(alloc)
 }
 
+// Whether a value has this text through the bound.
+fn has_text<T: DataType>(alloc: Global, value: &T, text: &str) -> Result<bool, AllocError> {
+    match text_of(alloc, value)? {
+        Some(found) => Ok(found.as_str() == text),
+        None => Ok(false),
+    }
+}
+
 #[test]
 fn reads_values_through_the_bound(rt: HostRuntime) -> Result<(), Fail> {
-    let text = Data::from_text(rt.alloc(), "x")?;
-    let read = text_of(rt.alloc(), &text)?.ok_or("no text")?;
-    assert_eq!(rt; read.as_str(), "x");
-    let read = text_of(rt.alloc(), &DataRef::SharedString("y"))?.ok_or("no text")?;
-    assert_eq!(rt; read.as_str(), "y");
-    let read = text_of(rt.alloc(), &Data::Float(Number::Hundredths(150)))?.ok_or("no text")?;
-    assert_eq!(rt; read.as_str(), "1.5");
-    let read = text_of(rt.alloc(), &Data::Int(-3))?.ok_or("no text")?;
-    assert_eq!(rt; read.as_str(), "-3");
-    assert!(rt; text_of(rt.alloc(), &Data::Bool(true))?.is_none());
-    let owned = Data::from_ref(rt.alloc(), DataRef::SharedString("x"))?;
-    assert!(rt; owned == text);
+    let alloc = rt.alloc();
+    assert!(rt; has_text(alloc, &data_of(alloc, Given::Text("x"))?, "x")?);
+    assert!(rt; has_text(alloc, &ref_of(Given::Text("y")), "y")?);
+    assert!(rt;
+        has_text(
+            alloc,
+            &data_of(alloc, Given::Float(Number::Hundredths(150)))?,
+            "1.5"
+        )?
+    );
+    assert!(rt; has_text(alloc, &data_of(alloc, Given::Int(-3))?, "-3")?);
+    assert!(rt; text_of(alloc, &Data::Bool(true))?.is_none());
+    Ok(())
+}
+
+#[test]
+fn copies_a_reference_into_a_value(rt: HostRuntime) -> Result<(), Fail> {
+    let owned = Data::from_ref(rt.alloc(), ref_of(Given::Text("x")))?;
+    assert!(rt; is_value(rt.alloc(), owned, Given::Text("x"))?);
     Ok(())
 }
 
@@ -326,21 +341,31 @@ fn tells_the_kind_of_a_value(rt: HostRuntime) -> Result<(), Fail> {
     Ok(())
 }
 
+// Values, and the whole numbers that they are taken for.
+static WHOLES: [(Given, Option<i64>); 6] = [
+    (Given::Int(-7), Some(-7)),
+    (Given::Float(Number::Hundredths(-199)), Some(-1)),
+    (Given::Truth(true), Some(1)),
+    (Given::Text("-12"), Some(-12)),
+    (Given::Text("1.5"), None),
+    (Given::Nothing, None),
+];
+
 #[test]
 fn takes_values_for_whole_numbers(rt: HostRuntime) -> Result<(), Fail> {
-    assert_eq!(rt; Data::Int(-7).as_i64(), Some(-7));
-    assert_eq!(rt; Data::Float(Number::Hundredths(-199)).as_i64(), Some(-1));
-    assert_eq!(rt; Data::Bool(true).as_i64(), Some(1));
-    assert_eq!(rt; Data::from_text(rt.alloc(), "-12")?.as_i64(), Some(-12));
-    assert_eq!(rt; Data::from_text(rt.alloc(), "1.5")?.as_i64(), None);
-    assert_eq!(rt; DataRef::SharedString("9223372036854775808").as_i64(), None);
-    assert_eq!(rt; Data::Empty.as_i64(), None);
-    assert!(rt;
-        DataRef::SharedString("x").eq_text("x") && !DataRef::SharedString("x").eq_text("y")
-    );
+    for (given, whole) in WHOLES.iter() {
+        assert_eq!(rt; data_of(rt.alloc(), *given)?.as_i64(), *whole);
+    }
+    assert_eq!(rt; ref_of(Given::Text("9223372036854775808")).as_i64(), None);
+    Ok(())
+}
+
+#[test]
+fn compares_values_with_their_contents(rt: HostRuntime) {
+    let text = ref_of(Given::Text("x"));
+    assert!(rt; text.eq_text("x") && !text.eq_text("y"));
     assert!(rt; Data::Int(1).eq_int(1) && !Data::Float(Number::Whole(1)).eq_int(1));
     assert!(rt; Data::Bool(false).eq_bool(false) && !Data::Empty.eq_bool(false));
-    Ok(())
 }
 
 // Values, and the texts of a reference to them and of an owned copy of it.
