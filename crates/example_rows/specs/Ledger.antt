@@ -1,19 +1,24 @@
 -- The rows of a sheet, and what is read of each.
-use Rattle.std.specs.Prelude.{◌≡◌, ℕ, List, [], ◌∷◌, Result, Ok, Some, codes}
+use Rattle.std.specs.Prelude.{◌≡◌, ◌⊎◌, ℕ, List, [], ◌∷◌, ◌++◌, Result, Ok, Err, Some, codes}
 use Rattle.std.specs.Str.{chars}
 use Rattle.xls_data.specs.Data.{content_of, is_nothing}
 use Rattle.xls_data.specs.declared.values.Data.{Data}
 use Rattle.xls_range.specs.Grid.{Grid}
-use Rattle.xls_rows.specs.Choices.{every, wanted}
+use Rattle.xls_rows.specs.Choices.{Choice, every, wanted}
 use Rattle.xls_rows.specs.Ranges.{rows_read}
+use Rattle.xls_rows.specs.Refusals.{Refusal, Refuses}
 use Rattle.xls_rows.specs.Rows.{Row}
 use Rattle.xls_rows.specs.declared.error.DeError.{DeError}
+use Rattle.xls_rows.specs.declared.error.DeError.TheVariants as refusal
+use Rattle.xls_strings.specs.declared.error.XlsError.{XlsError}
 use Rattle.xls_reading.specs.Reading.{SheetView}
 use Rattle.xls_open.specs.Opening.{IsOpened, default_options}
 use Rattle.xls_open.specs.Workbook.{Workbook, view_named}
 use Rattle.xls_book.specs.LookUps.{Equal, IsRange}
 use Rattle.example_rows.specs.Entries.{ReadsEntry}
 use Rattle.example_rows.specs.Fields.{ReadsFields}
+use Rattle.example_rows.specs.declared.error.LedgerError.{LedgerError}
+use Rattle.example_rows.specs.declared.error.LedgerError.TheVariants.{Book, Rows, Memory}
 use Rattle.example_rows.specs.declared.entry.Entry.{Entry}
 use Rattle.example_rows.specs.declared.fields.Fields.{Fields}
 
@@ -47,3 +52,28 @@ abbrev pub AreFields : Grid Data → List Fields → Type 0
 AreFields range fields =
     (rows : List (Row Data)) × (rows_read every content_of range ≡ Ok rows)
     × EachGives (λ row answer after. ReadsFields content_of row answer) rows fields
+
+-- memory ran out
+abbrev pub RanOut : LedgerError → Type 0
+RanOut e = (e ≡ Memory) ⊎ (e ≡ Rows refusal.Memory)
+
+-- the refusal is that of the workbook or of its sheet
+abbrev pub IsOfBook : LedgerError → Type 0
+IsOfBook e = (error : XlsError) × (e ≡ Book error)
+
+-- a row is refused, and those before it give their values
+abbrev pub RefusesRow : {T D : Type 0} → (Row T → Result D DeError → Row T → Type 0)
+    → List (Row T) → LedgerError → Type 0
+RefusesRow {T} {D} answers rows e =
+    (done : List (Row T)) × (values : List D) × (row : Row T) × (left : List (Row T))
+    × (after : Row T) × (refusal : DeError) × (rows ≡ done ++ (row ∷ left))
+    × EachGives answers done values × answers row (Err refusal) after × (e ≡ Rows refusal)
+
+-- the range has no such rows, or a row is refused, or memory ran out
+abbrev pub RefusesRange : {D : Type 0} → Choice → (Row Data → Result D DeError → Row Data → Type 0)
+    → Grid Data → LedgerError → Type 0
+RefusesRange choice answers range e = RanOut e
+    ⊎ (((r : Refusal) × (refusal : DeError) × (rows_read choice content_of range ≡ Err r)
+    × Refuses r refusal × (e ≡ Rows refusal))
+    ⊎ ((rows : List (Row Data)) × (rows_read choice content_of range ≡ Ok rows)
+    × RefusesRow answers rows e))

@@ -1,10 +1,13 @@
 //! The rows of a sheet.
 
-ghost use Rattle.std.specs.Prelude.{◌≡◌, IfOk, map};
+ghost use Rattle.std.specs.Prelude.{◌≡◌, ◌⊎◌, IfErr, IfOk, map};
 ghost use Rattle.std.specs.String.{string_bytes};
 ghost use Rattle.xls_data.specs.Data.{content_of};
 ghost use Rattle.xls_data.specs.declared.values.Data.{Data};
-ghost use Rattle.example_rows.specs.Ledger.{AreEntries, AreFields, EachGives, IsSheetIn, entry_columns};
+ghost use Rattle.xls_rows.specs.Choices.{every, wanted};
+ghost use Rattle.example_rows.specs.Entries.{ReadsEntry};
+ghost use Rattle.example_rows.specs.Fields.{ReadsFields};
+ghost use Rattle.example_rows.specs.Ledger.{AreEntries, AreFields, EachGives, IsOfBook, IsSheetIn, RanOut, RefusesRange, RefusesRow, entry_columns};
 
 use crate::entry::Entry;
 use crate::error::LedgerError;
@@ -17,7 +20,8 @@ use xls_rows::{FromRow, RangeDeserializer, RangeDeserializerBuilder, deserialize
 
 /// The cells of the sheet of this name, in the workbook whose stream these bytes are.
 pub fn sheet_of(alloc: Global, bytes: Vec<u8>, sheet: &str) -> Result<Range<Data>, LedgerError>
-    ensures { IfOk result (IsSheetIn ⟦<Data as PartialEq>⟧.eq bytes.items sheet.now) }
+    ensures range { IfOk result (IsSheetIn ⟦<Data as PartialEq>⟧.eq bytes.items sheet.now) }
+    ensures refused { IfErr result IsOfBook }
 {
     let mut source = SteadySource::new(bytes);
     let book: Xls = open_workbook_from_rs(alloc, &mut source)?;
@@ -40,7 +44,8 @@ fn all_of<D: FromRow + Drop>(
     alloc: Global,
     rows: RangeDeserializer<'_, Data, D>,
 ) -> Result<Vec<D>, LedgerError>
-    ensures { IfOk result (λ all. EachGives (D.answers Data content_of) rows.entry all.items) }
+    ensures values { IfOk result (λ all. EachGives (D.answers Data content_of) rows.entry all.items) }
+    ensures refused { IfErr result (λ e. RanOut e ⊎ RefusesRow (D.answers Data content_of) rows.entry e) }
 {
     let mut all = Vec::new(alloc);
     for row in rows {
@@ -51,7 +56,9 @@ fn all_of<D: FromRow + Drop>(
 
 /// The entries of a range whose first row is one of headers.
 pub fn entries_in(alloc: Global, range: &Range<Data>) -> Result<Vec<Entry>, LedgerError>
-    ensures { IfOk result (λ all. AreEntries range.now all.items) }
+    ensures entries { IfOk result (λ all. AreEntries range.now all.items) }
+    ensures refused { IfErr result (RefusesRange (wanted entry_columns)
+        (λ row answer after. ReadsEntry content_of row answer) range.now) }
 {
     let headers = headers(alloc)?;
     let builder = RangeDeserializerBuilder::with_headers(&headers);
@@ -61,7 +68,9 @@ pub fn entries_in(alloc: Global, range: &Range<Data>) -> Result<Vec<Entry>, Ledg
 
 /// The rows of a range as fields, by all headers of its first row.
 pub fn fields_in(alloc: Global, range: &Range<Data>) -> Result<Vec<Fields>, LedgerError>
-    ensures { IfOk result (λ all. AreFields range.now all.items) }
+    ensures fields { IfOk result (λ all. AreFields range.now all.items) }
+    ensures refused { IfErr result (RefusesRange every
+        (λ row answer after. ReadsFields content_of row answer) range.now) }
 {
     let rows = deserialize(alloc, range)?;
     all_of(alloc, rows)
