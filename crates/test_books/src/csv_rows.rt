@@ -11,28 +11,28 @@ use xls_data::{Cell, Data, ExcelDateTime, ExcelDateTimeType, Number};
 use xls_range::Range;
 
 // BOF of the globals and of a sheet in BIFF8, BoundSheet8 of the sheet `A` at byte 25, and EOF.
-const G: [u8; 8] = [0x09, 0x08, 4, 0, 0x00, 0x06, 0x05, 0x00];
+static G: [u8; 8] = [0x09, 0x08, 4, 0, 0x00, 0x06, 0x05, 0x00];
 
-const S: [u8; 8] = [0x09, 0x08, 4, 0, 0x00, 0x06, 0x10, 0x00];
+static S: [u8; 8] = [0x09, 0x08, 4, 0, 0x00, 0x06, 0x10, 0x00];
 
-const A: [u8; 13] = [0x85, 0, 9, 0, 25, 0, 0, 0, 0, 0, 1, 0, 0x41];
+static A: [u8; 13] = [0x85, 0, 9, 0, 25, 0, 0, 0, 0, 0, 1, 0, 0x41];
 
-const E: [u8; 4] = [0x0A, 0, 0, 0];
+static E: [u8; 4] = [0x0A, 0, 0, 0];
 
 // RK of 1 at (1, 1), of 2 at (1, 3), and of 2 at (65535, 65535).
-const ONE: [u8; 14] = [0x7E, 2, 10, 0, 1, 0, 1, 0, 0, 0, 6, 0, 0, 0];
+static ONE: [u8; 14] = [0x7E, 2, 10, 0, 1, 0, 1, 0, 0, 0, 6, 0, 0, 0];
 
-const TWO: [u8; 14] = [0x7E, 2, 10, 0, 1, 0, 3, 0, 0, 0, 10, 0, 0, 0];
+static TWO: [u8; 14] = [0x7E, 2, 10, 0, 1, 0, 3, 0, 0, 0, 10, 0, 0, 0];
 
-const FAR: [u8; 14] = [0x7E, 2, 10, 0, 0xFF, 0xFF, 0xFF, 0xFF, 0, 0, 10, 0, 0, 0];
+static FAR: [u8; 14] = [0x7E, 2, 10, 0, 0xFF, 0xFF, 0xFF, 0xFF, 0, 0, 10, 0, 0, 0];
 
 // Label of `a,"b` at (3, 2).
-const LABEL: [u8; 17] = [
+static LABEL: [u8; 17] = [
     0x04, 2, 13, 0, 3, 0, 2, 0, 0, 0, 4, 0, 0, b'a', b',', b'"', b'b',
 ];
 
 // RK of 1 at (0, 0).
-const FIRST: [u8; 14] = [0x7E, 2, 10, 0, 0, 0, 0, 0, 0, 0, 6, 0, 0, 0];
+static FIRST: [u8; 14] = [0x7E, 2, 10, 0, 0, 0, 0, 0, 0, 0, 6, 0, 0, 0];
 
 fn opened(alloc: Global, cells: &[&[u8]]) -> Result<Xls, XlsError> {
     let mut bytes = Vec::new(alloc);
@@ -194,31 +194,41 @@ fn gives_rows_one_after_another(rt: HostRuntime) -> Result<(), Fail> {
     Ok(())
 }
 
+// RK of 2 at (2, 0).
+static BELOW: [u8; 14] = [0x7E, 2, 10, 0, 2, 0, 0, 0, 0, 0, 10, 0, 0, 0];
+
 // A row of one empty field is two quotes, so that it is read back as a row.
 #[test]
 fn a_row_without_a_byte_has_quotes(rt: HostRuntime) -> Result<(), Fail> {
     let alloc = rt.alloc();
-    let below = [0x7E, 2, 10, 0, 2, 0, 0, 0, 0, 0, 10, 0, 0, 0];
-    let book = opened(alloc, &[&FIRST, &below])?;
+    let book = opened(alloc, &[&FIRST, &BELOW])?;
     let bytes = joined(alloc, &book)?;
     assert_eq!(rt; shown(&bytes), "1\n\"\"\n2\n");
     assert!(rt; reads_back(alloc, &bytes, &[&["1"], &[""], &["2"]])?);
     Ok(())
 }
 
-// The box has 2^32 cells, and a row 65,536 bytes.
 // Whether the next row has this length and begins so.
 fn is_long(rows: &mut CsvRows<'_>, len: usize, start: &[u8]) -> Result<bool, AllocError> {
     Ok(rows.next_row()? && rows.row().len() == len && rows.row().starts_with(start))
 }
 
+// Whether the first sheet has a row that begins with 1, and then one of blanks.
+fn has_two_long_rows(alloc: Global, book: &Xls) -> Result<bool, AllocError> {
+    match book.values_at(0) {
+        Some(values) => {
+            let mut rows = CsvRows::new(alloc, values);
+            Ok(is_long(&mut rows, 65_537, b"1,,")? && is_long(&mut rows, 65_536, b",,,")?)
+        }
+        None => Ok(false),
+    }
+}
+
+// The box has 2^32 cells, and a row 65,536 bytes.
 #[test]
 fn a_far_cell_takes_the_memory_of_a_row(rt: HostRuntime) -> Result<(), Fail> {
-    let alloc = rt.alloc();
-    let book = opened(alloc, &[&FIRST, &FAR])?;
-    let mut rows = CsvRows::new(alloc, book.values_at(0).expect(&rt, "a sheet"));
-    assert!(rt; is_long(&mut rows, 65_537, b"1,,")?);
-    assert!(rt; is_long(&mut rows, 65_536, b",,,")?);
+    let book = opened(rt.alloc(), &[&FIRST, &FAR])?;
+    assert!(rt; has_two_long_rows(rt.alloc(), &book)?);
     Ok(())
 }
 

@@ -7,19 +7,19 @@ use xls_lay::{LayError, Logical, canonical_length, logical_of, write_workbook};
 use xls_source::StreamBytes;
 
 /// BOF of the globals and of a sheet, and EOF.
-const GLOBALS: [u8; 8] = [0x09, 0x08, 4, 0, 0x00, 0x06, 0x05, 0x00];
+static GLOBALS: [u8; 8] = [0x09, 0x08, 4, 0, 0x00, 0x06, 0x05, 0x00];
 
-const SHEET: [u8; 8] = [0x09, 0x08, 4, 0, 0x00, 0x06, 0x10, 0x00];
+static SHEET: [u8; 8] = [0x09, 0x08, 4, 0, 0x00, 0x06, 0x10, 0x00];
 
-const EOF: [u8; 4] = [0x0A, 0x00, 0, 0];
+static EOF: [u8; 4] = [0x0A, 0x00, 0, 0];
 
 /// An RK record of 123.45 at (0, 0), and its body.
-const CELL: [u8; 14] = [0x7E, 0x02, 10, 0, 0, 0, 0, 0, 0, 0, 0xE7, 0xC0, 0, 0];
+static CELL: [u8; 14] = [0x7E, 0x02, 10, 0, 0, 0, 0, 0, 0, 0, 0xE7, 0xC0, 0, 0];
 
-const CELL_BODY: [u8; 10] = [0, 0, 0, 0, 0, 0, 0xE7, 0xC0, 0, 0];
+static CELL_BODY: [u8; 10] = [0, 0, 0, 0, 0, 0, 0xE7, 0xC0, 0, 0];
 
 /// XF with a format of 14.
-const XF: [u8; 8] = [0xE0, 0x00, 4, 0, 0, 0, 14, 0];
+static XF: [u8; 8] = [0xE0, 0x00, 4, 0, 0, 0, 14, 0];
 
 /// BoundSheet8 of a visible worksheet `A`.
 fn sheet_at(offset: u8) -> [u8; 13] {

@@ -144,11 +144,11 @@ fn refuses_what_is_no_formula(rt: HostRuntime) -> Result<(), Fail> {
 // ---- a workbook
 
 // BOF of the globals and of a sheet, and EOF.
-const G: [u8; 8] = [0x09, 0x08, 4, 0, 0x00, 0x06, 0x05, 0x00];
+static G: [u8; 8] = [0x09, 0x08, 4, 0, 0x00, 0x06, 0x05, 0x00];
 
-const S: [u8; 8] = [0x09, 0x08, 4, 0, 0x00, 0x06, 0x10, 0x00];
+static S: [u8; 8] = [0x09, 0x08, 4, 0, 0x00, 0x06, 0x10, 0x00];
 
-const E: [u8; 4] = [0x0A, 0, 0, 0];
+static E: [u8; 4] = [0x0A, 0, 0, 0];
 
 // BoundSheet8 of a visible worksheet whose part begins at this byte.
 fn bound(offset: u8, name: u8) -> [u8; 13] {
@@ -156,14 +156,14 @@ fn bound(offset: u8, name: u8) -> [u8; 13] {
 }
 
 // BoundSheet8 of `Data` and of `Log`.
-const DATA: [u8; 16] = [
+static DATA: [u8; 16] = [
     0x85, 0, 12, 0, 61, 0, 0, 0, 0, 0, 4, 0, b'D', b'a', b't', b'a',
 ];
 
-const LOG: [u8; 15] = [0x85, 0, 11, 0, 151, 0, 0, 0, 0, 0, 3, 0, b'L', b'o', b'g'];
+static LOG: [u8; 15] = [0x85, 0, 11, 0, 151, 0, 0, 0, 0, 0, 3, 0, b'L', b'o', b'g'];
 
 // ExternSheet of two references, to the second sheet and to the first.
-const REFERENCES: [u8; 18] = [0x17, 0, 14, 0, 2, 0, 0, 0, 1, 0, 1, 0, 0, 0, 0, 0, 0, 0];
+static REFERENCES: [u8; 18] = [0x17, 0, 14, 0, 2, 0, 0, 0, 1, 0, 1, 0, 0, 0, 0, 0, 0, 0];
 
 // The head of a Formula record of the value 0 at a position, with so many bytes of tokens.
 fn head(row: u8, column: u8, cce: u8) -> [u8; 26] {
@@ -182,13 +182,13 @@ fn cell(column: u8) -> [u8; 5] {
 }
 
 // SUM(A3:B3)
-const SUM: [u8; 13] = [0x25, 2, 0, 2, 0, 0x00, 0xC0, 0x01, 0xC0, 0x19, 0x10, 0, 0];
+static SUM: [u8; 13] = [0x25, 2, 0, 2, 0, 0x00, 0xC0, 0x01, 0xC0, 0x19, 0x10, 0, 0];
 
 // "x"&A2 on the sheet of the second reference
-const JOINED: [u8; 12] = [0x17, 1, 0, 0x78, 0x3A, 1, 0, 1, 0, 0, 0xC0, 0x08];
+static JOINED: [u8; 12] = [0x17, 1, 0, 0x78, 0x3A, 1, 0, 1, 0, 0, 0xC0, 0x08];
 
 // A1 and A1 on the sheet of the second reference, added
-const TWICE: [u8; 13] = [0x24, 0, 0, 0, 0xC0, 0x3A, 1, 0, 0, 0, 0, 0xC0, 0x03];
+static TWICE: [u8; 13] = [0x24, 0, 0, 0, 0xC0, 0x3A, 1, 0, 0, 0, 0, 0xC0, 0x03];
 
 fn joined(alloc: Global, parts: &[&[u8]]) -> Result<Vec<u8>, AllocError> {
     let mut bytes = Vec::new(alloc);

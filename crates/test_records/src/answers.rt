@@ -1,6 +1,7 @@
 //! What the tests of both crates take apart.
 
-use xls_strings::{Part, XlsError};
+use std::alloc::Global;
+use xls_strings::{Part, SstReader, XlsError};
 use xls_text::XlsEncoding;
 
 pub const UTF16: XlsEncoding = XlsEncoding::Utf16;
@@ -20,4 +21,16 @@ pub fn too_short(typ: Part, expected: usize, found: usize) -> Option<XlsError> {
         found,
         typ,
     })
+}
+
+/// Whether the next string has these units.
+pub fn has_next(
+    alloc: Global,
+    reader: &mut SstReader<'_>,
+    wanted: &[u16],
+) -> Result<bool, XlsError> {
+    match reader.next_units(alloc)? {
+        Some(units) => Ok(units.as_slice() == wanted),
+        None => Ok(false),
+    }
 }

@@ -1,4 +1,4 @@
-use crate::answers::{UTF16, fault_of, too_short};
+use crate::answers::{UTF16, fault_of, has_next, too_short};
 use std::alloc::{AllocError, Global};
 use std::test::*;
 use xls_biff::*;

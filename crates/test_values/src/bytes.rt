@@ -7,28 +7,43 @@ use xls_bytes::{
     read_u64, read_usize, to_u32, trunc_checked_of_bits, trunc_of_bits, whole_of_bits,
 };
 
-const BYTES: [u8; 8] = [0x41, 0x42, 0x43, 0x44, 0x45, 0x46, 0x47, 0xC8];
+static BYTES: [u8; 8] = [0x41, 0x42, 0x43, 0x44, 0x45, 0x46, 0x47, 0xC8];
+
+fn reads_unsigned() -> bool {
+    let all = 0xC847_4645_4443_4241;
+    read_u16(&BYTES) == 0x4241
+        && read_u32(&BYTES) == 0x4443_4241
+        && read_usize(&BYTES) == 0x4443_4241
+        && read_u64(&BYTES) == all
+        && read_bits(&BYTES) == all
+}
+
+fn reads_signed() -> bool {
+    read_i16(&BYTES[6..]) == -0x37B9
+        && read_i16(b"\xFF\xFF") == -1
+        && read_i32(&BYTES[4..]) == -0x37B8_B9BB
+        && read_i32(b"\0\0\0\x80") == i32::MIN
+}
 
 #[test]
 fn reads_the_lowest_byte_first(rt: HostRuntime) {
-    assert_eq!(rt; (read_u16(&BYTES), read_u32(&BYTES)), (0x4241, 0x4443_4241));
-    assert_eq!(rt; read_usize(&BYTES), 0x4443_4241);
-    let all = 0xC847_4645_4443_4241;
-    assert_eq!(rt; [read_u64(&BYTES), read_bits(&BYTES)], [all, all]);
-    let shorts = [read_i16(&BYTES[6..]), read_i16(&[0xFF, 0xFF])];
-    assert_eq!(rt; shorts, [-0x37B9, -1]);
-    let longs = [read_i32(&BYTES[4..]), read_i32(&[0x00, 0x00, 0x00, 0x80])];
-    assert_eq!(rt; longs, [-0x37B8_B9BB, i32::MIN]);
+    assert!(rt; reads_unsigned() && reads_signed());
+}
+
+// Two numbers, and behind them none.
+fn gives_two_numbers() -> bool {
+    let mut numbers = to_u32(b"ABCDEFGH");
+    numbers.size_hint() == (2, Some(2))
+        && numbers.next() == Some(0x4443_4241)
+        && numbers.len() == 1
+        && numbers.next() == Some(0x4847_4645)
+        && numbers.next().is_none()
+        && numbers.next().is_none()
 }
 
 #[test]
 fn goes_over_numbers_of_four_bytes(rt: HostRuntime) {
-    let mut numbers = to_u32(b"ABCDEFGH");
-    assert_eq!(rt; (numbers.len(), numbers.size_hint()), (2, (2, Some(2))));
-    assert_eq!(rt; (numbers.next(), numbers.len()), (Some(0x4443_4241), 1));
-    let rest = [numbers.next(), numbers.next(), numbers.next()];
-    assert_eq!(rt; rest, [Some(0x4847_4645), None, None]);
-    assert_eq!(rt; to_u32(b"").len(), 0);
+    assert!(rt; gives_two_numbers() && to_u32(b"").len() == 0);
 }
 
 static COLUMNS: [(u32, &str); 13] = [

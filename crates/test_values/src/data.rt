@@ -296,20 +296,20 @@ fn has_text<T: DataType>(alloc: Global, value: &T, text: &str) -> Result<bool, A
     }
 }
 
+// Values, and their texts through the bound.
+static TEXTS: [(Given, &str); 3] = [
+    (Given::Text("x"), "x"),
+    (Given::Float(Number::Hundredths(150)), "1.5"),
+    (Given::Int(-3), "-3"),
+];
+
 #[test]
 fn reads_values_through_the_bound(rt: HostRuntime) -> Result<(), Fail> {
-    let alloc = rt.alloc();
-    assert!(rt; has_text(alloc, &data_of(alloc, Given::Text("x"))?, "x")?);
-    assert!(rt; has_text(alloc, &ref_of(Given::Text("y")), "y")?);
-    assert!(rt;
-        has_text(
-            alloc,
-            &data_of(alloc, Given::Float(Number::Hundredths(150)))?,
-            "1.5"
-        )?
-    );
-    assert!(rt; has_text(alloc, &data_of(alloc, Given::Int(-3))?, "-3")?);
-    assert!(rt; text_of(alloc, &Data::Bool(true))?.is_none());
+    for (given, text) in TEXTS.iter() {
+        assert!(rt; has_text(rt.alloc(), &data_of(rt.alloc(), *given)?, text)?);
+    }
+    assert!(rt; has_text(rt.alloc(), &ref_of(Given::Text("y")), "y")?);
+    assert!(rt; text_of(rt.alloc(), &Data::Bool(true))?.is_none());
     Ok(())
 }
 
@@ -320,24 +320,51 @@ fn copies_a_reference_into_a_value(rt: HostRuntime) -> Result<(), Fail> {
     Ok(())
 }
 
+fn tells_what_is_there() -> bool {
+    Data::Empty.is_empty()
+        && !Data::Int(0).is_empty()
+        && Data::Int(5).is_int()
+        && Data::Bool(true).is_bool()
+        && DataRef::SharedString("a").is_string()
+        && !DataRef::SharedString("a").is_int()
+}
+
+fn gives_what_is_there() -> bool {
+    Data::Int(5).get_int() == Some(5) && Data::Bool(true).get_bool() == Some(true)
+}
+
+fn is_number(number: Number) -> bool {
+    let value = Data::Float(number);
+    value.is_float() && value.get_float() == Some(number)
+}
+
+fn is_date(date: ExcelDateTime) -> bool {
+    let value = Data::DateTime(date);
+    value.is_datetime() && value.get_datetime() == Some(date)
+}
+
+fn is_error(error: CellErrorType) -> bool {
+    let value = Data::Error(error);
+    value.is_error() && value.get_error() == Some(&error)
+}
+
+fn is_iso_date(alloc: Global, text: &str) -> Result<bool, AllocError> {
+    let value = Data::DateTimeIso(String::from_str(alloc, text)?);
+    Ok(value.is_datetime_iso() && value.get_datetime_iso() == Some(text))
+}
+
+fn is_iso_duration(alloc: Global, text: &str) -> Result<bool, AllocError> {
+    let value = Data::DurationIso(String::from_str(alloc, text)?);
+    Ok(value.is_duration_iso() && value.get_duration_iso() == Some(text))
+}
+
 #[test]
 fn tells_the_kind_of_a_value(rt: HostRuntime) -> Result<(), Fail> {
-    let date = ExcelDateTime::default();
-    let number = Number::Whole(5);
-    assert!(rt; Data::Empty.is_empty() && !Data::Int(0).is_empty());
-    assert!(rt; Data::Int(5).is_int() && Data::Int(5).get_int() == Some(5));
-    assert!(rt; Data::Float(number).is_float() && Data::Float(number).get_float() == Some(number));
-    assert!(rt; Data::Bool(true).is_bool() && Data::Bool(true).get_bool() == Some(true));
-    assert!(rt; DataRef::SharedString("a").is_string() && !DataRef::SharedString("a").is_int());
-    assert!(rt;
-        Data::DateTime(date).is_datetime() && Data::DateTime(date).get_datetime() == Some(date)
-    );
-    let iso = Data::DateTimeIso(String::from_str(rt.alloc(), "2020-02-29")?);
-    assert!(rt; iso.is_datetime_iso() && iso.get_datetime_iso() == Some("2020-02-29"));
-    let span = Data::DurationIso(String::from_str(rt.alloc(), "PT1H")?);
-    assert!(rt; span.is_duration_iso() && span.get_duration_iso() == Some("PT1H"));
-    let error = Data::Error(CellErrorType::Ref);
-    assert!(rt; error.is_error() && error.get_error() == Some(&CellErrorType::Ref));
+    assert!(rt; tells_what_is_there() && gives_what_is_there());
+    assert!(rt; is_number(Number::Whole(5)) && is_date(ExcelDateTime::default()));
+    assert!(rt; is_error(CellErrorType::Ref));
+    assert!(rt; is_iso_date(rt.alloc(), "2020-02-29")?);
+    assert!(rt; is_iso_duration(rt.alloc(), "PT1H")?);
     Ok(())
 }
 
@@ -400,20 +427,29 @@ fn prints_values(rt: HostRuntime) -> Result<(), Fail> {
     Ok(())
 }
 
+// Whether numbers and truths become values, and what may be missing the value or the blank.
+fn converts_numbers(alloc: Global) -> Result<bool, AllocError> {
+    Ok(
+        is_value(alloc, Data::from(3i64), Given::Int(3))?
+            && is_value(alloc, Data::from(Some(3i64)), Given::Int(3))?
+            && is_value(alloc, Data::from(None::<bool>), Given::Nothing)?,
+    )
+}
+
+fn converts_others(alloc: Global) -> Result<bool, AllocError> {
+    let (one, error) = (Number::Whole(1), CellErrorType::Num);
+    Ok(
+        is_value(alloc, Data::from(true), Given::Truth(true))?
+            && is_value(alloc, Data::from(one), Given::Float(one))?
+            && is_value(alloc, Data::from(error), Given::Wrong(error))?
+            && is_value(alloc, Data::from(()), Given::Nothing)?,
+    )
+}
+
 #[test]
 fn converts_into_values(rt: HostRuntime) -> Result<(), Fail> {
-    let alloc = rt.alloc();
-    let is_number = is_value(alloc, Data::from(3i64), Given::Int(3))?;
-    assert!(rt; is_number && is_value(alloc, Data::from(true), Given::Truth(true))?);
-    let one = Number::Whole(1);
-    assert!(rt; is_value(alloc, Data::from(one), Given::Float(one))?);
-    let error = CellErrorType::Num;
-    assert!(rt; is_value(alloc, Data::from(error), Given::Wrong(error))?);
-    assert!(rt; is_value(alloc, Data::from(()), Given::Nothing)?);
-    assert!(rt; is_value(alloc, Data::from(Some(3i64)), Given::Int(3))?);
-    assert!(rt; is_value(alloc, Data::from(None::<bool>), Given::Nothing)?);
-    let text = Data::from(String::from_str(alloc, "x")?);
-    assert!(rt; text.eq_text("x"));
+    assert!(rt; converts_numbers(rt.alloc())? && converts_others(rt.alloc())?);
+    assert!(rt; Data::from(String::from_str(rt.alloc(), "x")?).eq_text("x"));
     Ok(())
 }
 

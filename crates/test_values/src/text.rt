@@ -35,19 +35,37 @@ fn prints_a_page_in_upper_hexadecimal(rt: HostRuntime) -> Result<(), Fail> {
     Ok(())
 }
 
+// Texts, and what bytes append to them: the page, the bytes, so many characters at most, whether each
+// has two bytes, how many are appended of how many bytes, and the text then.
+static APPENDED: [(
+    &str,
+    XlsEncoding,
+    &[u8],
+    usize,
+    Option<bool>,
+    (usize, usize),
+    &str,
+); 3] = [
+    ("", XlsEncoding::Utf16, b"A\0", 1, Some(true), (1, 2), "A"),
+    ("A", XlsEncoding::Utf16, b"A", 1, None, (1, 1), "AA"),
+    (
+        "prefix:",
+        XlsEncoding::Windows1252,
+        b"caf\xE9",
+        4,
+        None,
+        (4, 4),
+        "prefix:caf\u{E9}",
+    ),
+];
+
 #[test]
 fn appends_what_is_there(rt: HostRuntime) -> Result<(), Fail> {
-    let mut text = String::new(rt.alloc());
-    let wide = XlsEncoding::Utf16.decode_to(&[0x41, 0x00], 1, &mut text, Some(true))?;
-    assert_eq!(rt; wide, (1, 2));
-    assert_eq!(rt; text.as_str(), "A");
-    let narrow = XlsEncoding::Utf16.decode_to(&[0x41], 1, &mut text, None)?;
-    assert_eq!(rt; narrow, (1, 1));
-    assert_eq!(rt; text.as_str(), "AA");
-    let mut text = String::from_str(rt.alloc(), "prefix:")?;
-    let paged = XlsEncoding::Windows1252.decode_to(&[0x63, 0x61, 0x66, 0xE9], 4, &mut text, None)?;
-    assert_eq!(rt; paged, (4, 4));
-    assert_eq!(rt; text.as_str(), "prefix:caf\u{E9}");
+    for (before, page, bytes, count, is_wide, taken, after) in APPENDED.iter() {
+        let mut text = String::from_str(rt.alloc(), before)?;
+        let found = page.decode_to(bytes, *count, &mut text, *is_wide)?;
+        assert!(rt; found == *taken && text.as_str() == *after, "{after}");
+    }
     Ok(())
 }
 

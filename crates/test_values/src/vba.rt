@@ -115,38 +115,54 @@ fn lists_references_as_they_stand(rt: HostRuntime) -> Result<(), Fail> {
 fn names_each_module_once_in_byte_order(rt: HostRuntime) -> Result<(), Fail> {
     let project = VbaProject::from_dir(rt.alloc(), &PROJECT)?;
     let names = project.get_module_names(rt.alloc())?;
-    assert_eq!(rt; names.len(), 2);
-    assert_eq!(rt; names.get(0).copied().ok_or("missing")?, "a");
-    assert_eq!(rt; names.get(1).copied().ok_or("missing")?, "b");
+    assert!(rt; names.as_slice() == ["a", "b"].as_slice());
     Ok(())
+}
+
+// Whether the project has a module of this name, whose source begins there in this stream.
+fn has_module(
+    alloc: Global,
+    project: &VbaProject,
+    name: &str,
+    stream: &str,
+    start: u32,
+) -> Result<bool, VbaError> {
+    let module = project.module(alloc, name)?;
+    Ok(
+        module.name.as_str() == name
+            && module.stream_name.as_str() == stream
+            && module.text_offset == start,
+    )
 }
 
 #[test]
 fn gives_the_last_module_of_a_name(rt: HostRuntime) -> Result<(), Fail> {
     let project = VbaProject::from_dir(rt.alloc(), &PROJECT)?;
-    let b = project.module(rt.alloc(), "b")?;
-    assert_eq!(rt; b.name.as_str(), "b");
-    assert_eq!(rt; b.stream_name.as_str(), "sc");
-    assert_eq!(rt; b.text_offset, 9);
-    let a = project.module(rt.alloc(), "a")?;
-    assert_eq!(rt; a.stream_name.as_str(), "sa");
-    assert_eq!(rt; a.text_offset, 300);
+    assert!(rt; has_module(rt.alloc(), &project, "b", "sc", 9)?);
+    assert!(rt; has_module(rt.alloc(), &project, "a", "sa", 300)?);
     Ok(())
+}
+
+// Whether there is no module of this name, as the answer says.
+fn lacks_module(
+    alloc: Global,
+    project: &VbaProject,
+    name: &str,
+    says: &str,
+) -> Result<bool, AllocError> {
+    match project.module(alloc, name) {
+        Ok(_) => Ok(false),
+        Err(error) => Ok(error.to_string(alloc)?.as_str() == says),
+    }
 }
 
 #[test]
 fn has_no_module_of_another_name(rt: HostRuntime) -> Result<(), Fail> {
     let bytes = behind_header(rt.alloc(), &NO_MODULES)?;
-    let project = VbaProject::from_dir(rt.alloc(), bytes.as_slice())?;
-    assert_eq!(rt; project.get_references().len(), 0);
-    assert_eq!(rt; project.get_module_names(rt.alloc())?.len(), 0);
-    match project.module(rt.alloc(), "M") {
-        Ok(_) => assert!(rt; false),
-        Err(error) => {
-            let text = error.to_string(rt.alloc())?;
-            assert_eq!(rt; text.as_str(), "Cannot find module 'M'");
-        }
-    }
+    let project = VbaProject::from_dir(rt.alloc(), &bytes)?;
+    assert!(rt; project.get_references().is_empty());
+    assert!(rt; project.get_module_names(rt.alloc())?.is_empty());
+    assert!(rt; lacks_module(rt.alloc(), &project, "M", "Cannot find module 'M'")?);
     Ok(())
 }
 

@@ -12,17 +12,17 @@ use xls_book::StreamBytes;
 use xls_model::types::{LABEL_SST, RK};
 
 /// The globals: BOF, the sheet `G` whose part begins at byte 52, the strings `a`, `bb` and `ccc`, and EOF.
-const GLOBALS: [u8; 52] = [
+static GLOBALS: [u8; 52] = [
     0x09, 0x08, 4, 0, 0x00, 0x06, 0x05, 0x00, 0x85, 0x00, 9, 0, 52, 0, 0, 0, 0, 0, 1, 0, b'G',
     0xFC, 0x00, 23, 0, 3, 0, 0, 0, 3, 0, 0, 0, 1, 0, 0, b'a', 2, 0, 0, b'b', b'b', 3, 0, 0, b'c',
     b'c', b'c', 0x0A, 0x00, 0, 0,
 ];
 
 /// BOF of the sheet.
-const PART: [u8; 8] = [0x09, 0x08, 4, 0, 0x00, 0x06, 0x10, 0x00];
+static PART: [u8; 8] = [0x09, 0x08, 4, 0, 0x00, 0x06, 0x10, 0x00];
 
 /// EOF.
-const END: [u8; 4] = [0x0A, 0x00, 0, 0];
+static END: [u8; 4] = [0x0A, 0x00, 0, 0];
 
 /// Appends a 16-bit number.
 fn push_u16(bytes: &mut Vec<u8>, n: u16) -> Result<(), AllocError>

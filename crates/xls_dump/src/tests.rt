@@ -40,6 +40,9 @@ const PAGE_437: [u8; 6] = [0x42, 0, 2, 0, 0xB5, 1];
 // Streams by their records.
 const THREE: [&[u8]; 6] = [&GLOBALS, &A_SHEET, &EOF, &SHEET, &NUMBER_3, &EOF];
 
+// The same for functions: a constant is made anew at each use of it.
+static THREE_PARTS: [&[u8]; 6] = THREE;
+
 const THREE_TEXT: &str = "dates\t1900\nsheet\tA\tworksheet\tvisible\ncell\t0\t0\tfloat\t3\n";
 
 const PLAIN: [&[u8]; 6] = [&GLOBALS, &A_SHEET, &EOF, &SHEET, &HUNDREDTHS, &EOF];
@@ -65,7 +68,7 @@ const NEAR: [u8; 14] = [0x7E, 2, 10, 0, 0, 0, 0, 0, 0, 0, 6, 0, 0, 0];
 
 const FAR: [u8; 14] = [0x7E, 2, 10, 0, 0xFF, 0xFF, 0xFF, 0xFF, 0, 0, 10, 0, 0, 0];
 
-const FAR_CELLS: [&[u8]; 7] = [&GLOBALS, &A_SHEET, &EOF, &SHEET, &NEAR, &FAR, &EOF];
+static FAR_CELLS: [&[u8]; 7] = [&GLOBALS, &A_SHEET, &EOF, &SHEET, &NEAR, &FAR, &EOF];
 
 // A property stream with a summary section of two properties: the title in page 1252.
 const TITLE_STREAM: [u8; 95] = [
@@ -250,7 +253,7 @@ fn does_what_the_words_ask_for(rt: HostRuntime) -> Result<(), Fail> {
 #[test]
 fn the_pieces_do_not_matter(rt: HostRuntime) -> Result<(), Fail> {
     for chunk in [1, 2, 3, 7, 64] {
-        let mut case = quiet(&[], &THREE);
+        let mut case = quiet(&[], &THREE_PARTS);
         case.chunk = chunk;
         case.write_chunk = chunk;
         check(&rt, rt.alloc(), &case, 0, THREE_TEXT.as_bytes())?;
@@ -411,9 +414,12 @@ fn passes_on_what_std_writes(rt: HostRuntime) -> Result<(), Fail> {
     Ok(())
 }
 
+// The records of a stream before the cells of its sheet.
+static HEAD: [&[u8]; 4] = [&GLOBALS, &A_SHEET, &EOF, &SHEET];
+
 // The stream of `THREE`, with a Number of 3 in column 0 of each of so many rows.
 fn many_numbers(alloc: Global, rows: u16) -> Result<Vec<u8>, AllocError> {
-    let mut bytes = joined(alloc, &[&GLOBALS, &A_SHEET, &EOF, &SHEET])?;
+    let mut bytes = joined(alloc, &HEAD)?;
     for row in 0..rows {
         bytes.extend_from_slice(&NUMBER_3[..4])?;
         bytes.extend_from_slice(&row.to_le_bytes())?;

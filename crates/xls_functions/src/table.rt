@@ -4,7 +4,7 @@
 pub(crate) const COUNT: usize = 309;
 
 /// Their names and counts of arguments, in the order of their indexes.
-pub(crate) const FUNCTIONS: [(&str, u8); COUNT] = [
+pub(crate) static FUNCTIONS: [(&str, u8); COUNT] = [
     ("MINUTE", 1),
     ("SECOND", 1),
     ("NOW", 0),

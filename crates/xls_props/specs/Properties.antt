@@ -7,11 +7,9 @@ use Rattle.xls_props.specs.Values.{Shows}
 use Rattle.xls_props.specs.Custom.{HasLast}
 use Rattle.xls_props.specs.Sections.{section_from, summary_id, document_id, custom_id, field_of, version_of, customs_in}
 use Rattle.xls_props.specs.declared.properties.WorkbookProperties.{WorkbookProperties}
-use Rattle.xls_props.specs.declared.properties.Summary.{Summary}
-use Rattle.xls_props.specs.declared.properties.Document.{Document}
 
--- the fields of a summary section
-pub record IsSummary (s : List ℕ) (p : Summary) : Type 0 where
+-- these are the fields of a summary section
+pub record IsSummary (s : List ℕ) (p : WorkbookProperties) : Type 0 where
   pub title : Shows (field_of 0x02 s) p.title
   pub subject : Shows (field_of 0x03 s) p.subject
   pub creator : Shows (field_of 0x04 s) p.creator
@@ -24,8 +22,8 @@ pub record IsSummary (s : List ℕ) (p : Summary) : Type 0 where
   pub modified : Shows (field_of 0x0D s) p.modified
   pub application : Shows (field_of 0x12 s) p.application
 
--- the fields of a document section
-pub record IsDocument (s : List ℕ) (p : Document) : Type 0 where
+-- these are the fields of a document section
+pub record IsDocument (s : List ℕ) (p : WorkbookProperties) : Type 0 where
   pub category : Shows (field_of 0x02 s) p.category
   pub manager : Shows (field_of 0x0E s) p.manager
   pub company : Shows (field_of 0x0F s) p.company
@@ -35,23 +33,8 @@ pub record IsDocument (s : List ℕ) (p : Document) : Type 0 where
 
 -- these are the properties of sections
 pub record HasFields (s d c : List ℕ) (p : WorkbookProperties) : Type 0 where
-  pub title : Shows (field_of 0x02 s) p.title
-  pub subject : Shows (field_of 0x03 s) p.subject
-  pub creator : Shows (field_of 0x04 s) p.creator
-  pub keywords : Shows (field_of 0x05 s) p.keywords
-  pub description : Shows (field_of 0x06 s) p.description
-  pub template : Shows (field_of 0x07 s) p.template
-  pub last_modified_by : Shows (field_of 0x08 s) p.last_modified_by
-  pub revision : Shows (field_of 0x09 s) p.revision
-  pub created : Shows (field_of 0x0C s) p.created
-  pub modified : Shows (field_of 0x0D s) p.modified
-  pub application : Shows (field_of 0x12 s) p.application
-  pub category : Shows (field_of 0x02 d) p.category
-  pub manager : Shows (field_of 0x0E d) p.manager
-  pub company : Shows (field_of 0x0F d) p.company
-  pub content_status : Shows (field_of 0x1B d) p.content_status
-  pub version : Shows (field_of 0x1D d) p.version
-  pub app_version : option_map string_bytes p.app_version ≡ version_of d
+  pub summary : IsSummary s p
+  pub document : IsDocument d p
   pub custom : HasLast p.custom_properties (customs_in c)
 
 -- these are the properties of the summary stream and the document stream

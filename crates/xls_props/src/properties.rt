@@ -1,7 +1,9 @@
 //! The properties of a workbook.
 
-ghost use Rattle.std.specs.Prelude.{◌≡◌, IfOk};
+ghost use Rattle.std.specs.Prelude.{◌≡◌, ℕ, List, IfOk};
 ghost use Rattle.std.specs.Option.{option_map};
+ghost use Rattle.xls_props.specs.Custom.{HasLast};
+ghost use Rattle.xls_props.specs.Sections.{customs_in};
 ghost use Rattle.xls_props.specs.Properties.{IsSummary, IsDocument, IsProperties};
 
 use crate::section::{Section, section_from};
@@ -50,93 +52,87 @@ pub struct WorkbookProperties {
 }
 
 // FMTID_SummaryInformation, FMTID_DocSummaryInformation and FMTID_UserDefinedProperties.
-const SUMMARY: [u8; 16] = [
+static SUMMARY: [u8; 16] = [
     0xE0, 0x85, 0x9F, 0xF2, 0xF9, 0x4F, 0x68, 0x10, 0xAB, 0x91, 0x08, 0x00, 0x2B, 0x27, 0xB3, 0xD9,
 ];
 
-const DOCUMENT: [u8; 16] = [
+static DOCUMENT: [u8; 16] = [
     0x02, 0xD5, 0xCD, 0xD5, 0x9C, 0x2E, 0x1B, 0x10, 0x93, 0x97, 0x08, 0x00, 0x2B, 0x2C, 0xF9, 0xAE,
 ];
 
-const CUSTOM: [u8; 16] = [
+static CUSTOM: [u8; 16] = [
     0x05, 0xD5, 0xCD, 0xD5, 0x9C, 0x2E, 0x1B, 0x10, 0x93, 0x97, 0x08, 0x00, 0x2B, 0x2C, 0xF9, 0xAE,
 ];
 
-/// The fields of the summary section.
-#[derive(Drop)]
-pub(crate) struct Summary {
-    pub title: Option<String>,
-    pub subject: Option<String>,
-    pub creator: Option<String>,
-    pub keywords: Option<String>,
-    pub description: Option<String>,
-    pub template: Option<String>,
-    pub last_modified_by: Option<String>,
-    pub revision: Option<String>,
-    pub created: Option<String>,
-    pub modified: Option<String>,
-    pub application: Option<String>,
-}
+impl WorkbookProperties {
+    // None yet.
+    fn none(alloc: Global) -> WorkbookProperties {
+        WorkbookProperties {
+            creator: None,
+            last_modified_by: None,
+            created: None,
+            modified: None,
+            title: None,
+            subject: None,
+            description: None,
+            keywords: None,
+            category: None,
+            content_status: None,
+            revision: None,
+            version: None,
+            application: None,
+            app_version: None,
+            company: None,
+            template: None,
+            manager: None,
+            custom_properties: BTreeMap::new(alloc),
+        }
+    }
 
-/// The fields of the document section.
-#[derive(Drop)]
-pub(crate) struct Document {
-    pub category: Option<String>,
-    pub manager: Option<String>,
-    pub company: Option<String>,
-    pub content_status: Option<String>,
-    pub version: Option<String>,
-    pub app_version: Option<String>,
-}
+    // Takes the fields of a summary section.
+    fn take_summary(&mut self, alloc: Global, bytes: &[u8]) -> Result<(), AllocError>
+        ensures { IfOk result (λ _. IsSummary bytes.now self.new) }
+    {
+        let section = Section::new(alloc, bytes)?;
+        self.title = section.field(alloc, 0x02)?;
+        self.subject = section.field(alloc, 0x03)?;
+        self.creator = section.field(alloc, 0x04)?;
+        self.keywords = section.field(alloc, 0x05)?;
+        self.description = section.field(alloc, 0x06)?;
+        self.template = section.field(alloc, 0x07)?;
+        self.last_modified_by = section.field(alloc, 0x08)?;
+        self.revision = section.field(alloc, 0x09)?;
+        self.created = section.field(alloc, 0x0C)?;
+        self.modified = section.field(alloc, 0x0D)?;
+        self.application = section.field(alloc, 0x12)?;
+        Ok(())
+    }
 
-fn summary_of(alloc: Global, bytes: &[u8]) -> Result<Summary, AllocError>
-    ensures { IfOk result (IsSummary bytes.now) }
-{
-    let section = Section::new(alloc, bytes)?;
-    let title = section.field(alloc, 0x02)?;
-    let subject = section.field(alloc, 0x03)?;
-    let creator = section.field(alloc, 0x04)?;
-    let keywords = section.field(alloc, 0x05)?;
-    let description = section.field(alloc, 0x06)?;
-    let template = section.field(alloc, 0x07)?;
-    let last_modified_by = section.field(alloc, 0x08)?;
-    let revision = section.field(alloc, 0x09)?;
-    let created = section.field(alloc, 0x0C)?;
-    let modified = section.field(alloc, 0x0D)?;
-    let application = section.field(alloc, 0x12)?;
-    Ok(Summary {
-        title,
-        subject,
-        creator,
-        keywords,
-        description,
-        template,
-        last_modified_by,
-        revision,
-        created,
-        modified,
-        application,
-    })
-}
+    // Takes the fields of a document section, and leaves those of a summary.
+    fn take_document(&mut self, alloc: Global, bytes: &[u8]) -> Result<(), AllocError>
+        ensures fields { IfOk result (λ _. IsDocument bytes.now self.new) }
+        ensures others { IfOk result (λ _. (summary : List ℕ) → IsSummary summary self.old → IsSummary summary self.new) }
+    {
+        let section = Section::new(alloc, bytes)?;
+        self.category = section.field(alloc, 0x02)?;
+        self.manager = section.field(alloc, 0x0E)?;
+        self.company = section.field(alloc, 0x0F)?;
+        self.content_status = section.field(alloc, 0x1B)?;
+        self.version = section.field(alloc, 0x1D)?;
+        self.app_version = section.app_version(alloc)?;
+        Ok(())
+    }
 
-fn document_of(alloc: Global, bytes: &[u8]) -> Result<Document, AllocError>
-    ensures { IfOk result (IsDocument bytes.now) }
-{
-    let section = Section::new(alloc, bytes)?;
-    let category = section.field(alloc, 0x02)?;
-    let manager = section.field(alloc, 0x0E)?;
-    let company = section.field(alloc, 0x0F)?;
-    let content_status = section.field(alloc, 0x1B)?;
-    let version = section.field(alloc, 0x1D)?;
-    let app_version = section.app_version(alloc)?;
-    Ok(Document {
-        category,
-        manager,
-        company,
-        content_status,
-        version,
-        app_version,
-    })
+    // Takes the custom properties, and leaves all else.
+    fn take_custom(&mut self, alloc: Global, bytes: &[u8]) -> Result<(), AllocError>
+        ensures customs { IfOk result (λ _. HasLast self.new.custom_properties (customs_in bytes.now)) }
+        ensures others { IfOk result (λ _. (summary document : List ℕ) → IsSummary summary self.old → IsDocument document self.old
+            → IsSummary summary self.new × IsDocument document self.new) }
+    {
+        let section = Section::new(alloc, bytes)?;
+        self.custom_properties = section.customs(alloc)?;
+        Ok(())
+    }
 }
 
 /// The properties in the summary stream and the document stream of a workbook file ([MS-OLEPS]).
@@ -150,28 +146,9 @@ pub fn workbook_properties_of(
     ensures { IfOk result (IsProperties (option_map (λ x. x.now) summary.entry)
         (option_map (λ x. x.now) document.entry)) }
 {
-    let first = summary_of(alloc, section_from(&SUMMARY, summary))?;
-    let second = document_of(alloc, section_from(&DOCUMENT, document))?;
-    let third = Section::new(alloc, section_from(&CUSTOM, document))?;
-    let custom_properties = third.customs(alloc)?;
-    Ok(WorkbookProperties {
-        creator: first.creator,
-        last_modified_by: first.last_modified_by,
-        created: first.created,
-        modified: first.modified,
-        title: first.title,
-        subject: first.subject,
-        description: first.description,
-        keywords: first.keywords,
-        category: second.category,
-        content_status: second.content_status,
-        revision: first.revision,
-        version: second.version,
-        application: first.application,
-        app_version: second.app_version,
-        company: second.company,
-        template: first.template,
-        manager: second.manager,
-        custom_properties,
-    })
+    let mut properties = WorkbookProperties::none(alloc);
+    properties.take_summary(alloc, section_from(&SUMMARY, summary))?;
+    properties.take_document(alloc, section_from(&DOCUMENT, document))?;
+    properties.take_custom(alloc, section_from(&CUSTOM, document))?;
+    Ok(properties)
 }

@@ -1,5 +1,5 @@
 -- The size of a token, and the cells that it cites.
-use Rattle.std.specs.Prelude.{ℕ, ◌+◌, List, Option, Some, None, Result, Ok, Err}
+use Rattle.std.specs.Prelude.{ℕ, ◌+◌, List, Option, Some, None, Result}
 use Rattle.xls_strings.specs.Reading.{gives}
 use Rattle.xls_strings.specs.declared.error.XlsError.{XlsError}
 use Rattle.xls_ptg.specs.declared.corner.Corner.{Corner}

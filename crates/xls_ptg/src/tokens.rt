@@ -2,12 +2,13 @@
 
 use crate::corner::Corner;
 use crate::operators::Operator;
+use std::alloc::AllocError;
 use xls_data::CellErrorType;
 
 /// A token by its name in [MS-XLS] 2.5.198, without the `Ptg` before it. `S` is what holds the units
 /// of a string: a slice in code, the list of the bytes in definitions. What tokens from 20 on are is
 /// told by their low five bits: 24, 44 and 64 are one.
-#[derive(Clone, Copy)]
+#[derive(Copy)]
 pub enum Ptg<S> {
     /// 01: the formula stands at another cell.
     Exp,
@@ -109,4 +110,10 @@ pub enum Ptg<S> {
     AreaErr3d {
         ixti: u16,
     },
+}
+
+impl<S: Copy> Clone for Ptg<S> {
+    fn clone(&self) -> Result<Self, AllocError> {
+        Ok(*self)
+    }
 }

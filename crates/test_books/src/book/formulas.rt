@@ -55,34 +55,40 @@ fn a_refused_formula_says_why(rt: HostRuntime) -> Result<(), Fail> {
     Ok(())
 }
 
-// A String after a Formula at (3, 0), and one before any Formula.
+static TEXT: [u8; 8] = [7, 2, 4, 0, 1, 0, 0, 0x41];
+
+// The values of a sheet of this String after a Formula at (3, 0), and before it.
+fn values_around(alloc: Global) -> Result<(String, String), XlsError> {
+    let three = formula(alloc, 3, &[0x1E, 1, 0])?;
+    let after = values_in(alloc, &three, &TEXT)?;
+    Ok((after, values_in(alloc, &TEXT, &three)?))
+}
+
 #[test]
 fn a_string_stands_at_the_last_formula(rt: HostRuntime) -> Result<(), Fail> {
-    let alloc = rt.alloc();
-    let text = [7, 2, 4, 0, 1, 0, 0, 0x41];
-    let three = formula(alloc, 3, &[0x1E, 1, 0])?;
-    assert_eq!(rt; values_in(alloc, &three, &text)?.as_str(), "3,0=A ");
-    assert_eq!(rt; values_in(alloc, &text, &three)?.as_str(), "0,0=A 3,0=6 ");
+    let (after, before) = values_around(rt.alloc())?;
+    assert!(rt; after.as_str() == "3,0=A " && before.as_str() == "0,0=A 3,0=6 ");
     Ok(())
 }
 
-// The formulas of a sheet, and the corners of their range.
-type Shown = (String, Option<(u32, u32)>, Option<(u32, u32)>);
-
-fn formulas_and_box(alloc: Global, book: &Xls) -> Result<Shown, XlsError> {
+// Whether the range of the formulas has these corners.
+fn is_box(alloc: Global, book: &Xls, start: (u32, u32), end: (u32, u32)) -> Result<bool, XlsError> {
     let range = book.worksheet_formula(alloc, "A")?;
-    Ok((formulas(alloc, book, 0)?, range.start(), range.end()))
+    Ok(range.start() == Some(start) && range.end() == Some(end))
+}
+
+// PtgExp has an empty text, and so has PtgMissArg: a sheet of one at (5, 0), and of a number at (2, 0).
+fn with_an_empty_text(alloc: Global) -> Result<Xls, XlsError> {
+    let empty = formula(alloc, 5, &[0x16])?;
+    let one = formula(alloc, 2, &[0x1E, 1, 0])?;
+    of(alloc, &empty, &one)
 }
 
 #[test]
 fn an_empty_text_counts_for_the_box_and_is_not_shown(rt: HostRuntime) -> Result<(), Fail> {
-    let alloc = rt.alloc();
-    // PtgExp has an empty text, and so has PtgMissArg.
-    let empty = formula(alloc, 5, &[0x16])?;
-    let one = formula(alloc, 2, &[0x1E, 1, 0])?;
-    let book = of(alloc, empty.as_slice(), one.as_slice())?;
-    let (text, start, end) = formulas_and_box(alloc, &book)?;
-    assert!(rt; text.as_str() == "2,0=1 " && (start, end) == (Some((2, 0)), Some((5, 0))));
+    let book = with_an_empty_text(rt.alloc())?;
+    assert!(rt; formulas(rt.alloc(), &book, 0)?.as_str() == "2,0=1 ");
+    assert!(rt; is_box(rt.alloc(), &book, (2, 0), (5, 0))?);
     Ok(())
 }
 
@@ -95,29 +101,38 @@ fn of_one_position_the_last_formula_stays(rt: HostRuntime) -> Result<(), Fail> {
     Ok(())
 }
 
+// A Formula of 19 bytes.
+static SHORT: [u8; 23] = [
+    6, 0, 19, 0, 0, 0, 0, 0, 0, 0, 0, 0, 0, 0, 0, 0, 0, 0, 0, 0, 0, 0, 0,
+];
+
+// A Formula whose value is the error of code 1, which has no meaning.
+static ERROR_1: [u8; 24] = [
+    6, 0, 20, 0, 0, 0, 0, 0, 0, 0, 2, 0, 1, 0, 0, 0, 0xFF, 0xFF, 0, 0, 0, 0, 0, 0,
+];
+
+// Whether a sheet of this record is refused so.
+fn is_fault(alloc: Global, record: &[u8], wanted: XlsError) -> bool {
+    of(alloc, record, &[]).err() == Some(wanted)
+}
+
+fn too_short(expected: usize, found: usize, typ: Part) -> XlsError {
+    XlsError::Len {
+        expected,
+        found,
+        typ,
+    }
+}
+
 // The first fault is the value's, and an error in the tokens is none.
 #[test]
-fn a_formula_has_faults_of_its_head_and_value(rt: HostRuntime) -> Result<(), Fail> {
-    let alloc = rt.alloc();
-    let short = [
-        6, 0, 19, 0, 0, 0, 0, 0, 0, 0, 0, 0, 0, 0, 0, 0, 0, 0, 0, 0, 0, 0, 0,
-    ];
-    let wanted = XlsError::Len {
-        expected: 20,
-        found: 19,
-        typ: Part::Formula,
-    };
-    assert_eq!(rt; of(alloc, &short, &[]).err(), Some(wanted));
-    // An error value of code 1, which has no meaning.
-    let value = [
-        6, 0, 20, 0, 0, 0, 0, 0, 0, 0, 2, 0, 1, 0, 0, 0, 0xFF, 0xFF, 0, 0, 0, 0, 0, 0,
-    ];
+fn a_formula_has_faults_of_its_head_and_value(rt: HostRuntime) {
+    assert!(rt; is_fault(rt.alloc(), &SHORT, too_short(20, 19, Part::Formula)));
     let wanted = XlsError::Unrecognized {
         typ: Part::CellError,
         val: 1,
     };
-    assert_eq!(rt; of(alloc, &value, &[]).err(), Some(wanted));
-    Ok(())
+    assert!(rt; is_fault(rt.alloc(), &ERROR_1, wanted));
 }
 
 // A name whose Lbl stands before the ExternSheet that it needs: PtgRef3d of reference 0, B2.
@@ -134,40 +149,50 @@ fn is_name_t(names: &[(String, String)]) -> bool {
     }
 }
 
+// A name and the reference that it needs behind it.
+fn named(alloc: Global) -> Result<Xls, XlsError> {
+    opened(alloc, &[&G, &NAME_T, &REFERENCE, &bound(64), &E, &S, &E])
+}
+
 #[test]
 fn a_name_finds_its_sheet_behind_it(rt: HostRuntime) -> Result<(), Fail> {
-    let alloc = rt.alloc();
-    let book = opened(alloc, &[&G, &NAME_T, &REFERENCE, &bound(64), &E, &S, &E])?;
-    assert!(rt; is_name_t(book.defined_names()));
+    assert!(rt; is_name_t(named(rt.alloc())?.defined_names()));
     Ok(())
+}
+
+// A Lbl of no byte.
+static NO_LBL: [u8; 4] = [0x18, 0, 0, 0];
+
+fn fault_of_no_lbl(alloc: Global) -> Option<XlsError> {
+    refusal(alloc, &[&G, &NO_LBL, &E])
 }
 
 #[test]
 fn a_name_has_faults_of_its_head(rt: HostRuntime) {
-    let wanted = XlsError::Len {
-        expected: 14,
-        found: 0,
-        typ: Part::Lbl,
-    };
-    let lost = refusal(rt.alloc(), &[&G, &[0x18, 0, 0, 0], &E]);
-    assert_eq!(rt; lost, Some(wanted));
+    assert!(rt; fault_of_no_lbl(rt.alloc()) == Some(too_short(14, 0, Part::Lbl)));
 }
 
 fn formulas_under(alloc: Global, bytes: &[u8], options: XlsOptions) -> Result<String, XlsError> {
     Ok(formulas(alloc, &open_under(alloc, bytes, options)?, 0)?)
 }
 
-// BIFF5: PtgRef3d of reference 0 at (9, 2), whose row and column are relative.
+// BIFF5: the BOF, the sheet `A` at byte 24, and PtgRef3d of reference 0 at (9, 2), whose row and column
+// are relative.
+static BOF_5: [u8; 8] = [9, 8, 4, 0, 0, 5, 5, 0];
+
+static SHEET_5: [u8; 12] = [0x85, 0, 8, 0, 24, 0, 0, 0, 0, 0, 1, 0x41];
+
+static REF_5: [u8; 18] = [0x3A, 0, 0, 0, 0, 0, 0, 0, 0, 0, 0, 0, 0, 0, 0, 9, 0xC0, 2];
+
+fn formulas_of_5(alloc: Global) -> Result<String, XlsError> {
+    let cell = formula(alloc, 1, &REF_5)?;
+    let bytes = joined(alloc, &[&BOF_5, &SHEET_5, &E, &S, &cell, &E])?;
+    formulas_under(alloc, &bytes, XlsOptions::defaults(alloc)?)
+}
+
 #[test]
 fn before_biff8_each_sheet_has_its_own_reference(rt: HostRuntime) -> Result<(), Fail> {
-    let alloc = rt.alloc();
-    let globals = [9, 8, 4, 0, 0, 5, 5, 0];
-    let sheet = [0x85, 0, 8, 0, 24, 0, 0, 0, 0, 0, 1, 0x41];
-    let tokens = [0x3A, 0, 0, 0, 0, 0, 0, 0, 0, 0, 0, 0, 0, 0, 0, 9, 0xC0, 2];
-    let cell = formula(alloc, 1, &tokens)?;
-    let bytes = joined(alloc, &[&globals, &sheet, &E, &S, cell.as_slice(), &E])?;
-    let shown = formulas_under(alloc, &bytes, XlsOptions::defaults(alloc)?)?;
-    assert_eq!(rt; shown.as_str(), "1,0=A!C10 ");
+    assert!(rt; formulas_of_5(rt.alloc())?.as_str() == "1,0=A!C10 ");
     Ok(())
 }
 
@@ -204,9 +229,8 @@ fn has_empty_text(range: &Range<Data>, position: (u32, u32)) -> bool {
 
 #[test]
 fn a_formula_may_have_an_empty_text(rt: HostRuntime) -> Result<(), Fail> {
-    let alloc = rt.alloc();
-    let book = of(alloc, &EMPTY_TEXT, &[])?;
-    assert!(rt; has_empty_text(&book.worksheet_range(alloc, "A")?, (2, 1)));
-    assert_eq!(rt; formulas(alloc, &book, 0)?.as_str(), "2,1=7 ");
+    let book = of(rt.alloc(), &EMPTY_TEXT, &[])?;
+    assert!(rt; has_empty_text(&book.worksheet_range(rt.alloc(), "A")?, (2, 1)));
+    assert!(rt; formulas_in(rt.alloc(), &EMPTY_TEXT, &[])?.as_str() == "2,1=7 ");
     Ok(())
 }

@@ -9,7 +9,7 @@ fn ledger(alloc: Global) -> Result<Xls, XlsError> {
     opened(alloc, &[&G, &bound(25), &E, &S, &one, &two, &MERGE, &E])
 }
 
-const REGION: Dimensions = Dimensions {
+static REGION: Dimensions = Dimensions {
     start: (0, 1),
     end: (2, 3),
 };
@@ -117,13 +117,20 @@ fn a_header_row_cuts_the_range(rt: HostRuntime) -> Result<(), Fail> {
     Ok(())
 }
 
+// The size of the range of the sheet at an index.
+fn size_at(alloc: Global, book: &Xls, n: usize) -> Result<Option<(usize, usize)>, XlsError> {
+    match book.worksheet_range_at(alloc, n) {
+        Some(range) => Ok(Some(range?.get_size())),
+        None => Ok(None),
+    }
+}
+
 #[test]
 fn a_range_is_found_by_its_index(rt: HostRuntime) -> Result<(), Fail> {
     let alloc = rt.alloc();
     let book = ledger(alloc)?;
-    let found = book.worksheet_range_at(alloc, 0).transpose()?;
-    assert_eq!(rt; found.map(|range| range.get_size()), Some((2, 2)));
-    assert!(rt; book.worksheet_range_at(alloc, 1).is_none());
+    assert!(rt; size_at(alloc, &book, 0)? == Some((2, 2)));
+    assert!(rt; size_at(alloc, &book, 1)?.is_none());
     Ok(())
 }
 
@@ -135,34 +142,28 @@ fn is_range_to(found: Option<&(String, Range<Data>)>, name: &str, end: (u32, u32
     }
 }
 
+// BoundSheet8 of the sheet `b`, at byte 51 and at byte 77.
+static FIRST_B: [u8; 13] = [0x85, 0, 9, 0, 51, 0, 0, 0, 0, 0, 1, 0, 0x62];
+
+static LAST_B: [u8; 13] = [0x85, 0, 9, 0, 77, 0, 0, 0, 0, 0, 1, 0, 0x62];
+
+// Three names for two parts: `b`, `A`, `b`.
+fn three_names(alloc: Global) -> Result<Xls, XlsError> {
+    let names = joined(alloc, &[&G, &FIRST_B, &bound(51), &LAST_B, &E])?;
+    let (one, two) = (whole(3, 1, 1), whole(0, 0, 2));
+    opened(alloc, &[names.as_slice(), &S, &one, &E, &S, &two, &E])
+}
+
+// Whether these are the ranges of `A` and of the last `b`, in this order.
+fn are_ranges_of_both(all: &[(String, Range<Data>)]) -> bool {
+    all.len() == 2 && is_range_to(all.first(), "A", (3, 1)) && is_range_to(all.last(), "b", (0, 0))
+}
+
 #[test]
 fn lists_each_name_once_in_byte_order(rt: HostRuntime) -> Result<(), Fail> {
-    let alloc = rt.alloc();
-    // Three names for two parts: `b`, `A`, `b`.
-    let later = [0x85, 0, 9, 0, 51, 0, 0, 0, 0, 0, 1, 0, 0x62];
-    let last = [0x85, 0, 9, 0, 77, 0, 0, 0, 0, 0, 1, 0, 0x62];
-    let (one, two) = (whole(3, 1, 1), whole(0, 0, 2));
-    let mut book = opened(
-        alloc,
-        &[
-            &G,
-            &later,
-            &bound(51),
-            &last,
-            &E,
-            &S,
-            &one,
-            &E,
-            &S,
-            &two,
-            &E,
-        ],
-    )?;
+    let mut book = three_names(rt.alloc())?;
     book.with_header_row(HeaderRow::Row(9));
-    let all = book.worksheets(alloc)?;
-    assert_eq!(rt; all.len(), 2);
-    assert!(rt; is_range_to(all.first(), "A", (3, 1)));
-    assert!(rt; is_range_to(all.last(), "b", (0, 0)));
+    assert!(rt; are_ranges_of_both(&book.worksheets(rt.alloc())?));
     Ok(())
 }
 
@@ -173,12 +174,16 @@ fn sheets_by_the_trait(alloc: Global) -> Result<usize, XlsError> {
     Ok(book.sheets_metadata().len())
 }
 
-#[test]
-fn opens_by_the_trait(rt: HostRuntime) -> Result<(), Fail> {
-    let alloc = rt.alloc();
+// The values of the first sheet where the call for workbooks of any kind opens.
+fn values_by_the_call(alloc: Global) -> Result<String, XlsError> {
     let mut source = SteadySource::new(plain(alloc)?);
     let book: Xls = open_workbook_from_rs(alloc, &mut source)?;
-    assert_eq!(rt; listed(alloc, &book, 0)?.as_str(), "0,0=123.45 ");
-    assert_eq!(rt; sheets_by_the_trait(alloc)?, 1);
+    Ok(listed(alloc, &book, 0)?)
+}
+
+#[test]
+fn opens_by_the_trait(rt: HostRuntime) -> Result<(), Fail> {
+    assert!(rt; values_by_the_call(rt.alloc())?.as_str() == "0,0=123.45 ");
+    assert!(rt; sheets_by_the_trait(rt.alloc())? == 1);
     Ok(())
 }

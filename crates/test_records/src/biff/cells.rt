@@ -88,13 +88,20 @@ fn refuses_a_last_column_before_the_first(rt: HostRuntime) {
     assert!(rt; cells.is_empty());
 }
 
+/// BoolErr of `#N/A` at (1, 0), and of `true` for a 2 at (0, 0).
+static NOT_THERE: [u8; 8] = [1, 0, 0, 0, 0, 0, 0x2A, 1];
+
+static TWO: [u8; 8] = [0, 0, 0, 0, 0, 0, 2, 0];
+
+/// Whether a BoolErr has this value at this position.
+fn is_bool_err(body: &[u8], position: (u32, u32), wanted: &Data) -> Result<bool, XlsError> {
+    Ok(is_cell(Some(&parse_bool_err(body)?), position, wanted))
+}
+
 #[test]
 fn reads_truth_values_and_error_values(rt: HostRuntime) -> Result<(), Fail> {
-    let error = parse_bool_err(&[1, 0, 0, 0, 0, 0, 0x2A, 1])?;
-    assert_eq!(rt; error.get_value(), &Data::Error(CellErrorType::NA));
-    assert_eq!(rt; error.get_position(), (1, 0));
-    let truth = parse_bool_err(&[0, 0, 0, 0, 0, 0, 2, 0])?;
-    assert_eq!(rt; truth.get_value(), &Data::Bool(true));
+    assert!(rt; is_bool_err(&NOT_THERE, (1, 0), &Data::Error(CellErrorType::NA))?);
+    assert!(rt; is_bool_err(&TWO, (0, 0), &Data::Bool(true))?);
     Ok(())
 }
 
@@ -119,14 +126,20 @@ fn is_value(alloc: Global, bytes: &[u8; 8], wanted: &Option<Data>) -> Result<boo
     Ok(parse_formula_value(alloc, bytes, None, false)? == *wanted)
 }
 
+/// An empty text, a text that follows in a record of its own, and the double 6.
+static VALUES: [[u8; 8]; 3] = [
+    [3, 0, 0, 0, 0, 0, 0xFF, 0xFF],
+    [0, 0, 0, 0, 0, 0, 0xFF, 0xFF],
+    [0, 0, 0, 0, 0, 0, 0x18, 0x40],
+];
+
 #[test]
 fn reads_the_value_of_a_formula(rt: HostRuntime) -> Result<(), Fail> {
     let empty = Some(Data::String(String::new(rt.alloc())));
-    assert!(rt; is_value(rt.alloc(), &[3, 0, 0, 0, 0, 0, 0xFF, 0xFF], &empty)?);
-    // a text follows in a record of its own
-    assert!(rt; is_value(rt.alloc(), &[0, 0, 0, 0, 0, 0, 0xFF, 0xFF], &None)?);
+    assert!(rt; is_value(rt.alloc(), &VALUES[0], &empty)?);
+    assert!(rt; is_value(rt.alloc(), &VALUES[1], &None)?);
     let double = Some(Data::Float(Number::Bits(0x4018_0000_0000_0000)));
-    assert!(rt; is_value(rt.alloc(), &[0, 0, 0, 0, 0, 0, 0x18, 0x40], &double)?);
+    assert!(rt; is_value(rt.alloc(), &VALUES[2], &double)?);
     Ok(())
 }
 

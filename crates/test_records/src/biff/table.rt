@@ -1,7 +1,7 @@
 //! String tables.
 
 use super::*;
-use xls_data::Data;
+use xls_data::{Cell, Data, DataType};
 
 #[test]
 fn joins_a_pair_that_is_cut(rt: HostRuntime) -> Result<(), Fail> {
@@ -36,14 +36,25 @@ fn an_empty_piece_is_an_empty_string(rt: HostRuntime) -> Result<(), Fail> {
     Ok(())
 }
 
+/// LabelSst of the texts 2 and 3.
+static LABELS: [[u8; 10]; 2] = [
+    [0, 0, 0, 0, 0, 0, 2, 0, 0, 0],
+    [0, 0, 0, 0, 0, 0, 3, 0, 0, 0],
+];
+
+/// Whether a cell is there and has this text.
+fn is_cell_of(cell: &Option<Cell<Data>>, text: &str) -> bool {
+    match cell {
+        Some(cell) => cell.get_value().eq_text(text),
+        None => false,
+    }
+}
+
 #[test]
 fn takes_a_text_by_its_index(rt: HostRuntime) -> Result<(), Fail> {
     let strings = strings_of(rt.alloc(), &FIRST, &OTHERS)?;
-    let wanted = Data::String(String::from_str(rt.alloc(), "b")?);
-    let cell = parse_label_sst(rt.alloc(), &[0, 0, 0, 0, 0, 0, 2, 0, 0, 0], &strings)?;
-    assert_eq!(rt; cell.ok_or("no cell")?.get_value(), &wanted);
-    let none = parse_label_sst(rt.alloc(), &[0, 0, 0, 0, 0, 0, 3, 0, 0, 0], &strings)?;
-    assert!(rt; none.is_none());
+    assert!(rt; is_cell_of(&parse_label_sst(rt.alloc(), &LABELS[0], &strings)?, "b"));
+    assert!(rt; parse_label_sst(rt.alloc(), &LABELS[1], &strings)?.is_none());
     Ok(())
 }
 
@@ -75,19 +86,20 @@ fn reads_past_runs_and_extension(rt: HostRuntime) -> Result<(), Fail> {
     Ok(())
 }
 
+static PAIR: [u8; 5] = [2, 0, 1, 0x3D, 0xD8];
+
+static REST: [&[u8]; 1] = [&[1, 0, 0xDE, 0, 0, 0, 1]];
+
 #[test]
 fn steps_through_the_units(rt: HostRuntime) -> Result<(), Fail> {
-    let others: [&[u8]; 1] = [&[1, 0, 0xDE, 0, 0, 0, 1]];
-    let bytes = table_of(rt.alloc(), &[2, 0, 1, 0x3D, 0xD8], &others)?;
+    let bytes = table_of(rt.alloc(), &PAIR, &REST)?;
     let mut reader = SstReader::new(&record_of(&bytes)?)?;
-    let units = reader.next_units(rt.alloc())?.ok_or("no string")?;
-    assert_eq!(rt; units.as_slice(), [0xD83D, 0xDE00].as_slice());
-    let units = reader.next_units(rt.alloc())?.ok_or("no string")?;
-    assert!(rt; units.is_empty());
+    assert!(rt; has_next(rt.alloc(), &mut reader, &[0xD83D, 0xDE00])?);
+    assert!(rt; has_next(rt.alloc(), &mut reader, &[])?);
     // one byte of a head is left; the refused call leaves it there
     for _ in 0..2 {
         let refused = fault_of(reader.next_units(rt.alloc()));
-        assert_eq!(rt; refused, too_short(Part::RichString, 3, 1));
+        assert!(rt; refused == too_short(Part::RichString, 3, 1));
     }
     Ok(())
 }
@@ -101,16 +113,26 @@ fn with_letters(alloc: Global, head: &[u8], count: usize) -> Result<Vec<u8>, All
     Ok(bytes)
 }
 
+/// A table of one string of 9,000 letters: a body of 8,224 bytes, and a piece of 788.
+fn long_table(alloc: Global) -> Result<Vec<u8>, AllocError> {
+    let first = with_letters(alloc, &[0x28, 0x23, 0], 8_213)?;
+    let second = with_letters(alloc, &[0], 787)?;
+    table_of(alloc, &first, &[&second])
+}
+
+/// Whether there is a next string, of so many letters.
+fn has_letters(alloc: Global, reader: &mut SstReader<'_>, count: usize) -> Result<bool, XlsError> {
+    match reader.next_units(alloc)? {
+        Some(units) => Ok(units.len() == count && units.iter().all(|unit| *unit == 0x61)),
+        None => Ok(false),
+    }
+}
+
 #[test]
 fn steps_over_a_long_string(rt: HostRuntime) -> Result<(), Fail> {
-    // 9,000 units in a body of 8,224 bytes and a piece of 788
-    let first = with_letters(rt.alloc(), &[0x28, 0x23, 0], 8_213)?;
-    let second = with_letters(rt.alloc(), &[0], 787)?;
-    let bytes = table_of(rt.alloc(), &first, &[&second])?;
+    let bytes = long_table(rt.alloc())?;
     let mut reader = SstReader::new(&record_of(&bytes)?)?;
-    let units = reader.next_units(rt.alloc())?.ok_or("no string")?;
-    assert_eq!(rt; units.len(), 9_000);
-    assert!(rt; units.iter().all(|unit| *unit == 0x61));
+    assert!(rt; has_letters(rt.alloc(), &mut reader, 9_000)?);
     assert!(rt; reader.next_units(rt.alloc())?.is_none());
     Ok(())
 }

@@ -210,9 +210,12 @@ pub const LEDGER: [&[u8]; 35] = [
     &EOF,
 ];
 
-// The same in another layout: the texts in one piece, one of them in two bytes for a character, and the
+// The same for functions: a constant is made anew at each use of it.
+pub static LEDGER_PARTS: [&[u8]; 35] = LEDGER;
+
+// The stream in another layout: the texts in one piece, one of them in two bytes for a character, and the
 // parts of the sheets in another order.
-const OTHER_LAYOUT: [&[u8]; 34] = [
+static OTHER_LAYOUT: [&[u8]; 34] = [
     &BOF_OF_GLOBALS,
     &CODE_PAGE,
     &FONT,
@@ -273,7 +276,7 @@ fn writes(alloc: Global, word: &str, bytes: &[u8], wanted: &[u8]) -> Result<bool
 #[test]
 fn remakes_both_layouts_alike(rt: HostRuntime) -> Result<(), Fail> {
     let alloc = rt.alloc();
-    let ledger = joined(alloc, &LEDGER)?;
+    let ledger = joined(alloc, &LEDGER_PARTS)?;
     let other = joined(alloc, &OTHER_LAYOUT)?;
     let remade = written(alloc, "remake", &ledger)?;
     assert_eq!(rt; remade.len(), 494);
@@ -286,7 +289,7 @@ fn remakes_both_layouts_alike(rt: HostRuntime) -> Result<(), Fail> {
 #[test]
 fn writes_the_same_for_another_layout(rt: HostRuntime) -> Result<(), Fail> {
     let alloc = rt.alloc();
-    let (_, text) = outcome(alloc, &quiet(&["dump"], &LEDGER))?;
+    let (_, text) = outcome(alloc, &quiet(&["dump"], &LEDGER_PARTS))?;
     check(
         &rt,
         alloc,
@@ -299,7 +302,7 @@ fn writes_the_same_for_another_layout(rt: HostRuntime) -> Result<(), Fail> {
 // What is generated doesn't come from the source, whose first read would fail.
 #[test]
 fn makes_a_stream_without_reading(rt: HostRuntime) -> Result<(), Fail> {
-    let mut case = quiet(&["generate", "1"], &THREE);
+    let mut case = quiet(&["generate", "1"], &THREE_PARTS);
     case.read_fails = Some(0);
     check(&rt, rt.alloc(), &case, 0, b"rows\t1\ncells\t2\nsum\t0\n")
 }
@@ -309,7 +312,7 @@ const MADE_INT: [u8; 14] = [0x7E, 0x02, 10, 0, 0, 0, 0, 0, 0, 0, 2, 0, 0, 0];
 
 const MADE_WORD: [u8; 14] = [0xFD, 0x00, 10, 0, 0, 0, 1, 0, 0, 0, 0, 0, 0, 0];
 
-const MADE_PART: [&[u8]; 4] = [&SHEET, &MADE_INT, &MADE_WORD, &EOF];
+static MADE_PART: [&[u8]; 4] = [&SHEET, &MADE_INT, &MADE_WORD, &EOF];
 
 #[test]
 fn makes_the_bytes_of_a_row(rt: HostRuntime) -> Result<(), Fail> {
@@ -322,7 +325,7 @@ fn makes_the_bytes_of_a_row(rt: HostRuntime) -> Result<(), Fail> {
 }
 
 fn ledger(alloc: Global) -> Result<Xls, XlsError> {
-    let mut source = SteadySource::new(joined(alloc, &LEDGER)?);
+    let mut source = SteadySource::new(joined(alloc, &LEDGER_PARTS)?);
     Xls::new_with_options(alloc, &mut source, XlsOptions::defaults(alloc)?)
 }
 
@@ -425,7 +428,7 @@ fn a_range_of_formulas_is_their_box(rt: HostRuntime) -> Result<(), Fail> {
     Ok(())
 }
 
-const REGION: [Dimensions; 1] = [Dimensions {
+static REGION: [Dimensions; 1] = [Dimensions {
     start: (0, 1),
     end: (0, 2),
 }];

@@ -42,3 +42,6 @@ returns-then-count-eq0-clause-front g c =
       within,
       Consumes-trans _ _ _ had given c.loop-bytes.invariant.taken c.in_ok-count.ensures.bytes.0,
     )
+
+pub returns-then-count-eq0-clause-within : goal.returns-then-count-eq0-clause-within
+returns-then-count-eq0-clause-within g c = omega (arith, c.loop-bytes.invariant.within)
