@@ -32,11 +32,16 @@ fn opened(alloc: Global, bytes: Vec<u8>) -> anyhow::Result<Xls>
     Xls::new_with_options(alloc, &mut source, options(alloc)?).map_err(|error| anyhow!("{error}"))
 }
 
+/// The bytes of standard input.
+fn input(rt: &HostRuntime) -> anyhow::Result<Vec<u8>> {
+    let mut bytes = Vec::new(rt.alloc());
+    rt.stdin().read_to_end(&mut bytes)?;
+    Ok(bytes)
+}
+
 fn main(rt: HostRuntime) -> anyhow::Result<()> {
     let alloc = rt.alloc();
-    let mut bytes = Vec::new(alloc);
-    rt.stdin().read_to_end(&mut bytes)?;
-    let book = opened(alloc, bytes)?;
+    let book = opened(alloc, input(&rt)?)?;
     print!(rt; "{}", listing_of(alloc, &book)?)?;
     Ok(())
 }

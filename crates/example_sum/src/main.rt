@@ -67,16 +67,28 @@ fn sum_in(alloc: Global, book: &Xls, name: &str, column: u32) -> Result<i64>
     sum_of(&range, column).context("the sum has more than 64 bits")
 }
 
-fn main(rt: HostRuntime) -> Result<()> {
-    let alloc = rt.alloc();
-    let words = env::args(&rt)?.collect::<Vec<String>>(alloc)?;
-    let [_, name, column] = words.as_slice() else {
+/// The sheet's name and the column that the words ask for.
+fn asked(words: &[String]) -> Result<(&str, u32)> {
+    let [_, name, column] = words else {
         bail!("the words are a sheet's name and a column, counted from 0");
     };
     let column = column.parse::<u32>().context("reading the column")?;
-    let mut bytes = Vec::new(alloc);
+    Ok((name.as_str(), column))
+}
+
+/// The bytes of standard input.
+fn input(rt: &HostRuntime) -> Result<Vec<u8>> {
+    let mut bytes = Vec::new(rt.alloc());
     rt.stdin().read_to_end(&mut bytes)?;
-    let book = opened(alloc, bytes)?;
-    println!(rt; "{}", sum_in(alloc, &book, name, column)?)?;
+    Ok(bytes)
+}
+
+fn main(rt: HostRuntime) -> Result<()> {
+    let alloc = rt.alloc();
+    let words = env::args(&rt)?.collect::<Vec<String>>(alloc)?;
+    let (name, column) = asked(&words)?;
+    let book = opened(alloc, input(&rt)?)?;
+    let sum = sum_in(alloc, &book, name, column)?;
+    println!(rt; "{sum}")?;
     Ok(())
 }

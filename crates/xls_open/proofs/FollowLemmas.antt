@@ -17,7 +17,7 @@ use Rattle.xls_strings.specs.declared.error.XlsError.TheVariants as errors
 use Rattle.xls_strings.specs.Reading.{Fails, Gives, gives}
 use Rattle.xls_strings.specs.Sst.{error_of, ReadsTable, sst_marks, InTable}
 use Rattle.xls_biff.specs.Records.BoundSheet.{bound_sheet_at}
-use Rattle.xls_reading.specs.GlobalsTable.{strings_record, unless_refused, texts_of}
+use Rattle.xls_reading.specs.GlobalsTable.{GlobalsRecord, strings_record, unless_refused, texts_of}
 use Rattle.xls_biff.specs.Cells.{Position}
 use Rattle.xls_biff.specs.SheetTable.{SheetRecord}
 use Rattle.xls_formula.specs.Context.{Context}
@@ -131,3 +131,10 @@ pub line_taken : {X : Type 0} (new v : SheetView) (result : Result (Unit {0}) Xl
     → Follows new result (given_step v (gives (adds c at) (gives f r)))
 line_taken new v result c at f (Ok x) h = h
 line_taken new v result c at f (Err e) h = h
+
+-- ---- other records of the globals
+
+module _ {X : Type 0} (typ : ℕ) (body : List ℕ) (s : State) (f : X → GlobalsRecord) (r : Result X XlsError) where
+  -- what a reader gave is what the record says
+  pub plain_stepped : (x : X) → r ≡ Ok x → stepped s (plain_item typ body) (gives f r) ≡ stepped s (plain_item typ body) (Ok (f x))
+  plain_stepped x h = ap (λ (q : Result X XlsError). stepped s (plain_item typ body) (gives f q)) h

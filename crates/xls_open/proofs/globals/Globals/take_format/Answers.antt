@@ -6,6 +6,9 @@ returns-in_ok-push-in-Ok c =
     rw (c.in_ok-push-in-Ok.ensures.items, ← c.self.view_is)
     (format_taken c.args.r.now.typ c.args.r.now.body.now _ _ c.in-Ok.format c.in-Ok.ensures)
 
+pub returns-in-Err : goal.returns-in-Err
+returns-in-Err c = tt
+
 pub returns-in-Err-2 : goal.returns-in-Err-2
 returns-in-Err-2 c =
     rw (← c.self.view_is)

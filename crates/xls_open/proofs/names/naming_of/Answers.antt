@@ -1,0 +1,22 @@
+use Rattle.std.proofs.Common.{map, length, sym, ap, ◌∙◌}
+use Rattle.std.proofs.lemmas.List.{length-map}
+use Rattle.xls_formula.specs.Defined.{named_of}
+use Rattle.xls_reading.specs.InForce.{known_refs, told_name}
+use Rattle.xls_open.specs.Steps.{names_listed, listed_of}
+use Rattle.xls_open.specs.Workbook.{told_of}
+use Rattle.xls_open.proofs.names.naming_of.Goals as goal
+
+pub returns : goal.returns
+returns c =
+    let listed = map listed_of c.args.listed.now in
+    let lbls = map named_of c.args.lbls.items in
+    let known = c.in_ok-refs.ensures ∙ ap (λ count. known_refs c.args.version count c.args.refs) (sym (length-map c.args.listed.now listed_of)) in
+    let told = c.in_ok-names.ensures ∙ ap (map told_of) c.deref.ensures.value in
+    record {
+      sheets = c.in_ok-sheets.ensures;
+      known = known;
+      names = told ∙ c.in_ok-told.ensures
+          ∙ ap (λ sheets. map (told_name sheets c.in_ok-refs.refs) lbls) c.in_ok-sheets.ensures
+          ∙ ap (λ refs. map (told_name (names_listed listed) refs) lbls) known;
+      told = sym told;
+    }
