@@ -1,20 +1,11 @@
 //! Writes what a workbook stream holds.
 #![tactic(auto)]
 
-mod command;
-mod made;
-mod perform;
-mod run;
-mod summary;
-#[cfg(test)]
-mod tests;
-mod words;
-
-use crate::run::run;
-use crate::words::words_in;
 use std::io::ErrorKind;
 use std::process::ExitCode;
 use xls_book::StdSource;
+use xls_command::words_in;
+pub use xls_command::{generate_stream, run};
 pub use xls_lines::{MemorySink, Sink, StdSink, WriteFault};
 
 fn main(rt: HostRuntime) -> ExitCode {

@@ -1,0 +1,5 @@
+//! Tests of the commands of the program.
+#![tactic(auto)]
+
+#[cfg(test)]
+mod runs;

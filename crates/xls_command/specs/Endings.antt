@@ -1,0 +1,36 @@
+-- How a command ends.
+use Rattle.std.specs.Prelude.{ℕ, List, Option, Result, Ok, Err}
+use Rattle.std.specs.Io.KnownBytes.{Keeps}
+use Rattle.xls_source.specs.Causes.{Rose}
+use Rattle.xls_lines.specs.SinkState.{SinkState}
+use Rattle.xls_lines.specs.Written.{Writes, WritesPart}
+use Rattle.xls_report.specs.declared.ending.Ending.{Ending}
+use Rattle.xls_report.specs.declared.ending.Ending.TheVariants.{Done, Refused}
+use Rattle.xls_lines.specs.declared.stop.Stop.{Stop}
+use Rattle.xls_lines.specs.declared.stop.Stop.TheVariants.{Read, Write, Memory}
+use Rattle.xls_command.specs.Outputs.{IsOutput, IsRefusal, MayWrite, HasRead, EndsWell, ReadsNothing}
+use Rattle.xls_command.specs.declared.command.Command.{Command}
+
+-- a count of faults did not rise, and is below its last value
+abbrev pub IsQuiet : ℕ → ℕ → Type 0
+IsQuiet before now = Rose before now → ⊥
+
+-- what a command does to a source that had and has this left, with the counts of its faults
+abbrev pub Reads : Command → Option (List ℕ) → Option (List ℕ) → ℕ → ℕ → Result Ending Stop → Type 0
+Reads c left left' faults faults' (Ok Done) = HasRead c left left'
+Reads c left left' faults faults' (Ok Refused) = Unit {0}
+Reads c left left' faults faults' (Err Read) = (ReadsNothing c → ⊥) × Rose faults faults'
+Reads c left left' faults faults' (Err Write) = Unit {0}
+Reads c left left' faults faults' (Err Memory) = Unit {0}
+
+-- what a command over a source that had this left does to a sink
+abbrev pub Ends : Command → Option (List ℕ) → SinkState → SinkState → Result Ending Stop → Type 0
+Ends c left before after (Ok Done) =
+    EndsWell c left 0 × Writes (IsOutput c left) before.written after.written
+Ends c left before after (Ok Refused) =
+    EndsWell c left 1 × Writes (IsRefusal c left) before.written after.written
+Ends c left before after (Err Read) = Keeps before.written after.written
+Ends c left before after (Err Write) =
+    Rose before.faults after.faults × WritesPart (MayWrite c left) before.written after.written
+Ends c left before after (Err Memory) =
+    EndsWell c left 5 × WritesPart (MayWrite c left) before.written after.written

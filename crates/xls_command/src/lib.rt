@@ -1,0 +1,14 @@
+//! The commands of the program: what the words of its command line ask for, over a source and a sink.
+#![tactic(auto)]
+
+mod command;
+mod made;
+mod perform;
+mod runs;
+mod summary;
+mod words;
+
+pub use command::Command;
+pub use made::generate_stream;
+pub use runs::run;
+pub use words::words_in;
