@@ -1,14 +1,14 @@
 -- Custom properties one after the other.
-use Rattle.std.proofs.Common.{◌≡◌, ℕ, ◌+◌, ◌<◌, List, [], ◌∷◌, ◌++◌, length, take, get_or, Bool, true, false, cond, Option, Some, None, String, string_bytes, refl, sym, ap, ◌∙◌, append_assoc, append-nil}
+use Rattle.std.proofs.Common.{◌≡◌, ℕ, ◌+◌, ◌<◌, List, [], ◌∷◌, ◌++◌, length, take, get_or, Bool, true, false, cond, Option, Some, None, String, string_bytes, refl, sym, ap, ◌∙◌, append_assoc, append-nil, subst, nat_lt}
 use Rattle.std.proofs.lemmas.List.{take_more}
 use Rattle.std.specs.Option.{option_or}
 use Rattle.std.specs.Str.{bytes_eq}
 use Rattle.std.specs.Map.{update}
 use Rattle.std.specs.BTreeMap.{BTreeMap, get_by_text}
 use Rattle.xls_text.specs.declared.encoding.XlsEncoding.{XlsEncoding}
-use Rattle.xls_props.specs.Entries.{Entry}
+use Rattle.xls_props.specs.Entries.{Entry, last_of}
 use Rattle.xls_props.specs.Names.{Name}
-use Rattle.xls_props.specs.Values.{Value, Shows, ShowsValue}
+use Rattle.xls_props.specs.Values.{Value, Shows, ShowsValue, value_at}
 use Rattle.xls_props.specs.Custom.{named, custom_of, customs_of, last_named, HasLast}
 use Rattle.xls_props.proofs.NameLemmas.{option_or-assoc, or_none}
 
@@ -33,6 +33,22 @@ module _ {Y Z : Type 0} (m n : BTreeMap (String Y) (String Z)) (text : String Z)
     where
       some_same : Some x ≡ Some name → x ≡ name
       some_same e = cc
+
+named_none : (Z : Type 0) (name : Option (List ℕ)) (v : Option Value) → Shows {Z = Z} v None → named name v ≡ []
+named_none Z None v none = refl
+named_none Z (Some n) None none = refl
+named_none Z (Some n) (Some v) none = absurd none
+
+-- an entry without a value changes nothing
+pub put_none : (Y Z : Type 0) (m : BTreeMap (String Y) (String Z)) (names : List Name) (page : XlsEncoding) (s : List ℕ) (e : Entry) (ps : List (List ℕ × Value))
+    (o : Option (String Z)) → o ≡ None → Shows (value_at page s e.1) o → HasLast m ps → HasLast m (ps ++ custom_of names page s e)
+put_none Y Z m names page s e ps o none shows has =
+    let is : named (last_of e.0 names) (value_at page s e.1) ≡ [] = named_none Z _ _ (subst (λ (t : Option (String Z)). Shows (value_at page s e.1) t) none shows) in
+    subst (λ (qs : List (List ℕ × Value)). HasLast m qs) (sym (ap (λ qs. ps ++ qs) (by_test (nat_lt e.0 2) _ is) ∙ append-nil ps)) has
+  where
+    by_test : (b : Bool) (qs : List (List ℕ × Value)) → qs ≡ [] → cond b [] qs ≡ []
+    by_test true qs none = refl
+    by_test false qs none = none
 
 pub customs-append : (names : List Name) (page : XlsEncoding) (s : List ℕ) (es : List Entry) (e : Entry)
     → customs_of names page s (es ++ e ∷ []) ≡ customs_of names page s es ++ custom_of names page s e

@@ -4,3 +4,4 @@ pub mod DayLemmas
 pub mod NameLemmas
 pub mod CustomLemmas
 pub mod StandardFacts
+pub mod FieldLemmas

@@ -2,8 +2,9 @@
 
 ghost use Rattle.std.specs.Prelude.{◌≡◌, ℕ, List, IfOk};
 ghost use Rattle.std.specs.Option.{option_map};
+ghost use Rattle.xls_props.specs.Values.{Shows};
 ghost use Rattle.xls_props.specs.Custom.{HasLast};
-ghost use Rattle.xls_props.specs.Sections.{customs_in};
+ghost use Rattle.xls_props.specs.Sections.{customs_in, field_of};
 ghost use Rattle.xls_props.specs.Properties.{IsSummary, IsDocument, IsProperties};
 
 use crate::section::{Section, section_from};
@@ -64,6 +65,19 @@ static CUSTOM: [u8; 16] = [
     0x05, 0xD5, 0xCD, 0xD5, 0x9C, 0x2E, 0x1B, 0x10, 0x93, 0x97, 0x08, 0x00, 0x2B, 0x2C, 0xF9, 0xAE,
 ];
 
+// Sets a field to the text of a number's last entry.
+fn set_field(
+    field: &mut Option<String>,
+    alloc: Global,
+    section: &Section<'_>,
+    number: u32,
+) -> Result<(), AllocError>
+    ensures { IfOk result (λ _. Shows (field_of number section.now) field.new) }
+{
+    *field = section.field(alloc, number)?;
+    Ok(())
+}
+
 impl WorkbookProperties {
     // None yet.
     fn none(alloc: Global) -> WorkbookProperties {
@@ -89,22 +103,44 @@ impl WorkbookProperties {
         }
     }
 
+    // Sets the fields of a summary section.
+    fn set_summary(&mut self, alloc: Global, section: &Section<'_>) -> Result<(), AllocError>
+        ensures { IfOk result (λ _. IsSummary section.now self.new) }
+    {
+        set_field(&mut self.title, alloc, section, 0x02)?;
+        set_field(&mut self.subject, alloc, section, 0x03)?;
+        set_field(&mut self.creator, alloc, section, 0x04)?;
+        set_field(&mut self.keywords, alloc, section, 0x05)?;
+        set_field(&mut self.description, alloc, section, 0x06)?;
+        set_field(&mut self.template, alloc, section, 0x07)?;
+        set_field(&mut self.last_modified_by, alloc, section, 0x08)?;
+        set_field(&mut self.revision, alloc, section, 0x09)?;
+        set_field(&mut self.created, alloc, section, 0x0C)?;
+        set_field(&mut self.modified, alloc, section, 0x0D)?;
+        set_field(&mut self.application, alloc, section, 0x12)?;
+        Ok(())
+    }
+
     // Takes the fields of a summary section.
     fn take_summary(&mut self, alloc: Global, bytes: &[u8]) -> Result<(), AllocError>
         ensures { IfOk result (λ _. IsSummary bytes.now self.new) }
     {
         let section = Section::new(alloc, bytes)?;
-        self.title = section.field(alloc, 0x02)?;
-        self.subject = section.field(alloc, 0x03)?;
-        self.creator = section.field(alloc, 0x04)?;
-        self.keywords = section.field(alloc, 0x05)?;
-        self.description = section.field(alloc, 0x06)?;
-        self.template = section.field(alloc, 0x07)?;
-        self.last_modified_by = section.field(alloc, 0x08)?;
-        self.revision = section.field(alloc, 0x09)?;
-        self.created = section.field(alloc, 0x0C)?;
-        self.modified = section.field(alloc, 0x0D)?;
-        self.application = section.field(alloc, 0x12)?;
+        self.set_summary(alloc, &section)?;
+        Ok(())
+    }
+
+    // Sets the fields of a document section, and leaves those of a summary.
+    fn set_document(&mut self, alloc: Global, section: &Section<'_>) -> Result<(), AllocError>
+        ensures fields { IfOk result (λ _. IsDocument section.now self.new) }
+        ensures others { IfOk result (λ _. (summary : List ℕ) → IsSummary summary self.old → IsSummary summary self.new) }
+    {
+        set_field(&mut self.category, alloc, section, 0x02)?;
+        set_field(&mut self.manager, alloc, section, 0x0E)?;
+        set_field(&mut self.company, alloc, section, 0x0F)?;
+        set_field(&mut self.content_status, alloc, section, 0x1B)?;
+        set_field(&mut self.version, alloc, section, 0x1D)?;
+        self.app_version = section.app_version(alloc)?;
         Ok(())
     }
 
@@ -114,12 +150,7 @@ impl WorkbookProperties {
         ensures others { IfOk result (λ _. (summary : List ℕ) → IsSummary summary self.old → IsSummary summary self.new) }
     {
         let section = Section::new(alloc, bytes)?;
-        self.category = section.field(alloc, 0x02)?;
-        self.manager = section.field(alloc, 0x0E)?;
-        self.company = section.field(alloc, 0x0F)?;
-        self.content_status = section.field(alloc, 0x1B)?;
-        self.version = section.field(alloc, 0x1D)?;
-        self.app_version = section.app_version(alloc)?;
+        self.set_document(alloc, &section)?;
         Ok(())
     }
 
@@ -131,6 +162,22 @@ impl WorkbookProperties {
     {
         let section = Section::new(alloc, bytes)?;
         self.custom_properties = section.customs(alloc)?;
+        Ok(())
+    }
+
+    // Takes the properties of both streams.
+    fn take(
+        &mut self,
+        alloc: Global,
+        summary: Option<&[u8]>,
+        document: Option<&[u8]>,
+    ) -> Result<(), AllocError>
+        ensures { IfOk result (λ _. IsProperties (option_map (λ x. x.now) summary.entry)
+            (option_map (λ x. x.now) document.entry) self.new) }
+    {
+        self.take_summary(alloc, section_from(&SUMMARY, summary))?;
+        self.take_document(alloc, section_from(&DOCUMENT, document))?;
+        self.take_custom(alloc, section_from(&CUSTOM, document))?;
         Ok(())
     }
 }
@@ -147,8 +194,6 @@ pub fn workbook_properties_of(
         (option_map (λ x. x.now) document.entry)) }
 {
     let mut properties = WorkbookProperties::none(alloc);
-    properties.take_summary(alloc, section_from(&SUMMARY, summary))?;
-    properties.take_document(alloc, section_from(&DOCUMENT, document))?;
-    properties.take_custom(alloc, section_from(&CUSTOM, document))?;
+    properties.take(alloc, summary, document)?;
     Ok(properties)
 }

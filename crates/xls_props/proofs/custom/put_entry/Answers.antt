@@ -5,7 +5,7 @@ use Rattle.std.specs.BTreeMap.{get}
 use Rattle.xls_props.specs.Entries.{last_of}
 use Rattle.xls_props.specs.Values.{Value, value_at, Shows}
 use Rattle.xls_props.specs.Custom.{named, custom_of, HasLast}
-use Rattle.xls_props.proofs.CustomLemmas.{put_last}
+use Rattle.xls_props.proofs.CustomLemmas.{put_last, put_none}
 use Rattle.xls_props.proofs.custom.put_entry.Goals as goal
 
 pub returns : goal.returns
@@ -18,3 +18,8 @@ returns c = λ ns ps names has.
     let one : custom_of ns c.args.page c.args.s.now c.args.entry
     ≡ named (last_of c.args.entry.0 ns) (value_at c.args.page c.args.s.now c.args.entry.1) = rw low in
     subst (λ (qs : List (List ℕ × Value)). HasLast c.put.new.map (ps ++ qs)) (sym one) (put_last c.args.map.now c.put.new.map c.in-Some-2.value c.as_str-text.result.now ps _ _ c.in_ok-put.ensures is shows has)
+
+-- without a value the map stays
+pub returns-in_default-2 : goal.returns-in_default-2
+returns-in_default-2 c = λ ns ps names has.
+    put_none _ _ c.args.map.now ns c.args.page c.args.s.now c.args.entry ps c.in_ok-value.field-0 c.in_default-2.is c.in_ok-value.ensures has

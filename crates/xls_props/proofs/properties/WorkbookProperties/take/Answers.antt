@@ -2,7 +2,7 @@ use Rattle.std.proofs.Common.{subst}
 use Rattle.xls_props.specs.Custom.{HasLast}
 use Rattle.xls_props.specs.Sections.{customs_in}
 use Rattle.xls_props.specs.Properties.{IsSummary, IsDocument}
-use Rattle.xls_props.proofs.properties.workbook_properties_of.Goals as goal
+use Rattle.xls_props.proofs.properties.WorkbookProperties.take.Goals as goal
 
 -- each section's fields stay where the next ones are taken
 pub returns : goal.returns

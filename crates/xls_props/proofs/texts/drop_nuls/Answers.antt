@@ -1,0 +1,7 @@
+use Rattle.std.proofs.Common.{◌∙◌}
+use Rattle.xls_props.proofs.texts.drop_nuls.Goals as goal
+
+pub returns : goal.returns
+returns c =
+    let front = rw c.as_bytes.ensures.value at c.len_without_nuls-n.ensures.front in
+    c.truncate.ensures.bytes ∙ front
