@@ -147,15 +147,31 @@ fn counts_more_than_255_open_brackets(rt: HostRuntime) -> Result<(), Fail> {
     Ok(())
 }
 
+static CODES: [(u16, CellFormat); 3] = [
+    (14, CellFormat::DateTime),
+    (46, CellFormat::TimeDelta),
+    (49, CellFormat::Other),
+];
+
+static IDS: [(&str, CellFormat); 4] = [
+    ("58", CellFormat::DateTime),
+    ("46", CellFormat::TimeDelta),
+    ("046", CellFormat::Other),
+    ("+46", CellFormat::Other),
+];
+
 #[test]
 fn tells_the_classes_of_built_in_formats(rt: HostRuntime) {
-    assert_eq!(rt; builtin_format_by_code(14), CellFormat::DateTime);
-    assert_eq!(rt; builtin_format_by_code(46), CellFormat::TimeDelta);
-    assert_eq!(rt; builtin_format_by_code(49), CellFormat::Other);
-    assert_eq!(rt; builtin_format_by_id("58"), CellFormat::DateTime);
-    assert_eq!(rt; builtin_format_by_id("46"), CellFormat::TimeDelta);
-    assert_eq!(rt; builtin_format_by_id("046"), CellFormat::Other);
-    assert_eq!(rt; builtin_format_by_id("+46"), CellFormat::Other);
+    for (code, class) in CODES.iter() {
+        assert!(rt; builtin_format_by_code(*code) == *class, "{code}");
+    }
+    for (id, class) in IDS.iter() {
+        assert!(rt; builtin_format_by_id(id) == *class, "{id}");
+    }
+}
+
+#[test]
+fn states_its_laws(_rt: HostRuntime) {
     class_of_first_section();
     class_of_decimal_text();
     equality_by_content();
@@ -222,13 +238,20 @@ fn gives_numbers_their_values_under_a_class(rt: HostRuntime) -> Result<(), Fail>
     assert!(rt; is_value(alloc, format_excel_i64(2, None, false), Given::Int(2))?);
     let float = format_excel_number(two, Some(&CellFormat::Other), false);
     assert!(rt; is_value(alloc, float, Given::Float(two))?);
-    let span = ExcelDateTime::new(two, ExcelDateTimeType::TimeDelta, false);
-    assert!(rt;
-        format_excel_number(two, Some(&CellFormat::TimeDelta), false) == Data::DateTime(span)
-    );
+    Ok(())
+}
+
+fn gives_a_span(number: Number) -> bool {
+    let span = ExcelDateTime::new(number, ExcelDateTimeType::TimeDelta, false);
+    format_excel_number(number, Some(&CellFormat::TimeDelta), false) == Data::DateTime(span)
+}
+
+#[test]
+fn gives_spans_and_references(rt: HostRuntime) {
+    let two = Number::Whole(2);
+    assert!(rt; gives_a_span(two));
     assert!(rt; is_ref(format_excel_i64_ref(2, None, false), Given::Int(2)));
     assert!(rt; is_ref(format_excel_number_ref(two, None, false), Given::Float(two)));
-    Ok(())
 }
 
 #[test]
@@ -266,20 +289,35 @@ fn copies_every_value(rt: HostRuntime) -> Result<(), Fail> {
     for given in VALUES.iter() {
         assert!(rt; copies(rt.alloc(), &data_of(rt.alloc(), *given)?)?);
     }
-    assert!(rt; copies(rt.alloc(), &String::from_str(rt.alloc(), "x")?)?);
+    Ok(())
+}
+
+// The same of a text that is owned, as itself and in a reference.
+fn copies_texts(alloc: Global) -> Result<bool, AllocError> {
+    let text = String::from_str(alloc, "x")?;
+    let copies_text = copies(alloc, &text)?;
+    Ok(copies_text && copies(alloc, &DataRef::String(text))?)
+}
+
+#[test]
+fn copies_owned_texts_and_numbers(rt: HostRuntime) -> Result<(), Fail> {
+    assert!(rt; copies_texts(rt.alloc())?);
     assert!(rt; copies(rt.alloc(), &3usize)?);
     Ok(())
 }
 
+static REFERENCES: [Given; 4] = [
+    Given::Int(1),
+    Given::Text("x"),
+    Given::Date(Number::Whole(2), true),
+    Given::Nothing,
+];
+
 #[test]
 fn copies_every_reference(rt: HostRuntime) -> Result<(), Fail> {
-    let text = DataRef::String(String::from_str(rt.alloc(), "x")?);
-    assert!(rt; copies(rt.alloc(), &text)?);
-    assert!(rt; copies(rt.alloc(), &DataRef::Int(1))?);
-    assert!(rt; copies(rt.alloc(), &DataRef::SharedString("x"))?);
-    let date = date_of(Number::Whole(2), true);
-    assert!(rt; copies(rt.alloc(), &DataRef::DateTime(date))?);
-    assert!(rt; copies(rt.alloc(), &DataRef::Empty)?);
+    for given in REFERENCES.iter() {
+        assert!(rt; copies(rt.alloc(), &ref_of(*given))?);
+    }
     Ok(())
 }
 
@@ -296,6 +334,11 @@ fn has_text<T: DataType>(alloc: Global, value: &T, text: &str) -> Result<bool, A
     }
 }
 
+// The same of a value of a table.
+fn gives_text(alloc: Global, given: Given, text: &str) -> Result<bool, AllocError> {
+    has_text(alloc, &data_of(alloc, given)?, text)
+}
+
 // Values, and their texts through the bound.
 static TEXTS: [(Given, &str); 3] = [
     (Given::Text("x"), "x"),
@@ -306,7 +349,7 @@ static TEXTS: [(Given, &str); 3] = [
 #[test]
 fn reads_values_through_the_bound(rt: HostRuntime) -> Result<(), Fail> {
     for (given, text) in TEXTS.iter() {
-        assert!(rt; has_text(rt.alloc(), &data_of(rt.alloc(), *given)?, text)?);
+        assert!(rt; gives_text(rt.alloc(), *given, text)?);
     }
     assert!(rt; has_text(rt.alloc(), &ref_of(Given::Text("y")), "y")?);
     assert!(rt; text_of(rt.alloc(), &Data::Bool(true))?.is_none());
@@ -378,12 +421,16 @@ static WHOLES: [(Given, Option<i64>); 6] = [
     (Given::Nothing, None),
 ];
 
+fn is_taken_for(alloc: Global, given: Given, whole: Option<i64>) -> Result<bool, AllocError> {
+    Ok(data_of(alloc, given)?.as_i64() == whole)
+}
+
 #[test]
 fn takes_values_for_whole_numbers(rt: HostRuntime) -> Result<(), Fail> {
     for (given, whole) in WHOLES.iter() {
-        assert_eq!(rt; data_of(rt.alloc(), *given)?.as_i64(), *whole);
+        assert!(rt; is_taken_for(rt.alloc(), *given, *whole)?);
     }
-    assert_eq!(rt; ref_of(Given::Text("9223372036854775808")).as_i64(), None);
+    assert!(rt; ref_of(Given::Text("9223372036854775808")).as_i64() == None);
     Ok(())
 }
 
@@ -417,12 +464,17 @@ fn owned_text(alloc: Global, value: &DataRef<'_>) -> Result<String, AllocError> 
     Data::from_ref(alloc, value.try_copy(alloc)?)?.to_string(alloc)
 }
 
+// Whether a reference to a value and an owned copy of it have this text.
+fn prints(alloc: Global, given: Given, text: &str) -> Result<bool, AllocError> {
+    let value = ref_of(given);
+    let printed = value.to_string(alloc)?;
+    Ok(printed.as_str() == text && owned_text(alloc, &value)?.as_str() == text)
+}
+
 #[test]
 fn prints_values(rt: HostRuntime) -> Result<(), Fail> {
     for (given, text) in PRINTED.iter() {
-        let value = ref_of(*given);
-        assert_eq!(rt; value.to_string(rt.alloc())?.as_str(), *text);
-        assert_eq!(rt; owned_text(rt.alloc(), &value)?.as_str(), *text);
+        assert!(rt; prints(rt.alloc(), *given, text)?, "{text}");
     }
     Ok(())
 }
@@ -453,37 +505,54 @@ fn converts_into_values(rt: HostRuntime) -> Result<(), Fail> {
     Ok(())
 }
 
+fn counts_its_cells(region: Dimensions) -> bool {
+    region.contains(1, 2) && region.contains(3, 4) && !region.contains(4, 4) && region.len() == 9
+}
+
+fn orders_by_corners(region: Dimensions) -> bool {
+    Dimensions::new((1, 2), (9, 9)) < Dimensions::new((2, 0), (0, 0))
+        && region < Dimensions::new((1, 2), (3, 5))
+}
+
+// A region is found in a map by an equal one.
+fn is_found(alloc: Global, region: Dimensions) -> Result<bool, AllocError> {
+    let mut seen = HashMap::new(alloc);
+    seen.insert(region, 1u8)?;
+    Ok(seen.contains_key(&Dimensions::new((1, 2), (3, 4))))
+}
+
 #[test]
 fn compares_and_counts_regions(rt: HostRuntime) -> Result<(), Fail> {
     let region = Dimensions::new((1, 2), (3, 4));
-    assert!(rt; region.contains(1, 2) && region.contains(3, 4) && !region.contains(4, 4));
-    assert_eq!(rt; region.len(), 9);
-    assert!(rt; Dimensions::new((1, 2), (9, 9)) < Dimensions::new((2, 0), (0, 0)));
-    assert!(rt; Dimensions::new((1, 2), (3, 4)) < Dimensions::new((1, 2), (3, 5)));
-    assert!(rt; Dimensions::default() == Dimensions::new((0, 0), (0, 0)));
-    let mut seen = HashMap::new(rt.alloc());
-    seen.insert(region, 1u8)?;
-    assert!(rt; seen.contains_key(&Dimensions::new((1, 2), (3, 4))));
-    assert!(rt; HeaderRow::default() == HeaderRow::FirstNonEmptyRow);
-    assert!(rt; HeaderRow::Row(1) != HeaderRow::default());
+    assert!(rt; counts_its_cells(region) && orders_by_corners(region));
+    assert!(rt; is_found(rt.alloc(), region)?);
     Ok(())
 }
 
 #[test]
-fn keeps_cells_and_sheets(rt: HostRuntime) -> Result<(), Fail> {
+fn has_defaults(rt: HostRuntime) {
+    assert!(rt; Dimensions::default() == Dimensions::new((0, 0), (0, 0)));
+    assert!(rt; HeaderRow::default() == HeaderRow::FirstNonEmptyRow);
+    assert!(rt; HeaderRow::Row(1) != HeaderRow::default());
+}
+
+fn keeps_a_cell() -> bool {
     let cell = Cell::new((3, 4), Data::Int(5));
-    assert_eq!(rt; cell.get_position(), (3, 4));
-    assert!(rt; *cell.get_value() == Data::Int(5));
-    let sheet = Sheet {
-        name: String::from_str(rt.alloc(), "A")?,
+    cell.get_position() == (3, 4) && *cell.get_value() == Data::Int(5)
+}
+
+fn sheet_of(alloc: Global, visible: SheetVisible) -> Result<Sheet, AllocError> {
+    Ok(Sheet {
+        name: String::from_str(alloc, "A")?,
         typ: SheetType::WorkSheet,
-        visible: SheetVisible::VeryHidden,
-    };
-    let other = Sheet {
-        name: String::from_str(rt.alloc(), "A")?,
-        typ: SheetType::WorkSheet,
-        visible: SheetVisible::Hidden,
-    };
-    assert!(rt; sheet != other);
+        visible,
+    })
+}
+
+#[test]
+fn keeps_cells_and_sheets(rt: HostRuntime) -> Result<(), Fail> {
+    assert!(rt; keeps_a_cell());
+    let sheet = sheet_of(rt.alloc(), SheetVisible::VeryHidden)?;
+    assert!(rt; sheet != sheet_of(rt.alloc(), SheetVisible::Hidden)?);
     Ok(())
 }

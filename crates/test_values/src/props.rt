@@ -85,23 +85,49 @@ fn has_no_field(p: &WorkbookProperties) -> bool {
         && p.manager.is_none()
 }
 
-#[test]
-fn reads_a_title_by_its_page(rt: HostRuntime) -> Result<(), Fail> {
-    let properties = workbook_properties_of(rt.alloc(), Some(&TITLE), None)?;
-    assert!(rt; is_text(&properties.title, Some("Ålesund")));
-    assert!(rt; properties.creator.is_none());
-    assert_eq!(rt; properties.custom_properties.len(), 0);
-    Ok(())
+// What is looked at in properties: the title of `TITLE` alone; that there is no property at all; that
+// there is no field; the four custom properties of `CUSTOM`; how many custom properties there are;
+// the last entries of `FIELDS`.
+#[derive(Clone, Copy)]
+enum Wanted {
+    Title,
+    Nothing,
+    NoField,
+    Custom,
+    Count(usize),
+    Last,
 }
 
-// Whether streams have no property at all.
-fn have_none(
+fn is_titled(p: &WorkbookProperties) -> bool {
+    is_text(&p.title, Some("Ålesund")) && p.creator.is_none() && p.custom_properties.len() == 0
+}
+
+fn are(p: &WorkbookProperties, wanted: Wanted) -> bool {
+    match wanted {
+        Wanted::Title => is_titled(p),
+        Wanted::Nothing => has_no_field(p) && p.custom_properties.len() == 0,
+        Wanted::NoField => has_no_field(p),
+        Wanted::Custom => has_properties(p) && has_no_field(p),
+        Wanted::Count(n) => p.custom_properties.len() == n,
+        Wanted::Last => are_last(p),
+    }
+}
+
+// Whether streams have these properties.
+fn have(
     alloc: Global,
     summary: Option<&[u8]>,
     document: Option<&[u8]>,
+    wanted: Wanted,
 ) -> Result<bool, AllocError> {
-    let none = workbook_properties_of(alloc, summary, document)?;
-    Ok(has_no_field(&none) && none.custom_properties.len() == 0)
+    let properties = workbook_properties_of(alloc, summary, document)?;
+    Ok(are(&properties, wanted))
+}
+
+#[test]
+fn reads_a_title_by_its_page(rt: HostRuntime) -> Result<(), Fail> {
+    assert!(rt; have(rt.alloc(), Some(&TITLE), None, Wanted::Title)?);
+    Ok(())
 }
 
 #[test]
@@ -110,10 +136,10 @@ fn finds_nothing_in_damaged_streams(rt: HostRuntime) -> Result<(), Fail> {
     damaged[0] = 0xFE;
     damaged[2] = 0;
     damaged[3] = 0;
-    assert!(rt; have_none(rt.alloc(), None, Some(&[]))?);
-    assert!(rt; have_none(rt.alloc(), None, Some(&damaged))?);
-    assert!(rt; have_none(rt.alloc(), None, Some(&TITLE))?);
-    assert!(rt; have_none(rt.alloc(), Some(&damaged), Some(&damaged))?);
+    assert!(rt; have(rt.alloc(), None, Some(&[]), Wanted::Nothing)?);
+    assert!(rt; have(rt.alloc(), None, Some(&damaged), Wanted::Nothing)?);
+    assert!(rt; have(rt.alloc(), None, Some(&TITLE), Wanted::Nothing)?);
+    assert!(rt; have(rt.alloc(), Some(&damaged), Some(&damaged), Wanted::Nothing)?);
     Ok(())
 }
 
@@ -153,20 +179,25 @@ fn has_property(properties: &WorkbookProperties, name: &str, value: &str) -> boo
     }
 }
 
+// Whether these are the custom properties, and no others.
+fn has_properties(properties: &WorkbookProperties) -> bool {
+    for (name, value) in PROPERTIES.iter() {
+        if !has_property(properties, name, value) {
+            return false;
+        }
+    }
+    properties.custom_properties.len() == 4
+}
+
 #[test]
 fn reads_custom_properties_by_their_names(rt: HostRuntime) -> Result<(), Fail> {
-    let properties = workbook_properties_of(rt.alloc(), None, Some(&CUSTOM))?;
-    for (name, value) in PROPERTIES.iter() {
-        assert!(rt; has_property(&properties, name, value), "{name}");
-    }
-    assert!(rt; properties.custom_properties.len() == 4 && has_no_field(&properties));
+    assert!(rt; have(rt.alloc(), None, Some(&CUSTOM), Wanted::Custom)?);
     Ok(())
 }
 
 #[test]
 fn looks_for_custom_properties_in_the_document_stream_alone(rt: HostRuntime) -> Result<(), Fail> {
-    let properties = workbook_properties_of(rt.alloc(), Some(&CUSTOM), None)?;
-    assert_eq!(rt; properties.custom_properties.len(), 0);
+    assert!(rt; have(rt.alloc(), Some(&CUSTOM), None, Wanted::Count(0))?);
     Ok(())
 }
 
@@ -181,7 +212,7 @@ fn are_last(properties: &WorkbookProperties) -> bool {
 
 #[test]
 fn takes_the_last_entry_of_a_field_and_the_first_version(rt: HostRuntime) -> Result<(), Fail> {
-    assert!(rt; are_last(&workbook_properties_of(rt.alloc(), Some(&TITLE), Some(&FIELDS))?));
+    assert!(rt; have(rt.alloc(), Some(&TITLE), Some(&FIELDS), Wanted::Last)?);
     Ok(())
 }
 
@@ -189,8 +220,10 @@ fn takes_the_last_entry_of_a_field_and_the_first_version(rt: HostRuntime) -> Res
 #[test]
 fn reads_a_summary_stream_cut_to_each_length(rt: HostRuntime) -> Result<(), Fail> {
     for n in 0..TITLE.len() {
-        let cut = workbook_properties_of(rt.alloc(), Some(front(&TITLE, n)), None)?;
-        assert!(rt; has_no_field(&cut));
+        assert!(rt;
+            have(rt.alloc(), Some(front(&TITLE, n)), None, Wanted::NoField)?,
+            "{n}"
+        );
     }
     Ok(())
 }
@@ -215,8 +248,11 @@ fn whole_within(n: usize) -> usize {
 #[test]
 fn reads_a_document_stream_cut_to_each_length(rt: HostRuntime) -> Result<(), Fail> {
     for n in 0..CUSTOM.len() + 1 {
-        let cut = workbook_properties_of(rt.alloc(), None, Some(front(&CUSTOM, n)))?;
-        assert_eq!(rt; cut.custom_properties.len(), whole_within(n));
+        let wanted = Wanted::Count(whole_within(n));
+        assert!(rt;
+            have(rt.alloc(), None, Some(front(&CUSTOM, n)), wanted)?,
+            "{n}"
+        );
     }
     Ok(())
 }

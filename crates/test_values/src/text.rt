@@ -1,6 +1,7 @@
 //! Expected values are those of the Unicode Standard, of CPython 3.11's decoders (`utf-8` and
 //! `utf-16-le` with `replace`) and of the Windows code page table.
 
+use std::alloc::{AllocError, Global};
 use std::test::Fail;
 use xls_text::{
     CfbError, XlsEncoding, one_utf8_reading, one_utf16_reading, push_units, text_of_units,
@@ -26,12 +27,15 @@ fn knows_four_pages(rt: HostRuntime) {
     );
 }
 
+fn prints_page(alloc: Global, page: u16, wanted: &str) -> Result<bool, AllocError> {
+    let text = format!(in alloc; "{}", CfbError::CodePageNotFound(page))?;
+    Ok(text.as_str() == wanted)
+}
+
 #[test]
 fn prints_a_page_in_upper_hexadecimal(rt: HostRuntime) -> Result<(), Fail> {
-    let text = format!(in rt.alloc(); "{}", CfbError::CodePageNotFound(932))?;
-    assert_eq!(rt; text.as_str(), "Codepage 3A4 not found");
-    let text = format!(in rt.alloc(); "{}", CfbError::CodePageNotFound(0))?;
-    assert_eq!(rt; text.as_str(), "Codepage 0 not found");
+    assert!(rt; prints_page(rt.alloc(), 932, "Codepage 3A4 not found")?);
+    assert!(rt; prints_page(rt.alloc(), 0, "Codepage 0 not found")?);
     Ok(())
 }
 
@@ -86,6 +90,16 @@ fn counts_no_more_than_asked_or_there(rt: HostRuntime) -> Result<(), Fail> {
     Ok(())
 }
 
+fn reads(
+    alloc: Global,
+    page: XlsEncoding,
+    bytes: &[u8],
+    expected: &str,
+) -> Result<bool, AllocError> {
+    let text = page.decode_all(alloc, bytes)?;
+    Ok(text.as_str() == expected)
+}
+
 static PAIRS: [(&[u8], &str); 6] = [
     (&[0x41, 0x00, 0x42], "A\u{FFFD}"),
     (&[0x3D, 0xD8, 0x00, 0xDE], "\u{1F600}"),
@@ -99,8 +113,7 @@ static PAIRS: [(&[u8], &str); 6] = [
 #[test]
 fn reads_utf_16(rt: HostRuntime) -> Result<(), Fail> {
     for (bytes, expected) in PAIRS.iter() {
-        let text = XlsEncoding::Utf16.decode_all(rt.alloc(), bytes)?;
-        assert_eq!(rt; text.as_str(), *expected);
+        assert!(rt; reads(rt.alloc(), XlsEncoding::Utf16, bytes, expected)?);
     }
     Ok(())
 }
@@ -132,8 +145,7 @@ static SEQUENCES: [(&[u8], &str); 10] = [
 #[test]
 fn reads_utf_8_by_the_longest_begun_sequence(rt: HostRuntime) -> Result<(), Fail> {
     for (bytes, expected) in SEQUENCES.iter() {
-        let text = XlsEncoding::Utf8.decode_all(rt.alloc(), bytes)?;
-        assert_eq!(rt; text.as_str(), *expected);
+        assert!(rt; reads(rt.alloc(), XlsEncoding::Utf8, bytes, expected)?);
     }
     Ok(())
 }
@@ -142,30 +154,47 @@ fn reads_utf_8_by_the_longest_begun_sequence(rt: HostRuntime) -> Result<(), Fail
 const UPPER: &str =
     "€\u{81}‚ƒ„…†‡ˆ‰Š‹Œ\u{8D}Ž\u{8F}\u{90}‘’“”•–—˜™š›œ\u{9D}žŸ\u{A0}¡¢£¤¥¦§¨©ª«¬\u{AD}®¯°±²³´µ¶·¸¹º»¼½¾¿ÀÁÂÃÄÅÆÇÈÉÊËÌÍÎÏÐÑÒÓÔÕÖ×ØÙÚÛÜÝÞßàáâãäåæçèéêëìíîïðñòóôõö÷øùúûüýþÿ";
 
+fn every_byte(alloc: Global) -> Result<Vec<u8>, AllocError> {
+    let mut bytes = Vec::new(alloc);
+    for byte in 0..=255u8 {
+        bytes.push(byte)?;
+    }
+    Ok(bytes)
+}
+
+fn page_1252(alloc: Global) -> Result<String, AllocError> {
+    let mut text = String::new(alloc);
+    for byte in 0..128u8 {
+        text.push(char::from(byte))?;
+    }
+    text.push_str(UPPER)?;
+    Ok(text)
+}
+
+fn reads_page_1252(alloc: Global, bytes: &[u8]) -> Result<bool, AllocError> {
+    let text = XlsEncoding::Windows1252.decode_all(alloc, bytes)?;
+    let expected = page_1252(alloc)?;
+    Ok(text.as_str() == expected.as_str() && text.as_str().chars().count() == 256)
+}
+
 #[test]
 fn reads_every_byte_of_page_1252(rt: HostRuntime) -> Result<(), Fail> {
-    let mut bytes = Vec::new(rt.alloc());
-    let mut expected = String::new(rt.alloc());
-    for byte in 0..128u8 {
-        bytes.push(byte)?;
-        expected.push(char::from(byte))?;
-    }
-    for byte in 128..=255u8 {
-        bytes.push(byte)?;
-    }
-    expected.push_str(UPPER)?;
-    let text = XlsEncoding::Windows1252.decode_all(rt.alloc(), bytes.as_slice())?;
-    assert_eq!(rt; text.as_str(), expected.as_str());
-    assert_eq!(rt; text.as_str().chars().count(), 256);
+    let bytes = every_byte(rt.alloc())?;
+    assert!(rt; reads_page_1252(rt.alloc(), bytes.as_slice())?);
     Ok(())
 }
 
 #[test]
 fn reads_page_28591_as_numbers(rt: HostRuntime) -> Result<(), Fail> {
-    let text = XlsEncoding::Latin1.decode_all(rt.alloc(), &[0x80, 0xE9])?;
-    assert_eq!(rt; text.as_str(), "\u{80}\u{E9}");
-    let text = XlsEncoding::Windows1252.decode_all(rt.alloc(), &[0x80])?;
-    assert_eq!(rt; text.as_str(), "\u{20AC}");
+    assert!(rt;
+        reads(
+            rt.alloc(),
+            XlsEncoding::Latin1,
+            &[0x80, 0xE9],
+            "\u{80}\u{E9}"
+        )?
+    );
+    assert!(rt; reads(rt.alloc(), XlsEncoding::Windows1252, &[0x80], "\u{20AC}")?);
     Ok(())
 }
 

@@ -85,6 +85,11 @@ fn refusal(alloc: Global, bytes: &[u8]) -> Result<String, AllocError> {
     }
 }
 
+fn answers(alloc: Global, bytes: &[u8], wanted: &str) -> Result<bool, AllocError> {
+    let text = refusal(alloc, bytes)?;
+    Ok(text.as_str() == wanted)
+}
+
 // Name, description and path of each reference.
 static REFERENCES: [(&str, &str, &str); 4] = [
     ("stdole", "OLE Automation", "C:\\stdole2.tlb"),
@@ -100,14 +105,19 @@ fn is_reference(found: &Reference, wanted: (&str, &str, &str)) -> bool {
         && found.path.as_str() == path
 }
 
+fn are_references(found: &[Reference]) -> bool {
+    for (found, wanted) in found.iter().zip(REFERENCES.iter()) {
+        if !is_reference(found, *wanted) {
+            return false;
+        }
+    }
+    found.len() == 4
+}
+
 #[test]
 fn lists_references_as_they_stand(rt: HostRuntime) -> Result<(), Fail> {
     let project = VbaProject::from_dir(rt.alloc(), &PROJECT)?;
-    let references = project.get_references();
-    assert_eq!(rt; references.len(), 4);
-    for (found, wanted) in references.iter().zip(REFERENCES.iter()) {
-        assert!(rt; is_reference(found, *wanted));
-    }
+    assert!(rt; are_references(project.get_references()));
     Ok(())
 }
 
@@ -170,11 +180,15 @@ fn has_no_module_of_another_name(rt: HostRuntime) -> Result<(), Fail> {
 #[test]
 fn reads_a_directory_cut_to_each_length(rt: HostRuntime) -> Result<(), Fail> {
     for n in 0..PROJECT.len() {
-        let text = refusal(rt.alloc(), front(&PROJECT, n))?;
-        assert_eq!(rt; text.as_str(), "Unexpected end of directory");
+        assert!(rt;
+            answers(
+                rt.alloc(),
+                front(&PROJECT, n),
+                "Unexpected end of directory"
+            )?
+        );
     }
-    let whole = refusal(rt.alloc(), &PROJECT)?;
-    assert_eq!(rt; whole.as_str(), "read");
+    assert!(rt; answers(rt.alloc(), &PROJECT, "read")?);
     Ok(())
 }
 
@@ -202,8 +216,7 @@ static PARTS: [(&[u8], &str); 7] = [
 fn refuses_the_first_field_that_differs(rt: HostRuntime) -> Result<(), Fail> {
     for (part, wanted) in PARTS.iter() {
         let bytes = behind_header(rt.alloc(), part)?;
-        let text = refusal(rt.alloc(), bytes.as_slice())?;
-        assert_eq!(rt; text.as_str(), *wanted);
+        assert!(rt; answers(rt.alloc(), bytes.as_slice(), wanted)?);
     }
     Ok(())
 }
@@ -215,7 +228,6 @@ fn refuses_a_page_that_is_not_read(rt: HostRuntime) -> Result<(), Fail> {
     bytes[36] = 0xB5;
     bytes[37] = 0x01;
     bytes[38] = 0xFF;
-    let text = refusal(rt.alloc(), &bytes)?;
-    assert_eq!(rt; text.as_str(), "Cfb error: Codepage 1B5 not found");
+    assert!(rt; answers(rt.alloc(), &bytes, "Cfb error: Codepage 1B5 not found")?);
     Ok(())
 }
