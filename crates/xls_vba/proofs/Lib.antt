@@ -4,3 +4,4 @@ pub mod DirectoryLemmas
 pub mod NameLemmas
 pub mod StandardFacts
 pub mod OneReadingLemmas
+pub mod RefusalLemmas
