@@ -1,5 +1,6 @@
 pub mod TextLemmas
 pub mod ReadLemmas
+pub mod ItemLemmas
 pub mod RowLemmas
 pub mod ColumnLemmas
 pub mod RangeLemmas

@@ -44,7 +44,7 @@ pub(crate) fn texts_of<T: ReadCell>(
                     return Err(DeError::Memory);
                 }
             }
-            Err(e) => return Err(e),
+            Err(refusal) => return Err(refusal),
         }
     }
     Ok(texts)
