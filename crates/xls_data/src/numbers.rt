@@ -1,8 +1,8 @@
 //! Numbers as a workbook has them, and their printed texts.
 
-ghost use Rattle.std.specs.Prelude.{◌≡◌, ◌++◌, Some, codes};
+ghost use Rattle.std.specs.Prelude.{◌≡◌, ◌==◌, ◌<◌, ◌^◌, ◌++◌, Some, codes};
 ghost use Rattle.std.specs.Fmt.{DisplaysOnOk};
-ghost use Rattle.xls_data.specs.Numbers.{number_trunc, number_trunc_checked, number_text, hundredths_text, bits_text, over_100_text, sixteen_digits};
+ghost use Rattle.xls_data.specs.Numbers.{number_trunc, number_trunc_checked, number_text, hundredths_text, decimals_text, bits_text, over_100_text, sixteen_digits};
 
 use std::fmt;
 use xls_bytes::{trunc_checked_of_bits, trunc_of_bits, whole_of_bits};
@@ -51,16 +51,17 @@ impl Number {
 // The bits of the double negative zero.
 const NEGATIVE_ZERO: u64 = 1 << 63;
 
-fn write_hundredths<W: fmt::Write>(n: i64, f: &mut fmt::Formatter<W>) -> fmt::Result
-    ensures { DisplaysOnOk W.write_str_gives f.old result (Some (hundredths_text n)) f.new }
+fn is_negative_zero(bits: u64) -> bool
+    ensures { result ≡ (bits == 2 ^ 63) }
 {
-    let size = n.unsigned_abs();
-    if n < 0 {
-        write!(f, "-")?;
-    }
-    let whole = size / 100;
-    let rest = size % 100;
-    write!(f, "{whole}")?;
+    bits == NEGATIVE_ZERO
+}
+
+// A point and the hundredths beside a whole number, without a last 0; nothing for none.
+fn write_decimals<W: fmt::Write>(rest: u64, f: &mut fmt::Formatter<W>) -> fmt::Result
+    requires { rest < 100 }
+    ensures { DisplaysOnOk W.write_str_gives f.old result (Some (decimals_text rest)) f.new }
+{
     if rest == 0 {
         return Ok(());
     }
@@ -71,6 +72,18 @@ fn write_hundredths<W: fmt::Write>(n: i64, f: &mut fmt::Formatter<W>) -> fmt::Re
     } else {
         write!(f, ".{tens}{ones}")
     }
+}
+
+fn write_hundredths<W: fmt::Write>(n: i64, f: &mut fmt::Formatter<W>) -> fmt::Result
+    ensures { DisplaysOnOk W.write_str_gives f.old result (Some (hundredths_text n)) f.new }
+{
+    let size = n.unsigned_abs();
+    if n < 0 {
+        write!(f, "-")?;
+    }
+    let whole = size / 100;
+    write!(f, "{whole}")?;
+    write_decimals(size % 100, f)
 }
 
 #[tactic(auto, using(crate::proofs::HexLemmas::padded_hex))]
@@ -84,7 +97,7 @@ fn write_hex<W: fmt::Write>(bits: u64, f: &mut fmt::Formatter<W>) -> fmt::Result
 fn write_bits<W: fmt::Write>(bits: u64, f: &mut fmt::Formatter<W>) -> fmt::Result
     ensures { DisplaysOnOk W.write_str_gives f.old result (Some (bits_text bits)) f.new }
 {
-    if bits == NEGATIVE_ZERO {
+    if is_negative_zero(bits) {
         return write!(f, "-0");
     }
     match whole_of_bits(bits) {
@@ -96,7 +109,7 @@ fn write_bits<W: fmt::Write>(bits: u64, f: &mut fmt::Formatter<W>) -> fmt::Resul
 fn write_over_100<W: fmt::Write>(bits: u64, f: &mut fmt::Formatter<W>) -> fmt::Result
     ensures { DisplaysOnOk W.write_str_gives f.old result (Some (over_100_text bits)) f.new }
 {
-    if bits == NEGATIVE_ZERO {
+    if is_negative_zero(bits) {
         return write!(f, "-0");
     }
     match whole_of_bits(bits) {

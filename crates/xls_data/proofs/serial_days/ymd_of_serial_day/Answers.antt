@@ -1,4 +1,4 @@
-use Rattle.std.proofs.Common.{arith, ◌∙◌}
+use Rattle.std.proofs.Common.{arith, refl, ◌∙◌}
 use Rattle.std.proofs.lemmas.Int.{ints}
 use Rattle.xls_data.proofs.DayLemmas.{numbered, known}
 use Rattle.xls_data.proofs.serial_days.ymd_of_serial_day.Goals as goal
@@ -32,3 +32,10 @@ pub ymd_after-requires-else-day-lt60-clause-start : goal.ymd_after-requires-else
 ymd_after-requires-else-day-lt60-clause-start c =
     let from = numbered c.date-else-day-lt60.result 1899 12 30 c.date-else-day-lt60.ensures ∙ known.1 in
     omega (arith, ints, from)
+
+-- a day past the last one is not up to it
+pub returns-then-day-gt-LAST_DAY-clause-late : goal.returns-then-day-gt-LAST_DAY-clause-late
+returns-then-day-gt-LAST_DAY-clause-late c = λ from_1900 after_leap within. absurd (omega (arith, c.if-day-gt-LAST_DAY.true, within))
+
+pub returns-then-day-eq60-clause-leap : goal.returns-then-day-eq60-clause-leap
+returns-then-day-eq60-clause-leap c = λ from_1900 is_leap. refl
