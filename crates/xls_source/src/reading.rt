@@ -68,7 +68,8 @@ fn read_by_pieces<S: Source>(
     loop {
         let room = (limit - bytes.len() as u64).min(piece.len() as u64 - 1) as usize + 1;
         let count = source.read(&mut piece[..room])?;
-        if count == 0 {
+        let is_end = count == 0;
+        if is_end {
             return Ok(StreamBytes { bytes });
         }
         bytes.extend_from_slice(&piece[..count])?;

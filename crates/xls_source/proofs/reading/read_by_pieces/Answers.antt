@@ -1,5 +1,6 @@
-use Rattle.std.proofs.Common.{◌++◌, ◌+◌, ◌≤◌, take, arith, length, length-append}
-use Rattle.std.proofs.lemmas.List.{length-take}
+use Rattle.std.proofs.Common.{◌≡◌, ◌++◌, ◌+◌, ◌≤◌, ◌<◌, ℕ, List, Option, Some, None, IfSome, take, drop, arith, length, length-append, subst, ap, ◌∙◌, refl}
+use Rattle.std.proofs.lemmas.List.{append-nil, length-take}
+use Rattle.std.specs.Io.KnownBytes.{Consumes}
 use Rattle.std.proofs.KnownBytes.{Consumes-trans}
 use Rattle.xls_source.proofs.reading.read_by_pieces.Goals as goal
 
@@ -26,8 +27,8 @@ returns-in_err-extend_from_slice-clause-front g c =
     )
 
 -- the end: nothing more was given
-pub returns-then-count-eq0-clause-front : goal.returns-then-count-eq0-clause-front
-returns-then-count-eq0-clause-front g c =
+pub returns-then-is_end-clause-front : goal.returns-then-is_end-clause-front
+returns-then-is_end-clause-front g c =
     let had = c.loop-bytes.bytes.items in
     let given = take c.in_ok-count.count c.read.new.into in
     let within : length (had ++ given) ≤ c.args.limit + 1 =
@@ -35,7 +36,7 @@ returns-then-count-eq0-clause-front g c =
       arith,
       length-append had given,
       length-take c.in_ok-count.count c.read.new.into,
-      c.if-count-eq0.true,
+      c.if-is_end.true,
       c.loop-bytes.invariant.within,
     ) in (
       had ++ given,
@@ -43,5 +44,110 @@ returns-then-count-eq0-clause-front g c =
       Consumes-trans _ _ _ had given c.loop-bytes.invariant.taken c.in_ok-count.ensures.bytes.0,
     )
 
-pub returns-then-count-eq0-clause-within : goal.returns-then-count-eq0-clause-within
-returns-then-count-eq0-clause-within g c = omega (arith, c.loop-bytes.invariant.within)
+pub returns-then-is_end-clause-within : goal.returns-then-is_end-clause-within
+returns-then-is_end-clause-within g c = omega (arith, c.loop-bytes.invariant.within)
+
+-- a read that gave nothing took nothing
+none_more : (left now : Option (List ℕ)) (had given : List ℕ) (count : ℕ)
+    → count ≡ 0
+    → Consumes left now (had ++ take count given)
+    → Consumes left now had
+none_more left now had given count none taken =
+    subst
+    (λ bytes. Consumes left now bytes)
+    (ap (λ n. had ++ take n given) none ∙ append-nil had)
+    taken
+
+pub returns-then-is_end-clause-all : goal.returns-then-is_end-clause-all
+returns-then-is_end-clause-all g c =
+    let had = c.loop-bytes.bytes.items in
+    let given = take c.in_ok-count.count c.read.new.into in
+    none_more
+    _
+    _
+    had
+    c.read.new.into
+    c.in_ok-count.count
+    c.if-is_end.true
+    (Consumes-trans _ _ _ had given c.loop-bytes.invariant.taken c.in_ok-count.ensures.bytes.0)
+
+pub returns-then-is_end-clause-end : goal.returns-then-is_end-clause-end
+returns-then-is_end-clause-end g c =
+    let filled = c.read.auto.into in
+    let some : 0 < length c.read.new.into =
+    omega (arith, filled, length-take (c.min.result + 1) c.loop-bytes.piece, c.min.ensures, c.len.ensures) in
+    c.in_ok-count.ensures.bytes.1 c.if-is_end.true some
+
+pub returns-then-is_end-clause-ended : goal.returns-then-is_end-clause-ended
+returns-then-is_end-clause-ended g c =
+    let filled = c.read.auto.into in
+    let some : 0 < length c.read.new.into =
+    omega (arith, filled, length-take (c.min.result + 1) c.loop-bytes.piece, c.min.ensures, c.len.ensures) in
+    c.in_ok-count.ensures.end c.if-is_end.true some
+
+pub returns-then-len-limit-clause-all : goal.returns-then-len-limit-clause-all
+returns-then-len-limit-clause-all g c = tt
+
+pub returns-then-len-limit-clause-end : goal.returns-then-len-limit-clause-end
+returns-then-len-limit-clause-end g c = tt
+
+pub returns-then-len-limit-clause-ended : goal.returns-then-len-limit-clause-ended
+returns-then-len-limit-clause-ended g c = tt
+
+-- what was taken past the limit was left
+past_limit : (left now : Option (List ℕ)) (taken : List ℕ) (limit : ℕ)
+    → Consumes left now taken
+    → limit < length taken
+    → IfSome left (λ all. limit < length all)
+past_limit None now taken limit given past = tt
+past_limit (Some all) None taken limit given past = absurd given
+past_limit (Some all) (Some rest) taken limit given past =
+    omega (arith, ap length given, length-append taken rest, past)
+
+pub returns-then-len-limit-clause-cause : goal.returns-then-len-limit-clause-cause
+returns-then-len-limit-clause-cause g c =
+    let had = c.loop-bytes.bytes.items in
+    let given = take c.in_ok-count.count c.read.new.into in
+    let piece = c.read.new.into ++ drop (c.min.result + 1) c.loop-bytes.piece in
+    let past : c.args.limit < length (had ++ given) =
+    omega (
+      arith,
+      c.if-len-limit.true,
+      c.len-in-loop-bytes.ensures,
+      ap length c.in_ok-extend_from_slice.ensures.items,
+      length-append had (take c.in_ok-count.count piece),
+      length-take c.in_ok-count.count piece,
+      length-append c.read.new.into (drop (c.min.result + 1) c.loop-bytes.piece),
+      length-append had given,
+      length-take c.in_ok-count.count c.read.new.into,
+      c.in_ok-count.ensures.bound.0,
+    ) in (
+      refl,
+      past_limit
+          _
+          _
+          (had ++ given)
+          c.args.limit
+          (Consumes-trans _ _ _ had given c.loop-bytes.invariant.taken c.in_ok-count.ensures.bytes.0)
+          past,
+    )
+
+pub returns-then-len-limit-clause-front : goal.returns-then-len-limit-clause-front
+returns-then-len-limit-clause-front g c =
+    let had = c.loop-bytes.bytes.items in
+    let given = take c.in_ok-count.count c.read.new.into in
+    let filled = c.read.auto.into in
+    let within : length (had ++ given) ≤ c.args.limit + 1 =
+    omega (
+      arith,
+      length-append had given,
+      length-take c.in_ok-count.count c.read.new.into,
+      filled,
+      length-take (c.min.result + 1) c.loop-bytes.piece,
+      c.min.ensures,
+      c.len.ensures,
+    ) in (
+      had ++ given,
+      within,
+      Consumes-trans _ _ _ had given c.loop-bytes.invariant.taken c.in_ok-count.ensures.bytes.0,
+    )
