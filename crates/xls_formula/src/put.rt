@@ -78,7 +78,7 @@ fn put_sign(texts: &mut Operands, sign: &str) -> Result<(), XlsError>
 fn put_percent(texts: &mut Operands) -> Result<(), XlsError>
     ensures { Leaves result texts.new (needs 1 texts.old (with_suffix (codes "%") texts.old)) }
 {
-    need(texts, 1)?;
+    need(texts, 1)?; // what the sign follows
     texts.put_after("%")?;
     Ok(())
 }
