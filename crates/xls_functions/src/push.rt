@@ -34,6 +34,7 @@ pub fn push_functions(table: &mut FunctionTable) -> Result<(), AllocError>
     ensures ok { OnOk result (table.new ≡ shipped ++ from_index_72) }
     ensures err { OnErr result (table.new ≡ table.old) }
 {
-    *table = all_functions(table.allocator())?;
+    let all = all_functions(table.allocator())?;
+    *table = all;
     Ok(())
 }

@@ -1,4 +1,4 @@
-use Rattle.std.proofs.Common.{◌≡◌, ◌++◌, List, ap, ◌∙◌, refl}
+use Rattle.std.proofs.Common.{◌++◌, List, ap, ◌∙◌}
 use Rattle.std.specs.Str.{chars}
 use Rattle.xls_formula.specs.Functions.{Function}
 use Rattle.xls_functions.proofs.push.all_functions.Goals as goal
