@@ -1,5 +1,6 @@
-use crate::answers::{UTF16, fault_of, has_next, too_short};
+use crate::answers::{Table, UTF16, answers, refusal, shown};
 use std::alloc::{AllocError, Global};
+use std::process::Abort;
 use std::test::*;
 use xls_biff::*;
 use xls_text::XlsEncoding;
@@ -8,6 +9,7 @@ mod cells;
 mod cuts;
 mod globals;
 mod lengths;
+mod readers;
 mod regions;
 mod table;
 mod walk;
@@ -19,28 +21,12 @@ fn record_of(bytes: &[u8]) -> Result<Record<'_>, XlsError> {
     }
 }
 
-/// A record without Continue records.
-fn record(typ: u16, body: &[u8]) -> Record<'_> {
-    Record {
-        typ,
-        body,
-        pieces: Pieces::new(&[]),
-    }
-}
-
 fn push_record(bytes: &mut Vec<u8>, typ: u16, front: &[u8], body: &[u8]) -> Result<(), AllocError> {
     let len = u16::try_from(front.len().saturating_add(body.len())).unwrap_or(u16::MAX);
     bytes.extend_from_slice(&typ.to_le_bytes())?;
     bytes.extend_from_slice(&len.to_le_bytes())?;
     bytes.extend_from_slice(front)?;
     bytes.extend_from_slice(body)
-}
-
-/// The bytes of a record.
-fn bytes_of(alloc: Global, typ: u16, body: &[u8]) -> Result<Vec<u8>, AllocError> {
-    let mut bytes = Vec::new(alloc);
-    push_record(&mut bytes, typ, &[], body)?;
-    Ok(bytes)
 }
 
 /// An SST record of eight zero bytes and the first piece, the other pieces in Continue records, and an
@@ -55,14 +41,14 @@ fn table_of(alloc: Global, first: &[u8], others: &[&[u8]]) -> Result<Vec<u8>, Al
     Ok(bytes)
 }
 
-fn strings_of(alloc: Global, first: &[u8], others: &[&[u8]]) -> Result<Strings, XlsError> {
+/// Whether a table in these pieces answers so.
+fn pieces_answer(
+    alloc: Global,
+    first: &[u8],
+    others: &[&[u8]],
+    wanted: Table,
+) -> Result<bool, XlsError> {
     let bytes = table_of(alloc, first, others)?;
     let r = record_of(&bytes)?;
-    parse_sst(alloc, &r)
-}
-
-fn count_of(alloc: Global, first: &[u8], others: &[&[u8]]) -> Result<usize, XlsError> {
-    let bytes = table_of(alloc, first, others)?;
-    let r = record_of(&bytes)?;
-    skip_sst(&r)
+    Ok(answers(alloc, &r, wanted)?)
 }

@@ -1,5 +1,5 @@
-use crate::answers::{UTF16, fault_of, has_next, too_short};
-use std::alloc::Global;
+use crate::answers::{Table, UTF16, answers, shown};
+use std::alloc::{AllocError, Global};
 use std::test::*;
 use xls_strings::*;
 use xls_text::XlsEncoding;

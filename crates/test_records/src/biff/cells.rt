@@ -1,177 +1,165 @@
 //! Numbers, truth values and error values.
 
+use super::readers::*;
 use super::*;
-use xls_data::{Cell, CellErrorType, CellFormat, Data, Number};
+use xls_data::CellFormat;
 
-#[test]
-fn reads_a_number(rt: HostRuntime) -> Result<(), Fail> {
-    let body = [3, 0, 1, 0, 0, 0, 0, 0, 0, 0, 0, 0, 8, 0x40];
-    let cell = parse_number(&body, &[], false)?;
-    assert_eq!(rt; cell.get_position(), (3, 1));
-    assert_eq!(rt;
-        cell.get_value(),
-        &Data::Float(Number::Bits(0x4008_0000_0000_0000))
-    );
-    Ok(())
-}
+/// An RK under no classes.
+const RK: Reader = Reader::Rk(&[]);
 
-/// RK numbers: 2 in hundredths, -1 and 2.
-static WHOLES: [([u8; 4], i64); 3] = [
-    ([0x23, 3, 0, 0], 2),
-    ([0xFE, 0xFF, 0xFF, 0xFF], -1),
-    ([10, 0, 0, 0], 2),
-];
-
-/// RK numbers: 123.45 in hundredths, the double 1 and a hundredth of it.
-static NUMBERS: [([u8; 4], Number); 3] = [
-    ([0xE7, 0xC0, 0, 0], Number::Hundredths(12345)),
-    ([0, 0, 0xF0, 0x3F], Number::Bits(0x3FF0_0000_0000_0000)),
+/// Numbers, of doubles by the bits of the double.
+static NUMBERS: [Row; 12] = [
     (
-        [1, 0, 0xF0, 0x3F],
-        Number::BitsOver100(0x3FF0_0000_0000_0000),
+        "the double 3",
+        Reader::Number,
+        &[3, 0, 1, 0, 0, 0, 0, 0, 0, 0, 0, 0, 8, 0x40],
+        "Ok(Cell { position: (3, 1), value: Float(Bits(4613937818241073152)) })",
+    ),
+    (
+        "2 in hundredths",
+        RK,
+        &[0, 0, 0, 0, 0, 0, 0x23, 3, 0, 0],
+        "Ok(Cell { position: (0, 0), value: Int(2) })",
+    ),
+    (
+        "-1",
+        RK,
+        &[0, 0, 0, 0, 0, 0, 0xFE, 0xFF, 0xFF, 0xFF],
+        "Ok(Cell { position: (0, 0), value: Int(-1) })",
+    ),
+    (
+        "2",
+        RK,
+        &[0, 0, 0, 0, 0, 0, 10, 0, 0, 0],
+        "Ok(Cell { position: (0, 0), value: Int(2) })",
+    ),
+    (
+        "123.45 in hundredths",
+        RK,
+        &[0, 0, 0, 0, 0, 0, 0xE7, 0xC0, 0, 0],
+        "Ok(Cell { position: (0, 0), value: Float(Hundredths(12345)) })",
+    ),
+    (
+        "the double 1",
+        RK,
+        &[0, 0, 0, 0, 0, 0, 0, 0, 0xF0, 0x3F],
+        "Ok(Cell { position: (0, 0), value: Float(Bits(4607182418800017408)) })",
+    ),
+    (
+        "a hundredth of the double 1",
+        RK,
+        &[0, 0, 0, 0, 0, 0, 1, 0, 0xF0, 0x3F],
+        "Ok(Cell { position: (0, 0), value: Float(BitsOver100(4607182418800017408)) })",
+    ),
+    (
+        "2 in the second class, which is of dates",
+        Reader::Rk(&[CellFormat::Other, CellFormat::DateTime]),
+        &[0, 0, 0, 0, 1, 0, 10, 0, 0, 0],
+        "Ok(Cell { position: (0, 0), value: DateTime(ExcelDateTime { value: Whole(2), datetime_type: DateTime, is_1904: false }) })",
+    ),
+    (
+        "2 outside the classes",
+        Reader::Rk(&[CellFormat::DateTime]),
+        &[0, 0, 0, 0, 1, 0, 10, 0, 0, 0],
+        "Ok(Cell { position: (0, 0), value: Int(2) })",
+    ),
+    (
+        "the cells of a row",
+        Reader::MulRk,
+        &[2, 0, 0, 0, 0, 0, 10, 0, 0, 0, 0, 0, 0xEB, 3, 0, 0, 1, 0],
+        "Ok(()) [Cell { position: (2, 0), value: Int(2) }, Cell { position: (2, 1), value: Float(Hundredths(250)) }]",
+    ),
+    (
+        "one cell in columns 0 to 0",
+        Reader::MulRk,
+        &[0; 12],
+        "Ok(()) [Cell { position: (0, 0), value: Float(Bits(0)) }]",
+    ),
+    (
+        "a last column before the first",
+        Reader::MulRk,
+        &[0, 0, 2, 0, 0, 0, 6, 0, 0, 0, 1, 0],
+        "Err(Len { expected: 65536, found: 12, typ: Rk })",
     ),
 ];
 
-/// Whether an RK record of a number has this value.
-fn is_rk_of(number: &[u8; 4], wanted: &Data) -> Result<bool, XlsError> {
-    let [a, b, c, d] = *number;
-    let cell = parse_rk(&[0, 0, 0, 0, 0, 0, a, b, c, d], &[], false)?;
-    Ok(cell.get_value() == wanted)
-}
-
 #[test]
-fn reads_the_four_forms_of_an_rk(rt: HostRuntime) -> Result<(), Fail> {
-    for (number, n) in WHOLES.iter() {
-        assert!(rt; is_rk_of(number, &Data::Int(*n))?);
-    }
-    for (number, x) in NUMBERS.iter() {
-        assert!(rt; is_rk_of(number, &Data::Float(*x))?);
-    }
-    Ok(())
+fn reads_numbers_under_their_classes(rt: HostRuntime) -> Result<(), Fail> {
+    rows_hold(&rt, rt.alloc(), &NUMBERS)
 }
 
-#[test]
-fn takes_the_class_of_the_xf_index(rt: HostRuntime) -> Result<(), Fail> {
-    let classes = [CellFormat::Other, CellFormat::DateTime];
-    let body = [0, 0, 0, 0, 1, 0, 10, 0, 0, 0];
-    let date = parse_rk(&body, &classes, false)?;
-    assert!(rt; matches!(date.get_value(), Data::DateTime(_)));
-    let outside = parse_rk(&body, &[CellFormat::DateTime], false)?;
-    assert_eq!(rt; outside.get_value(), &Data::Int(2));
-    Ok(())
-}
-
-fn is_cell(cell: Option<&Cell<Data>>, position: (u32, u32), wanted: &Data) -> bool {
-    match cell {
-        Some(cell) => cell.get_position() == position && cell.get_value() == wanted,
-        None => false,
-    }
-}
-
-#[test]
-fn appends_the_cells_of_a_row(rt: HostRuntime) -> Result<(), Fail> {
-    let mut cells: Vec<Cell<Data>> = Vec::new(rt.alloc());
-    let body = [2, 0, 0, 0, 0, 0, 10, 0, 0, 0, 0, 0, 0xEB, 3, 0, 0, 1, 0];
-    parse_mul_rk(&body, &mut cells, &[], false)?;
-    assert_eq!(rt; cells.len(), 2);
-    assert!(rt; is_cell(cells.first(), (2, 0), &Data::Int(2)));
-    assert!(rt; is_cell(cells.last(), (2, 1), &Data::Float(Number::Hundredths(250))));
-    Ok(())
-}
-
-#[test]
-fn refuses_a_last_column_before_the_first(rt: HostRuntime) {
-    let mut cells: Vec<Cell<Data>> = Vec::new(rt.alloc());
-    let reversed = [0, 0, 2, 0, 0, 0, 6, 0, 0, 0, 1, 0];
-    let refused = fault_of(parse_mul_rk(&reversed, &mut cells, &[], false));
-    assert_eq!(rt; refused, too_short(Part::Rk, 65_536, 12));
-    assert!(rt; cells.is_empty());
-}
-
-/// BoolErr of `#N/A` at (1, 0), and of `true` for a 2 at (0, 0).
-static NOT_THERE: [u8; 8] = [1, 0, 0, 0, 0, 0, 0x2A, 1];
-
-static TWO: [u8; 8] = [0, 0, 0, 0, 0, 0, 2, 0];
-
-/// Whether a BoolErr has this value at this position.
-fn is_bool_err(body: &[u8], position: (u32, u32), wanted: &Data) -> Result<bool, XlsError> {
-    Ok(is_cell(Some(&parse_bool_err(body)?), position, wanted))
-}
-
-#[test]
-fn reads_truth_values_and_error_values(rt: HostRuntime) -> Result<(), Fail> {
-    assert!(rt; is_bool_err(&NOT_THERE, (1, 0), &Data::Error(CellErrorType::NA))?);
-    assert!(rt; is_bool_err(&TWO, (0, 0), &Data::Bool(true))?);
-    Ok(())
-}
-
-#[test]
-fn refuses_other_codes(rt: HostRuntime) {
-    let wanted = XlsError::Unrecognized {
-        typ: Part::FError,
-        val: 2,
-    };
-    let refused = fault_of(parse_bool_err(&[0, 0, 0, 0, 0, 0, 1, 2]));
-    assert_eq!(rt; refused, Some(wanted));
-    let wanted = XlsError::Unrecognized {
-        typ: Part::CellError,
-        val: 1,
-    };
-    let refused = fault_of(parse_bool_err(&[0, 0, 0, 0, 0, 0, 1, 1]));
-    assert_eq!(rt; refused, Some(wanted));
-}
-
-/// Whether the eight bytes of a formula have this value.
-fn is_value(alloc: Global, bytes: &[u8; 8], wanted: &Option<Data>) -> Result<bool, XlsError> {
-    Ok(parse_formula_value(alloc, bytes, None, false)? == *wanted)
-}
-
-/// An empty text, a text that follows in a record of its own, and the double 6.
-static VALUES: [[u8; 8]; 3] = [
-    [3, 0, 0, 0, 0, 0, 0xFF, 0xFF],
-    [0, 0, 0, 0, 0, 0, 0xFF, 0xFF],
-    [0, 0, 0, 0, 0, 0, 0x18, 0x40],
+static VALUES: [Row; 11] = [
+    (
+        "the error value #N/A",
+        Reader::BoolErr,
+        &[1, 0, 0, 0, 0, 0, 0x2A, 1],
+        "Ok(Cell { position: (1, 0), value: Error(NA) })",
+    ),
+    (
+        "true for a 2",
+        Reader::BoolErr,
+        &[0, 0, 0, 0, 0, 0, 2, 0],
+        "Ok(Cell { position: (0, 0), value: Bool(true) })",
+    ),
+    (
+        "neither truth value nor error value",
+        Reader::BoolErr,
+        &[0, 0, 0, 0, 0, 0, 1, 2],
+        "Err(Unrecognized { typ: FError, val: 2 })",
+    ),
+    (
+        "the code of no error value",
+        Reader::BoolErr,
+        &[0, 0, 0, 0, 0, 0, 1, 1],
+        "Err(Unrecognized { typ: CellError, val: 1 })",
+    ),
+    (
+        "a formula with an empty text",
+        Reader::FormulaValue([3, 0, 0, 0, 0, 0, 0xFF, 0xFF]),
+        &[],
+        "Ok(Some(String(\"\")))",
+    ),
+    (
+        "a formula whose text follows",
+        Reader::FormulaValue([0, 0, 0, 0, 0, 0, 0xFF, 0xFF]),
+        &[],
+        "Ok(None)",
+    ),
+    (
+        "a formula with the double 6",
+        Reader::FormulaValue([0, 0, 0, 0, 0, 0, 0x18, 0x40]),
+        &[],
+        "Ok(Some(Float(Bits(4618441417868443648))))",
+    ),
+    (
+        "a formula",
+        Reader::Formula,
+        &[
+            1, 0, 2, 0, 0, 0, 1, 0, 1, 0, 0, 0, 0xFF, 0xFF, 0, 0, 0, 0, 0, 0, 3, 0, 0x1E, 5, 0,
+        ],
+        "((1, 2), Some(Bool(true)), [3, 0, 30, 5, 0])",
+    ),
+    (
+        "a label",
+        Reader::Label(Biff::Biff8),
+        &[0, 0, 0, 0, 0, 0, 1, 0, 0, 0x41],
+        "Ok(Cell { position: (0, 0), value: String(\"A\") })",
+    ),
+    (
+        "the last of three texts",
+        Reader::LabelSst,
+        &[0, 0, 0, 0, 0, 0, 2, 0, 0, 0],
+        "Ok(Some(Cell { position: (0, 0), value: String(\"b\") }))",
+    ),
+    (
+        "an index past three texts",
+        Reader::LabelSst,
+        &[0, 0, 0, 0, 0, 0, 3, 0, 0, 0],
+        "Ok(None)",
+    ),
 ];
 
 #[test]
-fn reads_the_value_of_a_formula(rt: HostRuntime) -> Result<(), Fail> {
-    let empty = Some(Data::String(String::new(rt.alloc())));
-    assert!(rt; is_value(rt.alloc(), &VALUES[0], &empty)?);
-    assert!(rt; is_value(rt.alloc(), &VALUES[1], &None)?);
-    let double = Some(Data::Float(Number::Bits(0x4018_0000_0000_0000)));
-    assert!(rt; is_value(rt.alloc(), &VALUES[2], &double)?);
-    Ok(())
-}
-
-fn is_truth(value: &Option<Data>) -> bool {
-    match value {
-        Some(Data::Bool(is_true)) => *is_true,
-        _ => false,
-    }
-}
-
-#[test]
-fn reads_a_formula(rt: HostRuntime) -> Result<(), Fail> {
-    let body = [
-        1, 0, 2, 0, 0, 0, 1, 0, 1, 0, 0, 0, 0xFF, 0xFF, 0, 0, 0, 0, 0, 0, 3, 0, 0x1E, 5, 0,
-    ];
-    let formula = parse_formula_record(rt.alloc(), &body, &[], false)?;
-    assert!(rt; formula.position == (1, 2) && is_truth(&formula.value));
-    assert_eq!(rt; formula.rgce, [3, 0, 0x1E, 5, 0].as_slice());
-    Ok(())
-}
-
-fn is_text(value: &Data, wanted: &str) -> bool {
-    match value {
-        Data::String(text) => text.as_str() == wanted,
-        _ => false,
-    }
-}
-
-#[test]
-fn reads_a_label(rt: HostRuntime) -> Result<(), Fail> {
-    let body = [0, 0, 0, 0, 0, 0, 1, 0, 0, 0x41];
-    let cell = parse_label(rt.alloc(), &body, &UTF16, Biff::Biff8)?;
-    assert!(rt; is_text(cell.get_value(), "A") && cell.get_position() == (0, 0));
-    Ok(())
+fn reads_texts_truth_values_error_values_and_formulas(rt: HostRuntime) -> Result<(), Fail> {
+    rows_hold(&rt, rt.alloc(), &VALUES)
 }

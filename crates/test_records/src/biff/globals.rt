@@ -1,187 +1,300 @@
 //! Records of the globals.
 
+use super::readers::*;
 use super::*;
-use xls_data::{CellFormat, SheetType, SheetVisible};
-use xls_model::types::{
-    BOF, BOUND_SHEET_8, CODE_PAGE, DATE_MODE, EXTERN_SHEET, FILE_PASS, FORMAT, XF,
-};
-use xls_text::CfbError;
 
-/// BOF bodies, and their versions.
-static VERSIONS: [([u8; 4], Biff); 10] = [
-    ([0, 2, 0, 0], Biff::Biff2),
-    ([2, 0, 0, 0], Biff::Biff2),
-    ([7, 0, 0, 0], Biff::Biff2),
-    ([0, 3, 0, 0], Biff::Biff3),
-    ([0, 4, 0, 0], Biff::Biff4),
-    ([0, 5, 0, 0], Biff::Biff5),
-    ([0, 6, 0, 0], Biff::Biff8),
-    ([0, 0, 0, 0x10], Biff::Biff5),
-    ([0, 0, 1, 0x10], Biff::Biff8),
-    ([1, 5, 0, 0], Biff::Biff8),
+const WINDOWS: XlsEncoding = XlsEncoding::Windows1252;
+
+/// BOF bodies by their numbers, and their versions.
+static VERSIONS: [Row; 11] = [
+    (
+        "0200",
+        Reader::Bof,
+        &[0, 2, 0, 0],
+        "Ok(Bof { biff: Biff2 })",
+    ),
+    (
+        "0002",
+        Reader::Bof,
+        &[2, 0, 0, 0],
+        "Ok(Bof { biff: Biff2 })",
+    ),
+    (
+        "0007",
+        Reader::Bof,
+        &[7, 0, 0, 0],
+        "Ok(Bof { biff: Biff2 })",
+    ),
+    (
+        "0300",
+        Reader::Bof,
+        &[0, 3, 0, 0],
+        "Ok(Bof { biff: Biff3 })",
+    ),
+    (
+        "0400",
+        Reader::Bof,
+        &[0, 4, 0, 0],
+        "Ok(Bof { biff: Biff4 })",
+    ),
+    (
+        "0500",
+        Reader::Bof,
+        &[0, 5, 0, 0],
+        "Ok(Bof { biff: Biff5 })",
+    ),
+    (
+        "0600",
+        Reader::Bof,
+        &[0, 6, 0, 0],
+        "Ok(Bof { biff: Biff8 })",
+    ),
+    (
+        "0000 and 1000",
+        Reader::Bof,
+        &[0, 0, 0, 0x10],
+        "Ok(Bof { biff: Biff5 })",
+    ),
+    (
+        "0000 and 1001",
+        Reader::Bof,
+        &[0, 0, 1, 0x10],
+        "Ok(Bof { biff: Biff8 })",
+    ),
+    (
+        "0501",
+        Reader::Bof,
+        &[1, 5, 0, 0],
+        "Ok(Bof { biff: Biff8 })",
+    ),
+    (
+        "0000 alone",
+        Reader::Bof,
+        &[0, 0],
+        "Ok(Bof { biff: Biff8 })",
+    ),
 ];
 
 #[test]
 fn reads_versions(rt: HostRuntime) -> Result<(), Fail> {
-    for (body, biff) in VERSIONS.iter() {
-        assert_eq!(rt; parse_bof(&record(BOF, body))?.biff, *biff);
-    }
-    assert_eq!(rt; parse_bof(&record(BOF, &[0, 0]))?.biff, Biff::Biff8);
-    Ok(())
+    rows_hold(&rt, rt.alloc(), &VERSIONS)
 }
 
-#[test]
-fn reads_a_sheet(rt: HostRuntime) -> Result<(), Fail> {
-    let r = record(BOUND_SHEET_8, &[25, 0, 0, 0, 0, 0, 1, 0, 0x41]);
-    let (offset, sheet) = parse_sheet_metadata(rt.alloc(), &r, &UTF16, Biff::Biff8)?;
-    assert_eq!(rt; (offset, sheet.typ), (25, SheetType::WorkSheet));
-    assert_eq!(rt; sheet.visible, SheetVisible::Visible);
-    assert_eq!(rt; sheet.name.as_str(), "A");
-    assert_eq!(rt; check_sheet_metadata(&r, Biff::Biff8)?, 25);
-    Ok(())
-}
+/// Sheets with their offsets, in BIFF8.
+const SHEET: Reader = Reader::Sheet(Biff::Biff8);
 
-#[test]
-fn drops_the_nuls_of_a_name(rt: HostRuntime) -> Result<(), Fail> {
+const CHECK: Reader = Reader::SheetCheck(Biff::Biff8);
+
+static SHEETS: [Row; 11] = [
+    (
+        "a sheet",
+        SHEET,
+        &[25, 0, 0, 0, 0, 0, 1, 0, 0x41],
+        "Ok((25, Sheet { name: \"A\", typ: WorkSheet, visible: Visible }))",
+    ),
+    (
+        "its offset",
+        CHECK,
+        &[25, 0, 0, 0, 0, 0, 1, 0, 0x41],
+        "Ok(25)",
+    ),
     // the two high bits of byte 4 don't count
-    let body = [0, 0, 0, 0, 0xC2, 6, 3, 1, 0x41, 0, 0, 0, 0x42, 0];
-    let r = record(BOUND_SHEET_8, &body);
-    let (_, sheet) = parse_sheet_metadata(rt.alloc(), &r, &UTF16, Biff::Biff8)?;
-    assert_eq!(rt; sheet.name.as_str(), "AB");
-    assert_eq!(rt;
-        (sheet.typ, sheet.visible),
-        (SheetType::Vba, SheetVisible::VeryHidden)
-    );
-    Ok(())
-}
-
-/// The high bits of byte 4, which don't count, and the faults of state and kind.
-static SHEETS: [(u8, u8, Part); 4] = [
-    (0x43, 3, Part::HsState),
-    (3, 0, Part::HsState),
-    (0x41, 3, Part::SheetKind),
-    (2, 3, Part::SheetKind),
+    (
+        "the NULs of a name are dropped",
+        SHEET,
+        &[0, 0, 0, 0, 0xC2, 6, 3, 1, 0x41, 0, 0, 0, 0x42, 0],
+        "Ok((0, Sheet { name: \"AB\", typ: Vba, visible: VeryHidden }))",
+    ),
+    // a state that is none comes before a kind that is none
+    (
+        "state 3 with a high bit, and kind 3",
+        SHEET,
+        &[0, 0, 0, 0, 0x43, 3],
+        "Err(Unrecognized { typ: HsState, val: 3 })",
+    ),
+    (
+        "state 3 with a high bit, and kind 3",
+        CHECK,
+        &[0, 0, 0, 0, 0x43, 3],
+        "Err(Unrecognized { typ: HsState, val: 3 })",
+    ),
+    (
+        "state 3",
+        SHEET,
+        &[0, 0, 0, 0, 3, 0],
+        "Err(Unrecognized { typ: HsState, val: 3 })",
+    ),
+    (
+        "state 3",
+        CHECK,
+        &[0, 0, 0, 0, 3, 0],
+        "Err(Unrecognized { typ: HsState, val: 3 })",
+    ),
+    (
+        "kind 3, and a high bit of the state",
+        SHEET,
+        &[0, 0, 0, 0, 0x41, 3],
+        "Err(Unrecognized { typ: SheetKind, val: 3 })",
+    ),
+    (
+        "kind 3, and a high bit of the state",
+        CHECK,
+        &[0, 0, 0, 0, 0x41, 3],
+        "Err(Unrecognized { typ: SheetKind, val: 3 })",
+    ),
+    (
+        "kind 3",
+        SHEET,
+        &[0, 0, 0, 0, 2, 3],
+        "Err(Unrecognized { typ: SheetKind, val: 3 })",
+    ),
+    (
+        "kind 3",
+        CHECK,
+        &[0, 0, 0, 0, 2, 3],
+        "Err(Unrecognized { typ: SheetKind, val: 3 })",
+    ),
 ];
 
-fn of_code_3(typ: Part) -> Option<XlsError> {
-    Some(XlsError::Unrecognized { typ, val: 3 })
-}
-
 #[test]
-fn refuses_other_states_before_other_kinds(rt: HostRuntime) {
-    for (state, kind, typ) in SHEETS.iter() {
-        let body = [0, 0, 0, 0, *state, *kind];
-        let r = record(BOUND_SHEET_8, &body);
-        let refused = fault_of(parse_sheet_metadata(rt.alloc(), &r, &UTF16, Biff::Biff8));
-        assert!(rt; refused == of_code_3(*typ));
-        assert!(rt; fault_of(check_sheet_metadata(&r, Biff::Biff8)) == of_code_3(*typ));
-    }
+fn reads_sheets_and_refuses_states_before_kinds(rt: HostRuntime) -> Result<(), Fail> {
+    rows_hold(&rt, rt.alloc(), &SHEETS)
 }
 
-#[test]
-fn reads_references(rt: HostRuntime) -> Result<(), Fail> {
-    let r = record(EXTERN_SHEET, &[2, 0, 0, 0, 1, 0, 1, 0]);
-    let refs = parse_extern_sheet(rt.alloc(), &r, Biff::Biff8)?;
-    assert_eq!(rt; refs.len(), 1);
-    assert_eq!(rt; (refs.first(0), refs.first(1)), (Some(1), None));
-    assert_eq!(rt; parse_extern_sheet(rt.alloc(), &r, Biff::Biff5)?.len(), 0);
-    Ok(())
-}
+const FORMAT_8: Reader = Reader::Format(WINDOWS, Biff::Biff8);
 
-fn format_of(alloc: Global, biff: Biff, body: &[u8]) -> Result<(u16, CellFormat), XlsError> {
-    parse_format(
-        alloc,
-        &record(FORMAT, body),
-        &XlsEncoding::Windows1252,
-        biff,
-    )
-}
-
-#[test]
-fn reads_formats(rt: HostRuntime) -> Result<(), Fail> {
-    let class = format_of(rt.alloc(), Biff::Biff5, &[0xA4, 0, 3, 0x5B, 0x68, 0x5D])?;
-    assert_eq!(rt; class, (164, CellFormat::TimeDelta));
-    let class = format_of(rt.alloc(), Biff::Biff8, &[0xA4, 0, 2, 0, 0, 0x64, 0x64])?;
-    assert_eq!(rt; class, (164, CellFormat::DateTime));
-    Ok(())
-}
-
-/// The identifiers at the edges of the ranges that a Format record may have, and whether it may.
-static IDENTIFIERS: [(u16, bool); 20] = [
-    (4, false),
-    (5, true),
-    (8, true),
-    (9, false),
-    (22, false),
-    (23, true),
-    (26, true),
-    (27, false),
-    (40, false),
-    (41, true),
-    (44, true),
-    (45, false),
-    (62, false),
-    (63, true),
-    (66, true),
-    (67, false),
-    (163, false),
-    (164, true),
-    (382, true),
-    (383, false),
+static FORMATS: [Row; 23] = [
+    (
+        "a duration before BIFF8",
+        Reader::Format(WINDOWS, Biff::Biff5),
+        &[0xA4, 0, 3, 0x5B, 0x68, 0x5D],
+        "Ok((164, TimeDelta))",
+    ),
+    (
+        "a date",
+        FORMAT_8,
+        &[0xA4, 0, 2, 0, 0, 0x64, 0x64],
+        "Ok((164, DateTime))",
+    ),
+    // the identifiers at the edges of the ranges that a Format record may have
+    (
+        "4",
+        FORMAT_8,
+        &[4, 0, 0, 0, 0],
+        "Err(InvalidFormat { ifmt: 4 })",
+    ),
+    ("5", FORMAT_8, &[5, 0, 0, 0, 0], "Ok((5, Other))"),
+    ("8", FORMAT_8, &[8, 0, 0, 0, 0], "Ok((8, Other))"),
+    (
+        "9",
+        FORMAT_8,
+        &[9, 0, 0, 0, 0],
+        "Err(InvalidFormat { ifmt: 9 })",
+    ),
+    (
+        "22",
+        FORMAT_8,
+        &[22, 0, 0, 0, 0],
+        "Err(InvalidFormat { ifmt: 22 })",
+    ),
+    ("23", FORMAT_8, &[23, 0, 0, 0, 0], "Ok((23, Other))"),
+    ("26", FORMAT_8, &[26, 0, 0, 0, 0], "Ok((26, Other))"),
+    (
+        "27",
+        FORMAT_8,
+        &[27, 0, 0, 0, 0],
+        "Err(InvalidFormat { ifmt: 27 })",
+    ),
+    (
+        "40",
+        FORMAT_8,
+        &[40, 0, 0, 0, 0],
+        "Err(InvalidFormat { ifmt: 40 })",
+    ),
+    ("41", FORMAT_8, &[41, 0, 0, 0, 0], "Ok((41, Other))"),
+    ("44", FORMAT_8, &[44, 0, 0, 0, 0], "Ok((44, Other))"),
+    (
+        "45",
+        FORMAT_8,
+        &[45, 0, 0, 0, 0],
+        "Err(InvalidFormat { ifmt: 45 })",
+    ),
+    (
+        "62",
+        FORMAT_8,
+        &[62, 0, 0, 0, 0],
+        "Err(InvalidFormat { ifmt: 62 })",
+    ),
+    ("63", FORMAT_8, &[63, 0, 0, 0, 0], "Ok((63, Other))"),
+    ("66", FORMAT_8, &[66, 0, 0, 0, 0], "Ok((66, Other))"),
+    (
+        "67",
+        FORMAT_8,
+        &[67, 0, 0, 0, 0],
+        "Err(InvalidFormat { ifmt: 67 })",
+    ),
+    (
+        "163",
+        FORMAT_8,
+        &[163, 0, 0, 0, 0],
+        "Err(InvalidFormat { ifmt: 163 })",
+    ),
+    ("164", FORMAT_8, &[164, 0, 0, 0, 0], "Ok((164, Other))"),
+    ("382", FORMAT_8, &[126, 1, 0, 0, 0], "Ok((382, Other))"),
+    (
+        "383",
+        FORMAT_8,
+        &[127, 1, 0, 0, 0],
+        "Err(InvalidFormat { ifmt: 383 })",
+    ),
+    (
+        "no text after an identifier that is refused",
+        FORMAT_8,
+        &[0, 0],
+        "Err(InvalidFormat { ifmt: 0 })",
+    ),
 ];
 
-/// The fault of a Format record with this identifier.
-fn fault_of_identifier(alloc: Global, ifmt: u16) -> Option<XlsError> {
-    let [low, high] = ifmt.to_le_bytes();
-    fault_of(format_of(alloc, Biff::Biff8, &[low, high, 0, 0, 0]))
+#[test]
+fn reads_formats_of_the_ranges(rt: HostRuntime) -> Result<(), Fail> {
+    rows_hold(&rt, rt.alloc(), &FORMATS)
 }
 
-fn fault_wanted(ifmt: u16, is_kept: bool) -> Option<XlsError> {
-    if is_kept {
-        None
-    } else {
-        Some(XlsError::InvalidFormat { ifmt })
-    }
-}
+static NUMBERS: [Row; 11] = [
+    (
+        "one of two references is there",
+        Reader::ExternSheet(Biff::Biff8),
+        &[2, 0, 0, 0, 1, 0, 1, 0],
+        "(1, Some(1), None)",
+    ),
+    (
+        "no references before BIFF8",
+        Reader::ExternSheet(Biff::Biff5),
+        &[2, 0, 0, 0, 1, 0, 1, 0],
+        "(0, None, None)",
+    ),
+    ("an ifmt", Reader::Xf, &[0, 0, 0xA4, 0], "Ok(164)"),
+    ("days from 1904", Reader::DateMode, &[1, 0], "Ok(true)"),
+    ("days from 1900", Reader::DateMode, &[0, 0], "Ok(false)"),
+    ("neither 0 nor 1", Reader::DateMode, &[1, 1], "Ok(false)"),
+    ("no password", Reader::FilePass, &[0, 0], "Ok(())"),
+    ("a password", Reader::FilePass, &[1, 0], "Err(Password)"),
+    ("page 1252", Reader::CodePage, &[0xE4, 4], "Ok(Windows1252)"),
+    (
+        "page 437",
+        Reader::CodePage,
+        &[0xB5, 1],
+        "Err(Cfb(CodePageNotFound(437)))",
+    ),
+    (
+        "half a page",
+        Reader::CodePage,
+        &[0xE4],
+        "Err(Len { expected: 2, found: 1, typ: CodePage })",
+    ),
+];
 
 #[test]
-fn refuses_identifiers_outside_the_ranges(rt: HostRuntime) -> Result<(), Fail> {
-    for (ifmt, is_kept) in IDENTIFIERS.iter() {
-        let refused = fault_of_identifier(rt.alloc(), *ifmt);
-        assert_eq!(rt; refused, fault_wanted(*ifmt, *is_kept));
-    }
-    let refused = fault_of(format_of(rt.alloc(), Biff::Biff8, &[0, 0]));
-    assert_eq!(rt; refused, Some(XlsError::InvalidFormat { ifmt: 0 }));
-    Ok(())
-}
-
-#[test]
-fn reads_records_of_one_number(rt: HostRuntime) -> Result<(), Fail> {
-    assert_eq!(rt; parse_xf(&record(XF, &[0, 0, 0xA4, 0]))?, 164);
-    assert!(rt; parse_date_mode(&record(DATE_MODE, &[1, 0]))?);
-    assert!(rt; !parse_date_mode(&record(DATE_MODE, &[0, 0]))?);
-    assert!(rt; !parse_date_mode(&record(DATE_MODE, &[1, 1]))?);
-    Ok(())
-}
-
-#[test]
-fn takes_one_number_for_a_password(rt: HostRuntime) -> Result<(), Fail> {
-    parse_file_pass(&record(FILE_PASS, &[0, 0]))?;
-    let refused = fault_of(parse_file_pass(&record(FILE_PASS, &[1, 0])));
-    assert_eq!(rt; refused, Some(XlsError::Password));
-    Ok(())
-}
-
-#[test]
-fn reads_pages(rt: HostRuntime) -> Result<(), Fail> {
-    let page = parse_code_page(&record(CODE_PAGE, &[0xE4, 4]))?;
-    assert_eq!(rt; page, XlsEncoding::Windows1252);
-    let refused = fault_of(parse_code_page(&record(CODE_PAGE, &[0xB5, 1])));
-    assert_eq!(rt;
-        refused,
-        Some(XlsError::Cfb(CfbError::CodePageNotFound(437)))
-    );
-    let refused = fault_of(parse_code_page(&record(CODE_PAGE, &[0xE4])));
-    assert_eq!(rt; refused, too_short(Part::CodePage, 2, 1));
-    Ok(())
+fn reads_references_and_records_of_one_number(rt: HostRuntime) -> Result<(), Fail> {
+    rows_hold(&rt, rt.alloc(), &NUMBERS)
 }

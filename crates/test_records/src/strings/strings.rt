@@ -2,76 +2,136 @@
 
 use super::*;
 
-#[test]
-fn reads_a_short_string(rt: HostRuntime) -> Result<(), Fail> {
-    let text = parse_short_string(rt.alloc(), &[2, 0, 0x41, 0], &UTF16, Biff::Biff8)?;
-    assert_eq!(rt; text.as_str(), "A\0");
-    let text = parse_short_string(rt.alloc(), &[3, 1, 0xE9, 0, 0x42], &UTF16, Biff::Biff8)?;
-    assert_eq!(rt; text.as_str(), "\u{E9}");
-    Ok(())
+/// A call that reads a string.
+#[derive(Clone, Copy)]
+enum Call {
+    Short(XlsEncoding, Biff),
+    Text(XlsEncoding, Biff),
+    Size(u16),
 }
 
-#[test]
-fn reads_the_shorter_text(rt: HostRuntime) -> Result<(), Fail> {
-    let text = parse_string(rt.alloc(), &[5, 0, 0, 0x41, 0x42], &UTF16, Biff::Biff8)?;
-    assert_eq!(rt; text.as_str(), "AB");
-    let text = parse_string(rt.alloc(), &[0, 0], &UTF16, Biff::Biff8)?;
-    assert_eq!(rt; text.as_str(), "");
-    Ok(())
-}
+const WINDOWS: XlsEncoding = XlsEncoding::Windows1252;
 
-#[test]
-fn reads_bytes_in_the_page_before_biff8(rt: HostRuntime) -> Result<(), Fail> {
-    let page = XlsEncoding::Windows1252;
-    let text = parse_string(rt.alloc(), &[1, 0, 0x80, 0x41], &page, Biff::Biff5)?;
-    assert_eq!(rt; text.as_str(), "\u{20AC}");
-    let text = parse_short_string(rt.alloc(), &[9, 0x80, 0x41], &page, Biff::Biff5)?;
-    assert_eq!(rt; text.as_str(), "\u{20AC}A");
-    Ok(())
-}
+/// A short string and a string of BIFF8.
+const SHORT: Call = Call::Short(UTF16, Biff::Biff8);
 
-#[test]
-fn refuses_a_string_without_flags(rt: HostRuntime) {
-    let short = fault_of(parse_string(rt.alloc(), &[0, 1], &UTF16, Biff::Biff8));
-    assert_eq!(rt; short, too_short(Part::Text, 3, 2));
-}
+const TEXT: Call = Call::Text(UTF16, Biff::Biff8);
 
-/// A count below the size is refused, and no other.
-fn below(typ: Part, size: usize, found: usize) -> Option<XlsError> {
-    if found < size {
-        too_short(typ, size, found)
-    } else {
-        None
+/// The size of a string of three units, whose number isn't told.
+const THREE: Call = Call::Size(3);
+
+static STRINGS: [(Call, &[u8], &str); 26] = [
+    // in units of one byte and of two
+    (SHORT, &[2, 0, 0x41, 0], "Ok(\"A\\0\")"),
+    (SHORT, &[3, 1, 0xE9, 0, 0x42], "Ok(\"\u{E9}\")"),
+    // fewer bytes than the count tells, and none
+    (TEXT, &[5, 0, 0, 0x41, 0x42], "Ok(\"AB\")"),
+    (TEXT, &[0, 0], "Ok(\"\")"),
+    // bytes in the page, before BIFF8
+    (
+        Call::Text(WINDOWS, Biff::Biff5),
+        &[1, 0, 0x80, 0x41],
+        "Ok(\"\u{20AC}\")",
+    ),
+    (
+        Call::Short(WINDOWS, Biff::Biff5),
+        &[9, 0x80, 0x41],
+        "Ok(\"\u{20AC}A\")",
+    ),
+    // no flags
+    (
+        TEXT,
+        &[0, 1],
+        "Err(Len { expected: 3, found: 2, typ: Text })",
+    ),
+    // no count and no flags
+    (
+        Call::Size(0),
+        &[],
+        "Err(Len { expected: 1, found: 0, typ: NoCch })",
+    ),
+    // no count, in units of one byte and of two: all the units are there
+    (
+        THREE,
+        &[0; 1],
+        "Err(Len { expected: 4, found: 1, typ: NoCch })",
+    ),
+    (
+        THREE,
+        &[0; 2],
+        "Err(Len { expected: 4, found: 2, typ: NoCch })",
+    ),
+    (
+        THREE,
+        &[0; 3],
+        "Err(Len { expected: 4, found: 3, typ: NoCch })",
+    ),
+    (THREE, &[0; 4], "Ok(4)"),
+    (THREE, &[0; 5], "Ok(4)"),
+    (THREE, &[0; 6], "Ok(4)"),
+    (THREE, &[0; 7], "Ok(4)"),
+    (THREE, &[0; 8], "Ok(4)"),
+    (THREE, &[0; 9], "Ok(4)"),
+    (
+        THREE,
+        &[1; 1],
+        "Err(Len { expected: 7, found: 1, typ: NoCch })",
+    ),
+    (
+        THREE,
+        &[1; 2],
+        "Err(Len { expected: 7, found: 2, typ: NoCch })",
+    ),
+    (
+        THREE,
+        &[1; 3],
+        "Err(Len { expected: 7, found: 3, typ: NoCch })",
+    ),
+    (
+        THREE,
+        &[1; 4],
+        "Err(Len { expected: 7, found: 4, typ: NoCch })",
+    ),
+    (
+        THREE,
+        &[1; 5],
+        "Err(Len { expected: 7, found: 5, typ: NoCch })",
+    ),
+    (
+        THREE,
+        &[1; 6],
+        "Err(Len { expected: 7, found: 6, typ: NoCch })",
+    ),
+    (THREE, &[1; 7], "Ok(7)"),
+    (THREE, &[1; 8], "Ok(7)"),
+    (THREE, &[1; 9], "Ok(7)"),
+];
+
+fn answer_of(alloc: Global, call: Call, bytes: &[u8]) -> Result<String, AllocError> {
+    match call {
+        Call::Short(page, biff) => shown(alloc, parse_short_string(alloc, bytes, &page, biff)),
+        Call::Text(page, biff) => shown(alloc, parse_string(alloc, bytes, &page, biff)),
+        Call::Size(count) => shown(alloc, size_of_uncounted(bytes, count)),
     }
 }
 
-/// Whether three units in fewer bytes than the size are refused, and in no fewer read.
-fn is_below(bytes: &[u8], size: usize) -> bool {
-    fault_of(size_of_uncounted(bytes, 3)) == below(Part::NoCch, size, bytes.len())
-}
-
 #[test]
-fn strings_without_a_count_have_all_their_units(rt: HostRuntime) {
-    for (flags, size) in [(0, 4), (1, 7)] {
-        let whole = [flags; 9];
-        for len in 1..10 {
-            let (bytes, _) = whole.split_at(len);
-            assert!(rt; is_below(bytes, size));
-        }
+fn reads_strings_of_one_piece(rt: HostRuntime) -> Result<(), Fail> {
+    for (call, bytes, wanted) in STRINGS.iter() {
+        let answer = answer_of(rt.alloc(), *call, bytes)?;
+        assert!(rt; answer.as_str() == *wanted, "{answer} of {bytes:?}");
     }
-    assert_eq!(rt;
-        fault_of(size_of_uncounted(&[], 0)),
-        too_short(Part::NoCch, 1, 0)
-    );
+    Ok(())
 }
 
 #[test]
 fn prints_a_refusal(rt: HostRuntime) -> Result<(), Fail> {
-    let error = too_short(Part::Rk, 65_536, 12).ok_or("no error")?;
-    let shown = format!(in rt.alloc(); "{error}")?;
-    assert_eq!(rt;
-        shown.as_str(),
-        "Invalid rk length, expected at least 65536, found 12"
-    );
+    let error = XlsError::Len {
+        expected: 65_536,
+        found: 12,
+        typ: Part::Rk,
+    };
+    let text = format!(in rt.alloc(); "{error}")?;
+    assert!(rt; text.as_str() == "Invalid rk length, expected at least 65536, found 12");
     Ok(())
 }

@@ -4,61 +4,70 @@ use super::*;
 use xls_model::types::SST;
 
 /// Eight bytes, `a` and U+00E9 in units of one byte, and U+1F600 in units of two.
-static BODY: [u8; 20] = [
+const BODY: [u8; 20] = [
     0, 0, 0, 0, 0, 0, 0, 0, 2, 0, 0, 0x61, 0xE9, 2, 0, 1, 0x3D, 0xD8, 0, 0xDE,
 ];
 
-/// A record without Continue records.
-fn record_of(body: &[u8]) -> Record<'_> {
-    Record {
-        typ: SST,
-        body,
-        pieces: Pieces::new(&[]),
-    }
-}
-
-/// Whether these are the texts of the table.
-fn are_both(strings: &Strings) -> bool {
-    strings.len() == 2
-        && strings.get(0) == Some("a\u{E9}")
-        && strings.get(1) == Some("\u{1F600}")
-        && strings.get(2).is_none()
-}
-
-/// Whether the units of both texts come, one after the other, and then none.
-fn gives_both(alloc: Global, r: &Record<'_>) -> Result<bool, XlsError> {
-    let mut reader = SstReader::new(r)?;
-    Ok(
-        has_next(alloc, &mut reader, &[0x61, 0xE9])?
-            && has_next(alloc, &mut reader, &[0xD83D, 0xDE00])?
-            && reader.next_units(alloc)?.is_none(),
-    )
-}
+/// Bodies without Continue records, and what they answer.
+static TABLES: [(&[u8], Table); 12] = [
+    (
+        &BODY,
+        Table::Gives(
+            "2|a\u{E9}|\u{1F600}|. Ok(2) Ok(Some([97, 233]))Ok(Some([55357, 56832]))Ok(None)Ok(None)",
+        ),
+    ),
+    (
+        &[],
+        Table::Refuses("Len { expected: 8, found: 0, typ: Sst }", ""),
+    ),
+    (
+        &[0; 1],
+        Table::Refuses("Len { expected: 8, found: 1, typ: Sst }", ""),
+    ),
+    (
+        &[0; 2],
+        Table::Refuses("Len { expected: 8, found: 2, typ: Sst }", ""),
+    ),
+    (
+        &[0; 3],
+        Table::Refuses("Len { expected: 8, found: 3, typ: Sst }", ""),
+    ),
+    (
+        &[0; 4],
+        Table::Refuses("Len { expected: 8, found: 4, typ: Sst }", ""),
+    ),
+    (
+        &[0; 5],
+        Table::Refuses("Len { expected: 8, found: 5, typ: Sst }", ""),
+    ),
+    (
+        &[0; 6],
+        Table::Refuses("Len { expected: 8, found: 6, typ: Sst }", ""),
+    ),
+    (
+        &[0; 7],
+        Table::Refuses("Len { expected: 8, found: 7, typ: Sst }", ""),
+    ),
+    (&[0; 8], Table::Gives("0|. Ok(0) Ok(None)Ok(None)")),
+    (
+        &[0; 9],
+        Table::Refuses("Len { expected: 3, found: 1, typ: RichString }", ""),
+    ),
+    (
+        &[0; 10],
+        Table::Refuses("Len { expected: 3, found: 2, typ: RichString }", ""),
+    ),
+];
 
 #[test]
-fn reads_a_table(rt: HostRuntime) -> Result<(), Fail> {
-    let r = record_of(&BODY);
-    assert!(rt; are_both(&parse_sst(rt.alloc(), &r)?) && skip_sst(&r)? == 2);
-    assert!(rt; gives_both(rt.alloc(), &r)?);
+fn tables_have_eight_bytes_and_strings(rt: HostRuntime) -> Result<(), Fail> {
+    for (body, wanted) in TABLES.iter() {
+        let r = Record {
+            typ: SST,
+            body,
+            pieces: Pieces::new(&[]),
+        };
+        assert!(rt; answers(rt.alloc(), &r, *wanted)?, "{body:?}");
+    }
     Ok(())
-}
-
-/// The fault of a table of so many zero bytes.
-fn fault_of_zeros(len: usize) -> Option<XlsError> {
-    match len {
-        0..8 => too_short(Part::Sst, 8, len),
-        8 => None,
-        _ => too_short(Part::RichString, 3, len - 8),
-    }
-}
-
-#[test]
-fn tables_have_eight_bytes_and_strings(rt: HostRuntime) {
-    let zeros = [0; 11];
-    for len in 0..11 {
-        let (body, _) = zeros.split_at(len);
-        let r = record_of(body);
-        assert!(rt; fault_of(parse_sst(rt.alloc(), &r)) == fault_of_zeros(len));
-        assert!(rt; fault_of(skip_sst(&r)) == fault_of_zeros(len));
-    }
 }
