@@ -2,7 +2,6 @@
 
 use csv::{ByteRecord, Reader};
 use std::alloc::{AllocError, Global};
-use std::str::from_utf8;
 use std::test::Fail;
 use xls_biff::XlsError;
 use xls_book::{Reader as _, SteadySource, StreamBytes, Xls};
@@ -10,57 +9,80 @@ use xls_csv::*;
 use xls_data::{Cell, Data, ExcelDateTime, ExcelDateTimeType, Number};
 use xls_range::Range;
 
-// BOF of the globals and of a sheet in BIFF8, BoundSheet8 of the sheet `A` at byte 25, and EOF.
-static G: [u8; 8] = [0x09, 0x08, 4, 0, 0x00, 0x06, 0x05, 0x00];
+// BOF of the globals, BoundSheet8 of the sheet `A` at byte 25, EOF, and BOF of a sheet, in BIFF8.
+const HEAD: [u8; 33] = [
+    0x09, 0x08, 4, 0, 0x00, 0x06, 0x05, 0x00, 0x85, 0, 9, 0, 25, 0, 0, 0, 0, 0, 1, 0, 0x41, 0x0A,
+    0, 0, 0, 0x09, 0x08, 4, 0, 0x00, 0x06, 0x10, 0x00,
+];
 
-static S: [u8; 8] = [0x09, 0x08, 4, 0, 0x00, 0x06, 0x10, 0x00];
-
-static A: [u8; 13] = [0x85, 0, 9, 0, 25, 0, 0, 0, 0, 0, 1, 0, 0x41];
-
-static E: [u8; 4] = [0x0A, 0, 0, 0];
+const E: [u8; 4] = [0x0A, 0, 0, 0];
 
 // RK of 1 at (1, 1), of 2 at (1, 3), and of 2 at (65535, 65535).
-static ONE: [u8; 14] = [0x7E, 2, 10, 0, 1, 0, 1, 0, 0, 0, 6, 0, 0, 0];
+const ONE: [u8; 14] = [0x7E, 2, 10, 0, 1, 0, 1, 0, 0, 0, 6, 0, 0, 0];
 
-static TWO: [u8; 14] = [0x7E, 2, 10, 0, 1, 0, 3, 0, 0, 0, 10, 0, 0, 0];
+const TWO: [u8; 14] = [0x7E, 2, 10, 0, 1, 0, 3, 0, 0, 0, 10, 0, 0, 0];
 
-static FAR: [u8; 14] = [0x7E, 2, 10, 0, 0xFF, 0xFF, 0xFF, 0xFF, 0, 0, 10, 0, 0, 0];
+const FAR: [u8; 14] = [0x7E, 2, 10, 0, 0xFF, 0xFF, 0xFF, 0xFF, 0, 0, 10, 0, 0, 0];
 
 // Label of `a,"b` at (3, 2).
-static LABEL: [u8; 17] = [
+const LABEL: [u8; 17] = [
     0x04, 2, 13, 0, 3, 0, 2, 0, 0, 0, 4, 0, 0, b'a', b',', b'"', b'b',
 ];
 
-// RK of 1 at (0, 0).
-static FIRST: [u8; 14] = [0x7E, 2, 10, 0, 0, 0, 0, 0, 0, 0, 6, 0, 0, 0];
+// RK of 1 at (0, 0), and of 2 at (2, 0).
+const FIRST: [u8; 14] = [0x7E, 2, 10, 0, 0, 0, 0, 0, 0, 0, 6, 0, 0, 0];
 
-fn opened(alloc: Global, cells: &[&[u8]]) -> Result<Xls, XlsError> {
+const BELOW: [u8; 14] = [0x7E, 2, 10, 0, 2, 0, 0, 0, 0, 0, 10, 0, 0, 0];
+
+// Streams with a sheet of these cells.
+const THREE: [&[u8]; 5] = [&HEAD, &ONE, &TWO, &LABEL, &E];
+
+static THREE_PARTS: [&[u8]; 5] = THREE;
+
+static FAR_PARTS: [&[u8]; 4] = [&HEAD, &FIRST, &FAR, &E];
+
+/// A value: a text, a number, or a date or a duration by its number.
+#[derive(Clone, Copy)]
+enum Value {
+    Text(&'static str),
+    Int(i64),
+    Float(Number),
+    Bool(bool),
+    Empty,
+    Date(Number),
+    Date1904(Number),
+    Duration(Number),
+}
+
+fn opened(alloc: Global, parts: &[&[u8]]) -> Result<Xls, XlsError> {
     let mut bytes = Vec::new(alloc);
-    for part in [&G[..], &A, &E, &S] {
+    for part in parts {
         bytes.extend_from_slice(part)?;
     }
-    for part in cells {
-        bytes.extend_from_slice(part)?;
-    }
-    bytes.extend_from_slice(&E)?;
     let mut source = SteadySource::new(bytes);
     Xls::new(alloc, &mut source)
 }
 
-fn shown(bytes: &[u8]) -> &str {
-    from_utf8(bytes).unwrap_or("no UTF-8")
+fn data_of(alloc: Global, value: Value) -> Result<Data, AllocError> {
+    let (number, kind, is_1904) = match value {
+        Value::Text(text) => return Ok(Data::String(String::from_str(alloc, text)?)),
+        Value::Int(n) => return Ok(Data::Int(n)),
+        Value::Float(number) => return Ok(Data::Float(number)),
+        Value::Bool(b) => return Ok(Data::Bool(b)),
+        Value::Empty => return Ok(Data::Empty),
+        Value::Date(number) => (number, ExcelDateTimeType::DateTime, false),
+        Value::Date1904(number) => (number, ExcelDateTimeType::DateTime, true),
+        Value::Duration(number) => (number, ExcelDateTimeType::TimeDelta, false),
+    };
+    Ok(Data::DateTime(ExcelDateTime::new(number, kind, is_1904)))
 }
 
-fn text(alloc: Global, text: &str) -> Result<Data, AllocError> {
-    Ok(Data::String(String::from_str(alloc, text)?))
-}
-
-fn date(value: Number, is_1904: bool) -> Data {
-    Data::DateTime(ExcelDateTime::new(value, ExcelDateTimeType::DateTime, is_1904))
-}
-
-fn exported(alloc: Global, cells: Vec<Cell<Data>>) -> Result<StreamBytes, Fail> {
-    let range = Range::from_sparse(alloc, cells)?;
+fn exported(alloc: Global, cells: &[((u32, u32), Value)]) -> Result<StreamBytes, Fail> {
+    let mut list = Vec::new(alloc);
+    for (position, value) in cells {
+        list.push(Cell::new(*position, data_of(alloc, *value)?))?;
+    }
+    let range = Range::from_sparse(alloc, list)?;
     Ok(export_csv(alloc, &range)?)
 }
 
@@ -105,106 +127,126 @@ fn reads_back(alloc: Global, bytes: &[u8], wanted: &[&[&str]]) -> Result<bool, F
     Ok(!reader.read_byte_record(&mut row)?)
 }
 
-#[test]
-fn quotes_where_a_field_calls_for_them(rt: HostRuntime) -> Result<(), Fail> {
-    let alloc = rt.alloc();
-    let mut cells = Vec::new(alloc);
-    cells.push(Cell::new((0, 0), text(alloc, "a,b")?))?;
-    cells.push(Cell::new((0, 1), text(alloc, "say \"x\"")?))?;
+// Cells, their CSV, and the rows that are read of it: texts with commas and quotes; and the first sheet of a
+// workbook, with three rows of texts, numbers and a date.
+static EXPORTS: [(&[((u32, u32), Value)], &str, &[&[&str]]); 2] = [
+    (
+        &[
+            ((0, 0), Value::Text("a,b")),
+            ((0, 1), Value::Text("say \"x\"")),
+        ],
+        "\"a,b\",\"say \"\"x\"\"\"\n",
+        &[&["a,b", "say \"x\""]],
+    ),
+    (
+        &[
+            ((0, 0), Value::Text("Item")),
+            ((0, 1), Value::Text("Café €")),
+            ((1, 0), Value::Text("Sum")),
+            ((1, 1), Value::Float(Number::Bits(0x4012_0000_0000_0000))),
+            ((2, 0), Value::Int(2)),
+            ((2, 1), Value::Float(Number::Hundredths(250))),
+            ((2, 2), Value::Date(Number::Whole(43831))),
+        ],
+        "Item,Café €,\nSum,0x4012000000000000,\n2,2.5,2020-01-01\n",
+        &[
+            &["Item", "Café €", ""],
+            &["Sum", "0x4012000000000000", ""],
+            &["2", "2.5", "2020-01-01"],
+        ],
+    ),
+];
+
+fn is_export(
+    alloc: Global,
+    cells: &[((u32, u32), Value)],
+    text: &str,
+    rows: &[&[&str]],
+) -> Result<bool, Fail> {
     let bytes = exported(alloc, cells)?;
-    assert_eq!(rt; shown(bytes.as_slice()), "\"a,b\",\"say \"\"x\"\"\"\n");
-    assert!(rt; reads_back(alloc, bytes.as_slice(), &[&["a,b", "say \"x\""]])?);
-    Ok(())
+    Ok(bytes.as_slice() == text.as_bytes() && reads_back(alloc, bytes.as_slice(), rows)?)
 }
 
-// The first sheet of a workbook: three rows, of texts, numbers and a date.
-fn ledger(alloc: Global) -> Result<Vec<Cell<Data>>, AllocError> {
-    let mut cells = Vec::new(alloc);
-    cells.push(Cell::new((0, 0), text(alloc, "Item")?))?;
-    cells.push(Cell::new((0, 1), text(alloc, "Café €")?))?;
-    cells.push(Cell::new((1, 0), text(alloc, "Sum")?))?;
-    cells.push(Cell::new((1, 1), Data::Float(Number::Bits(0x4012_0000_0000_0000))))?;
-    cells.push(Cell::new((2, 0), Data::Int(2)))?;
-    cells.push(Cell::new((2, 1), Data::Float(Number::Hundredths(250))))?;
-    cells.push(Cell::new((2, 2), date(Number::Whole(43831), false)))?;
-    Ok(cells)
-}
-
+// An empty range has no CSV.
 #[test]
 fn writes_texts_numbers_and_dates(rt: HostRuntime) -> Result<(), Fail> {
-    let alloc = rt.alloc();
-    let bytes = exported(alloc, ledger(alloc)?)?;
-    let wanted = "Item,Café €,\nSum,0x4012000000000000,\n2,2.5,2020-01-01\n";
-    assert_eq!(rt; shown(bytes.as_slice()), wanted);
-    let first = ["Item", "Café €", ""];
-    let second = ["Sum", "0x4012000000000000", ""];
-    let third = ["2", "2.5", "2020-01-01"];
-    assert!(rt; reads_back(alloc, bytes.as_slice(), &[&first, &second, &third])?);
-    let none = export_csv(alloc, &Range::empty(alloc))?;
-    assert_eq!(rt; none.as_slice().len(), 0);
+    for (cells, text, rows) in EXPORTS.iter() {
+        assert!(rt; is_export(rt.alloc(), cells, text, rows)?, "{text}");
+    }
+    let none = export_csv(rt.alloc(), &Range::empty(rt.alloc()))?;
+    assert!(rt; none.as_slice().is_empty());
     Ok(())
 }
 
-fn has_field(alloc: Global, value: &Data, wanted: &str) -> Result<bool, AllocError> {
-    Ok(field_text(alloc, value)?.as_str() == wanted)
+static FIELDS: [(Value, &str); 14] = [
+    (Value::Bool(true), "true"),
+    (Value::Empty, ""),
+    (Value::Duration(Number::Whole(43831)), "43831"),
+    (Value::Date(Number::Whole(0)), "0"),
+    (Value::Date(Number::Whole(1)), "1900-01-01"),
+    (Value::Date(Number::Whole(60)), "1900-02-29"),
+    (Value::Date(Number::Whole(2_958_465)), "9999-12-31"),
+    (Value::Date(Number::Whole(2_958_466)), "2958466"),
+    (Value::Date(Number::Hundredths(4_383_100)), "2020-01-01"),
+    (Value::Date(Number::Hundredths(4_383_150)), "43831.5"),
+    (
+        Value::Date(Number::Bits(0x40E5_66E0_0000_0000)),
+        "2020-01-01",
+    ),
+    (Value::Date1904(Number::Whole(0)), "0"),
+    (Value::Date1904(Number::Whole(1)), "1904-01-02"),
+    (Value::Date1904(Number::Whole(2_957_003)), "9999-12-31"),
+];
+
+fn has_field(alloc: Global, value: Value, wanted: &str) -> Result<bool, AllocError> {
+    let value = data_of(alloc, value)?;
+    Ok(field_text(alloc, &value)?.as_str() == wanted)
 }
 
 #[test]
 fn shows_days_as_dates(rt: HostRuntime) -> Result<(), Fail> {
-    let alloc = rt.alloc();
-    let span = ExcelDateTime::new(Number::Whole(43831), ExcelDateTimeType::TimeDelta, false);
-    let fields = [
-        (Data::Bool(true), "true"),
-        (Data::Empty, ""),
-        (Data::DateTime(span), "43831"),
-        (date(Number::Whole(0), false), "0"),
-        (date(Number::Whole(1), false), "1900-01-01"),
-        (date(Number::Whole(60), false), "1900-02-29"),
-        (date(Number::Whole(2_958_465), false), "9999-12-31"),
-        (date(Number::Whole(2_958_466), false), "2958466"),
-        (date(Number::Hundredths(4_383_100), false), "2020-01-01"),
-        (date(Number::Hundredths(4_383_150), false), "43831.5"),
-        (
-            date(Number::Bits(0x40E5_66E0_0000_0000), false),
-            "2020-01-01",
-        ),
-        (date(Number::Whole(0), true), "0"),
-        (date(Number::Whole(1), true), "1904-01-02"),
-        (date(Number::Whole(2_957_003), true), "9999-12-31"),
-    ];
-    for (value, wanted) in &fields {
-        assert!(rt; has_field(alloc, value, wanted)?, "{wanted}");
+    for (value, wanted) in FIELDS.iter() {
+        assert!(rt; has_field(rt.alloc(), *value, wanted)?, "{wanted}");
     }
     Ok(())
 }
 
+// Streams, the CSV of their sheets, and the rows that are read of it: rows without a cell between others; no
+// cell; and a row of one empty field, which is two quotes, so that it is read back as a row.
+static SHEETS: [(&[&[u8]], &str, &[&[&str]]); 3] = [
+    (
+        &THREE,
+        "1,,2\n,,\n,\"a,\"\"b\",\n",
+        &[&["1", "", "2"], &["", "", ""], &["", "a,\"b", ""]],
+    ),
+    (&[&HEAD, &E], "", &[]),
+    (
+        &[&HEAD, &FIRST, &BELOW, &E],
+        "1\n\"\"\n2\n",
+        &[&["1"], &[""], &["2"]],
+    ),
+];
+
+// Whether the rows joined, and the range exported, are this text, and whether these rows are read of it.
+fn is_sheet(alloc: Global, book: &Xls, text: &str, rows: &[&[&str]]) -> Result<bool, Fail> {
+    let bytes = joined(alloc, book)?;
+    let exported = export_csv(alloc, &book.worksheet_range(alloc, "A")?)?;
+    Ok(
+        bytes.as_slice() == text.as_bytes()
+            && exported.as_slice() == text.as_bytes()
+            && reads_back(alloc, &bytes, rows)?,
+    )
+}
+
 #[test]
 fn gives_rows_one_after_another(rt: HostRuntime) -> Result<(), Fail> {
-    let alloc = rt.alloc();
-    let book = opened(alloc, &[&ONE, &TWO, &LABEL])?;
-    let bytes = joined(alloc, &book)?;
-    assert_eq!(rt; shown(&bytes), "1,,2\n,,\n,\"a,\"\"b\",\n");
-    let range = book.worksheet_range(alloc, "A")?;
-    assert!(rt; export_csv(alloc, &range)?.as_slice() == bytes.as_slice());
-    let none = opened(alloc, &[])?;
-    assert_eq!(rt; joined(alloc, &none)?.len(), 0);
+    for (parts, text, rows) in SHEETS.iter() {
+        let book = opened(rt.alloc(), parts)?;
+        assert!(rt; is_sheet(rt.alloc(), &book, text, rows)?, "{text}");
+    }
     rows_of_sheet();
     dense_boxes();
     printed_fields();
-    Ok(())
-}
-
-// RK of 2 at (2, 0).
-static BELOW: [u8; 14] = [0x7E, 2, 10, 0, 2, 0, 0, 0, 0, 0, 10, 0, 0, 0];
-
-// A row of one empty field is two quotes, so that it is read back as a row.
-#[test]
-fn a_row_without_a_byte_has_quotes(rt: HostRuntime) -> Result<(), Fail> {
-    let alloc = rt.alloc();
-    let book = opened(alloc, &[&FIRST, &BELOW])?;
-    let bytes = joined(alloc, &book)?;
-    assert_eq!(rt; shown(&bytes), "1\n\"\"\n2\n");
-    assert!(rt; reads_back(alloc, &bytes, &[&["1"], &[""], &["2"]])?);
     Ok(())
 }
 
@@ -227,7 +269,7 @@ fn has_two_long_rows(alloc: Global, book: &Xls) -> Result<bool, AllocError> {
 // The box has 2^32 cells, and a row 65,536 bytes.
 #[test]
 fn a_far_cell_takes_the_memory_of_a_row(rt: HostRuntime) -> Result<(), Fail> {
-    let book = opened(rt.alloc(), &[&FIRST, &FAR])?;
+    let book = opened(rt.alloc(), &FAR_PARTS)?;
     assert!(rt; has_two_long_rows(rt.alloc(), &book)?);
     Ok(())
 }
@@ -237,17 +279,17 @@ fn a_far_cell_takes_the_memory_of_a_row(rt: HostRuntime) -> Result<(), Fail> {
 fn gives(rows: &mut CsvRows<'_>, last: &str, wanted: &str) -> bool {
     let is_kept = rows.next_row().is_ok()
         || {
-            let is_last = shown(rows.row()) == last;
+            let is_last = rows.row() == last.as_bytes();
             is_last && rows.next_row().is_ok()
         };
-    is_kept && shown(rows.row()) == wanted
+    is_kept && rows.row() == wanted.as_bytes()
 }
 
 // With memory refused at any number, each row comes.
 #[test]
 fn a_refused_row_is_still_to_come(rt: HostRuntime) {
     let alloc = rt.alloc();
-    let Ok(book) = opened(alloc, &[&ONE, &TWO, &LABEL]) else {
+    let Ok(book) = opened(alloc, &THREE_PARTS) else {
         return;
     };
     let Some(values) = book.values_at(0) else {

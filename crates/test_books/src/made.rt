@@ -2,10 +2,11 @@
 
 use xls_made::word_of;
 
+static WORDS: [(u32, &str); 4] = [(0, "a"), (1, "bb"), (2, "ccc"), (65_535, "a")];
+
 #[test]
 fn words_come_in_turn(rt: HostRuntime) {
-    assert_eq!(rt; word_of(0), "a");
-    assert_eq!(rt; word_of(1), "bb");
-    assert_eq!(rt; word_of(2), "ccc");
-    assert_eq!(rt; word_of(65_535), "a");
+    for (n, word) in WORDS.iter() {
+        assert!(rt; word_of(*n) == *word, "{n}");
+    }
 }

@@ -1,78 +1,131 @@
 use super::*;
 use std::test::*;
-use xls_biff::Part;
-use xls_data::CellFormat;
+
+// DateMode of 1 and of 0.
+const SET: [u8; 6] = [0x22, 0, 2, 0, 1, 0];
+
+const UNSET: [u8; 6] = [0x22, 0, 2, 0, 0, 0];
+
+// XF records of the formats 164 and 14, and Format 164, which is `yyyy`.
+const XF_OWN: [u8; 8] = [0xE0, 0, 4, 0, 0, 0, 164, 0];
+
+const XF_BUILT_IN: [u8; 8] = [0xE0, 0, 4, 0, 0, 0, 14, 0];
+
+const YEARS: [u8; 13] = [0x1E, 0x04, 9, 0, 164, 0, 4, 0, 0, 0x79, 0x79, 0x79, 0x79];
+
+// BoundSheet8 whose name is NUL, the byte E9, NUL.
+const NULS: [u8; 15] = [0x85, 0, 11, 0, 27, 0, 0, 0, 0, 0, 3, 0, 0, 0xE9, 0];
+
+// A name whose Lbl stands before the ExternSheet that it needs: PtgRef3d of reference 0, B2.
+const NAME_T: [u8; 27] = [
+    0x18, 0, 23, 0, 0, 0, 0, 1, 7, 0, 0, 0, 0, 0, 0, 0, 0, 0, 0, 0x54, 0x3A, 0, 0, 1, 0, 1, 0,
+];
+
+const REFERENCE: [u8; 12] = [0x17, 0, 8, 0, 1, 0, 0, 0, 0, 0, 0, 0];
+
+// A Lbl of no byte.
+const NO_LBL: [u8; 4] = [0x18, 0, 0, 0];
+
+static CASES: [Case; 9] = [
+    (
+        "an empty stream has no sheets",
+        Opening::Plain,
+        &[],
+        Asked::Told,
+        "false [] [] []",
+    ),
+    (
+        "a date mode of 0 leaves 1900",
+        Opening::Plain,
+        &[&G, &UNSET, &E],
+        Asked::Told,
+        "false [] [] []",
+    ),
+    (
+        "one date mode of 1 sets 1904",
+        Opening::Plain,
+        &[&G, &SET, &UNSET, &E],
+        Asked::Told,
+        "true [] [] []",
+    ),
+    (
+        "a format may stand behind its XF",
+        Opening::Plain,
+        &[&G, &XF_OWN, &XF_BUILT_IN, &YEARS, &E],
+        Asked::Told,
+        "false [DateTime, DateTime] [] []",
+    ),
+    (
+        "a format that isn't there is another one",
+        Opening::Plain,
+        &[&G, &XF_OWN, &E],
+        Asked::Told,
+        "false [Other] [] []",
+    ),
+    (
+        "NULs of a sheet's name are dropped",
+        Opening::Plain,
+        &[&G, &NULS, &E],
+        Asked::Told,
+        "false [] [] [Sheet { name: \"é\", typ: WorkSheet, visible: Visible }]",
+    ),
+    (
+        "two sheets may have one name",
+        Opening::Plain,
+        &TWINS,
+        Asked::Told,
+        "false [] [] [Sheet { name: \"A\", typ: WorkSheet, visible: Visible }, Sheet { name: \"A\", typ: WorkSheet, visible: Visible }]",
+    ),
+    (
+        "a name finds its sheet behind it",
+        Opening::Plain,
+        &[&G, &NAME_T, &REFERENCE, &A_64, &E, &S, &E],
+        Asked::Told,
+        "false [] [(\"T\", \"A!$B$2\")] [Sheet { name: \"A\", typ: WorkSheet, visible: Visible }]",
+    ),
+    (
+        "a name has faults of its head",
+        Opening::Plain,
+        &[&G, &NO_LBL, &E],
+        Asked::Told,
+        "Len { expected: 14, found: 0, typ: Lbl }",
+    ),
+];
 
 #[test]
-fn an_empty_stream_has_no_sheets(rt: HostRuntime) -> Result<(), Fail> {
-    let book = open(rt.alloc(), &[])?;
-    assert!(rt; book.sheets_metadata().is_empty());
-    assert!(rt; book.values_at(0).is_none());
+fn tells_what_the_globals_put_in_force(rt: HostRuntime) -> Result<(), Fail> {
+    for case in CASES.iter() {
+        assert!(rt; is_case(rt.alloc(), case)?, "{}", case.0);
+    }
     Ok(())
 }
 
-// What is wrong with the first so many bytes.
-fn fault_of_prefix(len: usize) -> Option<XlsError> {
+// What the sheets show of the first so many bytes, or what is wrong with them.
+fn of_prefix(len: usize) -> &'static str {
     match len {
-        0 | 8 | 25 | 33 | 47 | 51 => None,
-        21 => Some(XlsError::EoStream(Part::SheetOffset)),
-        1..=3 | 9..=11 | 22..=24 | 26..=28 | 34..=36 | 48..=50 => {
-            Some(XlsError::EoStream(Part::RecordHeader))
-        }
-        _ => Some(XlsError::EoStream(Part::RecordLength)),
+        0 | 8 => "",
+        25 | 33 => "||",
+        47 | 51 => "0,0=Float(Hundredths(12345)) ||",
+        21 => "EoStream(SheetOffset)",
+        1..=3 | 9..=11 | 22..=24 | 26..=28 | 34..=36 | 48..=50 => "EoStream(RecordHeader)",
+        _ => "EoStream(RecordLength)",
     }
-}
-
-fn is_cut(alloc: Global, bytes: &[u8]) -> bool {
-    open(alloc, bytes).err() == fault_of_prefix(bytes.len())
 }
 
 #[test]
 fn says_where_each_prefix_is_cut(rt: HostRuntime) -> Result<(), Fail> {
-    let bytes = plain(rt.alloc())?;
+    let alloc = rt.alloc();
+    let bytes = joined(alloc, &PLAIN_PARTS)?;
+    assert!(rt; bytes.len() == 51);
     for len in 0..=bytes.len() {
-        assert!(rt; is_cut(rt.alloc(), &bytes[..len]), "the first {len} bytes");
+        let is_cut = is_told(
+            alloc,
+            Opening::Plain,
+            &[&bytes[..len]],
+            Asked::Sheets,
+            of_prefix(len),
+        );
+        assert!(rt; is_cut?, "the first {len} bytes");
     }
-    Ok(())
-}
-
-fn is_1904(alloc: Global, parts: &[&[u8]]) -> Result<bool, XlsError> {
-    Ok(opened(alloc, parts)?.has_1904_epoch())
-}
-
-#[test]
-fn one_date_mode_of_1_sets_1904(rt: HostRuntime) -> Result<(), Fail> {
-    let alloc = rt.alloc();
-    let set = [0x22, 0, 2, 0, 1, 0];
-    let unset = [0x22, 0, 2, 0, 0, 0];
-    assert!(rt; !is_1904(alloc, &[&G, &unset, &E])?);
-    assert!(rt; is_1904(alloc, &[&G, &set, &unset, &E])?);
-    Ok(())
-}
-
-fn has_formats(alloc: Global, parts: &[&[u8]], wanted: &[CellFormat]) -> Result<bool, XlsError> {
-    Ok(opened(alloc, parts)?.formats() == wanted)
-}
-
-#[test]
-fn a_format_may_stand_behind_its_xf(rt: HostRuntime) -> Result<(), Fail> {
-    let alloc = rt.alloc();
-    // XF records of the formats 164 and 14, and Format 164, which is `yyyy`.
-    let own = [0xE0, 0, 4, 0, 0, 0, 164, 0];
-    let built_in = [0xE0, 0, 4, 0, 0, 0, 14, 0];
-    let years = [0x1E, 0x04, 9, 0, 164, 0, 4, 0, 0, 0x79, 0x79, 0x79, 0x79];
-    let dates = [CellFormat::DateTime, CellFormat::DateTime];
-    assert!(rt; has_formats(alloc, &[&G, &own, &built_in, &years, &E], &dates)?);
-    assert!(rt; has_formats(alloc, &[&G, &own, &E], &[CellFormat::Other])?);
-    Ok(())
-}
-
-#[test]
-fn drops_nuls_of_a_name(rt: HostRuntime) -> Result<(), Fail> {
-    let alloc = rt.alloc();
-    // The name is NUL, the byte E9, NUL.
-    let named = [0x85, 0, 11, 0, 27, 0, 0, 0, 0, 0, 3, 0, 0, 0xE9, 0];
-    let book = opened(alloc, &[&G, &named, &E])?;
-    assert!(rt; book.sheets_metadata().len() == 1 && are_worksheets(book.sheets_metadata(), "é"));
     Ok(())
 }

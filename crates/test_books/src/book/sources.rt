@@ -5,21 +5,28 @@ use super::*;
 use std::io::Cursor;
 use std::test::*;
 
-fn up_to(alloc: Global, max_bytes: u64) -> Result<XlsOptions, AllocError>
-    ensures { IfOk result (λ options. options.max_bytes ≡ max_bytes) }
-{
-    let mut options = XlsOptions::defaults(alloc)?;
-    options.max_bytes = max_bytes;
-    Ok(options)
-}
+static CASES: [Case; 2] = [
+    (
+        "a stream of the limit is opened",
+        Opening::UpTo(51),
+        &PLAIN,
+        Asked::Sheets,
+        "0,0=Float(Hundredths(12345)) ||",
+    ),
+    (
+        "a larger one is refused",
+        Opening::UpTo(50),
+        &PLAIN,
+        Asked::Sheets,
+        "TooLarge { limit: 50 }",
+    ),
+];
 
 #[test]
-fn a_stream_of_the_limit_is_opened(rt: HostRuntime) -> Result<(), Fail> {
-    let alloc = rt.alloc();
-    let bytes = plain(alloc)?;
-    assert!(rt; open_under(alloc, bytes.as_slice(), up_to(alloc, 51)?).is_ok());
-    let larger = open_under(alloc, bytes.as_slice(), up_to(alloc, 50)?);
-    assert!(rt; matches!(larger, Err(XlsError::TooLarge { limit: 50 })));
+fn opens_a_stream_of_the_limit(rt: HostRuntime) -> Result<(), Fail> {
+    for case in CASES.iter() {
+        assert!(rt; is_case(rt.alloc(), case)?, "{}", case.0);
+    }
     Ok(())
 }
 
@@ -33,7 +40,8 @@ fn opened_without_end(
     ensures { IfOk result (λ refusal. IfSome refusal (λ e. (e ≡ TooLarge limit) ⊎ (e ≡ Memory)) × (refusal ≡ None → ⊥)) }
 {
     let mut source = EndlessSource::new(chunk);
-    let options = up_to(alloc, limit)?;
+    let mut options = XlsOptions::defaults(alloc)?;
+    options.max_bytes = limit;
     Ok(Xls::new_with_options(alloc, &mut source, options).err())
 }
 
@@ -41,50 +49,60 @@ fn opened_without_end(
 fn a_source_without_end_is_too_large(rt: HostRuntime) -> Result<(), Fail> {
     for chunk in [1, 4096] {
         let refusal = opened_without_end(rt.alloc(), chunk, 10_000)?;
-        assert_eq!(rt; refusal, Some(XlsError::TooLarge { limit: 10_000 }));
+        assert!(rt;
+            refusal == Some(XlsError::TooLarge { limit: 10_000 }),
+            "in pieces of {chunk}"
+        );
     }
     Ok(())
 }
 
-// Whether reading says that this call of a source failed.
-fn is_told(alloc: Global, call: u64) -> Result<bool, AllocError> {
-    let failing = Vec::from_array(alloc, [call])?;
-    let mut source = MemorySource::new(plain(alloc)?, 16, failing);
-    Ok(read_all(alloc, &mut source, 99).err() == Some(XlsError::Io))
+// What reading all of the 51 bytes in such pieces gives, where these calls fail.
+fn read(alloc: Global, chunk: usize, failing: &[u64], limit: u64) -> Result<StreamBytes, XlsError>
+    requires { 1 ≤ chunk }
+{
+    let bytes = joined(alloc, &PLAIN_PARTS)?;
+    let mut source = MemorySource::new(bytes, chunk, failing.to_vec(alloc)?);
+    read_all(alloc, &mut source, limit)
 }
 
 #[test]
-fn a_failing_read_is_told(rt: HostRuntime) -> Result<(), Fail> {
-    let alloc = rt.alloc();
+fn a_failing_read_is_told(rt: HostRuntime) {
     for call in 0..4 {
-        assert!(rt; is_told(alloc, call)?, "call {call}");
+        assert!(rt;
+            read(rt.alloc(), 16, &[call], 99).err() == Some(XlsError::Io),
+            "call {call}"
+        );
     }
-    Ok(())
 }
 
 fn is_read_in_pieces(alloc: Global, chunk: usize) -> Result<bool, XlsError>
     requires { 1 ≤ chunk }
 {
-    let mut source = MemorySource::new(plain(alloc)?, chunk, Vec::new(alloc));
-    let bytes = read_all(alloc, &mut source, 51)?;
-    Ok(bytes.as_slice() == plain(alloc)?.as_slice())
+    let wanted = joined(alloc, &PLAIN_PARTS)?;
+    let bytes = read(alloc, chunk, &[], 51)?;
+    Ok(bytes.as_slice() == wanted.as_slice())
+}
+
+fn is_kept(alloc: Global) -> Result<bool, AllocError> {
+    let kept = StreamBytes::from_vec(HUNDREDTHS.to_vec(alloc)?);
+    Ok(kept.as_slice() == HUNDREDTHS.as_slice())
 }
 
 #[test]
 fn reads_all_in_pieces(rt: HostRuntime) -> Result<(), Fail> {
-    let alloc = rt.alloc();
     for chunk in [1, 2, 3, 7, 64] {
-        assert!(rt; is_read_in_pieces(alloc, chunk)?);
+        assert!(rt; is_read_in_pieces(rt.alloc(), chunk)?, "of {chunk}");
     }
-    let kept = StreamBytes::from_vec(plain(alloc)?);
-    assert_eq!(rt; kept.as_slice(), plain(alloc)?.as_slice());
+    assert!(rt; is_kept(rt.alloc())?);
     Ok(())
 }
 
 #[test]
 fn passes_on_what_std_reads(rt: HostRuntime) {
-    let mut source = StdSource::new(Cursor::new(G.as_slice()));
+    let first = G;
+    let mut source = StdSource::new(Cursor::new(first.as_slice()));
     let mut into = [0; 3];
-    assert_eq!(rt; source.read(&mut into), Ok(3));
-    assert_eq!(rt; into, [9, 8, 4]);
+    assert!(rt; source.read(&mut into) == Ok(3));
+    assert!(rt; into == [9, 8, 4]);
 }
