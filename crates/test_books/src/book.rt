@@ -160,7 +160,9 @@ fn size_at(alloc: Global, book: &Xls, n: usize) -> Result<Option<(usize, usize)>
     }
 }
 
+// The header row that was set last counts.
 fn height_from(alloc: Global, book: &mut Xls, row: u32) -> Result<usize, XlsError> {
+    book.with_header_row(HeaderRow::Row(9));
     let cut = book.with_header_row(HeaderRow::Row(row));
     Ok(cut.worksheet_range(alloc, "A")?.height())
 }
