@@ -5,3 +5,4 @@ pub mod HeldLemmas
 pub mod FindLemmas
 pub mod NameLemmas
 pub mod StepLemmas
+pub mod StandardFacts
