@@ -1,0 +1,9 @@
+//! The sectors of a compound file ([MS-CFB]): its header, its DIFAT and FAT, the chains of sectors
+//! in a table, and the bytes of a stream.
+#![tactic(auto)]
+
+mod error;
+mod header;
+
+pub use error::{SectorError, SectorFault, Table};
+pub use header::Header;
