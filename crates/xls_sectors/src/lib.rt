@@ -4,6 +4,8 @@
 
 mod error;
 mod header;
+mod laws;
 
 pub use error::{SectorError, SectorFault, Table};
 pub use header::Header;
+pub use laws::{one_answer, one_outcome};
