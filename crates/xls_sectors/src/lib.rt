@@ -7,5 +7,5 @@ mod header;
 mod laws;
 
 pub use error::{SectorError, SectorFault, Table};
-pub use header::Header;
+pub use header::{Header, read_header};
 pub use laws::{one_answer, one_outcome};
