@@ -1,2 +1,5 @@
 pub mod ChainLemmas
+pub mod SpaceLemmas
+pub mod RunLemmas
+pub mod ReadLemmas
 pub mod AnswerLemmas

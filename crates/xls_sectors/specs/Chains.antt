@@ -1,6 +1,6 @@
 -- Chains of sectors ([MS-CFB] 2.3), for any `next`, which gives for a sector's number the number that
 -- follows it, and None for a number that is no sector.
-use Rattle.std.specs.Prelude.{◌≡◌, ◌⊎◌, ℕ, ◌<◌, ◌≤◌, List, [], ◌∷◌, length, Contains, Option, Some, None, Result, Err}
+use Rattle.std.specs.Prelude.{◌≡◌, ◌⊎◌, ℕ, ◌-◌, List, [], ◌∷◌, length, Contains, slice_get, Option, Some, None, Result, Ok, Err}
 use Rattle.xls_sectors.specs.declared.error.SectorFault.{SectorFault}
 
 -- from the number `first` on these sectors follow one another, and after the last the number `after`
@@ -29,6 +29,9 @@ OfChain next first looped read result =
 
 -- the last of some sectors
 abbrev pub last_of : List ℕ → Option ℕ
-last_of [] = None
-last_of (sector ∷ []) = Some sector
-last_of (sector ∷ other ∷ sectors) = last_of (other ∷ sectors)
+last_of sectors = slice_get sectors (length sectors - 1)
+
+-- the sectors of a chain, and the number after them
+abbrev pub Sectors : (ℕ → Option ℕ) → ℕ → SectorFault → Result (List ℕ × ℕ) SectorFault → Type 0
+Sectors next first looped result =
+    OfChain next first looped (λ sectors after. Ok (sectors, after)) result

@@ -5,7 +5,7 @@
 -- is needed is there. What stands in the chain after the sectors that the stream needs changes
 -- nothing, but for a loop. That two streams share a sector, or that a chain enters a table's own
 -- sectors, is not looked for.
-use Rattle.std.specs.Prelude.{◌≡◌, ℕ, zero, suc, ◌+◌, ◌*◌, ◌-◌, min, List, [], ◌∷◌, ◌++◌, length, take, drop, slice_get, Option, Some, None, Result, Ok, Err, nat_lt, ◌==◌, if◌then◌else◌}
+use Rattle.std.specs.Prelude.{◌≡◌, ℕ, zero, suc, ◌+◌, ◌*◌, ◌-◌, min, List, [], ◌∷◌, ◌++◌, length, take, drop, slice_get, Option, Some, None, Result, Ok, Err, nat_lt, ◌==◌, ◌||◌, ◌&&◌, Bool, if◌then◌else◌}
 use Rattle.xls_sectors.specs.declared.error.Table.{Table}
 use Rattle.xls_sectors.specs.declared.error.SectorFault.{SectorFault}
 use Rattle.xls_sectors.specs.declared.error.SectorFault.TheVariants as faults
@@ -84,3 +84,9 @@ chain_of space sectors after =
 abbrev pub WholeChain : Space → ℕ → Result (List ℕ) SectorFault → Type 0
 WholeChain space first result =
     OfChain (next_in space) first (faults.Loop space.table first) (chain_of space) result
+
+-- the sectors that a size needs follow one another, the first of them being this one
+abbrev pub is_run : ℕ → ℕ → ℕ → List ℕ → Bool
+is_run unit size first [] = size == 0
+is_run unit size first (sector ∷ sectors) =
+    (size == 0) || ((sector == first) && is_run unit (size - unit) (first + 1) sectors)

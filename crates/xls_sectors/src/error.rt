@@ -1,5 +1,7 @@
 //! What a file's header and tables, and the chains in them, are refused for.
 
+use std::alloc::{AllocError, AllocFailed};
+
 /// A table of a compound file.
 #[derive(Clone, Copy, Debug, PartialEq, Eq)]
 pub enum Table {
@@ -88,4 +90,37 @@ pub enum SectorError {
     Fault(SectorFault),
     /// Memory ran out.
     Memory,
+}
+
+impl From<SectorFault> for SectorError {
+    ghost use Rattle.std.specs.Prelude.{◌≡◌};
+    ghost use Rattle.xls_sectors.specs.declared.error.SectorError.TheVariants.{Fault};
+
+    ghost from_gives = { λ fault e. e ≡ Fault fault };
+
+    fn from(fault: SectorFault) -> SectorError {
+        SectorError::Fault(fault)
+    }
+}
+
+impl From<AllocError> for SectorError {
+    ghost use Rattle.std.specs.Prelude.{◌≡◌};
+    ghost use Rattle.xls_sectors.specs.declared.error.SectorError.TheVariants.{Memory};
+
+    ghost from_gives = { λ _ e. e ≡ Memory };
+
+    fn from(_error: AllocError) -> SectorError {
+        SectorError::Memory
+    }
+}
+
+impl<T: Drop> From<AllocFailed<T>> for SectorError {
+    ghost use Rattle.std.specs.Prelude.{◌≡◌};
+    ghost use Rattle.xls_sectors.specs.declared.error.SectorError.TheVariants.{Memory};
+
+    ghost from_gives = { λ _ e. e ≡ Memory };
+
+    fn from(_error: AllocFailed<T>) -> SectorError {
+        SectorError::Memory
+    }
 }
