@@ -1,15 +1,14 @@
 -- Each relation gives exactly one answer.
-use Rattle.std.proofs.Common.{◌≡◌, ◌⊎◌, ℕ, zero, suc, ◌≤◌, List, [], Option, Some, None, Result, Ok, Err, refl, sym, ap, subst, ◌∙◌, inl, inr, arith, ◌<◌, ◌++◌, ◌∷◌, ◌*◌, ◌+◌, ◌-◌, min, length, length-append}
-use Rattle.std.specs.Prelude.{nat_lt, if◌then◌else◌}
+use Rattle.std.proofs.Common.{◌≡◌, ℕ, zero, suc, ◌≤◌, List, [], Option, None, Result, Ok, Err, refl, sym, ap, ◌∙◌, inl, inr, arith, ◌++◌, ◌∷◌, ◌*◌, ◌+◌, ◌-◌, min, length, length-append}
 use Rattle.std.proofs.lemmas.Bool.{cases_lt}
 use Rattle.std.proofs.lemmas.Grind.{common_steps}
 use Rattle.xls_sectors.specs.declared.error.SectorFault.{SectorFault}
 use Rattle.xls_sectors.specs.Header.{SPECIAL, header_of, header_entries}
 use Rattle.xls_sectors.specs.declared.header.Header.{Header}
 use Rattle.xls_sectors.specs.Reading.{◌>>=◌}
-use Rattle.xls_sectors.specs.Chains.{Path, Stops, Loops, OfChain}
+use Rattle.xls_sectors.specs.Chains.{Stops, OfChain}
 use Rattle.xls_sectors.specs.Streams.{Space, next_in, sector_at, part_of, gathered, stream_of, Stream, WholeChain}
-use Rattle.xls_sectors.specs.Tables.{next_difat, area_of, Difat, Opened, opened_by, OpensBy, Opens}
+use Rattle.xls_sectors.specs.Tables.{next_difat, area_of, Difat, opened_by, OpensBy, Opens}
 use Rattle.xls_sectors.specs.Laws.{OneAnswer, OneOutcome}
 use Rattle.xls_sectors.proofs.ChainLemmas.{one_outcome}
 

@@ -2,4 +2,5 @@ pub mod ChainLemmas
 pub mod SpaceLemmas
 pub mod RunLemmas
 pub mod ReadLemmas
+pub mod TableLemmas
 pub mod AnswerLemmas

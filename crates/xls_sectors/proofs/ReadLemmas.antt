@@ -1,12 +1,12 @@
 -- From the sectors of a chain to what is read of it.
-use Rattle.std.proofs.Common.{◌≡◌, ◌≢◌, ℕ, zero, suc, List, length, Option, Result, Ok, Err, IfOk, refl, sym, ap, subst, ◌∙◌, inl, inr}
+use Rattle.std.proofs.Common.{◌≡◌, ◌≢◌, ℕ, zero, suc, List, length, Option, Result, Ok, Err, IfOk, refl, sym, ap, subst, inl, inr}
 use Rattle.xls_sectors.specs.declared.error.SectorFault.{SectorFault}
 use Rattle.xls_sectors.specs.declared.error.SectorFault.TheVariants as faults
 use Rattle.xls_sectors.specs.declared.error.SectorError.{SectorError}
 use Rattle.xls_sectors.specs.declared.error.SectorError.TheVariants as errors
 use Rattle.xls_sectors.specs.Reading.{Fails, Gives}
 use Rattle.xls_sectors.specs.Chains.{OfChain, Sectors}
-use Rattle.xls_sectors.specs.Streams.{Space, next_in, stream_of, Stream, chain_of, WholeChain}
+use Rattle.xls_sectors.specs.Streams.{Space, next_in, stream_of, Stream}
 use Rattle.xls_sectors.proofs.AnswerLemmas.{stream_whole}
 
 abbrev pub Pair : Type 0

@@ -1,13 +1,10 @@
 -- Sectors that follow one another: their bytes are one part of the area.
-use Rattle.std.proofs.Common.{◌≡◌, ◌≢◌, ℕ, zero, suc, ◌+◌, ◌-◌, ◌*◌, ◌<◌, ◌≤◌, min, List, [], ◌∷◌, ◌++◌, length, get_or, take, drop, Bool, true, false, Result, Ok, Err, refl, sym, ap, ◌∙◌, inl, inr, arith, length-take, length-drop, append-nil}
+use Rattle.std.proofs.Common.{◌≡◌, ◌≢◌, ℕ, zero, suc, ◌+◌, ◌-◌, ◌*◌, ◌<◌, ◌≤◌, min, List, [], ◌∷◌, ◌++◌, length, get_or, take, drop, Bool, true, false, Ok, refl, sym, ap, ◌∙◌, inl, inr, arith, length-take, length-drop, append-nil}
 use Rattle.std.specs.Prelude.{◌==◌, ◌||◌, ◌&&◌, IfSome, Option, Some, None}
 use Rattle.std.proofs.Common.{Bor}
 use Rattle.std.proofs.Math.Seq.{take-add}
 use Rattle.std.proofs.lemmas.Bool.{cases_lt}
-use Rattle.std.proofs.lemmas.Bool.Decides.{eqb_tells}
-use Rattle.std.proofs.lemmas.Grind.{common_steps}
 use Rattle.std.proofs.lemmas.List.{drop_more, drop-drop, take-take}
-use Rattle.xls_sectors.specs.declared.error.SectorFault.{SectorFault}
 use Rattle.xls_sectors.specs.Streams.{Space, sector_at, part_of, gathered, is_run}
 use Rattle.xls_sectors.proofs.SpaceLemmas.{gathered_none}
 

@@ -5,7 +5,7 @@
 -- same of the DIFAT; 76 the first 109 entries of the DIFAT. Of the two numbers of sectors only
 -- whether they are 0. Not looked at: class identifier, versions (the shift decides), byte order,
 -- numbers of directory and FAT sectors, transaction signature, cutoff (it is 00001000).
-use Rattle.std.specs.Prelude.{ℕ, ◌^◌, List, [], ◌∷◌, length, take, drop, Bool, Option, Some, None, Result, Ok, Err, nat_lt, not, ◌==◌, ◌||◌, ◌&&◌, if◌then◌else◌}
+use Rattle.std.specs.Prelude.{ℕ, List, [], ◌∷◌, length, take, drop, Result, Ok, Err, nat_lt, not, ◌==◌, if◌then◌else◌}
 use Rattle.std.specs.Str.{bytes_eq}
 use Rattle.xls_bytes.specs.Numbers.{le, u32s_of}
 use Rattle.xls_sectors.specs.declared.error.SectorFault.{SectorFault}

@@ -1,9 +1,9 @@
 -- The laws: every chain, stream and file has exactly one answer.
-use Rattle.std.specs.Prelude.{◌≡◌, ◌⊎◌, ℕ, ◌<◌, ◌≤◌, List, length, Option, Some, None, Result, Ok}
+use Rattle.std.specs.Prelude.{◌≡◌, ◌⊎◌, ℕ, ◌≤◌, List, length, Option, None, Result, Ok}
 use Rattle.xls_sectors.specs.declared.error.SectorFault.{SectorFault}
 use Rattle.xls_sectors.specs.Chains.{Stops, Loops}
 use Rattle.xls_sectors.specs.Streams.{Space, Stream, WholeChain}
-use Rattle.xls_sectors.specs.Tables.{Opened, Opens}
+use Rattle.xls_sectors.specs.Tables.{Opens}
 
 -- exactly one answer
 pub record OneAnswer {X : Type 0} (Answers : Result X SectorFault → Type 0) : Type 0 where

@@ -1,5 +1,5 @@
 -- What a call answers, by what the standard says.
-use Rattle.std.specs.Prelude.{◌≡◌, ℕ, Result, Ok, Err}
+use Rattle.std.specs.Prelude.{Result, Ok, Err}
 use Rattle.xls_sectors.specs.declared.error.SectorFault.{SectorFault}
 use Rattle.xls_sectors.specs.declared.error.SectorError.{SectorError}
 use Rattle.xls_sectors.specs.declared.error.SectorError.TheVariants as errors

@@ -8,7 +8,6 @@ use Rattle.std.specs.Prelude.{◌≡◌, ℕ, ◌-◌, ◌*◌, List, [], ◌∷
 use Rattle.std.specs.List.{flat_map}
 use Rattle.std.specs.Int.{div_ceil}
 use Rattle.xls_bytes.specs.Numbers.{le, u32s_of}
-use Rattle.xls_sectors.specs.declared.error.Table.{Table}
 use Rattle.xls_sectors.specs.declared.error.Table.TheVariants as tables
 use Rattle.xls_sectors.specs.declared.error.SectorFault.{SectorFault}
 use Rattle.xls_sectors.specs.declared.error.SectorFault.TheVariants as faults
@@ -77,6 +76,11 @@ fat_numbers size area (sector ∷ sectors) = do
   others ← fat_numbers size area sectors
   Ok (part ++ others)
 
+-- the first of them, so many at most
+abbrev pub fat_up_to : ℕ → ℕ → List ℕ → List ℕ → Result (List ℕ) SectorFault
+fat_up_to most size area sectors =
+    fat_numbers size area sectors >>= λ numbers. Ok (take most numbers)
+
 -- ---- a file
 
 -- a file's header, what stands after it, and its FAT
@@ -85,18 +89,11 @@ pub record Opened : Type 0 where
   pub area : List ℕ
   pub fat : List ℕ
 
--- the FAT has an entry at most for each sector of the file
-abbrev pub with_fat : Header → List ℕ → List ℕ → Opened
-with_fat header area numbers = record {
-  header = header;
-  area = area;
-  fat = take (div_ceil (length area) header.sector_size) numbers;
-}
-
--- the FAT by its sectors
+-- the FAT by its sectors, with an entry at most for each sector of the file
 abbrev pub opened_by : Header → List ℕ → List ℕ → Result Opened SectorFault
 opened_by header area listed =
-    fat_numbers header.sector_size area listed >>= λ numbers. Ok (with_fat header area numbers)
+    fat_up_to (div_ceil (length area) header.sector_size) header.sector_size area listed
+    >>= λ fat. Ok (record { header = header; area = area; fat = fat })
 
 -- the DIFAT and the FAT after the header
 abbrev pub OpensBy : Result Header SectorFault → List ℕ → Result Opened SectorFault → Type 0

@@ -1,8 +1,8 @@
 //! The header of a compound file.
 
-ghost use Rattle.std.specs.Prelude.{◌≡◌, ◌+◌, ◌≤◌, ◌≢◌, length, IfOk, take, drop, if◌then◌else◌, ◌==◌};
-ghost use Rattle.xls_bytes.specs.Numbers.{le};
-ghost use Rattle.xls_sectors.specs.Header.{header_of, header_fields, first_of, u16_at, u32_at};
+ghost use Rattle.std.specs.Prelude.{◌≡◌, ◌+◌, ◌≤◌, ◌%◌, length, IfOk, take, drop, if◌then◌else◌, ◌==◌};
+ghost use Rattle.xls_bytes.specs.Numbers.{le, u32s_of};
+ghost use Rattle.xls_sectors.specs.Header.{header_of, header_entries, header_fields, first_of, u16_at, u32_at};
 
 use crate::error::SectorFault;
 use xls_bytes::{read_u16, read_u32};
@@ -67,7 +67,8 @@ fn first_in(file: &[u8], offset: usize, count_offset: usize) -> u32
 #[tactic(auto, unfolding(crate::specs::Header::header_fields))]
 fn fields_of(file: &[u8], sector_size: u16) -> Header
     requires { 512 ≤ length file.now }
-    ensures { result ≡ header_fields sector_size file.now }
+    ensures fields { result ≡ header_fields sector_size file.now }
+    ensures size { result.sector_size ≡ sector_size }
 {
     Header {
         sector_size,
@@ -82,6 +83,8 @@ fn fields_of(file: &[u8], sector_size: u16) -> Header
 pub fn read_header(file: &[u8]) -> Result<Header, SectorFault>
     ensures exact { result ≡ header_of file.now }
     ensures whole { IfOk result (λ _. 512 ≤ length file.now) }
+    ensures size { IfOk result (λ header.
+        (512 ≤ header.sector_size) × (header.sector_size % 4 ≡ 0)) }
 {
     if !file.starts_with(&SIGNATURE) {
         return Err(SectorFault::NotCompound);
@@ -99,4 +102,21 @@ pub fn read_header(file: &[u8]) -> Result<Header, SectorFault>
         return Err(SectorFault::MiniSectorShift { found });
     }
     Ok(fields_of(file, sector_size))
+}
+
+/// The block of the DIFAT in the header: 109 numbers of 32 bits.
+pub(crate) fn difat_block(file: &[u8]) -> &[u8]
+    requires { 512 ≤ length file.now }
+    ensures entries { u32s_of result.now ≡ header_entries file.now }
+    ensures words { length result.now % 4 ≡ 0 }
+{
+    &file[76..HEADER_SIZE]
+}
+
+/// What stands after the header's sector.
+pub(crate) fn area_of(file: &[u8], sector_size: u16) -> &[u8]
+    ensures { result.now ≡ drop sector_size file.now }
+{
+    let (_, area) = file.split_at(file.len().min(sector_size as usize));
+    area
 }

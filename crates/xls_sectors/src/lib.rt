@@ -12,3 +12,4 @@ pub use chains::Chains;
 pub use error::{SectorError, SectorFault, Table};
 pub use header::{Header, read_header};
 pub use laws::{one_answer, one_outcome};
+pub use sectors::Sectors;

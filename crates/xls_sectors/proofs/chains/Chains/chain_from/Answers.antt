@@ -1,5 +1,4 @@
-use Rattle.std.proofs.Common.{rules, ◌≡◌, None, Some, refl, arith, length, min, inl, inr, vec_len, ◌∙◌, sym, ◌++◌, ◌∷◌, [], subst, List, ℕ}
-use Rattle.xls_sectors.specs.Chains.{Path}
+use Rattle.std.proofs.Common.{rules, ◌≡◌, None, Some, refl, arith, inl, inr, ◌++◌, ◌∷◌, []}
 use Rattle.xls_sectors.specs.Streams.{next_in}
 use Rattle.xls_sectors.proofs.ChainLemmas.{Path-push}
 use Rattle.xls_sectors.proofs.SpaceLemmas.{full_loops}

@@ -1,4 +1,4 @@
-use Rattle.std.proofs.Common.{rules, ◌≡◌, ◌++◌, ◌<◌, Ok, Err, [], sym, ◌∙◌, ap, arith, min, get_or, length, drop}
+use Rattle.std.proofs.Common.{rules, ◌≡◌, ◌++◌, Ok, Err, [], sym, min, get_or}
 use Rattle.std.proofs.lemmas.Result.{err_from_is_err_and}
 use Rattle.std.proofs.lemmas.List.{drop_all}
 use Rattle.xls_sectors.specs.Streams.{part_of, gathered}

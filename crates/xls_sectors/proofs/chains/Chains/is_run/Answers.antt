@@ -1,6 +1,5 @@
-use Rattle.std.proofs.Common.{rules, ◌≡◌, ◌≢◌, true, sym, ◌∙◌, arith, get_or, length, drop, ◌<◌}
-use Rattle.xls_sectors.specs.Streams.{is_run}
-use Rattle.xls_sectors.proofs.RunLemmas.{is_run_none, is_run_more, is_run_other}
+use Rattle.std.proofs.Common.{◌≡◌, sym, ◌∙◌, arith, drop}
+use Rattle.xls_sectors.proofs.RunLemmas.{is_run_none}
 use Rattle.xls_sectors.proofs.chains.Chains.is_run.Goals as goal
 
 pub returns-then-left-eq0 : goal.returns-then-left-eq0

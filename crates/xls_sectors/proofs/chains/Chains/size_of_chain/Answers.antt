@@ -1,5 +1,5 @@
-use Rattle.std.proofs.Common.{rules, ◌≡◌, ◌++◌, ◌∷◌, [], sym, ◌∙◌}
-use Rattle.xls_sectors.specs.Streams.{sector_at, chain_size}
+use Rattle.std.proofs.Common.{rules, ◌≡◌, ◌++◌, ◌∷◌, [], sym}
+use Rattle.xls_sectors.specs.Streams.{sector_at}
 use Rattle.xls_sectors.proofs.SpaceLemmas.{chain_size_last}
 use Rattle.xls_sectors.proofs.chains.Chains.size_of_chain.Goals as goal
 
