@@ -1,0 +1,6 @@
+pub mod ChainLemmas
+pub mod SpaceLemmas
+pub mod RunLemmas
+pub mod ReadLemmas
+pub mod TableLemmas
+pub mod AnswerLemmas
