@@ -4,3 +4,4 @@ pub mod RunLemmas
 pub mod ReadLemmas
 pub mod TableLemmas
 pub mod AnswerLemmas
+pub mod StandardFacts

@@ -4,3 +4,4 @@ pub mod Chains
 pub mod Streams
 pub mod Tables
 pub mod Laws
+pub mod Errors

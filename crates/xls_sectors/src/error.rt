@@ -1,6 +1,8 @@
 //! What a file's header and tables, and the chains in them, are refused for.
 
 use std::alloc::{AllocError, AllocFailed};
+use std::error::Error;
+use std::fmt;
 
 /// A table of a compound file.
 #[derive(Clone, Copy, Debug, PartialEq, Eq)]
@@ -124,3 +126,126 @@ impl<T: Drop> From<AllocFailed<T>> for SectorError {
         SectorError::Memory
     }
 }
+
+impl fmt::Display for Table {
+    ghost use Rattle.std.specs.Prelude.{Some};
+    ghost use Rattle.xls_sectors.specs.Errors.{table_text};
+
+    ghost output = { λ table. Some (table_text table) };
+
+    fn fmt<W: fmt::Write>(&self, f: &mut fmt::Formatter<W>) -> fmt::Result {
+        match self {
+            Table::Difat => write!(f, "DIFAT"),
+            Table::Fat => write!(f, "FAT"),
+            Table::MiniFat => write!(f, "mini FAT"),
+        }
+    }
+}
+
+// The bytes that were expected and those that were found.
+#[derive(Drop)]
+struct Counts(u64, u64);
+
+impl fmt::Display for Counts {
+    ghost use Rattle.std.specs.Prelude.{Some};
+    ghost use Rattle.xls_sectors.specs.Errors.{counts_text};
+
+    ghost output = { λ counts. Some (counts_text counts.0 counts.1) };
+
+    fn fmt<W: fmt::Write>(&self, f: &mut fmt::Formatter<W>) -> fmt::Result {
+        let Counts(expected, found) = self;
+        write!(f, "expecting {expected} bytes, found {found}")
+    }
+}
+
+impl fmt::Display for SectorFault {
+    ghost use Rattle.std.specs.Prelude.{Some};
+    ghost use Rattle.xls_sectors.specs.Errors.{fault_text};
+
+    ghost output = { λ fault. Some (fault_text fault) };
+
+    fn fmt<W: fmt::Write>(&self, f: &mut fmt::Formatter<W>) -> fmt::Result {
+        match self {
+            SectorFault::NotCompound => write!(f, "Not a compound file: another signature"),
+            SectorFault::HeaderCut { found } => {
+                write!(f, "The header is cut: expecting 512 bytes, found {found}")
+            }
+            SectorFault::SectorShift { found } => {
+                write!(f, "Invalid sector shift: expecting 9 or C, found {found:X}")
+            }
+            SectorFault::MiniSectorShift { found } => {
+                write!(f, "Invalid mini sector shift: expecting 6, found {found:X}")
+            }
+            SectorFault::Loop { table, first } => {
+                write!(f, "The chain from sector {first} of the {table} has a loop")
+            }
+            SectorFault::Leaves {
+                table,
+                after: Some(sector),
+                number,
+            } => {
+                write!(
+                    f,
+                    "After sector {sector} of the {table} comes {number:X}, which the file doesn't have"
+                )
+            }
+            SectorFault::Leaves {
+                table,
+                after: None,
+                number,
+            } => {
+                write!(
+                    f,
+                    "A chain of the {table} begins with {number:X}, which the file doesn't have"
+                )
+            }
+            SectorFault::Short {
+                table,
+                first,
+                expected,
+                found,
+            } => {
+                let counts = Counts(*expected, *found);
+                write!(
+                    f,
+                    "The chain from sector {first} of the {table} is short: {counts}"
+                )
+            }
+            SectorFault::Cut {
+                table,
+                sector,
+                expected,
+                found,
+            } => {
+                let counts = Counts(*expected as u64, *found as u64);
+                write!(f, "Sector {sector} of the {table} is cut: {counts}")
+            }
+            SectorFault::FatCut {
+                sector,
+                expected,
+                found,
+            } => {
+                let counts = Counts(*expected as u64, *found as u64);
+                write!(f, "FAT sector {sector} is cut: {counts}")
+            }
+        }
+    }
+}
+
+impl fmt::Display for SectorError {
+    ghost use Rattle.std.specs.Prelude.{Some};
+    ghost use Rattle.xls_sectors.specs.Errors.{error_text};
+
+    ghost output = { λ error. Some (error_text error) };
+
+    fn fmt<W: fmt::Write>(&self, f: &mut fmt::Formatter<W>) -> fmt::Result {
+        match self {
+            SectorError::Fault(fault) => write!(f, "{fault}"),
+            SectorError::Memory => write!(f, "Out of memory"),
+        }
+    }
+}
+
+impl Error for SectorFault {}
+
+impl Error for SectorError {}
