@@ -1,8 +1,9 @@
 -- Looking up names, and the way up.
-use Rattle.std.proofs.Common.{◌≡◌, ℕ, ◌+◌, ◌<◌, ◌∷◌, [], ◌++◌, List, length, map, reverse, drop, Option, Some, None, refl, ◌∙◌, ap, sym, subst, add-one, drop-cons, Bor, arith}
+use Rattle.std.proofs.Common.{Bool, ◌≡◌, ℕ, ◌+◌, ◌<◌, ◌∷◌, [], ◌++◌, List, length, map, reverse, drop, Option, Some, None, refl, ◌∙◌, ap, sym, subst, add-one, drop-cons, Bor, arith}
 use Rattle.std.proofs.Math.ListN.{get_or}
 use Rattle.std.proofs.lemmas.List.{append-nil, reverse-reverse, reverse-append, map-append}
 use Rattle.std.proofs.lemmas.Grind.{common_steps}
+use Rattle.std.proofs.lemmas.List.Quantifiers.{position-Some}
 use Rattle.std.specs.List.{position}
 use Rattle.xls_directory.specs.Items.{Item, is_child, onward, find_from, Climbs, IsPath}
 
@@ -46,3 +47,8 @@ pub from_above : (items : List Item) (place : ℕ) (names : List (Bor (List ℕ)
     → Climbs items (Some place) (map (λ (x : Bor (List ℕ)). x.now) names ++ []) → IsPath items place (map (λ (x : Bor (List ℕ)). x.now) (reverse names))
 from_above items place names h =
     subst (Climbs items (Some place)) (append-nil _ ∙ sym (ap reverse (map-reverse (λ (x : Bor (List ℕ)). x.now) names) ∙ reverse-reverse _)) h
+
+-- what is found stands in the list
+pub found_within : (p : Item → Bool) (items : List Item) (place : ℕ) → position p items ≡ Some place → place < length items
+found_within p [] place h = absurd (cc)
+found_within p (x ∷ xs) place h = (position-Some p (x ∷ xs) place x h).0

@@ -86,9 +86,11 @@ impl Directory {
         self.items.as_slice()
     }
 
+    #[tactic(auto, using(crate::proofs::FindLemmas::found_within))]
     // The place of the first that the parent holds and that has the name.
     fn child_named(&self, parent: Option<usize>, name: &str) -> Option<usize>
-        ensures { result ≡ position (is_child parent name.now) self.now.items }
+        ensures exact { result ≡ position (is_child parent name.now) self.now.items }
+        ensures within { IfSome result (λ place. place < length self.now.items) }
     {
         self.items
             .iter()
@@ -99,7 +101,8 @@ impl Directory {
     /// there, and for no name. Upper and lower case are the same ([MS-CFB] 2.6.4). Of several of one
     /// name the first counts.
     pub fn find(&self, path: &[&str]) -> Option<usize>
-        ensures { result ≡ find_from self.now.items None (map (λ x. x.now) path.now) }
+        ensures exact { result ≡ find_from self.now.items None (map (λ x. x.now) path.now) }
+        ensures within { IfSome result (λ place. place < length self.now.items) }
     {
         let mut parent = None;
         'names: for name in path {
@@ -108,9 +111,11 @@ impl Directory {
         parent
     }
 
+    #[tactic(auto, using(crate::proofs::FindLemmas::found_within))]
     // The place of the first stream of this name in the root.
     fn stream_named(&self, name: &str) -> Option<usize>
-        ensures { result ≡ stream_named self.now.items name.now }
+        ensures exact { result ≡ stream_named self.now.items name.now }
+        ensures within { IfSome result (λ place. place < length self.now.items) }
     {
         self.items
             .iter()
@@ -119,7 +124,8 @@ impl Directory {
 
     /// The place of a workbook's stream: `Workbook` (BIFF8), or else `Book` (BIFF5), in the root.
     pub fn workbook(&self) -> Option<usize>
-        ensures { result ≡ workbook self.now.items }
+        ensures exact { result ≡ workbook self.now.items }
+        ensures within { IfSome result (λ place. place < length self.now.items) }
     {
         match self.stream_named("Workbook") {
             Some(place) => Some(place),

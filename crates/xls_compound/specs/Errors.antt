@@ -1,0 +1,16 @@
+-- The printed texts of refusals.
+use Rattle.std.specs.Prelude.{ℕ, List, ◌++◌, codes}
+use Rattle.std.specs.String.{string_bytes}
+use Rattle.xls_sectors.specs.Errors.{fault_text}
+use Rattle.xls_directory.specs.Errors as directory
+use Rattle.xls_compound.specs.declared.error.CompoundError.{CompoundError}
+use Rattle.xls_compound.specs.declared.error.CompoundError.TheVariants as errors
+
+abbrev pub error_text : CompoundError → List ℕ
+error_text (errors.Tables fault) = fault_text fault
+error_text (errors.DirectoryChain fault) = codes "the directory: " ++ fault_text fault
+error_text (errors.Directory fault) = directory.fault_text fault
+error_text (errors.MiniFat fault) = codes "the mini FAT: " ++ fault_text fault
+error_text (errors.MiniStream fault) = codes "the mini stream: " ++ fault_text fault
+error_text (errors.Stream name fault) = codes "stream " ++ (string_bytes name ++ (codes ": " ++ fault_text fault))
+error_text errors.Memory = codes "out of memory"

@@ -1,0 +1,12 @@
+//! A compound file ([MS-CFB]): what it lists, and the bytes of its streams.
+#![tactic(auto)]
+
+mod compound;
+mod entry;
+mod error;
+
+pub use compound::Compound;
+pub use entry::{Entries, Entry};
+pub use error::CompoundError;
+pub use xls_directory::{DirectoryError, DirectoryFault};
+pub use xls_sectors::{SectorError, SectorFault, Table};
