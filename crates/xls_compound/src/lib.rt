@@ -4,9 +4,11 @@
 mod compound;
 mod entry;
 mod error;
+mod laws;
 
 pub use compound::Compound;
 pub use entry::{Entries, Entry};
 pub use error::CompoundError;
+pub use laws::one_compound;
 pub use xls_directory::{DirectoryError, DirectoryFault};
 pub use xls_sectors::{SectorError, SectorFault, Table};

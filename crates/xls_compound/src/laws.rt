@@ -1,0 +1,15 @@
+//! Laws of the definitions.
+
+ghost use Rattle.std.specs.Prelude.{◌≡◌, ℕ, List};
+ghost use Rattle.xls_compound.specs.Compound.{Compound, Holds};
+
+use xls_directory::one_listing;
+use xls_sectors::one_answer;
+
+/// A file holds at most one compound.
+pub fn one_compound()
+    ensures { (file : List ℕ) (c d : Compound) → Holds file c → Holds file d → c ≡ d }
+{
+    one_answer();
+    one_listing();
+}
