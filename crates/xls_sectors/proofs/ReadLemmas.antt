@@ -1,13 +1,14 @@
 -- From the sectors of a chain to what is read of it.
-use Rattle.std.proofs.Common.{◌≡◌, ◌≢◌, ℕ, zero, suc, List, length, Option, Result, Ok, Err, IfOk, refl, sym, ap, subst, inl, inr}
+use Rattle.std.proofs.Common.{◌≡◌, ◌≢◌, ℕ, zero, suc, List, length, Option, Result, Ok, Err, IfOk, refl, sym, ap, subst, ◌∙◌, inl, inr}
 use Rattle.xls_sectors.specs.declared.error.SectorFault.{SectorFault}
 use Rattle.xls_sectors.specs.declared.error.SectorFault.TheVariants as faults
 use Rattle.xls_sectors.specs.declared.error.SectorError.{SectorError}
 use Rattle.xls_sectors.specs.declared.error.SectorError.TheVariants as errors
 use Rattle.xls_sectors.specs.Reading.{Fails, Gives}
-use Rattle.xls_sectors.specs.Chains.{OfChain, Sectors}
+use Rattle.xls_sectors.specs.Chains.{OfChain, Sectors, Stops}
 use Rattle.xls_sectors.specs.Streams.{Space, next_in, stream_of, Stream}
 use Rattle.xls_sectors.proofs.AnswerLemmas.{stream_whole}
+use Rattle.xls_sectors.proofs.ChainLemmas.{same_chain}
 
 abbrev pub Pair : Type 0
 Pair = List ℕ × ℕ
@@ -27,6 +28,13 @@ module _ {X : Type 0} (next : ℕ → Option ℕ) (first : ℕ) (looped : Sector
       let same : (let p : Pair = (sectors, after) in p) ≡ (x.0, x.1.0) = pair_same _ _ x.1.2 in
       inl (x.0, (x.1.0, x.1.1, ap (λ (p : Pair). read p.0 p.1) same))
   chain_read sectors after (inr y) = absurd (ok_or_err _ _ y.1)
+
+  -- the sectors of a chain are those at which it stops
+  pub chain_is : (sectors others : List ℕ) (after at : ℕ) → Sectors next first looped (Ok (sectors, after)) → Stops next first others at → others ≡ sectors
+  chain_is sectors others after at (inl x) stops =
+      let same : (let p : Pair = (sectors, after) in p) ≡ (x.0, x.1.0) = pair_same _ _ x.1.2 in
+      (same_chain next first at x.1.0 others x.0 stops.path stops.stop x.1.1.path x.1.1.stop).0 ∙ sym (ap (λ (p : Pair). p.0) same)
+  chain_is sectors others after at (inr y) stops = absurd (ok_or_err _ _ y.1)
 
   pub chain_fault : (fault : SectorFault) → Sectors next first looped (Err fault) → OfChain next first looped read (Err fault)
   chain_fault fault (inl x) = absurd (ok_or_err _ _ (sym x.1.2))

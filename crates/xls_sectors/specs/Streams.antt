@@ -5,7 +5,7 @@
 -- is needed is there. What stands in the chain after the sectors that the stream needs changes
 -- nothing, but for a loop. That two streams share a sector, or that a chain enters a table's own
 -- sectors, is not looked for.
-use Rattle.std.specs.Prelude.{◌≡◌, ℕ, zero, suc, ◌+◌, ◌*◌, ◌-◌, min, List, [], ◌∷◌, ◌++◌, length, take, drop, slice_get, Option, None, Result, Ok, Err, nat_lt, ◌==◌, ◌||◌, ◌&&◌, Bool, if◌then◌else◌}
+use Rattle.std.specs.Prelude.{◌≡◌, ℕ, zero, suc, ◌+◌, ◌*◌, ◌-◌, min, List, [], ◌∷◌, ◌++◌, length, take, drop, slice_get, Option, None, Result, Ok, Err, nat_lt, ◌==◌, ◌||◌, ◌&&◌, Bool, if◌then◌else◌, true, ◌≤◌, Some}
 use Rattle.xls_sectors.specs.declared.error.Table.{Table}
 use Rattle.xls_sectors.specs.declared.error.SectorFault.{SectorFault}
 use Rattle.xls_sectors.specs.declared.error.SectorFault.TheVariants as faults
@@ -90,3 +90,10 @@ abbrev pub is_run : ℕ → ℕ → ℕ → List ℕ → Bool
 is_run unit size first [] = size == 0
 is_run unit size first (sector ∷ sectors) =
     (size == 0) || ((sector == first) && is_run unit (size - unit) (first + 1) sectors)
+
+-- they do, and all bytes of that size are in the area: then no byte need be copied
+pub record IsAdjacent (space : Space) (size : ℕ) (sectors : List ℕ) : Type 0 where
+  pub first : ℕ
+  pub begins : slice_get sectors 0 ≡ Some first
+  pub run : is_run space.sector_size size first sectors ≡ true
+  pub room : first * space.sector_size + size ≤ length space.area

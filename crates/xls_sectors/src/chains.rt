@@ -1,11 +1,11 @@
 //! Chains of sectors, and their bytes.
 
-ghost use Rattle.std.specs.Prelude.{◌≡◌, ◌≤◌, ◌+◌, ◌^◌, ℕ, List, Ok, Err, MatchResult, IfOk, IfSome, length, take, drop};
-ghost use Rattle.std.specs.Cow.{cow_slice_items};
+ghost use Rattle.std.specs.Prelude.{◌≡◌, ◌≤◌, ◌+◌, ◌^◌, ℕ, List, Ok, Err, MatchResult, IfOk, IfSome, IsSome, length, take, drop};
+ghost use Rattle.std.specs.Cow.{cow_slice_items, IsBorrowedSlice};
 ghost use Rattle.xls_sectors.specs.declared.error.SectorFault.TheVariants as faults;
 ghost use Rattle.xls_sectors.specs.Reading.{Gives};
-ghost use Rattle.xls_sectors.specs.Chains.{Sectors};
-ghost use Rattle.xls_sectors.specs.Streams.{Space, next_in, sector_at, part_of, gathered, is_run, leaves, stream_of, Stream, chain_size, chain_of, WholeChain};
+ghost use Rattle.xls_sectors.specs.Chains.{Sectors, Stops};
+ghost use Rattle.xls_sectors.specs.Streams.{Space, next_in, sector_at, part_of, gathered, is_run, IsAdjacent, leaves, stream_of, Stream, chain_size, chain_of, WholeChain};
 
 use crate::error::{SectorError, SectorFault, Table};
 use crate::header::{END_OF_CHAIN, SPECIAL};
@@ -44,8 +44,9 @@ struct Chain {
 
 // So many bytes of an area, from a start on.
 fn bytes_at(area: &[u8], start: usize, size: u64) -> Option<&[u8]>
-    ensures { IfSome result (λ bytes. (start + size ≤ length area.now)
+    ensures found { IfSome result (λ bytes. (start + size ≤ length area.now)
         × (bytes.now ≡ take size (drop start area.now))) }
+    ensures there { start + size ≤ length area.now → IsSome result }
 {
     if area.len() < start {
         return None;
@@ -177,7 +178,8 @@ impl<'t, 'a> Chains<'t, 'a> {
 
     // The bytes of these sectors up to a size, where they follow one another in the area.
     fn adjacent(&self, sectors: &[u32], size: u64) -> Option<&'a [u8]>
-        ensures { IfSome result (λ bytes. gathered self.now size sectors.now ≡ Ok bytes.now) }
+        ensures found { IfSome result (λ bytes. gathered self.now size sectors.now ≡ Ok bytes.now) }
+        ensures there { IsAdjacent self.now size sectors.now → IsSome result }
     {
         let first = *sectors.first()?;
         if !self.is_run(first, sectors, size) {
@@ -193,7 +195,8 @@ impl<'t, 'a> Chains<'t, 'a> {
         sectors: &[u32],
         size: u64,
     ) -> Result<CowSlice<'a, u8>, SectorError>
-        ensures { Gives cow_slice_items result (λ r. r ≡ gathered self.now size sectors.now) }
+        ensures exact { Gives cow_slice_items result (λ r. r ≡ gathered self.now size sectors.now) }
+        ensures borrowed { IsAdjacent self.now size sectors.now → IfOk result IsBorrowedSlice }
     {
         if let Some(bytes) = self.adjacent(sectors, size) {
             return Ok(CowSlice::Borrowed(bytes));
@@ -222,8 +225,10 @@ impl<'t, 'a> Chains<'t, 'a> {
         size: u64,
     ) -> Result<CowSlice<'a, u8>, SectorError>
         requires { length chain.now.sectors.items ≤ 2 ^ 32 }
-        ensures { Gives cow_slice_items result
+        ensures exact { Gives cow_slice_items result
             (λ r. r ≡ stream_of self.now first size chain.now.sectors.items chain.now.after) }
+        ensures borrowed { IsAdjacent self.now size chain.now.sectors.items
+            → IfOk result IsBorrowedSlice }
     {
         let found = chain.sectors.len() as u64 * self.sector_size as u64;
         if size <= found {
@@ -250,6 +255,9 @@ impl<'t, 'a> Chains<'t, 'a> {
     ) -> Result<CowSlice<'a, u8>, SectorError>
         ensures exact { Gives cow_slice_items result (Stream self.now first size) }
         ensures whole { IfOk result (λ bytes. length (cow_slice_items bytes) ≡ size) }
+        // Nothing is copied where the sectors follow one another.
+        ensures borrowed { (sectors : List ℕ) (after : ℕ) → Stops (next_in self.now) first sectors after
+            → IsAdjacent self.now size sectors → IfOk result IsBorrowedSlice }
     {
         if size == 0 {
             return Ok(CowSlice::Borrowed(&[]));
@@ -272,8 +280,10 @@ impl<'t, 'a> Chains<'t, 'a> {
     // The bytes of all sectors of a chain.
     fn chain_in(&self, alloc: Global, chain: &Chain) -> Result<CowSlice<'a, u8>, SectorError>
         requires { length chain.now.sectors.items ≤ 2 ^ 32 }
-        ensures { Gives cow_slice_items result
+        ensures exact { Gives cow_slice_items result
             (λ r. r ≡ chain_of self.now chain.now.sectors.items chain.now.after) }
+        ensures borrowed { IsAdjacent self.now (chain_size self.now chain.now.sectors.items)
+            chain.now.sectors.items → IfOk result IsBorrowedSlice }
     {
         if chain.after != END_OF_CHAIN {
             return Err(SectorError::Fault(self.leaves(chain)));
@@ -285,7 +295,10 @@ impl<'t, 'a> Chains<'t, 'a> {
     /// All bytes of a chain, which has to end in FFFFFFFE. The end of the area may cut its last
     /// sector.
     pub fn chain(&self, alloc: Global, first: u32) -> Result<CowSlice<'a, u8>, SectorError>
-        ensures { Gives cow_slice_items result (WholeChain self.now first) }
+        ensures exact { Gives cow_slice_items result (WholeChain self.now first) }
+        // Nothing is copied where the sectors follow one another.
+        ensures borrowed { (sectors : List ℕ) (after : ℕ) → Stops (next_in self.now) first sectors after
+            → IsAdjacent self.now (chain_size self.now sectors) sectors → IfOk result IsBorrowedSlice }
     {
         let chain = self.chain_from(alloc, first)?;
         self.chain_in(alloc, &chain)

@@ -2,15 +2,15 @@
 
 ghost use Rattle.std.specs.Prelude.{◌≡◌, ◌≤◌, ◌+◌, ◌-◌, ◌%◌, ◌++◌, ℕ, List, Ok, OnOk, IfSome, IfOk, length, map, take, drop, vec_len, MatchOption, None, Some, slice_get};
 ghost use Rattle.std.specs.List.{flat_map};
-ghost use Rattle.std.specs.Cow.{cow_slice_items};
+ghost use Rattle.std.specs.Cow.{cow_slice_items, IsBorrowedSlice};
 ghost use Rattle.std.specs.Int.{div_ceil};
 ghost use Rattle.xls_bytes.specs.Numbers.{le, u32s_of};
 ghost use Rattle.xls_sectors.specs.declared.error.SectorFault.TheVariants as faults;
 ghost use Rattle.xls_sectors.specs.declared.error.Table.TheVariants as tables;
 ghost use Rattle.xls_sectors.specs.Header.{header_entries};
 ghost use Rattle.xls_sectors.specs.Reading.{Gives};
-ghost use Rattle.xls_sectors.specs.Chains.{OfChain};
-ghost use Rattle.xls_sectors.specs.Streams.{Stream, WholeChain};
+ghost use Rattle.xls_sectors.specs.Chains.{Stops};
+ghost use Rattle.xls_sectors.specs.Streams.{next_in, Stream, chain_size, IsAdjacent, WholeChain};
 ghost use Rattle.xls_sectors.specs.Tables.{Opened, Opens, Difat, bytes_at, in_use, next_difat, fat_up_to, opened_by, sectors_of};
 
 use crate::chains::Chains;
@@ -203,13 +203,20 @@ impl<'a> Sectors<'a> {
     ) -> Result<CowSlice<'a, u8>, SectorError>
         ensures exact { Gives cow_slice_items result (Stream (sectors_of self.now) first size) }
         ensures whole { IfOk result (λ bytes. length (cow_slice_items bytes) ≡ size) }
+        ensures borrowed { (sectors : List ℕ) (after : ℕ)
+            → Stops (next_in (sectors_of self.now)) first sectors after
+            → IsAdjacent (sectors_of self.now) size sectors → IfOk result IsBorrowedSlice }
     {
         self.chains().stream(alloc, first, size)
     }
 
     /// All bytes of a chain of sectors: see `Chains::chain`.
     pub fn chain(&self, alloc: Global, first: u32) -> Result<CowSlice<'a, u8>, SectorError>
-        ensures { Gives cow_slice_items result (WholeChain (sectors_of self.now) first) }
+        ensures exact { Gives cow_slice_items result (WholeChain (sectors_of self.now) first) }
+        ensures borrowed { (sectors : List ℕ) (after : ℕ)
+            → Stops (next_in (sectors_of self.now)) first sectors after
+            → IsAdjacent (sectors_of self.now) (chain_size (sectors_of self.now) sectors) sectors
+            → IfOk result IsBorrowedSlice }
     {
         self.chains().chain(alloc, first)
     }

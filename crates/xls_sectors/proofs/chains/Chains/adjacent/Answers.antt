@@ -3,8 +3,8 @@ use Rattle.xls_sectors.specs.Streams.{is_run}
 use Rattle.xls_sectors.proofs.RunLemmas.{run_found}
 use Rattle.xls_sectors.proofs.chains.Chains.adjacent.Goals as goal
 
-pub returns : goal.returns
-returns c =
+pub returns-clause-found : goal.returns-clause-found
+returns-clause-found c =
     let space = c.args.self.now in
     let first = c.in_ok-first.field-0.now in
     let run : is_run space.sector_size c.args.size first c.args.sectors.now ≡ true = search rules in
