@@ -1,5 +1,5 @@
-//! Lists what a macro project refers to, and its modules. The project's directory, decompressed,
-//! comes on standard input.
+//! Lists what a macro project refers to, and its modules. The project's directory, compressed as it
+//! stands in the file, comes on standard input.
 #![tactic(auto)]
 
 mod answer;

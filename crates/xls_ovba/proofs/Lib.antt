@@ -1,0 +1,4 @@
+pub mod TokenLemmas
+pub mod ContainerLemmas
+pub mod LawLemmas
+mod StandardFacts
