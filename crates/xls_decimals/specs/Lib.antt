@@ -1,0 +1,7 @@
+pub mod Added
+pub mod Decimals
+pub mod Fractions
+pub mod Texts
+pub mod Counted
+pub mod Moments
+pub mod Formulas
