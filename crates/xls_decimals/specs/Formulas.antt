@@ -75,9 +75,13 @@ abbrev pub ArePieces : List Piece → Type 0
 ArePieces [] = Unit {0}
 ArePieces (piece ∷ pieces) = IsPiece piece (bytes_of pieces) × ArePieces pieces
 
+-- a word as it is, one of bits in decimal
+abbrev pub IsBitsOrWord : List ℕ → List ℕ → Type 0
+IsBitsOrWord word text = MatchOption (bits_of_word word) (text ≡ word) (λ bits. IsDouble bits text)
+
 -- a double by its bits in decimal, every other piece as it is
 abbrev pub IsPieceText : Piece → List ℕ → Type 0
-IsPieceText (Word word) text = MatchOption (bits_of_word word) (text ≡ word) (λ bits. IsDouble bits text)
+IsPieceText (Word word) text = IsBitsOrWord word text
 IsPieceText other text = text ≡ piece_bytes other
 
 abbrev pub AreTexts : List Piece → List ℕ → Type 0

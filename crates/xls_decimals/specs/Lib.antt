@@ -5,3 +5,4 @@ pub mod Texts
 pub mod Counted
 pub mod Moments
 pub mod Formulas
+pub mod Pieces

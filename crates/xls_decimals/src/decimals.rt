@@ -1,6 +1,6 @@
 //! Numbers in decimal.
 
-ghost use Rattle.std.specs.Prelude.{◌≡◌, ◌++◌, ◌^◌, ◌<◌, ◌==◌, Some, None, IfSome, OnOk, OnErr, IsTrue, MatchOption, from_bits, codes};
+ghost use Rattle.std.specs.Prelude.{◌≡◌, ◌++◌, ◌^◌, ◌<◌, ◌==◌, Some, None, IfSome, OnOk, OnErr, IsTrue, MatchOption, from_bits, to_bits, true, false, codes};
 ghost use Rattle.std.specs.Float.{binary64, float_is_finite};
 ghost use Rattle.std.specs.Fmt.{signed_decimal};
 ghost use Rattle.std.specs.String.{string_bytes};
@@ -19,6 +19,9 @@ const FRACTION: u64 = 1 << 52;
 const SIGN: u64 = 1 << 63;
 
 const INFINITE: u64 = 2047;
+
+// The bits of the double 100.
+const HUNDRED: u64 = 0x4059_0000_0000_0000;
 
 // From here on a double is written with an exponent.
 const LEAST_WITH_EXPONENT: u64 = 10_000_000_000_000_000;
@@ -117,8 +120,16 @@ pub fn push_double(bits: u64, buf: &mut String) -> Result<(), AllocError>
 }
 
 // The bits of a double over 100, where that is finite.
-fn quotient_bits(bits: u64) -> Option<u64> {
-    None
+fn quotient_bits(bits: u64) -> Option<u64>
+    ensures { MatchOption result (float_is_finite (over_100 bits) ≡ false)
+        (λ q. (float_is_finite (over_100 bits) ≡ true) × (q ≡ to_bits binary64 (over_100 bits))) }
+{
+    let quotient = finite_of(bits)? / f64::from_bits(HUNDRED);
+    if quotient.is_finite() {
+        Some(quotient.to_bits())
+    } else {
+        None
+    }
 }
 
 // Appends the double with these bits over 100.

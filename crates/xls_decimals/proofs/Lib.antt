@@ -1,0 +1,4 @@
+pub mod AddedLemmas
+pub mod AsciiLemmas
+pub mod FiniteLemmas
+pub mod FractionLemmas
