@@ -2,3 +2,4 @@ pub mod AddedLemmas
 pub mod AsciiLemmas
 pub mod FiniteLemmas
 pub mod FractionLemmas
+pub mod FormulaLemmas

@@ -3,7 +3,6 @@
 ghost use Rattle.std.specs.Prelude.{◌≡◌, ◌≢◌, ◌<◌, ◌≤◌, ◌++◌, ◌∷◌, ℕ, Some, [], IsTrue, IsFalse, MatchOption, IfSome, length, get_or, IsUtf8, OnOk, OnErr};
 ghost use Rattle.std.specs.String.{string_bytes};
 ghost use Rattle.std.specs.Str.{IsCharBoundary};
-ghost use Rattle.xls_bytes.specs.Growth.{IsGrown};
 ghost use Rattle.xls_decimals.specs.Added.{Adds};
 ghost use Rattle.xls_decimals.specs.Formulas.{is_quote, is_between, is_word_byte, hex_digit_of, hex_value_after, bits_of_word, IsFormula, IsBitsOrWord};
 ghost use Rattle.xls_decimals.specs.Pieces.{HasPiece};
@@ -135,7 +134,7 @@ fn push_piece(piece: &str, buf: &mut String) -> Result<(), AllocError>
 // As `push_formula`, but an error may leave a part of the text.
 fn append_formula(formula: &str, buf: &mut String) -> Result<(), AllocError>
     ensures ok { OnOk result (Adds (IsFormula formula.now) (string_bytes buf.old) (string_bytes buf.new)) }
-    ensures grown { IsGrown (string_bytes buf.old) (string_bytes buf.new) }
+    ensures grown { Adds (λ _. Unit {0}) (string_bytes buf.old) (string_bytes buf.new) }
 {
     let mut rest = formula;
     'pieces: while !rest.is_empty() {
