@@ -3,3 +3,4 @@ pub mod AsciiLemmas
 pub mod FiniteLemmas
 pub mod FractionLemmas
 pub mod FormulaLemmas
+pub mod StandardFacts
