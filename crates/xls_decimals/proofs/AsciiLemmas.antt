@@ -31,17 +31,17 @@ fraction_ascii : (ms : ℕ) → IsAscii (fraction_text ms)
 fraction_ascii ms =
     if_ascii (ms == 0) [] _ IsAscii-nil
     (if_ascii (ms % 100 == 0) (46 ∷ digit (ms / 100) ∷ []) _
-      (sign_ascii 46 (digit (ms / 100) ∷ []) (omega arith) (sign_ascii (digit (ms / 100)) [] (digit_ascii (ms / 100)) IsAscii-nil))
-      (if_ascii (ms % 10 == 0) (46 ∷ two_digits (ms / 10)) (46 ∷ digit (ms / 100) ∷ two_digits ms)
-        (sign_ascii 46 (two_digits (ms / 10)) (omega arith) (two_ascii (ms / 10)))
-        (sign_ascii 46 (digit (ms / 100) ∷ two_digits ms) (omega arith) (sign_ascii (digit (ms / 100)) (two_digits ms) (digit_ascii (ms / 100)) (two_ascii ms)))))
+    (sign_ascii 46 (digit (ms / 100) ∷ []) (omega arith) (sign_ascii (digit (ms / 100)) [] (digit_ascii (ms / 100)) IsAscii-nil))
+    (if_ascii (ms % 10 == 0) (46 ∷ two_digits (ms / 10)) (46 ∷ digit (ms / 100) ∷ two_digits ms)
+    (sign_ascii 46 (two_digits (ms / 10)) (omega arith) (two_ascii (ms / 10)))
+    (sign_ascii 46 (digit (ms / 100) ∷ two_digits ms) (omega arith) (sign_ascii (digit (ms / 100)) (two_digits ms) (digit_ascii (ms / 100)) (two_ascii ms)))))
 
 minutes_ascii : (ms : ℕ) → IsAscii (minutes_text ms)
 minutes_ascii ms =
     sign_ascii 58 (two_digits (ms / 60_000 % 60) ++ (58 ∷ (two_digits (ms / 1_000 % 60) ++ fraction_text (ms % 1_000)))) (omega arith)
     (IsAscii-append (two_digits (ms / 60_000 % 60)) (58 ∷ (two_digits (ms / 1_000 % 60) ++ fraction_text (ms % 1_000))) (two_ascii (ms / 60_000 % 60))
-      (sign_ascii 58 (two_digits (ms / 1_000 % 60) ++ fraction_text (ms % 1_000)) (omega arith)
-        (IsAscii-append (two_digits (ms / 1_000 % 60)) (fraction_text (ms % 1_000)) (two_ascii (ms / 1_000 % 60)) (fraction_ascii (ms % 1_000)))))
+    (sign_ascii 58 (two_digits (ms / 1_000 % 60) ++ fraction_text (ms % 1_000)) (omega arith)
+    (IsAscii-append (two_digits (ms / 1_000 % 60)) (fraction_text (ms % 1_000)) (two_ascii (ms / 1_000 % 60)) (fraction_ascii (ms % 1_000)))))
 
 clock_ascii : (ms : ℕ) → IsAscii (clock_text ms)
 clock_ascii ms = IsAscii-append (two_digits (ms / 3_600_000)) (minutes_text ms) (two_ascii (ms / 3_600_000)) (minutes_ascii ms)
@@ -53,9 +53,9 @@ date_ascii : (d : Ymd) → IsAscii (date_text d)
 date_ascii d =
     IsAscii-append (two_digits (d.0 / 100)) (two_digits d.0 ++ (45 ∷ (two_digits d.1 ++ (45 ∷ two_digits d.2)))) (two_ascii (d.0 / 100))
     (IsAscii-append (two_digits d.0) (45 ∷ (two_digits d.1 ++ (45 ∷ two_digits d.2))) (two_ascii d.0)
-      (sign_ascii 45 (two_digits d.1 ++ (45 ∷ two_digits d.2)) (omega arith)
-        (IsAscii-append (two_digits d.1) (45 ∷ two_digits d.2) (two_ascii d.1)
-          (sign_ascii 45 (two_digits d.2) (omega arith) (two_ascii d.2)))))
+    (sign_ascii 45 (two_digits d.1 ++ (45 ∷ two_digits d.2)) (omega arith)
+    (IsAscii-append (two_digits d.1) (45 ∷ two_digits d.2) (two_ascii d.1)
+    (sign_ascii 45 (two_digits d.2) (omega arith) (two_ascii d.2)))))
 
 moment_by : (is_1904 test : Bool) (ms : ℕ) (text : List ℕ) (P : Ymd → Type 0)
     → MatchBool test (text ≡ clock_text ms) ((date : Ymd) × P date × (text ≡ date_text date ++ time_after_day (ms % day)))
@@ -71,15 +71,15 @@ pub duration_ascii : (negative : Bool) (ms : ℕ) → ms < 2 ^ 64 → IsAscii (d
 duration_ascii negative ms small =
     IsAscii-append (sign_of negative ms) (decimal (ms / 3_600_000) ++ minutes_text ms)
     (if_ascii (ms == 0) [] (if negative then 45 ∷ [] else []) IsAscii-nil
-      (if_ascii negative (45 ∷ []) [] (sign_ascii 45 [] (omega arith) IsAscii-nil) IsAscii-nil))
+    (if_ascii negative (45 ∷ []) [] (sign_ascii 45 [] (omega arith) IsAscii-nil) IsAscii-nil))
     (IsAscii-append (decimal (ms / 3_600_000)) (minutes_text ms) (IsAscii-decimal (ms / 3_600_000) (omega arith)) (minutes_ascii ms))
 
 decimals_ascii : (n : ℕ) → n < 100 → IsAscii (decimals_text n)
 decimals_ascii n small =
     if_ascii (n == 0) [] _ IsAscii-nil
     (sign_ascii 46 (decimal (n / 10) ++ (if n % 10 == 0 then [] else decimal (n % 10))) (omega arith)
-      (IsAscii-append (decimal (n / 10)) (if n % 10 == 0 then [] else decimal (n % 10)) (IsAscii-decimal (n / 10) (omega arith))
-        (if_ascii (n % 10 == 0) [] (decimal (n % 10)) IsAscii-nil (IsAscii-decimal (n % 10) (omega arith)))))
+    (IsAscii-append (decimal (n / 10)) (if n % 10 == 0 then [] else decimal (n % 10)) (IsAscii-decimal (n / 10) (omega arith))
+    (if_ascii (n % 10 == 0) [] (decimal (n % 10)) IsAscii-nil (IsAscii-decimal (n % 10) (omega arith)))))
 
 minus_ascii : (n : ℤ) → IsAscii (minus_if_negative n)
 minus_ascii (pos n) = IsAscii-nil
@@ -89,7 +89,7 @@ pub hundredths_ascii : (n : ℤ) → unsigned_abs n < 2 ^ 64 → IsAscii (hundre
 hundredths_ascii n small =
     IsAscii-append (minus_if_negative n) (decimal (unsigned_abs n / 100) ++ decimals_text (unsigned_abs n % 100)) (minus_ascii n)
     (IsAscii-append (decimal (unsigned_abs n / 100)) (decimals_text (unsigned_abs n % 100))
-      (IsAscii-decimal (unsigned_abs n / 100) (omega arith)) (decimals_ascii (unsigned_abs n % 100) (omega arith)))
+    (IsAscii-decimal (unsigned_abs n / 100) (omega arith)) (decimals_ascii (unsigned_abs n % 100) (omega arith)))
 
 -- ---- hexadecimal digits
 

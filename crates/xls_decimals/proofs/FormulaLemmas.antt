@@ -31,8 +31,8 @@ all_from P (b ∷ bs) h (suc k) d l = all_from P bs (λ j m. h (suc j) (omega ar
 all_taken : (P : ℕ → Type 0) (bs : List ℕ) (n : ℕ) → n ≤ length bs → ((k : ℕ) → k < n → P (get_or bs k 0)) → All P (take n bs)
 all_taken P bs n l h =
     all_from P (take n bs) (λ k m.
-      let low : k < n = omega (arith, length-take n bs) in
-      subst P (sym (get_or-take n bs k 0 low)) (h k low))
+    let low : k < n = omega (arith, length-take n bs) in
+    subst P (sym (get_or-take n bs k 0 low)) (h k low))
 
 -- ---- the first piece
 

@@ -58,7 +58,7 @@ fraction_far e f k p q r =
     let big : 2 ^ 52 * 2 ≤ (2 ^ 52 + f) * 2 ^ (e - 1075) = mul-le (2 ^ 52) 2 (2 ^ 52 + f) (2 ^ (e - 1075)) (omega arith) two in
     let whole : k * 2 ^ 0 ≡ k = mul-one k in
     let size : 2 ^ 45 * day ≤ (2 ^ 52 + f) * 2 ^ (e - 1075) * day / k =
-        le-div (2 ^ 45 * day) ((2 ^ 52 + f) * 2 ^ (e - 1075) * day) k q (omega arith) in
+    le-div (2 ^ 45 * day) ((2 ^ 52 + f) * 2 ^ (e - 1075) * day) k q (omega arith) in
     let least = nearest_least ((2 ^ 52 + f) * 2 ^ (e - 1075) * day) k in
     rw (fraction_parts e f k (2 ^ 52 + f) (e - 1075) 0 (mantissa_above e f (omega arith)) refl (omega arith), whole)
     (counted_none (nearest ((2 ^ 52 + f) * 2 ^ (e - 1075) * day) k) (omega (arith, size, least)))
@@ -76,12 +76,12 @@ pub fraction_near : (e f k : ℕ) → e < 994 → f < 2 ^ 52 → 0 < k
 fraction_near e f k p q r = elim (cases_eq e 0) [
   | inl zero_field ↦
       let first : nearest (mantissa_of e f * 2 ^ up_of e * day) (k * 2 ^ down_of e) ≡ 0 =
-          fraction_parts e f k f 0 1074 (rw zero_field refl) (omega arith) (omega arith) ∙ near_zero f k 1074 (omega arith) (omega arith) r in
+      fraction_parts e f k f 0 1074 (rw zero_field refl) (omega arith) (omega arith) ∙ near_zero f k 1074 (omega arith) (omega arith) r in
       rw first
   | inr above ↦
       let first : nearest (mantissa_of e f * 2 ^ up_of e * day) (k * 2 ^ down_of e) ≡ 0 =
-          fraction_parts e f k (2 ^ 52 + f) 0 (1075 - e) (mantissa_above e f (omega arith)) (omega arith) (omega arith)
-          ∙ near_zero (2 ^ 52 + f) k (1075 - e) (omega arith) (omega arith) r in
+      fraction_parts e f k (2 ^ 52 + f) 0 (1075 - e) (mantissa_above e f (omega arith)) (omega arith) (omega arith)
+      ∙ near_zero (2 ^ 52 + f) k (1075 - e) (omega arith) (omega arith) r in
       rw first
 ]
 
@@ -98,7 +98,7 @@ span_parts d = (d.is_negative, d.milliseconds)
 
 span_by : (days : Fraction) (b : Bool)
     → ◌≡◌ {A = Option (Bool × ℕ)} (if b then Some (days.negative, milliseconds_of days) else None)
-      (option_map span_parts (with_milliseconds days (if b then Some (milliseconds_of days) else None)))
+    (option_map span_parts (with_milliseconds days (if b then Some (milliseconds_of days) else None)))
 span_by days true = refl
 span_by days false = refl
 

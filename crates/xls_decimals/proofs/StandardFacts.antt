@@ -23,11 +23,11 @@ use Rattle.xls_decimals.specs.Formulas.{bits_of_word, is_quote, is_word_byte}
 
 -- 0, -0, -7, 10 ^ 15, 2 ^ 53 - 1, 2 ^ 53, 2 ^ 53 + 2, the last below 10 ^ 16 and its negative
 pub known_wholes : map fixed_text (0x0000_0000_0000_0000 ∷ 0x8000_0000_0000_0000 ∷ 0xc01c_0000_0000_0000
-      ∷ 0x430c_6bf5_2634_0000 ∷ 0x433f_ffff_ffff_ffff ∷ 0x4340_0000_0000_0000 ∷ 0x4340_0000_0000_0001
-      ∷ 0x4341_c379_37e0_7fff ∷ 0xc341_c379_37e0_7fff ∷ [])
+    ∷ 0x430c_6bf5_2634_0000 ∷ 0x433f_ffff_ffff_ffff ∷ 0x4340_0000_0000_0000 ∷ 0x4340_0000_0000_0001
+    ∷ 0x4341_c379_37e0_7fff ∷ 0xc341_c379_37e0_7fff ∷ [])
     ≡ Some (codes "0") ∷ Some (codes "-0") ∷ Some (codes "-7")
-      ∷ Some (codes "1000000000000000") ∷ Some (codes "9007199254740991") ∷ Some (codes "9007199254740992") ∷ Some (codes "9007199254740994")
-      ∷ Some (codes "9999999999999998") ∷ Some (codes "-9999999999999998") ∷ []
+    ∷ Some (codes "1000000000000000") ∷ Some (codes "9007199254740991") ∷ Some (codes "9007199254740992") ∷ Some (codes "9007199254740994")
+    ∷ Some (codes "9999999999999998") ∷ Some (codes "-9999999999999998") ∷ []
 unfolding digits size_of_parts
 known_wholes = refl
 
@@ -40,7 +40,7 @@ known_infinities = refl
 -- 10 ^ 16, 0.1, a third, 1.5, 10 ^ -5, 9.9e-6, the least subnormal and the greatest double are
 -- written so that they read back
 pub known_others : map fixed_text (0x4341_c379_37e0_8000 ∷ 0x3fb9_9999_9999_999a ∷ 0x3fd5_5555_5555_5555 ∷ 0x3ff8_0000_0000_0000
-      ∷ 0x3ee4_f8b5_88e3_68f1 ∷ 0x3ee4_c305_a3ad_ef92 ∷ 0x0000_0000_0000_0001 ∷ 0x7fef_ffff_ffff_ffff ∷ [])
+    ∷ 0x3ee4_f8b5_88e3_68f1 ∷ 0x3ee4_c305_a3ad_ef92 ∷ 0x0000_0000_0000_0001 ∷ 0x7fef_ffff_ffff_ffff ∷ [])
     ≡ None ∷ None ∷ None ∷ None ∷ None ∷ None ∷ None ∷ None ∷ []
 unfolding size_of_parts
 known_others = refl
@@ -60,9 +60,9 @@ known_ties = refl
 
 -- days 0, -0, 1, 59, 60, 61, 366, 2958465, the next and -1 in the 1900 system
 pub known_moments : map (moment_of false) (Bits 0x0000_0000_0000_0000 ∷ Bits 0x8000_0000_0000_0000 ∷ Bits 0x3ff0_0000_0000_0000
-      ∷ Whole (pos 59) ∷ Whole (pos 60) ∷ Whole (pos 61) ∷ Whole (pos 366) ∷ Whole (pos 2_958_465) ∷ Whole (pos 2_958_466) ∷ Whole (negsuc 0) ∷ [])
+    ∷ Whole (pos 59) ∷ Whole (pos 60) ∷ Whole (pos 61) ∷ Whole (pos 366) ∷ Whole (pos 2_958_465) ∷ Whole (pos 2_958_466) ∷ Whole (negsuc 0) ∷ [])
     ≡ Some 0 ∷ Some 0 ∷ Some 86_400_000
-      ∷ Some 5_097_600_000 ∷ Some 5_184_000_000 ∷ Some 5_270_400_000 ∷ Some 31_622_400_000 ∷ Some 255_611_376_000_000 ∷ None ∷ None ∷ []
+    ∷ Some 5_097_600_000 ∷ Some 5_184_000_000 ∷ Some 5_270_400_000 ∷ Some 31_622_400_000 ∷ Some 255_611_376_000_000 ∷ None ∷ None ∷ []
 unfolding nearest
 known_moments = refl
 
@@ -75,14 +75,14 @@ known_moments_1904 = refl
 -- the double before 1 rounds up to day 1, the one before 2958466 to a day that is out of range; a
 -- subnormal is midnight, its negative is below zero; half a day in hundredths; 150 over 100; infinity
 pub known_rounded : map (moment_of false) (Bits 0x3fef_ffff_ffff_ffff ∷ Bits 0x4146_9241_0000_0000 ∷ Bits 0x4146_9240_ffff_ffff ∷ Bits 0x0000_0000_0000_0001
-      ∷ Bits 0x8000_0000_0000_0001 ∷ Hundredths (pos 50) ∷ BitsOver100 0x4062_c000_0000_0000 ∷ Bits 0x7ff0_0000_0000_0000 ∷ [])
+    ∷ Bits 0x8000_0000_0000_0001 ∷ Hundredths (pos 50) ∷ BitsOver100 0x4062_c000_0000_0000 ∷ Bits 0x7ff0_0000_0000_0000 ∷ [])
     ≡ Some 86_400_000 ∷ None ∷ None ∷ Some 0 ∷ None ∷ Some 43_200_000 ∷ Some 129_600_000 ∷ None ∷ []
 unfolding nearest
 known_rounded = refl
 
 -- durations: 1.25 days, -1 / 2048, -0, 2958465 days and one more
 pub known_spans : map span_of (Bits 0x3ff4_0000_0000_0000 ∷ Bits 0xbf40_0000_0000_0000 ∷ Bits 0x8000_0000_0000_0000
-      ∷ Whole (negsuc 2_958_464) ∷ Whole (negsuc 2_958_465) ∷ [])
+    ∷ Whole (negsuc 2_958_464) ∷ Whole (negsuc 2_958_465) ∷ [])
     ≡ Some (false, 108_000_000) ∷ Some (true, 42_188) ∷ Some (true, 0) ∷ Some (true, 255_611_376_000_000) ∷ None ∷ []
 unfolding nearest
 known_spans = refl
@@ -140,7 +140,7 @@ known_words = refl
 pub known_quotes : map is_quote (codes "\"'`(") ≡ true ∷ true ∷ false ∷ false ∷ []
 known_quotes = refl
 
-pub known_word_bytes : map is_word_byte (codes "/09:@AZ[`az{_.?\\" ) ≡ false ∷ true ∷ true ∷ false ∷ false ∷ true ∷ true ∷ false ∷ false ∷ true ∷ true ∷ false ∷ true ∷ true ∷ true ∷ true ∷ []
+pub known_word_bytes : map is_word_byte (codes "/09:@AZ[`az{_.?\\") ≡ false ∷ true ∷ true ∷ false ∷ false ∷ true ∷ true ∷ false ∷ false ∷ true ∷ true ∷ false ∷ true ∷ true ∷ true ∷ true ∷ []
 known_word_bytes = refl
 
 pub known_word_edges : map is_word_byte (0x80 ∷ 0xff ∷ 0x22 ∷ 0x27 ∷ 0x20 ∷ 0x21 ∷ 0x7f ∷ []) ≡ true ∷ true ∷ false ∷ false ∷ false ∷ false ∷ false ∷ []

@@ -59,10 +59,10 @@ over_100 bits = div binary64 (from_bits binary64 bits) (from_bits binary64 0x405
 abbrev pub IsDoubleOver100 : ℕ → List ℕ → Type 0
 IsDoubleOver100 bits text =
     MatchBool (bits == 2 ^ 63) (text ≡ codes "-0") (MatchOption (whole_of bits)
-      (MatchBool (float_is_finite (over_100 bits))
-        (IsDouble (to_bits binary64 (over_100 bits)) text)
-        (text ≡ bits_text bits ++ codes "/100"))
-      (λ n. text ≡ hundredths_text n))
+    (MatchBool (float_is_finite (over_100 bits))
+    (IsDouble (to_bits binary64 (over_100 bits)) text)
+    (text ≡ bits_text bits ++ codes "/100"))
+    (λ n. text ≡ hundredths_text n))
 
 -- the decimal text of a number
 abbrev pub IsDecimal : Number → List ℕ → Type 0

@@ -54,8 +54,8 @@ time_after_day ms = if ms == 0 then [] else codes "T" ++ clock_text ms
 abbrev pub IsMoment : Bool → ℕ → List ℕ → Type 0
 IsMoment is_1904 ms text =
     MatchBool (nat_lt ms day) (text ≡ clock_text ms)
-      ((date : Ymd) × IsSerialDate is_1904 (ms / day) date
-        × (text ≡ date_text date ++ time_after_day (ms % day)))
+    ((date : Ymd) × IsSerialDate is_1904 (ms / day) date
+    × (text ≡ date_text date ++ time_after_day (ms % day)))
 
 -- the sign of a duration
 abbrev pub sign_of : Bool → ℕ → List ℕ

@@ -35,7 +35,10 @@ pub fn push_duration(number: Number, buf: &mut String) -> Result<(), AllocError>
     ensures err { OnErr result (string_bytes buf.new ≡ string_bytes buf.old) }
 {
     match days_of(number) {
-        Some(days) => push_ascii(duration_text(days.is_negative, days.milliseconds).as_slice(), buf),
+        Some(days) => push_ascii(
+            duration_text(days.is_negative, days.milliseconds).as_slice(),
+            buf,
+        ),
         None => push_decimal(number, buf),
     }
 }

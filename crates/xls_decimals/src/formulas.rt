@@ -74,7 +74,7 @@ fn bits_of_word(word: &[u8]) -> Option<u64>
 fn quote_index(text: &[u8], quote: u8) -> Option<usize>
     ensures { MatchOption result ((k : ℕ) → k < length text.now → get_or text.now k 0 ≢ quote)
         (λ i. (i < length text.now) × (get_or text.now i 0 ≡ quote)
-            × ((k : ℕ) → k < i → get_or text.now k 0 ≢ quote)) }
+        × ((k : ℕ) → k < i → get_or text.now k 0 ≢ quote)) }
 {
     for i in 0..text.len() {
         if text[i] == quote {

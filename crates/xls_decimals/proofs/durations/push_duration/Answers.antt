@@ -17,6 +17,6 @@ push_ascii-requires c =
 pub returns-in-Some-clause-ok : goal.returns-in-Some-clause-ok
 returns-in-Some-clause-ok c =
     let is : span_of c.args.number ≡ Some (c.in-Some.days.is_negative, c.in-Some.days.milliseconds) =
-        span_from_days (value_of c.args.number) ∙ ap (option_map span_parts) (sym c.in-Some.ensures) in
+    span_from_days (value_of c.args.number) ∙ ap (option_map span_parts) (sym c.in-Some.ensures) in
     let text : IsDuration c.args.number c.as_slice.result.now = rw is (c.as_slice.ensures ∙ c.duration_text.ensures) in
     adds c.push_ascii.result (IsDuration c.args.number) c.as_slice.result.now _ _ text c.push_ascii.ensures.ok

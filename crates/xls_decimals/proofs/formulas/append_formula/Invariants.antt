@@ -11,7 +11,7 @@ abbrev pub invariant-pieces : goal.invariant-pieces
 invariant-pieces l =
     shadow (Utf8 l.rest)
     × Adds (λ added. (text : List ℕ) → IsFormula l.rest text → IsFormula l.formula (added ++ text))
-      (string_bytes l.fn.buf) (string_bytes l.buf)
+    (string_bytes l.fn.buf) (string_bytes l.buf)
 
 abbrev pub decreases-pieces : goal.decreases-pieces
 decreases-pieces l = length l.rest
