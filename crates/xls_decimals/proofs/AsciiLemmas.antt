@@ -1,5 +1,5 @@
 -- The texts are ASCII.
-use Rattle.std.proofs.Common.{◌≡◌, ℕ, zero, suc, ◌+◌, ◌-◌, ◌/◌, ◌%◌, ◌^◌, ◌<◌, List, [], ◌∷◌, ◌++◌, length, replicate, arith, ℤ, pos, negsuc, unsigned_abs, Bool, true, false, subst, sym}
+use Rattle.std.proofs.Common.{◌≡◌, ℕ, zero, suc, ◌-◌, ◌/◌, ◌%◌, ◌^◌, ◌<◌, List, [], ◌∷◌, ◌++◌, length, replicate, arith, ℤ, pos, negsuc, unsigned_abs, Bool, true, false, subst, sym}
 use Rattle.std.specs.Prelude.{◌==◌, codes, nat_lt, MatchBool, if◌then◌else◌}
 use Rattle.std.specs.Str.{IsAscii}
 use Rattle.std.specs.Fmt.{decimal, digits, digits_onto, digit_glyph}

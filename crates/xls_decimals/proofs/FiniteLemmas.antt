@@ -1,8 +1,8 @@
 -- Which bits are those of a finite double.
-use Rattle.std.proofs.Common.{◌≡◌, ℕ, zero, suc, ◌+◌, ◌/◌, ◌%◌, ◌^◌, ◌<◌, Bool, true, false, refl, arith, ◌≢◌}
+use Rattle.std.proofs.Common.{◌≡◌, ℕ, zero, suc, ◌+◌, ◌/◌, ◌%◌, ◌^◌, ◌<◌, Bool, true, false, refl, arith}
 use Rattle.std.specs.Prelude.{from_bits, nat_eq, nat_le}
 use Rattle.std.specs.Float.{binary64, float_is_finite}
-use Rattle.std.specs.Float.Ieee.{Float, fin, inf, nan, div, of_bits, of_fields, odd}
+use Rattle.std.specs.Float.Ieee.{div, of_bits, of_fields, odd}
 use Rattle.std.proofs.lemmas.Bool.Decides.{nat_tests}
 use Rattle.xls_bytes.specs.Doubles.{exponent_of}
 use Rattle.xls_decimals.specs.Decimals.{over_100}

@@ -6,7 +6,7 @@ use Rattle.std.specs.Str.{IsCharBoundary}
 use Rattle.std.proofs.lemmas.Bool.{cases_lt}
 use Rattle.std.proofs.lemmas.Str.{IsCharBoundary-after_ascii}
 use Rattle.std.proofs.lemmas.List.{get_or-drop, get_or-take, take_all, take_more}
-use Rattle.xls_decimals.specs.Formulas.{hex_digit_of, with_digit, Piece, Quoted, Unclosed, Word, Symbol, piece_bytes, bytes_of, IsPiece, ArePieces, IsPieceText, AreTexts, IsFormula, IsBitsOrWord, is_quote, is_word_byte, bits_of_word, hex_value_after, EndsWord}
+use Rattle.xls_decimals.specs.Formulas.{hex_digit_of, with_digit, Piece, Quoted, Unclosed, Word, Symbol, piece_bytes, IsPiece, IsPieceText, IsFormula, IsBitsOrWord, is_quote, is_word_byte, bits_of_word, hex_value_after, EndsWord}
 use Rattle.xls_decimals.specs.Added.{Adds}
 use Rattle.xls_decimals.specs.Pieces.{HasPiece}
 

@@ -1,6 +1,6 @@
 -- Values that IEEE 754, the calendar and Excel give, so that a wrong rule in the specs does not
 -- check.
-use Rattle.std.proofs.Common.{◌≡◌, ℕ, ◌∷◌, [], map, Bool, true, false, Option, Some, None, refl, pos, negsuc, lit<, lit≤, ◌∙◌, ◌+ℤ◌}
+use Rattle.std.proofs.Common.{◌≡◌, ℕ, ◌∷◌, [], map, Bool, true, false, Some, None, refl, pos, negsuc, lit<}
 use Rattle.std.specs.Prelude.{codes, from_bits}
 use Rattle.std.specs.Fmt.{digits}
 use Rattle.std.specs.Float.{binary64}
@@ -10,7 +10,6 @@ use Rattle.std.specs.Float.Numeral.{scan_numeral}
 use Rattle.xls_bytes.specs.Doubles.{size_of_parts}
 use Rattle.xls_data.specs.Numbers.{sixteen_digits}
 use Rattle.xls_data.specs.SerialDays.{day_number}
-use Rattle.xls_data.specs.declared.numbers.Number.{Number}
 use Rattle.xls_data.specs.declared.numbers.Number.TheVariants.{Bits, Whole, Hundredths, BitsOver100}
 use Rattle.jiff_core.specs.Calendar.{days_from_civil, day_count, days_of_years, days_of_months}
 use Rattle.xls_decimals.specs.Decimals.{fixed_text}

@@ -1,5 +1,5 @@
 -- Numbers in decimal, as lists of ASCII codes.
-use Rattle.std.specs.Prelude.{◌≡◌, ℕ, ◌+◌, ◌*◌, ◌^◌, ◌==◌, ◌&&◌, nat_lt, if◌then◌else◌, Bool, true, false, Option, Some, None, MatchOption, MatchBool, ℤ, List, ◌++◌, codes, from_bits, to_bits}
+use Rattle.std.specs.Prelude.{◌≡◌, ℕ, ◌+◌, ◌*◌, ◌^◌, ◌==◌, ◌&&◌, nat_lt, if◌then◌else◌, Option, Some, None, MatchOption, MatchBool, ℤ, List, ◌++◌, codes, from_bits, to_bits}
 use Rattle.std.specs.Float.{binary64, float_is_finite}
 use Rattle.std.specs.Float.Ieee.{Float, div}
 use Rattle.std.specs.Fmt.{signed_decimal}

@@ -1,6 +1,6 @@
 -- The numbers in the text of a formula. The text is cut into pieces: what stands in quotes, words and
 -- single symbols; a word that is a double by its bits is written in decimal.
-use Rattle.std.specs.Prelude.{◌≡◌, ◌≢◌, ℕ, ◌+◌, ◌-◌, ◌*◌, ◌<◌, ◌≤◌, ◌==◌, ◌&&◌, ◌||◌, nat_le, not, if◌then◌else◌, Bool, true, false, IsTrue, IsFalse, Option, Some, None, MatchOption, List, [], ◌∷◌, ◌++◌, length, take, drop, All}
+use Rattle.std.specs.Prelude.{◌≡◌, ◌≢◌, ℕ, ◌+◌, ◌-◌, ◌*◌, ◌<◌, ◌==◌, ◌&&◌, ◌||◌, nat_le, if◌then◌else◌, Bool, IsTrue, IsFalse, Option, Some, None, MatchOption, List, [], ◌∷◌, ◌++◌, length, All}
 use Rattle.xls_decimals.specs.Decimals.{IsDouble}
 
 -- a quote of a text or of a sheet's name

@@ -6,3 +6,4 @@ pub mod Counted
 pub mod Moments
 pub mod Formulas
 pub mod Pieces
+pub mod Laws

@@ -1,5 +1,5 @@
 -- Which numbers are shown as dates and durations, and how.
-use Rattle.std.specs.Prelude.{◌≡◌, ℕ, ◌+◌, ◌*◌, ◌/◌, ◌==◌, ◌&&◌, ◌||◌, nat_le, nat_lt, not, if◌then◌else◌, Bool, true, false, Option, Some, None, MatchOption, List}
+use Rattle.std.specs.Prelude.{◌≡◌, ℕ, ◌/◌, ◌&&◌, nat_le, nat_lt, not, if◌then◌else◌, Bool, true, false, Option, Some, None, MatchOption, List}
 use Rattle.xls_data.specs.Dates.{DateParts}
 use Rattle.xls_data.specs.SerialDays.{last_day, last_day_of_1904}
 use Rattle.xls_data.specs.declared.numbers.Number.{Number}

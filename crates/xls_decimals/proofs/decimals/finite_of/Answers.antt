@@ -1,4 +1,4 @@
-use Rattle.std.proofs.Common.{rules, refl, arith}
+use Rattle.std.proofs.Common.{refl, arith}
 use Rattle.std.proofs.lemmas.Float.{not_nan_f64_bits}
 use Rattle.xls_decimals.proofs.FiniteLemmas.{finite_from_exponent}
 use Rattle.xls_decimals.proofs.decimals.finite_of.Goals as goal

@@ -1,4 +1,4 @@
-use Rattle.std.proofs.Common.{rules, refl, arith}
+use Rattle.std.proofs.Common.{arith}
 use Rattle.std.proofs.lemmas.Float.{not_nan_f64_bits}
 use Rattle.xls_decimals.proofs.FiniteLemmas.{infinite_over_100}
 use Rattle.xls_decimals.proofs.decimals.quotient_bits.Goals as goal

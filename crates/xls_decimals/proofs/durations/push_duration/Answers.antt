@@ -1,4 +1,4 @@
-use Rattle.std.proofs.Common.{rules, ◌<◌, ◌^◌, ◌≡◌, subst, sym, ap, ◌∙◌, Some, List, ℕ}
+use Rattle.std.proofs.Common.{rules, ◌<◌, ◌^◌, ◌≡◌, subst, sym, ap, ◌∙◌, Some}
 use Rattle.std.specs.Str.{IsAscii}
 use Rattle.std.specs.Option.{option_map}
 use Rattle.xls_decimals.specs.Moments.{IsDuration, span_of}

@@ -1,4 +1,4 @@
-use Rattle.std.proofs.Common.{rules, arith, IsUtf8, ◌∙◌}
+use Rattle.std.proofs.Common.{rules, IsUtf8}
 use Rattle.xls_decimals.proofs.FormulaLemmas.{pieces_more, pieces_end, no_bytes}
 use Rattle.xls_decimals.proofs.formulas.append_formula.Goals as goal
 

@@ -1,4 +1,4 @@
-use Rattle.std.proofs.Common.{rules, ◌<◌, ◌≤◌, ◌^◌, ◌∙◌, arith, sym, lit≤}
+use Rattle.std.proofs.Common.{◌≤◌, ◌^◌, ◌∙◌, arith, sym, lit≤}
 use Rattle.std.proofs.Math.Nat.{pow-le-pow_right}
 use Rattle.xls_decimals.proofs.FormulaLemmas.{hex_stops}
 use Rattle.xls_decimals.proofs.formulas.hex_value.Goals as goal

@@ -1,4 +1,4 @@
-use Rattle.std.proofs.Common.{rules, arith, sym, ◌∙◌}
+use Rattle.std.proofs.Common.{rules}
 use Rattle.xls_decimals.proofs.FormulaLemmas.{quoted_piece, quoted_boundary, unclosed_piece, word_piece, word_some, symbol_piece, symbol_boundary}
 use Rattle.xls_decimals.proofs.formulas.piece_len.Goals as goal
 

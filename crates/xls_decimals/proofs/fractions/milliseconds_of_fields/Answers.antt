@@ -1,7 +1,7 @@
 use Rattle.std.proofs.Common.{rules, ◌<◌, ◌≤◌, ◌*◌, ◌-◌, ◌^◌, arith, sym}
 use Rattle.std.proofs.lemmas.Nat.{one_shl, mul-le}
 use Rattle.std.proofs.Math.Pow.{pow_mono}
-use Rattle.xls_decimals.proofs.FractionLemmas.{fraction_far, fraction_near, fraction_between}
+use Rattle.xls_decimals.proofs.FractionLemmas.{fraction_far, fraction_near}
 use Rattle.xls_decimals.proofs.fractions.milliseconds_of_fields.Goals as goal
 
 pub returns-then-exponent-gt1075 : goal.returns-then-exponent-gt1075
