@@ -12,7 +12,8 @@ adds (Ok x) P text old new p h = (text, p, h)
 adds (Err e) P text old new p h = h
 
 -- what was added can be cut off
-pub added_split : (old new : List ℕ) (n : ℕ) → Adds (λ _. Unit {0}) old new → IsUtf8 old → IsUtf8 new → n ≡ length old → IsSplitPoint new n
+pub added_split : (old new : List ℕ) (n : ℕ) → Adds (λ _. Unit {0}) old new → IsUtf8 old → IsUtf8 new
+    → n ≡ length old → IsSplitPoint new n
 added_split old new n a u v e =
     let front : take (length old) new ≡ old = ap (take (length old)) a.2 ∙ take_at old a.0 (length old) refl in
     let within : length old ≤ length new = omega (arith, ap length a.2, length-append old a.0) in

@@ -21,10 +21,12 @@ fields_finite s (suc x) t p =
 
 pub finite_from_exponent : (bits : ℕ) → exponent_of bits < 2047 → float_is_finite (from_bits binary64 bits) ≡ true
 unfolding of_bits
-finite_from_exponent bits p = fields_finite (nat_le (2 ^ 63) bits) (bits % 2 ^ 63 / 2 ^ 52) (bits % 2 ^ 52) (omega (arith, p))
+finite_from_exponent bits p = fields_finite (nat_le (2 ^ 63) bits) (bits % 2 ^ 63 / 2 ^ 52) (bits % 2 ^ 52) (omega
+    (arith, p))
 
 -- an infinity or what is no number over 100 isn't finite
-fields_infinite : (s : Bool) (t : ℕ) → float_is_finite (div binary64 (of_fields binary64 s 2047 t) (from_bits binary64 0x4059_0000_0000_0000)) ≡ false
+fields_infinite : (s : Bool) (t : ℕ)
+    → float_is_finite (div binary64 (of_fields binary64 s 2047 t) (from_bits binary64 0x4059_0000_0000_0000)) ≡ false
 unfolding of_fields of_bits odd div float_is_finite
 fields_infinite s zero = refl
 fields_infinite s (suc t) =

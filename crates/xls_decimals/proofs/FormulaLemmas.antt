@@ -28,7 +28,8 @@ all_from P [] h k d l = absurd (omega arith)
 all_from P (b ∷ bs) h zero d l = h 0 (omega arith)
 all_from P (b ∷ bs) h (suc k) d l = all_from P bs (λ j m. h (suc j) (omega arith)) k d (omega arith)
 
-all_taken : (P : ℕ → Type 0) (bs : List ℕ) (n : ℕ) → n ≤ length bs → ((k : ℕ) → k < n → P (get_or bs k 0)) → All P (take n bs)
+all_taken : (P : ℕ → Type 0) (bs : List ℕ) (n : ℕ) → n ≤ length bs → ((k : ℕ) → k < n → P (get_or bs k 0))
+    → All P (take n bs)
 all_taken P bs n l h =
     all_from P (take n bs) (λ k m.
     let low : k < n = omega (arith, length-take n bs) in
@@ -36,17 +37,24 @@ all_taken P bs n l h =
 
 -- ---- the first piece
 
-ends_word : (text : List ℕ) (n : ℕ) → (n < length text → IsFalse (is_word_byte (get_or text n 0))) → EndsWord (drop n text)
+ends_word : (text : List ℕ) (n : ℕ) → (n < length text → IsFalse (is_word_byte (get_or text n 0)))
+    → EndsWord (drop n text)
 ends_word [] zero h = tt
 ends_word [] (suc n) h = tt
 ends_word (b ∷ bs) zero h = h (omega arith)
 ends_word (b ∷ bs) (suc n) h = ends_word bs n (λ l. h (omega arith))
 
-pub word_piece : (text : List ℕ) (n : ℕ) → 0 < n → n ≤ length text → ((k : ℕ) → k < n → IsTrue (is_word_byte (get_or text k 0)))
+pub word_piece : (text : List ℕ) (n : ℕ) → 0 < n → n ≤ length text → ((k : ℕ) → k < n
+    → IsTrue (is_word_byte (get_or text k 0)))
     → (n < length text → IsFalse (is_word_byte (get_or text n 0))) → HasPiece text n
 word_piece text n some within word ends = record {
   piece = Word (take n text);
-  is_piece = (omega (arith, length-take n text), all_taken (λ b. IsTrue (is_word_byte b)) text n within word, ends_word text n ends);
+  is_piece = (
+    omega (arith, length-take n text),
+    all_taken (λ b. IsTrue
+        (is_word_byte b)) text n within word,
+    ends_word text n ends,
+  );
   bytes = refl;
 }
 
@@ -55,7 +63,8 @@ pub word_some : (text : List ℕ) (n : ℕ) → 0 < length text → is_word_byte
 word_some text zero some w ends = absurd (true≢false (sym w ∙ ends some))
 word_some text (suc n) some w ends = omega arith
 
-pub symbol_piece : (text : List ℕ) → 0 < length text → IsFalse (is_quote (get_or text 0 0)) → IsFalse (is_word_byte (get_or text 0 0)) → HasPiece text 1
+pub symbol_piece : (text : List ℕ) → 0 < length text → IsFalse (is_quote (get_or text 0 0))
+    → IsFalse (is_word_byte (get_or text 0 0)) → HasPiece text 1
 symbol_piece [] some q w = absurd (omega arith)
 symbol_piece (b ∷ bs) some q w = record { piece = Symbol b; is_piece = (q, w); bytes = refl }
 
@@ -101,7 +110,8 @@ low_symbol : (b : ℕ) → is_word_byte b ≡ false → (b < 128) ⊎ (128 ≤ b
 low_symbol b h (inl low) = low
 low_symbol b h (inr high) = absurd (true≢false (sym (word_high b high) ∙ h))
 
-pub symbol_boundary : (text : List ℕ) → IsUtf8 text → 0 < length text → is_word_byte (get_or text 0 0) ≡ false → IsCharBoundary text 1
+pub symbol_boundary : (text : List ℕ) → IsUtf8 text → 0 < length text
+    → is_word_byte (get_or text 0 0) ≡ false → IsCharBoundary text 1
 symbol_boundary text u some w =
     IsCharBoundary-after_ascii text 0 u some (low_symbol (get_or text 0 0) w (cases_lt (get_or text 0 0) 128))
 
@@ -116,14 +126,16 @@ quoted_bits q [] h = refl
 quoted_bits q (b ∷ bs) h = rw (quote_is_no_zero q h)
 
 -- the text of any piece
-pub piece_text : (p : Piece) (rest text : List ℕ) → IsPiece p rest → IsBitsOrWord (piece_bytes p) text → IsPieceText p text
+pub piece_text : (p : Piece) (rest text : List ℕ) → IsPiece p rest → IsBitsOrWord (piece_bytes p) text
+    → IsPieceText p text
 piece_text (Quoted q inner) rest text h t = rw (quoted_bits q (inner ++ q ∷ []) h.0) at t
 piece_text (Unclosed q inner) rest text h t = rw (quoted_bits q inner h.0) at t
 piece_text (Word word) rest text h t = t
 piece_text (Symbol s) rest text h t = t
 
 -- a piece before a formula
-pub formula_more : (piece_text_bytes rest first text : List ℕ) (p : Piece) → IsPiece p rest → piece_bytes p ≡ piece_text_bytes
+pub formula_more : (piece_text_bytes rest first text : List ℕ) (p : Piece) → IsPiece p rest
+    → piece_bytes p ≡ piece_text_bytes
     → IsBitsOrWord piece_text_bytes first → IsFormula rest text → IsFormula (piece_text_bytes ++ rest) (first ++ text)
 formula_more bytes rest first text p is e t f = record {
   pieces = p ∷ f.pieces;
@@ -137,7 +149,8 @@ formula_end = record { pieces = []; whole = refl; cut = tt; written = refl }
 
 -- a piece more
 pub pieces_more : (rest piece after : List ℕ) (n : ℕ) → HasPiece rest n → piece ≡ take n rest → after ≡ drop n rest
-    → (formula old mid new : List ℕ) → Adds (λ added. (text : List ℕ) → IsFormula rest text → IsFormula formula (added ++ text)) old mid
+    → (formula old mid new : List ℕ) → Adds (λ added. (text : List ℕ) → IsFormula rest text
+    → IsFormula formula (added ++ text)) old mid
     → Adds (IsBitsOrWord piece) mid new
     → Adds (λ added. (text : List ℕ) → IsFormula after text → IsFormula formula (added ++ text)) old new
 pieces_more rest piece after n p front back formula old mid new a b = (
@@ -156,6 +169,7 @@ no_bytes (b ∷ bs) e = absurd (omega (arith, e))
 
 -- at the end of the text all was added
 pub pieces_end : (rest formula old new : List ℕ) → rest ≡ []
-    → Adds (λ added. (text : List ℕ) → IsFormula rest text → IsFormula formula (added ++ text)) old new → Adds (IsFormula formula) old new
+    → Adds (λ added. (text : List ℕ) → IsFormula rest text → IsFormula formula (added ++ text)) old new
+    → Adds (IsFormula formula) old new
 pieces_end rest formula old new e a =
     (a.0, subst (IsFormula formula) (append-nil a.0) (a.1 [] (rw e formula_end)), a.2)

@@ -55,7 +55,8 @@ pub fraction_far : (e f k : ℕ) → 1075 < e → 0 < k → k < 2 ^ 8
     → counted (nearest (mantissa_of e f * 2 ^ up_of e * day) (k * 2 ^ down_of e)) ≡ None
 fraction_far e f k p q r =
     let two : 2 ^ 1 ≤ 2 ^ (e - 1075) = pow_mono {i = 1} {j = e - 1075} (omega arith) in
-    let big : 2 ^ 52 * 2 ≤ (2 ^ 52 + f) * 2 ^ (e - 1075) = mul-le (2 ^ 52) 2 (2 ^ 52 + f) (2 ^ (e - 1075)) (omega arith) two in
+    let big : 2 ^ 52 * 2 ≤ (2 ^ 52 + f) * 2 ^ (e - 1075) = mul-le (2 ^ 52) 2 (2 ^ 52 + f) (2 ^ (e - 1075))
+    (omega arith) two in
     let whole : k * 2 ^ 0 ≡ k = mul-one k in
     let size : 2 ^ 45 * day ≤ (2 ^ 52 + f) * 2 ^ (e - 1075) * day / k =
     le-div (2 ^ 45 * day) ((2 ^ 52 + f) * 2 ^ (e - 1075) * day) k q (omega arith) in
@@ -76,7 +77,8 @@ pub fraction_near : (e f k : ℕ) → e < 994 → f < 2 ^ 52 → 0 < k
 fraction_near e f k p q r = elim (cases_eq e 0) [
   | inl zero_field ↦
       let first : nearest (mantissa_of e f * 2 ^ up_of e * day) (k * 2 ^ down_of e) ≡ 0 =
-      fraction_parts e f k f 0 1074 (rw zero_field refl) (omega arith) (omega arith) ∙ near_zero f k 1074 (omega arith) (omega arith) r in
+      fraction_parts e f k f 0 1074 (rw zero_field refl) (omega arith) (omega arith) ∙ near_zero f k 1074
+      (omega arith) (omega arith) r in
       rw first
   | inr above ↦
       let first : nearest (mantissa_of e f * 2 ^ up_of e * day) (k * 2 ^ down_of e) ≡ 0 =

@@ -62,7 +62,8 @@ time_back ms p = elim (cases_eq ms 0) [
 
 -- the first ten characters, and those after them
 date_value : List ℕ → Ymd
-date_value (a ∷ b ∷ c ∷ d ∷ p ∷ e ∷ f ∷ q ∷ g ∷ h ∷ rest) = (two_value a b * 100 + two_value c d, two_value e f, two_value g h)
+date_value (a ∷ b ∷ c ∷ d ∷ p ∷ e ∷ f ∷ q ∷ g ∷ h ∷ rest) =
+    (two_value a b * 100 + two_value c d, two_value e f, two_value g h)
 date_value other = (0, 0, 0)
 
 after_date : List ℕ → List ℕ
@@ -72,7 +73,8 @@ after_date other = []
 IsSmall : Ymd → Type 0
 IsSmall d = (d.0 < 10_000) × (d.1 < 100) × (d.2 < 100)
 
-year_back : (y : ℕ) → y < 10_000 → two_value (digit (y / 100 / 10)) (digit (y / 100)) * 100 + two_value (digit (y / 10)) (digit y) ≡ y
+year_back : (y : ℕ) → y < 10_000
+    → two_value (digit (y / 100 / 10)) (digit (y / 100)) * 100 + two_value (digit (y / 10)) (digit y) ≡ y
 unfolding two_value
 year_back y p = omega arith
 
@@ -98,10 +100,15 @@ not_both ms d rest e =
 
 civil_small : (d : Ymd) (n : ℤ) → IsDayNumber n d → IsSmall d
 unfolding IsSmall
-civil_small d n h =
-    (omega (arith, signed_arith, h.civil.0), omega (arith, h.civil.1), omega (arith, h.civil.2, days_in_month_bounds (pos d.0) d.1))
+civil_small d n h = (
+  omega (arith, signed_arith, h.civil.0),
+  omega (arith, h.civil.1),
+  omega
+      (arith, h.civil.2, days_in_month_bounds (pos d.0) d.1),
+)
 
-small : (is_1904 : Bool) (serial : ℕ) (d : Ymd) → IsSerialDate is_1904 serial d → (serial < 60) ⊎ (60 ≤ serial) → (60 < serial) ⊎ (serial ≤ 60) → IsSmall d
+small : (is_1904 : Bool) (serial : ℕ) (d : Ymd) → IsSerialDate is_1904 serial d
+    → (serial < 60) ⊎ (60 ≤ serial) → (60 < serial) ⊎ (serial ≤ 60) → IsSmall d
 unfolding IsSmall
 small true serial d h l r = civil_small d _ (h.from_1904 refl)
 small false serial d h (inl l) r = civil_small d _ (h.early refl l)
@@ -125,10 +132,31 @@ bases = omega (arith, signed_arith, known.0, known.1)
 serial_by : (a b : ℕ) (d : Ymd) → IsSerialDate false a d → IsSerialDate false b d
     → (a < 60) ⊎ (60 ≤ a) → (60 < a) ⊎ (a ≤ 60) → (b < 60) ⊎ (60 ≤ b) → (60 < b) ⊎ (b ≤ 60) → a ≡ b
 serial_by a b d h i (inl p) q (inl r) s = omega (arith, signed_arith, (h.early refl p).counted, (i.early refl r).counted)
-serial_by a b d h i (inl p) q (inr r) (inl s) = absurd (omega (arith, signed_arith, bases, p, s, (h.early refl p).counted, (i.late refl s).counted))
+serial_by a b d h i (inl p) q (inr r) (inl s) = absurd (omega (
+  arith,
+  signed_arith,
+  bases,
+  p,
+  s,
+  (h.early refl p).counted,
+  (i.late refl s).counted,
+))
 serial_by a b d h i (inl p) q (inr r) (inr s) = absurd (no_leap_day _ d (i.leap refl (omega arith)) (h.early refl p))
-serial_by a b d h i (inr p) (inl q) (inl r) s = absurd (omega (arith, signed_arith, bases, q, r, (h.late refl q).counted, (i.early refl r).counted))
-serial_by a b d h i (inr p) (inl q) (inr r) (inl s) = omega (arith, signed_arith, (h.late refl q).counted, (i.late refl s).counted)
+serial_by a b d h i (inr p) (inl q) (inl r) s = absurd (omega (
+  arith,
+  signed_arith,
+  bases,
+  q,
+  r,
+  (h.late refl q).counted,
+  (i.early refl r).counted,
+))
+serial_by a b d h i (inr p) (inl q) (inr r) (inl s) = omega (
+  arith,
+  signed_arith,
+  (h.late refl q).counted,
+  (i.late refl s).counted,
+)
 serial_by a b d h i (inr p) (inl q) (inr r) (inr s) = absurd (no_leap_day _ d (i.leap refl (omega arith)) (h.late refl q))
 serial_by a b d h i (inr p) (inr q) (inl r) s = absurd (no_leap_day _ d (h.leap refl (omega arith)) (i.early refl r))
 serial_by a b d h i (inr p) (inr q) (inr r) (inl s) = absurd (no_leap_day _ d (h.leap refl (omega arith)) (i.late refl s))
@@ -141,7 +169,8 @@ serial_same false a b d h i = serial_by a b d h i (cases_lt a 60) (cases_lt 60 a
 -- ---- moments
 
 Dated : Bool → ℕ → List ℕ → Type 0
-Dated is_1904 ms text = (date : Ymd) × IsSerialDate is_1904 (ms / day) date × (text ≡ date_text date ++ time_after_day (ms % day))
+Dated is_1904 ms text = (date : Ymd) × IsSerialDate is_1904 (ms / day) date × (text
+    ≡ date_text date ++ time_after_day (ms % day))
 
 dated_same : (is_1904 : Bool) (p q : ℕ) (text : List ℕ) → Dated is_1904 p text → Dated is_1904 q text → p ≡ q
 unfolding Dated
@@ -149,10 +178,13 @@ dated_same is_1904 p q text h i =
     let one = date_back h.0 (time_after_day (p % day)) (date_small is_1904 (p / day) h.0 h.1) in
     let two = date_back i.0 (time_after_day (q % day)) (date_small is_1904 (q / day) i.0 i.1) in
     let dates : h.0 ≡ i.0 = sym one ∙ ap date_value (sym h.2 ∙ i.2) ∙ two in
-    let days : p / day ≡ q / day = serial_same is_1904 (p / day) (q / day) i.0 (subst (IsSerialDate is_1904 (p / day)) dates h.1) i.1 in
+    let days : p / day ≡ q / day = serial_same is_1904 (p / day) (q / day) i.0 (subst (IsSerialDate is_1904
+    (p / day)) dates h.1) i.1 in
     let tails : time_after_day (p % day) ≡ time_after_day (q % day) =
-    sym (after_back h.0 (time_after_day (p % day))) ∙ ap after_date (sym h.2 ∙ i.2) ∙ after_back i.0 (time_after_day (q % day)) in
-    let times : p % day ≡ q % day = sym (time_back (p % day) (omega arith)) ∙ ap time_value tails ∙ time_back (q % day) (omega arith) in
+    sym (after_back h.0 (time_after_day (p % day))) ∙ ap after_date (sym h.2 ∙ i.2) ∙ after_back i.0
+    (time_after_day (q % day)) in
+    let times : p % day ≡ q % day = sym (time_back (p % day) (omega arith)) ∙ ap time_value tails ∙ time_back
+    (q % day) (omega arith) in
     omega (arith, days, times)
 
 clock_same : (p q : ℕ) (text : List ℕ) → p < day → q < day → text ≡ clock_text p → text ≡ clock_text q → p ≡ q
@@ -166,7 +198,8 @@ dated : (is_1904 : Bool) (p : ℕ) (text : List ℕ) → day ≤ p → IsMoment 
 unfolding Dated
 dated is_1904 p text l h = rw (le-ltb p day l) at h
 
-pub moment_same : (is_1904 : Bool) (p q : ℕ) (text : List ℕ) → IsMoment is_1904 p text → IsMoment is_1904 q text → p ≡ q
+pub moment_same : (is_1904 : Bool) (p q : ℕ) (text : List ℕ) → IsMoment is_1904 p text
+    → IsMoment is_1904 q text → p ≡ q
 unfolding Dated
 moment_same is_1904 p q text h i = elim (cases_lt p day) [
   | inl a ↦ elim (cases_lt q day) [

@@ -39,9 +39,9 @@ abbrev pub fixed_text : ℕ → Option (List ℕ)
 fixed_text bits =
     if bits == 2 ^ 63 then Some (codes "-0") else whole_or_bits_text (short_whole_of bits) bits
 
--- every other double: perhaps a minus, digits with a point between them or an exponent, no digit
--- too many, an exponent below 10 ^ -5 and from 10 ^ 16 on alone; read by rounding to nearest, ties
--- to even (IEEE 754), it is the double with these bits
+-- every other double: perhaps a minus, digits with a point between them or an exponent or both,
+-- without zeros that add nothing, an exponent below 10 ^ -5 and from 10 ^ 16 on alone; read by
+-- rounding to nearest, ties to even (IEEE 754), it is the double with these bits
 pub record IsFraction (bits : ℕ) (text : List ℕ) : Type 0 where
   pub layout : IsLaidOutNumber 16 4 text
   pub reads_back : parse_float binary64 text ≡ Some (from_bits binary64 bits)

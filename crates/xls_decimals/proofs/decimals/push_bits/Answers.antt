@@ -6,4 +6,5 @@ use Rattle.xls_decimals.proofs.decimals.push_bits.Goals as goal
 
 pub push_ascii-requires : goal.push_ascii-requires
 push_ascii-requires c =
-    subst IsAscii (sym (c.as_slice.ensures ∙ c.hexadecimal.ensures ∙ append-nil (bits_text c.args.bits))) (bits_ascii c.args.bits)
+    subst IsAscii (sym (c.as_slice.ensures ∙ c.hexadecimal.ensures ∙ append-nil (bits_text c.args.bits)))
+    (bits_ascii c.args.bits)

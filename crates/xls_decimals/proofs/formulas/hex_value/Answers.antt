@@ -17,4 +17,5 @@ overflow_add-n c =
 
 pub returns-in_err-n : goal.returns-in_err-n
 returns-in_err-n c =
-    c.from_residual.ensures ∙ sym (c.digits.invariant.1 ∙ hex_stops c.digits.n c.args.digits.now c.digits.b-index (omega arith) (sym c.in_err-n.ensures.value))
+    c.from_residual.ensures ∙ sym (c.digits.invariant.1 ∙ hex_stops c.digits.n c.args.digits.now c.digits.b-index
+    (omega arith) (sym c.in_err-n.ensures.value))

@@ -18,7 +18,8 @@ overflow_mul-over c =
     let shl = one_shl (1075 - c.args.exponent) 128 (omega arith) in
     let step : 2 ^ (1075 - c.args.exponent) ≤ 2 ^ 81 = pow_mono {i = 1075 - c.args.exponent} {j = 81} (omega arith) in
     let over : c.args.over < 2 ^ 8 = search rules in
-    let product : c.args.over * 2 ^ (1075 - c.args.exponent) ≤ 2 ^ 8 * 2 ^ 81 = mul-le c.args.over (2 ^ (1075 - c.args.exponent)) (2 ^ 8) (2 ^ 81) (omega arith) step in
+    let product : c.args.over * 2 ^ (1075 - c.args.exponent) ≤ 2 ^ 8 * 2 ^ 81 = mul-le c.args.over (2 ^
+    (1075 - c.args.exponent)) (2 ^ 8) (2 ^ 81) (omega arith) step in
     rw shl (search (rules, product))
 
 pub counted-requires-clause-down : goal.counted-requires-clause-down
@@ -26,5 +27,6 @@ counted-requires-clause-down c =
     let shl = one_shl (1075 - c.args.exponent) 128 (omega arith) in
     let step : 2 ^ (1075 - c.args.exponent) ≤ 2 ^ 81 = pow_mono {i = 1075 - c.args.exponent} {j = 81} (omega arith) in
     let over : c.args.over < 2 ^ 8 = search rules in
-    let product : c.args.over * 2 ^ (1075 - c.args.exponent) ≤ 2 ^ 8 * 2 ^ 81 = mul-le c.args.over (2 ^ (1075 - c.args.exponent)) (2 ^ 8) (2 ^ 81) (omega arith) step in
+    let product : c.args.over * 2 ^ (1075 - c.args.exponent) ≤ 2 ^ 8 * 2 ^ 81 = mul-le c.args.over (2 ^
+    (1075 - c.args.exponent)) (2 ^ 8) (2 ^ 81) (omega arith) step in
     rw shl (omega (arith, product))
