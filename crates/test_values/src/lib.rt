@@ -6,6 +6,8 @@ mod bytes;
 #[cfg(test)]
 mod data;
 #[cfg(test)]
+mod decimals;
+#[cfg(test)]
 mod ovba;
 #[cfg(test)]
 mod props;

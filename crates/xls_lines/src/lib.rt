@@ -11,5 +11,6 @@ mod stop;
 pub use buffer::{Buffer, write_line};
 pub use field::Field;
 pub use memory::MemorySink;
+pub use short::Short;
 pub use sink::{Sink, StdSink, WriteFault, write_all};
 pub use stop::Stop;

@@ -1,0 +1,9 @@
+pub mod Added
+pub mod Decimals
+pub mod Fractions
+pub mod Texts
+pub mod Counted
+pub mod Moments
+pub mod Formulas
+pub mod Pieces
+pub mod Laws

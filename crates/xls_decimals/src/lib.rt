@@ -1,0 +1,17 @@
+//! Numbers, dates, times of day and durations as people read them, appended to a text that is used
+//! again.
+#![tactic(auto)]
+
+mod decimals;
+mod durations;
+mod formulas;
+mod fractions;
+mod laws;
+mod moments;
+mod short_texts;
+
+pub use decimals::{push_decimal, push_double};
+pub use durations::push_duration;
+pub use formulas::push_formula;
+pub use laws::dates_differ;
+pub use moments::{push_date, push_date_or_duration};
