@@ -8,9 +8,9 @@ use Rattle.xls_compound.specs.declared.error.CompoundError.TheVariants as errors
 
 abbrev pub error_text : CompoundError → List ℕ
 error_text (errors.Tables fault) = fault_text fault
-error_text (errors.DirectoryChain fault) = codes "the directory: " ++ fault_text fault
+error_text (errors.DirectoryChain fault) = codes "The directory: " ++ fault_text fault
 error_text (errors.Directory fault) = directory.fault_text fault
-error_text (errors.MiniFat fault) = codes "the mini FAT: " ++ fault_text fault
-error_text (errors.MiniStream fault) = codes "the mini stream: " ++ fault_text fault
-error_text (errors.Stream name fault) = codes "stream " ++ (string_bytes name ++ (codes ": " ++ fault_text fault))
-error_text errors.Memory = codes "out of memory"
+error_text (errors.MiniFat fault) = codes "The mini FAT: " ++ fault_text fault
+error_text (errors.MiniStream fault) = codes "The mini stream: " ++ fault_text fault
+error_text (errors.Stream name fault) = codes "Stream " ++ (string_bytes name ++ (codes ": " ++ fault_text fault))
+error_text errors.Memory = codes "Out of memory"

@@ -40,12 +40,12 @@ impl fmt::Display for CompoundError {
     fn fmt<W: fmt::Write>(&self, f: &mut fmt::Formatter<W>) -> fmt::Result {
         match self {
             CompoundError::Tables(fault) => write!(f, "{fault}"),
-            CompoundError::DirectoryChain(fault) => write!(f, "the directory: {fault}"),
+            CompoundError::DirectoryChain(fault) => write!(f, "The directory: {fault}"),
             CompoundError::Directory(fault) => write!(f, "{fault}"),
-            CompoundError::MiniFat(fault) => write!(f, "the mini FAT: {fault}"),
-            CompoundError::MiniStream(fault) => write!(f, "the mini stream: {fault}"),
-            CompoundError::Stream { name, fault } => write!(f, "stream {name}: {fault}"),
-            CompoundError::Memory => write!(f, "out of memory"),
+            CompoundError::MiniFat(fault) => write!(f, "The mini FAT: {fault}"),
+            CompoundError::MiniStream(fault) => write!(f, "The mini stream: {fault}"),
+            CompoundError::Stream { name, fault } => write!(f, "Stream {name}: {fault}"),
+            CompoundError::Memory => write!(f, "Out of memory"),
         }
     }
 }

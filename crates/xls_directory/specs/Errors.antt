@@ -7,14 +7,14 @@ use Rattle.xls_directory.specs.declared.fault.DirectoryError.{DirectoryError}
 use Rattle.xls_directory.specs.declared.fault.DirectoryError.TheVariants as errors
 
 abbrev pub fault_text : DirectoryFault → List ℕ
-fault_text NoRoot = codes "the directory has no root entry"
-fault_text (Missing number) = codes "the directory has no entry " ++ (decimal number ++ codes ", which another leads to")
-fault_text (Twice number) = codes "two ways lead to directory entry " ++ decimal number
+fault_text NoRoot = codes "The directory has no root entry"
+fault_text (Missing number) = codes "The directory has no entry " ++ (decimal number ++ codes ", which another leads to")
+fault_text (Twice number) = codes "Two ways lead to directory entry " ++ decimal number
 fault_text (Kind number kind) =
-    codes "directory entry " ++ (decimal number ++ (codes " has the unknown type " ++ decimal kind))
-fault_text (NameSize number size) = codes "the name of directory entry "
+    codes "Directory entry " ++ (decimal number ++ (codes " has the unknown type " ++ decimal kind))
+fault_text (NameSize number size) = codes "The name of directory entry "
     ++ (decimal number ++ (codes " has the wrong length " ++ decimal size))
 
 abbrev pub error_text : DirectoryError → List ℕ
 error_text (errors.Fault fault) = fault_text fault
-error_text errors.Memory = codes "out of memory"
+error_text errors.Memory = codes "Out of memory"

@@ -27,23 +27,23 @@ impl fmt::Display for DirectoryFault {
 
     fn fmt<W: fmt::Write>(&self, f: &mut fmt::Formatter<W>) -> fmt::Result {
         match self {
-            DirectoryFault::NoRoot => write!(f, "the directory has no root entry"),
+            DirectoryFault::NoRoot => write!(f, "The directory has no root entry"),
             DirectoryFault::Missing { number } => {
                 write!(
                     f,
-                    "the directory has no entry {number}, which another leads to"
+                    "The directory has no entry {number}, which another leads to"
                 )
             }
             DirectoryFault::Twice { number } => {
-                write!(f, "two ways lead to directory entry {number}")
+                write!(f, "Two ways lead to directory entry {number}")
             }
             DirectoryFault::Kind { number, kind } => {
-                write!(f, "directory entry {number} has the unknown type {kind}")
+                write!(f, "Directory entry {number} has the unknown type {kind}")
             }
             DirectoryFault::NameSize { number, size } => {
                 write!(
                     f,
-                    "the name of directory entry {number} has the wrong length {size}"
+                    "The name of directory entry {number} has the wrong length {size}"
                 )
             }
         }
@@ -68,7 +68,7 @@ impl fmt::Display for DirectoryError {
     fn fmt<W: fmt::Write>(&self, f: &mut fmt::Formatter<W>) -> fmt::Result {
         match self {
             DirectoryError::Fault(fault) => write!(f, "{fault}"),
-            DirectoryError::Memory => write!(f, "out of memory"),
+            DirectoryError::Memory => write!(f, "Out of memory"),
         }
     }
 }

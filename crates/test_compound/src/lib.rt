@@ -1,0 +1,7 @@
+//! Tests of compound files.
+#![tactic(auto)]
+
+#[cfg(test)]
+mod files;
+#[cfg(test)]
+mod made;
