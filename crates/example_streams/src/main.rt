@@ -22,7 +22,8 @@ fn read(rt: &HostRuntime, name: &str) -> anyhow::Result<Vec<u8>> {
 fn list(rt: &HostRuntime, name: &str) -> anyhow::Result<()> {
     let file = read(rt, name)?;
     let compound = Compound::open(rt.alloc(), &file).map_err(|error| anyhow!("{name}: {error}"))?;
-    rt.stdout().write_all(listing_of(rt.alloc(), &compound)?.as_str().as_bytes())?;
+    rt.stdout()
+        .write_all(listing_of(rt.alloc(), &compound)?.as_str().as_bytes())?;
     Ok(())
 }
 
@@ -54,7 +55,9 @@ fn write_stream(rt: &HostRuntime, name: &str, path: Option<&str>) -> anyhow::Res
     if !entry.is_stream() {
         return Err(anyhow!("{name}: a storage, and no stream"));
     }
-    let bytes = compound.stream(alloc, &entry).map_err(|error| anyhow!("{name}: {error}"))?;
+    let bytes = compound
+        .stream(alloc, &entry)
+        .map_err(|error| anyhow!("{name}: {error}"))?;
     rt.stdout().write_all(bytes.as_slice())?;
     Ok(())
 }

@@ -1,3 +1,6 @@
 pub mod EntryLemmas
 pub mod NumberLemmas
 pub mod OneCompoundLemmas
+pub mod LayoutLemmas
+pub mod StandardFacts
+pub mod ReadLemmas

@@ -1,9 +1,9 @@
 -- A file holds at most one compound, since each part of it has one answer.
-use Rattle.std.proofs.Common.{◌≡◌, ℕ, List, Bool, Result, Ok, refl, sym, ◌∙◌, ap, subst}
+use Rattle.std.proofs.Common.{◌≡◌, ℕ, List, Bool, Result, Ok, sym, ◌∙◌, ap, subst}
 use Rattle.xls_bytes.specs.Numbers.{u32s_of}
 use Rattle.xls_sectors.specs.declared.error.SectorFault.{SectorFault}
 use Rattle.xls_sectors.specs.Laws.{OneAnswer, StreamsHaveOneAnswer, WholeChainsHaveOneAnswer, FilesHaveOneAnswer}
-use Rattle.xls_sectors.specs.Streams.{Space, Stream, WholeChain}
+use Rattle.xls_sectors.specs.Streams.{Space}
 use Rattle.xls_sectors.specs.Tables.{Opened, Opens, sectors_of}
 use Rattle.xls_directory.specs.Directory.{Listing, IsDirectory}
 use Rattle.xls_compound.specs.Compound.{Compound, Holds, DirectoryBytes, MiniFatBytes, MiniStream, mini_sectors, is_wide}

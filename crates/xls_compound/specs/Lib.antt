@@ -1,3 +1,4 @@
 pub mod Errors
 pub mod Compound
 pub mod Entries
+pub mod Layout

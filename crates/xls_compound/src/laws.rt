@@ -2,6 +2,7 @@
 
 ghost use Rattle.std.specs.Prelude.{◌≡◌, ℕ, List};
 ghost use Rattle.xls_compound.specs.Compound.{Compound, Holds};
+ghost use Rattle.xls_compound.specs.Layout.{LaidIsFound};
 
 use xls_directory::one_listing;
 use xls_sectors::one_answer;
@@ -13,3 +14,9 @@ pub fn one_compound()
     one_answer();
     one_listing();
 }
+
+/// A file in which streams are laid out, their sectors in any order, is opened, and each stream that is
+/// found by its name is the one that was laid.
+pub fn laid_found()
+    ensures { LaidIsFound }
+{}

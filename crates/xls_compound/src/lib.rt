@@ -9,6 +9,6 @@ mod laws;
 pub use compound::Compound;
 pub use entry::{Entries, Entry};
 pub use error::CompoundError;
-pub use laws::one_compound;
+pub use laws::{laid_found, one_compound};
 pub use xls_directory::{DirectoryError, DirectoryFault};
 pub use xls_sectors::{SectorError, SectorFault, Table};

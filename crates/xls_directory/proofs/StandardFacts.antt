@@ -1,15 +1,14 @@
 -- Values that [MS-CFB] gives, so that a wrong rule in the specs does not check.
-use Rattle.std.proofs.Common.{◌≡◌, ℕ, List, [], ◌∷◌, ◌++◌, map, codes, Bool, true, false, Option, Some, None, Result, Ok, Err, refl}
+use Rattle.std.proofs.Common.{◌≡◌, ℕ, List, [], ◌∷◌, ◌++◌, map, codes, Bool, true, false, Option, Some, None, Ok, Err, refl}
 use Rattle.std.specs.List.{range_with_len}
 use Rattle.std.specs.Char.Utf16.{utf16_chars}
 use Rattle.std.specs.Str.{chars}
 use Rattle.ucd_case.proofs.Computing.{ucd_case}
 use Rattle.xls_directory.specs.Names.{is_same_name}
-use Rattle.xls_directory.specs.declared.fault.DirectoryFault.{DirectoryFault}
 use Rattle.xls_directory.specs.declared.fault.DirectoryFault.TheVariants as faults
 use Rattle.xls_directory.specs.Entries.{Entry, entry_of, entries_of, none, is_storage, is_stream, is_root, is_name_size, name_of, child_of}
-use Rattle.xls_directory.specs.Tree.{Tree, empty, node, Way, here, checked, entry_at, met_after, IsFirst}
-use Rattle.xls_directory.specs.Items.{Item, item_of, items_from, count, find_from, workbook}
+use Rattle.xls_directory.specs.Tree.{Tree, empty, node, entry_at, met_after}
+use Rattle.xls_directory.specs.Items.{Item, item_of, items_from, find_from, workbook}
 use Rattle.xls_directory.specs.Directory.{root_in}
 
 -- an entry of the bytes 00 to 7F (2.6.1): each field at its offset, the lowest byte first

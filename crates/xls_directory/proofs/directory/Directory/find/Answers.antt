@@ -13,7 +13,7 @@ returns-in_err-child_named-clause-exact c =
 pub names-preserved : goal.names-preserved
 names-preserved c = record {
   leads = sym (step_some c.args.self.now.items c.names.parent c.args.path.now c.names.name-index _ c.in_ok-child_named.field-0 c.names-test.true
-    (sym c.child_named.ensures.exact ∙ c.in_ok-child_named.was))
-    ∙ c.names.invariant.leads;
+      (sym c.child_named.ensures.exact ∙ c.in_ok-child_named.was))
+      ∙ c.names.invariant.leads;
   within = c.in_ok-child_named.ensures.within;
 }
