@@ -4,3 +4,4 @@ pub mod OneCompoundLemmas
 pub mod LayoutLemmas
 pub mod StandardFacts
 pub mod ReadLemmas
+pub mod WholeFileFacts

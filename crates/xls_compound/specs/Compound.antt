@@ -6,7 +6,8 @@ use Rattle.xls_bytes.specs.Numbers.{u32s_of}
 use Rattle.xls_sectors.specs.declared.error.SectorFault.{SectorFault}
 use Rattle.xls_sectors.specs.declared.error.Table.TheVariants as tables
 use Rattle.xls_sectors.specs.declared.header.Header.{Header}
-use Rattle.xls_sectors.specs.Streams.{Space, Stream, WholeChain}
+use Rattle.xls_sectors.specs.Streams.{Space, next_in, IsAdjacent, Stream, WholeChain}
+use Rattle.xls_sectors.specs.Chains.{Stops}
 use Rattle.xls_sectors.specs.Tables.{Opened, Opens, sectors_of}
 use Rattle.xls_directory.specs.Items.{Item}
 use Rattle.xls_directory.specs.Directory.{Listing, IsDirectory, IsFault}
@@ -104,6 +105,13 @@ size_of item = if item.is_stream then item.size else 0
 -- the bytes of an item, so many as its size says, or the first fault of its chain
 abbrev pub ItemBytes : Compound → Item → Result (List ℕ) SectorFault → Type 0
 ItemBytes compound item = Stream (space_of compound (size_of item)) item.start (size_of item)
+
+-- the sectors that an item's bytes need follow one another
+pub record LiesAdjacent (compound : Compound) (item : Item) : Type 0 where
+  pub sectors : List ℕ
+  pub after : ℕ
+  pub stops : Stops (next_in (space_of compound (size_of item))) item.start sectors after
+  pub adjacent : IsAdjacent (space_of compound (size_of item)) (size_of item) sectors
 
 -- why an item's bytes are refused, with its name
 abbrev pub RefusesItem : Compound → Item → CompoundError → Type 0

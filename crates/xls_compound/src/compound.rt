@@ -1,7 +1,7 @@
 //! A compound file, opened.
 
 ghost use Rattle.std.specs.Prelude.{◌≡◌, ◌<◌, ℕ, List, Ok, map, None, length, IfOk, IfErr};
-ghost use Rattle.std.specs.Cow.{cow_slice_items};
+ghost use Rattle.std.specs.Cow.{cow_slice_items, IsBorrowedSlice};
 ghost use Rattle.std.specs.Option.{option_map};
 ghost use Rattle.xls_bytes.specs.Numbers.{u32s_of};
 ghost use Rattle.xls_directory.specs.Items as items;
@@ -9,7 +9,7 @@ ghost use Rattle.xls_directory.specs.Items.{Item};
 ghost use Rattle.xls_directory.specs.Directory.{Listing, IsDirectory};
 ghost use Rattle.xls_compound.specs.declared.error.CompoundError.TheVariants.{Memory};
 ghost use Rattle.xls_sectors.specs.Tables.{Opens};
-ghost use Rattle.xls_compound.specs.Compound.{Holds, HoldsListing, Refuses, is_wide, DirectoryBytes, MiniFatBytes, MiniStream, space_of, size_of, ItemBytes, RefusesItem};
+ghost use Rattle.xls_compound.specs.Compound.{Holds, HoldsListing, Refuses, is_wide, DirectoryBytes, MiniFatBytes, MiniStream, space_of, size_of, ItemBytes, LiesAdjacent, RefusesItem};
 ghost use Rattle.xls_compound.specs.Entries.{entry_at, entries_from, IsItem};
 
 use crate::entry::{Entries, Entry};
@@ -206,6 +206,9 @@ impl<'a> Compound<'a> {
         ensures whole { IfOk result (λ bytes. (item : Item) → IsItem entry.now item
             → length (cow_slice_items bytes) ≡ size_of item) }
         ensures err { IfErr result (λ e. (item : Item) → IsItem entry.now item → RefusesItem self.now item e) }
+
+        // Nothing is copied where the sectors follow one another.
+        ensures borrowed { (item : Item) → IsItem entry.now item → LiesAdjacent self.now item → IfOk result IsBorrowedSlice }
     {
         let size = if entry.is_stream() { entry.size() } else { 0 };
         let bytes = if size < CUTOFF {
