@@ -3,7 +3,7 @@
 import struct
 
 SECTOR, MINI, CUTOFF = 512, 64, 4096
-FREE, END, FAT = 0xFFFFFFFF, 0xFFFFFFFE, 0xFFFFFFFD
+FREE, END, FAT, DIFAT = 0xFFFFFFFF, 0xFFFFFFFE, 0xFFFFFFFD, 0xFFFFFFFC
 NONE = 0xFFFFFFFF
 
 
@@ -68,23 +68,29 @@ def compound_file(children):
     for place, data in large:
         entries[place][5] = put(data)
 
-    count = 1
-    while len(table) + count > count * SECTOR // 4:
+    # the sectors of the table itself: the header lists 109 of them, each sector more of the list 127
+    count, lists = 1, 0
+    while len(table) + count + lists > count * SECTOR // 4:
         count += 1
-    if count > 109:
-        raise ValueError("more sectors than the header's table has room for")
+        lists = -(-max(count - 109, 0) // 127)
     first_fat = len(table)
-    table.extend([FAT] * count)
+    first_list = first_fat + count
+    table.extend([FAT] * count + [DIFAT] * lists)
     table.extend([FREE] * (count * SECTOR // 4 - len(table)))
     body += struct.pack(f"<{len(table)}I", *table)
+    fats = [first_fat + i for i in range(count)]
+    for number in range(lists):
+        part = fats[109 + 127 * number :][:127]
+        after = first_list + number + 1 if number + 1 < lists else END
+        body += struct.pack("<128I", *part, *[FREE] * (127 - len(part)), after)
 
     listed = b"".join(entry_bytes(*entry) for entry in entries)
     body = body[: directory * SECTOR] + listed + body[directory * SECTOR + len(listed) :]
     header = bytes.fromhex("D0CF11E0A1B11AE1") + bytes(16)
     header += struct.pack("<HHHHH6x", 0x3E, 3, 0xFFFE, 9, 6)
-    header += struct.pack("<IIIIIIIII", 0, count, directory, 0, CUTOFF, small_table, len(small_bytes) // SECTOR, END, 0)
-    fats = [first_fat + i for i in range(count)]
-    header += struct.pack("<109I", *fats, *[FREE] * (109 - count))
+    header += struct.pack("<IIIIIII", 0, count, directory, 0, CUTOFF, small_table, len(small_bytes) // SECTOR)
+    header += struct.pack("<II", first_list if lists else END, lists)
+    header += struct.pack("<109I", *fats[:109], *[FREE] * (109 - count))
     return header + body
 
 

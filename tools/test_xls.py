@@ -4,12 +4,15 @@ small scripts; what needs the built ones is passed over where they aren't there.
 
 import importlib.machinery
 import importlib.util
+import itertools
 import os
 import re
+import struct
 import subprocess
 import sys
 import tempfile
 import unittest
+from unittest import mock
 
 TOOLS = os.path.dirname(os.path.realpath(__file__))
 TOP = os.path.dirname(TOOLS)
@@ -80,15 +83,22 @@ class Files(unittest.TestCase):
     def book(self, name, streams):
         return self.put(name, compound_file(streams))
 
-    def run_xls(self, *words, given=b"", **environment):
-        programs = {"XLS_DUMP": self.fake, "VBA_DIR": self.fake}
+    def programs(self):
+        """The environment that says which programs the script runs."""
+        return {"XLS_DUMP": self.fake, "VBA_DIR": self.fake}
+
+    def run_bytes(self, *words, given=b"", **environment):
         done = subprocess.run(
             [f"{TOOLS}/xls", *words],
             input=given,
             capture_output=True,
-            env={**os.environ, **programs, **environment},
+            env={**os.environ, **self.programs(), **environment},
         )
-        return done.returncode, done.stdout.decode(), done.stderr.decode()
+        return done.returncode, done.stdout, done.stderr
+
+    def run_xls(self, *words, given=b"", **environment):
+        status, out, err = self.run_bytes(*words, given=given, **environment)
+        return status, out.decode(), err.decode()
 
     def refused(self, status, part, *words, **environment):
         """The script ends with this status, says why, and writes nothing."""
@@ -303,6 +313,228 @@ class Decimals(Files):
         self.assertEqual(xls.span_text("-0.5"), "-PT12H0M0S")
 
 
+# Records of [MS-XLS] 2.4: the least workbook of one sheet, A.
+
+
+def record(kind, body):
+    return struct.pack("<HH", kind, len(body)) + body
+
+
+def mul_rk(row, numbers):
+    cells = b"".join(struct.pack("<HI", 0, number * 4 + 2) for number in numbers)
+    return record(0xBD, struct.pack("<HH", row, 0) + cells + struct.pack("<H", len(numbers) - 1))
+
+
+def label(row, column, text):
+    return record(0x204, struct.pack("<HHHHB", row, column, 0, len(text), 0) + text.encode("latin-1"))
+
+
+def workbook(cells, head=b""):
+    """A stream whose sheet has these records; others stand before its BoundSheet8."""
+    first = record(0x809, bytes.fromhex("00060500")) + head
+    bound = record(0x85, struct.pack("<IHBB", len(first) + 17, 0, 1, 0) + b"A")
+    last = record(0x0A, b"")
+    return first + bound + last + record(0x809, bytes.fromhex("00061000")) + cells + last
+
+
+def cut_chain(whole, size, kept):
+    """A compound file of cfb.py whose stream Workbook, of this size, has a chain of so many sectors."""
+    entry = whole.index("Workbook".encode("utf-16-le"))
+    first = struct.unpack_from("<I", whole, entry + 116)[0]
+    # (where the header says that the table of small sectors, or of all, begins)
+    table = struct.unpack_from("<I", whole, 60 if size < 4096 else 76)[0]
+    at = (table + 1) * 512 + 4 * (first + kept - 1)
+    return whole[:at] + bytes.fromhex("FEFFFFFF") + whole[at + 4 :]
+
+
+class Losses(Files):
+    """Nothing is lost unsaid: neither of a file, nor of what is written, nor of a folder."""
+
+    # what writes by the script itself, and is more than a pipe holds
+    WRITES = (["--stream"], ["--decimal"], ["csv", "A"])
+
+    def stream(self, rows):
+        """A workbook's stream with rows of whole numbers, each row a whole number of sectors."""
+        lines = "".join(f"cell\t{r}\t{c}\tint\t{n}\n" for r, row in enumerate(rows) for c, n in enumerate(row))
+        return f"dates\t1900\nsheet\tA\tworksheet\tvisible\n{lines}".encode()
+
+    def text_stream(self):
+        return b"dates\t1900\nsheet\tA\tworksheet\tvisible\ncell\t0\t0\ttext\ta\\rb\ncell\t0\t1\tint\t7\n"
+
+    def long_book(self):
+        rows = [[row * 20 + n for n in range(20)] for row in range(5000)]
+        return self.book("long.xls", {"Workbook": self.stream(rows)})
+
+    def test_a_stream_that_is_cut(self):
+        """Its chain of sectors ends early: none of the bytes that are there is handed on."""
+        for rows in (10, 1000):
+            data = self.stream([[row, 7] for row in range(rows)])
+            whole = compound_file({"Workbook": data})
+            self.assertEqual(self.run_xls("check", self.put("a.xls", whole))[0], 0)
+            sectors = -(-len(data) // (64 if len(data) < 4096 else 512))
+            for kept in (1, sectors // 2, sectors - 1):
+                cut = self.put("b.xls", cut_chain(whole, len(data), kept))
+                for command in (["check"], ["dump"], ["csv", "A"], ["--stream"]):
+                    self.refused(11, f"of its {len(data)} bytes are there", cut, *command)
+                status, out, _ = self.run_xls("check", "-", given=cut.encode())
+                self.assertEqual((status, out.split("\t")[:2]), (1, ["unread", cut]))
+
+    def test_a_size_past_the_chain(self):
+        """The directory entry says more bytes than its sectors have."""
+        data = self.stream([[7]] * 1000)
+        whole = bytearray(compound_file({"Workbook": data}))
+        at = whole.index("Workbook".encode("utf-16-le")) + 120
+        self.assertEqual(struct.unpack_from("<I", whole, at)[0], len(data))
+        struct.pack_into("<I", whole, at, len(data) + 512)
+        self.refused(11, f"of its {len(data) + 512} bytes are there", self.put("b.xls", whole))
+
+    def test_property_streams_and_directories_that_are_cut(self):
+        for name, command in (("\x05SummaryInformation", "props"), ("dir", "vba")):
+            data = {name: b"x" * 5000}
+            whole = bytearray(compound_file({"VBA": data} if name == "dir" else data))
+            struct.pack_into("<I", whole, whole.index(name.encode("utf-16-le")) + 120, 6000)
+            self.refused(11, "of its 6000 bytes are there", self.put("b.xls", whole), command)
+
+    def test_a_return_alone_is_quoted(self):
+        book = self.book("b.xls", {"Workbook": self.text_stream()})
+        self.assertEqual(self.run_bytes(book, "csv", "A"), (0, b'"a\rb",7\n', b""))
+
+    def assert_not_written(self, output, words, given, environment):
+        with tempfile.TemporaryFile() as err:
+            done = subprocess.run(
+                [f"{TOOLS}/xls", *words],
+                input=given,
+                stdout=output,
+                stderr=err,
+                env={**os.environ, **self.programs(), **environment},
+            )
+            err.seek(0)
+            said = err.read().decode()
+        self.assertEqual((done.returncode, said.count("\n")), (4, 1), (words, said))
+        self.assertRegex(said, "^xls: .*standard output")
+
+    def test_output_that_can_not_be_written(self):
+        book = self.long_book()
+        runs = [[book, *words] for words in self.WRITES]
+        runs += [["--help"], ["check", self.room], ["check", "-"]]
+        for words, unbuffered in itertools.product(runs, ("", "1")):
+            environment = {"PYTHONUNBUFFERED": unbuffered}
+            with open("/dev/full", "wb") as full:
+                self.assert_not_written(full, words, book.encode(), environment)
+            reader, writer = os.pipe()
+            os.close(reader)
+            with open(writer, "wb") as pipe:
+                self.assert_not_written(pipe, words, book.encode(), environment)
+
+    def test_a_reader_that_stops(self):
+        """Some of the output is taken, and then no more: it wasn't written whole."""
+        book = self.long_book()
+        for words, unbuffered in itertools.product(self.WRITES, ("", "1")):
+            with subprocess.Popen(
+                [f"{TOOLS}/xls", book, *words],
+                stdout=subprocess.PIPE,
+                stderr=subprocess.PIPE,
+                env={**os.environ, **self.programs(), "PYTHONUNBUFFERED": unbuffered},
+            ) as run:
+                os.read(run.stdout.fileno(), 10)
+                run.stdout.close()
+                said = run.stderr.read().decode()
+            self.assertEqual((run.returncode, said.count("\n")), (4, 1), (words, said))
+
+    def test_output_that_is_taken_slowly(self):
+        book = self.long_book()
+        done = subprocess.run(
+            f"'{TOOLS}/xls' '{book}' --stream | (sleep 0.3; cat)",
+            shell=True,
+            stdout=subprocess.PIPE,
+            env={**os.environ, "PYTHONUNBUFFERED": "1"},
+        )
+        self.assertEqual(done.stdout, xls.workbook_stream(book))
+
+    def test_sheets_that_can_not_be_written(self):
+        book = self.book("b.xls", {"Workbook": self.text_stream()})
+        os.makedirs(f"{self.room}/o")
+        os.symlink("/dev/full", f"{self.room}/o/1-A.csv")
+        self.refused(16, f"{self.room}/o/1-A.csv: No space left", book, "--all-sheets", f"{self.room}/o")
+
+    def test_what_is_for_one_file_alone(self):
+        book = self.book("f/b.xls", {"Workbook": self.text_stream()})
+        for words in (["csv", "A"], ["dump"], ["remake"]):
+            self.refused(15, "wants one file", *words, f"{self.room}/f")
+            self.refused(15, "wants one file", f"{self.room}/f", *words)
+            self.refused(15, "wants one file", *words, "-", given=book.encode())
+        self.refused(15, "wants one file", f"{self.room}/f")
+
+    def test_an_exception_for_one_file(self):
+        """(A name with a NUL is one that no system call takes.)"""
+        book = self.book("b.xls", {"Workbook": self.text_stream()}).encode()
+        status, out, err = self.run_xls("check", "-", given=book + b"\na\0b\n" + book)
+        ok = f"ok\t{book.decode()}"
+        self.assertEqual((status, out.split("\n")[::2]), (1, [ok, ok]), err)
+        self.assertRegex(out.split("\n")[1], "^unread\ta\0b\tValueError: ")
+        self.assertEqual(err, "files\t3\t2 ok\t0 refused\t1 unread\t0 failed\n")
+
+    def test_names_that_are_not_utf_8(self):
+        folder = os.fsencode(self.room) + b"/n"
+        name = folder + b"/caf\xe9.xls"
+        os.makedirs(folder)
+        with open(self.book("b.xls", {"Workbook": self.text_stream()}), "rb") as file:
+            whole = file.read()
+        with open(name, "wb") as file:
+            file.write(whole)
+        count = b"files\t1\t1 ok\t0 refused\t0 unread\t0 failed\n"
+        for environment in ({"LC_ALL": "C.UTF-8"}, {"LC_ALL": "C"}, {"LC_ALL": "POSIX", "PYTHONUTF8": "0"}):
+            line = b"ok\t" + name + b"\n"
+            self.assertEqual(self.run_bytes("check", folder, **environment), (0, line + count, b""))
+            self.assertEqual(self.run_bytes("check", "-", given=name, **environment), (0, line, count))
+            self.assertEqual(self.run_bytes(name, "csv", "A", **environment), (0, b'"a\rb",7\n', b""))
+            status, out, err = self.run_bytes(name + b"x", **environment)
+            self.assertEqual((status, out, err), (10, b"", b"xls: " + name + b"x: No such file or directory\n"))
+            sheets = self.run_bytes(name, "--all-sheets", folder + b"/\xff", **environment)
+            self.assertEqual(sheets, (0, folder + b"/\xff/1-A.csv\n", b""))
+            missing = self.run_bytes(name, "csv", b"\xff", **environment)
+            self.assertEqual(missing[:2], (1, b"error\tWorksheet '\xff' not found\n"))
+
+    def test_a_name_stays_on_its_line(self):
+        name = f"{self.room}/n/a\nok\tb.xls"
+        os.makedirs(f"{self.room}/n")
+        with open(name, "wb"):
+            pass
+        line = f"unread\t{self.room}/n/a\\nok\\tb.xls\tno compound file: it is empty"
+        self.assertEqual(self.run_xls("check", f"{self.room}/n")[1].splitlines()[0], line)
+        self.assertEqual(self.run_xls(name)[2].count("\n"), 1)
+
+
+class Rows(unittest.TestCase):
+    """Rows of CSV are made one by one."""
+
+    def test_far_corners(self):
+        rows = xls.csv_rows({0: {0: "a"}, 65535: {65535: "b"}})
+        self.assertEqual(next(rows), b"a" + b"," * 65535 + b"\n")
+        self.assertEqual(next(rows), b"," * 65535 + b"\n")
+
+    def test_fields(self):
+        for text, field in (
+            ("a", "a"),
+            ("", '""'),
+            ("a\rb", '"a\rb"'),
+            ('a"', '"a"""'),
+            ("a\nb", '"a\nb"'),
+            ("a,", '"a,"'),
+        ):
+            self.assertEqual(list(xls.csv_rows({3: {5: text}})), [f"{field}\n".encode()])
+        self.assertEqual(list(xls.csv_rows({3: {5: "a"}, 5: {5: "b"}})), [b"a\n", b'""\n', b"b\n"])
+        self.assertEqual(list(xls.csv_rows({})), [])
+
+    def test_names_of_files(self):
+        self.assertEqual(xls.file_name("a/b\n\udcff"), "a_b__")
+        self.assertLessEqual(len(xls.file_name("\u4e00" * 255).encode()), 200)
+
+    def test_folders_that_can_not_be_listed(self):
+        with mock.patch.object(os, "scandir", side_effect=PermissionError(13, "Permission denied", "f")):
+            self.assertEqual(list(xls.workbooks_in("f")), ["f"])
+
+
 class Documents(unittest.TestCase):
     def test_quoted_blocks(self):
         """A block that begins with the name of a file is quoted from it; `..` leaves lines out."""
@@ -323,8 +555,11 @@ class Documents(unittest.TestCase):
 class Built(Files):
     """The samples, through the built program."""
 
+    def programs(self):
+        return {"XLS_DUMP": BUILT["xls_dump"], "VBA_DIR": BUILT["vba_dir"]}
+
     def run_built(self, *words):
-        return self.run_xls(*words, XLS_DUMP=BUILT["xls_dump"], VBA_DIR=BUILT["vba_dir"])
+        return self.run_xls(*words)
 
     def test_the_ledger(self):
         status, out, err = self.run_built(f"{TOP}/samples/ledger.xls")
@@ -362,6 +597,45 @@ class Built(Files):
         damaged = self.book("b.xls", {"VBA": {"dir": bytes.fromhex("0103")}})
         error = "error\tCut chunk header at byte 1: expecting 2 bytes, found 1\n"
         self.assertEqual(self.run_built("vba", damaged)[:2], (1, error))
+
+
+@unittest.skipUnless(os.access(BUILT["xls_dump"], os.X_OK), "xls_dump isn't built")
+class BuiltLosses(Losses):
+    """The same over the built program, and what it writes by itself."""
+
+    WRITES = (*Losses.WRITES, ["dump"], ["remake"], ["csv", "A", "--exact"])
+
+    def programs(self):
+        return {"XLS_DUMP": BUILT["xls_dump"], "VBA_DIR": BUILT["vba_dir"]}
+
+    def stream(self, rows):
+        """(Records that nobody reads fill each sector, so that a cut between sectors is one between records.)"""
+        head = record(0xFFF, bytes(512 - 8 - 13 - 4 - 8 - 4))
+        cells = b""
+        for number, row in enumerate(rows):
+            one = mul_rk(number, row)
+            cells += one + record(0xFFF, bytes(-(len(one) + 4) % 64))
+        return workbook(cells, head)
+
+    def text_stream(self):
+        return workbook(label(0, 0, "a\rb") + record(0x27E, struct.pack("<HHHI", 0, 1, 0, 30)))
+
+    def test_a_return_as_the_program_quotes_it(self):
+        book = self.book("b.xls", {"Workbook": self.text_stream()})
+        self.assertEqual(self.run_bytes(book, "csv", "A", "--exact"), self.run_bytes(book, "csv", "A"))
+
+    def test_a_large_sheet(self):
+        """Some seconds: 65,536 rows of 20 cells."""
+        rows = [[row * 20 + n for n in range(20)] for row in range(65536)]
+        book = self.book("b.xls", {"Workbook": workbook(b"".join(map(mul_rk, range(65536), rows)))})
+        done = subprocess.run(
+            [f"{TOOLS}/xls", book, "csv", "A"],
+            capture_output=True,
+            env={**os.environ, **self.programs()},
+            timeout=100,
+        )
+        self.assertEqual((done.returncode, done.stderr), (0, b""))
+        self.assertEqual(done.stdout, "".join(",".join(map(str, row)) + "\n" for row in rows).encode())
 
 
 if __name__ == "__main__":
