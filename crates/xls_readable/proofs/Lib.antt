@@ -1,0 +1,4 @@
+pub mod StretchLemmas
+pub mod ConcatenationLemmas
+pub mod RowLemmas
+pub mod RoundTripLemmas
