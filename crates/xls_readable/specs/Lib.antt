@@ -1,3 +1,5 @@
 pub mod Values
 pub mod Csv
 pub mod Laws
+pub mod Items
+pub mod Lines

@@ -3,11 +3,18 @@
 #![tactic(auto)]
 
 mod delimited;
+mod items;
 mod laws;
+mod lines;
 mod rows;
 mod values;
 
 pub use delimited::{Delimiter, end_row, push_field, push_separator};
+pub use items::{Field, Member, push_text_line};
 pub use laws::rows_read_back;
+pub use lines::{
+    push_cell, push_custom, push_dates, push_error, push_formula_line, push_merge, push_name,
+    push_sheet,
+};
 pub use rows::push_row;
 pub use values::Value;
