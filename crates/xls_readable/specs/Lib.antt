@@ -3,3 +3,4 @@ pub mod Csv
 pub mod Laws
 pub mod Items
 pub mod Lines
+pub mod Json

@@ -4,6 +4,7 @@
 
 mod delimited;
 mod items;
+mod json_lines;
 mod laws;
 mod lines;
 mod rows;
@@ -11,6 +12,7 @@ mod values;
 
 pub use delimited::{Delimiter, end_row, push_field, push_separator};
 pub use items::{Field, Member, push_text_line};
+pub use json_lines::push_json_line;
 pub use laws::rows_read_back;
 pub use lines::{
     push_cell, push_custom, push_dates, push_error, push_formula_line, push_merge, push_name,
