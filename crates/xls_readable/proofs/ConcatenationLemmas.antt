@@ -1,5 +1,5 @@
 -- Texts one after another.
-use Rattle.std.proofs.Common.{◌≡◌, ℕ, ◌+◌, ◌<◌, List, [], ◌∷◌, ◌++◌, length, get_or, take, append_assoc, append-nil, map, ◌≤◌, refl, sym, ap, subst, ◌∙◌, arith}
+use Rattle.std.proofs.Common.{◌≡◌, ℕ, ◌+◌, ◌<◌, List, [], ◌∷◌, ◌++◌, length, get_or, take, append_assoc, append-nil, map, ◌≤◌, refl, sym, ap, subst, ◌∙◌}
 use Rattle.xls_decimals.specs.Added.{Adds}
 use Rattle.xls_readable.specs.Values.{Concatenates}
 use Rattle.std.proofs.lemmas.List.{take_more}

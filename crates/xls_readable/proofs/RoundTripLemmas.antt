@@ -1,5 +1,5 @@
 -- A row of CSV reads back as its fields. It is read by the machine of the kit's reader.
-use Rattle.std.specs.Prelude.{◌⊎◌, length, map, codes, ◌||◌, ◌&&◌, not, nat_lt}
+use Rattle.std.specs.Prelude.{◌⊎◌, length, map, ◌||◌, ◌&&◌, not}
 use Rattle.std.proofs.Common.{◌≡◌, ◌==◌, ◌++◌, ◌∷◌, ◌∙◌, [], ℕ, List, Bool, Some, refl, sym, ap, subst, true, false, append_assoc, inl, inr, suc, eq-eqb}
 use Rattle.std.specs.List.{flat_map, list_any}
 use Rattle.std.proofs.lemmas.List.{append-nil}
@@ -7,7 +7,7 @@ use Rattle.std.proofs.lemmas.Bool.{cases_Bool, eqb-true, ne_eqb}
 use Rattle.csv.specs.Machine.{next_record}
 use Rattle.csv.specs.Reading.{records_from}
 use Rattle.csv.specs.declared.parser.State.TheVariants as st
-use Rattle.xls_readable.specs.Csv.{is_delimiter, is_special, is_marked, doubled_byte, doubled, quoted, csv_field, separated, joined, row_end, csv_row}
+use Rattle.xls_readable.specs.Csv.{is_delimiter, is_special, is_marked, doubled, csv_field, separated, joined, csv_row}
 use Rattle.xls_readable.specs.Laws.{config, Row, fields_of}
 
 or-left : (a b : Bool) → (a || b) ≡ false → a ≡ false

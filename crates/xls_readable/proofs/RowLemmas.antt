@@ -1,10 +1,10 @@
 -- The fields of values, one after another, are a row.
-use Rattle.std.proofs.Common.{◌≡◌, ℕ, List, [], ◌∷◌, ◌++◌, append_assoc, refl, sym, ap, ◌∙◌, Result, Ok, Err}
+use Rattle.std.proofs.Common.{◌≡◌, ℕ, List, [], ◌∷◌, ◌++◌, append_assoc, ap, ◌∙◌, Result, Ok, Err}
 use Rattle.std.specs.Prelude.{OnOk}
 use Rattle.xls_decimals.specs.Added.{Adds}
 use Rattle.xls_readable.specs.declared.values.Value.{Value}
 use Rattle.xls_readable.specs.Values.{Concatenates}
-use Rattle.xls_readable.specs.Csv.{AreTexts, IsField, IsJoined, IsRow, IsSeparated, csv_field, csv_row, joined, row_end, separated}
+use Rattle.xls_readable.specs.Csv.{AreTexts, IsField, IsJoined, IsSeparated, csv_field, separated}
 
 collected : (d : ℕ) (values : List Value) (text : List ℕ) → Concatenates (IsSeparated d) values text
     → (texts : List (List ℕ)) × AreTexts values texts × (text ≡ separated d texts)

@@ -1,6 +1,6 @@
 -- Values that RFC 4180, RFC 8259 and the manual of xls_dump give, so that a wrong rule in the specs
 -- does not check.
-use Rattle.std.proofs.Common.{◌≡◌, ℕ, ◌∷◌, [], map, true, false, Some, None, refl}
+use Rattle.std.proofs.Common.{◌≡◌, ◌∷◌, [], map, true, false, refl}
 use Rattle.std.specs.Prelude.{codes}
 use Rattle.xls_data.specs.declared.sheets.SheetType.TheVariants as types
 use Rattle.xls_data.specs.declared.sheets.SheetVisible.TheVariants as states

@@ -1,5 +1,5 @@
 -- The fields of a line as people read it, and lines of them as text and as JSON, in UTF-8.
-use Rattle.std.specs.Prelude.{◌≡◌, ◌⊎◌, ℕ, ℤ, Bool, List, [], ◌∷◌, ◌++◌, map, codes}
+use Rattle.std.specs.Prelude.{◌≡◌, ℕ, ℤ, Bool, List, ◌++◌, codes}
 use Rattle.std.specs.Fmt.{decimal, signed_decimal}
 use Rattle.std.specs.Str.{chars}
 use Rattle.xls_bytes.specs.Escapes.{escaped_text}

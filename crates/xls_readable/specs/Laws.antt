@@ -1,6 +1,6 @@
 -- Laws of CSV, each over the definitions alone. How a text of CSV is read is told by the kit's reader,
 -- `csv`, at its own defaults but for the delimiter.
-use Rattle.std.specs.Prelude.{◌≡◌, ℕ, true, Option, Some, List, [], ◌∷◌, ◌++◌, length, map}
+use Rattle.std.specs.Prelude.{◌≡◌, ℕ, true, Some, List, [], ◌∷◌, ◌++◌, length, map}
 use Rattle.std.specs.List.{flat_map}
 use Rattle.csv.specs.Machine.{next_record}
 use Rattle.csv.specs.Reading.{default_config, records_from}

@@ -2,5 +2,5 @@ pub mod Values
 pub mod Csv
 pub mod Laws
 pub mod Items
-pub mod Lines
 pub mod Json
+pub mod Lines

@@ -9,7 +9,15 @@ use Rattle.xls_data.specs.declared.sheets.SheetVisible.{SheetVisible}
 use Rattle.xls_data.specs.declared.sheets.SheetVisible.TheVariants as states
 use Rattle.xls_readable.specs.declared.values.Value.{Value}
 use Rattle.xls_readable.specs.declared.values.Value.TheVariants as value
+use Rattle.xls_readable.specs.Json.{IsJsonLine}
+use Rattle.xls_readable.specs.declared.forms.Form.{Form}
+use Rattle.xls_readable.specs.declared.forms.Form.TheVariants.{Text, Json}
 pub use Rattle.xls_readable.specs.Items.{Item, Named, IsTextLine, item_of, word, text, formula, count, int, number, truth, moment, failure}
+
+-- a line of a word and fields, as text or as JSON
+abbrev pub IsLine : Form → List ℕ → List Named → List ℕ → Type 0
+IsLine Text kind members out = IsTextLine kind members out
+IsLine Json kind members out = IsJsonLine kind members out
 
 abbrev pub year_text : Bool → List ℕ
 year_text true = codes "1904"
@@ -63,9 +71,9 @@ kind_and_item (value.Failure e) = Some (codes "error", failure e)
 kind_and_item value.Empty = None
 
 -- the line of a cell; a blank has none
-abbrev pub IsCellLine : ℕ → ℕ → Value → List ℕ → Type 0
-IsCellLine row column v out =
-    MatchOption (kind_and_item v) (out ≡ []) (λ k. IsTextLine (codes "cell") (cell_members row column k.0 k.1) out)
+abbrev pub IsCellLine : Form → ℕ → ℕ → Value → List ℕ → Type 0
+IsCellLine form row column v out =
+    MatchOption (kind_and_item v) (out ≡ []) (λ k. IsLine form (codes "cell") (cell_members row column k.0 k.1) out)
 
 -- row, column and text of a formula
 abbrev pub formula_members : ℕ → ℕ → List ℕ → List Named

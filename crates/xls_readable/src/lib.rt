@@ -3,6 +3,7 @@
 #![tactic(auto)]
 
 mod delimited;
+mod forms;
 mod items;
 mod json_lines;
 mod laws;
@@ -11,6 +12,7 @@ mod rows;
 mod values;
 
 pub use delimited::{Delimiter, end_row, push_field, push_separator};
+pub use forms::{Form, push_line};
 pub use items::{Field, Member, push_text_line};
 pub use json_lines::push_json_line;
 pub use laws::rows_read_back;

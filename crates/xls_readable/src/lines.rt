@@ -3,10 +3,11 @@
 ghost use Rattle.std.specs.Prelude.{◌≡◌, option_map, OnOk, codes};
 ghost use Rattle.std.specs.String.{string_bytes};
 ghost use Rattle.xls_decimals.specs.Added.{Adds};
-ghost use Rattle.xls_readable.specs.Items.{IsTextLine};
+ghost use Rattle.xls_readable.specs.Lines.{IsLine};
 ghost use Rattle.xls_readable.specs.Lines.{IsCellLine, kind_and_item, dates_members, name_members, sheet_members, cell_members, formula_members, merge_members, text_members, custom_members, item_of, type_text, visible_text, year_text};
 
-use crate::items::{Field, Member, push_text_line};
+use crate::forms::{Form, push_line};
+use crate::items::{Field, Member};
 use crate::values::Value;
 use std::alloc::AllocError;
 use xls_data::{Dimensions, SheetType, SheetVisible};
@@ -21,24 +22,30 @@ fn year_word(is_1904: bool) -> &'static str
 /// Appends the line of the date system, `dates`. Of this call and those below: after a refusal, which
 /// only running out of memory brings, `buf` may end in a part of the line; what is printed first is
 /// printed into `room`, whose text is lost.
-pub fn push_dates(is_1904: bool, room: &mut String, buf: &mut String) -> Result<(), AllocError>
-    ensures { OnOk result (Adds (IsTextLine (codes "dates") (dates_members is_1904)) (string_bytes buf.old) (string_bytes buf.new)) }
+pub fn push_dates(
+    form: Form,
+    is_1904: bool,
+    room: &mut String,
+    buf: &mut String,
+) -> Result<(), AllocError>
+    ensures { OnOk result (Adds (IsLine form (codes "dates") (dates_members is_1904)) (string_bytes buf.old) (string_bytes buf.new)) }
 {
     let year = Member {
         name: "year",
         field: Field::Word(year_word(is_1904)),
     };
-    push_text_line("dates", &[year], room, buf)
+    push_line(form, "dates", &[year], room, buf)
 }
 
 /// Appends the line of a defined name and its text, `name`.
 pub fn push_name(
+    form: Form,
     name: &str,
     text: &str,
     room: &mut String,
     buf: &mut String,
 ) -> Result<(), AllocError>
-    ensures { OnOk result (Adds (IsTextLine (codes "name") (name_members name.now text.now)) (string_bytes buf.old) (string_bytes buf.new)) }
+    ensures { OnOk result (Adds (IsLine form (codes "name") (name_members name.now text.now)) (string_bytes buf.old) (string_bytes buf.new)) }
 {
     let name = Member {
         name: "name",
@@ -48,7 +55,7 @@ pub fn push_name(
         name: "text",
         field: Field::Text(text),
     };
-    push_text_line("name", &[name, text], room, buf)
+    push_line(form, "name", &[name, text], room, buf)
 }
 
 // The word of a sheet's kind.
@@ -77,13 +84,14 @@ fn visible_word(visible: SheetVisible) -> &'static str
 
 /// Appends the line of a sheet's name, kind and visibility, `sheet`.
 pub fn push_sheet(
+    form: Form,
     name: &str,
     kind: SheetType,
     visible: SheetVisible,
     room: &mut String,
     buf: &mut String,
 ) -> Result<(), AllocError>
-    ensures { OnOk result (Adds (IsTextLine (codes "sheet") (sheet_members name.now kind visible)) (string_bytes buf.old) (string_bytes buf.new)) }
+    ensures { OnOk result (Adds (IsLine form (codes "sheet") (sheet_members name.now kind visible)) (string_bytes buf.old) (string_bytes buf.new)) }
 {
     let name = Member {
         name: "name",
@@ -97,7 +105,7 @@ pub fn push_sheet(
         name: "visibility",
         field: Field::Word(visible_word(visible)),
     };
-    push_text_line("sheet", &[name, kind, visibility], room, buf)
+    push_line(form, "sheet", &[name, kind, visibility], room, buf)
 }
 
 // The kind of a value, and the field that shows it. A blank has none.
@@ -121,13 +129,14 @@ fn kind_and_field<'a>(value: &'a Value<'a>) -> Option<(&'static str, Field<'a>)>
 /// Appends the line of a cell's row, column, kind and value, `cell`; of a blank nothing. The kinds are
 /// `int`, `float`, `text`, `bool`, `date`, `span` and `error`.
 pub fn push_cell(
+    form: Form,
     row: u32,
     column: u32,
     value: &Value<'_>,
     room: &mut String,
     buf: &mut String,
 ) -> Result<(), AllocError>
-    ensures { OnOk result (Adds (IsCellLine row column value.now) (string_bytes buf.old) (string_bytes buf.new)) }
+    ensures { OnOk result (Adds (IsCellLine form row column value.now) (string_bytes buf.old) (string_bytes buf.new)) }
 {
     match kind_and_field(value) {
         Some((kind, field)) => {
@@ -147,7 +156,7 @@ pub fn push_cell(
                 name: "value",
                 field,
             };
-            push_text_line("cell", &[row, column, kind, value], room, buf)
+            push_line(form, "cell", &[row, column, kind, value], room, buf)
         }
         None => Ok(()),
     }
@@ -155,13 +164,14 @@ pub fn push_cell(
 
 /// Appends the line of a formula's row, column and text, `formula`.
 pub fn push_formula_line(
+    form: Form,
     row: u32,
     column: u32,
     text: &str,
     room: &mut String,
     buf: &mut String,
 ) -> Result<(), AllocError>
-    ensures { OnOk result (Adds (IsTextLine (codes "formula") (formula_members row column text.now)) (string_bytes buf.old) (string_bytes buf.new)) }
+    ensures { OnOk result (Adds (IsLine form (codes "formula") (formula_members row column text.now)) (string_bytes buf.old) (string_bytes buf.new)) }
 {
     let row = Member {
         name: "row",
@@ -175,12 +185,17 @@ pub fn push_formula_line(
         name: "text",
         field: Field::Formula(text),
     };
-    push_text_line("formula", &[row, column, text], room, buf)
+    push_line(form, "formula", &[row, column, text], room, buf)
 }
 
 /// Appends the line of a merged region's first row, first column, last row and last column, `merge`.
-pub fn push_merge(region: Dimensions, room: &mut String, buf: &mut String) -> Result<(), AllocError>
-    ensures { OnOk result (Adds (IsTextLine (codes "merge") (merge_members region)) (string_bytes buf.old) (string_bytes buf.new)) }
+pub fn push_merge(
+    form: Form,
+    region: Dimensions,
+    room: &mut String,
+    buf: &mut String,
+) -> Result<(), AllocError>
+    ensures { OnOk result (Adds (IsLine form (codes "merge") (merge_members region)) (string_bytes buf.old) (string_bytes buf.new)) }
 {
     let first_row = Member {
         name: "first_row",
@@ -198,7 +213,8 @@ pub fn push_merge(region: Dimensions, room: &mut String, buf: &mut String) -> Re
         name: "last_column",
         field: Field::Count(u64::from(region.end.1)),
     };
-    push_text_line(
+    push_line(
+        form,
         "merge",
         &[first_row, first_column, last_row, last_column],
         room,
@@ -207,24 +223,30 @@ pub fn push_merge(region: Dimensions, room: &mut String, buf: &mut String) -> Re
 }
 
 /// Appends the line of a refusal's text, `error`.
-pub fn push_error(text: &str, room: &mut String, buf: &mut String) -> Result<(), AllocError>
-    ensures { OnOk result (Adds (IsTextLine (codes "error") (text_members text.now)) (string_bytes buf.old) (string_bytes buf.new)) }
+pub fn push_error(
+    form: Form,
+    text: &str,
+    room: &mut String,
+    buf: &mut String,
+) -> Result<(), AllocError>
+    ensures { OnOk result (Adds (IsLine form (codes "error") (text_members text.now)) (string_bytes buf.old) (string_bytes buf.new)) }
 {
     let text = Member {
         name: "text",
         field: Field::Text(text),
     };
-    push_text_line("error", &[text], room, buf)
+    push_line(form, "error", &[text], room, buf)
 }
 
 /// Appends the line of a custom property's name and value, `custom`.
 pub fn push_custom(
+    form: Form,
     name: &str,
     value: &str,
     room: &mut String,
     buf: &mut String,
 ) -> Result<(), AllocError>
-    ensures { OnOk result (Adds (IsTextLine (codes "custom") (custom_members name.now value.now)) (string_bytes buf.old) (string_bytes buf.new)) }
+    ensures { OnOk result (Adds (IsLine form (codes "custom") (custom_members name.now value.now)) (string_bytes buf.old) (string_bytes buf.new)) }
 {
     let name = Member {
         name: "name",
@@ -234,5 +256,5 @@ pub fn push_custom(
         name: "value",
         field: Field::Text(value),
     };
-    push_text_line("custom", &[name, value], room, buf)
+    push_line(form, "custom", &[name, value], room, buf)
 }

@@ -1,4 +1,4 @@
-use Rattle.std.proofs.Common.{rules, IsUtf8, ◌∷◌, []}
+use Rattle.std.proofs.Common.{rules, IsUtf8}
 use Rattle.std.specs.Prelude.{codes}
 use Rattle.xls_bytes.proofs.GrownLemmas.{IsGrown-append}
 use Rattle.xls_readable.specs.Csv.{doubled_byte}
