@@ -1,0 +1,6 @@
+pub mod StretchLemmas
+pub mod ConcatenationLemmas
+pub mod JsonLemmas
+pub mod RowLemmas
+pub mod RoundTripLemmas
+pub mod StandardFacts

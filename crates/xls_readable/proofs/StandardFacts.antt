@@ -1,0 +1,53 @@
+-- Values that RFC 4180, RFC 8259 and the manual of xls_dump give, so that a wrong rule in the specs
+-- does not check.
+use Rattle.std.proofs.Common.{◌≡◌, ◌∷◌, [], map, true, false, refl}
+use Rattle.std.specs.Prelude.{codes}
+use Rattle.xls_data.specs.declared.sheets.SheetType.TheVariants as types
+use Rattle.xls_data.specs.declared.sheets.SheetVisible.TheVariants as states
+use Rattle.xls_readable.specs.Values.{truth_text}
+use Rattle.xls_readable.specs.Csv.{is_delimiter, is_marked, csv_field, csv_row}
+use Rattle.xls_readable.specs.Lines.{year_text, type_text, visible_text}
+
+-- a comma, a semicolon, a tab, `|`, NUL and DEL are delimiters; a quote, a newline, a return and what is
+-- not ASCII are none
+pub known_delimiters : map is_delimiter (0x2C ∷ 0x3B ∷ 0x09 ∷ 0x7C ∷ 0x00 ∷ 0x7F ∷ 0x22 ∷ 0x0A ∷ 0x0D ∷ 0x80 ∷ 0xFF ∷ [])
+    ≡ true ∷ true ∷ true ∷ true ∷ true ∷ true ∷ false ∷ false ∷ false ∷ false ∷ false ∷ []
+known_delimiters = refl
+
+-- a comma, a quote, a newline and a return put a field into quotes; a semicolon, a tab and a space
+-- don't, under a comma
+pub known_marks : map (is_marked 0x2C) (0x2C ∷ 0x22 ∷ 0x0A ∷ 0x0D ∷ 0x3B ∷ 0x09 ∷ 0x20 ∷ [])
+    ≡ true ∷ true ∷ true ∷ true ∷ false ∷ false ∷ false ∷ []
+known_marks = refl
+
+-- under a semicolon a comma stands as it is
+pub known_others : map (is_marked 0x3B) (0x2C ∷ 0x3B ∷ []) ≡ false ∷ true ∷ []
+known_others = refl
+
+pub known_fields : map (csv_field 0x2C) (codes "" ∷ codes "ab c" ∷ codes "a,b" ∷ codes "\"" ∷ codes "a\nb" ∷ codes "a\rb" ∷ codes "a;b" ∷ [])
+    ≡ codes "" ∷ codes "ab c" ∷ codes "\"a,b\"" ∷ codes "\"\"\"\"" ∷ codes "\"a\nb\"" ∷ codes "\"a\rb\"" ∷ codes "a;b" ∷ []
+known_fields = refl
+
+-- the row of RFC 4180, section 2, item 7; one empty field; two; with semicolons
+pub known_row : csv_row 0x2C (codes "aaa" ∷ codes "b\"bb" ∷ codes "ccc" ∷ []) ≡ codes "aaa,\"b\"\"bb\",ccc\n"
+known_row = refl
+
+pub known_empty_rows : map (csv_row 0x2C) ((codes "" ∷ []) ∷ (codes "" ∷ codes "" ∷ []) ∷ []) ≡ codes "\"\"\n" ∷ codes ",\n" ∷ []
+known_empty_rows = refl
+
+pub known_semicolons : csv_row 0x3B (codes "1,5" ∷ codes "a;b" ∷ []) ≡ codes "1,5;\"a;b\"\n"
+known_semicolons = refl
+
+pub known_truths : map truth_text (true ∷ false ∷ []) ≡ codes "TRUE" ∷ codes "FALSE" ∷ []
+known_truths = refl
+
+pub known_years : map year_text (true ∷ false ∷ []) ≡ codes "1904" ∷ codes "1900" ∷ []
+known_years = refl
+
+pub known_types : map type_text (types.WorkSheet ∷ types.DialogSheet ∷ types.MacroSheet ∷ types.ChartSheet ∷ types.Vba ∷ [])
+    ≡ codes "worksheet" ∷ codes "dialog" ∷ codes "macro" ∷ codes "chart" ∷ codes "vba" ∷ []
+known_types = refl
+
+pub known_visibilities : map visible_text (states.Visible ∷ states.Hidden ∷ states.VeryHidden ∷ [])
+    ≡ codes "visible" ∷ codes "hidden" ∷ codes "veryhidden" ∷ []
+known_visibilities = refl

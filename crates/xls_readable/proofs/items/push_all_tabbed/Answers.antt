@@ -1,0 +1,12 @@
+use Rattle.xls_readable.specs.declared.items.Member.{Member}
+use Rattle.xls_readable.specs.Items.{IsTabbed, named_of}
+use Rattle.xls_readable.proofs.ConcatenationLemmas.{concatenates_more, adds_map}
+use Rattle.xls_readable.proofs.items.push_all_tabbed.Goals as goal
+
+pub loop-member-preserved : goal.loop-member-preserved
+loop-member-preserved c =
+    concatenates_more (λ (m : Member). IsTabbed (named_of m)) c.args.members.now c.member-item.result c.loop-member.member-index _ _ _ c.loop-member-test.true
+    c.member-item.is c.loop-member.invariant c.in_ok-push_tabbed.ensures
+
+pub returns : goal.returns
+returns c = adds_map named_of IsTabbed c.args.members.now c.loop-member.member-index _ _ c.loop-member-test.false c.loop-member.invariant

@@ -1,0 +1,6 @@
+pub mod Values
+pub mod Csv
+pub mod Laws
+pub mod Items
+pub mod Json
+pub mod Lines

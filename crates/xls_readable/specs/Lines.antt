@@ -1,0 +1,95 @@
+-- The lines of a workbook: the fields of each kind, by their names, in their order.
+use Rattle.std.specs.Prelude.{◌≡◌, ℕ, Bool, true, false, List, [], ◌∷◌, Option, Some, None, MatchOption, codes}
+use Rattle.xls_data.specs.declared.dates.ExcelDateTimeType.{ExcelDateTimeType}
+use Rattle.xls_data.specs.declared.dates.ExcelDateTimeType.TheVariants.{DateTime, TimeDelta}
+use Rattle.xls_data.specs.declared.regions.Dimensions.{Dimensions}
+use Rattle.xls_data.specs.declared.sheets.SheetType.{SheetType}
+use Rattle.xls_data.specs.declared.sheets.SheetType.TheVariants as types
+use Rattle.xls_data.specs.declared.sheets.SheetVisible.{SheetVisible}
+use Rattle.xls_data.specs.declared.sheets.SheetVisible.TheVariants as states
+use Rattle.xls_readable.specs.declared.values.Value.{Value}
+use Rattle.xls_readable.specs.declared.values.Value.TheVariants as value
+use Rattle.xls_readable.specs.Json.{IsJsonLine}
+use Rattle.xls_readable.specs.declared.forms.Form.{Form}
+use Rattle.xls_readable.specs.declared.forms.Form.TheVariants.{Text, Json}
+pub use Rattle.xls_readable.specs.Items.{Item, Named, IsTextLine, item_of, word, text, formula, count, int, number, truth, moment, failure}
+
+-- a line of a word and fields, as text or as JSON
+abbrev pub IsLine : Form → List ℕ → List Named → List ℕ → Type 0
+IsLine Text kind members out = IsTextLine kind members out
+IsLine Json kind members out = IsJsonLine kind members out
+
+abbrev pub year_text : Bool → List ℕ
+year_text true = codes "1904"
+year_text false = codes "1900"
+
+-- the year that dates count from
+abbrev pub dates_members : Bool → List Named
+dates_members is_1904 = (codes "year", word (year_text is_1904)) ∷ []
+
+-- a defined name and its text
+abbrev pub name_members : List ℕ → List ℕ → List Named
+name_members name shown = (codes "name", text name) ∷ (codes "text", text shown) ∷ []
+
+abbrev pub type_text : SheetType → List ℕ
+type_text types.WorkSheet = codes "worksheet"
+type_text types.DialogSheet = codes "dialog"
+type_text types.MacroSheet = codes "macro"
+type_text types.ChartSheet = codes "chart"
+type_text types.Vba = codes "vba"
+
+abbrev pub visible_text : SheetVisible → List ℕ
+visible_text states.Visible = codes "visible"
+visible_text states.Hidden = codes "hidden"
+visible_text states.VeryHidden = codes "veryhidden"
+
+-- name, kind and visibility of a sheet
+abbrev pub sheet_members : List ℕ → SheetType → SheetVisible → List Named
+sheet_members name kind visible =
+    (codes "name", text name) ∷ (codes "kind", word (type_text kind)) ∷ (codes "visibility", word (visible_text visible)) ∷ []
+
+-- row, column, kind and value of a cell
+abbrev pub cell_members : ℕ → ℕ → List ℕ → Item → List Named
+cell_members row column kind shown =
+    (codes "row", count row) ∷ (codes "column", count column) ∷ (codes "kind", word kind) ∷ (codes "value", shown) ∷ []
+
+-- a day or a time of day, or a duration
+abbrev pub moment_kind : ExcelDateTimeType → List ℕ
+moment_kind DateTime = codes "date"
+moment_kind TimeDelta = codes "span"
+
+-- the kind of a value, and what is shown of it; a blank has none
+abbrev pub kind_and_item : Value → Option Named
+kind_and_item (value.Int n) = Some (codes "int", int n)
+kind_and_item (value.Float n) = Some (codes "float", number n)
+kind_and_item (value.Text t) = Some (codes "text", text t.now)
+kind_and_item (value.Truth b) = Some (codes "bool", truth b)
+kind_and_item (value.Moment d) = Some (moment_kind d.kind, moment d)
+kind_and_item (value.IsoDate t) = Some (codes "date", text t.now)
+kind_and_item (value.IsoDuration t) = Some (codes "span", text t.now)
+kind_and_item (value.Failure e) = Some (codes "error", failure e)
+kind_and_item value.Empty = None
+
+-- the line of a cell; a blank has none
+abbrev pub IsCellLine : Form → ℕ → ℕ → Value → List ℕ → Type 0
+IsCellLine form row column v out =
+    MatchOption (kind_and_item v) (out ≡ []) (λ k. IsLine form (codes "cell") (cell_members row column k.0 k.1) out)
+
+-- row, column and text of a formula
+abbrev pub formula_members : ℕ → ℕ → List ℕ → List Named
+formula_members row column shown =
+    (codes "row", count row) ∷ (codes "column", count column) ∷ (codes "text", formula shown) ∷ []
+
+-- the corners of a merged region
+abbrev pub merge_members : Dimensions → List Named
+merge_members d =
+    (codes "first_row", count d.start.0) ∷ (codes "first_column", count d.start.1)
+    ∷ (codes "last_row", count d.end.0) ∷ (codes "last_column", count d.end.1) ∷ []
+
+-- a text, as that of a refusal
+abbrev pub text_members : List ℕ → List Named
+text_members shown = (codes "text", text shown) ∷ []
+
+-- name and value of a custom property
+abbrev pub custom_members : List ℕ → List ℕ → List Named
+custom_members name shown = (codes "name", text name) ∷ (codes "value", text shown) ∷ []

@@ -1,0 +1,120 @@
+//! The fields of a line, and lines of them as text.
+
+ghost use Rattle.std.specs.Prelude.{◌≡◌, ◌++◌, map, OnOk};
+ghost use Rattle.std.specs.Fmt.{decimal};
+ghost use Rattle.std.specs.String.{string_bytes};
+ghost use Rattle.xls_decimals.specs.Added.{Adds};
+ghost use Rattle.xls_readable.specs.Values.{Concatenates};
+ghost use Rattle.xls_readable.specs.Items.{IsItemText, IsTabbed, IsTextLine, formula, item_of, named_of};
+
+use crate::values::{failure_text, push_int};
+use std::alloc::AllocError;
+use xls_bytes::push_escaped;
+use xls_data::{CellErrorType, ExcelDateTime, Number};
+use xls_decimals::{push_date_or_duration, push_decimal, push_formula};
+
+/// What a field of a line holds.
+#[derive(Drop)]
+pub enum Field<'a> {
+    /// A word, as it is.
+    Word(&'a str),
+    /// A text.
+    Text(&'a str),
+    /// The text of a formula, whose doubles become decimals.
+    Formula(&'a str),
+    /// A row, a column or a count.
+    Count(u64),
+    /// A whole number.
+    Int(i64),
+    /// A number.
+    Number(Number),
+    /// A truth value.
+    Truth(bool),
+    /// A date or a duration.
+    Moment(ExcelDateTime),
+    /// An error value.
+    Failure(CellErrorType),
+}
+
+/// A field with its name.
+#[derive(Drop)]
+pub struct Member<'a> {
+    pub name: &'a str,
+    pub field: Field<'a>,
+}
+
+// Appends a count.
+pub(crate) fn push_count(n: u64, buf: &mut String) -> Result<(), AllocError>
+    ensures { OnOk result (string_bytes buf.new ≡ string_bytes buf.old ++ decimal n) }
+{
+    let mut digits = itoa::Buffer::new();
+    buf.push_str(digits.format(n))
+}
+
+// Appends the text of a formula, escaped.
+fn push_formula_text(text: &str, room: &mut String, buf: &mut String) -> Result<(), AllocError>
+    ensures { OnOk result (Adds (IsItemText (formula text.now))
+        (string_bytes buf.old) (string_bytes buf.new)) }
+{
+    room.clear();
+    push_formula(text, room)?;
+    push_escaped(room.as_str(), buf)
+}
+
+// Appends the text of a field.
+fn push_item(field: &Field<'_>, room: &mut String, buf: &mut String) -> Result<(), AllocError>
+    ensures { OnOk result (Adds (IsItemText (item_of field.now)) (string_bytes buf.old) (string_bytes buf.new)) }
+{
+    match field {
+        Field::Word(word) => buf.push_str(word),
+        Field::Text(text) => push_escaped(text, buf),
+        Field::Formula(text) => push_formula_text(text, room, buf),
+        Field::Count(n) => push_count(*n, buf),
+        Field::Int(n) => push_int(*n, buf),
+        Field::Number(n) => push_decimal(*n, buf),
+        Field::Truth(true) => buf.push_str("true"),
+        Field::Truth(false) => buf.push_str("false"),
+        Field::Moment(moment) => push_date_or_duration(*moment, buf),
+        Field::Failure(failure) => buf.push_str(failure_text(*failure)),
+    }
+}
+
+// Appends the text of a field after a tab.
+fn push_tabbed(member: &Member<'_>, room: &mut String, buf: &mut String) -> Result<(), AllocError>
+    ensures { OnOk result (Adds (IsTabbed (named_of member.now)) (string_bytes buf.old) (string_bytes buf.new)) }
+{
+    buf.push_str("\t")?;
+    push_item(&member.field, room, buf)
+}
+
+// Appends the texts of fields, each after a tab.
+fn push_all_tabbed(
+    members: &[Member<'_>],
+    room: &mut String,
+    buf: &mut String,
+) -> Result<(), AllocError>
+    ensures { OnOk result (Adds (Concatenates IsTabbed (map named_of members.now))
+        (string_bytes buf.old) (string_bytes buf.new)) }
+{
+    for member in members {
+        push_tabbed(member, room, buf)?;
+    }
+    Ok(())
+}
+
+/// Appends a line of text: a word, and fields after it, each after a tab. What has to be printed first is
+/// printed into `room`, whose text is lost. After a refusal, which only running out of memory brings,
+/// `buf` may end in a part of the line.
+pub fn push_text_line(
+    word: &str,
+    members: &[Member<'_>],
+    room: &mut String,
+    buf: &mut String,
+) -> Result<(), AllocError>
+    ensures { OnOk result (Adds (IsTextLine word.now (map named_of members.now))
+        (string_bytes buf.old) (string_bytes buf.new)) }
+{
+    buf.push_str(word)?;
+    push_all_tabbed(members, room, buf)?;
+    buf.push_str("\n")
+}

@@ -1,0 +1,24 @@
+//! The values and lines of a workbook as people read them: fields of CSV, lines of fields, and JSON, appended
+//! to a text that is used again.
+#![tactic(auto)]
+
+mod delimited;
+mod forms;
+mod items;
+mod json_lines;
+mod laws;
+mod lines;
+mod rows;
+mod values;
+
+pub use delimited::{Delimiter, end_row, push_field, push_separator};
+pub use forms::{Form, push_line};
+pub use items::{Field, Member, push_text_line};
+pub use json_lines::push_json_line;
+pub use laws::rows_read_back;
+pub use lines::{
+    push_cell, push_custom, push_dates, push_error, push_formula_line, push_merge, push_name,
+    push_sheet,
+};
+pub use rows::push_row;
+pub use values::Value;

@@ -1,0 +1,260 @@
+//! The lines of a workbook, a call for each kind.
+
+ghost use Rattle.std.specs.Prelude.{◌≡◌, option_map, OnOk, codes};
+ghost use Rattle.std.specs.String.{string_bytes};
+ghost use Rattle.xls_decimals.specs.Added.{Adds};
+ghost use Rattle.xls_readable.specs.Lines.{IsLine};
+ghost use Rattle.xls_readable.specs.Lines.{IsCellLine, kind_and_item, dates_members, name_members, sheet_members, cell_members, formula_members, merge_members, text_members, custom_members, item_of, type_text, visible_text, year_text};
+
+use crate::forms::{Form, push_line};
+use crate::items::{Field, Member};
+use crate::values::Value;
+use std::alloc::AllocError;
+use xls_data::{Dimensions, SheetType, SheetVisible};
+
+// The year that dates count from.
+fn year_word(is_1904: bool) -> &'static str
+    ensures { result.now ≡ year_text is_1904 }
+{
+    if is_1904 { "1904" } else { "1900" }
+}
+
+/// Appends the line of the date system, `dates`. Of this call and those below: after a refusal, which
+/// only running out of memory brings, `buf` may end in a part of the line; what is printed first is
+/// printed into `room`, whose text is lost.
+pub fn push_dates(
+    form: Form,
+    is_1904: bool,
+    room: &mut String,
+    buf: &mut String,
+) -> Result<(), AllocError>
+    ensures { OnOk result (Adds (IsLine form (codes "dates") (dates_members is_1904)) (string_bytes buf.old) (string_bytes buf.new)) }
+{
+    let year = Member {
+        name: "year",
+        field: Field::Word(year_word(is_1904)),
+    };
+    push_line(form, "dates", &[year], room, buf)
+}
+
+/// Appends the line of a defined name and its text, `name`.
+pub fn push_name(
+    form: Form,
+    name: &str,
+    text: &str,
+    room: &mut String,
+    buf: &mut String,
+) -> Result<(), AllocError>
+    ensures { OnOk result (Adds (IsLine form (codes "name") (name_members name.now text.now)) (string_bytes buf.old) (string_bytes buf.new)) }
+{
+    let name = Member {
+        name: "name",
+        field: Field::Text(name),
+    };
+    let text = Member {
+        name: "text",
+        field: Field::Text(text),
+    };
+    push_line(form, "name", &[name, text], room, buf)
+}
+
+// The word of a sheet's kind.
+fn type_word(kind: SheetType) -> &'static str
+    ensures { result.now ≡ type_text kind }
+{
+    match kind {
+        SheetType::WorkSheet => "worksheet",
+        SheetType::DialogSheet => "dialog",
+        SheetType::MacroSheet => "macro",
+        SheetType::ChartSheet => "chart",
+        SheetType::Vba => "vba",
+    }
+}
+
+// The word of a sheet's visibility.
+fn visible_word(visible: SheetVisible) -> &'static str
+    ensures { result.now ≡ visible_text visible }
+{
+    match visible {
+        SheetVisible::Visible => "visible",
+        SheetVisible::Hidden => "hidden",
+        SheetVisible::VeryHidden => "veryhidden",
+    }
+}
+
+/// Appends the line of a sheet's name, kind and visibility, `sheet`.
+pub fn push_sheet(
+    form: Form,
+    name: &str,
+    kind: SheetType,
+    visible: SheetVisible,
+    room: &mut String,
+    buf: &mut String,
+) -> Result<(), AllocError>
+    ensures { OnOk result (Adds (IsLine form (codes "sheet") (sheet_members name.now kind visible)) (string_bytes buf.old) (string_bytes buf.new)) }
+{
+    let name = Member {
+        name: "name",
+        field: Field::Text(name),
+    };
+    let kind = Member {
+        name: "kind",
+        field: Field::Word(type_word(kind)),
+    };
+    let visibility = Member {
+        name: "visibility",
+        field: Field::Word(visible_word(visible)),
+    };
+    push_line(form, "sheet", &[name, kind, visibility], room, buf)
+}
+
+// The kind of a value, and the field that shows it. A blank has none.
+fn kind_and_field<'a>(value: &'a Value<'a>) -> Option<(&'static str, Field<'a>)>
+    ensures { option_map (λ p. (p.0.now, item_of p.1)) result ≡ kind_and_item value.now }
+{
+    match value {
+        Value::Int(n) => Some(("int", Field::Int(*n))),
+        Value::Float(n) => Some(("float", Field::Number(*n))),
+        Value::Text(text) => Some(("text", Field::Text(text))),
+        Value::Truth(b) => Some(("bool", Field::Truth(*b))),
+        Value::Moment(moment) if moment.is_duration() => Some(("span", Field::Moment(*moment))),
+        Value::Moment(moment) => Some(("date", Field::Moment(*moment))),
+        Value::IsoDate(text) => Some(("date", Field::Text(text))),
+        Value::IsoDuration(text) => Some(("span", Field::Text(text))),
+        Value::Failure(failure) => Some(("error", Field::Failure(*failure))),
+        Value::Empty => None,
+    }
+}
+
+/// Appends the line of a cell's row, column, kind and value, `cell`; of a blank nothing. The kinds are
+/// `int`, `float`, `text`, `bool`, `date`, `span` and `error`.
+pub fn push_cell(
+    form: Form,
+    row: u32,
+    column: u32,
+    value: &Value<'_>,
+    room: &mut String,
+    buf: &mut String,
+) -> Result<(), AllocError>
+    ensures { OnOk result (Adds (IsCellLine form row column value.now) (string_bytes buf.old) (string_bytes buf.new)) }
+{
+    match kind_and_field(value) {
+        Some((kind, field)) => {
+            let row = Member {
+                name: "row",
+                field: Field::Count(u64::from(row)),
+            };
+            let column = Member {
+                name: "column",
+                field: Field::Count(u64::from(column)),
+            };
+            let kind = Member {
+                name: "kind",
+                field: Field::Word(kind),
+            };
+            let value = Member {
+                name: "value",
+                field,
+            };
+            push_line(form, "cell", &[row, column, kind, value], room, buf)
+        }
+        None => Ok(()),
+    }
+}
+
+/// Appends the line of a formula's row, column and text, `formula`.
+pub fn push_formula_line(
+    form: Form,
+    row: u32,
+    column: u32,
+    text: &str,
+    room: &mut String,
+    buf: &mut String,
+) -> Result<(), AllocError>
+    ensures { OnOk result (Adds (IsLine form (codes "formula") (formula_members row column text.now)) (string_bytes buf.old) (string_bytes buf.new)) }
+{
+    let row = Member {
+        name: "row",
+        field: Field::Count(u64::from(row)),
+    };
+    let column = Member {
+        name: "column",
+        field: Field::Count(u64::from(column)),
+    };
+    let text = Member {
+        name: "text",
+        field: Field::Formula(text),
+    };
+    push_line(form, "formula", &[row, column, text], room, buf)
+}
+
+/// Appends the line of a merged region's first row, first column, last row and last column, `merge`.
+pub fn push_merge(
+    form: Form,
+    region: Dimensions,
+    room: &mut String,
+    buf: &mut String,
+) -> Result<(), AllocError>
+    ensures { OnOk result (Adds (IsLine form (codes "merge") (merge_members region)) (string_bytes buf.old) (string_bytes buf.new)) }
+{
+    let first_row = Member {
+        name: "first_row",
+        field: Field::Count(u64::from(region.start.0)),
+    };
+    let first_column = Member {
+        name: "first_column",
+        field: Field::Count(u64::from(region.start.1)),
+    };
+    let last_row = Member {
+        name: "last_row",
+        field: Field::Count(u64::from(region.end.0)),
+    };
+    let last_column = Member {
+        name: "last_column",
+        field: Field::Count(u64::from(region.end.1)),
+    };
+    push_line(
+        form,
+        "merge",
+        &[first_row, first_column, last_row, last_column],
+        room,
+        buf,
+    )
+}
+
+/// Appends the line of a refusal's text, `error`.
+pub fn push_error(
+    form: Form,
+    text: &str,
+    room: &mut String,
+    buf: &mut String,
+) -> Result<(), AllocError>
+    ensures { OnOk result (Adds (IsLine form (codes "error") (text_members text.now)) (string_bytes buf.old) (string_bytes buf.new)) }
+{
+    let text = Member {
+        name: "text",
+        field: Field::Text(text),
+    };
+    push_line(form, "error", &[text], room, buf)
+}
+
+/// Appends the line of a custom property's name and value, `custom`.
+pub fn push_custom(
+    form: Form,
+    name: &str,
+    value: &str,
+    room: &mut String,
+    buf: &mut String,
+) -> Result<(), AllocError>
+    ensures { OnOk result (Adds (IsLine form (codes "custom") (custom_members name.now value.now)) (string_bytes buf.old) (string_bytes buf.new)) }
+{
+    let name = Member {
+        name: "name",
+        field: Field::Text(name),
+    };
+    let value = Member {
+        name: "value",
+        field: Field::Text(value),
+    };
+    push_line(form, "custom", &[name, value], room, buf)
+}

@@ -1,0 +1,72 @@
+//! Whole rows of CSV.
+
+ghost use Rattle.std.specs.Prelude.{◌≡◌, ◌++◌, length, OnOk, OnErr};
+ghost use Rattle.std.specs.String.{string_bytes};
+ghost use Rattle.xls_decimals.specs.Added.{Adds};
+ghost use Rattle.xls_readable.specs.Values.{Concatenates};
+ghost use Rattle.xls_readable.specs.Csv.{IsRow, IsJoined, IsSeparated};
+
+use crate::delimited::{Delimiter, end_row, push_field, push_separator};
+use crate::values::Value;
+use std::alloc::AllocError;
+
+// Appends a delimiter and the field of a value.
+fn push_separated(
+    value: &Value<'_>,
+    delimiter: Delimiter,
+    room: &mut String,
+    buf: &mut String,
+) -> Result<(), AllocError>
+    ensures { OnOk result (Adds (IsSeparated delimiter value.now) (string_bytes buf.old) (string_bytes buf.new)) }
+{
+    push_separator(delimiter, buf)?;
+    push_field(value, delimiter, room, buf)
+}
+
+// Appends the fields of some values, each after a delimiter.
+fn push_others(
+    values: &[Value<'_>],
+    delimiter: Delimiter,
+    room: &mut String,
+    buf: &mut String,
+) -> Result<(), AllocError>
+    ensures { OnOk result (Adds (Concatenates (IsSeparated delimiter) values.now) (string_bytes buf.old) (string_bytes buf.new)) }
+{
+    for value in values {
+        push_separated(value, delimiter, room, buf)?;
+    }
+    Ok(())
+}
+
+// Appends the fields of some values, with a delimiter between two.
+fn push_fields(
+    values: &[Value<'_>],
+    delimiter: Delimiter,
+    room: &mut String,
+    buf: &mut String,
+) -> Result<(), AllocError>
+    ensures { OnOk result (Adds (IsJoined delimiter values.now) (string_bytes buf.old) (string_bytes buf.new)) }
+{
+    match values.split_first() {
+        Some((first, others)) => {
+            push_field(first, delimiter, room, buf)?;
+            push_others(others, delimiter, room, buf)
+        }
+        None => Ok(()),
+    }
+}
+
+/// Appends the row of some values, with its end. After a refusal, which only running out of memory
+/// brings, `buf` may end in a part of the row.
+pub fn push_row(
+    values: &[Value<'_>],
+    delimiter: Delimiter,
+    room: &mut String,
+    buf: &mut String,
+) -> Result<(), AllocError>
+    ensures { OnOk result (Adds (IsRow delimiter values.now) (string_bytes buf.old) (string_bytes buf.new)) }
+{
+    let start = buf.len();
+    push_fields(values, delimiter, room, buf)?;
+    end_row(start, buf)
+}
