@@ -508,6 +508,14 @@ class Losses(Files):
         self.assertRegex(out.split("\n")[1], "^unread\ta\0b\tValueError: ")
         self.assertEqual(err, "files\t3\t2 ok\t0 refused\t1 unread\t0 failed\n")
 
+    def test_an_exception_while_lines_are_written(self):
+        book = self.book("b.xls", {"Workbook": b"dates\t1900\nsheet\tA\ncell\t0\t0\tfloat\tx\n"})
+        fake = {"XLS_DUMP": self.fake}
+        status, _, err = self.run_xls(book, "--decimal", **fake)
+        self.assertEqual((status, err.count("\n")), (10, 1), err)
+        self.assertIn("InvalidOperation", err)
+        self.refused(10, "InvalidOperation", book, "csv", "A", **fake)
+
     def test_names_that_are_not_utf_8(self):
         folder = os.fsencode(self.room) + b"/n"
         name = folder + b"/caf\xe9.xls"
