@@ -362,7 +362,7 @@ class Losses(Files):
         return b"dates\t1900\nsheet\tA\tworksheet\tvisible\ncell\t0\t0\ttext\ta\\rb\ncell\t0\t1\tint\t7\n"
 
     def long_book(self):
-        rows = [[row * 20 + n for n in range(20)] for row in range(5000)]
+        rows = [[row * 20 + n for n in range(20)] for row in range(1500)]
         return self.book("long.xls", {"Workbook": self.stream(rows)})
 
     def test_a_stream_that_is_cut(self):
@@ -372,9 +372,9 @@ class Losses(Files):
             whole = compound_file({"Workbook": data})
             self.assertEqual(self.run_xls("check", self.put("a.xls", whole))[0], 0)
             sectors = -(-len(data) // (64 if len(data) < 4096 else 512))
-            for kept in (1, sectors // 2, sectors - 1):
+            for kept in (1, sectors - 1):
                 cut = self.put("b.xls", cut_chain(whole, len(data), kept))
-                for command in (["check"], ["dump"], ["csv", "A"], ["--stream"]):
+                for command in (["check"], ["csv", "A"], ["--stream"]):
                     self.refused(11, f"of its {len(data)} bytes are there", cut, *command)
                 status, out, _ = self.run_xls("check", "-", given=cut.encode())
                 self.assertEqual((status, out.split("\t")[:2]), (1, ["unread", cut]))
@@ -387,6 +387,40 @@ class Losses(Files):
         self.assertEqual(struct.unpack_from("<I", whole, at)[0], len(data))
         struct.pack_into("<I", whole, at, len(data) + 512)
         self.refused(11, f"of its {len(data) + 512} bytes are there", self.put("b.xls", whole))
+
+    def test_a_sector_within_a_stream_that_is_not_whole(self):
+        """The file ends within a sector after which the stream goes on: with room to spare in the last one,
+        as many bytes are there as should be, but others."""
+        data = self.stream([[7]] * 1000)
+        data += bytes(-len(data) % 512 + 100)
+        whole = bytearray(compound_file({"Workbook": data}))
+        entry = whole.index("Workbook".encode("utf-16-le"))
+        first = struct.unpack_from("<I", whole, entry + 116)[0]
+        table = (struct.unpack_from("<I", whole, 76)[0] + 1) * 512
+        # the stream's second sector is moved to the file's end
+        moved = whole[(first + 2) * 512 : (first + 3) * 512]
+        struct.pack_into("<I", whole, table + 4 * first, len(whole) // 512 - 1)
+        struct.pack_into("<I", whole, table + 4 * (len(whole) // 512 - 1), first + 2)
+        self.assertEqual(self.run_bytes(self.put("a.xls", whole + moved), "--stream"), (0, data, b""))
+        cut = self.put("b.xls", whole + moved[:-50])
+        for command in ("check", "--stream"):
+            self.refused(11, "a sector within it isn't whole", cut, command)
+
+    def test_a_small_sector_within_a_stream_that_is_not_whole(self):
+        """The same of a stream in small sectors: these end within one after which the stream goes on."""
+        data = bytes(range(200))
+        whole = bytearray(compound_file({"Workbook": data}))
+        root = whole.index("Root Entry".encode("utf-16-le"))
+        self.assertEqual(struct.unpack_from("<I", whole, root + 120)[0], 256)
+        # small sectors 0, 3, 1, 2; of the last one 40 bytes
+        small = (struct.unpack_from("<I", whole, 60)[0] + 1) * 512
+        struct.pack_into("<4I", whole, small, 3, 2, 0xFFFFFFFE, 1)
+        self.assertEqual(self.run_bytes(self.put("a.xls", whole), "--stream")[0], 0)
+        struct.pack_into("<I", whole, root + 120, 3 * 64 + 40)
+        self.refused(11, "a sector within it isn't whole", self.put("b.xls", whole), "--stream")
+        # and a last sector of which as much is there as the stream needs
+        struct.pack_into("<4I", whole, small, 1, 2, 3, 0xFFFFFFFE)
+        self.assertEqual(self.run_bytes(self.put("c.xls", whole), "--stream"), (0, data, b""))
 
     def test_property_streams_and_directories_that_are_cut(self):
         for name, command in (("\x05SummaryInformation", "props"), ("dir", "vba")):
@@ -474,6 +508,14 @@ class Losses(Files):
         self.assertRegex(out.split("\n")[1], "^unread\ta\0b\tValueError: ")
         self.assertEqual(err, "files\t3\t2 ok\t0 refused\t1 unread\t0 failed\n")
 
+    def test_an_exception_while_lines_are_written(self):
+        book = self.book("b.xls", {"Workbook": b"dates\t1900\nsheet\tA\ncell\t0\t0\tfloat\tx\n"})
+        fake = {"XLS_DUMP": self.fake}
+        status, _, err = self.run_xls(book, "--decimal", **fake)
+        self.assertEqual((status, err.count("\n")), (10, 1), err)
+        self.assertIn("InvalidOperation", err)
+        self.refused(10, "InvalidOperation", book, "csv", "A", **fake)
+
     def test_names_that_are_not_utf_8(self):
         folder = os.fsencode(self.room) + b"/n"
         name = folder + b"/caf\xe9.xls"
@@ -503,6 +545,12 @@ class Losses(Files):
         line = f"unread\t{self.room}/n/a\\nok\\tb.xls\tno compound file: it is empty"
         self.assertEqual(self.run_xls("check", f"{self.room}/n")[1].splitlines()[0], line)
         self.assertEqual(self.run_xls(name)[2].count("\n"), 1)
+
+
+    def test_an_empty_stream(self):
+        for others in ({}, {"Other": b"x"}, {"Other": b"x" * 5000}):
+            book = self.book("b.xls", {"Workbook": b"", **others})
+            self.assertEqual(self.run_bytes(book, "--stream"), (0, b"", b""))
 
 
 class Rows(unittest.TestCase):
