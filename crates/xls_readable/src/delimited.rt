@@ -159,7 +159,8 @@ fn push_printed(
     room: &mut String,
     buf: &mut String,
 ) -> Result<(), AllocError>
-    ensures ok { OnOk result (Adds (IsField delimiter value.now) (string_bytes buf.old) (string_bytes buf.new)) }
+    ensures ok { OnOk result (Adds (IsField delimiter value.now)
+        (string_bytes buf.old) (string_bytes buf.new)) }
     ensures err { OnErr result (string_bytes buf.new ≡ string_bytes buf.old) }
 {
     room.clear();
@@ -176,7 +177,8 @@ pub fn push_field(
     room: &mut String,
     buf: &mut String,
 ) -> Result<(), AllocError>
-    ensures ok { OnOk result (Adds (IsField delimiter value.now) (string_bytes buf.old) (string_bytes buf.new)) }
+    ensures ok { OnOk result (Adds (IsField delimiter value.now)
+        (string_bytes buf.old) (string_bytes buf.new)) }
     ensures err { OnErr result (string_bytes buf.new ≡ string_bytes buf.old) }
 {
     match value {

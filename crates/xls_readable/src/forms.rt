@@ -29,7 +29,8 @@ pub fn push_line(
     room: &mut String,
     buf: &mut String,
 ) -> Result<(), AllocError>
-    ensures { OnOk result (Adds (IsLine form word.now (map named_of members.now)) (string_bytes buf.old) (string_bytes buf.new)) }
+    ensures { OnOk result (Adds (IsLine form word.now (map named_of members.now))
+        (string_bytes buf.old) (string_bytes buf.new)) }
 {
     match form {
         Form::Text => push_text_line(word, members, room, buf),

@@ -63,7 +63,8 @@ fn push_formula_text(text: &str, room: &mut String, buf: &mut String) -> Result<
 
 // Appends the text of a field.
 fn push_item(field: &Field<'_>, room: &mut String, buf: &mut String) -> Result<(), AllocError>
-    ensures { OnOk result (Adds (IsItemText (item_of field.now)) (string_bytes buf.old) (string_bytes buf.new)) }
+    ensures { OnOk result (Adds (IsItemText (item_of field.now))
+        (string_bytes buf.old) (string_bytes buf.new)) }
 {
     match field {
         Field::Word(word) => buf.push_str(word),
@@ -81,7 +82,8 @@ fn push_item(field: &Field<'_>, room: &mut String, buf: &mut String) -> Result<(
 
 // Appends the text of a field after a tab.
 fn push_tabbed(member: &Member<'_>, room: &mut String, buf: &mut String) -> Result<(), AllocError>
-    ensures { OnOk result (Adds (IsTabbed (named_of member.now)) (string_bytes buf.old) (string_bytes buf.new)) }
+    ensures { OnOk result (Adds (IsTabbed (named_of member.now))
+        (string_bytes buf.old) (string_bytes buf.new)) }
 {
     buf.push_str("\t")?;
     push_item(&member.field, room, buf)

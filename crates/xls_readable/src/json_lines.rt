@@ -160,7 +160,8 @@ fn push_number(n: Number, room: &mut String, buf: &mut String) -> Result<(), All
 
 // Appends the text of a formula.
 fn push_formula_string(text: &str, room: &mut String, buf: &mut String) -> Result<(), AllocError>
-    ensures { OnOk result (Adds (IsItemJson (formula text.now)) (string_bytes buf.old) (string_bytes buf.new)) }
+    ensures { OnOk result (Adds (IsItemJson (formula text.now))
+        (string_bytes buf.old) (string_bytes buf.new)) }
 {
     room.clear();
     push_formula(text, room)?;
@@ -178,7 +179,8 @@ fn push_moment(date: ExcelDateTime, room: &mut String, buf: &mut String) -> Resu
 
 // Appends a field.
 fn push_item(field: &Field<'_>, room: &mut String, buf: &mut String) -> Result<(), AllocError>
-    ensures { OnOk result (Adds (IsItemJson (item_of field.now)) (string_bytes buf.old) (string_bytes buf.new)) }
+    ensures { OnOk result (Adds (IsItemJson (item_of field.now))
+        (string_bytes buf.old) (string_bytes buf.new)) }
 {
     match field {
         Field::Word(word) => push_string(word, buf),
@@ -196,7 +198,8 @@ fn push_item(field: &Field<'_>, room: &mut String, buf: &mut String) -> Result<(
 
 // Appends a member of an object, after a comma.
 fn push_member(member: &Member<'_>, room: &mut String, buf: &mut String) -> Result<(), AllocError>
-    ensures { OnOk result (Adds (IsMember (named_of member.now)) (string_bytes buf.old) (string_bytes buf.new)) }
+    ensures { OnOk result (Adds (IsMember (named_of member.now))
+        (string_bytes buf.old) (string_bytes buf.new)) }
 {
     buf.push_str(",")?;
     push_string(member.name, buf)?;

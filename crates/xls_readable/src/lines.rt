@@ -28,7 +28,8 @@ pub fn push_dates(
     room: &mut String,
     buf: &mut String,
 ) -> Result<(), AllocError>
-    ensures { OnOk result (Adds (IsLine form (codes "dates") (dates_members is_1904)) (string_bytes buf.old) (string_bytes buf.new)) }
+    ensures { OnOk result (Adds (IsLine form (codes "dates") (dates_members is_1904))
+        (string_bytes buf.old) (string_bytes buf.new)) }
 {
     let year = Member {
         name: "year",
@@ -45,7 +46,8 @@ pub fn push_name(
     room: &mut String,
     buf: &mut String,
 ) -> Result<(), AllocError>
-    ensures { OnOk result (Adds (IsLine form (codes "name") (name_members name.now text.now)) (string_bytes buf.old) (string_bytes buf.new)) }
+    ensures { OnOk result (Adds (IsLine form (codes "name") (name_members name.now text.now))
+        (string_bytes buf.old) (string_bytes buf.new)) }
 {
     let name = Member {
         name: "name",
@@ -91,7 +93,8 @@ pub fn push_sheet(
     room: &mut String,
     buf: &mut String,
 ) -> Result<(), AllocError>
-    ensures { OnOk result (Adds (IsLine form (codes "sheet") (sheet_members name.now kind visible)) (string_bytes buf.old) (string_bytes buf.new)) }
+    ensures { OnOk result (Adds (IsLine form (codes "sheet") (sheet_members name.now kind visible))
+        (string_bytes buf.old) (string_bytes buf.new)) }
 {
     let name = Member {
         name: "name",
@@ -136,7 +139,8 @@ pub fn push_cell(
     room: &mut String,
     buf: &mut String,
 ) -> Result<(), AllocError>
-    ensures { OnOk result (Adds (IsCellLine form row column value.now) (string_bytes buf.old) (string_bytes buf.new)) }
+    ensures { OnOk result (Adds (IsCellLine form row column value.now)
+        (string_bytes buf.old) (string_bytes buf.new)) }
 {
     match kind_and_field(value) {
         Some((kind, field)) => {
@@ -171,7 +175,8 @@ pub fn push_formula_line(
     room: &mut String,
     buf: &mut String,
 ) -> Result<(), AllocError>
-    ensures { OnOk result (Adds (IsLine form (codes "formula") (formula_members row column text.now)) (string_bytes buf.old) (string_bytes buf.new)) }
+    ensures { OnOk result (Adds (IsLine form (codes "formula") (formula_members row column text.now))
+        (string_bytes buf.old) (string_bytes buf.new)) }
 {
     let row = Member {
         name: "row",
@@ -195,7 +200,8 @@ pub fn push_merge(
     room: &mut String,
     buf: &mut String,
 ) -> Result<(), AllocError>
-    ensures { OnOk result (Adds (IsLine form (codes "merge") (merge_members region)) (string_bytes buf.old) (string_bytes buf.new)) }
+    ensures { OnOk result (Adds (IsLine form (codes "merge") (merge_members region))
+        (string_bytes buf.old) (string_bytes buf.new)) }
 {
     let first_row = Member {
         name: "first_row",
@@ -229,7 +235,8 @@ pub fn push_error(
     room: &mut String,
     buf: &mut String,
 ) -> Result<(), AllocError>
-    ensures { OnOk result (Adds (IsLine form (codes "error") (text_members text.now)) (string_bytes buf.old) (string_bytes buf.new)) }
+    ensures { OnOk result (Adds (IsLine form (codes "error") (text_members text.now))
+        (string_bytes buf.old) (string_bytes buf.new)) }
 {
     let text = Member {
         name: "text",
@@ -246,7 +253,8 @@ pub fn push_custom(
     room: &mut String,
     buf: &mut String,
 ) -> Result<(), AllocError>
-    ensures { OnOk result (Adds (IsLine form (codes "custom") (custom_members name.now value.now)) (string_bytes buf.old) (string_bytes buf.new)) }
+    ensures { OnOk result (Adds (IsLine form (codes "custom") (custom_members name.now value.now))
+        (string_bytes buf.old) (string_bytes buf.new)) }
 {
     let name = Member {
         name: "name",

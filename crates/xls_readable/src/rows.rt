@@ -17,7 +17,8 @@ fn push_separated(
     room: &mut String,
     buf: &mut String,
 ) -> Result<(), AllocError>
-    ensures { OnOk result (Adds (IsSeparated delimiter value.now) (string_bytes buf.old) (string_bytes buf.new)) }
+    ensures { OnOk result (Adds (IsSeparated delimiter value.now)
+        (string_bytes buf.old) (string_bytes buf.new)) }
 {
     push_separator(delimiter, buf)?;
     push_field(value, delimiter, room, buf)
@@ -30,7 +31,8 @@ fn push_others(
     room: &mut String,
     buf: &mut String,
 ) -> Result<(), AllocError>
-    ensures { OnOk result (Adds (Concatenates (IsSeparated delimiter) values.now) (string_bytes buf.old) (string_bytes buf.new)) }
+    ensures { OnOk result (Adds (Concatenates (IsSeparated delimiter) values.now)
+        (string_bytes buf.old) (string_bytes buf.new)) }
 {
     for value in values {
         push_separated(value, delimiter, room, buf)?;
@@ -45,7 +47,8 @@ fn push_fields(
     room: &mut String,
     buf: &mut String,
 ) -> Result<(), AllocError>
-    ensures { OnOk result (Adds (IsJoined delimiter values.now) (string_bytes buf.old) (string_bytes buf.new)) }
+    ensures { OnOk result (Adds (IsJoined delimiter values.now)
+        (string_bytes buf.old) (string_bytes buf.new)) }
 {
     match values.split_first() {
         Some((first, others)) => {
