@@ -1,12 +1,34 @@
 -- Values that RFC 4180, RFC 8259 and the manual of xls_dump give, so that a wrong rule in the specs
 -- does not check.
-use Rattle.std.proofs.Common.{◌≡◌, ◌∷◌, [], map, true, false, refl}
-use Rattle.std.specs.Prelude.{codes}
+use Rattle.std.proofs.Common.{◌≡◌, ℤ, Bool, ◌∷◌, [], map, true, false, refl}
+use Rattle.std.specs.Prelude.{Option, Some, None, codes}
+use Rattle.xls_data.specs.Dates.{DateParts}
+use Rattle.xls_data.specs.declared.dates.ExcelDateTimeType.TheVariants.{DateTime, TimeDelta}
+use Rattle.xls_data.specs.declared.errors.CellErrorType.{CellErrorType}
+use Rattle.xls_data.specs.declared.numbers.Number.{Number}
+use Rattle.xls_data.specs.declared.regions.Dimensions.{Dimensions}
 use Rattle.xls_data.specs.declared.sheets.SheetType.TheVariants as types
 use Rattle.xls_data.specs.declared.sheets.SheetVisible.TheVariants as states
+use Rattle.xls_readable.specs.declared.values.Value.{Value}
+use Rattle.xls_readable.specs.declared.values.Value.TheVariants as value
 use Rattle.xls_readable.specs.Values.{truth_text}
 use Rattle.xls_readable.specs.Csv.{is_delimiter, is_marked, csv_field, csv_row}
-use Rattle.xls_readable.specs.Lines.{year_text, type_text, visible_text}
+use Rattle.xls_readable.specs.Items.{Named, count, int, number, truth, moment, failure}
+use Rattle.xls_readable.specs.Lines.{
+  year_text,
+  type_text,
+  visible_text,
+  moment_kind,
+  kind_and_item,
+  dates_members,
+  name_members,
+  sheet_members,
+  cell_members,
+  formula_members,
+  merge_members,
+  text_members,
+  custom_members,
+}
 
 -- a comma, a semicolon, a tab, `|`, NUL and DEL are delimiters; a quote, a newline, a return and what is
 -- not ASCII are none
@@ -51,3 +73,32 @@ known_types = refl
 pub known_visibilities : map visible_text (states.Visible ∷ states.Hidden ∷ states.VeryHidden ∷ [])
     ≡ codes "visible" ∷ codes "hidden" ∷ codes "veryhidden" ∷ []
 known_visibilities = refl
+
+pub known_moments : map moment_kind (DateTime ∷ TimeDelta ∷ []) ≡ codes "date" ∷ codes "span" ∷ []
+known_moments = refl
+
+-- the names of the fields of each line, in their order: dates, name, sheet, cell, formula, a text (as of
+-- a refusal), custom property
+pub known_members : map (map (λ (m : Named). m.0))
+    (dates_members true ∷ name_members [] [] ∷ sheet_members [] types.WorkSheet states.Visible ∷ cell_members 0 0 [] (count 0)
+    ∷ formula_members 0 0 [] ∷ text_members [] ∷ custom_members [] [] ∷ [])
+    ≡ (codes "year" ∷ [])
+    ∷ (codes "name" ∷ codes "text" ∷ [])
+    ∷ (codes "name" ∷ codes "kind" ∷ codes "visibility" ∷ [])
+    ∷ (codes "row" ∷ codes "column" ∷ codes "kind" ∷ codes "value" ∷ [])
+    ∷ (codes "row" ∷ codes "column" ∷ codes "text" ∷ [])
+    ∷ (codes "text" ∷ [])
+    ∷ (codes "name" ∷ codes "value" ∷ [])
+    ∷ []
+known_members = refl
+
+pub known_merge : (d : Dimensions) → map (λ (m : Named). m.0) (merge_members d)
+    ≡ codes "first_row" ∷ codes "first_column" ∷ codes "last_row" ∷ codes "last_column" ∷ []
+known_merge d = refl
+
+-- the kinds of values that are no texts
+pub known_kinds : (n : ℤ) → (x : Number) → (b : Bool) → (d : DateParts) → (e : CellErrorType) →
+    map kind_and_item (value.Int n ∷ value.Float x ∷ value.Truth b ∷ value.Moment d ∷ value.Failure e ∷ value.Empty ∷ [])
+    ≡ Some (codes "int", int n) ∷ Some (codes "float", number x) ∷ Some (codes "bool", truth b) ∷ Some (moment_kind d.kind, moment d)
+    ∷ Some (codes "error", failure e) ∷ None ∷ []
+known_kinds n x b d e = refl
