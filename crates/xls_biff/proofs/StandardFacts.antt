@@ -1,5 +1,5 @@
 -- Values from outside, in the bytes of records, so that a wrong rule in the definitions does not check.
-use Rattle.std.proofs.Common.{◌≡◌, [], ◌∷◌, map, refl, pos, negsuc, codes, true, false, Some, None, Ok, Err}
+use Rattle.std.proofs.Common.{◌≡◌, ℕ, [], ◌∷◌, map, refl, pos, negsuc, codes, true, false, Some, None, Ok, Err}
 use Rattle.xls_model.specs.declared.part.Part.TheVariants as parts
 use Rattle.xls_text.specs.declared.encoding.XlsEncoding.TheVariants.{Utf16, Windows1252}
 use Rattle.xls_text.specs.declared.error.CfbError.TheVariants.{CodePageNotFound}
@@ -7,16 +7,16 @@ use Rattle.xls_data.specs.Content.{int, float, text, truth, failure}
 use Rattle.xls_data.specs.declared.numbers.Number.TheVariants.{Bits, Hundredths, BitsOver100}
 use Rattle.xls_data.specs.declared.formats.CellFormat.TheVariants.{Other, TimeDelta}
 use Rattle.xls_data.specs.declared.errors.CellErrorType.TheVariants as failures
-use Rattle.xls_data.specs.declared.sheets.SheetType.TheVariants.{Vba, WorkSheet}
-use Rattle.xls_data.specs.declared.sheets.SheetVisible.TheVariants.{VeryHidden, Visible}
+use Rattle.xls_data.specs.declared.sheets.SheetType.TheVariants as kinds
+use Rattle.xls_data.specs.declared.sheets.SheetVisible.TheVariants as states
 use Rattle.xls_strings.specs.declared.version.Biff.TheVariants.{Biff2, Biff3, Biff4, Biff5, Biff8}
 use Rattle.xls_strings.specs.declared.error.XlsError.TheVariants as errors
 use Rattle.xls_strings.specs.Reading.{fault_in, gives}
 use Rattle.xls_biff.specs.declared.records.bof.Bof.{Bof}
 use Rattle.xls_biff.specs.Cells.{cell_error}
 use Rattle.xls_biff.specs.Records.Bof.{bof_at}
-use Rattle.xls_biff.specs.Records.BoolErr.{bool_err_at}
-use Rattle.xls_biff.specs.Records.BoundSheet.{bound_sheet_at}
+use Rattle.xls_biff.specs.Records.BoolErr.{bes_content, bool_err_at}
+use Rattle.xls_biff.specs.Records.BoundSheet.{bound_sheet_at, kind_at, visible_at}
 use Rattle.xls_biff.specs.Records.CodePage.{code_page_at}
 use Rattle.xls_biff.specs.Records.DateMode.{date_mode_at}
 use Rattle.xls_biff.specs.Records.Dimensions.{bounds, dimensions_at}
@@ -69,10 +69,21 @@ pub known_bound_sheet : map (bound_sheet_at Utf16 Biff8) (
     (0x19 ∷ 0x00 ∷ 0x00 ∷ 0x00 ∷ 0x00 ∷ 0x00 ∷ 0x01 ∷ 0x00 ∷ 0x41 ∷ [])
     ∷ (0x00 ∷ 0x01 ∷ 0x00 ∷ 0x00 ∷ 0xC2 ∷ 0x06 ∷ 0x03 ∷ 0x00 ∷ 0x41 ∷ 0x00 ∷ 0x42 ∷ [])
     ∷ (0x19 ∷ 0x00 ∷ 0x00 ∷ 0x00 ∷ 0x43 ∷ 0x03 ∷ []) ∷ (0x19 ∷ 0x00 ∷ 0x00 ∷ 0x00 ∷ 0x41 ∷ 0x03 ∷ []) ∷ [])
-    ≡ Ok (25, record { name = codes "A"; typ = WorkSheet; visible = Visible })
-    ∷ Ok (256, record { name = codes "AB"; typ = Vba; visible = VeryHidden })
+    ≡ Ok (25, record { name = codes "A"; typ = kinds.WorkSheet; visible = states.Visible })
+    ∷ Ok (256, record { name = codes "AB"; typ = kinds.Vba; visible = states.VeryHidden })
     ∷ Err (errors.Unrecognized parts.HsState 3) ∷ Err (errors.Unrecognized parts.SheetKind 3) ∷ []
 known_bound_sheet = refl
+
+-- the kinds 00, 01, 02 and 06, and those beside them; the states 00, 01 and 02
+pub known_kinds : map kind_at (0x00 ∷ 0x01 ∷ 0x02 ∷ 0x06 ∷ 0x03 ∷ 0x05 ∷ 0x07 ∷ [])
+    ≡ Ok kinds.WorkSheet ∷ Ok kinds.MacroSheet ∷ Ok kinds.ChartSheet ∷ Ok kinds.Vba
+    ∷ Err (errors.Unrecognized parts.SheetKind 0x03) ∷ Err (errors.Unrecognized parts.SheetKind 0x05)
+    ∷ Err (errors.Unrecognized parts.SheetKind 0x07) ∷ []
+known_kinds = refl
+
+pub known_states : map visible_at (0x00 ∷ 0x01 ∷ 0x02 ∷ 0x03 ∷ [])
+    ≡ Ok states.Visible ∷ Ok states.Hidden ∷ Ok states.VeryHidden ∷ Err (errors.Unrecognized parts.HsState 0x03) ∷ []
+known_states = refl
 
 -- a reference to sheet 1, and half of another one
 pub known_refs : refs_at Biff8 (0x02 ∷ 0x00 ∷ 0x00 ∷ 0x00 ∷ 0x01 ∷ 0x00 ∷ 0x01 ∷ 0x00 ∷ 0x00 ∷ 0x00
@@ -123,6 +134,13 @@ pub known_errors : map cell_error (0x00 ∷ 0x07 ∷ 0x0F ∷ 0x17 ∷ 0x1D ∷ 
     ∷ Ok failures.Num ∷ Ok failures.NA ∷ Ok failures.GettingData
     ∷ Err (errors.Unrecognized parts.CellError 1) ∷ []
 known_errors = refl
+
+-- a byte and whether it is an error's code: 00 is false, all else true
+pub known_bes : map (λ (bes : ℕ × ℕ). bes_content bes.0 bes.1) (
+    (0x00, 0x00) ∷ (0x01, 0x00) ∷ (0x02, 0x00) ∷ (0x2A, 0x00) ∷ (0x00, 0x01) ∷ (0x2A, 0x01) ∷ (0x01, 0x01) ∷ (0x00, 0x02) ∷ [])
+    ≡ Ok (truth false) ∷ Ok (truth true) ∷ Ok (truth true) ∷ Ok (truth true) ∷ Ok (failure failures.Null)
+    ∷ Ok (failure failures.NA) ∷ Err (errors.Unrecognized parts.CellError 0x01) ∷ Err (errors.Unrecognized parts.FError 0x02) ∷ []
+known_bes = refl
 
 pub known_bool_err : map bool_err_at (
     (0x01 ∷ 0x00 ∷ 0x00 ∷ 0x00 ∷ 0x00 ∷ 0x00 ∷ 0x2A ∷ 0x01 ∷ [])
@@ -177,6 +195,15 @@ known_bounds = refl
 
 pub known_columns : bounds 1 3 5 4 ≡ record { start = (1, 0); end = (2, 3) }
 known_columns = refl
+
+-- the first column 255 before 256 stands; 256 before 257 becomes 0, and so does one behind the last
+pub known_first_columns : map dimensions_at (
+    (0x01 ∷ 0x00 ∷ 0x04 ∷ 0x00 ∷ 0xFF ∷ 0x00 ∷ 0x00 ∷ 0x01 ∷ 0x00 ∷ 0x00 ∷ [])
+    ∷ (0x01 ∷ 0x00 ∷ 0x04 ∷ 0x00 ∷ 0x00 ∷ 0x01 ∷ 0x01 ∷ 0x01 ∷ 0x00 ∷ 0x00 ∷ [])
+    ∷ (0x01 ∷ 0x00 ∷ 0x04 ∷ 0x00 ∷ 0x06 ∷ 0x00 ∷ 0x05 ∷ 0x00 ∷ 0x00 ∷ 0x00 ∷ []) ∷ [])
+    ≡ Ok (record { start = (1, 0xFF); end = (3, 0xFF) }) ∷ Ok (record { start = (1, 0); end = (3, 0x100) })
+    ∷ Ok (record { start = (1, 0); end = (3, 4) }) ∷ []
+known_first_columns = refl
 
 -- rows 1 to 3 and columns 2 to 4, in 32 bits and in 16
 pub known_dimensions : map dimensions_at (

@@ -70,6 +70,13 @@ weight_of (string_record cs) = 1
 weight_of (formula_record at value tokens) = 1
 weight_of (regions_record rs) = 0
 
+-- how many cells a record of a type weighs, whatever its body; a MulRk weighs as many as it gives
+abbrev pub weight_of_type : ℕ → ℕ
+weight_of_type typ =
+    if (typ == types.NUMBER) || (typ == types.RK) || (typ == types.LABEL) || (typ == types.R_STRING)
+        || (typ == types.BOOL_ERR) || (typ == types.LABEL_SST) || (typ == types.STRING) || (typ == types.FORMULA)
+    then 1 else 0
+
 -- where a Formula stands
 abbrev pub formula_position : SheetRecord → Option Position
 formula_position (formula_record at value tokens) = Some at

@@ -1,8 +1,10 @@
 //! The first fault of a sheet's record, and how many cells it gives, without memory.
 
-ghost use Rattle.std.specs.Prelude.{◌≡◌, Ok};
+ghost use Rattle.std.specs.Prelude.{◌≡◌, ◌≢◌, Ok, IsErr};
 ghost use Rattle.xls_strings.specs.Reading.{Exactly, fault_in};
-ghost use Rattle.xls_biff.specs.SheetTable.{CellContext, SheetRecord, sheet_record_at, weight_of};
+ghost use Rattle.xls_biff.specs.SheetTable.{CellContext, SheetRecord, sheet_record_at, weight_of, weight_of_type};
+ghost use Rattle.xls_biff.specs.Records.Rk.{mul_rk_count};
+ghost use Rattle.xls_model.specs.declared.types.TheConstants as types;
 
 use crate::records::bool_err::check_bool_err;
 use crate::records::dimensions::check_dimensions;
@@ -45,8 +47,12 @@ pub fn check_sheet_record(r: &Record<'_>, biff: Biff) -> Result<(), XlsError>
 /// Label, RString, BoolErr, String, RK, LabelSst or Formula, and none for every other record and for a
 /// MulRk with a fault. Takes no memory.
 pub fn sheet_record_weight(r: &Record<'_>) -> u64
-    ensures { (force : CellContext) (g : SheetRecord) →
+    ensures table { (force : CellContext) (g : SheetRecord) →
         sheet_record_at force r.now.typ r.now.body.now ≡ Ok g → result ≡ weight_of g }
+
+    // Whatever the body; a MulRk has its cells, or none where it has a fault.
+    ensures typed { r.now.typ ≢ types.MUL_RK → result ≡ weight_of_type r.now.typ }
+    ensures faulty { r.now.typ ≡ types.MUL_RK → IsErr (mul_rk_count r.now.body.now) → result ≡ 0 }
 {
     match r.typ {
         MUL_RK => weight_of_mul_rk(r.body),

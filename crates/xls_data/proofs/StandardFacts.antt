@@ -1,12 +1,16 @@
 -- Values from outside, so that a wrong rule in the definitions does not check.
-use Rattle.std.proofs.Common.{◌≡◌, ℤ, Bool, Option, Some, None, [], ◌∷◌, map, refl, pos, negsuc, ◌+ℤ◌, codes}
+use Rattle.std.proofs.Common.{◌≡◌, ℤ, Bool, true, false, Option, Some, None, [], ◌∷◌, ◌++◌, map, replicate, refl, pos, negsuc, ◌+ℤ◌, codes}
 use Rattle.std.specs.Fmt.{digits}
 use Rattle.xls_data.specs.declared.numbers.Number.TheVariants.{Bits, Whole, Hundredths, BitsOver100}
 use Rattle.xls_data.specs.declared.formats.CellFormat.TheVariants.{Other, DateTime, TimeDelta}
 use Rattle.xls_bytes.specs.Doubles.{size_of_parts, quotient_of}
 use Rattle.xls_data.specs.Builtin.{class_of_code, class_of_id}
 use Rattle.xls_data.specs.Classes.{class_of}
-use Rattle.xls_data.specs.Content.{float}
+use Rattle.xls_data.specs.Content.{int, float, text, truth, date, iso_date, iso_duration, failure, nothing}
+use Rattle.xls_data.specs.Errors.{error_text}
+use Rattle.xls_data.specs.Kinds.{IsWholeOf}
+use Rattle.xls_data.specs.declared.errors.CellErrorType.TheVariants as failures
+use Rattle.xls_data.specs.declared.dates.ExcelDateTimeType.TheVariants as kinds
 use Rattle.xls_data.specs.Formatted.{formatted_number, formatted_whole, plain}
 use Rattle.xls_data.specs.declared.numbers.Number.{Number}
 use Rattle.xls_data.specs.declared.formats.CellFormat.{CellFormat}
@@ -47,6 +51,11 @@ pub known_dates : map class_of (codes "DD/MM/YY" ∷ codes "ha/p\\\\m" ∷ codes
     ≡ DateTime ∷ DateTime ∷ DateTime ∷ DateTime ∷ []
 known_dates = refl
 
+-- one letter alone, and both marks of the halves of a day
+pub known_letters : map class_of (codes "s" ∷ codes "ss.0" ∷ codes "y" ∷ codes "m" ∷ codes "h" ∷ codes "d" ∷ codes "AM/PM" ∷ codes "a/p" ∷ codes "a" ∷ [])
+    ≡ DateTime ∷ DateTime ∷ DateTime ∷ DateTime ∷ DateTime ∷ DateTime ∷ DateTime ∷ DateTime ∷ Other ∷ []
+known_letters = refl
+
 pub known_spans : map class_of (codes "[h]:mm:ss" ∷ codes "[ss]" ∷ codes "[mm]" ∷ codes "[>=100][Magenta][s].00" ∷ [])
     ≡ TimeDelta ∷ TimeDelta ∷ TimeDelta ∷ TimeDelta ∷ []
 known_spans = refl
@@ -55,14 +64,40 @@ pub known_others : map class_of (codes "#,##0*y" ∷ codes "\\Y000000" ∷ codes
     ≡ Other ∷ Other ∷ Other ∷ Other ∷ []
 known_others = refl
 
--- built-in dates and durations, and the codes beside them
-pub known_codes : map class_of_code (13 ∷ 14 ∷ 22 ∷ 23 ∷ 27 ∷ 36 ∷ 45 ∷ 46 ∷ 47 ∷ 48 ∷ 50 ∷ 58 ∷ 59 ∷ [])
-    ≡ Other ∷ DateTime ∷ DateTime ∷ Other ∷ DateTime ∷ DateTime ∷ DateTime ∷ TimeDelta ∷ DateTime ∷ Other ∷ DateTime ∷ DateTime ∷ Other ∷ []
+-- the built-in identifiers: dates from 0E to 16, from 1B to 24, 2D, 2F and from 32 to 3A; the duration 2E
+pub known_codes : map class_of_code (0x00 ∷ 0x01 ∷ 0x02 ∷ 0x03 ∷ 0x04 ∷ 0x05 ∷ 0x06 ∷ 0x07 ∷ 0x08 ∷ 0x09 ∷ 0x0A ∷ 0x0B ∷ 0x0C ∷ 0x0D ∷ 0x0E ∷ 0x0F ∷ 0x10 ∷ 0x11 ∷ 0x12 ∷ 0x13 ∷ 0x14 ∷ 0x15 ∷ 0x16 ∷ 0x17 ∷ 0x18 ∷ 0x19 ∷ 0x1A ∷ 0x1B ∷ 0x1C ∷ 0x1D ∷ 0x1E ∷ 0x1F ∷ [])
+    ≡ replicate 14 Other ++ replicate 9 DateTime ++ replicate 4 Other ++ replicate 5 DateTime
 known_codes = refl
+
+pub known_later_codes : map class_of_code (0x20 ∷ 0x21 ∷ 0x22 ∷ 0x23 ∷ 0x24 ∷ 0x25 ∷ 0x26 ∷ 0x27 ∷ 0x28 ∷ 0x29 ∷ 0x2A ∷ 0x2B ∷ 0x2C ∷ 0x2D ∷ 0x2E ∷ 0x2F ∷ 0x30 ∷ 0x31 ∷ 0x32 ∷ 0x33 ∷ 0x34 ∷ 0x35 ∷ 0x36 ∷ 0x37 ∷ 0x38 ∷ 0x39 ∷ 0x3A ∷ 0x3B ∷ 0x3C ∷ 0x3D ∷ 0x3E ∷ 0x3F ∷ [])
+    ≡ replicate 5 DateTime ++ replicate 8 Other ++ DateTime ∷ TimeDelta ∷ DateTime ∷ Other ∷ Other ∷ replicate 9 DateTime ++ replicate 5 Other
+known_later_codes = refl
 
 pub known_ids : map class_of_id (codes "14" ∷ codes "46" ∷ codes "046" ∷ codes "+46" ∷ [])
     ≡ DateTime ∷ TimeDelta ∷ Other ∷ Other ∷ []
 known_ids = refl
+
+-- ---- values
+
+-- the words of the error values
+pub known_words : map error_text (failures.Null ∷ failures.Div0 ∷ failures.Value ∷ failures.Ref ∷ failures.Name ∷ failures.Num ∷ failures.NA ∷ failures.GettingData ∷ [])
+    ≡ codes "#NULL!" ∷ codes "#DIV/0!" ∷ codes "#VALUE!" ∷ codes "#REF!" ∷ codes "#NAME?" ∷ codes "#NUM!" ∷ codes "#N/A" ∷ codes "#DATA!" ∷ []
+known_words = refl
+
+-- -7, 2.5 and the truth values are whole numbers; dates, texts in ISO 8601, errors and blanks aren't
+pub known_wholes : IsWholeOf (int (negsuc 6)) (Some (negsuc 6)) × IsWholeOf (float (Bits 0x4004_0000_0000_0000)) (Some (pos 2))
+    × IsWholeOf (truth true) (Some (pos 1)) × IsWholeOf (truth false) (Some (pos 0))
+    × IsWholeOf (date (record { number = Whole (pos 1); kind = kinds.DateTime; is_1904 = false })) None
+    × IsWholeOf (iso_date (codes "1")) None × IsWholeOf (iso_duration (codes "1")) None
+    × IsWholeOf (failure failures.NA) None × IsWholeOf nothing None
+unfolding quotient_of
+known_wholes = (refl, refl, refl, refl, refl, refl, refl, refl, refl)
+
+-- the text -12 is one, and 1.5 isn't
+pub known_parsed : IsWholeOf (text (codes "-12")) (Some (negsuc 11)) × IsWholeOf (text (codes "1.5")) None
+known_parsed = (refl, refl)
+
+-- ---- days
 
 -- 1904-01-01 is 1,462 days after 1899-12-31, and 9999-12-31 is 2,958,465 days after 1899-12-30
 pub known_days : (day_number 1904 1 1 ≡ negsuc 24106) × (day_number 1899 12 31 ≡ negsuc 25567)

@@ -87,7 +87,6 @@ impl Sink for MemorySink {
 
         // The count rises by one at each call that fails, up to its last value.
         ensures rises { OnErr result (self.new.faults ≡ min (self.old.faults + 1) (2 ^ 64 - 1)) }
-        ensures steady { OnOk result (self.new.faults ≡ self.old.faults) }
 
         // Room, chunk and the listed calls stay.
         ensures same { (self.new.room ≡ self.old.room) × (self.new.chunk ≡ self.old.chunk)

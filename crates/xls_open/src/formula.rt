@@ -1,6 +1,6 @@
 //! The text of a formula.
 
-ghost use Rattle.std.specs.Prelude.{◌≡◌, false, IfOk};
+ghost use Rattle.std.specs.Prelude.{◌≡◌, IfOk};
 ghost use Rattle.std.specs.String.{string_bytes};
 ghost use Rattle.xls_strings.specs.Texts.{text_of};
 ghost use Rattle.xls_formula.specs.Fold.{formula_text};
@@ -32,16 +32,9 @@ pub(crate) fn text_of_formula(
     );
     match read {
         Ok(text) => Ok(text),
-        Err(error) if is_memory(&error) => Err(AllocError),
+        Err(error) if error.is_memory() => Err(AllocError),
         Err(error) => refusal_of(alloc, position, &error),
     }
-}
-
-/// Whether memory ran out.
-pub(crate) fn is_memory(error: &XlsError) -> bool
-    ensures { result ≡ false → error.now ≡ XlsError.Memory → ⊥ }
-{
-    matches!(error, XlsError::Memory)
 }
 
 /// What stands in place of a formula that is refused.

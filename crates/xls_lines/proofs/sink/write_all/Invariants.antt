@@ -2,7 +2,7 @@ use Rattle.std.proofs.Common.{◌≡◌, ◌-◌, ◌≤◌, ℕ, length, take}
 use Rattle.std.specs.Io.KnownBytes.{Appends}
 use Rattle.xls_lines.proofs.sink.write_all.Given as goal
 
--- the piece up to here was written, and the count has not fallen
+-- the piece up to here was written, and no write has failed
 abbrev pub invariant-loop-at : goal.invariant-loop-at
 invariant-loop-at g l =
     let before = g.K.Sink.state l.fn.sink in
@@ -10,8 +10,8 @@ invariant-loop-at g l =
     record {
       within : l.at ≤ length l.piece;
       written : Appends before.written now.written (take l.at l.piece);
-      later : before.faults ≤ now.faults;
-      takes : (n : ℕ) → length l.piece ≤ n → before.takes n → now.takes (n - l.at) × (now.faults ≡ before.faults);
+      kept : now.faults ≡ before.faults;
+      takes : (n : ℕ) → length l.piece ≤ n → before.takes n → now.takes (n - l.at);
     }
 
 abbrev pub decreases-loop-at : goal.decreases-loop-at

@@ -20,3 +20,6 @@ returns-clause-front g c = c.read_by_pieces.ensures.front
 
 pub returns-clause-count : goal.returns-clause-count
 returns-clause-count g c = c.read_by_pieces.ensures.count
+
+pub returns-clause-faultless : goal.returns-clause-faultless
+returns-clause-faultless g c = c.read_by_pieces.ensures.faultless

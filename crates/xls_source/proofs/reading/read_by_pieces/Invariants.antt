@@ -1,15 +1,15 @@
-use Rattle.std.proofs.Common.{◌+◌, ◌-◌, ◌≤◌, vec_len}
+use Rattle.std.proofs.Common.{◌≡◌, ◌+◌, ◌-◌, ◌≤◌, vec_len}
 use Rattle.std.specs.Io.KnownBytes.{Consumes}
 use Rattle.xls_source.proofs.reading.read_by_pieces.Given as goal
 
--- the bytes so far are within the limit and were taken, and the count has not fallen
+-- the bytes so far are within the limit and were taken, and no read has failed
 abbrev pub invariant-loop-bytes : goal.invariant-loop-bytes
 invariant-loop-bytes g l =
     let source = g.S.Source in
     record {
       within : vec_len l.bytes ≤ l.limit;
       taken : Consumes (source.left l.fn.source) (source.left l.source) l.bytes.items;
-      count : source.faults l.fn.source ≤ source.faults l.source;
+      faultless : source.faults l.source ≡ source.faults l.fn.source;
     }
 
 abbrev pub decreases-loop-bytes : goal.decreases-loop-bytes
