@@ -1,5 +1,5 @@
 -- Values from outside, in the bytes of records, so that a wrong rule in the definitions does not check.
-use Rattle.std.proofs.Common.{◌≡◌, ℕ, [], ◌∷◌, map, refl, pos, negsuc, codes, true, false, Some, None, Ok, Err}
+use Rattle.std.proofs.Common.{◌≡◌, ℕ, [], ◌∷◌, ◌++◌, map, replicate, refl, pos, negsuc, codes, true, false, Some, None, Ok, Err}
 use Rattle.xls_model.specs.declared.part.Part.TheVariants as parts
 use Rattle.xls_text.specs.declared.encoding.XlsEncoding.TheVariants.{Utf16, Windows1252}
 use Rattle.xls_text.specs.declared.error.CfbError.TheVariants.{CodePageNotFound}
@@ -30,6 +30,7 @@ use Rattle.xls_biff.specs.Records.MergeCells.{merges_at}
 use Rattle.xls_biff.specs.Records.Number.{number_at}
 use Rattle.xls_biff.specs.Records.Rk.{rk_at, rk_content, rk_whole, mul_rk_at}
 use Rattle.xls_biff.specs.Records.Xf.{xf_at}
+use Rattle.xls_biff.specs.SheetTable.{weight_of_type}
 
 -- ---- the globals
 
@@ -186,6 +187,14 @@ pub known_formula : formula_at [] false (
     ∷ 0x00 ∷ 0x00 ∷ 0x00 ∷ 0x00 ∷ 0x00 ∷ 0x00 ∷ 0x03 ∷ 0x00 ∷ 0x1E ∷ 0x05 ∷ 0x00 ∷ [])
     ≡ Ok ((1, 2), Some (truth true), 0x03 ∷ 0x00 ∷ 0x1E ∷ 0x05 ∷ 0x00 ∷ [])
 known_formula = refl
+
+-- ---- weights
+
+-- Formula, RString, LabelSst, Number, Label, BoolErr, String and RK are one cell each; MulRk, MergeCells, Dimensions and
+-- BLANK aren't
+pub known_weights : map weight_of_type (0x0006 ∷ 0x00D6 ∷ 0x00FD ∷ 0x0203 ∷ 0x0204 ∷ 0x0205 ∷ 0x0207 ∷ 0x027E ∷ 0x00BD ∷ 0x00E5 ∷ 0x0200 ∷ 0x0201 ∷ [])
+    ≡ replicate 8 1 ++ replicate 4 0
+known_weights = refl
 
 -- ---- regions
 

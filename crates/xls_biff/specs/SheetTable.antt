@@ -74,7 +74,7 @@ weight_of (regions_record rs) = 0
 abbrev pub weight_of_type : ℕ → ℕ
 weight_of_type typ =
     if (typ == types.NUMBER) || (typ == types.RK) || (typ == types.LABEL) || (typ == types.R_STRING)
-        || (typ == types.BOOL_ERR) || (typ == types.LABEL_SST) || (typ == types.STRING) || (typ == types.FORMULA)
+    || (typ == types.BOOL_ERR) || (typ == types.LABEL_SST) || (typ == types.STRING) || (typ == types.FORMULA)
     then 1 else 0
 
 -- where a Formula stands

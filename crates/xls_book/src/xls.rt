@@ -1,6 +1,6 @@
 //! The workbook.
 
-ghost use Rattle.std.specs.Prelude.{◌≡◌, ◌+◌, ◌≤◌, ℕ, List, [], Some, None, IfErr, IfOk, IfSome, MatchOption, length, map, slice_get};
+ghost use Rattle.std.specs.Prelude.{◌≡◌, ◌+◌, ◌≤◌, ℕ, List, [], Some, None, IfErr, IfOk, OnOk, IfSome, MatchOption, length, map, slice_get};
 ghost use Rattle.std.specs.Option.{option_copied, option_map};
 ghost use Rattle.std.specs.Io.KnownBytes.{Consumes, IsAtEnd};
 ghost use Rattle.std.specs.Str.{chars};
@@ -112,6 +112,7 @@ fn read_book<S: Source>(alloc: Global, source: &mut S, options: XlsOptions) -> R
     ensures front { (taken : List ℕ) × (length taken ≤ options.max_bytes + 1)
         × Consumes (S.left source.old) (S.left source.new) taken }
     ensures count { S.faults source.old ≤ S.faults source.new }
+    ensures faultless { OnOk result (S.faults source.new ≡ S.faults source.old) }
 {
     let opened = open(alloc, source, options)?;
     Ok(indexed(alloc, opened)?)

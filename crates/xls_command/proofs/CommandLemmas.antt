@@ -203,14 +203,20 @@ length_refused (Some bytes) text h = (inr (inl refl), λ _. h.0, λ e. absurd (o
 length_given_up : (left : Option (List ℕ)) → EndsByLength left 5
 length_given_up left = (inr (inr refl), λ e. absurd (omega arith), λ e. absurd (omega arith))
 
--- the properties of the bytes that were left
+-- a text of the properties of the bytes that were left
+property_output : (left left' : Option (List ℕ)) (bytes : List ℕ)
+    → Consumes left left' bytes → IsAtEnd left' → length bytes ≤ property_limit
+    → (text : List ℕ) → IsPropertyText bytes text → IsOutput Props left text
+property_output left left' bytes all end le text is =
+    Consumes-whole left left' bytes (λ b. (length b ≤ property_limit) × IsPropertyText b text) all end (le, is)
+
 pub all_read : (left left' : Option (List ℕ)) (before after : SinkState) (r : Result Ending Stop) (bytes : List ℕ)
     → Consumes left left' bytes → IsAtEnd left' → length bytes ≤ property_limit
     → EndsWithText (IsPropertyText bytes) before after r → Ends Props left before after r
 all_read left left' before after r bytes all end le =
     ends-text Props left before after r
     (inl refl, λ e. absurd (omega arith), λ _. Consumes-whole left left' bytes (λ b. length b ≤ property_limit) all end le)
-    (length_given_up left) (λ text is. Consumes-whole left left' bytes (λ b. IsPropertyText b text) all end is)
+    (length_given_up left) (property_output left left' bytes all end le)
 
 pub not_read : (left : Option (List ℕ)) (f f' : ℕ) (before after : SinkState) (r : Result Ending Stop) (e : XlsError)
     → ReadCause property_limit left f f' e → EndsWithError e before after r → Ends Props left before after r
@@ -219,10 +225,10 @@ not_read left f f' before after r e cause =
     ends-error Props left before after r e (length_given_up left) (λ fault. length_refused left (fault_line e) (line fault)) line
 
 pub all_read-steady : (left left' : Option (List ℕ)) (before after : SinkState) (r : Result Ending Stop) (bytes : List ℕ)
-    → Consumes left left' bytes → IsAtEnd left' → EndsWithText (IsPropertyText bytes) before after r
+    → Consumes left left' bytes → IsAtEnd left' → length bytes ≤ property_limit → EndsWithText (IsPropertyText bytes) before after r
     → TakesEach before (MayWrite Props left) → after.faults ≡ before.faults
-all_read-steady left left' before after r bytes all end =
-    steady-text Props left before after r (λ text is. Consumes-whole left left' bytes (λ b. IsPropertyText b text) all end is)
+all_read-steady left left' before after r bytes all end le =
+    steady-text Props left before after r (property_output left left' bytes all end le)
 
 pub not_read-steady : (left : Option (List ℕ)) (f f' : ℕ) (before after : SinkState) (r : Result Ending Stop) (e : XlsError)
     → ReadCause property_limit left f f' e → EndsWithError e before after r

@@ -1,5 +1,5 @@
 -- How a command ends.
-use Rattle.std.specs.Prelude.{ℕ, List, Option, Result, Ok, Err}
+use Rattle.std.specs.Prelude.{◌≡◌, ℕ, List, Option, Result, Ok, Err}
 use Rattle.std.specs.Io.KnownBytes.{Keeps}
 use Rattle.xls_source.specs.Causes.{Rose}
 use Rattle.xls_lines.specs.SinkState.{SinkState}
@@ -17,7 +17,7 @@ IsQuiet before now = Rose before now → ⊥
 
 -- what a command does to a source that had and has this left, with the counts of its faults
 abbrev pub Reads : Command → Option (List ℕ) → Option (List ℕ) → ℕ → ℕ → Result Ending Stop → Type 0
-Reads c left left' faults faults' (Ok Done) = HasRead c left left'
+Reads c left left' faults faults' (Ok Done) = HasRead c left left' × (faults' ≡ faults)
 Reads c left left' faults faults' (Ok Refused) = Unit {0}
 Reads c left left' faults faults' (Err Read) = (ReadsNothing c → ⊥) × Rose faults faults'
 Reads c left left' faults faults' (Err Write) = Unit {0}

@@ -32,7 +32,7 @@ IsOfBook IsOf bytes text = (book : Workbook) × IsOpened default_options book by
 abbrev pub IsOutput : Command → Option (List ℕ) → List ℕ → Type 0
 IsOutput Dump left text = IsOutputOf report left text
 IsOutput Sheets left text = IsOutputOf sheet_report left text
-IsOutput Props left text = IfSome left (λ bytes. IsPropertyText bytes text)
+IsOutput Props left text = IfSome left (λ bytes. (length bytes ≤ property_limit) × IsPropertyText bytes text)
 IsOutput Check left text = IfSome left (IsSound default_rules) × (text ≡ sound_line)
 IsOutput Refs left text = IfSome left (λ bytes. IsRefsText bytes text)
 IsOutput Remake left text = IfSome left (λ bytes. IsRemadeText bytes text)

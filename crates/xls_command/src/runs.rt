@@ -26,6 +26,9 @@ pub fn run<S: Source, K: Sink>(alloc: Global, words: &[String], source: &mut S, 
     ensures done { result ≡ 0 → OfCommand words.now (λ c. HasRead c (S.left source.old) (S.left source.new)
         × Writes (IsOutput c (S.left source.old)) (K.state sink.old).written (K.state sink.new).written) }
 
+    // 0: no read has failed.
+    ensures faultless { result ≡ 0 → S.faults source.new ≡ S.faults source.old }
+
     // 1: the line of the first fault was written.
     ensures refused { result ≡ 1 → OfCommand words.now (λ c.
         Writes (IsRefusal c (S.left source.old)) (K.state sink.old).written (K.state sink.new).written) }

@@ -93,10 +93,6 @@ pub known_wholes : IsWholeOf (int (negsuc 6)) (Some (negsuc 6)) × IsWholeOf (fl
 unfolding quotient_of
 known_wholes = (refl, refl, refl, refl, refl, refl, refl, refl, refl)
 
--- the text -12 is one, and 1.5 isn't
-pub known_parsed : IsWholeOf (text (codes "-12")) (Some (negsuc 11)) × IsWholeOf (text (codes "1.5")) None
-known_parsed = (refl, refl)
-
 -- ---- days
 
 -- 1904-01-01 is 1,462 days after 1899-12-31, and 9999-12-31 is 2,958,465 days after 1899-12-30

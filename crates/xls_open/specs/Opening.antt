@@ -1,5 +1,5 @@
 -- What reading a source and opening its bytes answer.
-use Rattle.std.specs.Prelude.{◌≡◌, ℕ, ◌+◌, ◌≤◌, List, length, Option, None, Result, IfOk, IfErr, IfSome}
+use Rattle.std.specs.Prelude.{◌≡◌, ℕ, ◌+◌, ◌≤◌, List, length, Option, None, Result, IfOk, IfErr, OnOk, IfSome}
 use Rattle.std.specs.Io.KnownBytes.{Consumes, IsAtEnd}
 use Rattle.xls_model.specs.Listing.{Entry, Carries}
 use Rattle.xls_strings.specs.declared.error.XlsError.{XlsError}
@@ -68,3 +68,4 @@ pub record Opens (options : XlsOptions) (left after : Option (List ℕ)) (before
       → IfSome left (λ bytes. IsSound (rules_of options) bytes → IfErr result (λ e. e ≡ errors.Memory))
   pub front : (taken : List ℕ) × (length taken ≤ options.max_bytes + 1) × Consumes left after taken
   pub count : before ≤ now
+  pub faultless : OnOk result (now ≡ before)

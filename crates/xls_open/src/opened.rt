@@ -1,6 +1,6 @@
 //! Opening the bytes of a source.
 
-ghost use Rattle.std.specs.Prelude.{◌≡◌, ◌+◌, ◌≤◌, ℕ, List, [], IfErr, IfOk, IfSome, length, map};
+ghost use Rattle.std.specs.Prelude.{◌≡◌, ◌+◌, ◌≤◌, ℕ, List, [], IfErr, IfOk, OnOk, IfSome, length, map};
 ghost use Rattle.std.specs.Io.KnownBytes.{Consumes, IsAtEnd};
 ghost use Rattle.xls_data.specs.Sheets.{SheetContent, sheet_content};
 ghost use Rattle.xls_reading.specs.GlobalsTable.{forced_fault};
@@ -136,6 +136,7 @@ pub fn open<S: Source>(
     ensures front { (taken : List ℕ) × (length taken ≤ options.max_bytes + 1)
         × Consumes (S.left source.old) (S.left source.new) taken }
     ensures count { S.faults source.old ≤ S.faults source.new }
+    ensures faultless { OnOk result (S.faults source.new ≡ S.faults source.old) }
 {
     let bytes = read_all(alloc, source, options.max_bytes)?;
     let page = options.first_page()?;

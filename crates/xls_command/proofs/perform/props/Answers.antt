@@ -8,7 +8,7 @@ returns-in-Ok-clause-ends g c =
 pub returns-in-Ok-clause-steady : goal.returns-in-Ok-clause-steady
 returns-in-Ok-clause-steady g c =
     let state = g.K.Sink.state in
-    all_read-steady _ _ (state c.args.sink.now) (state c.write_properties_of.new.sink) c.write_properties_of.result _ c.in-Ok.ensures.all c.in-Ok.ensures.end (rw c.as_slice.ensures at c.write_properties_of.ensures)
+    all_read-steady _ _ (state c.args.sink.now) (state c.write_properties_of.new.sink) c.write_properties_of.result _ c.in-Ok.ensures.all c.in-Ok.ensures.end c.in-Ok.ensures.within (rw c.as_slice.ensures at c.write_properties_of.ensures)
 
 pub returns-in-Err-clause-ends : goal.returns-in-Err-clause-ends
 returns-in-Err-clause-ends g c =

@@ -12,4 +12,5 @@ returns-clause-opens g c =
       complete = λ quiet. complete c.args.options _ _ _ _ made.cause quiet;
       front = made.front;
       count = made.count;
+      faultless = made.faultless;
     }
