@@ -1,10 +1,20 @@
 -- Canonical bytes carry their list, and are equal where the lists are.
-use Rattle.std.proofs.Common.{◌≡◌, ◌↔◌, ℕ, ◌^◌, ◌<◌, List, length, ap, subst, ◌∙◌}
+use Rattle.std.proofs.Common.{◌≡◌, ◌↔◌, ℕ, ◌^◌, ◌<◌, ◌≤◌, List, length, Option, Some, Result, ap, subst, sym, ◌∙◌}
 use Rattle.xls_model.specs.Listing.{Entry, Carries}
+use Rattle.xls_model.specs.Walks.{IsBytes}
+use Rattle.xls_model.proofs.HoldingLemmas.{one_list}
+use Rattle.xls_strings.specs.declared.error.XlsError.{XlsError}
 use Rattle.xls_layout.specs.Layout.{lay}
 use Rattle.xls_layout.specs.Canonical.{canonical, Fits}
 use Rattle.xls_layout.proofs.LaidStreamLemmas.{laid_stream, laid_alone}
 use Rattle.xls_layout.proofs.CanonicalListLemmas.{canonical_layout}
+use Rattle.xls_reading.specs.Faults.{IsFull}
+use Rattle.xls_reading.specs.Reading.{IsReading}
+use Rattle.xls_open.specs.declared.options.XlsOptions.{XlsOptions}
+use Rattle.xls_open.specs.Workbook.{Workbook, rules_of, view_of}
+use Rattle.xls_open.specs.Opening.{IsOpened, Opens}
+use Rattle.xls_open.specs.Laws.{OpensAs}
+use Rattle.xls_open.proofs.LaidLemmas.{laid_opens, laid_sound}
 
 pub canonical_carries : (list : List Entry) → Fits list → length (lay (canonical list)) < 2 ^ 32
     → Carries (lay (canonical list)) list
@@ -30,3 +40,33 @@ same_lists list other h k f g = (
 pub written_again : (list other : List Entry) → Fits list → length (lay (canonical list)) < 2 ^ 32
     → Carries (lay (canonical list)) other → lay (canonical other) ≡ lay (canonical list)
 written_again list other h fits c = ap (λ (x : List Entry). lay (canonical x)) (carried_alone list other h fits c)
+
+pub canonical_opens : (options : XlsOptions) (list : List Entry) → Fits list → IsFull (rules_of options) list
+    → length (lay (canonical list)) < 2 ^ 32 → length (lay (canonical list)) ≤ options.max_bytes
+    → (after : Option (List ℕ)) (before now : ℕ) (result : Result Workbook XlsError)
+    → Opens options (Some (lay (canonical list))) after before now result
+    → OpensAs options list after before now result
+canonical_opens options list h full fits within after before now result opens =
+    let laid = canonical_layout list h fits in
+    subst (λ (x : List Entry). OpensAs options x after before now result) laid.1
+    (laid_opens options (canonical list) laid.0 (subst (IsFull (rules_of options)) (sym laid.1) full) within after before now result opens)
+
+pub opens_again : (options : XlsOptions) (book : Workbook) (bytes : List ℕ) (list : List Entry)
+    → IsBytes bytes → Carries bytes list → Fits list
+    → length (lay (canonical list)) < 2 ^ 32 → length (lay (canonical list)) ≤ options.max_bytes
+    → IsOpened options book bytes → IsOpened options book (lay (canonical list))
+opens_again options book bytes list are carries h fits within opened =
+    let rules = rules_of options in
+    let laid = canonical_layout list h fits in
+    let same : opened.entries ≡ list = one_list bytes are opened.entries list opened.carries carries in
+    let full : IsFull rules list = subst (IsFull rules) same opened.full in
+    record {
+      sound = laid_sound rules (canonical list) laid.0 (subst (IsFull rules) (sym laid.1) full) within;
+      within = within;
+      entries = list;
+      carries = canonical_carries list h fits;
+      full = full;
+      kept = opened.kept;
+      every = λ others c.
+          subst (λ (x : List Entry). IsReading rules x (view_of book)) (sym (carried_alone list others h fits c)) (opened.every list carries);
+    }

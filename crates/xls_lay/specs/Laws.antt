@@ -1,6 +1,13 @@
 -- Laws over canonical bytes.
-use Rattle.std.specs.Prelude.{◌≡◌, ◌↔◌, ◌<◌, ◌^◌, List, length}
+use Rattle.std.specs.Prelude.{◌≡◌, ◌↔◌, ℕ, ◌<◌, ◌≤◌, ◌^◌, List, length, Option, Some, Result}
+use Rattle.xls_model.specs.Walks.{IsBytes}
 use Rattle.xls_model.specs.Listing.{Entry, Carries}
+use Rattle.xls_strings.specs.declared.error.XlsError.{XlsError}
+use Rattle.xls_reading.specs.Faults.{IsFull}
+use Rattle.xls_open.specs.declared.options.XlsOptions.{XlsOptions}
+use Rattle.xls_open.specs.Workbook.{Workbook, rules_of}
+use Rattle.xls_open.specs.Opening.{IsOpened, Opens}
+use Rattle.xls_open.specs.Laws.{OpensAs}
 use Rattle.xls_layout.specs.Canonical.{Fits}
 use Rattle.xls_lay.specs.Writing.{canonical_bytes}
 
@@ -19,3 +26,18 @@ CanonicalEquality = (list other : List Entry) → Fits list → Fits other
 abbrev pub WrittenAgain : Type 0
 WrittenAgain = (list other : List Entry) → Fits list → length (canonical_bytes list) < 2 ^ 32
     → Carries (canonical_bytes list) other → canonical_bytes other ≡ canonical_bytes list
+
+-- the canonical bytes of a full list open to its reading: what opening answers over a source that has them left
+abbrev pub CanonicalOpens : Type 0
+CanonicalOpens = (options : XlsOptions) (list : List Entry) → Fits list → IsFull (rules_of options) list
+    → length (canonical_bytes list) < 2 ^ 32 → length (canonical_bytes list) ≤ options.max_bytes
+    → (after : Option (List ℕ)) (before now : ℕ) (result : Result Workbook XlsError)
+    → Opens options (Some (canonical_bytes list)) after before now result
+    → OpensAs options list after before now result
+
+-- a workbook that bytes open to is opened from the canonical bytes of their list too
+abbrev pub OpensAgain : Type 0
+OpensAgain = (options : XlsOptions) (book : Workbook) (bytes : List ℕ) (list : List Entry)
+    → IsBytes bytes → Carries bytes list → Fits list
+    → length (canonical_bytes list) < 2 ^ 32 → length (canonical_bytes list) ≤ options.max_bytes
+    → IsOpened options book bytes → IsOpened options book (canonical_bytes list)

@@ -14,7 +14,9 @@ mod units;
 mod write;
 
 pub use error::LayError;
-pub use laws::{canonical_carries, canonical_equality, written_again};
+pub use laws::{
+    canonical_carries, canonical_equality, canonical_opens, opens_again, written_again,
+};
 pub use length::canonical_length;
 pub use logical::Logical;
 pub use read::logical_of;
