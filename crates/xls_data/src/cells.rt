@@ -36,6 +36,13 @@ impl<T: CellType> Cell<T> {
         self.position
     }
 
+    /// The position and the value.
+    pub fn into_parts(self) -> ((u32, u32), T)
+        ensures { result ≡ self }
+    {
+        (self.position, self.value)
+    }
+
     /// The value.
     pub fn get_value(&self) -> &T
         ensures { result.now ≡ self.now.1 }

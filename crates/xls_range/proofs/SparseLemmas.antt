@@ -1,12 +1,14 @@
 -- The box of cells that are given with their positions, and what is written into it.
 use Rattle.std.proofs.Common.{◌≡◌, ℕ, ◌+◌, ◌-◌, ◌*◌, ◌^◌, ◌<◌, ◌≤◌, inl, inr, arith, refl, List, [], ◌∷◌, ◌++◌, length, take, sym, ◌∙◌, ap, get_or, Bool, true, false, Option, Some, None}
-use Rattle.std.specs.Prelude.{◌==◌, ◌&&◌, if◌then◌else◌, All, min, max, Result, Ok, Err, IfOk}
+use Rattle.std.specs.Prelude.{◌==◌, ◌&&◌, if◌then◌else◌, All, min, max}
 use Rattle.std.specs.Option.{option_or}
+use Rattle.std.proofs.Math.Seq.{get_or-append_seam}
 use Rattle.std.proofs.lemmas.Bool.{cases_lt}
-use Rattle.std.proofs.lemmas.List.{get_or_default, take_more}
+use Rattle.std.proofs.lemmas.List.{append_assoc, get_or_default, length-append, take_more}
 use Rattle.std.proofs.lemmas.Nat.{mul-le}
 use Rattle.std.proofs.lemmas.Option.{get_or_from_slice_get, slice_get_within}
 use Rattle.xls_range.specs.Grid.{Grid, no_cells, cell_at, IsCopyOf, Shows, IsIn, IsOfCorners, IsOrdered, IsSameBox, count_between}
+use Rattle.xls_range.specs.Boxes.{IsBlankBox}
 use Rattle.xls_range.specs.Sparse.{last_at, IsLeast, IsGreatest, AreCorners, IsTooLarge, IsDense}
 use Rattle.xls_range.proofs.GrowthLemmas.{there}
 
@@ -232,12 +234,51 @@ IsDense-some eq blank given s e g a corners shows = record {
   shows = shows;
 }
 
--- what is written into a box with those corners is the dense box
-pub IsDense-filled : {T E : Type 0} (eq : T → T → Bool) (blank : T → Bool) (given : List ((ℕ × ℕ) × T)) (s e : ℕ × ℕ) (g : Grid T) (r : Result (Grid T) E)
-    → AreCorners given s e → IsOfCorners s e g → IfOk r (λ h. IsSameBox g h) → IfOk r (λ h. Shows eq blank (λ row column. last_at given (row, column)) h)
-    → IfOk r (λ h. IsDense eq blank given h)
-IsDense-filled eq blank given s e g (Ok h) a corners same shows = IsDense-some eq blank given s e h a (IsOfCorners-same s e g h corners same) shows
-IsDense-filled eq blank given s e g (Err y) a corners same shows = tt
+-- ---- a blank box
+
+pub IsBlankBox-inside : {T : Type 0} (blank : T → Bool) (given : List ((ℕ × ℕ) × T)) (g : Grid T) → IsBlankBox blank given g → All (λ x. IsIn g x.0.0 x.0.1) given
+IsBlankBox-inside blank given g box = AreCorners-inside given box.start box.end g box.are box.corners
+
+-- with the cells in it, it is the dense box
+pub IsBlankBox-filled : {T : Type 0} (eq : T → T → Bool) (blank : T → Bool) (given : List ((ℕ × ℕ) × T)) (g h : Grid T)
+    → IsBlankBox blank given g → IsSameBox g h → Shows eq blank (λ row column. last_at given (row, column)) h → IsDense eq blank given h
+IsBlankBox-filled eq blank given g h box same shows =
+    IsDense-some eq blank given box.start box.end h box.are (IsOfCorners-same box.start box.end g h box.corners same) shows
+
+-- some of the cells are in it, and the others are left
+pub record Holds {T : Type 0} (eq : T → T → Bool) (blank : T → Bool) (given rest : List ((ℕ × ℕ) × T)) (g h : Grid T) : Type 0 where
+  pub front : List ((ℕ × ℕ) × T)
+  pub whole : front ++ rest ≡ given
+  pub same : IsSameBox g h
+  pub shows : Shows eq blank (λ row column. last_at front (row, column)) h
+
+-- the next cell's position is inside
+pub Holds-inside : {T : Type 0} (eq : T → T → Bool) (blank : T → Bool) (given rest : List ((ℕ × ℕ) × T)) (x : (ℕ × ℕ) × T) (g h : Grid T)
+    → All (λ y. IsIn g y.0.0 y.0.1) given → Holds eq blank given (x ∷ rest) g h → IsIn h x.0.0 x.0.1
+Holds-inside eq blank given rest x g h all holds =
+    let read : get_or given (length holds.front) x ≡ x = ap (λ xs. get_or xs (length holds.front) x) (sym holds.whole) ∙ get_or-append_seam holds.front x rest x in
+    let near : length holds.front < length given = omega (arith, ap length holds.whole, length-append holds.front (x ∷ rest)) in
+    let is = rw read at (all (length holds.front) x near) in
+    let same = holds.same in
+    record {
+      low = omega (arith, is.low, same.top);
+      high = omega (arith, is.high, same.top, same.height);
+      left = omega (arith, is.left, same.left);
+      right = omega (arith, is.right, same.left, same.width);
+    }
+
+pub Holds-more : {T : Type 0} (eq : T → T → Bool) (blank : T → Bool) (given rest : List ((ℕ × ℕ) × T)) (x : (ℕ × ℕ) × T) (g h new : Grid T)
+    → ((y : T) → eq y y ≡ true)
+    → ((r c : ℕ) → cell_at new r c ≡ (if (x.0.0 == r) && (x.0.1 == c) then Some x.1 else cell_at h r c)) → IsSameBox h new
+    → Holds eq blank given (x ∷ rest) g h → Holds eq blank given rest g new
+Holds-more eq blank given rest x g h new reflexive written is holds =
+    let was = holds.same in
+    record {
+      front = holds.front ++ x ∷ [];
+      whole = append_assoc holds.front (x ∷ []) rest ∙ holds.whole;
+      same = record { top = is.top ∙ was.top; left = is.left ∙ was.left; height = is.height ∙ was.height; width = is.width ∙ was.width };
+      shows = Shows-put eq blank holds.front x x.1 h new (reflexive x.1) written holds.shows;
+    }
 
 -- positions below a number of rows and of columns span no more cells than these
 pub IsTooLarge-within : {T : Type 0} (given : List ((ℕ × ℕ) × T)) (rows columns : ℕ) → All (λ x. (x.0.0 < rows) × (x.0.1 < columns)) given → IsTooLarge given → 2 ^ 64 ≤ rows * columns
