@@ -97,12 +97,12 @@ types : map (λ s. value_at Windows1252 s 0) (
     ∷ (0x0B ∷ 0 ∷ 0 ∷ 0 ∷ 0 ∷ 0 ∷ [])
     ∷ (0x13 ∷ 0 ∷ 0 ∷ 0 ∷ 0xFF ∷ 0xFF ∷ 0xFF ∷ 0xFF ∷ [])
     ∷ (0x1E ∷ 0 ∷ 0 ∷ 0 ∷ 3 ∷ 0 ∷ 0 ∷ 0 ∷ 0x80 ∷ 0x61 ∷ 0 ∷ [])
-    ∷ (0x1F ∷ 0 ∷ 0 ∷ 0 ∷ 2 ∷ 0 ∷ 0 ∷ 0 ∷ 0xAC ∷ 0x20 ∷ 0 ∷ 0 ∷ [])
+    ∷ (0x1F ∷ 0 ∷ 0 ∷ 0 ∷ 3 ∷ 0 ∷ 0 ∷ 0 ∷ 0xAC ∷ 0x20 ∷ 0x61 ∷ 0 ∷ 0 ∷ 0 ∷ [])
     ∷ (0x40 ∷ 0 ∷ 0 ∷ 0 ∷ 1 ∷ 0 ∷ 0 ∷ 0 ∷ 1 ∷ 0 ∷ 0 ∷ 0 ∷ [])
     ∷ [])
     ≡ Some (Plain (codes "-2")) ∷ Some (Plain (codes "-4")) ∷ Some (Plain (codes "-2"))
     ∷ Some (Plain (codes "true")) ∷ Some (Plain (codes "false")) ∷ Some (Plain (codes "4294967295"))
-    ∷ Some (Plain (0xE2 ∷ 0x82 ∷ 0xAC ∷ 0x61 ∷ [])) ∷ Some (Plain (0xE2 ∷ 0x82 ∷ 0xAC ∷ [])) ∷ Some (Moment 0x1_0000_0001) ∷ []
+    ∷ Some (Plain (0xE2 ∷ 0x82 ∷ 0xAC ∷ 0x61 ∷ [])) ∷ Some (Plain (0xE2 ∷ 0x82 ∷ 0xAC ∷ 0x61 ∷ [])) ∷ Some (Moment 0x1_0000_0001) ∷ []
 unfolding digits size_of_parts utf16_chars lib.Utf8.encode
 types = refl
 
