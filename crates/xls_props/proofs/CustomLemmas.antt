@@ -1,60 +1,150 @@
--- Custom properties one after the other.
-use Rattle.std.proofs.Common.{◌≡◌, ℕ, ◌+◌, ◌<◌, List, [], ◌∷◌, ◌++◌, length, take, get_or, Bool, true, false, cond, Option, Some, None, String, string_bytes, refl, sym, ap, ◌∙◌, append_assoc, append-nil, subst, nat_lt}
-use Rattle.std.proofs.lemmas.List.{take_more}
-use Rattle.std.specs.Option.{option_or}
+-- Custom properties from the last entry to the first.
+use Rattle.std.proofs.Common.{◌≡◌, ℕ, ◌<◌, ◌≤◌, ◌-◌, ◌+◌, length, get_or, drop, List, [], ◌∷◌, ◌++◌, Bool, true, false, cond, Option, Some, None, String, string_bytes, refl, sym, ap, ◌∙◌, subst, arith}
+use Rattle.std.proofs.lemmas.Grind.{common_steps}
+use Rattle.std.proofs.lemmas.List.{at_drop_more}
+use Rattle.std.proofs.lemmas.Slice.Eq.{bytes_eq-Decides}
+use Rattle.std.specs.Option.{option_or, option_map}
 use Rattle.std.specs.Str.{bytes_eq}
-use Rattle.std.specs.Map.{update}
-use Rattle.std.specs.BTreeMap.{BTreeMap, get_by_text}
+use Rattle.std.specs.Prelude.{◌==◌, is_some, nat_lt}
+use Rattle.std.specs.Ordering.{nat_cmp}
+use Rattle.std.specs.BTreeMap.{BTreeMap, get, get_by_text}
 use Rattle.xls_text.specs.declared.encoding.XlsEncoding.{XlsEncoding}
 use Rattle.xls_props.specs.Entries.{Entry, last_of}
-use Rattle.xls_props.specs.Names.{Name}
+use Rattle.xls_props.specs.Names.{Name, HasNames}
 use Rattle.xls_props.specs.Values.{Value, Shows, ShowsValue, value_at}
-use Rattle.xls_props.specs.Custom.{named, custom_of, customs_of, last_named, HasLast}
-use Rattle.xls_props.proofs.NameLemmas.{option_or-assoc, or_none}
+use Rattle.xls_props.specs.Custom.{named, custom_of, customs_of, last_named}
+use Rattle.xls_props.specs.Walked.{IsWalked}
+use Rattle.xls_props.proofs.NameLemmas.{or_none}
 
-last_named-append : (q : List ℕ) (ps qs : List (List ℕ × Value)) → last_named q (ps ++ qs) ≡ option_or (last_named q qs) (last_named q ps)
-last_named-append q [] qs = sym (or_none (last_named q qs))
-last_named-append q (p ∷ ps) qs =
-    ap (λ o. option_or o (cond (bytes_eq p.0 q) (Some p.1) None)) (last_named-append q ps qs) ∙ option_or-assoc (last_named q qs) (last_named q ps) _
+some_same : {A : Type 0} (x y : A) → Some x ≡ Some y → x ≡ y
+some_same x y e = cc
 
-module _ {Y Z : Type 0} (m n : BTreeMap (String Y) (String Z)) (text : String Z) (name : List ℕ) where
-  put_one : (q : List ℕ) (t : Bool) (v : Value) (before : Option Value) (had : Option (String Z)) → ShowsValue v (string_bytes text) → Shows before had
-      → Shows (option_or (cond t (Some v) None) before) (cond t (Some text) had)
-  put_one q true v before had shows was = shows
-  put_one q false v before had shows was = was
+-- a later value of a name stays
+later_stays : (q name : List ℕ) (v w : Value) (later : Option Value) → (bytes_eq name q ≡ true → later ≡ Some w)
+    → (t : Bool) → t ≡ bytes_eq name q → option_or later (cond t (Some v) None) ≡ later
+later_stays q name v w later some true is = rw (some (sym is))
+later_stays q name v w later some false is = or_none later
 
-  pub put_last : (ps : List (List ℕ × Value)) (o : Option (List ℕ)) (v : Option Value) → ((q : List ℕ) → get_by_text n q ≡ update bytes_eq (get_by_text m) name (Some text) q)
-      → o ≡ Some name → Shows v (Some text) → HasLast m ps → HasLast n (ps ++ named o v)
-  put_last ps None v sets is shows has q = cc
-  put_last ps (Some x) None sets is shows has q = absurd shows
-  put_last ps (Some x) (Some v) sets is shows has q =
-      let same : x ≡ name = some_same is in
-      rw (last_named-append q ps ((x, v) ∷ []), sets q, same) (put_one q (bytes_eq name q) v (last_named q ps) (get_by_text m q) shows (has q))
+-- nothing is given to a name where its value comes first
+none_later : (v : Value) (later : Option Value) (t : Bool) → option_or later (cond t (Some v) None) ≡ None → (later ≡ None) × (t ≡ false)
+none_later v None false none = (refl, refl)
+none_later v None true none = cc
+none_later v (Some w) t none = cc
+
+module _ {X Y Z : Type 0} (ns : List Name) (ps : List (List ℕ × Value)) (map : BTreeMap (String X) (String Y)) (names left : BTreeMap ℕ (String Z)) (k : ℕ)
+    (removed : (j : ℕ) → get nat_cmp left j ≡ cond (k == j) None (get nat_cmp names j)) (walked : IsWalked ns ps map names) where
+  -- the names that are left are those of the dictionary
+  only_left : (j : ℕ) (n : List ℕ) → option_map string_bytes (get nat_cmp left j) ≡ Some n → last_of j ns ≡ Some n
+  only_left j n is = by_test (k == j) (rw (removed j) at is)
     where
-      some_same : Some x ≡ Some name → x ≡ name
-      some_same e = cc
+      by_test : (t : Bool) → option_map string_bytes (cond t None (get nat_cmp names j)) ≡ Some n → last_of j ns ≡ Some n
+      by_test true none = cc
+      by_test false some = walked.only j n some
 
-named_none : (Z : Type 0) (name : Option (List ℕ)) (v : Option Value) → Shows {Z = Z} v None → named name v ≡ []
-named_none Z None v none = refl
-named_none Z (Some n) None none = refl
-named_none Z (Some n) (Some v) none = absurd none
+  -- and a name of another number is left
+  other_left : (j : ℕ) (n : List ℕ) → (k == j) ≡ false → last_of j ns ≡ Some n → last_named n ps ≡ None → option_map string_bytes (get nat_cmp left j) ≡ Some n
+  other_left j n other is none = rw (removed j, other) (walked.left j n is none)
 
--- an entry without a value changes nothing
-pub put_none : (Y Z : Type 0) (m : BTreeMap (String Y) (String Z)) (names : List Name) (page : XlsEncoding) (s : List ℕ) (e : Entry) (ps : List (List ℕ × Value))
-    (o : Option (String Z)) → o ≡ None → Shows (value_at page s e.1) o → HasLast m ps → HasLast m (ps ++ custom_of names page s e)
-put_none Y Z m names page s e ps o none shows has =
-    let is : named (last_of e.0 names) (value_at page s e.1) ≡ [] = named_none Z _ _ (subst (λ (t : Option (String Z)). Shows (value_at page s e.1) t) none shows) in
-    subst (λ (qs : List (List ℕ × Value)). HasLast m qs) (sym (ap (λ qs. ps ++ qs) (by_test (nat_lt e.0 2) _ is) ∙ append-nil ps)) has
-  where
-    by_test : (b : Bool) (qs : List (List ℕ × Value)) → qs ≡ [] → cond b [] qs ≡ []
-    by_test true qs none = refl
-    by_test false qs none = none
+  -- the entry's name has a value already
+  pub walked_given : (name : List ℕ) (v w : Value) → last_of k ns ≡ Some name → last_named name ps ≡ Some w → IsWalked ns ((name, v) ∷ ps) map left
+  walked_given name v w is given = record {
+    has = λ q. subst (λ o. Shows o (get_by_text map q)) (sym (same q)) (walked.has q);
+    only = only_left;
+    left = λ j n listed none. by_test j n listed (sym (same n) ∙ none) (k == j) refl;
+  }
+    where
+      same : (q : List ℕ) → last_named q ((name, v) ∷ ps) ≡ last_named q ps
+      same q = later_stays q name v w (last_named q ps) (λ equal. ap (λ n. last_named n ps) (sym ((bytes_eq-Decides name q).0 equal)) ∙ given) (bytes_eq name q) refl
 
-pub customs-append : (names : List Name) (page : XlsEncoding) (s : List ℕ) (es : List Entry) (e : Entry)
-    → customs_of names page s (es ++ e ∷ []) ≡ customs_of names page s es ++ custom_of names page s e
-customs-append names page s [] e = append-nil _
-customs-append names page s (d ∷ es) e = rw (customs-append names page s es e, append_assoc)
+      by_test : (j : ℕ) (n : List ℕ) → last_of j ns ≡ Some n → last_named n ps ≡ None → (t : Bool) → t ≡ (k == j) → option_map string_bytes (get nat_cmp left j) ≡ Some n
+      by_test j n listed none false other = other_left j n (sym other) listed none
+      by_test j n listed none true equal = let here : k ≡ j = grind (arith, common_steps) in
+          let one : name ≡ n = some_same name n (sym is ∙ ap (λ i. last_of i ns) here ∙ listed) in cc
 
-pub customs_more : (names : List Name) (page : XlsEncoding) (s : List ℕ) (es : List Entry) (i : ℕ) (e d : Entry) → i < length es → e ≡ get_or es i d
-    → customs_of names page s (take (i + 1) es) ≡ customs_of names page s (take i es) ++ custom_of names page s e
-customs_more names page s es i e d below is = rw (take_more es i d below, customs-append, is) refl
+  -- the entry gives its name the first value
+  pub walked_new : (new : BTreeMap (String X) (String Y)) (text : String Y) (name : List ℕ) (v : Value) → last_of k ns ≡ Some name → last_named name ps ≡ None
+      → ShowsValue v (string_bytes text) → ((q : List ℕ) → get_by_text new q ≡ cond (bytes_eq name q) (Some text) (get_by_text map q)) → IsWalked ns ((name, v) ∷ ps) new left
+  walked_new new text name v is first shows sets = record {
+    has = λ q. rw (sets q) (show q (bytes_eq name q) refl);
+    only = only_left;
+    left = λ j n listed none. by_test j n listed (none_later v (last_named n ps) (bytes_eq name n) none) (k == j) refl;
+  }
+    where
+      show : (q : List ℕ) (t : Bool) → t ≡ bytes_eq name q → Shows (option_or (last_named q ps) (cond t (Some v) None)) (cond t (Some text) (get_by_text map q))
+      show q true equal = let one : last_named q ps ≡ None = ap (λ n. last_named n ps) (sym ((bytes_eq-Decides name q).0 (sym equal))) ∙ first in rw one shows
+      show q false other = rw (or_none (last_named q ps)) (walked.has q)
+
+      by_test : (j : ℕ) (n : List ℕ) → last_of j ns ≡ Some n → (last_named n ps ≡ None) × (bytes_eq name n ≡ false) → (t : Bool) → t ≡ (k == j)
+          → option_map string_bytes (get nat_cmp left j) ≡ Some n
+      by_test j n listed none false other = other_left j n (sym other) listed none.0
+      by_test j n listed none true equal = let here : k ≡ j = grind (arith, common_steps) in
+          let one : name ≡ n = some_same name n (sym is ∙ ap (λ i. last_of i ns) here ∙ listed) in
+          let equal_bytes : bytes_eq name n ≡ true = (bytes_eq-Decides name n).1 one in cc
+
+  -- the entry's number has no name, or none that is left
+  pub walked_unnamed : (v : Option Value) → get nat_cmp names k ≡ None → IsWalked ns (named (last_of k ns) v ++ ps) map left
+  walked_unnamed v gone = by_name (last_of k ns) v refl
+    where
+      same : (j : ℕ) → get nat_cmp left j ≡ get nat_cmp names j
+      same j = removed j ∙ by_test (k == j) refl
+        where
+          by_test : (t : Bool) → t ≡ (k == j) → cond t None (get nat_cmp names j) ≡ get nat_cmp names j
+          by_test false other = refl
+          by_test true equal = let here : k ≡ j = grind (arith, common_steps) in sym (ap (λ i. get nat_cmp names i) (sym here) ∙ gone)
+
+      stays : IsWalked ns ps map left
+      stays = record {
+        has = walked.has;
+        only = only_left;
+        left = λ j n listed none. rw (same j) (walked.left j n listed none);
+      }
+
+      no_text : (o : Option (String Z)) (name : List ℕ) → o ≡ None → option_map string_bytes o ≡ Some name → ⊥
+      no_text None name none there = cc
+      no_text (Some t) name none there = cc
+
+      by_value : (name : List ℕ) (v : Value) (given : Option Value) → last_of k ns ≡ Some name → last_named name ps ≡ given → IsWalked ns ((name, v) ∷ ps) map left
+      by_value name v (Some w) is given = walked_given name v w is given
+      by_value name v None is none = let there : option_map string_bytes (get nat_cmp names k) ≡ Some name = walked.left k name is none in
+          absurd (no_text (get nat_cmp names k) name gone there)
+
+      by_name : (o : Option (List ℕ)) (v : Option Value) → last_of k ns ≡ o → IsWalked ns (named o v ++ ps) map left
+      by_name None v is = stays
+      by_name (Some name) None is = stays
+      by_name (Some name) (Some v) is = by_value name v (last_named name ps) is refl
+
+-- the property of an entry that isn't 0 or 1
+pub custom_named : (ns : List Name) (page : XlsEncoding) (s : List ℕ) (e : Entry) → nat_lt e.0 2 ≡ false → custom_of ns page s e ≡ named (last_of e.0 ns) (value_at page s e.1)
+custom_named ns page s e other = rw other
+
+pub custom_one : (ns : List Name) (page : XlsEncoding) (s : List ℕ) (e : Entry) (name : List ℕ) (v : Value) → nat_lt e.0 2 ≡ false → last_of e.0 ns ≡ Some name → Some v ≡ value_at page s e.1
+    → custom_of ns page s e ≡ (name, v) ∷ []
+custom_one ns page s e name v other is value = rw (other, is, sym value)
+
+-- what is in the map has a value
+pub is_given : {Z : Type 0} (given : Option Value) (text : Option (String Z)) → Shows given text → is_some text ≡ true → (w : Value) × (given ≡ Some w)
+is_given (Some w) text shows there = (w, refl)
+is_given None None shows there = cc
+is_given None (Some text) shows there = absurd shows
+
+-- and what isn't has none
+pub is_not_given : {Z : Type 0} (given : Option Value) (text : Option (String Z)) → Shows given text → is_some text ≡ false → given ≡ None
+is_not_given None text shows none = refl
+is_not_given (Some w) None shows none = absurd shows
+is_not_given (Some w) (Some text) shows none = cc
+
+-- no entry is walked yet
+pub walked_none : {X Y Z : Type 0} (ns : List Name) (map : BTreeMap (String X) (String Y)) (names : BTreeMap ℕ (String Z)) → ((q : List ℕ) → get_by_text map q ≡ None) → HasNames names ns
+    → IsWalked ns [] map names
+walked_none ns map names empty has = record {
+  has = λ q. rw (empty q) tt;
+  only = λ number name is. sym (has number) ∙ is;
+  left = λ number name is none. has number ∙ is;
+}
+
+-- one entry more from the end
+pub customs_step : (ns : List Name) (page : XlsEncoding) (s : List ℕ) (es : List Entry) (left : ℕ) (e d : Entry) → 0 < left → left ≤ length es → e ≡ get_or es (left - 1) d
+    → customs_of ns page s (drop (left - 1) es) ≡ custom_of ns page s e ++ customs_of ns page s (drop left es)
+customs_step ns page s es left e d some within is =
+    let i : left - 1 + 1 ≡ left = omega arith in
+    at_drop_more (λ rest. customs_of ns page s rest) es (left - 1) d (omega arith) ∙ rw (i, is) refl

@@ -5,8 +5,10 @@ pub mod Bytes
 pub mod Entries
 pub mod PropertyTypes
 pub mod Values
+pub mod Stored
 pub mod Moments
 pub mod Names
 pub mod Custom
+pub mod Walked
 pub mod Sections
 pub mod Properties

@@ -1,75 +1,79 @@
 //! Custom properties: names and values.
 
-ghost use Rattle.std.specs.Prelude.{◌≡◌, ◌<◌, ◌^◌, ℕ, ◌++◌, List, Some, IfOk, OnOk};
+ghost use Rattle.std.specs.Prelude.{◌≡◌, ◌<◌, ◌^◌, ℕ, ◌++◌, List, [], Some, IfOk, OnOk};
 ghost use Rattle.std.specs.Str.{bytes_eq};
+ghost use Rattle.std.specs.String.{string_bytes};
 ghost use Rattle.std.specs.BTreeMap.{get_by_text};
 ghost use Rattle.std.specs.Map.{update};
 ghost use Rattle.xls_props.specs.Values.{Value};
 ghost use Rattle.xls_props.specs.Names.{Name, HasNames};
 ghost use Rattle.xls_props.specs.Custom.{custom_of, customs_of, HasLast};
+ghost use Rattle.xls_props.specs.Walked.{IsWalked};
 
 use crate::entries::Entry;
 use crate::names::Names;
-use crate::values::value_at;
+use crate::values::{stored_at, text_of};
 use std::alloc::{AllocError, Global};
 use std::collections::BTreeMap;
 use xls_text::XlsEncoding;
 
 // Gives a value to a name.
-fn put(
-    alloc: Global,
-    map: &mut BTreeMap<String, String>,
-    name: &str,
-    value: String,
-) -> Result<(), AllocError>
-    ensures { OnOk result ((q : List ℕ)
-        → get_by_text map.new q ≡ update bytes_eq (get_by_text map.old) name.now (Some value) q) }
+fn put(map: &mut BTreeMap<String, String>, name: String, value: String) -> Result<(), AllocError>
+    ensures { OnOk result ((q : List ℕ) → get_by_text map.new q
+        ≡ update bytes_eq (get_by_text map.old) (string_bytes name) (Some value) q) }
 {
-    let key = String::from_str(alloc, name)?;
-    map.insert(key, value)?;
+    map.insert(name, value)?;
     Ok(())
 }
 
-// The custom property of an entry, if it has a name and a value.
+// Gives the value of an entry to its name, unless a later entry has given it one. The name is
+// taken, so that no earlier entry of the number is looked at again.
 fn put_entry(
     alloc: Global,
     map: &mut BTreeMap<String, String>,
-    names: &Names,
+    names: &mut Names,
     page: XlsEncoding,
     s: &[u8],
     entry: Entry,
 ) -> Result<(), AllocError>
-    ensures { OnOk result ((ns : List Name) (ps : List (List ℕ × Value)) → HasNames names.now ns
-        → HasLast map.old ps → HasLast map.new (ps ++ custom_of ns page s.now entry)) }
+    ensures { OnOk result ((ns : List Name) (ps : List (List ℕ × Value)) → IsWalked ns ps map.old names.old
+        → IsWalked ns (custom_of ns page s.now entry ++ ps) map.new names.new) }
 {
     if entry.0 < 2 {
         return Ok(());
     }
-    let Some(name) = names.get(&entry.0) else {
+    let Some(value) = stored_at(page, s, entry.1 as usize) else {
         return Ok(());
     };
-    let Some(value) = value_at(alloc, page, s, entry.1 as usize)? else {
+    let Some(name) = names.remove(&entry.0) else {
         return Ok(());
     };
-    let text = name.as_str();
-    put(alloc, map, text, value)?;
+    if map.contains_key(name.as_str()) {
+        return Ok(());
+    }
+    let text = text_of(alloc, value)?;
+    put(map, name, text)?;
     Ok(())
 }
 
-/// The custom properties of a section, by their names.
+/// The custom properties of a section, by their names: the last entry that gives a name a value
+/// decides, so they are walked from the last on.
 pub(crate) fn customs_of(
     alloc: Global,
-    names: &Names,
+    names: Names,
     page: XlsEncoding,
     s: &[u8],
     entries: &[Entry],
 ) -> Result<BTreeMap<String, String>, AllocError>
-    ensures { IfOk result (λ m. (ns : List Name) → HasNames names.now ns
+    ensures { IfOk result (λ m. (ns : List Name) → HasNames names ns
         → HasLast m (customs_of ns page s.now entries.now)) }
 {
     let mut map = BTreeMap::new(alloc);
-    'entries: for entry in entries {
-        put_entry(alloc, &mut map, names, page, s, *entry)?;
+    let mut names = names;
+    let mut left = entries.len();
+    'entries: while left > 0 {
+        left -= 1;
+        put_entry(alloc, &mut map, &mut names, page, s, entries[left])?;
     }
     Ok(map)
 }

@@ -1,6 +1,6 @@
 //! Moments: FILETIME as a text of ISO 8601.
 
-ghost use Rattle.std.specs.Prelude.{◌≡◌, ◌<◌, ◌≤◌, ◌++◌, pos, ◌+ℤ◌, IfOk, MatchOption};
+ghost use Rattle.std.specs.Prelude.{◌≡◌, ◌==◌, ◌||◌, nat_le, ◌<◌, ◌≤◌, ◌++◌, pos, ◌+ℤ◌, IfOk, MatchOption};
 ghost use Rattle.std.specs.String.{string_bytes};
 ghost use Rattle.jiff.specs.Words.{epoch_day, IsEpochDay, IsBetween, IsYmd};
 ghost use Rattle.xls_data.specs.SerialDays.{day_number};
@@ -62,6 +62,25 @@ impl fmt::Display for Clock {
     }
 }
 
+/// Whether a FILETIME has no text: 0, and what is past 9999-12-31.
+pub(crate) fn is_no_moment(filetime: u64) -> bool
+    ensures { result ≡ ((filetime == 0) || nat_le past_last_day filetime) }
+{
+    filetime == 0 || PAST_LAST_DAY <= filetime
+}
+
+/// The text of a FILETIME that has one.
+pub(crate) fn moment_text(alloc: Global, filetime: u64) -> Result<String, AllocError>
+    requires { (0 < filetime) × (filetime < past_last_day) }
+    ensures { IfOk result (λ text. IsMoment filetime (string_bytes text)) }
+{
+    let seconds = filetime / SECOND;
+    let day = days_after_1601((seconds / SECONDS_OF_A_DAY) as i32);
+    let clock = Clock((seconds % SECONDS_OF_A_DAY) as u32);
+    let text = format!(in alloc; "{day}T{clock}Z")?;
+    Ok(text)
+}
+
 /// The text of a FILETIME ([MS-DTYP] FILETIME), which counts 100 nanoseconds from 1601-01-01 UTC:
 /// `2020-02-29T00:00:00Z`, parts of a second dropped. None exactly for 0 and for what is past
 /// 9999-12-31. Only running out of memory refuses.
@@ -69,12 +88,9 @@ pub fn filetime_to_iso8601(alloc: Global, filetime: u64) -> Result<Option<String
     ensures { IfOk result (λ t. MatchOption t (IsNoMoment filetime) (λ text.
         (0 < filetime) × (filetime < past_last_day) × IsMoment filetime (string_bytes text))) }
 {
-    if filetime == 0 || PAST_LAST_DAY <= filetime {
+    if is_no_moment(filetime) {
         return Ok(None);
     }
-    let seconds = filetime / SECOND;
-    let day = days_after_1601((seconds / SECONDS_OF_A_DAY) as i32);
-    let clock = Clock((seconds % SECONDS_OF_A_DAY) as u32);
-    let text = format!(in alloc; "{day}T{clock}Z")?;
+    let text = moment_text(alloc, filetime)?;
     Ok(Some(text))
 }

@@ -144,6 +144,6 @@ impl<'a> Section<'a> {
         ensures { IfOk result (λ m. HasLast m (customs_in self.now)) }
     {
         let names = self.names(alloc)?;
-        customs_of(alloc, &names, self.page, self.bytes, &self.entries)
+        customs_of(alloc, names, self.page, self.bytes, &self.entries)
     }
 }

@@ -1,16 +1,14 @@
 //! The values of properties as texts.
 
-ghost use Rattle.std.specs.Prelude.{◌≡◌, ◌<◌, ◌^◌, IfOk, Option};
+ghost use Rattle.std.specs.Prelude.{◌≡◌, ◌<◌, ◌^◌, IfOk, IfSome, Option};
 ghost use Rattle.std.specs.Option.{option_map, unwrap_or};
-ghost use Rattle.std.specs.Fmt.{decimal, signed_decimal};
 ghost use Rattle.std.specs.String.{string_bytes};
-ghost use Rattle.xls_data.specs.Numbers.{bits_text};
-ghost use Rattle.xls_props.specs.Bytes.{u16_at, i16_at, u32_at, i32_at, u64_at};
-ghost use Rattle.xls_props.specs.Values.{Value, value_unless_empty, bool_text, bytes_text, units_text, plain_of_type, moment_at, value_at, Shows, page_in, page_number, field, version_text, app_version};
+ghost use Rattle.xls_props.specs.Values.{Value, Plain, value_unless_empty, bool_text, paged_text, bytes_text, units_text, plain_of_type, moment_at, value_at, Shows, ShowsValue, page_in, page_number, field, version_text, app_version};
+ghost use Rattle.xls_props.specs.Stored.{shown, HasText};
 
 use crate::bytes::{bytes_at, i16_at, i32_at, u16_at, u32_at, u64_at};
 use crate::entries::{Entry, first_of, last_of};
-use crate::moments::filetime_to_iso8601;
+use crate::moments::{is_no_moment, moment_text};
 use crate::texts::drop_nuls;
 use std::alloc::{AllocError, Global};
 use std::fmt;
@@ -41,129 +39,124 @@ const VT_LPWSTR: u16 = 0x001F;
 /// A moment.
 const VT_FILETIME: u16 = 0x0040;
 
-fn i16_text(alloc: Global, s: &[u8], at: usize) -> Result<Option<String>, AllocError>
-    ensures { IfOk result (λ t. option_map string_bytes t
-        ≡ option_map signed_decimal (i16_at s.now at)) }
-{
-    let Some(n) = i16_at(s, at) else {
-        return Ok(None);
-    };
-    Ok(Some(format!(in alloc; "{n}")?))
+/// A value as it stands in a section: its number, or its bytes.
+#[derive(Clone, Copy)]
+pub(crate) enum Stored<'a> {
+    /// A signed number of 16 bits.
+    Short(i16),
+    /// A signed number of 32 bits.
+    Long(i32),
+    /// An unsigned number of 32 bits.
+    Unsigned(u32),
+    /// The bits of a double.
+    Double(u64),
+    /// A truth value, 0 for false.
+    Truth(u16),
+    /// Bytes in a page.
+    Text(XlsEncoding, &'a [u8]),
+    /// A FILETIME that has a text.
+    Moment(u64),
 }
 
-fn i32_text(alloc: Global, s: &[u8], at: usize) -> Result<Option<String>, AllocError>
-    ensures { IfOk result (λ t. option_map string_bytes t
-        ≡ option_map signed_decimal (i32_at s.now at)) }
-{
-    let Some(n) = i32_at(s, at) else {
-        return Ok(None);
-    };
-    Ok(Some(format!(in alloc; "{n}")?))
-}
-
-fn u32_text(alloc: Global, s: &[u8], at: usize) -> Result<Option<String>, AllocError>
-    ensures { IfOk result (λ t. option_map string_bytes t ≡ option_map decimal (u32_at s.now at)) }
-{
-    let Some(n) = u32_at(s, at) else {
-        return Ok(None);
-    };
-    Ok(Some(format!(in alloc; "{n}")?))
-}
-
-fn double_text(alloc: Global, s: &[u8], at: usize) -> Result<Option<String>, AllocError>
-    ensures { IfOk result (λ t. option_map string_bytes t
-        ≡ option_map bits_text (u64_at s.now at)) }
-{
-    let Some(bits) = u64_at(s, at) else {
-        return Ok(None);
-    };
-    let number = Number::Bits(bits);
-    Ok(Some(format!(in alloc; "{number}")?))
-}
-
-fn bool_text(alloc: Global, s: &[u8], at: usize) -> Result<Option<String>, AllocError>
-    ensures { IfOk result (λ t. option_map string_bytes t
-        ≡ option_map bool_text (u16_at s.now at)) }
-{
-    let Some(n) = u16_at(s, at) else {
-        return Ok(None);
-    };
-    if n == 0 {
-        Ok(Some(String::from_str(alloc, "false")?))
-    } else {
-        Ok(Some(String::from_str(alloc, "true")?))
-    }
-}
-
-fn bytes_text(
-    alloc: Global,
-    page: XlsEncoding,
-    s: &[u8],
-    at: usize,
-) -> Result<Option<String>, AllocError>
+fn bytes_at_count(page: XlsEncoding, s: &[u8], at: usize) -> Option<Stored<'_>>
     requires { at < 2 ^ 40 }
-    ensures { IfOk result (λ t. option_map string_bytes t ≡ bytes_text page s.now at) }
+    ensures { option_map shown result ≡ option_map Plain (bytes_text page s.now at) }
 {
-    let Some(n) = u32_at(s, at) else {
-        return Ok(None);
-    };
-    let Some(bytes) = bytes_at(s, at + 4, n as usize) else {
-        return Ok(None);
-    };
-    let mut text = page.decode_all(alloc, bytes)?;
-    drop_nuls(&mut text);
-    Ok(Some(text))
+    let n = u32_at(s, at)?;
+    let bytes = bytes_at(s, at + 4, n as usize)?;
+    Some(Stored::Text(page, bytes))
 }
 
-fn units_text(alloc: Global, s: &[u8], at: usize) -> Result<Option<String>, AllocError>
+fn units_at_count(s: &[u8], at: usize) -> Option<Stored<'_>>
     requires { at < 2 ^ 40 }
-    ensures { IfOk result (λ t. option_map string_bytes t ≡ units_text s.now at) }
+    ensures { option_map shown result ≡ option_map Plain (units_text s.now at) }
 {
-    let Some(n) = u32_at(s, at) else {
-        return Ok(None);
-    };
-    let Some(bytes) = bytes_at(s, at + 4, 2 * n as usize) else {
-        return Ok(None);
-    };
-    let mut text = XlsEncoding::Utf16.decode_all(alloc, bytes)?;
-    drop_nuls(&mut text);
-    Ok(Some(text))
+    let n = u32_at(s, at)?;
+    let bytes = bytes_at(s, at + 4, 2 * n as usize)?;
+    Some(Stored::Text(XlsEncoding::Utf16, bytes))
 }
 
-// The text of a value of a type, but no moment.
-fn plain_of_type(
-    alloc: Global,
-    typ: u16,
-    page: XlsEncoding,
-    s: &[u8],
-    at: usize,
-) -> Result<Option<String>, AllocError>
+// A value of a type, but no moment.
+fn plain_of_type(typ: u16, page: XlsEncoding, s: &[u8], at: usize) -> Option<Stored<'_>>
     requires { at < 2 ^ 40 }
-    ensures { IfOk result (λ t. option_map string_bytes t ≡ plain_of_type typ page s.now at) }
+    ensures shows { option_map shown result ≡ option_map Plain (plain_of_type typ page s.now at) }
+    ensures texts { IfSome result HasText }
 {
     match typ {
-        VT_I2 => i16_text(alloc, s, at),
-        VT_I4 => i32_text(alloc, s, at),
-        VT_R8 => double_text(alloc, s, at),
-        VT_BOOL => bool_text(alloc, s, at),
-        VT_UI4 => u32_text(alloc, s, at),
-        VT_LPSTR => bytes_text(alloc, page, s, at),
-        VT_LPWSTR => units_text(alloc, s, at),
-        _ => Ok(None),
+        VT_I2 => Some(Stored::Short(i16_at(s, at)?)),
+        VT_I4 => Some(Stored::Long(i32_at(s, at)?)),
+        VT_R8 => Some(Stored::Double(u64_at(s, at)?)),
+        VT_BOOL => Some(Stored::Truth(u16_at(s, at)?)),
+        VT_UI4 => Some(Stored::Unsigned(u32_at(s, at)?)),
+        VT_LPSTR => bytes_at_count(page, s, at),
+        VT_LPWSTR => units_at_count(s, at),
+        _ => None,
     }
 }
 
-fn moment_text(alloc: Global, s: &[u8], at: usize) -> Result<Option<String>, AllocError>
-    ensures { IfOk result (λ t. Shows (moment_at s.now at) t) }
+fn moment_at(s: &[u8], at: usize) -> Option<Stored<'_>>
+    ensures shows { option_map shown result ≡ moment_at s.now at }
+    ensures texts { IfSome result HasText }
 {
-    let Some(n) = u64_at(s, at) else {
-        return Ok(None);
-    };
-    filetime_to_iso8601(alloc, n)
+    let n = u64_at(s, at)?;
+    if is_no_moment(n) {
+        return None;
+    }
+    Some(Stored::Moment(n))
 }
 
-/// The text of the property whose type stands at a place.
-pub(crate) fn value_at(
+/// The value of the property whose type stands at a place, in no memory of its own.
+pub(crate) fn stored_at(page: XlsEncoding, s: &[u8], at: usize) -> Option<Stored<'_>>
+    requires { at < 2 ^ 32 }
+    ensures shows { option_map shown result ≡ value_at page s.now at }
+    ensures texts { IfSome result HasText }
+{
+    let typ = u16_at(s, at)?;
+    if typ == VT_FILETIME {
+        return moment_at(s, at + 4);
+    }
+    plain_of_type(typ, page, s, at + 4)
+}
+
+fn paged_text(alloc: Global, page: XlsEncoding, bytes: &[u8]) -> Result<String, AllocError>
+    ensures { IfOk result (λ t. string_bytes t ≡ paged_text page bytes.now) }
+{
+    let mut text = page.decode_all(alloc, bytes)?;
+    drop_nuls(&mut text);
+    Ok(text)
+}
+
+fn bool_text(alloc: Global, n: u16) -> Result<String, AllocError>
+    ensures { IfOk result (λ t. string_bytes t ≡ bool_text n) }
+{
+    if n == 0 {
+        String::from_str(alloc, "false")
+    } else {
+        String::from_str(alloc, "true")
+    }
+}
+
+/// The text that shows a value.
+pub(crate) fn text_of(alloc: Global, value: Stored<'_>) -> Result<String, AllocError>
+    requires { HasText value }
+    ensures { IfOk result (λ t. ShowsValue (shown value.entry) (string_bytes t)) }
+{
+    match value {
+        Stored::Short(n) => Ok(format!(in alloc; "{n}")?),
+        Stored::Long(n) => Ok(format!(in alloc; "{n}")?),
+        Stored::Unsigned(n) => Ok(format!(in alloc; "{n}")?),
+        Stored::Double(bits) => {
+            let number = Number::Bits(bits);
+            Ok(format!(in alloc; "{number}")?)
+        }
+        Stored::Truth(n) => bool_text(alloc, n),
+        Stored::Text(page, bytes) => paged_text(alloc, page, bytes),
+        Stored::Moment(n) => moment_text(alloc, n),
+    }
+}
+
+// The text of the property whose type stands at a place.
+fn value_at(
     alloc: Global,
     page: XlsEncoding,
     s: &[u8],
@@ -172,13 +165,11 @@ pub(crate) fn value_at(
     requires { at < 2 ^ 32 }
     ensures { IfOk result (λ t. Shows (value_at page s.now at) t) }
 {
-    let Some(typ) = u16_at(s, at) else {
+    let Some(value) = stored_at(page, s, at) else {
         return Ok(None);
     };
-    if typ == VT_FILETIME {
-        return moment_text(alloc, s, at + 4);
-    }
-    plain_of_type(alloc, typ, page, s, at + 4)
+    let text = text_of(alloc, value)?;
+    Ok(Some(text))
 }
 
 fn page_number(entries: &[Entry], s: &[u8]) -> Option<u16>

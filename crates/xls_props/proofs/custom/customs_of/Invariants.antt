@@ -1,8 +1,15 @@
-use Rattle.std.proofs.Common.{List, take}
+use Rattle.std.proofs.Common.{◌≤◌, List, drop, length}
 use Rattle.xls_props.specs.Names.{Name, HasNames}
-use Rattle.xls_props.specs.Custom.{customs_of, HasLast}
+use Rattle.xls_props.specs.Custom.{customs_of}
+use Rattle.xls_props.specs.Walked.{IsWalked}
 use Rattle.xls_props.proofs.custom.customs_of.Given as goal
 
--- the map has the last values of the entries so far
+-- the entries from left on are walked
 abbrev pub invariant-entries : goal.invariant-entries
-invariant-entries l = (ns : List Name) → HasNames l.names ns → HasLast l.map (customs_of ns l.page l.s (take l.entry-index l.entries))
+invariant-entries l = record {
+  within : l.left ≤ length l.entries;
+  walked : (ns : List Name) → HasNames l.fn.names ns → IsWalked ns (customs_of ns l.page l.s (drop l.left l.entries)) l.map l.names;
+}
+
+abbrev pub decreases-entries : goal.decreases-entries
+decreases-entries l = l.left

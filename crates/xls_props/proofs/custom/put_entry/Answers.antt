@@ -1,25 +1,49 @@
-use Rattle.std.proofs.Common.{rules, ◌≡◌, Some, List, ◌++◌, sym, ap, subst, nat_lt, false, ◌∙◌, string_bytes, ℕ}
+use Rattle.std.proofs.Common.{rules, ◌≡◌, ℕ, Some, None, List, ◌++◌, sym, ap, subst, false, true, cond, arith, string_bytes}
+use Rattle.std.proofs.lemmas.Grind.{common_steps}
+use Rattle.std.specs.Prelude.{◌==◌, is_some, nat_lt}
 use Rattle.std.specs.Option.{option_map}
 use Rattle.std.specs.Ordering.{nat_cmp}
-use Rattle.std.specs.BTreeMap.{get}
-use Rattle.xls_props.specs.Entries.{last_of}
-use Rattle.xls_props.specs.Values.{Value, value_at, Shows}
-use Rattle.xls_props.specs.Custom.{named, custom_of, HasLast}
-use Rattle.xls_props.proofs.CustomLemmas.{put_last, put_none}
+use Rattle.std.specs.BTreeMap.{get, get_by_text}
+use Rattle.xls_props.specs.Values.{Value, value_at}
+use Rattle.xls_props.specs.Stored.{shown}
+use Rattle.xls_props.specs.Walked.{IsWalked}
+use Rattle.xls_props.proofs.CustomLemmas.{walked_given, walked_new, walked_unnamed, custom_named, custom_one, is_given, is_not_given}
 use Rattle.xls_props.proofs.custom.put_entry.Goals as goal
 
-pub returns : goal.returns
-returns c = λ ns ps names has.
-    let found : get nat_cmp c.args.names.now c.args.entry.0 ≡ Some c.in-Some.name.now = search rules in
-    let text : string_bytes c.in-Some.name.now ≡ c.as_str-text.result.now = search rules in
-    let is : last_of c.args.entry.0 ns ≡ Some c.as_str-text.result.now = sym (names c.args.entry.0) ∙ ap (option_map string_bytes) found ∙ ap Some text in
-    let shows : Shows (value_at c.args.page c.args.s.now c.args.entry.1) (Some c.in-Some-2.value) = search rules in
-    let low : nat_lt c.args.entry.0 2 ≡ false = search rules in
-    let one : custom_of ns c.args.page c.args.s.now c.args.entry
-    ≡ named (last_of c.args.entry.0 ns) (value_at c.args.page c.args.s.now c.args.entry.1) = rw low in
-    subst (λ (qs : List (List ℕ × Value)). HasLast c.put.new.map (ps ++ qs)) (sym one) (put_last c.args.map.now c.put.new.map c.in-Some-2.value c.as_str-text.result.now ps _ _ c.in_ok-put.ensures is shows has)
+-- the number has no name, or its name has a value already
+pub returns-in_default-remove : goal.returns-in_default-remove
+returns-in_default-remove c = λ ns ps walked.
+    let gone : get nat_cmp c.args.names.now c.args.entry.0 ≡ None = search rules in
+    let removed : (j : ℕ) → get nat_cmp c.remove.new.self j ≡ cond (c.args.entry.0 == j) None (get nat_cmp c.args.names.now j) = λ j. grind (arith, common_steps) in
+    let other : nat_lt c.args.entry.0 2 ≡ false = search rules in
+    let one = custom_named ns c.args.page c.args.s.now c.args.entry other in
+    subst (λ (qs : List (List ℕ × Value)). IsWalked ns (qs ++ ps) c.args.map.now c.remove.new.self) (sym one)
+    (walked_unnamed ns ps c.args.map.now c.args.names.now c.remove.new.self c.args.entry.0 removed walked (value_at c.args.page c.args.s.now c.args.entry.1) gone)
 
--- without a value the map stays
-pub returns-in_default-2 : goal.returns-in_default-2
-returns-in_default-2 c = λ ns ps names has.
-    put_none _ _ c.args.map.now ns c.args.page c.args.s.now c.args.entry ps c.in_ok-value.field-0 c.in_default-2.is c.in_ok-value.ensures has
+-- another number gave the name a value
+pub returns-then-contains_key : goal.returns-then-contains_key
+returns-then-contains_key c = λ ns ps walked.
+    let got : get nat_cmp c.args.names.now c.args.entry.0 ≡ Some c.in-Some-remove.name = search rules in
+    let removed : (j : ℕ) → get nat_cmp c.remove.new.self j ≡ cond (c.args.entry.0 == j) None (get nat_cmp c.args.names.now j) = λ j. grind (arith, common_steps) in
+    let other : nat_lt c.args.entry.0 2 ≡ false = search rules in
+    let there : is_some (get_by_text c.args.map.now (string_bytes c.in-Some-remove.name)) ≡ true = search rules in
+    let value : Some (shown c.in-Some.value) ≡ value_at c.args.page c.args.s.now c.args.entry.1 = c.in-Some.ensures.shows in
+    let is = walked.only c.args.entry.0 (string_bytes c.in-Some-remove.name) (ap (option_map string_bytes) got) in
+    let given = is_given _ _ (walked.has (string_bytes c.in-Some-remove.name)) there in
+    let one = custom_one ns c.args.page c.args.s.now c.args.entry _ _ other is value in
+    subst (λ (qs : List (List ℕ × Value)). IsWalked ns (qs ++ ps) c.args.map.now c.remove.new.self) (sym one)
+    (walked_given ns ps c.args.map.now c.args.names.now c.remove.new.self c.args.entry.0 removed walked _ _ given.0 is given.1)
+
+-- the name has no value yet
+pub returns : goal.returns
+returns c = λ ns ps walked.
+    let got : get nat_cmp c.args.names.now c.args.entry.0 ≡ Some c.in-Some-remove.name = search rules in
+    let removed : (j : ℕ) → get nat_cmp c.remove.new.self j ≡ cond (c.args.entry.0 == j) None (get nat_cmp c.args.names.now j) = λ j. grind (arith, common_steps) in
+    let other : nat_lt c.args.entry.0 2 ≡ false = search rules in
+    let new : is_some (get_by_text c.args.map.now (string_bytes c.in-Some-remove.name)) ≡ false = search rules in
+    let value : Some (shown c.in-Some.value) ≡ value_at c.args.page c.args.s.now c.args.entry.1 = c.in-Some.ensures.shows in
+    let is = walked.only c.args.entry.0 (string_bytes c.in-Some-remove.name) (ap (option_map string_bytes) got) in
+    let first = is_not_given _ _ (walked.has (string_bytes c.in-Some-remove.name)) new in
+    let one = custom_one ns c.args.page c.args.s.now c.args.entry _ _ other is value in
+    subst (λ (qs : List (List ℕ × Value)). IsWalked ns (qs ++ ps) c.put.new.map c.remove.new.self) (sym one)
+    (walked_new ns ps c.args.map.now c.args.names.now c.remove.new.self c.args.entry.0 removed walked c.put.new.map c.in_ok-text.text _ _ is first c.in_ok-text.ensures c.in_ok-put.ensures)
