@@ -1,5 +1,6 @@
 -- Values from outside, so that a wrong rule in the definitions does not check.
-use Rattle.std.proofs.Common.{◌≡◌, ℕ, List, [], ◌∷◌, ◌++◌, refl, pos, negsuc, codes, Some, None, Ok, Err, replicate}
+use Rattle.std.proofs.Common.{◌≡◌, ℕ, List, [], ◌∷◌, ◌++◌, length, map, refl, pos, negsuc, codes, Some, None, Ok, Err, replicate}
+use Rattle.std.specs.List.{flat_map}
 use Rattle.std.specs.Fmt.{digits}
 use Rattle.xls_bytes.specs.Columns.{word_of, column_name}
 use Rattle.xls_bytes.specs.Doubles.{size_of_parts}
@@ -13,6 +14,7 @@ use Rattle.xls_text.specs.declared.encoding.XlsEncoding.{XlsEncoding}
 use Rattle.xls_formula.specs.Context.{Context}
 use Rattle.xls_formula.specs.Defined.{defined_at, lbl_at}
 use Rattle.xls_formula.specs.Fold.{formula_text}
+use Rattle.xls_formula.specs.Functions.{Function, shipped}
 
 -- a workbook of one sheet, `A`, of one name, `N`, and of a reference to the sheet
 abbrev context : XlsEncoding → Biff → Context
@@ -114,12 +116,23 @@ known_fraction : formula_text (context Utf16 Biff8) (9 ∷ 0 ∷ 0x1F ∷ 0 ∷ 
 unfolding digits size_of_parts sixteen_digits
 known_fraction = refl
 
--- an error value as in a cell, and the one that prints otherwise
-known_na : formula_text (context Utf16 Biff8) (2 ∷ 0 ∷ 0x1C ∷ 0x2A ∷ []) ≡ Ok (codes "#N/A")
-known_na = refl
+-- the error values by their codes
+known_errors : map (λ code. formula_text (context Utf16 Biff8) (2 ∷ 0 ∷ 0x1C ∷ code ∷ [])) (0x00 ∷ 0x07 ∷ 0x0F ∷ 0x17 ∷ 0x1D ∷ 0x24 ∷ 0x2A ∷ 0x2B ∷ [])
+    ≡ map Ok (codes "#NULL!" ∷ codes "#DIV/0!" ∷ codes "#VALUE!" ∷ codes "#REF!" ∷ codes "#NAME?" ∷ codes "#NUM!" ∷ codes "#N/A" ∷ codes "#GETTING_DATA" ∷ [])
+known_errors = refl
 
-known_getting_data : formula_text (context Utf16 Biff8) (2 ∷ 0 ∷ 0x1C ∷ 0x2B ∷ []) ≡ Ok (codes "#GETTING_DATA")
-known_getting_data = refl
+-- the words that stand for themselves: truth values, an array, cells that are gone, here and on a sheet, and a
+-- name of another workbook
+known_words : map (λ tokens. formula_text (context Utf16 Biff8) (length tokens ∷ 0 ∷ tokens))
+    ((0x01 ∷ replicate 4 0) ∷ (0x16 ∷ []) ∷ (0x1D ∷ 0 ∷ []) ∷ (0x1D ∷ 1 ∷ []) ∷ (0x20 ∷ replicate 7 0) ∷ (0x2A ∷ replicate 4 0) ∷ (0x2B ∷ replicate 8 0) ∷ (0x39 ∷ replicate 6 0) ∷ (0x3C ∷ replicate 6 0) ∷ (0x3D ∷ replicate 10 0) ∷ [])
+    ≡ map Ok ([] ∷ [] ∷ codes "FALSE" ∷ codes "TRUE" ∷ codes "{PtgArray}" ∷ codes "#REF!" ∷ codes "#REF!" ∷ codes "[PtgNameX]" ∷ codes "A!#REF!" ∷ codes "A!#REF!" ∷ [])
+known_words = refl
+
+-- the tokens that print nothing: 18, and of the attributes 01, 02, 04, 08, 20 and 21
+known_silent : map (λ tokens. formula_text (context Utf16 Biff8) (length (0x1D ∷ 1 ∷ tokens) ∷ 0 ∷ 0x1D ∷ 1 ∷ tokens))
+    ((0x18 ∷ replicate 5 0) ∷ (0x19 ∷ 0x01 ∷ 0 ∷ 0 ∷ []) ∷ (0x19 ∷ 0x02 ∷ 0 ∷ 0 ∷ []) ∷ (0x19 ∷ 0x04 ∷ 0 ∷ 0 ∷ 0 ∷ 0 ∷ []) ∷ (0x19 ∷ 0x08 ∷ 0 ∷ 0 ∷ []) ∷ (0x19 ∷ 0x20 ∷ 0 ∷ 0 ∷ []) ∷ (0x19 ∷ 0x21 ∷ 0 ∷ 0 ∷ []) ∷ [])
+    ≡ replicate 7 (Ok (codes "TRUE"))
+known_silent = refl
 
 -- operands: none, one too many, one too few
 known_empty : formula_text (context Utf16 Biff8) (0 ∷ 0 ∷ []) ≡ Err (errors.InvalidFormula 0)
@@ -132,10 +145,15 @@ known_sum : formula_text (context Utf16 Biff8) (7 ∷ 0 ∷ 0x1E ∷ 1 ∷ 0 ∷
 unfolding digits
 known_sum = refl
 
--- 0C, which the standard calls PtgGe
-known_ge : formula_text (context Utf16 Biff8) (7 ∷ 0 ∷ 0x1E ∷ 1 ∷ 0 ∷ 0x1E ∷ 5 ∷ 0 ∷ 0x0C ∷ []) ≡ Ok (codes "1>5")
-unfolding digits
-known_ge = refl
+-- the operators, 03 to 11, between two missing arguments; 0C is PtgGe
+known_operators : map (λ token. formula_text (context Utf16 Biff8) (3 ∷ 0 ∷ 0x16 ∷ 0x16 ∷ token ∷ [])) (0x03 ∷ 0x04 ∷ 0x05 ∷ 0x06 ∷ 0x07 ∷ 0x08 ∷ 0x09 ∷ 0x0A ∷ 0x0B ∷ 0x0C ∷ 0x0D ∷ 0x0E ∷ 0x0F ∷ 0x10 ∷ 0x11 ∷ [])
+    ≡ map Ok ((0x2B ∷ []) ∷ (0x2D ∷ []) ∷ (0x2A ∷ []) ∷ (0x2F ∷ []) ∷ (0x5E ∷ []) ∷ (0x26 ∷ []) ∷ (0x3C ∷ []) ∷ (0x3C ∷ 0x3D ∷ []) ∷ (0x3D ∷ []) ∷ (0x3E ∷ []) ∷ (0x3E ∷ 0x3D ∷ []) ∷ (0x3C ∷ 0x3E ∷ []) ∷ (0x20 ∷ []) ∷ (0x2C ∷ []) ∷ (0x3A ∷ []) ∷ [])
+known_operators = refl
+
+-- 12 to 15 and 19 10: signs, `%`, parentheses and SUM around their operand
+known_signs : map (λ tokens. formula_text (context Utf16 Biff8) (length (0x1D ∷ 1 ∷ tokens) ∷ 0 ∷ 0x1D ∷ 1 ∷ tokens)) ((0x12 ∷ []) ∷ (0x13 ∷ []) ∷ (0x14 ∷ []) ∷ (0x15 ∷ []) ∷ (0x19 ∷ 0x10 ∷ 0 ∷ 0 ∷ []) ∷ [])
+    ≡ map Ok (codes "+TRUE" ∷ codes "-TRUE" ∷ codes "TRUE%" ∷ codes "(TRUE)" ∷ codes "SUM(TRUE)" ∷ [])
+known_signs = refl
 
 known_one_operand : formula_text (context Utf16 Biff8) (4 ∷ 0 ∷ 0x1E ∷ 1 ∷ 0 ∷ 3 ∷ []) ≡ Err errors.StackLen
 known_one_operand = refl
@@ -150,6 +168,24 @@ known_no_operand = refl
 
 known_no_function : formula_text (context Utf16 Biff8) (4 ∷ 0 ∷ 0x22 ∷ 1 ∷ 3 ∷ 0 ∷ []) ≡ Err (errors.IfTab 3)
 known_no_function = refl
+
+-- the functions of index 0 to 71, each with a space after it, and their counts of operands
+known_names : flat_map (λ (f : Function). f.0 ++ (0x20 ∷ [])) shipped ≡ codes "COUNT IF ISNA ISERROR SUM AVERAGE MIN MAX ROW COLUMN NA NPV STDEV DOLLAR FIXED SIN COS TAN ATAN PI SQRT EXP LN LOG10 ABS INT SIGN ROUND LOOKUP INDEX REPT MID LEN VALUE TRUE FALSE AND OR NOT MOD DCOUNT DSUM DAVERAGE DMIN DMAX DSTDEV VAR DVAR TEXT LINEST TREND LOGEST GROWTH GOTO HALT RETURN PV FV NPER PMT RATE MIRR IRR RAND MATCH DATE TIME DAY MONTH YEAR WEEKDAY HOUR "
+known_names = refl
+
+known_counts : map (λ (f : Function). f.1) shipped ≡
+    0xFF ∷ 3 ∷ 1 ∷ 1 ∷ 0xFF ∷ 0xFF ∷ 0xFF ∷ 0xFF ∷ 1 ∷ 1 ∷ 0 ∷ 0xFE ∷ 0xFF ∷ 2 ∷ 3 ∷ 1 ∷ 1 ∷ 1 ∷ 1 ∷ 0 ∷ 1 ∷ 1 ∷ 1 ∷ 1 ∷ 1 ∷ 1 ∷ 1 ∷ 2 ∷ 3 ∷ 4 ∷ 2 ∷ 3 ∷ 1 ∷ 1 ∷ 0 ∷ 0 ∷
+    0xFF ∷ 0xFF ∷ 1 ∷ 2 ∷ 3 ∷ 3 ∷ 3 ∷ 3 ∷ 3 ∷ 3 ∷ 0xFF ∷ 3 ∷ 2 ∷ 4 ∷ 4 ∷ 4 ∷ 4 ∷ 1 ∷ 1 ∷ 1 ∷ 5 ∷ 5 ∷ 5 ∷ 5 ∷ 6 ∷ 3 ∷ 2 ∷ 0 ∷ 3 ∷ 3 ∷ 3 ∷ 1 ∷ 1 ∷ 1 ∷ 2 ∷ 1 ∷ []
+known_counts = refl
+
+-- so many spaces or returns by the kind, 0 to 6, of both attributes
+known_spaces : map (λ kind. formula_text (context Utf16 Biff8) (5 ∷ 0 ∷ 0x16 ∷ 0x19 ∷ 0x40 ∷ kind ∷ 2 ∷ [])) (0 ∷ 1 ∷ 2 ∷ 3 ∷ 4 ∷ 5 ∷ 6 ∷ [])
+    ≡ map Ok ((0x20 ∷ 0x20 ∷ []) ∷ (0x0D ∷ 0x0D ∷ []) ∷ (0x20 ∷ 0x20 ∷ []) ∷ (0x0D ∷ 0x0D ∷ []) ∷ (0x20 ∷ 0x20 ∷ []) ∷ (0x0D ∷ 0x0D ∷ []) ∷ (0x20 ∷ 0x20 ∷ []) ∷ [])
+known_spaces = refl
+
+known_spaces_semi : map (λ kind. formula_text (context Utf16 Biff8) (5 ∷ 0 ∷ 0x16 ∷ 0x19 ∷ 0x41 ∷ kind ∷ 1 ∷ [])) (0 ∷ 1 ∷ 2 ∷ 3 ∷ 4 ∷ 5 ∷ 6 ∷ [])
+    ≡ map Ok ((0x20 ∷ []) ∷ (0x0D ∷ []) ∷ (0x20 ∷ []) ∷ (0x0D ∷ []) ∷ (0x20 ∷ []) ∷ (0x0D ∷ []) ∷ (0x20 ∷ []) ∷ [])
+known_spaces_semi = refl
 
 -- spaces before the last operand, and where there is none
 known_space : formula_text (context Utf16 Biff8) (7 ∷ 0 ∷ 0x1E ∷ 5 ∷ 0 ∷ 0x19 ∷ 0x40 ∷ 0 ∷ 2 ∷ []) ≡ Ok (codes "  5")

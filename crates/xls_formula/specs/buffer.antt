@@ -4,5 +4,6 @@ pub mod Scopes
 pub mod Pieces
 pub mod Fronts
 pub mod Leaves
+pub mod Printed
 pub mod Put
 pub mod Steps

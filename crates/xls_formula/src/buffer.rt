@@ -9,9 +9,11 @@ ghost use Rattle.xls_strings.specs.Texts.{text_of};
 ghost use Rattle.xls_formula.specs.buffer.Fronts.{IsChain};
 ghost use Rattle.xls_formula.specs.buffer.Leaves.{AreChained, AreWhole, IsMarked, leaf_texts};
 ghost use Rattle.xls_formula.specs.buffer.Pieces.{with_join, with_prefix, with_suffix};
+ghost use Rattle.xls_formula.specs.buffer.Printed.{word_text};
 ghost use Rattle.xls_formula.specs.buffer.Put.{one_text};
 
 use crate::fronts::Fronts;
+use crate::words::{Word, push_word};
 use std::alloc::{AllocError, Global};
 use std::marker::Model;
 use xls_biff::XlsError;
@@ -28,8 +30,8 @@ struct Leaf {
 #[derive(Drop)]
 pub(crate) struct Operands {
     alloc: Global,
-    /// The leaves' bytes, one after another.
-    text: Vec<u8>,
+    /// The leaves' texts, one after another.
+    text: String,
     leaves: Vec<Leaf>,
     /// What was put before leaves.
     fronts: Fronts,
@@ -39,14 +41,15 @@ pub(crate) struct Operands {
 
 impl Model for Operands {
     ghost use Rattle.std.specs.Prelude.{List, ℕ};
+    ghost use Rattle.std.specs.String.{string_bytes};
 
     ghost Value = { List (List ℕ) };
 
     ghost use Rattle.xls_formula.specs.buffer.Leaves.{AreOperands, texts_of};
 
-    ghost view = { λ b. texts_of b.fronts b.text.items b.leaves.items b.starts.items };
+    ghost view = { λ b. texts_of b.fronts (string_bytes b.text) b.leaves.items b.starts.items };
 
-    ghost invariant = { λ b. AreOperands b.fronts b.text.items b.leaves.items b.starts.items };
+    ghost invariant = { λ b. AreOperands b.fronts (string_bytes b.text) b.leaves.items b.starts.items };
 }
 
 /// Puts a mark before a leaf.
@@ -70,7 +73,7 @@ fn joined(
     requires chained { AreChained (length fronts.now) leaves.now }
     ensures { IfOk result (λ out. out.items ≡ concat (leaf_texts fronts.now text.now leaves.now)) }
 {
-    let mut out = Vec::new(alloc);
+    let mut out = Vec::with_capacity(alloc, text.len().saturating_add(fronts.size()))?;
     let mut rest = text;
     'leaves: for leaf in leaves {
         fronts.write(leaf.front, &mut out)?;
@@ -88,7 +91,7 @@ impl Operands {
     {
         Operands {
             alloc,
-            text: Vec::new(alloc),
+            text: String::new(alloc),
             leaves: Vec::new(alloc),
             fronts: Fronts::new(alloc),
             starts: Vec::new(alloc),
@@ -120,9 +123,9 @@ impl Operands {
         }
     }
 
-    /// Puts a text on top.
-    pub(crate) fn push(&mut self, word: &str) -> Result<(), AllocError>
-        ensures { OnOk result (self.new ≡ chars word.now ∷ self.old) }
+    /// Puts a word on top.
+    pub(crate) fn push(&mut self, word: Word<'_>) -> Result<(), AllocError>
+        ensures { OnOk result (self.new ≡ word_text word.entry ∷ self.old) }
     {
         self.push_empty()?;
         self.put_after(word)
@@ -138,15 +141,23 @@ impl Operands {
         }
     }
 
-    /// Appends a mark to the text on top.
-    pub(crate) fn put_after(&mut self, mark: &str) -> Result<(), AllocError>
+    /// Appends a word to the text on top. Where memory runs out, no operand is left.
+    pub(crate) fn put_after(&mut self, word: Word<'_>) -> Result<(), AllocError>
         requires { 0 < length self.old }
-        ensures { OnOk result (self.new ≡ with_suffix (chars mark.now) self.old) }
+        ensures { OnOk result (self.new ≡ with_suffix (word_text word.entry) self.old) }
     {
-        let last = self.leaves.len() - 1;
-        self.text.extend_from_slice(mark.as_bytes())?;
-        self.leaves[last].len += mark.len();
-        Ok(())
+        let before = self.text.len();
+        match push_word(&mut self.text, word) {
+            Ok(()) => {
+                let last = self.leaves.len() - 1;
+                self.leaves[last].len += self.text.len() - before;
+                Ok(())
+            }
+            Err(error) => {
+                *self = Operands::new(self.alloc);
+                Err(error)
+            }
+        }
     }
 
     /// Makes the two texts on top one, with a mark between them.
@@ -169,7 +180,7 @@ impl Operands {
                 stack_size: self.starts.len(),
             });
         }
-        let out = joined(self.alloc, &self.text, &self.fronts, &self.leaves)?;
+        let out = joined(self.alloc, self.text.as_bytes(), &self.fronts, &self.leaves)?;
         Ok(String::from_utf8(out).unwrap())
     }
 }

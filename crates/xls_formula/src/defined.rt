@@ -8,7 +8,7 @@ ghost use Rattle.xls_formula.specs.Defined.{area3d_place, defined_at, err3d_plac
 ghost use Rattle.xls_ptg.specs.Corners.{pinned};
 ghost use Rattle.xls_formula.specs.Tree.{area_text, corner_text};
 
-use crate::words::{hex, push_area, push_corner, push_decoded, push_text};
+use crate::words::{push_area, push_corner, push_decoded, push_hex, push_text};
 use std::alloc::{AllocError, Global};
 use xls_biff::{Biff, Part, Record, XlsError};
 use xls_ptg::{
@@ -110,8 +110,7 @@ fn unsupported_text(alloc: Global, ptg: u8) -> Result<String, AllocError>
 {
     let mut text = String::new(alloc);
     push_text(&mut text, "Unsupported ptg: ")?;
-    let number = hex(alloc, ptg)?;
-    push_text(&mut text, &number)?;
+    push_hex(&mut text, ptg)?;
     Ok(text)
 }
 
@@ -130,7 +129,7 @@ fn cell_text(alloc: Global, corner: Corner) -> Result<String, AllocError>
     ensures { IfOk result (λ s. text_of s ≡ corner_text (pinned corner)) }
 {
     let mut text = String::new(alloc);
-    push_corner(alloc, &mut text, corner.pinned())?;
+    push_corner(&mut text, corner.pinned())?;
     Ok(text)
 }
 
@@ -139,7 +138,7 @@ fn area_text(alloc: Global, first: Corner, last: Corner) -> Result<String, Alloc
     ensures { IfOk result (λ s. text_of s ≡ area_text (pinned first) (pinned last)) }
 {
     let mut text = String::new(alloc);
-    push_area(alloc, &mut text, first.pinned(), last.pinned())?;
+    push_area(&mut text, first.pinned(), last.pinned())?;
     Ok(text)
 }
 

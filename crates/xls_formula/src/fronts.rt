@@ -44,6 +44,11 @@ impl Fronts {
         }
     }
 
+    /// How many bytes all pieces have, by which room is asked for.
+    pub(crate) fn size(&self) -> usize {
+        self.bytes.len()
+    }
+
     /// A piece more, before those of a chain, and its number.
     pub(crate) fn push(&mut self, mark: &[u8], older: Option<usize>) -> Result<usize, AllocError>
         requires { IsChain (length self.old) older }

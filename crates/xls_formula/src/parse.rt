@@ -35,18 +35,13 @@ pub fn tokens_of(rgce: &[u8]) -> Result<&[u8], XlsError>
     Ok(tokens)
 }
 
-fn put_tokens(
-    alloc: Global,
-    texts: &mut Operands,
-    scope: Scope<'_>,
-    tokens: &[u8],
-) -> Result<(), XlsError>
+fn put_tokens(texts: &mut Operands, scope: Scope<'_>, tokens: &[u8]) -> Result<(), XlsError>
     ensures { Leaves result texts.new (put_all (context_of scope.entry) tokens.now 0 texts.old) }
 {
     let mut rest = tokens;
     'tokens: while !rest.is_empty() {
         let (ptg, more) = read_ptg(rest, scope.biff)?;
-        put_ptg(alloc, texts, scope, ptg)?;
+        put_ptg(texts, scope, ptg)?;
         let (_, after) = rest.split_at(1);
         let (_, next) = after.split_at(more);
         rest = next;
@@ -59,7 +54,7 @@ fn text_in_scope(alloc: Global, rgce: &[u8], scope: Scope<'_>) -> Result<String,
 {
     let tokens = tokens_of(rgce)?;
     let mut texts = Operands::new(alloc);
-    put_tokens(alloc, &mut texts, scope, tokens)?;
+    put_tokens(&mut texts, scope, tokens)?;
     texts.into_text()
 }
 

@@ -1,15 +1,13 @@
 //! What each token does to the texts of the operands.
 
-ghost use Rattle.std.specs.Prelude.{◌≡◌, ◌≤◌, ◌<◌, ◌++◌, ◌∷◌, length, codes, replicate, MatchResult, Ok, slice_get};
-ghost use Rattle.std.specs.Fmt.{decimal};
-ghost use Rattle.std.specs.Option.{option_map};
+ghost use Rattle.std.specs.Prelude.{◌≡◌, ◌≤◌, ◌<◌, ◌++◌, ◌∷◌, length, codes, replicate, MatchResult, Ok, Some, slice_get};
 ghost use Rattle.std.specs.Str.{chars};
-ghost use Rattle.xls_data.specs.Numbers.{bits_text};
 ghost use Rattle.xls_formula.specs.Context.{name_text, sheet_text};
-ghost use Rattle.xls_formula.specs.Fold.{err3d_text, str_text};
+ghost use Rattle.xls_formula.specs.Fold.{err3d_text};
 ghost use Rattle.xls_formula.specs.Tree.{area_text, corner_text, on_sheet};
-ghost use Rattle.xls_formula.specs.Words.{bool_text, err_text, operator_text, space_mark};
+ghost use Rattle.xls_formula.specs.Words.{bool_text, operator_text, space_mark};
 ghost use Rattle.xls_formula.specs.buffer.Pieces.{with_join, with_prefix, with_suffix};
+ghost use Rattle.xls_formula.specs.buffer.Printed.{word_text};
 ghost use Rattle.xls_formula.specs.buffer.Put.{call_func, call_func_var, needs, put, with_call, with_wrap};
 ghost use Rattle.xls_formula.specs.buffer.Scopes.{context_of};
 ghost use Rattle.xls_formula.specs.buffer.Steps.{Leaves};
@@ -18,13 +16,8 @@ ghost use Rattle.xls_ptg.specs.Readings.{ptg_of};
 use crate::buffer::Operands;
 use crate::functions::FunctionTable;
 use crate::scope::{Scope, defined_name, sheet_name};
-use crate::words::{
-    bool_text, double, err_text, number, on_sheet, operator_text, push_area, push_corner, space,
-    str_text,
-};
-use std::alloc::Global;
+use crate::words::{Word, ascii, bool_text, operator_text, space_mark};
 use xls_biff::XlsError;
-use xls_data::CellErrorType;
 use xls_ptg::{Corner, Operator, Ptg};
 
 fn need(texts: &Operands, count: usize) -> Result<(), XlsError>
@@ -44,8 +37,8 @@ fn put_call(texts: &mut Operands, name: &str, count: usize) -> Result<(), XlsErr
     ensures { Leaves result texts.new (Ok (with_call count (chars name.now) texts.old)) }
 {
     if count == 0 {
-        texts.push(name)?;
-        texts.put_after("()")?;
+        texts.push(Word::Plain(name))?;
+        texts.put_after(Word::Plain("()"))?;
         return Ok(());
     }
     'commas: for i in 1..count {
@@ -53,7 +46,7 @@ fn put_call(texts: &mut Operands, name: &str, count: usize) -> Result<(), XlsErr
     }
     texts.put_before("(")?;
     texts.put_before(name)?;
-    texts.put_after(")")?;
+    texts.put_after(Word::Plain(")"))?;
     Ok(())
 }
 
@@ -79,7 +72,7 @@ fn put_percent(texts: &mut Operands) -> Result<(), XlsError>
     ensures { Leaves result texts.new (needs 1 texts.old (with_suffix (codes "%") texts.old)) }
 {
     need(texts, 1)?; // what the sign follows
-    texts.put_after("%")?;
+    texts.put_after(Word::Plain("%"))?;
     Ok(())
 }
 
@@ -89,101 +82,64 @@ fn put_wrap(texts: &mut Operands, before: &str, after: &str) -> Result<(), XlsEr
 {
     need(texts, 1)?;
     texts.put_before(before)?;
-    texts.put_after(after)?;
+    texts.put_after(Word::Plain(after))?;
     Ok(())
 }
 
-fn put_word(texts: &mut Operands, word: &str) -> Result<(), XlsError>
-    ensures { Leaves result texts.new (Ok (chars word.now ∷ texts.old)) }
+fn put_word(texts: &mut Operands, word: Word<'_>) -> Result<(), XlsError>
+    ensures { Leaves result texts.new (Ok (word_text word.entry ∷ texts.old)) }
 {
     texts.push(word)?;
     Ok(())
 }
 
-fn put_err(alloc: Global, texts: &mut Operands, error: CellErrorType) -> Result<(), XlsError>
-    ensures { Leaves result texts.new (Ok (err_text error ∷ texts.old)) }
+fn put_text(texts: &mut Operands, text: &str) -> Result<(), XlsError>
+    ensures { Leaves result texts.new (Ok (chars text.now ∷ texts.old)) }
 {
-    let word = err_text(alloc, error)?;
-    texts.push(&word)?;
-    Ok(())
+    put_word(texts, Word::Plain(text))
 }
 
 fn put_bool(texts: &mut Operands, truth: bool) -> Result<(), XlsError>
     ensures { Leaves result texts.new (Ok (bool_text truth ∷ texts.old)) }
 {
-    texts.push(bool_text(truth))?;
-    Ok(())
-}
-
-fn put_int(alloc: Global, texts: &mut Operands, n: u16) -> Result<(), XlsError>
-    ensures { Leaves result texts.new (Ok (decimal n ∷ texts.old)) }
-{
-    let word = number(alloc, u32::from(n))?;
-    texts.push(&word)?;
-    Ok(())
-}
-
-fn put_num(alloc: Global, texts: &mut Operands, bits: u64) -> Result<(), XlsError>
-    ensures { Leaves result texts.new (Ok (bits_text bits ∷ texts.old)) }
-{
-    let word = double(alloc, bits)?;
-    texts.push(&word)?;
-    Ok(())
-}
-
-fn put_str(
-    alloc: Global,
-    texts: &mut Operands,
-    scope: Scope<'_>,
-    high_byte: Option<bool>,
-    units: &[u8],
-    cch: u8,
-) -> Result<(), XlsError>
-    ensures { Leaves result texts.new
-        (Ok (str_text scope.entry.encoding high_byte units.now cch ∷ texts.old)) }
-{
-    let word = str_text(alloc, scope.encoding, high_byte, units, usize::from(cch))?;
-    texts.push(&word)?;
-    Ok(())
+    put_text(texts, bool_text(truth))
 }
 
 fn put_name(texts: &mut Operands, scope: Scope<'_>, index: u32) -> Result<(), XlsError>
     ensures { Leaves result texts.new (Ok (name_text (context_of scope.entry) index ∷ texts.old)) }
 {
-    texts.push(defined_name(scope, index))?;
-    Ok(())
+    put_text(texts, defined_name(scope, index))
 }
 
-fn put_ref(
-    alloc: Global,
+/// PtgRef3d.
+fn put_ref3d(
     texts: &mut Operands,
-    sheet: Option<&str>,
+    scope: Scope<'_>,
+    ixti: u16,
     corner: Corner,
 ) -> Result<(), XlsError>
     ensures { Leaves result texts.new (Ok (
-        (on_sheet (option_map (λ name. chars name.now) sheet.entry) ++ corner_text corner)
+        (on_sheet (Some (sheet_text (context_of scope.entry) ixti)) ++ corner_text corner)
         ∷ texts.old)) }
 {
-    let mut word = on_sheet(alloc, sheet)?;
-    push_corner(alloc, &mut word, corner)?;
-    texts.push(&word)?;
-    Ok(())
+    let sheet = Some(sheet_name(scope, ixti));
+    put_word(texts, Word::Ref { sheet, corner })
 }
 
-fn put_area(
-    alloc: Global,
+/// PtgArea3d.
+fn put_area3d(
     texts: &mut Operands,
-    sheet: Option<&str>,
+    scope: Scope<'_>,
+    ixti: u16,
     corners: (Corner, Corner),
 ) -> Result<(), XlsError>
     ensures { Leaves result texts.new (Ok (
-        (on_sheet (option_map (λ name. chars name.now) sheet.entry) ++ area_text corners.0 corners.1)
+        (on_sheet (Some (sheet_text (context_of scope.entry) ixti)) ++ area_text corners.0 corners.1)
         ∷ texts.old)) }
 {
-    let mut word = on_sheet(alloc, sheet)?;
-    push_area(alloc, &mut word, corners.0, corners.1)?;
-    texts.push(&word)?;
-    Ok(())
+    let sheet = Some(sheet_name(scope, ixti));
+    let (first, last) = corners;
+    put_word(texts, Word::Area { sheet, first, last })
 }
 
 /// PtgRefErr3d and PtgAreaErr3d.
@@ -191,22 +147,18 @@ fn put_area(
 fn put_err3d(texts: &mut Operands, scope: Scope<'_>, ixti: u16) -> Result<(), XlsError>
     ensures { Leaves result texts.new (Ok (err3d_text (context_of scope.entry) ixti ∷ texts.old)) }
 {
-    texts.push(sheet_name(scope, ixti))?;
-    texts.put_after("!#REF!")?;
+    texts.push(Word::Plain(sheet_name(scope, ixti)))?;
+    texts.put_after(Word::Plain("!#REF!"))?;
     Ok(())
 }
 
-fn put_space(
-    alloc: Global,
-    texts: &mut Operands,
-    is_return: bool,
-    count: u8,
-) -> Result<(), XlsError>
+fn put_space(texts: &mut Operands, is_return: bool, count: u8) -> Result<(), XlsError>
     ensures { Leaves result texts.new
         (Ok (with_prefix (replicate count (space_mark is_return)) texts.old)) }
 {
-    let marks = space(alloc, is_return, usize::from(count))?;
-    texts.put_before(&marks)?;
+    let all = [space_mark(is_return); 255];
+    let (marks, _) = all.split_at(usize::from(count));
+    texts.put_before(ascii(marks))?;
     Ok(())
 }
 
@@ -244,7 +196,6 @@ fn put_func_var(
 /// Puts one token. `IfTab` for a function outside the table, `StackLen` for too few operands.
 #[tactic(auto, unfolding(std::specs::Prelude::chars))]
 pub(crate) fn put_ptg(
-    alloc: Global,
     texts: &mut Operands,
     scope: Scope<'_>,
     ptg: Ptg<&[u8]>,
@@ -253,18 +204,29 @@ pub(crate) fn put_ptg(
         (put (context_of scope.entry) (ptg_of ptg.entry) texts.old) }
 {
     match ptg {
-        Ptg::Exp => put_word(texts, ""),
+        Ptg::Exp => put_text(texts, ""),
         Ptg::Binary(operator) => put_binary(texts, operator),
         Ptg::Uplus => put_sign(texts, "+"),
         Ptg::Uminus => put_sign(texts, "-"),
         Ptg::Percent => put_percent(texts),
         Ptg::Paren => put_wrap(texts, "(", ")"),
-        Ptg::MissArg => put_word(texts, ""),
+        Ptg::MissArg => put_text(texts, ""),
         Ptg::Str {
             units,
             cch,
             high_byte,
-        } => put_str(alloc, texts, scope, high_byte, units, cch),
+        } => {
+            let encoding = scope.encoding;
+            put_word(
+                texts,
+                Word::Str {
+                    encoding,
+                    high_byte,
+                    units,
+                    cch,
+                },
+            )
+        }
         Ptg::Elf => Ok(()),
         Ptg::AttrSemi => Ok(()),
         Ptg::AttrIf => Ok(()),
@@ -272,27 +234,36 @@ pub(crate) fn put_ptg(
         Ptg::AttrGoto => Ok(()),
         Ptg::AttrSum => put_wrap(texts, "SUM(", ")"),
         Ptg::AttrBaxcel => Ok(()),
-        Ptg::AttrSpace { is_return, count } => put_space(alloc, texts, is_return, count),
-        Ptg::AttrSpaceSemi { is_return, count } => put_space(alloc, texts, is_return, count),
-        Ptg::Err(error) => put_err(alloc, texts, error),
+        Ptg::AttrSpace { is_return, count } => put_space(texts, is_return, count),
+        Ptg::AttrSpaceSemi { is_return, count } => put_space(texts, is_return, count),
+        Ptg::Err(error) => put_word(texts, Word::Err(error)),
         Ptg::Bool(truth) => put_bool(texts, truth),
-        Ptg::Int(n) => put_int(alloc, texts, n),
-        Ptg::Num(bits) => put_num(alloc, texts, bits),
-        Ptg::Array => put_word(texts, "{PtgArray}"),
+        Ptg::Int(n) => put_word(texts, Word::Int(n)),
+        Ptg::Num(bits) => put_word(texts, Word::Num(bits)),
+        Ptg::Array => put_text(texts, "{PtgArray}"),
         Ptg::Func { iftab } => put_func(texts, scope.functions, iftab),
         Ptg::FuncVar { count, iftab } => put_func_var(texts, scope.functions, iftab, count),
         Ptg::Name { index } => put_name(texts, scope, index),
-        Ptg::Ref(corner) => put_ref(alloc, texts, None, corner),
-        Ptg::Area { first, last } => put_area(alloc, texts, None, (first, last)),
-        Ptg::RefErr => put_word(texts, "#REF!"),
-        Ptg::AreaErr => put_word(texts, "#REF!"),
-        Ptg::NameX => put_word(texts, "[PtgNameX]"),
-        Ptg::Ref3d { ixti, corner } => {
-            put_ref(alloc, texts, Some(sheet_name(scope, ixti)), corner)
-        }
-        Ptg::Area3d { ixti, first, last } => {
-            put_area(alloc, texts, Some(sheet_name(scope, ixti)), (first, last))
-        }
+        Ptg::Ref(corner) => put_word(
+            texts,
+            Word::Ref {
+                sheet: None,
+                corner,
+            },
+        ),
+        Ptg::Area { first, last } => put_word(
+            texts,
+            Word::Area {
+                sheet: None,
+                first,
+                last,
+            },
+        ),
+        Ptg::RefErr => put_text(texts, "#REF!"),
+        Ptg::AreaErr => put_text(texts, "#REF!"),
+        Ptg::NameX => put_text(texts, "[PtgNameX]"),
+        Ptg::Ref3d { ixti, corner } => put_ref3d(texts, scope, ixti, corner),
+        Ptg::Area3d { ixti, first, last } => put_area3d(texts, scope, ixti, (first, last)),
         Ptg::RefErr3d { ixti } => put_err3d(texts, scope, ixti),
         Ptg::AreaErr3d { ixti } => put_err3d(texts, scope, ixti),
     }

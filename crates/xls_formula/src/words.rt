@@ -1,9 +1,9 @@
-//! The texts that tokens print.
+//! The texts that tokens print, appended to one text.
 
-ghost use Rattle.std.specs.Prelude.{◌≡◌, false, ◌++◌, ◌∷◌, [], OnOk, IfOk, replicate};
+ghost use Rattle.std.specs.Prelude.{◌≡◌, false, ◌++◌, OnOk};
 ghost use Rattle.std.specs.Fmt.{decimal, digits};
 ghost use Rattle.std.specs.Option.{option_map};
-ghost use Rattle.std.specs.Str.{chars};
+ghost use Rattle.std.specs.Str.{IsAscii, chars};
 ghost use Rattle.xls_bytes.specs.Columns.{column_name};
 ghost use Rattle.xls_strings.specs.Texts.{text_of};
 ghost use Rattle.xls_data.specs.Numbers.{bits_text};
@@ -12,12 +12,45 @@ ghost use Rattle.xls_formula.specs.Fold.{str_text};
 ghost use Rattle.xls_formula.specs.Tree.{area_text, corner_text, dollar, on_sheet};
 ghost use Rattle.xls_data.specs.Errors.{error_text};
 ghost use Rattle.xls_formula.specs.Words.{bool_text, err_text, operator_text, space_mark};
+ghost use Rattle.xls_formula.specs.buffer.Printed.{word_text};
 
-use std::alloc::{AllocError, Global};
+use std::alloc::AllocError;
+use std::str::from_utf8;
 use xls_bytes::push_column;
 use xls_data::{CellErrorType, Number};
 use xls_ptg::{Corner, Operator};
 use xls_text::XlsEncoding;
+
+/// What a token prints.
+#[derive(Clone, Copy)]
+pub(crate) enum Word<'a> {
+    /// A text as it stands.
+    Plain(&'a str),
+    /// A whole number.
+    Int(u16),
+    /// The double with these bits.
+    Num(u64),
+    /// An error value.
+    Err(CellErrorType),
+    /// A string in quotes.
+    Str {
+        encoding: XlsEncoding,
+        high_byte: Option<bool>,
+        units: &'a [u8],
+        cch: u8,
+    },
+    /// A cell, on the sheet that is told.
+    Ref {
+        sheet: Option<&'a str>,
+        corner: Corner,
+    },
+    /// An area.
+    Area {
+        sheet: Option<&'a str>,
+        first: Corner,
+        last: Corner,
+    },
+}
 
 /// A binary operator. `Ge` and `Gt` are exchanged, as in the crate calamine.
 #[tactic(auto, unfolding(std::specs::Prelude::chars))]
@@ -51,6 +84,14 @@ pub(crate) fn bool_text(truth: bool) -> &'static str
     if truth { "TRUE" } else { "FALSE" }
 }
 
+/// ASCII, which is text as it stands.
+pub(crate) fn ascii(bytes: &[u8]) -> &str
+    requires { IsAscii bytes.now }
+    ensures { result.now ≡ bytes.now }
+{
+    from_utf8(bytes).unwrap()
+}
+
 /// Appends a text.
 pub(crate) fn push_text(out: &mut String, text: &str) -> Result<(), AllocError>
     ensures { OnOk result (text_of out.new ≡ text_of out.old ++ chars text.now) }
@@ -59,53 +100,47 @@ pub(crate) fn push_text(out: &mut String, text: &str) -> Result<(), AllocError>
     Ok(())
 }
 
-/// A whole number in decimal.
-pub(crate) fn number(alloc: Global, n: u32) -> Result<String, AllocError>
-    ensures { IfOk result (λ s. text_of s ≡ decimal n) }
+/// Appends a whole number in decimal.
+pub(crate) fn push_number(out: &mut String, n: u32) -> Result<(), AllocError>
+    ensures { OnOk result (text_of out.new ≡ text_of out.old ++ decimal n) }
 {
-    let text = n.to_string(alloc)?;
-    Ok(text)
+    write!(out, "{n}")?;
+    Ok(())
 }
 
-/// A byte in lower hexadecimal.
-pub(crate) fn hex(alloc: Global, n: u8) -> Result<String, AllocError>
-    ensures { IfOk result (λ s. text_of s ≡ digits 16 false n) }
+/// Appends a byte in lower hexadecimal.
+pub(crate) fn push_hex(out: &mut String, n: u8) -> Result<(), AllocError>
+    ensures { OnOk result (text_of out.new ≡ text_of out.old ++ digits 16 false n) }
 {
-    let text = format!(in alloc; "{n:x}")?;
-    Ok(text)
+    write!(out, "{n:x}")?;
+    Ok(())
 }
 
-/// The double with these bits.
-pub(crate) fn double(alloc: Global, bits: u64) -> Result<String, AllocError>
-    ensures { IfOk result (λ s. text_of s ≡ bits_text bits) }
+/// Appends the double with these bits.
+fn push_double(out: &mut String, bits: u64) -> Result<(), AllocError>
+    ensures { OnOk result (text_of out.new ≡ text_of out.old ++ bits_text bits) }
 {
-    let text = Number::Bits(bits).to_string(alloc)?;
-    Ok(text)
+    let number = Number::Bits(bits);
+    write!(out, "{number}")?;
+    Ok(())
 }
 
-/// An error value as a cell prints it.
-fn cell_error_text(alloc: Global, error: CellErrorType) -> Result<String, AllocError>
-    ensures { IfOk result (λ s. text_of s ≡ error_text error) }
+/// Appends an error value as a cell prints it.
+fn push_cell_error(out: &mut String, error: CellErrorType) -> Result<(), AllocError>
+    ensures { OnOk result (text_of out.new ≡ text_of out.old ++ error_text error) }
 {
-    let text = error.to_string(alloc)?;
-    Ok(text)
+    write!(out, "{error}")?;
+    Ok(())
 }
 
+/// Appends an error value, as a cell prints it but for one.
 #[tactic(auto, unfolding(std::specs::Prelude::chars))]
-fn getting_data_text(alloc: Global) -> Result<String, AllocError>
-    ensures { IfOk result (λ s. text_of s ≡ err_text CellErrorType.GettingData) }
-{
-    let text = String::from_str(alloc, "#GETTING_DATA")?;
-    Ok(text)
-}
-
-/// An error value, as a cell prints it but for one.
-pub(crate) fn err_text(alloc: Global, error: CellErrorType) -> Result<String, AllocError>
-    ensures { IfOk result (λ s. text_of s ≡ err_text error) }
+fn push_error(out: &mut String, error: CellErrorType) -> Result<(), AllocError>
+    ensures { OnOk result (text_of out.new ≡ text_of out.old ++ err_text error) }
 {
     match error {
-        CellErrorType::GettingData => getting_data_text(alloc),
-        _ => cell_error_text(alloc, error),
+        CellErrorType::GettingData => push_text(out, "#GETTING_DATA"),
+        _ => push_cell_error(out, error),
     }
 }
 
@@ -124,36 +159,28 @@ pub(crate) fn push_decoded(
     Ok(())
 }
 
-/// A string in quotes.
+/// Appends a string in quotes.
 #[tactic(auto, unfolding(std::specs::Prelude::chars))]
-pub(crate) fn str_text(
-    alloc: Global,
+fn push_quoted(
+    out: &mut String,
     encoding: XlsEncoding,
     high_byte: Option<bool>,
     bytes: &[u8],
     count: usize,
-) -> Result<String, AllocError>
-    ensures { IfOk result (λ s. text_of s ≡ str_text encoding high_byte bytes.now count) }
+) -> Result<(), AllocError>
+    ensures { OnOk result (text_of out.new
+        ≡ text_of out.old ++ str_text encoding high_byte bytes.now count) }
 {
-    let mut text = String::new(alloc);
-    push_text(&mut text, "\"")?;
-    push_decoded(&mut text, encoding, high_byte, bytes, count)?;
-    push_text(&mut text, "\"")?;
-    Ok(text)
+    push_text(out, "\"")?;
+    push_decoded(out, encoding, high_byte, bytes, count)?;
+    push_text(out, "\"")
 }
 
-fn mark(is_return: bool) -> &'static str
-    ensures { result.now ≡ space_mark is_return ∷ [] }
+/// A space or a return.
+pub(crate) fn space_mark(is_return: bool) -> u8
+    ensures { result ≡ space_mark is_return }
 {
-    if is_return { "\r" } else { " " }
-}
-
-/// So many spaces or returns.
-pub(crate) fn space(alloc: Global, is_return: bool, count: usize) -> Result<String, AllocError>
-    ensures { IfOk result (λ s. text_of s ≡ replicate count (space_mark is_return)) }
-{
-    let marks = mark(is_return).repeat(alloc, count)?;
-    Ok(marks)
+    if is_return { b'\r' } else { b' ' }
 }
 
 #[tactic(auto, unfolding(std::specs::Prelude::chars))]
@@ -171,41 +198,75 @@ fn push_letters(out: &mut String, column: u32) -> Result<(), AllocError>
 }
 
 /// Appends a cell, with `$` before what isn't relative.
-pub(crate) fn push_corner(alloc: Global, out: &mut String, corner: Corner) -> Result<(), AllocError>
+pub(crate) fn push_corner(out: &mut String, corner: Corner) -> Result<(), AllocError>
     ensures { OnOk result (text_of out.new ≡ text_of out.old ++ corner_text corner) }
 {
     push_text(out, fixed_mark(corner.is_column_relative))?;
     push_letters(out, u32::from(corner.column))?;
     push_text(out, fixed_mark(corner.is_row_relative))?;
-    let row = number(alloc, u32::from(corner.row) + 1)?;
-    push_text(out, &row)
+    push_number(out, u32::from(corner.row) + 1)
 }
 
 /// Appends an area by its first and its last cell.
 #[tactic(auto, unfolding(std::specs::Prelude::chars))]
-pub(crate) fn push_area(
-    alloc: Global,
+pub(crate) fn push_area(out: &mut String, first: Corner, last: Corner) -> Result<(), AllocError>
+    ensures { OnOk result (text_of out.new ≡ text_of out.old ++ area_text first last) }
+{
+    push_corner(out, first)?;
+    push_text(out, ":")?;
+    push_corner(out, last)
+}
+
+/// Appends the sheet and `!`, where one is told.
+#[tactic(auto, unfolding(std::specs::Prelude::chars))]
+fn push_sheet(out: &mut String, sheet: Option<&str>) -> Result<(), AllocError>
+    ensures { OnOk result (text_of out.new
+        ≡ text_of out.old ++ on_sheet (option_map (λ name. chars name.now) sheet.entry)) }
+{
+    if let Some(name) = sheet {
+        push_text(out, name)?;
+        push_text(out, "!")?;
+    }
+    Ok(())
+}
+
+fn push_ref(out: &mut String, sheet: Option<&str>, corner: Corner) -> Result<(), AllocError>
+    ensures { OnOk result (text_of out.new ≡ text_of out.old
+        ++ (on_sheet (option_map (λ name. chars name.now) sheet.entry) ++ corner_text corner)) }
+{
+    push_sheet(out, sheet)?;
+    push_corner(out, corner)
+}
+
+fn push_range(
     out: &mut String,
+    sheet: Option<&str>,
     first: Corner,
     last: Corner,
 ) -> Result<(), AllocError>
-    ensures { OnOk result (text_of out.new ≡ text_of out.old ++ area_text first last) }
+    ensures { OnOk result (text_of out.new ≡ text_of out.old
+        ++ (on_sheet (option_map (λ name. chars name.now) sheet.entry) ++ area_text first last)) }
 {
-    push_corner(alloc, out, first)?;
-    push_text(out, ":")?;
-    push_corner(alloc, out, last)
+    push_sheet(out, sheet)?;
+    push_area(out, first, last)
 }
 
-/// The sheet and `!`, where one is told.
-#[tactic(auto, unfolding(std::specs::Prelude::chars))]
-pub(crate) fn on_sheet(alloc: Global, sheet: Option<&str>) -> Result<String, AllocError>
-    ensures { IfOk result (λ s. text_of s
-        ≡ on_sheet (option_map (λ name. chars name.now) sheet.entry)) }
+/// Appends what a token prints.
+pub(crate) fn push_word(out: &mut String, word: Word<'_>) -> Result<(), AllocError>
+    ensures { OnOk result (text_of out.new ≡ text_of out.old ++ word_text word.entry) }
 {
-    let mut text = String::new(alloc);
-    if let Some(name) = sheet {
-        push_text(&mut text, name)?;
-        push_text(&mut text, "!")?;
+    match word {
+        Word::Plain(text) => push_text(out, text),
+        Word::Int(n) => push_number(out, u32::from(n)),
+        Word::Num(bits) => push_double(out, bits),
+        Word::Err(error) => push_error(out, error),
+        Word::Str {
+            encoding,
+            high_byte,
+            units,
+            cch,
+        } => push_quoted(out, encoding, high_byte, units, usize::from(cch)),
+        Word::Ref { sheet, corner } => push_ref(out, sheet, corner),
+        Word::Area { sheet, first, last } => push_range(out, sheet, first, last),
     }
-    Ok(text)
 }

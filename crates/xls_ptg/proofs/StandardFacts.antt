@@ -1,27 +1,30 @@
 -- Values from outside, so that a wrong rule in the definitions does not check.
-use Rattle.std.proofs.Common.{◌≡◌, ℕ, List, [], ◌∷◌, ◌++◌, refl, false, true, codes, Some, None, Ok, Err, replicate}
+use Rattle.std.proofs.Common.{◌≡◌, ℕ, List, [], ◌∷◌, ◌++◌, refl, false, true, codes, Some, None, Ok, Err, replicate, map}
 use Rattle.xls_model.specs.declared.part.Part.TheVariants as parts
 use Rattle.xls_data.specs.declared.errors.CellErrorType.TheVariants as failures
 use Rattle.xls_strings.specs.declared.error.XlsError.TheVariants as errors
 use Rattle.xls_strings.specs.declared.version.Biff.TheVariants.{Biff2, Biff4, Biff5, Biff8}
 use Rattle.xls_ptg.specs.declared.corner.Corner.{Corner}
+use Rattle.xls_ptg.specs.declared.operators.Operator.{Operator}
 use Rattle.xls_ptg.specs.declared.operators.Operator.TheVariants as operators
 use Rattle.xls_ptg.specs.declared.tokens.Ptg.TheVariants as ptg
 use Rattle.xls_ptg.specs.Cites.{measured}
 use Rattle.xls_ptg.specs.Tokens.{ptg_at}
 
--- the first and the last operator, and the two that calamine prints the other way round
-known_add : ptg_at Biff8 (0x03 ∷ []) ≡ Ok (ptg.Binary operators.Add, 0)
-known_add = refl
+-- the operators, 03 to 11
+known_operators : map (λ token. ptg_at Biff8 (token ∷ [])) (0x03 ∷ 0x04 ∷ 0x05 ∷ 0x06 ∷ 0x07 ∷ 0x08 ∷ 0x09 ∷ 0x0A ∷ 0x0B ∷ 0x0C ∷ 0x0D ∷ 0x0E ∷ 0x0F ∷ 0x10 ∷ 0x11 ∷ [])
+    ≡ map (λ (o : Operator). Ok (ptg.Binary o, 0)) (operators.Add ∷ operators.Sub ∷ operators.Mul ∷ operators.Div ∷ operators.Power ∷ operators.Concat ∷ operators.Lt ∷ operators.Le ∷ operators.Eq ∷ operators.Ge ∷ operators.Gt ∷ operators.Ne ∷ operators.Isect ∷ operators.Union ∷ operators.Range ∷ [])
+known_operators = refl
 
-known_ge : ptg_at Biff8 (0x0C ∷ []) ≡ Ok (ptg.Binary operators.Ge, 0)
-known_ge = refl
+-- 12 to 16, the others of one byte
+known_signs : map (λ token. ptg_at Biff5 (token ∷ [])) (0x12 ∷ 0x13 ∷ 0x14 ∷ 0x15 ∷ 0x16 ∷ [])
+    ≡ Ok (ptg.Uplus, 0) ∷ Ok (ptg.Uminus, 0) ∷ Ok (ptg.Percent, 0) ∷ Ok (ptg.Paren, 0) ∷ Ok (ptg.MissArg, 0) ∷ []
+known_signs = refl
 
-known_gt : ptg_at Biff5 (0x0D ∷ []) ≡ Ok (ptg.Binary operators.Gt, 0)
-known_gt = refl
-
-known_range : ptg_at Biff8 (0x11 ∷ []) ≡ Ok (ptg.Binary operators.Range, 0)
-known_range = refl
+-- the first bytes below 20 that are no token
+known_no_basic : map (λ token. ptg_at Biff8 (token ∷ replicate 9 0)) (0x00 ∷ 0x02 ∷ 0x1A ∷ 0x1B ∷ [])
+    ≡ map (λ token. Err (errors.Unrecognized parts.Ptg token)) (0x00 ∷ 0x02 ∷ 0x1A ∷ 0x1B ∷ [])
+known_no_basic = refl
 
 -- error values, and a code that none has
 known_err : ptg_at Biff8 (0x1C ∷ 0x2A ∷ []) ≡ Ok (ptg.Err failures.NA, 1)
@@ -43,15 +46,26 @@ known_early_str = refl
 known_short_str : ptg_at Biff5 (0x17 ∷ 6 ∷ codes "SCH") ≡ Err (errors.Len 7 4 parts.PtgStr)
 known_short_str = refl
 
--- attributes: two jumps, returns, one that isn't known
+-- attributes: two jumps, and one that isn't known
 known_choose : ptg_at Biff8 (0x19 ∷ 0x04 ∷ 2 ∷ replicate 7 0) ≡ Ok (ptg.AttrChoose, 9)
 known_choose = refl
 
-known_space : ptg_at Biff8 (0x19 ∷ 0x40 ∷ 1 ∷ 3 ∷ []) ≡ Ok (ptg.AttrSpace true 3, 3)
-known_space = refl
-
 known_no_attr : ptg_at Biff8 (0x19 ∷ 0x03 ∷ 0 ∷ 0 ∷ []) ≡ Err (errors.Etpg 0x03)
 known_no_attr = refl
+
+-- the attributes of two bytes that aren't read
+known_plain_attrs : map (λ attribute. ptg_at Biff8 (0x19 ∷ attribute ∷ 0 ∷ 0 ∷ [])) (0x01 ∷ 0x02 ∷ 0x08 ∷ 0x10 ∷ 0x20 ∷ 0x21 ∷ [])
+    ≡ Ok (ptg.AttrSemi, 3) ∷ Ok (ptg.AttrIf, 3) ∷ Ok (ptg.AttrGoto, 3) ∷ Ok (ptg.AttrSum, 3) ∷ Ok (ptg.AttrBaxcel, 3) ∷ Ok (ptg.AttrBaxcel, 3) ∷ []
+known_plain_attrs = refl
+
+-- the kinds of spaces, 0 to 6, of which 1, 3 and 5 are returns, and a kind that is none
+known_spaces : map (λ kind. ptg_at Biff8 (0x19 ∷ 0x40 ∷ kind ∷ 3 ∷ [])) (0 ∷ 1 ∷ 2 ∷ 3 ∷ 4 ∷ 5 ∷ 6 ∷ 7 ∷ [])
+    ≡ map (λ is_return. Ok (ptg.AttrSpace is_return 3, 3)) (false ∷ true ∷ false ∷ true ∷ false ∷ true ∷ false ∷ []) ++ Err (errors.Unrecognized parts.SpaceKind 7) ∷ []
+known_spaces = refl
+
+known_spaces_semi : map (λ kind. ptg_at Biff8 (0x19 ∷ 0x41 ∷ kind ∷ 3 ∷ [])) (0 ∷ 1 ∷ 2 ∷ 3 ∷ 4 ∷ 5 ∷ 6 ∷ 7 ∷ [])
+    ≡ map (λ is_return. Ok (ptg.AttrSpaceSemi is_return 3, 3)) (false ∷ true ∷ false ∷ true ∷ false ∷ true ∷ false ∷ []) ++ Err (errors.Unrecognized parts.SpaceKind 7) ∷ []
+known_spaces_semi = refl
 
 -- functions and names
 known_func_var : ptg_at Biff8 (0x42 ∷ 2 ∷ 4 ∷ 0 ∷ []) ≡ Ok (ptg.FuncVar 2 4, 3)

@@ -1,4 +1,5 @@
 use Rattle.std.proofs.Common.{◌≡◌, ◌++◌, ◌∷◌, [], ℕ, List, sym, ◌∙◌, ap, subst, length, arith, refl, None}
+use Rattle.std.specs.String.{string_bytes}
 use Rattle.xls_formula.specs.declared.buffer.Leaf.{Leaf}
 use Rattle.xls_formula.specs.buffer.Leaves.{texts_of, AreOperands}
 use Rattle.xls_formula.proofs.OperandLemmas.{pushed_operands, pushed_texts}
@@ -17,13 +18,13 @@ pub invariant_of-self-in-Ok : goal.invariant_of-self-in-Ok
 invariant_of-self-in-Ok c =
     let leaf : Leaf = record { front = None; len = 0 } in
     let n : c.len.result ≡ length c.self.inside.leaves.items = omega (arith, c.len.ensures, c.self.inside.leaves.ok.0) in
-    operands_left c.self.inside.fronts c.self.inside.text.items c.self.inside.leaves.items c.push-2.new.self.items c.self.inside.starts.items c.push.new.self.items leaf c.len.result c.in-Ok.ensures.items c.in_ok-push.ensures.items
-    (pushed_operands c.self.inside.fronts c.self.inside.text.items c.self.inside.leaves.items c.self.inside.starts.items leaf c.len.result refl refl n c.self.invariant)
+    operands_left c.self.inside.fronts (string_bytes c.self.inside.text) c.self.inside.leaves.items c.push-2.new.self.items c.self.inside.starts.items c.push.new.self.items leaf c.len.result c.in-Ok.ensures.items c.in_ok-push.ensures.items
+    (pushed_operands c.self.inside.fronts (string_bytes c.self.inside.text) c.self.inside.leaves.items c.self.inside.starts.items leaf c.len.result refl refl n c.self.invariant)
 
 pub returns-in-Ok : goal.returns-in-Ok
 returns-in-Ok c =
     let leaf : Leaf = record { front = None; len = 0 } in
     let n : c.len.result ≡ length c.self.inside.leaves.items = omega (arith, c.len.ensures, c.self.inside.leaves.ok.0) in
-    texts_left c.self.inside.fronts c.self.inside.text.items c.self.inside.leaves.items c.push-2.new.self.items c.self.inside.starts.items c.push.new.self.items leaf c.len.result c.in-Ok.ensures.items c.in_ok-push.ensures.items
-    ∙ (pushed_texts c.self.inside.fronts c.self.inside.text.items c.self.inside.leaves.items c.self.inside.starts.items leaf c.len.result refl refl n
+    texts_left c.self.inside.fronts (string_bytes c.self.inside.text) c.self.inside.leaves.items c.push-2.new.self.items c.self.inside.starts.items c.push.new.self.items leaf c.len.result c.in-Ok.ensures.items c.in_ok-push.ensures.items
+    ∙ (pushed_texts c.self.inside.fronts (string_bytes c.self.inside.text) c.self.inside.leaves.items c.self.inside.starts.items leaf c.len.result refl refl n
     ∙ ap (λ (x : List (List ℕ)). [] ∷ x) c.self.view_is)
