@@ -10,4 +10,5 @@ pub mod CanonicalByteLemmas
 pub mod CanonicalListLemmas
 pub mod StandardFacts
 pub mod SampleLayouts
+pub mod FreeLayouts
 pub mod LaidFitLemmas
