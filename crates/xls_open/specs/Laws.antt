@@ -7,7 +7,10 @@ use Rattle.xls_strings.specs.declared.error.XlsError.{XlsError}
 use Rattle.xls_strings.specs.declared.error.XlsError.TheVariants as errors
 use Rattle.xls_layout.specs.Layout.{Layout, lay, list_of, IsLayout}
 use Rattle.xls_reading.specs.Rules.{Rules}
-use Rattle.xls_reading.specs.GlobalsTable.{forced_fault}
+use Rattle.xls_text.specs.declared.encoding.XlsEncoding.{XlsEncoding}
+use Rattle.xls_strings.specs.declared.version.Biff.{Biff}
+use Rattle.xls_reading.specs.GlobalsTable.{forced_fault, entry_record_at, page_given, version_given}
+use Rattle.xls_reading.specs.InForce.{said_by}
 use Rattle.xls_reading.specs.Reading.{IsReading}
 use Rattle.xls_reading.specs.Faults.{FirstFault, IsSound, IsFull}
 use Rattle.xls_source.specs.Causes.{Rose}
@@ -22,6 +25,13 @@ abbrev pub CheckedAlike : Type 0
 CheckedAlike =
     (rules : Rules) (bytes : List ℕ) → length bytes ≤ rules.max_bytes → (e : XlsError)
     → FirstFault rules bytes e ↔ FirstChecked rules.force_codepage rules.max_cells bytes e
+
+-- which page and which version an entry gives hangs on neither that is in force: `said_by` has them
+abbrev pub PagesHangOnNothing : Type 0
+PagesHangOnNothing =
+    (forced : Option ℕ) (page : XlsEncoding) (version : Biff) (e : Entry)
+    → (page_given (entry_record_at forced page version e) ≡ page_given (said_by forced e))
+    × (version_given (entry_record_at forced page version e) ≡ version_given (said_by forced e))
 
 -- ---- one list
 

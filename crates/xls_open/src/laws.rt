@@ -1,6 +1,6 @@
 //! Laws over opening and the check, each on a function with an empty body.
 
-ghost use Rattle.xls_open.specs.Laws.{CheckedAlike, LaidChecks, LaidOpens, LaidSound, OneListPerStream, SameListSameBook};
+ghost use Rattle.xls_open.specs.Laws.{CheckedAlike, LaidChecks, LaidOpens, LaidSound, OneListPerStream, PagesHangOnNothing, SameListSameBook};
 
 /// Within the limit of bytes, the first fault of a stream under some options is the one that
 /// `check_stream` answers for their forced page and their bound of cells, whatever functions, header
@@ -8,6 +8,11 @@ ghost use Rattle.xls_open.specs.Laws.{CheckedAlike, LaidChecks, LaidOpens, LaidS
 /// answers the same one, and where it answers `Ok`, so does `check_stream`.
 pub fn checked_alike()
     ensures { CheckedAlike }
+{}
+
+/// Which page and which version a record of the globals gives hangs on neither that is in force.
+pub fn pages_hang_on_nothing()
+    ensures { PagesHangOnNothing }
 {}
 
 /// A stream carries at most one list, and within the limit it has no fault exactly where the forced

@@ -16,7 +16,8 @@ mod part;
 pub use check::check_stream;
 pub use globals::{Globals, read_globals};
 pub use laws::{
-    checked_alike, laid_checks, laid_opens, laid_sound, one_list_per_stream, same_list_same_book,
+    checked_alike, laid_checks, laid_opens, laid_sound, one_list_per_stream, pages_hang_on_nothing,
+    same_list_same_book,
 };
 pub use listed::{Lbl, Listed};
 pub use names::{Naming, naming_of};
