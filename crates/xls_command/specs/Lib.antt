@@ -3,3 +3,4 @@ pub mod Summary
 pub mod Counting
 pub mod Outputs
 pub mod Endings
+pub mod Laws

@@ -2,6 +2,7 @@
 #![tactic(auto)]
 
 mod command;
+mod laws;
 mod made;
 mod perform;
 mod runs;
@@ -9,6 +10,7 @@ mod summary;
 mod words;
 
 pub use command::Command;
+pub use laws::remade_dumps;
 pub use made::generate_stream;
 pub use runs::run;
 pub use words::words_in;
