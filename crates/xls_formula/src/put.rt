@@ -131,14 +131,14 @@ fn put_area3d(
     texts: &mut Operands,
     scope: Scope<'_>,
     ixti: u16,
-    corners: (Corner, Corner),
+    first: Corner,
+    last: Corner,
 ) -> Result<(), XlsError>
     ensures { Leaves result texts.new (Ok (
-        (on_sheet (Some (sheet_text (context_of scope.entry) ixti)) ++ area_text corners.0 corners.1)
+        (on_sheet (Some (sheet_text (context_of scope.entry) ixti)) ++ area_text first last)
         ∷ texts.old)) }
 {
     let sheet = Some(sheet_name(scope, ixti));
-    let (first, last) = corners;
     put_word(texts, Word::Area { sheet, first, last })
 }
 
@@ -263,7 +263,7 @@ pub(crate) fn put_ptg(
         Ptg::AreaErr => put_text(texts, "#REF!"),
         Ptg::NameX => put_text(texts, "[PtgNameX]"),
         Ptg::Ref3d { ixti, corner } => put_ref3d(texts, scope, ixti, corner),
-        Ptg::Area3d { ixti, first, last } => put_area3d(texts, scope, ixti, (first, last)),
+        Ptg::Area3d { ixti, first, last } => put_area3d(texts, scope, ixti, first, last),
         Ptg::RefErr3d { ixti } => put_err3d(texts, scope, ixti),
         Ptg::AreaErr3d { ixti } => put_err3d(texts, scope, ixti),
     }
