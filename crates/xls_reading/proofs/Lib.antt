@@ -7,4 +7,6 @@ pub mod RegionLemmas
 pub mod SampleStreams
 pub mod FaultFacts
 pub mod StreamFacts
+pub mod InForceFacts
+pub mod SheetFacts
 pub mod StandardFacts
