@@ -1,6 +1,7 @@
 use crate::runs::ledger::{LEDGER, LEDGER_CSV, LEDGER_REFS, LEDGER_SHEETS};
 use std::alloc::{AllocError, Global};
 use std::env::{Env, FillError};
+use std::io::{self, ErrorKind, Write};
 use std::process::Abort;
 use std::test::*;
 use xls_book::{MemorySource, SteadySource};
@@ -411,6 +412,34 @@ fn passes_on_what_std_writes(rt: HostRuntime) -> Result<(), Fail> {
     assert_eq!(rt; write_all(&mut sink, b"abc"), Ok(()));
     assert_eq!(rt; bytes.as_slice(), b"abc".as_slice());
     Ok(())
+}
+
+// A writer that is interrupted so many times first.
+#[derive(Drop)]
+struct Interrupted {
+    times: u32,
+}
+
+impl Write for Interrupted {
+    fn write(&mut self, buf: &[u8]) -> io::Result<usize> {
+        if self.times > 0 {
+            self.times -= 1;
+            return Err(ErrorKind::Interrupted.into());
+        }
+        Ok(buf.len())
+    }
+
+    fn flush(&mut self) -> io::Result<()> {
+        Ok(())
+    }
+}
+
+#[test]
+fn tries_an_interrupted_write_again(rt: HostRuntime) {
+    let mut sink = StdSink::new(Interrupted { times: 3 });
+    assert!(rt; write_all(&mut sink, b"abc") == Ok(()));
+    let mut sink = StdSink::new(Interrupted { times: 2_000 });
+    assert!(rt; write_all(&mut sink, b"abc").is_err());
 }
 
 // The records of a stream before the cells of its sheet.

@@ -2,7 +2,7 @@ ghost use Rattle.std.specs.Prelude.{◌≡◌, ◌⊎◌, ◌≤◌, None, IfOk,
 ghost use Rattle.xls_strings.specs.declared.error.XlsError.TheVariants.{Memory, TooLarge};
 
 use super::*;
-use std::io::Cursor;
+use std::io::{self, Cursor, ErrorKind, Read};
 use std::test::*;
 
 static CASES: [Case; 2] = [
@@ -105,4 +105,29 @@ fn passes_on_what_std_reads(rt: HostRuntime) {
     let mut into = [0; 3];
     assert!(rt; source.read(&mut into) == Ok(3));
     assert!(rt; into == [9, 8, 4]);
+}
+
+// A reader of zeros that is interrupted so many times first.
+#[derive(Drop)]
+struct Interrupted {
+    times: u32,
+}
+
+impl Read for Interrupted {
+    fn read(&mut self, buf: &mut [u8]) -> io::Result<usize> {
+        if self.times > 0 {
+            self.times -= 1;
+            return Err(ErrorKind::Interrupted.into());
+        }
+        Ok(buf.len())
+    }
+}
+
+#[test]
+fn tries_an_interrupted_read_again(rt: HostRuntime) {
+    let mut into = [0; 3];
+    let mut source = StdSource::new(Interrupted { times: 3 });
+    assert!(rt; source.read(&mut into) == Ok(3));
+    let mut source = StdSource::new(Interrupted { times: 2_000 });
+    assert!(rt; source.read(&mut into).is_err());
 }
