@@ -269,3 +269,77 @@ fn prints_what_nests_5000_deep(rt: HostRuntime) -> Result<(), Fail> {
     assert!(rt; printed.as_str() == text.as_str());
     Ok(())
 }
+
+// ---- memory
+
+/// A leaf of each kind, with its text.
+static LEAVES: [(&[u8], &str); 23] = [
+    (b"\x16", ""),
+    (b"\x16\x19\x40\0\x02", "  "),
+    (b"\x17\x02\0AB", "\"AB\""),
+    (b"\x17\x01\x01\xAC\x20", "\"€\""),
+    (b"\x1C\x2A", "#N/A"),
+    (b"\x1C\x2B", "#GETTING_DATA"),
+    (b"\x1D\x01", "TRUE"),
+    (b"\x1E\xFF\xFF", "65535"),
+    (b"\x1F\0\0\0\0\0\0\xF0\x3F", "1"),
+    (b"\x1F\0\0\0\0\0\0\x04\x40", "0x4004000000000000"),
+    (b"\x20\0\0\0\0\0\0\0", "{PtgArray}"),
+    (b"\x21\x13\0", "PI()"),
+    (b"\x22\0\x04\0", "SUM()"),
+    (b"\x23\x01\0\0\0", "Total"),
+    (b"\x24\xFF\xFF\xFF\x3F", "$XFD$65536"),
+    (b"\x25\0\0\x01\0\0\xC0\x01\xC0", "A1:B2"),
+    (b"\x2A\0\0\0\0", "#REF!"),
+    (b"\x2B\0\0\0\0\0\0\0\0", "#REF!"),
+    (b"\x39\0\0\0\0\0\0", "[PtgNameX]"),
+    (b"\x3A\0\0\0\0\0\xC0", "A!A1"),
+    (b"\x3B\0\0\0\0\x01\0\0\0\x01\0", "A!$A$1:$B$2"),
+    (b"\x3C\0\0\0\0\0\0", "A!#REF!"),
+    (b"\x3D\0\0\0\0\0\0\0\0\0\0", "A!#REF!"),
+];
+
+/// A formula of 5,000 such leaves with `+` between them, and its text.
+fn sum_of(alloc: Global, leaf: &[u8], word: &str) -> Result<(Vec<u8>, String), AllocError> {
+    let mut tokens = Vec::new(alloc);
+    tokens.extend_from_slice(leaf)?;
+    let mut text = String::new(alloc);
+    text.push_str(word)?;
+    for _ in 1..5_000 {
+        tokens.extend_from_slice(leaf)?;
+        tokens.push(0x03)?;
+        text.push('+')?;
+        text.push_str(word)?;
+    }
+    let mut rgce = Vec::new(alloc);
+    rgce.push((tokens.len() % 256) as u8)?;
+    rgce.push((tokens.len() / 256 % 256) as u8)?;
+    rgce.extend_from_slice(&tokens)?;
+    Ok((rgce, text))
+}
+
+#[test]
+fn prints_5000_leaves_of_each_kind(rt: HostRuntime) -> Result<(), Fail> {
+    let mut sheets = Strings::new(rt.alloc());
+    sheets.push("A")?;
+    let mut refs = Refs::new(rt.alloc());
+    refs.push(0)?;
+    let mut names = Names::new(rt.alloc());
+    names.push("Total", "A!$A$1")?;
+    let functions = FunctionTable::shipped(rt.alloc())?;
+    for (leaf, word) in LEAVES.iter() {
+        let (rgce, text) = sum_of(rt.alloc(), leaf, word)?;
+        let printed = parse_formula(
+            rt.alloc(),
+            &rgce,
+            &sheets,
+            &names,
+            &refs,
+            &UTF16,
+            Biff::Biff8,
+            &functions,
+        )?;
+        assert!(rt; printed.as_str() == text.as_str());
+    }
+    Ok(())
+}
