@@ -22,3 +22,4 @@ pub mod AlikeLemmas
 pub mod AscendingLemmas
 pub mod SameLemmas
 pub mod LaidLemmas
+pub mod StandardFacts
