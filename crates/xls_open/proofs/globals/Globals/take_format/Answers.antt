@@ -12,4 +12,4 @@ returns-in-Err c = tt
 pub returns-in-Err-2 : goal.returns-in-Err-2
 returns-in-Err-2 c =
     rw (← c.self.view_is)
-    (format_passed c.args.r.now.typ c.args.r.now.body.now _ _ c.in-Err.error c.in-Err.ensures (λ m. rw c.if-is_memory.false at (c.is_memory.ensures.1 m)))
+    (format_passed c.args.r.now.typ c.args.r.now.body.now _ _ c.in-Err.error c.in-Err.ensures (λ m. let t = c.is_memory.ensures.1 m in let f = c.if-is_memory.false in cc))
