@@ -60,6 +60,8 @@ enum Opening {
     Plain,
     /// With at most so many bytes.
     UpTo(u64),
+    /// Under a forced code page.
+    Forced(u16),
     /// With one function more, named `X`, of one operand.
     WithX,
     /// By the trait's own call.
@@ -120,6 +122,7 @@ fn opened(alloc: Global, opening: Opening, parts: &[&[u8]]) -> Result<Xls, XlsEr
     match opening {
         Opening::Plain => {}
         Opening::UpTo(max_bytes) => options.max_bytes = max_bytes,
+        Opening::Forced(page) => options.force_codepage = Some(page),
         Opening::WithX => options.functions.push("X", 1)?,
         Opening::ByTrait => return <Xls as Reader>::new(alloc, &mut source),
         Opening::ByCall => return open_workbook_from_rs(alloc, &mut source),

@@ -2,3 +2,4 @@ pub mod TextLemmas
 pub mod CheckLemmas
 pub mod EndingLemmas
 pub mod StandardFacts
+pub mod PropertyFacts

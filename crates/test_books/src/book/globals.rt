@@ -13,6 +13,33 @@ const XF_BUILT_IN: [u8; 8] = [0xE0, 0, 4, 0, 0, 0, 14, 0];
 
 const YEARS: [u8; 13] = [0x1E, 0x04, 9, 0, 164, 0, 4, 0, 0, 0x79, 0x79, 0x79, 0x79];
 
+// Format 164, which is `0000`, and one without its text.
+const DIGITS: [u8; 13] = [0x1E, 0x04, 9, 0, 164, 0, 4, 0, 0, 0x30, 0x30, 0x30, 0x30];
+
+const NO_TEXT: [u8; 6] = [0x1E, 0x04, 2, 0, 164, 0];
+
+// CodePages of 1252 and 28591, and a sheet of Excel 5 whose name and whose one text are the byte 80.
+const PAGE_1252: [u8; 6] = [0x42, 0, 2, 0, 0xE4, 0x04];
+
+const PAGE_28591: [u8; 6] = [0x42, 0, 2, 0, 0xAF, 0x6F];
+
+const G_5: [u8; 8] = [0x09, 0x08, 4, 0, 0x00, 0x05, 0x05, 0x00];
+
+const SHEET_5: [u8; 12] = [0x85, 0, 8, 0, 36, 0, 0, 0, 0, 0, 1, 0x80];
+
+const LABEL_5: [u8; 13] = [0x04, 0x02, 9, 0, 0, 0, 0, 0, 0, 0, 1, 0, 0x80];
+
+const TWO_PAGES: [&[u8]; 8] = [
+    &G_5,
+    &PAGE_1252,
+    &PAGE_28591,
+    &SHEET_5,
+    &E,
+    &S,
+    &LABEL_5,
+    &E,
+];
+
 // BoundSheet8 whose name is NUL, the byte E9, NUL.
 const NULS: [u8; 15] = [0x85, 0, 11, 0, 27, 0, 0, 0, 0, 0, 3, 0, 0, 0xE9, 0];
 
@@ -26,7 +53,7 @@ const REFERENCE: [u8; 12] = [0x17, 0, 8, 0, 1, 0, 0, 0, 0, 0, 0, 0];
 // A Lbl of no byte.
 const NO_LBL: [u8; 4] = [0x18, 0, 0, 0];
 
-static CASES: [Case; 9] = [
+static CASES: [Case; 15] = [
     (
         "an empty stream has no sheets",
         Opening::Plain,
@@ -61,6 +88,48 @@ static CASES: [Case; 9] = [
         &[&G, &XF_OWN, &E],
         Asked::Told,
         "false [Other] [] []",
+    ),
+    (
+        "of two formats of one identifier the last counts",
+        Opening::Plain,
+        &[&G, &XF_OWN, &YEARS, &DIGITS, &E],
+        Asked::Told,
+        "false [Other] [] []",
+    ),
+    (
+        "a format without its text is passed over",
+        Opening::Plain,
+        &[&G, &XF_OWN, &YEARS, &NO_TEXT, &E],
+        Asked::Told,
+        "false [DateTime] [] []",
+    ),
+    (
+        "of two code pages the last counts for names",
+        Opening::Plain,
+        &TWO_PAGES,
+        Asked::Told,
+        "false [] [] [Sheet { name: \"\\u{80}\", typ: WorkSheet, visible: Visible }]",
+    ),
+    (
+        "and for cells",
+        Opening::Plain,
+        &TWO_PAGES,
+        Asked::Sheets,
+        "0,0=String(\"\\u{80}\") ||",
+    ),
+    (
+        "a forced page counts before both for names",
+        Opening::Forced(1252),
+        &TWO_PAGES,
+        Asked::Told,
+        "false [] [] [Sheet { name: \"€\", typ: WorkSheet, visible: Visible }]",
+    ),
+    (
+        "and for cells",
+        Opening::Forced(1252),
+        &TWO_PAGES,
+        Asked::Sheets,
+        "0,0=String(\"€\") ||",
     ),
     (
         "NULs of a sheet's name are dropped",
