@@ -1,7 +1,9 @@
 -- Known values, so that a wrong rule in the specs does not check.
-use Rattle.std.proofs.Common.{◌≡◌, ℕ, [], ◌∷◌, refl, None, lit<, arith}
+use Rattle.std.proofs.Common.{◌≡◌, ℕ, [], ◌∷◌, map, codes, refl, None, lit<, arith}
 use Rattle.xls_model.specs.Stream.{Group, enc, group_bytes, Begins}
 use Rattle.xls_model.specs.declared.types.TheConstants as types
+use Rattle.xls_model.specs.declared.part.Part.TheVariants as parts
+use Rattle.xls_model.specs.PartText.{part_text}
 use Rattle.xls_model.specs.Listing.{globals_types}
 use Rattle.xls_model.specs.Substreams.{sheet_types, none, plain, nested, Shape, own_closed, groups_in, outer_in, kept_groups}
 use Rattle.xls_model.specs.Counting.{found_from}
@@ -63,3 +65,21 @@ continued_begins = record {
   room = (lit< tt, tt);
   ended = λ s. let r = s.room in omega arith;
 }
+
+-- the words of each part
+pub part_texts : map part_text (
+    parts.RecordHeader ∷ parts.RecordLength ∷ parts.ContinueLength ∷ parts.SheetOffset ∷ parts.Dbcs ∷ parts.Bof
+    ∷ parts.FilePass ∷ parts.CodePage ∷ parts.DateMode ∷ parts.Xf ∷ parts.BoundSheet ∷ parts.HsState
+    ∷ parts.SheetKind ∷ parts.Lbl ∷ parts.NameFormula ∷ parts.ExternSheet ∷ parts.Sst ∷ parts.RichString
+    ∷ parts.ShortString ∷ parts.Text ∷ parts.NoCch ∷ parts.Dimensions ∷ parts.Number ∷ parts.Label ∷ parts.BoolErr
+    ∷ parts.FError ∷ parts.CellError ∷ parts.Rk ∷ parts.LabelSst ∷ parts.MergeCells ∷ parts.Formula ∷ parts.Format
+    ∷ parts.Rgce ∷ parts.Ptg ∷ parts.PtgExp ∷ parts.PtgStr ∷ parts.SpaceKind ∷ parts.BErr ∷ [])
+    ≡ codes "record type and length" ∷ codes "record length" ∷ codes "continue record length" ∷ codes "sheet offset"
+    ∷ codes "dbcs" ∷ codes "BOF" ∷ codes "FilePass" ∷ codes "CodePage" ∷ codes "DateMode" ∷ codes "xf"
+    ∷ codes "BoundSheet8" ∷ codes "BoundSheet8:hsState" ∷ codes "BoundSheet8:dt" ∷ codes "Lbl"
+    ∷ codes "name formula" ∷ codes "ExternSheet" ∷ codes "sst" ∷ codes "rich extended string"
+    ∷ codes "short string" ∷ codes "string" ∷ codes "XLUnicodeStringNoCch" ∷ codes "dimensions" ∷ codes "number"
+    ∷ codes "label" ∷ codes "BoolErr" ∷ codes "fError" ∷ codes "error" ∷ codes "rk" ∷ codes "label sst"
+    ∷ codes "merge cells" ∷ codes "Formula" ∷ codes "format" ∷ codes "rgce" ∷ codes "ptg" ∷ codes "PtgExp"
+    ∷ codes "PtgStr" ∷ codes "PtgAttrSpaceType" ∷ codes "BErr" ∷ []
+part_texts = refl
