@@ -16,7 +16,8 @@ use Rattle.xls_props.specs.Names.{names_at}
 use Rattle.xls_props.specs.Custom.{customs_of, last_named}
 use Rattle.jiff_core.specs.Calendar.{days_from_civil, day_count, days_of_years, days_of_months}
 use Rattle.xls_data.specs.SerialDays.{day_number}
-use Rattle.xls_props.specs.Moments.{clock_text, past_last_day}
+use Rattle.xls_props.specs.Moments.{IsMoment, clock_text, past_last_day}
+use Rattle.jiff.specs.Words.{epoch_day, date_text}
 use Rattle.xls_props.specs.Sections.{section_of, sized_at, summary_id, document_id, custom_id, names_in}
 use Rattle.xls_props.specs.Properties.{IsSummary, IsDocument, IsProperties}
 
@@ -58,15 +59,22 @@ shift_jis = refl
 western : page_in ((1, 0) ∷ []) (2 ∷ 0 ∷ 0 ∷ 0 ∷ 0xE4 ∷ 4 ∷ []) ≡ Windows1252
 western = refl
 
--- version 12.5 of an application
-version : version_text 0xC0005 ≡ codes "12.0005"
+-- versions of applications: the low half has at least four digits
+versions : map version_text (0xC0000 ∷ 0xC0005 ∷ 0xC000C ∷ 0xC012C ∷ 0xC04D2 ∷ 0xC3039 ∷ 0xFFFF_FFFF ∷ [])
+    ≡ codes "12.0000" ∷ codes "12.0005" ∷ codes "12.0012" ∷ codes "12.0300" ∷ codes "12.1234" ∷ codes "12.12345" ∷ codes "65535.65535" ∷ []
 unfolding digits
-version = refl
+versions = refl
 
--- half past eight
-clock : clock_text 30_600 ≡ codes "08:30:00"
+-- half past eight, and the last second of a day
+clocks : map clock_text (30_600 ∷ 86_399 ∷ []) ≡ codes "08:30:00" ∷ codes "23:59:59" ∷ []
 unfolding digits
-clock = refl
+clocks = refl
+
+-- half past eight on the second day after 1601-01-01
+moment : (text : List ℕ) (is : IsMoment 2_034_000_000_000 text)
+    → (epoch_day is.date ≡ day_number 1601 1 1 +ℤ pos 2) × (text ≡ date_text is.date ++ codes "T08:30:00Z")
+unfolding digits
+moment text is = (is.counted, is.shown)
 
 -- the last moment that has a text, and the first that has none
 last_moment : moment_of 2_650_467_743_999_999_999 ≡ Some (Moment 2_650_467_743_999_999_999)
@@ -230,10 +238,12 @@ first_dictionary : names_in (concat (four 0x38 ∷ four 2 ∷ entry 0x00 0x18 �
 unfolding utf16_chars lib.Utf8.encode
 first_dictionary = refl
 
--- entries 0 and 1 are no properties, nor are those without a name or a value; of two names of a number the last is it
-customs : customs_of ((2, codes "A") ∷ (1, codes "P") ∷ (3, codes "B") ∷ (2, codes "C") ∷ []) Windows1252 (short 7 ++ four 0x06 ++ short 9)
-    ((0, 0) ∷ (1, 0) ∷ (2, 0) ∷ (5, 0) ∷ (3, 6) ∷ (3, 10) ∷ (2, 10) ∷ (3, 6) ∷ [])
-    ≡ (codes "C", Plain (codes "7")) ∷ (codes "B", Plain (codes "9")) ∷ (codes "C", Plain (codes "9")) ∷ []
+-- entries 0 and 1 are no properties, nor are those without a name or a value; of two names of a number
+-- the last is it; an empty text is a value
+customs : customs_of ((2, codes "A") ∷ (1, codes "P") ∷ (3, codes "B") ∷ (4, codes "D") ∷ (2, codes "C") ∷ []) Windows1252
+    (concat (short 7 ∷ four 0x06 ∷ short 9 ∷ four 0x1E ∷ four 0 ∷ []))
+    ((0, 0) ∷ (1, 0) ∷ (2, 0) ∷ (5, 0) ∷ (3, 6) ∷ (3, 10) ∷ (4, 16) ∷ (2, 10) ∷ (3, 6) ∷ [])
+    ≡ (codes "C", Plain (codes "7")) ∷ (codes "B", Plain (codes "9")) ∷ (codes "D", Plain []) ∷ (codes "C", Plain (codes "9")) ∷ []
 unfolding digits
 customs = refl
 

@@ -12,6 +12,7 @@ use Rattle.xls_vba.specs.Fields.{u16_from, id_from, skip, var_from, rec_from, sk
 use Rattle.xls_vba.specs.Libids.{at_last_hash, parted, says_nothing}
 use Rattle.xls_vba.specs.Items.{after_mark, named, registered, control, project, text_from, libid_from, named_from, original_from, extended_from, second_from, control_from, registered_from, project_from, item_from}
 use Rattle.xls_vba.specs.Modules.{Mod, rec_text_from, skip_47, offset_from, cookie_from, kind_from, end_from, names_from, module_from, modules_part}
+use Rattle.xls_vba.specs.Project.{last_module}
 use Rattle.xls_vba.specs.References.{references_of}
 
 -- a number that isn't there, and one that differs
@@ -148,3 +149,11 @@ error_texts : map vba_error_text (errors.Truncated ∷ errors.Unknown parts.Chec
     ∷ codes "Unexpected libid format" ∷ codes "Cfb error: Codepage 1B5 not found" ∷ codes "Out of memory" ∷ []
 unfolding digits
 error_texts = refl
+
+-- the last module of a name is it
+abbrev module_at : ℕ → Mod
+module_at at = record { name = codes "b"; stream_name = codes "s"; text_offset = at }
+
+last_modules : map (λ q. last_module q (module_at 1 ∷ known_module ∷ module_at 2 ∷ [])) (codes "b" ∷ codes "m" ∷ codes "c" ∷ [])
+    ≡ Some (module_at 2) ∷ Some known_module ∷ None ∷ []
+last_modules = refl
