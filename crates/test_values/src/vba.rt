@@ -137,21 +137,6 @@ fn are_references(found: &[Reference]) -> bool {
     found.len() == 4
 }
 
-#[test]
-fn lists_references_as_they_stand(rt: HostRuntime) -> Result<(), Fail> {
-    let project = VbaProject::from_dir(rt.alloc(), &PROJECT)?;
-    assert!(rt; are_references(project.get_references()));
-    Ok(())
-}
-
-#[test]
-fn names_each_module_once_in_byte_order(rt: HostRuntime) -> Result<(), Fail> {
-    let project = VbaProject::from_dir(rt.alloc(), &PROJECT)?;
-    let names = project.get_module_names(rt.alloc())?;
-    assert!(rt; names.as_slice() == ["a", "b"].as_slice());
-    Ok(())
-}
-
 // Whether the project has a module of this name, whose source begins there in this stream.
 fn has_module(
     alloc: Global,
@@ -168,9 +153,13 @@ fn has_module(
     )
 }
 
+// References as they stand, the names in the order of their bytes, the last module of a name.
 #[test]
-fn gives_the_last_module_of_a_name(rt: HostRuntime) -> Result<(), Fail> {
+fn reads_a_whole_directory(rt: HostRuntime) -> Result<(), Fail> {
     let project = VbaProject::from_dir(rt.alloc(), &PROJECT)?;
+    assert!(rt; are_references(project.get_references()));
+    let names = project.get_module_names(rt.alloc())?;
+    assert!(rt; names.as_slice() == ["a", "b"].as_slice());
     assert!(rt; has_module(rt.alloc(), &project, "b", "sc", 9)?);
     assert!(rt; has_module(rt.alloc(), &project, "a", "sa", 300)?);
     Ok(())
