@@ -48,7 +48,13 @@ fn refuses(alloc: Global, rgce: &[u8], biff: Biff, error: &XlsError) -> bool {
 }
 
 /// Formulas with their texts.
-static PRINTED: [(Biff, &[u8], &str); 16] = [
+static PRINTED: [(Biff, &[u8], &str); 17] = [
+    // Each operator.
+    (
+        Biff::Biff8,
+        b"\x43\0\x1E\x01\0\x1E\x02\0\x03\x1E\x03\0\x04\x1E\x04\0\x05\x1E\x05\0\x06\x1E\x06\0\x07\x1E\x07\0\x08\x1E\x08\0\x09\x1E\x09\0\x0A\x1E\x0A\0\x0B\x1E\x0B\0\x0C\x1E\x0C\0\x0D\x1E\x0D\0\x0E\x1E\x0E\0\x0F\x1E\x0F\0\x10\x1E\x10\0\x11\x12\x13\x14\x15",
+        "(-+1+2-3*4/5^6&7<8<=9=10>11>=12<>13 14,15:16%)",
+    ),
     // Cells on a sheet: the last row of BIFF8, an area.
     (Biff::Biff8, b"\x07\0\x3A\0\0\xFF\xFF\0\xC0", "A!A65536"),
     (

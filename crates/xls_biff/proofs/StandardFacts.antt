@@ -41,9 +41,9 @@ pub known_bof : map (λ body. gives (λ (b : Bof). b.biff) (bof_at body)) (
     ≡ Ok Biff8 ∷ Ok Biff5 ∷ Ok Biff4 ∷ Ok Biff3 ∷ Ok Biff2 ∷ Ok Biff5 ∷ Ok Biff8 ∷ []
 known_bof = refl
 
--- RC4, and no encryption
-pub known_file_pass : map file_pass_at ((0x01 ∷ 0x00 ∷ []) ∷ (0x00 ∷ 0x00 ∷ []) ∷ [])
-    ≡ Err errors.Password ∷ Ok tt ∷ []
+-- RC4 and others, and XOR obfuscation, under which the records are read as they stand
+pub known_file_pass : map file_pass_at ((0x01 ∷ 0x00 ∷ []) ∷ (0x02 ∷ 0x00 ∷ []) ∷ (0x00 ∷ 0x01 ∷ []) ∷ (0x00 ∷ 0x00 ∷ []) ∷ [])
+    ≡ Err errors.Password ∷ Err errors.Password ∷ Err errors.Password ∷ Ok tt ∷ []
 known_file_pass = refl
 
 -- the pages 1200 and 1252, and 437, which isn't kept

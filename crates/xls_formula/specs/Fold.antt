@@ -21,7 +21,7 @@ use Rattle.xls_formula.specs.Tree.{Tree, Trees, word, ref, area, wrap, pair, cal
 abbrev pub Folded : Type 0
 Folded = Result (List Tree) XlsError
 
--- a string in quotes
+-- a string in quotes, and those inside it as they stand: this project's rule
 abbrev pub str_text : XlsEncoding → Option Bool → List ℕ → ℕ → List ℕ
 str_text page high bytes count =
     codes "\"" ++ (string_text page high bytes count ++ codes "\"")

@@ -1,5 +1,6 @@
 -- BoundSheet8 ([MS-XLS] 2.4.28): the offset of the sheet's part (lbPlyPos) in bytes 0 to 3, its state
--- (hsState) in the low six bits of byte 4, its kind (dt) in byte 5, and its name, a short string.
+-- (hsState) in byte 4, its kind (dt) in byte 5, and its name, a short string. The standard gives the
+-- state the low two bits of its byte; that the low six count is this project's rule.
 use Rattle.std.specs.Prelude.{ℕ, ◌%◌, List, ◌==◌, if◌then◌else◌, nat_lt, take, drop, slice_index, Result, Ok, Err}
 use Rattle.std.specs.List.{filter}
 use Rattle.xls_bytes.specs.Numbers.{le}

@@ -7,7 +7,7 @@ use Rattle.xls_data.specs.declared.regions.Dimensions.{Dimensions}
 use Rattle.xls_strings.specs.declared.error.XlsError.{XlsError}
 use Rattle.xls_strings.specs.declared.error.XlsError.TheVariants.{Len}
 
--- a first column that passes 255 or the column after the last becomes 0
+-- a first column that passes 255 or the column after the last becomes 0: this project's rule
 abbrev pub first_within : ℕ → ℕ → ℕ
 first_within first behind = if nat_lt 0xFF first || nat_lt behind first then 0 else first
 

@@ -1,5 +1,5 @@
 -- ExternSheet ([MS-XLS] 2.4.106): a count (cXTI) in bytes 0 and 1, and XTI structures of six bytes;
--- before BIFF8 it is not read.
+-- before BIFF8 it is not read. That a structure's workbook (iSupBook) isn't looked at is this project's rule.
 use Rattle.std.specs.Prelude.{ℕ, ◌+◌, ◌-◌, ◌*◌, ◌/◌, min, ℤ, List, [], if◌then◌else◌, length, take, drop, Result, Ok}
 use Rattle.xls_bytes.specs.Numbers.{le, twos_complement}
 use Rattle.xls_model.specs.declared.part.Part.TheVariants as parts

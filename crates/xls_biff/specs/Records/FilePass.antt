@@ -1,5 +1,5 @@
--- FilePass ([MS-XLS] 2.4.117): the kind of encryption in bytes 0 and 1. A kind other than 0 is a
--- password, and nothing is read under one.
+-- FilePass ([MS-XLS] 2.4.117): the kind of encryption (wEncryptionType) in bytes 0 and 1. 0 is XOR obfuscation: that the
+-- records of such a workbook are read as they stand is this project's rule. Under every other kind nothing is read.
 use Rattle.std.specs.Prelude.{ℕ, List, ◌==◌, if◌then◌else◌, take, Result, Ok, Err}
 use Rattle.xls_bytes.specs.Numbers.{le}
 use Rattle.xls_model.specs.declared.part.Part.TheVariants as parts
