@@ -8,6 +8,7 @@ mod items;
 mod json_lines;
 mod laws;
 mod lines;
+mod properties;
 mod rows;
 mod values;
 
@@ -17,8 +18,9 @@ pub use items::{Field, Member, push_text_line};
 pub use json_lines::push_json_line;
 pub use laws::{numbers_are_bare, rows_read_back};
 pub use lines::{
-    push_cell, push_custom, push_dates, push_error, push_formula_line, push_merge, push_name,
+    push_cell, push_dates, push_error, push_formula_line, push_merge, push_name, push_ok, push_ref,
     push_sheet,
 };
+pub use properties::{Property, push_custom, push_property};
 pub use rows::push_row;
 pub use values::Value;
