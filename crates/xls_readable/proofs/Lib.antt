@@ -1,4 +1,5 @@
 pub mod StretchLemmas
+pub mod GrowthLemmas
 pub mod ConcatenationLemmas
 pub mod JsonLemmas
 pub mod RowLemmas

@@ -1,6 +1,6 @@
 //! The lines of a workbook, a call for each kind.
 
-ghost use Rattle.std.specs.Prelude.{◌≡◌, [], option_map, OnOk, codes};
+ghost use Rattle.std.specs.Prelude.{◌≡◌, [], option_map, OnOk, OnErr, codes};
 ghost use Rattle.std.specs.String.{string_bytes};
 ghost use Rattle.xls_decimals.specs.Added.{Adds};
 ghost use Rattle.xls_readable.specs.Items.{count, named_of};
@@ -20,17 +20,17 @@ fn year_word(is_1904: bool) -> &'static str
     if is_1904 { "1904" } else { "1900" }
 }
 
-/// Appends the line of the date system, `dates`. Of this call and those below: after a refusal, which
-/// only running out of memory brings, `buf` may end in a part of the line; what is printed first is
-/// printed into `room`, whose text is lost.
+/// Appends the line of the date system, `dates`. Of this call and those below: only running out of memory
+/// refuses, and then `buf` is as it was; what is printed first is printed into `room`, whose text is lost.
 pub fn push_dates(
     form: Form,
     is_1904: bool,
     room: &mut String,
     buf: &mut String,
 ) -> Result<(), AllocError>
-    ensures { OnOk result (Adds (IsLine form (codes "dates") (dates_members is_1904))
+    ensures ok { OnOk result (Adds (IsLine form (codes "dates") (dates_members is_1904))
         (string_bytes buf.old) (string_bytes buf.new)) }
+    ensures err { OnErr result (string_bytes buf.new ≡ string_bytes buf.old) }
 {
     let year = Member {
         name: "year",
@@ -49,8 +49,9 @@ pub(crate) fn push_two_texts(
     room: &mut String,
     buf: &mut String,
 ) -> Result<(), AllocError>
-    ensures { OnOk result (Adds (IsLine form word.now (two_texts name.now label.now text.now))
+    ensures ok { OnOk result (Adds (IsLine form word.now (two_texts name.now label.now text.now))
         (string_bytes buf.old) (string_bytes buf.new)) }
+    ensures err { OnErr result (string_bytes buf.new ≡ string_bytes buf.old) }
 {
     let name = Member {
         name: "name",
@@ -71,8 +72,9 @@ pub(crate) fn push_one_text(
     room: &mut String,
     buf: &mut String,
 ) -> Result<(), AllocError>
-    ensures { OnOk result (Adds (IsLine form word.now (text_members text.now))
+    ensures ok { OnOk result (Adds (IsLine form word.now (text_members text.now))
         (string_bytes buf.old) (string_bytes buf.new)) }
+    ensures err { OnErr result (string_bytes buf.new ≡ string_bytes buf.old) }
 {
     let text = Member {
         name: "text",
@@ -89,8 +91,9 @@ pub fn push_name(
     room: &mut String,
     buf: &mut String,
 ) -> Result<(), AllocError>
-    ensures { OnOk result (Adds (IsLine form (codes "name") (name_members name.now text.now))
+    ensures ok { OnOk result (Adds (IsLine form (codes "name") (name_members name.now text.now))
         (string_bytes buf.old) (string_bytes buf.new)) }
+    ensures err { OnErr result (string_bytes buf.new ≡ string_bytes buf.old) }
 {
     push_two_texts(form, "name", name, "text", text, room, buf)
 }
@@ -128,8 +131,9 @@ pub fn push_sheet(
     room: &mut String,
     buf: &mut String,
 ) -> Result<(), AllocError>
-    ensures { OnOk result (Adds (IsLine form (codes "sheet") (sheet_members name.now kind visible))
+    ensures ok { OnOk result (Adds (IsLine form (codes "sheet") (sheet_members name.now kind visible))
         (string_bytes buf.old) (string_bytes buf.new)) }
+    ensures err { OnErr result (string_bytes buf.new ≡ string_bytes buf.old) }
 {
     let name = Member {
         name: "name",
@@ -174,8 +178,9 @@ pub fn push_cell(
     room: &mut String,
     buf: &mut String,
 ) -> Result<(), AllocError>
-    ensures { OnOk result (Adds (IsCellLine form row column value.now)
+    ensures ok { OnOk result (Adds (IsCellLine form row column value.now)
         (string_bytes buf.old) (string_bytes buf.new)) }
+    ensures err { OnErr result (string_bytes buf.new ≡ string_bytes buf.old) }
 {
     match kind_and_field(value) {
         Some((kind, field)) => {
@@ -210,8 +215,9 @@ pub fn push_formula_line(
     room: &mut String,
     buf: &mut String,
 ) -> Result<(), AllocError>
-    ensures { OnOk result (Adds (IsLine form (codes "formula") (formula_members row column text.now))
+    ensures ok { OnOk result (Adds (IsLine form (codes "formula") (formula_members row column text.now))
         (string_bytes buf.old) (string_bytes buf.new)) }
+    ensures err { OnErr result (string_bytes buf.new ≡ string_bytes buf.old) }
 {
     let row = Member {
         name: "row",
@@ -245,8 +251,9 @@ pub fn push_merge(
     room: &mut String,
     buf: &mut String,
 ) -> Result<(), AllocError>
-    ensures { OnOk result (Adds (IsLine form (codes "merge") (merge_members region))
+    ensures ok { OnOk result (Adds (IsLine form (codes "merge") (merge_members region))
         (string_bytes buf.old) (string_bytes buf.new)) }
+    ensures err { OnErr result (string_bytes buf.new ≡ string_bytes buf.old) }
 {
     let corners = [
         count_member("first_row", region.start.0),
@@ -268,8 +275,9 @@ pub fn push_ref(
     room: &mut String,
     buf: &mut String,
 ) -> Result<(), AllocError>
-    ensures { OnOk result (Adds (IsLine form (codes "ref") (ref_members sheet.now cell cited_sheet.now cells))
+    ensures ok { OnOk result (Adds (IsLine form (codes "ref") (ref_members sheet.now cell cited_sheet.now cells))
         (string_bytes buf.old) (string_bytes buf.new)) }
+    ensures err { OnErr result (string_bytes buf.new ≡ string_bytes buf.old) }
 {
     let members = [
         Member {
@@ -297,15 +305,17 @@ pub fn push_error(
     room: &mut String,
     buf: &mut String,
 ) -> Result<(), AllocError>
-    ensures { OnOk result (Adds (IsLine form (codes "error") (text_members text.now))
+    ensures ok { OnOk result (Adds (IsLine form (codes "error") (text_members text.now))
         (string_bytes buf.old) (string_bytes buf.new)) }
+    ensures err { OnErr result (string_bytes buf.new ≡ string_bytes buf.old) }
 {
     push_one_text(form, "error", text, room, buf)
 }
 
 /// Appends the line of a stream without a fault, `ok`.
 pub fn push_ok(form: Form, room: &mut String, buf: &mut String) -> Result<(), AllocError>
-    ensures { OnOk result (Adds (IsLine form (codes "ok") []) (string_bytes buf.old) (string_bytes buf.new)) }
+    ensures ok { OnOk result (Adds (IsLine form (codes "ok") []) (string_bytes buf.old) (string_bytes buf.new)) }
+    ensures err { OnErr result (string_bytes buf.new ≡ string_bytes buf.old) }
 {
     push_line(form, "ok", &[], room, buf)
 }

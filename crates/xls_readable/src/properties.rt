@@ -1,6 +1,6 @@
 //! The lines of a document's properties.
 
-ghost use Rattle.std.specs.Prelude.{◌≡◌, OnOk, codes};
+ghost use Rattle.std.specs.Prelude.{◌≡◌, OnOk, OnErr, codes};
 ghost use Rattle.std.specs.String.{string_bytes};
 ghost use Rattle.xls_decimals.specs.Added.{Adds};
 ghost use Rattle.xls_readable.specs.Lines.{IsLine, custom_members, property_word, text_members};
@@ -57,8 +57,8 @@ fn property_word(property: Property) -> &'static str
 }
 
 /// Appends the line of a property's text, whose word is the property's: `title`, `last_modified_by`. Of this
-/// call and the next: after a refusal, which only running out of memory brings, `buf` may end in a part of
-/// the line; what is printed first is printed into `room`, whose text is lost.
+/// call and the next: only running out of memory refuses, and then `buf` is as it was; what is printed first
+/// is printed into `room`, whose text is lost.
 pub fn push_property(
     form: Form,
     property: Property,
@@ -66,8 +66,9 @@ pub fn push_property(
     room: &mut String,
     buf: &mut String,
 ) -> Result<(), AllocError>
-    ensures { OnOk result (Adds (IsLine form (property_word property) (text_members text.now))
+    ensures ok { OnOk result (Adds (IsLine form (property_word property) (text_members text.now))
         (string_bytes buf.old) (string_bytes buf.new)) }
+    ensures err { OnErr result (string_bytes buf.new ≡ string_bytes buf.old) }
 {
     push_one_text(form, property_word(property), text, room, buf)
 }
@@ -80,8 +81,9 @@ pub fn push_custom(
     room: &mut String,
     buf: &mut String,
 ) -> Result<(), AllocError>
-    ensures { OnOk result (Adds (IsLine form (codes "custom") (custom_members name.now value.now))
+    ensures ok { OnOk result (Adds (IsLine form (codes "custom") (custom_members name.now value.now))
         (string_bytes buf.old) (string_bytes buf.new)) }
+    ensures err { OnErr result (string_bytes buf.new ≡ string_bytes buf.old) }
 {
     push_two_texts(form, "custom", name, "value", value, room, buf)
 }
