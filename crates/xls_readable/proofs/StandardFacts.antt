@@ -1,7 +1,10 @@
 -- Values that RFC 4180, RFC 8259 and the manual of xls_dump give, so that a wrong rule in the specs
 -- does not check.
-use Rattle.std.proofs.Common.{◌≡◌, ℤ, Bool, ◌∷◌, [], map, true, false, refl}
-use Rattle.std.specs.Prelude.{Option, Some, None, codes}
+use Rattle.std.proofs.Common.{◌≡◌, ℕ, ℤ, Bool, List, ◌∷◌, ◌++◌, [], map, true, false, refl}
+use Rattle.std.specs.Prelude.{Some, None, codes}
+use Rattle.std.specs.Fmt.{digits}
+use Rattle.std.specs.Str.{chars}
+use Rattle.json.specs.Print.{escape_byte, quoted}
 use Rattle.xls_data.specs.Dates.{DateParts}
 use Rattle.xls_data.specs.declared.dates.ExcelDateTimeType.TheVariants.{DateTime, TimeDelta}
 use Rattle.xls_data.specs.declared.errors.CellErrorType.{CellErrorType}
@@ -9,12 +12,15 @@ use Rattle.xls_data.specs.declared.numbers.Number.{Number}
 use Rattle.xls_data.specs.declared.regions.Dimensions.{Dimensions}
 use Rattle.xls_data.specs.declared.sheets.SheetType.TheVariants as types
 use Rattle.xls_data.specs.declared.sheets.SheetVisible.TheVariants as states
-use Rattle.xls_readable.specs.declared.values.Value.{Value}
 use Rattle.xls_readable.specs.declared.values.Value.TheVariants as value
-use Rattle.xls_readable.specs.Values.{truth_text}
+use Rattle.xls_readable.specs.declared.forms.Form.TheVariants.{Text, Json}
+use Rattle.xls_readable.specs.declared.properties.Property.TheVariants as property
+use Rattle.xls_readable.specs.Values.{truth_text, Concatenates}
 use Rattle.xls_readable.specs.Csv.{is_delimiter, is_marked, csv_field, csv_row}
-use Rattle.xls_readable.specs.Items.{Named, count, int, number, truth, moment, failure}
+use Rattle.xls_readable.specs.Items.{Item, Named, IsItemText, IsTabbed, count, int, number, truth, moment, failure}
+use Rattle.xls_readable.specs.Json.{IsItemJson, IsMember}
 use Rattle.xls_readable.specs.Lines.{
+  IsLine,
   year_text,
   type_text,
   visible_text,
@@ -26,6 +32,8 @@ use Rattle.xls_readable.specs.Lines.{
   cell_members,
   formula_members,
   merge_members,
+  ref_members,
+  property_word,
   text_members,
   custom_members,
 }
@@ -96,9 +104,99 @@ pub known_merge : (d : Dimensions) → map (λ (m : Named). m.0) (merge_members 
     ≡ codes "first_row" ∷ codes "first_column" ∷ codes "last_row" ∷ codes "last_column" ∷ []
 known_merge d = refl
 
+pub known_ref_names : (d : Dimensions) → map (λ (m : Named). m.0) (ref_members [] (0, 0) [] d)
+    ≡ codes "sheet" ∷ codes "row" ∷ codes "column" ∷ codes "cited_sheet"
+    ∷ codes "first_row" ∷ codes "first_column" ∷ codes "last_row" ∷ codes "last_column" ∷ []
+known_ref_names d = refl
+
+-- the words of the properties, in the order of the manual
+pub known_properties : map property_word (property.Title ∷ property.Subject ∷ property.Creator ∷ property.Keywords
+    ∷ property.Description ∷ property.Template ∷ property.LastModifiedBy ∷ property.Revision ∷ property.Created
+    ∷ property.Modified ∷ property.Application ∷ property.Category ∷ property.Manager ∷ property.Company
+    ∷ property.ContentStatus ∷ property.Version ∷ property.AppVersion ∷ [])
+    ≡ codes "title" ∷ codes "subject" ∷ codes "creator" ∷ codes "keywords" ∷ codes "description" ∷ codes "template"
+    ∷ codes "last_modified_by" ∷ codes "revision" ∷ codes "created" ∷ codes "modified" ∷ codes "application"
+    ∷ codes "category" ∷ codes "manager" ∷ codes "company" ∷ codes "content_status" ∷ codes "version" ∷ codes "app_version" ∷ []
+known_properties = refl
+
 -- the kinds of values that are no texts
 pub known_kinds : (n : ℤ) → (x : Number) → (b : Bool) → (d : DateParts) → (e : CellErrorType) →
     map kind_and_item (value.Int n ∷ value.Float x ∷ value.Truth b ∷ value.Moment d ∷ value.Failure e ∷ value.Empty ∷ [])
     ≡ Some (codes "int", int n) ∷ Some (codes "float", number x) ∷ Some (codes "bool", truth b) ∷ Some (moment_kind d.kind, moment d)
     ∷ Some (codes "error", failure e) ∷ None ∷ []
 known_kinds n x b d e = refl
+
+-- ---- whole lines, as text and as JSON
+
+abbrev AreShown : (Item → List ℕ → Type 0) → List Named → List (List ℕ) → Type 0
+AreShown P [] [] = Unit {0}
+AreShown P (m ∷ ms) (shown ∷ rest) = P m.1 shown × AreShown P ms rest
+AreShown P ms texts = ⊥
+
+abbrev tabbed : List (List ℕ) → List ℕ
+tabbed [] = []
+tabbed (shown ∷ rest) = (codes "\t" ++ shown) ++ tabbed rest
+
+abbrev members : List Named → List (List ℕ) → List ℕ
+members [] texts = []
+members (m ∷ ms) [] = []
+members (m ∷ ms) (shown ∷ rest) = (codes "," ++ (quoted m.0 ++ (codes ":" ++ shown))) ++ members ms rest
+
+are_tabbed : (ms : List Named) (texts : List (List ℕ)) → AreShown IsItemText ms texts → Concatenates IsTabbed ms (tabbed texts)
+are_tabbed [] [] h = refl
+are_tabbed (m ∷ ms) (shown ∷ rest) h = (codes "\t" ++ shown, tabbed rest, (shown, h.0, refl), are_tabbed ms rest h.1, refl)
+are_tabbed [] (shown ∷ rest) h = absurd h
+are_tabbed (m ∷ ms) [] h = absurd h
+
+are_members : (ms : List Named) (texts : List (List ℕ)) → AreShown IsItemJson ms texts → Concatenates IsMember ms (members ms texts)
+are_members [] [] h = refl
+are_members (m ∷ ms) (shown ∷ rest) h =
+    (codes "," ++ (quoted m.0 ++ (codes ":" ++ shown)), members ms rest, (shown, h.0, refl), are_members ms rest h.1, refl)
+are_members [] (shown ∷ rest) h = absurd h
+are_members (m ∷ ms) [] h = absurd h
+
+text_line : (kind : List ℕ) (ms : List Named) (texts : List (List ℕ)) → AreShown IsItemText ms texts
+    → IsLine Text kind ms (kind ++ (tabbed texts ++ codes "\n"))
+text_line kind ms texts h = (tabbed texts, are_tabbed ms texts h, refl)
+
+json_line : (kind : List ℕ) (ms : List Named) (texts : List (List ℕ)) → AreShown IsItemJson ms texts
+    → IsLine Json kind ms (codes "{\"line\":" ++ (quoted kind ++ (members ms texts ++ codes "}\n")))
+json_line kind ms texts h = (members ms texts, are_members ms texts h, refl)
+
+-- a formula in row 3, column 4 of the sheet `A` that cites rows 1 to 5, columns 2 to 6 of a sheet with a tab in its name
+abbrev ref : List Named
+ref = ref_members (codes "A") (3, 4) (codes "B\tC") (record { start = (1, 2); end = (5, 6) })
+
+pub known_ref : IsLine Text (codes "ref") ref (codes "ref\tA\t3\t4\tB\\tC\t1\t2\t5\t6\n")
+unfolding digits chars lib.Utf8.encode
+known_ref =
+    text_line (codes "ref") ref (codes "A" ∷ codes "3" ∷ codes "4" ∷ codes "B\\tC" ∷ codes "1" ∷ codes "2" ∷ codes "5" ∷ codes "6" ∷ [])
+    (refl, (refl, (refl, (refl, (refl, (refl, (refl, (refl, tt))))))))
+
+pub known_ref_json : IsLine Json (codes "ref") ref
+    (codes "{\"line\":\"ref\",\"sheet\":\"A\",\"row\":3,\"column\":4,\"cited_sheet\":\"B\\tC\",\"first_row\":1,\"first_column\":2,\"last_row\":5,\"last_column\":6}\n")
+unfolding digits escape_byte
+known_ref_json =
+    json_line (codes "ref") ref
+    (codes "\"A\"" ∷ codes "3" ∷ codes "4" ∷ codes "\"B\\tC\"" ∷ codes "1" ∷ codes "2" ∷ codes "5" ∷ codes "6" ∷ [])
+    (refl, (refl, (refl, (refl, (refl, (refl, (refl, (refl, tt))))))))
+
+pub known_ok : IsLine Text (codes "ok") [] (codes "ok\n") × IsLine Json (codes "ok") [] (codes "{\"line\":\"ok\"}\n")
+unfolding escape_byte
+known_ok = (text_line (codes "ok") [] [] tt, json_line (codes "ok") [] [] tt)
+
+pub known_title : IsLine Text (property_word property.Title) (text_members (codes "a\"b")) (codes "title\ta\"b\n")
+    × IsLine Json (property_word property.Title) (text_members (codes "a\"b")) (codes "{\"line\":\"title\",\"text\":\"a\\\"b\"}\n")
+unfolding chars lib.Utf8.encode escape_byte
+known_title = (
+  text_line (codes "title") (text_members (codes "a\"b")) (codes "a\"b" ∷ []) (refl, tt),
+  json_line (codes "title") (text_members (codes "a\"b")) (codes "\"a\\\"b\"" ∷ []) (refl, tt),
+)
+
+pub known_custom : IsLine Text (codes "custom") (custom_members (codes "N") (codes "v")) (codes "custom\tN\tv\n")
+    × IsLine Json (codes "custom") (custom_members (codes "N") (codes "v")) (codes "{\"line\":\"custom\",\"name\":\"N\",\"value\":\"v\"}\n")
+unfolding chars lib.Utf8.encode escape_byte
+known_custom = (
+  text_line (codes "custom") (custom_members (codes "N") (codes "v")) (codes "N" ∷ codes "v" ∷ []) (refl, (refl, tt)),
+  json_line (codes "custom") (custom_members (codes "N") (codes "v")) (codes "\"N\"" ∷ codes "\"v\"" ∷ []) (refl, (refl, tt)),
+)

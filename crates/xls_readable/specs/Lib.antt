@@ -4,3 +4,4 @@ pub mod Laws
 pub mod Items
 pub mod Json
 pub mod Lines
+pub mod Growth

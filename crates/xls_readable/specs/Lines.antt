@@ -12,6 +12,8 @@ use Rattle.xls_readable.specs.declared.values.Value.TheVariants as value
 use Rattle.xls_readable.specs.Json.{IsJsonLine}
 use Rattle.xls_readable.specs.declared.forms.Form.{Form}
 use Rattle.xls_readable.specs.declared.forms.Form.TheVariants.{Text, Json}
+use Rattle.xls_readable.specs.declared.properties.Property.{Property}
+use Rattle.xls_readable.specs.declared.properties.Property.TheVariants as property
 pub use Rattle.xls_readable.specs.Items.{Item, Named, IsTextLine, item_of, word, text, formula, count, int, number, truth, moment, failure}
 
 -- a line of a word and fields, as text or as JSON
@@ -27,9 +29,13 @@ year_text false = codes "1900"
 abbrev pub dates_members : Bool → List Named
 dates_members is_1904 = (codes "year", word (year_text is_1904)) ∷ []
 
+-- a name, and a text under a label
+abbrev pub two_texts : List ℕ → List ℕ → List ℕ → List Named
+two_texts name label shown = (codes "name", text name) ∷ (label, text shown) ∷ []
+
 -- a defined name and its text
 abbrev pub name_members : List ℕ → List ℕ → List Named
-name_members name shown = (codes "name", text name) ∷ (codes "text", text shown) ∷ []
+name_members name shown = two_texts name (codes "text") shown
 
 abbrev pub type_text : SheetType → List ℕ
 type_text types.WorkSheet = codes "worksheet"
@@ -86,10 +92,36 @@ merge_members d =
     (codes "first_row", count d.start.0) ∷ (codes "first_column", count d.start.1)
     ∷ (codes "last_row", count d.end.0) ∷ (codes "last_column", count d.end.1) ∷ []
 
--- a text, as that of a refusal
+-- sheet, row and column of a formula, and of the cells that it cites the sheet and the corners
+abbrev pub ref_members : List ℕ → ℕ × ℕ → List ℕ → Dimensions → List Named
+ref_members sheet cell cited_sheet cells =
+    (codes "sheet", text sheet) ∷ (codes "row", count cell.0) ∷ (codes "column", count cell.1)
+    ∷ (codes "cited_sheet", text cited_sheet) ∷ merge_members cells
+
+-- a text, as that of a refusal or of a property
 abbrev pub text_members : List ℕ → List Named
 text_members shown = (codes "text", text shown) ∷ []
 
+-- the word of a property of the document
+abbrev pub property_word : Property → List ℕ
+property_word property.Title = codes "title"
+property_word property.Subject = codes "subject"
+property_word property.Creator = codes "creator"
+property_word property.Keywords = codes "keywords"
+property_word property.Description = codes "description"
+property_word property.Template = codes "template"
+property_word property.LastModifiedBy = codes "last_modified_by"
+property_word property.Revision = codes "revision"
+property_word property.Created = codes "created"
+property_word property.Modified = codes "modified"
+property_word property.Application = codes "application"
+property_word property.Category = codes "category"
+property_word property.Manager = codes "manager"
+property_word property.Company = codes "company"
+property_word property.ContentStatus = codes "content_status"
+property_word property.Version = codes "version"
+property_word property.AppVersion = codes "app_version"
+
 -- name and value of a custom property
 abbrev pub custom_members : List ℕ → List ℕ → List Named
-custom_members name shown = (codes "name", text name) ∷ (codes "value", text shown) ∷ []
+custom_members name shown = two_texts name (codes "value") shown

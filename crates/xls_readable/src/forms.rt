@@ -1,6 +1,6 @@
 //! How a line is written.
 
-ghost use Rattle.std.specs.Prelude.{map, OnOk};
+ghost use Rattle.std.specs.Prelude.{◌≡◌, map, OnOk, OnErr};
 ghost use Rattle.std.specs.String.{string_bytes};
 ghost use Rattle.xls_decimals.specs.Added.{Adds};
 ghost use Rattle.xls_readable.specs.Items.{named_of};
@@ -20,8 +20,7 @@ pub enum Form {
 }
 
 /// Appends a line of a word and of fields in a form. What has to be printed first is printed into `room`,
-/// whose text is lost. After a refusal, which only running out of memory brings, `buf` may end in a part
-/// of the line.
+/// whose text is lost. Only running out of memory refuses, and then `buf` is as it was.
 pub fn push_line(
     form: Form,
     word: &str,
@@ -29,8 +28,9 @@ pub fn push_line(
     room: &mut String,
     buf: &mut String,
 ) -> Result<(), AllocError>
-    ensures { OnOk result (Adds (IsLine form word.now (map named_of members.now))
+    ensures ok { OnOk result (Adds (IsLine form word.now (map named_of members.now))
         (string_bytes buf.old) (string_bytes buf.new)) }
+    ensures err { OnErr result (string_bytes buf.new ≡ string_bytes buf.old) }
 {
     match form {
         Form::Text => push_text_line(word, members, room, buf),

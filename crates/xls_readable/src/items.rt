@@ -1,9 +1,10 @@
 //! The fields of a line, and lines of them as text.
 
-ghost use Rattle.std.specs.Prelude.{◌≡◌, ◌++◌, map, OnOk};
+ghost use Rattle.std.specs.Prelude.{◌≡◌, ◌++◌, map, OnOk, OnErr};
 ghost use Rattle.std.specs.Fmt.{decimal};
 ghost use Rattle.std.specs.String.{string_bytes};
 ghost use Rattle.xls_decimals.specs.Added.{Adds};
+ghost use Rattle.xls_readable.specs.Growth.{Grows};
 ghost use Rattle.xls_readable.specs.Values.{Concatenates};
 ghost use Rattle.xls_readable.specs.Items.{IsItemText, IsTabbed, IsTextLine, formula, item_of, named_of};
 
@@ -45,7 +46,8 @@ pub struct Member<'a> {
 
 // Appends a count.
 pub(crate) fn push_count(n: u64, buf: &mut String) -> Result<(), AllocError>
-    ensures { OnOk result (string_bytes buf.new ≡ string_bytes buf.old ++ decimal n) }
+    ensures ok { OnOk result (string_bytes buf.new ≡ string_bytes buf.old ++ decimal n) }
+    ensures err { OnErr result (string_bytes buf.new ≡ string_bytes buf.old) }
 {
     let mut digits = itoa::Buffer::new();
     buf.push_str(digits.format(n))
@@ -53,8 +55,9 @@ pub(crate) fn push_count(n: u64, buf: &mut String) -> Result<(), AllocError>
 
 // Appends the text of a formula, escaped.
 fn push_formula_text(text: &str, room: &mut String, buf: &mut String) -> Result<(), AllocError>
-    ensures { OnOk result (Adds (IsItemText (formula text.now))
+    ensures ok { OnOk result (Adds (IsItemText (formula text.now))
         (string_bytes buf.old) (string_bytes buf.new)) }
+    ensures err { OnErr result (string_bytes buf.new ≡ string_bytes buf.old) }
 {
     room.clear();
     push_formula(text, room)?;
@@ -63,8 +66,9 @@ fn push_formula_text(text: &str, room: &mut String, buf: &mut String) -> Result<
 
 // Appends the text of a field.
 fn push_item(field: &Field<'_>, room: &mut String, buf: &mut String) -> Result<(), AllocError>
-    ensures { OnOk result (Adds (IsItemText (item_of field.now))
+    ensures ok { OnOk result (Adds (IsItemText (item_of field.now))
         (string_bytes buf.old) (string_bytes buf.new)) }
+    ensures err { OnErr result (string_bytes buf.new ≡ string_bytes buf.old) }
 {
     match field {
         Field::Word(word) => buf.push_str(word),
@@ -82,8 +86,9 @@ fn push_item(field: &Field<'_>, room: &mut String, buf: &mut String) -> Result<(
 
 // Appends the text of a field after a tab.
 fn push_tabbed(member: &Member<'_>, room: &mut String, buf: &mut String) -> Result<(), AllocError>
-    ensures { OnOk result (Adds (IsTabbed (named_of member.now))
+    ensures ok { OnOk result (Adds (IsTabbed (named_of member.now))
         (string_bytes buf.old) (string_bytes buf.new)) }
+    ensures grown { Grows (string_bytes buf.old) (string_bytes buf.new) }
 {
     buf.push_str("\t")?;
     push_item(&member.field, room, buf)
@@ -95,8 +100,9 @@ fn push_all_tabbed(
     room: &mut String,
     buf: &mut String,
 ) -> Result<(), AllocError>
-    ensures { OnOk result (Adds (Concatenates IsTabbed (map named_of members.now))
+    ensures ok { OnOk result (Adds (Concatenates IsTabbed (map named_of members.now))
         (string_bytes buf.old) (string_bytes buf.new)) }
+    ensures grown { Grows (string_bytes buf.old) (string_bytes buf.new) }
 {
     for member in members {
         push_tabbed(member, room, buf)?;
@@ -104,19 +110,39 @@ fn push_all_tabbed(
     Ok(())
 }
 
+// As `push_text_line`, but an error may leave a part of the line.
+fn append_text_line(
+    word: &str,
+    members: &[Member<'_>],
+    room: &mut String,
+    buf: &mut String,
+) -> Result<(), AllocError>
+    ensures ok { OnOk result (Adds (IsTextLine word.now (map named_of members.now))
+        (string_bytes buf.old) (string_bytes buf.new)) }
+    ensures grown { Grows (string_bytes buf.old) (string_bytes buf.new) }
+{
+    buf.push_str(word)?;
+    push_all_tabbed(members, room, buf)?;
+    buf.push_str("\n")?;
+    Ok(())
+}
+
 /// Appends a line of text: a word, and fields after it, each after a tab. What has to be printed first is
-/// printed into `room`, whose text is lost. After a refusal, which only running out of memory brings,
-/// `buf` may end in a part of the line.
+/// printed into `room`, whose text is lost. Only running out of memory refuses, and then `buf` is as it was.
 pub fn push_text_line(
     word: &str,
     members: &[Member<'_>],
     room: &mut String,
     buf: &mut String,
 ) -> Result<(), AllocError>
-    ensures { OnOk result (Adds (IsTextLine word.now (map named_of members.now))
+    ensures ok { OnOk result (Adds (IsTextLine word.now (map named_of members.now))
         (string_bytes buf.old) (string_bytes buf.new)) }
+    ensures err { OnErr result (string_bytes buf.new ≡ string_bytes buf.old) }
 {
-    buf.push_str(word)?;
-    push_all_tabbed(members, room, buf)?;
-    buf.push_str("\n")
+    let before = buf.len();
+    let done = append_text_line(word, members, room, buf);
+    if done.is_err() {
+        buf.truncate(before);
+    }
+    done
 }

@@ -1,11 +1,12 @@
 //! Lines as JSON, [RFC 8259](https://www.rfc-editor.org/rfc/rfc8259).
 
-ghost use Rattle.std.specs.Prelude.{◌≡◌, ◌/◌, ◌%◌, ◌∷◌, ◌++◌, ◌<◌, ◌≤◌, [], true, false, length, take, get_or, map, MatchOption, IfSome, OnOk, codes, decimal};
+ghost use Rattle.std.specs.Prelude.{◌≡◌, ◌/◌, ◌%◌, ◌∷◌, ◌++◌, ◌<◌, ◌≤◌, [], true, false, length, take, get_or, map, MatchOption, IfSome, OnOk, OnErr, codes, decimal};
 ghost use Rattle.std.specs.List.{flat_map};
 ghost use Rattle.std.specs.Char.{digit_char};
 ghost use Rattle.std.specs.String.{string_bytes};
 ghost use Rattle.json.specs.Print.{escape_byte, escape_letter, quoted};
 ghost use Rattle.xls_decimals.specs.Added.{Adds};
+ghost use Rattle.xls_readable.specs.Growth.{Grows};
 ghost use Rattle.xls_readable.specs.Values.{Concatenates};
 ghost use Rattle.xls_readable.specs.Items.{formula, item_of, moment, named_of, number};
 ghost use Rattle.xls_readable.specs.Json.{is_plain, IsBare, IsItemJson, IsMember, IsJsonLine};
@@ -52,26 +53,31 @@ fn hexadecimal_digit(n: u8) -> char
 // Appends a short escape.
 fn push_letter(letter: u8, buf: &mut String) -> Result<(), AllocError>
     requires { letter < 128 }
-    ensures { OnOk result (string_bytes buf.new ≡ string_bytes buf.old ++ 92 ∷ letter ∷ []) }
+    ensures ok { OnOk result (string_bytes buf.new ≡ string_bytes buf.old ++ 92 ∷ letter ∷ []) }
+    ensures grown { Grows (string_bytes buf.old) (string_bytes buf.new) }
 {
     buf.push_str("\\")?;
-    buf.push(char::from(letter))
+    buf.push(char::from(letter))?;
+    Ok(())
 }
 
 // Appends a control character by its number.
 fn push_control(byte: u8, buf: &mut String) -> Result<(), AllocError>
-    ensures { OnOk result (string_bytes buf.new
+    ensures ok { OnOk result (string_bytes buf.new
         ≡ string_bytes buf.old ++ 92 ∷ 117 ∷ 48 ∷ 48 ∷ digit_char (byte / 16) ∷ digit_char (byte % 16) ∷ []) }
+    ensures grown { Grows (string_bytes buf.old) (string_bytes buf.new) }
 {
     buf.push_str("\\u00")?;
     buf.push(hexadecimal_digit(byte / 16))?;
-    buf.push(hexadecimal_digit(byte % 16))
+    buf.push(hexadecimal_digit(byte % 16))?;
+    Ok(())
 }
 
 // Appends the escape of a byte that doesn't stand for itself.
 fn push_escape(byte: u8, buf: &mut String) -> Result<(), AllocError>
     requires { is_plain byte ≡ false }
-    ensures { OnOk result (string_bytes buf.new ≡ string_bytes buf.old ++ escape_byte byte) }
+    ensures ok { OnOk result (string_bytes buf.new ≡ string_bytes buf.old ++ escape_byte byte) }
+    ensures grown { Grows (string_bytes buf.old) (string_bytes buf.new) }
 {
     let letter = escape_letter(byte);
     if letter != 0 {
@@ -119,7 +125,8 @@ fn first_stretch(text: &str) -> Option<(&str, u8, &str)>
 
 // Appends what stands between the quotes of a string.
 fn push_escapes(text: &str, buf: &mut String) -> Result<(), AllocError>
-    ensures { OnOk result (string_bytes buf.new ≡ string_bytes buf.old ++ flat_map escape_byte text.now) }
+    ensures ok { OnOk result (string_bytes buf.new ≡ string_bytes buf.old ++ flat_map escape_byte text.now) }
+    ensures grown { Grows (string_bytes buf.old) (string_bytes buf.new) }
 {
     let mut rest = text;
     'stretches: while let Some((plain, byte, after)) = first_stretch(rest) {
@@ -127,21 +134,38 @@ fn push_escapes(text: &str, buf: &mut String) -> Result<(), AllocError>
         push_escape(byte, buf)?;
         rest = after;
     }
-    buf.push_str(rest)
+    buf.push_str(rest)?;
+    Ok(())
 }
 
-// Appends a string.
-fn push_string(text: &str, buf: &mut String) -> Result<(), AllocError>
-    ensures { OnOk result (string_bytes buf.new ≡ string_bytes buf.old ++ quoted text.now) }
+// Appends a string. An error may leave a part of it.
+fn append_string(text: &str, buf: &mut String) -> Result<(), AllocError>
+    ensures ok { OnOk result (string_bytes buf.new ≡ string_bytes buf.old ++ quoted text.now) }
+    ensures grown { Grows (string_bytes buf.old) (string_bytes buf.new) }
 {
     buf.push_str("\"")?;
     push_escapes(text, buf)?;
-    buf.push_str("\"")
+    buf.push_str("\"")?;
+    Ok(())
+}
+
+// Appends a string. Only running out of memory refuses, and then `buf` is as it was.
+fn push_string(text: &str, buf: &mut String) -> Result<(), AllocError>
+    ensures ok { OnOk result (string_bytes buf.new ≡ string_bytes buf.old ++ quoted text.now) }
+    ensures err { OnErr result (string_bytes buf.new ≡ string_bytes buf.old) }
+{
+    let before = buf.len();
+    let done = append_string(text, buf);
+    if done.is_err() {
+        buf.truncate(before);
+    }
+    done
 }
 
 // Appends a text that is a number of JSON as it is, and any other as a string.
 fn push_bare_or_string(text: &str, buf: &mut String) -> Result<(), AllocError>
-    ensures { OnOk result (Adds (IsBare text.now) (string_bytes buf.old) (string_bytes buf.new)) }
+    ensures ok { OnOk result (Adds (IsBare text.now) (string_bytes buf.old) (string_bytes buf.new)) }
+    ensures err { OnErr result (string_bytes buf.new ≡ string_bytes buf.old) }
 {
     if json::is_number(text) {
         return buf.push_str(text);
@@ -151,7 +175,8 @@ fn push_bare_or_string(text: &str, buf: &mut String) -> Result<(), AllocError>
 
 // Appends a number.
 fn push_number(n: Number, room: &mut String, buf: &mut String) -> Result<(), AllocError>
-    ensures { OnOk result (Adds (IsItemJson (number n)) (string_bytes buf.old) (string_bytes buf.new)) }
+    ensures ok { OnOk result (Adds (IsItemJson (number n)) (string_bytes buf.old) (string_bytes buf.new)) }
+    ensures err { OnErr result (string_bytes buf.new ≡ string_bytes buf.old) }
 {
     room.clear();
     push_decimal(n, room)?;
@@ -160,8 +185,9 @@ fn push_number(n: Number, room: &mut String, buf: &mut String) -> Result<(), All
 
 // Appends the text of a formula.
 fn push_formula_string(text: &str, room: &mut String, buf: &mut String) -> Result<(), AllocError>
-    ensures { OnOk result (Adds (IsItemJson (formula text.now))
+    ensures ok { OnOk result (Adds (IsItemJson (formula text.now))
         (string_bytes buf.old) (string_bytes buf.new)) }
+    ensures err { OnErr result (string_bytes buf.new ≡ string_bytes buf.old) }
 {
     room.clear();
     push_formula(text, room)?;
@@ -170,7 +196,8 @@ fn push_formula_string(text: &str, room: &mut String, buf: &mut String) -> Resul
 
 // Appends a date or a duration.
 fn push_moment(date: ExcelDateTime, room: &mut String, buf: &mut String) -> Result<(), AllocError>
-    ensures { OnOk result (Adds (IsItemJson (moment date)) (string_bytes buf.old) (string_bytes buf.new)) }
+    ensures ok { OnOk result (Adds (IsItemJson (moment date)) (string_bytes buf.old) (string_bytes buf.new)) }
+    ensures err { OnErr result (string_bytes buf.new ≡ string_bytes buf.old) }
 {
     room.clear();
     push_date_or_duration(date, room)?;
@@ -179,8 +206,9 @@ fn push_moment(date: ExcelDateTime, room: &mut String, buf: &mut String) -> Resu
 
 // Appends a field.
 fn push_item(field: &Field<'_>, room: &mut String, buf: &mut String) -> Result<(), AllocError>
-    ensures { OnOk result (Adds (IsItemJson (item_of field.now))
+    ensures ok { OnOk result (Adds (IsItemJson (item_of field.now))
         (string_bytes buf.old) (string_bytes buf.new)) }
+    ensures err { OnErr result (string_bytes buf.new ≡ string_bytes buf.old) }
 {
     match field {
         Field::Word(word) => push_string(word, buf),
@@ -198,8 +226,9 @@ fn push_item(field: &Field<'_>, room: &mut String, buf: &mut String) -> Result<(
 
 // Appends a member of an object, after a comma.
 fn push_member(member: &Member<'_>, room: &mut String, buf: &mut String) -> Result<(), AllocError>
-    ensures { OnOk result (Adds (IsMember (named_of member.now))
+    ensures ok { OnOk result (Adds (IsMember (named_of member.now))
         (string_bytes buf.old) (string_bytes buf.new)) }
+    ensures grown { Grows (string_bytes buf.old) (string_bytes buf.new) }
 {
     buf.push_str(",")?;
     push_string(member.name, buf)?;
@@ -213,8 +242,9 @@ fn push_members(
     room: &mut String,
     buf: &mut String,
 ) -> Result<(), AllocError>
-    ensures { OnOk result (Adds (Concatenates IsMember (map named_of members.now))
+    ensures ok { OnOk result (Adds (Concatenates IsMember (map named_of members.now))
         (string_bytes buf.old) (string_bytes buf.new)) }
+    ensures grown { Grows (string_bytes buf.old) (string_bytes buf.new) }
 {
     for member in members {
         push_member(member, room, buf)?;
@@ -222,20 +252,41 @@ fn push_members(
     Ok(())
 }
 
+// As `push_json_line`, but an error may leave a part of the line.
+fn append_json_line(
+    word: &str,
+    members: &[Member<'_>],
+    room: &mut String,
+    buf: &mut String,
+) -> Result<(), AllocError>
+    ensures ok { OnOk result (Adds (IsJsonLine word.now (map named_of members.now))
+        (string_bytes buf.old) (string_bytes buf.new)) }
+    ensures grown { Grows (string_bytes buf.old) (string_bytes buf.new) }
+{
+    buf.push_str("{\"line\":")?;
+    push_string(word, buf)?;
+    push_members(members, room, buf)?;
+    buf.push_str("}\n")?;
+    Ok(())
+}
+
 /// Appends a JSON object on a line: the line's word under the name `line`, and its fields under their
-/// names. What has to be printed first is printed into `room`, whose text is lost. After a refusal, which
-/// only running out of memory brings, `buf` may end in a part of the line.
+/// names. What has to be printed first is printed into `room`, whose text is lost. Only running out of
+/// memory refuses, and then `buf` is as it was.
 pub fn push_json_line(
     word: &str,
     members: &[Member<'_>],
     room: &mut String,
     buf: &mut String,
 ) -> Result<(), AllocError>
-    ensures { OnOk result (Adds (IsJsonLine word.now (map named_of members.now))
+    ensures ok { OnOk result (Adds (IsJsonLine word.now (map named_of members.now))
         (string_bytes buf.old) (string_bytes buf.new)) }
+    ensures err { OnErr result (string_bytes buf.new ≡ string_bytes buf.old) }
 {
-    buf.push_str("{\"line\":")?;
-    push_string(word, buf)?;
-    push_members(members, room, buf)?;
-    buf.push_str("}\n")
+    let before = buf.len();
+    let done = append_json_line(word, members, room, buf);
+    if done.is_err() {
+        buf.truncate(before);
+    }
+    done
 }

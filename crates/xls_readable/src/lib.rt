@@ -8,6 +8,7 @@ mod items;
 mod json_lines;
 mod laws;
 mod lines;
+mod properties;
 mod rows;
 mod values;
 
@@ -15,10 +16,11 @@ pub use delimited::{Delimiter, end_row, push_field, push_separator};
 pub use forms::{Form, push_line};
 pub use items::{Field, Member, push_text_line};
 pub use json_lines::push_json_line;
-pub use laws::rows_read_back;
+pub use laws::{numbers_are_bare, rows_read_back};
 pub use lines::{
-    push_cell, push_custom, push_dates, push_error, push_formula_line, push_merge, push_name,
+    push_cell, push_dates, push_error, push_formula_line, push_merge, push_name, push_ok, push_ref,
     push_sheet,
 };
+pub use properties::{Property, push_custom, push_property};
 pub use rows::push_row;
 pub use values::Value;

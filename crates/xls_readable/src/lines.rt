@@ -1,10 +1,11 @@
 //! The lines of a workbook, a call for each kind.
 
-ghost use Rattle.std.specs.Prelude.{◌≡◌, option_map, OnOk, codes};
+ghost use Rattle.std.specs.Prelude.{◌≡◌, [], option_map, OnOk, OnErr, codes};
 ghost use Rattle.std.specs.String.{string_bytes};
 ghost use Rattle.xls_decimals.specs.Added.{Adds};
+ghost use Rattle.xls_readable.specs.Items.{count, named_of};
 ghost use Rattle.xls_readable.specs.Lines.{IsLine};
-ghost use Rattle.xls_readable.specs.Lines.{IsCellLine, kind_and_item, dates_members, name_members, sheet_members, cell_members, formula_members, merge_members, text_members, custom_members, item_of, type_text, visible_text, year_text};
+ghost use Rattle.xls_readable.specs.Lines.{IsCellLine, kind_and_item, dates_members, name_members, sheet_members, cell_members, formula_members, merge_members, ref_members, text_members, two_texts, item_of, type_text, visible_text, year_text};
 
 use crate::forms::{Form, push_line};
 use crate::items::{Field, Member};
@@ -19,23 +20,67 @@ fn year_word(is_1904: bool) -> &'static str
     if is_1904 { "1904" } else { "1900" }
 }
 
-/// Appends the line of the date system, `dates`. Of this call and those below: after a refusal, which
-/// only running out of memory brings, `buf` may end in a part of the line; what is printed first is
-/// printed into `room`, whose text is lost.
+/// Appends the line of the date system, `dates`. Of this call and those below: only running out of memory
+/// refuses, and then `buf` is as it was; what is printed first is printed into `room`, whose text is lost.
 pub fn push_dates(
     form: Form,
     is_1904: bool,
     room: &mut String,
     buf: &mut String,
 ) -> Result<(), AllocError>
-    ensures { OnOk result (Adds (IsLine form (codes "dates") (dates_members is_1904))
+    ensures ok { OnOk result (Adds (IsLine form (codes "dates") (dates_members is_1904))
         (string_bytes buf.old) (string_bytes buf.new)) }
+    ensures err { OnErr result (string_bytes buf.new ≡ string_bytes buf.old) }
 {
     let year = Member {
         name: "year",
         field: Field::Word(year_word(is_1904)),
     };
     push_line(form, "dates", &[year], room, buf)
+}
+
+// Appends the line of a name and of a text under a label.
+pub(crate) fn push_two_texts(
+    form: Form,
+    word: &str,
+    name: &str,
+    label: &str,
+    text: &str,
+    room: &mut String,
+    buf: &mut String,
+) -> Result<(), AllocError>
+    ensures ok { OnOk result (Adds (IsLine form word.now (two_texts name.now label.now text.now))
+        (string_bytes buf.old) (string_bytes buf.new)) }
+    ensures err { OnErr result (string_bytes buf.new ≡ string_bytes buf.old) }
+{
+    let name = Member {
+        name: "name",
+        field: Field::Text(name),
+    };
+    let text = Member {
+        name: label,
+        field: Field::Text(text),
+    };
+    push_line(form, word, &[name, text], room, buf)
+}
+
+// Appends the line of a text.
+pub(crate) fn push_one_text(
+    form: Form,
+    word: &str,
+    text: &str,
+    room: &mut String,
+    buf: &mut String,
+) -> Result<(), AllocError>
+    ensures ok { OnOk result (Adds (IsLine form word.now (text_members text.now))
+        (string_bytes buf.old) (string_bytes buf.new)) }
+    ensures err { OnErr result (string_bytes buf.new ≡ string_bytes buf.old) }
+{
+    let text = Member {
+        name: "text",
+        field: Field::Text(text),
+    };
+    push_line(form, word, &[text], room, buf)
 }
 
 /// Appends the line of a defined name and its text, `name`.
@@ -46,18 +91,11 @@ pub fn push_name(
     room: &mut String,
     buf: &mut String,
 ) -> Result<(), AllocError>
-    ensures { OnOk result (Adds (IsLine form (codes "name") (name_members name.now text.now))
+    ensures ok { OnOk result (Adds (IsLine form (codes "name") (name_members name.now text.now))
         (string_bytes buf.old) (string_bytes buf.new)) }
+    ensures err { OnErr result (string_bytes buf.new ≡ string_bytes buf.old) }
 {
-    let name = Member {
-        name: "name",
-        field: Field::Text(name),
-    };
-    let text = Member {
-        name: "text",
-        field: Field::Text(text),
-    };
-    push_line(form, "name", &[name, text], room, buf)
+    push_two_texts(form, "name", name, "text", text, room, buf)
 }
 
 // The word of a sheet's kind.
@@ -93,8 +131,9 @@ pub fn push_sheet(
     room: &mut String,
     buf: &mut String,
 ) -> Result<(), AllocError>
-    ensures { OnOk result (Adds (IsLine form (codes "sheet") (sheet_members name.now kind visible))
+    ensures ok { OnOk result (Adds (IsLine form (codes "sheet") (sheet_members name.now kind visible))
         (string_bytes buf.old) (string_bytes buf.new)) }
+    ensures err { OnErr result (string_bytes buf.new ≡ string_bytes buf.old) }
 {
     let name = Member {
         name: "name",
@@ -139,8 +178,9 @@ pub fn push_cell(
     room: &mut String,
     buf: &mut String,
 ) -> Result<(), AllocError>
-    ensures { OnOk result (Adds (IsCellLine form row column value.now)
+    ensures ok { OnOk result (Adds (IsCellLine form row column value.now)
         (string_bytes buf.old) (string_bytes buf.new)) }
+    ensures err { OnErr result (string_bytes buf.new ≡ string_bytes buf.old) }
 {
     match kind_and_field(value) {
         Some((kind, field)) => {
@@ -175,8 +215,9 @@ pub fn push_formula_line(
     room: &mut String,
     buf: &mut String,
 ) -> Result<(), AllocError>
-    ensures { OnOk result (Adds (IsLine form (codes "formula") (formula_members row column text.now))
+    ensures ok { OnOk result (Adds (IsLine form (codes "formula") (formula_members row column text.now))
         (string_bytes buf.old) (string_bytes buf.new)) }
+    ensures err { OnErr result (string_bytes buf.new ≡ string_bytes buf.old) }
 {
     let row = Member {
         name: "row",
@@ -193,6 +234,16 @@ pub fn push_formula_line(
     push_line(form, "formula", &[row, column, text], room, buf)
 }
 
+// A count under a name.
+fn count_member<'a>(name: &'a str, n: u32) -> Member<'a>
+    ensures { named_of result ≡ (name.now, count n) }
+{
+    Member {
+        name,
+        field: Field::Count(u64::from(n)),
+    }
+}
+
 /// Appends the line of a merged region's first row, first column, last row and last column, `merge`.
 pub fn push_merge(
     form: Form,
@@ -200,32 +251,51 @@ pub fn push_merge(
     room: &mut String,
     buf: &mut String,
 ) -> Result<(), AllocError>
-    ensures { OnOk result (Adds (IsLine form (codes "merge") (merge_members region))
+    ensures ok { OnOk result (Adds (IsLine form (codes "merge") (merge_members region))
         (string_bytes buf.old) (string_bytes buf.new)) }
+    ensures err { OnErr result (string_bytes buf.new ≡ string_bytes buf.old) }
 {
-    let first_row = Member {
-        name: "first_row",
-        field: Field::Count(u64::from(region.start.0)),
-    };
-    let first_column = Member {
-        name: "first_column",
-        field: Field::Count(u64::from(region.start.1)),
-    };
-    let last_row = Member {
-        name: "last_row",
-        field: Field::Count(u64::from(region.end.0)),
-    };
-    let last_column = Member {
-        name: "last_column",
-        field: Field::Count(u64::from(region.end.1)),
-    };
-    push_line(
-        form,
-        "merge",
-        &[first_row, first_column, last_row, last_column],
-        room,
-        buf,
-    )
+    let corners = [
+        count_member("first_row", region.start.0),
+        count_member("first_column", region.start.1),
+        count_member("last_row", region.end.0),
+        count_member("last_column", region.end.1),
+    ];
+    push_line(form, "merge", &corners, room, buf)
+}
+
+/// Appends the line of cells that a formula cites, `ref`: the formula's sheet, row and column, and of the
+/// cells the sheet, first row, first column, last row and last column.
+pub fn push_ref(
+    form: Form,
+    sheet: &str,
+    cell: (u32, u32),
+    cited_sheet: &str,
+    cells: Dimensions,
+    room: &mut String,
+    buf: &mut String,
+) -> Result<(), AllocError>
+    ensures ok { OnOk result (Adds (IsLine form (codes "ref") (ref_members sheet.now cell cited_sheet.now cells))
+        (string_bytes buf.old) (string_bytes buf.new)) }
+    ensures err { OnErr result (string_bytes buf.new ≡ string_bytes buf.old) }
+{
+    let members = [
+        Member {
+            name: "sheet",
+            field: Field::Text(sheet),
+        },
+        count_member("row", cell.0),
+        count_member("column", cell.1),
+        Member {
+            name: "cited_sheet",
+            field: Field::Text(cited_sheet),
+        },
+        count_member("first_row", cells.start.0),
+        count_member("first_column", cells.start.1),
+        count_member("last_row", cells.end.0),
+        count_member("last_column", cells.end.1),
+    ];
+    push_line(form, "ref", &members, room, buf)
 }
 
 /// Appends the line of a refusal's text, `error`.
@@ -235,34 +305,17 @@ pub fn push_error(
     room: &mut String,
     buf: &mut String,
 ) -> Result<(), AllocError>
-    ensures { OnOk result (Adds (IsLine form (codes "error") (text_members text.now))
+    ensures ok { OnOk result (Adds (IsLine form (codes "error") (text_members text.now))
         (string_bytes buf.old) (string_bytes buf.new)) }
+    ensures err { OnErr result (string_bytes buf.new ≡ string_bytes buf.old) }
 {
-    let text = Member {
-        name: "text",
-        field: Field::Text(text),
-    };
-    push_line(form, "error", &[text], room, buf)
+    push_one_text(form, "error", text, room, buf)
 }
 
-/// Appends the line of a custom property's name and value, `custom`.
-pub fn push_custom(
-    form: Form,
-    name: &str,
-    value: &str,
-    room: &mut String,
-    buf: &mut String,
-) -> Result<(), AllocError>
-    ensures { OnOk result (Adds (IsLine form (codes "custom") (custom_members name.now value.now))
-        (string_bytes buf.old) (string_bytes buf.new)) }
+/// Appends the line of a stream without a fault, `ok`.
+pub fn push_ok(form: Form, room: &mut String, buf: &mut String) -> Result<(), AllocError>
+    ensures ok { OnOk result (Adds (IsLine form (codes "ok") []) (string_bytes buf.old) (string_bytes buf.new)) }
+    ensures err { OnErr result (string_bytes buf.new ≡ string_bytes buf.old) }
 {
-    let name = Member {
-        name: "name",
-        field: Field::Text(name),
-    };
-    let value = Member {
-        name: "value",
-        field: Field::Text(value),
-    };
-    push_line(form, "custom", &[name, value], room, buf)
+    push_line(form, "ok", &[], room, buf)
 }

@@ -3,6 +3,7 @@
 ghost use Rattle.std.specs.Prelude.{◌≡◌, ◌++◌, length, OnOk, OnErr};
 ghost use Rattle.std.specs.String.{string_bytes};
 ghost use Rattle.xls_decimals.specs.Added.{Adds};
+ghost use Rattle.xls_readable.specs.Growth.{Grows};
 ghost use Rattle.xls_readable.specs.Values.{Concatenates};
 ghost use Rattle.xls_readable.specs.Csv.{IsRow, IsJoined, IsSeparated};
 
@@ -17,8 +18,9 @@ fn push_separated(
     room: &mut String,
     buf: &mut String,
 ) -> Result<(), AllocError>
-    ensures { OnOk result (Adds (IsSeparated delimiter value.now)
+    ensures ok { OnOk result (Adds (IsSeparated delimiter value.now)
         (string_bytes buf.old) (string_bytes buf.new)) }
+    ensures grown { Grows (string_bytes buf.old) (string_bytes buf.new) }
 {
     push_separator(delimiter, buf)?;
     push_field(value, delimiter, room, buf)
@@ -31,8 +33,9 @@ fn push_others(
     room: &mut String,
     buf: &mut String,
 ) -> Result<(), AllocError>
-    ensures { OnOk result (Adds (Concatenates (IsSeparated delimiter) values.now)
+    ensures ok { OnOk result (Adds (Concatenates (IsSeparated delimiter) values.now)
         (string_bytes buf.old) (string_bytes buf.new)) }
+    ensures grown { Grows (string_bytes buf.old) (string_bytes buf.new) }
 {
     for value in values {
         push_separated(value, delimiter, room, buf)?;
@@ -47,8 +50,9 @@ fn push_fields(
     room: &mut String,
     buf: &mut String,
 ) -> Result<(), AllocError>
-    ensures { OnOk result (Adds (IsJoined delimiter values.now)
+    ensures ok { OnOk result (Adds (IsJoined delimiter values.now)
         (string_bytes buf.old) (string_bytes buf.new)) }
+    ensures grown { Grows (string_bytes buf.old) (string_bytes buf.new) }
 {
     match values.split_first() {
         Some((first, others)) => {
@@ -59,17 +63,36 @@ fn push_fields(
     }
 }
 
-/// Appends the row of some values, with its end. After a refusal, which only running out of memory
-/// brings, `buf` may end in a part of the row.
+// As `push_row`, but an error may leave a part of the row.
+fn append_row(
+    values: &[Value<'_>],
+    delimiter: Delimiter,
+    room: &mut String,
+    buf: &mut String,
+) -> Result<(), AllocError>
+    ensures ok { OnOk result (Adds (IsRow delimiter values.now) (string_bytes buf.old) (string_bytes buf.new)) }
+    ensures grown { Grows (string_bytes buf.old) (string_bytes buf.new) }
+{
+    let start = buf.len();
+    push_fields(values, delimiter, room, buf)?;
+    end_row(start, buf)
+}
+
+/// Appends the row of some values, with its end. Only running out of memory refuses, and then `buf` is as
+/// it was.
 pub fn push_row(
     values: &[Value<'_>],
     delimiter: Delimiter,
     room: &mut String,
     buf: &mut String,
 ) -> Result<(), AllocError>
-    ensures { OnOk result (Adds (IsRow delimiter values.now) (string_bytes buf.old) (string_bytes buf.new)) }
+    ensures ok { OnOk result (Adds (IsRow delimiter values.now) (string_bytes buf.old) (string_bytes buf.new)) }
+    ensures err { OnErr result (string_bytes buf.new ≡ string_bytes buf.old) }
 {
-    let start = buf.len();
-    push_fields(values, delimiter, room, buf)?;
-    end_row(start, buf)
+    let before = buf.len();
+    let done = append_row(values, delimiter, room, buf);
+    if done.is_err() {
+        buf.truncate(before);
+    }
+    done
 }

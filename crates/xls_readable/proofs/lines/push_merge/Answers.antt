@@ -1,4 +1,4 @@
 use Rattle.xls_readable.proofs.lines.push_merge.Goals as goal
 
-pub returns : goal.returns
-returns c = rw (c.from.ensures, c.from-2.ensures, c.from-3.ensures, c.from-4.ensures) at c.push_line.ensures
+pub returns-clause-ok : goal.returns-clause-ok
+returns-clause-ok c = rw (c.count_member.ensures, c.count_member-2.ensures, c.count_member-3.ensures, c.count_member-4.ensures) at c.push_line.ensures.ok

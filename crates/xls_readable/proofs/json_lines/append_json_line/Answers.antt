@@ -1,0 +1,17 @@
+use Rattle.xls_readable.proofs.GrowthLemmas.{grows_same, grows_text, grows_then}
+use Rattle.xls_readable.proofs.json_lines.append_json_line.Goals as goal
+
+pub returns-in_err-push_str-clause-grown : goal.returns-in_err-push_str-clause-grown
+returns-in_err-push_str-clause-grown c = grows_same _ _ c.in_err-push_str.ensures.bytes
+
+pub returns-in_err-push_string-clause-grown : goal.returns-in_err-push_string-clause-grown
+returns-in_err-push_string-clause-grown c = grows_then _ _ _ (grows_text _ _ _ c.in_ok-push_str.ensures.bytes) (grows_same _ _ c.in_err-push_string.ensures.err)
+
+pub returns-in_err-push_members-clause-grown : goal.returns-in_err-push_members-clause-grown
+returns-in_err-push_members-clause-grown c = grows_then _ _ _ (grows_then _ _ _ (grows_text _ _ _ c.in_ok-push_str.ensures.bytes) (grows_text _ _ _ c.in_ok-push_string.ensures.ok)) (c.push_members.ensures.grown)
+
+pub returns-in_err-push_str-2-clause-grown : goal.returns-in_err-push_str-2-clause-grown
+returns-in_err-push_str-2-clause-grown c = grows_then _ _ _ (grows_then _ _ _ (grows_then _ _ _ (grows_text _ _ _ c.in_ok-push_str.ensures.bytes) (grows_text _ _ _ c.in_ok-push_string.ensures.ok)) (c.push_members.ensures.grown)) (grows_same _ _ c.in_err-push_str-2.ensures.bytes)
+
+pub returns-clause-grown : goal.returns-clause-grown
+returns-clause-grown c = grows_then _ _ _ (grows_then _ _ _ (grows_then _ _ _ (grows_text _ _ _ c.in_ok-push_str.ensures.bytes) (grows_text _ _ _ c.in_ok-push_string.ensures.ok)) (c.push_members.ensures.grown)) (grows_text _ _ _ c.in_ok-push_str-2.ensures.bytes)
