@@ -1,0 +1,5 @@
+//! Tests of rows of CSV and of lines.
+#![tactic(auto)]
+
+#[cfg(test)]
+mod readable;
