@@ -92,6 +92,16 @@ impl<'a> SheetRecords<'a> {
             depth: 0,
         }
     }
+
+    /// The records that are left, to be gone through once more. Takes no memory.
+    pub fn again(&self) -> SheetRecords<'a>
+        ensures { result ≡ self.now }
+    {
+        SheetRecords {
+            records: self.records.again(),
+            depth: self.depth,
+        }
+    }
 }
 
 impl<'a> Iterator for SheetRecords<'a> {

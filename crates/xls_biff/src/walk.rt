@@ -79,6 +79,13 @@ impl<'a> RecordIter<'a> {
     {
         RecordIter { bytes: stream }
     }
+
+    /// The records that are left, to be gone through once more. Takes no memory.
+    pub fn again(&self) -> RecordIter<'a>
+        ensures { result ≡ self.now }
+    {
+        RecordIter { bytes: self.bytes }
+    }
 }
 
 impl<'a> Iterator for RecordIter<'a> {

@@ -7,7 +7,13 @@ use Rattle.xls_strings.specs.declared.version.Biff.{Biff}
 use Rattle.xls_strings.specs.declared.error.XlsError.{XlsError}
 use Rattle.xls_strings.specs.Reading.{◌>>=◌, ◌>>◌, at_least}
 use Rattle.xls_strings.specs.Strings.{string_at}
-use Rattle.xls_biff.specs.Cells.{Entry, position_at}
+use Rattle.xls_biff.specs.Cells.{Entry, Position, position_at}
+
+-- where it stands, and the bytes of its string
+abbrev pub label_front : List ℕ → Result (Position × List ℕ) XlsError
+label_front body = do
+  at_least 6 parts.Label body
+  Ok (position_at body, drop 6 body)
 
 abbrev pub label_at : XlsEncoding → Biff → List ℕ → Result Entry XlsError
 label_at page biff body = do

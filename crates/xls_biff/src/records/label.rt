@@ -3,7 +3,7 @@
 ghost use Rattle.xls_text.specs.declared.encoding.XlsEncoding.{XlsEncoding};
 ghost use Rattle.xls_strings.specs.Reading.{Exactly, Gives, fault_in};
 ghost use Rattle.xls_biff.specs.Cells.{entry_of};
-ghost use Rattle.xls_biff.specs.Records.Label.{label_at};
+ghost use Rattle.xls_biff.specs.Records.Label.{label_at, label_front};
 
 use crate::cells::position_of;
 use std::alloc::Global;
@@ -11,8 +11,19 @@ use xls_data::{Cell, Data};
 use xls_strings::{Biff, Part, XlsError, need, parse_string, split_string};
 use xls_text::XlsEncoding;
 
-/// The cell of the body of a Label, [MS-XLS] 2.4.148, or of an RString: row, column, XF index and a
-/// string. `Len` for fewer than 6 bytes and as `parse_string` says; else only running out of memory.
+/// The row and the column of the body of a Label, [MS-XLS] 2.4.148, or of an RString, both counted from
+/// 0, and the bytes of its string, which aren't decoded: those after row, column and XF index. `Len` for
+/// fewer than 6 bytes. Takes no memory.
+pub fn split_label(r: &[u8]) -> Result<((u32, u32), &[u8]), XlsError>
+    ensures { Exactly (λ x. (x.0, x.1.now)) result (label_front r.now) }
+{
+    need(r, 6, Part::Label)?;
+    let (_, string) = r.split_at(6);
+    Ok((position_of(r), string))
+}
+
+/// The cell of the body of a Label or an RString: its position, and its string as a text. `Len` as
+/// `split_label` and `parse_string` say; else only running out of memory.
 pub fn parse_label(
     alloc: Global,
     r: &[u8],
@@ -21,18 +32,16 @@ pub fn parse_label(
 ) -> Result<Cell<Data>, XlsError>
     ensures { Gives entry_of result (label_at encoding.now biff r.now) }
 {
-    need(r, 6, Part::Label)?;
-    let (_, string) = r.split_at(6);
+    let (at, string) = split_label(r)?;
     let text = parse_string(alloc, string, encoding, biff)?;
-    Ok(Cell::new(position_of(r), Data::String(text)))
+    Ok(Cell::new(at, Data::String(text)))
 }
 
 /// The fault of `parse_label`, under all pages. Takes no memory.
 pub(crate) fn check_label(r: &[u8], biff: Biff) -> Result<(), XlsError>
     ensures { (page : XlsEncoding) → Exactly (λ u. u) result (fault_in (label_at page biff r.now)) }
 {
-    need(r, 6, Part::Label)?;
-    let (_, string) = r.split_at(6);
+    let (_, string) = split_label(r)?;
     split_string(string, biff)?;
     Ok(())
 }

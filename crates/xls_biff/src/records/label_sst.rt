@@ -2,6 +2,8 @@
 
 ghost use Rattle.std.specs.Prelude.{ℕ, List};
 ghost use Rattle.std.specs.Option.{option_map};
+ghost use Rattle.std.specs.Str.{chars};
+ghost use Rattle.xls_data.specs.Content.{text};
 ghost use Rattle.xls_strings.specs.Reading.{Exactly, Gives, fault_in};
 ghost use Rattle.xls_biff.specs.Cells.{entry_of};
 ghost use Rattle.xls_biff.specs.Records.LabelSst.{label_sst_at};
@@ -12,9 +14,24 @@ use std::alloc::Global;
 use xls_data::{Cell, Data};
 use xls_strings::{Part, Strings, XlsError, need};
 
-/// The cell of a LabelSst record's body: row, column, XF index and the 32-bit index of a string of the
-/// table; `None` exactly where the table has no such string. `Len` for fewer than 10 bytes, else only
-/// out of memory.
+/// The row and the column of a LabelSst record's body, both counted from 0, and the string of the table,
+/// lent by it, whose 32-bit index stands after the XF index; `None` exactly where the table has no such
+/// string. `Len` for fewer than 10 bytes. Takes no memory.
+pub fn find_label_sst<'s>(
+    r: &[u8],
+    strings: &'s Strings,
+) -> Result<Option<((u32, u32), &'s str)>, XlsError>
+    ensures { Exactly (λ found. option_map (λ x. (x.0, text (chars x.1.now))) found) result (label_sst_at strings.now r.now) }
+{
+    need(r, 10, Part::LabelSst)?;
+    match strings.get(u32_at(r, 6) as usize) {
+        Some(string) => Ok(Some((position_of(r), string))),
+        None => Ok(None),
+    }
+}
+
+/// The cell of a LabelSst record's body: its position, and a copy of its string; `None` and `Len` as
+/// `find_label_sst` says, else only out of memory.
 pub fn parse_label_sst(
     alloc: Global,
     r: &[u8],
@@ -22,12 +39,11 @@ pub fn parse_label_sst(
 ) -> Result<Option<Cell<Data>>, XlsError>
     ensures { Gives (λ cell. option_map entry_of cell) result (label_sst_at strings.now r.now) }
 {
-    need(r, 10, Part::LabelSst)?;
-    let Some(text) = strings.get(u32_at(r, 6) as usize) else {
+    let Some((at, string)) = find_label_sst(r, strings)? else {
         return Ok(None);
     };
-    let value = Data::from_text(alloc, text)?;
-    Ok(Some(Cell::new(position_of(r), value)))
+    let value = Data::from_text(alloc, string)?;
+    Ok(Some(Cell::new(at, value)))
 }
 
 /// The fault of `parse_label_sst`, under all tables. Takes no memory.

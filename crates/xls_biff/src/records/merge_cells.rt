@@ -11,8 +11,9 @@ use xls_bytes::read_u16;
 use xls_data::Dimensions;
 use xls_strings::{Part, XlsError, need};
 
-/// The number of regions of a MergeCells record. Takes no memory.
-fn count_merges(r: &[u8]) -> Result<usize, XlsError>
+/// How many regions a MergeCells record's body has. `Len` for fewer than 2 bytes, and for fewer than so
+/// many regions take; bytes after them are passed over. Takes no memory.
+pub fn count_merges(r: &[u8]) -> Result<usize, XlsError>
     ensures exact { Exactly (λ n. n) result (merge_count r.now) }
     ensures sized { IfOk result (λ n. 2 + 8 * n ≤ length r.now) }
 {
@@ -22,8 +23,9 @@ fn count_merges(r: &[u8]) -> Result<usize, XlsError>
     Ok(count)
 }
 
-/// The region of a number, counted from 0.
-fn region(r: &[u8], i: usize) -> Dimensions
+/// The region of a MergeCells record's body by its number, counted from 0, which is below `count_merges`:
+/// its first row and column and its last ones, as they stand there. Takes no memory.
+pub fn merge_region(r: &[u8], i: usize) -> Dimensions
     requires { 10 + 8 * i ≤ length r.now }
     ensures { result ≡ region_at r.now i }
 {
@@ -42,14 +44,14 @@ fn push_merges(r: &[u8], count: usize, merges: &mut Vec<Dimensions>) -> Result<(
     ensures grown { IsLonger merges.old.items merges.new.items }
 {
     for i in 0..count {
-        merges.push(region(r, i))?;
+        merges.push(merge_region(r, i))?;
     }
     Ok(())
 }
 
 /// Appends the regions of a MergeCells record's body: a count, and for each region its first row, last
-/// row, first column and last column. `Len` for fewer than 2 bytes, and for fewer than so many
-/// regions take. After a refusal, out of memory too, `merges` is as it was.
+/// row, first column and last column. `Len` as `count_merges` says. After a refusal, out of memory too,
+/// `merges` is as it was.
 pub fn parse_merge_cells(r: &[u8], merges: &mut Vec<Dimensions>) -> Result<(), XlsError>
     ensures { Appends (λ d. d) merges.old.items result merges.new.items (merges_at r.now) }
 {

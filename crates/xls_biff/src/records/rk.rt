@@ -100,8 +100,10 @@ fn short(expected: usize, found: usize) -> XlsError
     }
 }
 
-/// The number of cells of a MulRk record. Takes no memory.
-fn count_mul_rk(r: &[u8]) -> Result<usize, XlsError>
+/// How many cells a MulRk record's body has, at most 65,536: from its first column to its last. `Len`
+/// for fewer than 6 bytes, with 65,536 expected where the last column is before the first, and for
+/// another length than that of so many cells. Takes no memory.
+pub fn count_mul_rk(r: &[u8]) -> Result<usize, XlsError>
     ensures exact { Exactly (λ n. n) result (mul_rk_count r.now) }
     ensures sized { IfOk result (λ n. (length r.now ≡ 6 + 6 * n) × (n ≤ 2 ^ 16)) }
 {
@@ -118,8 +120,10 @@ fn count_mul_rk(r: &[u8]) -> Result<usize, XlsError>
     Ok(count)
 }
 
-/// The cell of a number, counted from 0.
-fn cell_of_mul_rk(r: &[u8], i: usize, formats: &[CellFormat], is_1904: bool) -> Cell<Data>
+/// The cell of a MulRk record's body by its number, counted from 0, which is below `count_mul_rk`: in the
+/// record's row, so many columns after its first one. The class is that of the cell's XF index, and
+/// `Other` where `formats` ends before it. Takes no memory.
+pub fn cell_of_mul_rk(r: &[u8], i: usize, formats: &[CellFormat], is_1904: bool) -> Cell<Data>
     requires room { 10 + 6 * i ≤ length r.now }
     requires within { i < 2 ^ 16 }
     ensures { entry_of result ≡ rk_cell formats.now is_1904 r.now i }
@@ -151,9 +155,8 @@ fn push_mul_rk(
 }
 
 /// Appends the cells of a MulRk record's body: a row, a first column, an XF index and an RK number for
-/// each cell, and the last column in the last two bytes. `Len` for fewer than 6 bytes, with 65,536
-/// expected where the last column is before the first, and for another length than that of so many
-/// cells. After a refusal, out of memory too, `cells` is as it was.
+/// each cell, and the last column in the last two bytes. `Len` as `count_mul_rk` says. After a refusal,
+/// out of memory too, `cells` is as it was.
 pub fn parse_mul_rk(
     r: &[u8],
     cells: &mut Vec<Cell<Data>>,
