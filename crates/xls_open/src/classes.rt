@@ -49,7 +49,7 @@ fn class_of(last: &BTreeMap<u16, CellFormat>, identifier: u16) -> CellFormat
 }
 
 /// The class of each identifier: that of its last format, or else the built-in one.
-pub(crate) fn classes_of(
+pub fn classes_of(
     alloc: Global,
     formats: &[(u16, CellFormat)],
     identifiers: &[u16],

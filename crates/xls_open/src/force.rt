@@ -8,7 +8,7 @@ use xls_text::XlsEncoding;
 
 /// What the records of a sheet are read under: what is in force at the end of the globals.
 #[derive(Drop)]
-pub(crate) struct InForce<'a> {
+pub struct InForce<'a> {
     pub page: XlsEncoding,
     pub version: Biff,
     /// The class of each XF.

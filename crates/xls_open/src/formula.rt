@@ -12,7 +12,7 @@ use xls_biff::XlsError;
 use xls_formula::parse_formula;
 
 /// The text of the formula of a cell, or why it is refused.
-pub(crate) fn text_of_formula(
+pub fn text_of_formula(
     alloc: Global,
     rgce: &[u8],
     position: (u32, u32),

@@ -1,0 +1,22 @@
+//! A workbook that is looked at and not copied: what is in force, the sheets, and cursors over the cells,
+//! the formulas and the merged regions of each, which lend what stands in the bytes of the stream.
+#![tactic(auto)]
+
+mod cells;
+mod formulas;
+mod functions;
+mod index;
+mod merges;
+mod record;
+mod run;
+mod text;
+mod value;
+mod view;
+
+pub use cells::{Cells, SheetCells};
+pub use formulas::{FormulaCells, SheetFormulas};
+pub use index::{find_named, index_of};
+pub use merges::Merges;
+pub use text::TextBuffer;
+pub use value::{CellValue, EncodedText, FormulaCell, SheetCell};
+pub use view::View;

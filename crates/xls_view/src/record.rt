@@ -1,0 +1,164 @@
+//! The cells of a record.
+
+ghost use Rattle.std.specs.Prelude.{◌≡◌, ◌≢◌, ℕ, List, Option, Some, Ok};
+ghost use Rattle.xls_model.specs.declared.types.TheConstants as types;
+ghost use Rattle.std.specs.Option.{option_map};
+ghost use Rattle.xls_biff.specs.Cells.{Entry, Position};
+ghost use Rattle.xls_biff.specs.Records.BoolErr.{bool_err_at};
+ghost use Rattle.xls_biff.specs.Records.Formula.{formula_at};
+ghost use Rattle.xls_biff.specs.Records.Label.{label_at};
+ghost use Rattle.xls_biff.specs.Records.LabelSst.{label_sst_at};
+ghost use Rattle.xls_biff.specs.Records.Number.{number_at};
+ghost use Rattle.xls_biff.specs.Records.Rk.{rk_at};
+ghost use Rattle.xls_biff.specs.SheetTable.{SheetRecord};
+ghost use Rattle.xls_biff.specs.Walking.{group_of};
+ghost use Rattle.xls_data.specs.Content.{Content, text};
+ghost use Rattle.xls_model.specs.Listing.{kept_group};
+ghost use Rattle.xls_reading.specs.SheetTable.{adds, kept_line, listed_cell, listed_value};
+ghost use Rattle.xls_strings.specs.Strings.{string_at};
+ghost use Rattle.xls_view.specs.Values.{cell_entry};
+ghost use Rattle.xls_view.specs.Walking.{GivesFirst};
+
+use crate::run::Run;
+use crate::value::{CellValue, EncodedText, SheetCell, cell_at, lent, read_cell};
+use std::alloc::Global;
+use xls_biff::{
+    Record, find_label_sst, parse_bool_err, parse_formula_record, parse_number, parse_rk,
+    split_label,
+};
+use xls_data::DataRef;
+use xls_model::types::{BOOL_ERR, FORMULA, LABEL, LABEL_SST, MUL_RK, NUMBER, R_STRING, RK, STRING};
+use xls_open::InForce;
+
+// The cell of a record without a fault, by its type.
+
+fn number<'c>(body: &'c [u8], force: &InForce<'c>) -> Option<SheetCell<'c>>
+    ensures { (e : Entry) → number_at force.now.cells.classes force.now.cells.is_1904 body.now ≡ Ok e
+        → option_map cell_entry result ≡ Some e }
+{
+    match parse_number(body, force.classes, force.is_1904) {
+        Ok(cell) => Some(read_cell(cell)),
+        Err(_) => None,
+    }
+}
+
+fn rk<'c>(body: &'c [u8], force: &InForce<'c>) -> Option<SheetCell<'c>>
+    ensures { (e : Entry) → rk_at force.now.cells.classes force.now.cells.is_1904 body.now ≡ Ok e
+        → option_map cell_entry result ≡ Some e }
+{
+    match parse_rk(body, force.classes, force.is_1904) {
+        Ok(cell) => Some(read_cell(cell)),
+        Err(_) => None,
+    }
+}
+
+fn bool_err<'c>(body: &'c [u8]) -> Option<SheetCell<'c>>
+    ensures { (e : Entry) → bool_err_at body.now ≡ Ok e → option_map cell_entry result ≡ Some e }
+{
+    match parse_bool_err(body) {
+        Ok(cell) => Some(read_cell(cell)),
+        Err(_) => None,
+    }
+}
+
+/// A cell with a text that stands in its record.
+fn encoded<'c>(position: (u32, u32), string: &'c [u8], force: &InForce<'c>) -> SheetCell<'c>
+    ensures { (cs : List ℕ) → string_at force.now.cells.page force.now.cells.version string.now ≡ Ok cs
+        → cell_entry result ≡ (position, text cs) }
+{
+    let (row, column) = position;
+    SheetCell {
+        row,
+        column,
+        value: CellValue::Encoded(EncodedText {
+            string,
+            page: force.page,
+            version: force.version,
+        }),
+    }
+}
+
+fn label<'c>(body: &'c [u8], force: &InForce<'c>) -> Option<SheetCell<'c>>
+    ensures { (e : Entry) → label_at force.now.cells.page force.now.cells.version body.now ≡ Ok e
+        → option_map cell_entry result ≡ Some e }
+{
+    match split_label(body) {
+        Ok((position, string)) => Some(encoded(position, string, force)),
+        Err(_) => None,
+    }
+}
+
+/// A LabelSst whose index is outside the table has no cell.
+fn label_sst<'c>(body: &'c [u8], force: &InForce<'c>) -> Option<SheetCell<'c>>
+    ensures { (found : Option Entry) → label_sst_at force.now.cells.strings body.now ≡ Ok found
+        → option_map cell_entry result ≡ found }
+{
+    match find_label_sst(body, force.strings) {
+        Ok(Some((position, text))) => Some(cell_at(position, DataRef::SharedString(text))),
+        Ok(None) => None,
+        Err(_) => None,
+    }
+}
+
+/// A formula whose value is the text of a String record has no cell.
+fn formula<'c>(alloc: Global, body: &'c [u8], force: &InForce<'c>) -> Option<SheetCell<'c>>
+    ensures { (f : Position × Option Content × List ℕ)
+        → formula_at force.now.cells.classes force.now.cells.is_1904 body.now ≡ Ok f
+        → listed_cell (option_map cell_entry result) ≡ listed_value f.0 f.1 }
+{
+    match parse_formula_record(alloc, body, force.classes, force.is_1904) {
+        Ok(read) => match read.value {
+            Some(value) => Some(cell_at(read.position, lent(value))),
+            None => None,
+        },
+        Err(_) => None,
+    }
+}
+
+/// The cell of a record without a fault that isn't a MulRk, if it has one, where the last Formula before
+/// it stands here.
+fn cell_of<'c>(
+    alloc: Global,
+    r: &Record<'c>,
+    at: (u32, u32),
+    force: &InForce<'c>,
+) -> Option<SheetCell<'c>>
+    requires { r.now.typ ≢ types.MUL_RK }
+    ensures { (g : SheetRecord) → kept_line force.now.cells (kept_group (group_of r.now)) ≡ Ok g
+        → listed_cell (option_map cell_entry result) ≡ (adds force.now.formulas at g).cells }
+{
+    match r.typ {
+        NUMBER => number(r.body, force),
+        RK => rk(r.body, force),
+        BOOL_ERR => bool_err(r.body),
+        LABEL | R_STRING => label(r.body, force),
+        LABEL_SST => label_sst(r.body, force),
+        STRING => Some(encoded(at, r.body, force)),
+        FORMULA => formula(alloc, r.body, force),
+        _ => None,
+    }
+}
+
+/// The first cell of a record without a fault and those after it, where the last Formula before the record
+/// stands here.
+pub(crate) fn cells_of<'c>(
+    alloc: Global,
+    r: &Record<'c>,
+    at: (u32, u32),
+    force: &InForce<'c>,
+) -> Option<(SheetCell<'c>, Run<'c>)>
+    ensures { (g : SheetRecord) → kept_line force.now.cells (kept_group (group_of r.now)) ≡ Ok g
+        → GivesFirst result (adds force.now.formulas at g).cells }
+{
+    if r.typ != MUL_RK {
+        return match cell_of(alloc, r, at, force) {
+            Some(cell) => Some((cell, Run::none())),
+            None => None,
+        };
+    }
+    let mut run = Run::new(r.body, force.classes, force.is_1904);
+    match run.next() {
+        Some(cell) => Some((cell, run)),
+        None => None,
+    }
+}

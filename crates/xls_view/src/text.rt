@@ -1,0 +1,50 @@
+//! Texts that are decoded when they are asked for.
+
+ghost use Rattle.std.specs.Prelude.{◌≡◌, IfOk};
+ghost use Rattle.std.specs.Str.{chars};
+ghost use Rattle.xls_data.specs.Refs.{ref_content_of};
+ghost use Rattle.xls_view.specs.Values.{encoded_text, value_content};
+
+use crate::value::{CellValue, EncodedText};
+use std::alloc::{AllocError, Global};
+use xls_data::DataRef;
+use xls_strings::split_string;
+
+/// Memory in which the texts of cells are decoded, one after the other.
+#[derive(Drop)]
+pub struct TextBuffer {
+    text: String,
+}
+
+impl TextBuffer {
+    /// No text. Takes no memory.
+    pub fn new(alloc: Global) -> TextBuffer {
+        TextBuffer {
+            text: String::new(alloc),
+        }
+    }
+
+    /// The text of a string, decoded here.
+    fn decode(&mut self, encoded: EncodedText<'_>) -> Result<&str, AllocError>
+        ensures { IfOk result (λ s. chars s.now ≡ encoded_text encoded) }
+    {
+        self.text.clear();
+        if let Ok((count, high_byte, units)) = split_string(encoded.string, encoded.version) {
+            encoded
+                .page
+                .decode_to(units, count, &mut self.text, high_byte)?;
+        }
+        Ok(self.text.as_str())
+    }
+
+    /// A value with its text, which is lent from the string table or from this buffer. Only running out of
+    /// memory refuses.
+    pub fn value_of<'b>(&'b mut self, value: CellValue<'b>) -> Result<DataRef<'b>, AllocError>
+        ensures { IfOk result (λ d. ref_content_of d ≡ value_content value) }
+    {
+        match value {
+            CellValue::Value(value) => Ok(value),
+            CellValue::Encoded(encoded) => Ok(DataRef::SharedString(self.decode(encoded)?)),
+        }
+    }
+}

@@ -1,0 +1,285 @@
+//! The view of a stream.
+
+ghost use Rattle.std.specs.Prelude.{◌≡◌, ℕ, Err, IfErr, IfOk, List, map, slice_get};
+ghost use Rattle.std.specs.Option.{option_map};
+ghost use Rattle.std.specs.Str.{chars};
+ghost use Rattle.xls_data.specs.Sheets.{sheet_content};
+ghost use Rattle.xls_open.specs.Workbook.{told_of};
+ghost use Rattle.xls_reading.specs.Reading.{SheetView, shown_of};
+ghost use Rattle.xls_view.specs.Viewing.{IsFault, IsViewed, ViewCause, formulas_named};
+ghost use Rattle.xls_view.specs.Walking.{Named};
+ghost use Rattle.xls_view.specs.Formulas.{text_entry};
+ghost use Rattle.xls_strings.specs.declared.error.XlsError.{XlsError};
+ghost use Rattle.xls_data.specs.Sheets.{SheetContent};
+ghost use Rattle.xls_open.specs.Steps.{listed_of};
+
+use crate::cells::SheetCells;
+use crate::formulas::SheetFormulas;
+use crate::functions::copy_of;
+use crate::index::index_of;
+use crate::merges::Merges;
+use std::alloc::{AllocError, Global};
+use std::collections::BTreeMap;
+use std::marker::Model;
+use xls_biff::{Biff, Strings, XlsError};
+use xls_data::{CellFormat, Sheet};
+use xls_formula::FunctionTable;
+use xls_open::{
+    Globals, InForce, Listed, Naming, XlsOptions, check_stream, classes_of, naming_of, read_globals,
+};
+use xls_text::XlsEncoding;
+
+/// A workbook that is looked at where it stands, in the bytes of its stream: what is in force at the end of
+/// the globals, its sheets and their names, and where the part of each sheet begins. Contracts see what it
+/// shows.
+#[derive(Drop)]
+pub struct View<'a> {
+    alloc: Global,
+    bytes: &'a [u8],
+    page: XlsEncoding,
+    version: Biff,
+    is_1904: bool,
+    /// The class of each XF.
+    classes: Vec<CellFormat>,
+    strings: Strings,
+    naming: Naming,
+    functions: FunctionTable,
+    /// The sheets in workbook order, and where the part of each begins.
+    sheets: Vec<Sheet>,
+    offsets: Vec<usize>,
+    /// The place of the last sheet of each name.
+    index: BTreeMap<String, usize>,
+}
+
+impl<'a> Model for View<'a> {
+    ghost use Rattle.std.specs.Prelude.{◌≡◌, length, map};
+    ghost use Rattle.xls_data.specs.Sheets.{sheet_content};
+    ghost use Rattle.xls_model.specs.Walks.{IsBytes};
+    ghost use Rattle.xls_open.specs.Workbook.{told_of};
+    ghost use Rattle.xls_view.specs.Contents.{AreReadable, viewed};
+    ghost use Rattle.xls_view.specs.Index.{IsIndex};
+    ghost use Rattle.xls_view.specs.Viewing.{Viewed};
+
+    ghost Value = { Viewed };
+
+    ghost view = { λ v. viewed v.bytes.now (record {
+      cells = record {
+        page = v.page;
+        version = v.version;
+        classes = v.classes.items;
+        strings = v.strings;
+        is_1904 = v.is_1904;
+      };
+      formulas = record {
+        sheets = v.naming.sheets;
+        names = v.naming.names;
+        refs = v.naming.refs;
+        page = v.page;
+        biff = v.version;
+        functions = v.functions;
+      };
+    }) (map sheet_content v.sheets.items) v.offsets.items (map told_of v.naming.told.items) };
+
+    ghost invariant = { λ v. IsBytes v.bytes.now × (length v.offsets.items ≡ length v.sheets.items)
+        × IsIndex v.index v.sheets.items
+        × AreReadable (record {
+          page = v.page;
+          version = v.version;
+          classes = v.classes.items;
+          strings = v.strings;
+          is_1904 = v.is_1904;
+        }) v.bytes.now v.offsets.items };
+}
+
+/// The sheets, and where the part of each begins.
+fn split_listed(alloc: Global, listed: Vec<Listed>) -> Result<(Vec<Sheet>, Vec<usize>), AllocError>
+    ensures { IfOk result (λ x. (map sheet_content x.0.items ≡ map (λ (q : ℕ × SheetContent). q.1) (map listed_of listed.items))
+        × (x.1.items ≡ map (λ (q : ℕ × SheetContent). q.0) (map listed_of listed.items))) }
+{
+    let mut sheets = Vec::new(alloc);
+    let mut offsets = Vec::new(alloc);
+    for next in listed {
+        sheets.push(next.sheet)?;
+        offsets.push(next.offset)?;
+    }
+    Ok((sheets, offsets))
+}
+
+/// The view of bytes without a fault, by their globals.
+fn view_of<'a>(
+    alloc: Global,
+    bytes: &'a [u8],
+    globals: Globals,
+    functions: &FunctionTable,
+) -> Result<View<'a>, AllocError> {
+    let Globals {
+        page,
+        version,
+        is_1904,
+        formats,
+        identifiers,
+        strings,
+        refs,
+        names,
+        listed,
+    } = globals;
+    let classes = classes_of(alloc, &formats, &identifiers)?;
+    let naming = naming_of(alloc, version, &listed, refs, names)?;
+    let functions = copy_of(alloc, functions)?;
+    let (sheets, offsets) = split_listed(alloc, listed)?;
+    let index = index_of(alloc, &sheets)?;
+    Ok(View {
+        alloc,
+        bytes,
+        page,
+        version,
+        is_1904,
+        classes,
+        strings,
+        naming,
+        functions,
+        sheets,
+        offsets,
+        index,
+    })
+}
+
+impl<'a> View<'a> {
+    /// The view of a stream's bytes, under the forced page, the bound of cells and the functions of the options.
+    /// The first fault of the bytes is the one that `check_stream` answers; there is no limit of bytes.
+    /// Otherwise only running out of memory refuses.
+    pub fn new(alloc: Global, bytes: &'a [u8], options: &XlsOptions) -> Result<View<'a>, XlsError>
+        ensures ok { IfOk result (λ view. IsViewed options.now bytes.now view) }
+        ensures fault { (e : XlsError) → IsFault options.now bytes.now e → result ≡ Err e }
+        ensures cause { IfErr result (ViewCause options.now bytes.now) }
+    {
+        check_stream(bytes, options.force_codepage, options.max_cells)?;
+        let page = options.first_page()?;
+        let globals = read_globals(alloc, bytes, page, options)?;
+        Ok(view_of(alloc, bytes, globals, &options.functions)?)
+    }
+
+    /// Name, kind and visibility of each sheet, in workbook order. Takes no memory.
+    pub fn sheets(&self) -> &[Sheet]
+        ensures { map sheet_content result.now ≡ self.now.book.sheets }
+    {
+        &self.sheets
+    }
+
+    /// The defined names and their texts, in workbook order. Takes no memory.
+    pub fn defined_names(&self) -> &[(String, String)]
+        ensures { map told_of result.now ≡ self.now.book.names }
+    {
+        &self.naming.told
+    }
+
+    /// Whether dates count from 1904. Takes no memory.
+    pub fn has_1904_epoch(&self) -> bool
+        ensures { result ≡ self.now.book.is_1904 }
+    {
+        self.is_1904
+    }
+
+    /// The format class of each XF record, in order. Takes no memory.
+    pub fn formats(&self) -> &[CellFormat]
+        ensures { result.now ≡ self.now.book.classes }
+    {
+        &self.classes
+    }
+
+    /// What the records of the sheets are read under.
+    fn force(&self) -> InForce<'_> {
+        InForce {
+            page: self.page,
+            version: self.version,
+            classes: &self.classes,
+            strings: &self.strings,
+            is_1904: self.is_1904,
+            sheets: &self.naming.sheets,
+            names: &self.naming.names,
+            refs: &self.naming.refs,
+            functions: &self.functions,
+        }
+    }
+
+    /// The bytes from the part of the last sheet of a name on.
+    fn part_named(&self, name: &str) -> Option<&'a [u8]> {
+        let place = self.index.get(name)?;
+        let offset = self.offsets.get(*place)?;
+        self.bytes.get(*offset..)
+    }
+
+    /// The cells of the last sheet of a name. `None` exactly where no sheet has the name. Only running out
+    /// of memory refuses.
+    pub fn cells_named(&self, name: &str) -> Result<Option<SheetCells<'_>>, AllocError>
+        ensures { IfOk result (λ found. found
+            ≡ option_map (λ (v : SheetView). v.cells) (shown_of self.now.book (chars name.now))) }
+    {
+        match self.part_named(name) {
+            Some(part) => Ok(Some(SheetCells::new(self.alloc, self.force(), part)?)),
+            None => Ok(None),
+        }
+    }
+
+    /// The cells of the last sheet of the name that the sheet at an index has. `None` exactly where no sheet
+    /// has the index. Only running out of memory refuses.
+    pub fn cells_at(&self, n: usize) -> Result<Option<SheetCells<'_>>, AllocError>
+        ensures { IfOk result (λ found. found
+            ≡ option_map (λ (v : SheetView). v.cells) (slice_get self.now.book.contents n)) }
+    {
+        match self.sheets.get(n) {
+            Some(sheet) => self.cells_named(sheet.name.as_str()),
+            None => Ok(None),
+        }
+    }
+
+    /// The formulas of the last sheet of a name. `None` exactly where no sheet has the name. Only running
+    /// out of memory refuses.
+    pub fn formulas_named(&self, name: &str) -> Result<Option<SheetFormulas<'_>>, AllocError>
+        ensures tokens { IfOk result (λ found. found
+            ≡ option_map (λ fs. record { context = self.now.context; left = fs }) (formulas_named self.now (chars name.now))) }
+        ensures texts { IfOk result (λ found. option_map (λ (f : Named). map (text_entry f.context) f.left) found
+            ≡ option_map (λ (v : SheetView). v.formulas) (shown_of self.now.book (chars name.now))) }
+    {
+        match self.part_named(name) {
+            Some(part) => Ok(Some(SheetFormulas::new(self.alloc, self.force(), part)?)),
+            None => Ok(None),
+        }
+    }
+
+    /// The formulas of the last sheet of the name that the sheet at an index has. `None` exactly where no
+    /// sheet has the index. Only running out of memory refuses.
+    pub fn formulas_at(&self, n: usize) -> Result<Option<SheetFormulas<'_>>, AllocError>
+        ensures tokens { IfOk result (λ found. found
+            ≡ option_map (λ fs. record { context = self.now.context; left = fs }) (slice_get self.now.formulas n)) }
+        ensures texts { IfOk result (λ found. option_map (λ (f : Named). map (text_entry f.context) f.left) found
+            ≡ option_map (λ (v : SheetView). v.formulas) (slice_get self.now.book.contents n)) }
+    {
+        match self.sheets.get(n) {
+            Some(sheet) => self.formulas_named(sheet.name.as_str()),
+            None => Ok(None),
+        }
+    }
+
+    /// The merged regions of the last sheet of a name, in the order of the stream. `None` exactly where no
+    /// sheet has the name. Takes no memory.
+    pub fn merges_named(&self, name: &str) -> Option<Merges<'_>>
+        ensures { result ≡ option_map (λ (v : SheetView). v.merges) (shown_of self.now.book (chars name.now)) }
+    {
+        match self.part_named(name) {
+            Some(part) => Some(Merges::new(part)),
+            None => None,
+        }
+    }
+
+    /// The merged regions of the last sheet of the name that the sheet at an index has. `None` exactly where
+    /// no sheet has the index. Takes no memory.
+    pub fn merges_at(&self, n: usize) -> Option<Merges<'_>>
+        ensures { result ≡ option_map (λ (v : SheetView). v.merges) (slice_get self.now.book.contents n) }
+    {
+        match self.sheets.get(n) {
+            Some(sheet) => self.merges_named(sheet.name.as_str()),
+            None => None,
+        }
+    }
+}
