@@ -23,3 +23,4 @@ pub mod AscendingLemmas
 pub mod SameLemmas
 pub mod LaidLemmas
 pub mod StandardFacts
+pub mod ByteLemmas

@@ -4,7 +4,7 @@ use Rattle.xls_model.specs.Stream.{Group}
 use Rattle.xls_model.specs.Walks.{IsBytes}
 use Rattle.xls_model.specs.declared.part.Part.{Part}
 use Rattle.xls_model.proofs.Ends.{has_groups}
-use Rattle.xls_view.proofs.ByteLemmas.{are_bytes, bytes_where}
+use Rattle.xls_open.proofs.ByteLemmas.{are_bytes, bytes_where}
 
 -- where each number is a byte, the groups that stand there and how the bytes end
 abbrev pub groups_by : (bytes : List ℕ) (b : Bool) → are_bytes bytes ≡ b → List Group × Option Part

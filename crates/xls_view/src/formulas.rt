@@ -65,8 +65,8 @@ impl<'v> SheetFormulas<'v> {
 
     /// The text of a formula of the sheet, or why it is refused. Only running out of memory refuses.
     pub fn text_of(&self, formula: FormulaCell<'_>) -> Result<String, AllocError>
-        ensures { IfOk result (λ text. ((formula.row, formula.column), text_of text)
-            ≡ text_entry self.now.context (formula_seen formula)) }
+        ensures { IfOk result (λ text. ((formula.entry.row, formula.entry.column), text_of text)
+            ≡ text_entry self.now.context (formula_seen formula.entry)) }
     {
         text_of_formula(
             self.alloc,

@@ -26,7 +26,7 @@ impl TextBuffer {
 
     /// The text of a string, decoded here.
     fn decode(&mut self, encoded: EncodedText<'_>) -> Result<&str, AllocError>
-        ensures { IfOk result (λ s. chars s.now ≡ encoded_text encoded) }
+        ensures { IfOk result (λ s. chars s.now ≡ encoded_text encoded.entry) }
     {
         self.text.clear();
         if let Ok((count, high_byte, units)) = split_string(encoded.string, encoded.version) {
@@ -40,7 +40,7 @@ impl TextBuffer {
     /// A value with its text, which is lent from the string table or from this buffer. Only running out of
     /// memory refuses.
     pub fn value_of<'b>(&'b mut self, value: CellValue<'b>) -> Result<DataRef<'b>, AllocError>
-        ensures { IfOk result (λ d. ref_content_of d ≡ value_content value) }
+        ensures { IfOk result (λ d. ref_content_of d ≡ value_content value.entry) }
     {
         match value {
             CellValue::Value(value) => Ok(value),

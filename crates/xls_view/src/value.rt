@@ -63,7 +63,7 @@ pub(crate) fn lent<'v>(value: Data) -> DataRef<'v>
 
 /// The cell at a position with a value that isn't a text of its record.
 pub(crate) fn cell_at<'v>(position: (u32, u32), value: DataRef<'v>) -> SheetCell<'v>
-    ensures { cell_entry result ≡ (position, ref_content_of value) }
+    ensures { cell_entry result ≡ (position, ref_content_of value.entry) }
 {
     let (row, column) = position;
     SheetCell {

@@ -1,0 +1,1 @@
+-- The records that are left of a part.
