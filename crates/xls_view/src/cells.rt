@@ -43,7 +43,7 @@ impl<'v> SheetCells<'v> {
         part: &'v [u8],
     ) -> Result<SheetCells<'v>, AllocError>
         requires { IsSound force (part.now, 0) }
-        ensures { IfOk result (λ cells. cells ≡ settled (cells_from force (0, 0) (kept_in part.now 0))) }
+        ensures { IfOk result (λ cells. cells ≡ settled (cells_from force.entry (0, 0) (kept_in part.now 0))) }
     {
         Ok(SheetCells { alloc, force, part })
     }
@@ -101,11 +101,15 @@ fn next_cells<'c>(
     ensures sound { IsSound force.now records.new }
     ensures passes { Passes force.now records.old at.old result records.new at.new }
 {
-    while let Some(Ok(record)) = records.next() {
-        let found = cells_of(alloc, &record, *at, force);
-        *at = formula_position(&record).unwrap_or(*at);
-        if found.is_some() {
-            return found;
+    while let Some(item) = records.next() {
+        let record = match item {
+            Ok(record) => record,
+            Err(_) => return None,
+        };
+        let last = *at;
+        *at = formula_position(&record).unwrap_or(last);
+        if let Some((cell, run)) = cells_of(alloc, &record, last, force) {
+            return Some((cell, run));
         }
     }
     None

@@ -46,7 +46,7 @@ impl<'v> SheetFormulas<'v> {
         part: &'v [u8],
     ) -> Result<SheetFormulas<'v>, AllocError>
         ensures { IfOk result (λ formulas. formulas ≡ record {
-          context = force.formulas;
+          context = force.entry.formulas;
           left = settled (formulas_of (kept_in part.now 0));
         }) }
     {
@@ -121,10 +121,13 @@ fn formula_of<'c>(alloc: Global, r: &Record<'c>) -> Option<FormulaCell<'c>>
 fn next_formula<'c>(alloc: Global, records: &mut SheetRecords<'c>) -> Option<FormulaCell<'c>>
     ensures { PassesFormula records.old result records.new }
 {
-    while let Some(Ok(record)) = records.next() {
-        let found = formula_of(alloc, &record);
-        if found.is_some() {
-            return found;
+    while let Some(item) = records.next() {
+        let record = match item {
+            Ok(record) => record,
+            Err(_) => return None,
+        };
+        if let Some(formula) = formula_of(alloc, &record) {
+            return Some(formula);
         }
     }
     None
