@@ -1,14 +1,60 @@
 //! The cells of a sheet.
 
-ghost use Rattle.std.specs.Prelude.{◌≡◌, IfOk};
+ghost use Rattle.std.specs.Prelude.{◌≡◌, IfOk, IsTrue, map};
+ghost use Rattle.xls_biff.specs.Cells.{Entry};
+ghost use Rattle.xls_cells.specs.Positions.{IsAscending};
 ghost use Rattle.xls_view.specs.Contents.{cells_from, kept_in, settled};
+ghost use Rattle.xls_view.specs.Placing.{cell_placed};
 ghost use Rattle.xls_view.specs.Walking.{IsSound};
 
+use crate::ascent::Ascent;
+use crate::places::{placed_cell, push_cells};
 use crate::value::SheetCell;
 use crate::walk::CellWalk;
 use std::alloc::{AllocError, Global};
 use std::marker::Model;
+use xls_biff::{PlacedRecords, formula_position};
+use xls_cells::sorted_cells;
+use xls_data::Cell;
 use xls_open::InForce;
+
+/// Whether the cells of a part ascend strictly by position.
+fn ascends(cells: CellWalk<'_>) -> bool
+    ensures { IsTrue result → IsAscending (map (λ (c : Entry). c.0) cells.entry) }
+{
+    let mut ascent = Ascent::new();
+    for cell in cells {
+        ascent = ascent.with((cell.row, cell.column));
+    }
+    ascent.is_strict()
+}
+
+/// Where the cells of a part stand, by position, of those of one position the last.
+fn in_order(alloc: Global, part: &[u8], force: &InForce<'_>) -> Result<Vec<Cell<usize>>, AllocError>
+    requires { IsSound force.now (part.now, 0) }
+    ensures { IfOk result (λ v. map (cell_placed force.now part.now) v.items
+        ≡ settled (cells_from force.now (0, 0) (kept_in part.now 0))) }
+{
+    let mut places = Vec::new(alloc);
+    let mut last = (0, 0);
+    for item in PlacedRecords::new(part) {
+        let (start, record) = match item {
+            Ok(placed) => placed,
+            Err(_) => break,
+        };
+        push_cells(
+            alloc,
+            &mut places,
+            &record,
+            last,
+            part.len() - start.len(),
+            force,
+        )?;
+        last = formula_position(&record).unwrap_or(last);
+    }
+    let sorted = sorted_cells(alloc, places)?;
+    Ok(sorted)
+}
 
 /// The cells of a sheet, by row, then column, of those of one position the last. Contracts see the list
 /// of them.
@@ -17,23 +63,25 @@ pub struct SheetCells<'v> {
     alloc: Global,
     force: InForce<'v>,
     part: &'v [u8],
+    /// Where the cells stand, in order, where the records don't ascend.
+    sorted: Option<Vec<Cell<usize>>>,
 }
 
 impl<'v> Model for SheetCells<'v> {
     ghost use Rattle.std.specs.Prelude.{List};
     ghost use Rattle.xls_biff.specs.Cells.{Entry};
-    ghost use Rattle.xls_view.specs.Contents.{cells_from, kept_in};
+    ghost use Rattle.xls_view.specs.Placing.{cells_held};
     ghost use Rattle.xls_view.specs.Walking.{IsSound};
 
     ghost Value = { List Entry };
 
-    ghost view = { λ c. cells_from c.force (0, 0) (kept_in c.part.now 0) };
+    ghost view = { λ c. cells_held c.force c.part.now c.sorted };
 
     ghost invariant = { λ c. IsSound c.force (c.part.now, 0) };
 }
 
 impl<'v> SheetCells<'v> {
-    /// The cells of a part whose records have no fault.
+    /// The cells of a part whose records have no fault. Takes memory only where they don't ascend.
     pub(crate) fn new(
         alloc: Global,
         force: InForce<'v>,
@@ -42,15 +90,34 @@ impl<'v> SheetCells<'v> {
         requires { IsSound force (part.now, 0) }
         ensures { IfOk result (λ cells. cells ≡ settled (cells_from force.entry (0, 0) (kept_in part.now 0))) }
     {
-        Ok(SheetCells { alloc, force, part })
+        let sorted = if ascends(CellWalk::new(alloc, &force, part)) {
+            None
+        } else {
+            Some(in_order(alloc, part, &force)?)
+        };
+        Ok(SheetCells {
+            alloc,
+            force,
+            part,
+            sorted,
+        })
     }
 
     /// The cells in order. Takes no memory.
     pub fn iter(&self) -> Cells<'_>
         ensures { result ≡ self.now }
     {
-        Cells {
-            walk: CellWalk::new(self.alloc, &self.force, self.part),
+        match &self.sorted {
+            None => Cells::new(
+                CellWalk::new(self.alloc, &self.force, self.part),
+                self.part,
+                &[],
+            ),
+            Some(places) => Cells::new(
+                CellWalk::new(self.alloc, &self.force, &[]),
+                self.part,
+                places,
+            ),
         }
     }
 }
@@ -58,16 +125,24 @@ impl<'v> SheetCells<'v> {
 /// The cells of a sheet that are left: each once, by row, then column. Contracts see the list of them.
 #[derive(Drop)]
 pub struct Cells<'c> {
+    /// The cells of the records that are left, where these ascend.
     walk: CellWalk<'c>,
+    part: &'c [u8],
+    /// Else the places that are left.
+    places: &'c [Cell<usize>],
 }
 
 impl<'c> Model for Cells<'c> {
-    ghost use Rattle.std.specs.Prelude.{List};
+    ghost use Rattle.std.specs.Prelude.{◌++◌, List, map};
     ghost use Rattle.xls_biff.specs.Cells.{Entry};
+    ghost use Rattle.xls_model.specs.Walks.{IsBytes};
+    ghost use Rattle.xls_view.specs.Placing.{cell_placed};
 
     ghost Value = { List Entry };
 
-    ghost view = { λ c. c.walk };
+    ghost view = { λ c. c.walk ++ map (cell_placed c.force.now c.part.now) c.places.now };
+
+    ghost invariant = { λ c. IsBytes c.part.now };
 }
 
 impl<'c> Iterator for Cells<'c> {
@@ -82,7 +157,22 @@ impl<'c> Iterator for Cells<'c> {
     ghost remaining = { λ cells. at_most (length cells) };
 
     fn next(&mut self) -> Option<SheetCell<'c>> {
-        self.walk.next()
+        if let Some(cell) = self.walk.next() {
+            return Some(cell);
+        }
+        if self.places.is_empty() {
+            return None;
+        }
+        let (first, rest) = self.places.split_at(1);
+        self.places = rest;
+        let at = *first[0].get_value();
+        Some(placed_cell(
+            self.alloc,
+            self.part,
+            first[0].get_position(),
+            at,
+            self.force,
+        ))
     }
 }
 
@@ -95,6 +185,10 @@ impl<'c> Cells<'c> {
     {
         Cells {
             walk: self.walk.again(),
+            alloc: self.alloc,
+            force: self.force,
+            part: self.part,
+            places: self.places,
         }
     }
 }

@@ -1,19 +1,26 @@
 //! The formulas of a sheet.
 
 ghost use Rattle.xls_model.specs.Walks.{IsBytes};
-ghost use Rattle.std.specs.Prelude.{◌≡◌, IfOk};
+ghost use Rattle.std.specs.Prelude.{◌≡◌, ◌++◌, ◌∷◌, [], IfOk, IsTrue, OnOk, map};
+ghost use Rattle.xls_cells.specs.Positions.{IsAscending};
+ghost use Rattle.xls_reading.specs.Order.{somes};
+ghost use Rattle.xls_view.specs.Placing.{formula_placed};
 ghost use Rattle.xls_strings.specs.Texts.{text_of};
-ghost use Rattle.xls_view.specs.Formulas.{formula_of, formulas_of, text_entry};
+ghost use Rattle.xls_view.specs.Formulas.{Formula, formula_of, formulas_of, text_entry};
 ghost use Rattle.xls_view.specs.Contents.{kept_in, settled};
 ghost use Rattle.xls_biff.specs.Walking.{group_of};
 ghost use Rattle.xls_model.specs.Listing.{kept_group};
 ghost use Rattle.std.specs.Option.{option_map};
 ghost use Rattle.xls_view.specs.Walking.{formula_seen, PassesFormula};
 
+use crate::ascent::Ascent;
+use crate::places::placed_formula;
 use crate::value::FormulaCell;
 use std::alloc::{AllocError, Global};
 use std::marker::Model;
-use xls_biff::{Record, SheetRecords, parse_formula_record};
+use xls_biff::{PlacedRecords, Record, SheetRecords, parse_formula_record};
+use xls_cells::sorted_cells;
+use xls_data::Cell;
 use xls_model::types::FORMULA;
 use xls_open::{InForce, text_of_formula};
 
@@ -24,23 +31,51 @@ pub struct SheetFormulas<'v> {
     alloc: Global,
     force: InForce<'v>,
     part: &'v [u8],
+    /// Where the formulas stand, in order, where the records don't ascend.
+    sorted: Option<Vec<Cell<usize>>>,
 }
 
 impl<'v> Model for SheetFormulas<'v> {
     ghost use Rattle.xls_model.specs.Walks.{IsBytes};
-    ghost use Rattle.xls_view.specs.Contents.{kept_in};
-    ghost use Rattle.xls_view.specs.Formulas.{formulas_of};
+    ghost use Rattle.xls_view.specs.Placing.{formulas_held};
     ghost use Rattle.xls_view.specs.Walking.{Named};
 
     ghost Value = { Named };
 
-    ghost view = { λ f. record { context = f.force.formulas; left = formulas_of (kept_in f.part.now 0) } };
+    ghost view = { λ f. record { context = f.force.formulas; left = formulas_held f.part.now f.sorted } };
 
     ghost invariant = { λ f. IsBytes f.part.now };
 }
 
+/// Whether the formulas of a part ascend strictly by position.
+fn ascends(formulas: FormulaWalk<'_>) -> bool
+    ensures { IsTrue result → IsAscending (map (λ (f : Formula). f.0) formulas.entry) }
+{
+    let mut ascent = Ascent::new();
+    for formula in formulas {
+        ascent = ascent.with((formula.row, formula.column));
+    }
+    ascent.is_strict()
+}
+
+/// Where the formulas of a part stand, by position, of those of one position the last.
+fn in_order(alloc: Global, part: &[u8]) -> Result<Vec<Cell<usize>>, AllocError>
+    ensures { IfOk result (λ v. map (formula_placed part.now) v.items ≡ settled (formulas_of (kept_in part.now 0))) }
+{
+    let mut places = Vec::new(alloc);
+    for item in PlacedRecords::new(part) {
+        let (start, record) = match item {
+            Ok(placed) => placed,
+            Err(_) => break,
+        };
+        push_formula(alloc, &mut places, &record, part.len() - start.len())?;
+    }
+    let sorted = sorted_cells(alloc, places)?;
+    Ok(sorted)
+}
+
 impl<'v> SheetFormulas<'v> {
-    /// The formulas of a part.
+    /// The formulas of a part. Takes memory only where they don't ascend.
     pub(crate) fn new(
         alloc: Global,
         force: InForce<'v>,
@@ -51,16 +86,28 @@ impl<'v> SheetFormulas<'v> {
           left = settled (formulas_of (kept_in part.now 0));
         }) }
     {
-        Ok(SheetFormulas { alloc, force, part })
+        let sorted = if ascends(FormulaWalk::new(alloc, part)) {
+            None
+        } else {
+            Some(in_order(alloc, part)?)
+        };
+        Ok(SheetFormulas {
+            alloc,
+            force,
+            part,
+            sorted,
+        })
     }
 
     /// The formulas in order. Takes no memory.
     pub fn iter(&self) -> FormulaCells<'_>
         ensures { result ≡ self.now.left }
     {
-        FormulaCells {
-            alloc: self.alloc,
-            records: SheetRecords::new(self.part),
+        match &self.sorted {
+            None => FormulaCells::new(FormulaWalk::new(self.alloc, self.part), self.part, &[]),
+            Some(places) => {
+                FormulaCells::new(FormulaWalk::new(self.alloc, &[]), self.part, places)
+            }
         }
     }
 
@@ -78,14 +125,14 @@ impl<'v> SheetFormulas<'v> {
     }
 }
 
-/// The formulas of a sheet that are left. Contracts see the list of them.
+/// The formulas of a part that are left, in the order of its records. Contracts see the list of them.
 #[derive(Drop)]
-pub struct FormulaCells<'c> {
+pub(crate) struct FormulaWalk<'c> {
     alloc: Global,
     records: SheetRecords<'c>,
 }
 
-impl<'c> Model for FormulaCells<'c> {
+impl<'c> Model for FormulaWalk<'c> {
     ghost use Rattle.std.specs.Prelude.{List};
     ghost use Rattle.xls_model.specs.Walks.{IsBytes};
     ghost use Rattle.xls_view.specs.Contents.{kept_in};
@@ -99,7 +146,7 @@ impl<'c> Model for FormulaCells<'c> {
 }
 
 /// A Formula record, and `None` for a record of another type or with a fault.
-fn formula_of<'c>(alloc: Global, r: &Record<'c>) -> Option<FormulaCell<'c>>
+pub(crate) fn formula_of<'c>(alloc: Global, r: &Record<'c>) -> Option<FormulaCell<'c>>
     ensures { option_map formula_seen result ≡ formula_of (kept_group (group_of r.now)) }
 {
     if r.typ != FORMULA {
@@ -116,6 +163,22 @@ fn formula_of<'c>(alloc: Global, r: &Record<'c>) -> Option<FormulaCell<'c>>
         }
         Err(_) => None,
     }
+}
+
+/// Puts the place of a Formula record, which begins at this offset of its part.
+fn push_formula(
+    alloc: Global,
+    places: &mut Vec<Cell<usize>>,
+    r: &Record<'_>,
+    at: usize,
+) -> Result<(), AllocError>
+    ensures { OnOk result (places.new.items ≡ places.old.items
+        ++ map (λ (f : Formula). (f.0, at)) (somes (formula_of (kept_group (group_of r.now)) ∷ []))) }
+{
+    if let Some(formula) = formula_of(alloc, r) {
+        places.push(Cell::new((formula.row, formula.column), at))?;
+    }
+    Ok(())
 }
 
 /// The next formula of the records that are left.
@@ -136,7 +199,7 @@ fn next_formula<'c>(alloc: Global, records: &mut SheetRecords<'c>) -> Option<For
     None
 }
 
-impl<'c> Iterator for FormulaCells<'c> {
+impl<'c> Iterator for FormulaWalk<'c> {
     ghost use Rattle.std.specs.Prelude.{length};
     ghost use Rattle.std.specs.Iterator.{at_most};
     ghost use Rattle.xls_view.specs.Walking.{FormulaSteps};
@@ -152,16 +215,101 @@ impl<'c> Iterator for FormulaCells<'c> {
     }
 }
 
-impl<'c> FormulaCells<'c> {
+impl<'c> FormulaWalk<'c> {
     ghost use Rattle.std.specs.Prelude.{◌≡◌};
+    ghost use Rattle.xls_view.specs.Contents.{kept_in};
+    ghost use Rattle.xls_view.specs.Formulas.{formulas_of};
+
+    /// The formulas of a part.
+    fn new(alloc: Global, part: &'c [u8]) -> FormulaWalk<'c>
+        ensures { result ≡ formulas_of (kept_in part.now 0) }
+    {
+        FormulaWalk {
+            alloc,
+            records: SheetRecords::new(part),
+        }
+    }
+
+    /// The same formulas, to be gone through once more.
+    fn again(&self) -> FormulaWalk<'c>
+        ensures { result ≡ self.now }
+    {
+        FormulaWalk {
+            alloc: self.alloc,
+            records: self.records.again(),
+        }
+    }
+}
+
+/// The formulas of a sheet that are left: each once, by row, then column. Contracts see the list of them.
+#[derive(Drop)]
+pub struct FormulaCells<'c> {
+    /// The formulas of the records that are left, where these ascend.
+    walk: FormulaWalk<'c>,
+    part: &'c [u8],
+    /// Else the places that are left.
+    places: &'c [Cell<usize>],
+}
+
+impl<'c> Model for FormulaCells<'c> {
+    ghost use Rattle.std.specs.Prelude.{◌++◌, List, map};
+    ghost use Rattle.xls_model.specs.Walks.{IsBytes};
+    ghost use Rattle.xls_view.specs.Formulas.{Formula};
+    ghost use Rattle.xls_view.specs.Placing.{formula_placed};
+
+    ghost Value = { List Formula };
+
+    ghost view = { λ f. f.walk ++ map (formula_placed f.part.now) f.places.now };
+
+    ghost invariant = { λ f. IsBytes f.part.now };
+}
+
+impl<'c> Iterator for FormulaCells<'c> {
+    ghost use Rattle.std.specs.Prelude.{length};
+    ghost use Rattle.std.specs.Iterator.{at_most};
+    ghost use Rattle.xls_view.specs.Walking.{FormulaSteps};
+
+    type Item = FormulaCell<'c>;
+
+    ghost next_gives = { FormulaSteps };
+
+    ghost remaining = { λ formulas. at_most (length formulas) };
+
+    fn next(&mut self) -> Option<FormulaCell<'c>> {
+        if let Some(formula) = self.walk.next() {
+            return Some(formula);
+        }
+        if self.places.is_empty() {
+            return None;
+        }
+        let (first, rest) = self.places.split_at(1);
+        self.places = rest;
+        let at = *first[0].get_value();
+        Some(placed_formula(self.alloc, self.part, first[0].get_position(), at))
+    }
+}
+
+impl<'c> FormulaCells<'c> {
+    ghost use Rattle.std.specs.Prelude.{◌≡◌, ◌++◌, map};
+    ghost use Rattle.xls_model.specs.Walks.{IsBytes};
+    ghost use Rattle.xls_view.specs.Placing.{formula_placed};
+
+    /// These formulas, and those at some places of a part.
+    fn new(walk: FormulaWalk<'c>, part: &'c [u8], places: &'c [Cell<usize>]) -> FormulaCells<'c>
+        requires { IsBytes part.now }
+        ensures { result ≡ walk.entry ++ map (formula_placed part.now) places.now }
+    {
+        FormulaCells { walk, part, places }
+    }
 
     /// The same formulas, to be gone through once more. Takes no memory.
     pub fn again(&self) -> FormulaCells<'c>
         ensures { result ≡ self.now }
     {
         FormulaCells {
-            alloc: self.alloc,
-            records: self.records.again(),
+            walk: self.walk.again(),
+            part: self.part,
+            places: self.places,
         }
     }
 }

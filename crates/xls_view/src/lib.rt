@@ -2,10 +2,12 @@
 //! the formulas and the merged regions of each, which lend what stands in the bytes of the stream.
 #![tactic(auto)]
 
+mod ascent;
 mod cells;
 mod formulas;
 mod index;
 mod merges;
+mod places;
 mod record;
 mod run;
 mod text;

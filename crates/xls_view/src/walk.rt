@@ -2,7 +2,7 @@
 
 ghost use Rattle.std.specs.Prelude.{◌≡◌};
 ghost use Rattle.xls_view.specs.Contents.{cells_from, kept_in};
-ghost use Rattle.xls_view.specs.Walking.{CellSteps, IsSound, Passes};
+ghost use Rattle.xls_view.specs.Walking.{IsSound, Passes};
 
 use crate::record::cells_of;
 use crate::run::Run;
@@ -91,11 +91,20 @@ impl<'c> CellWalk<'c> {
             run: self.run.again(),
         }
     }
+}
 
-    /// The next cell.
-    pub(crate) fn next(&mut self) -> Option<SheetCell<'c>>
-        ensures { CellSteps self.old result self.new }
-    {
+impl<'c> Iterator for CellWalk<'c> {
+    ghost use Rattle.std.specs.Prelude.{length};
+    ghost use Rattle.std.specs.Iterator.{at_most};
+    ghost use Rattle.xls_view.specs.Walking.{CellSteps};
+
+    type Item = SheetCell<'c>;
+
+    ghost next_gives = { CellSteps };
+
+    ghost remaining = { λ cells. at_most (length cells) };
+
+    fn next(&mut self) -> Option<SheetCell<'c>> {
         if let Some(cell) = self.run.next() {
             return Some(cell);
         }
