@@ -9,6 +9,7 @@ ghost use Rattle.xls_reading.specs.Reading.{SheetView, shown_of};
 ghost use Rattle.xls_view.specs.Viewing.{IsFault, IsViewed, ViewCause, formulas_named};
 ghost use Rattle.xls_view.specs.Walking.{Named};
 ghost use Rattle.xls_view.specs.Formulas.{text_entry};
+ghost use Rattle.xls_view.specs.Naming.{context_in};
 ghost use Rattle.xls_strings.specs.declared.error.XlsError.{XlsError};
 ghost use Rattle.xls_data.specs.Sheets.{SheetContent};
 ghost use Rattle.xls_open.specs.Steps.{listed_of};
@@ -18,6 +19,7 @@ use crate::formulas::SheetFormulas;
 use crate::functions::copy_of;
 use crate::index::index_of;
 use crate::merges::Merges;
+use crate::naming::ViewNaming;
 use std::alloc::{AllocError, Global};
 use std::collections::BTreeMap;
 use std::marker::Model;
@@ -185,6 +187,20 @@ impl<'a> View<'a> {
         ensures { result.now ≡ self.now.book.classes }
     {
         &self.classes
+    }
+
+    /// What formulas may name. Takes no memory.
+    pub fn naming(&self) -> ViewNaming<'_>
+        ensures { context_in result ≡ self.now.context }
+    {
+        ViewNaming {
+            sheets: &self.naming.sheets,
+            names: &self.naming.names,
+            refs: &self.naming.refs,
+            page: self.page,
+            biff: self.version,
+            functions: &self.functions,
+        }
     }
 
     /// What the records of the sheets are read under.
