@@ -1,8 +1,6 @@
 pub mod WalkLemmas
 pub mod DistinctLemmas
-pub mod PartLemmas
-pub mod BookLemmas
-pub mod FinalLemmas
+pub mod ViewLemmas
 pub mod TableLemmas
 pub mod EqualLemmas
 mod StandardFacts

@@ -19,7 +19,7 @@ use Rattle.xls_biff.specs.Records.MergeCells.{merges_at}
 use Rattle.xls_biff.specs.Records.Number.{number_at}
 use Rattle.xls_biff.specs.Records.Rk.{mul_rk_at, rk_at}
 use Rattle.xls_biff.specs.SheetTable.{CellContext, SheetRecord, cells_record, shared_record, string_record, formula_record, regions_record, empty_record, sheet_record_at}
-use Rattle.xls_refs.specs.Cited.{formula_in, formula_of}
+use Rattle.xls_view.specs.Formulas.{formula_in, formula_of}
 use Rattle.xls_refs.specs.Laws.{formula_given}
 
 -- ---- no class and no date system changes where a formula stands, and its tokens
