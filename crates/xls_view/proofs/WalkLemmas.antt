@@ -53,6 +53,7 @@ kept_cut before was e fits c = kept_is before was [] (Some c.part) fits (cut_fro
 
 -- of no bytes
 pub kept_nothing : (depth : ℕ) → kept_in [] depth ≡ []
+unfolding found_from
 kept_nothing depth = kept_is [] depth [] None (λ i. omega arith) (record {
   all = [];
   stop = None;

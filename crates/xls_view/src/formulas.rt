@@ -1,5 +1,6 @@
 //! The formulas of a sheet.
 
+ghost use Rattle.xls_model.specs.Walks.{IsBytes};
 ghost use Rattle.std.specs.Prelude.{◌≡◌, IfOk};
 ghost use Rattle.xls_strings.specs.Texts.{text_of};
 ghost use Rattle.xls_view.specs.Formulas.{formula_of, formulas_of, text_entry};
@@ -119,7 +120,9 @@ fn formula_of<'c>(alloc: Global, r: &Record<'c>) -> Option<FormulaCell<'c>>
 
 /// The next formula of the records that are left.
 fn next_formula<'c>(alloc: Global, records: &mut SheetRecords<'c>) -> Option<FormulaCell<'c>>
-    ensures { PassesFormula records.old result records.new }
+    requires { IsBytes records.old.0 }
+    ensures bytes { IsBytes records.new.0 }
+    ensures passes { PassesFormula records.old result records.new }
 {
     while let Some(item) = records.next() {
         let record = match item {

@@ -4,7 +4,6 @@
 
 mod cells;
 mod formulas;
-mod functions;
 mod index;
 mod merges;
 mod naming;
@@ -13,6 +12,7 @@ mod run;
 mod text;
 mod value;
 mod view;
+mod walk;
 
 pub use cells::{Cells, SheetCells};
 pub use formulas::{FormulaCells, SheetFormulas};

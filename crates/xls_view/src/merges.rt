@@ -1,5 +1,6 @@
 //! The merged regions of a sheet.
 
+ghost use Rattle.xls_model.specs.Walks.{IsBytes};
 ghost use Rattle.std.specs.Prelude.{◌≡◌, []};
 ghost use Rattle.xls_biff.specs.Records.MergeCells.{merges_at};
 ghost use Rattle.xls_view.specs.Walking.{MergeSteps, PassesRegions};
@@ -99,7 +100,9 @@ impl<'c> Model for Merges<'c> {
 
 /// The regions of the next MergeCells record that has some.
 fn next_regions<'c>(records: &mut SheetRecords<'c>) -> Option<(Dimensions, Regions<'c>)>
-    ensures { PassesRegions records.old result records.new }
+    requires { IsBytes records.old.0 }
+    ensures bytes { IsBytes records.new.0 }
+    ensures passes { PassesRegions records.old result records.new }
 {
     while let Some(item) = records.next() {
         let record = match item {

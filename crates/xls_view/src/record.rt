@@ -124,6 +124,7 @@ fn formula<'c>(alloc: Global, body: &'c [u8], force: &InForce<'c>) -> Option<She
 
 /// The cell of a record without a fault that isn't a MulRk, if it has one, where the last Formula before
 /// it stands here.
+#[tactic(auto, using(crate::proofs::RecordLemmas::no_cell))]
 fn cell_of<'c>(
     alloc: Global,
     r: &Record<'c>,
