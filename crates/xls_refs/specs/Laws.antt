@@ -1,20 +1,14 @@
 -- Laws over the definitions.
-use Rattle.std.specs.Prelude.{◌≡◌, ◌↔◌, ℕ, List, true, Option, Some, None, Result, Ok}
+use Rattle.std.specs.Prelude.{◌≡◌, ◌↔◌, ℕ, List, true}
 use Rattle.xls_model.specs.Listing.{Kept}
-use Rattle.xls_strings.specs.declared.error.XlsError.{XlsError}
-use Rattle.xls_biff.specs.SheetTable.{CellContext, SheetRecord, formula_record}
+use Rattle.xls_biff.specs.SheetTable.{CellContext}
 use Rattle.xls_reading.specs.SheetTable.{kept_line}
 use Rattle.xls_open.specs.declared.options.XlsOptions.{XlsOptions}
-use Rattle.xls_view.specs.Formulas.{Formula, formula_of}
+use Rattle.xls_view.specs.Formulas.{formula_given, formula_of}
 use Rattle.xls_view.specs.Viewing.{Viewed, IsViewed}
 use Rattle.xls_refs.specs.Citations.{Citation, same_cells}
 use Rattle.xls_refs.specs.Citing.{IsBookCited}
 use Rattle.xls_refs.specs.Views.{cited_in}
-
--- where a Formula stands, and its tokens, by its line of a sheet's table
-abbrev pub formula_given : Result SheetRecord XlsError → Option Formula
-formula_given (Ok (formula_record at value tokens)) = Some (at, tokens)
-formula_given line = None
 
 -- a formula is what the table of a sheet's records has as one, whatever its cells are read under
 abbrev pub FormulasByTheTable : Type 0
