@@ -8,9 +8,9 @@ use xls_data::{Cell, CellType};
 
 /// A cell, and its number in the order in which the cells were given.
 #[derive(Drop)]
-struct Given<T: CellType> {
-    cell: Cell<T>,
-    number: u64,
+pub struct Given<T: CellType> {
+    pub cell: Cell<T>,
+    pub number: u64,
 }
 
 /// Whether one position comes before another: in an earlier row, or in the same one in an earlier
@@ -43,6 +43,18 @@ fn numbered<T: CellType>(alloc: Global, cells: Vec<Cell<T>>) -> Result<Vec<Given
         given.push(Given { cell, number })?;
     }
     Ok(given)
+}
+
+/// Sorts cells by row, column and number, where their numbers ascend at first. Takes no memory.
+pub fn sort_given<T: CellType>(given: &mut Vec<Given<T>>)
+    requires { IsNumbered given.old.items }
+    ensures order { IsInOrder given.new.items }
+    ensures same { HasSame (map given_entry given.old.items) given.new.items }
+{
+    given.sort_unstable_by_key(|each| {
+        let (row, column) = each.cell.get_position();
+        (row, column, each.number)
+    });
 }
 
 /// Whether the last cell has this position.
@@ -96,9 +108,6 @@ pub fn sorted_cells<T: CellType>(
         return Ok(cells);
     }
     let mut given = numbered(alloc, cells)?;
-    given.sort_unstable_by_key(|each| {
-        let (row, column) = each.cell.get_position();
-        (row, column, each.number)
-    });
+    sort_given(&mut given);
     last_of_each(alloc, given)
 }

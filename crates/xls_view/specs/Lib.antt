@@ -6,3 +6,4 @@ pub mod Groups
 pub mod Contents
 pub mod Viewing
 pub mod Naming
+pub mod Placing

@@ -1,17 +1,15 @@
-use Rattle.std.proofs.Common.{rules, ◌≡◌, ℕ, List, Some, IfOk, OnOk, length, map, ◌+◌, ◌-◌, ◌*◌, ◌<◌, ◌≤◌, ◌/◌, ◌%◌, Bool, true, false, nat_eq, nat_lt, [], ◌∷◌, ◌++◌, slice_index_or, slice_set, bit_and, bit_or, Fits, w8, w32, w64, Bor, MutBor}
+use Rattle.std.proofs.Common.{refl, sym, ap, ◌∙◌}
 use Rattle.std.specs.Option.{option_copied}
-use Rattle.std.specs.Str.{bytes_eq, chars}
-use Rattle.std.specs.BTreeMap.{get_by_text}
-use Rattle.std.specs.Map.{update}
-use Rattle.xls_data.specs.Sheets.{sheet_content}
-use Rattle.xls_reading.specs.Reading.{last_named, paired}
-use Rattle.xls_view.specs.Index.{IsIndex}
+use Rattle.xls_view.proofs.IndexLemmas.{found_at, looked}
 use Rattle.xls_view.proofs.index.find_named.Goals as goal
 
--- src/index.rt:43:1
 pub returns-in-Some : goal.returns-in-Some
-returns-in-Some g c = ?
+returns-in-Some g c =
+    let at = c.get-in-Some.ensures.lookup in
+    found_at c.args.sheets.now c.args.each.now c.args.name.now _ _ c.utf8.name c.requires.each
+    (sym (c.requires.index c.args.name.now) ∙ sym c.get.ensures.value ∙ ap option_copied c.in-Some.is) (looked c.args.each.now c.in-Some.place.now c.get-in-Some.result at.0 at.1)
 
--- src/index.rt:43:1
 pub returns-in-None : goal.returns-in-None
-returns-in-None g c = ?
+returns-in-None g c =
+    found_at c.args.sheets.now c.args.each.now c.args.name.now _ _ c.utf8.name c.requires.each
+    (sym (c.requires.index c.args.name.now) ∙ sym c.get.ensures.value ∙ ap option_copied c.in-None.is) refl
