@@ -3,3 +3,4 @@ pub mod CheckLemmas
 pub mod EndingLemmas
 pub mod StandardFacts
 pub mod PropertyFacts
+pub mod RefsLemmas
