@@ -1,16 +1,21 @@
 -- Steps over a sheet part.
 use Rattle.std.proofs.Common.{◌≡◌, true, false, ℕ, ◌+◌, ◌-◌, ◌<◌, ◌≤◌, List, [], ◌∷◌, ◌++◌, refl, sym, ap, ◌∙◌, append_assoc, arith, inl, inr, Option, None}
 use Rattle.std.proofs.lemmas.List.{append-nil}
-use Rattle.xls_model.specs.Stream.{Group, Begins}
+use Rattle.std.specs.List.{flat_map}
+use Rattle.xls_model.specs.Stream.{Group, group_bytes, Begins}
 use Rattle.xls_model.specs.Substreams.{IsBof, IsEof, IsPlain, is_sheet_type}
 use Rattle.xls_model.specs.Counting.{Found, with_group, keep, found_from}
 use Rattle.xls_model.specs.declared.part.Part.{Part}
-use Rattle.xls_model.proofs.Runs.{Run-push, begins_fewer}
+use Rattle.xls_model.proofs.Runs.{Run-push, Run-whole, begins_fewer}
 use Rattle.xls_model.proofs.Founds.{step_bof, step_eof, step_inside, step_kept, step_over, found_nothing}
 use Rattle.xls_biff.specs.Outer.{Skips, Keeps, Over}
 
 pub skips_none : (b : List ℕ) (n : ℕ) → Skips b n b n
 skips_none b n = record { groups = []; run = refl; kept = λ more cut. refl; fewer = omega arith }
+
+-- what is left ends the bytes before
+pub skipped_of : (b mid : List ℕ) (n m : ℕ) → Skips b n mid m → (skipped : List ℕ) × (b ≡ skipped ++ mid)
+skipped_of b mid n m s = (flat_map group_bytes s.groups, Run-whole b s.groups mid s.run)
 
 skips_by : (b mid after : List ℕ) (n m k : ℕ) (g : Group) → Skips b n mid m → Begins mid g after → ((more : List Group) (cut : Option Part) → found_from m (g ∷ more) cut ≡ found_from k more cut) → Skips b n after k
 skips_by b mid after n m k g s h step = record {

@@ -1,6 +1,7 @@
 -- What a step over a sheet part gives, where some BOF records are open.
 use Rattle.std.specs.Prelude.{◌≡◌, true, ℕ, ◌<◌, ◌≤◌, List, [], ◌∷◌, ◌++◌, length, Option, Some, None, Result, Ok, Err, ◌⊎◌}
-use Rattle.xls_model.specs.Stream.{Group, Run}
+use Rattle.std.specs.Borrow.{Bor}
+use Rattle.xls_model.specs.Stream.{Group, Begins, Run}
 use Rattle.xls_model.specs.Cut.{Cut}
 use Rattle.xls_model.specs.Substreams.{is_sheet_type}
 use Rattle.xls_model.specs.Counting.{found_from, with_group}
@@ -45,3 +46,12 @@ abbrev pub OuterSteps : List ℕ → ℕ → Option (Result Record XlsError) →
 OuterSteps before was None after now = Over before was × (after ≡ [])
 OuterSteps before was (Some (Ok r)) after now = Keeps before was (group_of r) after now
 OuterSteps before was (Some (Err e)) after now = CutShort before was e × (after ≡ []) × (0 < length before)
+
+-- likewise with the bytes from the record's header on: the record begins them, and they end the bytes before
+abbrev pub PlacedSteps : List ℕ → ℕ → Option (Result (Bor (List ℕ) × Record) XlsError) → List ℕ → ℕ → Type 0
+PlacedSteps before was None after now = OuterSteps before was None after now
+PlacedSteps before was (Some (Ok x)) after now =
+    OuterSteps before was (Some (Ok x.1)) after now
+    × ((rest : List ℕ) × Begins x.0.now (group_of x.1) rest)
+    × ((skipped : List ℕ) × (before ≡ skipped ++ x.0.now))
+PlacedSteps before was (Some (Err e)) after now = OuterSteps before was (Some (Err e)) after now

@@ -30,7 +30,7 @@ pub use records::number::parse_number;
 pub use records::rk::{cell_of_mul_rk, count_mul_rk, parse_mul_rk, parse_rk};
 pub use records::xf::parse_xf;
 pub use refs::Refs;
-pub use substream::SheetRecords;
+pub use substream::{PlacedRecords, SheetRecords};
 pub use walk::RecordIter;
 pub use xls_strings::{
     Biff, Part, Pieces, Record, SstReader, Strings, XlsError, parse_short_string, parse_sst,

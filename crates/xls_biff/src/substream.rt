@@ -2,7 +2,7 @@
 
 ghost use Rattle.std.specs.Prelude.{◌≡◌, ◌+◌, ◌<◌, ◌≤◌, ◌^◌, length};
 ghost use Rattle.xls_model.specs.Substreams.{is_among, sheet_types};
-ghost use Rattle.xls_biff.specs.Outer.{OuterSteps};
+ghost use Rattle.xls_biff.specs.Outer.{PlacedSteps};
 
 use crate::walk::RecordIter;
 use std::marker::Model;
@@ -32,15 +32,17 @@ fn is_sheet_type(typ: u16) -> bool
     )
 }
 
-/// The next record of a sheet's types outside nested substreams, where so many BOF records are open.
+/// The next record of a sheet's types outside nested substreams, where so many BOF records are open, and
+/// the bytes from its header on.
 fn next_outer<'a>(
     records: &mut RecordIter<'a>,
     depth: &mut u64,
-) -> Option<Result<Record<'a>, XlsError>>
+) -> Option<Result<(&'a [u8], Record<'a>), XlsError>>
     requires { depth.old + length records.old < 2 ^ 64 }
-    ensures steps { OuterSteps records.old depth.old result records.new depth.new }
+    ensures steps { PlacedSteps records.old depth.old result records.new depth.new }
     ensures room { depth.new + length records.new ≤ depth.old + length records.old }
 {
+    let mut start = records.rest();
     while let Some(item) = records.next() {
         let r = match item {
             Ok(r) => r,
@@ -55,8 +57,9 @@ fn next_outer<'a>(
             }
             *depth -= 1;
         } else if *depth <= 1 && is_sheet_type(r.typ) {
-            return Some(Ok(r));
+            return Some(Ok((start, r)));
         }
+        start = records.rest();
     }
     None
 }
@@ -116,6 +119,66 @@ impl<'a> Iterator for SheetRecords<'a> {
     ghost remaining = { λ s. at_most (length s.0) };
 
     fn next(&mut self) -> Option<Result<Record<'a>, XlsError>> {
+        match next_outer(&mut self.records, &mut self.depth) {
+            Some(Ok((_, record))) => Some(Ok(record)),
+            Some(Err(e)) => Some(Err(e)),
+            None => None,
+        }
+    }
+}
+
+/// The records that `SheetRecords` gives, each with the bytes of the part from its header on, which stand
+/// first in the pair, then at most one error, which is `EoStream`, and `None` for good. Takes no memory.
+#[derive(Drop)]
+pub struct PlacedRecords<'a> {
+    records: RecordIter<'a>,
+    depth: u64,
+}
+
+impl<'a> Model for PlacedRecords<'a> {
+    ghost use Rattle.std.specs.Prelude.{List, ℕ, ◌+◌, ◌<◌, ◌^◌, length};
+
+    ghost Value = { List ℕ × ℕ };
+
+    ghost view = { λ s. (s.records, s.depth) };
+
+    ghost invariant = { λ s. s.depth + length s.records < 2 ^ 64 };
+}
+
+impl<'a> PlacedRecords<'a> {
+    /// The records of the part from its first byte on.
+    pub fn new(part: &'a [u8]) -> PlacedRecords<'a>
+        ensures { result ≡ (part.now, 0) }
+    {
+        PlacedRecords {
+            records: RecordIter::new(part),
+            depth: 0,
+        }
+    }
+
+    /// The records that are left, to be gone through once more. Takes no memory.
+    pub fn again(&self) -> PlacedRecords<'a>
+        ensures { result ≡ self.now }
+    {
+        PlacedRecords {
+            records: self.records.again(),
+            depth: self.depth,
+        }
+    }
+}
+
+impl<'a> Iterator for PlacedRecords<'a> {
+    ghost use Rattle.std.specs.Prelude.{length};
+    ghost use Rattle.std.specs.Iterator.{at_most};
+    ghost use Rattle.xls_biff.specs.Outer.{PlacedSteps};
+
+    type Item = Result<(&'a [u8], Record<'a>), XlsError>;
+
+    ghost next_gives = { λ s r t. PlacedSteps s.0 s.1 r t.0 t.1 };
+
+    ghost remaining = { λ s. at_most (length s.0) };
+
+    fn next(&mut self) -> Option<Result<(&'a [u8], Record<'a>), XlsError>> {
         next_outer(&mut self.records, &mut self.depth)
     }
 }

@@ -86,6 +86,13 @@ impl<'a> RecordIter<'a> {
     {
         RecordIter { bytes: self.bytes }
     }
+
+    /// The bytes that are left.
+    pub(crate) fn rest(&self) -> &'a [u8]
+        ensures { result.now ≡ self.now }
+    {
+        self.bytes
+    }
 }
 
 impl<'a> Iterator for RecordIter<'a> {

@@ -77,6 +77,17 @@ impl FunctionTable {
         Ok(())
     }
 
+    /// A table of the same functions. Only running out of memory refuses.
+    pub fn try_copy(&self) -> Result<FunctionTable, AllocError>
+        ensures { IfOk result (λ copy. copy ≡ self.now) }
+    {
+        let mut copy = FunctionTable::new(self.alloc);
+        for entry in &self.entries {
+            copy.push(entry.name.as_str(), entry.argc)?;
+        }
+        Ok(copy)
+    }
+
     /// The allocator that the table grows in.
     pub fn allocator(&self) -> Global {
         self.alloc

@@ -114,7 +114,7 @@ gift_push f s ks k =
     ap (flat_map f) (gifts_push s ks k) ∙ flat_push f (gifts_of s ks) (given_by (given_in s ks k))
 
 -- where the last Formula stands
-place_push : (s : InForce) (ks : List Kept) (k : Kept) (at behind : Position) → at ≡ last_formula s.cells ks
+pub place_push : (s : InForce) (ks : List Kept) (k : Kept) (at behind : Position) → at ≡ last_formula s.cells ks
     → behind ≡ unwrap_or (position_in (kept_line s.cells k)) at → behind ≡ last_formula s.cells (ks ++ k ∷ [])
 place_push s ks k at behind had is =
     let place : Kept → Option Position = λ (j : Kept). position_in (kept_line s.cells j) in

@@ -1,6 +1,6 @@
 -- The content of the parts of a stream, as functions of their bytes, for the views of the code's types.
 use Rattle.std.specs.Prelude.{◌≡◌, ℕ, ◌<◌, zero, suc, List, [], ◌∷◌, ◌++◌, ◌&&◌, nat_lt, Bool, true, false, if◌then◌else◌, refl, map, drop, slice_index, Option, Some, None, unwrap_or, Result, Ok, Err, ◌==◌}
-use Rattle.std.specs.List.{AllByRecursion}
+use Rattle.std.specs.List.{AllByRecursion, flat_map}
 use Rattle.xls_model.specs.Stream.{Group}
 use Rattle.xls_model.specs.Counting.{found_from, Found}
 use Rattle.xls_model.specs.Listing.{Kept, kept_of}
@@ -46,11 +46,12 @@ abbrev pub regions_in : Result (List Dimensions) XlsError → List Dimensions
 regions_in (Ok rs) = rs
 regions_in (Err e) = []
 
--- the merged regions of these records
+-- the merged regions of a record, and of records in order
+abbrev pub regions_at : Kept → List Dimensions
+regions_at k = if k.typ == types.MERGE_CELLS then regions_in (merges_at k.body) else []
+
 abbrev pub regions_of : List Kept → List Dimensions
-regions_of [] = []
-regions_of (k ∷ ks) =
-    (if k.typ == types.MERGE_CELLS then regions_in (merges_at k.body) else []) ++ regions_of ks
+regions_of ks = flat_map regions_at ks
 
 -- ---- by position
 

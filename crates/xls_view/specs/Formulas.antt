@@ -6,6 +6,7 @@ use Rattle.xls_data.specs.Content.{Content}
 use Rattle.xls_cells.specs.Positions.{Position, IsAscending, last_at}
 use Rattle.xls_strings.specs.declared.error.XlsError.{XlsError}
 use Rattle.xls_biff.specs.Records.Formula.{formula_at}
+use Rattle.xls_biff.specs.SheetTable.{SheetRecord, formula_record}
 use Rattle.xls_formula.specs.Context.{Context}
 use Rattle.xls_formula.specs.Fold.{formula_text}
 use Rattle.xls_reading.specs.Order.{somes}
@@ -22,6 +23,11 @@ formula_in (Err e) = None
 -- that of a Formula record ([MS-XLS] Formula); position and tokens hang on no class and no date system
 abbrev pub formula_of : Kept → Option Formula
 formula_of k = if k.typ == types.FORMULA then formula_in (formula_at [] false k.body) else None
+
+-- likewise by its line of a sheet's table
+abbrev pub formula_given : Result SheetRecord XlsError → Option Formula
+formula_given (Ok (formula_record at value tokens)) = Some (at, tokens)
+formula_given line = None
 
 -- those of a sheet's records in order
 abbrev pub formulas_of : List Kept → List Formula

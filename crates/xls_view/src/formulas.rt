@@ -1,5 +1,6 @@
 //! The formulas of a sheet.
 
+ghost use Rattle.xls_model.specs.Walks.{IsBytes};
 ghost use Rattle.std.specs.Prelude.{◌≡◌, IfOk};
 ghost use Rattle.xls_strings.specs.Texts.{text_of};
 ghost use Rattle.xls_view.specs.Formulas.{formula_of, formulas_of, text_entry};
@@ -46,7 +47,7 @@ impl<'v> SheetFormulas<'v> {
         part: &'v [u8],
     ) -> Result<SheetFormulas<'v>, AllocError>
         ensures { IfOk result (λ formulas. formulas ≡ record {
-          context = force.formulas;
+          context = force.entry.formulas;
           left = settled (formulas_of (kept_in part.now 0));
         }) }
     {
@@ -119,12 +120,17 @@ fn formula_of<'c>(alloc: Global, r: &Record<'c>) -> Option<FormulaCell<'c>>
 
 /// The next formula of the records that are left.
 fn next_formula<'c>(alloc: Global, records: &mut SheetRecords<'c>) -> Option<FormulaCell<'c>>
-    ensures { PassesFormula records.old result records.new }
+    requires { IsBytes records.old.0 }
+    ensures bytes { IsBytes records.new.0 }
+    ensures passes { PassesFormula records.old result records.new }
 {
-    while let Some(Ok(record)) = records.next() {
-        let found = formula_of(alloc, &record);
-        if found.is_some() {
-            return found;
+    while let Some(item) = records.next() {
+        let record = match item {
+            Ok(record) => record,
+            Err(_) => return None,
+        };
+        if let Some(formula) = formula_of(alloc, &record) {
+            return Some(formula);
         }
     }
     None

@@ -4,7 +4,6 @@
 
 mod cells;
 mod formulas;
-mod functions;
 mod index;
 mod merges;
 mod record;
@@ -12,6 +11,7 @@ mod run;
 mod text;
 mod value;
 mod view;
+mod walk;
 
 pub use cells::{Cells, SheetCells};
 pub use formulas::{FormulaCells, SheetFormulas};

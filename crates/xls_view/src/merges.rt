@@ -1,12 +1,15 @@
 //! The merged regions of a sheet.
 
+ghost use Rattle.xls_model.specs.Walks.{IsBytes};
 ghost use Rattle.std.specs.Prelude.{◌≡◌, []};
 ghost use Rattle.xls_biff.specs.Records.MergeCells.{merges_at};
 ghost use Rattle.xls_view.specs.Walking.{MergeSteps, PassesRegions};
-ghost use Rattle.xls_view.specs.Contents.{regions_in};
+ghost use Rattle.xls_biff.specs.Walking.{group_of};
+ghost use Rattle.xls_model.specs.Listing.{kept_group};
+ghost use Rattle.xls_view.specs.Contents.{regions_at};
 
 use std::marker::Model;
-use xls_biff::{SheetRecords, count_merges, merge_region};
+use xls_biff::{Record, SheetRecords, count_merges, merge_region};
 use xls_data::Dimensions;
 use xls_model::types::MERGE_CELLS;
 
@@ -43,10 +46,14 @@ impl<'c> Regions<'c> {
         }
     }
 
-    /// The regions of a MergeCells record's body, and none of one with a fault.
-    fn new(body: &'c [u8]) -> Regions<'c>
-        ensures { result ≡ regions_in (merges_at body.entry.now) }
+    /// The regions of a MergeCells record, and none of a record of another type or with a fault.
+    fn of(r: &Record<'c>) -> Regions<'c>
+        ensures { result ≡ regions_at (kept_group (group_of r.now)) }
     {
+        if r.typ != MERGE_CELLS {
+            return Regions::none();
+        }
+        let body = r.body;
         match count_merges(body) {
             Ok(count) => Regions {
                 body,
@@ -93,14 +100,18 @@ impl<'c> Model for Merges<'c> {
 
 /// The regions of the next MergeCells record that has some.
 fn next_regions<'c>(records: &mut SheetRecords<'c>) -> Option<(Dimensions, Regions<'c>)>
-    ensures { PassesRegions records.old result records.new }
+    requires { IsBytes records.old.0 }
+    ensures bytes { IsBytes records.new.0 }
+    ensures passes { PassesRegions records.old result records.new }
 {
-    while let Some(Ok(record)) = records.next() {
-        if record.typ == MERGE_CELLS {
-            let mut regions = Regions::new(record.body);
-            if let Some(region) = regions.next() {
-                return Some((region, regions));
-            }
+    while let Some(item) = records.next() {
+        let record = match item {
+            Ok(record) => record,
+            Err(_) => return None,
+        };
+        let mut regions = Regions::of(&record);
+        if let Some(region) = regions.next() {
+            return Some((region, regions));
         }
     }
     None

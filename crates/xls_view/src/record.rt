@@ -23,8 +23,8 @@ use crate::run::Run;
 use crate::value::{CellValue, EncodedText, SheetCell, cell_at, lent, read_cell};
 use std::alloc::Global;
 use xls_biff::{
-    Record, find_label_sst, parse_bool_err, parse_formula_record, parse_number, parse_rk,
-    split_label,
+    FormulaRecord, Record, find_label_sst, parse_bool_err, parse_formula_record, parse_number,
+    parse_rk, split_label,
 };
 use xls_data::DataRef;
 use xls_model::types::{BOOL_ERR, FORMULA, LABEL, LABEL_SST, MUL_RK, NUMBER, R_STRING, RK, STRING};
@@ -107,16 +107,24 @@ fn formula<'c>(alloc: Global, body: &'c [u8], force: &InForce<'c>) -> Option<She
         → listed_cell (option_map cell_entry result) ≡ listed_value f.0 f.1 }
 {
     match parse_formula_record(alloc, body, force.classes, force.is_1904) {
-        Ok(read) => match read.value {
-            Some(value) => Some(cell_at(read.position, lent(value))),
-            None => None,
-        },
+        Ok(read) => {
+            let FormulaRecord {
+                position,
+                value,
+                ..
+            } = read;
+            match value {
+                Some(value) => Some(cell_at(position, lent(value))),
+                None => None,
+            }
+        }
         Err(_) => None,
     }
 }
 
 /// The cell of a record without a fault that isn't a MulRk, if it has one, where the last Formula before
 /// it stands here.
+#[tactic(auto, using(crate::proofs::RecordLemmas::no_cell))]
 fn cell_of<'c>(
     alloc: Global,
     r: &Record<'c>,

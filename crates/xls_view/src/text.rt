@@ -1,6 +1,7 @@
 //! Texts that are decoded when they are asked for.
 
-ghost use Rattle.std.specs.Prelude.{◌≡◌, IfOk};
+ghost use Rattle.std.specs.Prelude.{◌≡◌, ◌++◌, IfOk, OnOk, encode_utf8_all};
+ghost use Rattle.std.specs.String.{string_bytes};
 ghost use Rattle.std.specs.Str.{chars};
 ghost use Rattle.xls_data.specs.Refs.{ref_content_of};
 ghost use Rattle.xls_view.specs.Values.{encoded_text, value_content};
@@ -16,6 +17,20 @@ pub struct TextBuffer {
     text: String,
 }
 
+/// Appends the text of a string.
+fn append(text: &mut String, encoded: EncodedText<'_>) -> Result<(), AllocError>
+    ensures { OnOk result (string_bytes text.new
+        ≡ string_bytes text.old ++ encode_utf8_all (encoded_text encoded.entry)) }
+{
+    match split_string(encoded.string, encoded.version) {
+        Ok((count, high_byte, units)) => {
+            encoded.page.decode_to(units, count, text, high_byte)?;
+            Ok(())
+        }
+        Err(_) => Ok(()),
+    }
+}
+
 impl TextBuffer {
     /// No text. Takes no memory.
     pub fn new(alloc: Global) -> TextBuffer {
@@ -29,11 +44,7 @@ impl TextBuffer {
         ensures { IfOk result (λ s. chars s.now ≡ encoded_text encoded.entry) }
     {
         self.text.clear();
-        if let Ok((count, high_byte, units)) = split_string(encoded.string, encoded.version) {
-            encoded
-                .page
-                .decode_to(units, count, &mut self.text, high_byte)?;
-        }
+        append(&mut self.text, encoded)?;
         Ok(self.text.as_str())
     }
 

@@ -15,7 +15,6 @@ ghost use Rattle.xls_open.specs.Steps.{listed_of};
 
 use crate::cells::SheetCells;
 use crate::formulas::SheetFormulas;
-use crate::functions::copy_of;
 use crate::index::index_of;
 use crate::merges::Merges;
 use std::alloc::{AllocError, Global};
@@ -125,7 +124,7 @@ fn view_of<'a>(
     } = globals;
     let classes = classes_of(alloc, &formats, &identifiers)?;
     let naming = naming_of(alloc, version, &listed, refs, names)?;
-    let functions = copy_of(alloc, functions)?;
+    let functions = functions.try_copy()?;
     let (sheets, offsets) = split_listed(alloc, listed)?;
     let index = index_of(alloc, &sheets)?;
     Ok(View {

@@ -1,4 +1,4 @@
-use Rattle.std.proofs.Common.{length, ◌+◌, ◌≤◌}
+use Rattle.std.proofs.Common.{◌≡◌, length, ◌+◌, ◌≤◌}
 use Rattle.xls_biff.specs.Outer.{Skips}
 use Rattle.xls_biff.proofs.substream.next_outer.Given as goal
 
@@ -7,4 +7,5 @@ invariant-loop-item l =
     (goal.iterator-loop-item).can_next l.records ×
     (goal.iterator-loop-item).is_finite l.records ×
     Skips l.fn.records l.fn.depth l.records l.depth ×
-    (l.depth + length l.records ≤ l.fn.depth + length l.fn.records)
+    (l.depth + length l.records ≤ l.fn.depth + length l.fn.records) ×
+    (l.start ≡ l.records)

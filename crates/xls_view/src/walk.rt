@@ -1,0 +1,106 @@
+//! The cells of a sheet part in the order of its records.
+
+ghost use Rattle.std.specs.Prelude.{◌≡◌};
+ghost use Rattle.xls_view.specs.Contents.{cells_from, kept_in};
+ghost use Rattle.xls_view.specs.Walking.{CellSteps, IsSound, Passes};
+
+use crate::record::cells_of;
+use crate::run::Run;
+use crate::value::SheetCell;
+use std::alloc::Global;
+use std::marker::Model;
+use xls_biff::{SheetRecords, formula_position};
+use xls_open::InForce;
+
+/// The cells of a part that are left, in the order of its records, none of which has a fault. Contracts see
+/// the list of them.
+#[derive(Drop)]
+pub(crate) struct CellWalk<'c> {
+    alloc: Global,
+    force: &'c InForce<'c>,
+    records: SheetRecords<'c>,
+    /// Where the last Formula stands.
+    at: (u32, u32),
+    /// The cells of the record that was read last.
+    run: Run<'c>,
+}
+
+impl<'c> Model for CellWalk<'c> {
+    ghost use Rattle.std.specs.Prelude.{◌++◌, List};
+    ghost use Rattle.xls_biff.specs.Cells.{Entry};
+    ghost use Rattle.xls_view.specs.Contents.{cells_from, kept_in};
+    ghost use Rattle.xls_view.specs.Walking.{IsSound};
+
+    ghost Value = { List Entry };
+
+    ghost view = { λ w. w.run ++ cells_from w.force.now w.at (kept_in w.records.0 w.records.1) };
+
+    ghost invariant = { λ w. IsSound w.force.now w.records };
+}
+
+/// The first cell of the records that are left, and those after it in its record, where the last Formula
+/// before them stands here.
+fn next_cells<'c>(
+    alloc: Global,
+    records: &mut SheetRecords<'c>,
+    at: &mut (u32, u32),
+    force: &InForce<'c>,
+) -> Option<(SheetCell<'c>, Run<'c>)>
+    requires { IsSound force.now records.old }
+    ensures sound { IsSound force.now records.new }
+    ensures passes { Passes force.now records.old at.old result records.new at.new }
+{
+    while let Some(item) = records.next() {
+        let record = match item {
+            Ok(record) => record,
+            Err(_) => return None,
+        };
+        let last = *at;
+        *at = formula_position(&record).unwrap_or(last);
+        if let Some((cell, run)) = cells_of(alloc, &record, last, force) {
+            return Some((cell, run));
+        }
+    }
+    None
+}
+
+impl<'c> CellWalk<'c> {
+    /// The cells of a part.
+    pub(crate) fn new(alloc: Global, force: &'c InForce<'c>, part: &'c [u8]) -> CellWalk<'c>
+        requires { IsSound force.now (part.now, 0) }
+        ensures { result ≡ cells_from force.entry.now (0, 0) (kept_in part.entry.now 0) }
+    {
+        CellWalk {
+            alloc,
+            force,
+            records: SheetRecords::new(part),
+            at: (0, 0),
+            run: Run::none(),
+        }
+    }
+
+    /// The same cells, to be gone through once more.
+    pub(crate) fn again(&self) -> CellWalk<'c>
+        ensures { result ≡ self.now }
+    {
+        CellWalk {
+            alloc: self.alloc,
+            force: self.force,
+            records: self.records.again(),
+            at: self.at,
+            run: self.run.again(),
+        }
+    }
+
+    /// The next cell.
+    pub(crate) fn next(&mut self) -> Option<SheetCell<'c>>
+        ensures { CellSteps self.old result self.new }
+    {
+        if let Some(cell) = self.run.next() {
+            return Some(cell);
+        }
+        let (cell, run) = next_cells(self.alloc, &mut self.records, &mut self.at, self.force)?;
+        self.run = run;
+        Some(cell)
+    }
+}
