@@ -4,5 +4,6 @@ pub mod ContentLemmas
 pub mod SettledLemmas
 pub mod TableLemmas
 pub mod MeaningLemmas
+pub mod ViewLemmas
 pub mod NameLemmas
 pub mod IndexLemmas

@@ -67,7 +67,7 @@ pub part_kept : (part : List ℕ) (kept : List Kept) (cut : Option Part) → IsB
     → kept_in part 0 ≡ kept
 part_kept part kept cut fits p = kept_is part 0 p.0 cut fits ((same_parts part p.0 cut fits).0 p.1) ∙ sym p.2
 
-drop_bytes : (bytes : List ℕ) (n : ℕ) → IsBytes bytes → IsBytes (drop n bytes)
+pub drop_bytes : (bytes : List ℕ) (n : ℕ) → IsBytes bytes → IsBytes (drop n bytes)
 drop_bytes bytes zero fits = fits
 drop_bytes [] (suc n) fits = λ i. omega arith
 drop_bytes (b ∷ bs) (suc n) fits = drop_bytes bs n (λ i. fits (suc i))

@@ -112,6 +112,7 @@ viewed bytes s sheets offsets names =
         is_1904 = s.cells.is_1904;
         classes = s.cells.classes;
       };
+      cells = s.cells;
       context = s.formulas;
       formulas = by_name [] sheets (map (formulas_at bytes) offsets);
     }

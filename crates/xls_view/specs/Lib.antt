@@ -5,3 +5,4 @@ pub mod Index
 pub mod Groups
 pub mod Contents
 pub mod Viewing
+pub mod Placing

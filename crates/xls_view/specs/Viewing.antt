@@ -4,6 +4,7 @@ use Rattle.std.specs.List.{AllZip}
 use Rattle.xls_model.specs.Listing.{Entry, Carries, Kept}
 use Rattle.xls_strings.specs.declared.error.XlsError.{XlsError}
 use Rattle.xls_strings.specs.declared.error.XlsError.TheVariants as errors
+use Rattle.xls_biff.specs.SheetTable.{CellContext}
 use Rattle.xls_formula.specs.Context.{Context}
 use Rattle.xls_reading.specs.InForce.{SheetRecords, sheets_of, context_of}
 use Rattle.xls_reading.specs.Reading.{BookView, SheetView, IsReading, kept_named, paired, last_named}
@@ -13,10 +14,11 @@ use Rattle.xls_open.specs.Workbook.{rules_of}
 use Rattle.xls_open.specs.declared.options.XlsOptions.{XlsOptions}
 use Rattle.xls_view.specs.Formulas.{Formula, AreLast, formulas_of}
 
--- what a workbook shows, what its formulas may name, and the formulas that each index shows, by their
--- tokens
+-- what a workbook shows, what is in force for its cells, what its formulas may name, and the formulas that
+-- each index shows, by their tokens
 pub record Viewed : Type 0 where
   pub book : BookView
+  pub cells : CellContext
   pub context : Context
   pub formulas : List (List Formula)
 

@@ -1,13 +1,16 @@
 //! The view of a stream.
 
-ghost use Rattle.std.specs.Prelude.{◌≡◌, ℕ, Err, IfErr, IfOk, List, map, slice_get};
+ghost use Rattle.std.specs.Prelude.{◌≡◌, ℕ, drop, Err, IfErr, IfOk, List, None, map, slice_get};
 ghost use Rattle.std.specs.Option.{option_map};
 ghost use Rattle.std.specs.Str.{chars};
 ghost use Rattle.xls_data.specs.Sheets.{sheet_content};
-ghost use Rattle.xls_open.specs.Workbook.{told_of};
+ghost use Rattle.xls_open.specs.Workbook.{rules_of, told_of};
+ghost use Rattle.xls_open.specs.Steps.{AreGlobals};
+ghost use Rattle.xls_reading.specs.GlobalsTable.{forced_fault};
 ghost use Rattle.xls_reading.specs.Reading.{SheetView, shown_of};
 ghost use Rattle.xls_view.specs.Viewing.{IsFault, IsViewed, ViewCause, formulas_named};
 ghost use Rattle.xls_view.specs.Walking.{Named};
+ghost use Rattle.xls_view.specs.Placing.{IsPartOf, force_of};
 ghost use Rattle.xls_view.specs.Formulas.{text_entry};
 ghost use Rattle.xls_strings.specs.declared.error.XlsError.{XlsError};
 ghost use Rattle.xls_data.specs.Sheets.{SheetContent};
@@ -15,7 +18,7 @@ ghost use Rattle.xls_open.specs.Steps.{listed_of};
 
 use crate::cells::SheetCells;
 use crate::formulas::SheetFormulas;
-use crate::index::index_of;
+use crate::index::{find_named, index_of};
 use crate::merges::Merges;
 use std::alloc::{AllocError, Global};
 use std::collections::BTreeMap;
@@ -109,8 +112,13 @@ fn view_of<'a>(
     alloc: Global,
     bytes: &'a [u8],
     globals: Globals,
-    functions: &FunctionTable,
-) -> Result<View<'a>, AllocError> {
+    options: &XlsOptions,
+) -> Result<View<'a>, AllocError>
+    requires sound { (e : XlsError) → IsFault options.now bytes.now e → ⊥ }
+    requires forced { forced_fault options.now.force_codepage ≡ None }
+    requires globals { AreGlobals (rules_of options.now) bytes.now globals }
+    ensures { IfOk result (λ view. IsViewed options.now bytes.entry.now view) }
+{
     let Globals {
         page,
         version,
@@ -124,7 +132,7 @@ fn view_of<'a>(
     } = globals;
     let classes = classes_of(alloc, &formats, &identifiers)?;
     let naming = naming_of(alloc, version, &listed, refs, names)?;
-    let functions = functions.try_copy()?;
+    let functions = options.functions.try_copy()?;
     let (sheets, offsets) = split_listed(alloc, listed)?;
     let index = index_of(alloc, &sheets)?;
     Ok(View {
@@ -143,6 +151,17 @@ fn view_of<'a>(
     })
 }
 
+/// The bytes from an offset on, and none past the end.
+fn part_at(bytes: &[u8], offset: usize) -> &[u8]
+    ensures { result.now ≡ drop offset bytes.now }
+{
+    if bytes.len() < offset {
+        return &[];
+    }
+    let (_, part) = bytes.split_at(offset);
+    part
+}
+
 impl<'a> View<'a> {
     /// The view of a stream's bytes, under the forced page, the bound of cells and the functions of the options.
     /// The first fault of the bytes is the one that `check_stream` answers; there is no limit of bytes.
@@ -155,7 +174,7 @@ impl<'a> View<'a> {
         check_stream(bytes, options.force_codepage, options.max_cells)?;
         let page = options.first_page()?;
         let globals = read_globals(alloc, bytes, page, options)?;
-        Ok(view_of(alloc, bytes, globals, &options.functions)?)
+        Ok(view_of(alloc, bytes, globals, options)?)
     }
 
     /// Name, kind and visibility of each sheet, in workbook order. Takes no memory.
@@ -187,7 +206,9 @@ impl<'a> View<'a> {
     }
 
     /// What the records of the sheets are read under.
-    fn force(&self) -> InForce<'_> {
+    fn force(&self) -> InForce<'_>
+        ensures { result ≡ force_of self.now }
+    {
         InForce {
             page: self.page,
             version: self.version,
@@ -202,10 +223,23 @@ impl<'a> View<'a> {
     }
 
     /// The bytes from the part of the last sheet of a name on.
-    fn part_named(&self, name: &str) -> Option<&'a [u8]> {
-        let place = self.index.get(name)?;
-        let offset = self.offsets.get(*place)?;
-        self.bytes.get(*offset..)
+    fn part_named(&self, name: &str) -> Option<&[u8]>
+        ensures { IsPartOf self.now (shown_of self.now.book (chars name.now)) (formulas_named self.now (chars name.now)) result }
+    {
+        match find_named(&self.sheets, &self.offsets, &self.index, name) {
+            Some(offset) => Some(part_at(self.bytes, *offset)),
+            None => None,
+        }
+    }
+
+    /// Likewise of the name that the sheet at an index has.
+    fn part_at(&self, n: usize) -> Option<&[u8]>
+        ensures { IsPartOf self.now (slice_get self.now.book.contents n) (slice_get self.now.formulas n) result }
+    {
+        match self.sheets.get(n) {
+            Some(sheet) => self.part_named(sheet.name.as_str()),
+            None => None,
+        }
     }
 
     /// The cells of the last sheet of a name. `None` exactly where no sheet has the name. Only running out
@@ -226,8 +260,8 @@ impl<'a> View<'a> {
         ensures { IfOk result (λ found. found
             ≡ option_map (λ (v : SheetView). v.cells) (slice_get self.now.book.contents n)) }
     {
-        match self.sheets.get(n) {
-            Some(sheet) => self.cells_named(sheet.name.as_str()),
+        match self.part_at(n) {
+            Some(part) => Ok(Some(SheetCells::new(self.alloc, self.force(), part)?)),
             None => Ok(None),
         }
     }
@@ -254,8 +288,8 @@ impl<'a> View<'a> {
         ensures texts { IfOk result (λ found. option_map (λ (f : Named). map (text_entry f.context) f.left) found
             ≡ option_map (λ (v : SheetView). v.formulas) (slice_get self.now.book.contents n)) }
     {
-        match self.sheets.get(n) {
-            Some(sheet) => self.formulas_named(sheet.name.as_str()),
+        match self.part_at(n) {
+            Some(part) => Ok(Some(SheetFormulas::new(self.alloc, self.force(), part)?)),
             None => Ok(None),
         }
     }
@@ -276,8 +310,8 @@ impl<'a> View<'a> {
     pub fn merges_at(&self, n: usize) -> Option<Merges<'_>>
         ensures { result ≡ option_map (λ (v : SheetView). v.merges) (slice_get self.now.book.contents n) }
     {
-        match self.sheets.get(n) {
-            Some(sheet) => self.merges_named(sheet.name.as_str()),
+        match self.part_at(n) {
+            Some(part) => Some(Merges::new(part)),
             None => None,
         }
     }
