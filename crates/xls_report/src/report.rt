@@ -388,8 +388,8 @@ fn put_report<K: Sink>(
 }
 
 /// Writes the dump: the date system, the defined names, and for each sheet in workbook order its line
-/// and those of its cells, of its formulas and of its merged regions. Takes the memory of one piece of
-/// text and of one cell or formula at a time.
+/// and those of its cells, of its formulas and of its merged regions. Beside what the view takes for a
+/// sheet, one piece of text is held, and the text of one cell or formula.
 pub fn write_report<K: Sink>(alloc: Global, sink: &mut K, view: &View<'_>) -> Result<(), Stop>
     ensures { Delivers (K.state sink.old) (K.state sink.new) (report view.now.book) result }
 {
