@@ -1,4 +1,5 @@
 pub mod TextLemmas
+pub mod NamedLemmas
 pub mod CheckLemmas
 pub mod EndingLemmas
 pub mod StandardFacts

@@ -7,7 +7,7 @@ use Rattle.xls_csv.specs.Walk.{Rows, walk}
 use Rattle.xls_csv.proofs.DenseLemmas.{rows_of_dense}
 use Rattle.xls_csv.proofs.WalkLemmas.{walks_dense}
 use Rattle.xls_lines.proofs.GatherLemmas.{delivers-stop, gathers-as, gathers-after, gathers-from, stops-as, stops-after, stops-from, wrote}
-use Rattle.xls_report.proofs.csv.write_values.Goals as goal
+use Rattle.xls_report.proofs.csv.write_cells.Goals as goal
 
 -- all rows of cells in order are their CSV
 all_rows : (rows : Rows) (cells : List Entry) → rows.left ≡ walk cells → IsAscending (map (λ (c : Entry). c.0) cells)
@@ -15,14 +15,14 @@ all_rows : (rows : Rows) (cells : List Entry) → rows.left ≡ walk cells → I
 all_rows rows cells e h = ap rows_csv (e ∙ walks_dense cells h ∙ sym (rows_of_dense cells))
 
 pub returns-in_err-put_rows : goal.returns-in_err-put_rows
-returns-in_err-put_rows g c =
-    delivers-stop c.from_residual.result c.from_residual.ensures.1 (stops-from c.new-buffer.ensures (stops-as c.in_err-put_rows.ensures (all_rows c.new.result c.args.values c.new.ensures.rows c.requires)))
+returns-in_err-put_rows g c = λ h.
+    delivers-stop c.from_residual.result c.from_residual.ensures.1 (stops-from c.new-buffer.ensures (stops-as c.in_err-put_rows.ensures (all_rows c.new.result c.args.cells c.new.ensures.rows h)))
 
 pub returns-in_err-finish : goal.returns-in_err-finish
-returns-in_err-finish g c =
+returns-in_err-finish g c = λ h.
     let a = c.from_residual-in_err-finish in
-    delivers-stop a.result a.ensures.1 (stops-after (gathers-from c.new-buffer.ensures (gathers-as c.in_ok-put_rows.ensures (all_rows c.new.result c.args.values c.new.ensures.rows c.requires))) c.in_err-finish.ensures.puts)
+    delivers-stop a.result a.ensures.1 (stops-after (gathers-from c.new-buffer.ensures (gathers-as c.in_ok-put_rows.ensures (all_rows c.new.result c.args.cells c.new.ensures.rows h))) c.in_err-finish.ensures.puts)
 
 pub returns : goal.returns
-returns g c =
-    wrote (gathers-after (gathers-from c.new-buffer.ensures (gathers-as c.in_ok-put_rows.ensures (all_rows c.new.result c.args.values c.new.ensures.rows c.requires))) c.in_ok-finish.ensures.puts) c.in_ok-finish.ensures.none
+returns g c = λ h.
+    wrote (gathers-after (gathers-from c.new-buffer.ensures (gathers-as c.in_ok-put_rows.ensures (all_rows c.new.result c.args.cells c.new.ensures.rows h))) c.in_ok-finish.ensures.puts) c.in_ok-finish.ensures.none
