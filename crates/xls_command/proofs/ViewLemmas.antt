@@ -1,17 +1,12 @@
 -- The workbook that bytes open to, by a view of them.
-use Rattle.std.proofs.Common.{◌≡◌, ℕ, ◌≤◌, List, [], ◌∷◌, length, refl, sym, subst, None, Result, Ok, Err}
+use Rattle.std.proofs.Common.{◌≡◌, ℕ, ◌≤◌, List, length, refl, subst, None, Result, Ok, Err}
 use Rattle.std.specs.Prelude.{IfOk, IfErr}
-use Rattle.std.specs.List.{AllByRecursion, AllZip}
 use Rattle.xls_strings.specs.declared.error.XlsError.{XlsError}
 use Rattle.xls_strings.specs.declared.error.XlsError.TheVariants as errors
-use Rattle.xls_reading.specs.InForce.{InForce, SheetRecords, in_force_of, sheets_of}
-use Rattle.xls_reading.specs.Reading.{BookView, SheetView, IsShown}
-use Rattle.xls_open.specs.Workbook.{IsOrdered}
 use Rattle.xls_open.specs.Checking.{FirstChecked}
-use Rattle.xls_open.specs.Opening.{default_options, default_rules}
+use Rattle.xls_open.specs.Opening.{default_options}
 use Rattle.xls_open.specs.declared.options.XlsOptions.{XlsOptions}
 use Rattle.xls_view.specs.Viewing.{IsViewed, ViewCause, Viewed}
-use Rattle.xls_report.specs.Texts.{AreOrdered}
 use Rattle.xls_report.proofs.CheckLemmas.{first_checked, none_checked}
 use Rattle.xls_command.specs.Endings.{IsViewRefusal, OpensTo}
 
@@ -56,19 +51,3 @@ pub refused : (options : XlsOptions) (bytes : List ℕ) (r : Result Viewed XlsEr
 refused options bytes (Ok view) same within cause = tt
 refused options bytes (Err e) same within cause =
     λ other. first_checked bytes e within (checked options bytes e same other cause)
-
--- what is shown stands in order
-all_ordered : (s : InForce) (all : List SheetRecords) (views : List SheetView) (sheets : List SheetRecords)
-    → AllZip (IsShown s all) views sheets → AllByRecursion IsOrdered views
-all_ordered s all [] [] h = tt
-all_ordered s all [] (q ∷ sheets) h = absurd h
-all_ordered s all (v ∷ views) [] h = absurd h
-all_ordered s all (v ∷ views) (q ∷ sheets) h =
-    ((h.0.ascending, h.0.formulas_ascending), all_ordered s all views sheets h.1)
-
-pub ordered : (bytes : List ℕ) (view : BookView) → OpensTo bytes view → AreOrdered view
-ordered bytes view opened =
-    let h = opened.1 in
-    let sheets = sheets_of default_rules h.entries in
-    subst AreOrdered opened.2
-    (all_ordered (in_force_of default_rules h.entries) sheets opened.0.contents sheets (h.every h.entries h.carries).contents)

@@ -1,6 +1,5 @@
 -- Which text a writer is to write, by the bytes or the workbook that it is of.
 use Rattle.std.specs.Prelude.{◌≡◌, ◌⊎◌, ℕ, String, List, Some, None}
-use Rattle.std.specs.List.{AllByRecursion}
 use Rattle.std.specs.Global.{Global}
 use Rattle.std.specs.Str.{chars}
 use Rattle.std.specs.BTreeMap.{IsOrdered}
@@ -10,7 +9,6 @@ use Rattle.xls_strings.specs.declared.error.XlsError.TheVariants.{WorksheetNotFo
 use Rattle.xls_props.specs.Properties.{IsProperties}
 use Rattle.xls_props.specs.declared.properties.WorkbookProperties.{WorkbookProperties}
 use Rattle.xls_reading.specs.Reading.{SheetView, BookView, shown_of}
-use Rattle.xls_open.specs.Workbook as workbook
 use Rattle.xls_csv.specs.Dense.{sheet_csv}
 use Rattle.xls_refs.specs.Cited.{BookCited}
 use Rattle.xls_refs.specs.Citing.{IsBookCited}
@@ -57,10 +55,6 @@ IsRemadeText bytes text = IsOfList IsWrittenOf bytes text
 -- the line of the first fault, or of a list whose canonical bytes are too many
 abbrev pub IsUnremadeLine : List ℕ → List ℕ → Type 0
 IsUnremadeLine bytes text = IsFirstLine bytes text ⊎ IsOfList IsUnwrittenOf bytes text
-
--- the cells of each sheet stand in order, and its formulas
-abbrev pub AreOrdered : BookView → Type 0
-AreOrdered book = AllByRecursion workbook.IsOrdered book.contents
 
 -- the CSV of the last sheet of this name in what a workbook shows
 abbrev pub IsCsvOf : List ℕ → BookView → List ℕ → Type 0

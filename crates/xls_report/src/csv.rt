@@ -7,7 +7,7 @@ ghost use Rattle.xls_csv.specs.Dense.{sheet_csv};
 ghost use Rattle.xls_csv.specs.Text.{rows_csv};
 ghost use Rattle.xls_lines.specs.Gathering.{Delivers, Puts};
 ghost use Rattle.xls_report.specs.Endings.{EndsWithEither};
-ghost use Rattle.xls_report.specs.Texts.{AreOrdered, IsCsvOf, IsMissingLine, IsMissingOf};
+ghost use Rattle.xls_report.specs.Texts.{IsCsvOf, IsMissingLine, IsMissingOf};
 
 use crate::ending::Ending;
 use crate::report::write_fault;
@@ -30,8 +30,8 @@ fn put_rows<K: Sink>(buffer: &mut Buffer, sink: &mut K, mut rows: CsvRows<'_>) -
 
 /// Writes the dense box of cells, which stand by row, then column, as CSV, row by row.
 fn write_cells<K: Sink>(alloc: Global, sink: &mut K, cells: Cells<'_>) -> Result<(), Stop>
-    ensures { IsAscending (map (λ (c : Entry). c.0) cells.entry)
-        → Delivers (K.state sink.old) (K.state sink.new) (sheet_csv cells.entry) result }
+    requires ordered { IsAscending (map (λ (c : Entry). c.0) cells) }
+    ensures { Delivers (K.state sink.old) (K.state sink.new) (sheet_csv cells.entry) result }
 {
     let mut buffer = Buffer::new(alloc);
     put_rows(&mut buffer, sink, CsvRows::new(alloc, cells))?;
@@ -48,16 +48,14 @@ fn write_missing<K: Sink>(alloc: Global, sink: &mut K, name: &str) -> Result<End
     Ok(Ending::Refused)
 }
 
-/// Writes the cells of the last sheet of a name as CSV, or that no sheet has the name. What `View::new`
-/// answers stands in order.
+/// Writes the cells of the last sheet of a name as CSV, or that no sheet has the name.
 pub fn write_csv<K: Sink>(
     alloc: Global,
     sink: &mut K,
     view: &View<'_>,
     name: &str,
 ) -> Result<Ending, Stop>
-    ensures { AreOrdered view.now.book
-        → EndsWithEither (IsCsvOf name.now view.now.book) (IsMissingOf name.now view.now.book)
+    ensures { EndsWithEither (IsCsvOf name.now view.now.book) (IsMissingOf name.now view.now.book)
         (K.state sink.old) (K.state sink.new) result }
 {
     match view.cells_named(name)? {

@@ -1,30 +1,37 @@
-use Rattle.std.proofs.Common.{Some, ap, inl, sym, ◌∙◌}
-use Rattle.std.specs.Str.{chars}
+use Rattle.std.proofs.Common.{Some, ap, inl, map, subst, sym, ◌∙◌}
+use Rattle.std.specs.Prelude.{IfSome}
+use Rattle.xls_biff.specs.Cells.{Entry}
+use Rattle.xls_cells.specs.Positions.{IsAscending}
 use Rattle.xls_report.specs.Texts.{IsCsvOf, IsMissingOf}
 use Rattle.xls_report.proofs.EndingLemmas.{either-as, either-memory, either-stopped}
-use Rattle.xls_report.proofs.NamedLemmas.{cells_shown, csv_of, no_view}
+use Rattle.xls_report.proofs.NamedLemmas.{csv_of, no_view}
 use Rattle.xls_report.proofs.csv.write_csv.Goals as goal
 
 pub returns-in_err-cells : goal.returns-in_err-cells
-returns-in_err-cells g c = λ ordered.
+returns-in_err-cells g c =
     let book = c.args.view.now.book in
     either-memory (IsCsvOf c.args.name.now book) (IsMissingOf c.args.name.now book) _ c.from_residual.result c.from_residual.ensures.1
 
+pub write_cells-requires : goal.write_cells-requires
+write_cells-requires g c = record {
+  ordered = subst (λ cells. IsAscending (map (λ (c : Entry). c.0) cells)) (sym c.iter.ensures)
+      (subst (λ found. IfSome found (λ cells. IsAscending (map (λ (c : Entry). c.0) cells))) c.in-Some.is c.in_ok-cells.ensures.ordered);
+}
+
 pub returns-in_err-write_cells-in-Some : goal.returns-in_err-write_cells-in-Some
-returns-in_err-write_cells-in-Some g c = λ ordered.
+returns-in_err-write_cells-in-Some g c =
     let a = c.from_residual-in_err-write_cells-in-Some in
     let book = c.args.view.now.book in
-    let shown = cells_shown book (chars c.args.name.now) ordered _ (ap Some c.iter.ensures ∙ sym c.in-Some.is ∙ c.in_ok-cells.ensures) in
-    either-stopped (IsCsvOf c.args.name.now book) (IsMissingOf c.args.name.now book) a.result a.ensures.1
-    (inl (csv_of c.args.name.now book _ shown)) (c.in_err-write_cells-in-Some.ensures shown.ascending)
+    let shown = csv_of c.args.name.now book _ (ap Some c.iter.ensures ∙ sym c.in-Some.is ∙ c.in_ok-cells.ensures.found) in
+    either-stopped (IsCsvOf c.args.name.now book) (IsMissingOf c.args.name.now book) a.result a.ensures.1 (inl shown) c.in_err-write_cells-in-Some.ensures
 
 pub returns-in_ok-write_cells-in-Some : goal.returns-in_ok-write_cells-in-Some
-returns-in_ok-write_cells-in-Some g c = λ ordered.
+returns-in_ok-write_cells-in-Some g c =
     let book = c.args.view.now.book in
-    let shown = cells_shown book (chars c.args.name.now) ordered _ (ap Some c.iter.ensures ∙ sym c.in-Some.is ∙ c.in_ok-cells.ensures) in
-    (_, csv_of c.args.name.now book _ shown, c.in_ok-write_cells-in-Some.ensures shown.ascending)
+    let shown = csv_of c.args.name.now book _ (ap Some c.iter.ensures ∙ sym c.in-Some.is ∙ c.in_ok-cells.ensures.found) in
+    (_, shown, c.in_ok-write_cells-in-Some.ensures)
 
 pub returns-in-None : goal.returns-in-None
-returns-in-None g c = λ ordered.
-    let none = no_view _ (sym c.in-None.is ∙ c.in_ok-cells.ensures) in
+returns-in-None g c =
+    let none = no_view _ (sym c.in-None.is ∙ c.in_ok-cells.ensures.found) in
     either-as _ _ c.write_missing.result (λ text no. absurd no) (λ text line. (none, line)) c.write_missing.ensures

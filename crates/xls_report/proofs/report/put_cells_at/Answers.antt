@@ -14,9 +14,9 @@ returns-in-Some g c =
     let state = g.K.Sink.state in
     puts-as (state c.args.sink.now) _ (state c.put_cells.new.sink) _ c.put_cells.result
     (ap (flat_map cell_line) c.iter.ensures
-    ∙ part_text (λ (v : SheetView). v.cells) (flat_map cell_line) cells_at refl (λ v. refl) _ _ (sym c.in-Some.is ∙ c.in_ok-cells.ensures)) c.put_cells.ensures
+    ∙ part_text (λ (v : SheetView). v.cells) (flat_map cell_line) cells_at refl (λ v. refl) _ _ (sym c.in-Some.is ∙ c.in_ok-cells.ensures.found)) c.put_cells.ensures
 
 pub returns-in-None : goal.returns-in-None
 returns-in-None g c =
     gathers-as (gathers-nothing _ _)
-    (part_text (λ (v : SheetView). v.cells) (flat_map cell_line) cells_at refl (λ v. refl) _ _ (sym c.in-None.is ∙ c.in_ok-cells.ensures))
+    (part_text (λ (v : SheetView). v.cells) (flat_map cell_line) cells_at refl (λ v. refl) _ _ (sym c.in-None.is ∙ c.in_ok-cells.ensures.found))
