@@ -1,4 +1,4 @@
-use Rattle.std.proofs.Common.{refl, sym, ◌∙◌}
+use Rattle.std.proofs.Common.{refl}
 use Rattle.std.specs.List.{flat_map}
 use Rattle.xls_reading.specs.Reading.{SheetView}
 use Rattle.xls_report.specs.Report.{merge_line, merges_at}
