@@ -1,7 +1,6 @@
 -- How each command ends, by what opening, reading and writing answer.
-use Rattle.std.proofs.Common.{◌≡◌, ℕ, ◌≤◌, List, [], ap, length, Option, Some, None, IfSome, Result, inl, inr, refl, sym, subst, arith}
+use Rattle.std.proofs.Common.{◌≡◌, ℕ, ◌≤◌, List, ap, length, Option, Some, None, IfSome, Result, inl, inr, refl, subst, arith}
 use Rattle.std.specs.Borrow.{Bor}
-use Rattle.std.specs.Result.{IsErrAnd}
 use Rattle.std.specs.Str.{chars}
 use Rattle.std.specs.Io.KnownBytes.{Consumes, IsAtEnd}
 use Rattle.std.proofs.KnownBytes.{Consumes-whole}
@@ -10,14 +9,13 @@ use Rattle.xls_strings.specs.declared.error.XlsError.TheVariants as errors
 use Rattle.xls_open.specs.Workbook.{Workbook, view_named}
 use Rattle.xls_open.proofs.SameLemmas.{same_list_same_book}
 use Rattle.xls_reading.specs.Faults.{IsSound}
-use Rattle.xls_open.specs.Opening.{OpenCause, IsOpened, default_options, default_rules}
+use Rattle.xls_open.specs.Opening.{IsOpened, default_options, default_rules}
 use Rattle.xls_source.specs.Bounded.{ReadCause}
 use Rattle.xls_lines.specs.SinkState.{SinkState, TakesEach}
-use Rattle.xls_lines.specs.Gathering.{Stops, Wrote}
-use Rattle.xls_report.specs.Report.{fault_line, report, sheet_report}
+use Rattle.xls_report.specs.Report.{fault_line}
 use Rattle.xls_command.specs.Summary.{summary_text}
-use Rattle.xls_command.specs.Outputs.{IsOutput, IsRefusal, MayWrite, IsOutputOf, property_limit, IsFaultLine, IsLengthLine, IsNameLine, EndsByRemaking, HasSheet, EndsByName, EndsWell, EndsBySoundness, EndsByLength}
-use Rattle.xls_report.specs.Texts.{IsPropertyText, IsSoundLine, IsFirstLine, IsRefsText, IsRemadeText, IsUnremadeLine, IsCsvOf, IsMissingOf}
+use Rattle.xls_command.specs.Outputs.{IsOutput, IsRefusal, MayWrite, property_limit, IsFaultLine, IsLengthLine, IsNameLine, EndsByRemaking, HasSheet, EndsByName, EndsWell, EndsBySoundness, EndsByLength}
+use Rattle.xls_report.specs.Texts.{IsPropertyText, IsSoundLine, IsFirstLine, IsRefsText, IsRemadeText, IsUnremadeLine}
 use Rattle.xls_report.specs.Endings.{IsFault, EndsWithError, EndsWithText, EndsWithEither}
 use Rattle.xls_command.specs.Endings.{Ends}
 use Rattle.xls_command.specs.declared.command.Command.{Command}
@@ -25,8 +23,7 @@ use Rattle.xls_command.specs.declared.command.Command.TheVariants.{Dump, Sheets,
 use Rattle.xls_report.specs.declared.ending.Ending.{Ending}
 use Rattle.xls_lines.specs.declared.stop.Stop.{Stop}
 use Rattle.xls_report.proofs.CheckLemmas.{too_large, none_checked}
-use Rattle.xls_command.proofs.EndingLemmas.{ends-text, ends-either, ends-error, steady-stopped, steady-wrote, steady-text, steady-either, steady-error}
-use Rattle.xls_report.proofs.EndingLemmas.{text-stopped}
+use Rattle.xls_command.proofs.EndingLemmas.{ends-text, ends-either, ends-error, steady-text, steady-either, steady-error}
 
 -- ---- the commands that read a workbook
 

@@ -1,4 +1,4 @@
-use Rattle.std.proofs.Common.{ap, inl, refl, sym, Some}
+use Rattle.std.proofs.Common.{ap, inl, sym, Some}
 use Rattle.xls_report.specs.Report.{report}
 use Rattle.xls_report.proofs.EndingLemmas.{either-as, either-stopped}
 use Rattle.xls_command.specs.Outputs.{IsOutput, IsRefusal}
