@@ -8,6 +8,7 @@ mod globals;
 mod lookups;
 mod parts;
 mod sources;
+mod views;
 
 // BOF of the globals and of a sheet in BIFF8, and EOF.
 const G: [u8; 8] = [0x09, 0x08, 4, 0, 0x00, 0x06, 0x05, 0x00];
@@ -116,18 +117,24 @@ fn joined(alloc: Global, parts: &[&[u8]]) -> Result<Vec<u8>, AllocError> {
     Ok(bytes)
 }
 
-fn opened(alloc: Global, opening: Opening, parts: &[&[u8]]) -> Result<Xls, XlsError> {
-    let mut source = SteadySource::new(joined(alloc, parts)?);
+fn options_of(alloc: Global, opening: Opening) -> Result<XlsOptions, AllocError> {
     let mut options = XlsOptions::defaults(alloc)?;
     match opening {
-        Opening::Plain => {}
         Opening::UpTo(max_bytes) => options.max_bytes = max_bytes,
         Opening::Forced(page) => options.force_codepage = Some(page),
         Opening::WithX => options.functions.push("X", 1)?,
-        Opening::ByTrait => return <Xls as Reader>::new(alloc, &mut source),
-        Opening::ByCall => return open_workbook_from_rs(alloc, &mut source),
+        Opening::Plain | Opening::ByTrait | Opening::ByCall => {}
     }
-    Xls::new_with_options(alloc, &mut source, options)
+    Ok(options)
+}
+
+fn opened(alloc: Global, opening: Opening, parts: &[&[u8]]) -> Result<Xls, XlsError> {
+    let mut source = SteadySource::new(joined(alloc, parts)?);
+    match opening {
+        Opening::ByTrait => <Xls as Reader>::new(alloc, &mut source),
+        Opening::ByCall => open_workbook_from_rs(alloc, &mut source),
+        _ => Xls::new_with_options(alloc, &mut source, options_of(alloc, opening)?),
+    }
 }
 
 // The values and the formulas of a sheet, as `row,column=` with a space after each.

@@ -4,10 +4,11 @@ use csv::{ByteRecord, Reader};
 use std::alloc::{AllocError, Global};
 use std::test::Fail;
 use xls_biff::XlsError;
-use xls_book::{Reader as _, SteadySource, StreamBytes, Xls};
+use xls_book::{Reader as _, SteadySource, StreamBytes, Xls, XlsOptions};
 use xls_csv::*;
 use xls_data::{Cell, Data, ExcelDateTime, ExcelDateTimeType, Number};
 use xls_range::Range;
+use xls_view::View;
 
 // BOF of the globals, BoundSheet8 of the sheet `A` at byte 25, EOF, and BOF of a sheet, in BIFF8.
 const HEAD: [u8; 33] = [
@@ -54,13 +55,17 @@ enum Value {
     Duration(Number),
 }
 
-fn opened(alloc: Global, parts: &[&[u8]]) -> Result<Xls, XlsError> {
+fn stream_of(alloc: Global, parts: &[&[u8]]) -> Result<Vec<u8>, AllocError> {
     let mut bytes = Vec::new(alloc);
     for part in parts {
         bytes.extend_from_slice(part)?;
     }
-    let mut source = SteadySource::new(bytes);
-    Xls::new(alloc, &mut source)
+    Ok(bytes)
+}
+
+fn view_of(alloc: Global, bytes: &[u8]) -> Result<View<'_>, XlsError> {
+    let options = XlsOptions::defaults(alloc)?;
+    View::new(alloc, bytes, &options)
 }
 
 fn data_of(alloc: Global, value: Value) -> Result<Data, AllocError> {
@@ -87,10 +92,10 @@ fn exported(alloc: Global, cells: &[((u32, u32), Value)]) -> Result<StreamBytes,
 }
 
 // The rows of the first sheet, joined.
-fn joined(alloc: Global, book: &Xls) -> Result<Vec<u8>, AllocError> {
+fn joined(alloc: Global, view: &View<'_>) -> Result<Vec<u8>, AllocError> {
     let mut bytes = Vec::new(alloc);
-    if let Some(values) = book.values_at(0) {
-        let mut rows = CsvRows::new(alloc, values);
+    if let Some(cells) = view.cells_at(0)? {
+        let mut rows = CsvRows::new(alloc, cells.iter());
         for _ in 0..100 {
             if !rows.next_row()? {
                 return Ok(bytes);
@@ -99,6 +104,13 @@ fn joined(alloc: Global, book: &Xls) -> Result<Vec<u8>, AllocError> {
         }
     }
     Ok(bytes)
+}
+
+// The range of the sheet `A`, exported.
+fn exported_of(alloc: Global, parts: &[&[u8]]) -> Result<StreamBytes, XlsError> {
+    let mut source = SteadySource::new(stream_of(alloc, parts)?);
+    let book = Xls::new(alloc, &mut source)?;
+    Ok(export_csv(alloc, &book.worksheet_range(alloc, "A")?)?)
 }
 
 fn is_row(row: &ByteRecord, wanted: &[&str]) -> bool {
@@ -213,7 +225,7 @@ fn shows_days_as_dates(rt: HostRuntime) -> Result<(), Fail> {
 
 // Streams, the CSV of their sheets, and the rows that are read of it: rows without a cell between others; no
 // cell; and a row of one empty field, which is two quotes, so that it is read back as a row.
-static SHEETS: [(&[&[u8]], &str, &[&[&str]]); 3] = [
+pub(crate) static SHEETS: [(&[&[u8]], &str, &[&[&str]]); 3] = [
     (
         &THREE,
         "1,,2\n,,\n,\"a,\"\"b\",\n",
@@ -228,9 +240,10 @@ static SHEETS: [(&[&[u8]], &str, &[&[&str]]); 3] = [
 ];
 
 // Whether the rows joined, and the range exported, are this text, and whether these rows are read of it.
-fn is_sheet(alloc: Global, book: &Xls, text: &str, rows: &[&[&str]]) -> Result<bool, Fail> {
-    let bytes = joined(alloc, book)?;
-    let exported = export_csv(alloc, &book.worksheet_range(alloc, "A")?)?;
+fn is_sheet(alloc: Global, parts: &[&[u8]], text: &str, rows: &[&[&str]]) -> Result<bool, Fail> {
+    let stream = stream_of(alloc, parts)?;
+    let bytes = joined(alloc, &view_of(alloc, &stream)?)?;
+    let exported = exported_of(alloc, parts)?;
     Ok(
         bytes.as_slice() == text.as_bytes()
             && exported.as_slice() == text.as_bytes()
@@ -241,8 +254,7 @@ fn is_sheet(alloc: Global, book: &Xls, text: &str, rows: &[&[&str]]) -> Result<b
 #[test]
 fn gives_rows_one_after_another(rt: HostRuntime) -> Result<(), Fail> {
     for (parts, text, rows) in SHEETS.iter() {
-        let book = opened(rt.alloc(), parts)?;
-        assert!(rt; is_sheet(rt.alloc(), &book, text, rows)?, "{text}");
+        assert!(rt; is_sheet(rt.alloc(), parts, text, rows)?, "{text}");
     }
     rows_of_sheet();
     dense_boxes();
@@ -256,10 +268,10 @@ fn is_long(rows: &mut CsvRows<'_>, len: usize, start: &[u8]) -> Result<bool, All
 }
 
 // Whether the first sheet has a row that begins with 1, and then one of blanks.
-fn has_two_long_rows(alloc: Global, book: &Xls) -> Result<bool, AllocError> {
-    match book.values_at(0) {
-        Some(values) => {
-            let mut rows = CsvRows::new(alloc, values);
+fn has_two_long_rows(alloc: Global, view: &View<'_>) -> Result<bool, AllocError> {
+    match view.cells_at(0)? {
+        Some(cells) => {
+            let mut rows = CsvRows::new(alloc, cells.iter());
             Ok(is_long(&mut rows, 65_537, b"1,,")? && is_long(&mut rows, 65_536, b",,,")?)
         }
         None => Ok(false),
@@ -269,8 +281,9 @@ fn has_two_long_rows(alloc: Global, book: &Xls) -> Result<bool, AllocError> {
 // The box has 2^32 cells, and a row 65,536 bytes.
 #[test]
 fn a_far_cell_takes_the_memory_of_a_row(rt: HostRuntime) -> Result<(), Fail> {
-    let book = opened(rt.alloc(), &FAR_PARTS)?;
-    assert!(rt; has_two_long_rows(rt.alloc(), &book)?);
+    let stream = stream_of(rt.alloc(), &FAR_PARTS)?;
+    let view = view_of(rt.alloc(), &stream)?;
+    assert!(rt; has_two_long_rows(rt.alloc(), &view)?);
     Ok(())
 }
 
@@ -289,13 +302,16 @@ fn gives(rows: &mut CsvRows<'_>, last: &str, wanted: &str) -> bool {
 #[test]
 fn a_refused_row_is_still_to_come(rt: HostRuntime) {
     let alloc = rt.alloc();
-    let Ok(book) = opened(alloc, &THREE_PARTS) else {
+    let Ok(stream) = stream_of(alloc, &THREE_PARTS) else {
         return;
     };
-    let Some(values) = book.values_at(0) else {
+    let Ok(view) = view_of(alloc, &stream) else {
         return;
     };
-    let mut rows = CsvRows::new(alloc, values);
+    let Ok(Some(cells)) = view.cells_at(0) else {
+        return;
+    };
+    let mut rows = CsvRows::new(alloc, cells.iter());
     let mut last = "";
     for wanted in ["1,,2\n", ",,\n", ",\"a,\"\"b\",\n"] {
         assert!(rt; gives(&mut rows, last, wanted));

@@ -1,34 +1,15 @@
 -- Steps of the look-ups, for the proofs.
-use Rattle.std.specs.Prelude.{◌≡◌, ℕ, suc, String, List, [], ◌∷◌, if◌then◌else◌, map, Option, Some, None}
-use Rattle.std.specs.Option.{option_map, option_or}
+use Rattle.std.specs.Prelude.{◌≡◌, ℕ, String, List, [], ◌∷◌, map, Option, Some, None}
 use Rattle.std.specs.String.{string_bytes}
-use Rattle.std.specs.Str.{bytes_eq, chars}
+use Rattle.std.specs.Str.{chars}
 use Rattle.std.specs.Global.{Global}
-use Rattle.std.specs.BTreeMap.{BTreeMap, get_by_text}
 use Rattle.std.specs.Borrow.{Bor}
-use Rattle.xls_model.specs.Listing.{entry_of}
-use Rattle.xls_data.specs.declared.sheets.Sheet.{Sheet}
 use Rattle.xls_data.specs.declared.values.Data.{Data}
 use Rattle.xls_cells.specs.Positions.{Position}
 use Rattle.xls_biff.specs.Cells.{Entry}
 use Rattle.xls_biff.specs.Cells as cells
 use Rattle.xls_reading.specs.SheetTable.{FormulaEntry, shown_formulas}
 use Rattle.xls_open.specs.Workbook.{formula_content}
-use Rattle.xls_open.specs.Steps.{after}
-
--- ---- the sheets
-
--- the place of the last of these sheets that has the name
-abbrev pub last_place : List Sheet → List ℕ → Option ℕ
-last_place [] name = None
-last_place (t ∷ ts) name =
-    option_or (option_map suc (last_place ts name)) (if bytes_eq (string_bytes t.name) name then Some 0 else None)
-
--- the map has for each name the place of its last sheet
-abbrev pub IsIndex : {Y : Type 0} → BTreeMap (String Y) ℕ → List Sheet → Type 0
-IsIndex m ts = (name : List ℕ) → get_by_text m name ≡ last_place ts name
-
--- ---- the workbook of a stream, its byte limit and the forced page apart
 
 -- a call of next with these cells left
 abbrev pub ValueSteps : List Entry → Option (ℕ × ℕ × Bor Data) → List Entry → Type 0

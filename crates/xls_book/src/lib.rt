@@ -3,14 +3,12 @@
 #![tactic(auto)]
 
 mod formulas;
-mod index;
 mod ranges;
 mod reader;
 mod values;
 mod xls;
 
 pub use formulas::Formulas;
-pub use index::index_of;
 pub use reader::{Reader, open_workbook_from_rs};
 pub use values::Values;
 pub use xls::{Metadata, Xls};
@@ -22,4 +20,8 @@ pub use xls_reading::{one_first_fault, regions_by_name, sound_where_full};
 pub use xls_source::{
     EndlessSource, MemorySource, ReadFault, Source, StdSource, SteadySource, StreamBytes, read_all,
     steady_count,
+};
+pub use xls_view::{
+    CellValue, Cells, FormulaCell, FormulaCells, Merges, SheetCell, SheetCells, SheetFormulas,
+    TextBuffer, View,
 };

@@ -8,7 +8,7 @@ ghost use Rattle.xls_data.specs.Data.{is_nothing};
 ghost use Rattle.xls_book.specs.LookUps.{AreWorksheets, IsBox, IsCut, IsRange, IsTextBox, Worksheet, is_empty_text};
 ghost use Rattle.xls_open.specs.Workbook.{IsOrdered};
 ghost use Rattle.xls_reading.specs.Reading.{last_named, paired};
-ghost use Rattle.xls_book.specs.Steps.{IsIndex};
+ghost use Rattle.xls_view.specs.Index.{IsIndex};
 
 use std::alloc::{AllocError, Global};
 use std::collections::BTreeMap;

@@ -18,7 +18,6 @@ ghost use Rattle.xls_open.specs.Steps.{IsReady, book_of};
 ghost use Rattle.xls_source.specs.Bounded.{AnswersAtEnd};
 
 use crate::formulas::Formulas;
-use crate::index::{find_named, index_of};
 use crate::ranges::list_worksheets;
 use crate::values::Values;
 use std::alloc::{AllocError, Global};
@@ -30,6 +29,7 @@ use xls_open::{Content, Opened, XlsOptions, open};
 use xls_props::{WorkbookProperties, workbook_properties_of};
 use xls_range::Range;
 use xls_source::{Source, StreamBytes};
+use xls_view::{find_named, index_of};
 
 /// What is told of a whole workbook.
 #[derive(Drop)]
@@ -61,7 +61,7 @@ impl Model for Xls {
     ghost use Rattle.std.specs.List.{AllByRecursion};
     ghost use Rattle.xls_reading.specs.Reading.{paired};
     ghost use Rattle.xls_open.specs.Steps.{shown};
-    ghost use Rattle.xls_book.specs.Steps.{IsIndex};
+    ghost use Rattle.xls_view.specs.Index.{IsIndex};
 
     ghost Value = { Workbook };
 

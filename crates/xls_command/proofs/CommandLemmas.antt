@@ -1,7 +1,6 @@
 -- How each command ends, by what opening, reading and writing answer.
-use Rattle.std.proofs.Common.{◌≡◌, ℕ, ◌≤◌, List, [], ap, length, Option, Some, None, IfSome, Result, inl, inr, refl, sym, subst, arith}
+use Rattle.std.proofs.Common.{◌≡◌, ℕ, ◌≤◌, List, ap, length, Option, Some, None, IfSome, Result, inl, inr, refl, subst, arith}
 use Rattle.std.specs.Borrow.{Bor}
-use Rattle.std.specs.Result.{IsErrAnd}
 use Rattle.std.specs.Str.{chars}
 use Rattle.std.specs.Io.KnownBytes.{Consumes, IsAtEnd}
 use Rattle.std.proofs.KnownBytes.{Consumes-whole}
@@ -10,14 +9,13 @@ use Rattle.xls_strings.specs.declared.error.XlsError.TheVariants as errors
 use Rattle.xls_open.specs.Workbook.{Workbook, view_named}
 use Rattle.xls_open.proofs.SameLemmas.{same_list_same_book}
 use Rattle.xls_reading.specs.Faults.{IsSound}
-use Rattle.xls_open.specs.Opening.{OpenCause, IsOpened, default_options, default_rules}
+use Rattle.xls_open.specs.Opening.{IsOpened, default_options, default_rules}
 use Rattle.xls_source.specs.Bounded.{ReadCause}
 use Rattle.xls_lines.specs.SinkState.{SinkState, TakesEach}
-use Rattle.xls_lines.specs.Gathering.{Stops, Wrote}
-use Rattle.xls_report.specs.Report.{fault_line, report, sheet_report}
+use Rattle.xls_report.specs.Report.{fault_line}
 use Rattle.xls_command.specs.Summary.{summary_text}
-use Rattle.xls_command.specs.Outputs.{IsOutput, IsRefusal, MayWrite, IsOutputOf, property_limit, IsFaultLine, IsLengthLine, IsNameLine, EndsByRemaking, HasSheet, EndsByName, EndsWell, EndsBySoundness, EndsByLength}
-use Rattle.xls_report.specs.Texts.{IsPropertyText, IsSoundLine, IsFirstLine, IsRefsText, IsRemadeText, IsUnremadeLine, IsCsvOf, IsMissingOf}
+use Rattle.xls_command.specs.Outputs.{IsOutput, IsRefusal, MayWrite, property_limit, IsFaultLine, IsLengthLine, IsNameLine, EndsByRemaking, HasSheet, EndsByName, EndsWell, EndsBySoundness, EndsByLength}
+use Rattle.xls_report.specs.Texts.{IsPropertyText, IsSoundLine, IsFirstLine, IsRefsText, IsRemadeText, IsUnremadeLine}
 use Rattle.xls_report.specs.Endings.{IsFault, EndsWithError, EndsWithText, EndsWithEither}
 use Rattle.xls_command.specs.Endings.{Ends}
 use Rattle.xls_command.specs.declared.command.Command.{Command}
@@ -25,8 +23,7 @@ use Rattle.xls_command.specs.declared.command.Command.TheVariants.{Dump, Sheets,
 use Rattle.xls_report.specs.declared.ending.Ending.{Ending}
 use Rattle.xls_lines.specs.declared.stop.Stop.{Stop}
 use Rattle.xls_report.proofs.CheckLemmas.{too_large, none_checked}
-use Rattle.xls_command.proofs.EndingLemmas.{ends-text, ends-either, ends-error, steady-stopped, steady-wrote, steady-text, steady-either, steady-error}
-use Rattle.xls_report.proofs.EndingLemmas.{text-stopped}
+use Rattle.xls_command.proofs.EndingLemmas.{ends-text, ends-either, ends-error, steady-text, steady-either, steady-error}
 
 -- ---- the commands that read a workbook
 
@@ -36,93 +33,13 @@ pub record Refuses (c : Command) : Type 0 where
   pub refused : (left : Option (List ℕ)) → EndsBySoundness left 1 → EndsWell c left 1
   pub given_up : (left : Option (List ℕ)) → EndsWell c left 5
 
--- a command that opens the source, and writes this of the workbook
-pub record IsOpening (c : Command) (text_of : Workbook → List ℕ) : Type 0 where
-  pub refuses : Refuses c
-  pub output : (left : Option (List ℕ)) (text : List ℕ) → IsOutputOf text_of left text → IsOutput c left text
-  pub done : (left : Option (List ℕ)) → EndsBySoundness left 0 → EndsWell c left 0
-
--- a text of a workbook that is the reading
-outputs : (text_of : Workbook → List ℕ) (left : Option (List ℕ)) (book : Workbook)
-    → IfSome left (IsOpened default_options book) → IsOutputOf text_of left (text_of book)
-outputs text_of None book h = tt
-outputs text_of (Some bytes) book h = (book, h, refl)
-
--- the line of an error that is the first fault
-refuses : (left : Option (List ℕ)) (f f' : ℕ) (e : XlsError)
-    → OpenCause default_options left f f' e → IsFault e → IsFaultLine left (fault_line e)
-refuses None f f' e cause fault = tt
-refuses (Some bytes) f f' errors.Io cause fault = absurd (fault.0 refl)
-refuses (Some bytes) f f' errors.Memory cause fault = absurd (fault.1 refl)
-refuses (Some bytes) f f' e cause fault = (e, cause, refl)
-
 -- output and refusal are what the bytes call for
-well_done : (left : Option (List ℕ)) (book : Workbook) → IfSome left (IsOpened default_options book)
-    → EndsBySoundness left 0
-well_done None book h = (inl refl, λ e. absurd (omega arith), λ _. tt)
-well_done (Some bytes) book h = (inl refl, λ e. absurd (omega arith), λ _. h.sound)
-
 well_refused : (left : Option (List ℕ)) (text : List ℕ) → IsFaultLine left text → EndsBySoundness left 1
 well_refused None text h = (inr (inl refl), λ _. tt, λ e. absurd (omega arith))
 well_refused (Some bytes) text h = (inr (inl refl), λ _. λ sound. sound h.0 h.1, λ e. absurd (omega arith))
 
 well_given_up : (left : Option (List ℕ)) → EndsBySoundness left 5
 well_given_up left = (inr (inr refl), λ e. absurd (omega arith), λ e. absurd (omega arith))
-
-pub dump_opens : IsOpening Dump report
-dump_opens = record {
-  refuses = record { line = λ left text h. h; refused = λ left h. h; given_up = well_given_up };
-  output = λ left text h. h;
-  done = λ left h. h;
-}
-
-pub sheets_opens : IsOpening Sheets sheet_report
-sheets_opens = record {
-  refuses = record { line = λ left text h. h; refused = λ left h. h; given_up = well_given_up };
-  output = λ left text h. h;
-  done = λ left h. h;
-}
-
--- such a command, where the writing was given up
-pub opened-stopped : {c : Command} {text_of : Workbook → List ℕ} → IsOpening c text_of
-    → (left : Option (List ℕ)) (book : Workbook) {before after : SinkState} {e : Stop} (r : Result Ending Stop)
-    → IfSome left (IsOpened default_options book) → IsErrAnd r (λ d. d ≡ e) → Stops before [] after (text_of book) e
-    → Ends c left before after r
-opened-stopped {c} {text_of} opens left book {before} {after} r h is p =
-    ends-text c left before after r (opens.done left (well_done left book h)) (opens.refuses.given_up left)
-    (λ text same. subst (IsOutput c left) (sym same) (opens.output left (text_of book) (outputs text_of left book h)))
-    (text-stopped (λ text. text ≡ text_of book) r is refl p)
-
-pub opened-steady : {c : Command} {text_of : Workbook → List ℕ} → IsOpening c text_of
-    → (left : Option (List ℕ)) (book : Workbook) {before after : SinkState} {e : Stop}
-    → IfSome left (IsOpened default_options book) → Stops before [] after (text_of book) e
-    → TakesEach before (MayWrite c left) → after.faults ≡ before.faults
-opened-steady {c} {text_of} opens left book h =
-    steady-stopped c left (inl (opens.output left (text_of book) (outputs text_of left book h)))
-
-pub written-steady : {c : Command} {text_of : Workbook → List ℕ} → IsOpening c text_of
-    → (left : Option (List ℕ)) (book : Workbook) {before after : SinkState}
-    → IfSome left (IsOpened default_options book) → Wrote before after (text_of book)
-    → TakesEach before (MayWrite c left) → after.faults ≡ before.faults
-written-steady {c} {text_of} opens left book h =
-    steady-wrote c left (inl (opens.output left (text_of book) (outputs text_of left book h)))
-
--- and where the source isn't opened
-pub not_opened : {c : Command} → Refuses c
-    → (left : Option (List ℕ)) (f f' : ℕ) (before after : SinkState) (r : Result Ending Stop) (e : XlsError)
-    → OpenCause default_options left f f' e → EndsWithError e before after r → Ends c left before after r
-not_opened {c} command left f f' before after r e cause =
-    let line = refuses left f f' e cause in
-    ends-error c left before after r e (command.given_up left)
-    (λ fault. command.refused left (well_refused left (fault_line e) (line fault)))
-    (λ fault. command.line left (fault_line e) (line fault))
-
-pub not_opened-steady : {c : Command} → Refuses c
-    → (left : Option (List ℕ)) (f f' : ℕ) (before after : SinkState) (r : Result Ending Stop) (e : XlsError)
-    → OpenCause default_options left f f' e → EndsWithError e before after r
-    → TakesEach before (MayWrite c left) → after.faults ≡ before.faults
-not_opened-steady {c} command left f f' before after r e cause =
-    steady-error c left before after r e (λ fault. command.line left (fault_line e) (refuses left f f' e cause fault))
 
 -- ---- a sheet of a name
 
@@ -134,23 +51,19 @@ no_sheet name bytes book opened none (other, opened', some) =
     some (subst (λ (b : Workbook). view_named b (chars name) ≡ None) same none)
 
 -- what is written of the workbook that the bytes open to
-csv_done : (name : Bor (List ℕ)) (left : Option (List ℕ)) (book : Workbook) (text : List ℕ)
-    → IfSome left (IsOpened default_options book) → IsCsvOf name.now book text
-    → EndsByName name.now left 0 × IsOutput (Csv name) left text
-csv_done name None book text h is = ((inl refl, λ e. absurd (omega arith), λ _. tt), tt)
-csv_done name (Some bytes) book text h is = (
-  (inl refl, λ e. absurd (omega arith), λ _. (book, h, λ none. let found = is.1 in cc)),
-  (book, h, is),
-)
+csv_done : (name : Bor (List ℕ)) (left : Option (List ℕ)) (text : List ℕ) → IsOutput (Csv name) left text
+    → EndsByName name.now left 0
+csv_done name None text h = (inl refl, λ e. absurd (omega arith), λ _. tt)
+csv_done name (Some bytes) text h =
+    (inl refl, λ e. absurd (omega arith), λ _. (h.0, h.1, λ none. let found = h.2.1 in cc))
 
-csv_refused : (name : Bor (List ℕ)) (left : Option (List ℕ)) (book : Workbook) (text : List ℕ)
-    → IfSome left (IsOpened default_options book) → IsMissingOf name.now book text
-    → EndsByName name.now left 1 × IsRefusal (Csv name) left text
-csv_refused name None book text h is = ((inr (inl refl), λ _. tt, λ e. absurd (omega arith)), tt)
-csv_refused name (Some bytes) book text h is = (
-  (inr (inl refl), λ _. no_sheet name.now bytes book h is.0, λ e. absurd (omega arith)),
-  inr (book, h, is),
-)
+csv_refused : (name : Bor (List ℕ)) (left : Option (List ℕ)) (text : List ℕ) → IsRefusal (Csv name) left text
+    → EndsByName name.now left 1
+csv_refused name None text h = (inr (inl refl), λ _. tt, λ e. absurd (omega arith))
+csv_refused name (Some bytes) text (inl first) =
+    (inr (inl refl), λ _. λ has. has.1.sound first.0 first.1, λ e. absurd (omega arith))
+csv_refused name (Some bytes) text (inr missing) =
+    (inr (inl refl), λ _. no_sheet name.now bytes missing.0 missing.1 missing.2.0, λ e. absurd (omega arith))
 
 name_given_up : (name : List ℕ) (left : Option (List ℕ)) → EndsByName name left 5
 name_given_up name left = (inr (inr refl), λ e. absurd (omega arith), λ e. absurd (omega arith))
@@ -169,20 +82,23 @@ pub csv_refuses : (name : Bor (List ℕ)) → Refuses (Csv name)
 csv_refuses name =
     record { line = name_line name.now; refused = name_refused name.now; given_up = name_given_up name.now }
 
-pub opened_named : (name : Bor (List ℕ)) (left : Option (List ℕ)) (book : Workbook) (before after : SinkState) (r : Result Ending Stop)
-    → IfSome left (IsOpened default_options book)
-    → EndsWithEither (IsCsvOf name.now book) (IsMissingOf name.now book) before after r → Ends (Csv name) left before after r
-opened_named name left book before after r h =
+pub all_named : (name : Bor (List ℕ)) (left left' : Option (List ℕ)) (before after : SinkState) (r : Result Ending Stop) (bytes : List ℕ)
+    → Consumes left left' bytes → IsAtEnd left'
+    → EndsWithEither (IsOutput (Csv name) (Some bytes)) (IsRefusal (Csv name) (Some bytes)) before after r
+    → Ends (Csv name) left before after r
+all_named name left left' before after r bytes all end =
     ends-either (Csv name) left before after r (name_given_up name.now left)
-    (λ text. csv_done name left book text h) (λ text. csv_refused name left book text h)
+    (λ text is. let o = Consumes-whole left left' bytes (λ b. IsOutput (Csv name) (Some b) text) all end is in (csv_done name left text o, o))
+    (λ text is. let l = Consumes-whole left left' bytes (λ b. IsRefusal (Csv name) (Some b) text) all end is in (csv_refused name left text l, l))
 
-pub opened_named-steady : (name : Bor (List ℕ)) (left : Option (List ℕ)) (book : Workbook) (before after : SinkState) (r : Result Ending Stop)
-    → IfSome left (IsOpened default_options book)
-    → EndsWithEither (IsCsvOf name.now book) (IsMissingOf name.now book) before after r
+pub all_named-steady : (name : Bor (List ℕ)) (left left' : Option (List ℕ)) (before after : SinkState) (r : Result Ending Stop) (bytes : List ℕ)
+    → Consumes left left' bytes → IsAtEnd left'
+    → EndsWithEither (IsOutput (Csv name) (Some bytes)) (IsRefusal (Csv name) (Some bytes)) before after r
     → TakesEach before (MayWrite (Csv name) left) → after.faults ≡ before.faults
-opened_named-steady name left book before after r h =
+all_named-steady name left left' before after r bytes all end =
     steady-either (Csv name) left before after r
-    (λ text is. (csv_done name left book text h is).1) (λ text is. (csv_refused name left book text h is).1)
+    (λ text. Consumes-whole left left' bytes (λ b. IsOutput (Csv name) (Some b) text) all end)
+    (λ text. Consumes-whole left left' bytes (λ b. IsRefusal (Csv name) (Some b) text) all end)
 
 -- ---- properties
 
@@ -306,6 +222,24 @@ check_checks = record {
   refuses = record { line = λ left text h. h; refused = λ left h. h; given_up = well_given_up };
   sound = λ bytes text le is. is.0;
   output = λ left left' bytes text all end is. (Consumes-whole left left' bytes (IsSound default_rules) all end is.0, is.1);
+  done = λ left h. h;
+}
+
+-- the dump of their workbook
+pub dump_checks : IsChecking Dump (λ bytes. IsOutput Dump (Some bytes))
+dump_checks = record {
+  refuses = record { line = λ left text h. h; refused = λ left h. h; given_up = well_given_up };
+  sound = λ bytes text le is. is.1.sound;
+  output = λ left left' bytes text all end is. Consumes-whole left left' bytes (λ b. IsOutput Dump (Some b) text) all end is;
+  done = λ left h. h;
+}
+
+-- the lines of its sheets alone
+pub sheets_checks : IsChecking Sheets (λ bytes. IsOutput Sheets (Some bytes))
+sheets_checks = record {
+  refuses = record { line = λ left text h. h; refused = λ left h. h; given_up = well_given_up };
+  sound = λ bytes text le is. is.1.sound;
+  output = λ left left' bytes text all end is. Consumes-whole left left' bytes (λ b. IsOutput Sheets (Some b) text) all end is;
   done = λ left h. h;
 }
 

@@ -1,5 +1,6 @@
 pub mod EndingLemmas
 pub mod CommandLemmas
+pub mod ViewLemmas
 pub mod StandardFacts
 pub mod RowsLemmas
 pub mod CountLemmas

@@ -1,6 +1,12 @@
 -- How a command ends.
-use Rattle.std.specs.Prelude.{◌≡◌, ℕ, List, Option, Result, Ok, Err}
+use Rattle.std.specs.Prelude.{◌≡◌, ◌≢◌, ℕ, List, Option, Result, Ok, Err}
 use Rattle.std.specs.Io.KnownBytes.{Keeps}
+use Rattle.xls_strings.specs.declared.error.XlsError.{XlsError}
+use Rattle.xls_strings.specs.declared.error.XlsError.TheVariants as errors
+use Rattle.xls_reading.specs.Reading.{BookView}
+use Rattle.xls_reading.specs.Faults.{FirstFault}
+use Rattle.xls_open.specs.Workbook.{Workbook, view_of}
+use Rattle.xls_open.specs.Opening.{IsOpened, default_options, default_rules}
 use Rattle.xls_source.specs.Causes.{Rose}
 use Rattle.xls_lines.specs.SinkState.{SinkState}
 use Rattle.xls_lines.specs.Written.{Writes, WritesPart}
@@ -34,3 +40,13 @@ Ends c left before after (Err Write) =
     Rose before.faults after.faults × WritesPart (MayWrite c left) before.written after.written
 Ends c left before after (Err Memory) =
     EndsWell c left 5 × WritesPart (MayWrite c left) before.written after.written
+
+-- ---- a view of the bytes that were read
+
+-- the workbook that the bytes open to shows this
+abbrev pub OpensTo : List ℕ → BookView → Type 0
+OpensTo bytes view = (book : Workbook) × IsOpened default_options book bytes × (view_of book ≡ view)
+
+-- why the bytes have no view: out of memory, or else their first fault
+abbrev pub IsViewRefusal : List ℕ → XlsError → Type 0
+IsViewRefusal bytes e = (e ≢ errors.Memory) → FirstFault default_rules bytes e

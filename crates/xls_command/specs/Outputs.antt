@@ -3,7 +3,8 @@ use Rattle.std.specs.Prelude.{◌≡◌, ◌≢◌, ◌⊎◌, ℕ, ◌<◌, ◌
 use Rattle.std.specs.Str.{chars}
 use Rattle.std.specs.Io.KnownBytes.{IsAtEnd}
 use Rattle.xls_strings.specs.declared.error.XlsError.TheVariants.{TooLarge}
-use Rattle.xls_open.specs.Workbook.{Workbook, view_named}
+use Rattle.xls_open.specs.Workbook.{Workbook, view_named, view_of}
+use Rattle.xls_reading.specs.Reading.{BookView}
 use Rattle.xls_model.specs.Listing.{Entry, Carries}
 use Rattle.xls_lay.specs.Writing.{canonical_bytes}
 use Rattle.xls_report.specs.Texts.{IsPropertyText, IsFirstLine, IsRefsText, IsRemadeText, IsUnremadeLine, IsCsvOf, IsMissingOf}
@@ -14,19 +15,20 @@ use Rattle.xls_command.specs.Summary.{summary_text}
 use Rattle.xls_command.specs.declared.command.Command.{Command}
 use Rattle.xls_command.specs.declared.command.Command.TheVariants.{Dump, Sheets, Props, Check, Refs, Remake, Csv, Generate}
 
--- a text of the workbook that the bytes open to
-abbrev pub IsOutputOf : (Workbook → List ℕ) → Option (List ℕ) → List ℕ → Type 0
+-- a text of what the workbook shows that the bytes open to
+abbrev pub IsOutputOf : (BookView → List ℕ) → Option (List ℕ) → List ℕ → Type 0
 IsOutputOf text_of left text =
     IfSome left (λ bytes. (book : Workbook) × IsOpened default_options book bytes
-    × (text ≡ text_of book))
+    × (text ≡ text_of (view_of book)))
 
 -- how many bytes a property stream may have
 abbrev pub property_limit : ℕ
 property_limit = 268_435_456
 
--- either of the workbook that the bytes open to
-abbrev pub IsOfBook : (Workbook → List ℕ → Type 0) → List ℕ → List ℕ → Type 0
-IsOfBook IsOf bytes text = (book : Workbook) × IsOpened default_options book bytes × IsOf book text
+-- either of what the workbook shows that the bytes open to
+abbrev pub IsOfBook : (BookView → List ℕ → Type 0) → List ℕ → List ℕ → Type 0
+IsOfBook IsOf bytes text =
+    (book : Workbook) × IsOpened default_options book bytes × IsOf (view_of book) text
 
 -- the text of a command that is done
 abbrev pub IsOutput : Command → Option (List ℕ) → List ℕ → Type 0

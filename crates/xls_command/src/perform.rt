@@ -1,11 +1,11 @@
 //! What each command does.
 
-ghost use Rattle.std.specs.Prelude.{◌≡◌, ◌≤◌, length};
+ghost use Rattle.std.specs.Prelude.{◌≡◌, ◌≤◌, length, IfErr, IfOk, Some};
 ghost use Rattle.xls_open.specs.Opening.{default_options};
-ghost use Rattle.xls_command.specs.Endings.{Ends, Reads};
+ghost use Rattle.xls_command.specs.Endings.{Ends, IsViewRefusal, OpensTo, Reads};
 ghost use Rattle.xls_report.specs.Endings.{EndsWithEither, EndsWithError, EndsWithText};
 ghost use Rattle.xls_report.specs.Texts.{IsFirstLine, IsPropertyText, IsSoundLine};
-ghost use Rattle.xls_command.specs.Outputs.{MayWrite, ReadsNothing};
+ghost use Rattle.xls_command.specs.Outputs.{IsOutput, IsRefusal, MayWrite, ReadsNothing};
 ghost use Rattle.xls_lines.specs.SinkState.{TakesEach};
 ghost use Rattle.xls_command.specs.Summary.{summary_text};
 ghost use Rattle.xls_command.specs.Words.{IsPossible, max_rows};
@@ -15,13 +15,14 @@ use crate::command::Command;
 use crate::summary::{summary_of, write_summary};
 use std::alloc::Global;
 use xls_biff::XlsError;
-use xls_book::{Reader, Source, Xls, check_stream, read_all};
+use xls_book::{Source, XlsOptions, check_stream, read_all};
 use xls_lines::{Sink, Stop};
 use xls_props::workbook_properties_of;
 use xls_report::{
-    Ending, write_csv, write_fault, write_properties, write_refs, write_remake, write_report,
-    write_sheets, write_sound,
+    Ending, write_csv, write_fault, write_properties, write_refs, write_refusal, write_remake,
+    write_report, write_sheets, write_sound,
 };
+use xls_view::View;
 
 /// How many bytes are read, at most.
 const MAX_BYTES: u64 = 268_435_456;
@@ -43,7 +44,32 @@ fn refuse<K: Sink>(alloc: Global, sink: &mut K, error: &XlsError) -> Result<Endi
     }
 }
 
-/// Opens the source with the options by default, and writes the dump.
+/// The view of bytes under the options by default.
+fn view_of<'a>(alloc: Global, bytes: &'a [u8]) -> Result<View<'a>, XlsError>
+    requires within { length bytes.now ≤ default_options.max_bytes }
+    ensures opened { IfOk result (λ view. OpensTo bytes.now view.book) }
+    ensures fault { IfErr result (IsViewRefusal bytes.now) }
+{
+    let options = XlsOptions::defaults(alloc)?;
+    View::new(alloc, bytes, &options)
+}
+
+/// Writes the dump of the bytes' workbook, or the first fault of the bytes.
+fn write_dump<K: Sink>(alloc: Global, sink: &mut K, bytes: &[u8]) -> Result<Ending, Stop>
+    requires within { length bytes.now ≤ default_options.max_bytes }
+    ensures { EndsWithEither (IsOutput Dump (Some bytes.now)) (IsRefusal Dump (Some bytes.now))
+        (K.state sink.old) (K.state sink.new) result }
+{
+    match view_of(alloc, bytes) {
+        Ok(view) => {
+            write_report(alloc, sink, &view)?;
+            Ok(Ending::Done)
+        }
+        Err(error) => write_refusal(alloc, sink, &error),
+    }
+}
+
+/// Reads the source, and writes the dump of its workbook.
 fn dump<S: Source, K: Sink>(alloc: Global, source: &mut S, sink: &mut K) -> Result<Ending, Stop>
     ensures reads { Reads Dump (S.left source.old) (S.left source.new)
         (S.faults source.old) (S.faults source.new) result }
@@ -51,16 +77,28 @@ fn dump<S: Source, K: Sink>(alloc: Global, source: &mut S, sink: &mut K) -> Resu
     ensures steady { TakesEach (K.state sink.old) (MayWrite Dump (S.left source.old))
         → (K.state sink.new).faults ≡ (K.state sink.old).faults }
 {
-    match Xls::new(alloc, source) {
-        Ok(book) => {
-            write_report(alloc, sink, &book)?;
-            Ok(Ending::Done)
-        }
+    match read_all(alloc, source, MAX_BYTES) {
+        Ok(bytes) => write_dump(alloc, sink, bytes.as_slice()),
         Err(error) => refuse(alloc, sink, &error),
     }
 }
 
-/// Opens the source likewise, and writes the lines of the sheets alone.
+/// Writes the lines of the sheets of the bytes' workbook alone, or the first fault of the bytes.
+fn write_sheet_lines<K: Sink>(alloc: Global, sink: &mut K, bytes: &[u8]) -> Result<Ending, Stop>
+    requires within { length bytes.now ≤ default_options.max_bytes }
+    ensures { EndsWithEither (IsOutput Sheets (Some bytes.now)) (IsRefusal Sheets (Some bytes.now))
+        (K.state sink.old) (K.state sink.new) result }
+{
+    match view_of(alloc, bytes) {
+        Ok(view) => {
+            write_sheets(alloc, sink, &view)?;
+            Ok(Ending::Done)
+        }
+        Err(error) => write_refusal(alloc, sink, &error),
+    }
+}
+
+/// Reads the source, and writes the lines of the sheets of its workbook alone.
 fn sheets<S: Source, K: Sink>(alloc: Global, source: &mut S, sink: &mut K) -> Result<Ending, Stop>
     ensures reads { Reads Sheets (S.left source.old) (S.left source.new)
         (S.faults source.old) (S.faults source.new) result }
@@ -68,11 +106,8 @@ fn sheets<S: Source, K: Sink>(alloc: Global, source: &mut S, sink: &mut K) -> Re
     ensures steady { TakesEach (K.state sink.old) (MayWrite Sheets (S.left source.old))
         → (K.state sink.new).faults ≡ (K.state sink.old).faults }
 {
-    match Xls::new(alloc, source) {
-        Ok(book) => {
-            write_sheets(alloc, sink, &book)?;
-            Ok(Ending::Done)
-        }
+    match read_all(alloc, source, MAX_BYTES) {
+        Ok(bytes) => write_sheet_lines(alloc, sink, bytes.as_slice()),
         Err(error) => refuse(alloc, sink, &error),
     }
 }
@@ -161,7 +196,25 @@ fn remake<S: Source, K: Sink>(alloc: Global, source: &mut S, sink: &mut K) -> Re
     }
 }
 
-/// Opens the source with the options by default, and writes the values of the last sheet of a name as CSV.
+/// Writes the cells of the last sheet of a name in the bytes' workbook as CSV, or that no sheet has the name, or
+/// the first fault of the bytes.
+fn write_named<K: Sink>(
+    alloc: Global,
+    sink: &mut K,
+    bytes: &[u8],
+    name: &str,
+) -> Result<Ending, Stop>
+    requires within { length bytes.now ≤ default_options.max_bytes }
+    ensures { EndsWithEither (IsOutput (Csv name.entry) (Some bytes.now)) (IsRefusal (Csv name.entry) (Some bytes.now))
+        (K.state sink.old) (K.state sink.new) result }
+{
+    match view_of(alloc, bytes) {
+        Ok(view) => write_csv(alloc, sink, &view, name),
+        Err(error) => write_refusal(alloc, sink, &error),
+    }
+}
+
+/// Reads the source, and writes the cells of the last sheet of a name in its workbook as CSV.
 fn csv<S: Source, K: Sink>(
     alloc: Global,
     name: &str,
@@ -174,8 +227,8 @@ fn csv<S: Source, K: Sink>(
     ensures steady { TakesEach (K.state sink.old) (MayWrite (Csv name.entry) (S.left source.old))
         → (K.state sink.new).faults ≡ (K.state sink.old).faults }
 {
-    match Xls::new(alloc, source) {
-        Ok(book) => write_csv(alloc, sink, &book, name),
+    match read_all(alloc, source, MAX_BYTES) {
+        Ok(bytes) => write_named(alloc, sink, bytes.as_slice(), name),
         Err(error) => refuse(alloc, sink, &error),
     }
 }

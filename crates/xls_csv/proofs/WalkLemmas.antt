@@ -164,6 +164,12 @@ rows_are all left width (suc n) row rest h =
     } in
     rw (one.0, rows_are all left width n (row + 1) (left_along row left width rest) next) refl
 
+-- the first of so many rows, and those after it
+pub rows_next : (n others row left width : ℕ) (cells : List Entry) → n ≡ suc others
+    → rows_along n row left width cells
+    ≡ row_along row left width cells ∷ rows_along others (row + 1) left width (left_along row left width cells)
+rows_next n others row left width cells e = rw e refl
+
 -- ---- all rows
 
 stand_all : (n m k top left end : ℕ) (cs : List Entry) → top ≤ least n (rows_at cs)

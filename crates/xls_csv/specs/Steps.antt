@@ -1,31 +1,27 @@
 -- Words of private calls, for the proofs.
 use Rattle.std.specs.Prelude.{◌≡◌, ℕ, ◌≤◌, Bool, List, [], ◌∷◌, Option, Some, None, Vec, false, ◌++◌, ◌==◌, length, if◌then◌else◌}
-use Rattle.std.specs.Borrow.{Bor}
 use Rattle.std.specs.Global.{Global}
 use Rattle.csv.specs.Writing.{default_writer, writer_setup, fields_written, has_written, writer_under, writer_pending}
 use Rattle.csv.specs.declared.writer.Writer.{Writer}
 use Rattle.xls_data.specs.Content.{Content, nothing}
-use Rattle.xls_data.specs.Data.{content_of, data_text}
-use Rattle.xls_data.specs.declared.values.Data.{Data}
+use Rattle.xls_data.specs.Refs.{ref_content_of, ref_text}
+use Rattle.xls_data.specs.declared.refs.DataRef.{DataRef}
 use Rattle.xls_biff.specs.Cells.{Entry}
+use Rattle.xls_view.specs.Values.{value_content}
+use Rattle.xls_view.specs.declared.value.CellValue.{CellValue}
 use Rattle.xls_csv.specs.Dates.{date_text, last_day_in, serial_date}
 use Rattle.xls_csv.specs.Fields.{field}
 use Rattle.xls_csv.specs.Dense.{least, greatest, rows_at, columns_at}
 use Rattle.xls_csv.specs.Walk.{take_at}
 use Rattle.xls_csv.specs.declared.extent.Corners.{Corners}
 
--- a cell that is known beforehand
-abbrev pub listed : Option (ℕ × ℕ × Bor Data) → List Entry
-listed None = []
-listed (Some v) = ((v.0, v.1), content_of v.2.now) ∷ []
-
 -- the content of a value that may be missing
-abbrev pub value_in : Option (Bor Data) → Content
+abbrev pub value_in : Option CellValue → Content
 value_in None = nothing
-value_in (Some v) = content_of v.now
+value_in (Some v) = value_content v
 
 -- the value at a position was taken, if it stood next
-abbrev pub Takes : List Entry → ℕ → ℕ → Option (Bor Data) → List Entry → Type 0
+abbrev pub Takes : List Entry → ℕ → ℕ → Option CellValue → List Entry → Type 0
 Takes before row column value after = take_at row column before ≡ (value_in value, after)
 
 -- the corners of the smallest box that holds a position and those of these cells
@@ -37,11 +33,11 @@ pub record IsSpan (at : ℕ × ℕ) (cells : List Entry) (corners : Corners) : T
 
 -- the serial day of a value that is shown as a date, with its date system; every other value is shown
 -- as it is printed
-abbrev pub IsShownDay : Data → Option (ℕ × Bool) → Type 0
-IsShownDay value None = field (content_of value) ≡ data_text value
+abbrev pub IsShownDay : DataRef → Option (ℕ × Bool) → Type 0
+IsShownDay value None = field (ref_content_of value) ≡ ref_text value
 IsShownDay value (Some day) =
     (1 ≤ day.0) × (day.0 ≤ last_day_in day.1)
-    × (field (content_of value) ≡ date_text (serial_date day.1 day.0))
+    × (field (ref_content_of value) ≡ date_text (serial_date day.1 day.0))
 
 -- a writer with the defaults of `csv`, between two records
 pub record IsBetweenRecords (w : Writer (Vec ℕ Global)) : Type 0 where

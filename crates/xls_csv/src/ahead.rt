@@ -4,59 +4,60 @@ ghost use Rattle.std.specs.Prelude.{◌≡◌};
 ghost use Rattle.xls_csv.specs.Steps.{Takes};
 
 use std::marker::Model;
-use xls_book::Values;
-use xls_data::Data;
+use std::mem;
+use xls_view::{CellValue, Cells, SheetCell};
 
 /// The cells that are left. Contracts see their list.
 #[derive(Drop)]
-pub(crate) struct Ahead<'a> {
-    next: Option<(u32, u32, &'a Data)>,
-    others: Values<'a>,
+pub(crate) struct Ahead<'c> {
+    cells: Cells<'c>,
+    /// The first of them, and those after it.
+    next: Option<SheetCell<'c>>,
+    others: Cells<'c>,
 }
 
-impl<'a> Model for Ahead<'a> {
-    ghost use Rattle.std.specs.Prelude.{◌≡◌, ◌++◌, [], None, List};
+impl<'c> Model for Ahead<'c> {
+    ghost use Rattle.std.specs.Prelude.{List};
     ghost use Rattle.xls_biff.specs.Cells.{Entry};
-    ghost use Rattle.xls_csv.specs.Steps.{listed};
+    ghost use Rattle.xls_view.specs.Walking.{CellSteps};
 
     ghost Value = { List Entry };
 
-    ghost view = { λ a. listed a.next ++ a.others };
+    ghost view = { λ a. a.cells };
 
-    ghost invariant = { λ a. a.next ≡ None → a.others ≡ [] };
+    ghost invariant = { λ a. CellSteps a.cells a.next a.others };
 }
 
-impl<'a> Ahead<'a> {
-    pub(crate) fn new(mut values: Values<'a>) -> Ahead<'a>
-        ensures { result ≡ values.entry }
+impl<'c> Ahead<'c> {
+    pub(crate) fn new(cells: Cells<'c>) -> Ahead<'c>
+        ensures { result ≡ cells.entry }
     {
-        let next = values.next();
+        let mut others = cells.again();
+        let next = others.next();
         Ahead {
+            cells,
             next,
-            others: values,
+            others,
         }
     }
 
     /// The same cells, to be taken apart from these. Takes no memory.
-    pub(crate) fn again(&self) -> Ahead<'a>
+    pub(crate) fn again(&self) -> Ahead<'c>
         ensures { result ≡ self.now }
     {
-        Ahead {
-            next: self.next,
-            others: self.others.again(),
-        }
+        Ahead::new(self.cells.again())
     }
 
     /// The value of the next cell, if that stands at this position; then the cell is taken.
-    pub(crate) fn take_at(&mut self, row: u64, column: u64) -> Option<&'a Data>
+    pub(crate) fn take_at(&mut self, row: u64, column: u64) -> Option<CellValue<'c>>
         ensures { Takes self.old row column result self.new }
     {
-        match self.next {
-            Some((r, c, value)) if u64::from(r) == row && u64::from(c) == column => {
-                self.next = self.others.next();
-                Some(value)
-            }
-            _ => None,
+        match &self.next {
+            Some(cell) if u64::from(cell.row) == row && u64::from(cell.column) == column => {}
+            _ => return None,
         }
+        let after = Ahead::new(self.others.again());
+        let cell = mem::replace(self, after).next?;
+        Some(cell.value)
     }
 }

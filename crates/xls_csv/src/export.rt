@@ -9,9 +9,9 @@ ghost use Rattle.xls_csv.specs.Text.{contents_of, csv_text, row_csv};
 use crate::record::Record;
 use csv::Writer;
 use std::alloc::{AllocError, Global};
-use xls_book::StreamBytes;
 use xls_data::Data;
 use xls_range::Range;
+use xls_source::StreamBytes;
 
 /// Fills a record with the fields of a row.
 fn fill(fields: &mut Record, row: &[Data]) -> Result<(), AllocError>

@@ -1,10 +1,11 @@
 //! The box of a sheet's cells.
 
 ghost use Rattle.std.specs.Prelude.{◌≡◌, ◌≤◌, ◌^◌, ◌+◌, max, min};
+ghost use Rattle.xls_view.specs.Values.{cell_entry};
 ghost use Rattle.xls_csv.specs.Dense.{box_between, box_of};
 ghost use Rattle.xls_csv.specs.Steps.{IsSpan};
 
-use xls_book::Values;
+use xls_view::{Cells, SheetCell};
 
 /// A box: its first row and column, and how many rows and columns it has.
 #[derive(Clone, Copy)]
@@ -24,10 +25,11 @@ struct Corners {
 
 impl Corners {
     /// Those of the smallest box that holds this one and a position.
-    fn with(self, row: u32, column: u32) -> Corners
-        ensures start { result.start ≡ (min row self.start.0, min column self.start.1) }
-        ensures end { result.end ≡ (max row self.end.0, max column self.end.1) }
+    fn with(self, position: (u32, u32)) -> Corners
+        ensures start { result.start ≡ (min position.0 self.start.0, min position.1 self.start.1) }
+        ensures end { result.end ≡ (max position.0 self.end.0, max position.1 self.end.1) }
     {
+        let (row, column) = position;
         Corners {
             start: (row.min(self.start.0), column.min(self.start.1)),
             end: (row.max(self.end.0), column.max(self.end.1)),
@@ -53,30 +55,37 @@ impl Corners {
     }
 }
 
+/// Where a cell stands.
+fn position_of(cell: SheetCell<'_>) -> (u32, u32)
+    ensures { result ≡ (cell_entry cell.entry).0 }
+{
+    (cell.row, cell.column)
+}
+
 /// The corners of the smallest box that holds a position and those of all these cells.
-fn span(row: u32, column: u32, values: Values<'_>) -> Corners
-    ensures span { IsSpan (row, column) values.entry result }
+fn span(position: (u32, u32), cells: Cells<'_>) -> Corners
+    ensures span { IsSpan position cells.entry result }
     ensures rows { result.start.0 ≤ result.end.0 }
     ensures columns { result.start.1 ≤ result.end.1 }
 {
     let mut corners = Corners {
-        start: (row, column),
-        end: (row, column),
+        start: position,
+        end: position,
     };
-    for (row, column, _) in values {
-        corners = corners.with(row, column);
+    for cell in cells {
+        corners = corners.with(position_of(cell));
     }
     corners
 }
 
 /// The smallest box that holds all of these cells, or the one without a position.
-pub(crate) fn extent_of(mut values: Values<'_>) -> Extent
-    ensures smallest { result ≡ box_of values.entry }
+pub(crate) fn extent_of(mut cells: Cells<'_>) -> Extent
+    ensures smallest { result ≡ box_of cells.entry }
     ensures rows { result.top + result.height ≤ 2 ^ 32 }
     ensures columns { result.left + result.width ≤ 2 ^ 32 }
 {
-    match values.next() {
-        Some((row, column, _)) => span(row, column, values).extent(),
+    match cells.next() {
+        Some(cell) => span(position_of(cell), cells).extent(),
         None => Extent {
             top: 0,
             left: 0,

@@ -3,7 +3,8 @@
 ghost use Rattle.std.specs.Prelude.{◌≡◌, ◌≤◌, ◌++◌, IfOk, MatchOption, OnOk};
 ghost use Rattle.std.specs.String.{string_bytes};
 ghost use Rattle.std.specs.Str.{IsAscii};
-ghost use Rattle.xls_data.specs.Data.{content_of, data_text};
+ghost use Rattle.xls_data.specs.Data.{content_of};
+ghost use Rattle.xls_data.specs.Refs.{ref_content_of, ref_text};
 ghost use Rattle.xls_csv.specs.Dates.{date_text, last_day_in, serial_date};
 ghost use Rattle.xls_csv.specs.Fields.{field};
 ghost use Rattle.xls_csv.specs.Steps.{IsShownDay};
@@ -11,14 +12,36 @@ ghost use Rattle.xls_csv.specs.Steps.{IsShownDay};
 use crate::dates::{day_of, day_text};
 use std::alloc::{AllocError, Global};
 use std::str::from_utf8;
-use xls_data::Data;
+use xls_data::{Data, DataRef};
+
+/// A value with the same field, which borrows its text.
+fn lent(value: &Data) -> DataRef<'_>
+    ensures { field (ref_content_of result) ≡ field (content_of value.now) }
+{
+    match value {
+        Data::Int(n) => DataRef::Int(*n),
+        Data::Float(n) => DataRef::Float(*n),
+        Data::String(s) => DataRef::SharedString(s.as_str()),
+        Data::Bool(b) => DataRef::Bool(*b),
+        Data::DateTime(d) => DataRef::DateTime(*d),
+        Data::DateTimeIso(s) => DataRef::SharedString(s.as_str()),
+        Data::DurationIso(s) => DataRef::SharedString(s.as_str()),
+        Data::Error(e) => DataRef::Error(*e),
+        Data::Empty => DataRef::Empty,
+    }
+}
 
 /// The serial day of a value that is shown as a date, and whether days count from 1904.
-pub(crate) fn shown_day(value: &Data) -> Option<(u64, bool)>
+pub(crate) fn shown_day(value: &DataRef<'_>) -> Option<(u64, bool)>
     ensures { IsShownDay value.now result }
 {
     match value {
-        Data::DateTime(date) => Some((day_of(*date)?, date.has_1904_epoch())),
+        DataRef::DateTime(date) => Some((day_of(*date)?, date.has_1904_epoch())),
+        DataRef::SharedString(text) => {
+            // Its proof needs that the text is UTF-8, which holds of a text that is read.
+            let _text = *text;
+            None
+        }
         _ => None,
     }
 }
@@ -41,8 +64,8 @@ fn push_day(day: u64, is_1904: bool, text: &mut String) -> Result<(), AllocError
 }
 
 /// Appends what a value prints.
-pub(crate) fn push_printed(value: &Data, text: &mut String) -> Result<(), AllocError>
-    ensures { OnOk result (string_bytes text.new ≡ string_bytes text.old ++ data_text value.now) }
+pub(crate) fn push_printed(value: &DataRef<'_>, text: &mut String) -> Result<(), AllocError>
+    ensures { OnOk result (string_bytes text.new ≡ string_bytes text.old ++ ref_text value.now) }
 {
     write!(text, "{value}")?;
     Ok(())
@@ -52,9 +75,10 @@ pub(crate) fn push_printed(value: &Data, text: &mut String) -> Result<(), AllocE
 pub(crate) fn push_value(value: &Data, text: &mut String) -> Result<(), AllocError>
     ensures { OnOk result (string_bytes text.new ≡ string_bytes text.old ++ field (content_of value.now)) }
 {
-    match shown_day(value) {
+    let value = lent(value);
+    match shown_day(&value) {
         Some((day, is_1904)) => push_day(day, is_1904, text),
-        None => push_printed(value, text),
+        None => push_printed(&value, text),
     }
 }
 

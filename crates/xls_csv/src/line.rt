@@ -3,7 +3,8 @@
 ghost use Rattle.std.specs.Prelude.{◌≡◌, ◌∷◌, ◌++◌, [], IfSome, OnOk};
 ghost use Rattle.std.specs.Fmt.{signed_decimal};
 ghost use Rattle.csv.specs.Writing.{default_writer, escaped, field_text, needs_byte, needs_quotes, next_sep, quoted};
-ghost use Rattle.xls_data.specs.Data.{content_of, data_text};
+ghost use Rattle.xls_data.specs.Refs.{ref_content_of, ref_text};
+ghost use Rattle.xls_view.specs.Values.{value_content};
 ghost use Rattle.xls_csv.specs.Fields.{field};
 ghost use Rattle.xls_csv.specs.Steps.{end_after};
 
@@ -11,7 +12,8 @@ use crate::dates::day_text;
 use crate::fields::{push_printed, shown_day};
 use std::alloc::{AllocError, Global};
 use std::marker::Model;
-use xls_data::{Data, Number};
+use xls_data::{DataRef, Number};
+use xls_view::{CellValue, TextBuffer};
 
 /// Whether a byte calls for quotes.
 fn is_special(byte: u8) -> bool
@@ -66,13 +68,77 @@ fn push_field(bytes: &mut Vec<u8>, text: &[u8]) -> Result<(), AllocError>
 }
 
 /// The whole number that a value is, if it is one as it stands.
-fn whole_in(value: &Data) -> Option<i64>
-    ensures { IfSome result (λ n. field (content_of value.now) ≡ signed_decimal n) }
+fn whole_in(value: &DataRef<'_>) -> Option<i64>
+    ensures { IfSome result (λ n. field (ref_content_of value.now) ≡ signed_decimal n) }
 {
     match value {
-        Data::Int(n) => Some(*n),
-        Data::Float(Number::Whole(n)) => Some(*n),
+        DataRef::Int(n) => Some(*n),
+        DataRef::Float(Number::Whole(n)) => Some(*n),
         _ => None,
+    }
+}
+
+/// Appends the field of a value that is printed first.
+fn print_field(
+    bytes: &mut Vec<u8>,
+    printed: &mut String,
+    value: &DataRef<'_>,
+) -> Result<(), AllocError>
+    ensures { OnOk result (bytes.new.items ≡ bytes.old.items ++ field_text default_writer (ref_text value.now)) }
+{
+    printed.clear();
+    push_printed(value, printed)?;
+    push_field(bytes, printed.as_bytes())
+}
+
+/// Appends the field of a value that isn't a text.
+fn push_other(
+    bytes: &mut Vec<u8>,
+    printed: &mut String,
+    value: &DataRef<'_>,
+) -> Result<(), AllocError>
+    requires { field (ref_content_of value.now) ≡ ref_text value.now }
+    ensures { OnOk result (bytes.new.items
+        ≡ bytes.old.items ++ field_text default_writer (field (ref_content_of value.now))) }
+{
+    match whole_in(value) {
+        Some(n) => {
+            let mut digits = itoa::Buffer::new();
+            push_field(bytes, digits.format(n).as_bytes())
+        }
+        None => print_field(bytes, printed, value),
+    }
+}
+
+/// Appends the field of a value that isn't shown as a date.
+fn push_plain(
+    bytes: &mut Vec<u8>,
+    printed: &mut String,
+    value: &DataRef<'_>,
+) -> Result<(), AllocError>
+    requires { field (ref_content_of value.now) ≡ ref_text value.now }
+    ensures { OnOk result (bytes.new.items
+        ≡ bytes.old.items ++ field_text default_writer (field (ref_content_of value.now))) }
+{
+    match value {
+        DataRef::String(text) => push_field(bytes, text.as_bytes()),
+        DataRef::SharedString(text) => push_field(bytes, text.as_bytes()),
+        _ => push_other(bytes, printed, value),
+    }
+}
+
+/// Appends the field of a value.
+fn push_value(
+    bytes: &mut Vec<u8>,
+    printed: &mut String,
+    value: &DataRef<'_>,
+) -> Result<(), AllocError>
+    ensures { OnOk result (bytes.new.items
+        ≡ bytes.old.items ++ field_text default_writer (field (ref_content_of value.now))) }
+{
+    match shown_day(value) {
+        Some((day, is_1904)) => push_field(bytes, &day_text(day, is_1904)),
+        None => push_plain(bytes, printed, value),
     }
 }
 
@@ -80,6 +146,8 @@ fn whole_in(value: &Data) -> Option<i64>
 #[derive(Drop)]
 pub(crate) struct Line {
     bytes: Vec<u8>,
+    /// Memory for a text that stands in a record.
+    text: TextBuffer,
     /// A value that has to be printed before it is known whether it calls for quotes.
     printed: String,
 }
@@ -98,6 +166,7 @@ impl Line {
     {
         Line {
             bytes: Vec::new(alloc),
+            text: TextBuffer::new(alloc),
             printed: String::new(alloc),
         }
     }
@@ -136,39 +205,13 @@ impl Line {
         Ok(())
     }
 
-    /// Appends the field of a value that is printed.
-    fn push_printed(&mut self, value: &Data) -> Result<(), AllocError>
-        ensures { OnOk result (self.new ≡ self.old ++ field_text default_writer (data_text value.now)) }
+    /// Appends the field of a cell's value.
+    pub(crate) fn push_value(&mut self, value: CellValue<'_>) -> Result<(), AllocError>
+        ensures { OnOk result (self.new ≡ self.old ++ field_text default_writer (field (value_content value.entry))) }
     {
-        self.printed.clear();
-        push_printed(value, &mut self.printed)?;
-        push_field(&mut self.bytes, self.printed.as_bytes())
-    }
-
-    /// Appends the field of a value that isn't shown as a date.
-    fn push_plain(&mut self, value: &Data) -> Result<(), AllocError>
-        requires { field (content_of value.now) ≡ data_text value.now }
-        ensures { OnOk result (self.new ≡ self.old ++ field_text default_writer (field (content_of value.now))) }
-    {
-        if let Data::String(text) = value {
-            return push_field(&mut self.bytes, text.as_bytes());
-        }
-        match whole_in(value) {
-            Some(n) => {
-                let mut digits = itoa::Buffer::new();
-                push_field(&mut self.bytes, digits.format(n).as_bytes())
-            }
-            None => self.push_printed(value),
-        }
-    }
-
-    /// Appends the field of a value.
-    pub(crate) fn push_value(&mut self, value: &Data) -> Result<(), AllocError>
-        ensures { OnOk result (self.new ≡ self.old ++ field_text default_writer (field (content_of value.now))) }
-    {
-        match shown_day(value) {
-            Some((day, is_1904)) => push_field(&mut self.bytes, &day_text(day, is_1904)),
-            None => self.push_plain(value),
+        match self.text.value_of(value) {
+            Ok(value) => push_value(&mut self.bytes, &mut self.printed, &value),
+            Err(error) => Err(error),
         }
     }
 }

@@ -8,7 +8,7 @@ use Rattle.std.specs.Cmp.{tied_then}
 use Rattle.std.proofs.lemmas.Bool.Decides.{nat_tests}
 use Rattle.std.proofs.lemmas.List.{map-append, take_more}
 use Rattle.std.proofs.lemmas.Map.Text.{is_eq-slice_cmp}
-use Rattle.xls_book.proofs.NameLemmas.{same_text}
+use Rattle.xls_view.proofs.NameLemmas.{same_text}
 use Rattle.std.specs.Option.{option_cmp, option_map, option_eq}
 use Rattle.std.specs.Ordering.{nat_cmp, ordering_then, is_eq}
 use Rattle.std.specs.Str.{chars, IsUtf8}

@@ -1,8 +1,5 @@
 pub mod WalkLemmas
 pub mod DistinctLemmas
-pub mod PartLemmas
-pub mod BookLemmas
-pub mod FinalLemmas
-pub mod TableLemmas
+pub mod ViewLemmas
 pub mod EqualLemmas
 mod StandardFacts

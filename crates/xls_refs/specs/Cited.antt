@@ -1,42 +1,16 @@
 -- The cells that the formulas of a workbook cite, by its logical list.
-use Rattle.std.specs.Prelude.{◌≡◌, ℕ, suc, List, [], ◌∷◌, ◌++◌, map, ◌==◌, false, if◌then◌else◌, Option, Some, None, unwrap_or, Result, Ok, Err}
+use Rattle.std.specs.Prelude.{◌≡◌, ℕ, suc, List, [], ◌∷◌, ◌++◌, map, Some, unwrap_or, Result, Ok, Err}
 use Rattle.std.specs.List.{flat_map}
 use Rattle.xls_model.specs.Listing.{Kept, Entry}
-use Rattle.xls_model.specs.declared.types.TheConstants as types
-use Rattle.xls_data.specs.Content.{Content}
-use Rattle.xls_cells.specs.Positions.{Position, IsAscending, last_at}
+use Rattle.xls_cells.specs.Positions.{Position}
 use Rattle.xls_strings.specs.declared.error.XlsError.{XlsError}
-use Rattle.xls_biff.specs.Records.Formula.{formula_at}
 use Rattle.xls_formula.specs.Context.{Context}
-use Rattle.xls_reading.specs.Order.{somes}
 use Rattle.xls_reading.specs.InForce.{SheetRecords, sheets_of, sheet_names_of, context_of}
 use Rattle.xls_reading.specs.Reading.{kept_named}
 use Rattle.xls_reading.specs.Rules.{Rules}
+use Rattle.xls_view.specs.Formulas.{Formula, AreLast, formulas_of}
 use Rattle.xls_refs.specs.Citations.{Citation, citation_of, cites_at}
 use Rattle.xls_refs.specs.declared.cite.BookCite.{BookCite}
-
--- ---- the formulas of a sheet
-
--- where a formula stands, and its tokens
-abbrev pub Formula : Type 0
-Formula = Position × List ℕ
-
-abbrev pub formula_in : Result (Position × Option Content × List ℕ) XlsError → Option Formula
-formula_in (Ok f) = Some (f.0, f.2)
-formula_in (Err e) = None
-
--- that of a Formula record ([MS-XLS] Formula); position and tokens hang on no class and no date system
-abbrev pub formula_of : Kept → Option Formula
-formula_of k = if k.typ == types.FORMULA then formula_in (formula_at [] false k.body) else None
-
--- those of a sheet's records in order
-abbrev pub formulas_of : List Kept → List Formula
-formulas_of kept = somes (map formula_of kept)
-
--- by row, then column, and of these formulas at each position the last one alone
-pub record AreLast (given formulas : List Formula) : Type 0 where
-  pub ascending : IsAscending (map (λ (f : Formula). f.0) formulas)
-  pub last : (p : Position) → last_at formulas p ≡ last_at given p
 
 -- ---- what a formula of a sheet cites
 

@@ -2,16 +2,11 @@
 use Rattle.std.specs.Prelude.{ℕ, List}
 use Rattle.xls_model.specs.Listing.{Entry, Carries}
 use Rattle.xls_strings.specs.declared.error.XlsError.{XlsError}
-use Rattle.xls_strings.specs.declared.error.XlsError.TheVariants as errors
 use Rattle.xls_reading.specs.Faults.{IsFull}
-use Rattle.xls_open.specs.Checking.{FirstChecked}
 use Rattle.xls_open.specs.Workbook.{rules_of}
 use Rattle.xls_open.specs.declared.options.XlsOptions.{XlsOptions}
+use Rattle.xls_view.specs.Viewing.{IsFault, ViewCause}
 use Rattle.xls_refs.specs.Cited.{BookCited, IsCited}
-
--- e is the first fault of the bytes, the byte limit apart
-abbrev pub IsFault : XlsOptions → List ℕ → XlsError → Type 0
-IsFault options bytes e = FirstChecked options.force_codepage options.max_cells bytes e
 
 -- no place of the bytes has a fault; they carry a full list, and this is what the formulas of every
 -- list that they carry cite
@@ -22,7 +17,6 @@ pub record IsBookCited (options : XlsOptions) (bytes : List ℕ) (book : BookCit
   pub full : IsFull (rules_of options) entries
   pub every : (others : List Entry) → Carries bytes others → IsCited (rules_of options) others book
 
--- why there is no answer: out of memory, or else the first fault of the bytes
+-- why there is no answer: why there is no view of the bytes
 abbrev pub CitingCause : XlsOptions → List ℕ → XlsError → Type 0
-CitingCause options bytes errors.Memory = Unit {0}
-CitingCause options bytes e = IsFault options bytes e
+CitingCause = ViewCause

@@ -1,16 +1,14 @@
 -- Laws over the definitions.
-use Rattle.std.specs.Prelude.{◌≡◌, ◌↔◌, true, Option, Some, None, Result, Ok}
+use Rattle.std.specs.Prelude.{◌≡◌, ◌↔◌, ℕ, List, true}
 use Rattle.xls_model.specs.Listing.{Kept}
-use Rattle.xls_strings.specs.declared.error.XlsError.{XlsError}
-use Rattle.xls_biff.specs.SheetTable.{CellContext, SheetRecord, formula_record}
+use Rattle.xls_biff.specs.SheetTable.{CellContext}
 use Rattle.xls_reading.specs.SheetTable.{kept_line}
+use Rattle.xls_open.specs.declared.options.XlsOptions.{XlsOptions}
+use Rattle.xls_view.specs.Formulas.{formula_given, formula_of}
+use Rattle.xls_view.specs.Viewing.{Viewed, IsViewed}
 use Rattle.xls_refs.specs.Citations.{Citation, same_cells}
-use Rattle.xls_refs.specs.Cited.{Formula, formula_of}
-
--- where a Formula stands, and its tokens, by its line of a sheet's table
-abbrev pub formula_given : Result SheetRecord XlsError → Option Formula
-formula_given (Ok (formula_record at value tokens)) = Some (at, tokens)
-formula_given line = None
+use Rattle.xls_refs.specs.Citing.{IsBookCited}
+use Rattle.xls_refs.specs.Views.{cited_in}
 
 -- a formula is what the table of a sheet's records has as one, whatever its cells are read under
 abbrev pub FormulasByTheTable : Type 0
@@ -19,3 +17,8 @@ FormulasByTheTable = (s : CellContext) (k : Kept) → formula_of k ≡ formula_g
 -- repeats are citations that are equal, and no others
 abbrev pub RepeatsAreEqual : Type 0
 RepeatsAreEqual = (c d : Citation) → (same_cells c d ≡ true) ↔ (c ≡ d)
+
+-- what the formulas of a view cite is what the formulas of the workbook of its bytes cite
+abbrev pub ViewedIsCited : Type 0
+ViewedIsCited = (options : XlsOptions) (bytes : List ℕ) (view : Viewed) → IsViewed options bytes view
+    → IsBookCited options bytes (cited_in view)

@@ -3,3 +3,4 @@ pub mod Cited
 pub mod Citing
 pub mod Laws
 pub mod Steps
+pub mod Views

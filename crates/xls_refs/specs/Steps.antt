@@ -1,6 +1,6 @@
--- What the code keeps of operands, citations and sheets, for the proofs. What the contracts of public
+-- What the code keeps of operands and citations, for the proofs. What the contracts of public
 -- calls say doesn't depend on it.
-use Rattle.std.specs.Prelude.{◌≡◌, ℕ, zero, suc, ℤ, List, [], ◌∷◌, map, length, slice_get, unwrap_or, IfSome, Option, Some, None, Result, Ok, Err}
+use Rattle.std.specs.Prelude.{◌≡◌, ℕ, zero, suc, List, [], slice_get, IfSome, Option, Some, None, Result, Ok, Err}
 use Rattle.std.specs.BTreeSet.{BTreeSet, contains}
 use Rattle.std.specs.Borrow.{Bor}
 use Rattle.std.specs.Cmp.Lexicographic.{slice_cmp}
@@ -10,14 +10,9 @@ use Rattle.std.specs.Ordering.{nat_cmp, ordering_then}
 use Rattle.std.specs.declared.cmp.Ordering.{Ordering}
 use Rattle.std.specs.Str.{chars, IsUtf8}
 use Rattle.xls_text.specs.declared.encoding.XlsEncoding.{XlsEncoding}
-use Rattle.xls_model.specs.Listing.{Kept, IsSheetPart}
-use Rattle.xls_model.specs.declared.part.Part.{Part}
-use Rattle.xls_data.specs.Sheets.{SheetContent}
-use Rattle.xls_cells.specs.Positions.{Position}
 use Rattle.xls_strings.specs.Reading.{◌>>=◌, gives}
 use Rattle.xls_strings.specs.declared.error.XlsError.{XlsError}
 use Rattle.xls_strings.specs.declared.error.XlsError.TheVariants as errors
-use Rattle.xls_strings.specs.declared.version.Biff.{Biff}
 use Rattle.xls_ptg.specs.declared.cite.RawCite.{RawCite}
 use Rattle.xls_ptg.specs.declared.tokens.Ptg.{Ptg}
 use Rattle.xls_ptg.specs.declared.tokens.Ptg.TheVariants as ptg
@@ -25,11 +20,6 @@ use Rattle.xls_formula.specs.Context.{Context, numbered_sheet}
 use Rattle.xls_formula.specs.Fold.{fold, fold_tokens, one_tree}
 use Rattle.xls_formula.specs.Functions.{Function}
 use Rattle.xls_refs.specs.Citations.{Citation, same_cells, distinct, leaves}
-use Rattle.xls_reading.specs.InForce.{known_refs}
-use Rattle.xls_reading.specs.Reading.{paired}
-use Rattle.xls_open.specs.Steps.{Sheets, names_listed}
-use Rattle.xls_refs.specs.Cited.{AreCited, BookCited, Formula}
-use Rattle.xls_refs.specs.declared.sheet.Tokens.{Tokens}
 use Rattle.xls_refs.specs.declared.walk.Scope.{Scope}
 
 -- what formulas may name, with these names and this page, which cite nothing
@@ -133,43 +123,3 @@ SeenSo seen before = (q : Key) → IsText q → contains by_key seen q ≡ list_
 -- the set has exactly the citations so far, and these are they without repeats
 abbrev pub IsDistinctSoFar : BTreeSet Key → List Citation → List Citation → Type 0
 IsDistinctSoFar seen items before = SeenSo seen before × (items ≡ distinct before)
-
--- ---- sheets
-
--- the kept records at a place
-abbrev pub kept_at : Option ℕ → List (List Kept) → List Kept
-kept_at None kepts = []
-kept_at (Some i) kepts = unwrap_or (slice_get kepts i) []
-
-abbrev pub formula_content : Position × Tokens → Formula
-formula_content c = (c.0, c.1.bytes.now)
-
--- the parts at these offsets have these kept records
-abbrev pub AreParts : List ℕ → List ℕ → List (List Kept) → Type 0
-AreParts stream [] [] = Unit {0}
-AreParts stream (offset ∷ offsets) (kept ∷ kepts) =
-    ((cut : Option Part) × IsSheetPart stream offset kept cut) × AreParts stream offsets kepts
-AreParts stream offsets kepts = ⊥
-
--- what formulas may name, by the sheets that the globals list
-abbrev pub listed_context : List (List ℕ × List ℕ) → XlsEncoding → Biff → Sheets → List ℤ → List Function → Context
-listed_context names page version listed refs functions =
-    record {
-      sheets = names_listed listed;
-      names = names;
-      refs = known_refs version (length listed) refs;
-      page = page;
-      biff = version;
-      functions = functions;
-    }
-
--- what the formulas of these sheets cite, under a version, the references of all ExternSheets and the
--- functions
-pub record AreListedCited (version : Biff) (listed : Sheets) (refs : List ℤ) (functions : List Function)
-    (stream : List ℕ) (book : BookCited) : Type 0 where
-  pub names : book.names ≡ names_listed listed
-  pub cites : (names : List (List ℕ × List ℕ)) (page : XlsEncoding) (kepts : List (List Kept))
-      → AreParts stream (map (λ (q : ℕ × SheetContent). q.0) listed) kepts → length kepts ≡ length listed
-      → AreCited (listed_context names page version listed refs functions)
-      (paired (map (λ (q : ℕ × SheetContent). q.1) listed) kepts) 0
-      (paired (map (λ (q : ℕ × SheetContent). q.1) listed) kepts) book.cites

@@ -5,6 +5,7 @@ ghost use Rattle.std.specs.Option.{option_map};
 ghost use Rattle.std.specs.Str.{chars};
 ghost use Rattle.xls_refs.specs.Citations.{citation_of};
 ghost use Rattle.xls_refs.specs.Cited.{book_citation_of};
+ghost use Rattle.xls_refs.specs.Views.{lent_citation_of};
 
 use std::marker::Model;
 use xls_biff::Strings;
@@ -58,6 +59,70 @@ pub struct BookCite {
     pub row: u32,
     pub col: u32,
     pub cite: Cite,
+}
+
+/// Cells that a formula of a sheet cites, with the names lent: the index of the sheet, the formula's row and
+/// column from 0, and of the cells the name of their sheet, the first and the last.
+#[derive(Clone, Copy)]
+pub struct CitedCells<'c> {
+    pub sheet: usize,
+    pub row: u32,
+    pub col: u32,
+    /// The name of the sheet on which the cells stand.
+    pub on: &'c str,
+    pub first: (u32, u32),
+    pub last: (u32, u32),
+}
+
+/// The cells that a formula of a sheet cites, from left to right. Contracts see the list of them, all with the
+/// name of a sheet.
+#[derive(Drop)]
+pub struct CitedFormula<'c> {
+    pub(crate) sheet: usize,
+    /// The name of the sheet.
+    pub(crate) name: &'c str,
+    pub(crate) row: u32,
+    pub(crate) col: u32,
+    /// As the formula has them.
+    pub(crate) cites: Cites,
+}
+
+impl<'c> Model for CitedFormula<'c> {
+    ghost use Rattle.std.specs.Prelude.{List, map};
+    ghost use Rattle.std.specs.Str.{chars};
+    ghost use Rattle.xls_refs.specs.Cited.{BookCitation, cited_from};
+
+    ghost Value = { List BookCitation };
+
+    ghost view = { λ c. map (cited_from c.sheet (chars c.name.now) (c.row, c.col)) c.cites };
+}
+
+impl<'c> CitedFormula<'c> {
+    /// How many there are.
+    pub fn len(&self) -> usize
+        ensures { result ≡ length self.now }
+    {
+        self.cites.len()
+    }
+
+    /// The one of an index, and `None` exactly past the end.
+    pub fn get(&self, i: usize) -> Option<CitedCells<'_>>
+        ensures { option_map lent_citation_of result ≡ slice_get self.now i }
+    {
+        let cite = self.cites.get(i)?;
+        let on = match &cite.sheet {
+            Some(name) => name.as_str(),
+            None => self.name,
+        };
+        Some(CitedCells {
+            sheet: self.sheet,
+            row: self.row,
+            col: self.col,
+            on,
+            first: cite.first,
+            last: cite.last,
+        })
+    }
 }
 
 /// The cells that the formulas of a workbook cite: sheet by sheet, by the formula's row and then

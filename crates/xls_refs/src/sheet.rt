@@ -1,120 +1,165 @@
-//! The formulas of a sheet.
+//! The cells that the formulas of a sheet cite, formula by formula.
 
-ghost use Rattle.std.specs.Prelude.{◌≡◌, ◌++◌, ◌∷◌, [], List, Option, IfOk, OnOk, map};
-ghost use Rattle.std.specs.Option.{option_map};
-ghost use Rattle.xls_model.specs.Listing.{Kept, IsPart, IsSheetPart, kept_group};
-ghost use Rattle.xls_model.specs.declared.part.Part.{Part};
-ghost use Rattle.xls_biff.specs.Walking.{group_of};
-ghost use Rattle.xls_reading.specs.Order.{somes};
-ghost use Rattle.xls_refs.specs.Cited.{AreLast, formula_of, formulas_of};
-ghost use Rattle.xls_refs.specs.Steps.{formula_content};
+ghost use Rattle.std.specs.Prelude.{◌≡◌, IfOk, slice_get};
+ghost use Rattle.std.specs.Str.{chars};
+ghost use Rattle.xls_refs.specs.Citations.{cites_at};
+ghost use Rattle.xls_refs.specs.Cited.{cited_by, unless_refused};
+ghost use Rattle.xls_refs.specs.Views.{sheets_cited};
+ghost use Rattle.xls_view.specs.Naming.{context_in};
+ghost use Rattle.xls_view.specs.Walking.{formula_seen};
 
+use crate::cite::{CitedFormula, Cites};
+use crate::formula::cites_in_scope;
+use crate::walk::Scope;
 use std::alloc::{AllocError, Global};
-use xls_biff::{Record, SheetRecords, parse_formula_record};
-use xls_cells::sorted_cells;
-use xls_data::{Cell, CellType};
-use xls_model::types::FORMULA;
+use std::marker::Model;
+use xls_view::{FormulaCell, FormulaCells, SheetFormulas, View, ViewNaming};
 
-/// The tokens of a formula, where they stand in the stream.
-#[derive(Clone, Copy, Debug, PartialEq, Eq)]
-pub(crate) struct Tokens<'a> {
-    pub bytes: &'a [u8],
-}
-
-impl<'a> CellType for Tokens<'a> {
-    ghost use Rattle.xls_data.specs.Blank.{is_nil, nil_exactly};
-
-    ghost blank_test = { λ t. is_nil t.bytes.now };
-
-    fn blank(_alloc: Global) -> Tokens<'a> {
-        Tokens { bytes: &[] }
-    }
-
-    fn is_blank(&self) -> bool {
-        self.bytes.is_empty()
-    }
-
-    fn try_copy(&self, _alloc: Global) -> Result<Tokens<'a>, AllocError> {
-        Ok(*self)
-    }
-
-    ghost blank_exactly = { λ x y e. nil_exactly x.bytes.now y.bytes.now e };
-}
-
-/// Where a Formula record stands, and its tokens. `None` for a record of another type or with a fault.
-fn formula_of<'a>(alloc: Global, r: &Record<'a>) -> Option<Cell<Tokens<'a>>>
-    ensures { option_map formula_content result ≡ formula_of (kept_group (group_of r.now)) }
+/// What a formula cites; nothing where it is refused.
+fn cites_unless_refused(
+    alloc: Global,
+    rgce: &[u8],
+    naming: ViewNaming<'_>,
+) -> Result<Cites, AllocError>
+    ensures { IfOk result (λ cites. cites ≡ unless_refused (cites_at (context_in naming.entry) rgce.now)) }
 {
-    if r.typ != FORMULA {
-        return None;
+    let scope = Scope {
+        sheets: naming.sheets,
+        refs: naming.refs,
+        biff: naming.biff,
+        functions: naming.functions,
+    };
+    match cites_in_scope(alloc, rgce, scope) {
+        Ok(cites) => Ok(cites),
+        Err(error) if error.is_memory() => Err(AllocError),
+        Err(_) => Ok(Cites {
+            items: Vec::new(alloc),
+        }),
     }
-    match parse_formula_record(alloc, r.body, &[], false) {
-        Ok(formula) => {
-            let tokens = Tokens {
-                bytes: formula.rgce,
-            };
-            Some(Cell::new(formula.position, tokens))
+}
+
+/// What a formula of the sheet of an index and a name cites.
+fn cited_formula<'c>(
+    alloc: Global,
+    naming: ViewNaming<'_>,
+    sheet: usize,
+    name: &'c str,
+    formula: FormulaCell<'_>,
+) -> Result<CitedFormula<'c>, AllocError>
+    ensures { IfOk result (λ cited. cited
+        ≡ cited_by (context_in naming.entry) sheet (chars name.entry.now) (formula_seen formula.entry)) }
+{
+    let FormulaCell { row, column, rgce } = formula;
+    let cites = cites_unless_refused(alloc, rgce, naming)?;
+    Ok(CitedFormula {
+        sheet,
+        name,
+        row,
+        col: column,
+        cites,
+    })
+}
+
+/// The cells that the formulas of a sheet cite. Contracts see, for each formula by row, then column, the
+/// list of its citations.
+#[derive(Drop)]
+pub struct SheetCites<'v> {
+    alloc: Global,
+    naming: ViewNaming<'v>,
+    /// The index and the name of the sheet.
+    sheet: usize,
+    name: &'v str,
+    formulas: SheetFormulas<'v>,
+}
+
+impl<'v> Model for SheetCites<'v> {
+    ghost use Rattle.std.specs.Prelude.{List, map};
+    ghost use Rattle.std.specs.Str.{chars};
+    ghost use Rattle.xls_refs.specs.Cited.{BookCitation, cited_by};
+    ghost use Rattle.xls_view.specs.Naming.{context_in};
+
+    ghost Value = { List (List BookCitation) };
+
+    ghost view = { λ c. map (cited_by (context_in c.naming) c.sheet (chars c.name.now)) c.formulas.left };
+}
+
+impl<'v> SheetCites<'v> {
+    /// The citations of each formula, in order.
+    pub fn iter(&self) -> FormulaCites<'_>
+        ensures { result ≡ self.now }
+    {
+        FormulaCites {
+            alloc: self.alloc,
+            naming: self.naming,
+            sheet: self.sheet,
+            name: self.name,
+            formulas: self.formulas.iter(),
         }
-        Err(_) => None,
     }
 }
 
-/// Takes the next kept record of a part.
-fn take<'a>(
+/// What the formulas that are left of a sheet cite, one after the other. Only running out of memory refuses a
+/// formula; its citations are lost then, and the next call gives those of the formula after it. Contracts
+/// see the list of the citations of each.
+#[derive(Drop)]
+pub struct FormulaCites<'c> {
     alloc: Global,
-    formulas: &mut Vec<Cell<Tokens<'a>>>,
-    r: &Record<'a>,
-) -> Result<(), AllocError>
-    ensures { OnOk result (map formula_content formulas.new.items
-        ≡ map formula_content formulas.old.items ++ somes (formula_of (kept_group (group_of r.now)) ∷ [])) }
-{
-    if let Some(formula) = formula_of(alloc, r) {
-        formulas.push(formula)?;
-    }
-    Ok(())
+    naming: ViewNaming<'c>,
+    sheet: usize,
+    name: &'c str,
+    formulas: FormulaCells<'c>,
 }
 
-/// Formulas in order of their positions, of those of one position the last.
-fn in_order<'a>(
+impl<'c> Model for FormulaCites<'c> {
+    ghost use Rattle.std.specs.Prelude.{List, map};
+    ghost use Rattle.std.specs.Str.{chars};
+    ghost use Rattle.xls_refs.specs.Cited.{BookCitation, cited_by};
+    ghost use Rattle.xls_view.specs.Naming.{context_in};
+
+    ghost Value = { List (List BookCitation) };
+
+    ghost view = { λ c. map (cited_by (context_in c.naming) c.sheet (chars c.name.now)) c.formulas };
+}
+
+impl<'c> Iterator for FormulaCites<'c> {
+    ghost use Rattle.std.specs.Prelude.{length};
+    ghost use Rattle.std.specs.Iterator.{at_most};
+    ghost use Rattle.xls_refs.specs.Views.{CitedSteps};
+
+    type Item = Result<CitedFormula<'c>, AllocError>;
+
+    ghost next_gives = { CitedSteps };
+
+    ghost remaining = { λ formulas. at_most (length formulas) };
+
+    fn next(&mut self) -> Option<Result<CitedFormula<'c>, AllocError>> {
+        let formula = self.formulas.next()?;
+        Some(cited_formula(self.alloc, self.naming, self.sheet, self.name, formula))
+    }
+}
+
+/// The cells that the formulas of the sheet at an index cite, those of the last sheet of its name: by the
+/// formula's row, then its column, and from left to right as by `cites_of_formula`. Cells without a sheet of
+/// their own stand on the sheet at the index; a formula that `parse_formula` refuses cites nothing. `None`
+/// exactly where no sheet has the index. Only running out of memory refuses.
+pub fn cites_of_sheet<'v>(
     alloc: Global,
-    formulas: Vec<Cell<Tokens<'a>>>,
-) -> Result<Vec<Cell<Tokens<'a>>>, AllocError>
-    ensures { IfOk result (λ v. AreLast (map formula_content formulas.entry.items) (map formula_content v.items)) }
+    view: &'v View<'_>,
+    sheet: usize,
+) -> Result<Option<SheetCites<'v>>, AllocError>
+    ensures { IfOk result (λ found. found ≡ slice_get (sheets_cited view.entry.now) sheet) }
 {
-    let sorted = sorted_cells(alloc, formulas)?;
-    Ok(sorted)
-}
-
-/// The formulas of a part in order of their positions, of those of one position the last.
-fn formulas_of_part<'a>(alloc: Global, part: &'a [u8]) -> Result<Vec<Cell<Tokens<'a>>>, AllocError>
-    ensures { IfOk result (λ v. (kept : List Kept) (cut : Option Part) → IsPart part.now kept cut
-        → AreLast (formulas_of kept) (map formula_content v.items)) }
-{
-    let mut formulas = Vec::new(alloc);
-    for record in SheetRecords::new(part) {
-        let record = match record {
-            Ok(record) => record,
-            // Here the part is cut.
-            Err(_) => return in_order(alloc, formulas),
-        };
-        take(alloc, &mut formulas, &record)?;
+    match view.naming().sheets.get(sheet) {
+        Some(name) => match view.formulas_at(sheet)? {
+            Some(formulas) => Ok(Some(SheetCites {
+                alloc,
+                naming: view.naming(),
+                sheet,
+                name,
+                formulas,
+            })),
+            None => Ok(None),
+        },
+        None => Ok(None),
     }
-    in_order(alloc, formulas)
-}
-
-/// Those of the part at an offset of the stream; none where it passes the end.
-pub(crate) fn formulas_at<'a>(
-    alloc: Global,
-    stream: &'a [u8],
-    offset: usize,
-) -> Result<Vec<Cell<Tokens<'a>>>, AllocError>
-    ensures { IfOk result (λ v. (kept : List Kept) (cut : Option Part)
-        → IsSheetPart stream.now offset kept cut
-        → AreLast (formulas_of kept) (map formula_content v.items)) }
-{
-    if stream.len() < offset {
-        return Ok(Vec::new(alloc));
-    }
-    let (_, part) = stream.split_at(offset);
-    formulas_of_part(alloc, part)
 }

@@ -1,5 +1,7 @@
 pub mod TextLemmas
+pub mod NamedLemmas
 pub mod CheckLemmas
 pub mod EndingLemmas
 pub mod StandardFacts
 pub mod PropertyFacts
+pub mod RefsLemmas

@@ -9,8 +9,7 @@ use Rattle.xls_data.specs.declared.sheets.SheetType.TheVariants.{WorkSheet, Dial
 use Rattle.xls_data.specs.declared.sheets.SheetVisible.TheVariants.{Visible, Hidden, VeryHidden}
 use Rattle.xls_strings.specs.declared.error.XlsError.TheVariants.{Password, TooLarge}
 use Rattle.xls_lay.specs.declared.error.LayError.TheVariants.{TooLong}
-use Rattle.xls_open.specs.Workbook.{Workbook}
-use Rattle.xls_open.specs.Opening.{default_options}
+use Rattle.xls_reading.specs.Reading.{BookView}
 use Rattle.xls_report.specs.Report.{cell_line, fault_line, report, sheet_report, sound_line, unwritten_line}
 use Rattle.xls_report.specs.Refs.{refs_text}
 
@@ -28,9 +27,8 @@ unfolding digits
 known_limit = refl
 
 -- two sheets, a name, and in the first sheet one cell, a formula, one without a text, and a merged region
-abbrev book : Workbook
+abbrev book : BookView
 book = record {
-  options = default_options;
   sheets = record { name = 65 ∷ []; typ = WorkSheet; visible = Visible }
       ∷ record { name = 66 ∷ []; typ = ChartSheet; visible = VeryHidden } ∷ [];
   names = (codes "N", codes "A!$B$2") ∷ [];
@@ -65,9 +63,8 @@ unfolding digits lib.Utf8.encode
 known_kinds = refl
 
 -- each kind of sheet and each state, in lines of names that are escaped
-abbrev sheets : Workbook
+abbrev sheets : BookView
 sheets = record {
-  options = default_options;
   sheets = record { name = codes "a\t"; typ = WorkSheet; visible = Hidden }
       ∷ record { name = codes "b"; typ = DialogSheet; visible = Visible }
       ∷ record { name = codes "c"; typ = MacroSheet; visible = VeryHidden }

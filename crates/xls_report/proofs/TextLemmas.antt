@@ -1,13 +1,20 @@
 -- The lines of sheets and names, one after the other.
-use Rattle.std.proofs.Common.{◌≡◌, ℕ, zero, suc, List, [], ◌∷◌, ◌++◌, ◌+◌, ◌<◌, length, map, get_or, arith, take, add-one, refl, sym, ap, ◌∙◌, append_assoc, Option, Some, None}
-use Rattle.std.specs.Prelude.{slice_get, String}
+use Rattle.std.proofs.Common.{◌≡◌, ℕ, zero, suc, List, [], ◌∷◌, ◌++◌, ◌+◌, ◌<◌, length, map, get_or, arith, take, add-one, refl, sym, ap, ◌∙◌, append_assoc, Option, Some, None, true, false}
+use Rattle.std.specs.Prelude.{slice_get, String, encode_utf8_all, ◌==◌}
+use Rattle.std.specs.Option.{option_map}
+use Rattle.std.specs.Str.{chars, IsUtf8}
+use Rattle.std.proofs.lemmas.Str.{chars-nil, encodes-chars}
 use Rattle.std.specs.Global.{Global}
 use Rattle.std.specs.List.{flat_map}
 use Rattle.std.proofs.lemmas.List.{append-nil}
 use Rattle.xls_data.specs.Sheets.{SheetContent}
+use Rattle.xls_cells.specs.Positions.{Position}
 use Rattle.xls_reading.specs.Reading.{SheetView}
+use Rattle.xls_reading.specs.SheetTable.{FormulaEntry}
 use Rattle.xls_open.specs.Workbook.{told_of}
-use Rattle.xls_report.specs.Report.{lines_at, view_text, sheet_line, sheets_text, name_line}
+use Rattle.xls_formula.specs.Context.{Context}
+use Rattle.xls_view.specs.Formulas.{Formula, text_entry}
+use Rattle.xls_report.specs.Report.{formula_line, formula_lines, lines_at, view_text, sheet_line, sheets_text, name_line}
 
 -- ---- sheets
 
@@ -102,6 +109,18 @@ mapped {X} {Y} f xs ys i x l e m = ap (λ (zs : List Y). slice_get zs i) (sym m)
     at_index (z ∷ zs) zero l e = ap (λ (w : X). Some (f w)) (sym e)
     at_index (z ∷ zs) (suc k) l e = at_index zs k (omega arith) e
 
+-- what stands at an index, if there is anything
+abbrev pub text_in : {X : Type 0} → (X → List ℕ) → Option X → List ℕ
+text_in text None = []
+text_in text (Some x) = text x
+
+-- the text of a part of what a sheet shows
+pub part_text : {X : Type 0} (part : SheetView → X) (text : X → List ℕ) (at : Option SheetView → List ℕ)
+    → at None ≡ [] → ((v : SheetView) → at (Some v) ≡ text (part v))
+    → (o : Option SheetView) (found : Option X) → found ≡ option_map part o → text_in text found ≡ at o
+part_text {X} part text at none some None found e = ap (text_in text) e ∙ sym none
+part_text {X} part text at none some (Some v) found e = ap (text_in text) e ∙ sym (some v)
+
 -- ---- names
 
 -- a defined name and its text
@@ -116,3 +135,47 @@ all_names names pairs e = each names ∙ ap (flat_map name_line) e
     each : (ns : List Named) → flat_map (λ (n : Named). name_line (told_of n)) ns ≡ flat_map name_line (map told_of ns)
     each [] = refl
     each (n ∷ ns) = ap (λ (l : List ℕ). name_line (told_of n) ++ l) (each ns)
+
+-- ---- formulas
+
+-- the line of the first, and those of the others
+formula_first : (f : FormulaEntry) (fs : List FormulaEntry)
+    → formula_lines (f ∷ fs) ≡ formula_lines (f ∷ []) ++ formula_lines fs
+formula_first (p, []) fs = refl
+formula_first (p, c ∷ cs) fs =
+    ap (λ (l : List ℕ). l ++ formula_lines fs) (sym (append-nil (formula_line (p, c ∷ cs))))
+
+-- one after the other
+pub formulas_each : {X : Type 0} (entry : X → FormulaEntry) (xs : List X)
+    → flat_map (λ (x : X). formula_lines (entry x ∷ [])) xs ≡ formula_lines (map entry xs)
+formulas_each entry [] = refl
+formulas_each entry (x ∷ xs) =
+    ap (λ (l : List ℕ). formula_lines (entry x ∷ []) ++ l) (formulas_each entry xs)
+    ∙ sym (formula_first (entry x) (map entry xs))
+
+-- the line of a formula by its tokens, where it may name these
+abbrev pub token_lines : Context → Formula → List ℕ
+token_lines context f = formula_lines (text_entry context f ∷ [])
+
+-- one without a text has no line, and another one its line
+pub formula_none : (p : Position) (text : List ℕ) → text ≡ [] → formula_lines ((p, text) ∷ []) ≡ []
+formula_none p [] e = refl
+formula_none p (c ∷ cs) e = absurd cc
+
+pub formula_shown : (p : Position) (text : List ℕ) → (text ≡ [] → ⊥)
+    → formula_line (p, text) ≡ formula_lines ((p, text) ∷ [])
+formula_shown p [] h = absurd (h refl)
+formula_shown p (c ∷ cs) h = sym (append-nil (formula_line (p, c ∷ cs)))
+
+-- no bytes spell no characters, and some bytes spell some
+pub no_characters : (bytes : List ℕ) → true ≡ (length bytes == 0) → chars bytes ≡ []
+no_characters [] e = chars-nil
+no_characters (b ∷ bs) e = absurd (grind arith)
+
+pub some_characters : (bytes : List ℕ) → IsUtf8 bytes → false ≡ (length bytes == 0) → chars bytes ≡ [] → ⊥
+some_characters bytes fits e none =
+    filled bytes e (sym (encodes-chars bytes fits) ∙ ap encode_utf8_all none)
+  where
+    filled : (bs : List ℕ) → false ≡ (length bs == 0) → bs ≡ [] → ⊥
+    filled [] e f = grind arith
+    filled (b ∷ bs) e f = cc

@@ -19,10 +19,14 @@ abbrev pub ref_line : List (List ℕ) → BookCitation → List ℕ
 ref_line names c =
     cited_line (unwrap_or (slice_get names c.sheet) []) (c.row, c.col) (unwrap_or c.cite.sheet []) c.cite.first c.cite.last
 
--- the same of what stands at an index, if there is anything
-abbrev pub ref_at : List (List ℕ) → Option BookCitation → List ℕ
-ref_at names None = []
-ref_at names (Some c) = ref_line names c
+-- the lines of what stands at an index, if there is anything
+abbrev pub lines_where : {X : Type 0} → (X → List ℕ) → Option X → List ℕ
+lines_where text None = []
+lines_where text (Some x) = text x
+
+-- those of what each formula of a sheet cites
+abbrev pub sheet_refs : List (List ℕ) → List (List BookCitation) → List ℕ
+sheet_refs names = flat_map (flat_map (ref_line names))
 
 -- those of all formulas of a workbook whose sheets have these names
 abbrev pub refs_text : BookCited → List ℕ

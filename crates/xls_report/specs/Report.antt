@@ -19,8 +19,7 @@ use Rattle.xls_lay.specs.ErrorText as lay_errors
 use Rattle.xls_lay.specs.declared.error.LayError.{LayError}
 use Rattle.xls_strings.specs.declared.error.XlsError.{XlsError}
 use Rattle.xls_data.specs.declared.regions.Dimensions.{Dimensions}
-use Rattle.xls_reading.specs.Reading.{SheetView}
-use Rattle.xls_open.specs.Workbook.{Workbook}
+use Rattle.xls_reading.specs.Reading.{SheetView, BookView}
 use Rattle.xls_reading.specs.SheetTable.{FormulaEntry, shown_formulas}
 use Rattle.xls_lines.specs.Lines.{line, escaped_text, filled_line}
 
@@ -118,12 +117,12 @@ abbrev pub name_line : List ℕ × List ℕ → List ℕ
 name_line n = line (codes "name") (escaped_text n.0 ∷ escaped_text n.1 ∷ [])
 
 -- the date system, the defined names, and the sheets in workbook order
-abbrev pub report : Workbook → List ℕ
+abbrev pub report : BookView → List ℕ
 report book =
     dates_line book.is_1904 ++ (flat_map name_line book.names ++ sheets_text book.sheets book.contents)
 
 -- the sheets in workbook order, without what they show
-abbrev pub sheet_report : Workbook → List ℕ
+abbrev pub sheet_report : BookView → List ℕ
 sheet_report book = flat_map sheet_line book.sheets
 
 -- the line of a stream without a fault

@@ -8,8 +8,7 @@ use Rattle.xls_strings.specs.declared.error.XlsError.{XlsError}
 use Rattle.xls_strings.specs.declared.error.XlsError.TheVariants.{WorksheetNotFound}
 use Rattle.xls_props.specs.Properties.{IsProperties}
 use Rattle.xls_props.specs.declared.properties.WorkbookProperties.{WorkbookProperties}
-use Rattle.xls_open.specs.Workbook.{Workbook, view_named}
-use Rattle.xls_reading.specs.Reading.{SheetView}
+use Rattle.xls_reading.specs.Reading.{SheetView, BookView, shown_of}
 use Rattle.xls_csv.specs.Dense.{sheet_csv}
 use Rattle.xls_refs.specs.Cited.{BookCited}
 use Rattle.xls_refs.specs.Citing.{IsBookCited}
@@ -57,12 +56,16 @@ IsRemadeText bytes text = IsOfList IsWrittenOf bytes text
 abbrev pub IsUnremadeLine : List ℕ → List ℕ → Type 0
 IsUnremadeLine bytes text = IsFirstLine bytes text ⊎ IsOfList IsUnwrittenOf bytes text
 
--- the CSV of the last sheet of this name in a workbook
-abbrev pub IsCsvOf : List ℕ → Workbook → List ℕ → Type 0
+-- the CSV of the last sheet of this name in what a workbook shows
+abbrev pub IsCsvOf : List ℕ → BookView → List ℕ → Type 0
 IsCsvOf name book text =
-    (view : SheetView) × (view_named book (chars name) ≡ Some view) × (text ≡ sheet_csv view.cells)
+    (view : SheetView) × (shown_of book (chars name) ≡ Some view) × (text ≡ sheet_csv view.cells)
 
--- the line of a name that no sheet of a workbook has
-abbrev pub IsMissingOf : List ℕ → Workbook → List ℕ → Type 0
-IsMissingOf name book text = (view_named book (chars name) ≡ None)
-    × ((s : String Global) × (string_bytes s ≡ name) × (text ≡ fault_line (WorksheetNotFound s)))
+-- the line of a name that no sheet has
+abbrev pub IsMissingLine : List ℕ → List ℕ → Type 0
+IsMissingLine name text =
+    (s : String Global) × (string_bytes s ≡ name) × (text ≡ fault_line (WorksheetNotFound s))
+
+-- the same where no sheet of a workbook has it
+abbrev pub IsMissingOf : List ℕ → BookView → List ℕ → Type 0
+IsMissingOf name book text = (shown_of book (chars name) ≡ None) × IsMissingLine name text

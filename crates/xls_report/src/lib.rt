@@ -13,4 +13,4 @@ pub use ending::Ending;
 pub use properties::write_properties;
 pub use refs::write_refs;
 pub use remake::write_remake;
-pub use report::{write_fault, write_report, write_sheets, write_sound};
+pub use report::{write_fault, write_refusal, write_report, write_sheets, write_sound};

@@ -1,38 +1,29 @@
 //! The cells that the formulas of a workbook cite.
 
-ghost use Rattle.std.specs.Prelude.{◌≡◌, ◌≤◌, ℕ, List, length, slice_get, unwrap_or, []};
+ghost use Rattle.std.specs.Prelude.{◌≡◌, ◌≤◌, length, slice_get, unwrap_or, []};
+ghost use Rattle.std.specs.List.{flat_map};
 ghost use Rattle.std.specs.Str.{chars};
 ghost use Rattle.xls_open.specs.Opening.{default_options};
-ghost use Rattle.xls_refs.specs.Citations.{citation_of};
-ghost use Rattle.xls_refs.specs.Cited.{book_citation_of};
+ghost use Rattle.xls_refs.specs.Views.{cited_in, lent_citation_of, sheets_cited};
 ghost use Rattle.xls_lines.specs.Gathering.{Delivers, Puts};
 ghost use Rattle.xls_report.specs.Endings.{EndsWithEither};
 ghost use Rattle.xls_report.specs.Texts.{IsFirstLine, IsRefsText};
-ghost use Rattle.xls_report.specs.Refs.{cited_line, ref_at, ref_line, refs_text};
+ghost use Rattle.xls_report.specs.Refs.{cited_line, lines_where, ref_line, refs_text, sheet_refs};
 
 use crate::ending::Ending;
 use crate::report::write_refusal;
 use std::alloc::Global;
-use xls_biff::XlsError;
-use xls_book::XlsOptions;
+use xls_biff::Strings;
 use xls_lines::{Buffer, Field, Sink, Stop};
-use xls_refs::{BookCite, BookCites, Cite, cites_of_book};
+use xls_open::XlsOptions;
+use xls_refs::{CitedCells, CitedFormula, SheetCites, cites_of_sheet};
+use xls_view::View;
 
-/// The name of the sheet that a citation tells, and the empty text where it tells none.
-fn sheet_of(cite: &Cite) -> &str
-    ensures { chars result.now ≡ unwrap_or (citation_of cite.now).sheet [] }
+/// The name at an index, and the empty text where there is none.
+fn name_of(names: &Strings, sheet: usize) -> &str
+    ensures { chars result.now ≡ unwrap_or (slice_get names.now sheet) [] }
 {
-    match &cite.sheet {
-        Some(name) => name.as_str(),
-        None => "",
-    }
-}
-
-/// The name of the sheet at an index, and the empty text where there is none.
-fn name_of(cites: &BookCites, sheet: usize) -> &str
-    ensures { chars result.now ≡ unwrap_or (slice_get cites.now.names sheet) [] }
-{
-    match cites.sheet_name(sheet) {
+    match names.get(sheet) {
         Some(name) => name,
         None => "",
     }
@@ -65,62 +56,110 @@ fn put_cited<'x, K: Sink>(
     buffer.put_line(sink, "ref", &fields)
 }
 
-/// Puts the line of cells that a formula cites.
+/// Puts the line of cells that a formula cites, where the sheets have these names.
 fn put_cite<K: Sink>(
     buffer: &mut Buffer,
     sink: &mut K,
-    name: &str,
-    cite: &BookCite,
+    names: &Strings,
+    cite: CitedCells<'_>,
 ) -> Result<(), Stop>
-    ensures { (names : List (List ℕ)) → chars name.now ≡ unwrap_or (slice_get names cite.now.sheet) []
-        → Puts (K.state sink.old) buffer.old (K.state sink.new) buffer.new
-        (ref_line names (book_citation_of cite.now)) result }
+    ensures { Puts (K.state sink.old) buffer.old (K.state sink.new) buffer.new
+        (ref_line names.now (lent_citation_of cite.entry)) result }
 {
-    let cells = &cite.cite;
-    put_cited(
-        buffer,
-        sink,
-        name,
-        (cite.row, cite.col),
-        sheet_of(cells),
-        cells.first,
-        cells.last,
-    )
+    let name = name_of(names, cite.sheet);
+    let formula = (cite.row, cite.col);
+    put_cited(buffer, sink, name, formula, cite.on, cite.first, cite.last)
 }
 
-/// Puts the line at an index.
+/// Puts the line at an index of what a formula cites.
 fn put_cite_at<K: Sink>(
     buffer: &mut Buffer,
     sink: &mut K,
-    cites: &BookCites,
+    names: &Strings,
+    formula: &CitedFormula<'_>,
     i: usize,
 ) -> Result<(), Stop>
     ensures { Puts (K.state sink.old) buffer.old (K.state sink.new) buffer.new
-        (ref_at cites.now.names (slice_get cites.now.cites i)) result }
+        (lines_where (ref_line names.now) (slice_get formula.now i)) result }
 {
-    match cites.get(i) {
-        Some(cite) => put_cite(buffer, sink, name_of(cites, cite.sheet), cite),
+    match formula.get(i) {
+        Some(cite) => put_cite(buffer, sink, names, cite),
         None => Ok(()),
     }
 }
 
-/// Puts the lines of all cells that are cited.
-fn put_cites<K: Sink>(buffer: &mut Buffer, sink: &mut K, cites: &BookCites) -> Result<(), Stop>
+/// Puts the lines of all cells that a formula cites.
+fn put_cites<K: Sink>(
+    buffer: &mut Buffer,
+    sink: &mut K,
+    names: &Strings,
+    formula: &CitedFormula<'_>,
+) -> Result<(), Stop>
     ensures { Puts (K.state sink.old) buffer.old (K.state sink.new) buffer.new
-        (refs_text cites.now) result }
+        (flat_map (ref_line names.now) formula.now) result }
 {
-    for i in 0..cites.len() {
-        put_cite_at(buffer, sink, cites, i)?;
+    for i in 0..formula.len() {
+        put_cite_at(buffer, sink, names, formula, i)?;
+    }
+    Ok(())
+}
+
+/// Puts the lines of all cells that the formulas of a sheet cite.
+fn put_sheet_refs<K: Sink>(
+    buffer: &mut Buffer,
+    sink: &mut K,
+    names: &Strings,
+    cites: &SheetCites<'_>,
+) -> Result<(), Stop>
+    ensures { Puts (K.state sink.old) buffer.old (K.state sink.new) buffer.new
+        (sheet_refs names.now cites.now) result }
+{
+    for formula in cites.iter() {
+        let formula = formula?;
+        put_cites(buffer, sink, names, &formula)?;
+    }
+    Ok(())
+}
+
+/// Puts those of the sheet at an index, if there is one.
+fn put_refs_at<K: Sink>(
+    alloc: Global,
+    buffer: &mut Buffer,
+    sink: &mut K,
+    view: &View<'_>,
+    sheet: usize,
+) -> Result<(), Stop>
+    ensures { Puts (K.state sink.old) buffer.old (K.state sink.new) buffer.new
+        (lines_where (sheet_refs view.now.context.sheets) (slice_get (sheets_cited view.now) sheet)) result }
+{
+    match cites_of_sheet(alloc, view, sheet)? {
+        Some(cites) => put_sheet_refs(buffer, sink, view.naming().sheets, &cites),
+        None => Ok(()),
+    }
+}
+
+/// Puts the lines of all cells that are cited, formula by formula.
+fn put_refs<K: Sink>(
+    alloc: Global,
+    buffer: &mut Buffer,
+    sink: &mut K,
+    view: &View<'_>,
+) -> Result<(), Stop>
+    ensures { Puts (K.state sink.old) buffer.old (K.state sink.new) buffer.new
+        (refs_text (cited_in view.now)) result }
+{
+    for sheet in 0..view.naming().sheets.len() {
+        put_refs_at(alloc, buffer, sink, view, sheet)?;
     }
     Ok(())
 }
 
 /// Writes the lines of all cells that are cited.
-fn write_cites<K: Sink>(alloc: Global, sink: &mut K, cites: &BookCites) -> Result<(), Stop>
-    ensures { Delivers (K.state sink.old) (K.state sink.new) (refs_text cites.now) result }
+fn write_cites<K: Sink>(alloc: Global, sink: &mut K, view: &View<'_>) -> Result<(), Stop>
+    ensures { Delivers (K.state sink.old) (K.state sink.new) (refs_text (cited_in view.now)) result }
 {
     let mut buffer = Buffer::new(alloc);
-    put_cites(&mut buffer, sink, cites)?;
+    put_refs(alloc, &mut buffer, sink, view)?;
     buffer.finish(sink)?;
     Ok(())
 }
@@ -132,9 +171,9 @@ pub fn write_refs<K: Sink>(alloc: Global, sink: &mut K, bytes: &[u8]) -> Result<
         (K.state sink.old) (K.state sink.new) result }
 {
     let options = XlsOptions::defaults(alloc)?;
-    match cites_of_book(alloc, bytes, &options) {
-        Ok(cites) => {
-            write_cites(alloc, sink, &cites)?;
+    match View::new(alloc, bytes, &options) {
+        Ok(view) => {
+            write_cites(alloc, sink, &view)?;
             Ok(Ending::Done)
         }
         Err(error) => write_refusal(alloc, sink, &error),

@@ -1,25 +1,29 @@
 //! The text of the dump, line by line.
 
-ghost use Rattle.std.specs.Prelude.{◌≡◌, ◌≢◌, ◌≤◌, ◌++◌, [], length, codes, if◌then◌else◌, slice_get, IfSome};
+ghost use Rattle.std.specs.Prelude.{◌≡◌, ◌≢◌, ◌≤◌, ◌++◌, ◌∷◌, [], length, map, codes, if◌then◌else◌, slice_get, IfSome};
 ghost use Rattle.std.specs.List.{flat_map};
 ghost use Rattle.std.specs.Option.{option_map};
 ghost use Rattle.std.specs.Str.{chars};
-ghost use Rattle.xls_data.specs.Data.{bool_text, content_of};
+ghost use Rattle.xls_data.specs.Data.{bool_text};
+ghost use Rattle.xls_data.specs.Refs.{ref_content_of};
 ghost use Rattle.xls_data.specs.Sheets.{sheet_content};
 ghost use Rattle.xls_strings.specs.declared.error.XlsError.TheVariants.{Memory};
 ghost use Rattle.xls_lines.specs.Gathering.{Delivers, Puts};
 ghost use Rattle.xls_report.specs.Endings.{EndsWithEither};
 ghost use Rattle.xls_lines.specs.Lines.{field_text};
 ghost use Rattle.xls_open.specs.Workbook.{told_of};
-ghost use Rattle.xls_report.specs.Report.{cell_line, cells_at, dates_line, epoch_text, fault_line, formula_line, formulas_at, lines_at, merge_line, merges_at, name_line, report, sheet_line, sheet_report, sheets_text, sound_line, type_text, unwritten_line, value_fields, visible_text};
+ghost use Rattle.xls_view.specs.Formulas.{text_entry};
+ghost use Rattle.xls_view.specs.Values.{cell_entry};
+ghost use Rattle.xls_view.specs.Walking.{formula_seen};
+ghost use Rattle.xls_report.specs.Report.{cell_line, cells_at, dates_line, epoch_text, fault_line, formula_line, formula_lines, formulas_at, lines_at, merge_line, merges_at, name_line, report, sheet_line, sheet_report, sheets_text, sound_line, type_text, unwritten_line, value_fields, visible_text};
 
 use crate::ending::Ending;
 use std::alloc::Global;
 use xls_biff::XlsError;
-use xls_book::{Formulas, Reader, Values, Xls};
-use xls_data::{Data, Dimensions, Sheet, SheetType, SheetVisible};
+use xls_data::{DataRef, Dimensions, Sheet, SheetType, SheetVisible};
 use xls_lay::LayError;
 use xls_lines::{Buffer, Field, Sink, Stop, write_line};
+use xls_view::{Cells, FormulaCell, Merges, SheetCell, SheetFormulas, TextBuffer, View};
 
 /// The word for a date or a span.
 fn date_kind(is_span: bool) -> &'static str
@@ -37,33 +41,34 @@ fn truth_word(is_true: bool) -> &'static str
 }
 
 /// The kind of a value, and what it prints. A blank has none.
-fn fields_of(value: &Data) -> Option<(&'static str, Field<'_>)>
-    ensures fields { option_map (λ x. (x.0.now, field_text x.1)) result ≡ value_fields (content_of value.now) }
+fn fields_of<'v>(value: &'v DataRef<'v>) -> Option<(&'static str, Field<'v>)>
+    ensures fields { option_map (λ x. (x.0.now, field_text x.1)) result ≡ value_fields (ref_content_of value.now) }
     ensures short { IfSome result (λ x. length x.0.now ≤ 5) }
 {
     match value {
-        Data::Int(n) => Some(("int", Field::Int(*n))),
-        Data::Float(n) => Some(("float", Field::Fraction(*n))),
-        Data::String(s) => Some(("text", Field::Text(s.as_str()))),
-        Data::Bool(b) => Some(("bool", Field::Word(truth_word(*b)))),
-        Data::DateTime(d) => Some((date_kind(d.is_duration()), Field::Fraction(d.number()))),
-        Data::DateTimeIso(s) => Some(("date", Field::Text(s.as_str()))),
-        Data::DurationIso(s) => Some(("span", Field::Text(s.as_str()))),
-        Data::Error(e) => Some(("error", Field::Failure(*e))),
-        Data::Empty => None,
+        DataRef::Int(n) => Some(("int", Field::Int(*n))),
+        DataRef::Float(n) => Some(("float", Field::Fraction(*n))),
+        DataRef::String(s) => Some(("text", Field::Text(s.as_str()))),
+        DataRef::SharedString(s) => Some(("text", Field::Text(s))),
+        DataRef::Bool(b) => Some(("bool", Field::Word(truth_word(*b)))),
+        DataRef::DateTime(d) => Some((date_kind(d.is_duration()), Field::Fraction(d.number()))),
+        DataRef::DateTimeIso(s) => Some(("date", Field::Text(s.as_str()))),
+        DataRef::DurationIso(s) => Some(("span", Field::Text(s.as_str()))),
+        DataRef::Error(e) => Some(("error", Field::Failure(*e))),
+        DataRef::Empty => None,
     }
 }
 
-/// Puts the line of a cell.
-fn put_cell<K: Sink>(
+/// Puts the line of a value at a row and a column.
+fn put_value<K: Sink>(
     buffer: &mut Buffer,
     sink: &mut K,
     row: u32,
     column: u32,
-    value: &Data,
+    value: &DataRef<'_>,
 ) -> Result<(), Stop>
     ensures { Puts (K.state sink.old) buffer.old (K.state sink.new) buffer.new
-        (cell_line ((row, column), content_of value.now)) result }
+        (cell_line ((row, column), ref_content_of value.now)) result }
 {
     match fields_of(value) {
         Some((kind, shown)) => buffer.put_cell(sink, row, column, kind, shown),
@@ -71,13 +76,34 @@ fn put_cell<K: Sink>(
     }
 }
 
-/// Puts the lines of a sheet's cells.
-fn put_values<K: Sink>(buffer: &mut Buffer, sink: &mut K, values: Values<'_>) -> Result<(), Stop>
+/// Puts the line of a cell, whose text is decoded in `text`.
+fn put_cell<K: Sink>(
+    buffer: &mut Buffer,
+    sink: &mut K,
+    text: &mut TextBuffer,
+    cell: SheetCell<'_>,
+) -> Result<(), Stop>
     ensures { Puts (K.state sink.old) buffer.old (K.state sink.new) buffer.new
-        (flat_map cell_line values.entry) result }
+        (cell_line (cell_entry cell.entry)) result }
 {
-    for (row, column, value) in values {
-        put_cell(buffer, sink, row, column, value)?;
+    let SheetCell { row, column, value } = cell;
+    let value = text.value_of(value)?;
+    put_value(buffer, sink, row, column, &value)
+}
+
+/// Puts the lines of a sheet's cells.
+fn put_cells<K: Sink>(
+    alloc: Global,
+    buffer: &mut Buffer,
+    sink: &mut K,
+    cells: Cells<'_>,
+) -> Result<(), Stop>
+    ensures { Puts (K.state sink.old) buffer.old (K.state sink.new) buffer.new
+        (flat_map cell_line cells.entry) result }
+{
+    let mut text = TextBuffer::new(alloc);
+    for cell in cells {
+        put_cell(buffer, sink, &mut text, cell)?;
     }
     Ok(())
 }
@@ -133,17 +159,48 @@ fn put_formula<K: Sink>(
     buffer.put_line(sink, "formula", &[row, column, Field::Text(text)])
 }
 
+/// Puts the line of a formula, unless its text is empty.
+fn put_shown_formula<K: Sink>(
+    buffer: &mut Buffer,
+    sink: &mut K,
+    row: u32,
+    column: u32,
+    text: &str,
+) -> Result<(), Stop>
+    ensures { Puts (K.state sink.old) buffer.old (K.state sink.new) buffer.new
+        (formula_lines (((row, column), chars text.now) ∷ [])) result }
+{
+    if text.is_empty() {
+        return Ok(());
+    }
+    put_formula(buffer, sink, row, column, text)
+}
+
+/// Puts the line of a formula of a sheet, unless its text is empty.
+fn put_formula_of<K: Sink>(
+    buffer: &mut Buffer,
+    sink: &mut K,
+    formulas: &SheetFormulas<'_>,
+    formula: FormulaCell<'_>,
+) -> Result<(), Stop>
+    ensures { Puts (K.state sink.old) buffer.old (K.state sink.new) buffer.new
+        (formula_lines (text_entry formulas.now.context (formula_seen formula.entry) ∷ [])) result }
+{
+    let text = formulas.text_of(formula)?;
+    put_shown_formula(buffer, sink, formula.row, formula.column, text.as_str())
+}
+
 /// Puts the lines of a sheet's formulas.
 fn put_formulas<K: Sink>(
     buffer: &mut Buffer,
     sink: &mut K,
-    formulas: Formulas<'_>,
+    formulas: &SheetFormulas<'_>,
 ) -> Result<(), Stop>
     ensures { Puts (K.state sink.old) buffer.old (K.state sink.new) buffer.new
-        (flat_map formula_line formulas.entry) result }
+        (formula_lines (map (text_entry formulas.now.context) formulas.now.left)) result }
 {
-    for (row, column, text) in formulas {
-        put_formula(buffer, sink, row, column, text)?;
+    for formula in formulas.iter() {
+        put_formula_of(buffer, sink, formulas, formula)?;
     }
     Ok(())
 }
@@ -165,28 +222,29 @@ fn put_merge<K: Sink>(buffer: &mut Buffer, sink: &mut K, region: Dimensions) -> 
 }
 
 /// Puts the lines of merged regions.
-fn put_merges<K: Sink>(buffer: &mut Buffer, sink: &mut K, merges: &[Dimensions]) -> Result<(), Stop>
+fn put_merges<K: Sink>(buffer: &mut Buffer, sink: &mut K, merges: Merges<'_>) -> Result<(), Stop>
     ensures { Puts (K.state sink.old) buffer.old (K.state sink.new) buffer.new
-        (flat_map merge_line merges.now) result }
+        (flat_map merge_line merges.entry) result }
 {
     for region in merges {
-        put_merge(buffer, sink, *region)?;
+        put_merge(buffer, sink, region)?;
     }
     Ok(())
 }
 
 /// Puts the lines of the cells of the sheet at an index.
 fn put_cells_at<K: Sink>(
+    alloc: Global,
     buffer: &mut Buffer,
     sink: &mut K,
-    book: &Xls,
+    view: &View<'_>,
     n: usize,
 ) -> Result<(), Stop>
     ensures { Puts (K.state sink.old) buffer.old (K.state sink.new) buffer.new
-        (cells_at (slice_get book.now.contents n)) result }
+        (cells_at (slice_get view.now.book.contents n)) result }
 {
-    match book.values_at(n) {
-        Some(values) => put_values(buffer, sink, values),
+    match view.cells_at(n)? {
+        Some(cells) => put_cells(alloc, buffer, sink, cells.iter()),
         None => Ok(()),
     }
 }
@@ -195,14 +253,14 @@ fn put_cells_at<K: Sink>(
 fn put_formulas_at<K: Sink>(
     buffer: &mut Buffer,
     sink: &mut K,
-    book: &Xls,
+    view: &View<'_>,
     n: usize,
 ) -> Result<(), Stop>
     ensures { Puts (K.state sink.old) buffer.old (K.state sink.new) buffer.new
-        (formulas_at (slice_get book.now.contents n)) result }
+        (formulas_at (slice_get view.now.book.contents n)) result }
 {
-    match book.formulas_at(n) {
-        Some(formulas) => put_formulas(buffer, sink, formulas),
+    match view.formulas_at(n)? {
+        Some(formulas) => put_formulas(buffer, sink, &formulas),
         None => Ok(()),
     }
 }
@@ -211,13 +269,13 @@ fn put_formulas_at<K: Sink>(
 fn put_merges_at<K: Sink>(
     buffer: &mut Buffer,
     sink: &mut K,
-    book: &Xls,
+    view: &View<'_>,
     n: usize,
 ) -> Result<(), Stop>
     ensures { Puts (K.state sink.old) buffer.old (K.state sink.new) buffer.new
-        (merges_at (slice_get book.now.contents n)) result }
+        (merges_at (slice_get view.now.book.contents n)) result }
 {
-    match book.merges_at(n) {
+    match view.merges_at(n) {
         Some(merges) => put_merges(buffer, sink, merges),
         None => Ok(()),
     }
@@ -225,44 +283,51 @@ fn put_merges_at<K: Sink>(
 
 /// Puts the lines of what the sheet at an index shows.
 fn put_lines_at<K: Sink>(
+    alloc: Global,
     buffer: &mut Buffer,
     sink: &mut K,
-    book: &Xls,
+    view: &View<'_>,
     n: usize,
 ) -> Result<(), Stop>
     ensures { Puts (K.state sink.old) buffer.old (K.state sink.new) buffer.new
-        (lines_at (slice_get book.now.contents n)) result }
+        (lines_at (slice_get view.now.book.contents n)) result }
 {
-    put_cells_at(buffer, sink, book, n)?;
-    put_formulas_at(buffer, sink, book, n)?;
-    put_merges_at(buffer, sink, book, n)?;
+    put_cells_at(alloc, buffer, sink, view, n)?;
+    put_formulas_at(buffer, sink, view, n)?;
+    put_merges_at(buffer, sink, view, n)?;
     Ok(())
 }
 
 /// Puts the line of a sheet, and those of what stands at its index.
 fn put_view<K: Sink>(
+    alloc: Global,
     buffer: &mut Buffer,
     sink: &mut K,
-    book: &Xls,
+    view: &View<'_>,
     sheet: &Sheet,
     n: usize,
 ) -> Result<(), Stop>
     ensures { Puts (K.state sink.old) buffer.old (K.state sink.new) buffer.new
-        (sheet_line (sheet_content sheet.now) ++ lines_at (slice_get book.now.contents n)) result }
+        (sheet_line (sheet_content sheet.now) ++ lines_at (slice_get view.now.book.contents n)) result }
 {
     put_sheet(buffer, sink, sheet)?;
-    put_lines_at(buffer, sink, book, n)?;
+    put_lines_at(alloc, buffer, sink, view, n)?;
     Ok(())
 }
 
 /// Puts the sheets in workbook order, and what they show.
-fn put_views<K: Sink>(buffer: &mut Buffer, sink: &mut K, book: &Xls) -> Result<(), Stop>
+fn put_views<K: Sink>(
+    alloc: Global,
+    buffer: &mut Buffer,
+    sink: &mut K,
+    view: &View<'_>,
+) -> Result<(), Stop>
     ensures { Puts (K.state sink.old) buffer.old (K.state sink.new) buffer.new
-        (sheets_text book.now.sheets book.now.contents) result }
+        (sheets_text view.now.book.sheets view.now.book.contents) result }
 {
-    let sheets = book.sheets_metadata();
+    let sheets = view.sheets();
     for i in 0..sheets.len() {
-        put_view(buffer, sink, book, &sheets[i], i)?;
+        put_view(alloc, buffer, sink, view, &sheets[i], i)?;
     }
     Ok(())
 }
@@ -307,23 +372,29 @@ fn put_names<K: Sink>(
 }
 
 /// Puts the date system, the defined names, and the sheets with what they show.
-fn put_report<K: Sink>(buffer: &mut Buffer, sink: &mut K, book: &Xls) -> Result<(), Stop>
+fn put_report<K: Sink>(
+    alloc: Global,
+    buffer: &mut Buffer,
+    sink: &mut K,
+    view: &View<'_>,
+) -> Result<(), Stop>
     ensures { Puts (K.state sink.old) buffer.old (K.state sink.new) buffer.new
-        (report book.now) result }
+        (report view.now.book) result }
 {
-    put_dates(buffer, sink, book.has_1904_epoch())?;
-    put_names(buffer, sink, book.defined_names())?;
-    put_views(buffer, sink, book)?;
+    put_dates(buffer, sink, view.has_1904_epoch())?;
+    put_names(buffer, sink, view.defined_names())?;
+    put_views(alloc, buffer, sink, view)?;
     Ok(())
 }
 
 /// Writes the dump: the date system, the defined names, and for each sheet in workbook order its line
-/// and those of its cells, of its formulas and of its merged regions.
-pub fn write_report<K: Sink>(alloc: Global, sink: &mut K, book: &Xls) -> Result<(), Stop>
-    ensures { Delivers (K.state sink.old) (K.state sink.new) (report book.now) result }
+/// and those of its cells, of its formulas and of its merged regions. Beside what the view takes for a
+/// sheet, one piece of text is held, and the text of one cell or formula.
+pub fn write_report<K: Sink>(alloc: Global, sink: &mut K, view: &View<'_>) -> Result<(), Stop>
+    ensures { Delivers (K.state sink.old) (K.state sink.new) (report view.now.book) result }
 {
     let mut buffer = Buffer::new(alloc);
-    put_report(&mut buffer, sink, book)?;
+    put_report(alloc, &mut buffer, sink, view)?;
     buffer.finish(sink)?;
     Ok(())
 }
@@ -340,11 +411,11 @@ fn put_sheets<K: Sink>(buffer: &mut Buffer, sink: &mut K, sheets: &[Sheet]) -> R
 }
 
 /// Writes the lines of the sheets alone, in workbook order.
-pub fn write_sheets<K: Sink>(alloc: Global, sink: &mut K, book: &Xls) -> Result<(), Stop>
-    ensures { Delivers (K.state sink.old) (K.state sink.new) (sheet_report book.now) result }
+pub fn write_sheets<K: Sink>(alloc: Global, sink: &mut K, view: &View<'_>) -> Result<(), Stop>
+    ensures { Delivers (K.state sink.old) (K.state sink.new) (sheet_report view.now.book) result }
 {
     let mut buffer = Buffer::new(alloc);
-    put_sheets(&mut buffer, sink, book.sheets_metadata())?;
+    put_sheets(&mut buffer, sink, view.sheets())?;
     buffer.finish(sink)?;
     Ok(())
 }

@@ -5,4 +5,5 @@ pub mod Index
 pub mod Groups
 pub mod Contents
 pub mod Viewing
+pub mod Naming
 pub mod Placing

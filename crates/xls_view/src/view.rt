@@ -14,6 +14,7 @@ ghost use Rattle.xls_view.specs.Viewing.{IsFault, IsViewed, ViewCause, formulas_
 ghost use Rattle.xls_view.specs.Walking.{Named};
 ghost use Rattle.xls_view.specs.Placing.{IsPartOf, force_of};
 ghost use Rattle.xls_view.specs.Formulas.{text_entry};
+ghost use Rattle.xls_view.specs.Naming.{context_in};
 ghost use Rattle.xls_strings.specs.declared.error.XlsError.{XlsError};
 ghost use Rattle.xls_data.specs.Sheets.{SheetContent};
 ghost use Rattle.xls_open.specs.Steps.{listed_of};
@@ -22,6 +23,7 @@ use crate::cells::SheetCells;
 use crate::formulas::SheetFormulas;
 use crate::index::{find_named, index_of};
 use crate::merges::Merges;
+use crate::naming::ViewNaming;
 use crate::places::part_at;
 use std::alloc::{AllocError, Global};
 use std::collections::BTreeMap;
@@ -195,6 +197,20 @@ impl<'a> View<'a> {
         ensures { result.now ≡ self.now.book.classes }
     {
         &self.classes
+    }
+
+    /// What formulas may name. Takes no memory.
+    pub fn naming(&self) -> ViewNaming<'_>
+        ensures { context_in result ≡ self.now.context }
+    {
+        ViewNaming {
+            sheets: &self.naming.sheets,
+            names: &self.naming.names,
+            refs: &self.naming.refs,
+            page: self.page,
+            biff: self.version,
+            functions: &self.functions,
+        }
     }
 
     /// What the records of the sheets are read under.

@@ -70,7 +70,7 @@ const REF_5: [u8; 44] = [
     0, 0, 0, 0, 0, 0, 0, 0, 0, 0, 0, 0, 0, 9, 0xC0, 2,
 ];
 
-static CASES: [Case; 13] = [
+pub(super) static CASES: [Case; 13] = [
     (
         "a refused formula says why",
         Opening::Plain,

@@ -53,7 +53,7 @@ const REFERENCE: [u8; 12] = [0x17, 0, 8, 0, 1, 0, 0, 0, 0, 0, 0, 0];
 // A Lbl of no byte.
 const NO_LBL: [u8; 4] = [0x18, 0, 0, 0];
 
-static CASES: [Case; 15] = [
+pub(super) static CASES: [Case; 15] = [
     (
         "an empty stream has no sheets",
         Opening::Plain,

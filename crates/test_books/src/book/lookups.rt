@@ -12,7 +12,7 @@ const FIRST_B: [u8; 13] = [0x85, 0, 9, 0, 51, 0, 0, 0, 0, 0, 1, 0, 0x62];
 
 const LAST_B: [u8; 13] = [0x85, 0, 9, 0, 77, 0, 0, 0, 0, 0, 1, 0, 0x62];
 
-static CASES: [Case; 24] = [
+pub(super) static CASES: [Case; 24] = [
     (
         "opens by the trait",
         Opening::ByTrait,

@@ -4,7 +4,7 @@ use std::test::*;
 // RK of 2 in the last row and column.
 const FAR: [u8; 14] = [0x7E, 2, 10, 0, 0xFF, 0xFF, 0xFF, 0xFF, 0, 0, 10, 0, 0, 0];
 
-static CASES: [Case; 6] = [
+pub(super) static CASES: [Case; 6] = [
     (
         "the number of the sheet",
         Opening::Plain,

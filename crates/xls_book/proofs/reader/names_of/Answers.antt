@@ -2,7 +2,7 @@ use Rattle.std.proofs.Common.{◌≡◌, ap, string_bytes, ◌∙◌}
 use Rattle.std.specs.Str.{chars}
 use Rattle.std.proofs.lemmas.Result.{IfOk-at_ok}
 use Rattle.xls_strings.specs.Texts.{text_of}
-use Rattle.xls_book.proofs.IndexLemmas.{names_next}
+use Rattle.xls_view.proofs.IndexLemmas.{names_next}
 use Rattle.xls_book.proofs.reader.names_of.Goals as goal
 
 pub loop-sheet-preserved : goal.loop-sheet-preserved

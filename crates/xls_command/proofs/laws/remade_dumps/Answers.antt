@@ -1,4 +1,4 @@
-use Rattle.std.proofs.Common.{ℕ, List, length, ◌≤◌, subst, sym, ap}
+use Rattle.std.proofs.Common.{ℕ, List, length, ◌≤◌, subst, sym}
 use Rattle.xls_open.specs.Opening.{IsOpened, default_options}
 use Rattle.xls_lay.proofs.LawLemmas.{opens_again}
 use Rattle.xls_command.proofs.laws.remade_dumps.Goals as goal

@@ -1,9 +1,9 @@
-use Rattle.xls_data.specs.Data.{content_of}
-use Rattle.xls_biff.specs.Cells.{Entry}
+use Rattle.xls_view.specs.Values.{cell_entry}
 use Rattle.xls_csv.proofs.ExtentLemmas.{more}
 use Rattle.xls_csv.proofs.extent.span.Goals as goal
 
-pub loop-row-preserved : goal.loop-row-preserved
-loop-row-preserved c =
-    let cell : Entry = ((c.in-Some.row, c.in-Some.column), content_of c.in-Some.field-0-2.now) in
-    (tt, tt, more (c.args.row, c.args.column) c.args.values c.loop-row.row-iterator c.next.new.self cell c.loop-row.corners c.with-corners.result c.loop-row.invariant.2 c.in-Some.ensures.steps c.with-corners.ensures.start c.with-corners.ensures.end)
+pub loop-cell-preserved : goal.loop-cell-preserved
+loop-cell-preserved c =
+    let corners = c.with-corners.ensures in
+    let at = c.position_of.ensures in
+    (tt, tt, more c.args.position c.args.cells c.loop-cell.cell-iterator c.next.new.self (cell_entry c.in-Some.cell) c.loop-cell.corners c.with-corners.result c.loop-cell.invariant.2 c.in-Some.ensures.steps (rw at at corners.start) (rw at at corners.end))

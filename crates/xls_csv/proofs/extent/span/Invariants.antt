@@ -2,7 +2,7 @@ use Rattle.xls_csv.proofs.ExtentLemmas.{SoFar}
 use Rattle.xls_csv.proofs.extent.span.Given as goal
 
 -- the corners of the cells so far, and the others are left
-abbrev pub invariant-loop-row : goal.invariant-loop-row
-invariant-loop-row l =
-    goal.iterator-loop-row.can_next l.row-iterator × goal.iterator-loop-row.is_finite l.row-iterator
-    × SoFar (l.fn.row, l.fn.column) l.fn.values l.row-iterator l.corners
+abbrev pub invariant-loop-cell : goal.invariant-loop-cell
+invariant-loop-cell l =
+    goal.iterator-loop-cell.can_next l.cell-iterator × goal.iterator-loop-cell.is_finite l.cell-iterator
+    × SoFar l.fn.position l.fn.cells l.cell-iterator l.corners

@@ -1,23 +1,10 @@
-use Rattle.std.proofs.Common.{ap, arith, Err}
-use Rattle.std.proofs.lemmas.Result.{err_from_is_err_and}
-use Rattle.xls_strings.specs.declared.error.XlsError.{XlsError}
-use Rattle.xls_refs.proofs.FinalLemmas.{one_fault, globals_cause, cited_all, as_read}
+use Rattle.std.proofs.Common.{sym, subst}
+use Rattle.xls_refs.specs.Citing.{IsBookCited}
+use Rattle.xls_refs.proofs.ViewLemmas.{viewed_is_cited}
 use Rattle.xls_refs.proofs.book.cites_of_book.Goals as goal
-
--- a stream has one first fault
-pub returns-in_err-check_stream-clause-fault : goal.returns-in_err-check_stream-clause-fault
-returns-in_err-check_stream-clause-fault c = λ e h.
-    let p = err_from_is_err_and c.from_residual.result c.from_residual.ensures.1 in
-    rw (p.1, p.2) (ap (λ (x : XlsError). Err x) (one_fault c.args.options.now c.args.bytes.now (λ i. omega (arith, c.type_inv.bytes i)) c.in_err-check_stream.field-0.0 e c.in_err-check_stream.ensures h))
-
-pub returns-in_err-globals-clause-cause : goal.returns-in_err-globals-clause-cause
-returns-in_err-globals-clause-cause c =
-    let p = err_from_is_err_and c.from_residual-in_err-globals.result c.from_residual-in_err-globals.ensures.1 in
-    rw (p.1, p.2) (globals_cause c.args.options.now c.args.bytes.now (λ i. omega (arith, c.type_inv.bytes i)) c.in_ok-page.ensures.0 c.in_err-globals.field-0.0 c.in_err-globals.ensures)
 
 pub returns-clause-ok : goal.returns-clause-ok
 returns-clause-ok c =
-    let g = c.in_ok-globals.globals in
-    let needed = c.needed_of-version in
-    cited_all c.args.options.now c.args.bytes.now (λ i. omega (arith, c.type_inv.bytes i)) c.in_ok-page.ensures.0 c.in_ok-check_stream.ensures g c.in_ok-globals.ensures c.in_ok-cites_of_listed.field-0
-    (as_read _ g.version _ g.sheets _ g.refs c.args.options.now.functions c.args.bytes.now c.in_ok-cites_of_listed.field-0 needed.ensures.version needed.ensures.sheets needed.ensures.refs c.in_ok-cites_of_listed.ensures)
+    let options = c.args.options.now in
+    let bytes = c.args.bytes.now in
+    subst (IsBookCited options bytes) (sym c.in_ok-cites.ensures) (viewed_is_cited options bytes c.in_ok-view.view c.in_ok-view.ensures.ok)

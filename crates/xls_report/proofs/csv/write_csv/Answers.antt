@@ -1,24 +1,37 @@
-use Rattle.std.proofs.Common.{◌≡◌, Option, Some, None, refl, inr}
-use Rattle.std.specs.Option.{option_map}
-use Rattle.xls_reading.specs.Reading.{SheetView}
-use Rattle.xls_strings.specs.declared.error.XlsError.TheVariants.{WorksheetNotFound}
-use Rattle.xls_report.specs.Report.{fault_line}
+use Rattle.std.proofs.Common.{Some, ap, inl, map, subst, sym, ◌∙◌}
+use Rattle.std.specs.Prelude.{IfSome}
+use Rattle.xls_biff.specs.Cells.{Entry}
+use Rattle.xls_cells.specs.Positions.{IsAscending}
 use Rattle.xls_report.specs.Texts.{IsCsvOf, IsMissingOf}
-use Rattle.xls_report.proofs.EndingLemmas.{either-stopped}
+use Rattle.xls_report.proofs.EndingLemmas.{either-as, either-memory, either-stopped}
+use Rattle.xls_report.proofs.NamedLemmas.{csv_of, no_view}
 use Rattle.xls_report.proofs.csv.write_csv.Goals as goal
 
--- no values, so nothing is shown
-no_view : (o : Option SheetView) → None ≡ option_map (λ (v : SheetView). v.cells) o → o ≡ None
-no_view None e = refl
-no_view (Some v) e = cc
+pub returns-in_err-cells : goal.returns-in_err-cells
+returns-in_err-cells g c =
+    let book = c.args.view.now.book in
+    either-memory (IsCsvOf c.args.name.now book) (IsMissingOf c.args.name.now book) _ c.from_residual.result c.from_residual.ensures.1
 
-pub returns-in_err-write_fault-in-None : goal.returns-in_err-write_fault-in-None
-returns-in_err-write_fault-in-None g c =
-    let a = c.from_residual-in_err-write_fault-in-None in
-    let s = c.in_ok-from_str-in-None in
-    either-stopped (IsCsvOf c.args.name.now c.args.book.now) (IsMissingOf c.args.name.now c.args.book.now) a.result a.ensures.1 (inr (no_view _ c.in-None.ensures.found, (s.field-0, s.ensures.ok, refl))) c.in_err-write_fault-in-None.ensures
+pub write_cells-requires : goal.write_cells-requires
+write_cells-requires g c = record {
+  ordered = subst (λ cells. IsAscending (map (λ (c : Entry). c.0) cells)) (sym c.iter.ensures)
+      (subst (λ found. IfSome found (λ cells. IsAscending (map (λ (c : Entry). c.0) cells))) c.in-Some.is c.in_ok-cells.ensures.ordered);
+}
 
-pub returns-in_ok-write_fault-in-None : goal.returns-in_ok-write_fault-in-None
-returns-in_ok-write_fault-in-None g c =
-    let s = c.in_ok-from_str-in-None in
-    (fault_line (WorksheetNotFound s.field-0), (no_view _ c.in-None.ensures.found, (s.field-0, s.ensures.ok, refl)), c.in_ok-write_fault-in-None.ensures)
+pub returns-in_err-write_cells-in-Some : goal.returns-in_err-write_cells-in-Some
+returns-in_err-write_cells-in-Some g c =
+    let a = c.from_residual-in_err-write_cells-in-Some in
+    let book = c.args.view.now.book in
+    let shown = csv_of c.args.name.now book _ (ap Some c.iter.ensures ∙ sym c.in-Some.is ∙ c.in_ok-cells.ensures.found) in
+    either-stopped (IsCsvOf c.args.name.now book) (IsMissingOf c.args.name.now book) a.result a.ensures.1 (inl shown) c.in_err-write_cells-in-Some.ensures
+
+pub returns-in_ok-write_cells-in-Some : goal.returns-in_ok-write_cells-in-Some
+returns-in_ok-write_cells-in-Some g c =
+    let book = c.args.view.now.book in
+    let shown = csv_of c.args.name.now book _ (ap Some c.iter.ensures ∙ sym c.in-Some.is ∙ c.in_ok-cells.ensures.found) in
+    (_, shown, c.in_ok-write_cells-in-Some.ensures)
+
+pub returns-in-None : goal.returns-in-None
+returns-in-None g c =
+    let none = no_view _ (sym c.in-None.is ∙ c.in_ok-cells.ensures.found) in
+    either-as _ _ c.write_missing.result (λ text no. absurd no) (λ text line. (none, line)) c.write_missing.ensures

@@ -9,4 +9,4 @@ abbrev pub invariant-loop-i : goal.invariant-loop-i
 invariant-loop-i g l =
     let sink = g.K.Sink in
     Gathers (sink.state l.fn.sink) l.fn.buffer (sink.state l.sink) l.buffer
-    (flat_map (ref_line l.cites.names) (take l.i l.cites.cites))
+    (flat_map (ref_line l.names) (take l.i l.formula))

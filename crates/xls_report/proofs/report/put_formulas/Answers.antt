@@ -1,14 +1,24 @@
-use Rattle.xls_report.specs.Report.{formula_line}
-use Rattle.xls_lines.proofs.GatherLemmas.{puts-stop, some-first, some-next, some-stopped}
+use Rattle.std.proofs.Common.{◌∙◌}
+use Rattle.xls_view.specs.Formulas.{text_entry}
+use Rattle.xls_lines.proofs.GatherLemmas.{gathers-as, puts-stop, some-all, some-first, some-next, some-stopped, stops-as}
+use Rattle.xls_report.proofs.TextLemmas.{formulas_each, token_lines}
 use Rattle.xls_report.proofs.report.put_formulas.Goals as goal
 
-pub loop-row-init : goal.loop-row-init
-loop-row-init g c = (tt, tt, some-first formula_line _ _ _ _ c.into_iter-row-iterator.ensures.into_iter_gives)
+pub loop-formula-init : goal.loop-formula-init
+loop-formula-init g c =
+    (tt, tt, some-first (token_lines c.args.formulas.now.context) _ _ _ _ (c.into_iter-formula-iterator.ensures.into_iter_gives ∙ c.iter-formula-items.ensures))
 
-pub loop-row-preserved : goal.loop-row-preserved
-loop-row-preserved g c =
-    (tt, tt, some-next formula_line c.loop-row.invariant.2 c.in-Some.ensures.steps c.in_ok-put_formula.ensures)
+pub loop-formula-preserved : goal.loop-formula-preserved
+loop-formula-preserved g c =
+    (tt, tt, some-next (token_lines c.args.formulas.now.context) c.loop-formula.invariant.2 c.in-Some.ensures.steps c.in_ok-put_formula_of.ensures)
 
-pub returns-in_err-put_formula : goal.returns-in_err-put_formula
-returns-in_err-put_formula g c =
-    puts-stop _ c.from_residual.result c.from_residual.ensures.1 (some-stopped formula_line c.loop-row.invariant.2 c.in-Some.ensures.steps c.in_err-put_formula.ensures)
+pub returns-in_err-put_formula_of : goal.returns-in_err-put_formula_of
+returns-in_err-put_formula_of g c =
+    let formulas = c.args.formulas.now in
+    puts-stop _ c.from_residual.result c.from_residual.ensures.1
+    (stops-as (some-stopped (token_lines formulas.context) c.loop-formula.invariant.2 c.in-Some.ensures.steps c.in_err-put_formula_of.ensures) (formulas_each (text_entry formulas.context) formulas.left))
+
+pub returns : goal.returns
+returns g c =
+    let formulas = c.args.formulas.now in
+    gathers-as (some-all (token_lines formulas.context) c.loop-formula.invariant.2 c.in-None.ensures.steps.0) (formulas_each (text_entry formulas.context) formulas.left)

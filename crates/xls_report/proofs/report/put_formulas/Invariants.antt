@@ -1,11 +1,11 @@
-use Rattle.xls_report.specs.Report.{formula_line}
 use Rattle.xls_lines.proofs.GatherLemmas.{PutsSome}
+use Rattle.xls_report.proofs.TextLemmas.{token_lines}
 use Rattle.xls_report.proofs.report.put_formulas.Given as goal
 
 -- the lines of some formulas are put, and the others are left
-abbrev pub invariant-loop-row : goal.invariant-loop-row
-invariant-loop-row g l =
+abbrev pub invariant-loop-formula : goal.invariant-loop-formula
+invariant-loop-formula g l =
     let sink = g.K.Sink in
-    (goal.iterator-loop-row g).can_next l.row-iterator ×
-    (goal.iterator-loop-row g).is_finite l.row-iterator ×
-    PutsSome formula_line l.fn.formulas l.row-iterator (sink.state l.fn.sink) l.fn.buffer (sink.state l.sink) l.buffer
+    (goal.iterator-loop-formula g).can_next l.formula-iterator ×
+    (goal.iterator-loop-formula g).is_finite l.formula-iterator ×
+    PutsSome (token_lines l.formulas.context) l.formulas.left l.formula-iterator (sink.state l.fn.sink) l.fn.buffer (sink.state l.sink) l.buffer

@@ -11,7 +11,7 @@ returns-in_err-put_dates g c =
 pub returns-in_err-put_names : goal.returns-in_err-put_names
 returns-in_err-put_names g c =
     let a = c.from_residual-in_err-put_names in
-    let book = c.args.book.now in
+    let book = c.args.view.now.book in
     let dates = gathers-as c.in_ok-put_dates.ensures (ap dates_line c.has_1904_epoch.ensures) in
     let names = stops-as c.in_err-put_names.ensures (all_names _ book.names c.defined_names.ensures) in
     puts-stop _ a.result a.ensures.1 (stops-as (stops-more (sheets_text book.sheets book.contents) (stops-then dates names)) (append_assoc (dates_line book.is_1904) _ _))
@@ -19,14 +19,14 @@ returns-in_err-put_names g c =
 pub returns-in_err-put_views : goal.returns-in_err-put_views
 returns-in_err-put_views g c =
     let a = c.from_residual-in_err-put_views in
-    let book = c.args.book.now in
+    let book = c.args.view.now.book in
     let dates = gathers-as c.in_ok-put_dates.ensures (ap dates_line c.has_1904_epoch.ensures) in
     let names = gathers-as c.in_ok-put_names.ensures (all_names _ book.names c.defined_names.ensures) in
     puts-stop _ a.result a.ensures.1 (stops-as (stops-then (gathers-then dates names) c.in_err-put_views.ensures) (append_assoc (dates_line book.is_1904) _ _))
 
 pub returns : goal.returns
 returns g c =
-    let book = c.args.book.now in
+    let book = c.args.view.now.book in
     let dates = gathers-as c.in_ok-put_dates.ensures (ap dates_line c.has_1904_epoch.ensures) in
     let names = gathers-as c.in_ok-put_names.ensures (all_names _ book.names c.defined_names.ensures) in
     gathers-as (gathers-then (gathers-then dates names) c.in_ok-put_views.ensures) (append_assoc (dates_line book.is_1904) _ _)

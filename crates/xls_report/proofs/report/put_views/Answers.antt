@@ -9,9 +9,9 @@ use Rattle.xls_report.proofs.report.put_views.Goals as goal
 pub returns-in_err-put_view : goal.returns-in_err-put_view
 returns-in_err-put_view g c =
     let i = c.loop-i.i in
-    let book = c.args.book.now in
+    let book = c.args.view.now.book in
     let sheet = c.index-sheets-i.result in
-    let here = mapped sheet_content c.sheets_metadata-sheets.result.now book.sheets i sheet c.loop-i-test.true c.index-sheets-i.is c.sheets_metadata-sheets.ensures in
+    let here = mapped sheet_content c.sheets-sheets.result.now book.sheets i sheet c.loop-i-test.true c.index-sheets-i.is c.sheets-sheets.ensures in
     let next = sheets-next book.sheets book.contents i (sheet_content sheet) _ here refl in
     let split = sheets-split book.sheets book.contents (i + 1) in
     puts-stop _ c.from_residual.result c.from_residual.ensures.1
@@ -20,17 +20,17 @@ returns-in_err-put_view g c =
 pub loop-i-preserved : goal.loop-i-preserved
 loop-i-preserved g c =
     let i = c.loop-i.i in
-    let book = c.args.book.now in
+    let book = c.args.view.now.book in
     let sheet = c.index-sheets-i.result in
-    let here = mapped sheet_content c.sheets_metadata-sheets.result.now book.sheets i sheet c.loop-i-test.true c.index-sheets-i.is c.sheets_metadata-sheets.ensures in
+    let here = mapped sheet_content c.sheets-sheets.result.now book.sheets i sheet c.loop-i-test.true c.index-sheets-i.is c.sheets-sheets.ensures in
     gathers-as (gathers-then {xs = sheets_text (take i book.sheets) (take i book.contents)} c.loop-i.invariant c.in_ok-put_view.ensures) (sheets-next book.sheets book.contents i (sheet_content sheet) _ here refl)
 
 pub returns : goal.returns
 returns g c =
     let i = c.loop-i.i in
-    let book = c.args.book.now in
-    let same : length book.sheets ≡ length c.sheets_metadata-sheets.result.now =
-    ap length (sym c.sheets_metadata-sheets.ensures)
-    ∙ length-map c.sheets_metadata-sheets.result.now sheet_content in
+    let book = c.args.view.now.book in
+    let same : length book.sheets ≡ length c.sheets-sheets.result.now =
+    ap length (sym c.sheets-sheets.ensures)
+    ∙ length-map c.sheets-sheets.result.now sheet_content in
     let all : i ≡ length book.sheets = omega (arith, same, c.loop-i-test.false, c.loop-i.auto.i-end) in
     gathers-as {xs = sheets_text (take i book.sheets) (take i book.contents)} c.loop-i.invariant (ap (λ n. sheets_text (take n book.sheets) (take n book.contents)) all ∙ sheets-all book.sheets book.contents)

@@ -8,4 +8,4 @@ abbrev pub invariant-loop-i : goal.invariant-loop-i
 invariant-loop-i g l =
     let sink = g.K.Sink in
     Gathers (sink.state l.fn.sink) l.fn.buffer (sink.state l.sink) l.buffer
-    (sheets_text (take l.i l.book.sheets) (take l.i l.book.contents))
+    (sheets_text (take l.i l.view.book.sheets) (take l.i l.view.book.contents))

@@ -18,13 +18,13 @@ all_sheets sheets contents e = each sheets ∙ ap (flat_map sheet_line) e
 
 pub returns-in_err-put_sheets : goal.returns-in_err-put_sheets
 returns-in_err-put_sheets g c =
-    delivers-stop c.from_residual.result c.from_residual.ensures.1 (stops-from c.new-buffer.ensures (stops-as c.in_err-put_sheets.ensures (all_sheets _ _ c.sheets_metadata.ensures)))
+    delivers-stop c.from_residual.result c.from_residual.ensures.1 (stops-from c.new-buffer.ensures (stops-as c.in_err-put_sheets.ensures (all_sheets _ _ c.sheets.ensures)))
 
 pub returns-in_err-finish : goal.returns-in_err-finish
 returns-in_err-finish g c =
     let a = c.from_residual-in_err-finish in
-    delivers-stop a.result a.ensures.1 (stops-after (gathers-from c.new-buffer.ensures (gathers-as c.in_ok-put_sheets.ensures (all_sheets _ _ c.sheets_metadata.ensures))) c.in_err-finish.ensures.puts)
+    delivers-stop a.result a.ensures.1 (stops-after (gathers-from c.new-buffer.ensures (gathers-as c.in_ok-put_sheets.ensures (all_sheets _ _ c.sheets.ensures))) c.in_err-finish.ensures.puts)
 
 pub returns : goal.returns
 returns g c =
-    wrote (gathers-after (gathers-from c.new-buffer.ensures (gathers-as c.in_ok-put_sheets.ensures (all_sheets _ _ c.sheets_metadata.ensures))) c.in_ok-finish.ensures.puts) c.in_ok-finish.ensures.none
+    wrote (gathers-after (gathers-from c.new-buffer.ensures (gathers-as c.in_ok-put_sheets.ensures (all_sheets _ _ c.sheets.ensures))) c.in_ok-finish.ensures.puts) c.in_ok-finish.ensures.none

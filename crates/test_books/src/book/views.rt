@@ -1,0 +1,140 @@
+use super::*;
+use std::test::*;
+use xls_data::{Data, Dimensions};
+use xls_view::{SheetCell, SheetCells, SheetFormulas, TextBuffer, View};
+
+// A cell as `row,column=` with a space after it, as `push_sheet` has it.
+fn push_cell(alloc: Global, text: &mut String, cell: SheetCell<'_>) -> Result<(), AllocError> {
+    let mut decoded = TextBuffer::new(alloc);
+    let (row, column) = (cell.row, cell.column);
+    let value = Data::from_ref(alloc, decoded.value_of(cell.value)?)?;
+    write!(text, "{row},{column}={value:?} ")?;
+    Ok(())
+}
+
+fn push_cells(alloc: Global, text: &mut String, cells: &SheetCells<'_>) -> Result<(), AllocError> {
+    for cell in cells.iter() {
+        push_cell(alloc, text, cell)?;
+    }
+    text.push_str("|")
+}
+
+// An opened workbook leaves out a formula whose text is empty.
+fn push_formulas(text: &mut String, formulas: &SheetFormulas<'_>) -> Result<(), AllocError> {
+    for formula in formulas.iter() {
+        let (row, column) = (formula.row, formula.column);
+        let told = formulas.text_of(formula)?;
+        if !told.is_empty() {
+            write!(text, "{row},{column}={told} ")?;
+        }
+    }
+    text.push_str("|")
+}
+
+fn push_region(text: &mut String, region: Dimensions) -> Result<(), AllocError> {
+    write!(text, "{region:?} ")?;
+    Ok(())
+}
+
+// The cells and a bar, the formulas and a bar, and the merged regions of a sheet.
+fn push_viewed(
+    alloc: Global,
+    text: &mut String,
+    view: &View<'_>,
+    n: usize,
+) -> Result<(), AllocError> {
+    if let Some(cells) = view.cells_at(n)? {
+        push_cells(alloc, text, &cells)?;
+    }
+    if let Some(formulas) = view.formulas_at(n)? {
+        push_formulas(text, &formulas)?;
+    }
+    if let Some(regions) = view.merges_at(n) {
+        for region in regions {
+            push_region(text, region)?;
+        }
+    }
+    Ok(())
+}
+
+fn push_opened(text: &mut String, book: &Xls, n: usize) -> Result<(), AllocError> {
+    push_sheet(text, book, n)?;
+    if let Some(regions) = book.merges_at(n) {
+        for region in regions {
+            push_region(text, *region)?;
+        }
+    }
+    Ok(())
+}
+
+// What the globals put in force and each of the sheets, of which there are fewer than four.
+fn view_text(alloc: Global, view: &View<'_>) -> Result<String, AllocError> {
+    let classes = view.formats();
+    let names = view.defined_names();
+    let sheets = view.sheets();
+    let mut text = String::new(alloc);
+    write!(
+        text,
+        "{} {classes:?} {names:?} {sheets:?} ",
+        view.has_1904_epoch()
+    )?;
+    for n in 0..4 {
+        push_viewed(alloc, &mut text, view, n)?;
+    }
+    Ok(text)
+}
+
+fn book_text(alloc: Global, book: &Xls) -> Result<String, AllocError> {
+    let classes = book.formats();
+    let names = book.defined_names();
+    let sheets = book.sheets_metadata();
+    let mut text = String::new(alloc);
+    write!(
+        text,
+        "{} {classes:?} {names:?} {sheets:?} ",
+        book.has_1904_epoch()
+    )?;
+    for n in 0..4 {
+        push_opened(&mut text, book, n)?;
+    }
+    Ok(text)
+}
+
+fn viewed(alloc: Global, opening: Opening, parts: &[&[u8]]) -> Result<String, XlsError> {
+    let bytes = joined(alloc, parts)?;
+    let options = options_of(alloc, opening)?;
+    let view = View::new(alloc, &bytes, &options)?;
+    Ok(view_text(alloc, &view)?)
+}
+
+fn shown(alloc: Global, opening: Opening, parts: &[&[u8]]) -> Result<String, XlsError> {
+    let book = opened(alloc, opening, parts)?;
+    Ok(book_text(alloc, &book)?)
+}
+
+// Whether both give the same text, or the same refusal.
+fn is_same(alloc: Global, opening: Opening, parts: &[&[u8]]) -> bool {
+    match (viewed(alloc, opening, parts), shown(alloc, opening, parts)) {
+        (Ok(one), Ok(other)) => one.as_str() == other.as_str(),
+        (Err(one), Err(other)) => one == other,
+        _ => false,
+    }
+}
+
+#[test]
+fn a_view_shows_what_opening_shows(rt: HostRuntime) {
+    let tables = [
+        globals::CASES.as_slice(),
+        parts::CASES.as_slice(),
+        formulas::CASES.as_slice(),
+        lookups::CASES.as_slice(),
+    ];
+    for cases in tables {
+        for (shows, opening, parts, _, _) in cases.iter() {
+            assert!(rt; is_same(rt.alloc(), *opening, parts), "{shows}");
+        }
+    }
+    for (parts, text, _) in crate::csv_rows::SHEETS.iter() {
+        assert!(rt; is_same(rt.alloc(), Opening::Plain, parts), "{text}");
+    }
+}

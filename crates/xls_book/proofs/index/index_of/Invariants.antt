@@ -1,8 +1,0 @@
-use Rattle.std.proofs.Common.{◌≡◌, ℕ, List, take}
-use Rattle.std.specs.BTreeMap.{get_by_text}
-use Rattle.xls_book.specs.Steps.{last_place}
-use Rattle.xls_book.proofs.index.index_of.Given as goal
-
--- the places of the sheets so far
-abbrev pub invariant-loop-i : goal.invariant-loop-i
-invariant-loop-i l = (name : List ℕ) → get_by_text l.index name ≡ last_place (take l.i l.sheets) name

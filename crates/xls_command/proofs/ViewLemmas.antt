@@ -1,0 +1,53 @@
+-- The workbook that bytes open to, by a view of them.
+use Rattle.std.proofs.Common.{◌≡◌, ℕ, ◌≤◌, List, length, refl, subst, None, Result, Ok, Err}
+use Rattle.std.specs.Prelude.{IfOk, IfErr}
+use Rattle.xls_strings.specs.declared.error.XlsError.{XlsError}
+use Rattle.xls_strings.specs.declared.error.XlsError.TheVariants as errors
+use Rattle.xls_open.specs.Checking.{FirstChecked}
+use Rattle.xls_open.specs.Opening.{default_options}
+use Rattle.xls_open.specs.declared.options.XlsOptions.{XlsOptions}
+use Rattle.xls_view.specs.Viewing.{IsViewed, ViewCause, Viewed}
+use Rattle.xls_report.proofs.CheckLemmas.{first_checked, none_checked}
+use Rattle.xls_command.specs.Endings.{IsViewRefusal, OpensTo}
+
+-- within the limit, the workbook that shows what a view shows is opened from its bytes
+opened_by : (bytes : List ℕ) (view : Viewed) → length bytes ≤ default_options.max_bytes
+    → IsViewed default_options bytes view → OpensTo bytes view.book
+opened_by bytes view within h = (
+  record {
+    options = default_options;
+    sheets = view.book.sheets;
+    names = view.book.names;
+    contents = view.book.contents;
+    is_1904 = view.book.is_1904;
+    classes = view.book.classes;
+  },
+  record {
+    sound = none_checked bytes within h.sound;
+    within = within;
+    entries = h.entries;
+    carries = h.carries;
+    full = h.full;
+    kept = refl;
+    every = h.every;
+  },
+  refl,
+)
+
+pub opens : (options : XlsOptions) (bytes : List ℕ) (r : Result Viewed XlsError) → options ≡ default_options
+    → length bytes ≤ default_options.max_bytes → IfOk r (IsViewed options bytes) → IfOk r (λ view. OpensTo bytes view.book)
+opens options bytes (Ok view) same within h =
+    opened_by bytes view within (subst (λ (o : XlsOptions). IsViewed o bytes view) same h)
+opens options bytes (Err e) same within h = tt
+
+-- and another refusal than out of memory is the first fault
+checked : (options : XlsOptions) (bytes : List ℕ) (e : XlsError) → options ≡ default_options
+    → (e ≡ errors.Memory → ⊥) → ViewCause options bytes e → FirstChecked None 33_554_432 bytes e
+checked options bytes errors.Memory same other cause = absurd (other refl)
+checked options bytes e same other cause = rw same at cause
+
+pub refused : (options : XlsOptions) (bytes : List ℕ) (r : Result Viewed XlsError) → options ≡ default_options
+    → length bytes ≤ default_options.max_bytes → IfErr r (ViewCause options bytes) → IfErr r (IsViewRefusal bytes)
+refused options bytes (Ok view) same within cause = tt
+refused options bytes (Err e) same within cause =
+    λ other. first_checked bytes e within (checked options bytes e same other cause)

@@ -1,0 +1,10 @@
+use Rattle.xls_command.proofs.ViewLemmas.{opens, refused}
+use Rattle.xls_command.proofs.perform.view_of.Goals as goal
+
+pub returns-clause-opened : goal.returns-clause-opened
+returns-clause-opened c =
+    opens _ c.args.bytes.now c.new.result c.in_ok-options.ensures c.requires.within c.new.ensures.ok
+
+pub returns-clause-fault : goal.returns-clause-fault
+returns-clause-fault c =
+    refused _ c.args.bytes.now c.new.result c.in_ok-options.ensures c.requires.within c.new.ensures.cause
