@@ -5,5 +5,6 @@ pub mod SettledLemmas
 pub mod TableLemmas
 pub mod MeaningLemmas
 pub mod ViewLemmas
+pub mod PlaceLemmas
 pub mod NameLemmas
 pub mod IndexLemmas

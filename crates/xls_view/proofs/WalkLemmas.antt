@@ -22,7 +22,7 @@ by_test : (bytes : List ℕ) (b : Bool) (e : are_bytes bytes ≡ b) → b ≡ tr
 by_test bytes true e t = (has_groups bytes (bytes_where bytes e)).2
 by_test bytes false e t = absurd cc
 
-are_groups : (bytes : List ℕ) → IsBytes bytes → Groups bytes (groups_in bytes).0 (groups_in bytes).1
+pub are_groups : (bytes : List ℕ) → IsBytes bytes → Groups bytes (groups_in bytes).0 (groups_in bytes).1
 are_groups bytes fits = by_test bytes (are_bytes bytes) refl (where_bytes bytes fits)
 
 -- what any walk finds is what is kept

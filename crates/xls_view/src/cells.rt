@@ -4,12 +4,12 @@ ghost use Rattle.std.specs.Prelude.{◌≡◌, IfOk, IsTrue, map};
 ghost use Rattle.xls_biff.specs.Cells.{Entry};
 ghost use Rattle.xls_cells.specs.Positions.{IsAscending};
 ghost use Rattle.xls_view.specs.Contents.{cells_from, kept_in, settled};
-ghost use Rattle.xls_view.specs.Placing.{cell_placed};
+ghost use Rattle.xls_view.specs.Placing.{cell_placed, cells_held};
 ghost use Rattle.xls_view.specs.Walking.{IsSound};
 
 use crate::ascent::Ascent;
-use crate::places::{placed_cell, push_cells};
-use crate::value::SheetCell;
+use crate::places::{next_place, placed_cell, push_cells};
+use crate::value::{SheetCell, position_of};
 use crate::walk::CellWalk;
 use std::alloc::{AllocError, Global};
 use std::marker::Model;
@@ -24,36 +24,60 @@ fn ascends(cells: CellWalk<'_>) -> bool
 {
     let mut ascent = Ascent::new();
     for cell in cells {
-        ascent = ascent.with((cell.row, cell.column));
+        ascent = ascent.with(position_of(cell));
     }
     ascent.is_strict()
 }
 
-/// Where the cells of a part stand, by position, of those of one position the last.
-fn in_order(alloc: Global, part: &[u8], force: &InForce<'_>) -> Result<Vec<Cell<usize>>, AllocError>
+/// Where the cells of a part stand.
+fn places_of(
+    alloc: Global,
+    part: &[u8],
+    force: &InForce<'_>,
+) -> Result<Vec<Cell<usize>>, AllocError>
     requires { IsSound force.now (part.now, 0) }
     ensures { IfOk result (λ v. map (cell_placed force.now part.now) v.items
-        ≡ settled (cells_from force.now (0, 0) (kept_in part.now 0))) }
+        ≡ cells_from force.now (0, 0) (kept_in part.now 0)) }
 {
     let mut places = Vec::new(alloc);
     let mut last = (0, 0);
     for item in PlacedRecords::new(part) {
         let (start, record) = match item {
             Ok(placed) => placed,
-            Err(_) => break,
+            Err(_) => return Ok(places),
         };
-        push_cells(
-            alloc,
-            &mut places,
-            &record,
-            last,
-            part.len() - start.len(),
-            force,
-        )?;
+        let at = part.len() - start.len();
+        push_cells(alloc, &mut places, &record, last, at, force)?;
         last = formula_position(&record).unwrap_or(last);
     }
+    Ok(places)
+}
+
+/// Likewise by position, of those of one position the last.
+fn in_order(alloc: Global, part: &[u8], force: &InForce<'_>) -> Result<Vec<Cell<usize>>, AllocError>
+    requires { IsSound force.now (part.now, 0) }
+    ensures { IfOk result (λ v. map (cell_placed force.now part.now) v.items
+        ≡ settled (cells_from force.now (0, 0) (kept_in part.now 0))) }
+{
+    let places = places_of(alloc, part, force)?;
     let sorted = sorted_cells(alloc, places)?;
     Ok(sorted)
+}
+
+/// Where the cells of a part stand in order, where its records don't ascend.
+fn order_of(
+    alloc: Global,
+    part: &[u8],
+    force: &InForce<'_>,
+) -> Result<Option<Vec<Cell<usize>>>, AllocError>
+    requires { IsSound force.now (part.now, 0) }
+    ensures { IfOk result (λ o. cells_held force.now part.now o ≡ settled (cells_from force.now (0, 0) (kept_in part.now 0))) }
+{
+    if ascends(CellWalk::new(alloc, force, part)) {
+        return Ok(None);
+    }
+    let sorted = in_order(alloc, part, force)?;
+    Ok(Some(sorted))
 }
 
 /// The cells of a sheet, by row, then column, of those of one position the last. Contracts see the list
@@ -88,13 +112,10 @@ impl<'v> SheetCells<'v> {
         part: &'v [u8],
     ) -> Result<SheetCells<'v>, AllocError>
         requires { IsSound force (part.now, 0) }
-        ensures { IfOk result (λ cells. cells ≡ settled (cells_from force.entry (0, 0) (kept_in part.now 0))) }
+        ensures settled { IfOk result (λ cells. cells ≡ settled (cells_from force.entry (0, 0) (kept_in part.now 0))) }
+        ensures ordered { IfOk result (λ cells. IsAscending (map (λ (c : Entry). c.0) cells)) }
     {
-        let sorted = if ascends(CellWalk::new(alloc, &force, part)) {
-            None
-        } else {
-            Some(in_order(alloc, part, &force)?)
-        };
+        let sorted = order_of(alloc, part, &force)?;
         Ok(SheetCells {
             alloc,
             force,
@@ -110,11 +131,15 @@ impl<'v> SheetCells<'v> {
         match &self.sorted {
             None => Cells::new(
                 CellWalk::new(self.alloc, &self.force, self.part),
+                self.alloc,
+                &self.force,
                 self.part,
                 &[],
             ),
             Some(places) => Cells::new(
-                CellWalk::new(self.alloc, &self.force, &[]),
+                CellWalk::none(self.alloc, &self.force),
+                self.alloc,
+                &self.force,
                 self.part,
                 places,
             ),
@@ -127,6 +152,8 @@ impl<'v> SheetCells<'v> {
 pub struct Cells<'c> {
     /// The cells of the records that are left, where these ascend.
     walk: CellWalk<'c>,
+    alloc: Global,
+    force: &'c InForce<'c>,
     part: &'c [u8],
     /// Else the places that are left.
     places: &'c [Cell<usize>],
@@ -160,24 +187,35 @@ impl<'c> Iterator for Cells<'c> {
         if let Some(cell) = self.walk.next() {
             return Some(cell);
         }
-        if self.places.is_empty() {
-            return None;
-        }
-        let (first, rest) = self.places.split_at(1);
-        self.places = rest;
-        let at = *first[0].get_value();
-        Some(placed_cell(
-            self.alloc,
-            self.part,
-            first[0].get_position(),
-            at,
-            self.force,
-        ))
+        let (position, at) = next_place(&mut self.places)?;
+        Some(placed_cell(self.alloc, self.part, position, at, self.force))
     }
 }
 
 impl<'c> Cells<'c> {
-    ghost use Rattle.std.specs.Prelude.{◌≡◌};
+    ghost use Rattle.std.specs.Prelude.{◌≡◌, ◌++◌, map};
+    ghost use Rattle.xls_model.specs.Walks.{IsBytes};
+    ghost use Rattle.xls_view.specs.Placing.{cell_placed};
+
+    /// These cells, and those at some places of a part.
+    fn new(
+        walk: CellWalk<'c>,
+        alloc: Global,
+        force: &'c InForce<'c>,
+        part: &'c [u8],
+        places: &'c [Cell<usize>],
+    ) -> Cells<'c>
+        requires { IsBytes part.now }
+        ensures { result ≡ walk.entry ++ map (cell_placed force.now part.now) places.now }
+    {
+        Cells {
+            walk,
+            alloc,
+            force,
+            part,
+            places,
+        }
+    }
 
     /// The same cells, to be gone through once more. Takes no memory.
     pub fn again(&self) -> Cells<'c>

@@ -4,7 +4,7 @@ ghost use Rattle.xls_model.specs.Walks.{IsBytes};
 ghost use Rattle.std.specs.Prelude.{◌≡◌, ◌++◌, ◌∷◌, [], IfOk, IsTrue, OnOk, map};
 ghost use Rattle.xls_cells.specs.Positions.{IsAscending};
 ghost use Rattle.xls_reading.specs.Order.{somes};
-ghost use Rattle.xls_view.specs.Placing.{formula_placed};
+ghost use Rattle.xls_view.specs.Placing.{formula_placed, formulas_held};
 ghost use Rattle.xls_strings.specs.Texts.{text_of};
 ghost use Rattle.xls_view.specs.Formulas.{Formula, formula_of, formulas_of, text_entry};
 ghost use Rattle.xls_view.specs.Contents.{kept_in, settled};
@@ -14,7 +14,7 @@ ghost use Rattle.std.specs.Option.{option_map};
 ghost use Rattle.xls_view.specs.Walking.{formula_seen, PassesFormula};
 
 use crate::ascent::Ascent;
-use crate::places::placed_formula;
+use crate::places::{next_place, placed_formula};
 use crate::value::FormulaCell;
 use std::alloc::{AllocError, Global};
 use std::marker::Model;
@@ -58,20 +58,39 @@ fn ascends(formulas: FormulaWalk<'_>) -> bool
     ascent.is_strict()
 }
 
-/// Where the formulas of a part stand, by position, of those of one position the last.
-fn in_order(alloc: Global, part: &[u8]) -> Result<Vec<Cell<usize>>, AllocError>
-    ensures { IfOk result (λ v. map (formula_placed part.now) v.items ≡ settled (formulas_of (kept_in part.now 0))) }
+/// Where the formulas of a part stand.
+fn places_of(alloc: Global, part: &[u8]) -> Result<Vec<Cell<usize>>, AllocError>
+    ensures { IfOk result (λ v. map (formula_placed part.now) v.items ≡ formulas_of (kept_in part.now 0)) }
 {
     let mut places = Vec::new(alloc);
     for item in PlacedRecords::new(part) {
         let (start, record) = match item {
             Ok(placed) => placed,
-            Err(_) => break,
+            Err(_) => return Ok(places),
         };
         push_formula(alloc, &mut places, &record, part.len() - start.len())?;
     }
+    Ok(places)
+}
+
+/// Likewise by position, of those of one position the last.
+fn in_order(alloc: Global, part: &[u8]) -> Result<Vec<Cell<usize>>, AllocError>
+    ensures { IfOk result (λ v. map (formula_placed part.now) v.items ≡ settled (formulas_of (kept_in part.now 0))) }
+{
+    let places = places_of(alloc, part)?;
     let sorted = sorted_cells(alloc, places)?;
     Ok(sorted)
+}
+
+/// Where the formulas of a part stand in order, where they don't ascend.
+fn order_of(alloc: Global, part: &[u8]) -> Result<Option<Vec<Cell<usize>>>, AllocError>
+    ensures { IfOk result (λ o. formulas_held part.now o ≡ settled (formulas_of (kept_in part.now 0))) }
+{
+    if ascends(FormulaWalk::new(alloc, part)) {
+        return Ok(None);
+    }
+    let sorted = in_order(alloc, part)?;
+    Ok(Some(sorted))
 }
 
 impl<'v> SheetFormulas<'v> {
@@ -86,11 +105,7 @@ impl<'v> SheetFormulas<'v> {
           left = settled (formulas_of (kept_in part.now 0));
         }) }
     {
-        let sorted = if ascends(FormulaWalk::new(alloc, part)) {
-            None
-        } else {
-            Some(in_order(alloc, part)?)
-        };
+        let sorted = order_of(alloc, part)?;
         Ok(SheetFormulas {
             alloc,
             force,
@@ -104,9 +119,14 @@ impl<'v> SheetFormulas<'v> {
         ensures { result ≡ self.now.left }
     {
         match &self.sorted {
-            None => FormulaCells::new(FormulaWalk::new(self.alloc, self.part), self.part, &[]),
+            None => FormulaCells::new(
+                FormulaWalk::new(self.alloc, self.part),
+                self.alloc,
+                self.part,
+                &[],
+            ),
             Some(places) => {
-                FormulaCells::new(FormulaWalk::new(self.alloc, &[]), self.part, places)
+                FormulaCells::new(FormulaWalk::none(self.alloc), self.alloc, self.part, places)
             }
         }
     }
@@ -216,7 +236,7 @@ impl<'c> Iterator for FormulaWalk<'c> {
 }
 
 impl<'c> FormulaWalk<'c> {
-    ghost use Rattle.std.specs.Prelude.{◌≡◌};
+    ghost use Rattle.std.specs.Prelude.{◌≡◌, []};
     ghost use Rattle.xls_view.specs.Contents.{kept_in};
     ghost use Rattle.xls_view.specs.Formulas.{formulas_of};
 
@@ -227,6 +247,17 @@ impl<'c> FormulaWalk<'c> {
         FormulaWalk {
             alloc,
             records: SheetRecords::new(part),
+        }
+    }
+
+    /// No formulas.
+    #[tactic(auto, using(crate::proofs::WalkLemmas::kept_nothing))]
+    fn none(alloc: Global) -> FormulaWalk<'c>
+        ensures { result ≡ [] }
+    {
+        FormulaWalk {
+            alloc,
+            records: SheetRecords::new(&[]),
         }
     }
 
@@ -246,6 +277,7 @@ impl<'c> FormulaWalk<'c> {
 pub struct FormulaCells<'c> {
     /// The formulas of the records that are left, where these ascend.
     walk: FormulaWalk<'c>,
+    alloc: Global,
     part: &'c [u8],
     /// Else the places that are left.
     places: &'c [Cell<usize>],
@@ -279,13 +311,8 @@ impl<'c> Iterator for FormulaCells<'c> {
         if let Some(formula) = self.walk.next() {
             return Some(formula);
         }
-        if self.places.is_empty() {
-            return None;
-        }
-        let (first, rest) = self.places.split_at(1);
-        self.places = rest;
-        let at = *first[0].get_value();
-        Some(placed_formula(self.alloc, self.part, first[0].get_position(), at))
+        let (position, at) = next_place(&mut self.places)?;
+        Some(placed_formula(self.alloc, self.part, position, at))
     }
 }
 
@@ -295,11 +322,21 @@ impl<'c> FormulaCells<'c> {
     ghost use Rattle.xls_view.specs.Placing.{formula_placed};
 
     /// These formulas, and those at some places of a part.
-    fn new(walk: FormulaWalk<'c>, part: &'c [u8], places: &'c [Cell<usize>]) -> FormulaCells<'c>
+    fn new(
+        walk: FormulaWalk<'c>,
+        alloc: Global,
+        part: &'c [u8],
+        places: &'c [Cell<usize>],
+    ) -> FormulaCells<'c>
         requires { IsBytes part.now }
         ensures { result ≡ walk.entry ++ map (formula_placed part.now) places.now }
     {
-        FormulaCells { walk, part, places }
+        FormulaCells {
+            walk,
+            alloc,
+            part,
+            places,
+        }
     }
 
     /// The same formulas, to be gone through once more. Takes no memory.
@@ -308,6 +345,7 @@ impl<'c> FormulaCells<'c> {
     {
         FormulaCells {
             walk: self.walk.again(),
+            alloc: self.alloc,
             part: self.part,
             places: self.places,
         }

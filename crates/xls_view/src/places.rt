@@ -1,6 +1,7 @@
 //! Where the cells and the formulas of a part stand, for parts whose records don't ascend.
 
-ghost use Rattle.std.specs.Prelude.{◌≡◌, ◌++◌, ◌∷◌, ◌-◌, [], ℕ, List, OnOk, Ok, map, slice_get};
+ghost use Rattle.std.specs.Prelude.{◌≡◌, ◌≤◌, ◌<◌, ◌^◌, ◌+◌, ◌++◌, ◌∷◌, ◌-◌, [], ℕ, List, OnOk, Ok, drop, length, map, slice_get, take};
+ghost use Rattle.xls_bytes.specs.Numbers.{le};
 ghost use Rattle.std.specs.Option.{option_map};
 ghost use Rattle.xls_biff.specs.SheetTable.{SheetRecord};
 ghost use Rattle.xls_biff.specs.Walking.{group_of};
@@ -8,13 +9,16 @@ ghost use Rattle.xls_model.specs.Listing.{kept_group};
 ghost use Rattle.xls_reading.specs.SheetTable.{adds, kept_line};
 ghost use Rattle.xls_biff.specs.Records.Rk.{first_column, mul_rk_at};
 ghost use Rattle.xls_biff.specs.Cells.{Entry};
-ghost use Rattle.xls_view.specs.Placing.{cell_in, cell_placed, formula_placed, found_kept, record_at, value_or_blank};
+ghost use Rattle.xls_view.specs.Placing.{cell_in, cell_placed, first_kept, formula_placed, found_kept, record_at, value_at, value_or_blank, Place};
+ghost use Rattle.xls_view.specs.Walking.{Gives};
+ghost use Rattle.xls_model.specs.Walks.{IsBytes};
+ghost use Rattle.xls_view.specs.Groups.{groups_in};
 ghost use Rattle.xls_view.specs.Walking.{formula_seen};
 ghost use Rattle.xls_view.specs.Values.{cell_entry, value_content};
 
 use crate::formulas::formula_of;
 use crate::record::cell_of;
-use crate::value::{CellValue, FormulaCell, SheetCell, read_cell};
+use crate::value::{CellValue, FormulaCell, SheetCell, position_of, read_cell};
 use std::alloc::{AllocError, Global};
 use xls_biff::{Record, RecordIter, cell_of_mul_rk, check_sheet_record, count_mul_rk};
 use xls_bytes::read_u16;
@@ -22,19 +26,48 @@ use xls_data::{Cell, DataRef};
 use xls_model::types::MUL_RK;
 use xls_open::InForce;
 
+/// The first of these records, if there is one.
+fn first_of<'c>(records: &mut RecordIter<'c>) -> Option<Record<'c>>
+    requires { IsBytes records.old }
+    ensures { found_kept result ≡ first_kept (groups_in records.old).0 }
+{
+    let item = match records.next() {
+        Some(item) => item,
+        None => return None,
+    };
+    let record = match item {
+        Ok(record) => record,
+        Err(_) => return None,
+    };
+    Some(record)
+}
+
+/// The bytes from an offset on, and none past the end.
+pub(crate) fn part_at(bytes: &[u8], offset: usize) -> &[u8]
+    ensures { result.now ≡ drop offset bytes.now }
+{
+    if bytes.len() < offset {
+        return &[];
+    }
+    let (_, part) = bytes.split_at(offset);
+    part
+}
+
 /// The record that begins at an offset of a part.
 fn record_at<'c>(part: &'c [u8], at: usize) -> Option<Record<'c>>
     ensures { found_kept result ≡ record_at part.now at }
 {
-    if part.len() < at {
-        return None;
-    }
-    let (_, start) = part.split_at(at);
-    let mut records = RecordIter::new(start);
-    match records.next()? {
-        Ok(record) => Some(record),
-        Err(_) => None,
-    }
+    first_of(&mut RecordIter::new(part_at(part, at)))
+}
+
+/// The first column of a MulRk record.
+fn first_column(body: &[u8]) -> u32
+    requires { 4 ≤ length body.now }
+    ensures column { result ≡ first_column body.now }
+    ensures small { result < 2 ^ 16 }
+{
+    let (_, behind) = body.split_at(2);
+    u32::from(read_u16(behind))
 }
 
 /// The value of the cell at a column of a MulRk record without a fault.
@@ -46,8 +79,7 @@ fn value_in_run<'c>(body: &'c [u8], column: u32, force: &InForce<'c>) -> Option<
         Ok(count) => count,
         Err(_) => return None,
     };
-    let first = u32::from(read_u16(&body[2..]));
-    let nth = column.saturating_sub(first) as usize;
+    let nth = column.saturating_sub(first_column(body)) as usize;
     if nth >= count {
         return None;
     }
@@ -74,6 +106,26 @@ fn value_in<'c>(
     }
 }
 
+/// The value of the cell at a position whose record begins at an offset of a part, if the record has it.
+fn placed_value<'c>(
+    alloc: Global,
+    part: &'c [u8],
+    position: (u32, u32),
+    at: usize,
+    force: &InForce<'c>,
+) -> Option<CellValue<'c>>
+    ensures { value_or_blank result ≡ value_at force.now part.now position at }
+{
+    let record = match record_at(part, at) {
+        Some(record) => record,
+        None => return None,
+    };
+    match check_sheet_record(&record, force.version) {
+        Ok(()) => value_in(alloc, &record, position, force),
+        Err(_) => None,
+    }
+}
+
 /// The cell at a position whose record begins at an offset of a part; blank where the record has none.
 pub(crate) fn placed_cell<'c>(
     alloc: Global,
@@ -85,17 +137,23 @@ pub(crate) fn placed_cell<'c>(
     ensures { cell_entry result ≡ cell_placed force.now part.now (position, at) }
 {
     let (row, column) = position;
-    let found = match record_at(part, at) {
-        Some(record) if check_sheet_record(&record, force.version).is_ok() => {
-            value_in(alloc, &record, position, force)
-        }
-        _ => None,
-    };
-    let value = match found {
+    let value = match placed_value(alloc, part, position, at, force) {
         Some(value) => value,
         None => CellValue::Value(DataRef::Empty),
     };
     SheetCell { row, column, value }
+}
+
+/// The next of some places.
+pub(crate) fn next_place(places: &mut &[Cell<usize>]) -> Option<((u32, u32), usize)>
+    ensures { Gives (λ (c : Place). c) places.old.now result places.new.now }
+{
+    if places.is_empty() {
+        return None;
+    }
+    let (first, rest) = places.split_at(1);
+    *places = rest;
+    Some((first[0].get_position(), *first[0].get_value()))
 }
 
 /// The formula at a position whose record begins at an offset of a part; without tokens where the record is
@@ -131,6 +189,15 @@ fn push_place(
     Ok(())
 }
 
+/// Where a cell of a MulRk record stands, by its number there.
+fn run_position(body: &[u8], i: usize) -> (u32, u32)
+    requires head { 4 ≤ length body.now }
+    requires few { i < 2 ^ 16 }
+    ensures { result ≡ (le (take 2 body.now), first_column body.now + i) }
+{
+    (u32::from(read_u16(body)), first_column(body) + i as u32)
+}
+
 /// Puts the places of the cells of a MulRk record without a fault.
 fn push_run(
     places: &mut Vec<Cell<usize>>,
@@ -146,8 +213,7 @@ fn push_run(
         Err(_) => return Ok(()),
     };
     for i in 0..count {
-        let cell = cell_of_mul_rk(body, i, force.classes, force.is_1904);
-        push_place(places, cell.get_position(), at)?;
+        push_place(places, run_position(body, i), at)?;
     }
     Ok(())
 }
@@ -162,14 +228,16 @@ pub(crate) fn push_cells(
     at: usize,
     force: &InForce<'_>,
 ) -> Result<(), AllocError>
-    ensures { (g : SheetRecord) → kept_line force.now.cells (kept_group (group_of r.now)) ≡ Ok g
-        → OnOk result (places.new.items ≡ places.old.items ++ map (λ (c : Entry). (c.0, at)) (adds force.now.formulas last g).cells) }
+    ensures { (g : SheetRecord) (part : List ℕ) → kept_line force.now.cells (kept_group (group_of r.now)) ≡ Ok g
+        → record_at part at ≡ kept_group (group_of r.now)
+        → OnOk result (map (cell_placed force.now part) places.new.items
+        ≡ map (cell_placed force.now part) places.old.items ++ (adds force.now.formulas last g).cells) }
 {
     if r.typ == MUL_RK {
         return push_run(places, r.body, at, force);
     }
     match cell_of(alloc, r, last, force) {
-        Some(cell) => push_place(places, (cell.row, cell.column), at),
+        Some(cell) => push_place(places, position_of(cell), at),
         None => Ok(()),
     }
 }

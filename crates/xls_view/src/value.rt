@@ -80,3 +80,10 @@ pub(crate) fn read_cell<'v>(cell: Cell<Data>) -> SheetCell<'v>
     let (position, value) = cell.into_parts();
     cell_at(position, lent(value))
 }
+
+/// Where a cell stands.
+pub(crate) fn position_of(cell: SheetCell<'_>) -> (u32, u32)
+    ensures { result ≡ (cell.entry.row, cell.entry.column) }
+{
+    (cell.row, cell.column)
+}

@@ -1,12 +1,14 @@
 //! The view of a stream.
 
-ghost use Rattle.std.specs.Prelude.{◌≡◌, ℕ, drop, Err, IfErr, IfOk, List, None, map, slice_get};
+ghost use Rattle.std.specs.Prelude.{◌≡◌, ℕ, Err, IfErr, IfOk, IfSome, List, None, map, slice_get};
 ghost use Rattle.std.specs.Option.{option_map};
 ghost use Rattle.std.specs.Str.{chars};
 ghost use Rattle.xls_data.specs.Sheets.{sheet_content};
 ghost use Rattle.xls_open.specs.Workbook.{rules_of, told_of};
 ghost use Rattle.xls_open.specs.Steps.{AreGlobals};
 ghost use Rattle.xls_reading.specs.GlobalsTable.{forced_fault};
+ghost use Rattle.xls_biff.specs.Cells.{Entry};
+ghost use Rattle.xls_cells.specs.Positions.{IsAscending};
 ghost use Rattle.xls_reading.specs.Reading.{SheetView, shown_of};
 ghost use Rattle.xls_view.specs.Viewing.{IsFault, IsViewed, ViewCause, formulas_named};
 ghost use Rattle.xls_view.specs.Walking.{Named};
@@ -22,6 +24,7 @@ use crate::formulas::SheetFormulas;
 use crate::index::{find_named, index_of};
 use crate::merges::Merges;
 use crate::naming::ViewNaming;
+use crate::places::part_at;
 use std::alloc::{AllocError, Global};
 use std::collections::BTreeMap;
 use std::marker::Model;
@@ -153,17 +156,6 @@ fn view_of<'a>(
     })
 }
 
-/// The bytes from an offset on, and none past the end.
-fn part_at(bytes: &[u8], offset: usize) -> &[u8]
-    ensures { result.now ≡ drop offset bytes.now }
-{
-    if bytes.len() < offset {
-        return &[];
-    }
-    let (_, part) = bytes.split_at(offset);
-    part
-}
-
 impl<'a> View<'a> {
     /// The view of a stream's bytes, under the forced page, the bound of cells and the functions of the options.
     /// The first fault of the bytes is the one that `check_stream` answers; there is no limit of bytes.
@@ -261,8 +253,9 @@ impl<'a> View<'a> {
     /// The cells of the last sheet of a name. `None` exactly where no sheet has the name. Only running out
     /// of memory refuses.
     pub fn cells_named(&self, name: &str) -> Result<Option<SheetCells<'_>>, AllocError>
-        ensures { IfOk result (λ found. found
+        ensures found { IfOk result (λ found. found
             ≡ option_map (λ (v : SheetView). v.cells) (shown_of self.now.book (chars name.now))) }
+        ensures ordered { IfOk result (λ found. IfSome found (λ cells. IsAscending (map (λ (c : Entry). c.0) cells))) }
     {
         match self.part_named(name) {
             Some(part) => Ok(Some(SheetCells::new(self.alloc, self.force(), part)?)),
@@ -273,8 +266,9 @@ impl<'a> View<'a> {
     /// The cells of the last sheet of the name that the sheet at an index has. `None` exactly where no sheet
     /// has the index. Only running out of memory refuses.
     pub fn cells_at(&self, n: usize) -> Result<Option<SheetCells<'_>>, AllocError>
-        ensures { IfOk result (λ found. found
+        ensures found { IfOk result (λ found. found
             ≡ option_map (λ (v : SheetView). v.cells) (slice_get self.now.book.contents n)) }
+        ensures ordered { IfOk result (λ found. IfSome found (λ cells. IsAscending (map (λ (c : Entry). c.0) cells))) }
     {
         match self.part_at(n) {
             Some(part) => Ok(Some(SheetCells::new(self.alloc, self.force(), part)?)),

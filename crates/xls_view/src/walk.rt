@@ -1,6 +1,6 @@
 //! The cells of a sheet part in the order of its records.
 
-ghost use Rattle.std.specs.Prelude.{◌≡◌};
+ghost use Rattle.std.specs.Prelude.{◌≡◌, []};
 ghost use Rattle.xls_view.specs.Contents.{cells_from, kept_in};
 ghost use Rattle.xls_view.specs.Walking.{IsSound, Passes};
 
@@ -74,6 +74,20 @@ impl<'c> CellWalk<'c> {
             alloc,
             force,
             records: SheetRecords::new(part),
+            at: (0, 0),
+            run: Run::none(),
+        }
+    }
+
+    /// No cells.
+    #[tactic(auto, using(crate::proofs::WalkLemmas::kept_nothing))]
+    pub(crate) fn none(alloc: Global, force: &'c InForce<'c>) -> CellWalk<'c>
+        ensures { result ≡ [] }
+    {
+        CellWalk {
+            alloc,
+            force,
+            records: SheetRecords::new(&[]),
             at: (0, 0),
             run: Run::none(),
         }

@@ -1,0 +1,10 @@
+use Rattle.std.proofs.Common.{ap, ◌∙◌}
+use Rattle.xls_view.specs.Contents.{settled}
+use Rattle.xls_view.specs.Placing.{value_at}
+use Rattle.xls_view.proofs.PlaceLemmas.{sorted_seen}
+use Rattle.xls_view.proofs.cells.in_order.Goals as goal
+
+pub returns : goal.returns
+returns c =
+    sorted_seen (value_at c.args.force.now c.args.part.now) c.in_ok-places.places.items c.in_ok-sorted.sorted.items c.in_ok-sorted.ensures.ascending c.in_ok-sorted.ensures.last
+    ∙ ap settled c.in_ok-places.ensures
