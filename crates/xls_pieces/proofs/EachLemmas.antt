@@ -1,0 +1,1 @@
+-- Texts, each of an item, that are gathered one after another.

@@ -1,0 +1,53 @@
+//! A text that is gathered, and written in large pieces.
+
+ghost use Rattle.std.specs.Prelude.{◌≡◌, [], OnOk};
+ghost use Rattle.std.specs.String.{string_bytes};
+ghost use Rattle.xls_lines.specs.Gathering.{Puts};
+
+use std::alloc::Global;
+use xls_lines::{Sink, Stop, write_all};
+
+/// From so many bytes on the text is written.
+const PIECE: usize = 65_536;
+
+/// A text that is gathered before it is written, and the room into which numbers are printed first. Lines
+/// and rows are appended to `text`, and after each of them the text is passed on.
+#[derive(Drop)]
+pub struct Pieces {
+    pub text: String,
+    pub room: String,
+}
+
+impl Pieces {
+    /// No text. Takes no memory.
+    pub fn new(alloc: Global) -> Pieces
+        ensures { string_bytes result.text ≡ [] }
+    {
+        Pieces {
+            text: String::new(alloc),
+            room: String::new(alloc),
+        }
+    }
+
+    /// Writes all that is gathered.
+    pub fn finish<K: Sink>(&mut self, sink: &mut K) -> Result<(), Stop>
+        ensures puts { Puts (K.state sink.old) (string_bytes self.old.text) (K.state sink.new) (string_bytes self.new.text)
+            [] result }
+        ensures none { OnOk result (string_bytes self.new.text ≡ []) }
+    {
+        write_all(sink, self.text.as_bytes())?;
+        self.text.clear();
+        Ok(())
+    }
+
+    /// Writes what is gathered, where it is 64 KiB or more.
+    pub fn pass<K: Sink>(&mut self, sink: &mut K) -> Result<(), Stop>
+        ensures { Puts (K.state sink.old) (string_bytes self.old.text) (K.state sink.new) (string_bytes self.new.text)
+            [] result }
+    {
+        if self.text.len() < PIECE {
+            return Ok(());
+        }
+        self.finish(sink)
+    }
+}
