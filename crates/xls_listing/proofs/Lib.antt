@@ -1,0 +1,4 @@
+pub mod LineLemmas
+pub mod ShownLemmas
+pub mod RefLemmas
+pub mod CellLemmas
