@@ -1,0 +1,83 @@
+//! The cells of a sheet.
+
+ghost use Rattle.std.specs.Prelude.{◌≡◌, slice_get};
+ghost use Rattle.std.specs.List.{flat_map};
+ghost use Rattle.xls_data.specs.Refs.{ref_content_of};
+ghost use Rattle.xls_view.specs.Values.{cell_entry};
+ghost use Rattle.xls_readable.specs.Lines.{kind_and_item};
+ghost use Rattle.xls_listing.specs.Listing.{PutsLines, cell_lines, lines_of_cells, shown_at, valued_lines};
+
+use crate::values::shown_value;
+use std::alloc::Global;
+use xls_lines::{Sink, Stop};
+use xls_pieces::Pieces;
+use xls_readable::{Form, Value, push_cell};
+use xls_view::{Cells, SheetCell, TextBuffer, View};
+
+/// Puts the line of a value at a row and a column; a blank has none.
+fn put_value<K: Sink>(
+    form: Form,
+    pieces: &mut Pieces,
+    sink: &mut K,
+    row: u32,
+    column: u32,
+    value: &Value<'_>,
+) -> Result<(), Stop>
+    ensures { PutsLines form (valued_lines (row, column) (kind_and_item value.now))
+        (K.state sink.old) pieces.old (K.state sink.new) pieces.new result }
+{
+    push_cell(form, row, column, value, &mut pieces.room, &mut pieces.text)?;
+    pieces.pass(sink)
+}
+
+/// Puts the line of a cell, whose text is decoded in `text`.
+fn put_cell<K: Sink>(
+    form: Form,
+    pieces: &mut Pieces,
+    sink: &mut K,
+    text: &mut TextBuffer,
+    cell: SheetCell<'_>,
+) -> Result<(), Stop>
+    ensures { PutsLines form (cell_lines (cell_entry cell.entry))
+        (K.state sink.old) pieces.old (K.state sink.new) pieces.new result }
+{
+    let SheetCell { row, column, value } = cell;
+    let value = text.value_of(value)?;
+    put_value(form, pieces, sink, row, column, &shown_value(&value))
+}
+
+/// Puts the lines of a sheet's cells.
+fn put_cells<K: Sink>(
+    alloc: Global,
+    form: Form,
+    pieces: &mut Pieces,
+    sink: &mut K,
+    cells: Cells<'_>,
+) -> Result<(), Stop>
+    ensures { PutsLines form (flat_map cell_lines cells.entry)
+        (K.state sink.old) pieces.old (K.state sink.new) pieces.new result }
+{
+    let mut text = TextBuffer::new(alloc);
+    for cell in cells {
+        put_cell(form, pieces, sink, &mut text, cell)?;
+    }
+    Ok(())
+}
+
+/// Puts the lines of the cells of the sheet at an index.
+pub(crate) fn put_cells_at<K: Sink>(
+    alloc: Global,
+    form: Form,
+    pieces: &mut Pieces,
+    sink: &mut K,
+    view: &View<'_>,
+    n: usize,
+) -> Result<(), Stop>
+    ensures { PutsLines form (shown_at lines_of_cells (slice_get view.now.book.contents n))
+        (K.state sink.old) pieces.old (K.state sink.new) pieces.new result }
+{
+    match view.cells_at(n)? {
+        Some(cells) => put_cells(alloc, form, pieces, sink, cells.iter()),
+        None => Ok(()),
+    }
+}

@@ -1,0 +1,159 @@
+//! The formulas of the sheets.
+
+ghost use Rattle.std.specs.Prelude.{◌≡◌, ◌∷◌, [], map, slice_get};
+ghost use Rattle.std.specs.Str.{chars};
+ghost use Rattle.xls_data.specs.Sheets.{sheet_content};
+ghost use Rattle.xls_reading.specs.SheetTable.{shown_formulas};
+ghost use Rattle.xls_view.specs.Formulas.{text_entry};
+ghost use Rattle.xls_view.specs.Walking.{formula_seen};
+ghost use Rattle.xls_listing.specs.Listing.{IsShownLine, PutsLines, each_sheet, formula_line, formula_lines, lines_of_formulas, sheet_line, shown_at};
+ghost use Rattle.xls_pieces.specs.Each.{DeliversEach};
+
+use crate::sheets::put_sheet;
+use std::alloc::Global;
+use xls_data::Sheet;
+use xls_lines::{Sink, Stop};
+use xls_pieces::Pieces;
+use xls_readable::{Form, push_formula_line};
+use xls_view::{FormulaCell, SheetFormulas, View};
+
+/// Puts the line of a formula.
+fn put_formula<K: Sink>(
+    form: Form,
+    pieces: &mut Pieces,
+    sink: &mut K,
+    row: u32,
+    column: u32,
+    text: &str,
+) -> Result<(), Stop>
+    ensures { PutsLines form (formula_line ((row, column), chars text.now) ∷ [])
+        (K.state sink.old) pieces.old (K.state sink.new) pieces.new result }
+{
+    push_formula_line(form, row, column, text, &mut pieces.room, &mut pieces.text)?;
+    pieces.pass(sink)
+}
+
+/// Puts the line of a formula, unless its text is empty.
+fn put_shown_formula<K: Sink>(
+    form: Form,
+    pieces: &mut Pieces,
+    sink: &mut K,
+    row: u32,
+    column: u32,
+    text: &str,
+) -> Result<(), Stop>
+    ensures { PutsLines form (map formula_line (shown_formulas (((row, column), chars text.now) ∷ [])))
+        (K.state sink.old) pieces.old (K.state sink.new) pieces.new result }
+{
+    if text.is_empty() {
+        return Ok(());
+    }
+    put_formula(form, pieces, sink, row, column, text)
+}
+
+/// Puts the line of a formula of a sheet, unless its text is empty.
+fn put_formula_of<K: Sink>(
+    form: Form,
+    pieces: &mut Pieces,
+    sink: &mut K,
+    formulas: &SheetFormulas<'_>,
+    formula: FormulaCell<'_>,
+) -> Result<(), Stop>
+    ensures { PutsLines form
+        (map formula_line (shown_formulas (text_entry formulas.now.context (formula_seen formula.entry) ∷ [])))
+        (K.state sink.old) pieces.old (K.state sink.new) pieces.new result }
+{
+    let text = formulas.text_of(formula)?;
+    put_shown_formula(
+        form,
+        pieces,
+        sink,
+        formula.row,
+        formula.column,
+        text.as_str(),
+    )
+}
+
+/// Puts the lines of a sheet's formulas.
+fn put_formulas<K: Sink>(
+    form: Form,
+    pieces: &mut Pieces,
+    sink: &mut K,
+    formulas: &SheetFormulas<'_>,
+) -> Result<(), Stop>
+    ensures { PutsLines form
+        (map formula_line (shown_formulas (map (text_entry formulas.now.context) formulas.now.left)))
+        (K.state sink.old) pieces.old (K.state sink.new) pieces.new result }
+{
+    for formula in formulas.iter() {
+        put_formula_of(form, pieces, sink, formulas, formula)?;
+    }
+    Ok(())
+}
+
+/// Puts the lines of the formulas of the sheet at an index.
+pub(crate) fn put_formulas_at<K: Sink>(
+    form: Form,
+    pieces: &mut Pieces,
+    sink: &mut K,
+    view: &View<'_>,
+    n: usize,
+) -> Result<(), Stop>
+    ensures { PutsLines form (shown_at lines_of_formulas (slice_get view.now.book.contents n))
+        (K.state sink.old) pieces.old (K.state sink.new) pieces.new result }
+{
+    match view.formulas_at(n)? {
+        Some(formulas) => put_formulas(form, pieces, sink, &formulas),
+        None => Ok(()),
+    }
+}
+
+/// Puts the line of a sheet, and those of the formulas at its index.
+fn put_sheet_formulas<K: Sink>(
+    form: Form,
+    pieces: &mut Pieces,
+    sink: &mut K,
+    view: &View<'_>,
+    sheet: &Sheet,
+    n: usize,
+) -> Result<(), Stop>
+    ensures { PutsLines form
+        (sheet_line (sheet_content sheet.now) ∷ shown_at lines_of_formulas (slice_get view.now.book.contents n))
+        (K.state sink.old) pieces.old (K.state sink.new) pieces.new result }
+{
+    put_sheet(form, pieces, sink, sheet)?;
+    put_formulas_at(form, pieces, sink, view, n)
+}
+
+/// Puts the sheets in workbook order, each with its formulas.
+fn put_all_formulas<K: Sink>(
+    form: Form,
+    pieces: &mut Pieces,
+    sink: &mut K,
+    view: &View<'_>,
+) -> Result<(), Stop>
+    ensures { PutsLines form (each_sheet lines_of_formulas view.now.book.sheets view.now.book.contents)
+        (K.state sink.old) pieces.old (K.state sink.new) pieces.new result }
+{
+    let sheets = view.sheets();
+    for i in 0..sheets.len() {
+        put_sheet_formulas(form, pieces, sink, view, &sheets[i], i)?;
+    }
+    Ok(())
+}
+
+/// Writes the line of each sheet in workbook order, and after it those of its formulas whose text isn't
+/// empty. Beside what the view takes for a sheet, one piece of text is held, and the text of one formula.
+pub fn write_formula_list<K: Sink>(
+    alloc: Global,
+    sink: &mut K,
+    form: Form,
+    view: &View<'_>,
+) -> Result<(), Stop>
+    ensures { DeliversEach (IsShownLine form) (formula_lines view.now.book)
+        (K.state sink.old) (K.state sink.new) result }
+{
+    let mut pieces = Pieces::new(alloc);
+    put_all_formulas(form, &mut pieces, sink, view)?;
+    pieces.finish(sink)
+}

@@ -1,0 +1,184 @@
+//! The cells that the formulas of a workbook cite.
+
+ghost use Rattle.std.specs.Prelude.{◌≡◌, ◌∷◌, [], map, slice_get, unwrap_or};
+ghost use Rattle.std.specs.List.{flat_map};
+ghost use Rattle.std.specs.Str.{chars};
+ghost use Rattle.xls_refs.specs.Views.{cited_in, each_cited, lent_citation_of, sheets_cited};
+ghost use Rattle.xls_listing.specs.Listing.{IsShownLine, PutsLines, cited_line, ref_line, ref_lines, shown_at};
+ghost use Rattle.xls_pieces.specs.Each.{DeliversEach};
+
+use std::alloc::Global;
+use xls_biff::Strings;
+use xls_data::Dimensions;
+use xls_lines::{Sink, Stop};
+use xls_pieces::Pieces;
+use xls_readable::{Form, push_ref};
+use xls_refs::{CitedCells, CitedFormula, SheetCites, cites_of_sheet};
+use xls_view::View;
+
+/// The name at an index, and the empty text where there is none.
+fn name_of(names: &Strings, sheet: usize) -> &str
+    ensures { chars result.now ≡ unwrap_or (slice_get names.now sheet) [] }
+{
+    match names.get(sheet) {
+        Some(name) => name,
+        None => "",
+    }
+}
+
+/// Puts the line of cells that a formula cites: sheet, row and column of the formula, sheet of the cells,
+/// and their corners.
+fn put_cited<K: Sink>(
+    form: Form,
+    pieces: &mut Pieces,
+    sink: &mut K,
+    name: &str,
+    formula: (u32, u32),
+    sheet: &str,
+    cells: Dimensions,
+) -> Result<(), Stop>
+    ensures { PutsLines form (cited_line (chars name.now) formula (chars sheet.now) cells ∷ [])
+        (K.state sink.old) pieces.old (K.state sink.new) pieces.new result }
+{
+    push_ref(
+        form,
+        name,
+        formula,
+        sheet,
+        cells,
+        &mut pieces.room,
+        &mut pieces.text,
+    )?;
+    pieces.pass(sink)
+}
+
+/// Puts the line of cells that a formula cites, where the sheets have these names.
+fn put_cite<K: Sink>(
+    form: Form,
+    pieces: &mut Pieces,
+    sink: &mut K,
+    names: &Strings,
+    cite: CitedCells<'_>,
+) -> Result<(), Stop>
+    ensures { PutsLines form (ref_line names.now (lent_citation_of cite.entry) ∷ [])
+        (K.state sink.old) pieces.old (K.state sink.new) pieces.new result }
+{
+    let name = name_of(names, cite.sheet);
+    let cells = Dimensions {
+        start: cite.first,
+        end: cite.last,
+    };
+    put_cited(
+        form,
+        pieces,
+        sink,
+        name,
+        (cite.row, cite.col),
+        cite.on,
+        cells,
+    )
+}
+
+/// Puts the line at an index of what a formula cites, if there is one.
+fn put_cite_at<K: Sink>(
+    form: Form,
+    pieces: &mut Pieces,
+    sink: &mut K,
+    names: &Strings,
+    formula: &CitedFormula<'_>,
+    i: usize,
+) -> Result<(), Stop>
+    ensures { PutsLines form (shown_at (λ c. ref_line names.now c ∷ []) (slice_get formula.now i))
+        (K.state sink.old) pieces.old (K.state sink.new) pieces.new result }
+{
+    match formula.get(i) {
+        Some(cite) => put_cite(form, pieces, sink, names, cite),
+        None => Ok(()),
+    }
+}
+
+/// Puts the lines of all cells that a formula cites.
+fn put_cites<K: Sink>(
+    form: Form,
+    pieces: &mut Pieces,
+    sink: &mut K,
+    names: &Strings,
+    formula: &CitedFormula<'_>,
+) -> Result<(), Stop>
+    ensures { PutsLines form (map (ref_line names.now) formula.now)
+        (K.state sink.old) pieces.old (K.state sink.new) pieces.new result }
+{
+    for i in 0..formula.len() {
+        put_cite_at(form, pieces, sink, names, formula, i)?;
+    }
+    Ok(())
+}
+
+/// Puts the lines of all cells that the formulas of a sheet cite.
+fn put_sheet_refs<K: Sink>(
+    form: Form,
+    pieces: &mut Pieces,
+    sink: &mut K,
+    names: &Strings,
+    cites: &SheetCites<'_>,
+) -> Result<(), Stop>
+    ensures { PutsLines form (map (ref_line names.now) (each_cited cites.now))
+        (K.state sink.old) pieces.old (K.state sink.new) pieces.new result }
+{
+    for formula in cites.iter() {
+        let formula = formula?;
+        put_cites(form, pieces, sink, names, &formula)?;
+    }
+    Ok(())
+}
+
+/// Puts those of the sheet at an index, if there is one.
+fn put_refs_at<K: Sink>(
+    alloc: Global,
+    form: Form,
+    pieces: &mut Pieces,
+    sink: &mut K,
+    view: &View<'_>,
+    sheet: usize,
+) -> Result<(), Stop>
+    ensures { PutsLines form (shown_at (λ cites. map (ref_line view.now.context.sheets) (each_cited cites)) (slice_get (sheets_cited view.now) sheet))
+        (K.state sink.old) pieces.old (K.state sink.new) pieces.new result }
+{
+    match cites_of_sheet(alloc, view, sheet)? {
+        Some(cites) => put_sheet_refs(form, pieces, sink, view.naming().sheets, &cites),
+        None => Ok(()),
+    }
+}
+
+/// Puts the lines of all cells that are cited, sheet by sheet.
+fn put_refs<K: Sink>(
+    alloc: Global,
+    form: Form,
+    pieces: &mut Pieces,
+    sink: &mut K,
+    view: &View<'_>,
+) -> Result<(), Stop>
+    ensures { PutsLines form (ref_lines (cited_in view.now))
+        (K.state sink.old) pieces.old (K.state sink.new) pieces.new result }
+{
+    for sheet in 0..view.naming().sheets.len() {
+        put_refs_at(alloc, form, pieces, sink, view, sheet)?;
+    }
+    Ok(())
+}
+
+/// Writes a line for each cell or area that a formula cites: sheet by sheet, of each the formulas by row,
+/// then column, and of each formula from left to right.
+pub fn write_ref_list<K: Sink>(
+    alloc: Global,
+    sink: &mut K,
+    form: Form,
+    view: &View<'_>,
+) -> Result<(), Stop>
+    ensures { DeliversEach (IsShownLine form) (ref_lines (cited_in view.now))
+        (K.state sink.old) (K.state sink.new) result }
+{
+    let mut pieces = Pieces::new(alloc);
+    put_refs(alloc, form, &mut pieces, sink, view)?;
+    pieces.finish(sink)
+}

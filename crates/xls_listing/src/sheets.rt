@@ -1,0 +1,65 @@
+//! The sheets of a workbook.
+
+ghost use Rattle.std.specs.Prelude.{◌≡◌, ◌∷◌, [], map};
+ghost use Rattle.xls_data.specs.Sheets.{sheet_content};
+ghost use Rattle.xls_listing.specs.Listing.{IsShownLine, PutsLines, sheet_line, sheet_lines};
+ghost use Rattle.xls_pieces.specs.Each.{DeliversEach};
+
+use std::alloc::Global;
+use xls_data::Sheet;
+use xls_lines::{Sink, Stop};
+use xls_pieces::Pieces;
+use xls_readable::{Form, push_sheet};
+use xls_view::View;
+
+/// Puts the line of a sheet.
+pub(crate) fn put_sheet<K: Sink>(
+    form: Form,
+    pieces: &mut Pieces,
+    sink: &mut K,
+    sheet: &Sheet,
+) -> Result<(), Stop>
+    ensures { PutsLines form (sheet_line (sheet_content sheet.now) ∷ [])
+        (K.state sink.old) pieces.old (K.state sink.new) pieces.new result }
+{
+    push_sheet(
+        form,
+        sheet.name.as_str(),
+        sheet.typ,
+        sheet.visible,
+        &mut pieces.room,
+        &mut pieces.text,
+    )?;
+    pieces.pass(sink)
+}
+
+/// Puts the lines of sheets.
+fn put_sheets<K: Sink>(
+    form: Form,
+    pieces: &mut Pieces,
+    sink: &mut K,
+    sheets: &[Sheet],
+) -> Result<(), Stop>
+    ensures { PutsLines form (map (λ s. sheet_line (sheet_content s)) sheets.now)
+        (K.state sink.old) pieces.old (K.state sink.new) pieces.new result }
+{
+    for sheet in sheets {
+        put_sheet(form, pieces, sink, sheet)?;
+    }
+    Ok(())
+}
+
+/// Writes the line of each sheet, in workbook order.
+pub fn write_sheet_list<K: Sink>(
+    alloc: Global,
+    sink: &mut K,
+    form: Form,
+    view: &View<'_>,
+) -> Result<(), Stop>
+    ensures { DeliversEach (IsShownLine form) (sheet_lines view.now.book)
+        (K.state sink.old) (K.state sink.new) result }
+{
+    let mut pieces = Pieces::new(alloc);
+    put_sheets(form, &mut pieces, sink, view.sheets())?;
+    pieces.finish(sink)
+}
