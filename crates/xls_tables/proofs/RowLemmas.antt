@@ -1,5 +1,5 @@
 -- Rows, one after another.
-use Rattle.std.proofs.Common.{◌≡◌, ◌⊎◌, inl, inr, ℕ, zero, suc, ◌+◌, ◌-◌, ◌<◌, ◌≤◌, Bool, true, false, List, [], ◌∷◌, ◌++◌, length, Result, Ok, Err, append_assoc, append-nil, arith, refl, sym, ap, subst, absurd, ◌∙◌}
+use Rattle.std.proofs.Common.{◌≡◌, ◌⊎◌, inl, inr, ℕ, zero, suc, ◌+◌, ◌-◌, ◌<◌, ◌≤◌, Bool, true, false, List, [], ◌∷◌, ◌++◌, length, Result, Ok, Err, append_assoc, append-nil, arith, refl, sym, ap, subst, ◌∙◌}
 use Rattle.std.specs.Prelude.{◌==◌}
 use Rattle.std.specs.Result.{IsErrAnd}
 use Rattle.xls_data.specs.Content.{Content}
@@ -18,15 +18,15 @@ use Rattle.xls_tables.specs.Tables.{BeginsRow, BeginsRows, BeginsTable, Delivers
 
 -- ---- the end of a row
 
-pub row_ended : {d : ℕ} {row : List Content} {text : List ℕ} {is_bare : Bool} → IsContentFields d row text
+pub row_ended : (d : ℕ) (row : List Content) {text : List ℕ} {is_bare : Bool} → IsContentFields d row text
     → is_bare ≡ (length text == 0) → IsContentRow d row (text ++ row_end is_bare)
-row_ended {d} {row} {text} {is_bare} (texts, are, is) bare =
+row_ended d row {text} {is_bare} (texts, are, is) bare =
     (texts, are, ap (λ (b : Bool). text ++ row_end b) bare ∙ ap (λ (t : List ℕ). t ++ row_end (length t == 0)) is)
 
 -- out of memory after all fields
-pub row_stop : {d : ℕ} {row : List Content} {a b : SinkState} {g h text : List ℕ} → IsContentFields d row text
+pub row_stop : (d : ℕ) (row : List Content) {a b : SinkState} {g h text : List ℕ} → IsContentFields d row text
     → Gathers a g b h text → (front : List ℕ) × BeginsRow d row front × Stops a g b front Memory
-row_stop {d} {row} {a} {b} {g} {h} {text} fields gathers =
+row_stop d row {a} {b} {g} {h} {text} fields gathers =
     (text, (row, [], sym (append-nil row), fields), stops-as (stops-memory [] gathers) (append-nil text))
 
 -- ---- a part of some rows
@@ -158,28 +158,28 @@ pub marked : (is_marked : Bool) (a : SinkState) (g h : List ℕ) → g ≡ [] �
     → Gathers a [] a h (byte_order_mark is_marked)
 marked is_marked a g h none e = gathers-from none (gathers-added a g h (byte_order_mark is_marked) e)
 
-pub table_stop : {d : ℕ} {rows : List (List Content)} {a b c : SinkState} {h : List ℕ} {e : Stop} (is_marked : Bool)
+pub table_stop : (d : ℕ) (is_marked : Bool) (rows : List (List Content)) {a b c : SinkState} {h : List ℕ} {e : Stop}
     → Gathers a [] b h (byte_order_mark is_marked)
     → (text : List ℕ) × BeginsRows d rows text × Stops b h c text e
     → (text : List ℕ) × BeginsTable d is_marked rows text × Stops a [] c text e
-table_stop is_marked mark (text, begins, stops) =
+table_stop d is_marked rows mark (text, begins, stops) =
     (byte_order_mark is_marked ++ text, (text, begins, refl), stops-then mark stops)
 
-pub table_gathered : {d : ℕ} {rows : List (List Content)} {a b c : SinkState} {h k : List ℕ} (is_marked : Bool)
+pub table_gathered : (d : ℕ) (is_marked : Bool) (rows : List (List Content)) {a b c : SinkState} {h k : List ℕ}
     → Gathers a [] b h (byte_order_mark is_marked)
     → (text : List ℕ) × Concatenates (IsContentRow d) rows text × Gathers b h c k text
     → (text : List ℕ) × IsTable d is_marked rows text × Gathers a [] c k text
-table_gathered is_marked mark (text, is, gathers) =
+table_gathered d is_marked rows mark (text, is, gathers) =
     (byte_order_mark is_marked ++ text, (text, is, refl), gathers-then mark gathers)
 
 -- all was gathered, and then it was given up
-pub table_unfinished : {d : ℕ} {is_marked : Bool} {rows : List (List Content)} {a b c : SinkState} {h : List ℕ} {e : Stop}
+pub table_unfinished : (d : ℕ) (is_marked : Bool) (rows : List (List Content)) {a b c : SinkState} {h : List ℕ} {e : Stop}
     → (text : List ℕ) × IsTable d is_marked rows text × Gathers a [] b h text → Stops b h c [] e
     → (text : List ℕ) × BeginsTable d is_marked rows text × Stops a [] c text e
-table_unfinished {d} {is_marked} {rows} (text, (body, is, e), gathers) stops =
+table_unfinished d is_marked rows (text, (body, is, e), gathers) stops =
     (text, (body, begins_all d rows body is, e), stops-after gathers stops)
 
-pub table_finished : {d : ℕ} {is_marked : Bool} {rows : List (List Content)} {a b c : SinkState} {h k : List ℕ}
+pub table_finished : (d : ℕ) (is_marked : Bool) (rows : List (List Content)) {a b c : SinkState} {h k : List ℕ}
     → (text : List ℕ) × IsTable d is_marked rows text × Gathers a [] b h text → Gathers b h c k [] → k ≡ []
     → (text : List ℕ) × IsTable d is_marked rows text × Wrote a c text
-table_finished (text, is, gathers) last none = (text, is, wrote (gathers-after gathers last) none)
+table_finished d is_marked rows (text, is, gathers) last none = (text, is, wrote (gathers-after gathers last) none)
