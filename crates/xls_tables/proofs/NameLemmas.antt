@@ -3,14 +3,13 @@ use Rattle.std.proofs.Common.{◌≡◌, ℕ, zero, suc, ◌+◌, ◌-◌, ◌%�
 use Rattle.std.specs.Prelude.{◌==◌, ◌||◌, if◌then◌else◌, nat_le, nat_lt}
 use Rattle.std.specs.Char.{len_utf8}
 use Rattle.std.specs.Fmt.{decimal}
-use Rattle.std.specs.List.{All}
 use Rattle.std.specs.Str.{chars}
 use Rattle.std.proofs.Math.Utf8.{encode}
 use Rattle.std.proofs.lemmas.Bool.{cases_lt}
 use Rattle.std.proofs.lemmas.Fmt.{decimal_by_steps, length-decimal-le}
 use Rattle.std.proofs.lemmas.List.{get_or_default}
 use Rattle.std.proofs.lemmas.List.Elements.{All-append, All-nil}
-use Rattle.std.proofs.lemmas.Str.{chars_past_char, encode_ascii, inside_one, length-encode}
+use Rattle.std.proofs.lemmas.Str.{chars_past_char, inside_one, length-encode}
 use Rattle.xls_tables.specs.FileNames.{IsSafeName, file_name, fitting, is_refused, kept_char, two_digits}
 
 -- ---- the characters that fit

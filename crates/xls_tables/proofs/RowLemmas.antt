@@ -1,19 +1,21 @@
 -- Rows, one after another.
-use Rattle.std.proofs.Common.{◌≡◌, ◌⊎◌, inl, inr, ℕ, zero, suc, ◌+◌, ◌-◌, ◌<◌, ◌≤◌, Bool, true, false, List, [], ◌∷◌, ◌++◌, length, Result, Ok, Err, append_assoc, append-nil, arith, refl, sym, ap, subst, ◌∙◌}
+use Rattle.std.proofs.Common.{◌≡◌, inl, inr, ℕ, suc, ◌+◌, ◌-◌, ◌<◌, ◌≤◌, Bool, List, [], ◌∷◌, ◌++◌, length, Result, Ok, Err, append_assoc, append-nil, arith, refl, sym, ap, subst, ◌∙◌}
 use Rattle.std.specs.Prelude.{◌==◌}
 use Rattle.std.specs.Result.{IsErrAnd}
 use Rattle.xls_data.specs.Content.{Content}
 use Rattle.xls_biff.specs.Cells.{Entry}
-use Rattle.xls_csv.specs.Walk.{left_along, row_along, rows_along}
+use Rattle.xls_csv.specs.Walk.{left_along, row_along, rows_along, walk}
 use Rattle.xls_csv.proofs.WalkLemmas.{rows_next}
-use Rattle.xls_readable.specs.Csv.{joined, row_end}
+use Rattle.xls_readable.specs.Csv.{row_end}
 use Rattle.xls_readable.specs.Values.{Concatenates}
 use Rattle.xls_lines.specs.Gathering.{Gathers, Stops, Wrote}
 use Rattle.xls_lines.specs.SinkState.{SinkState}
 use Rattle.xls_lines.specs.declared.stop.Stop.{Stop}
 use Rattle.xls_lines.specs.declared.stop.Stop.TheVariants.{Memory}
-use Rattle.xls_lines.proofs.GatherLemmas.{gathers-added, gathers-after, gathers-as, gathers-from, gathers-nothing, gathers-then, stops-after, stops-as, stops-from, stops-memory, stops-memory-now, stops-then, wrote}
+use Rattle.xls_lines.proofs.GatherLemmas.{gathers-added, gathers-after, gathers-from, gathers-nothing, gathers-then, stops-after, stops-as, stops-memory, stops-memory-now, stops-then, wrote}
 use Rattle.xls_tables.specs.Rows.{IsContentFields, IsContentRow}
+use Rattle.xls_tables.specs.Steps.{IsBoxOf}
+use Rattle.xls_tables.specs.declared.extent.Extent.{Extent}
 use Rattle.xls_tables.specs.Tables.{BeginsRow, BeginsRows, BeginsTable, DeliversTable, IsTable, byte_order_mark}
 
 -- ---- the end of a row
@@ -183,3 +185,8 @@ pub table_finished : (d : ℕ) (is_marked : Bool) (rows : List (List Content)) {
     → (text : List ℕ) × IsTable d is_marked rows text × Gathers a [] b h text → Gathers b h c k [] → k ≡ []
     → (text : List ℕ) × IsTable d is_marked rows text × Wrote a c text
 table_finished d is_marked rows (text, is, gathers) last none = (text, is, wrote (gathers-after gathers last) none)
+
+-- the rows that are put are those of the cells
+pub walked : (cells again ahead : List Entry) {extent : Extent} → again ≡ cells → ahead ≡ cells → IsBoxOf again extent
+    → rows_along extent.height extent.top extent.left extent.width ahead ≡ walk cells
+walked cells again ahead {extent} e f is = rw (f, is.height, is.top, is.left, is.width, e) refl

@@ -1,8 +1,7 @@
-use Rattle.std.proofs.Common.{◌≡◌, ℕ, List, subst, sym, length, ◌≤◌}
+use Rattle.std.proofs.Common.{ℕ, List, subst, sym, length, ◌≤◌}
 use Rattle.std.specs.Str.{chars}
-use Rattle.std.specs.String.{string_bytes}
 use Rattle.std.proofs.lemmas.Result.{IfOk-weaker}
-use Rattle.xls_tables.specs.FileNames.{IsSafeName, file_name}
+use Rattle.xls_tables.specs.FileNames.{IsSafeName}
 use Rattle.xls_tables.proofs.NameLemmas.{name_safe, name_short}
 use Rattle.xls_tables.proofs.file_names.file_name.Goals as goal
 

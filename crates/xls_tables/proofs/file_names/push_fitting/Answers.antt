@@ -1,10 +1,7 @@
-use Rattle.std.proofs.Common.{◌≡◌, ◌-◌, ◌++◌, List, ℕ, ap, append-nil, append_assoc, arith, encode_utf8_all, map, sym, ◌∙◌}
-use Rattle.std.specs.Char.{len_utf8}
-use Rattle.std.specs.Str.{chars}
+use Rattle.std.proofs.Common.{arith}
 use Rattle.std.specs.Str.Iter.{chars_rest}
 use Rattle.std.specs.String.{string_bytes}
 use Rattle.std.proofs.lemmas.Str.{IsUtf8-past_char}
-use Rattle.xls_tables.specs.FileNames.{fitting, kept_char}
 use Rattle.xls_tables.proofs.NameLemmas.{ended, fitted_all, fitted_more, fitted_none}
 use Rattle.xls_tables.proofs.file_names.push_fitting.Goals as goal
 
