@@ -1,0 +1,2 @@
+pub mod WorkbookLemmas
+pub mod EntryLemmas

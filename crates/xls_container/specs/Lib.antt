@@ -1,0 +1,5 @@
+pub mod Kinds
+pub mod Texts
+pub mod Files
+pub mod Obfuscation
+pub mod Contents
