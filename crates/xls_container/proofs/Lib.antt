@@ -1,2 +1,3 @@
 pub mod WorkbookLemmas
 pub mod EntryLemmas
+pub mod StandardFacts
