@@ -1,5 +1,5 @@
 -- The entry of a workbook's stream, and why its bytes are refused.
-use Rattle.std.proofs.Common.{Bool, ◌≡◌, ℕ, List, [], ◌∷◌, Option, Some, None, refl, sym, subst}
+use Rattle.std.proofs.Common.{◌∙◌, ap, Bool, ◌≡◌, ℕ, List, [], ◌∷◌, Option, Some, None, refl, sym, subst}
 use Rattle.std.proofs.Math.ListN.{get_or}
 use Rattle.std.proofs.lemmas.List.Quantifiers.{position-Some}
 use Rattle.std.proofs.lemmas.Option.{slice_get-get_or}
@@ -65,3 +65,11 @@ refused compound item is (errors.DirectoryChain fault) h = absurd h
 refused compound item is (errors.Directory fault) h = absurd h
 refused compound item is (errors.MiniFat fault) h = absurd h
 refused compound item is (errors.MiniStream fault) h = absurd h
+
+-- a compound has one entry of a workbook's stream
+pub one_item : (compound : Compound) (item other : Item) → IsWorkbookItem compound item → IsWorkbookItem compound other → item ≡ other
+one_item compound item other h k =
+    let places : Some h.place ≡ Some k.place = sym h.is_found ∙ k.is_found in
+    let place : h.place ≡ k.place = cc places in
+    let items : Some item ≡ Some other = sym h.is_item ∙ ap (slice_get compound.listing.items) place ∙ k.is_item in
+    cc items

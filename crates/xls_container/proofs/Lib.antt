@@ -1,3 +1,4 @@
-pub mod WorkbookLemmas
 pub mod EntryLemmas
 pub mod StandardFacts
+pub mod StepLemmas
+pub mod AnswerLemmas

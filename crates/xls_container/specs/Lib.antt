@@ -3,3 +3,4 @@ pub mod Texts
 pub mod Files
 pub mod Obfuscation
 pub mod Contents
+pub mod Laws

@@ -1,15 +1,16 @@
 //! Laws of the definitions.
 
-ghost use Rattle.std.specs.Prelude.{◌≡◌, ℕ, List};
-ghost use Rattle.xls_container.specs.Files.{WorkbookBytes};
+ghost use Rattle.std.specs.Prelude.{ℕ, List};
+ghost use Rattle.xls_container.specs.Laws.{HasOneAnswer};
 
-use xls_compound::one_compound;
-use xls_sectors::one_answer;
+use xls_directory::one_listing;
+use xls_sectors::one_answer as one_answer_of_sectors;
 
-/// A file holds the bytes of at most one workbook.
-pub fn one_workbook()
-    ensures { (file a b : List ℕ) → WorkbookBytes file a → WorkbookBytes file b → a ≡ b }
+/// A file gives the bytes of at most one workbook, or one fault, as it is printed, and never both, unless
+/// memory ran out.
+pub fn one_answer()
+    ensures { (file : List ℕ) → HasOneAnswer file }
 {
-    one_compound();
-    one_answer();
+    one_answer_of_sectors();
+    one_listing();
 }

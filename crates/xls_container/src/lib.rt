@@ -10,6 +10,6 @@ mod obfuscation;
 pub use container::Container;
 pub use fault::FileFault;
 pub use kind::FileKind;
-pub use laws::one_workbook;
+pub use laws::one_answer;
 pub use obfuscation::is_obfuscated;
 pub use xls_compound::{Compound, CompoundError};

@@ -1,7 +1,7 @@
 use Rattle.std.proofs.Common.{rules, sym, ◌∙◌, subst}
 use Rattle.xls_compound.specs.Compound.{LiesAdjacent}
 use Rattle.xls_container.proofs.EntryLemmas.{workbook_item, refused}
-use Rattle.xls_container.proofs.WorkbookLemmas.{one_item}
+use Rattle.xls_container.proofs.EntryLemmas.{one_item}
 use Rattle.xls_container.proofs.container.workbook_in.Goals as goal
 
 pub returns-in_err-stream-clause-err : goal.returns-in_err-stream-clause-err
