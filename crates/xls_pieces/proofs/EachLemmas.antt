@@ -1,1 +1,203 @@
 -- Texts, each of an item, that are gathered one after another.
+use Rattle.std.proofs.Common.{◌≡◌, ℕ, zero, suc, ◌+◌, ◌<◌, List, [], ◌∷◌, ◌++◌, length, get_or, take, drop, drop-cons, take-append-drop, Result, Ok, Err, sym, ◌∙◌, ap, subst, add-one, append_assoc, append-nil, refl}
+use Rattle.std.specs.List.{flat_map}
+use Rattle.std.proofs.lemmas.List.{take_more}
+use Rattle.std.proofs.lemmas.Grind.{flat_map-append}
+use Rattle.std.specs.Result.{IsErrAnd}
+use Rattle.xls_decimals.specs.Added.{Adds}
+use Rattle.xls_readable.specs.Values.{Concatenates}
+use Rattle.xls_lines.specs.SinkState.{SinkState}
+use Rattle.xls_lines.specs.Gathering.{Gathers, Stops}
+use Rattle.xls_lines.specs.declared.stop.Stop.{Stop}
+use Rattle.xls_lines.specs.declared.stop.Stop.TheVariants.{Memory}
+use Rattle.xls_lines.proofs.GatherLemmas.{gathers-added, gathers-after, gathers-nothing, gathers-then, stops-after, stops-memory-now, stops-then, wrote}
+use Rattle.xls_pieces.specs.Each.{GathersEach, StopsEach, PutsEach, WroteEach, DeliversEach}
+
+-- ---- texts one after another
+
+joined : {A : Type 0} (P : A → List ℕ → Type 0) (xs ys : List A) (t u : List ℕ)
+    → Concatenates P xs t → Concatenates P ys u → Concatenates P (xs ++ ys) (t ++ u)
+joined P [] ys t u none q = subst (λ (l : List ℕ). Concatenates P ys (l ++ u)) (sym none) q
+joined P (x ∷ xs) ys t u (first, others, p, rest, is) q = (
+  first,
+  others ++ u,
+  p,
+  joined P xs ys others u rest q,
+  ap (λ (l : List ℕ). l ++ u) is ∙ append_assoc first others u,
+)
+
+-- all of the first items, and some of the others
+joined-some : {A : Type 0} (P : A → List ℕ → Type 0) (xs ys : List A) (n : ℕ) (t u : List ℕ)
+    → Concatenates P xs t → Concatenates P (take n ys) u
+    → (count : ℕ) × Concatenates P (take count (xs ++ ys)) (t ++ u)
+joined-some P [] ys n t u none q =
+    (n, subst (λ (l : List ℕ). Concatenates P (take n ys) (l ++ u)) (sym none) q)
+joined-some P (x ∷ xs) ys n t u (first, others, p, rest, is) q =
+    let (count, tail) = joined-some P xs ys n others u rest q in
+    (suc count, (first, others ++ u, p, tail, ap (λ (l : List ℕ). l ++ u) is ∙ append_assoc first others u))
+
+-- some of the first items are some of all
+taken-of-more : {A : Type 0} (n : ℕ) (xs ys : List A) → (count : ℕ) × (take n xs ≡ take count (xs ++ ys))
+taken-of-more zero xs ys = (0, refl)
+taken-of-more (suc n) [] ys = (0, refl)
+taken-of-more (suc n) (x ∷ xs) ys =
+    let (count, is) = taken-of-more n xs ys in
+    (suc count, ap (λ (l : List _). x ∷ l) is)
+
+-- ---- no item, and one
+
+pub each-none : {A : Type 0} (P : A → List ℕ → Type 0) (a : SinkState) (g : List ℕ) → GathersEach P [] a g a g
+each-none P a g = record { text = []; texts = refl; gathers = gathers-nothing a g }
+
+-- the text of an item was appended, and then what was gathered was passed on
+pub each-one : {A : Type 0} (P : A → List ℕ → Type 0) (x : A) {a b : SinkState} {g h k : List ℕ}
+    → Adds (P x) g h → Gathers a h b k [] → GathersEach P (x ∷ []) a g b k
+each-one P x {a} {b} {g} {h} {k} (text, p, is) q = record {
+  text = text;
+  texts = (text, [], p, refl, sym (append-nil text));
+  gathers = gathers-after (gathers-added a g h text is) q;
+}
+
+pub each-one-stopped : {A : Type 0} (P : A → List ℕ → Type 0) (x : A) {a b : SinkState} {g h : List ℕ} {e : Stop}
+    → Adds (P x) g h → Stops a h b [] e → StopsEach P (x ∷ []) a g b e
+each-one-stopped P x {a} {b} {g} {h} (text, p, is) q = record {
+  count = 1;
+  text = text;
+  texts = (text, [], p, refl, sym (append-nil text));
+  stops = stops-after (gathers-added a g h text is) q;
+}
+
+-- out of memory before the text of an item was appended
+pub each-memory : {A : Type 0} (P : A → List ℕ → Type 0) (items : List A) (a : SinkState) (g : List ℕ)
+    → StopsEach P items a g a Memory
+each-memory P items a g = record { count = 0; text = []; texts = refl; stops = stops-memory-now a g [] }
+
+-- ---- some items after others
+
+pub each-then : {A : Type 0} {P : A → List ℕ → Type 0} {xs ys : List A} {a b c : SinkState} {g h k : List ℕ}
+    → GathersEach P xs a g b h → GathersEach P ys b h c k → GathersEach P (xs ++ ys) a g c k
+each-then {A} {P} {xs} {ys} p q = record {
+  text = p.text ++ q.text;
+  texts = joined P xs ys p.text q.text p.texts q.texts;
+  gathers = gathers-then p.gathers q.gathers;
+}
+
+pub each-stops-then : {A : Type 0} {P : A → List ℕ → Type 0} {xs ys : List A} {a b c : SinkState} {g h : List ℕ} {e : Stop}
+    → GathersEach P xs a g b h → StopsEach P ys b h c e → StopsEach P (xs ++ ys) a g c e
+each-stops-then {A} {P} {xs} {ys} p q =
+    let some = joined-some P xs ys q.count p.text q.text p.texts q.texts in
+    record { count = some.0; text = p.text ++ q.text; texts = some.1; stops = stops-then p.gathers q.stops }
+
+pub each-stops-more : {A : Type 0} {P : A → List ℕ → Type 0} {xs : List A} (ys : List A) {a b : SinkState} {g : List ℕ} {e : Stop}
+    → StopsEach P xs a g b e → StopsEach P (xs ++ ys) a g b e
+each-stops-more {A} {P} {xs} ys p =
+    let some = taken-of-more p.count xs ys in
+    record { count = some.0; text = p.text; texts = subst (λ (l : List _). Concatenates P l p.text) some.1 p.texts; stops = p.stops }
+
+-- ---- the same items, spelled otherwise
+
+pub each-as : {A : Type 0} {P : A → List ℕ → Type 0} {xs ys : List A} {a b : SinkState} {g h : List ℕ}
+    → GathersEach P xs a g b h → xs ≡ ys → GathersEach P ys a g b h
+each-as {A} {P} {xs} {ys} {a} {b} {g} {h} p is = subst (λ (l : List _). GathersEach P l a g b h) is p
+
+pub each-stops-as : {A : Type 0} {P : A → List ℕ → Type 0} {xs ys : List A} {a b : SinkState} {g : List ℕ} {e : Stop}
+    → StopsEach P xs a g b e → xs ≡ ys → StopsEach P ys a g b e
+each-stops-as {A} {P} {xs} {ys} {a} {b} {g} {e} p is = subst (λ (l : List _). StopsEach P l a g b e) is p
+
+-- ---- at an error
+
+pub puts-each-stop : {A X : Type 0} {P : A → List ℕ → Type 0} {items : List A} {a b : SinkState} {g : List ℕ} {e : Stop} (h : List ℕ) (r : Result X Stop)
+    → IsErrAnd r (λ d. d ≡ e) → StopsEach P items a g b e → PutsEach P items a g b h r
+puts-each-stop h (Ok x) none p = absurd none
+puts-each-stop {A} {X} {P} {items} {a} {b} {g} h (Err d) is p = subst (StopsEach P items a g b) (sym is) p
+
+-- ---- the items of the things in a list, by their index
+
+split : {A X : Type 0} (f : X → List A) (xs : List X) (k : ℕ) (d : X) → k < length xs
+    → (flat_map f (take k xs) ++ f (get_or xs k d)) ++ flat_map f (drop (k + 1) xs) ≡ flat_map f xs
+split f xs k d l =
+    let rest : drop k xs ≡ get_or xs k d ∷ drop (k + 1) xs = rw add-one (drop-cons xs k d l) in
+    sym (ap (flat_map f) (sym (take-append-drop k xs)) ∙ flat_map-append f (take k xs) (drop k xs)
+    ∙ ap (λ (l : List _). flat_map f (take k xs) ++ flat_map f l) rest
+    ∙ sym (append_assoc (flat_map f (take k xs)) (f (get_or xs k d)) (flat_map f (drop (k + 1) xs))))
+
+grown : {A X : Type 0} (f : X → List A) (xs : List X) (k : ℕ) (d : X) → k < length xs
+    → flat_map f (take k xs) ++ f (get_or xs k d) ≡ flat_map f (take (k + 1) xs)
+grown f xs k d l =
+    ap (λ (l : List _). flat_map f (take k xs) ++ l) (sym (append-nil (f (get_or xs k d))))
+    ∙ sym (flat_map-append f (take k xs) (get_or xs k d ∷ [])) ∙ ap (flat_map f) (sym (take_more xs k d l))
+
+-- the items of one more thing
+pub each-item : {A X : Type 0} {P : A → List ℕ → Type 0} {a b c : SinkState} {g h m : List ℕ} (f : X → List A) (xs : List X) (k : ℕ) (d : X)
+    → k < length xs → GathersEach P (flat_map f (take k xs)) a g b h → GathersEach P (f (get_or xs k d)) b h c m
+    → GathersEach P (flat_map f (take (k + 1) xs)) a g c m
+each-item f xs k d l p q = each-as (each-then p q) (grown f xs k d l)
+
+-- those of a thing that weren't put whole
+pub each-item-stopped : {A X : Type 0} {P : A → List ℕ → Type 0} {a b c : SinkState} {g h : List ℕ} {e : Stop} (f : X → List A) (xs : List X) (k : ℕ) (d : X)
+    → k < length xs → GathersEach P (flat_map f (take k xs)) a g b h → StopsEach P (f (get_or xs k d)) b h c e
+    → StopsEach P (flat_map f xs) a g c e
+each-item-stopped f xs k d l p q =
+    each-stops-as (each-stops-more (flat_map f (drop (k + 1) xs)) (each-stops-then p q)) (split f xs k d l)
+
+-- ---- the items of the things that an iterator gives
+
+-- the items of some are put, and with those of what is left they are the whole
+pub record EachSome {A X : Type 0} (P : A → List ℕ → Type 0) (f : X → List A) (all left : List X) (a : SinkState) (g : List ℕ) (b : SinkState) (h : List ℕ) : Type 0 where
+  pub out : List A
+  pub whole : out ++ flat_map f left ≡ flat_map f all
+  pub gathers : GathersEach P out a g b h
+
+pub each-some-first : {A X : Type 0} (P : A → List ℕ → Type 0) (f : X → List A) (all left : List X) (a : SinkState) (g : List ℕ) → left ≡ all
+    → EachSome P f all left a g a g
+each-some-first P f all left a g e = record { out = []; whole = ap (flat_map f) e; gathers = each-none P a g }
+
+next-whole : {A X : Type 0} (f : X → List A) (all old left : List X) (x : X) (out : List A)
+    → out ++ flat_map f old ≡ flat_map f all → old ≡ x ∷ left
+    → (out ++ f x) ++ flat_map f left ≡ flat_map f all
+next-whole f all old left x out is e =
+    append_assoc out (f x) (flat_map f left) ∙ ap (λ (items : List _). out ++ flat_map f items) (sym e) ∙ is
+
+pub each-some-next : {A X : Type 0} {P : A → List ℕ → Type 0} (f : X → List A) {all old left : List X} {x : X} {a b c : SinkState} {g h k : List ℕ}
+    → EachSome P f all old a g b h → old ≡ x ∷ left → GathersEach P (f x) b h c k → EachSome P f all left a g c k
+each-some-next f {all} {old} {left} {x} p e q = record {
+  out = p.out ++ f x;
+  whole = next-whole f all old left x p.out p.whole e;
+  gathers = each-then p.gathers q;
+}
+
+pub each-some-stopped : {A X : Type 0} {P : A → List ℕ → Type 0} (f : X → List A) {all old left : List X} {x : X} {a b c : SinkState} {g h : List ℕ} {e : Stop}
+    → EachSome P f all old a g b h → old ≡ x ∷ left → StopsEach P (f x) b h c e → StopsEach P (flat_map f all) a g c e
+each-some-stopped f {all} {old} {left} {x} p is q =
+    each-stops-as (each-stops-more (flat_map f left) (each-stops-then p.gathers q)) (next-whole f all old left x p.out p.whole is)
+
+pub each-some-all : {A X : Type 0} {P : A → List ℕ → Type 0} (f : X → List A) {all left : List X} {a b : SinkState} {g h : List ℕ}
+    → EachSome P f all left a g b h → left ≡ [] → GathersEach P (flat_map f all) a g b h
+each-some-all f p e =
+    each-as p.gathers (sym (append-nil p.out) ∙ ap (λ (items : List _). p.out ++ flat_map f items) (sym e) ∙ p.whole)
+
+-- ---- whole texts
+
+-- where nothing was kept before and nothing is kept after, the texts were written
+pub each-wrote : {A : Type 0} {P : A → List ℕ → Type 0} {items : List A} {a b c : SinkState} {g h k : List ℕ} → g ≡ []
+    → GathersEach P items a g b h → Gathers b h c k [] → k ≡ [] → WroteEach P items a c
+each-wrote {A} {P} {items} {a} {b} {c} {g} {h} {k} none p last end = record {
+  text = p.text;
+  texts = p.texts;
+  wrote = wrote (gathers-after (subst (λ (l : List ℕ). Gathers a l b h p.text) none p.gathers) last) end;
+}
+
+pub each-from : {A : Type 0} {P : A → List ℕ → Type 0} {items : List A} {a b : SinkState} {g : List ℕ} {e : Stop} → g ≡ []
+    → StopsEach P items a g b e → StopsEach P items a [] b e
+each-from {A} {P} {items} {a} {b} {g} {e} none p = subst (λ (l : List ℕ). StopsEach P items a l b e) none p
+
+-- what was kept at the end wasn't written whole
+pub each-unwritten : {A : Type 0} {P : A → List ℕ → Type 0} {items : List A} {a b c : SinkState} {g h : List ℕ} {e : Stop} → g ≡ []
+    → GathersEach P items a g b h → Stops b h c [] e → StopsEach P items a [] c e
+each-unwritten {A} {P} {items} none p q =
+    each-from none (each-stops-as (each-stops-then p (record { count = 0; text = []; texts = refl; stops = q })) (append-nil items))
+
+pub delivers-each-stop : {A X : Type 0} {P : A → List ℕ → Type 0} {items : List A} {a b : SinkState} {e : Stop} (r : Result X Stop)
+    → IsErrAnd r (λ d. d ≡ e) → StopsEach P items a [] b e → DeliversEach P items a b r
+delivers-each-stop (Ok x) none p = absurd none
+delivers-each-stop {A} {X} {P} {items} {a} {b} (Err d) is p = subst (StopsEach P items a [] b) (sym is) p

@@ -1,0 +1,10 @@
+//! The words of the command line of `xls`: which command, of which files, and how.
+#![tactic(auto)]
+
+mod parse;
+mod request;
+mod word;
+
+pub use parse::{VERSION, request_of};
+pub use request::{Command, Files, Request, SheetChoice, Style, Table};
+pub use word::Word;

@@ -1,0 +1,355 @@
+//! Words, and what they ask for.
+
+use crate::request::{Command, Files, Request, SheetChoice, Style, Table};
+use crate::word::{ALL, Word};
+use clap::{Arg, ArgAction, ArgMatches, Error, ErrorKind, value_parser};
+use std::alloc::{AllocError, Global};
+use xls_readable::Delimiter;
+use xls_text::XlsEncoding;
+
+/// The version of the program and of its libraries.
+pub const VERSION: &str = "0.45.0";
+
+/// An option that takes a value.
+fn option<'a>(alloc: Global, name: &'a str, value: &'a str, help: &'a str) -> Arg<'a> {
+    Arg::new(alloc, name)
+        .long(name)
+        .value_name(value)
+        .help(help)
+        .action(ArgAction::Set)
+}
+
+/// An option without a value.
+fn flag<'a>(alloc: Global, name: &'a str, help: &'a str) -> Arg<'a> {
+    Arg::new(alloc, name)
+        .long(name)
+        .help(help)
+        .action(ArgAction::SetTrue)
+}
+
+/// The files and folders that are read.
+fn files_arg<'a>(alloc: Global) -> Arg<'a> {
+    Arg::new(alloc, "FILE")
+        .num_args(0..)
+        .action(ArgAction::Append)
+        .help("Files, folders, or - for a file on standard input")
+}
+
+/// The one file that is read.
+fn file_arg<'a>(alloc: Global) -> Arg<'a> {
+    Arg::new(alloc, "FILE")
+        .required(true)
+        .action(ArgAction::Set)
+        .help("A file, or - for one on standard input")
+}
+
+/// The options of those commands that read many files.
+fn with_many<'a>(
+    alloc: Global,
+    command: clap::Command<'a>,
+) -> Result<clap::Command<'a>, AllocError> {
+    let list = option(
+        alloc,
+        "files-from",
+        "LIST",
+        "Read the files whose names stand in LIST (- for standard input), one a line",
+    );
+    let by_nul = flag(alloc, "null", "The names in LIST are ended by NUL").short('0');
+    let out = option(
+        alloc,
+        "out",
+        "DIR",
+        "Write into DIR/FILE, a folder for each file",
+    );
+    let force = flag(alloc, "force", "Write over files that exist");
+    command
+        .arg(files_arg(alloc))?
+        .arg(list)?
+        .arg(by_nul)?
+        .arg(out)?
+        .arg(force)
+}
+
+/// The page that texts are read by.
+fn with_page<'a>(
+    alloc: Global,
+    command: clap::Command<'a>,
+) -> Result<clap::Command<'a>, AllocError> {
+    let page = option(
+        alloc,
+        "codepage",
+        "N",
+        "Read texts of single bytes by this page: 1200, 1252, 28591 or 65001",
+    );
+    command.arg(page)
+}
+
+/// The forms of lines.
+fn with_forms<'a>(
+    alloc: Global,
+    command: clap::Command<'a>,
+) -> Result<clap::Command<'a>, AllocError> {
+    let json = flag(alloc, "json", "Write each line as an object of JSON");
+    let exact = flag(
+        alloc,
+        "exact",
+        "Write numbers by their bits, as xls_dump does",
+    )
+    .conflicts_with("json")?;
+    command.arg(json)?.arg(exact)
+}
+
+/// The options of CSV.
+fn with_table<'a>(
+    alloc: Global,
+    command: clap::Command<'a>,
+) -> Result<clap::Command<'a>, AllocError> {
+    let sheet = option(alloc, "sheet", "NAME", "The last sheet of this name");
+    let number = option(alloc, "number", "N", "The sheet of this number, from 1")
+        .value_parser(value_parser!(u32).range(1..))
+        .conflicts_with("sheet")?;
+    let all = flag(alloc, "all", "Each worksheet and macro sheet; wants --out")
+        .conflicts_with("sheet")?
+        .conflicts_with("number")?;
+    let delimiter = option(
+        alloc,
+        "delimiter",
+        "C",
+        "The character between fields, in place of a comma; tab for a tab",
+    );
+    let mark = flag(
+        alloc,
+        "bom",
+        "Begin with a byte order mark, as Excel wants it",
+    );
+    let exact = flag(alloc, "exact", "Write the fields that xls_dump writes")
+        .conflicts_with("delimiter")?
+        .conflicts_with("bom")?;
+    command
+        .arg(sheet)?
+        .arg(number)?
+        .arg(all)?
+        .arg(delimiter)?
+        .arg(mark)?
+        .arg(exact)
+}
+
+/// The path of a stream.
+fn with_path<'a>(
+    alloc: Global,
+    command: clap::Command<'a>,
+) -> Result<clap::Command<'a>, AllocError> {
+    let path = Arg::new(alloc, "NAME")
+        .action(ArgAction::Set)
+        .help("The path of a stream, its names separated by /");
+    command.arg(path)
+}
+
+/// How the words of a command are read.
+fn grammar_of<'a>(alloc: Global, word: Word) -> Result<clap::Command<'a>, AllocError> {
+    let command = clap::Command::new(alloc, word.title()).about(word.about());
+    match word {
+        Word::Dump | Word::Sheets | Word::Formulas | Word::Refs => with_page(
+            alloc,
+            with_forms(alloc, with_many(alloc, command)?)?,
+        ),
+        Word::Check => {
+            let json = flag(alloc, "json", "Write each line as an object of JSON");
+            with_page(alloc, with_many(alloc, command)?.arg(json)?)
+        }
+        Word::Csv => with_page(alloc, with_table(alloc, with_many(alloc, command)?)?),
+        Word::Props | Word::Vba => with_many(alloc, command),
+        Word::Remake | Word::Streams => command.arg(file_arg(alloc)),
+        Word::Stream => with_path(alloc, command.arg(file_arg(alloc))?),
+    }
+}
+
+/// The line of help for each command.
+fn summary_of<'a>(alloc: Global, word: Word) -> clap::Command<'a> {
+    clap::Command::new(alloc, word.name()).about(word.about())
+}
+
+/// The commands together, which only help and the version are asked of.
+fn overview<'a>(alloc: Global) -> Result<clap::Command<'a>, AllocError> {
+    let mut command = clap::Command::new(alloc, "xls")
+        .version(VERSION)
+        .about("Reads old Excel workbooks (.xls): xls [COMMAND] FILE..")
+        .arg_required_else_help(true)
+        .disable_help_subcommand(true);
+    for word in ALL {
+        command = command.subcommand(summary_of(alloc, word))?;
+    }
+    Ok(command)
+}
+
+/// How the lines of a command are written.
+fn style_in(matches: &ArgMatches<'_>) -> Style {
+    if matches.get_flag("exact") {
+        return Style::Exact;
+    }
+    if matches.get_flag("json") {
+        return Style::Json;
+    }
+    Style::Readable
+}
+
+/// The delimiter of a text, if it is one.
+fn delimiter_of(text: &str) -> Option<Delimiter> {
+    match text.as_bytes() {
+        b"tab" | b"\\t" => Delimiter::new(b'\t'),
+        [byte] => Delimiter::new(*byte),
+        _ => None,
+    }
+}
+
+/// The page of a number, if it is one that is read.
+fn page_of(text: &str) -> Option<XlsEncoding> {
+    match text {
+        "1200" => Some(XlsEncoding::Utf16),
+        "1252" => Some(XlsEncoding::Windows1252),
+        "28591" => Some(XlsEncoding::Latin1),
+        "65001" => Some(XlsEncoding::Utf8),
+        _ => None,
+    }
+}
+
+/// The sheets that are chosen.
+fn choice_in<'w>(matches: &ArgMatches<'w>) -> SheetChoice<'w> {
+    if matches.get_flag("all") {
+        return SheetChoice::All;
+    }
+    if let Some(name) = matches.get_str("sheet") {
+        return SheetChoice::Named(name);
+    }
+    match matches.get_one::<u32>("number") {
+        Some(number) => SheetChoice::Number(number),
+        None => SheetChoice::First,
+    }
+}
+
+/// A mistake in the words that the grammar doesn't see.
+fn mistake(grammar: &mut clap::Command<'_>, text: &str) -> Error {
+    match grammar.error(ErrorKind::ValueValidation, text) {
+        Ok(error) => error,
+        Err(error) => Error::from(error),
+    }
+}
+
+/// How sheets are written as CSV.
+fn table_in<'w>(
+    grammar: &mut clap::Command<'_>,
+    matches: &ArgMatches<'w>,
+) -> Result<Table<'w>, Error> {
+    let delimiter = match matches.get_str("delimiter") {
+        Some(text) => match delimiter_of(text) {
+            Some(delimiter) => delimiter,
+            None => {
+                return Err(mistake(
+                    grammar,
+                    "the delimiter is one character of ASCII, and no quote, newline or return",
+                ));
+            }
+        },
+        None => Delimiter::comma(),
+    };
+    Ok(Table {
+        choice: choice_in(matches),
+        delimiter,
+        begins_with_mark: matches.get_flag("bom"),
+        style: style_in(matches),
+    })
+}
+
+/// The command of some words.
+fn command_in<'w>(
+    word: Word,
+    grammar: &mut clap::Command<'_>,
+    matches: &ArgMatches<'w>,
+) -> Result<Command<'w>, Error> {
+    Ok(match word {
+        Word::Dump => Command::Dump(style_in(matches)),
+        Word::Sheets => Command::Sheets(style_in(matches)),
+        Word::Check => Command::Check,
+        Word::Formulas => Command::Formulas(style_in(matches)),
+        Word::Refs => Command::Refs(style_in(matches)),
+        Word::Props => Command::Props,
+        Word::Vba => Command::Vba,
+        Word::Csv => Command::Csv(table_in(grammar, matches)?),
+        Word::Remake => Command::Remake,
+        Word::Stream => Command::Stream(matches.get_str("NAME")),
+        Word::Streams => Command::Streams,
+    })
+}
+
+/// The files of some words.
+fn files_in<'w>(
+    alloc: Global,
+    grammar: &mut clap::Command<'_>,
+    matches: &ArgMatches<'w>,
+) -> Result<Files<'w>, Error> {
+    let names = matches.get_strs("FILE").unwrap_or(&[]);
+    match (matches.get_str("files-from"), names) {
+        (None, []) => Err(mistake(grammar, "no file is given")),
+        (None, names) => Ok(Files::Named(Vec::from_slice(alloc, names)?)),
+        (Some(list), []) => Ok(Files::Listed {
+            list,
+            by_nul: matches.get_flag("null"),
+        }),
+        (Some(_), _) => Err(mistake(grammar, "give files, or --files-from, and not both")),
+    }
+}
+
+/// The page that is asked for.
+fn page_in(
+    grammar: &mut clap::Command<'_>,
+    matches: &ArgMatches<'_>,
+) -> Result<Option<XlsEncoding>, Error> {
+    match matches.get_str("codepage") {
+        Some(text) => match page_of(text) {
+            Some(page) => Ok(Some(page)),
+            None => Err(mistake(grammar, "the pages are 1200, 1252, 28591 and 65001")),
+        },
+        None => Ok(None),
+    }
+}
+
+/// What the words after a command's name ask for.
+fn request_in<'w>(alloc: Global, word: Word, words: &'w [String]) -> Result<Request<'w>, Error> {
+    let mut grammar = grammar_of(alloc, word)?.no_binary_name(true);
+    let matches = grammar.try_get_matches_from_mut(words)?;
+    Ok(Request {
+        command: command_in(word, &mut grammar, &matches)?,
+        files: files_in(alloc, &mut grammar, &matches)?,
+        tells_json: matches.get_flag("json"),
+        page: page_in(&mut grammar, &matches)?,
+        out: matches.get_str("out"),
+        writes_over: matches.get_flag("force"),
+    })
+}
+
+/// Help, the version, or that there are no words.
+fn shown(alloc: Global, words: &[String]) -> Error {
+    let grammar = match overview(alloc) {
+        Ok(grammar) => grammar.no_binary_name(true),
+        Err(error) => return Error::from(error),
+    };
+    match grammar.try_get_matches_from(words) {
+        Ok(_) => Error::from(AllocError),
+        Err(error) => error,
+    }
+}
+
+/// What the words of a command line ask for, which stand behind the program's name. The first may be a command's
+/// name; else the command is `dump`. The error's text is for the user: a mistake, help or the version.
+pub fn request_of<'w>(alloc: Global, words: &'w [String]) -> Result<Request<'w>, Error> {
+    let Some((first, others)) = words.split_first() else {
+        return Err(shown(alloc, words));
+    };
+    match first.as_str() {
+        "-h" | "--help" | "-V" | "--version" => Err(shown(alloc, words)),
+        name => match Word::of(name) {
+            Some(word) => request_in(alloc, word, others),
+            None => request_in(alloc, Word::Dump, words),
+        },
+    }
+}
