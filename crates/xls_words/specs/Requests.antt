@@ -1,4 +1,8 @@
 -- What the words of the command line ask for.
+use Rattle.std.specs.Prelude.{◌≡◌, ◌⊎◌, ◌<◌, ℕ, List, [], ◌∷◌}
+use Rattle.xls_words.specs.Words.{word_text}
+use Rattle.xls_words.specs.declared.request.SheetChoice.{SheetChoice}
+use Rattle.xls_words.specs.declared.request.SheetChoice.TheVariants.{First, Named, Number, All}
 use Rattle.xls_words.specs.declared.word.Word.{Word}
 use Rattle.xls_words.specs.declared.word.Word.TheVariants as words
 use Rattle.xls_words.specs.declared.request.Command.{Command}
@@ -17,3 +21,29 @@ word_of (commands.Csv t) = words.Csv
 word_of commands.Remake = words.Remake
 word_of (commands.Stream p) = words.Stream
 word_of commands.Streams = words.Streams
+
+-- the first word names the command, or it names none and the command is dump
+abbrev pub IsAsked : List (List ℕ) → Word → Type 0
+IsAsked [] word = ⊥
+IsAsked (first ∷ others) word =
+    (word_text word ≡ first) ⊎ (((other : Word) → word_text other ≡ first → ⊥) × (word ≡ words.Dump))
+
+-- sheets are numbered from 1
+abbrev pub IsNumbered : SheetChoice → Type 0
+IsNumbered First = Unit {0}
+IsNumbered (Named name) = Unit {0}
+IsNumbered (Number n) = 0 < n
+IsNumbered All = Unit {0}
+
+abbrev pub HasNumber : Command → Type 0
+HasNumber (commands.Csv t) = IsNumbered t.choice
+HasNumber (commands.Dump s) = Unit {0}
+HasNumber (commands.Sheets s) = Unit {0}
+HasNumber commands.Check = Unit {0}
+HasNumber (commands.Formulas s) = Unit {0}
+HasNumber (commands.Refs s) = Unit {0}
+HasNumber commands.Props = Unit {0}
+HasNumber commands.Vba = Unit {0}
+HasNumber commands.Remake = Unit {0}
+HasNumber (commands.Stream p) = Unit {0}
+HasNumber commands.Streams = Unit {0}

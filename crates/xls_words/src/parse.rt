@@ -1,8 +1,13 @@
 //! Words, and what they ask for.
 
+ghost use Rattle.std.specs.Prelude.{◌≡◌, IfOk, map};
+ghost use Rattle.std.specs.String.{string_bytes};
+ghost use Rattle.xls_words.specs.Requests.{HasNumber, IsAsked, IsNumbered, word_of};
+
 use crate::request::{Command, Files, Request, SheetChoice, Style, Table};
 use crate::word::{ALL, Word};
-use clap::{Arg, ArgAction, ArgMatches, Error, ErrorKind, value_parser};
+use clap::error::ErrorKind;
+use clap::{Arg, ArgAction, ArgMatches, Error, value_parser};
 use std::alloc::{AllocError, Global};
 use xls_readable::Delimiter;
 use xls_text::XlsEncoding;
@@ -146,8 +151,13 @@ fn with_path<'a>(
 }
 
 /// How the words of a command are read.
-fn grammar_of<'a>(alloc: Global, word: Word) -> Result<clap::Command<'a>, AllocError> {
-    let command = clap::Command::new(alloc, word.title()).about(word.about());
+fn grammar_of<'a>(
+    alloc: Global,
+    word: Word,
+    title: &'a str,
+    about: &'a str,
+) -> Result<clap::Command<'a>, AllocError> {
+    let command = clap::Command::new(alloc, title).about(about);
     match word {
         Word::Dump | Word::Sheets | Word::Formulas | Word::Refs => with_page(
             alloc,
@@ -164,9 +174,14 @@ fn grammar_of<'a>(alloc: Global, word: Word) -> Result<clap::Command<'a>, AllocE
     }
 }
 
-/// The line of help for each command.
-fn summary_of<'a>(alloc: Global, word: Word) -> clap::Command<'a> {
-    clap::Command::new(alloc, word.name()).about(word.about())
+/// A command line with one more command in its help.
+fn with_summary<'a>(
+    alloc: Global,
+    command: clap::Command<'a>,
+    name: &'a str,
+    about: &'a str,
+) -> Result<clap::Command<'a>, AllocError> {
+    command.subcommand(clap::Command::new(alloc, name).about(about))
 }
 
 /// The commands together, which only help and the version are asked of.
@@ -177,7 +192,7 @@ fn overview<'a>(alloc: Global) -> Result<clap::Command<'a>, AllocError> {
         .arg_required_else_help(true)
         .disable_help_subcommand(true);
     for word in ALL {
-        command = command.subcommand(summary_of(alloc, word))?;
+        command = with_summary(alloc, command, word.name(), word.about())?;
     }
     Ok(command)
 }
@@ -214,7 +229,9 @@ fn page_of(text: &str) -> Option<XlsEncoding> {
 }
 
 /// The sheets that are chosen.
-fn choice_in<'w>(matches: &ArgMatches<'w>) -> SheetChoice<'w> {
+fn choice_in<'w>(matches: &ArgMatches<'w>) -> SheetChoice<'w>
+    ensures { IsNumbered result }
+{
     if matches.get_flag("all") {
         return SheetChoice::All;
     }
@@ -222,8 +239,8 @@ fn choice_in<'w>(matches: &ArgMatches<'w>) -> SheetChoice<'w> {
         return SheetChoice::Named(name);
     }
     match matches.get_one::<u32>("number") {
-        Some(number) => SheetChoice::Number(number),
-        None => SheetChoice::First,
+        Some(number) if number > 0 => SheetChoice::Number(number),
+        _ => SheetChoice::First,
     }
 }
 
@@ -239,7 +256,9 @@ fn mistake(grammar: &mut clap::Command<'_>, text: &str) -> Error {
 fn table_in<'w>(
     grammar: &mut clap::Command<'_>,
     matches: &ArgMatches<'w>,
-) -> Result<Table<'w>, Error> {
+) -> Result<Table<'w>, Error>
+    ensures { IfOk result (λ t. IsNumbered t.choice) }
+{
     let delimiter = match matches.get_str("delimiter") {
         Some(text) => match delimiter_of(text) {
             Some(delimiter) => delimiter,
@@ -265,7 +284,10 @@ fn command_in<'w>(
     word: Word,
     grammar: &mut clap::Command<'_>,
     matches: &ArgMatches<'w>,
-) -> Result<Command<'w>, Error> {
+) -> Result<Command<'w>, Error>
+    ensures named { IfOk result (λ c. word_of c ≡ word) }
+    ensures numbered { IfOk result (λ c. HasNumber c) }
+{
     Ok(match word {
         Word::Dump => Command::Dump(style_in(matches)),
         Word::Sheets => Command::Sheets(style_in(matches)),
@@ -314,8 +336,11 @@ fn page_in(
 }
 
 /// What the words after a command's name ask for.
-fn request_in<'w>(alloc: Global, word: Word, words: &'w [String]) -> Result<Request<'w>, Error> {
-    let mut grammar = grammar_of(alloc, word)?.no_binary_name(true);
+fn request_in<'w>(alloc: Global, word: Word, words: &'w [String]) -> Result<Request<'w>, Error>
+    ensures named { IfOk result (λ r. word_of r.command ≡ word) }
+    ensures numbered { IfOk result (λ r. HasNumber r.command) }
+{
+    let mut grammar = grammar_of(alloc, word, word.title(), word.about())?.no_binary_name(true);
     let matches = grammar.try_get_matches_from_mut(words)?;
     Ok(Request {
         command: command_in(word, &mut grammar, &matches)?,
@@ -341,7 +366,10 @@ fn shown(alloc: Global, words: &[String]) -> Error {
 
 /// What the words of a command line ask for, which stand behind the program's name. The first may be a command's
 /// name; else the command is `dump`. The error's text is for the user: a mistake, help or the version.
-pub fn request_of<'w>(alloc: Global, words: &'w [String]) -> Result<Request<'w>, Error> {
+pub fn request_of<'w>(alloc: Global, words: &'w [String]) -> Result<Request<'w>, Error>
+    ensures named { IfOk result (λ r. IsAsked (map string_bytes words.now) (word_of r.command)) }
+    ensures numbered { IfOk result (λ r. HasNumber r.command) }
+{
     let Some((first, others)) = words.split_first() else {
         return Err(shown(alloc, words));
     };

@@ -1,0 +1,4 @@
+pub mod EntryLemmas
+pub mod StandardFacts
+pub mod StepLemmas
+pub mod AnswerLemmas

@@ -1,0 +1,4 @@
+pub mod FieldLemmas
+pub mod RowLemmas
+pub mod ExtentLemmas
+pub mod NameLemmas

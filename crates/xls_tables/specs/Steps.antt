@@ -1,0 +1,103 @@
+-- Words of private calls, for the proofs.
+use Rattle.std.specs.Prelude.{◌≡◌, ℕ, ◌+◌, ◌-◌, ◌==◌, Bool, true, false, List, [], ◌∷◌, ◌++◌, length, Option, Some, None, Result, Ok, Err}
+use Rattle.xls_data.specs.Content.{Content}
+use Rattle.xls_biff.specs.Cells.{Entry}
+use Rattle.xls_view.specs.Values.{cell_entry}
+use Rattle.xls_view.specs.declared.value.SheetCell.{SheetCell}
+use Rattle.xls_readable.specs.Values.{Concatenates, IsFieldText}
+use Rattle.xls_readable.specs.declared.values.Value.{Value}
+use Rattle.xls_lines.specs.Gathering.{Gathers, Stops}
+use Rattle.xls_lines.specs.SinkState.{SinkState}
+use Rattle.xls_lines.specs.declared.stop.Stop.{Stop}
+use Rattle.xls_csv.specs.Dense.{box_of, least, greatest, rows_at, columns_at}
+use Rattle.xls_tables.specs.Rows.{IsContentField, IsContentFields, IsContentRow, IsContentText}
+use Rattle.xls_tables.specs.Tables.{BeginsRow, BeginsRows}
+use Rattle.xls_tables.specs.declared.extent.Extent.{Extent}
+use Rattle.xls_tables.specs.declared.extent.Corners.{Corners}
+
+-- ---- cells
+
+-- the next cell, if there is one, and those after it
+abbrev pub cells_ahead : Option SheetCell → List Entry → List Entry
+cells_ahead None others = others
+cells_ahead (Some cell) others = cell_entry cell ∷ others
+
+-- without a next cell there are no others
+abbrev pub IsEnded : Option SheetCell → List Entry → Type 0
+IsEnded None others = others ≡ []
+IsEnded (Some cell) others = Unit {0}
+
+-- ---- boxes
+
+-- the box of some cells
+pub record IsBoxOf (cells : List Entry) (extent : Extent) : Type 0 where
+  pub top : extent.top ≡ (box_of cells).top
+  pub left : extent.left ≡ (box_of cells).left
+  pub height : extent.height ≡ (box_of cells).height
+  pub width : extent.width ≡ (box_of cells).width
+
+-- the box from one position to another, both included
+pub record IsBetween (start end : ℕ × ℕ) (extent : Extent) : Type 0 where
+  pub top : extent.top ≡ start.0
+  pub left : extent.left ≡ start.1
+  pub height : extent.height ≡ end.0 + 1 - start.0
+  pub width : extent.width ≡ end.1 + 1 - start.1
+
+-- the corners of the smallest box that holds a position and those of these cells
+pub record IsSpan (at : ℕ × ℕ) (cells : List Entry) (corners : Corners) : Type 0 where
+  pub top : corners.start.0 ≡ least at.0 (rows_at cells)
+  pub left : corners.start.1 ≡ least at.1 (columns_at cells)
+  pub bottom : corners.end.0 ≡ greatest at.0 (rows_at cells)
+  pub right : corners.end.1 ≡ greatest at.1 (columns_at cells)
+
+-- ---- values
+
+-- each text of the value is one of the content
+abbrev pub ShowsContent : Content → Value → Type 0
+ShowsContent content value = (text : List ℕ) → IsFieldText value text → IsContentText content text
+
+-- ---- fields in their places
+
+-- what stands before a field: nothing before the first of a row
+abbrev pub separator : ℕ → Bool → List ℕ
+separator delimiter true = []
+separator delimiter false = delimiter ∷ []
+
+-- a field with what stands before it
+abbrev pub IsPlaced : ℕ → Bool → Content → List ℕ → Type 0
+IsPlaced delimiter is_first content text =
+    (field : List ℕ) × IsContentField delimiter content field × (text ≡ separator delimiter is_first ++ field)
+
+-- it was appended, and it is told whether that is no byte
+abbrev pub AddsPlaced : ℕ → Bool → Content → Bool → List ℕ → List ℕ → Type 0
+AddsPlaced delimiter is_first content is_bare old new =
+    (text : List ℕ) × IsPlaced delimiter is_first content text × (is_bare ≡ (length text == 0)) × (new ≡ old ++ text)
+
+-- ---- texts that are gathered
+
+-- a text of the first kind was gathered; or a prefix of what was kept and of one of the second kind was
+-- written, and then it was given up
+abbrev pub PutsOrBegins : {X : Type 0} → (X → List ℕ → Type 0) → (List ℕ → Type 0) → SinkState → List ℕ → SinkState → List ℕ
+    → Result X Stop → Type 0
+PutsOrBegins IsWhole Begins before kept after kept' (Ok x) =
+    (text : List ℕ) × IsWhole x text × Gathers before kept after kept' text
+PutsOrBegins IsWhole Begins before kept after kept' (Err e) =
+    (text : List ℕ) × Begins text × Stops before kept after text e
+
+-- a field, and whether it is no byte
+abbrev pub PutsField : ℕ → Bool → Content → SinkState → List ℕ → SinkState → List ℕ → Result Bool Stop → Type 0
+PutsField delimiter is_first content =
+    PutsOrBegins (λ is_bare text. IsPlaced delimiter is_first content text × (is_bare ≡ (length text == 0)))
+    (λ text. text ≡ [])
+
+-- the fields of a row, and whether they are no byte
+abbrev pub PutsFields : ℕ → List Content → SinkState → List ℕ → SinkState → List ℕ → Result Bool Stop → Type 0
+PutsFields delimiter row =
+    PutsOrBegins (λ is_bare text. IsContentFields delimiter row text × (is_bare ≡ (length text == 0)))
+    (BeginsRow delimiter row)
+
+abbrev pub PutsRow : {X : Type 0} → ℕ → List Content → SinkState → List ℕ → SinkState → List ℕ → Result X Stop → Type 0
+PutsRow delimiter row = PutsOrBegins (λ _. IsContentRow delimiter row) (BeginsRow delimiter row)
+
+abbrev pub PutsRows : {X : Type 0} → ℕ → List (List Content) → SinkState → List ℕ → SinkState → List ℕ → Result X Stop → Type 0
+PutsRows delimiter rows = PutsOrBegins (λ _. Concatenates (IsContentRow delimiter) rows) (BeginsRows delimiter rows)

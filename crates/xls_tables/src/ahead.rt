@@ -1,0 +1,53 @@
+//! The cells of a sheet, with a look at the next one.
+
+ghost use Rattle.std.specs.Prelude.{◌≡◌};
+ghost use Rattle.xls_csv.specs.Steps.{Takes};
+
+use std::marker::Model;
+use std::mem;
+use xls_view::{CellValue, Cells, SheetCell};
+
+/// The cells that are left. Contracts see their list.
+#[derive(Drop)]
+pub(crate) struct Ahead<'c> {
+    /// The first of them, and those after it.
+    next: Option<SheetCell<'c>>,
+    others: Cells<'c>,
+}
+
+impl<'c> Model for Ahead<'c> {
+    ghost use Rattle.std.specs.Prelude.{List};
+    ghost use Rattle.xls_biff.specs.Cells.{Entry};
+    ghost use Rattle.xls_tables.specs.Steps.{IsEnded, cells_ahead};
+
+    ghost Value = { List Entry };
+
+    ghost view = { λ a. cells_ahead a.next a.others };
+
+    ghost invariant = { λ a. IsEnded a.next a.others };
+}
+
+impl<'c> Ahead<'c> {
+    pub(crate) fn new(mut cells: Cells<'c>) -> Ahead<'c>
+        ensures { result ≡ cells.entry }
+    {
+        let next = cells.next();
+        Ahead {
+            next,
+            others: cells,
+        }
+    }
+
+    /// The value of the next cell, if that stands at this position; then the cell is taken.
+    pub(crate) fn take_at(&mut self, row: u64, column: u64) -> Option<CellValue<'c>>
+        ensures { Takes self.old row column result self.new }
+    {
+        match &self.next {
+            Some(cell) if u64::from(cell.row) == row && u64::from(cell.column) == column => {}
+            _ => return None,
+        }
+        let after = self.others.next();
+        let cell = mem::replace(&mut self.next, after)?;
+        Some(cell.value)
+    }
+}

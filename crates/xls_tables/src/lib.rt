@@ -1,0 +1,12 @@
+//! The cells of a sheet as CSV that people read, row by row, and the names of files for sheets.
+#![tactic(auto)]
+
+mod ahead;
+mod extent;
+mod file_names;
+mod gathered;
+mod shown;
+mod table;
+
+pub use file_names::file_name;
+pub use table::write_table;

@@ -1,0 +1,143 @@
+//! The dense box of a sheet's cells as CSV.
+
+ghost use Rattle.std.specs.Prelude.{◌≡◌, ◌≤◌, ◌^◌, ◌+◌, ◌==◌, ◌++◌, map, OnOk};
+ghost use Rattle.xls_biff.specs.Cells.{Entry};
+ghost use Rattle.xls_cells.specs.Positions.{IsAscending};
+ghost use Rattle.xls_csv.specs.Dense.{dense_rows};
+ghost use Rattle.xls_csv.specs.Walk.{left_along, row_along, rows_along, take_at, walk};
+ghost use Rattle.xls_tables.specs.Steps.{PutsField, PutsFields, PutsRow, PutsRows};
+ghost use Rattle.xls_tables.specs.Tables.{DeliversTable};
+
+use crate::ahead::Ahead;
+use crate::extent::{Extent, extent_of};
+use crate::gathered::Gathered;
+use std::alloc::Global;
+use xls_lines::{Sink, Stop};
+use xls_readable::Delimiter;
+use xls_view::Cells;
+
+/// Puts the field at a position of a row that begins at a column, and tells whether that is no byte.
+fn put_field<K: Sink>(
+    gathered: &mut Gathered,
+    sink: &mut K,
+    cells: &mut Ahead<'_>,
+    delimiter: Delimiter,
+    row: u64,
+    left: u64,
+    place: u64,
+) -> Result<bool, Stop>
+    requires { left + place ≤ 2 ^ 32 }
+    ensures puts { PutsField delimiter (place == 0) (take_at row (left + place) cells.old).0
+        (K.state sink.old) gathered.old (K.state sink.new) gathered.new result }
+    ensures cells { OnOk result (cells.new ≡ (take_at row (left + place) cells.old).1) }
+{
+    gathered.pass(sink)?;
+    let is_bare = gathered.push_field(delimiter, place, cells.take_at(row, left + place))?;
+    Ok(is_bare)
+}
+
+/// Puts the fields of a row, for so many columns from one on, and tells whether they are no byte.
+fn put_fields<K: Sink>(
+    gathered: &mut Gathered,
+    sink: &mut K,
+    cells: &mut Ahead<'_>,
+    delimiter: Delimiter,
+    row: u64,
+    left: u64,
+    width: u64,
+) -> Result<bool, Stop>
+    requires { left + width ≤ 2 ^ 32 }
+    ensures puts { PutsFields delimiter (row_along row left width cells.old)
+        (K.state sink.old) gathered.old (K.state sink.new) gathered.new result }
+    ensures cells { OnOk result (cells.new ≡ left_along row left width cells.old) }
+{
+    let mut is_bare = true;
+    for place in 0..width {
+        let adds_none = put_field(gathered, sink, cells, delimiter, row, left, place)?;
+        is_bare = is_bare && adds_none;
+    }
+    Ok(is_bare)
+}
+
+/// Puts a row.
+fn put_row<K: Sink>(
+    gathered: &mut Gathered,
+    sink: &mut K,
+    cells: &mut Ahead<'_>,
+    delimiter: Delimiter,
+    row: u64,
+    left: u64,
+    width: u64,
+) -> Result<(), Stop>
+    requires { left + width ≤ 2 ^ 32 }
+    ensures puts { PutsRow delimiter (row_along row left width cells.old)
+        (K.state sink.old) gathered.old (K.state sink.new) gathered.new result }
+    ensures cells { OnOk result (cells.new ≡ left_along row left width cells.old) }
+{
+    let is_bare = put_fields(gathered, sink, cells, delimiter, row, left, width)?;
+    gathered.push_end(is_bare)?;
+    Ok(())
+}
+
+/// Puts all rows of a box.
+fn put_rows<K: Sink>(
+    gathered: &mut Gathered,
+    sink: &mut K,
+    mut cells: Ahead<'_>,
+    delimiter: Delimiter,
+    extent: Extent,
+) -> Result<(), Stop>
+    requires rows { extent.top + extent.height ≤ 2 ^ 32 }
+    requires columns { extent.left + extent.width ≤ 2 ^ 32 }
+    ensures { PutsRows delimiter (rows_along extent.height extent.top extent.left extent.width cells.entry)
+        (K.state sink.old) gathered.old (K.state sink.new) gathered.new result }
+{
+    for i in 0..extent.height {
+        put_row(
+            gathered,
+            sink,
+            &mut cells,
+            delimiter,
+            extent.top + i,
+            extent.left,
+            extent.width,
+        )?;
+    }
+    Ok(())
+}
+
+/// Writes the rows of these cells.
+fn write_rows<K: Sink>(
+    alloc: Global,
+    sink: &mut K,
+    delimiter: Delimiter,
+    begins_with_mark: bool,
+    cells: Cells<'_>,
+) -> Result<(), Stop>
+    ensures { DeliversTable delimiter begins_with_mark (walk cells.entry) (K.state sink.old) (K.state sink.new) result }
+{
+    let mut gathered = Gathered::new(alloc);
+    gathered.push_mark(begins_with_mark)?;
+    let extent = extent_of(cells.again());
+    put_rows(&mut gathered, sink, Ahead::new(cells), delimiter, extent)?;
+    gathered.finish(sink)?;
+    Ok(())
+}
+
+/// Writes the dense box of cells, which come by row, then column, as CSV with this delimiter: a row for each
+/// row of the smallest box that holds them all, a field for each column, empty where no cell stands. With a
+/// mark, the bytes EF BB BF stand first, by which spreadsheets take the text for UTF-8. At most 64 KiB and
+/// one field are gathered; the box is never made. Only a write that fails, or running out of memory, stops it.
+pub fn write_table<K: Sink>(
+    alloc: Global,
+    sink: &mut K,
+    delimiter: Delimiter,
+    begins_with_mark: bool,
+    cells: Cells<'_>,
+) -> Result<(), Stop>
+    ensures walk { DeliversTable delimiter begins_with_mark (walk cells.entry) (K.state sink.old) (K.state sink.new) result }
+    ensures dense { IsAscending (map (λ (c : Entry). c.0) cells.entry)
+        → DeliversTable delimiter begins_with_mark (dense_rows cells.entry) (K.state sink.old) (K.state sink.new) result }
+{
+    write_rows(alloc, sink, delimiter, begins_with_mark, cells)
+}
