@@ -1,5 +1,5 @@
 -- The fields of a row, one after another.
-use Rattle.std.proofs.Common.{◌≡◌, ℕ, zero, suc, ◌+◌, ◌-◌, ◌<◌, ◌≤◌, Bool, true, false, List, [], ◌∷◌, ◌++◌, length, Result, Ok, Err, append_assoc, append-nil, length-append, arith, refl, sym, ap, subst, absurd, ◌∙◌}
+use Rattle.std.proofs.Common.{◌≡◌, ℕ, suc, ◌+◌, ◌-◌, ◌<◌, ◌≤◌, Bool, true, false, List, [], ◌∷◌, ◌++◌, length, Result, Ok, Err, append_assoc, append-nil, length-append, arith, refl, sym, ap, subst, ◌∙◌}
 use Rattle.std.specs.Prelude.{◌==◌, ◌&&◌}
 use Rattle.std.specs.List.{flat_map}
 use Rattle.std.specs.Result.{IsErrAnd}
@@ -11,10 +11,10 @@ use Rattle.xls_readable.specs.Csv.{csv_field, joined, separated}
 use Rattle.xls_lines.specs.Gathering.{Gathers, Stops}
 use Rattle.xls_lines.specs.SinkState.{SinkState}
 use Rattle.xls_lines.specs.declared.stop.Stop.{Stop}
-use Rattle.xls_lines.proofs.GatherLemmas.{gathers-as, gathers-nothing, gathers-then, stops-as, stops-then}
-use Rattle.xls_tables.specs.Rows.{AreContentTexts, IsContentFields, IsContentText}
+use Rattle.xls_lines.proofs.GatherLemmas.{gathers-added, gathers-as, gathers-nothing, gathers-then, stops-as, stops-then}
+use Rattle.xls_tables.specs.Rows.{AreContentTexts, IsContentText}
 use Rattle.xls_tables.specs.Tables.{BeginsRow}
-use Rattle.xls_tables.specs.Steps.{IsPlaced, PutsField, PutsFields, PutsOrBegins, separator}
+use Rattle.xls_tables.specs.Steps.{AddsPlaced, IsPlaced, PutsFields, PutsOrBegins, separator}
 
 -- ---- one more field
 
@@ -78,12 +78,13 @@ fields_first d row left width all a g =
     }
 
 pub fields_more : {d row left width place : ℕ} {all cells cells' : List Entry} {a b c : SinkState} {g h k text : List ℕ}
-    {is_bare none : Bool} → place < width
+    {is_bare none now : Bool} → place < width
     → FieldsSoFar d row left width all a g place is_bare cells b h
     → IsPlaced d (place == 0) (take_at row (left + place) cells).0 text → none ≡ (length text == 0)
-    → Gathers b h c k text → cells' ≡ (take_at row (left + place) cells).1
-    → FieldsSoFar d row left width all a g (place + 1) (is_bare && none) cells' c k
-fields_more {d} {row} {left} {width} {place} {all} {cells} {cells'} {a} {b} {c} {g} {h} {k} {text} {is_bare} {none} l so (field, (bytes, is, e), placed) none_is gathers left_is =
+    → Gathers b h c k text → cells' ≡ (take_at row (left + place) cells).1 → now ≡ (is_bare && none)
+    → FieldsSoFar d row left width all a g (place + 1) now cells' c k
+fields_more {d} {row} {left} {width} {place} {all} {cells} {cells'} {a} {b} {c} {g} {h} {k} {text} {is_bare} {none} l
+    so (field, (bytes, is, e), placed) none_is gathers left_is now_is =
     let more : width - place ≡ suc (width - (place + 1)) = omega arith in
     let next : left + (place + 1) ≡ left + place + 1 = omega arith in
     let taken = take_at row (left + place) cells in
@@ -101,7 +102,7 @@ fields_more {d} {row} {left} {width} {place} {all} {cells} {cells'} {a} {b} {c} 
           (append_assoc so.front (taken.0 ∷ []) (row_along row (left + place + 1) (width - (place + 1)) taken.1)
           ∙ (rw more at so.whole));
       rest = rw (next, left_is) (rw more at so.rest);
-      bare = both_none (joined d so.texts) text is_bare none so.bare none_is ∙ ap (λ (t : List ℕ). length t == 0) fields;
+      bare = now_is ∙ both_none (joined d so.texts) text is_bare none so.bare none_is ∙ ap (λ (t : List ℕ). length t == 0) fields;
       gathers = gathers-as (gathers-then so.gathers gathers) fields;
     }
 
@@ -139,9 +140,22 @@ fields_stop {d} {row} {left} {width} {place} {all} {cells} so none stops = (
 
 -- ---- at an error
 
-pub puts_stop : {X : Type 0} (IsWhole : X → List ℕ → Type 0) (Begins : List ℕ → Type 0) (a : SinkState) (g : List ℕ) (b : SinkState) (h : List ℕ)
-    {e : Stop} (r : Result X Stop) → IsErrAnd r (λ d. d ≡ e)
+pub puts_stop : {X : Type 0} (IsWhole : X → List ℕ → Type 0) (Begins : List ℕ → Type 0)
+    (a : SinkState) (g : List ℕ) (b : SinkState) (h : List ℕ) {e : Stop} (r : Result X Stop) → IsErrAnd r (λ d. d ≡ e)
     → (text : List ℕ) × Begins text × Stops a g b text e
     → PutsOrBegins IsWhole Begins a g b h r
 puts_stop IsWhole Begins a g b h (Ok x) none p = absurd none
 puts_stop IsWhole Begins a g b h {e} (Err d) is (text, begins, stops) = (text, begins, subst (λ f. Stops a g b text f) (sym is) stops)
+
+-- ---- one field
+
+-- what was gathered was passed on, and then the field was appended
+pub field_put : (d : ℕ) (is_first : Bool) {is_bare : Bool} {taken : Content × List Entry} {content : Content} {rest : List Entry}
+    {a b : SinkState} {g h k : List ℕ} → taken ≡ (content, rest) → Gathers a g b h []
+    → AddsPlaced d is_first content is_bare h k
+    → (text : List ℕ) × (IsPlaced d is_first taken.0 text × (is_bare ≡ (length text == 0))) × Gathers a g b k text
+field_put d is_first {is_bare} {taken} {content} {rest} {a} {b} {g} {h} {k} e passed (text, placed, bare, appended) = (
+  text,
+  (subst (λ (t : Content × List Entry). IsPlaced d is_first t.0 text) (sym e) placed, bare),
+  gathers-then passed (gathers-added b h k text appended),
+)

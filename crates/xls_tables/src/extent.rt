@@ -2,8 +2,7 @@
 
 ghost use Rattle.std.specs.Prelude.{◌≡◌, ◌≤◌, ◌^◌, ◌+◌, max, min};
 ghost use Rattle.xls_view.specs.Values.{cell_entry};
-ghost use Rattle.xls_csv.specs.Dense.{box_between, box_of};
-ghost use Rattle.xls_tables.specs.Steps.{IsExtent, IsSpan};
+ghost use Rattle.xls_tables.specs.Steps.{IsBetween, IsBoxOf, IsSpan};
 
 use xls_view::{Cells, SheetCell};
 
@@ -40,7 +39,7 @@ impl Corners {
     fn extent(self) -> Extent
         requires rows { self.start.0 ≤ self.end.0 }
         requires columns { self.start.1 ≤ self.end.1 }
-        ensures between { IsExtent (box_between self.start self.end) result }
+        ensures between { IsBetween self.start self.end result }
         ensures rows { result.top + result.height ≤ 2 ^ 32 }
         ensures columns { result.left + result.width ≤ 2 ^ 32 }
     {
@@ -80,7 +79,7 @@ fn span(position: (u32, u32), cells: Cells<'_>) -> Corners
 
 /// The smallest box that holds all of these cells, or the one without a position.
 pub(crate) fn extent_of(mut cells: Cells<'_>) -> Extent
-    ensures smallest { IsExtent (box_of cells.entry) result }
+    ensures smallest { IsBoxOf cells.entry result }
     ensures rows { result.top + result.height ≤ 2 ^ 32 }
     ensures columns { result.left + result.width ≤ 2 ^ 32 }
 {

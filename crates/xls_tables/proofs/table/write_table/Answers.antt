@@ -1,0 +1,12 @@
+use Rattle.std.proofs.Common.{List, subst}
+use Rattle.xls_data.specs.Content.{Content}
+use Rattle.xls_csv.proofs.WalkLemmas.{walks_dense}
+use Rattle.xls_tables.specs.Tables.{DeliversTable}
+use Rattle.xls_tables.proofs.table.write_table.Goals as goal
+
+pub returns-clause-dense : goal.returns-clause-dense
+returns-clause-dense g c = λ ascending.
+    let state = g.K.Sink.state in
+    let Delivers = λ (rows : List (List Content)). DeliversTable c.args.delimiter c.args.begins_with_mark rows
+    (state c.args.sink.now) (state c.write_rows.new.sink) c.write_rows.result in
+    subst Delivers (walks_dense c.args.cells ascending) c.write_rows.ensures
