@@ -1,2 +1,4 @@
 pub mod Lines
 pub mod Properties
+pub mod Projects
+pub mod Streams
