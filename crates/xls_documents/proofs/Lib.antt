@@ -1,3 +1,5 @@
 pub mod LineLemmas
 pub mod StreamLemmas
 pub mod ProjectLemmas
+pub mod FoundLemmas
+pub mod DirectoryLemmas
