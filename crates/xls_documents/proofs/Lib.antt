@@ -3,3 +3,4 @@ pub mod StreamLemmas
 pub mod ProjectLemmas
 pub mod FoundLemmas
 pub mod DirectoryLemmas
+pub mod StandardFacts

@@ -1,4 +1,4 @@
--- The directory of a file's macro project ([MS-OVBA] 2.3.4.2): the first stream named `dir` in a storage named `VBA`.
+-- The directory of a file's macro project ([MS-OVBA] dir Stream): the first stream named `dir` in a storage named `VBA`.
 use Rattle.std.specs.Prelude.{◌≡◌, ◌≢◌, ◌⊎◌, ◌&&◌, ◌-◌, ◌<◌, ℕ, List, [], ◌∷◌, length, drop, codes, Bool, true, false, Option, Some, None, Ok}
 use Rattle.std.specs.List.{slice_get}
 use Rattle.std.specs.Str.{str_eq_ignore_ascii_case}
