@@ -83,12 +83,8 @@ pub fields_more : {d row left width place : ℕ} {all cells cells' : List Entry}
     → IsPlaced d (place == 0) (take_at row (left + place) cells).0 text → none ≡ (length text == 0)
     → Gathers b h c k text → cells' ≡ (take_at row (left + place) cells).1 → now ≡ (is_bare && none)
     → FieldsSoFar d row left width all a g (place + 1) now cells' c k
-<<<<<<< HEAD
-fields_more {d} {row} {left} {width} {place} {all} {cells} {cells'} {a} {b} {c} {g} {h} {k} {text} {is_bare} {none} l so (field, (bytes, is, e), placed) none_is gathers left_is now_is =
-=======
 fields_more {d} {row} {left} {width} {place} {all} {cells} {cells'} {a} {b} {c} {g} {h} {k} {text} {is_bare} {none} l
     so (field, (bytes, is, e), placed) none_is gathers left_is now_is =
->>>>>>> 0908305369e7e5a5325c664eccf41863da70c335
     let more : width - place ≡ suc (width - (place + 1)) = omega arith in
     let next : left + (place + 1) ≡ left + place + 1 = omega arith in
     let taken = take_at row (left + place) cells in

@@ -10,11 +10,7 @@ use Rattle.std.proofs.lemmas.Fmt.{decimal_by_steps, length-decimal-le}
 use Rattle.std.proofs.lemmas.List.{get_or_default}
 use Rattle.std.proofs.lemmas.List.Elements.{All-append, All-nil}
 use Rattle.std.proofs.lemmas.Str.{chars_past_char, inside_one, length-encode}
-<<<<<<< HEAD
-use Rattle.xls_tables.specs.FileNames.{IsSafeName, file_name, fitting, is_refused, kept_char, two_digits}
-=======
 use Rattle.xls_tables.specs.FileNames.{IsSafeByte, IsSafeName, file_name, fitting, is_refused, kept_char, two_digits}
->>>>>>> 0908305369e7e5a5325c664eccf41863da70c335
 
 -- ---- the characters that fit
 

@@ -16,11 +16,7 @@ use Rattle.xls_lines.proofs.GatherLemmas.{gathers-added, gathers-after, gathers-
 use Rattle.xls_tables.specs.Rows.{IsContentFields, IsContentRow}
 use Rattle.xls_tables.specs.Steps.{IsBoxOf}
 use Rattle.xls_tables.specs.declared.extent.Extent.{Extent}
-<<<<<<< HEAD
-use Rattle.xls_tables.specs.Tables.{BeginsRow, BeginsRows, BeginsTable, DeliversTable, IsTable, byte_order_mark}
-=======
 use Rattle.xls_tables.specs.Tables.{BeginsRow, BeginsRows, DeliversTable, IsTable, StopsTable, WroteTable, byte_order_mark}
->>>>>>> 0908305369e7e5a5325c664eccf41863da70c335
 
 -- ---- the end of a row
 
@@ -164,15 +160,9 @@ marked is_marked a g h none e = gathers-from none (gathers-added a g h (byte_ord
 pub table_stop : (d : ℕ) (is_marked : Bool) (rows : List (List Content)) {a b c : SinkState} {h : List ℕ} {e : Stop}
     → Gathers a [] b h (byte_order_mark is_marked)
     → (text : List ℕ) × BeginsRows d rows text × Stops b h c text e
-<<<<<<< HEAD
-    → (text : List ℕ) × BeginsTable d is_marked rows text × Stops a [] c text e
-table_stop d is_marked rows mark (text, begins, stops) =
-    (byte_order_mark is_marked ++ text, (text, begins, refl), stops-then mark stops)
-=======
     → StopsTable d is_marked rows a c e
 table_stop d is_marked rows mark (text, begins, stops) =
     record { text = byte_order_mark is_marked ++ text; part = (text, begins, refl); stops = stops-then mark stops }
->>>>>>> 0908305369e7e5a5325c664eccf41863da70c335
 
 pub table_gathered : (d : ℕ) (is_marked : Bool) (rows : List (List Content)) {a b c : SinkState} {h k : List ℕ}
     → Gathers a [] b h (byte_order_mark is_marked)
@@ -184,16 +174,6 @@ table_gathered d is_marked rows mark (text, is, gathers) =
 -- all was gathered, and then it was given up
 pub table_unfinished : (d : ℕ) (is_marked : Bool) (rows : List (List Content)) {a b c : SinkState} {h : List ℕ} {e : Stop}
     → (text : List ℕ) × IsTable d is_marked rows text × Gathers a [] b h text → Stops b h c [] e
-<<<<<<< HEAD
-    → (text : List ℕ) × BeginsTable d is_marked rows text × Stops a [] c text e
-table_unfinished d is_marked rows (text, (body, is, e), gathers) stops =
-    (text, (body, begins_all d rows body is, e), stops-after gathers stops)
-
-pub table_finished : (d : ℕ) (is_marked : Bool) (rows : List (List Content)) {a b c : SinkState} {h k : List ℕ}
-    → (text : List ℕ) × IsTable d is_marked rows text × Gathers a [] b h text → Gathers b h c k [] → k ≡ []
-    → (text : List ℕ) × IsTable d is_marked rows text × Wrote a c text
-table_finished d is_marked rows (text, is, gathers) last none = (text, is, wrote (gathers-after gathers last) none)
-=======
     → StopsTable d is_marked rows a c e
 table_unfinished d is_marked rows (text, (body, is, e), gathers) stops =
     record { text = text; part = (body, begins_all d rows body is, e); stops = stops-after gathers stops }
@@ -203,7 +183,6 @@ pub table_finished : (d : ℕ) (is_marked : Bool) (rows : List (List Content)) {
     → WroteTable d is_marked rows a c
 table_finished d is_marked rows (text, is, gathers) last none =
     record { text = text; table = is; wrote = wrote (gathers-after gathers last) none }
->>>>>>> 0908305369e7e5a5325c664eccf41863da70c335
 
 -- the rows that are put are those of the cells
 pub walked : (cells again ahead : List Entry) {extent : Extent} → again ≡ cells → ahead ≡ cells → IsBoxOf again extent
