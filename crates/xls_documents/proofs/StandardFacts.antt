@@ -36,7 +36,8 @@ project = record {
 }
 
 pub told : lines_by project (codes "Sheet1" ∷ codes "Sheet2" ∷ []) ≡
-    line (codes "reference") ((codes "name", text (codes "stdole")) ∷ (codes "description", text (codes "OLE Automation")) ∷ (codes "path", text (codes "stdole2.tlb")) ∷ [])
+    line (codes "reference") ((codes "name", text (codes "stdole")) ∷ (codes "description", text (codes "OLE Automation"))
+    ∷ (codes "path", text (codes "stdole2.tlb")) ∷ [])
     ∷ line (codes "module") ((codes "name", text (codes "Sheet1")) ∷ (codes "stream", text (codes "Sheet1")) ∷ (codes "offset", count 200) ∷ []) ∷ []
 told = refl
 

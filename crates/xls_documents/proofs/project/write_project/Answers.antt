@@ -15,4 +15,6 @@ returns g c =
     let names = map (λ x. x.now) c.in_ok-names.names.items in
     project_delivered c.args.form c.args.project.now names _ _ c.finish.result c.in_ok-names.ensures
     (delivers (IsLineText c.args.form) (lines_by c.args.project.now names) (g.K.Sink.state c.finish.new.sink) _ c.finish.result
-    c.new-pieces.ensures (each-as c.in_ok-put_project.ensures (ap (λ (l : List (Bor (List ℕ))). lines_by c.args.project.now (map (λ x. x.now) l)) c.deref.ensures.value)) c.finish.ensures.puts c.finish.ensures.none)
+    c.new-pieces.ensures
+    (each-as c.in_ok-put_project.ensures (ap (λ (l : List (Bor (List ℕ))). lines_by c.args.project.now (map (λ x. x.now) l)) c.deref.ensures.value))
+    c.finish.ensures.puts c.finish.ensures.none)

@@ -15,7 +15,8 @@ loop-entry-preserved g c =
 pub returns-in_err-put_entry : goal.returns-in_err-put_entry
 returns-in_err-put_entry g c =
     puts-each-stop _ c.from_residual.result c.from_residual.ensures.1
-    (each-stops-as (each-some-stopped (λ entry. entry ∷ []) c.loop-entry.invariant.2 c.in-Some.ensures.steps c.in_err-put_entry.ensures) (each_itself c.args.entries))
+    (each-stops-as (each-some-stopped (λ entry. entry ∷ []) c.loop-entry.invariant.2 c.in-Some.ensures.steps c.in_err-put_entry.ensures)
+    (each_itself c.args.entries))
 
 pub returns : goal.returns
 returns g c =

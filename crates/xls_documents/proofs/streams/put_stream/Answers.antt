@@ -22,7 +22,8 @@ returns-in_err-push_line g c =
 pub returns : goal.returns
 returns g c =
     let names = c.in_ok-path.field-0.items in
-    let path : string_bytes c.in_ok-path-2.path ≡ path_text (map (λ x. x.now) names) = c.in_ok-path-2.ensures.ok ∙ ap (join_by _ (codes "/")) c.deref.ensures.value ∙ path_joined names in
+    let path : string_bytes c.in_ok-path-2.path ≡ path_text (map (λ x. x.now) names) =
+    c.in_ok-path-2.ensures.ok ∙ ap (join_by _ (codes "/")) c.deref.ensures.value ∙ path_joined names in
     let members = two_fields c.count_member.result c.text_member.result c.count_member.ensures
     (c.text_member.ensures ∙ shown (codes "path") (c.as_str.ensures.value ∙ path)) in
     let added = stream_added c.args.form c.args.entry.now _ c.size.result (map (λ x. x.now) names) _ _ c.requires c.size.ensures c.in_ok-path.ensures members
