@@ -13,11 +13,11 @@ use Rattle.xls_compound.specs.declared.error.CompoundError.{CompoundError}
 use Rattle.xls_compound.specs.declared.error.CompoundError.TheVariants as errors
 use Rattle.xls_container.specs.Files.{compound_file, IsWorkbookItem, RefusesWorkbook, fault_of}
 
-abbrev HasAt : {X : Type 0} → List X → ℕ → Type 0
+abbrev pub HasAt : {X : Type 0} → List X → ℕ → Type 0
 HasAt {X = X} xs i = (x : X) × (slice_get xs i ≡ Some x)
 
 -- what is found stands in the list
-found_at : {X : Type 0} (p : X → Bool) (xs : List X) (i : ℕ) → position p xs ≡ Some i → HasAt xs i
+pub found_at : {X : Type 0} (p : X → Bool) (xs : List X) (i : ℕ) → position p xs ≡ Some i → HasAt xs i
 found_at p [] i h = absurd (let none : None ≡ Some i = h in cc none)
 found_at p (x ∷ xs) i h =
     let found = position-Some p (x ∷ xs) i x h in
@@ -32,7 +32,7 @@ workbook_at : (items : List Item) (place : ℕ) → workbook items ≡ Some plac
 workbook_at items place h = either_at items _ _ place (found_at _ items place) (found_at _ items place) h
 
 -- where an entry was found
-place_of : (listing : Listing) (found : Option ℕ) (entry : Entry) → option_map (entry_at listing) found ≡ Some entry
+pub place_of : (listing : Listing) (found : Option ℕ) (entry : Entry) → option_map (entry_at listing) found ≡ Some entry
     → (place : ℕ) × (found ≡ Some place) × (entry ≡ entry_at listing place)
 place_of listing None entry h = absurd (let none : None ≡ Some entry = h in cc none)
 place_of listing (Some place) entry h = (place, refl, (let same : Some (entry_at listing place) ≡ Some entry = h in cc same))

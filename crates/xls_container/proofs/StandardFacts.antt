@@ -1,6 +1,6 @@
 -- Values that the formats give, so that a wrong rule in the specs does not check.
-use Rattle.std.proofs.Common.{◌≡◌, [], ◌∷◌, ◌++◌, map, codes, true, false, refl, arith}
-use Rattle.xls_container.specs.Kinds.{is_compound, is_bare, kind_of}
+use Rattle.std.proofs.Common.{ℕ, ◌≡◌, [], ◌∷◌, ◌++◌, map, codes, true, false, zero, suc, sym, ap, ◌∙◌, refl, arith}
+use Rattle.xls_container.specs.Kinds.{begins_with, is_compound, is_bare, kind_of}
 use Rattle.xls_container.specs.Obfuscation.{OBFUSCATION, LOOKED_AT, after_record, after_records, IsObfuscated}
 use Rattle.xls_container.specs.Texts.{kind_text, fault_text}
 use Rattle.xls_container.specs.declared.kind.FileKind.TheVariants.{Empty, Zip, Html, Mhtml, Sylk, RichText, Pdf, Excel2, Excel3, Excel4, Other}
@@ -40,6 +40,14 @@ second = refl
 -- XOR obfuscation with a key and a verifier, after a BOF
 pub obfuscated : IsObfuscated ((0x09 ∷ 0x08 ∷ 0x01 ∷ 0x00 ∷ 1 ∷ []) ++ (0x2F ∷ 0x00 ∷ 0x06 ∷ 0x00 ∷ 0x00 ∷ 0x00 ∷ 0x59 ∷ 0xB3 ∷ 0x0A ∷ 0x9A ∷ []))
 obfuscated = record { before = 1; is_early = omega arith; begins = refl }
+
+-- a stream without a record isn't
+nothing_after : (count : ℕ) → after_records count [] ≡ []
+nothing_after zero = refl
+nothing_after (suc count) = ap after_record (nothing_after count)
+
+pub plain : IsObfuscated [] → ⊥
+plain h = absurd (let e : false ≡ true = ap (begins_with OBFUSCATION) (sym (nothing_after h.before)) ∙ h.begins in cc e)
 
 pub looked_at : LOOKED_AT ≡ 100
 looked_at = refl

@@ -83,7 +83,8 @@ pub fields_more : {d row left width place : ℕ} {all cells cells' : List Entry}
     → IsPlaced d (place == 0) (take_at row (left + place) cells).0 text → none ≡ (length text == 0)
     → Gathers b h c k text → cells' ≡ (take_at row (left + place) cells).1 → now ≡ (is_bare && none)
     → FieldsSoFar d row left width all a g (place + 1) now cells' c k
-fields_more {d} {row} {left} {width} {place} {all} {cells} {cells'} {a} {b} {c} {g} {h} {k} {text} {is_bare} {none} l so (field, (bytes, is, e), placed) none_is gathers left_is now_is =
+fields_more {d} {row} {left} {width} {place} {all} {cells} {cells'} {a} {b} {c} {g} {h} {k} {text} {is_bare} {none} l
+    so (field, (bytes, is, e), placed) none_is gathers left_is now_is =
     let more : width - place ≡ suc (width - (place + 1)) = omega arith in
     let next : left + (place + 1) ≡ left + place + 1 = omega arith in
     let taken = take_at row (left + place) cells in
@@ -139,8 +140,8 @@ fields_stop {d} {row} {left} {width} {place} {all} {cells} so none stops = (
 
 -- ---- at an error
 
-pub puts_stop : {X : Type 0} (IsWhole : X → List ℕ → Type 0) (Begins : List ℕ → Type 0) (a : SinkState) (g : List ℕ) (b : SinkState) (h : List ℕ)
-    {e : Stop} (r : Result X Stop) → IsErrAnd r (λ d. d ≡ e)
+pub puts_stop : {X : Type 0} (IsWhole : X → List ℕ → Type 0) (Begins : List ℕ → Type 0)
+    (a : SinkState) (g : List ℕ) (b : SinkState) (h : List ℕ) {e : Stop} (r : Result X Stop) → IsErrAnd r (λ d. d ≡ e)
     → (text : List ℕ) × Begins text × Stops a g b text e
     → PutsOrBegins IsWhole Begins a g b h r
 puts_stop IsWhole Begins a g b h (Ok x) none p = absurd none

@@ -1,6 +1,6 @@
 -- Names of files, character by character.
 use Rattle.std.proofs.Common.{◌≡◌, ℕ, zero, suc, ◌+◌, ◌-◌, ◌%◌, ◌<◌, ◌≤◌, ◌^◌, inl, inr, Bool, true, false, List, [], ◌∷◌, ◌++◌, length, get_or, map, encode_utf8_all, append_assoc, append-nil, length-append, IsUtf8, arith, refl, sym, ap, ◌∙◌}
-use Rattle.std.specs.Prelude.{◌==◌, ◌||◌, if◌then◌else◌, nat_le, nat_lt}
+use Rattle.std.specs.Prelude.{if◌then◌else◌, nat_le, nat_lt}
 use Rattle.std.specs.Char.{len_utf8}
 use Rattle.std.specs.Fmt.{decimal}
 use Rattle.std.specs.Str.{chars}
@@ -10,7 +10,7 @@ use Rattle.std.proofs.lemmas.Fmt.{decimal_by_steps, length-decimal-le}
 use Rattle.std.proofs.lemmas.List.{get_or_default}
 use Rattle.std.proofs.lemmas.List.Elements.{All-append, All-nil}
 use Rattle.std.proofs.lemmas.Str.{chars_past_char, inside_one, length-encode}
-use Rattle.xls_tables.specs.FileNames.{IsSafeName, file_name, fitting, is_refused, kept_char, two_digits}
+use Rattle.xls_tables.specs.FileNames.{IsSafeByte, IsSafeName, file_name, fitting, is_refused, kept_char, two_digits}
 
 -- ---- the characters that fit
 
@@ -46,7 +46,7 @@ fitted_more rest others text new whole c d n room u e is size l appended so_far 
 
 -- ---- bytes of a name
 
-all_one : (b : ℕ) → ((b == 0) || (b == 0x2F)) ≡ false → IsSafeName (b ∷ [])
+all_one : (b : ℕ) → IsSafeByte b → IsSafeName (b ∷ [])
 all_one b t zero d l = t
 all_one b t (suc k) d l = absurd (omega (arith, l))
 
@@ -67,40 +67,39 @@ encoded_safe c e k d l = elim (cases_lt (get_or (encode c) k d) 128) [
   | inr large ↦ grind arith
 ]
   where
-    allowed : (c : ℕ) → is_refused c ≡ false → ((c == 0) || (c == 0x2F)) ≡ false
+    allowed : (c : ℕ) → is_refused c ≡ false → IsSafeByte c
     allowed c e = grind arith
 
 fitting_safe : (room : ℕ) (cs : List ℕ) → IsSafeName (encode_utf8_all (fitting room (map kept_char cs)))
-fitting_safe room [] = All-nil (λ (b : ℕ). ((b == 0) || (b == 0x2F)) ≡ false)
+fitting_safe room [] = All-nil IsSafeByte
 fitting_safe room (c ∷ cs) = by_test (nat_le (len_utf8 (kept_char c)) room) (fitting_safe (room - len_utf8 (kept_char c)) cs)
   where
     by_test : (t : Bool)
         → IsSafeName (encode_utf8_all (fitting (room - len_utf8 (kept_char c)) (map kept_char cs)))
         → IsSafeName (encode_utf8_all (if t then kept_char c ∷ fitting (room - len_utf8 (kept_char c)) (map kept_char cs) else []))
-    by_test true rest = All-append (λ (b : ℕ). ((b == 0) || (b == 0x2F)) ≡ false) (encode (kept_char c)) (encode_utf8_all (fitting (room - len_utf8 (kept_char c)) (map kept_char cs)))
+    by_test true rest = All-append IsSafeByte (encode (kept_char c)) (encode_utf8_all (fitting (room - len_utf8 (kept_char c)) (map kept_char cs)))
         (encoded_safe (kept_char c) (kept_allowed c)) rest
-    by_test false rest = All-nil (λ (b : ℕ). ((b == 0) || (b == 0x2F)) ≡ false)
+    by_test false rest = All-nil IsSafeByte
 
-digit_safe : (n : ℕ) → ((48 + n == 0) || (48 + n == 0x2F)) ≡ false
+digit_safe : (n : ℕ) → IsSafeByte (48 + n)
 digit_safe n = grind arith
 
 decimal_safe : (n : ℕ) → n < 2 ^ 64 → IsSafeName (decimal n)
 decimal_safe n small = decimal_by_steps (λ n ds. IsSafeName ds) (λ n l. all_one (48 + n) (digit_safe n))
-    (λ n ds l safe. All-append (λ (b : ℕ). ((b == 0) || (b == 0x2F)) ≡ false) ds ((48 + n % 10) ∷ []) safe (all_one (48 + n % 10) (digit_safe (n % 10)))) n small
+    (λ n ds l safe. All-append IsSafeByte ds ((48 + n % 10) ∷ []) safe (all_one (48 + n % 10) (digit_safe (n % 10)))) n small
 
 number_safe : (n : ℕ) → n < 2 ^ 64 → IsSafeName (two_digits n)
 number_safe n small = by_test (nat_lt n 10)
   where
     by_test : (t : Bool) → IsSafeName (if t then 0x30 ∷ decimal n else decimal n)
-    by_test true = All-append (λ (b : ℕ). ((b == 0) || (b == 0x2F)) ≡ false) (0x30 ∷ []) (decimal n) (all_one 0x30 refl) (decimal_safe n small)
+    by_test true = All-append IsSafeByte (0x30 ∷ []) (decimal n) (all_one 0x30 refl) (decimal_safe n small)
     by_test false = decimal_safe n small
 
 pub name_safe : (n : ℕ) (sheet : List ℕ) → n < 2 ^ 64 → IsSafeName (file_name n sheet)
 name_safe n sheet small =
-    let P = λ (b : ℕ). ((b == 0) || (b == 0x2F)) ≡ false in
     let rest = encode_utf8_all (fitting 190 (map kept_char sheet)) in
-    All-append P (two_digits n) (0x2D ∷ rest) (number_safe n small)
-    (All-append P (0x2D ∷ []) rest (all_one 0x2D refl) (fitting_safe 190 sheet))
+    All-append IsSafeByte (two_digits n) (0x2D ∷ rest) (number_safe n small)
+    (All-append IsSafeByte (0x2D ∷ []) rest (all_one 0x2D refl) (fitting_safe 190 sheet))
 
 -- ---- the length of a name
 

@@ -8,7 +8,7 @@ use Rattle.xls_csv.specs.Walk.{left_along, row_along, rows_along, walk}
 use Rattle.xls_csv.proofs.WalkLemmas.{rows_next}
 use Rattle.xls_readable.specs.Csv.{row_end}
 use Rattle.xls_readable.specs.Values.{Concatenates}
-use Rattle.xls_lines.specs.Gathering.{Gathers, Stops, Wrote}
+use Rattle.xls_lines.specs.Gathering.{Gathers, Stops}
 use Rattle.xls_lines.specs.SinkState.{SinkState}
 use Rattle.xls_lines.specs.declared.stop.Stop.{Stop}
 use Rattle.xls_lines.specs.declared.stop.Stop.TheVariants.{Memory}
@@ -16,7 +16,7 @@ use Rattle.xls_lines.proofs.GatherLemmas.{gathers-added, gathers-after, gathers-
 use Rattle.xls_tables.specs.Rows.{IsContentFields, IsContentRow}
 use Rattle.xls_tables.specs.Steps.{IsBoxOf}
 use Rattle.xls_tables.specs.declared.extent.Extent.{Extent}
-use Rattle.xls_tables.specs.Tables.{BeginsRow, BeginsRows, BeginsTable, DeliversTable, IsTable, byte_order_mark}
+use Rattle.xls_tables.specs.Tables.{BeginsRow, BeginsRows, DeliversTable, IsTable, StopsTable, WroteTable, byte_order_mark}
 
 -- ---- the end of a row
 
@@ -139,21 +139,18 @@ rows_stop {d} {height} {top} {left} {width} {i} {all} {cells} l so (text, begins
 -- ---- tables
 
 pub delivers_stop : {X : Type 0} (d : ℕ) (is_marked : Bool) (rows : List (List Content)) (a b : SinkState) {e : Stop} (r : Result X Stop)
-    → IsErrAnd r (λ f. f ≡ e)
-    → (text : List ℕ) × BeginsTable d is_marked rows text × Stops a [] b text e
-    → DeliversTable d is_marked rows a b r
+    → IsErrAnd r (λ f. f ≡ e) → StopsTable d is_marked rows a b e → DeliversTable d is_marked rows a b r
 delivers_stop d is_marked rows a b (Ok x) none p = absurd none
-delivers_stop d is_marked rows a b {e} (Err f) is (text, begins, stops) =
-    (text, begins, subst (λ f. Stops a [] b text f) (sym is) stops)
+delivers_stop d is_marked rows a b {e} (Err f) is p = subst (StopsTable d is_marked rows a b) (sym is) p
 
 -- out of memory before anything
 pub table_memory : (d : ℕ) (is_marked : Bool) (rows : List (List Content)) (a : SinkState)
-    → (text : List ℕ) × BeginsTable d is_marked rows text × Stops a [] a text Memory
-table_memory d is_marked rows a = (
-  byte_order_mark is_marked,
-  ([], begins_nothing d rows, sym (append-nil (byte_order_mark is_marked))),
-  stops-memory-now a [] (byte_order_mark is_marked),
-)
+    → StopsTable d is_marked rows a a Memory
+table_memory d is_marked rows a = record {
+  text = byte_order_mark is_marked;
+  part = ([], begins_nothing d rows, sym (append-nil (byte_order_mark is_marked)));
+  stops = stops-memory-now a [] (byte_order_mark is_marked);
+}
 
 -- after the mark
 pub marked : (is_marked : Bool) (a : SinkState) (g h : List ℕ) → g ≡ [] → h ≡ g ++ byte_order_mark is_marked
@@ -163,9 +160,9 @@ marked is_marked a g h none e = gathers-from none (gathers-added a g h (byte_ord
 pub table_stop : (d : ℕ) (is_marked : Bool) (rows : List (List Content)) {a b c : SinkState} {h : List ℕ} {e : Stop}
     → Gathers a [] b h (byte_order_mark is_marked)
     → (text : List ℕ) × BeginsRows d rows text × Stops b h c text e
-    → (text : List ℕ) × BeginsTable d is_marked rows text × Stops a [] c text e
+    → StopsTable d is_marked rows a c e
 table_stop d is_marked rows mark (text, begins, stops) =
-    (byte_order_mark is_marked ++ text, (text, begins, refl), stops-then mark stops)
+    record { text = byte_order_mark is_marked ++ text; part = (text, begins, refl); stops = stops-then mark stops }
 
 pub table_gathered : (d : ℕ) (is_marked : Bool) (rows : List (List Content)) {a b c : SinkState} {h k : List ℕ}
     → Gathers a [] b h (byte_order_mark is_marked)
@@ -177,14 +174,15 @@ table_gathered d is_marked rows mark (text, is, gathers) =
 -- all was gathered, and then it was given up
 pub table_unfinished : (d : ℕ) (is_marked : Bool) (rows : List (List Content)) {a b c : SinkState} {h : List ℕ} {e : Stop}
     → (text : List ℕ) × IsTable d is_marked rows text × Gathers a [] b h text → Stops b h c [] e
-    → (text : List ℕ) × BeginsTable d is_marked rows text × Stops a [] c text e
+    → StopsTable d is_marked rows a c e
 table_unfinished d is_marked rows (text, (body, is, e), gathers) stops =
-    (text, (body, begins_all d rows body is, e), stops-after gathers stops)
+    record { text = text; part = (body, begins_all d rows body is, e); stops = stops-after gathers stops }
 
 pub table_finished : (d : ℕ) (is_marked : Bool) (rows : List (List Content)) {a b c : SinkState} {h k : List ℕ}
     → (text : List ℕ) × IsTable d is_marked rows text × Gathers a [] b h text → Gathers b h c k [] → k ≡ []
-    → (text : List ℕ) × IsTable d is_marked rows text × Wrote a c text
-table_finished d is_marked rows (text, is, gathers) last none = (text, is, wrote (gathers-after gathers last) none)
+    → WroteTable d is_marked rows a c
+table_finished d is_marked rows (text, is, gathers) last none =
+    record { text = text; table = is; wrote = wrote (gathers-after gathers last) none }
 
 -- the rows that are put are those of the cells
 pub walked : (cells again ahead : List Entry) {extent : Extent} → again ≡ cells → ahead ≡ cells → IsBoxOf again extent

@@ -1,5 +1,5 @@
 -- The names of files for sheets.
-use Rattle.std.specs.Prelude.{◌≡◌, ℕ, ◌-◌, ◌==◌, ◌||◌, nat_le, nat_lt, if◌then◌else◌, Bool, false, List, [], ◌∷◌, ◌++◌, map, encode_utf8_all}
+use Rattle.std.specs.Prelude.{◌≡◌, ℕ, ◌-◌, ◌<◌, ◌^◌, ◌==◌, ◌||◌, nat_le, nat_lt, if◌then◌else◌, Bool, false, List, [], ◌∷◌, ◌++◌, map, encode_utf8_all}
 use Rattle.std.specs.Char.{len_utf8}
 use Rattle.std.specs.Fmt.{decimal}
 use Rattle.std.specs.List.{All}
@@ -29,5 +29,13 @@ file_name number sheet =
     two_digits number ++ 0x2D ∷ encode_utf8_all (fitting 190 (map kept_char sheet))
 
 -- no byte of a name is a NUL or a slash
+abbrev pub IsSafeByte : ℕ → Type 0
+IsSafeByte b = ((b == 0) || (b == 0x2F)) ≡ false
+
 abbrev pub IsSafeName : List ℕ → Type 0
-IsSafeName name = All (λ (b : ℕ). ((b == 0) || (b == 0x2F)) ≡ false) name
+IsSafeName name = All IsSafeByte name
+
+-- names with different numbers differ, whatever the sheets' names are
+abbrev pub NamesDiffer : Type 0
+NamesDiffer =
+    (m n : ℕ) (one other : List ℕ) → m < 2 ^ 64 → n < 2 ^ 64 → file_name m one ≡ file_name n other → m ≡ n

@@ -1,5 +1,5 @@
 -- Rows of CSV one after another, and how far they were written.
-use Rattle.std.specs.Prelude.{◌≡◌, ◌⊎◌, ℕ, Bool, true, false, List, [], ◌∷◌, ◌++◌, Result, Ok, Err}
+use Rattle.std.specs.Prelude.{◌≡◌, ◌⊎◌, ℕ, Bool, true, false, List, [], ◌∷◌, ◌++◌, Result, MatchResult}
 use Rattle.xls_data.specs.Content.{Content}
 use Rattle.xls_lines.specs.Gathering.{Stops, Wrote}
 use Rattle.xls_lines.specs.SinkState.{SinkState}
@@ -39,9 +39,19 @@ abbrev pub BeginsTable : ℕ → Bool → List (List Content) → List ℕ → T
 BeginsTable delimiter is_marked rows text =
     (body : List ℕ) × BeginsRows delimiter rows body × (text ≡ byte_order_mark is_marked ++ body)
 
--- the table was written; or a prefix of such a part, and then it was given up
+-- the table was written
+pub record WroteTable (delimiter : ℕ) (is_marked : Bool) (rows : List (List Content)) (before after : SinkState) : Type 0 where
+  pub text : List ℕ
+  pub table : IsTable delimiter is_marked rows text
+  pub wrote : Wrote before after text
+
+-- a prefix of a part of it was written, and then it was given up
+pub record StopsTable (delimiter : ℕ) (is_marked : Bool) (rows : List (List Content)) (before after : SinkState) (e : Stop) : Type 0 where
+  pub text : List ℕ
+  pub part : BeginsTable delimiter is_marked rows text
+  pub stops : Stops before [] after text e
+
+-- either of them
 abbrev pub DeliversTable : {X : Type 0} → ℕ → Bool → List (List Content) → SinkState → SinkState → Result X Stop → Type 0
-DeliversTable delimiter is_marked rows before after (Ok x) =
-    (text : List ℕ) × IsTable delimiter is_marked rows text × Wrote before after text
-DeliversTable delimiter is_marked rows before after (Err e) =
-    (text : List ℕ) × BeginsTable delimiter is_marked rows text × Stops before [] after text e
+DeliversTable delimiter is_marked rows before after result =
+    MatchResult result (λ _. WroteTable delimiter is_marked rows before after) (StopsTable delimiter is_marked rows before after)

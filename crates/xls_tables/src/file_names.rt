@@ -3,7 +3,7 @@
 ghost use Rattle.std.specs.Prelude.{◌≡◌, ◌++◌, ◌≤◌, length, map, encode_utf8_all, IfOk, OnOk};
 ghost use Rattle.std.specs.Str.{chars};
 ghost use Rattle.std.specs.String.{string_bytes};
-ghost use Rattle.xls_tables.specs.FileNames.{IsSafeName, file_name, fitting, is_refused, kept_char, two_digits};
+ghost use Rattle.xls_tables.specs.FileNames.{IsSafeName, NamesDiffer, file_name, fitting, is_refused, kept_char, two_digits};
 
 use std::alloc::{AllocError, Global};
 
@@ -77,3 +77,8 @@ pub fn file_name(alloc: Global, number: usize, sheet: &str) -> Result<String, Al
 {
     named(alloc, number, sheet)
 }
+
+/// Names with different numbers differ, so that no file of a sheet is written over another.
+pub fn names_differ()
+    ensures { NamesDiffer }
+{}

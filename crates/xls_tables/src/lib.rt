@@ -8,5 +8,5 @@ mod gathered;
 mod shown;
 mod table;
 
-pub use file_names::file_name;
+pub use file_names::{file_name, names_differ};
 pub use table::write_table;

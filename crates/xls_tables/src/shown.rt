@@ -14,11 +14,7 @@ pub(crate) fn shown_value<'a>(value: &'a DataRef<'_>) -> Value<'a>
         DataRef::Int(n) => Value::Int(*n),
         DataRef::Float(n) => Value::Float(*n),
         DataRef::String(text) => Value::Text(text.as_str()),
-        DataRef::SharedString(text) => {
-            // Its proof needs that the text is UTF-8, which holds of a text that is read.
-            let text = *text;
-            Value::Text(text)
-        }
+        DataRef::SharedString(text) => Value::Text(*text),
         DataRef::Bool(truth) => Value::Truth(*truth),
         DataRef::DateTime(moment) => Value::Moment(*moment),
         DataRef::DateTimeIso(text) => Value::IsoDate(text.as_str()),

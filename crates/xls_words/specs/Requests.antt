@@ -47,3 +47,7 @@ HasNumber commands.Vba = Unit {0}
 HasNumber commands.Remake = Unit {0}
 HasNumber (commands.Stream p) = Unit {0}
 HasNumber commands.Streams = Unit {0}
+
+-- the pages that are read
+abbrev pub IsPage : ℕ → Type 0
+IsPage n = (n ≡ 1200) ⊎ ((n ≡ 1252) ⊎ ((n ≡ 28_591) ⊎ (n ≡ 65_001)))

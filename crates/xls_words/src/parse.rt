@@ -1,8 +1,8 @@
 //! Words, and what they ask for.
 
-ghost use Rattle.std.specs.Prelude.{◌≡◌, IfOk, map};
+ghost use Rattle.std.specs.Prelude.{◌≡◌, IfOk, IfSome, map};
 ghost use Rattle.std.specs.String.{string_bytes};
-ghost use Rattle.xls_words.specs.Requests.{HasNumber, IsAsked, IsNumbered, word_of};
+ghost use Rattle.xls_words.specs.Requests.{HasNumber, IsAsked, IsNumbered, IsPage, word_of};
 
 use crate::request::{Command, Files, Request, SheetChoice, Style, Table};
 use crate::word::{ALL, Word};
@@ -10,7 +10,6 @@ use clap::error::ErrorKind;
 use clap::{Arg, ArgAction, ArgMatches, Error, value_parser};
 use std::alloc::{AllocError, Global};
 use xls_readable::Delimiter;
-use xls_text::XlsEncoding;
 
 /// The version of the program and of its libraries.
 pub const VERSION: &str = "0.45.0";
@@ -159,11 +158,11 @@ fn grammar_of<'a>(
 ) -> Result<clap::Command<'a>, AllocError> {
     let command = clap::Command::new(alloc, title).about(about);
     match word {
-        Word::Dump | Word::Sheets | Word::Formulas | Word::Refs => with_page(
+        Word::Dump | Word::Sheets | Word::Refs => with_page(
             alloc,
             with_forms(alloc, with_many(alloc, command)?)?,
         ),
-        Word::Check => {
+        Word::Check | Word::Formulas => {
             let json = flag(alloc, "json", "Write each line as an object of JSON");
             with_page(alloc, with_many(alloc, command)?.arg(json)?)
         }
@@ -218,12 +217,14 @@ fn delimiter_of(text: &str) -> Option<Delimiter> {
 }
 
 /// The page of a number, if it is one that is read.
-fn page_of(text: &str) -> Option<XlsEncoding> {
+fn page_of(text: &str) -> Option<u16>
+    ensures { IfSome result IsPage }
+{
     match text {
-        "1200" => Some(XlsEncoding::Utf16),
-        "1252" => Some(XlsEncoding::Windows1252),
-        "28591" => Some(XlsEncoding::Latin1),
-        "65001" => Some(XlsEncoding::Utf8),
+        "1200" => Some(1200),
+        "1252" => Some(1252),
+        "28591" => Some(28_591),
+        "65001" => Some(65_001),
         _ => None,
     }
 }
@@ -322,10 +323,9 @@ fn files_in<'w>(
 }
 
 /// The page that is asked for.
-fn page_in(
-    grammar: &mut clap::Command<'_>,
-    matches: &ArgMatches<'_>,
-) -> Result<Option<XlsEncoding>, Error> {
+fn page_in(grammar: &mut clap::Command<'_>, matches: &ArgMatches<'_>) -> Result<Option<u16>, Error>
+    ensures { IfOk result (λ page. IfSome page IsPage) }
+{
     match matches.get_str("codepage") {
         Some(text) => match page_of(text) {
             Some(page) => Ok(Some(page)),
@@ -339,6 +339,7 @@ fn page_in(
 fn request_in<'w>(alloc: Global, word: Word, words: &'w [String]) -> Result<Request<'w>, Error>
     ensures named { IfOk result (λ r. word_of r.command ≡ word) }
     ensures numbered { IfOk result (λ r. HasNumber r.command) }
+    ensures page { IfOk result (λ r. IfSome r.page IsPage) }
 {
     let mut grammar = grammar_of(alloc, word, word.title(), word.about())?.no_binary_name(true);
     let matches = grammar.try_get_matches_from_mut(words)?;
@@ -369,6 +370,7 @@ fn shown(alloc: Global, words: &[String]) -> Error {
 pub fn request_of<'w>(alloc: Global, words: &'w [String]) -> Result<Request<'w>, Error>
     ensures named { IfOk result (λ r. IsAsked (map string_bytes words.now) (word_of r.command)) }
     ensures numbered { IfOk result (λ r. HasNumber r.command) }
+    ensures page { IfOk result (λ r. IfSome r.page IsPage) }
 {
     let Some((first, others)) = words.split_first() else {
         return Err(shown(alloc, words));

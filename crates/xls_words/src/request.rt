@@ -5,7 +5,6 @@ ghost use Rattle.xls_words.specs.Requests.{word_of};
 
 use crate::word::Word;
 use xls_readable::Delimiter;
-use xls_text::XlsEncoding;
 
 /// How values are written.
 #[derive(Clone, Copy, Debug, PartialEq, Eq)]
@@ -99,8 +98,9 @@ pub struct Request<'w> {
     pub files: Files<'w>,
     /// The lines that many files are told in are objects of JSON.
     pub tells_json: bool,
-    /// The page that texts of single bytes are read by, in place of the one that a workbook says.
-    pub page: Option<XlsEncoding>,
+    /// The page that texts of single bytes are read by, in place of the one that a workbook says: 1200, 1252,
+    /// 28591 or 65001.
+    pub page: Option<u16>,
     /// The folder into which the texts of files are written.
     pub out: Option<&'w str>,
     /// Files that exist are written over.

@@ -9,5 +9,6 @@ abbrev pub invariant-loop-i : goal.invariant-loop-i
 invariant-loop-i g l =
     let sink = g.K.Sink in
     let book = l.view.book in
-    PutsSome (IsShownLine l.form) (each_sheet lines_of_formulas book.sheets book.contents) (each_sheet lines_of_formulas (drop l.i book.sheets) (drop l.i book.contents))
+    PutsSome (IsShownLine l.form) (each_sheet lines_of_formulas book.sheets book.contents)
+    (each_sheet lines_of_formulas (drop l.i book.sheets) (drop l.i book.contents))
     (sink.state l.fn.sink) (string_bytes l.fn.pieces.text) (sink.state l.sink) (string_bytes l.pieces.text)

@@ -17,4 +17,5 @@ returns g c =
     let new = string_bytes c.push_formula_line.new.buf in
     let text = c.args.text.now in
     puts-one (IsShownLine c.args.form) (formula_line ((c.args.row, c.args.column), chars text)) _ _ new _ _ c.pass.result
-    (subst (λ (t : List ℕ). Adds (IsLine c.args.form (codes "formula") (formula_members c.args.row c.args.column t)) old new) (encoded text c.utf8.text) c.in_ok-push_formula_line.ensures.ok) c.pass.ensures
+    (subst (λ (t : List ℕ). Adds (IsLine c.args.form (codes "formula") (formula_members c.args.row c.args.column t)) old new)
+    (encoded text c.utf8.text) c.in_ok-push_formula_line.ensures.ok) c.pass.ensures

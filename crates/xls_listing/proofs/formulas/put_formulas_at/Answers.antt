@@ -18,7 +18,8 @@ returns-in-Some g c =
     let state = g.K.Sink.state in
     let texts = ap (option_map (λ (f : Named). map (text_entry f.context) f.left)) (sym c.in-Some.is) ∙ c.in_ok-formulas.ensures.texts in
     puts-as (IsShownLine c.args.form) (state c.args.sink.now) _ (state c.put_formulas.new.sink) _ c.put_formulas.result
-    (part_lines (λ (v : SheetView). v.formulas) (λ (fs : List FormulaEntry). map formula_line (shown_formulas fs)) lines_of_formulas (λ v. refl) _ _ texts) c.put_formulas.ensures
+    (part_lines (λ (v : SheetView). v.formulas) (λ (fs : List FormulaEntry). map formula_line (shown_formulas fs)) lines_of_formulas (λ v. refl) _ _ texts)
+    c.put_formulas.ensures
 
 pub returns-in-None : goal.returns-in-None
 returns-in-None g c =

@@ -13,5 +13,6 @@ returns-in_err-put_sheet g c =
 
 pub returns : goal.returns
 returns g c =
-    puts-then (IsShownLine c.args.form) (sheet_line (sheet_content c.args.sheet.now) ∷ []) (shown_at lines_of_formulas (slice_get c.args.view.now.book.contents c.args.n))
+    puts-then (IsShownLine c.args.form) (sheet_line (sheet_content c.args.sheet.now) ∷ [])
+    (shown_at lines_of_formulas (slice_get c.args.view.now.book.contents c.args.n))
     (g.K.Sink.state c.put_formulas_at.new.sink) _ c.put_formulas_at.result c.in_ok-put_sheet.ensures c.put_formulas_at.ensures

@@ -7,10 +7,12 @@ use Rattle.xls_listing.proofs.formulas.put_shown_formula.Goals as goal
 
 pub returns-then-is_empty : goal.returns-then-is_empty
 returns-then-is_empty g c =
-    each-as (each-none (IsShownLine c.args.form) _ _) (sym (formula_none (c.args.row, c.args.column) _ (no_characters c.args.text.now (sym c.if-is_empty.true ∙ c.is_empty.ensures))))
+    each-as (each-none (IsShownLine c.args.form) _ _)
+    (sym (formula_none (c.args.row, c.args.column) _ (no_characters c.args.text.now (sym c.if-is_empty.true ∙ c.is_empty.ensures))))
 
 pub returns : goal.returns
 returns g c =
     let state = g.K.Sink.state in
     let some = some_characters c.args.text.now c.utf8.text (sym c.if-is_empty.false ∙ c.is_empty.ensures) in
-    puts-as (IsShownLine c.args.form) (state c.args.sink.now) _ (state c.put_formula.new.sink) _ c.put_formula.result (formula_shown (c.args.row, c.args.column) _ some) c.put_formula.ensures
+    puts-as (IsShownLine c.args.form) (state c.args.sink.now) _ (state c.put_formula.new.sink) _ c.put_formula.result
+    (formula_shown (c.args.row, c.args.column) _ some) c.put_formula.ensures

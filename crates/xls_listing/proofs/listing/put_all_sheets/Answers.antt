@@ -15,7 +15,8 @@ loop-i-preserved g c =
     let i = c.loop-i.i in
     let book = c.args.view.now.book in
     let sheet = c.index-sheets-i.result in
-    let here = mapped sheet_content c.sheets-sheets.result.now book.sheets i sheet c.loop-i-test.true c.index-sheets-i.is c.sheets-sheets.ensures in
+    let here = mapped sheet_content c.sheets-sheets.result.now book.sheets i sheet
+    c.loop-i-test.true c.index-sheets-i.is c.sheets-sheets.ensures in
     some-next c.loop-i.invariant (sheets_step lines_of_sheet book.sheets book.contents i (sheet_content sheet) here) c.in_ok-put_whole_sheet.ensures
 
 pub returns-in_err-put_whole_sheet : goal.returns-in_err-put_whole_sheet
@@ -23,7 +24,8 @@ returns-in_err-put_whole_sheet g c =
     let i = c.loop-i.i in
     let book = c.args.view.now.book in
     let sheet = c.index-sheets-i.result in
-    let here = mapped sheet_content c.sheets-sheets.result.now book.sheets i sheet c.loop-i-test.true c.index-sheets-i.is c.sheets-sheets.ensures in
+    let here = mapped sheet_content c.sheets-sheets.result.now book.sheets i sheet
+    c.loop-i-test.true c.index-sheets-i.is c.sheets-sheets.ensures in
     puts-each-stop _ c.from_residual.result c.from_residual.ensures.1
     (some-stopped _ c.loop-i.invariant (sheets_step lines_of_sheet book.sheets book.contents i (sheet_content sheet) here) c.in_err-put_whole_sheet.ensures)
 

@@ -9,4 +9,5 @@ returns g c =
     let state = g.K.Sink.state in
     let cite = c.args.cite in
     puts-as (IsShownLine c.args.form) (state c.args.sink.now) _ (state c.put_cited.new.sink) _ c.put_cited.result
-    (ap (λ (name : List ℕ). cited_line name (cite.row, cite.col) (chars cite.on.now) (area cite.first cite.last) ∷ []) c.name_of-name.ensures) c.put_cited.ensures
+    (ap (λ (name : List ℕ). cited_line name (cite.row, cite.col) (chars cite.on.now) (area cite.first cite.last) ∷ [])
+    c.name_of-name.ensures) c.put_cited.ensures

@@ -6,4 +6,6 @@ pub loop-cell-preserved : goal.loop-cell-preserved
 loop-cell-preserved c =
     let corners = c.with-corners.ensures in
     let at = c.position_of.ensures in
-    (tt, tt, more c.args.position c.args.cells c.loop-cell.cell-iterator c.next.new.self (cell_entry c.in-Some.cell) c.loop-cell.corners c.with-corners.result c.loop-cell.invariant.2 c.in-Some.ensures.steps (rw at at corners.start) (rw at at corners.end))
+    let so_far = more c.args.position c.args.cells c.loop-cell.cell-iterator c.next.new.self (cell_entry c.in-Some.cell) c.loop-cell.corners
+    c.with-corners.result c.loop-cell.invariant.2 c.in-Some.ensures.steps (rw at at corners.start) (rw at at corners.end) in
+    (tt, tt, so_far)

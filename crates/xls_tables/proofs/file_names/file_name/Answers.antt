@@ -7,8 +7,10 @@ use Rattle.xls_tables.proofs.file_names.file_name.Goals as goal
 
 pub returns-clause-safe : goal.returns-clause-safe
 returns-clause-safe c =
-    IfOk-weaker c.named.result _ _ (λ text e. subst IsSafeName (sym e) (name_safe c.args.number (chars c.args.sheet.now) c.ranges.number.fits)) c.named.ensures
+    let safe = name_safe c.args.number (chars c.args.sheet.now) c.ranges.number.fits in
+    IfOk-weaker c.named.result _ _ (λ text e. subst IsSafeName (sym e) safe) c.named.ensures
 
 pub returns-clause-short : goal.returns-clause-short
 returns-clause-short c =
-    IfOk-weaker c.named.result _ _ (λ text e. subst (λ (l : List ℕ). length l ≤ 211) (sym e) (name_short c.args.number (chars c.args.sheet.now) c.ranges.number.fits)) c.named.ensures
+    let short = name_short c.args.number (chars c.args.sheet.now) c.ranges.number.fits in
+    IfOk-weaker c.named.result _ _ (λ text e. subst (λ (l : List ℕ). length l ≤ 211) (sym e) short) c.named.ensures

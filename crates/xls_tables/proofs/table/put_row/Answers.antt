@@ -9,7 +9,8 @@ pub returns-in_err-push_end-clause-puts : goal.returns-in_err-push_end-clause-pu
 returns-in_err-push_end-clause-puts g c =
     let fields = c.in_ok-is_bare.ensures.puts in
     let a = c.from_residual-in_err-push_end in
-    puts_stop _ _ _ _ _ _ a.result a.ensures.1 (row_stop c.args.delimiter (row_along c.args.row c.args.left c.args.width c.args.cells.now) fields.1.0 fields.2)
+    let row = row_along c.args.row c.args.left c.args.width c.args.cells.now in
+    puts_stop _ _ _ _ _ _ a.result a.ensures.1 (row_stop c.args.delimiter row fields.1.0 fields.2)
 
 pub returns-clause-puts : goal.returns-clause-puts
 returns-clause-puts g c =

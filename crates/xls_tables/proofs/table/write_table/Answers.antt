@@ -6,5 +6,7 @@ use Rattle.xls_tables.proofs.table.write_table.Goals as goal
 
 pub returns-clause-dense : goal.returns-clause-dense
 returns-clause-dense g c = λ ascending.
-    subst (λ (rows : List (List Content)). DeliversTable c.args.delimiter c.args.begins_with_mark rows (g.K.Sink.state c.args.sink.now) (g.K.Sink.state c.write_rows.new.sink) c.write_rows.result)
-    (walks_dense c.args.cells ascending) c.write_rows.ensures
+    let state = g.K.Sink.state in
+    let Delivers = λ (rows : List (List Content)). DeliversTable c.args.delimiter c.args.begins_with_mark rows
+    (state c.args.sink.now) (state c.write_rows.new.sink) c.write_rows.result in
+    subst Delivers (walks_dense c.args.cells ascending) c.write_rows.ensures

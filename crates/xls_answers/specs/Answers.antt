@@ -1,0 +1,91 @@
+-- What is written of a file.
+use Rattle.std.specs.Prelude.{◌≡◌, ◌⊎◌, ℕ, ◌<◌, List, [], length, None, Result, Ok, Err, true}
+use Rattle.xls_model.specs.Listing.{Entry}
+use Rattle.xls_strings.specs.declared.error.XlsError.TheVariants.{TooLarge}
+use Rattle.xls_open.specs.declared.options.XlsOptions.{XlsOptions}
+use Rattle.xls_view.specs.Viewing.{Viewed, IsFault}
+use Rattle.xls_lay.specs.Reading.{ReadsList, IsFirst}
+use Rattle.xls_lay.specs.Writing.{Writes}
+use Rattle.xls_lines.specs.SinkState.{SinkState}
+use Rattle.xls_lines.specs.Gathering.{Delivers, Stops, Wrote}
+use Rattle.xls_lines.specs.declared.stop.Stop.TheVariants.{Memory}
+use Rattle.xls_report.specs.Endings.{IsUntouched}
+use Rattle.xls_report.specs.Report.{report, sound_line}
+use Rattle.xls_container.specs.Files.{WorkbookBytes, RefusesFile}
+use Rattle.xls_container.specs.Obfuscation.{IsObfuscated}
+use Rattle.xls_answers.specs.declared.answer.Answer.{Answer}
+use Rattle.xls_answers.specs.declared.answer.Answer.TheVariants as answers
+use Rattle.xls_answers.specs.declared.failure.Failure.{Failure}
+use Rattle.xls_answers.specs.declared.failure.Failure.TheVariants as failures
+use Rattle.xls_words.specs.Requests.{IsNumbered}
+use Rattle.xls_answers.specs.Views.{OfView, AreLines, BeginLines, MissesNone}
+use Rattle.xls_answers.specs.Sheets.{IsTableOf, BeginsTableOf, MissesSheet}
+
+-- ---- of a workbook's stream
+
+-- the line of bytes without a fault, or their first fault
+abbrev pub OfCheck : XlsOptions → List ℕ → SinkState → SinkState → Result (Unit {0}) Failure → Type 0
+OfCheck options bytes before after (Ok x) = ((e : _) → IsFault options bytes e → ⊥) × Wrote before after sound_line
+OfCheck options bytes before after (Err (failures.Stream e)) = IsFault options bytes e × IsUntouched before after
+OfCheck options bytes before after (Err (failures.Stopped s)) =
+    ((s ≡ Memory) × IsUntouched before after) ⊎ (((e : _) → IsFault options bytes e → ⊥) × Stops before [] after sound_line s)
+OfCheck options bytes before after (Err other) = ⊥
+
+-- how many bytes a stream may have that is written once more
+abbrev pub remade_limit : ℕ
+remade_limit = 268_435_456
+
+-- the canonical bytes of the list that the bytes carry, or why not
+abbrev pub OfRemade : List ℕ → SinkState → SinkState → Result (Unit {0}) Failure → Type 0
+OfRemade bytes before after (Ok x) =
+    (list : List Entry) × ReadsList bytes (Ok list) × (text : List ℕ) × Writes list (Ok text) × Wrote before after text
+OfRemade bytes before after (Err (failures.Stream e)) =
+    (((e ≡ TooLarge remade_limit) × (remade_limit < length bytes)) ⊎ IsFirst bytes e) × IsUntouched before after
+OfRemade bytes before after (Err (failures.Canonical e)) =
+    (list : List Entry) × ReadsList bytes (Ok list) × Writes list (Err e) × IsUntouched before after
+OfRemade bytes before after (Err (failures.Stopped s)) =
+    ((s ≡ Memory) × IsUntouched before after)
+    ⊎ ((list : List Entry) × ReadsList bytes (Ok list) × (text : List ℕ) × Writes list (Ok text) × Stops before [] after text s)
+OfRemade bytes before after (Err other) = ⊥
+
+-- the bytes as they stand
+abbrev pub OfBytes : List ℕ → SinkState → SinkState → Result (Unit {0}) Failure → Type 0
+OfBytes bytes before after (Ok x) = Wrote before after bytes
+OfBytes bytes before after (Err (failures.Stopped s)) = Stops before [] after bytes s
+OfBytes bytes before after (Err other) = ⊥
+
+abbrev pub OfStream : Answer → XlsOptions → List ℕ → SinkState → SinkState → Result (Unit {0}) Failure → Type 0
+OfStream (answers.Lines lines form) options bytes = OfView options bytes (AreLines lines form) (BeginLines lines form) MissesNone
+OfStream answers.Exact options bytes =
+    OfView options bytes (λ view text. text ≡ report view.book) (λ view text. text ≡ report view.book) MissesNone
+OfStream (answers.Sheet table) options bytes =
+    OfView options bytes (IsTableOf table) (BeginsTableOf table) (MissesSheet table.choice)
+OfStream answers.Check options bytes = OfCheck options bytes
+OfStream answers.Remade options bytes = OfRemade bytes
+OfStream answers.Bytes options bytes = OfBytes bytes
+
+-- the same of a stream that isn't obfuscated
+abbrev pub OfReadable : Answer → XlsOptions → List ℕ → SinkState → SinkState → Result (Unit {0}) Failure → Type 0
+OfReadable answer options bytes before after (Err failures.Obfuscated) = IsObfuscated bytes × IsUntouched before after
+OfReadable answer options bytes before after result = OfStream answer options bytes before after result
+
+-- a sheet that is asked for by its number has one
+abbrev pub HasNumber : Answer → Type 0
+HasNumber (answers.Sheet table) = IsNumbered table.choice
+HasNumber (answers.Lines lines form) = Unit {0}
+HasNumber answers.Exact = Unit {0}
+HasNumber answers.Check = Unit {0}
+HasNumber answers.Remade = Unit {0}
+HasNumber answers.Bytes = Unit {0}
+
+-- ---- of a file
+
+-- what is written of the workbook's stream in it; or nothing, since it gives no workbook, its records are
+-- obfuscated, or memory ran out
+abbrev pub OfFile : Answer → XlsOptions → List ℕ → SinkState → SinkState → Result (Unit {0}) Failure → Type 0
+OfFile answer options file before after (Err (failures.File f)) = RefusesFile file f × IsUntouched before after
+OfFile answer options file before after (Err (failures.Stopped s)) =
+    ((s ≡ Memory) × IsUntouched before after)
+    ⊎ ((bytes : List ℕ) × WorkbookBytes file bytes × OfStream answer options bytes before after (Err (failures.Stopped s)))
+OfFile answer options file before after result =
+    (bytes : List ℕ) × WorkbookBytes file bytes × OfReadable answer options bytes before after result

@@ -1,0 +1,4 @@
+pub mod Failures
+pub mod Views
+pub mod Sheets
+pub mod Answers

@@ -1,0 +1,22 @@
+//! What is written of a workbook.
+
+use crate::lines::Listing;
+use xls_readable::Form;
+use xls_words::Table;
+
+/// What is written of a workbook.
+#[derive(Clone, Copy, Debug, PartialEq, Eq)]
+pub enum Answer<'w> {
+    /// Its lines as people read them.
+    Lines(Listing, Form),
+    /// All that it holds, as `xls_dump` writes it.
+    Exact,
+    /// One of its sheets as CSV.
+    Sheet(Table<'w>),
+    /// That its stream has no fault.
+    Check,
+    /// Its stream once more in canonical form.
+    Remade,
+    /// The bytes of its stream.
+    Bytes,
+}

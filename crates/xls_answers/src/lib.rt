@@ -1,0 +1,18 @@
+//! What `xls` writes of a file: the text of a command over the workbook that the file holds, or why there is none.
+#![tactic(auto)]
+
+mod answer;
+mod check;
+mod failure;
+mod lines;
+mod options;
+mod remake;
+mod stream;
+mod tables;
+
+pub use answer::Answer;
+pub use failure::{Failure, Missing};
+pub use lines::{Listing, write_lines};
+pub use options::options_of;
+pub use stream::{write_file, write_stream};
+pub use tables::write_sheet;

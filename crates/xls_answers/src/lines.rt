@@ -1,0 +1,63 @@
+//! The lines of a workbook.
+
+ghost use Rattle.std.specs.Prelude.{◌≡◌};
+ghost use Rattle.xls_listing.specs.Listing.{IsShownLine};
+ghost use Rattle.xls_pieces.specs.Each.{DeliversEach};
+ghost use Rattle.xls_answers.specs.Views.{AreLines, BeginLines, MissesNone, OfView, listed};
+
+use crate::failure::Failure;
+use std::alloc::Global;
+use xls_lines::{Sink, Stop};
+use xls_listing::{write_formula_list, write_listing, write_ref_list, write_sheet_list};
+use xls_open::XlsOptions;
+use xls_readable::Form;
+use xls_view::View;
+
+/// Which lines are written of a workbook.
+#[derive(Clone, Copy, Debug, PartialEq, Eq)]
+pub enum Listing {
+    /// All that it holds.
+    Dump,
+    /// Its sheets.
+    Sheets,
+    /// Its sheets, each with its formulas.
+    Formulas,
+    /// The cells that its formulas cite.
+    Refs,
+}
+
+/// Writes the lines of a view.
+fn write_view<K: Sink>(
+    alloc: Global,
+    sink: &mut K,
+    lines: Listing,
+    form: Form,
+    view: &View<'_>,
+) -> Result<(), Stop>
+    ensures { DeliversEach (IsShownLine form) (listed lines view.now) (K.state sink.old) (K.state sink.new) result }
+{
+    match lines {
+        Listing::Dump => write_listing(alloc, sink, form, view),
+        Listing::Sheets => write_sheet_list(alloc, sink, form, view),
+        Listing::Formulas => write_formula_list(alloc, sink, form, view),
+        Listing::Refs => write_ref_list(alloc, sink, form, view),
+    }
+}
+
+/// Writes the lines of the workbook that a stream's bytes hold. Nothing is written before all of the stream is
+/// checked.
+pub fn write_lines<K: Sink>(
+    alloc: Global,
+    sink: &mut K,
+    lines: Listing,
+    form: Form,
+    options: &XlsOptions,
+    bytes: &[u8],
+) -> Result<(), Failure>
+    ensures { OfView options.now bytes.now (AreLines lines form) (BeginLines lines form) MissesNone
+        (K.state sink.old) (K.state sink.new) result }
+{
+    let view = View::new(alloc, bytes, options)?;
+    write_view(alloc, sink, lines, form, &view)?;
+    Ok(())
+}

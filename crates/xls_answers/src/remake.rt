@@ -1,0 +1,51 @@
+//! The canonical stream of a workbook, and the stream as it stands.
+
+ghost use Rattle.std.specs.Prelude.{◌≡◌};
+ghost use Rattle.xls_lines.specs.Gathering.{Delivers};
+ghost use Rattle.xls_answers.specs.Answers.{OfBytes, OfRemade};
+
+use crate::failure::Failure;
+use std::alloc::Global;
+use xls_biff::XlsError;
+use xls_lay::{logical_of, write_workbook};
+use xls_lines::{Buffer, Sink, Stop};
+
+/// How many bytes a stream may have that is written once more.
+const LIMIT: usize = 268_435_456;
+
+/// Writes bytes.
+fn write_bytes<K: Sink>(alloc: Global, sink: &mut K, bytes: &[u8]) -> Result<(), Stop>
+    ensures { Delivers (K.state sink.old) (K.state sink.new) bytes.now result }
+{
+    let mut buffer = Buffer::new(alloc);
+    buffer.put(sink, bytes)?;
+    buffer.finish(sink)?;
+    Ok(())
+}
+
+/// Writes the bytes of a stream.
+pub(crate) fn write_whole<K: Sink>(alloc: Global, sink: &mut K, bytes: &[u8]) -> Result<(), Failure>
+    ensures { OfBytes bytes.now (K.state sink.old) (K.state sink.new) result }
+{
+    write_bytes(alloc, sink, bytes)?;
+    Ok(())
+}
+
+/// Writes the canonical stream of the list that bytes carry.
+pub(crate) fn write_remade<K: Sink>(
+    alloc: Global,
+    sink: &mut K,
+    bytes: &[u8],
+) -> Result<(), Failure>
+    ensures { OfRemade bytes.now (K.state sink.old) (K.state sink.new) result }
+{
+    if bytes.len() > LIMIT {
+        return Err(Failure::Stream(XlsError::TooLarge {
+            limit: LIMIT as u64,
+        }));
+    }
+    let list = logical_of(alloc, bytes)?;
+    let stream = write_workbook(alloc, &list)?;
+    write_bytes(alloc, sink, stream.as_slice())?;
+    Ok(())
+}

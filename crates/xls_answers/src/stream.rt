@@ -1,0 +1,90 @@
+//! What is written of a workbook's stream, and of a file.
+
+ghost use Rattle.std.specs.Prelude.{◌≡◌};
+ghost use Rattle.xls_words.specs.Requests.{IsNumbered};
+ghost use Rattle.xls_answers.specs.Answers.{HasNumber, OfFile, OfReadable, OfStream};
+ghost use Rattle.xls_report.specs.Report.{report};
+ghost use Rattle.xls_answers.specs.Views.{MissesNone, OfView};
+
+use crate::answer::Answer;
+use crate::check::write_check;
+use crate::failure::Failure;
+use crate::lines::write_lines;
+use crate::remake::{write_remade, write_whole};
+use crate::tables::write_sheet_of;
+use std::alloc::Global;
+use xls_container::{Container, is_obfuscated};
+use xls_lines::Sink;
+use xls_open::XlsOptions;
+use xls_report::write_report;
+use xls_view::View;
+
+/// Writes the dump of the workbook that a stream's bytes hold, as `xls_dump` does.
+fn write_exact<K: Sink>(
+    alloc: Global,
+    sink: &mut K,
+    options: &XlsOptions,
+    bytes: &[u8],
+) -> Result<(), Failure>
+    ensures { OfView options.now bytes.now (λ view text. text ≡ report view.book) (λ view text. text ≡ report view.book) MissesNone
+        (K.state sink.old) (K.state sink.new) result }
+{
+    let view = View::new(alloc, bytes, options)?;
+    write_report(alloc, sink, &view)?;
+    Ok(())
+}
+
+/// Writes what is asked for of a workbook's stream. Nothing is written before all of it is checked.
+pub fn write_stream<K: Sink>(
+    alloc: Global,
+    sink: &mut K,
+    answer: &Answer<'_>,
+    options: &XlsOptions,
+    bytes: &[u8],
+) -> Result<(), Failure>
+    requires { HasNumber answer.now }
+    ensures { OfStream answer.now options.now bytes.now (K.state sink.old) (K.state sink.new) result }
+{
+    match answer {
+        Answer::Lines(lines, form) => write_lines(alloc, sink, *lines, *form, options, bytes),
+        Answer::Exact => write_exact(alloc, sink, options, bytes),
+        Answer::Sheet(table) => write_sheet_of(alloc, sink, table, options, bytes),
+        Answer::Check => write_check(alloc, sink, options, bytes),
+        Answer::Remade => write_remade(alloc, sink, bytes),
+        Answer::Bytes => write_whole(alloc, sink, bytes),
+    }
+}
+
+/// Likewise, but of a stream whose records are obfuscated with a password, which is refused.
+fn write_readable<K: Sink>(
+    alloc: Global,
+    sink: &mut K,
+    answer: &Answer<'_>,
+    options: &XlsOptions,
+    bytes: &[u8],
+) -> Result<(), Failure>
+    requires { HasNumber answer.now }
+    ensures { OfReadable answer.now options.now bytes.now (K.state sink.old) (K.state sink.new) result }
+{
+    if is_obfuscated(bytes) {
+        return Err(Failure::Obfuscated);
+    }
+    write_stream(alloc, sink, answer, options, bytes)
+}
+
+/// Writes what is asked for of the workbook that a file holds: a compound file, or a workbook's stream alone.
+/// Nothing is written where the file gives no workbook, its records are obfuscated, or its stream has a fault.
+pub fn write_file<K: Sink>(
+    alloc: Global,
+    sink: &mut K,
+    answer: &Answer<'_>,
+    options: &XlsOptions,
+    file: &[u8],
+) -> Result<(), Failure>
+    requires { HasNumber answer.now }
+    ensures { OfFile answer.now options.now file.now (K.state sink.old) (K.state sink.new) result }
+{
+    let container = Container::open(alloc, file)?;
+    let bytes = container.workbook(alloc)?;
+    write_readable(alloc, sink, answer, options, bytes.as_slice())
+}

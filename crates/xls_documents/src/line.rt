@@ -1,0 +1,45 @@
+//! A line of a word and fields.
+
+ghost use Rattle.std.specs.Prelude.{◌≡◌, ◌∷◌, [], map};
+ghost use Rattle.xls_documents.specs.Lines.{PutsLines};
+ghost use Rattle.xls_readable.specs.Items as items;
+ghost use Rattle.xls_readable.specs.Items.{named_of};
+
+use xls_lines::{Sink, Stop};
+use xls_pieces::Pieces;
+use xls_readable::{Field, Form, Member, push_line};
+
+/// A text under a name.
+pub(crate) fn text_member<'a>(name: &'a str, text: &'a str) -> Member<'a>
+    ensures { named_of result ≡ (name.now, items.text text.now) }
+{
+    Member {
+        name,
+        field: Field::Text(text),
+    }
+}
+
+/// A count under a name.
+pub(crate) fn count_member<'a>(name: &'a str, n: u64) -> Member<'a>
+    ensures { named_of result ≡ (name.now, items.count n) }
+{
+    Member {
+        name,
+        field: Field::Count(n),
+    }
+}
+
+/// Puts a line.
+pub(crate) fn put_line<K: Sink>(
+    form: Form,
+    pieces: &mut Pieces,
+    sink: &mut K,
+    word: &str,
+    members: &[Member<'_>],
+) -> Result<(), Stop>
+    ensures { PutsLines form ((word.now, map named_of members.now) ∷ [])
+        (K.state sink.old) pieces.old (K.state sink.new) pieces.new result }
+{
+    push_line(form, word, members, &mut pieces.room, &mut pieces.text)?;
+    pieces.pass(sink)
+}

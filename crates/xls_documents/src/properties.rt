@@ -1,0 +1,166 @@
+//! The lines of a workbook's properties.
+
+ghost use Rattle.std.specs.Prelude.{◌≡◌, ◌∷◌, []};
+ghost use Rattle.std.specs.BTreeMap.{IsOrdered};
+ghost use Rattle.std.specs.List.{flat_map};
+ghost use Rattle.std.specs.String.{string_bytes, string_cmp};
+ghost use Rattle.xls_documents.specs.Lines.{IsLineText, PutsLines};
+ghost use Rattle.xls_documents.specs.Properties.{property_line, custom_lines, shown_field, known_lines, property_lines};
+ghost use Rattle.xls_pieces.specs.Each.{DeliversEach};
+
+use std::alloc::Global;
+use std::collections::btree_map::Iter;
+use xls_lines::{Sink, Stop};
+use xls_pieces::Pieces;
+use xls_props::WorkbookProperties;
+use xls_readable::{Form, Property, push_custom, push_property};
+
+// Puts the line of a property.
+fn put_text<K: Sink>(
+    form: Form,
+    pieces: &mut Pieces,
+    sink: &mut K,
+    property: Property,
+    text: &str,
+) -> Result<(), Stop>
+    ensures { PutsLines form (property_line property text.now ∷ [])
+        (K.state sink.old) pieces.old (K.state sink.new) pieces.new result }
+{
+    push_property(form, property, text, &mut pieces.room, &mut pieces.text)?;
+    pieces.pass(sink)
+}
+
+// Puts the line of a property, if it is there.
+fn put_property<K: Sink>(
+    form: Form,
+    pieces: &mut Pieces,
+    sink: &mut K,
+    field: (Property, &Option<String>),
+) -> Result<(), Stop>
+    ensures { PutsLines form (shown_field field.entry)
+        (K.state sink.old) pieces.old (K.state sink.new) pieces.new result }
+{
+    match field.1 {
+        Some(text) => put_text(form, pieces, sink, field.0, text.as_str()),
+        None => Ok(()),
+    }
+}
+
+// Puts the lines of those that are there.
+fn put_fields<K: Sink>(
+    form: Form,
+    pieces: &mut Pieces,
+    sink: &mut K,
+    fields: &[(Property, &Option<String>)],
+) -> Result<(), Stop>
+    ensures { PutsLines form (flat_map shown_field fields.now)
+        (K.state sink.old) pieces.old (K.state sink.new) pieces.new result }
+{
+    for field in fields {
+        put_property(form, pieces, sink, *field)?;
+    }
+    Ok(())
+}
+
+// Puts the lines of the properties that have names of their own, in their order.
+fn put_known<K: Sink>(
+    form: Form,
+    pieces: &mut Pieces,
+    sink: &mut K,
+    properties: &WorkbookProperties,
+) -> Result<(), Stop>
+    ensures { PutsLines form (known_lines properties.now)
+        (K.state sink.old) pieces.old (K.state sink.new) pieces.new result }
+{
+    let fields = [
+        (Property::Title, &properties.title),
+        (Property::Subject, &properties.subject),
+        (Property::Creator, &properties.creator),
+        (Property::Keywords, &properties.keywords),
+        (Property::Description, &properties.description),
+        (Property::Template, &properties.template),
+        (Property::LastModifiedBy, &properties.last_modified_by),
+        (Property::Revision, &properties.revision),
+        (Property::Created, &properties.created),
+        (Property::Modified, &properties.modified),
+        (Property::Application, &properties.application),
+        (Property::Category, &properties.category),
+        (Property::Manager, &properties.manager),
+        (Property::Company, &properties.company),
+        (Property::ContentStatus, &properties.content_status),
+        (Property::Version, &properties.version),
+        (Property::AppVersion, &properties.app_version),
+    ];
+    put_fields(form, pieces, sink, &fields)
+}
+
+// Puts the line of a custom property.
+fn put_custom<K: Sink>(
+    form: Form,
+    pieces: &mut Pieces,
+    sink: &mut K,
+    name: &String,
+    value: &String,
+) -> Result<(), Stop>
+    ensures { PutsLines form (custom_lines (name.now, value.now))
+        (K.state sink.old) pieces.old (K.state sink.new) pieces.new result }
+{
+    push_custom(
+        form,
+        name.as_str(),
+        value.as_str(),
+        &mut pieces.room,
+        &mut pieces.text,
+    )?;
+    pieces.pass(sink)
+}
+
+// Puts the lines of custom properties.
+fn put_customs<K: Sink>(
+    form: Form,
+    pieces: &mut Pieces,
+    sink: &mut K,
+    customs: Iter<'_, String, String>,
+) -> Result<(), Stop>
+    ensures { PutsLines form (flat_map custom_lines customs.entry)
+        (K.state sink.old) pieces.old (K.state sink.new) pieces.new result }
+{
+    for (name, value) in customs {
+        put_custom(form, pieces, sink, name, value)?;
+    }
+    Ok(())
+}
+
+// Puts the lines of the properties with names of their own, and then of the custom ones.
+fn put_properties<K: Sink>(
+    form: Form,
+    pieces: &mut Pieces,
+    sink: &mut K,
+    properties: &WorkbookProperties,
+) -> Result<(), Stop>
+    ensures puts { PutsLines form (property_lines properties.now)
+        (K.state sink.old) pieces.old (K.state sink.new) pieces.new result }
+    ensures ordered { IsOrdered string_cmp properties.now.custom_properties }
+{
+    let customs = properties.custom_properties.iter();
+    put_known(form, pieces, sink, properties)?;
+    put_customs(form, pieces, sink, customs)
+}
+
+/// Writes the properties of a workbook: a line for each that is there, in the order of `Property`, and then a
+/// line `custom` for each custom property, in the byte order of their names. At a refusal of the sink, or where
+/// memory runs out, a prefix of these lines was written.
+pub fn write_properties<K: Sink>(
+    alloc: Global,
+    sink: &mut K,
+    form: Form,
+    properties: &WorkbookProperties,
+) -> Result<(), Stop>
+    ensures delivers { DeliversEach (IsLineText form) (property_lines properties.now)
+        (K.state sink.old) (K.state sink.new) result }
+    ensures ordered { IsOrdered string_cmp properties.now.custom_properties }
+{
+    let mut pieces = Pieces::new(alloc);
+    put_properties(form, &mut pieces, sink, properties)?;
+    pieces.finish(sink)
+}

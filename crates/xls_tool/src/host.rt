@@ -1,0 +1,98 @@
+//! What the program reads and writes by.
+
+ghost use Rattle.std.specs.Prelude.{◌≡◌};
+
+use std::alloc::AllocError;
+use std::fmt;
+use xls_lines::Sink;
+
+/// Why something can't be read or written.
+#[derive(Debug, Drop)]
+pub enum Reason {
+    /// Memory ran out.
+    Memory,
+    /// What the system says.
+    Told(String),
+}
+
+impl fmt::Display for Reason {
+    fn fmt<W: fmt::Write>(&self, f: &mut fmt::Formatter<W>) -> fmt::Result {
+        match self {
+            Reason::Memory => f.write_str("out of memory"),
+            Reason::Told(text) => write!(f, "{text}"),
+        }
+    }
+}
+
+impl From<AllocError> for Reason {
+    ghost use Rattle.xls_tool.specs.declared.host.Reason.TheVariants.{Memory};
+
+    ghost from_gives = { λ _ e. e ≡ Memory };
+
+    fn from(_: AllocError) -> Reason {
+        Reason::Memory
+    }
+}
+
+/// What stands at a path, links followed.
+#[derive(Clone, Copy, Debug, PartialEq, Eq)]
+pub enum Place {
+    /// A regular file.
+    File,
+    Folder,
+    /// A pipe, a device, a socket.
+    Other,
+}
+
+/// What stands in a folder, by its name.
+#[derive(Debug, PartialEq, Eq, PartialOrd, Ord, Drop)]
+pub enum Listed {
+    /// A regular file, or a link to one.
+    File(String),
+    /// A folder, and no link to one.
+    Folder(String),
+    /// Its name isn't UTF-8.
+    Unnamed,
+}
+
+/// The name of a file in a list.
+#[derive(Debug, Drop)]
+pub enum Name {
+    Text(String),
+    /// It isn't UTF-8.
+    Unnamed,
+}
+
+/// Where files are read and written. Standard output is a sink apart from it.
+pub trait Host {
+    /// A file that is written. Its first write makes it.
+    type File: Sink + Drop;
+
+    /// What stands at a path.
+    fn place(&mut self, path: &str) -> Result<Place, Reason>;
+
+    /// What stands in a folder, in any order.
+    fn list(&mut self, folder: &str) -> Result<Vec<Listed>, Reason>;
+
+    /// The bytes of a file.
+    fn read(&mut self, path: &str) -> Result<Vec<u8>, Reason>;
+
+    /// The bytes of standard input.
+    fn read_input(&mut self) -> Result<Vec<u8>, Reason>;
+
+    /// The next name of a list, which stands in a file, or on standard input where that is `-`. None at its end.
+    fn next_name(&mut self, list: &str, by_nul: bool) -> Result<Option<Name>, Reason>;
+
+    /// A file to be written, in folders that are made with it. One that exists is written over only where that is
+    /// said.
+    fn create(&mut self, path: &str, writes_over: bool) -> Result<Self::File, Reason>;
+
+    /// Ends a file: it is made where nothing was written, and all of it is written; or why not.
+    fn close(&mut self, file: Self::File) -> Result<(), Reason>;
+
+    /// Tells a line on standard error.
+    fn say(&mut self, line: &str);
+
+    /// Shows how far the work is, where standard error is a terminal; the next line takes its place.
+    fn show(&mut self, progress: &str);
+}

@@ -1,0 +1,78 @@
+//! What is done with each file.
+
+ghost use Rattle.std.specs.Prelude.{◌≡◌, IfSome};
+ghost use Rattle.xls_words.specs.Requests as requests;
+ghost use Rattle.xls_answers.specs.Answers.{HasNumber};
+
+use xls_answers::{Answer, Listing};
+use xls_open::XlsOptions;
+use xls_readable::Form;
+use xls_words::{Command, Style};
+
+/// What is done with each file, and how workbooks are read.
+#[derive(Drop)]
+pub(crate) struct Job<'w> {
+    pub(crate) command: Command<'w>,
+    pub(crate) options: XlsOptions,
+    /// The folder for texts.
+    pub(crate) out: Option<&'w str>,
+    pub(crate) writes_over: bool,
+    /// The form of the lines that tell of many files.
+    pub(crate) form: Form,
+}
+
+/// The form of lines.
+pub(crate) fn form_of(style: Style) -> Form {
+    match style {
+        Style::Json => Form::Json,
+        Style::Readable | Style::Exact => Form::Text,
+    }
+}
+
+/// Whether texts are as `xls_dump` has them.
+pub(crate) fn is_exact(command: &Command<'_>) -> bool {
+    match command {
+        Command::Dump(style) => *style == Style::Exact,
+        Command::Csv(table) => table.style == Style::Exact,
+        _ => false,
+    }
+}
+
+/// What is written of the workbook, where a command writes of it.
+pub(crate) fn answer_of<'w>(command: &Command<'w>) -> Option<Answer<'w>>
+    requires { requests.HasNumber command.now }
+    ensures { IfSome result HasNumber }
+{
+    match command {
+        Command::Dump(Style::Exact) => Some(Answer::Exact),
+        Command::Dump(style) => Some(Answer::Lines(Listing::Dump, form_of(*style))),
+        Command::Sheets(style) => Some(Answer::Lines(Listing::Sheets, form_of(*style))),
+        Command::Formulas(style) => Some(Answer::Lines(Listing::Formulas, form_of(*style))),
+        Command::Refs(style) => Some(Answer::Lines(Listing::Refs, form_of(*style))),
+        Command::Check => Some(Answer::Check),
+        Command::Csv(table) => Some(Answer::Sheet(*table)),
+        Command::Remake => Some(Answer::Remade),
+        Command::Stream(None) => Some(Answer::Bytes),
+        Command::Stream(Some(_)) | Command::Props | Command::Vba | Command::Streams => None,
+    }
+}
+
+/// The ending of the names of files for lines of a form.
+fn line_ending(style: Style) -> &'static str {
+    match style {
+        Style::Json => "json",
+        Style::Readable | Style::Exact => "txt",
+    }
+}
+
+/// The ending of the name of a text's file.
+pub(crate) fn ending_of(command: &Command<'_>) -> &'static str {
+    match command {
+        Command::Dump(style)
+        | Command::Sheets(style)
+        | Command::Formulas(style)
+        | Command::Refs(style) => line_ending(*style),
+        Command::Csv(_) => "csv",
+        _ => "txt",
+    }
+}

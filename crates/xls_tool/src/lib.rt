@@ -1,0 +1,19 @@
+//! The work of the program `xls`, over any host that reads files and writes them: the words of the command line,
+//! one file or many, where texts go, and the exit status.
+#![tactic(auto)]
+
+mod host;
+mod job;
+mod many;
+mod paths;
+mod problem;
+mod queue;
+mod run;
+mod sheets;
+mod tell;
+mod work;
+
+pub use host::{Host, Listed, Name, Place, Reason};
+pub use problem::Problem;
+pub use run::run;
+pub use xls_lines::{MemorySink, Sink, StdSink, WriteFault};

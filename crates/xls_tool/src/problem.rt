@@ -1,0 +1,132 @@
+//! Why the text of a file isn't written.
+
+ghost use Rattle.std.specs.Prelude.{◌≡◌};
+ghost use Rattle.xls_tool.specs.Problems.{outcome_of, status_of};
+ghost use Rattle.xls_tool.specs.declared.problem.Problem.TheVariants as problems;
+ghost use Rattle.xls_answers.specs.declared.failure.Failure.TheVariants.{Stopped};
+ghost use Rattle.xls_lines.specs.declared.stop.Stop.TheVariants.{Memory};
+
+use crate::host::Reason;
+use std::alloc::AllocError;
+use std::fmt;
+use xls_answers::Failure;
+use xls_container::FileFault;
+use xls_documents::ProjectFault;
+use xls_lines::Stop;
+
+/// How it went with a file.
+#[derive(Clone, Copy, Debug, PartialEq, Eq)]
+pub enum Outcome {
+    Ok,
+    /// Its stream has a fault, or no such sheet.
+    Refused,
+    /// It can't be read, or gives no workbook.
+    Unread,
+    /// Its text can't be written, or memory ran out.
+    Failed,
+}
+
+/// What a file has not.
+#[derive(Clone, Copy, Debug, PartialEq, Eq)]
+pub enum Absent {
+    Properties,
+    Project,
+    /// No stream of this path.
+    Stream,
+    /// A bare stream has no other ones.
+    Compound,
+}
+
+/// Why the text of a file isn't written.
+#[derive(Debug, Drop)]
+pub enum Problem {
+    /// It can't be read.
+    Unread(Reason),
+    /// It is no regular file.
+    Irregular,
+    /// The text of its workbook isn't written.
+    Failure(Failure),
+    /// It hasn't what is asked for.
+    Absent(Absent),
+    /// Its macro project is damaged.
+    Project(ProjectFault),
+    /// A file of this path can't be written.
+    Unwritten(String, Reason),
+}
+
+impl Problem {
+    /// The exit status that tells it.
+    pub fn status(&self) -> u8
+        ensures { result ≡ status_of self.now }
+    {
+        match self {
+            Problem::Unread(Reason::Memory) | Problem::Unwritten(_, Reason::Memory) => 5,
+            Problem::Unread(_) | Problem::Irregular => 10,
+            Problem::Failure(failure) => failure.status(),
+            Problem::Absent(_) => 12,
+            Problem::Project(_) => 11,
+            Problem::Unwritten(..) => 16,
+        }
+    }
+
+    /// How it went with a file that has the problem.
+    pub(crate) fn outcome(&self) -> Outcome
+        ensures { result ≡ outcome_of self.now }
+    {
+        match self.status() {
+            1 => Outcome::Refused,
+            10 | 11 | 12 | 17 => Outcome::Unread,
+            _ => Outcome::Failed,
+        }
+    }
+}
+
+impl fmt::Display for Problem {
+    fn fmt<W: fmt::Write>(&self, f: &mut fmt::Formatter<W>) -> fmt::Result {
+        match self {
+            Problem::Unread(reason) => write!(f, "{reason}"),
+            Problem::Irregular => f.write_str("it is no regular file"),
+            Problem::Failure(failure) => write!(f, "{failure}"),
+            Problem::Absent(Absent::Properties) => f.write_str("it has no property streams"),
+            Problem::Absent(Absent::Project) => {
+                f.write_str("it has no macro project (no stream VBA/dir)")
+            }
+            Problem::Absent(Absent::Stream) => f.write_str("it has no such stream"),
+            Problem::Absent(Absent::Compound) => {
+                f.write_str("it is a workbook's stream alone, without other streams")
+            }
+            Problem::Project(fault) => write!(f, "{fault}"),
+            Problem::Unwritten(path, reason) => write!(f, "{path}: {reason}"),
+        }
+    }
+}
+
+impl From<Failure> for Problem {
+    ghost from_gives = { λ failure e. e ≡ problems.Failure failure };
+
+    fn from(failure: Failure) -> Problem {
+        Problem::Failure(failure)
+    }
+}
+
+impl From<FileFault> for Problem {
+    fn from(fault: FileFault) -> Problem {
+        Problem::Failure(Failure::from(fault))
+    }
+}
+
+impl From<Stop> for Problem {
+    ghost from_gives = { λ stop e. e ≡ problems.Failure (Stopped stop) };
+
+    fn from(stop: Stop) -> Problem {
+        Problem::Failure(Failure::Stopped(stop))
+    }
+}
+
+impl From<AllocError> for Problem {
+    ghost from_gives = { λ _ e. e ≡ problems.Failure (Stopped Memory) };
+
+    fn from(_: AllocError) -> Problem {
+        Problem::Failure(Failure::Stopped(Stop::Memory))
+    }
+}
