@@ -1,3 +1,4 @@
 pub mod CountLemmas
 pub mod IdentifierLemmas
 pub mod SheetLemmas
+pub mod StandardFacts
