@@ -1,2 +1,3 @@
+pub mod Laws
 pub mod Uncounted
 pub mod Steps

@@ -4,6 +4,8 @@
 mod cells;
 mod counts;
 mod globals;
+mod laws;
 mod sheets;
 
 pub use counts::{Uncounted, uncounted_formats};
+pub use laws::touched_are_built_in;
