@@ -29,10 +29,10 @@ use Rattle.xls_biff.specs.Records.Format.{format_at, format_text_at, is_format_i
 use Rattle.xls_biff.specs.Records.Xf.{xf_at}
 use Rattle.xls_formula.specs.Defined.{lbl_at}
 use Rattle.xls_reading.specs.Order.{along, somes}
-use Rattle.xls_reading.specs.GlobalsTable.{Named, GlobalsRecord, version_record, other_record, page_record, date_record, xf_record, references_record, name_record, sheet_record, unless_forced, unless_refused, plain_record_at, entry_record_at, Line, format_given, xf_given}
-use Rattle.xls_reading.specs.InForce.{page_in, version_in, line_in, formats_in, last_class, class_in, identifiers_in, classes_in}
+use Rattle.xls_reading.specs.GlobalsTable.{Named, GlobalsRecord, version_record, other_record, page_record, date_record, xf_record, references_record, name_record, sheet_record, unless_forced, unless_refused, plain_record_at, Line, format_given, xf_given}
+use Rattle.xls_reading.specs.InForce.{page_in, version_in, line_in, formats_in, last_class, class_in, identifiers_in}
 use Rattle.xls_reading.specs.Rules.{Rules}
-use Rattle.xls_formats.specs.Uncounted.{uncounted_at, xf_identifier_at, uncounted_in, xf_identifier_in, uncounted_ids, touched_xfs, is_touched}
+use Rattle.xls_formats.specs.Uncounted.{xf_identifier_at, uncounted_in, xf_identifier_in, uncounted_ids, is_touched}
 use Rattle.xls_formats.specs.Laws.{TouchedAreBuiltIn}
 
 -- ---- lines of the table

@@ -2,8 +2,7 @@
 use Rattle.std.proofs.Common.{◌≡◌, ℕ, List, [], ◌∷◌, map, refl, true, false, Option, Some, None}
 use Rattle.xls_model.specs.Listing.{Kept, Item, plain_item, sheet_item}
 use Rattle.xls_model.specs.declared.types.TheConstants as types
-use Rattle.xls_formats.specs.Uncounted.{uncounted_at, xf_identifier_at, ixfes_at, is_touched, touched_count, touched_xfs, uncounted_of}
-use Rattle.xls_formats.specs.declared.counts.Uncounted.{Uncounted}
+use Rattle.xls_formats.specs.Uncounted.{uncounted_at, xf_identifier_at, ixfes_at, touched_xfs, uncounted_of}
 
 -- a Format record with this low and high byte of its identifier, and a text of one byte
 abbrev format : ℕ → ℕ → Option ℕ

@@ -22,8 +22,8 @@ pub struct Uncounted {
 ///
 /// The cells are those of the records of each sheet's part in the stream, a MulRk with each of its own, whether
 /// or not a later record stands at the same position. Where the stream or a part is cut, what stands before the
-/// cut counts. Refuses only when memory runs out; it takes two bytes for each XF and each such Format, and where
-/// there is one 64 KiB.
+/// cut counts. Refuses only when memory runs out: it takes two bytes for each XF and each such Format, and where
+/// there is one 64 KiB and a byte for each XF.
 pub fn uncounted_formats(alloc: Global, bytes: &[u8]) -> Result<Option<Uncounted>, AllocError>
     ensures { IfOk result (CountsUncounted bytes.now) }
 {
