@@ -66,16 +66,14 @@ fn below<'p>(path: &'p str, folder: &str) -> Option<&'p str> {
 
 /// What a path from a folder on says of the folder.
 fn listed(alloc: Global, rest: &str) -> Result<Listed, AllocError> {
-    match rest.split_once('/') {
-        Some((folder, _)) => Ok(Listed {
-            name: Some(String::from_str(alloc, folder)?),
-            is_folder: true,
-        }),
-        None => Ok(Listed {
-            name: Some(String::from_str(alloc, rest)?),
-            is_folder: false,
-        }),
-    }
+    let (name, is_folder) = match rest.split_once('/') {
+        Some((folder, _)) => (folder, true),
+        None => (rest, false),
+    };
+    Ok(Listed {
+        name: Some(String::from_str(alloc, name)?),
+        is_folder,
+    })
 }
 
 impl MemoryHost {
