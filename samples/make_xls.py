@@ -1,6 +1,6 @@
 #!/usr/bin/python3
 """Writes samples/ledger.xls: the stream of ledger.xls-stream in a compound file, with the two property
-streams and the directory of a macro project that stands in crates/vba_dir/stdin."""
+streams and the directory of a macro project, which stands in ledger.macro-directory as a file has it: compressed."""
 
 import os
 import struct
@@ -37,21 +37,11 @@ def property_stream(fmtid, texts):
     return head + uuid.UUID(fmtid).bytes_le + struct.pack("<I", 48) + section
 
 
-def compressed(data):
-    """A container of literals alone ([MS-OVBA] 2.4.1)."""
-    out = b"\x01"
-    for begin in range(0, len(data), 3600):
-        chunk = data[begin : begin + 3600]
-        packed = b"".join(b"\0" + chunk[i : i + 8] for i in range(0, len(chunk), 8))
-        out += struct.pack("<H", 0xB000 | len(packed) - 1) + packed
-    return out
-
-
 streams = {
     "Workbook": read("samples/ledger.xls-stream"),
     "\x05SummaryInformation": property_stream(SUMMARY, {2: "Ledger", 4: "Anna"}),
     "\x05DocumentSummaryInformation": property_stream(DOCUMENT_SUMMARY, {15: "Ålesund AS"}),
-    "_VBA_PROJECT_CUR": {"VBA": {"dir": compressed(read("crates/vba_dir/stdin"))}},
+    "_VBA_PROJECT_CUR": {"VBA": {"dir": read("samples/ledger.macro-directory")}},
 }
 with open(f"{TOP}/samples/ledger.xls", "wb") as file:
     file.write(compound_file(streams))

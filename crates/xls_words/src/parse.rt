@@ -158,11 +158,11 @@ fn grammar_of<'a>(
 ) -> Result<clap::Command<'a>, AllocError> {
     let command = clap::Command::new(alloc, title).about(about);
     match word {
-        Word::Dump | Word::Sheets | Word::Formulas | Word::Refs => with_page(
+        Word::Dump | Word::Sheets | Word::Refs => with_page(
             alloc,
             with_forms(alloc, with_many(alloc, command)?)?,
         ),
-        Word::Check => {
+        Word::Check | Word::Formulas => {
             let json = flag(alloc, "json", "Write each line as an object of JSON");
             with_page(alloc, with_many(alloc, command)?.arg(json)?)
         }
@@ -323,10 +323,7 @@ fn files_in<'w>(
 }
 
 /// The page that is asked for.
-fn page_in(
-    grammar: &mut clap::Command<'_>,
-    matches: &ArgMatches<'_>,
-) -> Result<Option<u16>, Error>
+fn page_in(grammar: &mut clap::Command<'_>, matches: &ArgMatches<'_>) -> Result<Option<u16>, Error>
     ensures { IfOk result (λ page. IfSome page IsPage) }
 {
     match matches.get_str("codepage") {

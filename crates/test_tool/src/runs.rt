@@ -1,0 +1,276 @@
+//! What is written and told for the words of a command line.
+
+use crate::host::MemoryHost;
+use std::alloc::{AllocError, Global};
+use std::process::Abort;
+use std::test::*;
+use xls_tool::{MemorySink, run};
+
+fn words_of(alloc: Global, words: &[&str]) -> Result<Vec<String>, AllocError> {
+    let mut all = Vec::new(alloc);
+    for word in words {
+        all.push(String::from_str(alloc, word)?)?;
+    }
+    Ok(all)
+}
+
+/// A run: the words, the status, what is written to standard output, what is told, and the files that are written.
+type Run = (
+    &'static [&'static str],
+    u8,
+    &'static str,
+    &'static str,
+    &'static str,
+);
+
+const DUMP: &str = "dates\t1900\nsheet\tA\tworksheet\tvisible\ncell\t0\t0\tfloat\t4.5\nsheet\tB/\tworksheet\thidden\ncell\t1\t2\ttext\ta;b\n";
+
+const SHEETS: &str = "sheet\tA\tworksheet\tvisible\nsheet\tB/\tworksheet\thidden\n";
+
+static RUNS: [Run; 37] = [
+    // One file.
+    (&["a.xls"], 0, DUMP, "", ""),
+    (&["dump", "./a.xls"], 10, "", "xls: ./a.xls: not found\n", ""),
+    (
+        &["--exact", "a.xls"],
+        0,
+        "dates\t1900\nsheet\tA\tworksheet\tvisible\ncell\t0\t0\tfloat\t0x4012000000000000\nsheet\tB/\tworksheet\thidden\ncell\t1\t2\ttext\ta;b\n",
+        "",
+        "",
+    ),
+    (
+        &["dump", "--json", "a.xls"],
+        0,
+        "{\"line\":\"dates\",\"year\":\"1900\"}\n{\"line\":\"sheet\",\"name\":\"A\",\"kind\":\"worksheet\",\"visibility\":\"visible\"}\n{\"line\":\"cell\",\"row\":0,\"column\":0,\"kind\":\"float\",\"value\":4.5}\n{\"line\":\"sheet\",\"name\":\"B/\",\"kind\":\"worksheet\",\"visibility\":\"hidden\"}\n{\"line\":\"cell\",\"row\":1,\"column\":2,\"kind\":\"text\",\"value\":\"a;b\"}\n",
+        "",
+        "",
+    ),
+    (&["sheets", "a.xls"], 0, SHEETS, "", ""),
+    (&["formulas", "a.xls"], 0, SHEETS, "", ""),
+    (&["refs", "a.xls"], 0, "", "", ""),
+    (&["check", "a.xls"], 0, "ok\n", "", ""),
+    (&["csv", "a.xls"], 0, "4.5\n", "", ""),
+    (&["csv", "--exact", "a.xls"], 0, "0x4012000000000000\n", "", ""),
+    (&["csv", "--number", "2", "a.xls"], 0, "a;b\n", "", ""),
+    (
+        &["csv", "--sheet", "B/", "--delimiter", ";", "--bom", "a.xls"],
+        0,
+        "\u{FEFF}\"a;b\"\n",
+        "",
+        "",
+    ),
+    (
+        &["csv", "--sheet", "C", "a.xls"],
+        1,
+        "",
+        "xls: a.xls: Worksheet 'C' not found\n",
+        "",
+    ),
+    (
+        &["csv", "--number", "3", "a.xls"],
+        1,
+        "",
+        "xls: a.xls: it has no sheet 3\n",
+        "",
+    ),
+    (
+        &["csv", "d/e/f.xlt"],
+        1,
+        "",
+        "xls: d/e/f.xlt: it has no worksheet\n",
+        "",
+    ),
+    (
+        &["check", "d/b.XLS"],
+        1,
+        "",
+        "xls: d/b.XLS: End of stream 'sheet offset'\n",
+        "",
+    ),
+    (
+        &["z.zip"],
+        11,
+        "",
+        "xls: z.zip: no workbook: it is a ZIP file, as .xlsx, .xlsb and .ods are\n",
+        "",
+    ),
+    (
+        &["d/p.xla"],
+        17,
+        "",
+        "xls: d/p.xla: its records are obfuscated with a password (XOR): save it without one\n",
+        "",
+    ),
+    (
+        &["props", "a.xls"],
+        12,
+        "",
+        "xls: a.xls: it has no property streams\n",
+        "",
+    ),
+    (
+        &["vba", "a.xls"],
+        12,
+        "",
+        "xls: a.xls: it has no macro project (no stream VBA/dir)\n",
+        "",
+    ),
+    (
+        &["streams", "a.xls"],
+        12,
+        "",
+        "xls: a.xls: it is a workbook's stream alone, without other streams\n",
+        "",
+    ),
+    (&["pipe"], 10, "", "xls: pipe: it is no regular file\n", ""),
+    // Into files.
+    (
+        &["sheets", "--out", "new", "a.xls"],
+        0,
+        "",
+        "",
+        "new/a.xls/sheets.txt=sheet\tA\tworksheet\tvisible\nsheet\tB/\tworksheet\thidden\n",
+    ),
+    (
+        &["sheets", "--out", "out", "a.xls"],
+        16,
+        "",
+        "xls: a.xls: out/a.xls/sheets.txt: it exists\n",
+        "",
+    ),
+    (
+        &["sheets", "--out", "out", "--force", "a.xls"],
+        0,
+        "",
+        "",
+        "out/a.xls/sheets.txt=sheet\tA\tworksheet\tvisible\nsheet\tB/\tworksheet\thidden\n",
+    ),
+    (
+        &["csv", "--all", "--out", "new", "a.xls"],
+        0,
+        "",
+        "xls: a.xls: sheet 'B/' is hidden\n",
+        "new/a.xls/01-A.csv=4.5\nnew/a.xls/02-B_.csv=a;b\n",
+    ),
+    (
+        &["dump", "--out", "new", "d/b.XLS"],
+        1,
+        "",
+        "xls: d/b.XLS: End of stream 'sheet offset'\n",
+        "",
+    ),
+    // Many files.
+    (
+        &["check", "d"],
+        17,
+        "refused\td/b.XLS\tEnd of stream 'sheet offset'\nok\td/e/f.xlt\nunread\td/p.xla\tits records are obfuscated with a password (XOR): save it without one\nfiles\t3\t1 ok\t1 refused\t1 unread\t0 failed\n",
+        "",
+        "",
+    ),
+    (
+        &["check", "a.xls", "missing", "z.zip"],
+        11,
+        "ok\ta.xls\nunread\tmissing\tnot found\nunread\tz.zip\tno workbook: it is a ZIP file, as .xlsx, .xlsb and .ods are\nfiles\t3\t1 ok\t0 refused\t2 unread\t0 failed\n",
+        "",
+        "",
+    ),
+    (
+        &["check", "--json", "a.xls", "d/b.XLS"],
+        1,
+        "{\"line\":\"ok\",\"file\":\"a.xls\"}\n{\"line\":\"refused\",\"file\":\"d/b.XLS\",\"why\":\"End of stream 'sheet offset'\"}\n{\"line\":\"files\",\"count\":2,\"ok\":1,\"refused\":1,\"unread\":0,\"failed\":0}\n",
+        "",
+        "",
+    ),
+    (
+        &["csv", "--out", "new", "a.xls", "d/../a.xls"],
+        10,
+        "ok\ta.xls\nunread\td/../a.xls\tnot found\nfiles\t2\t1 ok\t0 refused\t1 unread\t0 failed\n",
+        "",
+        "new/a.xls/01-A.csv=4.5\n",
+    ),
+    (
+        &["sheets", "--out", "out", "a.xls", "d/e"],
+        16,
+        "failed\ta.xls\tout/a.xls/sheets.txt: it exists\nok\td/e/f.xlt\nfiles\t2\t1 ok\t0 refused\t0 unread\t1 failed\n",
+        "",
+        "out/d/e/f.xlt/sheets.txt=",
+    ),
+    (
+        &["check", "--files-from", "list"],
+        11,
+        "ok\ta.xls\nunread\tz.zip\tno workbook: it is a ZIP file, as .xlsx, .xlsb and .ods are\n",
+        "files\t2\t1 ok\t0 refused\t1 unread\t0 failed\n",
+        "",
+    ),
+    // Wrong words.
+    (
+        &["csv", "a.xls", "d"],
+        2,
+        "",
+        "xls: many files want --out DIR (but for check)\n",
+        "",
+    ),
+    (
+        &["csv", "--all", "a.xls"],
+        2,
+        "",
+        "xls: --all wants --out DIR\n",
+        "",
+    ),
+    (&["--version"], 0, "xls 0.45.0\n", "", ""),
+    (&["remake", "d"], 10, "", "xls: d: it is a folder\n", ""),
+];
+
+/// What a run writes and tells.
+#[derive(Drop)]
+struct Told {
+    status: u8,
+    text: Vec<u8>,
+    host: MemoryHost,
+}
+
+fn outcome(alloc: Global, words: &[&str], room: usize) -> Result<Told, AllocError> {
+    let mut host = MemoryHost::new(alloc);
+    host.names.push("z.zip")?;
+    host.names.push("a.xls")?;
+    let mut sink = MemorySink::new(alloc, room, 64, Vec::new(alloc))?;
+    let status = run(alloc, &mut host, &mut sink, &words_of(alloc, words)?);
+    Ok(Told {
+        status,
+        text: sink.as_slice().to_vec(alloc)?,
+        host,
+    })
+}
+
+/// Whether a run is as it is told.
+fn is_so(alloc: Global, run: &Run) -> Result<bool, AllocError> {
+    let (words, status, text, said, written) = run;
+    let told = outcome(alloc, words, 4096)?;
+    Ok(told.status == *status
+        && told.text.as_slice() == text.as_bytes()
+        && told.host.said.as_str() == *said
+        && told.host.written.as_str() == *written)
+}
+
+fn check(rt: &impl Abort, alloc: Global, at: usize, run: &Run) -> Result<(), Fail> {
+    assert!(rt; is_so(alloc, run)?, "run {at}");
+    Ok(())
+}
+
+#[test]
+fn does_what_the_words_ask_for(rt: HostRuntime) -> Result<(), Fail> {
+    for at in 0..RUNS.len() {
+        check(&rt, rt.alloc(), at, &RUNS[at])?;
+    }
+    Ok(())
+}
+
+/// A full output ends a run with status 4.
+#[test]
+fn a_full_output_ends_with_4(rt: HostRuntime) -> Result<(), Fail> {
+    for room in 0..DUMP.len() {
+        let told = outcome(rt.alloc(), &["a.xls"], room)?;
+        assert_eq!(rt; told.status, 4);
+    }
+    Ok(())
+}

@@ -1,0 +1,72 @@
+# Completion of the command line of xls, for bash.
+
+_xls_options() {
+    local many='--files-from --null --out --force --help'
+    case $1 in
+        dump | sheets | formulas | refs) echo "$many --json --exact --codepage" ;;
+        check) echo "$many --json --codepage" ;;
+        csv) echo "$many --sheet --number --all --delimiter --bom --exact --codepage" ;;
+        props | vba) echo "$many" ;;
+        remake | stream | streams) echo '--help' ;;
+    esac
+}
+
+# The names of the sheets of the first workbook among the words, in quotes where they need them.
+_xls_sheets() {
+    local word name
+    for word in "${COMP_WORDS[@]:2}"; do
+        if [[ -f $word ]]; then
+            "$1" sheets -- "$word" 2> /dev/null | cut -f2 | while IFS= read -r name; do printf '%q\n' "$name"; done
+            return
+        fi
+    done
+}
+
+# Files of workbooks, and folders.
+_xls_files() {
+    local IFS=$'\n'
+    compopt -o filenames
+    mapfile -t COMPREPLY < <(compgen -d -- "$1"; compgen -f -X '!*.[xX][lL][sStTaAwW]' -- "$1")
+}
+
+_xls() {
+    local commands='dump sheets check formulas refs props vba csv remake stream streams'
+    local word=${COMP_WORDS[COMP_CWORD]} before=${COMP_WORDS[COMP_CWORD - 1]} command=dump
+    if ((COMP_CWORD > 1)) && [[ " $commands " == *" ${COMP_WORDS[1]} "* ]]; then
+        command=${COMP_WORDS[1]}
+    fi
+    COMPREPLY=()
+    case $before in
+        --files-from)
+            compopt -o filenames
+            mapfile -t COMPREPLY < <(compgen -f -- "$word")
+            return ;;
+        --out)
+            compopt -o filenames
+            mapfile -t COMPREPLY < <(compgen -d -- "$word")
+            return ;;
+        --codepage)
+            mapfile -t COMPREPLY < <(compgen -W '1200 1252 28591 65001' -- "$word")
+            return ;;
+        --delimiter)
+            mapfile -t COMPREPLY < <(compgen -W 'tab' -- "$word")
+            return ;;
+        --sheet)
+            mapfile -t COMPREPLY < <(_xls_sheets "$1" | grep -F -- "$word")
+            return ;;
+        --number) return ;;
+    esac
+    if [[ $word == -* ]]; then
+        local options
+        options=$(_xls_options "$command")
+        ((COMP_CWORD > 1)) || options="$options --version"
+        mapfile -t COMPREPLY < <(compgen -W "$options" -- "$word")
+        return
+    fi
+    _xls_files "$word"
+    if ((COMP_CWORD == 1)); then
+        mapfile -t -O "${#COMPREPLY[@]}" COMPREPLY < <(compgen -W "$commands" -- "$word")
+    fi
+}
+
+complete -F _xls xls
