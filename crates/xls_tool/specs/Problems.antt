@@ -1,6 +1,10 @@
 -- The exit status of each problem, and how many files are told of it.
-use Rattle.std.specs.Prelude.{ℕ}
+use Rattle.std.specs.Prelude.{ℕ, ◌==◌, Bool, ◌||◌, if◌then◌else◌}
 use Rattle.xls_answers.specs.Failures as failures
+use Rattle.xls_answers.specs.declared.failure.Failure.TheVariants.{Stopped}
+use Rattle.xls_documents.specs.declared.fault.ProjectFault.{ProjectFault}
+use Rattle.xls_documents.specs.declared.fault.ProjectFault.TheVariants as faults
+use Rattle.xls_lines.specs.declared.stop.Stop.TheVariants as stop
 use Rattle.xls_tool.specs.declared.host.Reason.TheVariants.{Memory, Told}
 use Rattle.xls_tool.specs.declared.problem.Outcome.{Outcome}
 use Rattle.xls_tool.specs.declared.problem.Outcome.TheVariants as outcome
@@ -10,6 +14,7 @@ use Rattle.xls_tool.specs.declared.problem.Problem.TheVariants as problems
 abbrev pub status_of : Problem → ℕ
 status_of (problems.Unread Memory) = 5
 status_of (problems.Unread (Told t)) = 10
+status_of problems.Folder = 10
 status_of problems.Irregular = 10
 status_of (problems.Failure f) = failures.status_of f
 status_of (problems.Absent a) = 12
@@ -17,14 +22,20 @@ status_of (problems.Project f) = 11
 status_of (problems.Unwritten path Memory) = 5
 status_of (problems.Unwritten path (Told t)) = 16
 
+-- the statuses of a file that can't be read, or that gives no workbook
+abbrev pub is_unread : ℕ → Bool
+is_unread n = (n == 10) || ((n == 11) || ((n == 12) || (n == 17)))
+
 -- what a line of many files says of a status
 abbrev pub outcome_for : ℕ → Outcome
-outcome_for 1 = outcome.Refused
-outcome_for 10 = outcome.Unread
-outcome_for 11 = outcome.Unread
-outcome_for 12 = outcome.Unread
-outcome_for 17 = outcome.Unread
-outcome_for n = outcome.Failed
+outcome_for n = if n == 1 then outcome.Refused else if is_unread n then outcome.Unread else outcome.Failed
 
 abbrev pub outcome_of : Problem → Outcome
 outcome_of p = outcome_for (status_of p)
+
+-- a fault of the file, and out of memory, are told alike, wherever they were
+abbrev pub problem_of_project : ProjectFault → Problem
+problem_of_project (faults.File f) = problems.Failure (failures.failure_of_fault f)
+problem_of_project faults.Memory = problems.Failure (Stopped stop.Memory)
+problem_of_project (faults.Compression e) = problems.Project (faults.Compression e)
+problem_of_project (faults.Directory e) = problems.Project (faults.Directory e)

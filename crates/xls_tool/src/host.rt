@@ -44,15 +44,13 @@ pub enum Place {
     Other,
 }
 
-/// What stands in a folder, by its name.
+/// What stands in a folder. Its order is by name.
 #[derive(Debug, PartialEq, Eq, PartialOrd, Ord, Drop)]
-pub enum Listed {
-    /// A regular file, or a link to one.
-    File(String),
-    /// A folder, and no link to one.
-    Folder(String),
-    /// Its name isn't UTF-8.
-    Unnamed,
+pub struct Listed {
+    /// None where it isn't UTF-8.
+    pub name: Option<String>,
+    /// A folder, and no link to one. Else it is a regular file, or a link to one.
+    pub is_folder: bool,
 }
 
 /// The name of a file in a list.
@@ -71,7 +69,7 @@ pub trait Host {
     /// What stands at a path.
     fn place(&mut self, path: &str) -> Result<Place, Reason>;
 
-    /// What stands in a folder, in any order.
+    /// The folders and regular files in a folder, in any order.
     fn list(&mut self, folder: &str) -> Result<Vec<Listed>, Reason>;
 
     /// The bytes of a file.
@@ -93,6 +91,18 @@ pub trait Host {
     /// Tells a line on standard error.
     fn say(&mut self, line: &str);
 
-    /// Shows how far the work is, where standard error is a terminal; the next line takes its place.
+    /// Whether standard error is a terminal.
+    fn shows(&self) -> bool;
+
+    /// Shows how far the work is, in place of what was shown before. Only a terminal is shown it; what is told takes
+    /// its place, and before a line of standard output nothing is shown.
     fn show(&mut self, progress: &str);
+}
+
+/// What stands at a path; `-` is standard input, which is read as a file.
+pub(crate) fn place_of<H: Host>(host: &mut H, path: &str) -> Result<Place, Reason> {
+    if path == "-" {
+        return Ok(Place::File);
+    }
+    host.place(path)
 }

@@ -1,28 +1,35 @@
 //! What is done with each file.
 
-ghost use Rattle.std.specs.Prelude.{◌≡◌, IfSome};
+ghost use Rattle.std.specs.Prelude.{◌≡◌, IfOk, IfSome};
 ghost use Rattle.xls_words.specs.Requests as requests;
 ghost use Rattle.xls_answers.specs.Answers.{HasNumber};
 
-use xls_answers::{Answer, Listing};
+use std::alloc::{AllocError, Global};
+use xls_answers::{Answer, Listing, options_of};
 use xls_open::XlsOptions;
 use xls_readable::Form;
-use xls_words::{Command, Style};
+use xls_words::{Command, Request, Style, Table};
 
-/// What is done with each file, and how workbooks are read.
+/// What is asked for of each file, and how workbooks are read.
 #[derive(Drop)]
 pub(crate) struct Job<'w> {
-    pub(crate) command: Command<'w>,
+    pub(crate) request: Request<'w>,
     pub(crate) options: XlsOptions,
-    /// The folder for texts.
-    pub(crate) out: Option<&'w str>,
-    pub(crate) writes_over: bool,
+}
+
+impl Job<'_> {
     /// The form of the lines that tell of many files.
-    pub(crate) form: Form,
+    pub(crate) fn form(&self) -> Form {
+        if self.request.tells_json {
+            Form::Json
+        } else {
+            Form::Text
+        }
+    }
 }
 
 /// The form of lines.
-pub(crate) fn form_of(style: Style) -> Form {
+fn form_of(style: Style) -> Form {
     match style {
         Style::Json => Form::Json,
         Style::Readable | Style::Exact => Form::Text,
@@ -30,7 +37,7 @@ pub(crate) fn form_of(style: Style) -> Form {
 }
 
 /// Whether texts are as `xls_dump` has them.
-pub(crate) fn is_exact(command: &Command<'_>) -> bool {
+fn is_exact(command: &Command<'_>) -> bool {
     match command {
         Command::Dump(style) => *style == Style::Exact,
         Command::Csv(table) => table.style == Style::Exact,
@@ -50,7 +57,12 @@ pub(crate) fn answer_of<'w>(command: &Command<'w>) -> Option<Answer<'w>>
         Command::Formulas(style) => Some(Answer::Lines(Listing::Formulas, form_of(*style))),
         Command::Refs(style) => Some(Answer::Lines(Listing::Refs, form_of(*style))),
         Command::Check => Some(Answer::Check),
-        Command::Csv(table) => Some(Answer::Sheet(*table)),
+        Command::Csv(table) => Some(Answer::Sheet(Table {
+            choice: table.choice,
+            delimiter: table.delimiter,
+            begins_with_mark: table.begins_with_mark,
+            style: table.style,
+        })),
         Command::Remake => Some(Answer::Remade),
         Command::Stream(None) => Some(Answer::Bytes),
         Command::Stream(Some(_)) | Command::Props | Command::Vba | Command::Streams => None,
@@ -75,4 +87,20 @@ pub(crate) fn ending_of(command: &Command<'_>) -> &'static str {
         Command::Csv(_) => "csv",
         _ => "txt",
     }
+}
+
+/// Whether a command is one of those that read many files.
+pub(crate) fn takes_many(command: &Command<'_>) -> bool {
+    !matches!(
+        command,
+        Command::Remake | Command::Stream(_) | Command::Streams
+    )
+}
+
+/// What a request asks for of each file.
+pub(crate) fn job_of<'w>(alloc: Global, request: Request<'w>) -> Result<Job<'w>, AllocError>
+    ensures { IfOk result (λ job. job.request ≡ request.entry) }
+{
+    let options = options_of(alloc, request.page, is_exact(&request.command))?;
+    Ok(Job { request, options })
 }

@@ -5,15 +5,17 @@
 mod host;
 mod job;
 mod many;
+mod one;
 mod paths;
 mod problem;
 mod queue;
-mod run;
+mod runs;
+mod say;
 mod sheets;
 mod tell;
 mod work;
 
 pub use host::{Host, Listed, Name, Place, Reason};
 pub use problem::Problem;
-pub use run::run;
+pub use runs::run;
 pub use xls_lines::{MemorySink, Sink, StdSink, WriteFault};

@@ -1,7 +1,8 @@
 //! Why the text of a file isn't written.
 
 ghost use Rattle.std.specs.Prelude.{◌≡◌};
-ghost use Rattle.xls_tool.specs.Problems.{outcome_of, status_of};
+ghost use Rattle.xls_tool.specs.Problems.{outcome_of, problem_of_project, status_of};
+ghost use Rattle.xls_answers.specs.Failures.{failure_of_fault};
 ghost use Rattle.xls_tool.specs.declared.problem.Problem.TheVariants as problems;
 ghost use Rattle.xls_answers.specs.declared.failure.Failure.TheVariants.{Stopped};
 ghost use Rattle.xls_lines.specs.declared.stop.Stop.TheVariants.{Memory};
@@ -42,6 +43,8 @@ pub enum Absent {
 pub enum Problem {
     /// It can't be read.
     Unread(Reason),
+    /// It is a folder, and the command reads one file.
+    Folder,
     /// It is no regular file.
     Irregular,
     /// The text of its workbook isn't written.
@@ -61,7 +64,7 @@ impl Problem {
     {
         match self {
             Problem::Unread(Reason::Memory) | Problem::Unwritten(_, Reason::Memory) => 5,
-            Problem::Unread(_) | Problem::Irregular => 10,
+            Problem::Unread(_) | Problem::Folder | Problem::Irregular => 10,
             Problem::Failure(failure) => failure.status(),
             Problem::Absent(_) => 12,
             Problem::Project(_) => 11,
@@ -85,6 +88,7 @@ impl fmt::Display for Problem {
     fn fmt<W: fmt::Write>(&self, f: &mut fmt::Formatter<W>) -> fmt::Result {
         match self {
             Problem::Unread(reason) => write!(f, "{reason}"),
+            Problem::Folder => f.write_str("it is a folder"),
             Problem::Irregular => f.write_str("it is no regular file"),
             Problem::Failure(failure) => write!(f, "{failure}"),
             Problem::Absent(Absent::Properties) => f.write_str("it has no property streams"),
@@ -110,6 +114,8 @@ impl From<Failure> for Problem {
 }
 
 impl From<FileFault> for Problem {
+    ghost from_gives = { λ fault e. e ≡ problems.Failure (failure_of_fault fault) };
+
     fn from(fault: FileFault) -> Problem {
         Problem::Failure(Failure::from(fault))
     }
@@ -128,5 +134,17 @@ impl From<AllocError> for Problem {
 
     fn from(_: AllocError) -> Problem {
         Problem::Failure(Failure::Stopped(Stop::Memory))
+    }
+}
+
+impl From<ProjectFault> for Problem {
+    ghost from_gives = { λ fault e. e ≡ problem_of_project fault };
+
+    fn from(fault: ProjectFault) -> Problem {
+        match fault {
+            ProjectFault::File(fault) => Problem::from(fault),
+            ProjectFault::Memory => Problem::from(Stop::Memory),
+            fault => Problem::Project(fault),
+        }
     }
 }

@@ -1,6 +1,6 @@
 //! Files and folders that are still to be answered.
 
-use crate::host::{Host, Listed, Place, Reason};
+use crate::host::{Host, Listed, Place, Reason, place_of};
 use crate::paths::{is_workbook, joined};
 use std::alloc::{AllocError, Global};
 
@@ -50,15 +50,17 @@ impl Queue {
         Ok(())
     }
 
-    /// Puts what stands in a folder before what is left: its workbooks and its folders.
+    /// Puts what stands in a folder before what is left, if it is a workbook, a folder, or has no name.
     fn put(&mut self, folder: &str, listed: Listed) -> Result<(), AllocError> {
-        let item = match listed {
-            Listed::File(name) if is_workbook(name.as_str()) => {
+        let item = match listed.name {
+            None => Item::Unnamed(String::from_str(self.alloc, folder)?),
+            Some(name) if listed.is_folder => {
+                Item::Folder(joined(self.alloc, folder, name.as_str())?)
+            }
+            Some(name) if is_workbook(name.as_str()) => {
                 Item::File(joined(self.alloc, folder, name.as_str())?)
             }
-            Listed::File(_) => return Ok(()),
-            Listed::Folder(name) => Item::Folder(joined(self.alloc, folder, name.as_str())?),
-            Listed::Unnamed => Item::Unnamed(String::from_str(self.alloc, folder)?),
+            Some(_) => return Ok(()),
         };
         self.left.push(item)?;
         Ok(())
@@ -66,7 +68,7 @@ impl Queue {
 
     /// Puts all that stands in a folder before what is left, by name.
     fn put_all(&mut self, folder: &str, mut listed: Vec<Listed>) -> Result<(), AllocError> {
-        listed.sort_by(by_name)?;
+        listed.sort()?;
         for item in listed.into_iter().rev() {
             self.put(folder, item)?;
         }
@@ -94,10 +96,7 @@ impl Queue {
         host: &mut H,
         path: String,
     ) -> Result<Option<Next>, AllocError> {
-        if path.as_str() == "-" {
-            return Ok(Some(Next::File(path)));
-        }
-        match host.place(path.as_str()) {
+        match place_of(host, path.as_str()) {
             Ok(Place::File) => Ok(Some(Next::File(path))),
             Ok(Place::Folder) => self.take_folder(host, path),
             Ok(Place::Other) => Ok(Some(Next::Irregular(path))),

@@ -6,6 +6,7 @@ use crate::host::{Host, Reason};
 use crate::job::{Job, ending_of};
 use crate::paths::{folder_of, path_in};
 use crate::problem::Problem;
+use crate::say::say_of;
 use crate::work::write_text;
 use std::alloc::Global;
 use xls_answers::{Failure, Missing, write_sheet};
@@ -49,10 +50,15 @@ fn write_text_file<H: Host>(
     folder: &str,
     bytes: &[u8],
 ) -> Result<(), Problem>
-    requires { requests.HasNumber job.now.command }
+    requires { requests.HasNumber job.now.request.command }
 {
-    let path = path_in(alloc, folder, job.command.word().name(), ending_of(&job.command))?;
-    let mut file = match create(host, path.as_str(), job.writes_over) {
+    let path = path_in(
+        alloc,
+        folder,
+        job.request.command.word().name(),
+        ending_of(&job.request.command),
+    )?;
+    let mut file = match create(host, path.as_str(), job.request.writes_over) {
         Ok(file) => file,
         Err(reason) => return Err(Problem::Unwritten(path, reason)),
     };
@@ -85,7 +91,7 @@ fn write_sheet_file<H: Host>(
     };
     let name = file_name(alloc, number as usize, sheet.name.as_str())?;
     let path = path_in(alloc, folder, name.as_str(), "csv")?;
-    let mut file = match create(host, path.as_str(), job.writes_over) {
+    let mut file = match create(host, path.as_str(), job.request.writes_over) {
         Ok(file) => file,
         Err(reason) => return Err(Problem::Unwritten(path, reason)),
     };
@@ -112,8 +118,8 @@ fn tell_hidden<H: Host>(
     if sheet.visible == SheetVisible::Visible {
         return Ok(());
     }
-    let line = format!(in alloc; "xls: {file}: sheet '{}' is hidden", sheet.name)?;
-    host.say(line.as_str());
+    let text = format!(in alloc; "sheet '{}' is hidden", sheet.name)?;
+    say_of(alloc, host, file, text.as_str())?;
     Ok(())
 }
 
@@ -248,10 +254,10 @@ pub(crate) fn write_files<H: Host>(
     file: &str,
     bytes: &[u8],
 ) -> Result<(), Problem>
-    requires { requests.HasNumber job.now.command }
+    requires { requests.HasNumber job.now.request.command }
 {
     let folder = folder_of(alloc, out, file)?;
-    match &job.command {
+    match &job.request.command {
         Command::Csv(table) => {
             write_table_files(alloc, host, job, table, folder.as_str(), file, bytes)
         }

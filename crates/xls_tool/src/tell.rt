@@ -1,9 +1,8 @@
 //! The lines that tell of many files.
 
 use crate::problem::{Outcome, Problem};
-use std::alloc::Global;
-use xls_lines::{Sink, Stop};
-use xls_pieces::Pieces;
+use std::alloc::{AllocError, Global};
+use xls_lines::{Sink, Stop, write_all};
 use xls_readable::{Field, Form, Member, push_line};
 
 /// How many files went how, and the greatest exit status of theirs.
@@ -75,6 +74,19 @@ fn count<'t>(name: &'static str, count: u64) -> Member<'t> {
     }
 }
 
+/// A line of these fields.
+fn line_of(
+    alloc: Global,
+    form: Form,
+    word: &str,
+    members: &[Member<'_>],
+) -> Result<String, AllocError> {
+    let mut room = String::new(alloc);
+    let mut line = String::new(alloc);
+    push_line(form, word, members, &mut room, &mut line)?;
+    Ok(line)
+}
+
 /// Writes a line of these fields.
 fn write_line<K: Sink>(
     alloc: Global,
@@ -83,17 +95,30 @@ fn write_line<K: Sink>(
     word: &str,
     members: &[Member<'_>],
 ) -> Result<(), Stop> {
-    let mut pieces = Pieces::new(alloc);
-    push_line(form, word, members, &mut pieces.room, &mut pieces.text)?;
-    pieces.finish(sink)
+    let line = line_of(alloc, form, word, members)?;
+    write_all(sink, line.as_bytes())?;
+    Ok(())
 }
 
 /// Tells that the text of a file is written.
 fn tell_ok<K: Sink>(alloc: Global, out: &mut K, form: Form, file: &str) -> Result<(), Stop> {
-    write_line(alloc, out, form, word_of(Outcome::Ok), &[text("file", file)])
+    write_line(alloc, out, form, "ok", &[text("file", file)])
 }
 
 /// Tells why the text of a file isn't written.
+fn tell_why<K: Sink>(
+    alloc: Global,
+    out: &mut K,
+    form: Form,
+    outcome: Outcome,
+    file: &str,
+    why: &str,
+) -> Result<(), Stop> {
+    let members = [text("file", file), text("why", why)];
+    write_line(alloc, out, form, word_of(outcome), &members)
+}
+
+/// Tells the problem of a file.
 fn tell_problem<K: Sink>(
     alloc: Global,
     out: &mut K,
@@ -102,8 +127,7 @@ fn tell_problem<K: Sink>(
     problem: &Problem,
 ) -> Result<(), Stop> {
     let why = format!(in alloc; "{problem}")?;
-    let members = [text("file", file), text("why", why.as_str())];
-    write_line(alloc, out, form, word_of(problem.outcome()), &members)
+    tell_why(alloc, out, form, problem.outcome(), file, why.as_str())
 }
 
 /// Tells how it went with a file, and counts it.
@@ -113,9 +137,9 @@ pub(crate) fn tell<K: Sink>(
     form: Form,
     counts: &mut Counts,
     file: &str,
-    result: &Result<(), Problem>,
+    done: &Result<(), Problem>,
 ) -> Result<(), Stop> {
-    match result {
+    match done {
         Ok(()) => {
             counts.count(Outcome::Ok, 0);
             tell_ok(alloc, out, form, file)
@@ -127,8 +151,8 @@ pub(crate) fn tell<K: Sink>(
     }
 }
 
-/// The counts as the fields of a line of JSON.
-fn write_counts_json<K: Sink>(alloc: Global, sink: &mut K, counts: Counts) -> Result<(), Stop> {
+/// The counts as a line of JSON.
+fn counts_json(alloc: Global, counts: Counts) -> Result<String, AllocError> {
     let members = [
         count("count", counts.all()),
         count("ok", counts.ok),
@@ -136,34 +160,37 @@ fn write_counts_json<K: Sink>(alloc: Global, sink: &mut K, counts: Counts) -> Re
         count("unread", counts.unread),
         count("failed", counts.failed),
     ];
-    write_line(alloc, sink, Form::Json, "files", &members)
+    line_of(alloc, Form::Json, "files", &members)
 }
 
 /// The counts as a line of text.
-fn write_counts_text<K: Sink>(alloc: Global, sink: &mut K, counts: Counts) -> Result<(), Stop> {
-    let ok = format!(in alloc; "{} ok", counts.ok)?;
-    let refused = format!(in alloc; "{} refused", counts.refused)?;
-    let unread = format!(in alloc; "{} unread", counts.unread)?;
-    let failed = format!(in alloc; "{} failed", counts.failed)?;
-    let members = [
-        count("count", counts.all()),
-        text("ok", ok.as_str()),
-        text("refused", refused.as_str()),
-        text("unread", unread.as_str()),
-        text("failed", failed.as_str()),
-    ];
-    write_line(alloc, sink, Form::Text, "files", &members)
+fn counts_text(alloc: Global, counts: Counts) -> Result<String, AllocError> {
+    format!(in alloc;
+        "files\t{}\t{} ok\t{} refused\t{} unread\t{} failed\n",
+        counts.all(),
+        counts.ok,
+        counts.refused,
+        counts.unread,
+        counts.failed
+    )
 }
 
-/// Writes the last line: how many files there were, and how it went with them.
+/// The last line: how many files there were, and how it went with them.
+pub(crate) fn counts_line(alloc: Global, form: Form, counts: Counts) -> Result<String, AllocError> {
+    match form {
+        Form::Json => counts_json(alloc, counts),
+        Form::Text => counts_text(alloc, counts),
+    }
+}
+
+/// Writes the last line.
 pub(crate) fn write_counts<K: Sink>(
     alloc: Global,
     sink: &mut K,
     form: Form,
     counts: Counts,
 ) -> Result<(), Stop> {
-    match form {
-        Form::Json => write_counts_json(alloc, sink, counts),
-        Form::Text => write_counts_text(alloc, sink, counts),
-    }
+    let line = counts_line(alloc, form, counts)?;
+    write_all(sink, line.as_bytes())?;
+    Ok(())
 }

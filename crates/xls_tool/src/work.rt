@@ -105,11 +105,11 @@ pub(crate) fn write_text<K: Sink>(
     job: &Job<'_>,
     file: &[u8],
 ) -> Result<(), Problem>
-    requires { requests.HasNumber job.now.command }
+    requires { requests.HasNumber job.now.request.command }
 {
-    if let Some(answer) = answer_of(&job.command) {
+    if let Some(answer) = answer_of(&job.request.command) {
         return Ok(write_file(alloc, sink, &answer, &job.options, file)?);
     }
     let container = Container::open(alloc, file)?;
-    write_beside(alloc, sink, &job.command, &container)
+    write_beside(alloc, sink, &job.request.command, &container)
 }

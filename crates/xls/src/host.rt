@@ -1,0 +1,107 @@
+//! The files of the system as a host.
+
+use crate::file::OutFile;
+use crate::folder::{list_at, place_at};
+use crate::list::List;
+use crate::reason::reason_of;
+use std::io::{IsTerminal, Read, Write};
+use std::{fs, io};
+use xls_tool::{Host, Listed, Name, Place, Reason};
+
+/// What goes before a line on a terminal, so that it takes the place of what was shown.
+const ERASE: &str = "\r\x1b[K";
+
+/// The files of the system, and its standard input and error.
+#[derive(Drop)]
+pub(crate) struct StdHost<'r> {
+    rt: &'r HostRuntime,
+    is_terminal: bool,
+    /// The list whose names are read.
+    list: Option<List>,
+}
+
+impl<'r> StdHost<'r> {
+    pub(crate) fn new(rt: &'r HostRuntime) -> StdHost<'r> {
+        StdHost {
+            rt,
+            is_terminal: rt.stderr().is_terminal(),
+            list: None,
+        }
+    }
+
+    /// What the system answered, or why it didn't.
+    fn told<T>(&self, answer: io::Result<T>) -> Result<T, Reason> {
+        match answer {
+            Ok(value) => Ok(value),
+            Err(error) => Err(reason_of(self.rt.alloc(), &error)),
+        }
+    }
+
+    /// The next name of a list, which is opened by the first of them.
+    fn take_name(&mut self, list: &str, end: u8) -> io::Result<Option<Name>> {
+        if let Some(names) = &mut self.list {
+            return names.next(self.rt, end);
+        }
+        let mut names = List::open(self.rt, list)?;
+        let name = names.next(self.rt, end);
+        self.list = Some(names);
+        name
+    }
+}
+
+/// All bytes of standard input.
+fn input(rt: &HostRuntime) -> io::Result<Vec<u8>> {
+    let mut bytes = Vec::new(rt.alloc());
+    rt.stdin().read_to_end(&mut bytes)?;
+    Ok(bytes)
+}
+
+impl<'r> Host for StdHost<'r> {
+    type File = OutFile<'r>;
+
+    fn place(&mut self, path: &str) -> Result<Place, Reason> {
+        self.told(place_at(self.rt, path))
+    }
+
+    fn list(&mut self, folder: &str) -> Result<Vec<Listed>, Reason> {
+        self.told(list_at(self.rt, folder))
+    }
+
+    fn read(&mut self, path: &str) -> Result<Vec<u8>, Reason> {
+        self.told(fs::read(self.rt, path))
+    }
+
+    fn read_input(&mut self) -> Result<Vec<u8>, Reason> {
+        self.told(input(self.rt))
+    }
+
+    fn next_name(&mut self, list: &str, by_nul: bool) -> Result<Option<Name>, Reason> {
+        let end = if by_nul { 0 } else { b'\n' };
+        let name = self.take_name(list, end);
+        self.told(name)
+    }
+
+    fn create(&mut self, path: &str, writes_over: bool) -> Result<OutFile<'r>, Reason> {
+        Ok(OutFile::new(self.rt, path, writes_over)?)
+    }
+
+    fn close(&mut self, file: OutFile<'r>) -> Result<(), Reason> {
+        file.close()
+    }
+
+    fn say(&mut self, line: &str) {
+        let erase = if self.is_terminal { ERASE } else { "" };
+        // Where standard error can't be written, the status tells alone.
+        let _ = writeln!(self.rt.stderr(), "{erase}{line}");
+    }
+
+    fn shows(&self) -> bool {
+        self.is_terminal
+    }
+
+    fn show(&mut self, progress: &str) {
+        if self.is_terminal {
+            let _ = write!(self.rt.stderr(), "{ERASE}{progress}");
+        }
+    }
+}

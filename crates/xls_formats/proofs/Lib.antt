@@ -1,0 +1,5 @@
+pub mod CountLemmas
+pub mod IdentifierLemmas
+pub mod SheetLemmas
+pub mod StandardFacts
+pub mod ClassLemmas

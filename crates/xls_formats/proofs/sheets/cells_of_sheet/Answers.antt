@@ -1,0 +1,13 @@
+use Rattle.std.proofs.Common.{[], Some, inl, inr, refl, subst, ℕ, List}
+use Rattle.xls_model.specs.Listing.{IsPart}
+use Rattle.xls_model.specs.declared.part.Part.TheVariants.{SheetOffset}
+use Rattle.xls_formats.proofs.sheets.cells_of_sheet.Goals as goal
+
+-- the offset passes the end
+pub returns-then-stream-offset : goal.returns-then-stream-offset
+returns-then-stream-offset c = ([], Some SheetOffset, inr (c.if-stream-offset.true, refl, refl), refl)
+
+pub returns : goal.returns
+returns c =
+    let p = c.cells_of_part.ensures in
+    (p.0, p.1, inl (c.if-stream-offset.false, subst (λ (x : List ℕ). IsPart x p.0 p.1) c.split_at.ensures.back p.2), p.3)

@@ -1,0 +1,3 @@
+pub mod Laws
+pub mod Uncounted
+pub mod Steps

@@ -1,0 +1,53 @@
+//! One file by itself.
+
+ghost use Rattle.xls_words.specs.Requests as requests;
+
+use crate::host::{Host, Place, Reason};
+use crate::job::Job;
+use crate::many::do_file;
+use crate::problem::Problem;
+use crate::say::say_problem;
+use std::alloc::Global;
+use xls_answers::Failure;
+use xls_lines::{Sink, Stop};
+
+/// Does the work of what stands at a path, if that is a file.
+fn do_placed<H: Host, K: Sink>(
+    alloc: Global,
+    host: &mut H,
+    out: &mut K,
+    job: &Job<'_>,
+    path: &str,
+    place: Result<Place, Reason>,
+) -> Result<(), Problem>
+    requires { requests.HasNumber job.now.request.command }
+{
+    match place {
+        Ok(Place::File) => do_file(alloc, host, out, job, path),
+        Ok(Place::Folder) => Err(Problem::Folder),
+        Ok(Place::Other) => Err(Problem::Irregular),
+        Err(reason) => Err(Problem::Unread(reason)),
+    }
+}
+
+/// Does the work of what stands at a path: its text goes to the sink, or into files below the folder, if there is
+/// one. The exit status; a problem is told.
+pub(crate) fn do_one<H: Host, K: Sink>(
+    alloc: Global,
+    host: &mut H,
+    out: &mut K,
+    job: &Job<'_>,
+    path: &str,
+    place: Result<Place, Reason>,
+) -> Result<u8, Stop>
+    requires { requests.HasNumber job.now.request.command }
+{
+    match do_placed(alloc, host, out, job, path, place) {
+        Ok(()) => Ok(0),
+        Err(Problem::Failure(Failure::Stopped(Stop::Write))) => Err(Stop::Write),
+        Err(problem) => {
+            say_problem(alloc, host, path, &problem)?;
+            Ok(problem.status())
+        }
+    }
+}

@@ -1,0 +1,145 @@
+//! The top call of the program.
+
+ghost use Rattle.std.specs.Prelude.{◌≡◌, IfOk};
+ghost use Rattle.xls_words.specs.Requests as requests;
+
+use crate::host::{Host, Place, place_of};
+use crate::job::{Job, job_of, takes_many};
+use crate::many::{do_list, do_many};
+use crate::one::do_one;
+use clap::error::ErrorKind;
+use std::alloc::Global;
+use xls_lines::{Sink, Stop, write_all};
+use xls_words::{Command, Files, Request, SheetChoice, request_of};
+
+/// Where there is no folder for the texts, what is wrong with that.
+fn mistake_in(job: &Job<'_>, is_many: bool) -> Option<&'static str> {
+    match (&job.request.out, &job.request.command) {
+        (Some(_), _) | (None, Command::Check) => None,
+        (None, Command::Csv(table)) if table.choice == SheetChoice::All => {
+            Some("error: --all wants --out DIR")
+        }
+        (None, _) if is_many => Some("error: many files want --out DIR (but for check)"),
+        (None, _) => None,
+    }
+}
+
+/// Does the work of one file, or of a folder.
+fn do_path<H: Host, K: Sink>(
+    alloc: Global,
+    host: &mut H,
+    out: &mut K,
+    job: &Job<'_>,
+    path: &str,
+) -> Result<u8, Stop>
+    requires { requests.HasNumber job.now.request.command }
+{
+    let place = place_of(host, path);
+    let is_many = matches!(place, Ok(Place::Folder)) && takes_many(&job.request.command);
+    if let Some(mistake) = mistake_in(job, is_many) {
+        host.say(mistake);
+        return Ok(2);
+    }
+    if is_many {
+        return do_many(alloc, host, out, job, &[path]);
+    }
+    do_one(alloc, host, out, job, path, place)
+}
+
+/// Does the work of files and folders.
+fn do_paths<H: Host, K: Sink>(
+    alloc: Global,
+    host: &mut H,
+    out: &mut K,
+    job: &Job<'_>,
+    paths: &[&str],
+) -> Result<u8, Stop>
+    requires { requests.HasNumber job.now.request.command }
+{
+    if let [path] = paths {
+        return do_path(alloc, host, out, job, path);
+    }
+    if let Some(mistake) = mistake_in(job, true) {
+        host.say(mistake);
+        return Ok(2);
+    }
+    do_many(alloc, host, out, job, paths)
+}
+
+/// Does the work of the files of a list.
+fn do_listed<H: Host, K: Sink>(
+    alloc: Global,
+    host: &mut H,
+    out: &mut K,
+    job: &Job<'_>,
+    list: &str,
+    by_nul: bool,
+) -> Result<u8, Stop>
+    requires { requests.HasNumber job.now.request.command }
+{
+    if let Some(mistake) = mistake_in(job, true) {
+        host.say(mistake);
+        return Ok(2);
+    }
+    do_list(alloc, host, out, job, list, by_nul)
+}
+
+/// Does what is asked for.
+fn do_request<H: Host, K: Sink>(
+    alloc: Global,
+    host: &mut H,
+    out: &mut K,
+    request: Request<'_>,
+) -> Result<u8, Stop>
+    requires { requests.HasNumber request.command }
+{
+    let job = job_of(alloc, request)?;
+    match &job.request.files {
+        Files::Named(paths) => do_paths(alloc, host, out, &job, paths.as_slice()),
+        Files::Listed { list, by_nul } => do_listed(alloc, host, out, &job, list, *by_nul),
+    }
+}
+
+/// Tells a mistake in the words; writes help or the version.
+fn do_shown<H: Host, K: Sink>(
+    alloc: Global,
+    host: &mut H,
+    out: &mut K,
+    shown: &clap::Error,
+) -> Result<u8, Stop> {
+    if shown.kind() == ErrorKind::OutOfMemory {
+        return Err(Stop::Memory);
+    }
+    let text = format!(in alloc; "{shown}")?;
+    if shown.use_stderr() {
+        host.say(text.trim_end());
+        return Ok(2);
+    }
+    write_all(out, text.as_bytes())?;
+    Ok(0)
+}
+
+/// The exit status of work that was stopped, which is told.
+fn status_of<H: Host>(host: &mut H, done: Result<u8, Stop>) -> u8 {
+    match done {
+        Ok(status) => status,
+        Err(Stop::Memory) => {
+            host.say("xls: out of memory");
+            5
+        }
+        Err(Stop::Write | Stop::Read) => {
+            host.say("xls: standard output can't be written");
+            4
+        }
+    }
+}
+
+/// Does what the words of the command line ask for, which stand behind the program's name, and answers the exit
+/// status. Texts go to `out`, or into files of the host; what is wrong is told on the host's standard error.
+pub fn run<H: Host, K: Sink>(alloc: Global, host: &mut H, out: &mut K, words: &[String]) -> u8 {
+    let done = match request_of(alloc, words) {
+        Ok(request) => do_request(alloc, host, out, request),
+        Err(shown) => do_shown(alloc, host, out, &shown),
+    };
+    status_of(host, done)
+}
