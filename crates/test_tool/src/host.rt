@@ -76,6 +76,17 @@ fn listed(alloc: Global, rest: &str) -> Result<Listed, AllocError> {
     })
 }
 
+/// What stands in a folder; a folder in it once for each file below that.
+fn list_of(alloc: Global, folder: &str) -> Result<Vec<Listed>, AllocError> {
+    let mut all = Vec::new(alloc);
+    for (file, _) in FILES.iter() {
+        if let Some(rest) = below(file, folder) {
+            all.push(listed(alloc, rest)?)?;
+        }
+    }
+    Ok(all)
+}
+
 impl MemoryHost {
     pub fn new(alloc: Global) -> MemoryHost {
         MemoryHost {
@@ -91,7 +102,8 @@ impl MemoryHost {
     fn keep(&mut self, file: &MemoryFile) -> Result<(), AllocError> {
         self.written.push_str(file.path.as_str())?;
         self.written.push('=')?;
-        self.written.push_str(String::from_utf8_lossy(self.alloc, &file.text)?.as_str())?;
+        self.written
+            .push_str(String::from_utf8_lossy(self.alloc, &file.text)?.as_str())?;
         Ok(())
     }
 
@@ -120,13 +132,7 @@ impl Host for MemoryHost {
     }
 
     fn list(&mut self, folder: &str) -> Result<Vec<Listed>, Reason> {
-        let mut all = Vec::new(self.alloc);
-        for (file, _) in FILES.iter() {
-            if let Some(rest) = below(file, folder) {
-                all.push(listed(self.alloc, rest)?)?;
-            }
-        }
-        Ok(all)
+        Ok(list_of(self.alloc, folder)?)
     }
 
     fn read(&mut self, path: &str) -> Result<Vec<u8>, Reason> {
