@@ -47,31 +47,42 @@ fn file_arg<'a>(alloc: Global) -> Arg<'a> {
         .help("A file, or - for one on standard input")
 }
 
+/// An option or a flag that isn't given together with others.
+fn without<'a>(mut arg: Arg<'a>, others: &'static [&'static str]) -> Result<Arg<'a>, AllocError> {
+    for other in others {
+        arg = arg.conflicts_with(other)?;
+    }
+    Ok(arg)
+}
+
+/// The list of the files' names.
+fn with_list<'a>(
+    alloc: Global,
+    command: clap::Command<'a>,
+) -> Result<clap::Command<'a>, AllocError> {
+    let help = "Read the files whose names stand in LIST (- for standard input), one a line";
+    let command = command.arg(option(alloc, "files-from", "LIST", help))?;
+    let null = flag(alloc, "null", "The names in LIST are ended by NUL");
+    command.arg(null.short('0'))
+}
+
+/// The folder for texts.
+fn with_out<'a>(
+    alloc: Global,
+    command: clap::Command<'a>,
+) -> Result<clap::Command<'a>, AllocError> {
+    let help = "Write into DIR/FILE, a folder for each file";
+    let command = command.arg(option(alloc, "out", "DIR", help))?;
+    command.arg(flag(alloc, "force", "Write over files that exist"))
+}
+
 /// The options of those commands that read many files.
 fn with_many<'a>(
     alloc: Global,
     command: clap::Command<'a>,
 ) -> Result<clap::Command<'a>, AllocError> {
-    let list = option(
-        alloc,
-        "files-from",
-        "LIST",
-        "Read the files whose names stand in LIST (- for standard input), one a line",
-    );
-    let by_nul = flag(alloc, "null", "The names in LIST are ended by NUL").short('0');
-    let out = option(
-        alloc,
-        "out",
-        "DIR",
-        "Write into DIR/FILE, a folder for each file",
-    );
-    let force = flag(alloc, "force", "Write over files that exist");
-    command
-        .arg(files_arg(alloc))?
-        .arg(list)?
-        .arg(by_nul)?
-        .arg(out)?
-        .arg(force)
+    let command = command.arg(files_arg(alloc))?;
+    with_out(alloc, with_list(alloc, command)?)
 }
 
 /// The page that texts are read by.
@@ -79,28 +90,65 @@ fn with_page<'a>(
     alloc: Global,
     command: clap::Command<'a>,
 ) -> Result<clap::Command<'a>, AllocError> {
-    let page = option(
-        alloc,
-        "codepage",
-        "N",
-        "Read texts of single bytes by this page: 1200, 1252, 28591 or 65001",
-    );
-    command.arg(page)
+    let help = "Read texts of single bytes by this page: 1200, 1252, 28591 or 65001";
+    command.arg(option(alloc, "codepage", "N", help))
 }
 
-/// The forms of lines.
-fn with_forms<'a>(
+/// Lines as objects of JSON.
+fn with_json<'a>(
     alloc: Global,
     command: clap::Command<'a>,
 ) -> Result<clap::Command<'a>, AllocError> {
-    let json = flag(alloc, "json", "Write each line as an object of JSON");
+    command.arg(flag(alloc, "json", "Write each line as an object of JSON"))
+}
+
+/// The texts of `xls_dump`, which other options don't go together with.
+fn with_exact<'a>(
+    alloc: Global,
+    command: clap::Command<'a>,
+    others: &'static [&'static str],
+) -> Result<clap::Command<'a>, AllocError> {
     let exact = flag(
         alloc,
         "exact",
         "Write numbers by their bits, as xls_dump does",
-    )
-    .conflicts_with("json")?;
-    command.arg(json)?.arg(exact)
+    );
+    command.arg(without(exact, others)?)
+}
+
+/// Which sheet is written, by its number.
+fn with_number<'a>(
+    alloc: Global,
+    command: clap::Command<'a>,
+) -> Result<clap::Command<'a>, AllocError> {
+    let number = option(alloc, "number", "N", "The sheet of this number, from 1");
+    let number = number.value_parser(value_parser!(u32).range(1..));
+    command.arg(without(number, &["sheet"])?)
+}
+
+/// Which sheets are written.
+fn with_choice<'a>(
+    alloc: Global,
+    command: clap::Command<'a>,
+) -> Result<clap::Command<'a>, AllocError> {
+    let command = command.arg(option(alloc, "sheet", "NAME", "The last sheet of this name"))?;
+    let command = with_number(alloc, command)?;
+    let all = flag(alloc, "all", "Each worksheet and macro sheet; wants --out");
+    command.arg(without(all, &["sheet", "number"])?)
+}
+
+/// How rows are written.
+fn with_rows<'a>(
+    alloc: Global,
+    command: clap::Command<'a>,
+) -> Result<clap::Command<'a>, AllocError> {
+    let help = "The character between fields, in place of a comma; tab for a tab";
+    let command = command.arg(option(alloc, "delimiter", "C", help))?;
+    command.arg(flag(
+        alloc,
+        "bom",
+        "Begin with a byte order mark, as Excel wants it",
+    ))
 }
 
 /// The options of CSV.
@@ -108,34 +156,16 @@ fn with_table<'a>(
     alloc: Global,
     command: clap::Command<'a>,
 ) -> Result<clap::Command<'a>, AllocError> {
-    let sheet = option(alloc, "sheet", "NAME", "The last sheet of this name");
-    let number = option(alloc, "number", "N", "The sheet of this number, from 1")
-        .value_parser(value_parser!(u32).range(1..))
-        .conflicts_with("sheet")?;
-    let all = flag(alloc, "all", "Each worksheet and macro sheet; wants --out")
-        .conflicts_with("sheet")?
-        .conflicts_with("number")?;
-    let delimiter = option(
-        alloc,
-        "delimiter",
-        "C",
-        "The character between fields, in place of a comma; tab for a tab",
-    );
-    let mark = flag(
-        alloc,
-        "bom",
-        "Begin with a byte order mark, as Excel wants it",
-    );
-    let exact = flag(alloc, "exact", "Write the fields that xls_dump writes")
-        .conflicts_with("delimiter")?
-        .conflicts_with("bom")?;
-    command
-        .arg(sheet)?
-        .arg(number)?
-        .arg(all)?
-        .arg(delimiter)?
-        .arg(mark)?
-        .arg(exact)
+    let command = with_rows(alloc, with_choice(alloc, command)?)?;
+    with_exact(alloc, command, &["delimiter", "bom"])
+}
+
+/// The forms of lines.
+fn with_forms<'a>(
+    alloc: Global,
+    command: clap::Command<'a>,
+) -> Result<clap::Command<'a>, AllocError> {
+    with_exact(alloc, with_json(alloc, command)?, &["json"])
 }
 
 /// The path of a stream.
@@ -143,10 +173,8 @@ fn with_path<'a>(
     alloc: Global,
     command: clap::Command<'a>,
 ) -> Result<clap::Command<'a>, AllocError> {
-    let path = Arg::new(alloc, "NAME")
-        .action(ArgAction::Set)
-        .help("The path of a stream, its names separated by /");
-    command.arg(path)
+    let path = Arg::new(alloc, "NAME").action(ArgAction::Set);
+    command.arg(path.help("The path of a stream, its names separated by /"))
 }
 
 /// How the words of a command are read.
@@ -158,13 +186,11 @@ fn grammar_of<'a>(
 ) -> Result<clap::Command<'a>, AllocError> {
     let command = clap::Command::new(alloc, title).about(about);
     match word {
-        Word::Dump | Word::Sheets | Word::Refs => with_page(
-            alloc,
-            with_forms(alloc, with_many(alloc, command)?)?,
-        ),
+        Word::Dump | Word::Sheets | Word::Refs => {
+            with_page(alloc, with_forms(alloc, with_many(alloc, command)?)?)
+        }
         Word::Check | Word::Formulas => {
-            let json = flag(alloc, "json", "Write each line as an object of JSON");
-            with_page(alloc, with_many(alloc, command)?.arg(json)?)
+            with_page(alloc, with_json(alloc, with_many(alloc, command)?)?)
         }
         Word::Csv => with_page(alloc, with_table(alloc, with_many(alloc, command)?)?),
         Word::Props | Word::Vba => with_many(alloc, command),
