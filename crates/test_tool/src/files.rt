@@ -18,8 +18,8 @@ const NUMBER: [u8; 18] = [
 ];
 
 // A Label of `a;b` at (1, 2).
-const LABEL: [u8; 15] = [
-    0x04, 0x02, 11, 0, 1, 0, 2, 0, 0, 0, 3, 0, 0x61, 0x3B, 0x62,
+const LABEL: [u8; 16] = [
+    0x04, 0x02, 12, 0, 1, 0, 2, 0, 0, 0, 3, 0, 0, 0x61, 0x3B, 0x62,
 ];
 
 // A BoundSheet8 whose part begins beyond the end.

@@ -66,16 +66,25 @@ fn below<'p>(path: &'p str, folder: &str) -> Option<&'p str> {
 
 /// What a path from a folder on says of the folder.
 fn listed(alloc: Global, rest: &str) -> Result<Listed, AllocError> {
-    match rest.split_once('/') {
-        Some((folder, _)) => Ok(Listed {
-            name: Some(String::from_str(alloc, folder)?),
-            is_folder: true,
-        }),
-        None => Ok(Listed {
-            name: Some(String::from_str(alloc, rest)?),
-            is_folder: false,
-        }),
+    let (name, is_folder) = match rest.split_once('/') {
+        Some((folder, _)) => (folder, true),
+        None => (rest, false),
+    };
+    Ok(Listed {
+        name: Some(String::from_str(alloc, name)?),
+        is_folder,
+    })
+}
+
+/// What stands in a folder; a folder in it once for each file below that.
+fn list_of(alloc: Global, folder: &str) -> Result<Vec<Listed>, AllocError> {
+    let mut all = Vec::new(alloc);
+    for (file, _) in FILES.iter() {
+        if let Some(rest) = below(file, folder) {
+            all.push(listed(alloc, rest)?)?;
+        }
     }
+    Ok(all)
 }
 
 impl MemoryHost {
@@ -93,7 +102,8 @@ impl MemoryHost {
     fn keep(&mut self, file: &MemoryFile) -> Result<(), AllocError> {
         self.written.push_str(file.path.as_str())?;
         self.written.push('=')?;
-        self.written.push_str(String::from_utf8_lossy(self.alloc, &file.text)?.as_str())?;
+        self.written
+            .push_str(String::from_utf8_lossy(self.alloc, &file.text)?.as_str())?;
         Ok(())
     }
 
@@ -122,13 +132,7 @@ impl Host for MemoryHost {
     }
 
     fn list(&mut self, folder: &str) -> Result<Vec<Listed>, Reason> {
-        let mut all = Vec::new(self.alloc);
-        for (file, _) in FILES.iter() {
-            if let Some(rest) = below(file, folder) {
-                all.push(listed(self.alloc, rest)?)?;
-            }
-        }
-        Ok(all)
+        Ok(list_of(self.alloc, folder)?)
     }
 
     fn read(&mut self, path: &str) -> Result<Vec<u8>, Reason> {

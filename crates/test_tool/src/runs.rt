@@ -23,14 +23,21 @@ type Run = (
     &'static str,
 );
 
-const DUMP: &str = "dates\t1900\nsheet\tA\tworksheet\tvisible\ncell\t0\t0\tfloat\t4.5\nsheet\tB/\tworksheet\thidden\ncell\t1\t2\ttext\ta;b\n";
+const DUMP: &str =
+    "dates\t1900\nsheet\tA\tworksheet\tvisible\ncell\t0\t0\tfloat\t4.5\nsheet\tB/\tworksheet\thidden\ncell\t1\t2\ttext\ta;b\n";
 
 const SHEETS: &str = "sheet\tA\tworksheet\tvisible\nsheet\tB/\tworksheet\thidden\n";
 
 static RUNS: [Run; 37] = [
     // One file.
     (&["a.xls"], 0, DUMP, "", ""),
-    (&["dump", "./a.xls"], 10, "", "xls: ./a.xls: not found\n", ""),
+    (
+        &["dump", "./a.xls"],
+        10,
+        "",
+        "xls: ./a.xls: not found\n",
+        "",
+    ),
     (
         &["--exact", "a.xls"],
         0,
@@ -50,7 +57,13 @@ static RUNS: [Run; 37] = [
     (&["refs", "a.xls"], 0, "", "", ""),
     (&["check", "a.xls"], 0, "ok\n", "", ""),
     (&["csv", "a.xls"], 0, "4.5\n", "", ""),
-    (&["csv", "--exact", "a.xls"], 0, "0x4012000000000000\n", "", ""),
+    (
+        &["csv", "--exact", "a.xls"],
+        0,
+        "0x4012000000000000\n",
+        "",
+        "",
+    ),
     (&["csv", "--number", "2", "a.xls"], 0, "a;b\n", "", ""),
     (
         &["csv", "--sheet", "B/", "--delimiter", ";", "--bom", "a.xls"],
@@ -207,14 +220,14 @@ static RUNS: [Run; 37] = [
         &["csv", "a.xls", "d"],
         2,
         "",
-        "xls: many files want --out DIR (but for check)\n",
+        "error: many files want --out DIR (but for check)\n",
         "",
     ),
     (
         &["csv", "--all", "a.xls"],
         2,
         "",
-        "xls: --all wants --out DIR\n",
+        "error: --all wants --out DIR\n",
         "",
     ),
     (&["--version"], 0, "xls 0.45.0\n", "", ""),
@@ -242,25 +255,27 @@ fn outcome(alloc: Global, words: &[&str], room: usize) -> Result<Told, AllocErro
     })
 }
 
-/// Whether a run is as it is told.
-fn is_so(alloc: Global, run: &Run) -> Result<bool, AllocError> {
-    let (words, status, text, said, written) = run;
+/// What a run did, as one text: its status, what it wrote, what it told and which files it wrote.
+fn told_of(alloc: Global, words: &[&str]) -> Result<String, AllocError> {
     let told = outcome(alloc, words, 4096)?;
-    Ok(told.status == *status
-        && told.text.as_slice() == text.as_bytes()
-        && told.host.said.as_str() == *said
-        && told.host.written.as_str() == *written)
+    let text = String::from_utf8_lossy(alloc, &told.text)?;
+    format!(in alloc;
+        "{}|{text}|{}|{}",
+        told.status, told.host.said, told.host.written
+    )
 }
 
-fn check(rt: &impl Abort, alloc: Global, at: usize, run: &Run) -> Result<(), Fail> {
-    assert!(rt; is_so(alloc, run)?, "run {at}");
+fn check(rt: &impl Abort, alloc: Global, run: &Run) -> Result<(), Fail> {
+    let (words, status, text, said, written) = run;
+    let wanted = format!(in alloc; "{status}|{text}|{said}|{written}")?;
+    assert_eq!(rt; told_of(alloc, words)?.as_str(), wanted.as_str());
     Ok(())
 }
 
 #[test]
 fn does_what_the_words_ask_for(rt: HostRuntime) -> Result<(), Fail> {
-    for at in 0..RUNS.len() {
-        check(&rt, rt.alloc(), at, &RUNS[at])?;
+    for run in RUNS.iter() {
+        check(&rt, rt.alloc(), run)?;
     }
     Ok(())
 }

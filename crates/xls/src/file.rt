@@ -1,5 +1,7 @@
 //! Files that are written.
 
+ghost use Rattle.std.specs.Prelude.{◌≡◌};
+
 use crate::reason::reason_of;
 use std::alloc::AllocError;
 use std::fs::{File, OpenOptions};
@@ -70,7 +72,9 @@ impl<'r> OutFile<'r> {
     }
 
     /// Writes the first bytes of a piece, into the file that is made by the first of them.
-    fn write_piece(&mut self, piece: &[u8]) -> io::Result<usize> {
+    fn write_piece(&mut self, piece: &[u8]) -> io::Result<usize>
+        ensures { self.new.faults ≡ self.old.faults }
+    {
         if let Some(file) = &mut self.file {
             return write_on(file, piece);
         }

@@ -5,6 +5,7 @@
 mod host;
 mod job;
 mod many;
+mod notes;
 mod one;
 mod paths;
 mod problem;

@@ -5,6 +5,7 @@ ghost use Rattle.xls_words.specs.Requests as requests;
 
 use crate::host::{Host, Name, Reason};
 use crate::job::Job;
+use crate::notes::tell_formats;
 use crate::problem::Problem;
 use crate::queue::{Next, Queue};
 use crate::sheets::write_files;
@@ -40,6 +41,23 @@ fn read<H: Host>(host: &mut H, path: &str) -> Result<Vec<u8>, Problem> {
     }
 }
 
+/// Writes the text of a file's bytes to the sink, or into files below the folder, if there is one.
+fn write_bytes<H: Host, K: Sink>(
+    alloc: Global,
+    host: &mut H,
+    sink: &mut K,
+    job: &Job<'_>,
+    path: &str,
+    file: &[u8],
+) -> Result<(), Problem>
+    requires { requests.HasNumber job.now.request.command }
+{
+    match job.request.out {
+        Some(out) => write_files(alloc, host, job, out, path, file),
+        None => write_text(alloc, sink, job, file),
+    }
+}
+
 /// Does the work of a file: its text goes to the sink, or into files below the folder, if there is one.
 pub(crate) fn do_file<H: Host, K: Sink>(
     alloc: Global,
@@ -51,10 +69,8 @@ pub(crate) fn do_file<H: Host, K: Sink>(
     requires { requests.HasNumber job.now.request.command }
 {
     let bytes = read(host, path)?;
-    match job.request.out {
-        Some(out) => write_files(alloc, host, job, out, path, bytes.as_slice()),
-        None => write_text(alloc, sink, job, bytes.as_slice()),
-    }
+    write_bytes(alloc, host, sink, job, path, bytes.as_slice())?;
+    tell_formats(alloc, host, &job.request.command, path, bytes.as_slice())
 }
 
 /// That a name isn't UTF-8.
