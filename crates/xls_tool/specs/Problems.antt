@@ -1,5 +1,5 @@
 -- The exit status of each problem, and how many files are told of it.
-use Rattle.std.specs.Prelude.{ℕ, ◌==◌, Bool, ◌||◌, if◌then◌else◌}
+use Rattle.std.specs.Prelude.{◌≡◌, ◌⊎◌, ℕ, ◌==◌, Bool, true, ◌||◌, if◌then◌else◌}
 use Rattle.xls_answers.specs.Failures as failures
 use Rattle.xls_answers.specs.declared.failure.Failure.TheVariants.{Stopped}
 use Rattle.xls_documents.specs.declared.fault.ProjectFault.{ProjectFault}
@@ -39,3 +39,11 @@ problem_of_project (faults.File f) = problems.Failure (failures.failure_of_fault
 problem_of_project faults.Memory = problems.Failure (Stopped stop.Memory)
 problem_of_project (faults.Compression e) = problems.Project (faults.Compression e)
 problem_of_project (faults.Directory e) = problems.Project (faults.Directory e)
+
+-- the statuses of files: all but that of wrong words
+abbrev pub IsStatus : ℕ → Type 0
+IsStatus n = ((n == 0) || ((n == 1) || ((n == 4) || ((n == 5) || ((n == 16) || is_unread n))))) ≡ true
+
+-- such a status; or that of wrong words, where nothing was written
+abbrev pub Ends : {K : Type 0} → K → K → ℕ → Type 0
+Ends before after n = ((n ≡ 2) × (after ≡ before)) ⊎ IsStatus n

@@ -39,7 +39,10 @@ fn form_of(style: Style) -> Form {
 /// Whether texts are as `xls_dump` has them.
 fn is_exact(command: &Command<'_>) -> bool {
     match command {
-        Command::Dump(style) | Command::Refs(style) => *style == Style::Exact,
+        Command::Dump(style)
+        | Command::Sheets(style)
+        | Command::Formulas(style)
+        | Command::Refs(style) => *style == Style::Exact,
         Command::Csv(table) => table.style == Style::Exact,
         _ => false,
     }

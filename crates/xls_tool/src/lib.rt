@@ -2,10 +2,10 @@
 //! one file or many, where texts go, and the exit status.
 #![tactic(auto)]
 
+mod formats;
 mod host;
 mod job;
 mod many;
-mod notes;
 mod one;
 mod paths;
 mod problem;

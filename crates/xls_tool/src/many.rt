@@ -1,11 +1,12 @@
 //! Many files, one after another.
 
-ghost use Rattle.std.specs.Prelude.{◌≡◌, None};
+ghost use Rattle.std.specs.Prelude.{◌≡◌, IfOk, None};
+ghost use Rattle.xls_tool.specs.Problems.{IsStatus};
 ghost use Rattle.xls_words.specs.Requests as requests;
 
+use crate::formats::tell_formats;
 use crate::host::{Host, Name, Reason};
 use crate::job::Job;
-use crate::notes::tell_formats;
 use crate::problem::Problem;
 use crate::queue::{Next, Queue};
 use crate::sheets::write_files;
@@ -41,23 +42,6 @@ fn read<H: Host>(host: &mut H, path: &str) -> Result<Vec<u8>, Problem> {
     }
 }
 
-/// Writes the text of a file's bytes to the sink, or into files below the folder, if there is one.
-fn write_bytes<H: Host, K: Sink>(
-    alloc: Global,
-    host: &mut H,
-    sink: &mut K,
-    job: &Job<'_>,
-    path: &str,
-    file: &[u8],
-) -> Result<(), Problem>
-    requires { requests.HasNumber job.now.request.command }
-{
-    match job.request.out {
-        Some(out) => write_files(alloc, host, job, out, path, file),
-        None => write_text(alloc, sink, job, file),
-    }
-}
-
 /// Does the work of a file: its text goes to the sink, or into files below the folder, if there is one.
 pub(crate) fn do_file<H: Host, K: Sink>(
     alloc: Global,
@@ -69,8 +53,11 @@ pub(crate) fn do_file<H: Host, K: Sink>(
     requires { requests.HasNumber job.now.request.command }
 {
     let bytes = read(host, path)?;
-    write_bytes(alloc, host, sink, job, path, bytes.as_slice())?;
-    tell_formats(alloc, host, &job.request.command, path, bytes.as_slice())
+    match job.request.out {
+        Some(out) => write_files(alloc, host, job, out, path, bytes.as_slice())?,
+        None => write_text(alloc, sink, job, bytes.as_slice())?,
+    }
+    tell_formats(alloc, host, job, path, bytes.as_slice())
 }
 
 /// That a name isn't UTF-8.
@@ -198,14 +185,15 @@ pub(crate) fn do_many<H: Host, K: Sink>(
     paths: &[&str],
 ) -> Result<u8, Stop>
     requires { requests.HasNumber job.now.request.command }
+    ensures { IfOk result IsStatus }
 {
     let all = shown_count(alloc, host, paths)?;
     let mut queue = queue_of(alloc, paths)?;
     let mut counts = Counts::new();
     do_queue(alloc, host, out, job, &mut counts, &mut queue, all)?;
     host.show("");
-    write_counts(alloc, out, job.form(), counts)?;
-    Ok(counts.status)
+    write_counts(alloc, out, job.form(), &counts)?;
+    Ok(counts.status())
 }
 
 /// Does the work of the files of a list's name.
@@ -268,10 +256,11 @@ pub(crate) fn do_list<H: Host, K: Sink>(
     by_nul: bool,
 ) -> Result<u8, Stop>
     requires { requests.HasNumber job.now.request.command }
+    ensures { IfOk result IsStatus }
 {
     let mut counts = Counts::new();
     do_names(alloc, host, out, job, &mut counts, list, by_nul)?;
-    let line = counts_line(alloc, job.form(), counts)?;
+    let line = counts_line(alloc, job.form(), &counts)?;
     host.say(line.trim_end());
-    Ok(counts.status)
+    Ok(counts.status())
 }

@@ -1,5 +1,7 @@
 //! One file by itself.
 
+ghost use Rattle.std.specs.Prelude.{◌≡◌, IfOk};
+ghost use Rattle.xls_tool.specs.Problems.{IsStatus};
 ghost use Rattle.xls_words.specs.Requests as requests;
 
 use crate::host::{Host, Place, Reason};
@@ -41,6 +43,7 @@ pub(crate) fn do_one<H: Host, K: Sink>(
     place: Result<Place, Reason>,
 ) -> Result<u8, Stop>
     requires { requests.HasNumber job.now.request.command }
+    ensures { IfOk result IsStatus }
 {
     match do_placed(alloc, host, out, job, path, place) {
         Ok(()) => Ok(0),

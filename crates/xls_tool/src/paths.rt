@@ -1,26 +1,60 @@
 //! Where the texts of files are written.
 
+ghost use Rattle.std.specs.Prelude.{◌≡◌, ◌++◌, ◌↔◌, map, IsTrue, IfOk, OnOk};
+ghost use Rattle.std.specs.Option.{option_map};
+ghost use Rattle.std.specs.String.{string_bytes};
+ghost use Rattle.xls_tool.specs.Paths.{IsInside, IsWorkbookName, below, file_called, folder_path, kept_name, names_in};
+
 use std::alloc::{AllocError, Global};
 
-/// A part of a file's path as a part of an output's: nothing leads out of the folder.
-fn kept_part(part: &str) -> Option<&str> {
-    match part {
-        "" | "." => None,
-        ".." => Some("__"),
-        part => Some(part),
+/// A name of a file's path in an output's: nothing leads out of the folder.
+fn kept_name(name: &str) -> Option<&str>
+    ensures { option_map (λ n. n.now) result ≡ kept_name name.now }
+{
+    if name == "" || name == "." {
+        None
+    } else if name == ".." {
+        Some("__")
+    } else {
+        Some(name)
     }
+}
+
+/// Appends a name of a file's path.
+fn push_name(path: &mut String, name: &str) -> Result<(), AllocError>
+    ensures { OnOk result (string_bytes path.new ≡ string_bytes path.old ++ below (kept_name name.now)) }
+{
+    if let Some(name) = kept_name(name) {
+        path.push('/')?;
+        path.push_str(name)?;
+    }
+    Ok(())
+}
+
+/// The names of a path, which slashes separate.
+pub(crate) fn names_of(alloc: Global, path: &str) -> Result<Vec<&str>, AllocError>
+    ensures { IfOk result (λ names. map (λ n. n.now) names.items ≡ names_in path.now) }
+{
+    path.split('/').collect(alloc)
+}
+
+/// What a file is called; standard input is `stdin`.
+fn called(file: &str) -> &str
+    ensures { result.now ≡ file_called file.now }
+{
+    if file == "-" { "stdin" } else { file }
 }
 
 /// The folder for the texts of a file: the folder for all, and in it the file's own path, without the slashes
 /// before it, `.` left out and `..` as `__`. Standard input is `stdin`.
-pub(crate) fn folder_of(alloc: Global, out: &str, file: &str) -> Result<String, AllocError> {
+pub(crate) fn folder_of(alloc: Global, out: &str, file: &str) -> Result<String, AllocError>
+    ensures path { IfOk result (λ s. string_bytes s ≡ folder_path out.now file.now) }
+    ensures inside { IfOk result (λ s. IsInside out.now (string_bytes s)) }
+{
     let mut path = String::from_str(alloc, out)?;
-    let file = if file == "-" { "stdin" } else { file };
-    for part in file.split('/') {
-        if let Some(part) = kept_part(part) {
-            path.push('/')?;
-            path.push_str(part)?;
-        }
+    let names = names_of(alloc, called(file))?;
+    for name in names.iter() {
+        push_name(&mut path, name)?;
     }
     Ok(path)
 }
@@ -51,14 +85,13 @@ pub(crate) fn joined(alloc: Global, folder: &str, name: &str) -> Result<String, 
 }
 
 /// Whether a name is that of a workbook.
-pub(crate) fn is_workbook(name: &str) -> bool {
-    match name.rsplit_once('.') {
-        Some((_, ending)) => {
-            ending.eq_ignore_ascii_case("xls")
-                || ending.eq_ignore_ascii_case("xlt")
-                || ending.eq_ignore_ascii_case("xla")
-                || ending.eq_ignore_ascii_case("xlw")
-        }
-        None => false,
-    }
+pub(crate) fn is_workbook(name: &str) -> bool
+    ensures { IsTrue result ↔ IsWorkbookName name.now }
+{
+    let bytes = name.as_bytes();
+    let ending = &bytes[bytes.len().saturating_sub(4)..];
+    ending.eq_ignore_ascii_case(b".xls")
+        || ending.eq_ignore_ascii_case(b".xlt")
+        || ending.eq_ignore_ascii_case(b".xla")
+        || ending.eq_ignore_ascii_case(b".xlw")
 }

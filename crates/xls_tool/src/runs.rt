@@ -1,6 +1,7 @@
 //! The top call of the program.
 
-ghost use Rattle.std.specs.Prelude.{◌≡◌, IfOk};
+ghost use Rattle.std.specs.Prelude.{◌≡◌, IfOk, MatchResult};
+ghost use Rattle.xls_tool.specs.Problems.{Ends, IsStatus};
 ghost use Rattle.xls_words.specs.Requests as requests;
 
 use crate::host::{Host, Place, place_of};
@@ -33,6 +34,7 @@ fn do_path<H: Host, K: Sink>(
     path: &str,
 ) -> Result<u8, Stop>
     requires { requests.HasNumber job.now.request.command }
+    ensures { IfOk result (Ends out.old out.new) }
 {
     let place = place_of(host, path);
     let is_many = matches!(place, Ok(Place::Folder)) && takes_many(&job.request.command);
@@ -55,6 +57,7 @@ fn do_paths<H: Host, K: Sink>(
     paths: &[&str],
 ) -> Result<u8, Stop>
     requires { requests.HasNumber job.now.request.command }
+    ensures { IfOk result (Ends out.old out.new) }
 {
     if let [path] = paths {
         return do_path(alloc, host, out, job, path);
@@ -76,6 +79,7 @@ fn do_listed<H: Host, K: Sink>(
     by_nul: bool,
 ) -> Result<u8, Stop>
     requires { requests.HasNumber job.now.request.command }
+    ensures { IfOk result (Ends out.old out.new) }
 {
     if let Some(mistake) = mistake_in(job, true) {
         host.say(mistake);
@@ -92,6 +96,7 @@ fn do_request<H: Host, K: Sink>(
     request: Request<'_>,
 ) -> Result<u8, Stop>
     requires { requests.HasNumber request.command }
+    ensures { IfOk result (Ends out.old out.new) }
 {
     let job = job_of(alloc, request)?;
     match &job.request.files {
@@ -106,7 +111,9 @@ fn do_shown<H: Host, K: Sink>(
     host: &mut H,
     out: &mut K,
     shown: &clap::Error,
-) -> Result<u8, Stop> {
+) -> Result<u8, Stop>
+    ensures { IfOk result (Ends out.old out.new) }
+{
     if shown.kind() == ErrorKind::OutOfMemory {
         return Err(Stop::Memory);
     }
@@ -120,7 +127,9 @@ fn do_shown<H: Host, K: Sink>(
 }
 
 /// The exit status of work that was stopped, which is told.
-fn status_of<H: Host>(host: &mut H, done: Result<u8, Stop>) -> u8 {
+fn status_of<H: Host>(host: &mut H, done: Result<u8, Stop>) -> u8
+    ensures { MatchResult done (λ n. result ≡ n) (λ _. IsStatus result) }
+{
     match done {
         Ok(status) => status,
         Err(Stop::Memory) => {
@@ -136,7 +145,10 @@ fn status_of<H: Host>(host: &mut H, done: Result<u8, Stop>) -> u8 {
 
 /// Does what the words of the command line ask for, which stand behind the program's name, and answers the exit
 /// status. Texts go to `out`, or into files of the host; what is wrong is told on the host's standard error.
-pub fn run<H: Host, K: Sink>(alloc: Global, host: &mut H, out: &mut K, words: &[String]) -> u8 {
+pub fn run<H: Host, K: Sink>(alloc: Global, host: &mut H, out: &mut K, words: &[String]) -> u8
+    // 2 comes only where nothing is written to `out`. Each other status is that of a file, or of what is written.
+    ensures { Ends out.old out.new result }
+{
     let done = match request_of(alloc, words) {
         Ok(request) => do_request(alloc, host, out, request),
         Err(shown) => do_shown(alloc, host, out, &shown),

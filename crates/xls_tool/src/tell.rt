@@ -1,18 +1,33 @@
 //! The lines that tell of many files.
 
+ghost use Rattle.std.specs.Prelude.{◌≡◌, max};
+ghost use Rattle.xls_tool.specs.Problems.{IsStatus};
+
 use crate::problem::{Outcome, Problem};
 use std::alloc::{AllocError, Global};
+use std::marker::Model;
 use xls_lines::{Sink, Stop, write_all};
 use xls_readable::{Field, Form, Member, push_line};
 
-/// How many files went how, and the greatest exit status of theirs.
-#[derive(Clone, Copy, Debug, PartialEq, Eq)]
+/// How many files went how, and the greatest exit status of theirs. Contracts see the status.
+#[derive(Drop)]
 pub(crate) struct Counts {
     ok: u64,
     refused: u64,
     unread: u64,
     failed: u64,
-    pub(crate) status: u8,
+    status: u8,
+}
+
+impl Model for Counts {
+    ghost use Rattle.std.specs.Prelude.{ℕ};
+    ghost use Rattle.xls_tool.specs.Problems.{IsStatus};
+
+    ghost Value = { ℕ };
+
+    ghost view = { λ counts. counts.status };
+
+    ghost invariant = { λ counts. IsStatus counts.status };
 }
 
 /// The word for how it went with a file.
@@ -27,7 +42,9 @@ fn word_of(outcome: Outcome) -> &'static str {
 
 impl Counts {
     /// No file.
-    pub(crate) fn new() -> Counts {
+    pub(crate) fn new() -> Counts
+        ensures { result ≡ 0 }
+    {
         Counts {
             ok: 0,
             refused: 0,
@@ -38,15 +55,27 @@ impl Counts {
     }
 
     /// One file more.
-    pub(crate) fn count(&mut self, outcome: Outcome, status: u8) {
-        let count = match outcome {
-            Outcome::Ok => &mut self.ok,
-            Outcome::Refused => &mut self.refused,
-            Outcome::Unread => &mut self.unread,
-            Outcome::Failed => &mut self.failed,
-        };
-        *count = count.saturating_add(1);
-        self.status = self.status.max(status);
+    fn count(&mut self, outcome: Outcome, status: u8)
+        requires { IsStatus status }
+        ensures { self.new ≡ max self.old status }
+    {
+        match outcome {
+            Outcome::Ok => self.ok = self.ok.saturating_add(1),
+            Outcome::Refused => self.refused = self.refused.saturating_add(1),
+            Outcome::Unread => self.unread = self.unread.saturating_add(1),
+            Outcome::Failed => self.failed = self.failed.saturating_add(1),
+        }
+        if self.status < status {
+            self.status = status;
+        }
+    }
+
+    /// The greatest exit status.
+    pub(crate) fn status(&self) -> u8
+        ensures exact { result ≡ self.now }
+        ensures status { IsStatus result }
+    {
+        self.status
     }
 
     /// How many files there were.
@@ -152,7 +181,7 @@ pub(crate) fn tell<K: Sink>(
 }
 
 /// The counts as a line of JSON.
-fn counts_json(alloc: Global, counts: Counts) -> Result<String, AllocError> {
+fn counts_json(alloc: Global, counts: &Counts) -> Result<String, AllocError> {
     let members = [
         count("count", counts.all()),
         count("ok", counts.ok),
@@ -164,7 +193,7 @@ fn counts_json(alloc: Global, counts: Counts) -> Result<String, AllocError> {
 }
 
 /// The counts as a line of text.
-fn counts_text(alloc: Global, counts: Counts) -> Result<String, AllocError> {
+fn counts_text(alloc: Global, counts: &Counts) -> Result<String, AllocError> {
     format!(in alloc;
         "files\t{}\t{} ok\t{} refused\t{} unread\t{} failed\n",
         counts.all(),
@@ -176,7 +205,11 @@ fn counts_text(alloc: Global, counts: Counts) -> Result<String, AllocError> {
 }
 
 /// The last line: how many files there were, and how it went with them.
-pub(crate) fn counts_line(alloc: Global, form: Form, counts: Counts) -> Result<String, AllocError> {
+pub(crate) fn counts_line(
+    alloc: Global,
+    form: Form,
+    counts: &Counts,
+) -> Result<String, AllocError> {
     match form {
         Form::Json => counts_json(alloc, counts),
         Form::Text => counts_text(alloc, counts),
@@ -188,7 +221,7 @@ pub(crate) fn write_counts<K: Sink>(
     alloc: Global,
     sink: &mut K,
     form: Form,
-    counts: Counts,
+    counts: &Counts,
 ) -> Result<(), Stop> {
     let line = counts_line(alloc, form, counts)?;
     write_all(sink, line.as_bytes())?;

@@ -3,8 +3,9 @@
 ghost use Rattle.xls_words.specs.Requests as requests;
 
 use crate::job::{Job, answer_of};
+use crate::paths::names_of;
 use crate::problem::{Absent, Problem};
-use std::alloc::{AllocError, Global};
+use std::alloc::Global;
 use xls_answers::write_file;
 use xls_compound::{Compound, Entry};
 use xls_container::{Container, FileFault};
@@ -12,11 +13,6 @@ use xls_documents::{project_of, properties_of, write_project, write_properties, 
 use xls_lines::{Sink, write_all};
 use xls_readable::Form;
 use xls_words::Command;
-
-/// The names of a path, which slashes separate.
-fn names_of(alloc: Global, path: &str) -> Result<Vec<&str>, AllocError> {
-    path.split('/').collect(alloc)
-}
 
 /// The stream of a path.
 fn stream_at<'c>(

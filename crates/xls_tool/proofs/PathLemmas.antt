@@ -1,0 +1,62 @@
+-- The folder for a file's texts lies inside the folder for all.
+use Rattle.std.proofs.Common.{◌≡◌, ◌≢◌, ℕ, ◌≤◌, Bool, true, false, List, [], ◌∷◌, ◌++◌, length, take, map, Bor, codes, refl, sym, ap, arith, rules}
+use Rattle.std.specs.Prelude.{◌==◌, ◌||◌, if◌then◌else◌, All, Option, None, Some, IfSome}
+use Rattle.std.specs.List.{AllByRecursion, flat_map, slice_split, onto_first}
+use Rattle.std.specs.Str.{bytes_eq}
+use Rattle.std.proofs.lemmas.List.{take_all}
+use Rattle.std.proofs.lemmas.List.Elements.{All-nil, All-cons}
+use Rattle.std.proofs.lemmas.List.Folds.{flat_map-map}
+use Rattle.std.proofs.lemmas.Slice.Eq.{bytes_eq-Decides}
+use Rattle.xls_tool.specs.Paths.{IsInside, LeadsDown, below, file_called, folder_path, kept_name, names_in}
+
+-- what the loop appended
+pub folder_whole : (out file path : List ℕ) (names : List (Bor (List ℕ))) (index : ℕ)
+    → map (λ n. n.now) names ≡ names_in (file_called file) → length names ≤ index
+    → path ≡ out ++ flat_map (λ n. below (kept_name n.now)) (take index names) → path ≡ folder_path out file
+folder_whole out file path names index e l h =
+    rw (h, take_all index names l, ← flat_map-map (λ name. below (kept_name name)) (λ (n : Bor (List ℕ)). n.now) names, e) refl
+
+-- no name of a path holds a slash
+abbrev HasNoSlash : List ℕ → Type 0
+HasNoSlash name = All (λ b. b ≢ 47) name
+
+onto : (b : ℕ) (parts : List (List ℕ)) → b ≢ 47 → AllByRecursion HasNoSlash parts → AllByRecursion HasNoSlash (onto_first b parts)
+onto b [] other all = (All-cons (λ c. c ≢ 47) b [] other (All-nil (λ c. c ≢ 47)), tt)
+onto b (part ∷ parts) other all = (All-cons (λ c. c ≢ 47) b part other all.0, all.1)
+
+names_without_slash : (path : List ℕ) → AllByRecursion HasNoSlash (names_in path)
+names_without_slash [] = (All-nil (λ c. c ≢ 47), tt)
+names_without_slash (b ∷ bs) = by_test (b == 47) refl (names_without_slash bs)
+  where
+    by_test : (t : Bool) → (b == 47) ≡ t → AllByRecursion HasNoSlash (names_in bs)
+        → AllByRecursion HasNoSlash (if t then [] ∷ names_in bs else onto_first b (names_in bs))
+    by_test true e all = (All-nil (λ c. c ≢ 47), all)
+    by_test false e all = onto b (names_in bs) (grind arith) all
+
+-- a name that is kept leads down
+kept_down : (name : List ℕ) → HasNoSlash name → IfSome (kept_name name) LeadsDown
+kept_down name free = by_tests (bytes_eq name []) (bytes_eq name (codes ".")) (bytes_eq name (codes "..")) refl refl refl
+  where
+    by_tests : (empty dot dots : Bool) → bytes_eq name [] ≡ empty → bytes_eq name (codes ".") ≡ dot → bytes_eq name (codes "..") ≡ dots
+        → IfSome (if empty || dot then None else if dots then Some (codes "__") else Some name) LeadsDown
+    by_tests true dot dots e f g = tt
+    by_tests false true dots e f g = tt
+    by_tests false false true e f g = search rules
+    by_tests false false false e f g = (search (rules, bytes_eq-Decides), search (rules, bytes_eq-Decides), search (rules, bytes_eq-Decides), free)
+
+-- all that is kept of names leads down
+kept_names : (parts : List (List ℕ)) → AllByRecursion HasNoSlash parts
+    → (names : List (List ℕ)) × All LeadsDown names × (flat_map (λ name. below (kept_name name)) parts ≡ flat_map (λ name. 47 ∷ name) names)
+kept_names [] all = ([], All-nil LeadsDown, refl)
+kept_names (part ∷ parts) all = by_kept (kept_name part) (kept_down part all.0) (kept_names parts all.1)
+  where
+    by_kept : (kept : Option (List ℕ)) → IfSome kept LeadsDown
+        → ((names : List (List ℕ)) × All LeadsDown names × (flat_map (λ name. below (kept_name name)) parts ≡ flat_map (λ name. 47 ∷ name) names))
+        → (names : List (List ℕ)) × All LeadsDown names × (below kept ++ flat_map (λ name. below (kept_name name)) parts ≡ flat_map (λ name. 47 ∷ name) names)
+    by_kept None down rest = rest
+    by_kept (Some name) down rest = (name ∷ rest.0, All-cons LeadsDown name rest.0 down rest.1, ap (λ t. (47 ∷ name) ++ t) rest.2)
+
+pub folder_inside : (out file : List ℕ) → IsInside out (folder_path out file)
+folder_inside out file =
+    let kept = kept_names (names_in (file_called file)) (names_without_slash (file_called file)) in
+    (kept.0, kept.1, ap (λ t. out ++ t) kept.2)

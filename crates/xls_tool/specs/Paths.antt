@@ -1,0 +1,48 @@
+-- Where the texts of files are written, and which files of a folder are workbooks.
+use Rattle.std.specs.Prelude.{◌≡◌, ◌≢◌, ◌⊎◌, ℕ, ◌-◌, ◌==◌, ◌||◌, if◌then◌else◌, List, [], ◌∷◌, ◌++◌, length, drop, map, codes, All, Option, None, Some}
+use Rattle.std.specs.Char.{to_ascii_lowercase}
+use Rattle.std.specs.List.{flat_map, slice_split}
+use Rattle.std.specs.Str.{bytes_eq}
+
+-- ---- the folder for a file's texts
+
+-- the names of a path, which slashes separate
+abbrev pub names_in : List ℕ → List (List ℕ)
+names_in path = slice_split (λ b. b == 47) path
+
+-- what becomes of a name: an empty one and `.` are left out, and `..` leads nowhere
+abbrev pub kept_name : List ℕ → Option (List ℕ)
+kept_name name =
+    if bytes_eq name [] || bytes_eq name (codes ".") then None
+    else if bytes_eq name (codes "..") then Some (codes "__") else Some name
+
+-- it stands after a slash
+abbrev pub below : Option (List ℕ) → List ℕ
+below None = []
+below (Some name) = 47 ∷ name
+
+-- what a file is called; `-` is standard input
+abbrev pub file_called : List ℕ → List ℕ
+file_called file = if bytes_eq file (codes "-") then codes "stdin" else file
+
+-- the folder for all, and below it the names of the file
+abbrev pub folder_path : List ℕ → List ℕ → List ℕ
+folder_path out file = out ++ flat_map (λ name. below (kept_name name)) (names_in (file_called file))
+
+-- a name that leads neither out of a folder nor to the folder itself
+abbrev pub LeadsDown : List ℕ → Type 0
+LeadsDown name = (name ≢ []) × (name ≢ codes ".") × (name ≢ codes "..") × All (λ b. b ≢ 47) name
+
+-- a path that such names lead to
+abbrev pub IsInside : List ℕ → List ℕ → Type 0
+IsInside out path = (names : List (List ℕ)) × All LeadsDown names × (path ≡ out ++ flat_map (λ name. 47 ∷ name) names)
+
+-- ---- workbooks
+
+-- the endings of the names of workbooks
+abbrev pub IsEnding : List ℕ → Type 0
+IsEnding ending = (ending ≡ codes ".xls") ⊎ ((ending ≡ codes ".xlt") ⊎ ((ending ≡ codes ".xla") ⊎ (ending ≡ codes ".xlw")))
+
+-- a name ends so, in any case
+abbrev pub IsWorkbookName : List ℕ → Type 0
+IsWorkbookName name = IsEnding (map to_ascii_lowercase (drop (length name - 4) name))

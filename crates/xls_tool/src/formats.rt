@@ -1,0 +1,38 @@
+//! Number formats of a workbook's own that don't count.
+
+use crate::host::Host;
+use crate::job::Job;
+use crate::problem::Problem;
+use crate::say::say_of;
+use std::alloc::Global;
+use xls_container::Container;
+use xls_formats::uncounted_formats;
+use xls_words::Command;
+
+/// Whether a command writes values, which formats make dates and durations.
+fn writes_values(command: &Command<'_>) -> bool {
+    matches!(command, Command::Dump(_) | Command::Csv(_))
+}
+
+/// Tells of the formats in a file's workbook that don't count, where its values were written.
+pub(crate) fn tell_formats<H: Host>(
+    alloc: Global,
+    host: &mut H,
+    job: &Job<'_>,
+    path: &str,
+    file: &[u8],
+) -> Result<(), Problem> {
+    if !writes_values(&job.request.command) {
+        return Ok(());
+    }
+    let container = Container::open(alloc, file)?;
+    let stream = container.workbook(alloc)?;
+    if let Some(found) = uncounted_formats(alloc, stream.as_slice())? {
+        let text = format!(in alloc;
+            "formats of its own that don't count: {}; cells that have one: {}",
+            found.formats, found.cells
+        )?;
+        say_of(alloc, host, path, text.as_str())?;
+    }
+    Ok(())
+}
