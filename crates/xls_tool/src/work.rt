@@ -1,6 +1,7 @@
 //! What is written of one file.
 
 ghost use Rattle.xls_words.specs.Requests as requests;
+ghost use Rattle.xls_tool.specs.Texts.{OfText, answer_of};
 
 use crate::job::{Job, answer_of};
 use crate::paths::names_of;
@@ -102,6 +103,8 @@ pub(crate) fn write_text<K: Sink>(
     file: &[u8],
 ) -> Result<(), Problem>
     requires { requests.HasNumber job.now.request.command }
+    ensures { OfText (answer_of job.now.request.command) job.now.options file.now
+        (K.state sink.old) (K.state sink.new) result }
 {
     if let Some(answer) = answer_of(&job.request.command) {
         return Ok(write_file(alloc, sink, &answer, &job.options, file)?);
