@@ -10,17 +10,21 @@ pub struct MemoryFile {
     path: String,
     text: Vec<u8>,
     writes_over: bool,
+    faults: u64,
 }
 
 impl Sink for MemoryFile {
     ghost use Rattle.std.specs.Prelude.{None};
 
-    ghost state = { λ _. record { written = None; faults = 0; takes = λ _. ⊥ } };
+    ghost state = { λ s. record { written = None; faults = s.faults; takes = λ _. ⊥ } };
 
     fn write(&mut self, piece: &[u8]) -> Result<usize, WriteFault> {
         match self.text.extend_from_slice(piece) {
             Ok(()) => Ok(piece.len()),
-            Err(_) => Err(WriteFault),
+            Err(_) => {
+                self.faults = self.faults.saturating_add(1);
+                Err(WriteFault)
+            }
         }
     }
 }
@@ -160,6 +164,7 @@ impl Host for MemoryHost {
             path: String::from_str(self.alloc, path)?,
             text: Vec::new(self.alloc),
             writes_over,
+            faults: 0,
         })
     }
 
