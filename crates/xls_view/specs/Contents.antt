@@ -19,7 +19,7 @@ use Rattle.xls_reading.specs.Reading.{SheetView, BookView, given_by, last_named,
 use Rattle.xls_open.specs.Steps.{shown}
 use Rattle.xls_view.specs.Formulas.{Formula, formulas_of, text_entry}
 use Rattle.xls_view.specs.Groups.{groups_in}
-use Rattle.xls_view.specs.Viewing.{Viewed}
+use Rattle.xls_view.specs.Viewing.{ShownSheet, Viewed}
 
 -- ---- records
 
@@ -87,6 +87,16 @@ content_by s kept =
       cells = settled (cells_from s (0, 0) kept);
       formulas = map (text_entry s.formulas) (settled (formulas_of kept));
       merges = regions_of kept;
+    }
+
+-- likewise with the formulas by their tokens
+abbrev pub shows : InForce → List Kept → ShownSheet
+shows s kept =
+    record {
+      cells = settled (cells_from s (0, 0) kept);
+      formulas = settled (formulas_of kept);
+      merges = regions_of kept;
+      context = s.formulas;
     }
 
 -- each kept record of the parts at these offsets has no fault

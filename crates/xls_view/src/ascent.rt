@@ -50,4 +50,11 @@ impl Ascent {
     {
         self.ascends
     }
+
+    /// Whether there is none.
+    pub(crate) fn is_empty(self) -> bool
+        ensures { (ps : List Position) → IsAscent self ps → IsTrue result → ps ≡ [] }
+    {
+        self.last.is_none()
+    }
 }
