@@ -1,5 +1,5 @@
 -- The first row and column of some cells aren't after the last.
-use Rattle.std.proofs.Common.{◌≡◌, ℕ, ◌≤◌, List, [], ◌∷◌, ap, arith, Option, Some, None}
+use Rattle.std.proofs.Common.{◌≡◌, ℕ, ◌≤◌, List, [], ◌∷◌, ap, subst, arith, Option, Some, None}
 use Rattle.std.specs.Prelude.{min, max, unwrap_or}
 use Rattle.xls_data.specs.declared.regions.Dimensions.{Dimensions}
 use Rattle.xls_biff.specs.Cells.{Entry}
@@ -18,9 +18,7 @@ pub corners_ordered : (cells : List Entry) (bounds : Dimensions) → bounds_of c
     → (bounds.start.0 ≤ bounds.end.0) × (bounds.start.1 ≤ bounds.end.1)
 corners_ordered [] bounds h = absurd cc
 corners_ordered (c ∷ cs) bounds h =
-    let of : Option Dimensions → Dimensions = λ o. unwrap_or o bounds in
-    let is : of (bounds_of (c ∷ cs)) ≡ bounds = ap of h in
-    rw is at (
-      omega (arith, least_le c.0.0 (rows_at cs), le_greatest c.0.0 (rows_at cs)),
-      omega (arith, least_le c.0.1 (columns_at cs), le_greatest c.0.1 (columns_at cs)),
-    )
+    let is : unwrap_or (bounds_of (c ∷ cs)) bounds ≡ bounds = ap (λ (o : Option Dimensions). unwrap_or o bounds) h in
+    let rows : least c.0.0 (rows_at cs) ≤ greatest c.0.0 (rows_at cs) = omega (arith, least_le c.0.0 (rows_at cs), le_greatest c.0.0 (rows_at cs)) in
+    let columns : least c.0.1 (columns_at cs) ≤ greatest c.0.1 (columns_at cs) = omega (arith, least_le c.0.1 (columns_at cs), le_greatest c.0.1 (columns_at cs)) in
+    subst (λ (d : Dimensions). (d.start.0 ≤ d.end.0) × (d.start.1 ≤ d.end.1)) is (rows, columns)
