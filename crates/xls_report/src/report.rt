@@ -24,9 +24,7 @@ use xls_biff::XlsError;
 use xls_data::{DataRef, Dimensions, Sheet, SheetType, SheetVisible};
 use xls_lay::LayError;
 use xls_lines::{Buffer, Field, Sink, Stop, write_line};
-use xls_view::{
-    Cells, FormulaCell, Merges, SheetCell, SheetFormulas, TextBuffer, View, ViewSheet,
-};
+use xls_view::{Cells, FormulaCell, Merges, SheetCell, SheetFormulas, TextBuffer, View, ViewSheet};
 
 /// The word for a date or a span.
 fn date_kind(is_span: bool) -> &'static str
@@ -235,6 +233,33 @@ fn put_merges<K: Sink>(buffer: &mut Buffer, sink: &mut K, merges: Merges<'_>) ->
     Ok(())
 }
 
+/// Puts the lines of the cells that a sheet shows.
+fn put_shown_cells<K: Sink>(
+    alloc: Global,
+    buffer: &mut Buffer,
+    sink: &mut K,
+    sheet: &ViewSheet<'_>,
+) -> Result<(), Stop>
+    ensures { Puts (K.state sink.old) buffer.old (K.state sink.new) buffer.new
+        (flat_map cell_line sheet.now.cells) result }
+{
+    let cells = sheet.cells()?;
+    put_cells(alloc, buffer, sink, cells.iter())
+}
+
+/// Puts the lines of the formulas that a sheet shows.
+fn put_shown_formulas<K: Sink>(
+    buffer: &mut Buffer,
+    sink: &mut K,
+    sheet: &ViewSheet<'_>,
+) -> Result<(), Stop>
+    ensures { Puts (K.state sink.old) buffer.old (K.state sink.new) buffer.new
+        (formula_lines (content_of sheet.now).formulas) result }
+{
+    let formulas = sheet.formulas()?;
+    put_formulas(buffer, sink, &formulas)
+}
+
 /// Puts the lines of what a sheet shows.
 fn put_shown<K: Sink>(
     alloc: Global,
@@ -245,8 +270,8 @@ fn put_shown<K: Sink>(
     ensures { Puts (K.state sink.old) buffer.old (K.state sink.new) buffer.new
         (lines_at (Some (content_of sheet.now))) result }
 {
-    put_cells(alloc, buffer, sink, sheet.cells()?.iter())?;
-    put_formulas(buffer, sink, &sheet.formulas()?)?;
+    put_shown_cells(alloc, buffer, sink, sheet)?;
+    put_shown_formulas(buffer, sink, sheet)?;
     put_merges(buffer, sink, sheet.merges())?;
     Ok(())
 }
