@@ -10,6 +10,7 @@ use xls_data::CellErrorType;
 use xls_strings::{Part, XlsError};
 
 /// The row and the column that begin a cell record.
+#[inline(always)]
 pub(crate) fn position_of(body: &[u8]) -> (u32, u32)
     requires { 4 ≤ length body.now }
     ensures { result ≡ position_at body.now }
@@ -21,6 +22,7 @@ pub(crate) fn position_of(body: &[u8]) -> (u32, u32)
 
 /// The row and the column that begin the body of a cell record, both counted from 0; `None` only for fewer
 /// than 4 bytes. Takes no memory.
+#[inline(always)]
 pub fn cell_position(body: &[u8]) -> Option<(u32, u32)>
     ensures { 4 ≤ length body.now → result ≡ Some (position_at body.now) }
 {

@@ -120,6 +120,7 @@ impl<'a> Iterator for SheetRecords<'a> {
 
     ghost remaining = { λ s. at_most (length s.0) };
 
+    #[inline(always)]
     fn next(&mut self) -> Option<Result<Record<'a>, XlsError>> {
         match next_outer(&mut self.records, &mut self.depth) {
             Some(Ok((_, record))) => Some(Ok(record)),

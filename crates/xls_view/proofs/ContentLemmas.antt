@@ -21,7 +21,7 @@ use Rattle.xls_reading.proofs.OrderLemmas.{somes-append}
 use Rattle.xls_view.specs.Formulas.{Formula, formula_of, formulas_of}
 use Rattle.xls_view.specs.Contents.{IsReadable, cells_from, kept_in, moved, regions_at, regions_of}
 use Rattle.xls_view.specs.Values.{cell_entry}
-use Rattle.xls_view.specs.Walking.{IsSound, Left, Passes, GivesFirst}
+use Rattle.xls_view.specs.Walking.{IsSound, Left}
 use Rattle.xls_view.specs.declared.value.SheetCell.{SheetCell}
 use Rattle.xls_view.proofs.WalkLemmas.{kept_next, kept_over, kept_cut, kept_nothing}
 

@@ -47,19 +47,6 @@ Left = List ℕ × ℕ
 abbrev pub IsSound : InForce → Left → Type 0
 IsSound s left = IsBytes left.0 × AllByRecursion (IsReadable s.cells) (kept_in left.0 left.1)
 
--- the first cell and a list of the others, if there is one
-abbrev pub GivesFirst : Option (SheetCell × List Entry) → List Entry → Type 0
-GivesFirst None cells = cells ≡ []
-GivesFirst (Some x) cells = cells ≡ cell_entry x.0 ∷ x.1
-
--- the first cells of the records that are left
-abbrev pub Passes : InForce → Left → Position → Option (SheetCell × List Entry) → Left → Position → Type 0
-Passes s before was None after now = (cells_from s was (kept_in before.0 before.1) ≡ [])
-    × (cells_from s now (kept_in after.0 after.1) ≡ [])
-Passes s before was (Some x) after now =
-    cells_from s was (kept_in before.0 before.1)
-    ≡ cell_entry x.0 ∷ x.1 ++ cells_from s now (kept_in after.0 after.1)
-
 -- the first formula of the records that are left
 abbrev pub PassesFormula : Left → Option FormulaCell → Left → Type 0
 PassesFormula before found after =

@@ -191,6 +191,7 @@ impl<'c> Iterator for Cells<'c> {
 
     ghost remaining = { λ cells. at_most (length cells) };
 
+    #[inline]
     fn next(&mut self) -> Option<SheetCell<'c>> {
         if let Some(cell) = self.walk.next() {
             return Some(cell);

@@ -31,6 +31,7 @@ use xls_model::types::{BOOL_ERR, LABEL, LABEL_SST, MERGE_CELLS, MUL_RK, NUMBER, 
 use xls_open::InForce;
 
 /// The smallest box that holds a position, and a box, if there is one.
+#[inline]
 pub(crate) fn widened(bounds: Option<Dimensions>, position: (u32, u32)) -> Dimensions
     ensures { result ≡ widened bounds position }
 {
@@ -75,6 +76,7 @@ impl FoundCells {
     }
 
     /// After a cell at a position.
+    #[inline]
     fn with(self, position: (u32, u32)) -> FoundCells
         ensures { (cells : List Entry) (v : Content) → IsFound self cells → IsFound result (cells ++ (position, v) ∷ []) }
     {
@@ -85,6 +87,7 @@ impl FoundCells {
     }
 
     /// After the cells of a MulRk record without a fault.
+    #[inline]
     fn with_run(self, body: &[u8], force: &InForce<'_>) -> FoundCells
         ensures { (cells run : List Entry) → mul_rk_at force.now.cells.classes force.now.cells.is_1904 body.now ≡ Ok run
             → IsFound self cells → IsFound result (cells ++ run) }
@@ -101,6 +104,7 @@ impl FoundCells {
     }
 
     /// After the cells of a record without a fault, where the last Formula before it stands here.
+    #[inline]
     fn with_record(
         self,
         alloc: Global,
@@ -122,6 +126,7 @@ impl FoundCells {
 }
 
 /// Where the cell of a LabelSst record stands, if the table has its text.
+#[inline]
 fn shared_place(body: &[u8], force: &InForce<'_>) -> Option<(u32, u32)>
     ensures { (found : Option Entry) → label_sst_at force.now.cells.strings body.now ≡ Ok found
         → result ≡ option_map (λ (c : Entry). c.0) found }
@@ -152,6 +157,7 @@ fn other_place(
 
 /// Where the cell of a record without a fault that isn't a MulRk stands, if it has one, where the last
 /// Formula before it stands here.
+#[inline]
 fn place_of(
     alloc: Global,
     r: &Record<'_>,
@@ -173,6 +179,7 @@ fn place_of(
 }
 
 /// Whether the formulas of some records and of one more ascend.
+#[inline]
 fn formulas_with(found: Ascent, r: &Record<'_>) -> Ascent
     ensures { (s : CellContext) (g : SheetRecord) (formulas : List Formula) → kept_line s (kept_group (group_of r.now)) ≡ Ok g
         → IsAscent found (map (λ (f : Formula). f.0) formulas)
@@ -185,6 +192,7 @@ fn formulas_with(found: Ascent, r: &Record<'_>) -> Ascent
 }
 
 /// Whether some records and one more have a MergeCells among them.
+#[inline]
 fn merges_with(has_merges: bool, r: &Record<'_>) -> bool
     ensures { (regions : List Dimensions) → (has_merges ≡ false → regions ≡ [])
         → result ≡ false → regions ++ regions_at (kept_group (group_of r.now)) ≡ [] }
@@ -231,6 +239,7 @@ impl Survey {
     }
 
     /// After a record without a fault, where the last Formula before it stands here.
+    #[inline]
     fn with(self, alloc: Global, r: &Record<'_>, last: (u32, u32), force: &InForce<'_>) -> Survey
         ensures { (cells : List Entry) (formulas : List Formula) (regions : List Dimensions) (g : SheetRecord)
             → kept_line force.now.cells (kept_group (group_of r.now)) ≡ Ok g → IsSurvey self cells formulas regions

@@ -93,6 +93,7 @@ pub fn parse_formula_record<'a>(
 
 /// Where a Formula record without a fault stands, and `None` for a record of another type. Takes no
 /// memory.
+#[inline(always)]
 pub fn formula_position(r: &Record<'_>) -> Option<(u32, u32)>
     ensures { (force : CellContext) (g : SheetRecord) →
         sheet_record_at force r.now.typ r.now.body.now ≡ Ok g → result ≡ formula_position g }
