@@ -1,6 +1,6 @@
 -- The first row and column of some cells aren't after the last.
-use Rattle.std.proofs.Common.{◌≡◌, ℕ, ◌≤◌, List, [], ◌∷◌, ap, subst, arith, Option, Some, None}
-use Rattle.std.specs.Prelude.{min, max, unwrap_or}
+use Rattle.std.proofs.Common.{◌≡◌, ℕ, ◌≤◌, List, [], ◌∷◌, ap, subst, arith, Option, Some}
+use Rattle.std.specs.Prelude.{unwrap_or}
 use Rattle.xls_data.specs.declared.regions.Dimensions.{Dimensions}
 use Rattle.xls_biff.specs.Cells.{Entry}
 use Rattle.xls_cells.specs.Bounds.{bounds_of, columns_at, greatest, least, rows_at}

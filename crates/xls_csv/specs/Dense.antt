@@ -1,5 +1,5 @@
 -- The dense box of a sheet's cells, and its rows.
-use Rattle.std.specs.Prelude.{ℕ, ◌+◌, ◌-◌, List, [], ◌∷◌, map, Option, Some, None, unwrap_or}
+use Rattle.std.specs.Prelude.{ℕ, ◌+◌, ◌-◌, List, map, Option, Some, None, unwrap_or}
 use Rattle.std.specs.List.{flat_map, range_with_len}
 use Rattle.xls_data.specs.Content.{Content, nothing}
 use Rattle.xls_data.specs.declared.regions.Dimensions.{Dimensions}

@@ -1,6 +1,6 @@
 -- What is found of a record, by its line of the table.
-use Rattle.std.proofs.Common.{◌≡◌, ◌≢◌, ℕ, ◌≤◌, List, [], ◌∷◌, ◌++◌, map, length, drop, take, refl, sym, ap, subst, ◌∙◌, append_assoc, arith, inl, inr, Bool, true, false, Option, Some, None, Result, Ok, Err}
-use Rattle.std.specs.Prelude.{nat_lt, if◌then◌else◌, ◌==◌, slice_index}
+use Rattle.std.proofs.Common.{◌≡◌, ℕ, ◌≤◌, List, [], ◌∷◌, ◌++◌, map, length, drop, take, refl, sym, ap, subst, ◌∙◌, append_assoc, arith, Bool, true, false, Option, Some, None, Result, Ok, Err}
+use Rattle.std.specs.Prelude.{nat_lt, ◌==◌, slice_index}
 use Rattle.std.specs.Option.{option_map}
 use Rattle.std.proofs.lemmas.List.{append-nil, map-append}
 use Rattle.xls_bytes.specs.Numbers.{le}
@@ -12,7 +12,6 @@ use Rattle.xls_data.specs.Content.{Content, text}
 use Rattle.xls_data.specs.Formatted.{formatted_number}
 use Rattle.xls_data.specs.declared.numbers.Number.TheVariants.{Bits}
 use Rattle.xls_data.specs.declared.regions.Dimensions.{Dimensions}
-use Rattle.xls_cells.specs.Positions.{IsAscending}
 use Rattle.xls_cells.specs.Bounds.{bounds_of}
 use Rattle.xls_strings.specs.declared.error.XlsError.{XlsError}
 use Rattle.xls_strings.specs.declared.error.XlsError.TheVariants.{Len}
@@ -24,7 +23,7 @@ use Rattle.xls_biff.specs.Records.BoolErr.{bes_content, bool_err_at}
 use Rattle.xls_biff.specs.Records.Label.{label_at}
 use Rattle.xls_biff.specs.Records.Number.{number_at}
 use Rattle.xls_biff.specs.Records.Rk.{rk_at, rk_content}
-use Rattle.xls_biff.specs.SheetTable.{CellContext, SheetRecord, empty_record, cells_record, shared_record, string_record, formula_record, regions_record, formula_position, sheet_record_at}
+use Rattle.xls_biff.specs.SheetTable.{CellContext, SheetRecord, empty_record, cells_record, shared_record, string_record, formula_record, regions_record, formula_position}
 use Rattle.xls_formula.specs.Context.{Context}
 use Rattle.xls_reading.specs.SheetTable.{adds, kept_line, listed_cell}
 use Rattle.xls_reading.specs.Order.{somes}

@@ -1,6 +1,6 @@
 -- What a walk over positions finds, for the proofs.
-use Rattle.std.specs.Prelude.{◌≡◌, ℕ, min, max, List, [], ◌∷◌, map, false, true, Option, Some, None}
-use Rattle.xls_cells.specs.Positions.{Position, IsAscending}
+use Rattle.std.specs.Prelude.{◌≡◌, min, max, List, [], ◌∷◌, map, false, Option, Some, None}
+use Rattle.xls_cells.specs.Positions.{Position}
 use Rattle.xls_cells.specs.Bounds.{bounds_of}
 use Rattle.xls_data.specs.Content.{Content}
 use Rattle.xls_data.specs.declared.regions.Dimensions.{Dimensions}

@@ -1,7 +1,7 @@
 -- What a view of a stream shows, and what making one answers.
-use Rattle.std.specs.Prelude.{◌≡◌, ℕ, List, map, Option, Some, None, slice_get, unwrap_or}
+use Rattle.std.specs.Prelude.{◌≡◌, ℕ, List, map, Option}
 use Rattle.std.specs.List.{AllZip}
-use Rattle.xls_model.specs.Listing.{Entry, Carries, Kept}
+use Rattle.xls_model.specs.Listing.{Entry, Carries}
 use Rattle.xls_strings.specs.declared.error.XlsError.{XlsError}
 use Rattle.xls_strings.specs.declared.error.XlsError.TheVariants as errors
 use Rattle.xls_biff.specs.Cells.{Entry as Cell}

@@ -3,10 +3,10 @@ use Rattle.std.specs.Prelude.{◌≡◌, ℕ, List, [], ◌∷◌, ◌++◌, Opt
 use Rattle.std.specs.List.{AllByRecursion}
 use Rattle.xls_model.specs.Walks.{IsBytes}
 use Rattle.xls_data.specs.declared.regions.Dimensions.{Dimensions}
-use Rattle.xls_biff.specs.Cells.{Entry, Position}
+use Rattle.xls_biff.specs.Cells.{Entry}
 use Rattle.xls_formula.specs.Context.{Context}
 use Rattle.xls_reading.specs.InForce.{InForce}
-use Rattle.xls_view.specs.Contents.{IsReadable, cells_from, kept_in, regions_of}
+use Rattle.xls_view.specs.Contents.{IsReadable, kept_in, regions_of}
 use Rattle.xls_view.specs.Formulas.{Formula, formulas_of}
 use Rattle.xls_view.specs.Values.{cell_entry}
 use Rattle.xls_view.specs.declared.value.SheetCell.{SheetCell}

@@ -1,4 +1,4 @@
-use Rattle.std.proofs.Common.{map, refl, sym, ap, ◌∙◌}
+use Rattle.std.proofs.Common.{map, sym, ap, ◌∙◌}
 use Rattle.xls_view.specs.Contents.{kept_in}
 use Rattle.xls_view.specs.Formulas.{Formula, formulas_of}
 use Rattle.xls_view.proofs.SurveyLemmas.{no_more}

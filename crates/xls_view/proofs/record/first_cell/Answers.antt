@@ -1,7 +1,5 @@
-use Rattle.std.proofs.Common.{[], ◌∷◌, refl, sym, ap, ◌∙◌}
-use Rattle.std.specs.Option.{option_map}
+use Rattle.std.proofs.Common.{sym}
 use Rattle.xls_biff.specs.Records.Rk.{mul_rk_at}
-use Rattle.xls_reading.specs.SheetTable.{listed_cell}
 use Rattle.xls_view.proofs.RecordLemmas.{only_cell, run_cells, run_steps}
 use Rattle.xls_view.proofs.record.first_cell.Goals as goal
 

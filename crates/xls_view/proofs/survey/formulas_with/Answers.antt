@@ -1,4 +1,4 @@
-use Rattle.std.proofs.Common.{List, map, sym, ap, ◌∙◌}
+use Rattle.std.proofs.Common.{map, sym, ◌∙◌}
 use Rattle.xls_model.specs.Listing.{kept_group}
 use Rattle.xls_biff.specs.Walking.{group_of}
 use Rattle.xls_view.specs.Formulas.{Formula}

@@ -1,6 +1,6 @@
-use Rattle.std.proofs.Common.{◌≡◌, ◌++◌, [], ◌∷◌, List, refl, sym, ap, ◌∙◌, Option}
+use Rattle.std.proofs.Common.{◌++◌, [], refl, sym, ap, ◌∙◌, Option}
 use Rattle.std.specs.Prelude.{unwrap_or}
-use Rattle.xls_biff.specs.Cells.{Entry, Position}
+use Rattle.xls_biff.specs.Cells.{Position}
 use Rattle.xls_biff.specs.SheetTable.{SheetRecord}
 use Rattle.xls_biff.specs.Walking.{group_of}
 use Rattle.xls_model.specs.Listing.{kept_group}

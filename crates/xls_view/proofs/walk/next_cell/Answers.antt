@@ -1,8 +1,7 @@
-use Rattle.std.proofs.Common.{refl, sym, ap, ◌∙◌, ◌≡◌, Option, ◌++◌, List, ◌∷◌, []}
+use Rattle.std.proofs.Common.{refl, sym, ap, ◌∙◌, Option, []}
 use Rattle.std.specs.Prelude.{unwrap_or}
-use Rattle.xls_biff.specs.Cells.{Entry, Position}
+use Rattle.xls_biff.specs.Cells.{Position}
 use Rattle.xls_biff.specs.Walking.{group_of}
-use Rattle.xls_view.specs.Contents.{cells_from, kept_in}
 use Rattle.xls_view.proofs.ContentLemmas.{sound_next, cells_next, line_next, over_sound, cut_sound, nothing_left, no_cells}
 use Rattle.xls_view.proofs.walk.next_cell.Goals as goal
 

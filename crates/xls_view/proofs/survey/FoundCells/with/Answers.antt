@@ -1,4 +1,4 @@
-use Rattle.std.proofs.Common.{List, map, ap, Option, Some, refl}
+use Rattle.std.proofs.Common.{map, ap, Some}
 use Rattle.xls_data.specs.declared.regions.Dimensions.{Dimensions}
 use Rattle.xls_biff.specs.Cells.{Entry}
 use Rattle.xls_view.proofs.SurveyLemmas.{found_with}
