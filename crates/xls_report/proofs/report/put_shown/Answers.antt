@@ -1,6 +1,5 @@
-use Rattle.std.proofs.Common.{append_assoc, ap}
+use Rattle.std.proofs.Common.{append_assoc}
 use Rattle.std.specs.List.{flat_map}
-use Rattle.xls_view.specs.Viewing.{content_of}
 use Rattle.xls_report.specs.Report.{cell_line, merge_line}
 use Rattle.xls_lines.proofs.GatherLemmas.{gathers-as, gathers-then, puts-stop, stops-as, stops-more, stops-then}
 use Rattle.xls_report.proofs.report.put_shown.Goals as goal
