@@ -1,0 +1,4 @@
+pub mod FilledLemmas
+pub mod LaidLemmas
+pub mod ShownLemmas
+pub mod TextLemmas

@@ -1,0 +1,83 @@
+-- Sheets with what their indexes show.
+use Rattle.std.proofs.Common.{◌≡◌, ℕ, zero, suc, ◌+◌, ◌<◌, ◌≤◌, List, [], ◌∷◌, length, map, get_or, drop, drop-cons, add-one, refl, sym, ap, ◌∙◌, arith, slice_get, Option, Some, None}
+use Rattle.std.specs.Option.{option_map}
+use Rattle.std.proofs.lemmas.List.{drop_all, length-map}
+use Rattle.xls_data.specs.Sheets.{SheetContent}
+use Rattle.xls_reading.specs.Reading.{SheetView}
+use Rattle.xls_arrays.specs.Arrays.{Arrays, Told, laid}
+use Rattle.xls_arrays.specs.Shown.{content_in, each_with, no_content}
+use Rattle.xls_arrays.specs.Filled.{Lays}
+use Rattle.xls_arrays.specs.declared.rooms.Rooms.{Rooms}
+
+-- ---- lists by their index
+
+-- what stands at an index of a list that was mapped
+pub mapped : {X Y : Type 0} (f : X → Y) (xs : List X) (ys : List Y) (i : ℕ) (x : X) → i < length xs
+    → x ≡ get_or xs i x → map f xs ≡ ys → slice_get ys i ≡ Some (f x)
+mapped {X} {Y} f xs ys i x l e m = ap (λ (zs : List Y). slice_get zs i) (sym m) ∙ at_index xs i l e
+  where
+    at_index : (zs : List X) (k : ℕ) → k < length zs → x ≡ get_or zs k x → slice_get (map f zs) k ≡ Some (f x)
+    at_index [] k l e = absurd (omega arith)
+    at_index (z ∷ zs) zero l e = ap (λ (w : X). Some (f w)) (sym e)
+    at_index (z ∷ zs) (suc k) l e = at_index zs k (omega arith) e
+
+-- what is left of a list that is mapped
+pub map-drop : {X Y : Type 0} (f : X → Y) (xs : List X) (k : ℕ) (x : X) → k < length xs → x ≡ get_or xs k x
+    → map f (drop k xs) ≡ f x ∷ map f (drop (k + 1) xs)
+map-drop f xs k x l is =
+    let rest : drop k xs ≡ get_or xs k x ∷ drop (k + 1) xs = rw add-one (drop-cons xs k x l) in
+    ap (map f) rest ∙ ap (λ y. f y ∷ map f (drop (k + 1) xs)) (sym is)
+
+pub map-drop_all : {X Y : Type 0} (f : X → Y) (xs : List X) (k : ℕ) → length xs ≤ k → map f (drop k xs) ≡ []
+map-drop_all f xs k l = ap (map f) (drop_all k xs l)
+
+-- ---- sheets
+
+drop_nothing : {X : Type 0} (k : ℕ) → drop {A = X} k [] ≡ []
+drop_nothing zero = refl
+drop_nothing (suc k) = refl
+
+none_at : {X : Type 0} (k : ℕ) → slice_get {X = X} [] k ≡ None
+none_at k = refl
+
+each_from : (ss : List SheetContent) (vs : List SheetView) (i : ℕ) (s : SheetContent) → slice_get ss i ≡ Some s
+    → each_with (drop i ss) (drop i vs) ≡ (s, content_in (slice_get vs i)) ∷ each_with (drop (suc i) ss) (drop (suc i) vs)
+each_from [] vs i s e = absurd (let n : None ≡ Some s = e in cc)
+each_from (t ∷ ss) [] zero s e =
+    let same : t ≡ s = cc in ap (λ (x : SheetContent). (x, no_content) ∷ each_with ss []) same
+each_from (t ∷ ss) (v ∷ vs) zero s e =
+    let same : t ≡ s = cc in ap (λ (x : SheetContent). (x, v) ∷ each_with ss vs) same
+each_from (t ∷ ss) [] (suc i) s e =
+    ap (λ (l : List SheetView). each_with (drop i ss) l) (sym (drop_nothing i)) ∙ each_from ss [] i s e
+    ∙ ap (λ (o : Option SheetView). (s, content_in o) ∷ each_with (drop (suc i) ss) (drop (suc i) [])) (none_at i)
+each_from (t ∷ ss) (v ∷ vs) (suc i) s e = each_from ss vs i s e
+
+-- the sheets from an index on
+pub each-step : (ss : List SheetContent) (vs : List SheetView) (i : ℕ) (s : SheetContent) → slice_get ss i ≡ Some s
+    → each_with (drop i ss) (drop i vs) ≡ (s, content_in (slice_get vs i)) ∷ each_with (drop (i + 1) ss) (drop (i + 1) vs)
+each-step ss vs i s e =
+    each_from ss vs i s e
+    ∙ ap (λ (n : ℕ). (s, content_in (slice_get vs i)) ∷ each_with (drop n ss) (drop n vs)) (sym (add-one i))
+
+pub each-end : (ss : List SheetContent) (vs : List SheetView) (i : ℕ) → length ss ≤ i
+    → each_with (drop i ss) (drop i vs) ≡ []
+each-end ss vs i l = ap (λ (x : List SheetContent). each_with x (drop i vs)) (drop_all i ss l)
+
+-- ---- what an index shows
+
+-- a part of what isn't there is empty
+pub part-none : {X : Type 0} (part : SheetView → List X) (o : Option SheetView) (found : Option (List X)) → part no_content ≡ []
+    → found ≡ None → found ≡ option_map part o → part (content_in o) ≡ []
+part-none part None found empty none e = empty
+part-none part (Some v) found empty none e = cc
+
+-- a part of what is there
+pub part-some : {X : Type 0} (part : SheetView → List X) (o : Option SheetView) (found : Option (List X)) (xs : List X)
+    → found ≡ Some xs → found ≡ option_map part o → xs ≡ part (content_in o)
+part-some part None found xs some e = cc
+part-some part (Some v) found xs some e = cc
+
+-- nothing more is laid
+pub lays-nothing : {X : Type 0} (step : Arrays → X → Arrays) (xs : List X) (r : Rooms) → xs ≡ [] → Lays r r (λ a. laid step a xs)
+unfolding laid
+lays-nothing step xs r is = λ a h. rw is h

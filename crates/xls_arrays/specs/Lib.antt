@@ -1,0 +1,12 @@
+pub mod Arrays
+pub mod Codes
+pub mod Faults
+pub mod Filled
+pub mod Numbers
+pub mod Options
+pub mod Parts
+pub mod Refusals
+pub mod Shown
+pub mod Texts
+pub mod Values
+pub mod Whole
