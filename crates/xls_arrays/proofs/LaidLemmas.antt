@@ -7,7 +7,7 @@ use Rattle.xls_biff.specs.Cells.{Entry}
 use Rattle.xls_reading.specs.SheetTable.{FormulaEntry}
 use Rattle.xls_reading.specs.Reading.{SheetView}
 use Rattle.xls_arrays.specs.Values.{cell_item, form_in, kind_of, text_in, value_in}
-use Rattle.xls_arrays.specs.Arrays.{Arrays, formula_item, laid, next_span, sheet_item, with_cell, with_cell_item, with_content, with_formula, with_formula_item, with_name, with_name_item, with_region, with_sheet, with_sheet_item, with_text}
+use Rattle.xls_arrays.specs.Arrays.{Arrays, Told, formula_item, laid, next_span, sheet_item, with_cell, with_cell_item, with_content, with_formula, with_formula_item, with_name, with_name_item, with_region, with_sheet, with_sheet_item, with_text}
 use Rattle.xls_arrays.specs.Shown.{item_between, no_content}
 use Rattle.xls_arrays.specs.Filled.{Holds, KeepsRooms, Lays, LaysText}
 use Rattle.xls_arrays.specs.declared.items.Span.{Span}
@@ -201,3 +201,8 @@ lays-sheet {r} {s} {t} {u} {name} {span} item c v lays is content made then =
         ∙ ap (λ bytes. with_sheet_item (with_content (with_text a bytes) v)
             (sheet_item a (next_span a (encode_utf8_all c.name)) c v)) is in
         subst (Holds u) all (then _ filled)
+
+-- one sheet alone
+pub lays-alone : {r s : Rooms} (t : Told) → Lays r s (λ a. with_sheet a t) → Lays r s (λ a. laid with_sheet a (t ∷ []))
+unfolding laid
+lays-alone t lays = lays

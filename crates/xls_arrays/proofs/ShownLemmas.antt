@@ -1,12 +1,13 @@
 -- Sheets with what their indexes show.
-use Rattle.std.proofs.Common.{◌≡◌, ℕ, zero, suc, ◌+◌, ◌<◌, ◌≤◌, List, [], ◌∷◌, length, map, get_or, drop, drop-cons, add-one, refl, sym, ap, ◌∙◌, arith, slice_get, Option, Some, None}
+use Rattle.std.proofs.Common.{◌≡◌, ℕ, zero, suc, ◌+◌, ◌<◌, ◌≤◌, List, [], ◌∷◌, length, map, get_or, drop, drop-cons, add-one, refl, sym, ap, ◌∙◌, arith, slice_get, Option, Some, None, if◌then◌else◌, ◌==◌, rules}
 use Rattle.std.specs.Option.{option_map}
 use Rattle.std.proofs.lemmas.List.{drop_all, length-map}
 use Rattle.xls_data.specs.Sheets.{SheetContent}
-use Rattle.xls_reading.specs.Reading.{SheetView}
+use Rattle.xls_reading.specs.Reading.{BookView, SheetView}
 use Rattle.xls_arrays.specs.Arrays.{Arrays, Told, laid}
-use Rattle.xls_arrays.specs.Shown.{content_in, each_with, no_content}
+use Rattle.xls_arrays.specs.Shown.{alone, asked_for, content_in, each_with, no_content}
 use Rattle.xls_arrays.specs.Filled.{Lays}
+use Rattle.xls_arrays.specs.declared.options.Options.{Options}
 use Rattle.xls_arrays.specs.declared.rooms.Rooms.{Rooms}
 
 -- ---- lists by their index
@@ -81,3 +82,29 @@ part-some part (Some v) found xs some e = cc
 pub lays-nothing : {X : Type 0} (step : Arrays → X → Arrays) (xs : List X) (r : Rooms) → xs ≡ [] → Lays r r (λ a. laid step a xs)
 unfolding laid
 lays-nothing step xs r is = λ a h. rw is h
+
+-- the sheet of an index, with what it shows
+pub each-at : (ss : List SheetContent) (vs : List SheetView) (i : ℕ) (s : SheetContent) → slice_get ss i ≡ Some s
+    → slice_get (each_with ss vs) i ≡ Some (s, content_in (slice_get vs i))
+each-at [] vs i s e = absurd (let n : None ≡ Some s = e in cc)
+each-at (t ∷ ss) [] zero s e = let same : t ≡ s = cc in ap (λ (x : SheetContent). Some (x, no_content)) same
+each-at (t ∷ ss) (v ∷ vs) zero s e = let same : t ≡ s = cc in ap (λ (x : SheetContent). Some (x, v)) same
+each-at (t ∷ ss) [] (suc i) s e = each-at ss [] i s e
+each-at (t ∷ ss) (v ∷ vs) (suc i) s e = each-at ss vs i s e
+
+-- ---- which sheets are asked for
+
+pub asked-all : (o : Options) (book : BookView) → o.which ≡ 0 → asked_for o book ≡ Some (each_with book.sheets book.contents)
+asked-all o book e = rw e refl
+
+pub asked-one : (o : Options) (book : BookView) (t : Told) → o.which ≡ 1
+    → slice_get (each_with book.sheets book.contents) o.sheet ≡ Some t → asked_for o book ≡ Some (t ∷ [])
+asked-one o book t e there = rw e (ap alone there)
+
+neither : (n : ℕ) (x y z : Option (List Told)) → (n ≡ 0 → ⊥) → (n ≡ 1 → ⊥)
+    → (if n == 0 then x else if n == 1 then y else z) ≡ z
+neither n x y z not_all not_one = search (rules, not_all, not_one)
+
+pub asked-bare : (o : Options) (book : BookView) → (o.which ≡ 0 → ⊥) → (o.which ≡ 1 → ⊥)
+    → asked_for o book ≡ Some (each_with book.sheets [])
+asked-bare o book not_all not_one = neither o.which _ _ _ not_all not_one

@@ -38,11 +38,23 @@ abbrev pub LaysText : Rooms → Rooms → List ℕ → Span → Type 0
 LaysText before after text span = (a : Arrays) → Holds before a
     → Holds after (with_text a text) × (span ≡ record { offset = length a.texts; length = length text })
 
--- the arrays have room for all of it
-pub record Fits (rooms : Rooms) (a : Arrays) : Type 0 where
-  pub sheets : length a.sheets ≤ length rooms.sheets.now
-  pub names : length a.names ≤ length rooms.names.now
-  pub cells : length a.cells ≤ length rooms.cells.now
-  pub formulas : length a.formulas ≤ length rooms.formulas.now
-  pub regions : length a.regions ≤ length rooms.regions.now
-  pub texts : length a.texts ≤ length rooms.texts.now
+-- arrays as long as these have room for those
+pub record Fits (before a : Arrays) : Type 0 where
+  pub sheets : length a.sheets ≤ length before.sheets
+  pub names : length a.names ≤ length before.names
+  pub cells : length a.cells ≤ length before.cells
+  pub formulas : length a.formulas ≤ length before.formulas
+  pub regions : length a.regions ≤ length before.regions
+  pub texts : length a.texts ≤ length before.texts
+
+-- what the arrays of the caller have
+abbrev pub in_rooms : Rooms → Arrays
+in_rooms rooms =
+    record {
+      sheets = rooms.sheets.now;
+      names = rooms.names.now;
+      cells = rooms.cells.now;
+      formulas = rooms.formulas.now;
+      regions = rooms.regions.now;
+      texts = rooms.texts.now;
+    }

@@ -1,5 +1,5 @@
 -- The value of a cell in an item of the array.
-use Rattle.std.specs.Prelude.{ℕ, List, [], encode_utf8_all, length, Bool, true, false}
+use Rattle.std.specs.Prelude.{ℕ, List, [], encode_utf8_all, length, Bool, true, false, not, ◌==◌}
 use Rattle.xls_data.specs.Content.{Content, int, float, text, truth, date, iso_date, iso_duration, failure, nothing}
 use Rattle.xls_data.specs.declared.numbers.Number.TheVariants.{Whole}
 use Rattle.xls_data.specs.declared.dates.ExcelDateTimeType.{ExcelDateTimeType}
@@ -55,6 +55,10 @@ text_in other = []
 abbrev pub truth_bit : Bool → ℕ
 truth_bit true = 1
 truth_bit false = 0
+
+-- a number that isn't 0 is true
+abbrev pub is_set : ℕ → Bool
+is_set n = not (n == 0)
 
 -- what tells it: the bits of a double, a truth value, the code of an error value, the offset of a text
 abbrev pub value_in : ℕ → Content → ℕ

@@ -1,6 +1,11 @@
 //! Refusals by their numbers.
 
 ghost use Rattle.std.specs.Prelude.{◌≡◌, ◌%◌, ◌^◌};
+ghost use Rattle.std.specs.Option.{option_map};
+ghost use Rattle.xls_arrays.specs.Telling.{call_refusal, chain_of, chain_refusal, entry_of, file_refusal, kind_of, numbered_fault, old_kind, part_fault, refusal_of, sector_of, stream_error, table_fault, table_of};
+ghost use Rattle.xls_strings.specs.declared.error.XlsError.TheVariants as errors;
+ghost use Rattle.xls_text.specs.declared.error.CfbError.TheVariants as pages;
+ghost use Rattle.xls_arrays.specs.declared.refusal.Refusal.TheVariants as refusals;
 
 use crate::faults::Fault;
 use crate::parts::part_of;
@@ -8,31 +13,35 @@ use crate::refusal::{Chain, Refusal};
 use xls_container::FileKind;
 use xls_directory::DirectoryFault;
 use xls_sectors::{SectorFault, Table};
-use xls_strings::XlsError;
+use xls_strings::{Part, XlsError};
 use xls_text::CfbError;
 
-/// The lowest bits of a number.
+/// The lowest 8 bits of a number.
 fn low_u8(number: u64) -> u8
     ensures { result ≡ number % 2 ^ 8 }
 {
     (number % 256) as u8
 }
 
+/// The lowest 16 bits.
 fn low_u16(number: u64) -> u16
     ensures { result ≡ number % 2 ^ 16 }
 {
     (number % 65_536) as u16
 }
 
+/// The lowest 32 bits.
 fn low_u32(number: u64) -> u32
     ensures { result ≡ number % 2 ^ 32 }
 {
     (number % 4_294_967_296) as u32
 }
 
-/// The first fault of a stream that names a part.
-fn part_fault(fault: &Fault) -> Option<XlsError> {
-    let typ = part_of(fault.part)?;
+/// The first fault of a stream that names this part.
+fn part_fault(fault: &Fault, part: Option<Part>) -> Option<XlsError>
+    ensures { result ≡ part_fault fault.now part }
+{
+    let typ = part?;
     match fault.code {
         20 => Some(XlsError::Len {
             expected: fault.first as usize,
@@ -48,17 +57,11 @@ fn part_fault(fault: &Fault) -> Option<XlsError> {
     }
 }
 
-/// The first fault of a stream.
-fn stream_error(fault: &Fault) -> Option<XlsError> {
+/// The first fault of a stream that has a number or a part.
+fn numbered_fault(fault: &Fault) -> Option<XlsError>
+    ensures { result ≡ numbered_fault fault.now }
+{
     match fault.code {
-        16 => Some(XlsError::TooLarge { limit: fault.first }),
-        17 => Some(XlsError::TooManyCells { limit: fault.first }),
-        18 => Some(XlsError::Cfb(CfbError::CodePageNotFound(low_u16(
-            fault.first,
-        )))),
-        19 => Some(XlsError::Password),
-        23 => Some(XlsError::ContinueRecordTooShort),
-        24 => Some(XlsError::StackLen),
         25 => Some(XlsError::InvalidFormula {
             stack_size: fault.first as usize,
         }),
@@ -67,13 +70,37 @@ fn stream_error(fault: &Fault) -> Option<XlsError> {
         28 => Some(XlsError::InvalidFormat {
             ifmt: low_u16(fault.first),
         }),
+        _ => part_fault(fault, part_of(fault.part)),
+    }
+}
+
+/// The page that isn't read.
+fn page_fault(page: u64) -> XlsError
+    ensures { result ≡ errors.Cfb (pages.CodePageNotFound (page % 2 ^ 16)) }
+{
+    XlsError::Cfb(CfbError::CodePageNotFound(low_u16(page)))
+}
+
+/// The first fault of a stream.
+fn stream_error(fault: &Fault) -> Option<XlsError>
+    ensures { result ≡ stream_error fault.now }
+{
+    match fault.code {
+        16 => Some(XlsError::TooLarge { limit: fault.first }),
+        17 => Some(XlsError::TooManyCells { limit: fault.first }),
+        18 => Some(page_fault(fault.first)),
+        19 => Some(XlsError::Password),
+        23 => Some(XlsError::ContinueRecordTooShort),
+        24 => Some(XlsError::StackLen),
         29 => Some(XlsError::Io),
-        _ => part_fault(fault),
+        _ => numbered_fault(fault),
     }
 }
 
 /// The table of a number.
-fn table_of(number: u32) -> Option<Table> {
+fn table_of(number: u32) -> Option<Table>
+    ensures { result ≡ table_of number }
+{
     match number {
         1 => Some(Table::Difat),
         2 => Some(Table::Fat),
@@ -83,7 +110,9 @@ fn table_of(number: u32) -> Option<Table> {
 }
 
 /// The chain of a number.
-fn chain_of(number: u32) -> Option<Chain> {
+fn chain_of(number: u32) -> Option<Chain>
+    ensures { result ≡ chain_of number }
+{
     match number {
         1 => Some(Chain::Tables),
         2 => Some(Chain::Directory),
@@ -94,9 +123,11 @@ fn chain_of(number: u32) -> Option<Chain> {
     }
 }
 
-/// The fault of a chain that names a table.
-fn table_fault(fault: &Fault) -> Option<SectorFault> {
-    let table = table_of(fault.table)?;
+/// The fault of a chain that names this table.
+fn table_fault(fault: &Fault, table: Option<Table>) -> Option<SectorFault>
+    ensures { result ≡ table_fault fault.now table }
+{
+    let table = table?;
     match fault.code {
         68 => Some(SectorFault::Loop {
             table,
@@ -129,7 +160,9 @@ fn table_fault(fault: &Fault) -> Option<SectorFault> {
 }
 
 /// The fault of a chain, which isn't named.
-fn sector_of(fault: &Fault) -> Option<SectorFault> {
+fn sector_of(fault: &Fault) -> Option<SectorFault>
+    ensures { result ≡ sector_of fault.now }
+{
     match fault.code {
         64 => Some(SectorFault::NotCompound),
         65 => Some(SectorFault::HeaderCut {
@@ -146,12 +179,14 @@ fn sector_of(fault: &Fault) -> Option<SectorFault> {
             expected: fault.second as usize,
             found: fault.third as usize,
         }),
-        _ => table_fault(fault),
+        _ => table_fault(fault, table_of(fault.table)),
     }
 }
 
 /// The fault of a directory.
-fn entry_of(fault: &Fault) -> Option<DirectoryFault> {
+fn entry_of(fault: &Fault) -> Option<DirectoryFault>
+    ensures { result ≡ entry_of fault.now }
+{
     let number = low_u32(fault.first);
     match fault.code {
         80 => Some(DirectoryFault::NoRoot),
@@ -169,15 +204,11 @@ fn entry_of(fault: &Fault) -> Option<DirectoryFault> {
     }
 }
 
-/// What a file is, by its number.
-fn kind_of(number: u32) -> Option<FileKind> {
+/// What a file is, by its number, from 7 on.
+fn old_kind(number: u32) -> Option<FileKind>
+    ensures { result ≡ old_kind number }
+{
     match number {
-        1 => Some(FileKind::Empty),
-        2 => Some(FileKind::Zip),
-        3 => Some(FileKind::Html),
-        4 => Some(FileKind::Mhtml),
-        5 => Some(FileKind::Sylk),
-        6 => Some(FileKind::RichText),
         7 => Some(FileKind::Pdf),
         8 => Some(FileKind::Excel2),
         9 => Some(FileKind::Excel3),
@@ -187,50 +218,103 @@ fn kind_of(number: u32) -> Option<FileKind> {
     }
 }
 
-/// The refusal of a stream.
-fn stream_refusal(fault: &Fault) -> Option<Refusal> {
-    match stream_error(fault) {
+/// What a file is, by its number.
+fn kind_of(number: u32) -> Option<FileKind>
+    ensures { result ≡ kind_of number }
+{
+    match number {
+        1 => Some(FileKind::Empty),
+        2 => Some(FileKind::Zip),
+        3 => Some(FileKind::Html),
+        4 => Some(FileKind::Mhtml),
+        5 => Some(FileKind::Sylk),
+        6 => Some(FileKind::RichText),
+        _ => old_kind(number),
+    }
+}
+
+/// The refusal for the first fault of a stream.
+fn stream_refusal(error: Option<XlsError>) -> Option<Refusal>
+    ensures { result ≡ option_map (λ e. refusals.Stream e) error }
+{
+    match error {
         Some(error) => Some(Refusal::Stream(error)),
         None => None,
     }
 }
 
-/// The refusal of a chain.
-fn chain_refusal(fault: &Fault) -> Option<Refusal> {
-    match (chain_of(fault.part), sector_of(fault)) {
-        (Some(chain), Some(fault)) => Some(Refusal::Chain(chain, fault)),
-        _ => None,
+/// The refusal for a damaged chain.
+fn chain_refusal(chain: Option<Chain>, fault: Option<SectorFault>) -> Option<Refusal>
+    ensures { result ≡ chain_refusal chain fault }
+{
+    match chain {
+        Some(chain) => match fault {
+            Some(fault) => Some(Refusal::Chain(chain, fault)),
+            None => None,
+        },
+        None => None,
     }
 }
 
-/// The refusal of a directory.
-fn directory_refusal(fault: &Fault) -> Option<Refusal> {
-    match entry_of(fault) {
+/// The refusal for a damaged directory.
+fn directory_refusal(fault: Option<DirectoryFault>) -> Option<Refusal>
+    ensures { result ≡ option_map (λ d. refusals.Directory d) fault }
+{
+    match fault {
         Some(fault) => Some(Refusal::Directory(fault)),
         None => None,
     }
 }
 
 /// The refusal for what a file is.
-fn kind_refusal(fault: &Fault) -> Option<Refusal> {
-    match kind_of(fault.part) {
+fn kind_refusal(kind: Option<FileKind>) -> Option<Refusal>
+    ensures { result ≡ option_map (λ k. refusals.Kind k) kind }
+{
+    match kind {
         Some(kind) => Some(Refusal::Kind(kind)),
         None => None,
     }
 }
 
-/// The refusal that numbers tell. None where no call gives them.
-pub fn refusal_of(fault: &Fault) -> Option<Refusal> {
+/// The refusal of a call itself.
+fn call_refusal(fault: &Fault) -> Option<Refusal>
+    ensures { result ≡ call_refusal fault.now }
+{
     match fault.code {
         1 => Some(Refusal::Memory),
         2 => Some(Refusal::TooShort),
         3 => Some(Refusal::NoSheet(fault.first)),
         4 => Some(Refusal::Obfuscated),
-        16..=30 => stream_refusal(fault),
-        48 => kind_refusal(fault),
-        49 => Some(Refusal::NoWorkbook),
-        64..=79 => chain_refusal(fault),
-        80..=95 => directory_refusal(fault),
         _ => None,
     }
+}
+
+/// The refusal of a file without a workbook.
+fn file_refusal(fault: &Fault) -> Option<Refusal>
+    ensures { result ≡ file_refusal fault.now }
+{
+    match fault.code {
+        48 => kind_refusal(kind_of(fault.part)),
+        49 => Some(Refusal::NoWorkbook),
+        _ => None,
+    }
+}
+
+/// The refusal that numbers tell. None where no call gives such numbers.
+pub fn refusal_of(fault: &Fault) -> Option<Refusal>
+    ensures { result ≡ refusal_of fault.now }
+{
+    if fault.code < 16 {
+        return call_refusal(fault);
+    }
+    if fault.code < 48 {
+        return stream_refusal(stream_error(fault));
+    }
+    if fault.code < 64 {
+        return file_refusal(fault);
+    }
+    if fault.code < 80 {
+        return chain_refusal(chain_of(fault.part), sector_of(fault));
+    }
+    directory_refusal(entry_of(fault))
 }

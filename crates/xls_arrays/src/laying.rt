@@ -3,11 +3,13 @@
 ghost use Rattle.std.specs.Prelude.{◌≡◌, IfOk, IfErr, OnOk, Some, None, map};
 ghost use Rattle.std.specs.Str.{chars};
 ghost use Rattle.xls_open.specs.Workbook.{told_of};
-ghost use Rattle.xls_arrays.specs.Arrays.{laid, with_name};
-ghost use Rattle.xls_arrays.specs.Filled.{KeepsRooms, Lays};
+ghost use Rattle.xls_arrays.specs.Arrays.{Arrays, empty, laid, with_name};
+ghost use Rattle.xls_arrays.specs.Filled.{Holds, KeepsRooms, Lays};
+ghost use Rattle.xls_arrays.specs.Held.{IsHeld, IsPlain, RefusesStream};
+ghost use Rattle.xls_arrays.specs.Laying.{LaysAskedFor, LaysOne, LaysView, MissesIndex, MissesSheet};
 
 use crate::items::NameItem;
-use crate::options::{Options, limit_or, options_of};
+use crate::options::{ALL_SHEETS, MAX_BYTES, ONE_SHEET, Options, limit_or, options_of};
 use crate::refusal::Refusal;
 use crate::rooms::{Rooms, lay_name_item, lay_text};
 use crate::sheets::{lay_bare_sheets, lay_whole_sheet, lay_whole_sheets};
@@ -53,6 +55,8 @@ fn lay_one(
     index: u64,
 ) -> Result<(), Refusal>
     ensures same { KeepsRooms rooms.old rooms.new }
+    ensures ok { OnOk result (LaysOne view.now.book index rooms.old rooms.new) }
+    ensures err { IfErr result (MissesIndex view.now.book index) }
 {
     let sheets = view.sheets();
     if index >= sheets.len() as u64 {
@@ -71,12 +75,17 @@ fn lay_asked_for(
     options: &Options,
 ) -> Result<(), Refusal>
     ensures same { KeepsRooms rooms.old rooms.new }
+    ensures ok { OnOk result (LaysAskedFor options.now view.now.book rooms.old rooms.new) }
+    ensures err { IfErr result (MissesSheet options.now view.now.book) }
 {
-    match options.which {
-        0 => lay_whole_sheets(alloc, rooms, view)?,
-        1 => lay_one(alloc, rooms, view, options.sheet)?,
-        _ => lay_bare_sheets(rooms, view)?,
+    if options.which == ALL_SHEETS {
+        lay_whole_sheets(alloc, rooms, view)?;
+        return Ok(());
     }
+    if options.which == ONE_SHEET {
+        return lay_one(alloc, rooms, view, options.sheet);
+    }
+    lay_bare_sheets(rooms, view)?;
     Ok(())
 }
 
@@ -88,6 +97,8 @@ fn lay_view(
     options: &Options,
 ) -> Result<(), Refusal>
     ensures same { KeepsRooms rooms.old rooms.new }
+    ensures ok { OnOk result (LaysView options.now view.now.book rooms.old rooms.new) }
+    ensures err { IfErr result (MissesSheet options.now view.now.book) }
 {
     lay_names(rooms, view.defined_names())?;
     lay_asked_for(alloc, rooms, view, options)
@@ -95,11 +106,14 @@ fn lay_view(
 
 /// The first refusal of a stream that its bytes alone tell: records that are obfuscated, and then more bytes
 /// than the limit.
-fn refuse_bytes(stream: &[u8], options: &Options) -> Result<(), Refusal> {
+fn refuse_bytes(stream: &[u8], options: &Options) -> Result<(), Refusal>
+    ensures ok { OnOk result (IsPlain options.now stream.now) }
+    ensures err { IfErr result (RefusesStream options.now stream.now) }
+{
     if is_obfuscated(stream) {
         return Err(Refusal::Obfuscated);
     }
-    let limit = limit_or(options.max_bytes, 268_435_456);
+    let limit = limit_or(options.max_bytes, MAX_BYTES);
     if stream.len() as u64 > limit {
         return Err(Refusal::Stream(XlsError::TooLarge { limit }));
     }
@@ -114,6 +128,9 @@ pub(crate) fn lay_stream(
     options: &Options,
 ) -> Result<bool, Refusal>
     ensures same { KeepsRooms rooms.old rooms.new }
+    ensures ok { IfOk result (λ is_1904. Holds rooms.old empty
+        → (a : Arrays) × IsHeld options.now stream.now is_1904 a × Holds rooms.new a) }
+    ensures err { IfErr result (RefusesStream options.now stream.now) }
 {
     refuse_bytes(stream, options)?;
     let reader = options_of(alloc, options)?;

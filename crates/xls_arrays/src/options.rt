@@ -27,6 +27,15 @@ pub struct Options {
     pub all_functions: u16,
 }
 
+/// Every sheet with its content.
+pub(crate) const ALL_SHEETS: u32 = 0;
+
+/// One sheet with its content.
+pub(crate) const ONE_SHEET: u32 = 1;
+
+/// How many bytes a stream may have by default.
+pub(crate) const MAX_BYTES: u64 = 268_435_456;
+
 /// A limit that was given, or, for 0, the one by default.
 pub(crate) fn limit_or(given: u64, default: u64) -> u64
     ensures { result ≡ limit_or given default }

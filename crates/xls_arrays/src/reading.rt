@@ -1,5 +1,12 @@
 //! What a stream holds, counted and put into the arrays of a caller.
 
+ghost use Rattle.std.specs.Prelude.{◌≡◌, IfErr, IfOk, MatchResult, OnOk};
+ghost use Rattle.xls_arrays.specs.Answers.{AreFilled, AreSizes, IsAnswer, Measures, Reads, RefusesToFill};
+ghost use Rattle.xls_arrays.specs.Arrays.{empty};
+ghost use Rattle.xls_arrays.specs.Filled.{Holds, KeepsRooms, in_rooms};
+ghost use Rattle.xls_arrays.specs.Held.{RefusesStream};
+ghost use Rattle.xls_arrays.specs.Values.{truth_bit};
+
 use crate::faults::{Fault, fault_of, plain};
 use crate::items::{CellItem, FormulaItem, NameItem, RegionItem, SheetItem, Sizes};
 use crate::laying::lay_stream;
@@ -9,7 +16,9 @@ use crate::rooms::{NOTHING, Rooms, fits};
 use std::alloc::Global;
 
 /// Puts the numbers of a refusal into `fault`, and gives its code; all 0 where what was asked for was done.
-pub(crate) fn answer(done: Result<(), Refusal>, fault: &mut Fault) -> u32 {
+pub(crate) fn answer(done: Result<(), Refusal>, fault: &mut Fault) -> u32
+    ensures { IsAnswer done fault.new result }
+{
     *fault = match done {
         Ok(()) => plain(0),
         Err(refusal) => fault_of(&refusal),
@@ -17,8 +26,18 @@ pub(crate) fn answer(done: Result<(), Refusal>, fault: &mut Fault) -> u32 {
     fault.code
 }
 
+/// A truth value as 0 or 1.
+fn truth_bit(truth: bool) -> u32
+    ensures { result ≡ truth_bit truth }
+{
+    truth as u32
+}
+
 /// How long the arrays are for what a stream holds.
-fn sizes_of(alloc: Global, stream: &[u8], options: &Options) -> Result<Sizes, Refusal> {
+fn sizes_of(alloc: Global, stream: &[u8], options: &Options) -> Result<Sizes, Refusal>
+    ensures ok { IfOk result (AreSizes options.now stream.now) }
+    ensures err { IfErr result (RefusesStream options.now stream.now) }
+{
     let mut rooms = Rooms {
         sheets: &mut [],
         names: &mut [],
@@ -30,7 +49,7 @@ fn sizes_of(alloc: Global, stream: &[u8], options: &Options) -> Result<Sizes, Re
     };
     let is_1904 = lay_stream(alloc, &mut rooms, stream, options)?;
     let mut sizes = rooms.laid;
-    sizes.is_1904 = is_1904 as u32;
+    sizes.is_1904 = truth_bit(is_1904);
     Ok(sizes)
 }
 
@@ -42,14 +61,18 @@ pub fn measure(
     options: &Options,
     sizes: &mut Sizes,
     fault: &mut Fault,
-) -> u32 {
-    *sizes = NOTHING;
+) -> u32
+    ensures { Measures options.now stream.now sizes.new fault.new result }
+{
     match sizes_of(alloc, stream, options) {
         Ok(found) => {
             *sizes = found;
             answer(Ok(()), fault)
         }
-        Err(refusal) => answer(Err(refusal), fault),
+        Err(refusal) => {
+            *sizes = NOTHING;
+            answer(Err(refusal), fault)
+        }
     }
 }
 
@@ -59,7 +82,12 @@ fn fill(
     stream: &[u8],
     options: &Options,
     rooms: &mut Rooms<'_>,
-) -> Result<(), Refusal> {
+) -> Result<(), Refusal>
+    requires { Holds rooms.old empty }
+    ensures same { KeepsRooms rooms.old rooms.new }
+    ensures ok { OnOk result (AreFilled options.now stream.now (in_rooms rooms.new)) }
+    ensures err { IfErr result (RefusesToFill options.now stream.now (in_rooms rooms.new)) }
+{
     lay_stream(alloc, rooms, stream, options)?;
     if !fits(rooms) {
         return Err(Refusal::TooShort);
@@ -68,8 +96,8 @@ fn fill(
 }
 
 /// Fills the arrays with what a stream holds, or with the sheets of it that the options ask for. They must be as
-/// long as `measure` says; what is longer keeps what it has after that. Where a call isn't done, it answers the
-/// code of its fault, and nothing is known of the arrays.
+/// long as `measure` says; what is longer begins with it. Where a call isn't done, it answers the code of its
+/// fault, and nothing is known of the arrays.
 pub fn read(
     alloc: Global,
     stream: &[u8],
@@ -81,7 +109,11 @@ pub fn read(
     regions: &mut [RegionItem],
     texts: &mut [u8],
     fault: &mut Fault,
-) -> u32 {
+) -> u32
+    ensures { Reads options.now stream.now
+        (record { sheets = sheets.new; names = names.new; cells = cells.new; formulas = formulas.new;
+          regions = regions.new; texts = texts.new }) fault.new result }
+{
     let mut rooms = Rooms {
         sheets,
         names,

@@ -2,7 +2,7 @@
 
 ghost use Rattle.std.specs.Prelude.{◌≡◌, ◌+◌, ◌≤◌, ◌++◌, ◌∷◌, [], List, ℕ, length, take, IfOk, OnOk, IsTrue, ◌↔◌};
 ghost use Rattle.xls_arrays.specs.Arrays.{Arrays, with_cell_item, with_formula_item, with_name_item, with_region_item, with_sheet_item, with_text};
-ghost use Rattle.xls_arrays.specs.Filled.{Fits, Holds, IsFilled, KeepsRooms, Lays, LaysText};
+ghost use Rattle.xls_arrays.specs.Filled.{Fits, Holds, IsFilled, KeepsRooms, Lays, LaysText, in_rooms};
 
 use crate::items::{CellItem, FormulaItem, NameItem, RegionItem, SheetItem, Sizes, Span};
 use std::alloc::AllocError;
@@ -149,7 +149,7 @@ pub(crate) fn lay_region_item(rooms: &mut Rooms<'_>, item: RegionItem) -> Result
 
 /// Whether the arrays have room for all that was laid.
 pub(crate) fn fits(rooms: &Rooms<'_>) -> bool
-    ensures { (a : Arrays) → Holds rooms.now a → IsTrue result ↔ Fits rooms.now a }
+    ensures { (a : Arrays) → Holds rooms.now a → IsTrue result ↔ Fits (in_rooms rooms.now) a }
 {
     rooms.laid.sheets <= rooms.sheets.len() as u64
         && rooms.laid.names <= rooms.names.len() as u64

@@ -1,6 +1,11 @@
 //! Numbers of days as text.
 
-use crate::whole::put_whole;
+ghost use Rattle.std.specs.Prelude.{IfOk};
+ghost use Rattle.std.specs.String.{string_bytes};
+ghost use Rattle.xls_arrays.specs.Answers.{IsSerialText, PutsText};
+ghost use Rattle.xls_arrays.specs.Values.{is_set};
+
+use crate::whole::put_text;
 use std::alloc::{AllocError, Global};
 use xls_data::Number;
 use xls_decimals::{push_date, push_duration};
@@ -11,13 +16,15 @@ fn serial_text(
     bits: u64,
     is_1904: bool,
     is_duration: bool,
-) -> Result<String, AllocError> {
+) -> Result<String, AllocError>
+    ensures { IfOk result (λ text. IsSerialText bits is_1904 is_duration (string_bytes text)) }
+{
     let mut text = String::new(alloc);
     if is_duration {
         push_duration(Number::Bits(bits), &mut text)?;
-    } else {
-        push_date(Number::Bits(bits), is_1904, &mut text)?;
+        return Ok(text);
     }
+    push_date(Number::Bits(bits), is_1904, &mut text)?;
     Ok(text)
 }
 
@@ -31,16 +38,12 @@ pub fn serial(
     is_duration: u32,
     out: &mut [u8],
     size: &mut u64,
-) -> u32 {
-    *size = 0;
-    match serial_text(alloc, bits, is_1904 != 0, is_duration != 0) {
-        Ok(text) => {
-            if put_whole(text.as_bytes(), out, size) {
-                0
-            } else {
-                2
-            }
-        }
-        Err(_) => 1,
-    }
+) -> u32
+    ensures { PutsText (IsSerialText bits (is_set is_1904) (is_set is_duration)) out.old out.new size.new result }
+{
+    put_text(
+        serial_text(alloc, bits, is_1904 != 0, is_duration != 0),
+        out,
+        size,
+    )
 }

@@ -1,5 +1,9 @@
 //! The workbook's stream of a file.
 
+ghost use Rattle.std.specs.Prelude.{◌≡◌, IfErr, OnOk, true};
+ghost use Rattle.xls_container.specs.Files.{WorkbookBytes};
+ghost use Rattle.xls_arrays.specs.Answers.{KeepsStream, PutsStream, RefusesStreamOf};
+
 use crate::faults::Fault;
 use crate::reading::answer;
 use crate::refusal::Refusal;
@@ -8,12 +12,11 @@ use std::alloc::Global;
 use xls_container::Container;
 
 /// Puts the workbook's stream of a file into an array.
-fn put_stream(
-    alloc: Global,
-    file: &[u8],
-    out: &mut [u8],
-    size: &mut u64,
-) -> Result<(), Refusal> {
+fn put_stream(alloc: Global, file: &[u8], out: &mut [u8], size: &mut u64) -> Result<(), Refusal>
+    ensures ok { OnOk result (KeepsStream file.now out.old out.new size.new true) }
+    ensures err { IfErr result (RefusesStreamOf file.now out.old out.new size.new) }
+{
+    *size = 0;
     let container = Container::open(alloc, file)?;
     let bytes = container.workbook(alloc)?;
     if put_whole(bytes.as_slice(), out, size) {
@@ -32,8 +35,9 @@ pub fn stream(
     out: &mut [u8],
     size: &mut u64,
     fault: &mut Fault,
-) -> u32 {
-    *size = 0;
+) -> u32
+    ensures { PutsStream file.now out.old out.new size.new fault.new result }
+{
     let done = put_stream(alloc, file, out, size);
     answer(done, fault)
 }
