@@ -114,13 +114,9 @@ class Workbook:
         self._sheets = tuple(Sheet(self, *fields) for fields in _items(_raw.SHEET, content.sheets, content.sizes.sheets))
 
     @classmethod
-    def from_bytes(cls, file: Union[bytes, bytearray, memoryview], *, code_page: Optional[int] = None, sheet: Optional[int] = None,
-                   content: bool = True, few_functions: bool = False, max_bytes: Optional[int] = None,
-                   max_cells: Optional[int] = None) -> Workbook:
-        """Reads the workbook of a file's bytes: a compound file, or a workbook's stream alone. `open_workbook` says what the options do."""
-        which = 0 if content and sheet is None else 1 if content else 2
-        options = _raw.Options(max_bytes or 0, max_cells or 0, sheet or 0, which, code_page or 0, not few_functions)
-        return cls(_raw.read(*_raw.stream(file), options))
+    def from_bytes(cls, file: Union[bytes, bytearray, memoryview], **options: Any) -> Workbook:
+        """Reads the workbook of a file's bytes: a compound file, or a workbook's stream alone. The options are those of `open_workbook`."""
+        return _read(_raw.stream(file), **options)
 
     @property
     def sheets(self) -> tuple[Sheet, ...]:
@@ -361,6 +357,14 @@ class Sheet:
         return f"<gaflwened.Sheet {self.name!r} of {self._cells} cells>"
 
 
+def _read(stream: tuple[_raw.Buffer, int], *, code_page: Optional[int] = None, sheet: Optional[int] = None, content: bool = True,
+          few_functions: bool = False, max_bytes: Optional[int] = None, max_cells: Optional[int] = None) -> Workbook:
+    """The workbook of a stream."""
+    which = 2 if not content else 0 if sheet is None else 1
+    options = _raw.Options(max_bytes or 0, max_cells or 0, sheet or 0, which, code_page or 0, not few_functions)
+    return Workbook(_raw.read(*stream, options))
+
+
 def open_workbook(path: Union[str, os.PathLike, BinaryIO], **options: Any) -> Workbook:
     """Reads the workbook of a file, by its path or from an open file.
 
@@ -373,7 +377,9 @@ def open_workbook(path: Union[str, os.PathLike, BinaryIO], **options: Any) -> Wo
 
     OSError where the file can't be read; Error, with the first thing that is wrong with it; MemoryError.
     """
+    # (the file's bytes are given back before the arrays are made)
     if hasattr(path, "read"):
-        return Workbook.from_bytes(path.read(), **options)
+        return _read(_raw.stream(path.read()), **options)
     with open(path, "rb") as file:
-        return Workbook.from_bytes(file.read(), **options)
+        stream = _raw.stream(file.read())
+    return _read(stream, **options)

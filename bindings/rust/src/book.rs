@@ -49,7 +49,9 @@ impl Options {
     ///
     /// [`Error::Io`] where the file can't be read, [`Error::Fault`] with the first thing that is wrong with it, [`Error::OutOfMemory`].
     pub fn open(&self, path: impl AsRef<Path>) -> Result<Workbook, Error> {
-        self.from_bytes(&fs::read(path)?)
+        // (the file's bytes are given back before the arrays are made)
+        let stream = raw::stream(&fs::read(path)?)?;
+        self.read(&stream)
     }
 
     /// Reads the workbook of a file's bytes: a compound file, or a workbook's stream alone. Nothing of them is lent.
@@ -58,8 +60,12 @@ impl Options {
     ///
     /// [`Error::Fault`] with the first thing that is wrong with the file, [`Error::OutOfMemory`].
     pub fn from_bytes(&self, file: &[u8]) -> Result<Workbook, Error> {
-        let stream = raw::stream(file)?;
-        let content = raw::read(&stream, &self.raw())?;
+        self.read(&raw::stream(file)?)
+    }
+
+    /// The workbook of a stream.
+    fn read(&self, stream: &[u8]) -> Result<Workbook, Error> {
+        let content = raw::read(stream, &self.raw())?;
         let texts = String::from_utf8(content.texts).expect("the library writes UTF-8");
         Ok(Workbook {
             sheets: content.sheets,
