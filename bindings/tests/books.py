@@ -223,6 +223,8 @@ def books():
     yield "old", compound_file({"Book": stream([("Naïve", 0, 0, [old_label(0, 0, "naïve €"), number(1, 0, 2.5)])], old, 0x0500)})
     yield "many_rows", compound_file({"Workbook": plain(*(whole(row, column, row * column) for row in range(3000) for column in range(5)))})
     yield "many_texts", plain(*(label(row, 0, f"text {row} é") for row in range(3000)))
+    words = ["", "a", "NA", "seven b", "eight by", "nine byte", "é", "sixteen bytes ab", "same eigXX", "same eigYY", "a\0", "a\0\0"]
+    yield "repeated", plain(*(label(row, column, words[row * (column + 1) % len(words)]) for row in range(6000) for column in range(2)))
 
 
 def damaged(ledger):

@@ -181,6 +181,12 @@ class Workbook:
         found = self._lent()[offset : offset + length]
         return found if isinstance(found, str) else found.decode("utf-8")
 
+    def _words(self) -> numpy.ndarray:
+        """The eight bytes from each offset of the texts on, and eight offsets more."""
+        import numpy
+
+        return numpy.ndarray(self._content.sizes.text_bytes + 9, "<u8", self._content.texts, strides=(1,))
+
     def _texts_of(self, begins: list[int], ends: list[int]) -> list[str]:
         """The texts from so many offsets to others."""
         texts = self._lent()
@@ -197,7 +203,7 @@ class Workbook:
             found = self._moments[bits, is_duration] = number if found is None else found
         return found
 
-    def _value(self, kind: int, _: int, value: int, length: int, number: float) -> Value:
+    def _value(self, kind: int, value: int, length: int, number: float) -> Value:
         """The value of a cell by the fields of its struct, and by the number that its bits are."""
         if kind == _raw.TEXT:
             return self._text(value, length)
@@ -255,21 +261,20 @@ class Sheet:
         """'visible', 'hidden' or 'veryhidden'."""
         return VISIBILITIES[self._visibility]
 
-    def _raw_cells(self) -> Iterator[tuple]:
+    def _raw_cells(self) -> Iterator[tuple[tuple, tuple[float]]]:
         """The fields of each cell's struct, and the number that its bits are."""
         place = self._book._content.cells, self._cells, self._first_cell
-        for fields, number in zip(_items(_raw.CELL, *place), _items(_raw.CELL_NUMBER, *place)):
-            yield fields + number
+        return zip(_items(_raw.CELL, *place), _items(_raw.CELL_NUMBER, *place))
 
-    def _raw_cell(self, index: int) -> tuple:
-        """The fields of one cell's struct, and the number that its bits are."""
+    def _raw_cell(self, index: int) -> tuple[tuple, tuple[float]]:
+        """The same of one cell."""
         place = self._book._content.cells, (self._first_cell + index) * _raw.CELL.size
-        return _raw.CELL.unpack_from(*place) + _raw.CELL_NUMBER.unpack_from(*place)
+        return _raw.CELL.unpack_from(*place), _raw.CELL_NUMBER.unpack_from(*place)
 
     @property
     def nrows(self) -> int:
         """One more than the last row with a cell, 0 where there is none."""
-        return self._raw_cell(self._cells - 1)[0] + 1 if self._cells else 0
+        return self._raw_cell(self._cells - 1)[0][0] + 1 if self._cells else 0
 
     @property
     def ncols(self) -> int:
@@ -282,35 +287,43 @@ class Sheet:
     def cells(self) -> Iterator[Cell]:
         """The cells that the file has, by row and then by column, each position once."""
         value = self._book._value
-        for row, column, *held in self._raw_cells():
-            yield Cell(row, column, value(*held))
+        for (row, column, kind, _, held, length), (number,) in self._raw_cells():
+            yield Cell(row, column, value(kind, held, length, number))
 
     def rows(self) -> Iterator[list[Value]]:
         """The rows from row 0 to the last with a cell, each as a list of `ncols` values, None where no cell stands."""
         width, value = self.ncols, self._book._value
         at, values = 0, [None] * width
-        for row, column, *held in self._raw_cells():
+        for (row, column, kind, _, held, length), (number,) in self._raw_cells():
             while at < row:
                 yield values
                 at, values = at + 1, [None] * width
-            values[column] = value(*held)
+            values[column] = value(kind, held, length, number)
         if self._cells:
             yield values
 
     def to_dict(self) -> dict[tuple[int, int], Value]:
         """The values of the cells by row and column, from 0."""
-        value = self._book._value
-        return {(row, column): value(*held) for row, column, *held in self._raw_cells()}
+        return {(row, column): value for row, column, value in self.cells()}
 
-    def __getitem__(self, place: tuple[int, int]) -> Value:
-        """The value of the cell at a row and a column, from 0; None where none stands."""
+    def _place(self, row: int, column: int) -> int:
+        """How many cells stand before a row and a column."""
         begin, end = 0, self._cells
         while begin < end:
             middle = (begin + end) // 2
-            row, column, *held = self._raw_cell(middle)
+            if self._raw_cell(middle)[0][:2] < (row, column):
+                begin = middle + 1
+            else:
+                end = middle
+        return begin
+
+    def __getitem__(self, place: tuple[int, int]) -> Value:
+        """The value of the cell at a row and a column, from 0; None where none stands."""
+        at = self._place(*place)
+        if at < self._cells:
+            (row, column, kind, _, held, length), (number,) = self._raw_cell(at)
             if (row, column) == place:
-                return self._book._value(*held)
-            begin, end = (middle + 1, end) if (row, column) < place else (begin, middle)
+                return self._book._value(kind, held, length, number)
         return None
 
     @property

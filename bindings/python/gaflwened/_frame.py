@@ -22,14 +22,17 @@ NO_VALUE = frozenset(
 if pandas.__version__.split(".")[0] != "1":
     NO_VALUE |= {"None"}
 LONGEST = max(map(len, NO_VALUE))
-# Which bytes such a text begins with.
-BEGINS = numpy.isin(numpy.arange(256), [ord(text[0]) for text in NO_VALUE if text])
 # The texts that pandas takes for truth values.
 TRUTHS = {"True": True, "TRUE": True, "true": True, "False": False, "FALSE": False, "false": False}
 
 DAY = 86_400_000  # milliseconds
 # Dates and durations of pandas are 64 bits of nanoseconds: these days are well inside.
 LAST_DAY, LONGEST_DURATION = 130_000.0, 100_000.0
+
+SAMPLE = 4096
+MULTIPLIER = numpy.uint64(0x9E37_79B9_7F4A_7C15)
+# The first bytes of a word, by how many.
+MASKS = numpy.array([(1 << 8 * count) - 1 for count in range(9)], numpy.uint64)
 
 
 # ---- columns
@@ -104,24 +107,23 @@ class Column:
         found = milliseconds_of(self.cells, self.book.is_1904, True)
         return self.filled((found * 1_000_000).view("m8[ns]"), "m8[ns]", numpy.timedelta64("NaT"))
 
-    def texts(self) -> tuple[numpy.ndarray, bool]:
-        """The texts of a column that has no other cells, those for no value as NaN, and whether there is such a one."""
-        offsets, lengths = (numpy.ascontiguousarray(self.cells[name]).astype(numpy.int64) for name in ("value", "length"))
+    def texts(self) -> numpy.ndarray:
+        """The texts of a column that has no other cells, those for no value as NaN."""
+        offsets, lengths = (self.cells[name].astype(numpy.int64) for name in ("value", "length"))
+        places, which = repeated(self.book, offsets, lengths)
+        if which is not None:
+            offsets, lengths = offsets[places], lengths[places]
         found = numpy.empty(len(offsets), object)
         found[:] = self.book._texts_of(offsets.tolist(), (offsets + lengths).tolist())
-        short = numpy.flatnonzero(lengths <= LONGEST)
-        if len(short):
-            bytes_of = numpy.frombuffer(self.book._content.texts, numpy.uint8)
-            begins = bytes_of[numpy.minimum(offsets[short], len(bytes_of) - 1)]
-            short = short[BEGINS[begins] | (lengths[short] == 0)]
-        missing = [at for at in short.tolist() if found[at] in NO_VALUE]
-        found[missing] = numpy.nan
-        return self.filled(found, object, numpy.nan), bool(missing) or not self.is_full()
+        for at in numpy.flatnonzero(lengths <= LONGEST).tolist():
+            if found[at] in NO_VALUE:
+                found[at] = numpy.nan
+        return self.filled(found if which is None else found[which], object, numpy.nan)
 
     def inferred(self) -> numpy.ndarray:
         """A column with texts, or of several kinds, as `pandas.read_excel` has it."""
         if self.kinds == [_raw.TEXT]:
-            values, _ = self.texts()
+            values = self.texts()
             first = next((value for value in values if type(value) is str), None)
             if first is not None and first not in TRUTHS and not is_number(first):
                 return values
@@ -130,11 +132,32 @@ class Column:
     def objects(self) -> list[Any]:
         """The values as pandas' own readers give them: a blank as an empty text, an error as NaN, whole numbers as such."""
         found = [""] * self.height
-        fields = (self.cells[name].tolist() for name in ("kind", "form", "value", "length", "number"))
+        fields = (self.cells[name].tolist() for name in ("kind", "value", "length", "number"))
         value = self.book._value
         for row, *held in zip((self.cells["row"] - self.first).tolist(), *fields):
             found[row] = given(value(*held))
         return found
+
+
+def repeated(book: Workbook, offsets: numpy.ndarray, lengths: numpy.ndarray) -> tuple[Any, Any]:
+    """Of short texts that stand there again and again: the places of the different ones, and which of them each text is. Nothing of others.
+
+    So a text that many cells show is made once.
+    """
+    if len(lengths) < SAMPLE or lengths.max() > 16:
+        return None, None
+    words = book._words()
+    first = words[offsets] & MASKS[numpy.minimum(lengths, 8)]
+    second = words[offsets + 8] & MASKS[numpy.maximum(lengths - 8, 0)]
+    keys = (first * MULTIPLIER ^ second) * MULTIPLIER ^ lengths.view(numpy.uint64)
+    if len(numpy.unique(keys[:SAMPLE])) > SAMPLE // 2:
+        return None, None
+    which, _ = pandas.factorize(keys)
+    places = numpy.empty(which.max() + 1, numpy.int64)
+    places[which[::-1]] = numpy.arange(len(which))[::-1]
+    # (different texts could have one key)
+    same = all((part[places][which] == part).all() for part in (first, second, lengths))
+    return (places, which) if same else (None, None)
 
 
 def given(value: Value) -> Any:
@@ -194,8 +217,7 @@ def width_of(sheet: Sheet) -> int:
 def columns_of(sheet: Sheet, first: int, last: int) -> Iterator[numpy.ndarray]:
     """Each column of a sheet, from a row to before another."""
     cells, height, width = sheet.to_numpy(), last - first, width_of(sheet)
-    begin, end = numpy.searchsorted(cells["row"], [first, last])
-    cells = cells[begin:end]
+    cells = cells[sheet._place(first, 0) : sheet._place(last, 0)]
     if len(cells) == height * width:
         for column in range(width):
             yield Column(sheet._book, cells[column::width], first, height).values()

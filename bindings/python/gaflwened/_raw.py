@@ -27,6 +27,8 @@ REGION = struct.Struct("=4I")
 
 # Buffers of more bytes are mapped, so that no time goes into bytes that are written over.
 MAPPED = 1 << 20
+# Each buffer has more bytes than its items: its pointer is never null, and the last text may be looked at in whole words.
+SLACK = 16
 
 
 class Fault(ctypes.Structure):
@@ -74,9 +76,10 @@ _LIBRARY = _library()
 
 
 def _buffer(size: int) -> Buffer:
-    """A buffer of so many bytes, of one at least, since no pointer may be null."""
+    """A buffer of so many bytes and some more."""
+    size += SLACK
     if size < MAPPED:
-        return bytearray(max(size, 1))
+        return bytearray(size)
     try:
         return mmap.mmap(-1, size, mmap.MAP_PRIVATE | mmap.MAP_ANONYMOUS)
     except (OSError, OverflowError):
@@ -84,11 +87,12 @@ def _buffer(size: int) -> Buffer:
 
 
 def _shortened(buffer: Buffer, size: int) -> Buffer:
-    """The buffer with its first bytes alone."""
+    """The buffer with so many bytes and some more."""
+    size += SLACK
     if isinstance(buffer, bytearray):
-        del buffer[max(size, 1) :]
+        del buffer[size:]
     else:
-        buffer.resize(max(size, 1))
+        buffer.resize(size)
     return buffer
 
 
