@@ -42,7 +42,8 @@ def archives():
     for name in ARCHIVES:
         paths = [f"{folder}/{name}" for folder in folders if os.path.exists(f"{folder}/{name}")]
         if not paths:
-            raise SystemExit(f"gaflwened: {name} isn't in {', '.join(folders)}: make it by `rt lib xls_c`, or set GAFLWENED_LIB to its folder")
+            where = ", ".join(folders)
+            raise SystemExit(f"gaflwened: {name} isn't in {where}: make it by `rt lib xls_c`, or set GAFLWENED_LIB to its folder")
         found.append(paths[0])
     return found
 

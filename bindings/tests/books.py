@@ -38,7 +38,8 @@ def rk_double(value, is_hundredth):
 
 
 def row_of_wholes(row, column, values):
-    body = struct.pack("<HH", row, column) + b"".join(struct.pack("<HI", 0, value << 2 & 0xFFFFFFFF | 2) for value in values)
+    body = struct.pack("<HH", row, column)
+    body += b"".join(struct.pack("<HI", 0, value << 2 & 0xFFFFFFFF | 2) for value in values)
     return record(0x00BD, body + struct.pack("<H", column + len(values) - 1))
 
 
@@ -91,8 +92,9 @@ def formats(*pairs):
 
 def stream(sheets, globals=b"", version=0x0600):
     """A stream of these sheets: (name, visibility, kind, records)."""
-    begin = record(0x0809, struct.pack("<HHHHII", version, 5, 0, 0, 0, 0)) + globals
-    parts = [record(0x0809, struct.pack("<HHHHII", version, 0x10, 0, 0, 0, 0)) + b"".join(items) + record(0x000A) for _, _, _, items in sheets]
+
+    def bof(kind):
+        return record(0x0809, struct.pack("<HHHHII", version, kind, 0, 0, 0, 0))
 
     def name_bytes(text):
         if version < 0x0600:
@@ -100,6 +102,8 @@ def stream(sheets, globals=b"", version=0x0600):
         units = text.encode("utf-16-le")
         return struct.pack("<BB", len(units) // 2, 1) + units
 
+    begin = bof(5) + globals
+    parts = [bof(0x10) + b"".join(items) + record(0x000A) for _, _, _, items in sheets]
     names = [name_bytes(text) for text, _, _, _ in sheets]
     at = len(begin) + sum(10 + len(text) for text in names) + 4
     lines = b""
@@ -132,7 +136,8 @@ def numbers():
     yield row_of_wholes(40, 3, [5, -6, 7, 8])
 
 
-TEXTS = ["one", "Café €", "日本語 \U0001F600", "line\nline\ttab\r\\", "", " ", "NA", "#N/A", "12", "1e3", "True", "TRUE", "nul\0inside", "x" * 3000]
+TEXTS = ["one", "Café €", "日本語 \U0001F600", "line\nline\ttab\r\\", "", " ", "NA", "#N/A", "12", "1e3", "True", "TRUE"]
+TEXTS += ["nul\0inside", "x" * 3000]
 
 
 def values():

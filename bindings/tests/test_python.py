@@ -86,12 +86,13 @@ class Reading(unittest.TestCase):
                 cells = list(sheet.cells())
                 places = [cell[:2] for cell in cells]
                 self.assertEqual(places, sorted(set(places)), path)
-                self.assertEqual({cell[:2]: repr(cell.value) for cell in cells}, {place: repr(value) for place, value in sheet.to_dict().items()})
+                shown = {cell[:2]: repr(cell.value) for cell in cells}
+                self.assertEqual(shown, {place: repr(value) for place, value in sheet.to_dict().items()})
                 if sheet.nrows * sheet.ncols < 1_000_000:
                     rows = list(sheet.rows())
                     self.assertEqual({len(row) for row in rows} - {sheet.ncols}, set())
                     of_rows = {(r, c): repr(value) for r, row in enumerate(rows) for c, value in enumerate(row) if value is not None}
-                    self.assertEqual(of_rows, {cell[:2]: repr(cell.value) for cell in cells}, path)
+                    self.assertEqual(of_rows, shown, path)
                 for cell in cells[:50]:
                     self.assertEqual(repr(sheet[cell.row, cell.column]), repr(cell.value))
 
@@ -196,25 +197,28 @@ class Frames(unittest.TestCase):
     def test_milliseconds_are_those_of_the_library(self):
         from gaflwened import _frame
 
+        def clock_of(text, is_duration):
+            if is_duration:
+                return duration_of(text)
+            moment = moment_of(text.replace("1900-02-29", "1900-03-01"))
+            return moment - datetime.datetime.combine(moment.date(), datetime.time())
+
         for name in ("dates_1900", "dates_1904"):
             read = book(name)
             cells = read[0].to_numpy()
-            for kind, is_duration in (_raw.DATE_TIME, False), (_raw.DURATION, True):
-                found = cells[(cells["kind"] == kind) & (numpy.abs(cells["number"]) < 100_000) & (cells["number"] >= (-9 if is_duration else 1))]
+            for kind, is_duration, least in (_raw.DATE_TIME, False, 1), (_raw.DURATION, True, -9):
+                found = cells[(cells["kind"] == kind) & (cells["number"] < 100_000) & (cells["number"] >= least)]
                 for item, milliseconds in zip(found, _frame.milliseconds_of(found, read.is_1904, is_duration).tolist()):
                     text = _raw.serial(int(item["value"]), read.is_1904, is_duration)
                     clock = datetime.timedelta(milliseconds=milliseconds)
-                    if is_duration:
-                        self.assertEqual(duration_of(text), clock, text)
-                    else:
-                        moment = moment_of(text.replace("1900-02-29", "1900-03-01"))
-                        self.assertEqual(moment - datetime.datetime.combine(moment.date(), datetime.time()), clock % datetime.timedelta(days=1), text)
+                    self.assertEqual(clock_of(text, is_duration), clock if is_duration else clock % datetime.timedelta(days=1), text)
 
     def test_columns(self):
         frame = gaflwened.read_excel(f"{FOLDER}/columns.xls")
         self.assertEqual(list(frame.columns), ["a", "a.1", "Unnamed: 2", "7", "b", "c", "d", "e", "f", "g", "h", "i"])
-        self.assertEqual([str(dtype) for dtype in frame.dtypes][:4], ["int64", "float64", "float64", "bool"])
-        self.assertEqual([str(dtype) for dtype in frame.dtypes][5:10], ["datetime64[ns]", "datetime64[ns]", "timedelta64[ns]", "object", "int64"])
+        kinds = [str(kind) for kind in frame.dtypes]
+        self.assertEqual(kinds[:4], ["int64", "float64", "float64", "bool"])
+        self.assertEqual(kinds[5:10], ["datetime64[ns]", "datetime64[ns]", "timedelta64[ns]", "object", "int64"])
         self.assertEqual(frame["f"][0], "x")
         self.assertTrue(pandas.isna(frame["f"][3]))
 
@@ -230,6 +234,7 @@ class Frames(unittest.TestCase):
         self.assertEqual(gaflwened.read_excel(path, na_values=["x"])["f"].notna().sum(), 10)
         self.assertEqual(gaflwened.read_excel(path, skipfooter=30).shape, (9, 12))
         self.assertEqual(gaflwened.read_excel(path, nrows=4).shape, (4, 12))
+        self.assertEqual(gaflwened.read_excel(path, index_col=[0, 2]).index.tolist()[1:3], [(2, 2), (3, 2)])
         with self.assertRaises(TypeError):
             gaflwened.read_excel(path, no_such_argument=1)
 

@@ -28,7 +28,7 @@ __all__ = [
 def read_excel(io: Any, sheet_name: Any = 0, **options: Any) -> Any:
     """Reads sheets of a workbook into DataFrames, with the arguments of `pandas.read_excel` (but for `engine` and `storage_options`).
 
-    io            a path, an open file, or the bytes of a file
+    io            a path, an open file, the bytes of a file, or a Workbook
     sheet_name    a name, an index from 0, a list of these, or None for all sheets; of a list or None the answer is a dict
     header, names, index_col, usecols, dtype, converters, true_values, false_values, skiprows, nrows, na_values, keep_default_na,
     na_filter, parse_dates, thousands, decimal, comment, skipfooter    as of pandas

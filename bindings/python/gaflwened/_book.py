@@ -172,8 +172,10 @@ class Workbook:
     def _lent(self) -> Union[str, bytes]:
         """All texts, as a text where all is ASCII: then offsets in bytes are offsets in characters."""
         if self._texts is None:
-            texts = bytes(self.texts)
-            self._texts = texts.decode("ascii") if texts.isascii() else texts
+            try:
+                self._texts = str(self.texts, "ascii")
+            except UnicodeDecodeError:
+                self._texts = bytes(self.texts)
         return self._texts
 
     def _text(self, offset: int, length: int) -> str:
@@ -328,7 +330,7 @@ class Sheet:
 
     @property
     def formulas(self) -> tuple[Formula, ...]:
-        """The formulas, by row and then by column. The text of one that can't be spelled says so, and that of a shared formula is empty."""
+        """The formulas, by row and then by column. One that can't be spelled says so; the text of a shared formula is empty."""
         text = self._book._text
         items = _items(_raw.FORMULA, self._book._content.formulas, self._formulas, self._first_formula)
         return tuple(Formula(row, column, text(offset, length)) for row, column, offset, length in items)

@@ -55,7 +55,8 @@ class Error(Exception):
     first, second, third    the numbers that belong to the code, 0 where it names none
     """
 
-    def __init__(self, text: str, code: Union[FaultCode, int], part: int = 0, table: int = 0, first: int = 0, second: int = 0, third: int = 0):
+    def __init__(self, text: str, code: Union[FaultCode, int], part: int = 0, table: int = 0, first: int = 0, second: int = 0,
+                 third: int = 0):
         super().__init__(text, code, part, table, first, second, third)
         self.text = text
         self.code = code

@@ -3,7 +3,6 @@
 from __future__ import annotations
 
 import datetime
-import os
 from typing import Any, Iterator, Optional
 
 import numpy
@@ -23,12 +22,13 @@ if pandas.__version__.split(".")[0] != "1":
     NO_VALUE |= {"None"}
 LONGEST = max(map(len, NO_VALUE))
 # The texts that pandas takes for truth values.
-TRUTHS = {"True": True, "TRUE": True, "true": True, "False": False, "FALSE": False, "false": False}
+TRUTHS = frozenset(["True", "TRUE", "true", "False", "FALSE", "false"])
 
 DAY = 86_400_000  # milliseconds
 # Dates and durations of pandas are 64 bits of nanoseconds: these days are well inside.
 LAST_DAY, LONGEST_DURATION = 130_000.0, 100_000.0
 
+# How many texts are looked at to see whether they are repeated.
 SAMPLE = 4096
 MULTIPLIER = numpy.uint64(0x9E37_79B9_7F4A_7C15)
 # The first bytes of a word, by how many.
@@ -266,41 +266,60 @@ def is_plain(number: Any) -> bool:
     return number is None or type(number) is int and number >= 0
 
 
-def frame_of(sheet: Sheet, header: Any = 0, *, names: Any = None, index_col: Any = None, usecols: Any = None, dtype: Any = None,
-             converters: Any = None, true_values: Any = None, false_values: Any = None, skiprows: Any = None, nrows: Any = None,
-             na_values: Any = None, keep_default_na: bool = True, na_filter: bool = True, parse_dates: Any = False, thousands: Any = None,
-             decimal: str = ".", comment: Any = None, skipfooter: int = 0) -> pandas.DataFrame:
+# The arguments of pandas that its own parser is asked for, and what it takes them for without being asked.
+ARGUMENTS = {
+    "names": None, "index_col": None, "usecols": None, "dtype": None, "converters": None, "true_values": None, "false_values": None,
+    "na_values": None, "keep_default_na": True, "na_filter": True, "parse_dates": False, "thousands": None, "decimal": ".",
+    "comment": None, "skipfooter": 0,
+}
+
+
+def frame_of(sheet: Sheet, header: Any = 0, skiprows: Any = None, nrows: Any = None, **options: Any) -> pandas.DataFrame:
     """The sheet as a DataFrame, the same that pandas makes of its rows."""
-    rare = {
-        "names": names, "index_col": index_col, "usecols": columns_by_letters(usecols), "dtype": dtype, "converters": converters,
-        "true_values": true_values, "false_values": false_values, "na_values": na_values, "parse_dates": parse_dates or None,
-        "thousands": thousands, "comment": comment, "skipfooter": skipfooter or None, "keep_default_na": keep_default_na and None,
-        "na_filter": na_filter and None, "decimal": None if decimal == "." else decimal,
-    }
-    rare = {name: value for name, value in rare.items() if value is not None}
+    for name in options:
+        if name not in ARGUMENTS:
+            raise TypeError(f"unexpected argument {name!r}")
+    options = {name: value for name, value in options.items() if value is not ARGUMENTS[name]}
+    if options or not (is_plain(header) and is_plain(skiprows) and is_plain(nrows)):
+        return frame_by_rows(sheet, header=header, skiprows=skiprows, nrows=nrows, **options)
     at = skiprows or 0
-    if rare or not (is_plain(header) and is_plain(skiprows) and is_plain(nrows)):
-        return frame_by_rows(sheet, header=header, skiprows=skiprows, nrows=nrows, **rare)
     first = at if header is None else at + header + 1
     last = sheet.nrows if nrows is None else min(first + nrows, sheet.nrows)
     if first >= last:
         return frame_by_rows(sheet, header=header, skiprows=skiprows, nrows=nrows)
-    row = at if header is None else first - 1
-    labels = parsed([[given(sheet[row, column]) for column in range(width_of(sheet))]], header=None if header is None else 0).columns
+    row = first if header is None else first - 1
+    heads = [given(sheet[row, column]) for column in range(width_of(sheet))]
     frame = pandas.DataFrame(dict(enumerate(columns_of(sheet, first, last))), copy=False)
-    frame.columns = labels
+    frame.columns = parsed([heads], header=None if header is None else 0).columns
     return frame
 
 
-def frame_by_rows(sheet: Sheet, **options: Any) -> pandas.DataFrame:
+def frame_by_rows(sheet: Sheet, header: Any, usecols: Any = None, index_col: Any = None, **options: Any) -> pandas.DataFrame:
     """The frame that pandas' own parser makes of the rows; it knows all options."""
     rows = [[given(value) for value in row] for row in sheet.rows()]
-    return parsed(rows, **options) if rows else pandas.DataFrame()
+    if not rows:
+        return pandas.DataFrame()
+    if isinstance(index_col, (list, tuple)):
+        # (an index of several columns leaves out what is above: so merged cells read)
+        for above, row in zip(rows[first_row(header) :], rows[first_row(header) + 1 :]):
+            for column in index_col:
+                row[column] = above[column] if row[column] == "" else row[column]
+    return parsed(rows, header=header, usecols=columns_by_letters(usecols), index_col=index_col, **options)
+
+
+def first_row(header: Any) -> int:
+    """The first row below the header."""
+    return 0 if header is None else header + 1 if isinstance(header, int) else max(header) + 1
 
 
 def read_excel(io: Any, sheet_name: Any, **options: Any) -> Any:
     """The frames of the sheets that are asked for."""
-    book = io if isinstance(io, Workbook) else Workbook.from_bytes(io) if isinstance(io, (bytes, bytearray, memoryview)) else open_workbook(io)
+    if isinstance(io, Workbook):
+        book = io
+    elif isinstance(io, (bytes, bytearray, memoryview)):
+        book = Workbook.from_bytes(io)
+    else:
+        book = open_workbook(io)
     if sheet_name is None:
         return {sheet.name: frame_of(sheet, **options) for sheet in book.sheets}
     if isinstance(sheet_name, (list, tuple)):

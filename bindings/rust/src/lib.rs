@@ -1,7 +1,7 @@
 //! A reader of old Excel workbooks (`.xls`, Excel 5 to 2003).
 //!
-//! What reads is a proved library: of every file, also a damaged or a hostile one, it answers what the file holds or the first thing that is
-//! wrong with it, and memory that runs out is an answer too. This crate calls it and lends what it answered.
+//! What reads is a proved library: of every file, also a damaged or a hostile one, it answers what the file holds or the first thing that
+//! is wrong with it, and memory that runs out is an answer too. This crate calls it and lends what it answered.
 //!
 //! ```
 //! # fn main() -> Result<(), gaflwened::Error> {
