@@ -348,7 +348,7 @@ class Sheet:
         kind           1 number, 2 date or time, 3 duration, 4 truth value, 5 error, 6 text, 9 whole number in short form
         form           how the file has the number: 0 a double, 1 a whole number, 2 hundredths, 3 a double over 100
         number         of kinds 1, 2, 3 and 9: the number, of days for 2 and 3
-        value          the same 64 bits as a whole number: of 4 it is 0 or 1, of 5 the code of the error, of 6 an offset into `Workbook.texts`
+        value          the same 64 bits as a whole number: of 4 it is 0 or 1, of 5 the error's code, of 6 an offset into `Workbook.texts`
         length         of a text: its bytes
         """
         import numpy
