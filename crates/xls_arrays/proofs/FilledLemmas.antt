@@ -24,7 +24,6 @@ module _ (before after items bytes : List ℕ) (place count : ℕ)
     (inside : place < length before) (f : IsFilled before place items)
     (written : take (place + count) after ≡ take place before ++ take count bytes)
     (same : length after ≡ length before) where
-
   items_before : take place before ≡ items
   items_before = f.begins ∙ take_all (length before) items (omega (arith, f.count))
 

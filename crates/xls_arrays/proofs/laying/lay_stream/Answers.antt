@@ -23,21 +23,21 @@ returns-in_err-lay_view-clause-err c =
 pub returns-clause-ok : goal.returns-clause-ok
 returns-clause-ok c =
     λ h.
-        let stream = c.args.stream.now in
-        let view = c.in_ok-view.view in
-        let shows : Shows c.args.options.now stream view =
-        record {
-          plain = c.in_ok-refuse_bytes.ensures.ok;
-          viewed = subst (λ (o : XlsOptions). IsViewed o stream view) c.in_ok-reader.ensures c.in_ok-view.ensures.ok;
-        } in
-        let laid = c.in_ok-lay_view.ensures.ok in
-        let held : IsHeld c.args.options.now stream c.has_1904_epoch.result (arrays_of view.book.names laid.0) =
-        record {
-          view = view;
-          shows = shows;
-          sheets = laid.0;
-          asked = laid.1;
-          arrays = refl;
-          epoch = c.has_1904_epoch.ensures;
-        } in
-        (arrays_of view.book.names laid.0, held, laid.2 empty h)
+    let stream = c.args.stream.now in
+    let view = c.in_ok-view.view in
+    let shows : Shows c.args.options.now stream view =
+    record {
+      plain = c.in_ok-refuse_bytes.ensures.ok;
+      viewed = subst (λ (o : XlsOptions). IsViewed o stream view) c.in_ok-reader.ensures c.in_ok-view.ensures.ok;
+    } in
+    let laid = c.in_ok-lay_view.ensures.ok in
+    let held : IsHeld c.args.options.now stream c.has_1904_epoch.result (arrays_of view.book.names laid.0) =
+    record {
+      view = view;
+      shows = shows;
+      sheets = laid.0;
+      asked = laid.1;
+      arrays = refl;
+      epoch = c.has_1904_epoch.ensures;
+    } in
+    (arrays_of view.book.names laid.0, held, laid.2 empty h)
