@@ -1,5 +1,5 @@
 -- How calls end.
-use Rattle.std.proofs.Common.{◌≡◌, ℕ, List, Result, Ok, Err, OnOk, IfErr, IfOk, Some, None, if◌then◌else◌, ◌==◌, inl, inr, refl, ap, subst, ◌∙◌, rules, codes}
+use Rattle.std.proofs.Common.{◌≡◌, ℕ, List, Result, Ok, Err, OnOk, IfErr, Some, None, if◌then◌else◌, ◌==◌, inl, inr, refl, ap, subst, ◌∙◌, rules, codes}
 use Rattle.xls_arrays.specs.Answers.{AreFilled, Answers, IsAnswer, Reads, RefusesToFill}
 use Rattle.xls_arrays.specs.Arrays.{Arrays}
 use Rattle.xls_arrays.specs.Filled.{in_rooms}

@@ -5,3 +5,4 @@ pub mod LaidLemmas
 pub mod ShownLemmas
 pub mod StandardFacts
 pub mod TextLemmas
+pub mod ToldLemmas

@@ -1,5 +1,5 @@
 -- Values that IEEE 754, BIFF and the header give, so that a wrong rule in the specs does not check.
-use Rattle.std.proofs.Common.{◌≡◌, ℕ, ◌∷◌, [], ◌++◌, List, map, Bool, true, false, Some, None, refl, pos, negsuc, codes}
+use Rattle.std.proofs.Common.{◌≡◌, ℕ, ◌∷◌, [], ◌++◌, List, map, true, false, Some, None, refl, pos, negsuc, codes}
 use Rattle.std.specs.Fmt.{digits}
 use Rattle.xls_data.specs.Content as content
 use Rattle.xls_data.specs.declared.numbers.Number.TheVariants.{Bits, Whole, Hundredths, BitsOver100}
@@ -14,7 +14,6 @@ use Rattle.xls_sectors.specs.declared.error.Table.TheVariants as tables
 use Rattle.xls_sectors.specs.declared.error.SectorFault.TheVariants as sectors
 use Rattle.xls_directory.specs.declared.fault.DirectoryFault.TheVariants as entries
 use Rattle.xls_container.specs.declared.kind.FileKind.TheVariants as kinds
-use Rattle.xls_reading.specs.Reading.{BookView}
 use Rattle.xls_arrays.specs.Arrays.{Told, arrays_of, kind_number, laid, visibility_number}
 use Rattle.xls_arrays.specs.Codes as number
 use Rattle.xls_arrays.specs.Codes.{numbers}
@@ -22,7 +21,6 @@ use Rattle.xls_arrays.specs.Faults.{fault_of}
 use Rattle.xls_arrays.specs.Numbers.{bits_of}
 use Rattle.xls_arrays.specs.Options.{max_bytes_in, options_by}
 use Rattle.xls_arrays.specs.Parts.{all_parts, part_number, part_of}
-use Rattle.xls_arrays.specs.Shown.{asked_for}
 use Rattle.xls_arrays.specs.Telling.{refusal_of, sentence}
 use Rattle.xls_arrays.specs.Values.{error_code, kind_of}
 use Rattle.xls_arrays.specs.declared.options.Options.{Options}
@@ -33,8 +31,15 @@ use Rattle.xls_arrays.specs.declared.refusal.Refusal.TheVariants as refusals
 -- ---- numbers
 
 -- 0, 1, -2, 2 ^ 53 + 1; 2.5, 0.1 and -123.45 of hundredths; 0.01, -0 and infinity of a double over 100; what is no number
-pub known_doubles : map bits_of ((Whole (pos 0)) ∷ (Whole (pos 1)) ∷ (Whole (negsuc 1)) ∷ (Whole (pos 0x0020_0000_0000_0001)) ∷ (Hundredths (pos 250)) ∷ (Hundredths (pos 10)) ∷ (Hundredths (negsuc 12344)) ∷ (BitsOver100 0x3ff0_0000_0000_0000) ∷ (BitsOver100 0x8000_0000_0000_0000) ∷ (BitsOver100 0x7ff0_0000_0000_0000) ∷ (Bits 0x7ff8_0000_0000_0001) ∷ [])
-    ≡ 0x0000_0000_0000_0000 ∷ 0x3ff0_0000_0000_0000 ∷ 0xc000_0000_0000_0000 ∷ 0x4340_0000_0000_0000 ∷ 0x4004_0000_0000_0000 ∷ 0x3fb9_9999_9999_999a ∷ 0xc05e_dccc_cccc_cccd ∷ 0x3f84_7ae1_47ae_147b ∷ 0x8000_0000_0000_0000 ∷ 0x7ff0_0000_0000_0000 ∷ 0x7ff8_0000_0000_0001 ∷ []
+pub known_doubles : map bits_of ((Whole (pos 0)) ∷ (Whole (pos 1)) ∷ (Whole (negsuc 1))
+    ∷ (Whole (pos 0x0020_0000_0000_0001)) ∷ (Hundredths (pos 250)) ∷ (Hundredths (pos 10))
+    ∷ (Hundredths (negsuc 12344)) ∷ (BitsOver100 0x3ff0_0000_0000_0000)
+    ∷ (BitsOver100 0x8000_0000_0000_0000) ∷ (BitsOver100 0x7ff0_0000_0000_0000)
+    ∷ (Bits 0x7ff8_0000_0000_0001) ∷ [])
+    ≡ 0x0000_0000_0000_0000 ∷ 0x3ff0_0000_0000_0000 ∷ 0xc000_0000_0000_0000
+    ∷ 0x4340_0000_0000_0000 ∷ 0x4004_0000_0000_0000 ∷ 0x3fb9_9999_9999_999a
+    ∷ 0xc05e_dccc_cccc_cccd ∷ 0x3f84_7ae1_47ae_147b ∷ 0x8000_0000_0000_0000
+    ∷ 0x7ff0_0000_0000_0000 ∷ 0x7ff8_0000_0000_0001 ∷ []
 unfolding lib.Ieee.to_bits lib.Ieee.of_int lib.Ieee.div lib.Ieee.of_bits
 known_doubles = refl
 

@@ -2,7 +2,8 @@
 
 ghost use Rattle.std.specs.Prelude.{◌≡◌};
 ghost use Rattle.xls_arrays.specs.Faults.{fault_of};
-ghost use Rattle.xls_arrays.specs.Codes.{chain_number, numbered, numbers, plain, directory_fault, kind_number, sector_fault, stream_fault, table_number};
+ghost use Rattle.xls_arrays.specs.Codes.{chain_number, numbered, numbers, plain, directory_fault};
+ghost use Rattle.xls_arrays.specs.Codes.{kind_number, sector_fault, stream_fault, table_number};
 
 use crate::parts::part_number;
 use crate::refusal::{Chain, Refusal};

@@ -1,9 +1,8 @@
 use Rattle.std.proofs.Common.{refl, subst}
-use Rattle.xls_view.specs.Viewing.{IsViewed, Viewed}
+use Rattle.xls_view.specs.Viewing.{IsViewed}
 use Rattle.xls_open.specs.declared.options.XlsOptions.{XlsOptions}
 use Rattle.xls_arrays.specs.Arrays.{arrays_of, empty}
 use Rattle.xls_arrays.specs.Held.{IsHeld, RefusesStream, Shows}
-use Rattle.xls_arrays.specs.Options.{options_by}
 use Rattle.xls_arrays.proofs.HeldLemmas.{err-as, misses-refused}
 use Rattle.xls_arrays.proofs.laying.lay_stream.Goals as goal
 

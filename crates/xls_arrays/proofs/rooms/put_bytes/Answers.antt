@@ -1,6 +1,3 @@
-use Rattle.std.proofs.Common.{◌≡◌, ◌+◌, ◌-◌, ◌≤◌, ◌<◌, length, take, min, arith}
-use Rattle.std.proofs.lemmas.List.{length-append, length-take-le}
-use Rattle.xls_arrays.specs.Filled.{IsFilled}
 use Rattle.xls_arrays.proofs.FilledLemmas.{bytes-laid}
 use Rattle.xls_arrays.proofs.rooms.put_bytes.Goals as goal
 
