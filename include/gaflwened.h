@@ -174,7 +174,8 @@ enum {
 };
 
 /* A sheet. Its cells are cells[first_cell] to cells[first_cell + cells - 1], and likewise. Where several sheets
- * have one name, each has the content of the last of them. */
+ * have one name, each has the content of the last of them; so a file that is made for it may ask for many more cells than it
+ * has bytes. GAFLWENED_NO_CONTENT first, and then a sheet at a time, leaves the choice with the caller. */
 typedef struct gaflwened_sheet {
     gaflwened_span name;
     uint64_t first_cell;

@@ -25,7 +25,7 @@ mod whole;
 pub use decoding::refusal_of;
 pub use faults::{Fault, fault_of};
 pub use items::{CellItem, FormulaItem, NameItem, RegionItem, SheetItem, Sizes, Span};
-pub use laws::arrays_are_told;
+pub use laws::{arrays_are_told, refusals_are_told};
 pub use numbers::{bits_of, form_of};
 pub use options::Options;
 pub use reading::{measure, read};
