@@ -55,6 +55,7 @@ enum {
     GAFLWENED_ATTRIBUTE = 27,      /* no attribute of a formula has the number `first` */
     GAFLWENED_FORMAT = 28,         /* no number format has the identifier `first` */
     GAFLWENED_INPUT = 29,          /* a read of the source failed; no call here answers it */
+    GAFLWENED_NAME = 30,           /* no sheet has a name that was asked for; no call here answers it */
 
     /* Why a file gives no workbook. */
     GAFLWENED_FILE_KIND = 48,      /* neither a compound file nor a workbook's stream; part: GAFLWENED_FILE_.. */
@@ -173,7 +174,8 @@ enum {
 };
 
 /* A sheet. Its cells are cells[first_cell] to cells[first_cell + cells - 1], and likewise. Where several sheets
- * have one name, each has the content of the last of them. */
+ * have one name, each has the content of the last of them; so a file that is made for it may ask for many more cells than it
+ * has bytes. GAFLWENED_NO_CONTENT first, and then a sheet at a time, leaves the choice with the caller. */
 typedef struct gaflwened_sheet {
     gaflwened_span name;
     uint64_t first_cell;
@@ -265,8 +267,8 @@ uint32_t gaflwened_stream(const uint8_t *file, size_t file_length, uint8_t *out,
 uint32_t gaflwened_measure(const uint8_t *stream, size_t stream_length, const gaflwened_options *options,
                            gaflwened_sizes *sizes, gaflwened_fault *fault);
 
-/* Fills arrays with what a stream holds. Those that are longer than gaflwened_measure says keep what they have after it. Where
- * one is shorter, the answer is GAFLWENED_TOO_SHORT. After any code but GAFLWENED_OK nothing is known of the arrays.
+/* Fills arrays with what a stream holds. Those that are longer than gaflwened_measure says begin with it. Where one is shorter, the
+ * answer is GAFLWENED_TOO_SHORT. After any code but GAFLWENED_OK nothing is known of the arrays.
  *
  * `texts` has the texts one after the other: of each defined name its name and its formula; and then sheet by sheet its name, the
  * texts of its cells, the texts of its formulas. A text that several cells show stands there once for each. */
@@ -286,7 +288,7 @@ uint32_t gaflwened_fault_text(const gaflwened_fault *fault, uint8_t *out, size_t
 /* The text of a number of days, the double with these bits, to the nearest millisecond, ties to even. As a date and time:
  * `2024-02-29T13:45:30.25`, at midnight the day alone, below one day the time alone. As a duration (is_duration not 0):
  * `30:00:00`, `-1:30:00.5`. A number that is out of range stays a number, `-1`. is_1904 as in gaflwened_sizes, 0 or else 1.
- * *size, out and the answer are as of gaflwened_fault_text; 400 bytes are always enough. */
+ * *size, out and the answer are as of gaflwened_fault_text. */
 uint32_t gaflwened_serial(uint64_t bits, uint32_t is_1904, uint32_t is_duration, uint8_t *out, size_t out_length,
                           uint64_t *size);
 

@@ -1,9 +1,9 @@
 -- Arrays that are filled as far as they go.
-use Rattle.std.proofs.Common.{◌≡◌, ℕ, ◌+◌, ◌-◌, ◌≤◌, ◌<◌, List, [], ◌∷◌, ◌++◌, take, length, refl, rules, arith, sym, ap, subst, ◌∙◌, zero-add, min, ◌⊎◌, inl, inr}
+use Rattle.std.proofs.Common.{◌≡◌, ℕ, ◌+◌, ◌-◌, ◌≤◌, ◌<◌, List, [], ◌∷◌, ◌++◌, take, length, refl, rules, arith, sym, ap, subst, ◌∙◌, zero-add, min, inl, inr}
 use Rattle.std.proofs.Math.Nat.{suc-add}
 use Rattle.std.proofs.lemmas.Bool.{cases_lt}
 use Rattle.std.proofs.lemmas.Grind.{common_steps}
-use Rattle.std.proofs.lemmas.List.{append_assoc, length-append, length-take-le, take_all}
+use Rattle.std.proofs.lemmas.List.{length-append, length-take-le, take_all}
 use Rattle.xls_arrays.specs.Filled.{IsFilled}
 
 -- nothing was laid
@@ -24,7 +24,6 @@ module _ (before after items bytes : List ℕ) (place count : ℕ)
     (inside : place < length before) (f : IsFilled before place items)
     (written : take (place + count) after ≡ take place before ++ take count bytes)
     (same : length after ≡ length before) where
-
   items_before : take place before ≡ items
   items_before = f.begins ∙ take_all (length before) items (omega (arith, f.count))
 

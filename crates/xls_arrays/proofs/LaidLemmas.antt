@@ -69,9 +69,9 @@ pub partly-all : {X : Type 0} (step : Arrays → X → Arrays) {all left : List 
 unfolding laid
 partly-all step {all = all} {now = now} p is =
     λ a h.
-        let b = p.laid a h in
-        let e : b.0 ≡ laid step a all = sym (ap (laid step b.0) is) ∙ b.2 in
-        rw (← e) b.1
+    let b = p.laid a h in
+    let e : b.0 ≡ laid step a all = sym (ap (laid step b.0) is) ∙ b.2 in
+    rw (← e) b.1
 
 -- ---- how many
 
@@ -102,41 +102,41 @@ pub lays-cell : {r s t : Rooms} {text : List ℕ} {span : Span} (item : CellItem
     → item ≡ item_by c span → Lays s t (λ a. with_cell_item a item) → Lays r t (λ a. with_cell a c)
 lays-cell {t = t} {text = text} item c lays is made then =
     λ a h.
-        let laid = lays a h in
-        let all : with_cell_item (with_text a text) item ≡ with_cell a c =
-        ap (with_cell_item (with_text a text)) (made ∙ ap (item_by c) (laid.1 ∙ ap (next_span a) is))
-        ∙ ap (λ bytes. with_cell_item (with_text a bytes) (cell_item (length a.texts) c)) is in
-        subst (Holds t) all (then _ laid.0)
+    let laid = lays a h in
+    let all : with_cell_item (with_text a text) item ≡ with_cell a c =
+    ap (with_cell_item (with_text a text)) (made ∙ ap (item_by c) (laid.1 ∙ ap (next_span a) is))
+    ∙ ap (λ bytes. with_cell_item (with_text a bytes) (cell_item (length a.texts) c)) is in
+    subst (Holds t) all (then _ laid.0)
 
 pub lays-formula : {r s t : Rooms} {text : List ℕ} {span : Span} (f : FormulaEntry) → LaysText r s text span → text ≡ encode_utf8_all f.1
     → Lays s t (λ a. with_formula_item a (formula_item span f)) → Lays r t (λ a. with_formula a f)
 lays-formula {t = t} {text = text} {span = span} f lays is then =
     λ a h.
-        let laid = lays a h in
-        let all : with_formula_item (with_text a text) (formula_item span f) ≡ with_formula a f =
-        ap (λ at. with_formula_item (with_text a text) (formula_item at f)) (laid.1 ∙ ap (next_span a) is)
-        ∙ ap (λ bytes. with_formula_item (with_text a bytes) (formula_item (next_span a (encode_utf8_all f.1)) f)) is in
-        subst (Holds t) all (then _ laid.0)
+    let laid = lays a h in
+    let all : with_formula_item (with_text a text) (formula_item span f) ≡ with_formula a f =
+    ap (λ at. with_formula_item (with_text a text) (formula_item at f)) (laid.1 ∙ ap (next_span a) is)
+    ∙ ap (λ bytes. with_formula_item (with_text a bytes) (formula_item (next_span a (encode_utf8_all f.1)) f)) is in
+    subst (Holds t) all (then _ laid.0)
 
 pub lays-name : {r s t u : Rooms} {name text : List ℕ} {first second : Span} (n : List ℕ × List ℕ)
     → LaysText r s name first → LaysText s t text second → name ≡ encode_utf8_all n.0 → text ≡ encode_utf8_all n.1
     → Lays t u (λ a. with_name_item a (record { name = first; formula = second })) → Lays r u (λ a. with_name a n)
 lays-name {u = u} {name = name} {text = text} {first = first} {second = second} n lays_name lays_text name_is text_is then =
     λ a h.
-        let one = lays_name a h in
-        let two = lays_text _ one.0 in
-        let spans : with_name_item (with_text (with_text a name) text) (record { name = first; formula = second })
-        ≡ with_name_item (with_text (with_text a name) text)
-        (record { name = next_span a name; formula = next_span (with_text a name) text }) =
-        ap (λ at. with_name_item (with_text (with_text a name) text) (record { name = at; formula = second })) one.1
-        ∙ ap (λ at. with_name_item (with_text (with_text a name) text) (record { name = next_span a name; formula = at })) two.1 in
-        let texts : with_name_item (with_text (with_text a name) text)
-        (record { name = next_span a name; formula = next_span (with_text a name) text }) ≡ with_name a n =
-        ap (λ bytes. with_name_item (with_text (with_text a bytes) text)
-            (record { name = next_span a bytes; formula = next_span (with_text a bytes) text })) name_is
-        ∙ ap (λ bytes. with_name_item (with_text (with_text a (encode_utf8_all n.0)) bytes)
-            (record { name = next_span a (encode_utf8_all n.0); formula = next_span (with_text a (encode_utf8_all n.0)) bytes })) text_is in
-        subst (Holds u) (spans ∙ texts) (then _ two.0)
+    let one = lays_name a h in
+    let two = lays_text _ one.0 in
+    let spans : with_name_item (with_text (with_text a name) text) (record { name = first; formula = second })
+    ≡ with_name_item (with_text (with_text a name) text)
+    (record { name = next_span a name; formula = next_span (with_text a name) text }) =
+    ap (λ at. with_name_item (with_text (with_text a name) text) (record { name = at; formula = second })) one.1
+    ∙ ap (λ at. with_name_item (with_text (with_text a name) text) (record { name = next_span a name; formula = at })) two.1 in
+    let texts : with_name_item (with_text (with_text a name) text)
+    (record { name = next_span a name; formula = next_span (with_text a name) text }) ≡ with_name a n =
+    ap (λ bytes. with_name_item (with_text (with_text a bytes) text)
+    (record { name = next_span a bytes; formula = next_span (with_text a bytes) text })) name_is
+    ∙ ap (λ bytes. with_name_item (with_text (with_text a (encode_utf8_all n.0)) bytes)
+    (record { name = next_span a (encode_utf8_all n.0); formula = next_span (with_text a (encode_utf8_all n.0)) bytes })) text_is in
+    subst (Holds u) (spans ∙ texts) (then _ two.0)
 
 -- ---- a sheet
 
@@ -191,16 +191,16 @@ pub lays-sheet : {r s t u : Rooms} {name : List ℕ} {span : Span} (item : Sheet
     → item ≡ item_between c span r.laid t.laid → Lays t u (λ a. with_sheet_item a item) → Lays r u (λ a. with_sheet a (c, v))
 lays-sheet {r} {s} {t} {u} {name} {span} item c v lays is content made then =
     λ a h.
-        let text = lays a h in
-        let filled = content _ text.0 in
-        let itself : item ≡ sheet_item a (next_span a (encode_utf8_all c.name)) c v =
-        made ∙ item_is a c v span r t (with_text a name) h filled refl refl refl
-        ∙ ap (λ at. sheet_item a at c v) (text.1 ∙ ap (next_span a) is) in
-        let all : with_sheet_item (with_content (with_text a name) v) item ≡ with_sheet a (c, v) =
-        ap (with_sheet_item (with_content (with_text a name) v)) itself
-        ∙ ap (λ bytes. with_sheet_item (with_content (with_text a bytes) v)
-            (sheet_item a (next_span a (encode_utf8_all c.name)) c v)) is in
-        subst (Holds u) all (then _ filled)
+    let text = lays a h in
+    let filled = content _ text.0 in
+    let itself : item ≡ sheet_item a (next_span a (encode_utf8_all c.name)) c v =
+    made ∙ item_is a c v span r t (with_text a name) h filled refl refl refl
+    ∙ ap (λ at. sheet_item a at c v) (text.1 ∙ ap (next_span a) is) in
+    let all : with_sheet_item (with_content (with_text a name) v) item ≡ with_sheet a (c, v) =
+    ap (with_sheet_item (with_content (with_text a name) v)) itself
+    ∙ ap (λ bytes. with_sheet_item (with_content (with_text a bytes) v)
+    (sheet_item a (next_span a (encode_utf8_all c.name)) c v)) is in
+    subst (Holds u) all (then _ filled)
 
 -- one sheet alone
 pub lays-alone : {r s : Rooms} (t : Told) → Lays r s (λ a. with_sheet a t) → Lays r s (λ a. laid with_sheet a (t ∷ []))

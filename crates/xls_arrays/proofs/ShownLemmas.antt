@@ -1,7 +1,7 @@
 -- Sheets with what their indexes show.
 use Rattle.std.proofs.Common.{◌≡◌, ℕ, zero, suc, ◌+◌, ◌<◌, ◌≤◌, List, [], ◌∷◌, length, map, get_or, drop, drop-cons, add-one, refl, sym, ap, ◌∙◌, arith, slice_get, Option, Some, None, if◌then◌else◌, ◌==◌, rules}
 use Rattle.std.specs.Option.{option_map}
-use Rattle.std.proofs.lemmas.List.{drop_all, length-map}
+use Rattle.std.proofs.lemmas.List.{drop_all}
 use Rattle.xls_data.specs.Sheets.{SheetContent}
 use Rattle.xls_reading.specs.Reading.{BookView, SheetView}
 use Rattle.xls_arrays.specs.Arrays.{Arrays, Told, laid}

@@ -1,5 +1,5 @@
 -- What the calls answer.
-use Rattle.std.specs.Prelude.{◌≡◌, ◌⊎◌, ℕ, ◌<◌, Bool, true, false, List, length, take, Result, Ok, Err}
+use Rattle.std.specs.Prelude.{◌≡◌, ◌⊎◌, ℕ, Bool, true, false, List, length, take, Result, Ok, Err}
 use Rattle.xls_container.specs.Files.{RefusesFile, WorkbookBytes}
 use Rattle.xls_container.specs.declared.fault.FileFault.{FileFault}
 use Rattle.xls_data.specs.declared.numbers.Number.TheVariants.{Bits}

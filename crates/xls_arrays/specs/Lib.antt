@@ -4,6 +4,7 @@ pub mod Codes
 pub mod Faults
 pub mod Filled
 pub mod Held
+pub mod Laws
 pub mod Laying
 pub mod Numbers
 pub mod Options

@@ -45,7 +45,14 @@ part_number parts.BErr = 38
 
 abbrev pub all_parts : List Part
 all_parts =
-    parts.RecordHeader ∷ parts.RecordLength ∷ parts.ContinueLength ∷ parts.SheetOffset ∷ parts.Dbcs ∷ parts.Bof ∷ parts.FilePass ∷ parts.CodePage ∷ parts.DateMode ∷ parts.Xf ∷ parts.BoundSheet ∷ parts.HsState ∷ parts.SheetKind ∷ parts.Lbl ∷ parts.NameFormula ∷ parts.ExternSheet ∷ parts.Sst ∷ parts.RichString ∷ parts.ShortString ∷ parts.Text ∷ parts.NoCch ∷ parts.Dimensions ∷ parts.Number ∷ parts.Label ∷ parts.BoolErr ∷ parts.FError ∷ parts.CellError ∷ parts.Rk ∷ parts.LabelSst ∷ parts.MergeCells ∷ parts.Formula ∷ parts.Format ∷ parts.Rgce ∷ parts.Ptg ∷ parts.PtgExp ∷ parts.PtgStr ∷ parts.SpaceKind ∷ parts.BErr ∷ []
+    parts.RecordHeader ∷ parts.RecordLength ∷ parts.ContinueLength ∷ parts.SheetOffset
+    ∷ parts.Dbcs ∷ parts.Bof ∷ parts.FilePass ∷ parts.CodePage ∷ parts.DateMode ∷ parts.Xf
+    ∷ parts.BoundSheet ∷ parts.HsState ∷ parts.SheetKind ∷ parts.Lbl ∷ parts.NameFormula
+    ∷ parts.ExternSheet ∷ parts.Sst ∷ parts.RichString ∷ parts.ShortString ∷ parts.Text
+    ∷ parts.NoCch ∷ parts.Dimensions ∷ parts.Number ∷ parts.Label ∷ parts.BoolErr ∷ parts.FError
+    ∷ parts.CellError ∷ parts.Rk ∷ parts.LabelSst ∷ parts.MergeCells ∷ parts.Formula
+    ∷ parts.Format ∷ parts.Rgce ∷ parts.Ptg ∷ parts.PtgExp ∷ parts.PtgStr ∷ parts.SpaceKind
+    ∷ parts.BErr ∷ []
 
 -- the part of a number, if there is one
 abbrev pub part_of : ℕ → Option Part

@@ -1,6 +1,5 @@
 -- Which sheets of a workbook are laid, and with which content.
-use Rattle.std.specs.Prelude.{ℕ, ◌-◌, List, [], ◌∷◌, Option, Some, None, slice_get, if◌then◌else◌, ◌==◌}
-use Rattle.std.specs.Option.{option_map}
+use Rattle.std.specs.Prelude.{◌-◌, List, [], ◌∷◌, Option, Some, None, slice_get, if◌then◌else◌, ◌==◌}
 use Rattle.xls_data.specs.Sheets.{SheetContent}
 use Rattle.xls_data.specs.declared.regions.Dimensions.{Dimensions}
 use Rattle.xls_biff.specs.Cells.{Entry}

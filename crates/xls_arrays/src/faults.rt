@@ -2,7 +2,8 @@
 
 ghost use Rattle.std.specs.Prelude.{◌≡◌};
 ghost use Rattle.xls_arrays.specs.Faults.{fault_of};
-ghost use Rattle.xls_arrays.specs.Codes.{chain_number, numbered, numbers, plain, directory_fault, kind_number, sector_fault, stream_fault, table_number};
+ghost use Rattle.xls_arrays.specs.Codes.{chain_number, numbered, numbers, plain, directory_fault};
+ghost use Rattle.xls_arrays.specs.Codes.{kind_number, sector_fault, stream_fault, table_number};
 
 use crate::parts::part_number;
 use crate::refusal::{Chain, Refusal};
@@ -69,7 +70,11 @@ fn stream_fault(error: &XlsError) -> Fault
         XlsError::TooManyCells { limit } => numbered(17, *limit),
         XlsError::Cfb(CfbError::CodePageNotFound(page)) => numbered(18, *page as u64),
         XlsError::Password => plain(19),
-        XlsError::Len { expected, found, typ } => numbers(20, part_number(*typ), 0, *expected as u64, *found as u64, 0),
+        XlsError::Len {
+            expected,
+            found,
+            typ,
+        } => numbers(20, part_number(*typ), 0, *expected as u64, *found as u64, 0),
         XlsError::Unrecognized { typ, val } => numbers(21, part_number(*typ), 0, *val as u64, 0, 0),
         XlsError::EoStream(typ) => numbers(22, part_number(*typ), 0, 0, 0, 0),
         XlsError::ContinueRecordTooShort => plain(23),
@@ -115,12 +120,62 @@ fn sector_fault(fault: &SectorFault) -> Fault
         SectorFault::HeaderCut { found } => numbered(65, *found as u64),
         SectorFault::SectorShift { found } => numbered(66, *found as u64),
         SectorFault::MiniSectorShift { found } => numbered(67, *found as u64),
-        SectorFault::Loop { table, first } => numbers(68, 0, table_number(*table), *first as u64, 0, 0),
-        SectorFault::Leaves { table, after: Some(after), number } => numbers(69, 0, table_number(*table), *after as u64, *number as u64, 0),
-        SectorFault::Leaves { table, after: None, number } => numbers(70, 0, table_number(*table), 0, *number as u64, 0),
-        SectorFault::Short { table, first, expected, found } => numbers(71, 0, table_number(*table), *first as u64, *expected, *found),
-        SectorFault::Cut { table, sector, expected, found } => numbers(72, 0, table_number(*table), *sector as u64, *expected as u64, *found as u64),
-        SectorFault::FatCut { sector, expected, found } => numbers(73, 0, 0, *sector as u64, *expected as u64, *found as u64),
+        SectorFault::Loop { table, first } => numbers(
+            68,
+            0,
+            table_number(*table),
+            *first as u64,
+            0,
+            0,
+        ),
+        SectorFault::Leaves {
+            table,
+            after: Some(after),
+            number,
+        } => numbers(
+            69,
+            0,
+            table_number(*table),
+            *after as u64,
+            *number as u64,
+            0,
+        ),
+        SectorFault::Leaves {
+            table,
+            after: None,
+            number,
+        } => numbers(70, 0, table_number(*table), 0, *number as u64, 0),
+        SectorFault::Short {
+            table,
+            first,
+            expected,
+            found,
+        } => numbers(
+            71,
+            0,
+            table_number(*table),
+            *first as u64,
+            *expected,
+            *found,
+        ),
+        SectorFault::Cut {
+            table,
+            sector,
+            expected,
+            found,
+        } => numbers(
+            72,
+            0,
+            table_number(*table),
+            *sector as u64,
+            *expected as u64,
+            *found as u64,
+        ),
+        SectorFault::FatCut {
+            sector,
+            expected,
+            found,
+        } => numbers(73, 0, 0, *sector as u64, *expected as u64, *found as u64),
     }
 }
 
@@ -133,7 +188,14 @@ fn directory_fault(fault: &DirectoryFault) -> Fault
         DirectoryFault::Missing { number } => numbered(81, *number as u64),
         DirectoryFault::Twice { number } => numbered(82, *number as u64),
         DirectoryFault::Kind { number, kind } => numbers(83, 0, 0, *number as u64, *kind as u64, 0),
-        DirectoryFault::NameSize { number, size } => numbers(84, 0, 0, *number as u64, *size as u64, 0),
+        DirectoryFault::NameSize { number, size } => numbers(
+            84,
+            0,
+            0,
+            *number as u64,
+            *size as u64,
+            0,
+        ),
     }
 }
 

@@ -48,12 +48,7 @@ fn lay_names(rooms: &mut Rooms<'_>, names: &[(String, String)]) -> Result<(), Al
 }
 
 /// Lays the sheet of an index, with its content.
-fn lay_one(
-    alloc: Global,
-    rooms: &mut Rooms<'_>,
-    view: &View<'_>,
-    index: u64,
-) -> Result<(), Refusal>
+fn lay_one(alloc: Global, rooms: &mut Rooms<'_>, view: &View<'_>, index: u64) -> Result<(), Refusal>
     ensures same { KeepsRooms rooms.old rooms.new }
     ensures ok { OnOk result (LaysOne view.now.book index rooms.old rooms.new) }
     ensures err { IfErr result (MissesIndex view.now.book index) }

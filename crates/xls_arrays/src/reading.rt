@@ -111,8 +111,14 @@ pub fn read(
     fault: &mut Fault,
 ) -> u32
     ensures { Reads options.now stream.now
-        (record { sheets = sheets.new; names = names.new; cells = cells.new; formulas = formulas.new;
-          regions = regions.new; texts = texts.new }) fault.new result }
+        (record {
+          sheets = sheets.new;
+          names = names.new;
+          cells = cells.new;
+          formulas = formulas.new;
+          regions = regions.new;
+          texts = texts.new;
+        }) fault.new result }
 {
     let mut rooms = Rooms {
         sheets,

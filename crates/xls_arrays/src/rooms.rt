@@ -1,7 +1,9 @@
 //! Arrays that are filled as far as they go, and how many items were laid.
 
 ghost use Rattle.std.specs.Prelude.{◌≡◌, ◌+◌, ◌≤◌, ◌++◌, ◌∷◌, [], List, ℕ, length, take, IfOk, OnOk, IsTrue, ◌↔◌};
-ghost use Rattle.xls_arrays.specs.Arrays.{Arrays, with_cell_item, with_formula_item, with_name_item, with_region_item, with_sheet_item, with_text};
+ghost use Rattle.xls_arrays.specs.Arrays.{Arrays, with_cell_item, with_formula_item};
+ghost use Rattle.xls_arrays.specs.Arrays.{with_name_item, with_region_item, with_sheet_item};
+ghost use Rattle.xls_arrays.specs.Arrays.{with_text};
 ghost use Rattle.xls_arrays.specs.Filled.{Fits, Holds, IsFilled, KeepsRooms, Lays, LaysText, in_rooms};
 
 use crate::items::{CellItem, FormulaItem, NameItem, RegionItem, SheetItem, Sizes, Span};

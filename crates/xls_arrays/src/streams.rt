@@ -29,13 +29,7 @@ fn put_stream(alloc: Global, file: &[u8], out: &mut [u8], size: &mut u64) -> Res
 /// Puts the workbook's stream of a file into `out`, and its length into `size`: the stream `Workbook`, or else
 /// `Book`, of a compound file, or the whole of a file that is such a stream. Where `out` is too short, it is as it
 /// was. Of a file without a workbook `size` is 0, and the fault is its first.
-pub fn stream(
-    alloc: Global,
-    file: &[u8],
-    out: &mut [u8],
-    size: &mut u64,
-    fault: &mut Fault,
-) -> u32
+pub fn stream(alloc: Global, file: &[u8], out: &mut [u8], size: &mut u64, fault: &mut Fault) -> u32
     ensures { PutsStream file.now out.old out.new size.new fault.new result }
 {
     let done = put_stream(alloc, file, out, size);

@@ -19,11 +19,7 @@ pub(crate) fn put_whole(bytes: &[u8], out: &mut [u8], size: &mut u64) -> bool
 }
 
 /// Likewise a text that was made. Answers 0, 1 where memory ran out, or 2 where the array is too short.
-pub(crate) fn put_text(
-    made: Result<String, AllocError>,
-    out: &mut [u8],
-    size: &mut u64,
-) -> u32
+pub(crate) fn put_text(made: Result<String, AllocError>, out: &mut [u8], size: &mut u64) -> u32
     ensures { PutsMade made out.old out.new size.new result }
 {
     match made {

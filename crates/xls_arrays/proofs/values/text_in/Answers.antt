@@ -1,4 +1,3 @@
-use Rattle.std.proofs.Common.{rules}
 use Rattle.std.specs.String.{string_bytes}
 use Rattle.xls_arrays.proofs.TextLemmas.{encoded-as}
 use Rattle.xls_arrays.proofs.values.text_in.Goals as goal
