@@ -6,7 +6,7 @@ use std::test::Fail;
 use xls_biff::XlsError;
 use xls_book::{Reader as _, SteadySource, StreamBytes, Xls, XlsOptions};
 use xls_csv::*;
-use xls_data::{Cell, Data, ExcelDateTime, ExcelDateTimeType, Number};
+use xls_data::{Cell, Data, Dimensions, ExcelDateTime, ExcelDateTimeType, Number};
 use xls_range::Range;
 use xls_view::View;
 
@@ -95,7 +95,7 @@ fn exported(alloc: Global, cells: &[((u32, u32), Value)]) -> Result<StreamBytes,
 fn joined(alloc: Global, view: &View<'_>) -> Result<Vec<u8>, AllocError> {
     let mut bytes = Vec::new(alloc);
     if let Some(cells) = view.cells_at(0)? {
-        let mut rows = CsvRows::new(alloc, cells.iter());
+        let mut rows = CsvRows::new(alloc, &cells);
         for _ in 0..100 {
             if !rows.next_row()? {
                 return Ok(bytes);
@@ -271,9 +271,19 @@ fn is_long(rows: &mut CsvRows<'_>, len: usize, start: &[u8]) -> Result<bool, All
 fn has_two_long_rows(alloc: Global, view: &View<'_>) -> Result<bool, AllocError> {
     match view.cells_at(0)? {
         Some(cells) => {
-            let mut rows = CsvRows::new(alloc, cells.iter());
+            let mut rows = CsvRows::new(alloc, &cells);
             Ok(is_long(&mut rows, 65_537, b"1,,")? && is_long(&mut rows, 65_536, b",,,")?)
         }
+        None => Ok(false),
+    }
+}
+
+// Whether the box of the first sheet is the one from here to there, as the sheet and as its cells have it.
+fn has_box(view: &View<'_>, bounds: Dimensions) -> Result<bool, AllocError> {
+    match view.sheet_at(0) {
+        Some(sheet) => Ok(
+            sheet.bounds() == Some(bounds) && sheet.cells()?.bounds() == Some(bounds),
+        ),
         None => Ok(false),
     }
 }
@@ -283,6 +293,7 @@ fn has_two_long_rows(alloc: Global, view: &View<'_>) -> Result<bool, AllocError>
 fn a_far_cell_takes_the_memory_of_a_row(rt: HostRuntime) -> Result<(), Fail> {
     let stream = stream_of(rt.alloc(), &FAR_PARTS)?;
     let view = view_of(rt.alloc(), &stream)?;
+    assert!(rt; has_box(&view, Dimensions::new((0, 0), (65_535, 65_535)))?);
     assert!(rt; has_two_long_rows(rt.alloc(), &view)?);
     Ok(())
 }
@@ -311,7 +322,7 @@ fn a_refused_row_is_still_to_come(rt: HostRuntime) {
     let Ok(Some(cells)) = view.cells_at(0) else {
         return;
     };
-    let mut rows = CsvRows::new(alloc, cells.iter());
+    let mut rows = CsvRows::new(alloc, &cells);
     let mut last = "";
     for wanted in ["1,,2\n", ",,\n", ",\"a,\"\"b\",\n"] {
         assert!(rt; gives(&mut rows, last, wanted));

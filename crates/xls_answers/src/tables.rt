@@ -88,13 +88,7 @@ fn write_cells<K: Sink>(
     requires { IsAscending (map (λ (c : Entry). c.0) cells.now) }
     ensures { DeliversTable table.now.delimiter table.now.begins_with_mark (dense_rows cells.now) (K.state sink.old) (K.state sink.new) result }
 {
-    write_table(
-        alloc,
-        sink,
-        table.delimiter,
-        table.begins_with_mark,
-        cells.iter(),
-    )
+    write_table(alloc, sink, table.delimiter, table.begins_with_mark, cells)
 }
 
 /// Writes the last sheet of a name as CSV. False where no sheet has the name.

@@ -1,5 +1,5 @@
 -- Things that are laid one after another.
-use Rattle.std.proofs.Common.{◌≡◌, ℕ, ◌+◌, ◌-◌, ◌*◌, List, [], ◌∷◌, length, refl, sym, ap, subst, ◌∙◌, arith, add-zero}
+use Rattle.std.proofs.Common.{◌≡◌, ℕ, ◌+◌, ◌-◌, ◌*◌, List, [], ◌∷◌, length, refl, sym, ap, subst, ◌∙◌, arith, add-zero, Option, Some, None}
 use Rattle.std.proofs.lemmas.List.{length_push}
 use Rattle.std.specs.Prelude.{encode_utf8_all}
 use Rattle.xls_data.specs.Sheets.{SheetContent}
@@ -8,7 +8,7 @@ use Rattle.xls_reading.specs.SheetTable.{FormulaEntry}
 use Rattle.xls_reading.specs.Reading.{SheetView}
 use Rattle.xls_arrays.specs.Values.{cell_item, form_in, kind_of, text_in, value_in}
 use Rattle.xls_arrays.specs.Arrays.{Arrays, Told, formula_item, laid, next_span, sheet_item, with_cell, with_cell_item, with_content, with_formula, with_formula_item, with_name, with_name_item, with_region, with_sheet, with_sheet_item, with_text}
-use Rattle.xls_arrays.specs.Shown.{item_between, no_content}
+use Rattle.xls_arrays.specs.Shown.{content_in, item_between, no_content}
 use Rattle.xls_arrays.specs.Filled.{Holds, KeepsRooms, Lays, LaysText}
 use Rattle.xls_arrays.specs.declared.items.Span.{Span}
 use Rattle.xls_arrays.specs.declared.items.SheetItem.{SheetItem}
@@ -172,6 +172,11 @@ module _ (a : Arrays) (v : SheetView) where
 pub lays-none : (r : Rooms) → Lays r r (λ a. with_content a no_content)
 unfolding laid
 lays-none r = λ a h. h
+
+-- nor does what isn't there
+pub lays-missing : (o : Option SheetView) (r : Rooms) → None ≡ o → Lays r r (λ a. with_content a (content_in o))
+lays-missing None r e = lays-none r
+lays-missing (Some v) r e = absurd (let none : None ≡ Some v = e in cc)
 
 -- the counts after its content less those before it are its own
 item_is : (a : Arrays) (s : SheetContent) (v : SheetView) (name : Span) (r t : Rooms) (b : Arrays) → Holds r a → Holds t (with_content b v)

@@ -1,14 +1,11 @@
 -- Sheets with what their indexes show.
 use Rattle.std.proofs.Common.{◌≡◌, ℕ, zero, suc, ◌+◌, ◌<◌, ◌≤◌, List, [], ◌∷◌, length, map, get_or, drop, drop-cons, add-one, refl, sym, ap, ◌∙◌, arith, slice_get, Option, Some, None, if◌then◌else◌, ◌==◌, rules}
-use Rattle.std.specs.Option.{option_map}
 use Rattle.std.proofs.lemmas.List.{drop_all}
 use Rattle.xls_data.specs.Sheets.{SheetContent}
 use Rattle.xls_reading.specs.Reading.{BookView, SheetView}
-use Rattle.xls_arrays.specs.Arrays.{Arrays, Told, laid}
+use Rattle.xls_arrays.specs.Arrays.{Told}
 use Rattle.xls_arrays.specs.Shown.{alone, asked_for, content_in, each_with, no_content}
-use Rattle.xls_arrays.specs.Filled.{Lays}
 use Rattle.xls_arrays.specs.declared.options.Options.{Options}
-use Rattle.xls_arrays.specs.declared.rooms.Rooms.{Rooms}
 
 -- ---- lists by their index
 
@@ -63,25 +60,6 @@ each-step ss vs i s e =
 pub each-end : (ss : List SheetContent) (vs : List SheetView) (i : ℕ) → length ss ≤ i
     → each_with (drop i ss) (drop i vs) ≡ []
 each-end ss vs i l = ap (λ (x : List SheetContent). each_with x (drop i vs)) (drop_all i ss l)
-
--- ---- what an index shows
-
--- a part of what isn't there is empty
-pub part-none : {X : Type 0} (part : SheetView → List X) (o : Option SheetView) (found : Option (List X)) → part no_content ≡ []
-    → found ≡ None → found ≡ option_map part o → part (content_in o) ≡ []
-part-none part None found empty none e = empty
-part-none part (Some v) found empty none e = cc
-
--- a part of what is there
-pub part-some : {X : Type 0} (part : SheetView → List X) (o : Option SheetView) (found : Option (List X)) (xs : List X)
-    → found ≡ Some xs → found ≡ option_map part o → xs ≡ part (content_in o)
-part-some part None found xs some e = cc
-part-some part (Some v) found xs some e = cc
-
--- nothing more is laid
-pub lays-nothing : {X : Type 0} (step : Arrays → X → Arrays) (xs : List X) (r : Rooms) → xs ≡ [] → Lays r r (λ a. laid step a xs)
-unfolding laid
-lays-nothing step xs r is = λ a h. rw is h
 
 -- the sheet of an index, with what it shows
 pub each-at : (ss : List SheetContent) (vs : List SheetView) (i : ℕ) (s : SheetContent) → slice_get ss i ≡ Some s

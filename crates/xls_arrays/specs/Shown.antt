@@ -1,9 +1,6 @@
 -- Which sheets of a workbook are laid, and with which content.
 use Rattle.std.specs.Prelude.{◌-◌, List, [], ◌∷◌, Option, Some, None, slice_get, if◌then◌else◌, ◌==◌}
 use Rattle.xls_data.specs.Sheets.{SheetContent}
-use Rattle.xls_data.specs.declared.regions.Dimensions.{Dimensions}
-use Rattle.xls_biff.specs.Cells.{Entry}
-use Rattle.xls_reading.specs.SheetTable.{FormulaEntry}
 use Rattle.xls_reading.specs.Reading.{BookView, SheetView}
 use Rattle.xls_arrays.specs.Arrays.{Told, kind_number, visibility_number}
 use Rattle.xls_arrays.specs.declared.items.Span.{Span}
@@ -18,15 +15,6 @@ no_content = record { cells = []; formulas = []; merges = [] }
 abbrev pub content_in : Option SheetView → SheetView
 content_in None = no_content
 content_in (Some v) = v
-
-abbrev pub cells_in : Option SheetView → List Entry
-cells_in shown = (content_in shown).cells
-
-abbrev pub formulas_in : Option SheetView → List FormulaEntry
-formulas_in shown = (content_in shown).formulas
-
-abbrev pub regions_in : Option SheetView → List Dimensions
-regions_in shown = (content_in shown).merges
 
 -- each sheet with what its index shows
 abbrev pub each_with : List SheetContent → List SheetView → List Told

@@ -1,17 +1,16 @@
 //! The cells of a sheet.
 
-ghost use Rattle.std.specs.Prelude.{◌≡◌, OnOk, slice_get};
+ghost use Rattle.std.specs.Prelude.{OnOk};
 ghost use Rattle.xls_data.specs.Refs.{ref_content_of};
 ghost use Rattle.xls_view.specs.Values.{cell_entry};
 ghost use Rattle.xls_arrays.specs.Arrays.{laid, with_cell};
 ghost use Rattle.xls_arrays.specs.Filled.{KeepsRooms, Lays};
-ghost use Rattle.xls_arrays.specs.Shown.{cells_in};
 
 use crate::rooms::{Rooms, lay_cell_item, lay_text};
 use crate::values::{cell_item, text_in};
 use std::alloc::{AllocError, Global};
 use xls_data::DataRef;
-use xls_view::{Cells, SheetCell, TextBuffer, View};
+use xls_view::{Cells, SheetCell, TextBuffer};
 
 /// Lays the value of a cell.
 fn lay_value(
@@ -42,7 +41,11 @@ fn lay_cell(
 }
 
 /// Lays cells.
-fn lay_cells(alloc: Global, rooms: &mut Rooms<'_>, cells: Cells<'_>) -> Result<(), AllocError>
+pub(crate) fn lay_cells(
+    alloc: Global,
+    rooms: &mut Rooms<'_>,
+    cells: Cells<'_>,
+) -> Result<(), AllocError>
     ensures same { KeepsRooms rooms.old rooms.new }
     ensures ok { OnOk result (Lays rooms.old rooms.new (λ a. laid with_cell a cells.entry)) }
 {
@@ -51,21 +54,4 @@ fn lay_cells(alloc: Global, rooms: &mut Rooms<'_>, cells: Cells<'_>) -> Result<(
         lay_cell(rooms, &mut buffer, cell)?;
     }
     Ok(())
-}
-
-/// Lays the cells of the sheet at an index.
-pub(crate) fn lay_cells_at(
-    alloc: Global,
-    rooms: &mut Rooms<'_>,
-    view: &View<'_>,
-    n: usize,
-) -> Result<(), AllocError>
-    ensures same { KeepsRooms rooms.old rooms.new }
-    ensures ok { OnOk result (Lays rooms.old rooms.new
-        (λ a. laid with_cell a (cells_in (slice_get view.now.book.contents n)))) }
-{
-    match view.cells_at(n)? {
-        Some(cells) => lay_cells(alloc, rooms, cells.iter()),
-        None => Ok(()),
-    }
 }

@@ -1,17 +1,16 @@
 //! The formulas of a sheet.
 
-ghost use Rattle.std.specs.Prelude.{◌≡◌, OnOk, map, slice_get};
+ghost use Rattle.std.specs.Prelude.{OnOk, map};
 ghost use Rattle.std.specs.Str.{chars};
 ghost use Rattle.xls_view.specs.Formulas.{text_entry};
 ghost use Rattle.xls_view.specs.Walking.{formula_seen};
 ghost use Rattle.xls_arrays.specs.Arrays.{laid, with_formula};
 ghost use Rattle.xls_arrays.specs.Filled.{KeepsRooms, Lays};
-ghost use Rattle.xls_arrays.specs.Shown.{formulas_in};
 
 use crate::items::FormulaItem;
 use crate::rooms::{Rooms, lay_formula_item, lay_text};
 use std::alloc::AllocError;
-use xls_view::{FormulaCell, SheetFormulas, View};
+use xls_view::{FormulaCell, SheetFormulas};
 
 /// Lays the text of a formula.
 fn lay_formula_text(
@@ -42,7 +41,10 @@ fn lay_formula(
 }
 
 /// Lays the formulas of a sheet.
-fn lay_formulas(rooms: &mut Rooms<'_>, formulas: &SheetFormulas<'_>) -> Result<(), AllocError>
+pub(crate) fn lay_formulas(
+    rooms: &mut Rooms<'_>,
+    formulas: &SheetFormulas<'_>,
+) -> Result<(), AllocError>
     ensures same { KeepsRooms rooms.old rooms.new }
     ensures ok { OnOk result (Lays rooms.old rooms.new
         (λ a. laid with_formula a (map (text_entry formulas.now.context) formulas.now.left))) }
@@ -51,20 +53,4 @@ fn lay_formulas(rooms: &mut Rooms<'_>, formulas: &SheetFormulas<'_>) -> Result<(
         lay_formula(rooms, formulas, formula)?;
     }
     Ok(())
-}
-
-/// Lays the formulas of the sheet at an index.
-pub(crate) fn lay_formulas_at(
-    rooms: &mut Rooms<'_>,
-    view: &View<'_>,
-    n: usize,
-) -> Result<(), AllocError>
-    ensures same { KeepsRooms rooms.old rooms.new }
-    ensures ok { OnOk result (Lays rooms.old rooms.new
-        (λ a. laid with_formula a (formulas_in (slice_get view.now.book.contents n)))) }
-{
-    match view.formulas_at(n)? {
-        Some(formulas) => lay_formulas(rooms, &formulas),
-        None => Ok(()),
-    }
 }

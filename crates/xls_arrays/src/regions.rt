@@ -1,15 +1,14 @@
 //! The merged regions of a sheet.
 
-ghost use Rattle.std.specs.Prelude.{◌≡◌, OnOk, slice_get};
+ghost use Rattle.std.specs.Prelude.{OnOk};
 ghost use Rattle.xls_arrays.specs.Arrays.{laid, with_region};
 ghost use Rattle.xls_arrays.specs.Filled.{KeepsRooms, Lays};
-ghost use Rattle.xls_arrays.specs.Shown.{regions_in};
 
 use crate::items::RegionItem;
 use crate::rooms::{Rooms, lay_region_item};
 use std::alloc::AllocError;
 use xls_data::Dimensions;
-use xls_view::{Merges, View};
+use xls_view::Merges;
 
 /// Lays a merged region.
 fn lay_region(rooms: &mut Rooms<'_>, region: Dimensions) -> Result<(), AllocError>
@@ -28,7 +27,7 @@ fn lay_region(rooms: &mut Rooms<'_>, region: Dimensions) -> Result<(), AllocErro
 }
 
 /// Lays merged regions.
-fn lay_regions(rooms: &mut Rooms<'_>, regions: Merges<'_>) -> Result<(), AllocError>
+pub(crate) fn lay_regions(rooms: &mut Rooms<'_>, regions: Merges<'_>) -> Result<(), AllocError>
     ensures same { KeepsRooms rooms.old rooms.new }
     ensures ok { OnOk result (Lays rooms.old rooms.new (λ a. laid with_region a regions.entry)) }
 {
@@ -36,20 +35,4 @@ fn lay_regions(rooms: &mut Rooms<'_>, regions: Merges<'_>) -> Result<(), AllocEr
         lay_region(rooms, region)?;
     }
     Ok(())
-}
-
-/// Lays the merged regions of the sheet at an index.
-pub(crate) fn lay_regions_at(
-    rooms: &mut Rooms<'_>,
-    view: &View<'_>,
-    n: usize,
-) -> Result<(), AllocError>
-    ensures same { KeepsRooms rooms.old rooms.new }
-    ensures ok { OnOk result (Lays rooms.old rooms.new
-        (λ a. laid with_region a (regions_in (slice_get view.now.book.contents n)))) }
-{
-    match view.merges_at(n) {
-        Some(regions) => lay_regions(rooms, regions),
-        None => Ok(()),
-    }
 }

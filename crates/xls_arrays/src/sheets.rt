@@ -2,18 +2,19 @@
 
 ghost use Rattle.std.specs.Prelude.{◌≡◌, ◌-◌, [], OnOk, slice_get};
 ghost use Rattle.xls_data.specs.Sheets.{sheet_content};
+ghost use Rattle.xls_view.specs.Viewing.{content_of};
 ghost use Rattle.xls_arrays.specs.Arrays.{kind_number, laid, visibility_number, with_content, with_sheet};
 ghost use Rattle.xls_arrays.specs.Filled.{KeepsRooms, Lays};
 ghost use Rattle.xls_arrays.specs.Shown.{content_in, each_with, item_between, no_content};
 
-use crate::cells::lay_cells_at;
-use crate::formulas::lay_formulas_at;
+use crate::cells::lay_cells;
+use crate::formulas::lay_formulas;
 use crate::items::{SheetItem, Sizes, Span};
-use crate::regions::lay_regions_at;
+use crate::regions::lay_regions;
 use crate::rooms::{Rooms, lay_sheet_item, lay_text};
 use std::alloc::{AllocError, Global};
 use xls_data::{Sheet, SheetType, SheetVisible};
-use xls_view::View;
+use xls_view::{View, ViewSheet};
 
 /// The number of a kind of sheets.
 fn kind_number(kind: SheetType) -> u32
@@ -39,6 +40,18 @@ fn visibility_number(visible: SheetVisible) -> u32
     }
 }
 
+/// Lays what a sheet shows.
+fn lay_shown(alloc: Global, rooms: &mut Rooms<'_>, sheet: &ViewSheet<'_>) -> Result<(), AllocError>
+    ensures same { KeepsRooms rooms.old rooms.new }
+    ensures ok { OnOk result (Lays rooms.old rooms.new (λ a. with_content a (content_of sheet.now))) }
+{
+    let cells = sheet.cells()?;
+    lay_cells(alloc, rooms, cells.iter())?;
+    let formulas = sheet.formulas()?;
+    lay_formulas(rooms, &formulas)?;
+    lay_regions(rooms, sheet.merges())
+}
+
 /// Lays the content of the sheet at an index.
 fn lay_content(
     alloc: Global,
@@ -50,9 +63,10 @@ fn lay_content(
     ensures ok { OnOk result (Lays rooms.old rooms.new
         (λ a. with_content a (content_in (slice_get view.now.book.contents n)))) }
 {
-    lay_cells_at(alloc, rooms, view, n)?;
-    lay_formulas_at(rooms, view, n)?;
-    lay_regions_at(rooms, view, n)
+    match view.sheet_at(n) {
+        Some(sheet) => lay_shown(alloc, rooms, &sheet),
+        None => Ok(()),
+    }
 }
 
 /// How many items came to a count.

@@ -1,12 +1,12 @@
 -- Where Formulas stand.
-use Rattle.std.proofs.Common.{◌≡◌, ◌≢◌, ℕ, ◌≤◌, List, [], ◌∷◌, length, take, drop, refl, sym, ap, ◌∙◌, arith, Bool, true, false, Option, Some, None, Result, Ok, Err}
+use Rattle.std.proofs.Common.{◌≡◌, ◌≢◌, ℕ, ◌≤◌, List, length, take, drop, refl, sym, ap, ◌∙◌, arith, Bool, true, false, Option, Some, None, Result, Ok, Err}
 use Rattle.std.specs.Prelude.{◌==◌, ◌||◌, nat_lt, if◌then◌else◌}
 use Rattle.xls_model.specs.declared.part.Part.TheVariants as parts
 use Rattle.xls_data.specs.Content.{Content}
 use Rattle.xls_data.specs.declared.formats.CellFormat.{CellFormat}
 use Rattle.xls_strings.specs.declared.error.XlsError.{XlsError}
 use Rattle.xls_strings.specs.declared.error.XlsError.TheVariants.{Len}
-use Rattle.xls_strings.specs.Reading.{◌>>=◌, ◌>>◌, gives}
+use Rattle.xls_strings.specs.Reading.{◌>>=◌, gives}
 use Rattle.xls_strings.specs.Strings.{string_at}
 use Rattle.xls_strings.proofs.ReadingLemmas.{gives-ok}
 use Rattle.xls_biff.specs.Cells.{Position, position_at, class_at}
@@ -18,7 +18,7 @@ use Rattle.xls_biff.specs.Records.LabelSst.{label_sst_at}
 use Rattle.xls_biff.specs.Records.MergeCells.{merges_at}
 use Rattle.xls_biff.specs.Records.Number.{number_at}
 use Rattle.xls_biff.specs.Records.Rk.{mul_rk_at, rk_at}
-use Rattle.xls_biff.specs.SheetTable.{CellContext, SheetRecord, cells_record, shared_record, string_record, formula_record, regions_record, empty_record, sheet_record_at, formula_position, position_in}
+use Rattle.xls_biff.specs.SheetTable.{CellContext, SheetRecord, formula_record, sheet_record_at, formula_position, position_in}
 
 -- ---- a Formula
 

@@ -1,6 +1,6 @@
 //! What the cell records of a sheet have in common.
 
-ghost use Rattle.std.specs.Prelude.{◌≡◌, ◌≤◌, length};
+ghost use Rattle.std.specs.Prelude.{◌≡◌, ◌≤◌, Some, length};
 ghost use Rattle.xls_strings.specs.Reading.{Exactly};
 ghost use Rattle.xls_biff.specs.Cells.{cell_error, position_at};
 
@@ -10,6 +10,7 @@ use xls_data::CellErrorType;
 use xls_strings::{Part, XlsError};
 
 /// The row and the column that begin a cell record.
+#[inline(always)]
 pub(crate) fn position_of(body: &[u8]) -> (u32, u32)
     requires { 4 ≤ length body.now }
     ensures { result ≡ position_at body.now }
@@ -17,6 +18,18 @@ pub(crate) fn position_of(body: &[u8]) -> (u32, u32)
     let row = read_u16(body);
     let column = u16_at(body, 2);
     (u32::from(row), u32::from(column))
+}
+
+/// The row and the column that begin the body of a cell record, both counted from 0; `None` only for fewer
+/// than 4 bytes. Takes no memory.
+#[inline(always)]
+pub fn cell_position(body: &[u8]) -> Option<(u32, u32)>
+    ensures { 4 ≤ length body.now → result ≡ Some (position_at body.now) }
+{
+    if body.len() < 4 {
+        return None;
+    }
+    Some(position_of(body))
 }
 
 /// The error value of a code, BErr of [MS-XLS], as cells and formulas have it. `Unrecognized` for the

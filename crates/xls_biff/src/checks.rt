@@ -24,6 +24,7 @@ use xls_strings::{Biff, Record, XlsError};
 /// The first fault of a sheet's record, by its type: the error that its reader answers, out of memory
 /// apart, whatever page, classes, strings and date system are in force, and of a Formula `Len` and the
 /// errors of its value. A record of another type has none. Takes no memory.
+#[inline(always)]
 pub fn check_sheet_record(r: &Record<'_>, biff: Biff) -> Result<(), XlsError>
     ensures { (force : CellContext) → force.version ≡ biff →
         Exactly (λ u. u) result (fault_in (sheet_record_at force r.now.typ r.now.body.now)) }
@@ -46,6 +47,7 @@ pub fn check_sheet_record(r: &Record<'_>, biff: Biff) -> Result<(), XlsError>
 /// How many cells a sheet's record without a fault gives at most: those of a MulRk, one for a Number,
 /// Label, RString, BoolErr, String, RK, LabelSst or Formula, and none for every other record and for a
 /// MulRk with a fault. Takes no memory.
+#[inline(always)]
 pub fn sheet_record_weight(r: &Record<'_>) -> u64
     ensures table { (force : CellContext) (g : SheetRecord) →
         sheet_record_at force r.now.typ r.now.body.now ≡ Ok g → result ≡ weight_of g }

@@ -9,7 +9,7 @@ mod refs;
 mod substream;
 mod walk;
 
-pub use cells::error_of_code;
+pub use cells::{cell_position, error_of_code};
 pub use checks::{check_sheet_record, sheet_record_weight};
 pub use records::bof::{Bof, parse_bof};
 pub use records::bool_err::parse_bool_err;

@@ -13,6 +13,7 @@ use xls_model::types::{
 use xls_strings::{Record, XlsError};
 
 /// Whether records of this type are kept.
+#[inline]
 fn is_sheet_type(typ: u16) -> bool
     ensures { result ≡ is_among typ sheet_types }
 {
@@ -34,6 +35,7 @@ fn is_sheet_type(typ: u16) -> bool
 
 /// The next record of a sheet's types outside nested substreams, where so many BOF records are open, and
 /// the bytes from its header on.
+#[inline(always)]
 fn next_outer<'a>(
     records: &mut RecordIter<'a>,
     depth: &mut u64,
@@ -118,6 +120,7 @@ impl<'a> Iterator for SheetRecords<'a> {
 
     ghost remaining = { λ s. at_most (length s.0) };
 
+    #[inline(always)]
     fn next(&mut self) -> Option<Result<Record<'a>, XlsError>> {
         match next_outer(&mut self.records, &mut self.depth) {
             Some(Ok((_, record))) => Some(Ok(record)),

@@ -10,6 +10,7 @@ use xls_bytes::read_u16;
 use xls_strings::{Part, Pieces, Record, XlsError};
 
 /// The type and the body of the first record, and the bytes after it.
+#[inline(always)]
 fn split_record(bytes: &[u8]) -> Result<(u16, &[u8], &[u8]), Part>
     requires { 0 < length bytes.now }
     ensures { MatchResult result (λ x. IsRecord bytes.now x.0 x.1.now x.2.now) (λ p. (p ≢ Part.ContinueLength) × Cut bytes.now p) }
@@ -27,6 +28,7 @@ fn split_record(bytes: &[u8]) -> Result<(u16, &[u8], &[u8]), Part>
 }
 
 /// Whether the next record is a Continue that belongs to the record before it.
+#[inline(always)]
 fn starts_continue(bytes: &[u8]) -> bool
     ensures { IsTrue result ↔ StartsContinue bytes.now }
 {
@@ -34,6 +36,7 @@ fn starts_continue(bytes: &[u8]) -> bool
 }
 
 /// The first record with its Continue records, and the bytes after them.
+#[inline(always)]
 fn split_group(bytes: &[u8]) -> Result<(Record<'_>, &[u8]), XlsError>
     requires { 0 < length bytes.now }
     ensures { MatchResult result (λ x. Begins bytes.now (group_of x.0) x.1.now)
@@ -106,6 +109,7 @@ impl<'a> Iterator for RecordIter<'a> {
 
     ghost remaining = { λ bytes. at_most (length bytes) };
 
+    #[inline(always)]
     fn next(&mut self) -> Option<Result<Record<'a>, XlsError>> {
         if self.bytes.is_empty() {
             return None;

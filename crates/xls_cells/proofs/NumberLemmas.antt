@@ -1,9 +1,9 @@
 -- Cells with their numbers, and cells whose positions ascend from each to the next.
-use Rattle.std.proofs.Common.{◌≡◌, ℕ, ◌+◌, ◌-◌, ◌<◌, List, [], ◌∷◌, ◌++◌, map, length, get_or, refl, sym, ap, subst, ◌∙◌, append_assoc, arith, add-one}
+use Rattle.std.proofs.Common.{◌≡◌, ℕ, ◌+◌, ◌<◌, List, [], ◌∷◌, ◌++◌, map, length, get_or, refl, sym, ap, subst, ◌∙◌, append_assoc, arith, add-one}
 use Rattle.std.specs.List.{AllByRecursion}
 use Rattle.std.proofs.lemmas.List.{append-nil, map-append, length-append}
 use Rattle.xls_cells.specs.declared.sorted.Given.{Given}
-use Rattle.xls_cells.specs.Positions.{Position, Entry, Precedes, IsAscending, IsNumbered, cell_position, given_entry}
+use Rattle.xls_cells.specs.Positions.{Entry, Precedes, IsAscending, IsNumbered, cell_position, given_entry}
 use Rattle.xls_cells.proofs.LastLemmas.{weaker}
 use Rattle.xls_cells.proofs.PutLemmas.{all_push, before_trans}
 

@@ -10,7 +10,8 @@ use Rattle.xls_biff.specs.Cells.{Entry}
 use Rattle.xls_csv.specs.Text.{rows_csv}
 use Rattle.xls_csv.proofs.DenseLemmas.{rows_of_dense}
 use Rattle.xls_csv.specs.Walk.{take_at, row_along, left_along, rows_along}
-use Rattle.xls_csv.specs.Dense.{least, greatest, rows_at, columns_at, value_at}
+use Rattle.xls_cells.specs.Bounds.{least, greatest, rows_at, columns_at}
+use Rattle.xls_csv.specs.Dense.{value_at}
 use Rattle.xls_csv.specs.Laws.{JoinsToCsv, WalksDense, positions_of}
 
 -- ---- where the cells that are left stand

@@ -1,28 +1,14 @@
 -- The dense box of a sheet's cells, and its rows.
-use Rattle.std.specs.Prelude.{ℕ, ◌+◌, ◌-◌, min, max, List, [], ◌∷◌, map, unwrap_or}
+use Rattle.std.specs.Prelude.{ℕ, ◌+◌, ◌-◌, List, map, Option, Some, None, unwrap_or}
 use Rattle.std.specs.List.{flat_map, range_with_len}
 use Rattle.xls_data.specs.Content.{Content, nothing}
+use Rattle.xls_data.specs.declared.regions.Dimensions.{Dimensions}
 use Rattle.xls_range.specs.Grid.{Grid}
 use Rattle.xls_range.specs.Sparse.{last_at}
+use Rattle.xls_cells.specs.Bounds.{bounds_of}
 use Rattle.xls_biff.specs.Cells.{Entry}
 use Rattle.xls_csv.specs.Text.{csv_text}
 use Rattle.xls_csv.specs.declared.extent.Extent.{Extent}
-
--- the least of a number and some others, and the greatest
-abbrev pub least : ℕ → List ℕ → ℕ
-least n [] = n
-least n (m ∷ ms) = min m (least n ms)
-
-abbrev pub greatest : ℕ → List ℕ → ℕ
-greatest n [] = n
-greatest n (m ∷ ms) = max m (greatest n ms)
-
--- the rows of some cells, and their columns
-abbrev pub rows_at : List Entry → List ℕ
-rows_at cells = map (λ (c : Entry). c.0.0) cells
-
-abbrev pub columns_at : List Entry → List ℕ
-columns_at cells = map (λ (c : Entry). c.0.1) cells
 
 -- the box without a position
 abbrev pub no_box : Extent
@@ -38,12 +24,13 @@ box_between start end =
       width = end.1 + 1 - start.1;
     }
 
+abbrev pub box_in : Option Dimensions → Extent
+box_in None = no_box
+box_in (Some bounds) = box_between bounds.start bounds.end
+
 -- the smallest box that holds all of these cells
 abbrev pub box_of : List Entry → Extent
-box_of [] = no_box
-box_of (c ∷ cs) =
-    box_between (least c.0.0 (rows_at cs), least c.0.1 (columns_at cs))
-    (greatest c.0.0 (rows_at cs), greatest c.0.1 (columns_at cs))
+box_of cells = box_in (bounds_of cells)
 
 -- the value that was given to a position last, and nothing where none was
 abbrev pub value_at : List Entry → ℕ → ℕ → Content

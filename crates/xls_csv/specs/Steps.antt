@@ -11,9 +11,7 @@ use Rattle.xls_view.specs.Values.{value_content}
 use Rattle.xls_view.specs.declared.value.CellValue.{CellValue}
 use Rattle.xls_csv.specs.Dates.{date_text, last_day_in, serial_date}
 use Rattle.xls_csv.specs.Fields.{field}
-use Rattle.xls_csv.specs.Dense.{least, greatest, rows_at, columns_at}
 use Rattle.xls_csv.specs.Walk.{take_at}
-use Rattle.xls_csv.specs.declared.extent.Corners.{Corners}
 
 -- the content of a value that may be missing
 abbrev pub value_in : Option CellValue → Content
@@ -23,13 +21,6 @@ value_in (Some v) = value_content v
 -- the value at a position was taken, if it stood next
 abbrev pub Takes : List Entry → ℕ → ℕ → Option CellValue → List Entry → Type 0
 Takes before row column value after = take_at row column before ≡ (value_in value, after)
-
--- the corners of the smallest box that holds a position and those of these cells
-pub record IsSpan (at : ℕ × ℕ) (cells : List Entry) (corners : Corners) : Type 0 where
-  pub top : corners.start.0 ≡ least at.0 (rows_at cells)
-  pub left : corners.start.1 ≡ least at.1 (columns_at cells)
-  pub bottom : corners.end.0 ≡ greatest at.0 (rows_at cells)
-  pub right : corners.end.1 ≡ greatest at.1 (columns_at cells)
 
 -- the serial day of a value that is shown as a date, with its date system; every other value is shown
 -- as it is printed

@@ -56,8 +56,9 @@ impl<'c> Ahead<'c> {
             Some(cell) if u64::from(cell.row) == row && u64::from(cell.column) == column => {}
             _ => return None,
         }
-        let after = Ahead::new(self.others.again());
-        let cell = mem::replace(self, after).next?;
+        self.cells = self.others.again();
+        let after = self.others.next();
+        let cell = mem::replace(&mut self.next, after)?;
         Some(cell.value)
     }
 }

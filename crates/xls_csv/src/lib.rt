@@ -12,6 +12,7 @@ mod record;
 mod rows;
 
 pub use export::export_csv;
+pub use extent::{Extent, extent_of};
 pub use fields::field_text;
 pub use laws::{dense_boxes, printed_fields, rows_of_sheet};
 pub use rows::CsvRows;

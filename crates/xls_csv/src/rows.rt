@@ -12,7 +12,7 @@ use crate::line::Line;
 use std::alloc::{AllocError, Global};
 use std::marker::Model;
 use std::mem;
-use xls_view::Cells;
+use xls_view::SheetCells;
 
 /// Appends the field of the next cell, if that stands at this position, and else an empty one.
 fn push_at(line: &mut Line, cells: &mut Ahead<'_>, row: u64, column: u64) -> Result<(), AllocError>
@@ -91,15 +91,15 @@ impl<'a> Model for CsvRows<'a> {
 }
 
 impl<'a> CsvRows<'a> {
-    /// The rows of a sheet with these cells, by row, then column; no row was made so far. The header row of
-    /// the options plays no part. Takes no memory.
-    pub fn new(alloc: Global, cells: Cells<'a>) -> CsvRows<'a>
-        ensures rows { result.left ≡ walk cells.entry }
+    /// The rows of a sheet with these cells; no row was made so far. The header row of the options plays no
+    /// part. Takes no memory.
+    pub fn new(alloc: Global, cells: &'a SheetCells<'a>) -> CsvRows<'a>
+        ensures rows { result.left ≡ walk cells.entry.now }
         ensures first { result.row ≡ [] }
     {
-        let extent = extent_of(cells.again());
+        let extent = extent_of(cells);
         CsvRows {
-            cells: Ahead::new(cells),
+            cells: Ahead::new(cells.iter()),
             row: extent.top,
             left: extent.height,
             column: extent.left,

@@ -1,8 +1,7 @@
 -- The lines of sheets, formulas and citations, one after another.
-use Rattle.std.proofs.Common.{◌≡◌, ℕ, zero, suc, ◌+◌, ◌<◌, ◌≤◌, List, [], ◌∷◌, ◌++◌, length, map, get_or, drop, drop-cons, add-one, refl, sym, ap, subst, codes, ◌∙◌, arith, Option, Some, None, true, false}
+use Rattle.std.proofs.Common.{◌≡◌, ℕ, zero, suc, ◌+◌, ◌<◌, ◌≤◌, List, [], ◌∷◌, ◌++◌, length, map, get_or, drop, drop-cons, add-one, refl, sym, ap, subst, codes, ◌∙◌, arith, Some, None, true, false}
 use Rattle.std.specs.Prelude.{slice_get, encode_utf8_all, ◌==◌, String}
 use Rattle.std.specs.Global.{Global}
-use Rattle.std.specs.Option.{option_map}
 use Rattle.std.specs.Str.{chars, IsUtf8}
 use Rattle.std.proofs.lemmas.Str.{chars-nil, encodes-chars}
 use Rattle.xls_data.specs.Sheets.{SheetContent}
@@ -15,7 +14,7 @@ use Rattle.xls_decimals.specs.Added.{Adds}
 use Rattle.xls_data.specs.declared.regions.Dimensions.{Dimensions}
 use Rattle.xls_readable.specs.Lines.{IsLine, name_members, ref_members}
 use Rattle.xls_readable.specs.declared.forms.Form.{Form}
-use Rattle.xls_listing.specs.Listing.{Line, IsShownLine, cited_line, name_line, each_sheet, formula_line, lines_of_cells, lines_of_formulas, lines_of_merges, lines_of_sheet, sheet_line, shown_at}
+use Rattle.xls_listing.specs.Listing.{Line, IsShownLine, cited_line, name_line, each_sheet, formula_line, sheet_line, shown_at}
 
 -- ---- lists by their index
 
@@ -104,19 +103,6 @@ sheets_step shown ss vs i s e =
 pub sheets_end : (shown : SheetView → List Line) (ss : List SheetContent) (vs : List SheetView) (i : ℕ) → length ss ≤ i
     → each_sheet shown (drop i ss) (drop i vs) ≡ []
 sheets_end shown ss vs i l = ap (λ (x : List SheetContent). each_sheet shown x (drop i vs)) (drop_all ss i l)
-
--- cells, formulas and merged regions of what stands at an index
-pub parts_at : (o : Option SheetView)
-    → shown_at lines_of_cells o ++ (shown_at lines_of_formulas o ++ shown_at lines_of_merges o) ≡ shown_at lines_of_sheet o
-parts_at None = refl
-parts_at (Some v) = refl
-
--- the lines of a part of what a sheet shows
-pub part_lines : {X : Type 0} (part : SheetView → X) (lines : X → List Line) (shown : SheetView → List Line)
-    → ((v : SheetView) → shown v ≡ lines (part v))
-    → (o : Option SheetView) (found : Option X) → found ≡ option_map part o → shown_at lines found ≡ shown_at shown o
-part_lines part lines shown is None found e = ap (shown_at lines) e
-part_lines part lines shown is (Some v) found e = ap (shown_at lines) e ∙ sym (is v)
 
 -- ---- formulas
 

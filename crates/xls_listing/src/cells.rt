@@ -1,18 +1,19 @@
 //! The cells of a sheet.
 
-ghost use Rattle.std.specs.Prelude.{◌≡◌, slice_get};
+ghost use Rattle.std.specs.Prelude.{◌≡◌};
 ghost use Rattle.std.specs.List.{flat_map};
 ghost use Rattle.xls_data.specs.Refs.{ref_content_of};
 ghost use Rattle.xls_view.specs.Values.{cell_entry};
+ghost use Rattle.xls_view.specs.Viewing.{content_of};
 ghost use Rattle.xls_readable.specs.Lines.{kind_and_item};
-ghost use Rattle.xls_listing.specs.Listing.{PutsLines, cell_lines, lines_of_cells, shown_at, valued_lines};
+ghost use Rattle.xls_listing.specs.Listing.{PutsLines, cell_lines, lines_of_cells, valued_lines};
 
 use crate::values::shown_value;
 use std::alloc::Global;
 use xls_lines::{Sink, Stop};
 use xls_pieces::Pieces;
 use xls_readable::{Form, Value, push_cell};
-use xls_view::{Cells, SheetCell, TextBuffer, View};
+use xls_view::{Cells, SheetCell, TextBuffer, ViewSheet};
 
 /// Puts the line of a value at a row and a column; a blank has none.
 fn put_value<K: Sink>(
@@ -64,20 +65,17 @@ fn put_cells<K: Sink>(
     Ok(())
 }
 
-/// Puts the lines of the cells of the sheet at an index.
-pub(crate) fn put_cells_at<K: Sink>(
+/// Puts the lines of the cells that a sheet shows.
+pub(crate) fn put_shown_cells<K: Sink>(
     alloc: Global,
     form: Form,
     pieces: &mut Pieces,
     sink: &mut K,
-    view: &View<'_>,
-    n: usize,
+    sheet: &ViewSheet<'_>,
 ) -> Result<(), Stop>
-    ensures { PutsLines form (shown_at lines_of_cells (slice_get view.now.book.contents n))
+    ensures { PutsLines form (lines_of_cells (content_of sheet.now))
         (K.state sink.old) pieces.old (K.state sink.new) pieces.new result }
 {
-    match view.cells_at(n)? {
-        Some(cells) => put_cells(alloc, form, pieces, sink, cells.iter()),
-        None => Ok(()),
-    }
+    let cells = sheet.cells()?;
+    put_cells(alloc, form, pieces, sink, cells.iter())
 }

@@ -5,6 +5,7 @@ ghost use Rattle.std.specs.Str.{chars};
 ghost use Rattle.xls_data.specs.Sheets.{sheet_content};
 ghost use Rattle.xls_reading.specs.SheetTable.{shown_formulas};
 ghost use Rattle.xls_view.specs.Formulas.{text_entry};
+ghost use Rattle.xls_view.specs.Viewing.{content_of};
 ghost use Rattle.xls_view.specs.Walking.{formula_seen};
 ghost use Rattle.xls_listing.specs.Listing.{IsShownLine, PutsLines, each_sheet, formula_line, formula_lines, lines_of_formulas, sheet_line, shown_at};
 ghost use Rattle.xls_pieces.specs.Each.{DeliversEach};
@@ -15,7 +16,7 @@ use xls_data::Sheet;
 use xls_lines::{Sink, Stop};
 use xls_pieces::Pieces;
 use xls_readable::{Form, push_formula_line};
-use xls_view::{FormulaCell, SheetFormulas, View};
+use xls_view::{FormulaCell, SheetFormulas, View, ViewSheet};
 
 /// Puts the line of a formula.
 fn put_formula<K: Sink>(
@@ -91,8 +92,22 @@ fn put_formulas<K: Sink>(
     Ok(())
 }
 
+/// Puts the lines of the formulas that a sheet shows.
+pub(crate) fn put_shown_formulas<K: Sink>(
+    form: Form,
+    pieces: &mut Pieces,
+    sink: &mut K,
+    sheet: &ViewSheet<'_>,
+) -> Result<(), Stop>
+    ensures { PutsLines form (lines_of_formulas (content_of sheet.now))
+        (K.state sink.old) pieces.old (K.state sink.new) pieces.new result }
+{
+    let formulas = sheet.formulas()?;
+    put_formulas(form, pieces, sink, &formulas)
+}
+
 /// Puts the lines of the formulas of the sheet at an index.
-pub(crate) fn put_formulas_at<K: Sink>(
+fn put_formulas_at<K: Sink>(
     form: Form,
     pieces: &mut Pieces,
     sink: &mut K,
@@ -102,8 +117,8 @@ pub(crate) fn put_formulas_at<K: Sink>(
     ensures { PutsLines form (shown_at lines_of_formulas (slice_get view.now.book.contents n))
         (K.state sink.old) pieces.old (K.state sink.new) pieces.new result }
 {
-    match view.formulas_at(n)? {
-        Some(formulas) => put_formulas(form, pieces, sink, &formulas),
+    match view.sheet_at(n) {
+        Some(sheet) => put_shown_formulas(form, pieces, sink, &sheet),
         None => Ok(()),
     }
 }

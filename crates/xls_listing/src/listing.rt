@@ -3,19 +3,20 @@
 ghost use Rattle.std.specs.Prelude.{◌≡◌, ◌∷◌, [], map, slice_get};
 ghost use Rattle.xls_data.specs.Sheets.{sheet_content};
 ghost use Rattle.xls_open.specs.Workbook.{told_of};
+ghost use Rattle.xls_view.specs.Viewing.{content_of};
 ghost use Rattle.xls_listing.specs.Listing.{IsShownLine, PutsLines, dates_line, dump_lines, each_sheet, lines_of_sheet, name_line, sheet_line, shown_at};
 ghost use Rattle.xls_pieces.specs.Each.{DeliversEach};
 
-use crate::cells::put_cells_at;
-use crate::formulas::put_formulas_at;
-use crate::merges::put_merges_at;
+use crate::cells::put_shown_cells;
+use crate::formulas::put_shown_formulas;
+use crate::merges::put_merges;
 use crate::sheets::put_sheet;
 use std::alloc::Global;
 use xls_data::Sheet;
 use xls_lines::{Sink, Stop};
 use xls_pieces::Pieces;
 use xls_readable::{Form, push_dates, push_name};
-use xls_view::View;
+use xls_view::{View, ViewSheet};
 
 /// Puts the line of the date system.
 fn put_dates<K: Sink>(
@@ -68,6 +69,22 @@ fn put_names<K: Sink>(
     Ok(())
 }
 
+/// Puts the lines of what a sheet shows.
+fn put_shown<K: Sink>(
+    alloc: Global,
+    form: Form,
+    pieces: &mut Pieces,
+    sink: &mut K,
+    sheet: &ViewSheet<'_>,
+) -> Result<(), Stop>
+    ensures { PutsLines form (lines_of_sheet (content_of sheet.now))
+        (K.state sink.old) pieces.old (K.state sink.new) pieces.new result }
+{
+    put_shown_cells(alloc, form, pieces, sink, sheet)?;
+    put_shown_formulas(form, pieces, sink, sheet)?;
+    put_merges(form, pieces, sink, sheet.merges())
+}
+
 /// Puts the lines of what the sheet at an index shows.
 fn put_shown_at<K: Sink>(
     alloc: Global,
@@ -80,9 +97,10 @@ fn put_shown_at<K: Sink>(
     ensures { PutsLines form (shown_at lines_of_sheet (slice_get view.now.book.contents n))
         (K.state sink.old) pieces.old (K.state sink.new) pieces.new result }
 {
-    put_cells_at(alloc, form, pieces, sink, view, n)?;
-    put_formulas_at(form, pieces, sink, view, n)?;
-    put_merges_at(form, pieces, sink, view, n)
+    match view.sheet_at(n) {
+        Some(sheet) => put_shown(alloc, form, pieces, sink, &sheet),
+        None => Ok(()),
+    }
 }
 
 /// Puts the line of a sheet, and those of what stands at its index.

@@ -1,13 +1,13 @@
 //! The merged regions of a sheet.
 
-ghost use Rattle.std.specs.Prelude.{◌≡◌, ◌∷◌, [], map, slice_get};
-ghost use Rattle.xls_listing.specs.Listing.{PutsLines, lines_of_merges, merge_line, shown_at};
+ghost use Rattle.std.specs.Prelude.{◌≡◌, ◌∷◌, [], map};
+ghost use Rattle.xls_listing.specs.Listing.{PutsLines, merge_line};
 
 use xls_data::Dimensions;
 use xls_lines::{Sink, Stop};
 use xls_pieces::Pieces;
 use xls_readable::{Form, push_merge};
-use xls_view::{Merges, View};
+use xls_view::Merges;
 
 /// Puts the line of a merged region.
 fn put_merge<K: Sink>(
@@ -24,7 +24,7 @@ fn put_merge<K: Sink>(
 }
 
 /// Puts the lines of merged regions.
-fn put_merges<K: Sink>(
+pub(crate) fn put_merges<K: Sink>(
     form: Form,
     pieces: &mut Pieces,
     sink: &mut K,
@@ -37,21 +37,4 @@ fn put_merges<K: Sink>(
         put_merge(form, pieces, sink, region)?;
     }
     Ok(())
-}
-
-/// Puts the lines of the merged regions of the sheet at an index.
-pub(crate) fn put_merges_at<K: Sink>(
-    form: Form,
-    pieces: &mut Pieces,
-    sink: &mut K,
-    view: &View<'_>,
-    n: usize,
-) -> Result<(), Stop>
-    ensures { PutsLines form (shown_at lines_of_merges (slice_get view.now.book.contents n))
-        (K.state sink.old) pieces.old (K.state sink.new) pieces.new result }
-{
-    match view.merges_at(n) {
-        Some(merges) => put_merges(form, pieces, sink, merges),
-        None => Ok(()),
-    }
 }

@@ -1,6 +1,6 @@
 //! A text that is gathered, and written in large pieces.
 
-ghost use Rattle.std.specs.Prelude.{◌≡◌, [], OnOk};
+ghost use Rattle.std.specs.Prelude.{◌≡◌, ◌<◌, [], OnOk, length};
 ghost use Rattle.std.specs.String.{string_bytes};
 ghost use Rattle.xls_lines.specs.Gathering.{Puts};
 
@@ -42,8 +42,11 @@ impl Pieces {
 
     /// Writes what is gathered, where it is 64 KiB or more.
     pub fn pass<K: Sink>(&mut self, sink: &mut K) -> Result<(), Stop>
-        ensures { Puts (K.state sink.old) (string_bytes self.old.text) (K.state sink.new) (string_bytes self.new.text)
+        ensures puts { Puts (K.state sink.old) (string_bytes self.old.text) (K.state sink.new) (string_bytes self.new.text)
             [] result }
+
+        // Less than a piece is kept.
+        ensures small { OnOk result (length (string_bytes self.new.text) < PIECE) }
     {
         if self.text.len() < PIECE {
             return Ok(());

@@ -1,7 +1,6 @@
 -- The lines of sheets and names, one after the other.
 use Rattle.std.proofs.Common.{◌≡◌, ℕ, zero, suc, List, [], ◌∷◌, ◌++◌, ◌+◌, ◌<◌, length, map, get_or, arith, take, add-one, refl, sym, ap, ◌∙◌, append_assoc, Option, Some, None, true, false}
 use Rattle.std.specs.Prelude.{slice_get, String, encode_utf8_all, ◌==◌}
-use Rattle.std.specs.Option.{option_map}
 use Rattle.std.specs.Str.{chars, IsUtf8}
 use Rattle.std.proofs.lemmas.Str.{chars-nil, encodes-chars}
 use Rattle.std.specs.Global.{Global}
@@ -108,18 +107,6 @@ mapped {X} {Y} f xs ys i x l e m = ap (λ (zs : List Y). slice_get zs i) (sym m)
     at_index [] k l e = absurd (omega arith)
     at_index (z ∷ zs) zero l e = ap (λ (w : X). Some (f w)) (sym e)
     at_index (z ∷ zs) (suc k) l e = at_index zs k (omega arith) e
-
--- what stands at an index, if there is anything
-abbrev pub text_in : {X : Type 0} → (X → List ℕ) → Option X → List ℕ
-text_in text None = []
-text_in text (Some x) = text x
-
--- the text of a part of what a sheet shows
-pub part_text : {X : Type 0} (part : SheetView → X) (text : X → List ℕ) (at : Option SheetView → List ℕ)
-    → at None ≡ [] → ((v : SheetView) → at (Some v) ≡ text (part v))
-    → (o : Option SheetView) (found : Option X) → found ≡ option_map part o → text_in text found ≡ at o
-part_text {X} part text at none some None found e = ap (text_in text) e ∙ sym none
-part_text {X} part text at none some (Some v) found e = ap (text_in text) e ∙ sym (some v)
 
 -- ---- names
 

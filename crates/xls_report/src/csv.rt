@@ -15,7 +15,7 @@ use std::alloc::Global;
 use xls_biff::XlsError;
 use xls_csv::CsvRows;
 use xls_lines::{Buffer, Sink, Stop};
-use xls_view::{Cells, View};
+use xls_view::{SheetCells, View};
 
 /// Puts the rows that are still to come.
 fn put_rows<K: Sink>(buffer: &mut Buffer, sink: &mut K, mut rows: CsvRows<'_>) -> Result<(), Stop>
@@ -28,10 +28,10 @@ fn put_rows<K: Sink>(buffer: &mut Buffer, sink: &mut K, mut rows: CsvRows<'_>) -
     Ok(())
 }
 
-/// Writes the dense box of cells, which stand by row, then column, as CSV, row by row.
-fn write_cells<K: Sink>(alloc: Global, sink: &mut K, cells: Cells<'_>) -> Result<(), Stop>
-    requires ordered { IsAscending (map (λ (c : Entry). c.0) cells) }
-    ensures { Delivers (K.state sink.old) (K.state sink.new) (sheet_csv cells.entry) result }
+/// Writes the dense box of a sheet's cells, which stand by row, then column, as CSV, row by row.
+fn write_cells<K: Sink>(alloc: Global, sink: &mut K, cells: &SheetCells<'_>) -> Result<(), Stop>
+    requires ordered { IsAscending (map (λ (c : Entry). c.0) cells.now) }
+    ensures { Delivers (K.state sink.old) (K.state sink.new) (sheet_csv cells.now) result }
 {
     let mut buffer = Buffer::new(alloc);
     put_rows(&mut buffer, sink, CsvRows::new(alloc, cells))?;
@@ -60,7 +60,7 @@ pub fn write_csv<K: Sink>(
 {
     match view.cells_named(name)? {
         Some(cells) => {
-            write_cells(alloc, sink, cells.iter())?;
+            write_cells(alloc, sink, &cells)?;
             Ok(Ending::Done)
         }
         None => write_missing(alloc, sink, name),

@@ -1,6 +1,6 @@
 //! The text of the dump, line by line.
 
-ghost use Rattle.std.specs.Prelude.{◌≡◌, ◌≢◌, ◌≤◌, ◌++◌, ◌∷◌, [], length, map, codes, if◌then◌else◌, slice_get, IfSome};
+ghost use Rattle.std.specs.Prelude.{◌≡◌, ◌≢◌, ◌≤◌, ◌++◌, ◌∷◌, [], length, map, codes, if◌then◌else◌, slice_get, IfSome, Some};
 ghost use Rattle.std.specs.List.{flat_map};
 ghost use Rattle.std.specs.Option.{option_map};
 ghost use Rattle.std.specs.Str.{chars};
@@ -14,8 +14,9 @@ ghost use Rattle.xls_lines.specs.Lines.{field_text};
 ghost use Rattle.xls_open.specs.Workbook.{told_of};
 ghost use Rattle.xls_view.specs.Formulas.{text_entry};
 ghost use Rattle.xls_view.specs.Values.{cell_entry};
+ghost use Rattle.xls_view.specs.Viewing.{content_of};
 ghost use Rattle.xls_view.specs.Walking.{formula_seen};
-ghost use Rattle.xls_report.specs.Report.{cell_line, cells_at, dates_line, epoch_text, fault_line, formula_line, formula_lines, formulas_at, lines_at, merge_line, merges_at, name_line, report, sheet_line, sheet_report, sheets_text, sound_line, type_text, unwritten_line, value_fields, visible_text};
+ghost use Rattle.xls_report.specs.Report.{cell_line, dates_line, epoch_text, fault_line, formula_line, formula_lines, lines_at, merge_line, name_line, report, sheet_line, sheet_report, sheets_text, sound_line, type_text, unwritten_line, value_fields, visible_text};
 
 use crate::ending::Ending;
 use std::alloc::Global;
@@ -23,7 +24,7 @@ use xls_biff::XlsError;
 use xls_data::{DataRef, Dimensions, Sheet, SheetType, SheetVisible};
 use xls_lay::LayError;
 use xls_lines::{Buffer, Field, Sink, Stop, write_line};
-use xls_view::{Cells, FormulaCell, Merges, SheetCell, SheetFormulas, TextBuffer, View};
+use xls_view::{Cells, FormulaCell, Merges, SheetCell, SheetFormulas, TextBuffer, View, ViewSheet};
 
 /// The word for a date or a span.
 fn date_kind(is_span: bool) -> &'static str
@@ -232,53 +233,47 @@ fn put_merges<K: Sink>(buffer: &mut Buffer, sink: &mut K, merges: Merges<'_>) ->
     Ok(())
 }
 
-/// Puts the lines of the cells of the sheet at an index.
-fn put_cells_at<K: Sink>(
+/// Puts the lines of the cells that a sheet shows.
+fn put_shown_cells<K: Sink>(
     alloc: Global,
     buffer: &mut Buffer,
     sink: &mut K,
-    view: &View<'_>,
-    n: usize,
+    sheet: &ViewSheet<'_>,
 ) -> Result<(), Stop>
     ensures { Puts (K.state sink.old) buffer.old (K.state sink.new) buffer.new
-        (cells_at (slice_get view.now.book.contents n)) result }
+        (flat_map cell_line sheet.now.cells) result }
 {
-    match view.cells_at(n)? {
-        Some(cells) => put_cells(alloc, buffer, sink, cells.iter()),
-        None => Ok(()),
-    }
+    let cells = sheet.cells()?;
+    put_cells(alloc, buffer, sink, cells.iter())
 }
 
-/// Puts the lines of the formulas of the sheet at an index.
-fn put_formulas_at<K: Sink>(
+/// Puts the lines of the formulas that a sheet shows.
+fn put_shown_formulas<K: Sink>(
     buffer: &mut Buffer,
     sink: &mut K,
-    view: &View<'_>,
-    n: usize,
+    sheet: &ViewSheet<'_>,
 ) -> Result<(), Stop>
     ensures { Puts (K.state sink.old) buffer.old (K.state sink.new) buffer.new
-        (formulas_at (slice_get view.now.book.contents n)) result }
+        (formula_lines (content_of sheet.now).formulas) result }
 {
-    match view.formulas_at(n)? {
-        Some(formulas) => put_formulas(buffer, sink, &formulas),
-        None => Ok(()),
-    }
+    let formulas = sheet.formulas()?;
+    put_formulas(buffer, sink, &formulas)
 }
 
-/// Puts the lines of the merged regions of the sheet at an index.
-fn put_merges_at<K: Sink>(
+/// Puts the lines of what a sheet shows.
+fn put_shown<K: Sink>(
+    alloc: Global,
     buffer: &mut Buffer,
     sink: &mut K,
-    view: &View<'_>,
-    n: usize,
+    sheet: &ViewSheet<'_>,
 ) -> Result<(), Stop>
     ensures { Puts (K.state sink.old) buffer.old (K.state sink.new) buffer.new
-        (merges_at (slice_get view.now.book.contents n)) result }
+        (lines_at (Some (content_of sheet.now))) result }
 {
-    match view.merges_at(n) {
-        Some(merges) => put_merges(buffer, sink, merges),
-        None => Ok(()),
-    }
+    put_shown_cells(alloc, buffer, sink, sheet)?;
+    put_shown_formulas(buffer, sink, sheet)?;
+    put_merges(buffer, sink, sheet.merges())?;
+    Ok(())
 }
 
 /// Puts the lines of what the sheet at an index shows.
@@ -292,10 +287,10 @@ fn put_lines_at<K: Sink>(
     ensures { Puts (K.state sink.old) buffer.old (K.state sink.new) buffer.new
         (lines_at (slice_get view.now.book.contents n)) result }
 {
-    put_cells_at(alloc, buffer, sink, view, n)?;
-    put_formulas_at(buffer, sink, view, n)?;
-    put_merges_at(buffer, sink, view, n)?;
-    Ok(())
+    match view.sheet_at(n) {
+        Some(sheet) => put_shown(alloc, buffer, sink, &sheet),
+        None => Ok(()),
+    }
 }
 
 /// Puts the line of a sheet, and those of what stands at its index.

@@ -14,8 +14,8 @@ use Rattle.xls_lines.specs.declared.stop.Stop.{Stop}
 use Rattle.xls_lines.specs.declared.stop.Stop.TheVariants.{Memory}
 use Rattle.xls_lines.proofs.GatherLemmas.{gathers-added, gathers-after, gathers-from, gathers-nothing, gathers-then, stops-after, stops-as, stops-memory, stops-memory-now, stops-then, wrote}
 use Rattle.xls_tables.specs.Rows.{IsContentFields, IsContentRow}
-use Rattle.xls_tables.specs.Steps.{IsBoxOf}
-use Rattle.xls_tables.specs.declared.extent.Extent.{Extent}
+use Rattle.xls_csv.specs.Dense.{box_of}
+use Rattle.xls_csv.specs.declared.extent.Extent.{Extent}
 use Rattle.xls_tables.specs.Tables.{BeginsRow, BeginsRows, DeliversTable, IsTable, StopsTable, WroteTable, byte_order_mark}
 
 -- ---- the end of a row
@@ -185,6 +185,6 @@ table_finished d is_marked rows (text, is, gathers) last none =
     record { text = text; table = is; wrote = wrote (gathers-after gathers last) none }
 
 -- the rows that are put are those of the cells
-pub walked : (cells again ahead : List Entry) {extent : Extent} → again ≡ cells → ahead ≡ cells → IsBoxOf again extent
+pub walked : (cells seen ahead : List Entry) {extent : Extent} → seen ≡ cells → ahead ≡ seen → extent ≡ box_of cells
     → rows_along extent.height extent.top extent.left extent.width ahead ≡ walk cells
-walked cells again ahead {extent} e f is = rw (f, is.height, is.top, is.left, is.width, e) refl
+walked cells seen ahead {extent} e f is = rw (f, is, e) refl

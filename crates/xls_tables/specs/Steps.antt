@@ -1,5 +1,5 @@
 -- Words of private calls, for the proofs.
-use Rattle.std.specs.Prelude.{◌≡◌, ℕ, ◌+◌, ◌-◌, ◌==◌, Bool, true, false, List, [], ◌∷◌, ◌++◌, length, Option, Some, None, Result, Ok, Err}
+use Rattle.std.specs.Prelude.{◌≡◌, ℕ, ◌==◌, Bool, true, false, List, [], ◌∷◌, ◌++◌, length, Option, Some, None, Result, Ok, Err}
 use Rattle.xls_data.specs.Content.{Content}
 use Rattle.xls_biff.specs.Cells.{Entry}
 use Rattle.xls_view.specs.Values.{cell_entry}
@@ -9,11 +9,8 @@ use Rattle.xls_readable.specs.declared.values.Value.{Value}
 use Rattle.xls_lines.specs.Gathering.{Gathers, Stops}
 use Rattle.xls_lines.specs.SinkState.{SinkState}
 use Rattle.xls_lines.specs.declared.stop.Stop.{Stop}
-use Rattle.xls_csv.specs.Dense.{box_of, least, greatest, rows_at, columns_at}
 use Rattle.xls_tables.specs.Rows.{IsContentField, IsContentFields, IsContentRow, IsContentText}
 use Rattle.xls_tables.specs.Tables.{BeginsRow, BeginsRows}
-use Rattle.xls_tables.specs.declared.extent.Extent.{Extent}
-use Rattle.xls_tables.specs.declared.extent.Corners.{Corners}
 
 -- ---- cells
 
@@ -26,29 +23,6 @@ cells_ahead (Some cell) others = cell_entry cell ∷ others
 abbrev pub IsEnded : Option SheetCell → List Entry → Type 0
 IsEnded None others = others ≡ []
 IsEnded (Some cell) others = Unit {0}
-
--- ---- boxes
-
--- the box of some cells
-pub record IsBoxOf (cells : List Entry) (extent : Extent) : Type 0 where
-  pub top : extent.top ≡ (box_of cells).top
-  pub left : extent.left ≡ (box_of cells).left
-  pub height : extent.height ≡ (box_of cells).height
-  pub width : extent.width ≡ (box_of cells).width
-
--- the box from one position to another, both included
-pub record IsBetween (start end : ℕ × ℕ) (extent : Extent) : Type 0 where
-  pub top : extent.top ≡ start.0
-  pub left : extent.left ≡ start.1
-  pub height : extent.height ≡ end.0 + 1 - start.0
-  pub width : extent.width ≡ end.1 + 1 - start.1
-
--- the corners of the smallest box that holds a position and those of these cells
-pub record IsSpan (at : ℕ × ℕ) (cells : List Entry) (corners : Corners) : Type 0 where
-  pub top : corners.start.0 ≡ least at.0 (rows_at cells)
-  pub left : corners.start.1 ≡ least at.1 (columns_at cells)
-  pub bottom : corners.end.0 ≡ greatest at.0 (rows_at cells)
-  pub right : corners.end.1 ≡ greatest at.1 (columns_at cells)
 
 -- ---- values
 

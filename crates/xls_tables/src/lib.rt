@@ -2,7 +2,6 @@
 #![tactic(auto)]
 
 mod ahead;
-mod extent;
 mod file_names;
 mod gathered;
 mod shown;

@@ -9,12 +9,12 @@ ghost use Rattle.xls_tables.specs.Steps.{PutsField, PutsFields, PutsRow, PutsRow
 ghost use Rattle.xls_tables.specs.Tables.{DeliversTable};
 
 use crate::ahead::Ahead;
-use crate::extent::{Extent, extent_of};
 use crate::gathered::Gathered;
 use std::alloc::Global;
+use xls_csv::{Extent, extent_of};
 use xls_lines::{Sink, Stop};
 use xls_readable::Delimiter;
-use xls_view::Cells;
+use xls_view::SheetCells;
 
 /// Puts the field at a position of a row that begins at a column, and tells whether that is no byte.
 fn put_field<K: Sink>(
@@ -112,19 +112,25 @@ fn write_rows<K: Sink>(
     sink: &mut K,
     delimiter: Delimiter,
     begins_with_mark: bool,
-    cells: Cells<'_>,
+    cells: &SheetCells<'_>,
 ) -> Result<(), Stop>
-    ensures { DeliversTable delimiter begins_with_mark (walk cells.entry) (K.state sink.old) (K.state sink.new) result }
+    ensures { DeliversTable delimiter begins_with_mark (walk cells.now) (K.state sink.old) (K.state sink.new) result }
 {
     let mut gathered = Gathered::new(alloc);
     gathered.push_mark(begins_with_mark)?;
-    let extent = extent_of(cells.again());
-    put_rows(&mut gathered, sink, Ahead::new(cells), delimiter, extent)?;
+    let extent = extent_of(cells);
+    put_rows(
+        &mut gathered,
+        sink,
+        Ahead::new(cells.iter()),
+        delimiter,
+        extent,
+    )?;
     gathered.finish(sink)?;
     Ok(())
 }
 
-/// Writes the dense box of cells, which come by row, then column, as CSV with this delimiter: a row for each
+/// Writes the dense box of a sheet's cells as CSV with this delimiter: a row for each
 /// row of the smallest box that holds them all, a field for each column, empty where no cell stands. With a
 /// mark, the bytes EF BB BF stand first, by which spreadsheets take the text for UTF-8. At most 64 KiB and
 /// one field are gathered; the box is never made. Only a write that fails, or running out of memory, stops it.
@@ -133,11 +139,11 @@ pub fn write_table<K: Sink>(
     sink: &mut K,
     delimiter: Delimiter,
     begins_with_mark: bool,
-    cells: Cells<'_>,
+    cells: &SheetCells<'_>,
 ) -> Result<(), Stop>
-    ensures walk { DeliversTable delimiter begins_with_mark (walk cells.entry) (K.state sink.old) (K.state sink.new) result }
-    ensures dense { IsAscending (map (λ (c : Entry). c.0) cells.entry)
-        → DeliversTable delimiter begins_with_mark (dense_rows cells.entry) (K.state sink.old) (K.state sink.new) result }
+    ensures walk { DeliversTable delimiter begins_with_mark (walk cells.now) (K.state sink.old) (K.state sink.new) result }
+    ensures dense { IsAscending (map (λ (c : Entry). c.0) cells.now)
+        → DeliversTable delimiter begins_with_mark (dense_rows cells.now) (K.state sink.old) (K.state sink.new) result }
 {
     write_rows(alloc, sink, delimiter, begins_with_mark, cells)
 }

@@ -1,8 +1,7 @@
 -- What the records that are left give, after each step.
-use Rattle.std.proofs.Common.{◌≡◌, ℕ, zero, suc, ◌+◌, ◌-◌, ◌<◌, take, List, [], ◌∷◌, ◌++◌, map, refl, sym, ap, subst, ◌∙◌, append_assoc, arith, Bool, true, false, Option, Some, None, Result, Ok, Err}
+use Rattle.std.proofs.Common.{◌≡◌, ℕ, zero, suc, ◌+◌, ◌-◌, ◌<◌, take, List, [], ◌∷◌, ◌++◌, map, refl, sym, ap, subst, ◌∙◌, arith, Option, Some, Result, Ok}
 use Rattle.std.specs.Prelude.{unwrap_or, slice_get}
-use Rattle.std.specs.List.{AllByRecursion, flat_map, range_with_len}
-use Rattle.std.proofs.lemmas.List.{append-nil}
+use Rattle.std.specs.List.{AllByRecursion, range_with_len}
 use Rattle.xls_model.specs.Stream.{Group}
 use Rattle.xls_model.specs.Walks.{IsBytes}
 use Rattle.xls_model.specs.Listing.{Kept, kept_group}
@@ -11,7 +10,7 @@ use Rattle.xls_biff.specs.Cells.{Entry, Position}
 use Rattle.xls_biff.specs.Outer.{Keeps, Over, CutShort}
 use Rattle.xls_biff.specs.SheetTable.{SheetRecord, formula_position, position_in}
 use Rattle.xls_reading.specs.InForce.{InForce}
-use Rattle.xls_reading.specs.SheetTable.{Given, adds, given_at, kept_line}
+use Rattle.xls_reading.specs.SheetTable.{adds, given_at, kept_line}
 use Rattle.xls_reading.specs.Reading.{given_by}
 use Rattle.xls_strings.specs.Reading.{gives}
 use Rattle.xls_open.proofs.PartLemmas.{keeps_bytes}
@@ -20,9 +19,7 @@ use Rattle.xls_reading.specs.Order.{somes}
 use Rattle.xls_reading.proofs.OrderLemmas.{somes-append}
 use Rattle.xls_view.specs.Formulas.{Formula, formula_of, formulas_of}
 use Rattle.xls_view.specs.Contents.{IsReadable, cells_from, kept_in, moved, regions_at, regions_of}
-use Rattle.xls_view.specs.Values.{cell_entry}
-use Rattle.xls_view.specs.Walking.{IsSound, Left, Passes, GivesFirst}
-use Rattle.xls_view.specs.declared.value.SheetCell.{SheetCell}
+use Rattle.xls_view.specs.Walking.{IsSound, Left}
 use Rattle.xls_view.proofs.WalkLemmas.{kept_next, kept_over, kept_cut, kept_nothing}
 
 -- ---- one more record

@@ -8,3 +8,5 @@ pub mod ViewLemmas
 pub mod PlaceLemmas
 pub mod NameLemmas
 pub mod IndexLemmas
+pub mod BoundsLemmas
+pub mod SurveyLemmas

@@ -1,9 +1,8 @@
 -- What the records of a sheet mean is its content.
-use Rattle.std.proofs.Common.{◌≡◌, ℕ, List, [], ◌∷◌, ◌++◌, map, refl, sym, ap, subst, ◌∙◌, Bool, true, false, Option, Some, None, Result, Ok, Err}
-use Rattle.std.specs.Prelude.{unwrap_or}
+use Rattle.std.proofs.Common.{◌≡◌, ℕ, List, [], ◌∷◌, ◌++◌, map, refl, sym, ap, subst, ◌∙◌, Option, Some, None, Result, Ok, Err}
 use Rattle.std.specs.Option.{option_or, option_map}
 use Rattle.std.specs.List.{AllByRecursion, flat_map}
-use Rattle.std.proofs.lemmas.List.{append-nil, map-append}
+use Rattle.std.proofs.lemmas.List.{map-append}
 use Rattle.xls_model.specs.Listing.{Kept}
 use Rattle.xls_data.specs.declared.regions.Dimensions.{Dimensions}
 use Rattle.xls_cells.specs.Positions.{last_at, IsAscending}
@@ -19,8 +18,7 @@ use Rattle.xls_reading.specs.Rules.{Rules}
 use Rattle.xls_reading.specs.GlobalsTable.{fault_of}
 use Rattle.xls_reading.specs.Faults.{kept_fault, weight_fault}
 use Rattle.xls_reading.specs.SheetTable.{FormulaEntry, Given, adds, kept_line, last_formula, given_in, shown_formula}
-use Rattle.xls_reading.specs.Reading.{SheetView, IsContent, given_by, values_of, merges_of}
-use Rattle.xls_reading.specs.Reading as reading
+use Rattle.xls_reading.specs.Reading.{IsContent, given_by}
 use Rattle.xls_reading.proofs.OrderLemmas.{somes-append}
 use Rattle.xls_open.proofs.PartLemmas.{place_push}
 use Rattle.xls_view.specs.Contents.{IsReadable, cells_from, content_by, moved, regions_at, regions_of, settled}

@@ -1,11 +1,10 @@
 -- Where cells and formulas stand in a part, and what is read there.
-use Rattle.std.proofs.Common.{◌≡◌, ℕ, zero, suc, ◌+◌, ◌-◌, ◌<◌, ◌≤◌, List, [], ◌∷◌, ◌++◌, map, length, drop, take, refl, sym, ap, subst, ◌∙◌, append_assoc, arith, Bool, true, false, Option, Some, None, Result, Ok, Err}
+use Rattle.std.proofs.Common.{◌≡◌, ℕ, zero, suc, ◌+◌, ◌-◌, ◌<◌, ◌≤◌, List, [], ◌∷◌, ◌++◌, map, length, drop, refl, sym, ap, subst, ◌∙◌, append_assoc, arith, Bool, true, false, Option, Some, None, Result, Ok, Err}
 use Rattle.std.specs.Prelude.{◌==◌, if◌then◌else◌, slice_get, unwrap_or, OnOk}
 use Rattle.std.specs.Option.{option_map}
 use Rattle.std.specs.List.{AllByRecursion, range_with_len, flat_map}
-use Rattle.std.specs.Borrow.{Bor}
-use Rattle.std.proofs.lemmas.List.{append-nil, map-append, length-append}
-use Rattle.xls_model.specs.Stream.{Group, Begins, Run, group_bytes}
+use Rattle.std.proofs.lemmas.List.{map-append, length-append}
+use Rattle.xls_model.specs.Stream.{Group, Begins, group_bytes}
 use Rattle.xls_model.specs.Cut.{Cut}
 use Rattle.xls_model.specs.Walks.{IsBytes, Groups}
 use Rattle.xls_model.specs.Listing.{Kept, kept_group}
@@ -17,24 +16,22 @@ use Rattle.xls_model.proofs.Shapes.{run_bytes}
 use Rattle.xls_data.specs.Content.{Content, nothing, text}
 use Rattle.xls_cells.specs.Positions.{Position, Precedes, IsAscending, last_at, cell_position}
 use Rattle.xls_strings.specs.declared.error.XlsError.{XlsError}
-use Rattle.xls_strings.specs.declared.record.Record.{Record}
 use Rattle.xls_strings.specs.Reading.{gives, listed, fault_in}
 use Rattle.xls_biff.specs.Cells.{Entry}
 use Rattle.xls_biff.specs.Outer.{Keeps}
 use Rattle.xls_biff.specs.Records.Rk.{first_column, mul_rk_at, mul_rk_count, rk_cell}
-use Rattle.xls_biff.specs.SheetTable.{CellContext, SheetRecord, empty_record, cells_record, shared_record, string_record, formula_record, regions_record}
-use Rattle.xls_biff.specs.Walking.{Steps, group_of}
+use Rattle.xls_biff.specs.SheetTable.{SheetRecord, empty_record, cells_record, shared_record, string_record, formula_record, regions_record}
 use Rattle.xls_formula.specs.Context.{Context}
 use Rattle.xls_reading.specs.InForce.{InForce}
 use Rattle.xls_reading.specs.SheetTable.{Given, adds, given_at, kept_line, listed_cell}
 use Rattle.xls_reading.specs.Reading.{given_by}
 use Rattle.xls_reading.specs.Order.{somes}
-use Rattle.xls_view.specs.Contents.{IsReadable, settled}
+use Rattle.xls_view.specs.Contents.{settled}
 use Rattle.xls_view.specs.Formulas.{Formula, formula_of}
 use Rattle.xls_view.specs.Groups.{groups_in}
 use Rattle.xls_view.specs.Values.{value_content}
 use Rattle.xls_view.specs.declared.value.CellValue.{CellValue}
-use Rattle.xls_view.specs.Placing.{Place, cell_in, cell_number, cell_placed, first_kept, formula_placed, found_kept, record_at, tokens_in, value_or_blank}
+use Rattle.xls_view.specs.Placing.{Place, cell_in, cell_number, cell_placed, first_kept, formula_placed, record_at, tokens_in, value_or_blank}
 use Rattle.xls_view.proofs.SettledLemmas.{is_settled, seen, settled_seen}
 use Rattle.xls_view.proofs.WalkLemmas.{are_groups, drop_bytes}
 

@@ -1,7 +1,6 @@
 -- The cells of a record, by its line of the table.
-use Rattle.std.proofs.Common.{◌≡◌, ◌≢◌, ℕ, List, [], ◌∷◌, ◌++◌, map, refl, sym, ap, subst, ◌∙◌, arith, Bool, true, false, Option, Some, None, Result, Ok, Err}
+use Rattle.std.proofs.Common.{◌≡◌, ◌≢◌, ℕ, List, [], ◌∷◌, refl, sym, ap, ◌∙◌, arith, Bool, true, false, Option, Some, None, Result, Ok, Err}
 use Rattle.std.specs.Prelude.{◌==◌, if◌then◌else◌}
-use Rattle.std.proofs.lemmas.List.{append-nil}
 use Rattle.xls_model.specs.declared.types.TheConstants as types
 use Rattle.xls_data.specs.Content.{Content, text}
 use Rattle.xls_data.specs.declared.regions.Dimensions.{Dimensions}
@@ -13,6 +12,10 @@ use Rattle.xls_biff.specs.Records.Dimensions.{dimensions_at}
 use Rattle.xls_biff.specs.SheetTable.{CellContext, SheetRecord, empty_record, cells_record, shared_record, string_record, formula_record, regions_record, sheet_record_at}
 use Rattle.xls_formula.specs.Context.{Context}
 use Rattle.xls_reading.specs.SheetTable.{adds, listed_cell, listed_value}
+use Rattle.std.specs.Option.{option_map}
+use Rattle.xls_view.specs.Values.{cell_entry}
+use Rattle.xls_view.specs.Walking.{CellSteps}
+use Rattle.xls_view.specs.declared.value.SheetCell.{SheetCell}
 
 module _ (context : Context) (at : Position) (found : Option Entry) (g : SheetRecord) where
   abbrev pub HasCell : Type 0
@@ -92,3 +95,15 @@ pub no_cell : (context : Context) (at : Position) (s : CellContext) (typ : ℕ) 
 no_cell context at s typ body a b c d e f i j k g h =
     by_types context at g body (typ == types.MERGE_CELLS) (typ == types.DIMENSIONS)
     (rw (apart typ 515 a, apart typ 638 b, apart typ 189 c, apart typ 517 d, apart typ 516 e, apart typ 214 f, apart typ 253 i, apart typ 519 j, apart typ 6 k) at h)
+
+-- ---- the first cell of a record
+
+-- one cell, or none, and none after it
+pub only_cell : (found : Option SheetCell) (cells after : List Entry) → listed_cell (option_map cell_entry found) ≡ cells → after ≡ []
+    → CellSteps cells found after
+only_cell None cells after e f = (sym e, f)
+only_cell (Some c) cells after e f = sym e ∙ ap (λ (l : List Entry). cell_entry c ∷ l) (sym f)
+
+-- the first of a run, and those after it
+pub run_steps : (cells run : List Entry) (found : Option SheetCell) (after : List Entry) → cells ≡ run → CellSteps run found after → CellSteps cells found after
+run_steps cells run found after e h = rw e h

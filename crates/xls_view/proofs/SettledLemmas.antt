@@ -20,7 +20,7 @@ before a b c d h = by_test (nat_lt a c) refl
     by_test true u = inl (grind arith)
     by_test false u = by_other (nat_lt c a) refl u
 
-neither : (a b c d : ℕ) → (if nat_lt a c then true else if nat_lt c a then false else nat_lt b d) ≡ false
+pub neither : (a b c d : ℕ) → (if nat_lt a c then true else if nat_lt c a then false else nat_lt b d) ≡ false
     → (if nat_lt c a then true else if nat_lt a c then false else nat_lt d b) ≡ false → (a ≡ c) × (b ≡ d)
 neither a b c d h k = by_test (nat_lt a c) refl (nat_lt c a) refl
   where

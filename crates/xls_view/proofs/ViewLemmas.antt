@@ -1,5 +1,5 @@
 -- What a view of a stream without a fault shows, and its first fault otherwise.
-use Rattle.std.proofs.Common.{◌≡◌, ℕ, ◌≤◌, List, [], ◌∷◌, ◌++◌, map, length, drop, refl, sym, ap, subst, ◌∙◌, arith, Bool, true, false, Option, Some, None, Err}
+use Rattle.std.proofs.Common.{◌≡◌, ℕ, ◌≤◌, List, [], ◌∷◌, map, length, drop, refl, sym, ap, subst, ◌∙◌, arith, Bool, true, false, Option, Some, None, Err}
 use Rattle.std.specs.Prelude.{◌==◌, if◌then◌else◌, unwrap_or, slice_get}
 use Rattle.std.specs.Borrow.{Bor}
 use Rattle.std.proofs.lemmas.List.{length-map}
@@ -12,15 +12,13 @@ use Rattle.xls_model.specs.Listing.{Kept, Item, Entry, Holds, entry_of, IsSheetP
 use Rattle.xls_model.specs.declared.part.Part.{Part}
 use Rattle.xls_model.proofs.HoldingLemmas.{one_list}
 use Rattle.xls_data.specs.Sheets.{SheetContent}
-use Rattle.xls_cells.specs.Positions.{Position, last_at}
 use Rattle.xls_strings.specs.declared.error.XlsError.{XlsError}
 use Rattle.xls_strings.specs.declared.error.XlsError.TheVariants as errors
 use Rattle.xls_biff.specs.SheetTable.{CellContext}
-use Rattle.xls_formula.specs.Context.{Context}
 use Rattle.xls_reading.specs.Order.{along, first_of}
 use Rattle.xls_reading.specs.GlobalsTable.{forced_fault}
 use Rattle.xls_reading.specs.InForce.{InForce, SheetRecords, sheets_of, context_of, cells_of, in_force_of}
-use Rattle.xls_reading.specs.Reading.{SheetView, BookView, IsReading, paired, last_named, kept_named, shown_of}
+use Rattle.xls_reading.specs.Reading.{SheetView, IsReading, paired, last_named, kept_named, shown_of}
 use Rattle.xls_reading.specs.Faults.{kept_fault, cut_fault, sheet_places, globals_places, places, FirstBehind}
 use Rattle.xls_reading.specs.Held.{OpenedSheet, opened_of, no_view}
 use Rattle.xls_reading.proofs.NamedLemmas.{named_some, named_shown}
@@ -29,7 +27,7 @@ use Rattle.xls_reading.proofs.OrderLemmas.{none_both, first_early}
 use Rattle.xls_reading.proofs.HeldLemmas.{IsFine, sheet_view, good, opened_places, after_globals, carries_full}
 use Rattle.xls_reading.proofs.LawLemmas.{one_first_fault}
 use Rattle.xls_open.specs.Checking.{checked}
-use Rattle.xls_open.specs.Steps.{State, AreGlobals, ReadsGlobals, AreContents, IsStreamOpened, pair_of, Sheets}
+use Rattle.xls_open.specs.Steps.{State, AreGlobals, ReadsGlobals, AreContents, pair_of, Sheets}
 use Rattle.xls_open.specs.Workbook.{rules_of}
 use Rattle.xls_open.specs.declared.options.XlsOptions.{XlsOptions}
 use Rattle.xls_open.proofs.AlikeLemmas.{places_same, checked_alike}

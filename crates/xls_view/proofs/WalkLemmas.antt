@@ -1,7 +1,5 @@
 -- The kept records that are left of a part, after each step of the walk.
-use Rattle.std.proofs.Common.{◌≡◌, ℕ, zero, suc, ◌<◌, ◌≤◌, List, [], ◌∷◌, ◌++◌, map, length, drop, refl, sym, ap, subst, ◌∙◌, arith, inl, inr, Bool, true, false, Option, Some, None, Result, Ok, Err}
-use Rattle.std.specs.Prelude.{slice_index, unwrap_or, if◌then◌else◌, ◌==◌}
-use Rattle.std.specs.List.{AllByRecursion, flat_map}
+use Rattle.std.proofs.Common.{◌≡◌, ℕ, zero, suc, ◌<◌, List, [], ◌∷◌, length, drop, refl, sym, ap, ◌∙◌, arith, inl, inr, Bool, true, false, Option, Some, None}
 use Rattle.xls_model.specs.Stream.{Group}
 use Rattle.xls_model.specs.Walks.{IsBytes, Groups}
 use Rattle.xls_model.specs.Counting.{From, found_from, Found}

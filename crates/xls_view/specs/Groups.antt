@@ -1,7 +1,6 @@
 -- The groups of a list of bytes, by the law that it has exactly one list of them.
-use Rattle.std.specs.Prelude.{◌≡◌, ℕ, ◌<◌, zero, suc, List, [], ◌∷◌, ◌&&◌, nat_lt, Bool, true, false, refl, slice_index, Option, Some, None}
+use Rattle.std.specs.Prelude.{◌≡◌, ℕ, List, [], Bool, true, false, refl, Option, None}
 use Rattle.xls_model.specs.Stream.{Group}
-use Rattle.xls_model.specs.Walks.{IsBytes}
 use Rattle.xls_model.specs.declared.part.Part.{Part}
 use Rattle.xls_model.proofs.Ends.{has_groups}
 use Rattle.xls_open.proofs.ByteLemmas.{are_bytes, bytes_where}

@@ -7,3 +7,4 @@ pub mod Contents
 pub mod Viewing
 pub mod Naming
 pub mod Placing
+pub mod Surveying

@@ -3,10 +3,10 @@ use Rattle.std.specs.Prelude.{◌≡◌, ℕ, List, [], ◌∷◌, ◌++◌, Opt
 use Rattle.std.specs.List.{AllByRecursion}
 use Rattle.xls_model.specs.Walks.{IsBytes}
 use Rattle.xls_data.specs.declared.regions.Dimensions.{Dimensions}
-use Rattle.xls_biff.specs.Cells.{Entry, Position}
+use Rattle.xls_biff.specs.Cells.{Entry}
 use Rattle.xls_formula.specs.Context.{Context}
 use Rattle.xls_reading.specs.InForce.{InForce}
-use Rattle.xls_view.specs.Contents.{IsReadable, cells_from, kept_in, regions_of}
+use Rattle.xls_view.specs.Contents.{IsReadable, kept_in, regions_of}
 use Rattle.xls_view.specs.Formulas.{Formula, formulas_of}
 use Rattle.xls_view.specs.Values.{cell_entry}
 use Rattle.xls_view.specs.declared.value.SheetCell.{SheetCell}
@@ -46,19 +46,6 @@ Left = List ℕ × ℕ
 -- each kept record that is left has no fault
 abbrev pub IsSound : InForce → Left → Type 0
 IsSound s left = IsBytes left.0 × AllByRecursion (IsReadable s.cells) (kept_in left.0 left.1)
-
--- the first cell and a list of the others, if there is one
-abbrev pub GivesFirst : Option (SheetCell × List Entry) → List Entry → Type 0
-GivesFirst None cells = cells ≡ []
-GivesFirst (Some x) cells = cells ≡ cell_entry x.0 ∷ x.1
-
--- the first cells of the records that are left
-abbrev pub Passes : InForce → Left → Position → Option (SheetCell × List Entry) → Left → Position → Type 0
-Passes s before was None after now = (cells_from s was (kept_in before.0 before.1) ≡ [])
-    × (cells_from s now (kept_in after.0 after.1) ≡ [])
-Passes s before was (Some x) after now =
-    cells_from s was (kept_in before.0 before.1)
-    ≡ cell_entry x.0 ∷ x.1 ++ cells_from s now (kept_in after.0 after.1)
 
 -- the first formula of the records that are left
 abbrev pub PassesFormula : Left → Option FormulaCell → Left → Type 0

@@ -13,6 +13,7 @@ pub(crate) struct Ascent {
 
 /// Whether one position comes before another: in an earlier row, or in the same one in an earlier
 /// column.
+#[inline]
 fn precedes(before: (u32, u32), after: (u32, u32)) -> bool
     ensures { IsTrue result ↔ Precedes before after }
 {
@@ -31,6 +32,7 @@ impl Ascent {
     }
 
     /// After one more position.
+    #[inline]
     pub(crate) fn with(self, position: (u32, u32)) -> Ascent
         ensures { (ps : List Position) → IsAscent self ps → IsAscent result (ps ++ position ∷ []) }
     {
@@ -49,5 +51,12 @@ impl Ascent {
         ensures { result ≡ self.ascends }
     {
         self.ascends
+    }
+
+    /// Whether there is none.
+    pub(crate) fn is_empty(self) -> bool
+        ensures { (ps : List Position) → IsAscent self ps → IsTrue result → ps ≡ [] }
+    {
+        self.last.is_none()
     }
 }

@@ -1,33 +1,24 @@
 //! The cells of a sheet.
 
-ghost use Rattle.std.specs.Prelude.{◌≡◌, IfOk, IsTrue, map};
+ghost use Rattle.std.specs.Prelude.{◌≡◌, IfOk, map};
 ghost use Rattle.xls_biff.specs.Cells.{Entry};
+ghost use Rattle.xls_cells.specs.Bounds.{bounds_of};
 ghost use Rattle.xls_cells.specs.Positions.{IsAscending};
 ghost use Rattle.xls_view.specs.Contents.{cells_from, kept_in, settled};
 ghost use Rattle.xls_view.specs.Placing.{cell_placed, cells_held};
+ghost use Rattle.xls_view.specs.Surveying.{IsFound};
 ghost use Rattle.xls_view.specs.Walking.{IsSound};
 
-use crate::ascent::Ascent;
 use crate::places::{next_place, placed_cell, push_cells};
-use crate::value::{SheetCell, position_of};
+use crate::survey::FoundCells;
+use crate::value::SheetCell;
 use crate::walk::CellWalk;
 use std::alloc::{AllocError, Global};
 use std::marker::Model;
 use xls_biff::{PlacedRecords, formula_position};
 use xls_cells::sorted_cells;
-use xls_data::Cell;
+use xls_data::{Cell, Dimensions};
 use xls_open::InForce;
-
-/// Whether the cells of a part ascend strictly by position.
-fn ascends(cells: CellWalk<'_>) -> bool
-    ensures { IsTrue result → IsAscending (map (λ (c : Entry). c.0) cells.entry) }
-{
-    let mut ascent = Ascent::new();
-    for cell in cells {
-        ascent = ascent.with(position_of(cell));
-    }
-    ascent.is_strict()
-}
 
 /// Where the cells of a part stand.
 fn places_of(
@@ -69,11 +60,13 @@ fn order_of(
     alloc: Global,
     part: &[u8],
     force: &InForce<'_>,
+    found: FoundCells,
 ) -> Result<Option<Vec<Cell<usize>>>, AllocError>
-    requires { IsSound force.now (part.now, 0) }
+    requires sound { IsSound force.now (part.now, 0) }
+    requires found { IsFound found (cells_from force.now (0, 0) (kept_in part.now 0)) }
     ensures { IfOk result (λ o. cells_held force.now part.now o ≡ settled (cells_from force.now (0, 0) (kept_in part.now 0))) }
 {
-    if ascends(CellWalk::new(alloc, force, part)) {
+    if found.ascends() {
         return Ok(None);
     }
     let sorted = in_order(alloc, part, force)?;
@@ -89,11 +82,14 @@ pub struct SheetCells<'v> {
     part: &'v [u8],
     /// Where the cells stand, in order, where the records don't ascend.
     sorted: Option<Vec<Cell<usize>>>,
+    /// The smallest box that holds them.
+    bounds: Option<Dimensions>,
 }
 
 impl<'v> Model for SheetCells<'v> {
-    ghost use Rattle.std.specs.Prelude.{List};
+    ghost use Rattle.std.specs.Prelude.{◌≡◌, List};
     ghost use Rattle.xls_biff.specs.Cells.{Entry};
+    ghost use Rattle.xls_cells.specs.Bounds.{bounds_of};
     ghost use Rattle.xls_view.specs.Placing.{cells_held};
     ghost use Rattle.xls_view.specs.Walking.{IsSound};
 
@@ -101,27 +97,39 @@ impl<'v> Model for SheetCells<'v> {
 
     ghost view = { λ c. cells_held c.force c.part.now c.sorted };
 
-    ghost invariant = { λ c. IsSound c.force (c.part.now, 0) };
+    ghost invariant = { λ c. IsSound c.force (c.part.now, 0) × (c.bounds ≡ bounds_of (cells_held c.force c.part.now c.sorted)) };
 }
 
 impl<'v> SheetCells<'v> {
-    /// The cells of a part whose records have no fault. Takes memory only where they don't ascend.
+    /// The cells of a part whose records have no fault, of which this was found. Takes memory only where they
+    /// don't ascend.
     pub(crate) fn new(
         alloc: Global,
         force: InForce<'v>,
         part: &'v [u8],
+        found: FoundCells,
     ) -> Result<SheetCells<'v>, AllocError>
-        requires { IsSound force (part.now, 0) }
+        requires sound { IsSound force (part.now, 0) }
+        requires found { IsFound found (cells_from force (0, 0) (kept_in part.now 0)) }
         ensures settled { IfOk result (λ cells. cells ≡ settled (cells_from force.entry (0, 0) (kept_in part.now 0))) }
         ensures ordered { IfOk result (λ cells. IsAscending (map (λ (c : Entry). c.0) cells)) }
     {
-        let sorted = order_of(alloc, part, &force)?;
+        let sorted = order_of(alloc, part, &force, found)?;
         Ok(SheetCells {
             alloc,
             force,
             part,
             sorted,
+            bounds: found.bounds(),
         })
+    }
+
+    /// The smallest box that holds the cells, from its first row and column to its last; `None` exactly where
+    /// there is no cell. Takes no memory.
+    pub fn bounds(&self) -> Option<Dimensions>
+        ensures { result ≡ bounds_of self.now }
+    {
+        self.bounds
     }
 
     /// The cells in order. Takes no memory.
@@ -183,6 +191,7 @@ impl<'c> Iterator for Cells<'c> {
 
     ghost remaining = { λ cells. at_most (length cells) };
 
+    #[inline]
     fn next(&mut self) -> Option<SheetCell<'c>> {
         if let Some(cell) = self.walk.next() {
             return Some(cell);

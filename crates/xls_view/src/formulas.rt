@@ -1,10 +1,9 @@
 //! The formulas of a sheet.
 
 ghost use Rattle.xls_model.specs.Walks.{IsBytes};
-ghost use Rattle.std.specs.Prelude.{◌≡◌, ◌++◌, ◌∷◌, [], IfOk, IsTrue, OnOk, map};
-ghost use Rattle.xls_cells.specs.Positions.{IsAscending};
+ghost use Rattle.std.specs.Prelude.{◌≡◌, ◌++◌, ◌∷◌, [], IfOk, OnOk, map};
 ghost use Rattle.xls_reading.specs.Order.{somes};
-ghost use Rattle.xls_view.specs.Placing.{formula_placed, formulas_held};
+ghost use Rattle.xls_view.specs.Placing.{IsAscent, formula_placed, formulas_held};
 ghost use Rattle.xls_strings.specs.Texts.{text_of};
 ghost use Rattle.xls_view.specs.Formulas.{Formula, formula_of, formulas_of, text_entry};
 ghost use Rattle.xls_view.specs.Contents.{kept_in, settled};
@@ -47,17 +46,6 @@ impl<'v> Model for SheetFormulas<'v> {
     ghost invariant = { λ f. IsBytes f.part.now };
 }
 
-/// Whether the formulas of a part ascend strictly by position.
-fn ascends(formulas: FormulaWalk<'_>) -> bool
-    ensures { IsTrue result → IsAscending (map (λ (f : Formula). f.0) formulas.entry) }
-{
-    let mut ascent = Ascent::new();
-    for formula in formulas {
-        ascent = ascent.with((formula.row, formula.column));
-    }
-    ascent.is_strict()
-}
-
 /// Where the formulas of a part stand.
 fn places_of(alloc: Global, part: &[u8]) -> Result<Vec<Cell<usize>>, AllocError>
     ensures { IfOk result (λ v. map (formula_placed part.now) v.items ≡ formulas_of (kept_in part.now 0)) }
@@ -83,29 +71,48 @@ fn in_order(alloc: Global, part: &[u8]) -> Result<Vec<Cell<usize>>, AllocError>
 }
 
 /// Where the formulas of a part stand in order, where they don't ascend.
-fn order_of(alloc: Global, part: &[u8]) -> Result<Option<Vec<Cell<usize>>>, AllocError>
+fn order_of(
+    alloc: Global,
+    part: &[u8],
+    found: Ascent,
+) -> Result<Option<Vec<Cell<usize>>>, AllocError>
+    requires { IsAscent found (map (λ (f : Formula). f.0) (formulas_of (kept_in part.now 0))) }
     ensures { IfOk result (λ o. formulas_held part.now o ≡ settled (formulas_of (kept_in part.now 0))) }
 {
-    if ascends(FormulaWalk::new(alloc, part)) {
+    if found.is_strict() {
         return Ok(None);
     }
     let sorted = in_order(alloc, part)?;
     Ok(Some(sorted))
 }
 
+/// A part with the same formulas: no bytes where it has none.
+fn part_with<'v>(part: &'v [u8], found: Ascent) -> &'v [u8]
+    requires { IsAscent found (map (λ (f : Formula). f.0) (formulas_of (kept_in part.now 0))) }
+    ensures { formulas_of (kept_in result.now 0) ≡ formulas_of (kept_in part.now 0) }
+{
+    if found.is_empty() {
+        return &[];
+    }
+    part
+}
+
 impl<'v> SheetFormulas<'v> {
-    /// The formulas of a part. Takes memory only where they don't ascend.
+    /// The formulas of a part, of which this was found. Takes memory only where they don't ascend.
     pub(crate) fn new(
         alloc: Global,
         force: InForce<'v>,
         part: &'v [u8],
+        found: Ascent,
     ) -> Result<SheetFormulas<'v>, AllocError>
+        requires { IsAscent found (map (λ (f : Formula). f.0) (formulas_of (kept_in part.now 0))) }
         ensures { IfOk result (λ formulas. formulas ≡ record {
           context = force.entry.formulas;
           left = settled (formulas_of (kept_in part.now 0));
         }) }
     {
-        let sorted = order_of(alloc, part)?;
+        let part = part_with(part, found);
+        let sorted = order_of(alloc, part, found)?;
         Ok(SheetFormulas {
             alloc,
             force,

@@ -190,7 +190,7 @@ fn push_place(
 }
 
 /// Where a cell of a MulRk record stands, by its number there.
-fn run_position(body: &[u8], i: usize) -> (u32, u32)
+pub(crate) fn run_position(body: &[u8], i: usize) -> (u32, u32)
     requires head { 4 ≤ length body.now }
     requires few { i < 2 ^ 16 }
     ensures { result ≡ (le (take 2 body.now), first_column body.now + i) }

@@ -1,6 +1,6 @@
 //! The cells of a record.
 
-ghost use Rattle.std.specs.Prelude.{◌≡◌, ◌≢◌, ℕ, List, Option, Some, Ok};
+ghost use Rattle.std.specs.Prelude.{◌≡◌, ◌≢◌, [], ℕ, List, Option, Some, Ok};
 ghost use Rattle.xls_model.specs.declared.types.TheConstants as types;
 ghost use Rattle.std.specs.Option.{option_map};
 ghost use Rattle.xls_biff.specs.Cells.{Entry, Position};
@@ -17,7 +17,7 @@ ghost use Rattle.xls_model.specs.Listing.{kept_group};
 ghost use Rattle.xls_reading.specs.SheetTable.{adds, kept_line, listed_cell, listed_value};
 ghost use Rattle.xls_strings.specs.Strings.{string_at};
 ghost use Rattle.xls_view.specs.Values.{cell_entry};
-ghost use Rattle.xls_view.specs.Walking.{GivesFirst};
+ghost use Rattle.xls_view.specs.Walking.{CellSteps};
 
 use crate::run::Run;
 use crate::value::{CellValue, EncodedText, SheetCell, cell_at, lent, read_cell};
@@ -32,6 +32,7 @@ use xls_open::InForce;
 
 // The cell of a record without a fault, by its type.
 
+#[inline]
 fn number<'c>(body: &'c [u8], force: &InForce<'c>) -> Option<SheetCell<'c>>
     ensures { (e : Entry) → number_at force.now.cells.classes force.now.cells.is_1904 body.now ≡ Ok e
         → option_map cell_entry result ≡ Some e }
@@ -42,6 +43,7 @@ fn number<'c>(body: &'c [u8], force: &InForce<'c>) -> Option<SheetCell<'c>>
     }
 }
 
+#[inline]
 fn rk<'c>(body: &'c [u8], force: &InForce<'c>) -> Option<SheetCell<'c>>
     ensures { (e : Entry) → rk_at force.now.cells.classes force.now.cells.is_1904 body.now ≡ Ok e
         → option_map cell_entry result ≡ Some e }
@@ -52,6 +54,7 @@ fn rk<'c>(body: &'c [u8], force: &InForce<'c>) -> Option<SheetCell<'c>>
     }
 }
 
+#[inline]
 fn bool_err<'c>(body: &'c [u8]) -> Option<SheetCell<'c>>
     ensures { (e : Entry) → bool_err_at body.now ≡ Ok e → option_map cell_entry result ≡ Some e }
 {
@@ -62,6 +65,7 @@ fn bool_err<'c>(body: &'c [u8]) -> Option<SheetCell<'c>>
 }
 
 /// A cell with a text that stands in its record.
+#[inline]
 fn encoded<'c>(position: (u32, u32), string: &'c [u8], force: &InForce<'c>) -> SheetCell<'c>
     ensures { (cs : List ℕ) → string_at force.now.cells.page force.now.cells.version string.now ≡ Ok cs
         → cell_entry result ≡ (position, text cs) }
@@ -78,6 +82,7 @@ fn encoded<'c>(position: (u32, u32), string: &'c [u8], force: &InForce<'c>) -> S
     }
 }
 
+#[inline]
 fn label<'c>(body: &'c [u8], force: &InForce<'c>) -> Option<SheetCell<'c>>
     ensures { (e : Entry) → label_at force.now.cells.page force.now.cells.version body.now ≡ Ok e
         → option_map cell_entry result ≡ Some e }
@@ -89,6 +94,7 @@ fn label<'c>(body: &'c [u8], force: &InForce<'c>) -> Option<SheetCell<'c>>
 }
 
 /// A LabelSst whose index is outside the table has no cell.
+#[inline]
 fn label_sst<'c>(body: &'c [u8], force: &InForce<'c>) -> Option<SheetCell<'c>>
     ensures { (found : Option Entry) → label_sst_at force.now.cells.strings body.now ≡ Ok found
         → option_map cell_entry result ≡ found }
@@ -147,26 +153,23 @@ pub(crate) fn cell_of<'c>(
     }
 }
 
-/// The first cell of a record without a fault and those after it, where the last Formula before the record
-/// stands here.
-pub(crate) fn cells_of<'c>(
+/// The first cell of a record without a fault, where the last Formula before the record stands here; those
+/// after it are left in `run`.
+#[inline(always)]
+pub(crate) fn first_cell<'c>(
     alloc: Global,
     r: &Record<'c>,
     at: (u32, u32),
+    run: &mut Run<'c>,
     force: &InForce<'c>,
-) -> Option<(SheetCell<'c>, Run<'c>)>
+) -> Option<SheetCell<'c>>
+    requires { run.old ≡ [] }
     ensures { (g : SheetRecord) → kept_line force.now.cells (kept_group (group_of r.now)) ≡ Ok g
-        → GivesFirst result (adds force.now.formulas at g).cells }
+        → CellSteps (adds force.now.formulas at g).cells result run.new }
 {
     if r.typ != MUL_RK {
-        return match cell_of(alloc, r, at, force) {
-            Some(cell) => Some((cell, Run::none())),
-            None => None,
-        };
+        return cell_of(alloc, r, at, force);
     }
-    let mut run = Run::new(r.body, force.classes, force.is_1904);
-    match run.next() {
-        Some(cell) => Some((cell, run)),
-        None => None,
-    }
+    *run = Run::new(r.body, force.classes, force.is_1904);
+    run.next()
 }

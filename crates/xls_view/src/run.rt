@@ -79,6 +79,7 @@ impl<'c> Run<'c> {
     }
 
     /// The next cell.
+    #[inline(always)]
     pub(crate) fn next(&mut self) -> Option<SheetCell<'c>>
         ensures { CellSteps self.old result self.new }
     {

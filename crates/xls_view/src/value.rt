@@ -45,6 +45,7 @@ pub struct FormulaCell<'v> {
 }
 
 /// A value that owns its texts, as one that may borrow them.
+#[inline(always)]
 pub(crate) fn lent<'v>(value: Data) -> DataRef<'v>
     ensures { ref_content_of result ≡ content_of value }
 {
@@ -62,6 +63,7 @@ pub(crate) fn lent<'v>(value: Data) -> DataRef<'v>
 }
 
 /// The cell at a position with a value that isn't a text of its record.
+#[inline(always)]
 pub(crate) fn cell_at<'v>(position: (u32, u32), value: DataRef<'v>) -> SheetCell<'v>
     ensures { cell_entry result ≡ (position, ref_content_of value.entry) }
 {
@@ -74,6 +76,7 @@ pub(crate) fn cell_at<'v>(position: (u32, u32), value: DataRef<'v>) -> SheetCell
 }
 
 /// A cell that was read from a record.
+#[inline(always)]
 pub(crate) fn read_cell<'v>(cell: Cell<Data>) -> SheetCell<'v>
     ensures { cell_entry result ≡ entry_of cell }
 {
@@ -82,6 +85,7 @@ pub(crate) fn read_cell<'v>(cell: Cell<Data>) -> SheetCell<'v>
 }
 
 /// Where a cell stands.
+#[inline(always)]
 pub(crate) fn position_of(cell: SheetCell<'_>) -> (u32, u32)
     ensures { result ≡ (cell.entry.row, cell.entry.column) }
 {

@@ -10,7 +10,7 @@ ghost use Rattle.xls_reading.specs.GlobalsTable.{forced_fault};
 ghost use Rattle.xls_biff.specs.Cells.{Entry};
 ghost use Rattle.xls_cells.specs.Positions.{IsAscending};
 ghost use Rattle.xls_reading.specs.Reading.{SheetView, shown_of};
-ghost use Rattle.xls_view.specs.Viewing.{IsFault, IsViewed, ViewCause, formulas_named};
+ghost use Rattle.xls_view.specs.Viewing.{IsFault, IsViewed, ShownSheet, ViewCause, content_of, formulas_named};
 ghost use Rattle.xls_view.specs.Walking.{Named};
 ghost use Rattle.xls_view.specs.Placing.{IsPartOf, force_of};
 ghost use Rattle.xls_view.specs.Formulas.{text_entry};
@@ -25,6 +25,7 @@ use crate::index::{find_named, index_of};
 use crate::merges::Merges;
 use crate::naming::ViewNaming;
 use crate::places::part_at;
+use crate::sheet::ViewSheet;
 use std::alloc::{AllocError, Global};
 use std::collections::BTreeMap;
 use std::marker::Model;
@@ -214,7 +215,7 @@ impl<'a> View<'a> {
     }
 
     /// What the records of the sheets are read under.
-    fn force(&self) -> InForce<'_>
+    pub(crate) fn force(&self) -> InForce<'_>
         ensures { result ≡ force_of self.now }
     {
         InForce {
@@ -250,6 +251,32 @@ impl<'a> View<'a> {
         }
     }
 
+    /// The last sheet of a name. `None` exactly where no sheet has the name. Takes no memory; its records are
+    /// walked once.
+    pub fn sheet_named(&self, name: &str) -> Option<ViewSheet<'_>>
+        ensures content { option_map content_of result ≡ shown_of self.now.book (chars name.now) }
+        ensures formulas { option_map (λ (s : ShownSheet). s.formulas) result ≡ formulas_named self.now (chars name.now) }
+        ensures context { IfSome result (λ s. s.context ≡ self.now.context) }
+    {
+        match self.part_named(name) {
+            Some(part) => Some(ViewSheet::new(self.alloc, self, part)),
+            None => None,
+        }
+    }
+
+    /// The last sheet of the name that the sheet at an index has. `None` exactly where no sheet has the index.
+    /// Takes no memory; its records are walked once.
+    pub fn sheet_at(&self, n: usize) -> Option<ViewSheet<'_>>
+        ensures content { option_map content_of result ≡ slice_get self.now.book.contents n }
+        ensures formulas { option_map (λ (s : ShownSheet). s.formulas) result ≡ slice_get self.now.formulas n }
+        ensures context { IfSome result (λ s. s.context ≡ self.now.context) }
+    {
+        match self.part_at(n) {
+            Some(part) => Some(ViewSheet::new(self.alloc, self, part)),
+            None => None,
+        }
+    }
+
     /// The cells of the last sheet of a name. `None` exactly where no sheet has the name. Only running out
     /// of memory refuses.
     pub fn cells_named(&self, name: &str) -> Result<Option<SheetCells<'_>>, AllocError>
@@ -257,8 +284,8 @@ impl<'a> View<'a> {
             ≡ option_map (λ (v : SheetView). v.cells) (shown_of self.now.book (chars name.now))) }
         ensures ordered { IfOk result (λ found. IfSome found (λ cells. IsAscending (map (λ (c : Entry). c.0) cells))) }
     {
-        match self.part_named(name) {
-            Some(part) => Ok(Some(SheetCells::new(self.alloc, self.force(), part)?)),
+        match self.sheet_named(name) {
+            Some(sheet) => Ok(Some(sheet.cells()?)),
             None => Ok(None),
         }
     }
@@ -270,8 +297,8 @@ impl<'a> View<'a> {
             ≡ option_map (λ (v : SheetView). v.cells) (slice_get self.now.book.contents n)) }
         ensures ordered { IfOk result (λ found. IfSome found (λ cells. IsAscending (map (λ (c : Entry). c.0) cells))) }
     {
-        match self.part_at(n) {
-            Some(part) => Ok(Some(SheetCells::new(self.alloc, self.force(), part)?)),
+        match self.sheet_at(n) {
+            Some(sheet) => Ok(Some(sheet.cells()?)),
             None => Ok(None),
         }
     }
@@ -284,8 +311,8 @@ impl<'a> View<'a> {
         ensures texts { IfOk result (λ found. option_map (λ (f : Named). map (text_entry f.context) f.left) found
             ≡ option_map (λ (v : SheetView). v.formulas) (shown_of self.now.book (chars name.now))) }
     {
-        match self.part_named(name) {
-            Some(part) => Ok(Some(SheetFormulas::new(self.alloc, self.force(), part)?)),
+        match self.sheet_named(name) {
+            Some(sheet) => Ok(Some(sheet.formulas()?)),
             None => Ok(None),
         }
     }
@@ -298,8 +325,8 @@ impl<'a> View<'a> {
         ensures texts { IfOk result (λ found. option_map (λ (f : Named). map (text_entry f.context) f.left) found
             ≡ option_map (λ (v : SheetView). v.formulas) (slice_get self.now.book.contents n)) }
     {
-        match self.part_at(n) {
-            Some(part) => Ok(Some(SheetFormulas::new(self.alloc, self.force(), part)?)),
+        match self.sheet_at(n) {
+            Some(sheet) => Ok(Some(sheet.formulas()?)),
             None => Ok(None),
         }
     }

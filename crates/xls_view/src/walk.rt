@@ -1,10 +1,10 @@
 //! The cells of a sheet part in the order of its records.
 
-ghost use Rattle.std.specs.Prelude.{◌≡◌, []};
+ghost use Rattle.std.specs.Prelude.{◌≡◌, ◌++◌, []};
 ghost use Rattle.xls_view.specs.Contents.{cells_from, kept_in};
-ghost use Rattle.xls_view.specs.Walking.{IsSound, Passes};
+ghost use Rattle.xls_view.specs.Walking.{CellSteps, IsSound};
 
-use crate::record::cells_of;
+use crate::record::first_cell;
 use crate::run::Run;
 use crate::value::SheetCell;
 use std::alloc::Global;
@@ -38,17 +38,21 @@ impl<'c> Model for CellWalk<'c> {
     ghost invariant = { λ w. IsSound w.force.now w.records };
 }
 
-/// The first cell of the records that are left, and those after it in its record, where the last Formula
-/// before them stands here.
-fn next_cells<'c>(
+/// The first cell of the records that are left, where the last Formula before them stands here; those after
+/// it in its record are left in `run`.
+#[inline(always)]
+fn next_cell<'c>(
     alloc: Global,
     records: &mut SheetRecords<'c>,
     at: &mut (u32, u32),
+    run: &mut Run<'c>,
     force: &InForce<'c>,
-) -> Option<(SheetCell<'c>, Run<'c>)>
-    requires { IsSound force.now records.old }
+) -> Option<SheetCell<'c>>
+    requires sound { IsSound force.now records.old }
+    requires none { run.old ≡ [] }
     ensures sound { IsSound force.now records.new }
-    ensures passes { Passes force.now records.old at.old result records.new at.new }
+    ensures passes { CellSteps (cells_from force.now at.old (kept_in records.old.0 records.old.1)) result
+        (run.new ++ cells_from force.now at.new (kept_in records.new.0 records.new.1)) }
 {
     while let Some(item) = records.next() {
         let record = match item {
@@ -57,8 +61,8 @@ fn next_cells<'c>(
         };
         let last = *at;
         *at = formula_position(&record).unwrap_or(last);
-        if let Some((cell, run)) = cells_of(alloc, &record, last, force) {
-            return Some((cell, run));
+        if let Some(cell) = first_cell(alloc, &record, last, run, force) {
+            return Some(cell);
         }
     }
     None
@@ -118,12 +122,17 @@ impl<'c> Iterator for CellWalk<'c> {
 
     ghost remaining = { λ cells. at_most (length cells) };
 
+    #[inline]
     fn next(&mut self) -> Option<SheetCell<'c>> {
         if let Some(cell) = self.run.next() {
             return Some(cell);
         }
-        let (cell, run) = next_cells(self.alloc, &mut self.records, &mut self.at, self.force)?;
-        self.run = run;
-        Some(cell)
+        next_cell(
+            self.alloc,
+            &mut self.records,
+            &mut self.at,
+            &mut self.run,
+            self.force,
+        )
     }
 }

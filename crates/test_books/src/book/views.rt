@@ -1,7 +1,7 @@
 use super::*;
 use std::test::*;
 use xls_data::{Data, Dimensions};
-use xls_view::{SheetCell, SheetCells, SheetFormulas, TextBuffer, View};
+use xls_view::{Merges, SheetCell, SheetCells, SheetFormulas, TextBuffer, View, ViewSheet};
 
 // A cell as `row,column=` with a space after it, as `push_sheet` has it.
 fn push_cell(alloc: Global, text: &mut String, cell: SheetCell<'_>) -> Result<(), AllocError> {
@@ -36,8 +36,27 @@ fn push_region(text: &mut String, region: Dimensions) -> Result<(), AllocError> 
     Ok(())
 }
 
-// The cells and a bar, the formulas and a bar, and the merged regions of a sheet.
-fn push_viewed(
+// How the sheets of a view are asked for.
+#[derive(Clone, Copy, Debug)]
+enum Way {
+    // Cells, formulas and regions apart, by the sheet's index.
+    Apart,
+    // Likewise by its name.
+    Named,
+    // The sheet once.
+    Whole,
+}
+
+fn push_regions(text: &mut String, regions: Option<Merges<'_>>) -> Result<(), AllocError> {
+    if let Some(regions) = regions {
+        for region in regions {
+            push_region(text, region)?;
+        }
+    }
+    Ok(())
+}
+
+fn push_apart(
     alloc: Global,
     text: &mut String,
     view: &View<'_>,
@@ -49,12 +68,49 @@ fn push_viewed(
     if let Some(formulas) = view.formulas_at(n)? {
         push_formulas(text, &formulas)?;
     }
-    if let Some(regions) = view.merges_at(n) {
-        for region in regions {
-            push_region(text, region)?;
-        }
+    push_regions(text, view.merges_at(n))
+}
+
+fn push_named(
+    alloc: Global,
+    text: &mut String,
+    view: &View<'_>,
+    name: &str,
+) -> Result<(), AllocError> {
+    if let Some(cells) = view.cells_named(name)? {
+        push_cells(alloc, text, &cells)?;
     }
-    Ok(())
+    if let Some(formulas) = view.formulas_named(name)? {
+        push_formulas(text, &formulas)?;
+    }
+    push_regions(text, view.merges_named(name))
+}
+
+fn push_whole(alloc: Global, text: &mut String, sheet: &ViewSheet<'_>) -> Result<(), AllocError> {
+    push_cells(alloc, text, &sheet.cells()?)?;
+    push_formulas(text, &sheet.formulas()?)?;
+    push_regions(text, Some(sheet.merges()))
+}
+
+// The cells and a bar, the formulas and a bar, and the merged regions of a sheet.
+fn push_viewed(
+    alloc: Global,
+    text: &mut String,
+    view: &View<'_>,
+    n: usize,
+    way: Way,
+) -> Result<(), AllocError> {
+    match way {
+        Way::Apart => push_apart(alloc, text, view, n),
+        Way::Named => match view.sheets().get(n) {
+            Some(sheet) => push_named(alloc, text, view, sheet.name.as_str()),
+            None => Ok(()),
+        },
+        Way::Whole => match view.sheet_at(n) {
+            Some(sheet) => push_whole(alloc, text, &sheet),
+            None => Ok(()),
+        },
+    }
 }
 
 fn push_opened(text: &mut String, book: &Xls, n: usize) -> Result<(), AllocError> {
@@ -68,7 +124,7 @@ fn push_opened(text: &mut String, book: &Xls, n: usize) -> Result<(), AllocError
 }
 
 // What the globals put in force and each of the sheets, of which there are fewer than four.
-fn view_text(alloc: Global, view: &View<'_>) -> Result<String, AllocError> {
+fn view_text(alloc: Global, view: &View<'_>, way: Way) -> Result<String, AllocError> {
     let classes = view.formats();
     let names = view.defined_names();
     let sheets = view.sheets();
@@ -79,7 +135,7 @@ fn view_text(alloc: Global, view: &View<'_>) -> Result<String, AllocError> {
         view.has_1904_epoch()
     )?;
     for n in 0..4 {
-        push_viewed(alloc, &mut text, view, n)?;
+        push_viewed(alloc, &mut text, view, n, way)?;
     }
     Ok(text)
 }
@@ -100,11 +156,11 @@ fn book_text(alloc: Global, book: &Xls) -> Result<String, AllocError> {
     Ok(text)
 }
 
-fn viewed(alloc: Global, opening: Opening, parts: &[&[u8]]) -> Result<String, XlsError> {
+fn viewed(alloc: Global, opening: Opening, parts: &[&[u8]], way: Way) -> Result<String, XlsError> {
     let bytes = joined(alloc, parts)?;
     let options = options_of(alloc, opening)?;
     let view = View::new(alloc, &bytes, &options)?;
-    Ok(view_text(alloc, &view)?)
+    Ok(view_text(alloc, &view, way)?)
 }
 
 fn shown(alloc: Global, opening: Opening, parts: &[&[u8]]) -> Result<String, XlsError> {
@@ -113,8 +169,9 @@ fn shown(alloc: Global, opening: Opening, parts: &[&[u8]]) -> Result<String, Xls
 }
 
 // Whether both give the same text, or the same refusal.
-fn is_same(alloc: Global, opening: Opening, parts: &[&[u8]]) -> bool {
-    match (viewed(alloc, opening, parts), shown(alloc, opening, parts)) {
+fn is_same(alloc: Global, opening: Opening, parts: &[&[u8]], way: Way) -> bool {
+    let viewed = viewed(alloc, opening, parts, way);
+    match (viewed, shown(alloc, opening, parts)) {
         (Ok(one), Ok(other)) => one.as_str() == other.as_str(),
         (Err(one), Err(other)) => one == other,
         _ => false,
@@ -129,12 +186,14 @@ fn a_view_shows_what_opening_shows(rt: HostRuntime) {
         formulas::CASES.as_slice(),
         lookups::CASES.as_slice(),
     ];
-    for cases in tables {
-        for (shows, opening, parts, _, _) in cases.iter() {
-            assert!(rt; is_same(rt.alloc(), *opening, parts), "{shows}");
+    for way in [Way::Apart, Way::Named, Way::Whole] {
+        for cases in tables {
+            for (shows, opening, parts, _, _) in cases.iter() {
+                assert!(rt; is_same(rt.alloc(), *opening, parts, way), "{shows}");
+            }
         }
-    }
-    for (parts, text, _) in crate::csv_rows::SHEETS.iter() {
-        assert!(rt; is_same(rt.alloc(), Opening::Plain, parts), "{text}");
+        for (parts, text, _) in crate::csv_rows::SHEETS.iter() {
+            assert!(rt; is_same(rt.alloc(), Opening::Plain, parts, way), "{text}");
+        }
     }
 }

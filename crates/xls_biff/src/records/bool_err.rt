@@ -26,6 +26,7 @@ fn value_of_bes(byte: u8, is_error: u8) -> Result<Data, XlsError>
 /// The cell of a BoolErr record's body: row, column, XF index, a byte, and whether it is the code of
 /// an error value. `Len` for fewer than 8 bytes; `Unrecognized` where byte 7 is neither 0 nor 1, and
 /// for the code of no error value. Takes no memory.
+#[inline]
 pub fn parse_bool_err(r: &[u8]) -> Result<Cell<Data>, XlsError>
     ensures { Exactly entry_of result (bool_err_at r.now) }
 {
@@ -35,6 +36,7 @@ pub fn parse_bool_err(r: &[u8]) -> Result<Cell<Data>, XlsError>
 }
 
 /// The fault of `parse_bool_err`.
+#[inline]
 pub(crate) fn check_bool_err(r: &[u8]) -> Result<(), XlsError>
     ensures { Exactly (λ u. u) result (fault_in (bool_err_at r.now)) }
 {

@@ -1,16 +1,16 @@
 //! Formula, without its tokens.
 
-ghost use Rattle.std.specs.Prelude.{◌≡◌, ◌≤◌, [], Bool, List, Option, Some, Ok, length};
+ghost use Rattle.std.specs.Prelude.{◌≡◌, ◌≤◌, [], Bool, List, Option, Ok, length};
 ghost use Rattle.std.specs.Option.{option_copied};
 ghost use Rattle.xls_data.specs.Content.{text};
 ghost use Rattle.xls_data.specs.Data.{content_of};
 ghost use Rattle.xls_data.specs.declared.formats.CellFormat.{CellFormat};
 ghost use Rattle.xls_strings.specs.Reading.{Exactly, fault_in};
-ghost use Rattle.xls_biff.specs.Cells.{position_at, value_of};
+ghost use Rattle.xls_biff.specs.Cells.{value_of};
 ghost use Rattle.xls_biff.specs.Records.Formula.{formula_at, formula_value_at, special_value};
 ghost use Rattle.xls_biff.specs.SheetTable.{CellContext, SheetRecord, sheet_record_at, formula_position};
 
-use crate::cells::{error_of_code, position_of};
+use crate::cells::{cell_position, error_of_code, position_of};
 use crate::fields::u16_at;
 use std::alloc::Global;
 use xls_bytes::read_bits;
@@ -93,6 +93,7 @@ pub fn parse_formula_record<'a>(
 
 /// Where a Formula record without a fault stands, and `None` for a record of another type. Takes no
 /// memory.
+#[inline(always)]
 pub fn formula_position(r: &Record<'_>) -> Option<(u32, u32)>
     ensures { (force : CellContext) (g : SheetRecord) →
         sheet_record_at force r.now.typ r.now.body.now ≡ Ok g → result ≡ formula_position g }
@@ -100,16 +101,7 @@ pub fn formula_position(r: &Record<'_>) -> Option<(u32, u32)>
     if r.typ != FORMULA {
         return None;
     }
-    first_position(r.body)
-}
-
-fn first_position(body: &[u8]) -> Option<(u32, u32)>
-    ensures { 4 ≤ length body.now → result ≡ Some (position_at body.now) }
-{
-    if body.len() < 4 {
-        return None;
-    }
-    Some(position_of(body))
+    cell_position(r.body)
 }
 
 /// The fault of `special`.

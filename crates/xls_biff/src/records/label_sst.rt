@@ -17,6 +17,7 @@ use xls_strings::{Part, Strings, XlsError, need};
 /// The row and the column of a LabelSst record's body, both counted from 0, and the string of the table,
 /// lent by it, whose 32-bit index stands after the XF index; `None` exactly where the table has no such
 /// string. `Len` for fewer than 10 bytes. Takes no memory.
+#[inline]
 pub fn find_label_sst<'s>(
     r: &[u8],
     strings: &'s Strings,
@@ -47,6 +48,7 @@ pub fn parse_label_sst(
 }
 
 /// The fault of `parse_label_sst`, under all tables. Takes no memory.
+#[inline]
 pub(crate) fn check_label_sst(r: &[u8]) -> Result<(), XlsError>
     ensures { (strings : List (List ℕ)) → Exactly (λ u. u) result (fault_in (label_sst_at strings r.now)) }
 {

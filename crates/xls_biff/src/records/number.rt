@@ -14,6 +14,7 @@ use xls_strings::{Part, XlsError, need};
 /// The cell of a Number record's body: row, column, XF index and the 64 bits of a double, which
 /// stays in the form `Bits`. The class is that of the XF index, and `Other` where `formats` ends
 /// before it. `Len` for fewer than 14 bytes. Takes no memory.
+#[inline]
 pub fn parse_number(r: &[u8], formats: &[CellFormat], is_1904: bool) -> Result<Cell<Data>, XlsError>
     ensures { Exactly entry_of result (number_at formats.now is_1904 r.now) }
 {
@@ -24,6 +25,7 @@ pub fn parse_number(r: &[u8], formats: &[CellFormat], is_1904: bool) -> Result<C
 }
 
 /// The fault of `parse_number`, under all classes and date systems.
+#[inline]
 pub(crate) fn check_number(r: &[u8]) -> Result<(), XlsError>
     ensures { (formats : List CellFormat) (is_1904 : Bool) →
         Exactly (λ u. u) result (fault_in (number_at formats is_1904 r.now)) }

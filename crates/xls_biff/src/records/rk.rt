@@ -48,6 +48,7 @@ fn hundredths(n: i64, class: Option<&CellFormat>, is_1904: bool) -> Data
 
 /// The value of an RK number.
 #[tactic(auto, unfolding(crate::specs::Records::Rk::rk_content))]
+#[inline]
 fn value_of_rk(rk: u32, class: Option<&CellFormat>, is_1904: bool) -> Data
     ensures { content_of result ≡ rk_content (option_copied class.entry) rk is_1904 }
 {
@@ -73,6 +74,7 @@ fn value_of_rk(rk: u32, class: Option<&CellFormat>, is_1904: bool) -> Data
 /// The cell of an RK record's body: row, column, XF index and an RK number, which is a whole number or
 /// the top of a double, and over 100 where its lowest bit is set. The class is that of the XF index,
 /// and `Other` where `formats` ends before it. `Len` for fewer than 10 bytes. Takes no memory.
+#[inline]
 pub fn parse_rk(r: &[u8], formats: &[CellFormat], is_1904: bool) -> Result<Cell<Data>, XlsError>
     ensures { Exactly entry_of result (rk_at formats.now is_1904 r.now) }
 {
@@ -83,6 +85,7 @@ pub fn parse_rk(r: &[u8], formats: &[CellFormat], is_1904: bool) -> Result<Cell<
 }
 
 /// The fault of `parse_rk`, under all classes and date systems.
+#[inline]
 pub(crate) fn check_rk(r: &[u8]) -> Result<(), XlsError>
     ensures { (formats : List CellFormat) (is_1904 : Bool) →
         Exactly (λ u. u) result (fault_in (rk_at formats is_1904 r.now)) }
@@ -123,6 +126,7 @@ pub fn count_mul_rk(r: &[u8]) -> Result<usize, XlsError>
 /// The cell of a MulRk record's body by its number, counted from 0, which is below `count_mul_rk`: in the
 /// record's row, so many columns after its first one. The class is that of the cell's XF index, and
 /// `Other` where `formats` ends before it. Takes no memory.
+#[inline]
 pub fn cell_of_mul_rk(r: &[u8], i: usize, formats: &[CellFormat], is_1904: bool) -> Cell<Data>
     requires room { 10 + 6 * i ≤ length r.now }
     requires within { i < 2 ^ 16 }

@@ -1,4 +1,4 @@
-use Rattle.std.proofs.Common.{List, subst, arith, sym, ◌∙◌}
+use Rattle.std.proofs.Common.{List, subst, arith}
 use Rattle.std.proofs.lemmas.Option.{MatchOption-at_some}
 use Rattle.std.specs.Vec.Iter.{into_iter_items}
 use Rattle.xls_cells.specs.Positions.{Entry}

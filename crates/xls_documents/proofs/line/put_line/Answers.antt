@@ -9,4 +9,4 @@ returns-in_err-push_line g c = puts-memory (IsLineText c.args.form) _ _ _ _ c.fr
 
 pub returns : goal.returns
 returns g c =
-    puts-one (IsLineText c.args.form) (c.args.word.now, map named_of c.args.members.now) _ _ _ _ _ c.pass.result c.in_ok-push_line.ensures.ok c.pass.ensures
+    puts-one (IsLineText c.args.form) (c.args.word.now, map named_of c.args.members.now) _ _ _ _ _ c.pass.result c.in_ok-push_line.ensures.ok c.pass.ensures.puts

@@ -11,4 +11,4 @@ returns-in_err-push_custom g c = puts-memory (IsLineText c.args.form) _ _ _ _ c.
 pub returns : goal.returns
 returns g c =
     puts-one (IsLineText c.args.form) (codes "custom", custom_members (string_bytes c.args.name.now) (string_bytes c.args.value.now)) _ _ _ _ _
-    c.pass.result (rw (c.as_str.ensures.value, c.as_str-2.ensures.value) at c.in_ok-push_custom.ensures.ok) c.pass.ensures
+    c.pass.result (rw (c.as_str.ensures.value, c.as_str-2.ensures.value) at c.in_ok-push_custom.ensures.ok) c.pass.ensures.puts

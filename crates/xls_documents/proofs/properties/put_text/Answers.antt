@@ -8,4 +8,4 @@ returns-in_err-push_property g c = puts-memory (IsLineText c.args.form) _ _ _ _ 
 
 pub returns : goal.returns
 returns g c =
-    puts-one (IsLineText c.args.form) (property_line c.args.property c.args.text.now) _ _ _ _ _ c.pass.result c.in_ok-push_property.ensures.ok c.pass.ensures
+    puts-one (IsLineText c.args.form) (property_line c.args.property c.args.text.now) _ _ _ _ _ c.pass.result c.in_ok-push_property.ensures.ok c.pass.ensures.puts

@@ -28,4 +28,4 @@ returns g c =
     (c.text_member.ensures ∙ shown (codes "path") (c.as_str.ensures.value ∙ path)) in
     let added = stream_added c.args.form c.args.entry.now _ c.size.result (map (λ x. x.now) names) _ _ c.requires c.size.ensures c.in_ok-path.ensures members
     c.in_ok-push_line.ensures.ok in
-    puts-one (IsEntryText c.args.form) c.args.entry.now _ _ _ _ _ c.pass.result added c.pass.ensures
+    puts-one (IsEntryText c.args.form) c.args.entry.now _ _ _ _ _ c.pass.result added c.pass.ensures.puts

@@ -18,4 +18,4 @@ returns g c =
     let text = c.args.text.now in
     puts-one (IsShownLine c.args.form) (formula_line ((c.args.row, c.args.column), chars text)) _ _ new _ _ c.pass.result
     (subst (λ (t : List ℕ). Adds (IsLine c.args.form (codes "formula") (formula_members c.args.row c.args.column t)) old new)
-    (encoded text c.utf8.text) c.in_ok-push_formula_line.ensures.ok) c.pass.ensures
+    (encoded text c.utf8.text) c.in_ok-push_formula_line.ensures.ok) c.pass.ensures.puts

@@ -15,4 +15,4 @@ returns g c =
     let text = encoded_of c.as_str-2.result.now (string_bytes told.1) c.as_str-2.utf8 c.as_str-2.ensures.value in
     let new = string_bytes c.push_name.new.buf in
     puts-one (IsShownLine c.args.form) (name_line (told_of told)) _ _ new _ _ c.pass.result
-    (named_added c.args.form _ _ (told_of told).0 (told_of told).1 _ new name text c.in_ok-push_name.ensures.ok) c.pass.ensures
+    (named_added c.args.form _ _ (told_of told).0 (told_of told).1 _ new name text c.in_ok-push_name.ensures.ok) c.pass.ensures.puts

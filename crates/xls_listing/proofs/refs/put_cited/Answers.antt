@@ -15,4 +15,4 @@ returns g c =
     let new = string_bytes c.push_ref.new.buf in
     puts-one (IsShownLine c.args.form) (cited_line (chars name) c.args.formula (chars sheet) c.args.cells) _ _ new _ _ c.pass.result
     (cited_added c.args.form name sheet (chars name) (chars sheet) c.args.formula c.args.cells _ new
-    (encoded name c.utf8.name) (encoded sheet c.utf8.sheet) c.in_ok-push_ref.ensures.ok) c.pass.ensures
+    (encoded name c.utf8.name) (encoded sheet c.utf8.sheet) c.in_ok-push_ref.ensures.ok) c.pass.ensures.puts

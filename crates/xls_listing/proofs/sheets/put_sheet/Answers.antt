@@ -19,4 +19,4 @@ returns g c =
     let name = encoded_of c.as_str.result.now (string_bytes sheet.name) c.as_str.utf8 c.as_str.ensures.value in
     puts-one (IsShownLine c.args.form) (sheet_line (sheet_content sheet)) _ _ new _ _ c.pass.result
     (subst (λ (t : List ℕ). Adds (IsLine c.args.form (codes "sheet") (sheet_members t sheet.typ sheet.visible)) old new) name
-    c.in_ok-push_sheet.ensures.ok) c.pass.ensures
+    c.in_ok-push_sheet.ensures.ok) c.pass.ensures.puts

@@ -16,13 +16,13 @@ all_rows rows cells e h = ap rows_csv (e ∙ walks_dense cells h ∙ sym (rows_o
 
 pub returns-in_err-put_rows : goal.returns-in_err-put_rows
 returns-in_err-put_rows g c =
-    delivers-stop c.from_residual.result c.from_residual.ensures.1 (stops-from c.new-buffer.ensures (stops-as c.in_err-put_rows.ensures (all_rows c.new.result c.args.cells c.new.ensures.rows c.requires.ordered)))
+    delivers-stop c.from_residual.result c.from_residual.ensures.1 (stops-from c.new-buffer.ensures (stops-as c.in_err-put_rows.ensures (all_rows c.new.result c.args.cells.now c.new.ensures.rows c.requires.ordered)))
 
 pub returns-in_err-finish : goal.returns-in_err-finish
 returns-in_err-finish g c =
     let a = c.from_residual-in_err-finish in
-    delivers-stop a.result a.ensures.1 (stops-after (gathers-from c.new-buffer.ensures (gathers-as c.in_ok-put_rows.ensures (all_rows c.new.result c.args.cells c.new.ensures.rows c.requires.ordered))) c.in_err-finish.ensures.puts)
+    delivers-stop a.result a.ensures.1 (stops-after (gathers-from c.new-buffer.ensures (gathers-as c.in_ok-put_rows.ensures (all_rows c.new.result c.args.cells.now c.new.ensures.rows c.requires.ordered))) c.in_err-finish.ensures.puts)
 
 pub returns : goal.returns
 returns g c =
-    wrote (gathers-after (gathers-from c.new-buffer.ensures (gathers-as c.in_ok-put_rows.ensures (all_rows c.new.result c.args.cells c.new.ensures.rows c.requires.ordered))) c.in_ok-finish.ensures.puts) c.in_ok-finish.ensures.none
+    wrote (gathers-after (gathers-from c.new-buffer.ensures (gathers-as c.in_ok-put_rows.ensures (all_rows c.new.result c.args.cells.now c.new.ensures.rows c.requires.ordered))) c.in_ok-finish.ensures.puts) c.in_ok-finish.ensures.none

@@ -1,4 +1,4 @@
-use Rattle.std.proofs.Common.{Some, ap, inl, map, subst, sym, ◌∙◌}
+use Rattle.std.proofs.Common.{inl, map, subst, sym, ◌∙◌}
 use Rattle.std.specs.Prelude.{IfSome}
 use Rattle.xls_biff.specs.Cells.{Entry}
 use Rattle.xls_cells.specs.Positions.{IsAscending}
@@ -14,21 +14,20 @@ returns-in_err-cells g c =
 
 pub write_cells-requires : goal.write_cells-requires
 write_cells-requires g c = record {
-  ordered = subst (λ cells. IsAscending (map (λ (c : Entry). c.0) cells)) (sym c.iter.ensures)
-      (subst (λ found. IfSome found (λ cells. IsAscending (map (λ (c : Entry). c.0) cells))) c.in-Some.is c.in_ok-cells.ensures.ordered);
+  ordered = subst (λ found. IfSome found (λ cells. IsAscending (map (λ (c : Entry). c.0) cells))) c.in-Some.is c.in_ok-cells.ensures.ordered;
 }
 
 pub returns-in_err-write_cells-in-Some : goal.returns-in_err-write_cells-in-Some
 returns-in_err-write_cells-in-Some g c =
     let a = c.from_residual-in_err-write_cells-in-Some in
     let book = c.args.view.now.book in
-    let shown = csv_of c.args.name.now book _ (ap Some c.iter.ensures ∙ sym c.in-Some.is ∙ c.in_ok-cells.ensures.found) in
+    let shown = csv_of c.args.name.now book _ (sym c.in-Some.is ∙ c.in_ok-cells.ensures.found) in
     either-stopped (IsCsvOf c.args.name.now book) (IsMissingOf c.args.name.now book) a.result a.ensures.1 (inl shown) c.in_err-write_cells-in-Some.ensures
 
 pub returns-in_ok-write_cells-in-Some : goal.returns-in_ok-write_cells-in-Some
 returns-in_ok-write_cells-in-Some g c =
     let book = c.args.view.now.book in
-    let shown = csv_of c.args.name.now book _ (ap Some c.iter.ensures ∙ sym c.in-Some.is ∙ c.in_ok-cells.ensures.found) in
+    let shown = csv_of c.args.name.now book _ (sym c.in-Some.is ∙ c.in_ok-cells.ensures.found) in
     (_, shown, c.in_ok-write_cells-in-Some.ensures)
 
 pub returns-in-None : goal.returns-in-None

@@ -9,4 +9,4 @@ returns-clause-dense g c = λ ascending.
     let state = g.K.Sink.state in
     let Delivers = λ (rows : List (List Content)). DeliversTable c.args.delimiter c.args.begins_with_mark rows
     (state c.args.sink.now) (state c.write_rows.new.sink) c.write_rows.result in
-    subst Delivers (walks_dense c.args.cells ascending) c.write_rows.ensures
+    subst Delivers (walks_dense c.args.cells.now ascending) c.write_rows.ensures

@@ -1,10 +1,9 @@
-use Rattle.std.proofs.Common.{◌≡◌, ◌++◌, ◌∷◌, [], ℕ, List, map, refl, sym, ap, subst, ◌∙◌, append_assoc, Option}
+use Rattle.std.proofs.Common.{◌++◌, [], List, map, refl, sym, ap, ◌∙◌, append_assoc, Option}
 use Rattle.std.specs.Prelude.{unwrap_or}
 use Rattle.std.proofs.lemmas.List.{append-nil}
 use Rattle.xls_biff.specs.Cells.{Entry, Position}
 use Rattle.xls_biff.specs.SheetTable.{SheetRecord}
 use Rattle.xls_biff.specs.Walking.{group_of}
-use Rattle.xls_model.specs.Listing.{kept_group}
 use Rattle.xls_reading.specs.SheetTable.{adds}
 use Rattle.xls_view.specs.Contents.{cells_from, kept_in}
 use Rattle.xls_view.specs.Placing.{cell_placed}

@@ -1,5 +1,4 @@
-use Rattle.std.proofs.Common.{refl, sym, ap, ◌∙◌, Some, None}
-use Rattle.std.specs.Option.{option_map}
+use Rattle.std.proofs.Common.{refl, ◌∙◌, Some, None}
 use Rattle.xls_biff.specs.Walking.{group_of}
 use Rattle.xls_view.specs.Formulas.{formulas_of}
 use Rattle.xls_view.specs.Walking.{formula_seen}

@@ -1,4 +1,4 @@
-use Rattle.std.proofs.Common.{refl, sym, ap, ◌∙◌, [], ◌∷◌}
+use Rattle.std.proofs.Common.{refl, sym, ◌∙◌, [], ◌∷◌}
 use Rattle.xls_biff.specs.Walking.{group_of}
 use Rattle.xls_view.specs.Contents.{regions_of}
 use Rattle.xls_view.proofs.ContentLemmas.{regions_next, none_over, none_cut, none_left, left_bytes}

@@ -1,6 +1,6 @@
-use Rattle.std.proofs.Common.{ap, ◌∙◌, sym, refl}
+use Rattle.std.proofs.Common.{ap, ◌∙◌, sym}
 use Rattle.xls_biff.specs.Walking.{group_of}
-use Rattle.xls_model.specs.Listing.{Kept, kept_group}
+use Rattle.xls_model.specs.Listing.{kept_group}
 use Rattle.xls_reading.specs.InForce.{InForce}
 use Rattle.xls_reading.specs.SheetTable.{kept_line}
 use Rattle.xls_view.specs.Placing.{cell_in}

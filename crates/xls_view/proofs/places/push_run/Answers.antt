@@ -1,10 +1,8 @@
-use Rattle.std.proofs.Common.{◌≡◌, ◌++◌, ◌∷◌, ◌+◌, [], ℕ, List, map, take, refl, sym, ap, ◌∙◌, append_assoc, arith}
-use Rattle.std.specs.Prelude.{OnOk}
+use Rattle.std.proofs.Common.{◌≡◌, ◌++◌, ◌∷◌, ◌+◌, [], ℕ, List, map, take, sym, ap, ◌∙◌, append_assoc, arith}
 use Rattle.std.specs.List.{range_with_len}
 use Rattle.std.proofs.lemmas.List.{append-nil}
 use Rattle.std.proofs.lemmas.List.FromFn.{map-range_with_len_more}
 use Rattle.xls_bytes.specs.Numbers.{le}
-use Rattle.xls_biff.specs.Cells.{Entry}
 use Rattle.xls_biff.specs.Records.Rk.{first_column, mul_rk_count, rk_cell}
 use Rattle.xls_view.specs.Placing.{Place}
 use Rattle.xls_view.proofs.PlaceLemmas.{run_is, run_places}

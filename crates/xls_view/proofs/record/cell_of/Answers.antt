@@ -1,10 +1,8 @@
-use Rattle.std.proofs.Common.{[], ◌∷◌, inl, inr, refl, Some}
+use Rattle.std.proofs.Common.{inl, inr, refl, Some}
 use Rattle.xls_biff.specs.Records.BoolErr.{bool_err_at}
 use Rattle.xls_biff.specs.Records.Formula.{formula_at}
 use Rattle.xls_biff.specs.Records.Label.{label_at}
 use Rattle.xls_biff.specs.Records.LabelSst.{label_sst_at}
-use Rattle.xls_biff.specs.Records.Number.{number_at}
-use Rattle.xls_biff.specs.Records.Rk.{rk_at}
 use Rattle.xls_strings.specs.Strings.{string_at}
 use Rattle.xls_view.proofs.RecordLemmas.{one_cell, shared_cell, text_of_formula, value_cell}
 use Rattle.xls_view.proofs.record.cell_of.Goals as goal

@@ -8,4 +8,4 @@ returns-then-r-ne-FORMULA c = λ force g h.
 
 pub returns : goal.returns
 returns c = λ force g h.
-    at_formula force c.args.r.now.body.now c.first_position.result c.first_position.ensures g (rw c.if-r-ne-FORMULA.false at h)
+    at_formula force c.args.r.now.body.now c.cell_position.result c.cell_position.ensures g (rw c.if-r-ne-FORMULA.false at h)

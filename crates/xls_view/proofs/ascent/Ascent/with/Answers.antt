@@ -1,4 +1,4 @@
-use Rattle.std.proofs.Common.{subst, sym, refl, ◌++◌, ◌∷◌, [], List, true, ◌≡◌}
+use Rattle.std.proofs.Common.{subst, sym, refl, ◌++◌, ◌∷◌, [], List}
 use Rattle.xls_cells.specs.Positions.{Position, IsAscending}
 use Rattle.xls_view.proofs.PlaceLemmas.{ascends_more}
 use Rattle.xls_view.proofs.ascent.Ascent.with.Goals as goal

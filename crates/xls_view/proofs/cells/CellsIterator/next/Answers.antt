@@ -1,6 +1,6 @@
-use Rattle.std.proofs.Common.{◌++◌, ◌∷◌, [], List, map, refl, sym, ap, ◌∙◌}
+use Rattle.std.proofs.Common.{◌++◌, ◌∷◌, List, map, sym, ap, ◌∙◌}
 use Rattle.xls_biff.specs.Cells.{Entry}
-use Rattle.xls_view.specs.Placing.{Place, cell_placed}
+use Rattle.xls_view.specs.Placing.{cell_placed}
 use Rattle.xls_view.specs.Values.{cell_entry}
 use Rattle.xls_view.proofs.cells.CellsIterator.next.Goals as goal
 

@@ -1,6 +1,6 @@
-use Rattle.std.proofs.Common.{◌++◌, ◌∷◌, [], List, map, refl, sym, ap, ◌∙◌}
+use Rattle.std.proofs.Common.{◌++◌, ◌∷◌, List, map, sym, ap, ◌∙◌}
 use Rattle.xls_view.specs.Formulas.{Formula}
-use Rattle.xls_view.specs.Placing.{Place, formula_placed}
+use Rattle.xls_view.specs.Placing.{formula_placed}
 use Rattle.xls_view.specs.Walking.{formula_seen}
 use Rattle.xls_view.proofs.formulas.FormulaCellsIterator.next.Goals as goal
 

@@ -1,4 +1,4 @@
-use Rattle.std.proofs.Common.{refl, [], ◌++◌}
+use Rattle.std.proofs.Common.{refl, []}
 use Rattle.xls_view.proofs.ContentLemmas.{no_cells, nothing_left}
 use Rattle.xls_view.proofs.walk.CellWalk.none.Goals as goal
 

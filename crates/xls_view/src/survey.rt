@@ -1,0 +1,274 @@
+//! What one walk over a sheet part finds of the positions of its cells and formulas.
+
+ghost use Rattle.std.specs.Prelude.{◌≡◌, ◌≢◌, ◌++◌, ◌∷◌, [], List, Ok, Option, false, map};
+ghost use Rattle.std.specs.Option.{option_map};
+ghost use Rattle.xls_data.specs.Content.{Content};
+ghost use Rattle.xls_data.specs.declared.regions.Dimensions.{Dimensions};
+ghost use Rattle.xls_model.specs.Listing.{kept_group};
+ghost use Rattle.xls_model.specs.declared.types.TheConstants as types;
+ghost use Rattle.xls_biff.specs.Cells.{Entry};
+ghost use Rattle.xls_biff.specs.Records.LabelSst.{label_sst_at};
+ghost use Rattle.xls_biff.specs.Records.Rk.{mul_rk_at};
+ghost use Rattle.xls_biff.specs.SheetTable.{CellContext, SheetRecord};
+ghost use Rattle.xls_biff.specs.Walking.{group_of};
+ghost use Rattle.xls_reading.specs.SheetTable.{adds, kept_line};
+ghost use Rattle.xls_view.specs.Contents.{cells_from, kept_in, regions_at, regions_of};
+ghost use Rattle.xls_view.specs.Formulas.{Formula, formula_of, formulas_of};
+ghost use Rattle.xls_view.specs.Placing.{IsAscent};
+ghost use Rattle.xls_view.specs.Surveying.{IsCellAt, IsFound, IsSurvey, formula_listed, widened};
+ghost use Rattle.xls_view.specs.Walking.{IsSound};
+
+use crate::ascent::Ascent;
+use crate::places::run_position;
+use crate::record::cell_of;
+use crate::value::position_of;
+use std::alloc::Global;
+use xls_biff::{
+    Record, SheetRecords, cell_position, count_mul_rk, find_label_sst, formula_position,
+};
+use xls_data::Dimensions;
+use xls_model::types::{BOOL_ERR, LABEL, LABEL_SST, MERGE_CELLS, MUL_RK, NUMBER, R_STRING, RK};
+use xls_open::InForce;
+
+/// The smallest box that holds a position, and a box, if there is one.
+#[inline]
+pub(crate) fn widened(bounds: Option<Dimensions>, position: (u32, u32)) -> Dimensions
+    ensures { result ≡ widened bounds position }
+{
+    let (row, column) = position;
+    match bounds {
+        None => Dimensions::new(position, position),
+        Some(d) => Dimensions::new(
+            (row.min(d.start.0), column.min(d.start.1)),
+            (row.max(d.end.0), column.max(d.end.1)),
+        ),
+    }
+}
+
+/// Whether the cells so far ascend strictly by position, and the smallest box that holds them.
+#[derive(Clone, Copy)]
+pub(crate) struct FoundCells {
+    ascent: Ascent,
+    bounds: Option<Dimensions>,
+}
+
+impl FoundCells {
+    fn none() -> FoundCells
+        ensures { IsFound result [] }
+    {
+        FoundCells {
+            ascent: Ascent::new(),
+            bounds: None,
+        }
+    }
+
+    /// Whether the cells ascend.
+    pub(crate) fn ascends(self) -> bool
+        ensures { result ≡ self.ascent.ascends }
+    {
+        self.ascent.is_strict()
+    }
+
+    pub(crate) fn bounds(self) -> Option<Dimensions>
+        ensures { result ≡ self.bounds }
+    {
+        self.bounds
+    }
+
+    /// After a cell at a position.
+    #[inline]
+    fn with(self, position: (u32, u32)) -> FoundCells
+        ensures { (cells : List Entry) (v : Content) → IsFound self cells → IsFound result (cells ++ (position, v) ∷ []) }
+    {
+        FoundCells {
+            ascent: self.ascent.with(position),
+            bounds: Some(widened(self.bounds, position)),
+        }
+    }
+
+    /// After the cells of a MulRk record without a fault.
+    #[inline]
+    fn with_run(self, body: &[u8], force: &InForce<'_>) -> FoundCells
+        ensures { (cells run : List Entry) → mul_rk_at force.now.cells.classes force.now.cells.is_1904 body.now ≡ Ok run
+            → IsFound self cells → IsFound result (cells ++ run) }
+    {
+        let count = match count_mul_rk(body) {
+            Ok(count) => count,
+            Err(_) => return self,
+        };
+        let mut found = self;
+        for i in 0..count {
+            found = found.with(run_position(body, i));
+        }
+        found
+    }
+
+    /// After the cells of a record without a fault, where the last Formula before it stands here.
+    #[inline]
+    fn with_record(
+        self,
+        alloc: Global,
+        r: &Record<'_>,
+        last: (u32, u32),
+        force: &InForce<'_>,
+    ) -> FoundCells
+        ensures { (cells : List Entry) (g : SheetRecord) → kept_line force.now.cells (kept_group (group_of r.now)) ≡ Ok g
+            → IsFound self cells → IsFound result (cells ++ (adds force.now.formulas last g).cells) }
+    {
+        if r.typ == MUL_RK {
+            return self.with_run(r.body, force);
+        }
+        match place_of(alloc, r, last, force) {
+            Some(position) => self.with(position),
+            None => self,
+        }
+    }
+}
+
+/// Where the cell of a LabelSst record stands, if the table has its text.
+#[inline]
+fn shared_place(body: &[u8], force: &InForce<'_>) -> Option<(u32, u32)>
+    ensures { (found : Option Entry) → label_sst_at force.now.cells.strings body.now ≡ Ok found
+        → result ≡ option_map (λ (c : Entry). c.0) found }
+{
+    match find_label_sst(body, force.strings) {
+        Ok(Some((position, _))) => Some(position),
+        Ok(None) => None,
+        Err(_) => None,
+    }
+}
+
+/// Where the cell of a record stands that is neither a MulRk nor one whose cell begins with its position.
+fn other_place(
+    alloc: Global,
+    r: &Record<'_>,
+    last: (u32, u32),
+    force: &InForce<'_>,
+) -> Option<(u32, u32)>
+    requires { r.now.typ ≢ types.MUL_RK }
+    ensures { (g : SheetRecord) → kept_line force.now.cells (kept_group (group_of r.now)) ≡ Ok g
+        → IsCellAt result (adds force.now.formulas last g).cells }
+{
+    match cell_of(alloc, r, last, force) {
+        Some(cell) => Some(position_of(cell)),
+        None => None,
+    }
+}
+
+/// Where the cell of a record without a fault that isn't a MulRk stands, if it has one, where the last
+/// Formula before it stands here.
+#[inline]
+fn place_of(
+    alloc: Global,
+    r: &Record<'_>,
+    last: (u32, u32),
+    force: &InForce<'_>,
+) -> Option<(u32, u32)>
+    requires { r.now.typ ≢ types.MUL_RK }
+    ensures { (g : SheetRecord) → kept_line force.now.cells (kept_group (group_of r.now)) ≡ Ok g
+        → IsCellAt result (adds force.now.formulas last g).cells }
+{
+    match r.typ {
+        NUMBER => cell_position(r.body),
+        RK => cell_position(r.body),
+        BOOL_ERR => cell_position(r.body),
+        LABEL | R_STRING => cell_position(r.body),
+        LABEL_SST => shared_place(r.body, force),
+        _ => other_place(alloc, r, last, force),
+    }
+}
+
+/// Whether the formulas of some records and of one more ascend.
+#[inline]
+fn formulas_with(found: Ascent, r: &Record<'_>) -> Ascent
+    ensures { (s : CellContext) (g : SheetRecord) (formulas : List Formula) → kept_line s (kept_group (group_of r.now)) ≡ Ok g
+        → IsAscent found (map (λ (f : Formula). f.0) formulas)
+        → IsAscent result (map (λ (f : Formula). f.0) (formulas ++ formula_listed (kept_group (group_of r.now)))) }
+{
+    match formula_position(r) {
+        Some(position) => found.with(position),
+        None => found,
+    }
+}
+
+/// Whether some records and one more have a MergeCells among them.
+#[inline]
+fn merges_with(has_merges: bool, r: &Record<'_>) -> bool
+    ensures { (regions : List Dimensions) → (has_merges ≡ false → regions ≡ [])
+        → result ≡ false → regions ++ regions_at (kept_group (group_of r.now)) ≡ [] }
+{
+    has_merges || r.typ == MERGE_CELLS
+}
+
+/// What was found of the records of a part so far: of their cells, whether their formulas ascend strictly
+/// by position, and whether there is a MergeCells record.
+#[derive(Clone, Copy)]
+pub(crate) struct Survey {
+    cells: FoundCells,
+    formulas: Ascent,
+    has_merges: bool,
+}
+
+impl Survey {
+    pub(crate) fn cells(self) -> FoundCells
+        ensures { result ≡ self.cells }
+    {
+        self.cells
+    }
+
+    pub(crate) fn formulas(self) -> Ascent
+        ensures { result ≡ self.formulas }
+    {
+        self.formulas
+    }
+
+    pub(crate) fn has_merges(self) -> bool
+        ensures { result ≡ self.has_merges }
+    {
+        self.has_merges
+    }
+
+    fn none() -> Survey
+        ensures { IsSurvey result [] [] [] }
+    {
+        Survey {
+            cells: FoundCells::none(),
+            formulas: Ascent::new(),
+            has_merges: false,
+        }
+    }
+
+    /// After a record without a fault, where the last Formula before it stands here.
+    #[inline]
+    fn with(self, alloc: Global, r: &Record<'_>, last: (u32, u32), force: &InForce<'_>) -> Survey
+        ensures { (cells : List Entry) (formulas : List Formula) (regions : List Dimensions) (g : SheetRecord)
+            → kept_line force.now.cells (kept_group (group_of r.now)) ≡ Ok g → IsSurvey self cells formulas regions
+            → IsSurvey result (cells ++ (adds force.now.formulas last g).cells)
+            (formulas ++ formula_listed (kept_group (group_of r.now))) (regions ++ regions_at (kept_group (group_of r.now))) }
+    {
+        Survey {
+            cells: self.cells.with_record(alloc, r, last, force),
+            formulas: formulas_with(self.formulas, r),
+            has_merges: merges_with(self.has_merges, r),
+        }
+    }
+}
+
+/// What is found of the records of a part. Takes no memory.
+pub(crate) fn survey_of(alloc: Global, part: &[u8], force: &InForce<'_>) -> Survey
+    requires { IsSound force.now (part.now, 0) }
+    ensures { IsSurvey result (cells_from force.now (0, 0) (kept_in part.now 0))
+        (formulas_of (kept_in part.now 0)) (regions_of (kept_in part.now 0)) }
+{
+    let mut survey = Survey::none();
+    let mut last = (0, 0);
+    for item in SheetRecords::new(part) {
+        let record = match item {
+            Ok(record) => record,
+            Err(_) => return survey,
+        };
+        survey = survey.with(alloc, &record, last, force);
+        last = formula_position(&record).unwrap_or(last);
+    }
+    survey
+}
