@@ -1,7 +1,7 @@
 //! A workbook, its sheets and its defined names.
 
+use std::fmt;
 use std::path::Path;
-use std::{fmt, fs};
 
 use crate::raw;
 use crate::sheet::Sheet;
@@ -50,7 +50,7 @@ impl Options {
     /// [`Error::Io`] where the file can't be read, [`Error::Fault`] with the first thing that is wrong with it, [`Error::OutOfMemory`].
     pub fn open(&self, path: impl AsRef<Path>) -> Result<Workbook, Error> {
         // (the file's bytes are given back before the arrays are made)
-        let stream = raw::stream(&fs::read(path)?)?;
+        let stream = raw::stream(&raw::read_file(path.as_ref())?)?;
         self.read(&stream)
     }
 

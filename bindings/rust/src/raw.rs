@@ -1,6 +1,10 @@
 //! The calls of include/gaflwened.h. This is the one module with `unsafe`: what it hands on is safe.
 #![allow(unsafe_code)]
 
+use std::fs::File;
+use std::io::{self, Read};
+use std::path::Path;
+
 /// A fault: its code, and what belongs to it.
 #[repr(C)]
 #[derive(Clone, Copy, Debug, Default, PartialEq, Eq)]
@@ -147,12 +151,41 @@ mod c {
     }
 }
 
+/// Asks for large pages where an array is long, so that less time goes into its first use.
+#[cfg(target_os = "linux")]
+fn ask_for_large_pages(data: *mut u8, bytes: usize) {
+    const PAGE: usize = 2 << 20;
+    const HUGE_PAGE: i32 = 14;
+    extern "C" {
+        fn madvise(address: *mut u8, length: usize, advice: i32) -> i32;
+    }
+    let skipped = data.align_offset(PAGE);
+    let whole = bytes.saturating_sub(skipped) / PAGE * PAGE;
+    if whole != 0 {
+        // SAFETY: these pages lie inside the array, and the advice changes no byte of them. (Whether it is taken makes no difference.)
+        unsafe { madvise(data.wrapping_add(skipped), whole, HUGE_PAGE) };
+    }
+}
+
+#[cfg(not(target_os = "linux"))]
+fn ask_for_large_pages(_: *mut u8, _: usize) {}
+
 /// An empty array with room for so many items, or the fault that memory ran out.
 fn room<T>(length: u64) -> Result<Vec<T>, Fault> {
     let length = usize::try_from(length).map_err(|_| MEMORY)?;
-    let mut items = Vec::new();
+    let mut items: Vec<T> = Vec::new();
     items.try_reserve_exact(length).map_err(|_| MEMORY)?;
+    ask_for_large_pages(items.as_mut_ptr().cast(), items.capacity() * std::mem::size_of::<T>());
     Ok(items)
+}
+
+/// The bytes of a file.
+pub fn read_file(path: &Path) -> io::Result<Vec<u8>> {
+    let mut file = File::open(path)?;
+    let length = file.metadata()?.len();
+    let mut bytes = room(length.saturating_add(32)).map_err(|_| io::ErrorKind::OutOfMemory)?;
+    file.read_to_end(&mut bytes)?;
+    Ok(bytes)
 }
 
 /// The workbook's stream of a file.
