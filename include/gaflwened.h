@@ -197,14 +197,15 @@ typedef struct gaflwened_name {
 /* What a cell holds, and how `value` and `length` tell it. `length` is 0 but for texts. */
 enum {
     GAFLWENED_BLANK = 0,           /* nothing; value 0 */
-    GAFLWENED_NUMBER = 1,          /* value: the bits of a double */
+    GAFLWENED_NUMBER = 1,          /* a number: value: the bits of a double */
     GAFLWENED_DATE_TIME = 2,       /* likewise: a number of days (gaflwened_serial) */
     GAFLWENED_DURATION = 3,        /* likewise, in a format of durations */
     GAFLWENED_BOOLEAN = 4,         /* value: 0 or 1 */
     GAFLWENED_ERROR = 5,           /* value: GAFLWENED_ERROR_.. */
     GAFLWENED_TEXT = 6,            /* value: the offset of the text in `texts`, of `length` bytes */
     GAFLWENED_DATE_TEXT = 7,       /* likewise, a date in the text of ISO 8601; no .xls has one */
-    GAFLWENED_DURATION_TEXT = 8    /* likewise a duration */
+    GAFLWENED_DURATION_TEXT = 8,   /* likewise a duration */
+    GAFLWENED_WHOLE_NUMBER = 9     /* an RK number that is a whole number: value: the bits of the nearest double */
 };
 
 /* The codes of error values, as BIFF has them. */
@@ -222,7 +223,7 @@ enum {
 /* In which form the stream has a number. The double in `value` is the nearest one. */
 enum {
     GAFLWENED_DOUBLE = 0,          /* a double */
-    GAFLWENED_WHOLE = 1,           /* a whole number */
+    GAFLWENED_WHOLE = 1,           /* a whole number: of each GAFLWENED_WHOLE_NUMBER, and of a date or duration that is one */
     GAFLWENED_HUNDREDTHS = 2,      /* so many hundredths */
     GAFLWENED_DOUBLE_OVER_100 = 3  /* a double over 100 */
 };
@@ -268,7 +269,9 @@ uint32_t gaflwened_measure(const uint8_t *stream, size_t stream_length, const ga
                            gaflwened_sizes *sizes, gaflwened_fault *fault);
 
 /* Fills arrays with what a stream holds. Those that are longer than gaflwened_measure says begin with it. Where one is shorter, the
- * answer is GAFLWENED_TOO_SHORT. After any code but GAFLWENED_OK nothing is known of the arrays.
+ * answer is GAFLWENED_TOO_SHORT. After any code but GAFLWENED_OK nothing is known of the arrays. With GAFLWENED_OK and with
+ * GAFLWENED_TOO_SHORT *sizes is what gaflwened_measure says, so that a caller with arrays that are likely long enough needs this
+ * call alone; with any other code it is all zero.
  *
  * `texts` has the texts one after the other: of each defined name its name and its formula; and then sheet by sheet its name, the
  * texts of its cells, the texts of its formulas. A text that several cells show stands there once for each. */
@@ -279,7 +282,7 @@ uint32_t gaflwened_read(const uint8_t *stream, size_t stream_length, const gaflw
                         gaflwened_formula *formulas, size_t formulas_length,
                         gaflwened_region *regions, size_t regions_length,
                         uint8_t *texts, size_t texts_length,
-                        gaflwened_fault *fault);
+                        gaflwened_sizes *sizes, gaflwened_fault *fault);
 
 /* A sentence in English that tells a fault. *size becomes its length in bytes. Where out_length is enough, out begins with it;
  * else the answer is GAFLWENED_TOO_SHORT, and out is as it was. */

@@ -122,6 +122,7 @@ fn fills_arrays_with_it(rt: HostRuntime) -> Result<(), Fail> {
     let mut formulas: [FormulaItem; 0] = [];
     let mut regions: [RegionItem; 0] = [];
     let mut texts = [0u8; 1];
+    let mut sizes = NOTHING;
     let mut fault = NO_FAULT;
     let code = read(
         rt.alloc(),
@@ -133,9 +134,11 @@ fn fills_arrays_with_it(rt: HostRuntime) -> Result<(), Fail> {
         &mut formulas,
         &mut regions,
         &mut texts,
+        &mut sizes,
         &mut fault,
     );
     assert_eq!(rt; code, 0);
+    assert_eq!(rt; sizes.cells, 1);
     assert_eq!(rt;
         sheets[0].name,
         Span {

@@ -5,6 +5,7 @@ use Rattle.xls_arrays.specs.Arrays.{Arrays}
 use Rattle.xls_arrays.specs.Filled.{in_rooms}
 use Rattle.xls_arrays.specs.Telling.{refusal_of, sentence, sentence_in}
 use Rattle.xls_arrays.specs.Texts.{refusal_text}
+use Rattle.xls_arrays.specs.declared.items.Sizes.{Sizes}
 use Rattle.xls_arrays.specs.declared.options.Options.{Options}
 use Rattle.xls_arrays.specs.declared.rooms.Rooms.{Rooms}
 use Rattle.xls_arrays.specs.declared.faults.Fault.{Fault}
@@ -27,11 +28,11 @@ pub sentence-none : (f : Fault) → (f.code ≡ 0 → ⊥) → refusal_of f ≡ 
 sentence-none f some is = unless f.code _ _ some ∙ ap sentence_in is
 
 -- what was filled, or not, inside, by the arrays of the caller
-pub read-ends : {options : Options} {stream : List ℕ} {after : Arrays} (rooms : Rooms) (done : Result (Unit {0}) Refusal) {fault : Fault} {code : ℕ}
-    → OnOk done (AreFilled options stream (in_rooms rooms)) → IfErr done (RefusesToFill options stream (in_rooms rooms))
+pub read-ends : {options : Options} {stream : List ℕ} {after : Arrays} {sizes : Sizes} (rooms : Rooms) (done : Result (Unit {0}) Refusal) {fault : Fault} {code : ℕ}
+    → OnOk done (AreFilled options stream (in_rooms rooms) sizes) → IfErr done (RefusesToFill options stream (in_rooms rooms) sizes)
     → IsAnswer done fault code → rooms.sheets.now ≡ after.sheets → rooms.names.now ≡ after.names → rooms.cells.now ≡ after.cells
     → rooms.formulas.now ≡ after.formulas → rooms.regions.now ≡ after.regions → rooms.texts.now ≡ after.texts
-    → Reads options stream after fault code
-read-ends {options} {stream} {after} rooms done {fault} {code} ok err is sheets names cells formulas regions texts =
+    → Reads options stream after sizes fault code
+read-ends {options} {stream} {after} {sizes} rooms done {fault} {code} ok err is sheets names cells formulas regions texts =
     let same : in_rooms rooms ≡ after = rw (sheets, names, cells, formulas, regions, texts) refl in
-    subst (λ a. Reads options stream a fault code) same (ends-as done ok err is)
+    subst (λ a. Reads options stream a sizes fault code) same (ends-as done ok err is)

@@ -4,7 +4,10 @@ use Rattle.std.proofs.Math.Nat.{suc-add}
 use Rattle.std.proofs.lemmas.Bool.{cases_lt}
 use Rattle.std.proofs.lemmas.Grind.{common_steps}
 use Rattle.std.proofs.lemmas.List.{length-append, length-take-le, take_all}
-use Rattle.xls_arrays.specs.Filled.{IsFilled}
+use Rattle.xls_arrays.specs.Answers.{Begin}
+use Rattle.xls_arrays.specs.Arrays.{Arrays}
+use Rattle.xls_arrays.specs.Filled.{Fits, Holds, IsFilled, in_rooms}
+use Rattle.xls_arrays.specs.declared.rooms.Rooms.{Rooms}
 
 -- nothing was laid
 pub filled-nothing : {X : Type 0} (room : List X) → IsFilled room 0 []
@@ -59,4 +62,18 @@ bytes-laid before after items bytes place count inside f least written same =
             | inl cut ↦ bytes-cut before after items bytes place count inside f start same (omega (arith, least)) (omega (arith, least))
             | inr fits ↦ bytes-whole before after items bytes place count inside f start same (omega (arith, least)) (omega (arith, least))
           ];
+    }
+
+-- ---- arrays with room for all
+
+-- they begin with what was laid
+pub all_begin : (rooms : Rooms) (a : Arrays) → Holds rooms a → Fits (in_rooms rooms) a → Begin (in_rooms rooms) a
+all_begin rooms a h f =
+    record {
+      sheets = filled-fits rooms.sheets.now rooms.laid.sheets a.sheets h.sheets f.sheets;
+      names = filled-fits rooms.names.now rooms.laid.names a.names h.names f.names;
+      cells = filled-fits rooms.cells.now rooms.laid.cells a.cells h.cells f.cells;
+      formulas = filled-fits rooms.formulas.now rooms.laid.formulas a.formulas h.formulas f.formulas;
+      regions = filled-fits rooms.regions.now rooms.laid.regions a.regions h.regions f.regions;
+      texts = filled-fits rooms.texts.now rooms.laid.text_bytes a.texts h.texts f.texts;
     }

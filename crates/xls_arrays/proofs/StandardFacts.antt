@@ -55,7 +55,7 @@ pub known_kinds : map kind_of (content.nothing ∷ content.int (pos 1) ∷ conte
     ∷ content.date (record { number = Bits 0; kind = DateTime; is_1904 = false })
     ∷ content.date (record { number = Bits 0; kind = TimeDelta; is_1904 = false })
     ∷ content.truth true ∷ content.failure failures.NA ∷ content.text [] ∷ content.iso_date [] ∷ content.iso_duration [] ∷ [])
-    ≡ 0x00 ∷ 0x01 ∷ 0x01 ∷ 0x02 ∷ 0x03 ∷ 0x04 ∷ 0x05 ∷ 0x06 ∷ 0x07 ∷ 0x08 ∷ []
+    ≡ 0x00 ∷ 0x09 ∷ 0x01 ∷ 0x02 ∷ 0x03 ∷ 0x04 ∷ 0x05 ∷ 0x06 ∷ 0x07 ∷ 0x08 ∷ []
 known_kinds = refl
 
 pub known_sheets : map kind_number (sheets.WorkSheet ∷ sheets.DialogSheet ∷ sheets.MacroSheet ∷ sheets.ChartSheet ∷ sheets.Vba ∷ [])
@@ -115,7 +115,7 @@ pub known_arrays : arrays_of ((codes "N", codes "A!1") ∷ []) two_sheets
           ∷ [];
       names = record { name = record { offset = 0; length = 1 }; formula = record { offset = 1; length = 3 } } ∷ [];
       cells = record { row = 0; column = 0; kind = 6; form = 0; value = 5; length = 2 }
-          ∷ record { row = 0; column = 1; kind = 1; form = 1; value = 0x4008_0000_0000_0000; length = 0 }
+          ∷ record { row = 0; column = 1; kind = 9; form = 1; value = 0x4008_0000_0000_0000; length = 0 }
           ∷ record { row = 1; column = 0; kind = 6; form = 0; value = 7; length = 2 }
           ∷ record { row = 0; column = 0; kind = 6; form = 0; value = 12; length = 1 }
           ∷ [];

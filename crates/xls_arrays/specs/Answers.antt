@@ -6,7 +6,7 @@ use Rattle.xls_data.specs.declared.numbers.Number.TheVariants.{Bits}
 use Rattle.xls_decimals.specs.Moments.{IsDate, IsDuration}
 use Rattle.xls_arrays.specs.Values.{truth_bit}
 use Rattle.xls_arrays.specs.Arrays.{Arrays, empty, sizes_of}
-use Rattle.xls_arrays.specs.Filled.{Fits}
+use Rattle.xls_arrays.specs.Filled.{Fits, Holds}
 use Rattle.xls_arrays.specs.Held.{IsHeld, RefusesStream}
 use Rattle.xls_arrays.specs.Whole.{PutsWhole}
 use Rattle.xls_arrays.specs.Codes.{plain}
@@ -14,6 +14,7 @@ use Rattle.xls_arrays.specs.Faults.{fault_of}
 use Rattle.xls_arrays.specs.Refusals.{refusal_of_file}
 use Rattle.xls_arrays.specs.declared.options.Options.{Options}
 use Rattle.xls_arrays.specs.declared.items.Sizes.{Sizes}
+use Rattle.xls_arrays.specs.declared.rooms.Rooms.{Rooms}
 use Rattle.xls_arrays.specs.declared.faults.Fault.{Fault}
 use Rattle.xls_arrays.specs.declared.refusal.Refusal.{Refusal}
 use Rattle.xls_arrays.specs.declared.refusal.Refusal.TheVariants as refusals
@@ -39,6 +40,11 @@ abbrev pub AreSizes : Options → List ℕ → Sizes → Type 0
 AreSizes options stream sizes =
     (is_1904 : Bool) × (a : Arrays) × IsHeld options stream is_1904 a × (sizes ≡ sizes_of a (truth_bit is_1904))
 
+-- these were laid, and have these sizes
+abbrev pub AreLaid : Options → List ℕ → Rooms → Sizes → Type 0
+AreLaid options stream rooms sizes =
+    (is_1904 : Bool) × (a : Arrays) × IsHeld options stream is_1904 a × (sizes ≡ sizes_of a (truth_bit is_1904)) × Holds rooms a
+
 -- they are told, or none
 abbrev pub Measures : Options → List ℕ → Sizes → Fault → ℕ → Type 0
 Measures options stream sizes fault code =
@@ -56,20 +62,22 @@ pub record Begin (after a : Arrays) : Type 0 where
   pub regions : take (length a.regions) after.regions ≡ a.regions
   pub texts : take (length a.texts) after.texts ≡ a.texts
 
--- the arrays begin with what the stream holds
-abbrev pub AreFilled : Options → List ℕ → Arrays → Type 0
-AreFilled options stream after = (is_1904 : Bool) × (a : Arrays) × IsHeld options stream is_1904 a × Begin after a
+-- the arrays begin with what the stream holds, which has these sizes
+abbrev pub AreFilled : Options → List ℕ → Arrays → Sizes → Type 0
+AreFilled options stream after sizes =
+    (is_1904 : Bool) × (a : Arrays) × IsHeld options stream is_1904 a × (sizes ≡ sizes_of a (truth_bit is_1904)) × Begin after a
 
--- why they aren't filled: one is too short, or the stream isn't read
-abbrev pub RefusesToFill : Options → List ℕ → Arrays → Refusal → Type 0
-RefusesToFill options stream after refusals.TooShort =
-    (is_1904 : Bool) × (a : Arrays) × IsHeld options stream is_1904 a × (Fits after a → ⊥)
-RefusesToFill options stream after other = RefusesStream options stream other
+-- why they aren't filled: one is too short for what the stream holds, which has these sizes, or the stream isn't
+-- read, and the sizes are none
+abbrev pub RefusesToFill : Options → List ℕ → Arrays → Sizes → Refusal → Type 0
+RefusesToFill options stream after sizes refusals.TooShort =
+    (is_1904 : Bool) × (a : Arrays) × IsHeld options stream is_1904 a × (sizes ≡ sizes_of a (truth_bit is_1904)) × (Fits after a → ⊥)
+RefusesToFill options stream after sizes other = RefusesStream options stream other × (sizes ≡ sizes_of empty 0)
 
 -- an array keeps its length, so these are those that the caller gave
-abbrev pub Reads : Options → List ℕ → Arrays → Fault → ℕ → Type 0
-Reads options stream after fault code =
-    Answers (AreFilled options stream after) (RefusesToFill options stream after) fault code
+abbrev pub Reads : Options → List ℕ → Arrays → Sizes → Fault → ℕ → Type 0
+Reads options stream after sizes fault code =
+    Answers (AreFilled options stream after sizes) (RefusesToFill options stream after sizes) fault code
 
 -- ---- the workbook's stream of a file
 

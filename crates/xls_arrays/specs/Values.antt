@@ -26,10 +26,10 @@ abbrev pub duration_or_date : ExcelDateTimeType → ℕ
 duration_or_date DateTime = 2
 duration_or_date TimeDelta = 3
 
--- 0 blank, 1 number, 4 truth value, 5 error value, 6 text, 7 a date as text, 8 a duration as text
+-- 0 blank, 1 number, 4 truth value, 5 error value, 6 text, 7 a date as text, 8 a duration as text, 9 whole number
 abbrev pub kind_of : Content → ℕ
 kind_of nothing = 0
-kind_of (int n) = 1
+kind_of (int n) = 9
 kind_of (float number) = 1
 kind_of (date moment) = duration_or_date moment.kind
 kind_of (truth b) = 4

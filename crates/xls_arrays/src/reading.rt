@@ -1,7 +1,7 @@
 //! What a stream holds, counted and put into the arrays of a caller.
 
 ghost use Rattle.std.specs.Prelude.{◌≡◌, IfErr, IfOk, MatchResult, OnOk};
-ghost use Rattle.xls_arrays.specs.Answers.{AreFilled, AreSizes, IsAnswer, Measures, Reads, RefusesToFill};
+ghost use Rattle.xls_arrays.specs.Answers.{AreFilled, AreLaid, AreSizes, IsAnswer, Measures, Reads, RefusesToFill};
 ghost use Rattle.xls_arrays.specs.Arrays.{empty};
 ghost use Rattle.xls_arrays.specs.Filled.{Holds, KeepsRooms, in_rooms};
 ghost use Rattle.xls_arrays.specs.Held.{RefusesStream};
@@ -33,6 +33,25 @@ fn truth_bit(truth: bool) -> u32
     truth as u32
 }
 
+/// Lays what a stream holds, and says how long the arrays are for it.
+fn lay_all(
+    alloc: Global,
+    rooms: &mut Rooms<'_>,
+    stream: &[u8],
+    options: &Options,
+) -> Result<Sizes, Refusal>
+    requires none { Holds rooms.old empty }
+    requires reserved { rooms.old.laid.reserved ≡ 0 }
+    ensures same { KeepsRooms rooms.old rooms.new }
+    ensures ok { IfOk result (AreLaid options.now stream.now rooms.new) }
+    ensures err { IfErr result (RefusesStream options.now stream.now) }
+{
+    let is_1904 = lay_stream(alloc, rooms, stream, options)?;
+    let mut sizes = rooms.laid;
+    sizes.is_1904 = truth_bit(is_1904);
+    Ok(sizes)
+}
+
 /// How long the arrays are for what a stream holds.
 fn sizes_of(alloc: Global, stream: &[u8], options: &Options) -> Result<Sizes, Refusal>
     ensures ok { IfOk result (AreSizes options.now stream.now) }
@@ -47,10 +66,7 @@ fn sizes_of(alloc: Global, stream: &[u8], options: &Options) -> Result<Sizes, Re
         texts: &mut [],
         laid: NOTHING,
     };
-    let is_1904 = lay_stream(alloc, &mut rooms, stream, options)?;
-    let mut sizes = rooms.laid;
-    sizes.is_1904 = truth_bit(is_1904);
-    Ok(sizes)
+    lay_all(alloc, &mut rooms, stream, options)
 }
 
 /// Counts what a stream holds, or the sheets of it that the options ask for: how long the arrays of `read` must
@@ -76,28 +92,32 @@ pub fn measure(
     }
 }
 
-/// Fills the arrays with what a stream holds.
+/// Fills the arrays with what a stream holds, and says how long they are for it.
 fn fill(
     alloc: Global,
     stream: &[u8],
     options: &Options,
     rooms: &mut Rooms<'_>,
+    sizes: &mut Sizes,
 ) -> Result<(), Refusal>
-    requires { Holds rooms.old empty }
+    requires none { Holds rooms.old empty }
+    requires reserved { rooms.old.laid.reserved ≡ 0 }
     ensures same { KeepsRooms rooms.old rooms.new }
-    ensures ok { OnOk result (AreFilled options.now stream.now (in_rooms rooms.new)) }
-    ensures err { IfErr result (RefusesToFill options.now stream.now (in_rooms rooms.new)) }
+    ensures ok { OnOk result (AreFilled options.now stream.now (in_rooms rooms.new) sizes.new) }
+    ensures err { IfErr result (RefusesToFill options.now stream.now (in_rooms rooms.new) sizes.new) }
 {
-    lay_stream(alloc, rooms, stream, options)?;
+    *sizes = NOTHING;
+    *sizes = lay_all(alloc, rooms, stream, options)?;
     if !fits(rooms) {
         return Err(Refusal::TooShort);
     }
     Ok(())
 }
 
-/// Fills the arrays with what a stream holds, or with the sheets of it that the options ask for. They must be as
-/// long as `measure` says; what is longer begins with it. Where a call isn't done, it answers the code of its
-/// fault, and nothing is known of the arrays.
+/// Fills the arrays with what a stream holds, or with the sheets of it that the options ask for, and puts into
+/// `sizes` what `measure` says. The arrays must be as long as that; what is longer begins with it. Where one is
+/// too short, `sizes` says how long they must be; where a call isn't done for another cause, `sizes` is all 0. It
+/// answers the code of its fault then, and nothing is known of the arrays.
 pub fn read(
     alloc: Global,
     stream: &[u8],
@@ -108,6 +128,7 @@ pub fn read(
     formulas: &mut [FormulaItem],
     regions: &mut [RegionItem],
     texts: &mut [u8],
+    sizes: &mut Sizes,
     fault: &mut Fault,
 ) -> u32
     ensures { Reads options.now stream.now
@@ -118,7 +139,7 @@ pub fn read(
           formulas = formulas.new;
           regions = regions.new;
           texts = texts.new;
-        }) fault.new result }
+        }) sizes.new fault.new result }
 {
     let mut rooms = Rooms {
         sheets,
@@ -129,6 +150,6 @@ pub fn read(
         texts,
         laid: NOTHING,
     };
-    let done = fill(alloc, stream, options, &mut rooms);
+    let done = fill(alloc, stream, options, &mut rooms, sizes);
     answer(done, fault)
 }

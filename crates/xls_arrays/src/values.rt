@@ -38,7 +38,8 @@ fn kind_of(value: &DataRef<'_>) -> u32
 {
     match value {
         DataRef::Empty => 0,
-        DataRef::Int(_) | DataRef::Float(_) => 1,
+        DataRef::Int(_) => 9,
+        DataRef::Float(_) => 1,
         DataRef::DateTime(moment) => duration_or_date(*moment),
         DataRef::Bool(_) => 4,
         DataRef::Error(_) => 5,

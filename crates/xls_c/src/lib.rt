@@ -55,9 +55,10 @@ pub extern "C" fn gaflwened_measure(
     measure(alloc, stream, options, sizes, fault)
 }
 
-/// Fills the arrays with what a stream holds, or with the sheets of it that the options ask for. They must be as
-/// long as `gaflwened_measure` says; what is longer begins with it. Where a call isn't done, it answers the code
-/// of its fault, and nothing is known of the arrays.
+/// Fills the arrays with what a stream holds, or with the sheets of it that the options ask for, and puts into
+/// `sizes` what `gaflwened_measure` says. The arrays must be as long as that; what is longer begins with it. Where
+/// one is too short, `sizes` says how long they must be; where a call isn't done for another cause, `sizes` is all
+/// 0. It answers the code of its fault then, and nothing is known of the arrays.
 #[unsafe(no_mangle)]
 pub extern "C" fn gaflwened_read(
     alloc: Global,
@@ -69,6 +70,7 @@ pub extern "C" fn gaflwened_read(
     formulas: &mut [FormulaItem],
     regions: &mut [RegionItem],
     texts: &mut [u8],
+    sizes: &mut Sizes,
     fault: &mut Fault,
 ) -> u32
     ensures { Reads options.now stream.now
@@ -79,10 +81,10 @@ pub extern "C" fn gaflwened_read(
           formulas = formulas.new;
           regions = regions.new;
           texts = texts.new;
-        }) fault.new result }
+        }) sizes.new fault.new result }
 {
     read(
-        alloc, stream, options, sheets, names, cells, formulas, regions, texts, fault,
+        alloc, stream, options, sheets, names, cells, formulas, regions, texts, sizes, fault,
     )
 }
 
