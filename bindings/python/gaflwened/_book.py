@@ -116,7 +116,7 @@ class Workbook:
     @classmethod
     def from_bytes(cls, file: Union[bytes, bytearray, memoryview], **options: Any) -> Workbook:
         """Reads the workbook of a file's bytes: a compound file, or a workbook's stream alone. The options are those of `open_workbook`."""
-        return _read(_raw.stream(file), **options)
+        return _read(_raw.stream(bytes(file), len(file)), **options)
 
     @property
     def sheets(self) -> tuple[Sheet, ...]:
@@ -372,8 +372,9 @@ class Sheet:
         return f"<gaflwened.Sheet {self.name!r} of {self._cells} cells>"
 
 
-def _read(stream: tuple[_raw.Buffer, int], *, code_page: Optional[int] = None, sheet: Optional[int] = None, content: bool = True,
-          few_functions: bool = False, max_bytes: Optional[int] = None, max_cells: Optional[int] = None) -> Workbook:
+def _read(stream: tuple[Union[bytes, _raw.Buffer], int], *, code_page: Optional[int] = None, sheet: Optional[int] = None,
+          content: bool = True, few_functions: bool = False, max_bytes: Optional[int] = None,
+          max_cells: Optional[int] = None) -> Workbook:
     """The workbook of a stream."""
     which = 2 if not content else 0 if sheet is None else 1
     options = _raw.Options(max_bytes or 0, max_cells or 0, sheet or 0, which, code_page or 0, not few_functions)
@@ -392,9 +393,7 @@ def open_workbook(path: Union[str, os.PathLike, BinaryIO], **options: Any) -> Wo
 
     OSError where the file can't be read; Error, with the first thing that is wrong with it; MemoryError.
     """
-    # (the file's bytes are given back before the arrays are made)
     if hasattr(path, "read"):
-        return _read(_raw.stream(path.read()), **options)
-    with open(path, "rb") as file:
-        stream = _raw.stream(file.read())
-    return _read(stream, **options)
+        return Workbook.from_bytes(path.read(), **options)
+    # (the file's bytes are given back before the arrays are made)
+    return _read(_raw.stream(*_raw.file_bytes(path)), **options)

@@ -2,6 +2,7 @@
 
 from __future__ import annotations
 
+import contextlib
 import ctypes
 import mmap
 import os
@@ -81,9 +82,14 @@ def _buffer(size: int) -> Buffer:
     if size < MAPPED:
         return bytearray(size)
     try:
-        return mmap.mmap(-1, size, mmap.MAP_PRIVATE | mmap.MAP_ANONYMOUS)
+        buffer = mmap.mmap(-1, size, mmap.MAP_PRIVATE | mmap.MAP_ANONYMOUS)
     except (OSError, OverflowError):
         raise MemoryError from None
+    if hasattr(mmap, "MADV_HUGEPAGE"):
+        # (large pages, so that less time goes into its first use)
+        with contextlib.suppress(OSError):
+            buffer.madvise(mmap.MADV_HUGEPAGE)
+    return buffer
 
 
 def _shortened(buffer: Buffer, size: int) -> Buffer:
@@ -96,9 +102,9 @@ def _shortened(buffer: Buffer, size: int) -> Buffer:
     return buffer
 
 
-def _address(buffer: Buffer) -> int:
+def _address(buffer: Union[bytes, Buffer]) -> Union[int, ctypes.c_char_p]:
     """Where a buffer's bytes are. The buffer must be kept while that is used."""
-    return ctypes.addressof(ctypes.c_char.from_buffer(buffer))
+    return ctypes.c_char_p(buffer) if isinstance(buffer, bytes) else ctypes.addressof(ctypes.c_char.from_buffer(buffer))
 
 
 def _text(call) -> str:
@@ -131,18 +137,31 @@ def _refusal(fault: Fault) -> Exception:
     return Error(fault_text(fault), FaultCode.of(fault.code), *numbers)
 
 
-def stream(file: Union[bytes, bytearray, memoryview]) -> tuple[Buffer, int]:
-    """The workbook's stream of a file: a buffer, and how many of its bytes are the stream."""
-    given = ctypes.c_char_p(bytes(file))
-    capacity = len(file)
+def file_bytes(path: Union[str, os.PathLike]) -> tuple[Union[bytes, Buffer], int]:
+    """The bytes of a file: a buffer, and how many of its bytes they are."""
+    with open(path, "rb") as file:
+        buffer = _buffer(os.fstat(file.fileno()).st_size)
+        length = file.readinto(buffer)
+        if length < len(buffer):
+            return buffer, length
+        # (no regular file, or one that grows)
+        data = bytes(buffer) + file.read()
+        return data, len(data)
+
+
+def stream(file: Union[bytes, Buffer], length: int) -> tuple[Union[bytes, Buffer], int]:
+    """The workbook's stream of a file: a buffer, which may be that of the file, and how many of its bytes are the stream."""
+    given, size, fault = _address(file), ctypes.c_uint64(), Fault()
+    out, capacity = _buffer(0), 0
     while True:
-        out, size, fault = _buffer(capacity), ctypes.c_uint64(), Fault()
-        code = _LIBRARY.gaflwened_stream(given, len(file), _address(out), capacity, ctypes.byref(size), ctypes.byref(fault))
+        code = _LIBRARY.gaflwened_stream(given, length, _address(out), capacity, ctypes.byref(size), ctypes.byref(fault))
         if code == OK:
             return out, size.value
         if code != TOO_SHORT:
             raise _refusal(fault)
-        capacity = size.value  # (a stream is no longer than its file, so this doesn't come)
+        if size.value == length:
+            return file, length
+        out, capacity = _buffer(size.value), size.value
 
 
 WIDTHS = [SHEET.size, NAME.size, CELL.size, FORMULA.size, REGION.size, 1]
@@ -153,7 +172,7 @@ def _likely(length: int) -> list[int]:
     return [64, 256, 64 + length // 8, 64 + length // 64, 1024, 4096 + length]
 
 
-def read(stream: Buffer, length: int, options: Options) -> Content:
+def read(stream: Union[bytes, Buffer], length: int, options: Options) -> Content:
     """What the first bytes of a buffer hold as a workbook's stream."""
     try:
         counts = _likely(length)

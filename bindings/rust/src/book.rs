@@ -49,9 +49,15 @@ impl Options {
     ///
     /// [`Error::Io`] where the file can't be read, [`Error::Fault`] with the first thing that is wrong with it, [`Error::OutOfMemory`].
     pub fn open(&self, path: impl AsRef<Path>) -> Result<Workbook, Error> {
-        // (the file's bytes are given back before the arrays are made)
-        let stream = raw::stream(&raw::read_file(path.as_ref())?)?;
-        self.read(&stream)
+        let file = raw::read_file(path.as_ref())?;
+        match raw::stream(&file)? {
+            None => self.read(&file),
+            Some(stream) => {
+                // The file's bytes are given back before the arrays are made.
+                drop(file);
+                self.read(&stream)
+            }
+        }
     }
 
     /// Reads the workbook of a file's bytes: a compound file, or a workbook's stream alone. Nothing of them is lent.
@@ -60,7 +66,10 @@ impl Options {
     ///
     /// [`Error::Fault`] with the first thing that is wrong with the file, [`Error::OutOfMemory`].
     pub fn from_bytes(&self, file: &[u8]) -> Result<Workbook, Error> {
-        self.read(&raw::stream(file)?)
+        match raw::stream(file)? {
+            None => self.read(file),
+            Some(stream) => self.read(&stream),
+        }
     }
 
     /// The workbook of a stream.

@@ -188,28 +188,33 @@ pub fn read_file(path: &Path) -> io::Result<Vec<u8>> {
     Ok(bytes)
 }
 
-/// The workbook's stream of a file.
-pub fn stream(file: &[u8]) -> Result<Vec<u8>, Fault> {
-    let (mut size, mut fault) = (file.len() as u64, Fault::default());
-    loop {
-        let mut out = room::<u8>(size)?;
-        // SAFETY: both arrays have the lengths that are handed over with them (`out` the room that it has, of which nothing is
-        // read), their pointers aren't null, and they overlap nothing.
-        let code = unsafe {
-            let (data, length) = (out.as_mut_ptr(), out.capacity());
-            c::gaflwened_stream(file.as_ptr(), file.len(), data, length, &mut size, &mut fault)
-        };
-        match code {
-            OK => {
-                // SAFETY: the answer says that `out` begins with `size` bytes of the stream, so there was room for them.
-                unsafe { out.set_len(size as usize) };
-                return Ok(out);
-            }
-            // A stream is no longer than its file, so this doesn't come.
-            TOO_SHORT => (),
-            _ => return Err(fault),
-        }
+/// The workbook's stream of a file into an empty array, as far as it has room: what the call answers, and how long the stream is.
+fn fill_stream(file: &[u8], out: &mut Vec<u8>) -> Result<(u32, u64), Fault> {
+    let (mut size, mut fault) = (0, Fault::default());
+    // SAFETY: both arrays have the lengths that are handed over with them (`out` the room that it has, of which nothing is read), their
+    // pointers aren't null, and they overlap nothing.
+    let code = unsafe {
+        let (data, length) = (out.as_mut_ptr(), out.capacity());
+        c::gaflwened_stream(file.as_ptr(), file.len(), data, length, &mut size, &mut fault)
+    };
+    match code {
+        OK | TOO_SHORT => Ok((code, size)),
+        _ => Err(fault),
     }
+}
+
+/// The workbook's stream of a file; None where it is the whole file.
+pub fn stream(file: &[u8]) -> Result<Option<Vec<u8>>, Fault> {
+    let (_, size) = fill_stream(file, &mut Vec::new())?;
+    if size == file.len() as u64 {
+        return Ok(None);
+    }
+    let mut out = room(size)?;
+    let (code, size) = fill_stream(file, &mut out)?;
+    assert_eq!(code, OK, "the stream is as long as the library said");
+    // SAFETY: the answer says that `out` begins with `size` bytes of the stream, so there was room for them.
+    unsafe { out.set_len(size as usize) };
+    Ok(Some(out))
 }
 
 impl Sizes {
