@@ -1,0 +1,194 @@
+"""The calls of include/gaflwened.h, over the shared object that stands beside this file."""
+
+from __future__ import annotations
+
+import contextlib
+import ctypes
+import mmap
+import os
+import struct
+from typing import NamedTuple, Union
+
+from ._errors import Error, FaultCode
+
+Buffer = Union[bytearray, mmap.mmap]
+
+OK, OUT_OF_MEMORY, TOO_SHORT = 0, 1, 2
+
+# Kinds of cells.
+NUMBER, DATE_TIME, DURATION, BOOLEAN, ERROR, TEXT, DATE_TEXT, DURATION_TEXT, WHOLE_NUMBER = range(1, 10)
+
+SHEET = struct.Struct("=8Q2I")
+NAME = struct.Struct("=4Q")
+CELL = struct.Struct("=4I2Q")
+CELL_NUMBER = struct.Struct("=16xd8x")
+CELL_COLUMN = struct.Struct("=4xI24x")
+FORMULA = struct.Struct("=2I2Q")
+REGION = struct.Struct("=4I")
+
+# Buffers of more bytes are mapped, so that no time goes into bytes that are written over.
+MAPPED = 1 << 20
+# Each buffer has more bytes than its items: its pointer is never null, and the last text may be looked at in whole words.
+SLACK = 16
+
+
+class Fault(ctypes.Structure):
+    _fields_ = [(name, ctypes.c_uint32) for name in ("code", "part", "table", "reserved")]
+    _fields_ += [(name, ctypes.c_uint64) for name in ("first", "second", "third")]
+
+
+class Options(ctypes.Structure):
+    _fields_ = [(name, ctypes.c_uint64) for name in ("max_bytes", "max_cells", "sheet")]
+    _fields_ += [("which", ctypes.c_uint32), ("code_page", ctypes.c_uint16), ("all_functions", ctypes.c_uint16)]
+
+
+class Sizes(ctypes.Structure):
+    _fields_ = [(name, ctypes.c_uint64) for name in ("sheets", "names", "cells", "formulas", "regions", "text_bytes")]
+    _fields_ += [("is_1904", ctypes.c_uint32), ("reserved", ctypes.c_uint32)]
+
+
+class Content(NamedTuple):
+    """What a stream holds: arrays of the structs of the header, the texts, and how many there are of each."""
+
+    sheets: Buffer
+    names: Buffer
+    cells: Buffer
+    formulas: Buffer
+    regions: Buffer
+    texts: Buffer
+    sizes: Sizes
+
+
+def _library() -> ctypes.CDLL:
+    library = ctypes.CDLL(os.path.join(os.path.dirname(os.path.realpath(__file__)), "libgaflwened.so"))
+    pointer, size, number = ctypes.c_void_p, ctypes.c_size_t, ctypes.c_uint32
+    array = [pointer, size]
+    library.gaflwened_version.argtypes = []
+    library.gaflwened_stream.argtypes = [*array, *array, pointer, pointer]
+    library.gaflwened_read.argtypes = [*array, pointer, *array * 6, pointer, pointer]
+    library.gaflwened_fault_text.argtypes = [pointer, *array, pointer]
+    library.gaflwened_serial.argtypes = [ctypes.c_uint64, number, number, *array, pointer]
+    for name in ("version", "stream", "read", "fault_text", "serial"):
+        getattr(library, f"gaflwened_{name}").restype = number
+    return library
+
+
+_LIBRARY = _library()
+
+
+def _buffer(size: int) -> Buffer:
+    """A buffer of so many bytes and some more."""
+    size += SLACK
+    if size < MAPPED:
+        return bytearray(size)
+    try:
+        buffer = mmap.mmap(-1, size, mmap.MAP_PRIVATE | mmap.MAP_ANONYMOUS)
+    except (OSError, OverflowError):
+        raise MemoryError from None
+    if hasattr(mmap, "MADV_HUGEPAGE"):
+        # (large pages, so that less time goes into its first use)
+        with contextlib.suppress(OSError):
+            buffer.madvise(mmap.MADV_HUGEPAGE)
+    return buffer
+
+
+def _shortened(buffer: Buffer, size: int) -> Buffer:
+    """The buffer with so many bytes and some more."""
+    size += SLACK
+    if isinstance(buffer, bytearray):
+        del buffer[size:]
+    else:
+        buffer.resize(size)
+    return buffer
+
+
+def _address(buffer: Union[bytes, Buffer]) -> Union[int, ctypes.c_char_p]:
+    """Where a buffer's bytes are. The buffer must be kept while that is used."""
+    return ctypes.c_char_p(buffer) if isinstance(buffer, bytes) else ctypes.addressof(ctypes.c_char.from_buffer(buffer))
+
+
+def _text(call) -> str:
+    """The text that a call writes, where there is room for it."""
+    length = 400
+    while True:
+        out, size = ctypes.create_string_buffer(length), ctypes.c_uint64()
+        code = call(out, length, ctypes.byref(size))
+        if code == OK:
+            return out.raw[: size.value].decode("utf-8")
+        if code != TOO_SHORT:
+            raise MemoryError
+        length = size.value
+
+
+def fault_text(fault: Fault) -> str:
+    """The sentence that tells a fault."""
+    return _text(lambda out, length, size: _LIBRARY.gaflwened_fault_text(ctypes.byref(fault), out, length, size))
+
+
+def serial(bits: int, is_1904: bool, is_duration: bool) -> str:
+    """The text of a number of days, a double by its bits, to the nearest millisecond."""
+    return _text(lambda out, length, size: _LIBRARY.gaflwened_serial(bits, is_1904, is_duration, out, length, size))
+
+
+def _refusal(fault: Fault) -> Exception:
+    if fault.code == OUT_OF_MEMORY:
+        return MemoryError()
+    numbers = fault.part, fault.table, fault.first, fault.second, fault.third
+    return Error(fault_text(fault), FaultCode.of(fault.code), *numbers)
+
+
+def file_bytes(path: Union[str, os.PathLike]) -> tuple[Union[bytes, Buffer], int]:
+    """The bytes of a file: a buffer, and how many of its bytes they are."""
+    with open(path, "rb") as file:
+        buffer = _buffer(os.fstat(file.fileno()).st_size)
+        length = file.readinto(buffer)
+        if length < len(buffer):
+            return buffer, length
+        # (no regular file, or one that grows)
+        data = bytes(buffer) + file.read()
+        return data, len(data)
+
+
+def stream(file: Union[bytes, Buffer], length: int) -> tuple[Union[bytes, Buffer], int]:
+    """The workbook's stream of a file: a buffer, which may be that of the file, and how many of its bytes are the stream."""
+    given, size, fault = _address(file), ctypes.c_uint64(), Fault()
+    out, capacity = _buffer(0), 0
+    while True:
+        code = _LIBRARY.gaflwened_stream(given, length, _address(out), capacity, ctypes.byref(size), ctypes.byref(fault))
+        if code == OK:
+            return out, size.value
+        if code != TOO_SHORT:
+            raise _refusal(fault)
+        if size.value == length:
+            return file, length
+        out, capacity = _buffer(size.value), size.value
+
+
+WIDTHS = [SHEET.size, NAME.size, CELL.size, FORMULA.size, REGION.size, 1]
+
+
+def _likely(length: int) -> list[int]:
+    """Lengths of arrays that are enough for most streams of so many bytes. What isn't filled costs nothing but addresses."""
+    return [64, 256, 64 + length // 8, 64 + length // 64, 1024, 4096 + length]
+
+
+def read(stream: Union[bytes, Buffer], length: int, options: Options) -> Content:
+    """What the first bytes of a buffer hold as a workbook's stream."""
+    try:
+        counts = _likely(length)
+        buffers = [_buffer(count * width) for count, width in zip(counts, WIDTHS)]
+    except MemoryError:
+        # The first call fills nothing then, and says how much is needed.
+        counts = [0] * len(WIDTHS)
+        buffers = [_buffer(0) for _ in WIDTHS]
+    while True:
+        sizes, fault = Sizes(), Fault()
+        arrays = [word for buffer, count in zip(buffers, counts) for word in (_address(buffer), count)]
+        places = ctypes.byref(options), *arrays, ctypes.byref(sizes), ctypes.byref(fault)
+        code = _LIBRARY.gaflwened_read(_address(stream), length, *places)
+        if code not in (OK, TOO_SHORT):
+            raise _refusal(fault)
+        counts = [sizes.sheets, sizes.names, sizes.cells, sizes.formulas, sizes.regions, sizes.text_bytes]
+        if code == OK:
+            return Content(*(_shortened(*each) for each in zip(buffers, map(int.__mul__, counts, WIDTHS))), sizes)
+        buffers = [_buffer(count * width) for count, width in zip(counts, WIDTHS)]

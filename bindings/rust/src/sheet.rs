@@ -1,0 +1,333 @@
+//! A sheet: its cells, rows, formulas and merged regions.
+
+use std::fmt;
+
+use crate::raw;
+use crate::{CellErrorType, Data, ExcelDateTime, Workbook};
+
+/// A sheet of a workbook. Several sheets of one name all show the content of the last of them.
+#[derive(Clone, Copy)]
+pub struct Sheet<'a> {
+    book: &'a Workbook,
+    sheet: &'a raw::Sheet,
+}
+
+/// What kind of sheet it is.
+#[derive(Clone, Copy, Debug, PartialEq, Eq, Hash)]
+pub enum SheetType {
+    /// A worksheet.
+    WorkSheet,
+    /// A dialog.
+    DialogSheet,
+    /// A sheet of macros in the language of Excel 4.
+    MacroSheet,
+    /// A chart that is a sheet by itself.
+    ChartSheet,
+    /// A module of Visual Basic.
+    Vba,
+}
+
+/// Whether a sheet is shown.
+#[derive(Clone, Copy, Debug, PartialEq, Eq, Hash)]
+pub enum SheetVisible {
+    /// It is shown.
+    Visible,
+    /// It is hidden.
+    Hidden,
+    /// It is hidden, and no menu of Excel shows it.
+    VeryHidden,
+}
+
+/// A cell: its row and column, from 0, and what it holds.
+#[derive(Clone, Copy, Debug, PartialEq)]
+pub struct Cell<'a> {
+    /// The row, from 0.
+    pub row: u32,
+    /// The column, from 0.
+    pub column: u32,
+    /// What it holds.
+    pub value: Data<'a>,
+}
+
+/// A formula: its row and column, from 0, and its text without `=`.
+#[derive(Clone, Copy, Debug, PartialEq, Eq)]
+pub struct Formula<'a> {
+    /// The row, from 0.
+    pub row: u32,
+    /// The column, from 0.
+    pub column: u32,
+    /// The text, in which numbers stand as in `xls dump`, and rows count from 1.
+    pub text: &'a str,
+}
+
+/// A rectangle of cells: its first and its last row and column, from 0, both included.
+#[derive(Clone, Copy, Debug, PartialEq, Eq, Hash)]
+pub struct Dimensions {
+    /// The first row and column.
+    pub start: (u32, u32),
+    /// The last row and column.
+    pub end: (u32, u32),
+}
+
+/// The slice of `items` that begins at `first` and has `count` of them.
+fn part<T>(items: &[T], first: u64, count: u64) -> &[T] {
+    let first = first as usize;
+    &items[first..first + count as usize]
+}
+
+impl<'a> Sheet<'a> {
+    pub(crate) fn new(book: &'a Workbook, sheet: &'a raw::Sheet) -> Self {
+        Sheet { book, sheet }
+    }
+
+    /// The name.
+    pub fn name(&self) -> &'a str {
+        self.book.text(self.sheet.name)
+    }
+
+    /// What kind of sheet it is.
+    pub fn kind(&self) -> SheetType {
+        match self.sheet.kind {
+            0 => SheetType::WorkSheet,
+            1 => SheetType::DialogSheet,
+            2 => SheetType::MacroSheet,
+            3 => SheetType::ChartSheet,
+            _ => SheetType::Vba,
+        }
+    }
+
+    /// Whether it is shown.
+    pub fn visible(&self) -> SheetVisible {
+        match self.sheet.visibility {
+            0 => SheetVisible::Visible,
+            1 => SheetVisible::Hidden,
+            _ => SheetVisible::VeryHidden,
+        }
+    }
+
+    fn raw_cells(&self) -> &'a [raw::Cell] {
+        part(&self.book.cells, self.sheet.first_cell, self.sheet.cells)
+    }
+
+    /// The cells that the file has, by row and then by column, each position once.
+    pub fn cells(&self) -> impl DoubleEndedIterator<Item = Cell<'a>> + ExactSizeIterator + Clone + 'a {
+        let book = self.book;
+        self.raw_cells().iter().map(move |cell| Cell { row: cell.row, column: cell.column, value: data(book, cell) })
+    }
+
+    /// What the cell at a row and a column holds, counted from 0; `Empty` where none stands.
+    pub fn get(&self, row: u32, column: u32) -> Data<'a> {
+        let cells = self.raw_cells();
+        match cells.binary_search_by_key(&(row, column), |cell| (cell.row, cell.column)) {
+            Ok(at) => data(self.book, &cells[at]),
+            Err(_) => Data::Empty,
+        }
+    }
+
+    /// The smallest rectangle that holds all cells. None of a sheet without cells.
+    pub fn dimensions(&self) -> Option<Dimensions> {
+        let cells = self.raw_cells();
+        let (first, last) = (cells.first()?, cells.last()?);
+        let columns = cells.iter().map(|cell| cell.column);
+        let (left, right) = columns.fold((u32::MAX, 0), |(a, b), c| (a.min(c), b.max(c)));
+        Some(Dimensions { start: (first.row, left), end: (last.row, right) })
+    }
+
+    /// The rows of that rectangle, one after the other, rows without cells included.
+    pub fn rows(&self) -> Rows<'a> {
+        let dimensions = self.dimensions();
+        Rows {
+            book: self.book,
+            cells: self.raw_cells(),
+            next: dimensions.map_or(0, |d| d.start.0),
+            left: dimensions.map_or(0, |d| (d.end.0 - d.start.0) as usize + 1),
+            columns: dimensions.map_or((0, 0), |d| (d.start.1, (d.end.1 - d.start.1) as usize + 1)),
+        }
+    }
+
+    /// The formulas, by row and then by column. The text of a formula that can't be spelled says so, and that of a shared formula is empty.
+    pub fn formulas(&self) -> impl DoubleEndedIterator<Item = Formula<'a>> + ExactSizeIterator + Clone + 'a {
+        let book = self.book;
+        let formulas = part(&book.formulas, self.sheet.first_formula, self.sheet.formulas);
+        formulas.iter().map(move |formula| Formula { row: formula.row, column: formula.column, text: book.text(formula.text) })
+    }
+
+    /// The merged regions in the order of the file.
+    pub fn merged_regions(&self) -> impl DoubleEndedIterator<Item = Dimensions> + ExactSizeIterator + Clone + 'a {
+        let regions = part(&self.book.regions, self.sheet.first_region, self.sheet.regions);
+        regions
+            .iter()
+            .map(|region| Dimensions { start: (region.first_row, region.first_column), end: (region.last_row, region.last_column) })
+    }
+}
+
+impl fmt::Debug for Sheet<'_> {
+    fn fmt(&self, f: &mut fmt::Formatter<'_>) -> fmt::Result {
+        f.debug_struct("Sheet")
+            .field("name", &self.name())
+            .field("kind", &self.kind())
+            .field("visible", &self.visible())
+            .field("cells", &self.sheet.cells)
+            .finish_non_exhaustive()
+    }
+}
+
+/// What a cell holds.
+fn data<'a>(book: &'a Workbook, cell: &raw::Cell) -> Data<'a> {
+    let text = || book.text(raw::Span { offset: cell.value, length: cell.length });
+    let number = f64::from_bits(cell.value);
+    match cell.kind {
+        1 => Data::Float(number),
+        2 => Data::DateTime(ExcelDateTime::new(number, false, book.is_1904())),
+        3 => Data::DateTime(ExcelDateTime::new(number, true, book.is_1904())),
+        4 => Data::Bool(cell.value != 0),
+        5 => Data::Error(error(cell.value)),
+        6 => Data::String(text()),
+        7 => Data::DateTimeIso(text()),
+        8 => Data::DurationIso(text()),
+        9 => Data::Int(number as i64),
+        _ => Data::Empty,
+    }
+}
+
+/// The error value of a code.
+fn error(code: u64) -> CellErrorType {
+    match code {
+        0x00 => CellErrorType::Null,
+        0x07 => CellErrorType::Div0,
+        0x0F => CellErrorType::Value,
+        0x17 => CellErrorType::Ref,
+        0x1D => CellErrorType::Name,
+        0x24 => CellErrorType::Num,
+        0x2A => CellErrorType::NA,
+        _ => CellErrorType::GettingData,
+    }
+}
+
+/// The rows of a sheet.
+#[derive(Clone)]
+pub struct Rows<'a> {
+    book: &'a Workbook,
+    /// The cells of the rows that are left.
+    cells: &'a [raw::Cell],
+    next: u32,
+    left: usize,
+    /// The first column, and how many there are.
+    columns: (u32, usize),
+}
+
+impl<'a> Iterator for Rows<'a> {
+    type Item = Row<'a>;
+
+    fn next(&mut self) -> Option<Row<'a>> {
+        self.left = self.left.checked_sub(1)?;
+        let number = self.next;
+        let count = self.cells.iter().take_while(|cell| cell.row == number).count();
+        let (cells, rest) = self.cells.split_at(count);
+        self.cells = rest;
+        self.next += 1;
+        Some(Row { book: self.book, number, cells, columns: self.columns })
+    }
+
+    fn size_hint(&self) -> (usize, Option<usize>) {
+        (self.left, Some(self.left))
+    }
+}
+
+impl ExactSizeIterator for Rows<'_> {}
+
+/// A row of a sheet, without a copy: from the first column that holds something in any row to the last.
+#[derive(Clone, Copy)]
+pub struct Row<'a> {
+    book: &'a Workbook,
+    number: u32,
+    cells: &'a [raw::Cell],
+    columns: (u32, usize),
+}
+
+impl<'a> Row<'a> {
+    /// The number of the row in the sheet, from 0.
+    pub fn number(&self) -> u32 {
+        self.number
+    }
+
+    /// The number of columns, which all rows of a sheet have.
+    pub fn len(&self) -> usize {
+        self.columns.1
+    }
+
+    /// Whether there is no column, which isn't so of a row that [`Sheet::rows`] gives.
+    pub fn is_empty(&self) -> bool {
+        self.len() == 0
+    }
+
+    /// What the column of this index holds, the first column of the row being 0; `Empty` where no cell stands.
+    pub fn get(&self, index: usize) -> Data<'a> {
+        let column = u32::try_from(index).ok().and_then(|index| self.columns.0.checked_add(index));
+        let found = column.and_then(|column| self.cells.binary_search_by_key(&column, |cell| cell.column).ok());
+        found.map_or(Data::Empty, |at| data(self.book, &self.cells[at]))
+    }
+
+    /// What each column holds.
+    pub fn iter(&self) -> RowValues<'a> {
+        RowValues { book: self.book, cells: self.cells, next: self.columns.0, left: self.columns.1 }
+    }
+}
+
+impl<'a> IntoIterator for Row<'a> {
+    type Item = Data<'a>;
+    type IntoIter = RowValues<'a>;
+
+    fn into_iter(self) -> RowValues<'a> {
+        self.iter()
+    }
+}
+
+impl<'a> IntoIterator for &Row<'a> {
+    type Item = Data<'a>;
+    type IntoIter = RowValues<'a>;
+
+    fn into_iter(self) -> RowValues<'a> {
+        self.iter()
+    }
+}
+
+/// The list of what the columns hold.
+impl fmt::Debug for Row<'_> {
+    fn fmt(&self, f: &mut fmt::Formatter<'_>) -> fmt::Result {
+        f.debug_list().entries(self).finish()
+    }
+}
+
+/// What the columns of a row hold, one after the other.
+#[derive(Clone)]
+pub struct RowValues<'a> {
+    book: &'a Workbook,
+    /// The cells of the columns that are left.
+    cells: &'a [raw::Cell],
+    next: u32,
+    left: usize,
+}
+
+impl<'a> Iterator for RowValues<'a> {
+    type Item = Data<'a>;
+
+    fn next(&mut self) -> Option<Data<'a>> {
+        self.left = self.left.checked_sub(1)?;
+        let column = self.next;
+        self.next = column.wrapping_add(1);
+        match self.cells.split_first() {
+            Some((cell, rest)) if cell.column == column => {
+                self.cells = rest;
+                Some(data(self.book, cell))
+            }
+            _ => Some(Data::Empty),
+        }
+    }
+
+    fn size_hint(&self) -> (usize, Option<usize>) {
+        (self.left, Some(self.left))
+    }
+}
+
+impl ExactSizeIterator for RowValues<'_> {}

@@ -1,0 +1,288 @@
+"""Workbooks for the tests of the bindings: `make(folder)` writes them, with the samples and the stored streams of this repository."""
+
+import glob
+import os
+import struct
+import sys
+
+TOP = os.path.dirname(os.path.dirname(os.path.dirname(os.path.realpath(__file__))))
+sys.path.insert(0, f"{TOP}/tools")
+
+from cfb import compound_file  # noqa: E402
+
+INFINITY, NOT_A_NUMBER = float("inf"), float("nan")
+
+
+def record(typ, body=b""):
+    return struct.pack("<HH", typ, len(body)) + body
+
+
+def cell(typ, row, column, body, xf=0):
+    return record(typ, struct.pack("<HHH", row, column, xf) + body)
+
+
+def number(row, column, value, xf=0):
+    return cell(0x0203, row, column, struct.pack("<d", value), xf)
+
+
+def rk(row, column, bits, xf=0):
+    return cell(0x027E, row, column, struct.pack("<I", bits & 0xFFFFFFFF), xf)
+
+
+def whole(row, column, value, xf=0):
+    return rk(row, column, value << 2 | 2, xf)
+
+
+def rk_double(value, is_hundredth):
+    return struct.unpack("<Q", struct.pack("<d", value))[0] >> 32 & 0xFFFFFFFC | is_hundredth
+
+
+def row_of_wholes(row, column, values):
+    body = struct.pack("<HH", row, column)
+    body += b"".join(struct.pack("<HI", 0, value << 2 & 0xFFFFFFFF | 2) for value in values)
+    return record(0x00BD, body + struct.pack("<H", column + len(values) - 1))
+
+
+def label(row, column, text):
+    units = text.encode("utf-16-le")
+    return cell(0x0204, row, column, struct.pack("<HB", len(units) // 2, 1) + units)
+
+
+def shared(row, column, index):
+    return cell(0x00FD, row, column, struct.pack("<I", index))
+
+
+def truth_or_error(row, column, value, is_error):
+    return cell(0x0205, row, column, bytes([value, is_error]))
+
+
+def formula(row, column, value, rgce=b"\x1e\x01\x00", xf=0):
+    return cell(0x0006, row, column, value + struct.pack("<HIH", 0, 0, len(rgce)) + rgce, xf)
+
+
+def string(text):
+    units = text.encode("utf-16-le")
+    return record(0x0207, struct.pack("<HB", len(units) // 2, 1) + units)
+
+
+def merges(*regions):
+    return record(0x00E5, struct.pack("<H", len(regions)) + b"".join(struct.pack("<HHHH", *region) for region in regions))
+
+
+def string_table(texts):
+    body = struct.pack("<II", len(texts), len(texts))
+    for text in texts:
+        units = text.encode("utf-16-le", "surrogatepass")
+        body += struct.pack("<HB", len(units) // 2, 1) + units
+    return record(0x00FC, body)
+
+
+def name(text, rgce):
+    return record(0x0018, bytes(3) + struct.pack("<BH", len(text), len(rgce)) + bytes(8) + b"\0" + text.encode("latin-1") + rgce)
+
+
+def formats(*pairs):
+    """XF records, the first a plain one, with the formats of their own that they show."""
+    found = record(0x00E0, struct.pack("<HH", 0, 0) + bytes(16))
+    for number, text in pairs:
+        if text:
+            found = record(0x041E, struct.pack("<HHB", number, len(text), 0) + text.encode("latin-1")) + found
+    return found + b"".join(record(0x00E0, struct.pack("<HH", 0, number) + bytes(16)) for number, _ in pairs)
+
+
+def stream(sheets, globals=b"", version=0x0600):
+    """A stream of these sheets: (name, visibility, kind, records)."""
+
+    def bof(kind):
+        return record(0x0809, struct.pack("<HHHHII", version, kind, 0, 0, 0, 0))
+
+    def name_bytes(text):
+        if version < 0x0600:
+            return struct.pack("<B", len(text)) + text.encode("cp1252")
+        units = text.encode("utf-16-le")
+        return struct.pack("<BB", len(units) // 2, 1) + units
+
+    begin = bof(5) + globals
+    parts = [bof(0x10) + b"".join(items) + record(0x000A) for _, _, _, items in sheets]
+    names = [name_bytes(text) for text, _, _, _ in sheets]
+    at = len(begin) + sum(10 + len(text) for text in names) + 4
+    lines = b""
+    for (_, state, kind, _), text, part in zip(sheets, names, parts):
+        lines += record(0x0085, struct.pack("<IBB", at, state, kind) + text)
+        at += len(part)
+    return begin + lines + record(0x000A) + b"".join(parts)
+
+
+def plain(*items, globals=b""):
+    return stream([("A", 0, 0, items)], globals)
+
+
+# ---- the books
+
+DAYS = [0.0, 0.25, 0.9999999999, 1.0, 1.5, 58.999999999, 59.0, 59.9999999999, 60.0, 60.75, 60.9999999999, 61.0, 366.0, 1461.123456, 43831.0,
+        43831.75, 45351.5732060185, 2958465.0, 2958465.9999, 2958466.0, 3e6, 1e300, -1.0, -0.5, -0.0, INFINITY, NOT_A_NUMBER]
+# Near the middle of two milliseconds, and there.
+DAYS += [day + (count + 0.5) / 86_400_000 for day in (1, 100, 43831) for count in (0, 1, 2, 1_000_000, 86_399_999)]
+DAYS += [0.5 / 86_400_000, 1.5 / 86_400_000, 2 + 2.0**-20, 3 - 2.0**-21, 43831 + 675 * 2.0**-17, 43831 + 27 * 2.0**-11, 4096 + 2.0**-40]
+
+
+def numbers():
+    yield from (whole(row, 0, value) for row, value in enumerate([0, 1, -1, 2**29 - 1, -(2**29)]))
+    yield from (rk(row, 0, value << 2 | 3) for row, value in enumerate([0, 1, -1, 12345, 100, -250], 5))
+    yield from (rk(row, 0, rk_double(value, 0)) for row, value in enumerate([1.5, -2.25, 1e300, 0.0, 3.0], 11))
+    yield from (rk(row, 0, rk_double(value, 1)) for row, value in enumerate([1.5, 1e300, 3.0, 0.1], 16))
+    values = [0.0, -0.0, 1.0, 4.5, 1 / 3, 1e16, 123456789012.0, 2.0**53, 2.0**53 + 2, 1e22, 5e-324, 1.7976931348623157e308, 0.1 + 0.2]
+    yield from (number(row, 0, value) for row, value in enumerate([*values, INFINITY, -INFINITY, NOT_A_NUMBER], 20))
+    yield row_of_wholes(40, 3, [5, -6, 7, 8])
+
+
+TEXTS = ["one", "Café €", "日本語 \U0001F600", "line\nline\ttab\r\\", "", " ", "NA", "#N/A", "12", "1e3", "True", "TRUE"]
+TEXTS += ["nul\0inside", "x" * 3000]
+
+
+def values():
+    yield from (shared(row, 0, row) for row in range(len(TEXTS) + 2))
+    yield from (label(row, 1, text) for row, text in enumerate(TEXTS))
+    yield from (truth_or_error(row, 2, row % 2, 0) for row in range(4))
+    yield from (truth_or_error(row, 3, code, 1) for row, code in enumerate([0x00, 0x07, 0x0F, 0x17, 0x1D, 0x24, 0x2A, 0x2B]))
+    yield formula(20, 0, struct.pack("<d", 12.5), b"\x1f" + struct.pack("<d", 12.5))
+    yield formula(20, 1, b"\0\0\0\0\0\0\xff\xff", b"\x17\x01\0a")
+    yield string("of a formula")
+    yield formula(20, 2, b"\1\0\1\0\0\0\xff\xff")
+    yield formula(20, 3, b"\2\0\x07\0\0\0\xff\xff")
+    yield formula(20, 4, b"\3\0\0\0\0\0\xff\xff")
+    yield formula(21, 0, struct.pack("<d", 1.0), b"\x1e\x01\x00\x42\x01\x66\x00")
+    yield merges((0, 0, 0, 3), (5, 9, 1, 2))
+    yield merges((7, 7, 7, 7))
+
+
+def moments(globals=b""):
+    """Each day as a date, a time, a duration and a plain number, by built-in formats and by formats of their own."""
+    shown = formats((14, ""), (22, ""), (46, ""), (164, "yyyy\\-mm\\-dd hh:mm:ss.000"), (165, "[h]:mm"), (166, "0.00"))
+    items = [number(row, column, day, column) for row, day in enumerate(DAYS) for column in range(7)]
+    return plain(*items, globals=globals + shown)
+
+
+def mixed_columns():
+    """Columns of one kind, and with blanks, errors, texts and truths between, for pandas."""
+    heads = ["a", "a", "", "7", "b", "c", "d", "e", "f", "g", "h", "i"]
+    yield from (label(0, column, text) for column, text in enumerate(heads) if text)
+    for row in range(1, 40):
+        yield whole(row, 0, row)
+        yield number(row, 1, row / 3)
+        if row % 3:
+            yield whole(row, 2, row)
+        yield truth_or_error(row, 3, row % 2, 0)
+        if row % 4:
+            yield truth_or_error(row, 4, row % 2, 0)
+        yield number(row, 5, 40000 + row / 7, 1)
+        if row % 5:
+            yield number(row, 6, 40000 + row, 1)
+        yield number(row, 7, row / 7, 2)
+        yield label(row, 8, ["NA", "x", "null", "y"][row % 4])
+        yield label(row, 9, str(row))
+        yield (whole(row, 10, row), label(row, 10, "t"), truth_or_error(row, 10, 1, 0), truth_or_error(row, 10, 0x2A, 1))[row % 4]
+        yield truth_or_error(row, 11, 0x07, 1) if row % 6 == 0 else number(row, 11, row / 2)
+
+
+def sheets():
+    yield "Plain", 0, 0, [whole(0, 0, 1)]
+    yield "Hidden", 1, 0, [whole(0, 0, 2)]
+    yield "Very", 2, 1, []
+    yield "日本", 0, 6, [whole(3, 2, 4), merges((0, 1, 0, 1))]
+    yield "Twice", 0, 0, [whole(0, 0, 5), whole(0, 1, 5)]
+    yield "Chart", 0, 2, []
+    yield "Twice", 1, 0, [whole(9, 9, 6)]
+    yield "Café", 0, 0, [label(0, 0, "b")]
+
+
+def out_of_order():
+    cells = [(5, 5, 1), (0, 9, 2), (5, 5, 3), (2, 0, 4), (0, 0, 5), (5, 4, 6), (2, 0, 7), (9, 1, 8)]
+    yield from (whole(*each) for each in cells)
+    yield formula(3, 3, struct.pack("<d", 1.0))
+    yield formula(1, 1, struct.pack("<d", 2.0), b"\x1e\x02\x00")
+
+
+def old_label(row, column, text):
+    return cell(0x0204, row, column, struct.pack("<H", len(text)) + text.encode("cp1252"))
+
+
+def books():
+    """The name and the bytes of each book."""
+    table = string_table(TEXTS)
+    three = b"\x3a\0\0\1\0\2\0"  # (a cell of the first sheet that ExternSheet names)
+    inner = record(0x01AE, struct.pack("<HH", 1, 0x0401)) + record(0x0017, struct.pack("<HHHH", 1, 0, 0, 0))
+    yield "numbers", compound_file({"Workbook": plain(*numbers())})
+    yield "values", compound_file({"Workbook": plain(*values(), globals=table)})
+    yield "names", plain(globals=inner + name("Total", three) + name("Gone", b"\x3c" + bytes(6)) + name("\x06", b"") + name("Total", three))
+    yield "dates_1900", moments()
+    yield "dates_1904", moments(record(0x0022, b"\1\0"))
+    yield "columns", stream([("A", 0, 0, list(mixed_columns()))], formats((14, ""), (46, "")))
+    yield "sheets", stream(list(sheets()))
+    yield "order", plain(*out_of_order())
+    yield "no_sheets", stream([])
+    yield "no_cells", plain()
+    yield "far", plain(whole(0, 0, 1), whole(65_535, 3, 2))
+    yield "one_far", plain(whole(300, 200, 1))
+    old = record(0x0042, struct.pack("<H", 1252))
+    yield "old", compound_file({"Book": stream([("Naïve", 0, 0, [old_label(0, 0, "naïve €"), number(1, 0, 2.5)])], old, 0x0500)})
+    yield "many_rows", compound_file({"Workbook": plain(*(whole(row, column, row * column) for row in range(3000) for column in range(5)))})
+    yield "many_texts", plain(*(label(row, 0, f"text {row} é") for row in range(3000)))
+    words = ["", "a", "NA", "seven b", "eight by", "nine byte", "é", "sixteen bytes ab", "same eigXX", "same eigYY", "a\0", "a\0\0"]
+    yield "repeated", plain(*(label(row, column, words[row * (column + 1) % len(words)]) for row in range(6000) for column in range(2)))
+
+
+def damaged(ledger):
+    """Files that are no workbook, and damaged ones; `ledger` is a compound file."""
+    yield "empty", b""
+    yield "zip", b"PK\3\4" + bytes(60)
+    yield "html", b"<html><body>1</body></html>"
+    yield "words", b"no workbook at all"
+    yield "no_workbook", compound_file({"Other": b"x"})
+    yield "password", plain(globals=record(0x002F, b"\1\0" + bytes(52)))
+    yield "obfuscated", plain(globals=record(0x002F, bytes(6)))
+    yield "page", plain(globals=record(0x0042, struct.pack("<H", 932)))
+    yield "short_number", plain(record(0x0203, bytes(9)))
+    yield "odd_error", plain(truth_or_error(0, 0, 0x55, 1))
+    yield "cut_string", plain(globals=record(0x00FC, struct.pack("<IIHB", 1, 1, 5, 0) + b"ab"))
+    yield "cut_runs", plain(globals=record(0x00FC, struct.pack("<IIHBH", 1, 1, 1, 8, 3) + b"a"))
+    yield "no_part", stream([("A", 0, 0, [])])[:-8]
+    yield "cut_record", plain(whole(0, 0, 1))[:-9]
+    yield "cut_header", plain(whole(0, 0, 1)) + b"\1\2"
+    yield "shift", ledger[:30] + b"\7\0" + ledger[32:]
+    yield "mini_shift", ledger[:32] + b"\7\0" + ledger[34:]
+    yield "signature", ledger[:7] + b"\0" + ledger[8:]
+    for length in (8, 100, 511, 512, 600, 1100, 2000, 3000, 4000, len(ledger) - 1):
+        yield f"cut_{length}", ledger[:length]
+    # Bytes of the file's tables and of its directory, turned one by one.
+    for at in (48, 60, 68, 76, *range(512, 700, 37), *range(1024, 1400, 41)):
+        yield f"turned_{at}", ledger[:at] + bytes([ledger[at] ^ 0x5A]) + ledger[at + 1 :]
+
+
+def hostile():
+    """A stream of 2.9 MB whose cells show 13 GB of text: one string of 65,535 letters, and 200,000 cells that show it."""
+    pieces = [struct.pack("<IIHB", 200_000, 1, 65_535, 0) + b"x" * 8_000]
+    while sum(map(len, pieces)) < 65_535 + 11 + len(pieces) - 1:
+        missing = 65_535 + 11 + len(pieces) - 1 - sum(map(len, pieces))
+        pieces.append(b"\0" + b"x" * min(8_000, missing))
+    table = record(0x00FC, pieces[0]) + b"".join(record(0x003C, piece) for piece in pieces[1:])
+    return plain(*(shared(row, column, 0) for row in range(50_000) for column in range(4)), globals=table)
+
+
+def stored():
+    """The samples and the stored streams of this repository, by name."""
+    for path in sorted(glob.glob(f"{TOP}/samples/ledger*.xls*") + glob.glob(f"{TOP}/samples/three*") + glob.glob(f"{TOP}/crates/*/stdin")):
+        with open(path, "rb") as file:
+            data = file.read()
+        if data[:2] in (b"\x09\x08", b"\xd0\xcf"):
+            yield os.path.relpath(path, TOP).replace("/", "_").replace(".", "_"), data
+
+
+def make(folder):
+    """Writes all books, and answers their names."""
+    found = {**dict(stored()), **dict(books())}
+    found.update(damaged(found["samples_ledger_xls"]))
+    for text, data in found.items():
+        with open(f"{folder}/{text}.xls", "wb") as file:
+            file.write(data)
+    return list(found)

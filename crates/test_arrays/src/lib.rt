@@ -1,0 +1,5 @@
+//! Tests of what a stream holds, in arrays.
+#![tactic(auto)]
+
+#[cfg(test)]
+mod arrays;

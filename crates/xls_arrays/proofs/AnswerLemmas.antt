@@ -1,0 +1,38 @@
+-- How calls end.
+use Rattle.std.proofs.Common.{◌≡◌, ℕ, List, Result, Ok, Err, OnOk, IfErr, Some, None, if◌then◌else◌, ◌==◌, inl, inr, refl, ap, subst, ◌∙◌, rules, codes}
+use Rattle.xls_arrays.specs.Answers.{AreFilled, Answers, IsAnswer, Reads, RefusesToFill}
+use Rattle.xls_arrays.specs.Arrays.{Arrays}
+use Rattle.xls_arrays.specs.Filled.{in_rooms}
+use Rattle.xls_arrays.specs.Telling.{refusal_of, sentence, sentence_in}
+use Rattle.xls_arrays.specs.Texts.{refusal_text}
+use Rattle.xls_arrays.specs.declared.items.Sizes.{Sizes}
+use Rattle.xls_arrays.specs.declared.options.Options.{Options}
+use Rattle.xls_arrays.specs.declared.rooms.Rooms.{Rooms}
+use Rattle.xls_arrays.specs.declared.faults.Fault.{Fault}
+use Rattle.xls_arrays.specs.declared.refusal.Refusal.{Refusal}
+
+-- what was done, or refused, inside ends the call
+pub ends-as : {Done : Type 0} {Refuses : Refusal → Type 0} (done : Result (Unit {0}) Refusal) {fault : Fault} {code : ℕ}
+    → OnOk done Done → IfErr done Refuses → IsAnswer done fault code → Answers Done Refuses fault code
+ends-as (Ok x) ok err is = record { told = is.1; ends = inl (ok, is.0) }
+ends-as (Err r) ok err is = record { told = is.1; ends = inr (r, err, is.0) }
+
+unless : (n : ℕ) (x y : List ℕ) → (n ≡ 0 → ⊥) → (if n == 0 then x else y) ≡ y
+unless n x y some = search (rules, some)
+
+-- the sentence of a fault that a refusal tells, and of another
+pub sentence-some : (f : Fault) (r : Refusal) → (f.code ≡ 0 → ⊥) → refusal_of f ≡ Some r → sentence f ≡ refusal_text r
+sentence-some f r some is = unless f.code _ _ some ∙ ap sentence_in is
+
+pub sentence-none : (f : Fault) → (f.code ≡ 0 → ⊥) → refusal_of f ≡ None → sentence f ≡ codes "An unknown fault"
+sentence-none f some is = unless f.code _ _ some ∙ ap sentence_in is
+
+-- what was filled, or not, inside, by the arrays of the caller
+pub read-ends : {options : Options} {stream : List ℕ} {after : Arrays} {sizes : Sizes} (rooms : Rooms) (done : Result (Unit {0}) Refusal) {fault : Fault} {code : ℕ}
+    → OnOk done (AreFilled options stream (in_rooms rooms) sizes) → IfErr done (RefusesToFill options stream (in_rooms rooms) sizes)
+    → IsAnswer done fault code → rooms.sheets.now ≡ after.sheets → rooms.names.now ≡ after.names → rooms.cells.now ≡ after.cells
+    → rooms.formulas.now ≡ after.formulas → rooms.regions.now ≡ after.regions → rooms.texts.now ≡ after.texts
+    → Reads options stream after sizes fault code
+read-ends {options} {stream} {after} {sizes} rooms done {fault} {code} ok err is sheets names cells formulas regions texts =
+    let same : in_rooms rooms ≡ after = rw (sheets, names, cells, formulas, regions, texts) refl in
+    subst (λ a. Reads options stream a sizes fault code) same (ends-as done ok err is)

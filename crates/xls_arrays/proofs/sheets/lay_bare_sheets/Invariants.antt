@@ -1,0 +1,11 @@
+use Rattle.std.proofs.Common.{drop, []}
+use Rattle.xls_arrays.specs.Arrays.{with_sheet}
+use Rattle.xls_arrays.specs.Shown.{each_with}
+use Rattle.xls_arrays.proofs.LaidLemmas.{IsPartly}
+use Rattle.xls_arrays.proofs.sheets.lay_bare_sheets.Given as goal
+
+-- the sheets so far are laid
+abbrev pub invariant-loop-i : goal.invariant-loop-i
+invariant-loop-i l =
+    let book = l.view.book in
+    IsPartly with_sheet (each_with book.sheets []) (each_with (drop l.i book.sheets) (drop l.i [])) l.fn.rooms l.rooms

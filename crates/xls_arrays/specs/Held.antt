@@ -1,0 +1,50 @@
+-- What a stream holds, as arrays, and why it isn't read.
+use Rattle.std.specs.Prelude.{◌≡◌, ◌⊎◌, ℕ, ◌<◌, ◌≤◌, Bool, List, Some, length}
+use Rattle.xls_reading.specs.Reading.{BookView}
+use Rattle.xls_container.specs.Obfuscation.{IsObfuscated}
+use Rattle.xls_strings.specs.declared.error.XlsError.TheVariants as errors
+use Rattle.xls_view.specs.Viewing.{IsFault, IsViewed, Viewed}
+use Rattle.xls_arrays.specs.Arrays.{Arrays, Told, arrays_of}
+use Rattle.xls_arrays.specs.Options.{max_bytes_in, options_by}
+use Rattle.xls_arrays.specs.Shown.{asked_for}
+use Rattle.xls_arrays.specs.declared.options.Options.{Options}
+use Rattle.xls_arrays.specs.declared.refusal.Refusal.{Refusal}
+use Rattle.xls_arrays.specs.declared.refusal.Refusal.TheVariants as refusals
+
+-- the records aren't obfuscated, and the stream is within the limit of bytes
+pub record IsPlain (options : Options) (stream : List ℕ) : Type 0 where
+  pub readable : IsObfuscated stream → ⊥
+  pub within : length stream ≤ max_bytes_in options
+
+-- the view of a stream that is read
+pub record Shows (options : Options) (stream : List ℕ) (view : Viewed) : Type 0 where
+  pub plain : IsPlain options stream
+  pub viewed : IsViewed (options_by options) stream view
+
+-- these are the arrays of the sheets that are asked for, and this is the date system
+pub record IsHeld (options : Options) (stream : List ℕ) (is_1904 : Bool) (a : Arrays) : Type 0 where
+  pub view : Viewed
+  pub shows : Shows options stream view
+  pub sheets : List Told
+  pub asked : asked_for options view.book ≡ Some sheets
+  pub arrays : a ≡ arrays_of view.book.names sheets
+  pub epoch : is_1904 ≡ view.book.is_1904
+
+-- one sheet is asked for, of this index, which the workbook doesn't have
+pub record Misses (options : Options) (book : BookView) (index : ℕ) : Type 0 where
+  pub one : options.which ≡ 1
+  pub asked : index ≡ options.sheet
+  pub past : length book.sheets ≤ index
+
+-- why a stream isn't read: its records are obfuscated, it has more bytes than the limit, its first fault, or no
+-- such sheet; unless memory ran out
+abbrev pub RefusesStream : Options → List ℕ → Refusal → Type 0
+RefusesStream options stream refusals.Memory = Unit {0}
+RefusesStream options stream refusals.Obfuscated = IsObfuscated stream
+RefusesStream options stream (refusals.Stream error) =
+    (IsObfuscated stream → ⊥)
+    × (((max_bytes_in options < length stream) × (error ≡ errors.TooLarge (max_bytes_in options)))
+    ⊎ ((length stream ≤ max_bytes_in options) × IsFault (options_by options) stream error))
+RefusesStream options stream (refusals.NoSheet index) =
+    (view : Viewed) × Shows options stream view × Misses options view.book index
+RefusesStream options stream other = ⊥

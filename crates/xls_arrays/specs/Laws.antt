@@ -1,0 +1,112 @@
+-- What the items of the arrays say, by the texts and the other items that they cite.
+use Rattle.std.specs.Prelude.{◌≡◌, ℕ, ◌<◌, ◌^◌, List, length, take, drop, encode_utf8_all, Some, None}
+use Rattle.std.specs.List.{AllZip}
+use Rattle.xls_text.specs.declared.error.CfbError.TheVariants as pages
+use Rattle.xls_strings.specs.declared.error.XlsError.{XlsError}
+use Rattle.xls_strings.specs.declared.error.XlsError.TheVariants as errors
+use Rattle.xls_sectors.specs.declared.error.SectorFault.{SectorFault}
+use Rattle.xls_sectors.specs.declared.error.SectorFault.TheVariants as sectors
+use Rattle.xls_directory.specs.declared.fault.DirectoryFault.{DirectoryFault}
+use Rattle.xls_directory.specs.declared.fault.DirectoryFault.TheVariants as entries
+use Rattle.xls_data.specs.declared.regions.Dimensions.{Dimensions}
+use Rattle.xls_biff.specs.Cells.{Entry}
+use Rattle.xls_reading.specs.SheetTable.{FormulaEntry}
+use Rattle.xls_arrays.specs.Values.{cell_item, text_in}
+use Rattle.xls_arrays.specs.Arrays.{Arrays, Told, arrays_of, formula_item, kind_number, region_item, visibility_number}
+use Rattle.xls_arrays.specs.Faults.{fault_of}
+use Rattle.xls_arrays.specs.Telling.{refusal_of, sentence}
+use Rattle.xls_arrays.specs.Texts.{refusal_text}
+use Rattle.xls_arrays.specs.declared.refusal.Refusal.{Refusal}
+use Rattle.xls_arrays.specs.declared.refusal.Refusal.TheVariants as refusals
+use Rattle.xls_arrays.specs.declared.items.Span.{Span}
+use Rattle.xls_arrays.specs.declared.items.SheetItem.{SheetItem}
+use Rattle.xls_arrays.specs.declared.items.NameItem.{NameItem}
+use Rattle.xls_arrays.specs.declared.items.CellItem.{CellItem}
+use Rattle.xls_arrays.specs.declared.items.FormulaItem.{FormulaItem}
+use Rattle.xls_arrays.specs.declared.items.RegionItem.{RegionItem}
+
+-- so many things from a place on are these
+pub record Stands {X : Type 0} (xs : List X) (first count : ℕ) (ys : List X) : Type 0 where
+  pub many : count ≡ length ys
+  pub these : take count (drop first xs) ≡ ys
+
+-- a span is this text
+abbrev pub HasText : List ℕ → Span → List ℕ → Type 0
+HasText texts span text = Stands texts span.offset span.length text
+
+abbrev pub IsNameOf : Arrays → NameItem → List ℕ × List ℕ → Type 0
+IsNameOf a item n = HasText a.texts item.name (encode_utf8_all n.0) × HasText a.texts item.formula (encode_utf8_all n.1)
+
+-- the item of a cell, whose text begins where it says
+abbrev pub IsCellOf : Arrays → CellItem → Entry → Type 0
+IsCellOf a item c =
+    (offset : ℕ) × (item ≡ cell_item offset c) × Stands a.texts offset (length (text_in c.1)) (text_in c.1)
+
+abbrev pub IsFormulaOf : Arrays → FormulaItem → FormulaEntry → Type 0
+IsFormulaOf a item f = (item ≡ formula_item item.text f) × HasText a.texts item.text (encode_utf8_all f.1)
+
+abbrev pub IsRegionOf : Arrays → RegionItem → Dimensions → Type 0
+IsRegionOf a item d = item ≡ region_item d
+
+-- so many items from a place on are of these, one for one
+abbrev pub AreOf : {I X : Type 0} → (I → X → Type 0) → List I → ℕ → ℕ → List X → Type 0
+AreOf Is items first count xs = (those : List _) × Stands items first count those × AllZip Is those xs
+
+-- the item of a sheet cites its name, and what is its own
+pub record IsSheetOf (a : Arrays) (item : SheetItem) (t : Told) : Type 0 where
+  pub name : HasText a.texts item.name (encode_utf8_all t.0.name)
+  pub kind : item.kind ≡ kind_number t.0.typ
+  pub visibility : item.visibility ≡ visibility_number t.0.visible
+  pub cells : AreOf (IsCellOf a) a.cells item.first_cell item.cells t.1.cells
+  pub formulas : AreOf (IsFormulaOf a) a.formulas item.first_formula item.formulas t.1.formulas
+  pub regions : AreOf (IsRegionOf a) a.regions item.first_region item.regions t.1.merges
+
+-- the arrays have an item for each name and for each sheet
+pub record AreTold (a : Arrays) (names : List (List ℕ × List ℕ)) (sheets : List Told) : Type 0 where
+  pub each_name : AllZip (IsNameOf a) a.names names
+  pub each_sheet : AllZip (IsSheetOf a) a.sheets sheets
+
+abbrev pub ArraysAreTold : Type 0
+ArraysAreTold = (names : List (List ℕ × List ℕ)) (sheets : List Told) → AreTold (arrays_of names sheets) names sheets
+
+-- ---- refusals
+
+-- the numbers of a fault are those of its fields: 8, 16 or 32 bits. Of a stream, no fault is out of memory, and none
+-- cites a name
+abbrev pub FitsError : XlsError → Type 0
+FitsError errors.Memory = ⊥
+FitsError (errors.WorksheetNotFound name) = ⊥
+FitsError (errors.Cfb (pages.CodePageNotFound page)) = page < 2 ^ 16
+FitsError (errors.Unrecognized typ val) = val < 2 ^ 8
+FitsError (errors.Etpg number) = number < 2 ^ 8
+FitsError (errors.InvalidFormat ifmt) = ifmt < 2 ^ 16
+FitsError other = Unit {0}
+
+abbrev pub FitsSector : SectorFault → Type 0
+FitsSector (sectors.SectorShift found) = found < 2 ^ 16
+FitsSector (sectors.MiniSectorShift found) = found < 2 ^ 16
+FitsSector (sectors.Loop table first) = first < 2 ^ 32
+FitsSector (sectors.Leaves table (Some after) number) = (after < 2 ^ 32) × (number < 2 ^ 32)
+FitsSector (sectors.Leaves table None number) = number < 2 ^ 32
+FitsSector (sectors.Short table first expected found) = first < 2 ^ 32
+FitsSector (sectors.Cut table sector expected found) = sector < 2 ^ 32
+FitsSector (sectors.FatCut sector expected found) = sector < 2 ^ 32
+FitsSector other = Unit {0}
+
+abbrev pub FitsDirectory : DirectoryFault → Type 0
+FitsDirectory entries.NoRoot = Unit {0}
+FitsDirectory (entries.Missing number) = number < 2 ^ 32
+FitsDirectory (entries.Twice number) = number < 2 ^ 32
+FitsDirectory (entries.Kind number kind) = (number < 2 ^ 32) × (kind < 2 ^ 8)
+FitsDirectory (entries.NameSize number size) = (number < 2 ^ 32) × (size < 2 ^ 16)
+
+abbrev pub FitsRefusal : Refusal → Type 0
+FitsRefusal (refusals.Stream error) = FitsError error
+FitsRefusal (refusals.Chain chain fault) = FitsSector fault
+FitsRefusal (refusals.Directory fault) = FitsDirectory fault
+FitsRefusal other = Unit {0}
+
+-- the numbers of a refusal tell it, and so its sentence
+abbrev pub RefusalsAreTold : Type 0
+RefusalsAreTold =
+    (r : Refusal) → FitsRefusal r → (refusal_of (fault_of r) ≡ Some r) × (sentence (fault_of r) ≡ refusal_text r)

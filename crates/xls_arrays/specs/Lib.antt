@@ -1,0 +1,17 @@
+pub mod Answers
+pub mod Arrays
+pub mod Codes
+pub mod Faults
+pub mod Filled
+pub mod Held
+pub mod Laws
+pub mod Laying
+pub mod Numbers
+pub mod Options
+pub mod Parts
+pub mod Refusals
+pub mod Shown
+pub mod Telling
+pub mod Texts
+pub mod Values
+pub mod Whole

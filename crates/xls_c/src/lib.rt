@@ -1,0 +1,120 @@
+//! The reader of workbooks for C: one export for each call of `xls_arrays`, with its clauses again. The file
+//! `include/gaflwened.h` tells each to a caller in C.
+#![tactic(auto)]
+
+ghost use Rattle.std.specs.Prelude.{◌≡◌};
+ghost use Rattle.xls_arrays.specs.Answers.{IsSerialText, Measures, PutsStream, PutsText, Reads};
+ghost use Rattle.xls_arrays.specs.Telling.{sentence};
+ghost use Rattle.xls_arrays.specs.Values.{is_set};
+
+use std::alloc::Global;
+use xls_arrays::{
+    CellItem, Fault, FormulaItem, NameItem, Options, RegionItem, SheetItem, Sizes, fault_text,
+    measure, read, serial, stream,
+};
+
+/// The version of the interface.
+const VERSION: u32 = 1;
+
+/// The version of the interface, 1. Takes no memory.
+#[unsafe(no_mangle)]
+pub extern "C" fn gaflwened_version() -> u32
+    ensures { result ≡ 1 }
+{
+    VERSION
+}
+
+/// Puts the workbook's stream of a file into `out`, and its length into `size`: the stream `Workbook`, or else
+/// `Book`, of a compound file, or the whole of a file that is such a stream. Where `out` is too short, it is as it
+/// was. Of a file without a workbook `size` is 0, and the fault is its first.
+#[unsafe(no_mangle)]
+pub extern "C" fn gaflwened_stream(
+    alloc: Global,
+    file: &[u8],
+    out: &mut [u8],
+    size: &mut u64,
+    fault: &mut Fault,
+) -> u32
+    ensures { PutsStream file.now out.old out.new size.new fault.new result }
+{
+    stream(alloc, file, out, size, fault)
+}
+
+/// Counts what a stream holds, or the sheets of it that the options ask for: how long the arrays of
+/// `gaflwened_read` must be. Where a call isn't done, it answers the code of its fault, and `sizes` is all 0.
+#[unsafe(no_mangle)]
+pub extern "C" fn gaflwened_measure(
+    alloc: Global,
+    stream: &[u8],
+    options: &Options,
+    sizes: &mut Sizes,
+    fault: &mut Fault,
+) -> u32
+    ensures { Measures options.now stream.now sizes.new fault.new result }
+{
+    measure(alloc, stream, options, sizes, fault)
+}
+
+/// Fills the arrays with what a stream holds, or with the sheets of it that the options ask for, and puts into
+/// `sizes` what `gaflwened_measure` says. The arrays must be as long as that; what is longer begins with it. Where
+/// one is too short, `sizes` says how long they must be; where a call isn't done for another cause, `sizes` is all
+/// 0. It answers the code of its fault then, and nothing is known of the arrays.
+#[unsafe(no_mangle)]
+pub extern "C" fn gaflwened_read(
+    alloc: Global,
+    stream: &[u8],
+    options: &Options,
+    sheets: &mut [SheetItem],
+    names: &mut [NameItem],
+    cells: &mut [CellItem],
+    formulas: &mut [FormulaItem],
+    regions: &mut [RegionItem],
+    texts: &mut [u8],
+    sizes: &mut Sizes,
+    fault: &mut Fault,
+) -> u32
+    ensures { Reads options.now stream.now
+        (record {
+          sheets = sheets.new;
+          names = names.new;
+          cells = cells.new;
+          formulas = formulas.new;
+          regions = regions.new;
+          texts = texts.new;
+        }) sizes.new fault.new result }
+{
+    read(
+        alloc, stream, options, sheets, names, cells, formulas, regions, texts, sizes, fault,
+    )
+}
+
+/// Puts the sentence of a fault into `out`, and its length into `size`. Answers 0, 1 where memory ran out, `size`
+/// being 0, or 2 where `out` is too short and is as it was.
+#[unsafe(no_mangle)]
+pub extern "C" fn gaflwened_fault_text(
+    alloc: Global,
+    fault: &Fault,
+    out: &mut [u8],
+    size: &mut u64,
+) -> u32
+    ensures { PutsText (λ text. text ≡ sentence fault.now) out.old out.new size.new result }
+{
+    fault_text(alloc, fault, out, size)
+}
+
+/// Puts the text of a number of days, a double by its bits, into `out`, and its length into `size`: as a date and
+/// time, or as a duration where `is_duration` isn't 0. Answers 0, 1 where memory ran out, `size` being 0, or 2
+/// where `out` is too short and is as it was.
+#[unsafe(no_mangle)]
+pub extern "C" fn gaflwened_serial(
+    alloc: Global,
+    bits: u64,
+    is_1904: u32,
+    is_duration: u32,
+    out: &mut [u8],
+    size: &mut u64,
+) -> u32
+    ensures { PutsText (IsSerialText bits (is_set is_1904) (is_set is_duration)) out.old out.new size.new result }
+{
+    serial(alloc, bits, is_1904, is_duration, out, size)
+}
