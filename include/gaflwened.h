@@ -7,9 +7,8 @@
  *   2. gaflwened_measure  how many sheets, names, cells, formulas, regions and bytes of text the stream holds
  *   3. gaflwened_read     fills arrays that are as long as that
  *
- * Link libxls_c.a and a file that defines the C library's malloc, realloc and free for it (c/heap.c of the crate libc of the
- * Rattle kit). A call takes memory for its own work and gives it back before it returns; where none is left it answers
- * GAFLWENED_OUT_OF_MEMORY.
+ * Link libxls_c.a and, by which it asks for memory, liblibc_c.a of the folder c of the Rattle kit. A call takes memory for its
+ * own work and gives it back before it returns; where none is left it answers GAFLWENED_OUT_OF_MEMORY.
  *
  * What a caller owes: a pointer is never NULL and is aligned for its type, also where its length is 0; it points to as many
  * items as its length says; what a call writes to overlaps nothing else that the same call gets. What arrays for output hold before
