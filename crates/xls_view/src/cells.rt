@@ -38,7 +38,7 @@ fn places_of(
             Err(_) => return Ok(places),
         };
         let at = part.len() - start.len();
-        push_cells(alloc, &mut places, &record, last, at, force)?;
+        push_cells(&mut places, &record, last, at, force)?;
         last = formula_position(&record).unwrap_or(last);
     }
     Ok(places)
@@ -77,7 +77,6 @@ fn order_of(
 /// of them.
 #[derive(Drop)]
 pub struct SheetCells<'v> {
-    alloc: Global,
     force: InForce<'v>,
     part: &'v [u8],
     /// Where the cells stand, in order, where the records don't ascend.
@@ -116,7 +115,6 @@ impl<'v> SheetCells<'v> {
     {
         let sorted = order_of(alloc, part, &force, found)?;
         Ok(SheetCells {
-            alloc,
             force,
             part,
             sorted,
@@ -138,15 +136,13 @@ impl<'v> SheetCells<'v> {
     {
         match &self.sorted {
             None => Cells::new(
-                CellWalk::new(self.alloc, &self.force, self.part),
-                self.alloc,
+                CellWalk::new(&self.force, self.part),
                 &self.force,
                 self.part,
                 &[],
             ),
             Some(places) => Cells::new(
-                CellWalk::none(self.alloc, &self.force),
-                self.alloc,
+                CellWalk::none(&self.force),
                 &self.force,
                 self.part,
                 places,
@@ -160,7 +156,6 @@ impl<'v> SheetCells<'v> {
 pub struct Cells<'c> {
     /// The cells of the records that are left, where these ascend.
     walk: CellWalk<'c>,
-    alloc: Global,
     force: &'c InForce<'c>,
     part: &'c [u8],
     /// Else the places that are left.
@@ -191,13 +186,13 @@ impl<'c> Iterator for Cells<'c> {
 
     ghost remaining = { λ cells. at_most (length cells) };
 
-    #[inline]
+    #[inline(always)]
     fn next(&mut self) -> Option<SheetCell<'c>> {
         if let Some(cell) = self.walk.next() {
             return Some(cell);
         }
         let (position, at) = next_place(&mut self.places)?;
-        Some(placed_cell(self.alloc, self.part, position, at, self.force))
+        Some(placed_cell(self.part, position, at, self.force))
     }
 }
 
@@ -209,7 +204,6 @@ impl<'c> Cells<'c> {
     /// These cells, and those at some places of a part.
     fn new(
         walk: CellWalk<'c>,
-        alloc: Global,
         force: &'c InForce<'c>,
         part: &'c [u8],
         places: &'c [Cell<usize>],
@@ -219,7 +213,6 @@ impl<'c> Cells<'c> {
     {
         Cells {
             walk,
-            alloc,
             force,
             part,
             places,
@@ -232,7 +225,6 @@ impl<'c> Cells<'c> {
     {
         Cells {
             walk: self.walk.again(),
-            alloc: self.alloc,
             force: self.force,
             part: self.part,
             places: self.places,

@@ -17,7 +17,7 @@ use crate::places::{next_place, placed_formula};
 use crate::value::FormulaCell;
 use std::alloc::{AllocError, Global};
 use std::marker::Model;
-use xls_biff::{PlacedRecords, Record, SheetRecords, parse_formula_record};
+use xls_biff::{PlacedRecords, Record, SheetRecords, read_formula};
 use xls_cells::sorted_cells;
 use xls_data::Cell;
 use xls_model::types::FORMULA;
@@ -56,7 +56,7 @@ fn places_of(alloc: Global, part: &[u8]) -> Result<Vec<Cell<usize>>, AllocError>
             Ok(placed) => placed,
             Err(_) => return Ok(places),
         };
-        push_formula(alloc, &mut places, &record, part.len() - start.len())?;
+        push_formula(&mut places, &record, part.len() - start.len())?;
     }
     Ok(places)
 }
@@ -127,13 +127,12 @@ impl<'v> SheetFormulas<'v> {
     {
         match &self.sorted {
             None => FormulaCells::new(
-                FormulaWalk::new(self.alloc, self.part),
-                self.alloc,
+                FormulaWalk::new(self.part),
                 self.part,
                 &[],
             ),
             Some(places) => {
-                FormulaCells::new(FormulaWalk::none(self.alloc), self.alloc, self.part, places)
+                FormulaCells::new(FormulaWalk::none(), self.part, places)
             }
         }
     }
@@ -155,7 +154,6 @@ impl<'v> SheetFormulas<'v> {
 /// The formulas of a part that are left, in the order of its records. Contracts see the list of them.
 #[derive(Drop)]
 pub(crate) struct FormulaWalk<'c> {
-    alloc: Global,
     records: SheetRecords<'c>,
 }
 
@@ -173,13 +171,13 @@ impl<'c> Model for FormulaWalk<'c> {
 }
 
 /// A Formula record, and `None` for a record of another type or with a fault.
-pub(crate) fn formula_of<'c>(alloc: Global, r: &Record<'c>) -> Option<FormulaCell<'c>>
+pub(crate) fn formula_of<'c>(r: &Record<'c>) -> Option<FormulaCell<'c>>
     ensures { option_map formula_seen result ≡ formula_of (kept_group (group_of r.now)) }
 {
     if r.typ != FORMULA {
         return None;
     }
-    match parse_formula_record(alloc, r.body, &[], false) {
+    match read_formula(r.body, &[], false) {
         Ok(formula) => {
             let (row, column) = formula.position;
             Some(FormulaCell {
@@ -194,7 +192,6 @@ pub(crate) fn formula_of<'c>(alloc: Global, r: &Record<'c>) -> Option<FormulaCel
 
 /// Puts the place of a Formula record, which begins at this offset of its part.
 fn push_formula(
-    alloc: Global,
     places: &mut Vec<Cell<usize>>,
     r: &Record<'_>,
     at: usize,
@@ -202,14 +199,14 @@ fn push_formula(
     ensures { OnOk result (places.new.items ≡ places.old.items
         ++ map (λ (f : Formula). (f.0, at)) (somes (formula_of (kept_group (group_of r.now)) ∷ []))) }
 {
-    if let Some(formula) = formula_of(alloc, r) {
+    if let Some(formula) = formula_of(r) {
         places.push(Cell::new((formula.row, formula.column), at))?;
     }
     Ok(())
 }
 
 /// The next formula of the records that are left.
-fn next_formula<'c>(alloc: Global, records: &mut SheetRecords<'c>) -> Option<FormulaCell<'c>>
+fn next_formula<'c>(records: &mut SheetRecords<'c>) -> Option<FormulaCell<'c>>
     requires { IsBytes records.old.0 }
     ensures bytes { IsBytes records.new.0 }
     ensures passes { PassesFormula records.old result records.new }
@@ -219,7 +216,7 @@ fn next_formula<'c>(alloc: Global, records: &mut SheetRecords<'c>) -> Option<For
             Ok(record) => record,
             Err(_) => return None,
         };
-        if let Some(formula) = formula_of(alloc, &record) {
+        if let Some(formula) = formula_of(&record) {
             return Some(formula);
         }
     }
@@ -238,7 +235,7 @@ impl<'c> Iterator for FormulaWalk<'c> {
     ghost remaining = { λ formulas. at_most (length formulas) };
 
     fn next(&mut self) -> Option<FormulaCell<'c>> {
-        next_formula(self.alloc, &mut self.records)
+        next_formula(&mut self.records)
     }
 }
 
@@ -248,22 +245,20 @@ impl<'c> FormulaWalk<'c> {
     ghost use Rattle.xls_view.specs.Formulas.{formulas_of};
 
     /// The formulas of a part.
-    fn new(alloc: Global, part: &'c [u8]) -> FormulaWalk<'c>
+    fn new(part: &'c [u8]) -> FormulaWalk<'c>
         ensures { result ≡ formulas_of (kept_in part.now 0) }
     {
         FormulaWalk {
-            alloc,
             records: SheetRecords::new(part),
         }
     }
 
     /// No formulas.
     #[tactic(auto, using(crate::proofs::WalkLemmas::kept_nothing))]
-    fn none(alloc: Global) -> FormulaWalk<'c>
+    fn none() -> FormulaWalk<'c>
         ensures { result ≡ [] }
     {
         FormulaWalk {
-            alloc,
             records: SheetRecords::new(&[]),
         }
     }
@@ -273,7 +268,6 @@ impl<'c> FormulaWalk<'c> {
         ensures { result ≡ self.now }
     {
         FormulaWalk {
-            alloc: self.alloc,
             records: self.records.again(),
         }
     }
@@ -284,7 +278,6 @@ impl<'c> FormulaWalk<'c> {
 pub struct FormulaCells<'c> {
     /// The formulas of the records that are left, where these ascend.
     walk: FormulaWalk<'c>,
-    alloc: Global,
     part: &'c [u8],
     /// Else the places that are left.
     places: &'c [Cell<usize>],
@@ -319,7 +312,7 @@ impl<'c> Iterator for FormulaCells<'c> {
             return Some(formula);
         }
         let (position, at) = next_place(&mut self.places)?;
-        Some(placed_formula(self.alloc, self.part, position, at))
+        Some(placed_formula(self.part, position, at))
     }
 }
 
@@ -331,7 +324,6 @@ impl<'c> FormulaCells<'c> {
     /// These formulas, and those at some places of a part.
     fn new(
         walk: FormulaWalk<'c>,
-        alloc: Global,
         part: &'c [u8],
         places: &'c [Cell<usize>],
     ) -> FormulaCells<'c>
@@ -340,7 +332,6 @@ impl<'c> FormulaCells<'c> {
     {
         FormulaCells {
             walk,
-            alloc,
             part,
             places,
         }
@@ -352,7 +343,6 @@ impl<'c> FormulaCells<'c> {
     {
         FormulaCells {
             walk: self.walk.again(),
-            alloc: self.alloc,
             part: self.part,
             places: self.places,
         }

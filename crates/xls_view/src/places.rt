@@ -18,11 +18,11 @@ ghost use Rattle.xls_view.specs.Values.{cell_entry, value_content};
 
 use crate::formulas::formula_of;
 use crate::record::cell_of;
-use crate::value::{CellValue, FormulaCell, SheetCell, position_of, read_cell};
-use std::alloc::{AllocError, Global};
-use xls_biff::{Record, RecordIter, cell_of_mul_rk, check_sheet_record, count_mul_rk};
+use crate::value::{CellValue, FormulaCell, SheetCell, cell_at, position_of};
+use std::alloc::AllocError;
+use xls_biff::{Record, RecordIter, check_sheet_record, count_mul_rk, read_mul_rk};
 use xls_bytes::read_u16;
-use xls_data::{Cell, DataRef};
+use xls_data::Cell;
 use xls_model::types::MUL_RK;
 use xls_open::InForce;
 
@@ -83,13 +83,12 @@ fn value_in_run<'c>(body: &'c [u8], column: u32, force: &InForce<'c>) -> Option<
     if nth >= count {
         return None;
     }
-    let cell = cell_of_mul_rk(body, nth, force.classes, force.is_1904);
-    Some(read_cell(cell).value)
+    let (_, value) = read_mul_rk(body, nth, force.classes, force.is_1904);
+    Some(CellValue::Number(value))
 }
 
 /// The value of the cell of a record without a fault at a position, if the record has it.
 fn value_in<'c>(
-    alloc: Global,
     r: &Record<'c>,
     position: (u32, u32),
     force: &InForce<'c>,
@@ -100,7 +99,7 @@ fn value_in<'c>(
     if r.typ == MUL_RK {
         return value_in_run(r.body, position.1, force);
     }
-    match cell_of(alloc, r, position, force) {
+    match cell_of(r, position, force) {
         Some(cell) => Some(cell.value),
         None => None,
     }
@@ -108,7 +107,6 @@ fn value_in<'c>(
 
 /// The value of the cell at a position whose record begins at an offset of a part, if the record has it.
 fn placed_value<'c>(
-    alloc: Global,
     part: &'c [u8],
     position: (u32, u32),
     at: usize,
@@ -121,14 +119,13 @@ fn placed_value<'c>(
         None => return None,
     };
     match check_sheet_record(&record, force.version) {
-        Ok(()) => value_in(alloc, &record, position, force),
+        Ok(()) => value_in(&record, position, force),
         Err(_) => None,
     }
 }
 
 /// The cell at a position whose record begins at an offset of a part; blank where the record has none.
 pub(crate) fn placed_cell<'c>(
-    alloc: Global,
     part: &'c [u8],
     position: (u32, u32),
     at: usize,
@@ -136,12 +133,11 @@ pub(crate) fn placed_cell<'c>(
 ) -> SheetCell<'c>
     ensures { cell_entry result ≡ cell_placed force.now part.now (position, at) }
 {
-    let (row, column) = position;
-    let value = match placed_value(alloc, part, position, at, force) {
+    let value = match placed_value(part, position, at, force) {
         Some(value) => value,
-        None => CellValue::Value(DataRef::Empty),
+        None => CellValue::Empty,
     };
-    SheetCell { row, column, value }
+    cell_at(position, value)
 }
 
 /// The next of some places.
@@ -159,7 +155,6 @@ pub(crate) fn next_place(places: &mut &[Cell<usize>]) -> Option<((u32, u32), usi
 /// The formula at a position whose record begins at an offset of a part; without tokens where the record is
 /// none.
 pub(crate) fn placed_formula<'c>(
-    alloc: Global,
     part: &'c [u8],
     position: (u32, u32),
     at: usize,
@@ -168,7 +163,7 @@ pub(crate) fn placed_formula<'c>(
 {
     let (row, column) = position;
     let rgce = match record_at(part, at) {
-        Some(record) => match formula_of(alloc, &record) {
+        Some(record) => match formula_of(&record) {
             Some(formula) => formula.rgce,
             None => &[],
         },
@@ -221,7 +216,6 @@ fn push_run(
 /// Puts the places of the cells of a record without a fault, which begins at this offset of its part, where
 /// the last Formula before it stands here.
 pub(crate) fn push_cells(
-    alloc: Global,
     places: &mut Vec<Cell<usize>>,
     r: &Record<'_>,
     last: (u32, u32),
@@ -236,7 +230,7 @@ pub(crate) fn push_cells(
     if r.typ == MUL_RK {
         return push_run(places, r.body, at, force);
     }
-    match cell_of(alloc, r, last, force) {
+    match cell_of(r, last, force) {
         Some(cell) => push_place(places, position_of(cell), at),
         None => Ok(()),
     }
