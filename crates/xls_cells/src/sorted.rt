@@ -1,9 +1,9 @@
 //! Cells in order of their positions, from cells in order of a stream.
 
-ghost use Rattle.std.specs.Prelude.{◌≡◌, ◌↔◌, ℕ, IfOk, OnOk, IsTrue, map};
-ghost use Rattle.xls_cells.specs.Positions.{Position, Precedes, IsAscending, last_at, IsNumbered, IsInOrder, cell_position, given_entry, HasSame, Puts, EndsAt};
+ghost use Rattle.std.specs.Prelude.{◌≡◌, ◌↔◌, ◌≤◌, ◌<◌, ◌+◌, IfOk, IsTrue, map, length, get_or, drop};
+ghost use Rattle.xls_cells.specs.Positions.{Position, Precedes, IsAscending, last_at, IsNumbered, IsInOrder, cell_position, given_entry, HasSame, Puts, EndsAt, kept_cells};
 
-use std::alloc::{AllocError, AllocFailed, Global};
+use std::alloc::{AllocError, Global};
 use xls_data::{Cell, CellType};
 
 /// A cell, and its number in the order in which the cells were given.
@@ -45,8 +45,8 @@ fn numbered<T: CellType>(alloc: Global, cells: Vec<Cell<T>>) -> Result<Vec<Given
     Ok(given)
 }
 
-/// Sorts cells by row, column and number, where their numbers ascend at first. Takes no memory.
-pub fn sort_given<T: CellType>(given: &mut Vec<Given<T>>)
+/// Sorts cells by row, column and number, where their numbers ascend at first.
+fn sort_given<T: CellType>(given: &mut Vec<Given<T>>)
     requires { IsNumbered given.old.items }
     ensures order { IsInOrder given.new.items }
     ensures same { HasSame (map given_entry given.old.items) given.new.items }
@@ -57,40 +57,59 @@ pub fn sort_given<T: CellType>(given: &mut Vec<Given<T>>)
     });
 }
 
-/// Whether the last cell has this position.
-fn ends_at<T: CellType>(cells: &[Cell<T>], position: (u32, u32)) -> bool
-    ensures { IsTrue result ↔ EndsAt cells.now position.0 position.1 }
+/// Whether the last of the first cells has the position of a later one.
+fn ends_at<T: CellType>(given: &[Given<T>], kept: usize, i: usize) -> bool
+    requires within { kept ≤ i }
+    requires room { i < length given.now }
+    ensures some { IsTrue result → 0 < kept }
+    ensures ends { (c : Given T) → IsTrue result ↔ EndsAt (kept_cells kept given.now) (get_or given.now i c).cell.0.0 (get_or given.now i c).cell.0.1 }
 {
-    match cells.last() {
-        Some(last) => last.get_position() == position,
-        None => false,
-    }
+    kept > 0 && given[kept - 1].cell.get_position() == given[i].cell.get_position()
 }
 
-/// Puts a cell at the end, in place of the last one if that has its position.
-fn put<T: CellType>(cells: &mut Vec<Cell<T>>, cell: Cell<T>) -> Result<(), AllocFailed<Cell<T>>>
-    ensures { OnOk result (Puts cells.old.items cell cells.new.items) }
+/// Puts a cell after the first ones, in place of the last of them if that has its position, and answers how
+/// many they are then.
+fn put<T: CellType>(given: &mut Vec<Given<T>>, kept: usize, i: usize) -> usize
+    requires within { kept ≤ i }
+    requires room { i < length given.old.items }
+    ensures puts { (c : Given T) → Puts (kept_cells kept given.old.items) (given_entry (get_or given.old.items i c)) (kept_cells result given.new.items) }
+    ensures rest { drop (i + 1) given.new.items ≡ drop (i + 1) given.old.items }
+    ensures len { length given.new.items ≡ length given.old.items }
+    ensures few { result ≤ i + 1 }
 {
-    if ends_at(cells, cell.get_position()) {
-        let end = cells.len() - 1;
-        cells[end] = cell;
-        return Ok(());
+    if ends_at(given, kept, i) {
+        given.swap(kept - 1, i);
+        return kept;
     }
-    cells.push(cell)
+    given.swap(kept, i);
+    kept + 1
 }
 
-/// Of the cells of one position the last stays.
-fn last_of_each<T: CellType>(
+/// Sorts cells by row and column, where their numbers ascend at first; of those of one position the one
+/// with the greatest number stays. Takes no memory.
+pub fn settle<T: CellType>(given: &mut Vec<Given<T>>)
+    requires { IsNumbered given.old.items }
+    ensures ascending { IsAscending (map cell_position (map given_entry given.new.items)) }
+    ensures last { (p : Position) → last_at (map given_entry given.new.items) p ≡ last_at (map given_entry given.old.items) p }
+{
+    sort_given(given);
+    let mut kept = 0;
+    for i in 0..given.len() {
+        kept = put(given, kept, i);
+    }
+    given.truncate(kept);
+}
+
+/// The cells without their numbers.
+fn without_numbers<T: CellType>(
     alloc: Global,
     given: Vec<Given<T>>,
 ) -> Result<Vec<Cell<T>>, AllocError>
-    requires { IsInOrder given.items }
-    ensures { IfOk result (λ v. IsAscending (map cell_position v.items)
-        × HasSame v.items given.items) }
+    ensures { IfOk result (λ v. v.items ≡ map given_entry given.items) }
 {
     let mut cells = Vec::new(alloc);
     for each in given {
-        put(&mut cells, each.cell)?;
+        cells.push(each.cell)?;
     }
     Ok(cells)
 }
@@ -108,6 +127,6 @@ pub fn sorted_cells<T: CellType>(
         return Ok(cells);
     }
     let mut given = numbered(alloc, cells)?;
-    sort_given(&mut given);
-    last_of_each(alloc, given)
+    settle(&mut given);
+    without_numbers(alloc, given)
 }
