@@ -6,7 +6,7 @@ use Rattle.xls_data.specs.declared.formats.CellFormat.TheVariants.{Other, DateTi
 use Rattle.xls_bytes.specs.Doubles.{size_of_parts, quotient_of}
 use Rattle.xls_data.specs.Builtin.{class_of_code, class_of_id}
 use Rattle.xls_data.specs.Classes.{class_of}
-use Rattle.xls_data.specs.Content.{int, float, text, truth, date, iso_date, iso_duration, failure, nothing}
+use Rattle.xls_data.specs.Content.{int, float, truth, date, iso_date, iso_duration, failure, nothing}
 use Rattle.xls_data.specs.Errors.{error_text}
 use Rattle.xls_data.specs.Kinds.{IsWholeOf}
 use Rattle.xls_data.specs.declared.errors.CellErrorType.TheVariants as failures
@@ -46,23 +46,28 @@ known_cuts = refl
 pub known_infinity : number_trunc_checked (Bits 0x7ff0_0000_0000_0000) ≡ None
 known_infinity = refl
 
--- formats of calamine's own tests
-pub known_dates : map class_of (codes "DD/MM/YY" ∷ codes "ha/p\\\\m" ∷ codes "*-yyyy-mm-dd" ∷ codes "H:MM:SS;@" ∷ [])
-    ≡ DateTime ∷ DateTime ∷ DateTime ∷ DateTime ∷ []
+-- formats of calamine's own tests: dates, durations, others
+pub known_dates : map class_of (codes "DD/MM/YY" ∷ codes "m\"M\"d\"D\";@" ∷ codes "[$-404]e\"\\xfc\"m\"\\xfc\"d\"\\xfc\"" ∷ codes "ha/p\\\\m" ∷ codes "*-yyyy-mm-dd" ∷ codes "H:MM:SS;@" ∷ [])
+    ≡ replicate 6 DateTime
 known_dates = refl
 
--- one letter alone, and both marks of the halves of a day
-pub known_letters : map class_of (codes "s" ∷ codes "ss.0" ∷ codes "y" ∷ codes "m" ∷ codes "h" ∷ codes "d" ∷ codes "AM/PM" ∷ codes "a/p" ∷ codes "a" ∷ [])
-    ≡ DateTime ∷ DateTime ∷ DateTime ∷ DateTime ∷ DateTime ∷ DateTime ∷ DateTime ∷ DateTime ∷ Other ∷ []
-known_letters = refl
-
-pub known_spans : map class_of (codes "[h]:mm:ss" ∷ codes "[ss]" ∷ codes "[mm]" ∷ codes "[>=100][Magenta][s].00" ∷ [])
-    ≡ TimeDelta ∷ TimeDelta ∷ TimeDelta ∷ TimeDelta ∷ []
+pub known_spans : map class_of (codes "[h]" ∷ codes "[ss]" ∷ codes "[s].000" ∷ codes "[m]" ∷ codes "[mm]" ∷ codes "[Blue]\\+[h]:mm;[Red]\\-[h]:mm;[Green][h]:mm" ∷ codes "[>=100][Magenta][s].00" ∷ codes "[h]:mm;[=0]\\-" ∷ codes "[h]:mm:ss" ∷ [])
+    ≡ replicate 9 TimeDelta
 known_spans = refl
 
-pub known_others : map class_of (codes "#,##0*y" ∷ codes "\\Y000000" ∷ codes "0_ ;[Red]\\-0" ∷ codes "[>=100][Magenta]General" ∷ [])
-    ≡ Other ∷ Other ∷ Other ∷ Other ∷ []
+pub known_others : map class_of (codes "#,##0\\ [$\\u20bd-46D]" ∷ codes "\"Y: \"0.00\"m\";\"Y: \"-0.00\"m\";\"Y: <num>m\";@" ∷ codes "#,##0\\ [$''u20bd-46D]" ∷ codes "\"$\"#,##0_);[Red](\"$\"#,##0)" ∷ codes "0_ ;[Red]\\-0" ∷ codes "#,##0.0####\" YMD\"" ∷ codes "[>=100][Magenta].00" ∷ codes "[>=100][Magenta]General" ∷ codes "#,##0.00\\ _M\"H\"_);[Red]#,##0.00\\ _M\"S\"_)" ∷ codes "0\"x\"*d" ∷ codes "*-#,##0" ∷ codes "#,##0*y" ∷ codes "\\Y000000" ∷ [])
+    ≡ replicate 13 Other
 known_others = refl
+
+-- one letter alone, both marks of the halves of a day, and what is no letter of a date
+pub known_letters : map class_of (codes "s" ∷ codes "ss.0" ∷ codes "y" ∷ codes "m" ∷ codes "h" ∷ codes "d" ∷ codes "AM/PM" ∷ codes "a/p" ∷ codes "\"a\"m" ∷ codes "ahm" ∷ codes "a" ∷ codes "ad" ∷ codes "p" ∷ codes "[d]" ∷ codes "\"d\\\"d\"" ∷ [])
+    ≡ DateTime ∷ DateTime ∷ DateTime ∷ DateTime ∷ DateTime ∷ DateTime ∷ DateTime ∷ DateTime ∷ DateTime ∷ DateTime ∷ Other ∷ Other ∷ Other ∷ Other ∷ Other ∷ []
+known_letters = refl
+
+-- brackets in brackets, and what else stands in them: by the rules that the definitions state
+pub known_brackets : map class_of (codes "[[h]]" ∷ codes "[h[]]" ∷ codes "][h]" ∷ codes "[Hh\"x\"]" ∷ codes "[h\\hh]" ∷ codes "a\\[h[]" ∷ codes "[hm]" ∷ codes "[h;]" ∷ codes "[xh]" ∷ codes "[[h]x]" ∷ codes "\\[[]" ∷ codes "[h\\xh]" ∷ [])
+    ≡ TimeDelta ∷ TimeDelta ∷ TimeDelta ∷ TimeDelta ∷ TimeDelta ∷ TimeDelta ∷ Other ∷ Other ∷ Other ∷ Other ∷ Other ∷ Other ∷ []
+known_brackets = refl
 
 -- the built-in identifiers: dates from 0E to 16, from 1B to 24, 2D, 2F and from 32 to 3A; the duration 2E
 pub known_codes : map class_of_code (0x00 ∷ 0x01 ∷ 0x02 ∷ 0x03 ∷ 0x04 ∷ 0x05 ∷ 0x06 ∷ 0x07 ∷ 0x08 ∷ 0x09 ∷ 0x0A ∷ 0x0B ∷ 0x0C ∷ 0x0D ∷ 0x0E ∷ 0x0F ∷ 0x10 ∷ 0x11 ∷ 0x12 ∷ 0x13 ∷ 0x14 ∷ 0x15 ∷ 0x16 ∷ 0x17 ∷ 0x18 ∷ 0x19 ∷ 0x1A ∷ 0x1B ∷ 0x1C ∷ 0x1D ∷ 0x1E ∷ 0x1F ∷ [])

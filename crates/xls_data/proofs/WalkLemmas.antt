@@ -1,29 +1,17 @@
--- The walk over characters.
-use Rattle.std.proofs.Common.{◌≡◌, ℕ, ◌+◌, ◌≤◌, List, [], ◌∷◌, ◌++◌, length, Bool, true, false, IsUtf8, ap, ◌∙◌, arith, length-append}
-use Rattle.std.specs.Char.{encode_utf8}
+-- The walk over a format's characters.
+use Rattle.std.proofs.Common.{◌≡◌, ℕ, ◌+◌, ◌≤◌, List, [], ◌∷◌, ◌++◌, map, length, IsUtf8, ap, ◌∙◌, arith, length-append}
+use Rattle.std.specs.Char.{encode_utf8, to_ascii_lowercase}
 use Rattle.std.specs.Str.{chars}
 use Rattle.std.proofs.lemmas.Str.{chars_past_char, length-encode, len_utf8_bounds}
+use Rattle.xls_data.specs.Walk.{class_left}
+use Rattle.xls_data.specs.declared.classes.Walk.{Walk}
 use Rattle.xls_data.specs.declared.formats.CellFormat.{CellFormat}
 use Rattle.xls_data.specs.declared.formats.CellFormat.TheVariants.{Other}
-use Rattle.xls_data.specs.declared.classes.Walk.{Walk}
-use Rattle.xls_data.specs.declared.classes.Step.TheVariants.{Next, Done}
-use Rattle.xls_data.specs.Classes.{plain_step, passes, escaped_after, quoted_after, class_from}
 
-module _ (bs rest : List ℕ) (c : ℕ) (text : IsUtf8 bs) (front : bs ≡ encode_utf8 c ++ rest) (escaped quoted : Bool) (w : Walk) (total : CellFormat) (before : class_from escaped quoted w (chars bs) ≡ total) where
-  pub class_passes : passes escaped quoted c ≡ true → class_from (escaped_after escaped c) (quoted_after escaped quoted c) (record w { before = c }) (chars rest) ≡ total
-  class_passes passed =
-      let e : class_from escaped quoted w (c ∷ chars rest) ≡ total = rw (chars_past_char bs rest c text front) at before in
-      rw passed at e
-
-  pub class_next : (v : Walk) → passes escaped quoted c ≡ false → plain_step w c ≡ Next v → class_from escaped quoted v (chars rest) ≡ total
-  class_next v other step =
-      let e : class_from escaped quoted w (c ∷ chars rest) ≡ total = rw (chars_past_char bs rest c text front) at before in
-      rw (other, step) at e
-
-  pub class_done : (k : CellFormat) → passes escaped quoted c ≡ false → plain_step w c ≡ Done k → k ≡ total
-  class_done k other step =
-      let e : class_from escaped quoted w (c ∷ chars rest) ≡ total = rw (chars_past_char bs rest c text front) at before in
-      rw (other, step) at e
+-- the class of the characters left is that of the first and the others
+pub class_left-first : (bs rest : List ℕ) (c : ℕ) → IsUtf8 bs → bs ≡ encode_utf8 c ++ rest → (w : Walk)
+    → class_left w (map to_ascii_lowercase (chars bs)) ≡ class_left w (to_ascii_lowercase c ∷ map to_ascii_lowercase (chars rest))
+class_left-first bs rest c text front w = ap (λ cs. class_left w (map to_ascii_lowercase cs)) (chars_past_char bs rest c text front)
 
 pub shorter : (bs rest : List ℕ) (c : ℕ) → bs ≡ encode_utf8 c ++ rest → length rest + 1 ≤ length bs
 shorter bs rest c e =
@@ -31,7 +19,8 @@ shorter bs rest c e =
     let some = len_utf8_bounds c in
     omega (arith, length-encode c)
 
-pub class_end : (bs : List ℕ) → length bs ≡ 0 → (escaped quoted : Bool) (w : Walk) (total : CellFormat) → class_from escaped quoted w (chars bs) ≡ total → Other ≡ total
+pub class_left-end : (bs : List ℕ) → length bs ≡ 0 → (w : Walk) (total : CellFormat)
+    → class_left w (map to_ascii_lowercase (chars bs)) ≡ total → Other ≡ total
 unfolding chars
-class_end [] none escaped quoted w total before = before
-class_end (b ∷ bs) none escaped quoted w total before = cc
+class_left-end [] none w total before = before
+class_left-end (b ∷ bs) none w total before = cc

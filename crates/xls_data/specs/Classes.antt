@@ -1,94 +1,74 @@
--- The class of a number format of one's own: a walk over its characters, the first rule that fits.
--- These are calamine's rules; [MS-XLS] gives the format's text alone (Format 2.4.126).
-use Rattle.std.specs.Prelude.{ℕ, ◌+◌, ◌-◌, List, [], ◌∷◌, Bool, true, false, not, ◌==◌, ◌&&◌, ◌||◌, if◌then◌else◌}
+-- The class of a number format of one's own, in two steps: which of its characters are visible, and
+-- which of these decides. Upper and lower case are one. These are calamine's rules; [MS-XLS] gives
+-- the format's text alone (Format 2.4.126).
+use Rattle.std.specs.Prelude.{ℕ, ◌+◌, ◌-◌, List, [], ◌∷◌, map, codes, Bool, true, false, not, ◌==◌, ◌&&◌, ◌||◌, if◌then◌else◌}
 use Rattle.std.specs.Char.{to_ascii_lowercase}
 use Rattle.xls_data.specs.declared.formats.CellFormat.{CellFormat}
 use Rattle.xls_data.specs.declared.formats.CellFormat.TheVariants.{Other, DateTime, TimeDelta}
-use Rattle.xls_data.specs.declared.classes.Walk.{Walk}
-use Rattle.xls_data.specs.declared.classes.Step.{Step}
-use Rattle.xls_data.specs.declared.classes.Step.TheVariants.{Next, Done}
 
--- `_`, `\` or `*`: the next character is passed over
-abbrev pub escapes : ℕ → Bool
-escapes c = (c == 95) || (c == 92) || (c == 42)
+infix 40 ◌∈◌
+-- a character is one of these
+abbrev pub ◌∈◌ : ℕ → List ℕ → Bool
+c ∈ [] = false
+c ∈ (x ∷ xs) = (c == x) || c ∈ xs
 
--- c is the lower-case letter l in either case
-abbrev pub is_letter : ℕ → ℕ → Bool
-is_letter l c = to_ascii_lowercase c == l
+-- ---- which characters are visible
 
--- d, m, h, y or s in either case
-abbrev pub is_date_letter : ℕ → Bool
-is_date_letter c =
-    is_letter 100 c || is_letter 109 c || is_letter 104 c || is_letter 121 c || is_letter 115 c
+-- The plain characters up to the first plain `;`, each with the one before it in the text. Plain are
+-- those that are neither quoted nor escaped, and that neither quote nor escape: `_`, `\` and `*`
+-- escape the next, in quotes too.
+abbrev pub plain_from : Bool → Bool → ℕ → List ℕ → List (ℕ × ℕ)
+plain_from escaped quoted before [] = []
+plain_from escaped quoted before (c ∷ cs) =
+    if escaped then plain_from false quoted c cs
+    else if c ∈ codes "_\\*" then plain_from true quoted c cs
+    else if c ∈ codes "\"" then plain_from false (not quoted) c cs
+    else if quoted then plain_from false true c cs
+    else if c ∈ codes ";" then []
+    else (before, c) ∷ plain_from false false c cs
 
--- p or m in either case, or `/`
-abbrev pub ends_ap : ℕ → Bool
-ends_ap c = is_letter 112 c || is_letter 109 c || (c == 47)
+-- Whether a duration has just been read: `h`, `m` or `s` right after a `[`, or after a duration the
+-- character before once more. Brackets and characters that are not plain leave this as it is.
+abbrev pub duration_after : Bool → ℕ → ℕ → Bool
+duration_after duration before c =
+    (before ∈ codes "[" && c ∈ codes "hms") || (duration && (c == before))
 
--- whether a run of h, m or s after a `[` goes on
-abbrev pub hms_after : Walk → ℕ → Bool
-hms_after w c =
-    if w.hms && (to_ascii_lowercase c == to_ascii_lowercase w.before) then w.hms
-    else (w.before == 91) && (is_letter 109 c || is_letter 104 c || is_letter 115 c)
+-- the plain characters outside brackets, and the `]` that ends a duration in one bracket
+abbrev pub outside_from : ℕ → Bool → List (ℕ × ℕ) → List ℕ
+outside_from depth duration [] = []
+outside_from depth duration ((before, c) ∷ rest) =
+    if c ∈ codes "[" then outside_from (depth + 1) duration rest
+    else if c ∈ codes "]"
+    then (if (depth == 1) && duration then c ∷ [] else outside_from (depth - 1) duration rest)
+    else if depth == 0 then c ∷ outside_from 0 (duration_after duration before c) rest
+    else outside_from depth (duration_after duration before c) rest
 
--- rules 5 to 10, for a character that is neither escaped nor quoted
-abbrev pub plain_step : Walk → ℕ → Step
-plain_step w c =
-    if c == 59 then Done Other
-    else if c == 91 then Next (record w { depth = w.depth + 1; before = c })
-    else if c == 93
-    then (if (w.depth == 1) && w.hms then Done TimeDelta
-    else Next (record w { depth = w.depth - 1; before = c }))
-    else if (w.depth == 0) && not w.ap && is_letter 97 c
-    then Next (record w { ap = true; before = c })
-    else if (w.depth == 0) && not w.ap && is_date_letter c then Done DateTime
-    else if (w.depth == 0) && w.ap && ends_ap c then Done DateTime
-    else Next (record w { hms = hms_after w c; before = c })
+-- the visible characters of a format, in lower case; a space stands before the first
+abbrev pub visible_of : List ℕ → List ℕ
+visible_of cs = outside_from 0 false (plain_from false false 0x20 (map to_ascii_lowercase cs))
 
--- the character is escaped, quoted, escapes the next, or begins or ends a quote
-abbrev pub passes : Bool → Bool → ℕ → Bool
-passes escaped quoted c = escaped || (quoted || (escapes c || (c == 34)))
+-- ---- which of them decides
 
--- whether the next character is escaped
-abbrev pub escaped_after : Bool → ℕ → Bool
-escaped_after escaped c = not escaped && escapes c
-
--- whether the next character is inside quotes
-abbrev pub quoted_after : Bool → Bool → ℕ → Bool
-quoted_after escaped quoted c =
-    if not escaped && (not (escapes c) && (c == 34)) then not quoted else quoted
-
--- the class that a step gives, or the class of the rest
-abbrev pub class_step : Step → (Walk → CellFormat) → CellFormat
-class_step (Done k) rest = k
-class_step (Next w) rest = rest w
-
--- what holds of where a step leads
-abbrev pub MatchStep : Step → (Walk → Type 0) → Type 0
-MatchStep (Done k) P = Unit {0}
-MatchStep (Next w) P = P w
-
--- the class of the characters left
-abbrev pub class_from : Bool → Bool → Walk → List ℕ → CellFormat
-class_from escaped quoted w [] = Other
-class_from escaped quoted w (c ∷ cs) =
-    if passes escaped quoted c
-    then class_from (escaped_after escaped c) (quoted_after escaped quoted c)
-    (record w { before = c }) cs
-    else class_step (plain_step w c) (λ v. class_from escaped quoted v cs)
-
--- what the walk knows at first
-abbrev pub start : Walk
-start = record { depth = 0; ap = false; hms = false; before = 32 }
+-- The first that decides: the end of a duration; a letter of a date; after an `a` in place of these
+-- letters the `p` or `m` or `/` that makes it AM/PM or a/p.
+abbrev pub class_by : Bool → List ℕ → CellFormat
+class_by half_day [] = Other
+class_by half_day (c ∷ cs) =
+    if c ∈ codes "]" then TimeDelta
+    else if c ∈ (if half_day then codes "pm/" else codes "dmhys") then DateTime
+    else class_by (half_day || c ∈ codes "a") cs
 
 -- the class of a format's characters
 abbrev pub class_of : List ℕ → CellFormat
-class_of cs = class_from false false start cs
+class_of cs = class_by false (visible_of cs)
 
--- after these characters the next is neither escaped nor inside quotes
+-- ---- the first section
+
+-- after these characters the next is neither escaped nor quoted
 abbrev pub ends_plain : Bool → Bool → List ℕ → Bool
 ends_plain escaped quoted [] = not escaped && not quoted
 ends_plain escaped quoted (c ∷ cs) =
-    if passes escaped quoted c
-    then ends_plain (escaped_after escaped c) (quoted_after escaped quoted c) cs
-    else ends_plain escaped quoted cs
+    if escaped then ends_plain false quoted cs
+    else if c ∈ codes "_\\*" then ends_plain true quoted cs
+    else if c ∈ codes "\"" then ends_plain false (not quoted) cs
+    else ends_plain false quoted cs

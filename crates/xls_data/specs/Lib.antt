@@ -12,3 +12,4 @@ pub mod Refs
 pub mod Regions
 pub mod SerialDays
 pub mod Sheets
+pub mod Walk

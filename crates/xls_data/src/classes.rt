@@ -1,18 +1,22 @@
 //! The class of a number format of one's own, by a walk over its characters.
 
-ghost use Rattle.std.specs.Prelude.{◌≡◌, ◌≤◌, ◌<◌, ◌+◌, ◌^◌, ◌++◌, ◌∷◌, ℕ, List, true, false};
+ghost use Rattle.std.specs.Prelude.{◌≡◌, ◌<◌, ◌+◌, ◌^◌, codes, false, if◌then◌else◌};
 ghost use Rattle.std.specs.Str.{chars};
-ghost use Rattle.xls_data.specs.Classes.{MatchStep, escapes, is_letter, is_date_letter, ends_ap, hms_after, plain_step, passes, escaped_after, quoted_after, class_of, ends_plain};
+ghost use Rattle.xls_data.specs.Classes.{◌∈◌, duration_after, class_of};
+ghost use Rattle.xls_data.specs.Walk.{Leads};
 
 use crate::CellFormat;
 
-// What the walk over a format knows: how many brackets are open, whether `a` was read, whether
-// hours, minutes or seconds follow a bracket, and the character before.
+// What the walk over a format knows: whether the next character is escaped or quoted, how many
+// brackets are open, whether a duration has just been read, whether an `a` was, and the character
+// before.
 #[derive(Clone, Copy)]
 struct Walk {
+    escaped: bool,
+    quoted: bool,
     depth: u64,
-    ap: bool,
-    hms: bool,
+    duration: bool,
+    half_day: bool,
     before: char,
 }
 
@@ -23,47 +27,35 @@ enum Step {
 }
 
 fn escapes(c: char) -> bool
-    ensures { result ≡ escapes c }
+    ensures { result ≡ c ∈ codes "_\\*" }
 {
     c == '_' || c == '\\' || c == '*'
 }
 
-fn is_letter(letter: char, c: char) -> bool
-    ensures { result ≡ is_letter letter c }
+fn duration_after(duration: bool, before: char, c: char) -> bool
+    ensures { result ≡ duration_after duration before c }
 {
-    c.to_ascii_lowercase() == letter
+    (before == '[' && (c == 'h' || c == 'm' || c == 's')) || (duration && c == before)
 }
 
-fn is_date_letter(c: char) -> bool
-    ensures { result ≡ is_date_letter c }
+// Whether a character outside brackets means a date; `half_day` after an `a`.
+fn is_date(half_day: bool, c: char) -> bool
+    ensures { result ≡ c ∈ (if half_day then codes "pm/" else codes "dmhys") }
 {
-    is_letter('d', c)
-        || is_letter('m', c)
-        || is_letter('h', c)
-        || is_letter('y', c)
-        || is_letter('s', c)
-}
-
-fn ends_ap(c: char) -> bool
-    ensures { result ≡ ends_ap c }
-{
-    is_letter('p', c) || is_letter('m', c) || c == '/'
-}
-
-fn hms_after(w: Walk, c: char) -> bool
-    ensures { result ≡ hms_after w c }
-{
-    if w.hms && c.to_ascii_lowercase() == w.before.to_ascii_lowercase() {
-        return w.hms;
+    if half_day {
+        c == 'p' || c == 'm' || c == '/'
+    } else {
+        c == 'd' || c == 'm' || c == 'h' || c == 'y' || c == 's'
     }
-    w.before == '[' && (is_letter('m', c) || is_letter('h', c) || is_letter('s', c))
 }
 
-// A character that is neither escaped nor quoted.
+// A character in lower case that is neither escaped nor quoted.
 fn plain_step(w: Walk, c: char) -> Step
-    requires { w.depth + 1 < 2 ^ 64 }
-    ensures step { result ≡ plain_step w c }
-    ensures depth { MatchStep result (λ v. v.depth ≤ w.depth + 1) }
+    requires escaped { w.escaped ≡ false }
+    requires quoted { w.quoted ≡ false }
+    requires escapes { c ∈ codes "_\\*\"" ≡ false }
+    requires room { w.depth + 1 < 2 ^ 64 }
+    ensures { Leads w c result }
 {
     if c == ';' {
         return Step::Done(CellFormat::Other);
@@ -76,7 +68,7 @@ fn plain_step(w: Walk, c: char) -> Step
         });
     }
     if c == ']' {
-        if w.depth == 1 && w.hms {
+        if w.depth == 1 && w.duration {
             return Step::Done(CellFormat::TimeDelta);
         }
         return Step::Next(Walk {
@@ -85,46 +77,37 @@ fn plain_step(w: Walk, c: char) -> Step
             ..w
         });
     }
-    if w.depth == 0 && !w.ap && is_letter('a', c) {
-        return Step::Next(Walk {
-            ap: true,
-            before: c,
-            ..w
-        });
-    }
-    if w.depth == 0 && !w.ap && is_date_letter(c) {
-        return Step::Done(CellFormat::DateTime);
-    }
-    if w.depth == 0 && w.ap && ends_ap(c) {
+    if w.depth == 0 && is_date(w.half_day, c) {
         return Step::Done(CellFormat::DateTime);
     }
     Step::Next(Walk {
-        hms: hms_after(w, c),
+        half_day: w.half_day || (w.depth == 0 && c == 'a'),
+        duration: duration_after(w.duration, w.before, c),
         before: c,
         ..w
     })
 }
 
-fn quoted_after(escaped: bool, quoted: bool, c: char) -> bool
-    ensures { result ≡ quoted_after escaped quoted c }
+// A character in lower case.
+fn next_step(w: Walk, c: char) -> Step
+    requires { w.depth + 1 < 2 ^ 64 }
+    ensures { Leads w c result }
 {
-    if !escaped && !escapes(c) && c == '"' {
-        !quoted
-    } else {
-        quoted
+    if w.escaped || escapes(c) {
+        return Step::Next(Walk {
+            escaped: !w.escaped,
+            before: c,
+            ..w
+        });
     }
-}
-
-fn escaped_after(escaped: bool, c: char) -> bool
-    ensures { result ≡ escaped_after escaped c }
-{
-    !escaped && escapes(c)
-}
-
-fn passes(escaped: bool, quoted: bool, c: char) -> bool
-    ensures { result ≡ passes escaped quoted c }
-{
-    escaped || quoted || escapes(c) || c == '"'
+    if c == '"' || w.quoted {
+        return Step::Next(Walk {
+            quoted: w.quoted != (c == '"'),
+            before: c,
+            ..w
+        });
+    }
+    plain_step(w, c)
 }
 
 /// The class of a number format of one's own, by its characters: the first section decides, without
@@ -132,22 +115,16 @@ fn passes(escaped: bool, quoted: bool, c: char) -> bool
 pub fn detect_custom_number_format(format: &str) -> CellFormat
     ensures { result ≡ class_of (chars format.now) }
 {
-    let mut escaped = false;
-    let mut quoted = false;
     let mut walk = Walk {
+        escaped: false,
+        quoted: false,
         depth: 0,
-        ap: false,
-        hms: false,
+        duration: false,
+        half_day: false,
         before: ' ',
     };
     'chars: for c in format.chars() {
-        if passes(escaped, quoted, c) {
-            quoted = quoted_after(escaped, quoted, c);
-            escaped = escaped_after(escaped, c);
-            walk = Walk { before: c, ..walk };
-            continue;
-        }
-        match plain_step(walk, c) {
+        match next_step(walk, c.to_ascii_lowercase()) {
             Step::Done(class) => return class,
             Step::Next(next) => walk = next,
         }
