@@ -6,6 +6,8 @@ use Rattle.xls_model.specs.declared.part.Part.TheVariants as parts
 use Rattle.xls_data.specs.Content.{Content, truth}
 use Rattle.xls_data.specs.Data.{content_of}
 use Rattle.xls_data.specs.declared.values.Data.{Data}
+use Rattle.xls_data.specs.declared.numeric.Numeric.{Numeric}
+use Rattle.xls_data.specs.Numeric.{numeric_content}
 use Rattle.xls_data.specs.declared.formats.CellFormat.{CellFormat}
 use Rattle.xls_data.specs.declared.errors.CellErrorType.{CellErrorType}
 use Rattle.xls_data.specs.declared.errors.CellErrorType.TheVariants as failures
@@ -23,6 +25,10 @@ Entry = Position × Content
 -- a cell by its content
 abbrev pub entry_of : Position × Data → Entry
 entry_of c = (c.0, content_of c.1)
+
+-- a number at a position, likewise
+abbrev pub numeric_entry : Position × Numeric → Entry
+numeric_entry c = (c.0, numeric_content c.1)
 
 -- a value by its content
 abbrev pub value_of : Option Data → Option Content

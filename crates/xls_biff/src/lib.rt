@@ -12,7 +12,7 @@ mod walk;
 pub use cells::{cell_position, error_of_code};
 pub use checks::{check_sheet_record, sheet_record_weight};
 pub use records::bof::{Bof, parse_bof};
-pub use records::bool_err::parse_bool_err;
+pub use records::bool_err::{Bes, parse_bool_err, read_bool_err};
 pub use records::bound_sheet::{check_sheet_metadata, parse_sheet_metadata};
 pub use records::code_page::parse_code_page;
 pub use records::date_mode::parse_date_mode;
@@ -21,13 +21,16 @@ pub use records::extern_sheet::{check_extern_sheet, parse_extern_sheet};
 pub use records::file_pass::parse_file_pass;
 pub use records::format::parse_format;
 pub use records::formula::{
-    FormulaRecord, formula_position, parse_formula_record, parse_formula_value,
+    FormulaParts, FormulaRecord, FormulaValue, formula_position, parse_formula_record,
+    parse_formula_value, read_formula,
 };
 pub use records::label::{parse_label, split_label};
 pub use records::label_sst::{find_label_sst, parse_label_sst};
 pub use records::merge_cells::{count_merges, merge_region, parse_merge_cells};
-pub use records::number::parse_number;
-pub use records::rk::{cell_of_mul_rk, count_mul_rk, parse_mul_rk, parse_rk};
+pub use records::number::{parse_number, read_number};
+pub use records::rk::{
+    cell_of_mul_rk, count_mul_rk, parse_mul_rk, parse_rk, read_mul_rk, read_rk,
+};
 pub use records::xf::parse_xf;
 pub use refs::Refs;
 pub use substream::{PlacedRecords, SheetRecords};

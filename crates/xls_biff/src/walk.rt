@@ -7,6 +7,7 @@ ghost use Rattle.xls_biff.specs.Walking.{group_of, Steps};
 
 use std::marker::Model;
 use xls_bytes::read_u16;
+use xls_model::types::CONTINUE;
 use xls_strings::{Part, Pieces, Record, XlsError};
 
 /// The type and the body of the first record, and the bytes after it.
@@ -32,7 +33,7 @@ fn split_record(bytes: &[u8]) -> Result<(u16, &[u8], &[u8]), Part>
 fn starts_continue(bytes: &[u8]) -> bool
     ensures { IsTrue result ↔ StartsContinue bytes.now }
 {
-    bytes.len() > 4 && bytes[0] == 0x3C && bytes[1] == 0
+    bytes.len() > 4 && read_u16(bytes) == CONTINUE
 }
 
 /// The first record with its Continue records, and the bytes after them.

@@ -8,6 +8,7 @@ pub mod Errors
 pub mod Formatted
 pub mod Kinds
 pub mod Numbers
+pub mod Numeric
 pub mod Refs
 pub mod Regions
 pub mod SerialDays

@@ -12,6 +12,7 @@ mod formats;
 mod kind;
 mod laws;
 mod numbers;
+mod numeric;
 mod options;
 mod refs;
 mod regions;
@@ -35,6 +36,7 @@ pub use laws::{
     class_of_decimal_text, class_of_first_section, equality_by_content, order_of_regions,
 };
 pub use numbers::Number;
+pub use numeric::Numeric;
 pub use refs::DataRef;
 pub use regions::{Dimensions, HeaderRow};
 pub use serial_days::ymd_of_serial_day;

@@ -3,7 +3,8 @@
 use Rattle.std.specs.Prelude.{[], ℕ, List, Bool, ◌==◌, if◌then◌else◌, take, drop, slice_index, Option, Some, None, Result, Ok, Err}
 use Rattle.xls_bytes.specs.Numbers.{le}
 use Rattle.xls_model.specs.declared.part.Part.TheVariants as parts
-use Rattle.xls_data.specs.Content.{Content, text, failure}
+use Rattle.xls_data.specs.Content.{Content, text, truth, failure}
+use Rattle.xls_data.specs.Numeric.{numeric_content}
 use Rattle.xls_data.specs.Formatted.{formatted_number}
 use Rattle.xls_data.specs.declared.numbers.Number.TheVariants.{Bits}
 use Rattle.xls_data.specs.declared.formats.CellFormat.{CellFormat}
@@ -11,6 +12,16 @@ use Rattle.xls_strings.specs.declared.error.XlsError.{XlsError}
 use Rattle.xls_strings.specs.declared.error.XlsError.TheVariants.{Unrecognized}
 use Rattle.xls_strings.specs.Reading.{◌>>=◌, ◌>>◌, at_least, gives}
 use Rattle.xls_biff.specs.Cells.{Position, cell_error, class_at, position_at, truth_of}
+use Rattle.xls_biff.specs.declared.records.formula.FormulaValue.{FormulaValue}
+use Rattle.xls_biff.specs.declared.records.formula.FormulaValue.TheVariants as value
+
+-- a value by its content: None where a String record follows
+abbrev pub value_content : FormulaValue → Option Content
+value_content (value.Number n) = Some (numeric_content n)
+value_content (value.Bool b) = Some (truth b)
+value_content (value.Error e) = Some (failure e)
+value_content value.EmptyText = Some (text [])
+value_content value.Text = None
 
 -- a value that is no number, by the bytes 0 and 2: None where a String record follows
 abbrev pub special_value : ℕ → ℕ → Result (Option Content) XlsError

@@ -3,17 +3,17 @@
 ghost use Rattle.std.specs.Prelude.{◌≡◌, ◌+◌, ◌*◌, ◌<◌, ◌≤◌, ◌^◌, Bool, List, Ok, IsErr, length, map, OnOk, IfOk};
 ghost use Rattle.std.specs.List.{range_with_len};
 ghost use Rattle.std.specs.Option.{option_copied};
-ghost use Rattle.xls_data.specs.Data.{content_of};
+ghost use Rattle.xls_data.specs.Numeric.{numeric_content};
 ghost use Rattle.xls_data.specs.declared.formats.CellFormat.{CellFormat};
 ghost use Rattle.xls_strings.specs.Reading.{Adds, Appends, Exactly, IsLonger, fault_in};
-ghost use Rattle.xls_biff.specs.Cells.{Entry, entry_of};
+ghost use Rattle.xls_biff.specs.Cells.{Entry, entry_of, numeric_entry};
 ghost use Rattle.xls_biff.specs.Records.Rk.{hundredths_content, mul_rk_at, mul_rk_count, rk_at, rk_bits, rk_cell, rk_content, rk_whole};
 
 use crate::cells::position_of;
 use crate::fields::{u16_at, u32_at};
 use std::alloc::AllocError;
 use xls_bytes::read_u16;
-use xls_data::{Cell, CellFormat, Data, Number, format_excel_i64, format_excel_number};
+use xls_data::{Cell, CellFormat, Data, Number, Numeric};
 use xls_strings::{Part, XlsError, need};
 
 /// Bits 2 to 31 as a signed number.
@@ -36,21 +36,22 @@ fn bits_of_rk(rk: u32) -> u64
 }
 
 /// The value of a whole number over 100.
-fn hundredths(n: i64, class: Option<&CellFormat>, is_1904: bool) -> Data
-    ensures { content_of result ≡ hundredths_content (option_copied class.entry) n is_1904 }
+#[inline]
+fn hundredths(n: i64, class: Option<&CellFormat>, is_1904: bool) -> Numeric
+    ensures { numeric_content result ≡ hundredths_content (option_copied class.entry) n is_1904 }
 {
     if n.unsigned_abs() % 100 == 0 {
-        format_excel_i64(n / 100, class, is_1904)
+        Numeric::of_i64(n / 100, class, is_1904)
     } else {
-        format_excel_number(Number::Hundredths(n), class, is_1904)
+        Numeric::of_number(Number::Hundredths(n), class, is_1904)
     }
 }
 
 /// The value of an RK number.
 #[tactic(auto, unfolding(crate::specs::Records::Rk::rk_content))]
 #[inline]
-fn value_of_rk(rk: u32, class: Option<&CellFormat>, is_1904: bool) -> Data
-    ensures { content_of result ≡ rk_content (option_copied class.entry) rk is_1904 }
+fn value_of_rk(rk: u32, class: Option<&CellFormat>, is_1904: bool) -> Numeric
+    ensures { numeric_content result ≡ rk_content (option_copied class.entry) rk is_1904 }
 {
     let is_hundredths = rk % 2 == 1;
     if rk / 2 % 2 == 1 {
@@ -58,7 +59,7 @@ fn value_of_rk(rk: u32, class: Option<&CellFormat>, is_1904: bool) -> Data
         if is_hundredths {
             hundredths(whole, class, is_1904)
         } else {
-            format_excel_i64(whole, class, is_1904)
+            Numeric::of_i64(whole, class, is_1904)
         }
     } else {
         let bits = bits_of_rk(rk);
@@ -67,21 +68,35 @@ fn value_of_rk(rk: u32, class: Option<&CellFormat>, is_1904: bool) -> Data
         } else {
             Number::Bits(bits)
         };
-        format_excel_number(number, class, is_1904)
+        Numeric::of_number(number, class, is_1904)
     }
 }
 
-/// The cell of an RK record's body: row, column, XF index and an RK number, which is a whole number or
-/// the top of a double, and over 100 where its lowest bit is set. The class is that of the XF index,
-/// and `Other` where `formats` ends before it. `Len` for fewer than 10 bytes. Takes no memory.
-#[inline]
-pub fn parse_rk(r: &[u8], formats: &[CellFormat], is_1904: bool) -> Result<Cell<Data>, XlsError>
-    ensures { Exactly entry_of result (rk_at formats.now is_1904 r.now) }
+/// Where the cell of an RK record's body stands, and its value: row, column, XF index and an RK number,
+/// which is a whole number or the top of a double, and over 100 where its lowest bit is set. The class
+/// is that of the XF index, and `Other` where `formats` ends before it. `Len` for fewer than 10 bytes.
+/// Takes no memory.
+#[inline(always)]
+pub fn read_rk(
+    r: &[u8],
+    formats: &[CellFormat],
+    is_1904: bool,
+) -> Result<((u32, u32), Numeric), XlsError>
+    ensures { Exactly numeric_entry result (rk_at formats.now is_1904 r.now) }
 {
     need(r, 10, Part::Rk)?;
     let class = formats.get(usize::from(u16_at(r, 4)));
     let value = value_of_rk(u32_at(r, 6), class, is_1904);
-    Ok(Cell::new(position_of(r), value))
+    Ok((position_of(r), value))
+}
+
+/// The cell of an RK record's body, as `read_rk` reads it. Takes no memory.
+#[inline]
+pub fn parse_rk(r: &[u8], formats: &[CellFormat], is_1904: bool) -> Result<Cell<Data>, XlsError>
+    ensures { Exactly entry_of result (rk_at formats.now is_1904 r.now) }
+{
+    let (position, value) = read_rk(r, formats, is_1904)?;
+    Ok(Cell::new(position, value.into_data()))
 }
 
 /// The fault of `parse_rk`, under all classes and date systems.
@@ -123,19 +138,35 @@ pub fn count_mul_rk(r: &[u8]) -> Result<usize, XlsError>
     Ok(count)
 }
 
-/// The cell of a MulRk record's body by its number, counted from 0, which is below `count_mul_rk`: in the
-/// record's row, so many columns after its first one. The class is that of the cell's XF index, and
-/// `Other` where `formats` ends before it. Takes no memory.
+/// Where a cell of a MulRk record's body stands, and its value, by its number, counted from 0, which is
+/// below `count_mul_rk`: in the record's row, so many columns after its first one. The class is that of
+/// the cell's XF index, and `Other` where `formats` ends before it. Takes no memory.
+#[inline(always)]
+pub fn read_mul_rk(
+    r: &[u8],
+    i: usize,
+    formats: &[CellFormat],
+    is_1904: bool,
+) -> ((u32, u32), Numeric)
+    requires room { 10 + 6 * i ≤ length r.now }
+    requires within { i < 2 ^ 16 }
+    ensures { numeric_entry result ≡ rk_cell formats.now is_1904 r.now i }
+{
+    let class = formats.get(usize::from(u16_at(r, 4 + 6 * i)));
+    let value = value_of_rk(u32_at(r, 6 + 6 * i), class, is_1904);
+    let column = u32::from(u16_at(r, 2)) + i as u32;
+    ((u32::from(read_u16(r)), column), value)
+}
+
+/// The cell of a MulRk record's body by its number, as `read_mul_rk` reads it. Takes no memory.
 #[inline]
 pub fn cell_of_mul_rk(r: &[u8], i: usize, formats: &[CellFormat], is_1904: bool) -> Cell<Data>
     requires room { 10 + 6 * i ≤ length r.now }
     requires within { i < 2 ^ 16 }
     ensures { entry_of result ≡ rk_cell formats.now is_1904 r.now i }
 {
-    let class = formats.get(usize::from(u16_at(r, 4 + 6 * i)));
-    let value = value_of_rk(u32_at(r, 6 + 6 * i), class, is_1904);
-    let column = u32::from(u16_at(r, 2)) + i as u32;
-    Cell::new((u32::from(read_u16(r)), column), value)
+    let (position, value) = read_mul_rk(r, i, formats, is_1904);
+    Cell::new(position, value.into_data())
 }
 
 /// Appends so many cells; an error may leave some.
