@@ -1,5 +1,0 @@
-use Rattle.xls_data.proofs.SectionLemmas.{class_of-section}
-use Rattle.xls_data.proofs.laws.class_of_first_section.Goals as goal
-
-pub returns : goal.returns
-returns c = class_of-section
