@@ -3,8 +3,8 @@ use Rattle.std.specs.Prelude.{ℕ, List, ◌∷◌, ◌++◌, codes, Result, Ok,
 use Rattle.std.specs.Fmt.{decimal}
 use Rattle.std.specs.String.{string_bytes}
 use Rattle.xls_data.specs.Content.{Content, int, float}
-use Rattle.xls_data.specs.declared.numbers.Number.{Number}
-use Rattle.xls_data.specs.declared.numbers.Number.TheVariants.{Whole}
+use Rattle.xls_dates.specs.declared.numbers.Number.{Number}
+use Rattle.xls_dates.specs.declared.numbers.Number.TheVariants.{Whole}
 use Rattle.xls_rows.specs.Refusals.{Refusal, end_of_row, custom, Gives}
 use Rattle.xls_rows.specs.Readers.{text_in, data_in}
 use Rattle.xls_rows.specs.Rows.{Row, contents_of}

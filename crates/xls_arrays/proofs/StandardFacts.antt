@@ -2,8 +2,8 @@
 use Rattle.std.proofs.Common.{◌≡◌, ℕ, ◌∷◌, [], ◌++◌, List, map, true, false, Some, None, refl, pos, negsuc, codes}
 use Rattle.std.specs.Fmt.{digits}
 use Rattle.xls_data.specs.Content as content
-use Rattle.xls_data.specs.declared.numbers.Number.TheVariants.{Bits, Whole, Hundredths, BitsOver100}
-use Rattle.xls_data.specs.declared.dates.ExcelDateTimeType.TheVariants.{DateTime, TimeDelta}
+use Rattle.xls_dates.specs.declared.numbers.Number.TheVariants.{Bits, Whole, Hundredths, BitsOver100}
+use Rattle.xls_dates.specs.declared.dates.ExcelDateTimeType.TheVariants.{DateTime, TimeDelta}
 use Rattle.xls_data.specs.declared.errors.CellErrorType.TheVariants as failures
 use Rattle.xls_data.specs.declared.sheets.SheetType.TheVariants as sheets
 use Rattle.xls_data.specs.declared.sheets.SheetVisible.TheVariants as visible

@@ -2,7 +2,7 @@
 use Rattle.std.specs.Prelude.{◌≡◌, ◌⊎◌, ℕ, Bool, true, false, List, length, take, Result, Ok, Err}
 use Rattle.xls_container.specs.Files.{RefusesFile, WorkbookBytes}
 use Rattle.xls_container.specs.declared.fault.FileFault.{FileFault}
-use Rattle.xls_data.specs.declared.numbers.Number.TheVariants.{Bits}
+use Rattle.xls_dates.specs.declared.numbers.Number.TheVariants.{Bits}
 use Rattle.xls_decimals.specs.Moments.{IsDate, IsDuration}
 use Rattle.xls_arrays.specs.Values.{truth_bit}
 use Rattle.xls_arrays.specs.Arrays.{Arrays, empty, sizes_of}

@@ -2,8 +2,8 @@
 use Rattle.std.specs.Prelude.{ℕ, ℤ, from_bits, to_bits}
 use Rattle.std.specs.Float.{binary64}
 use Rattle.std.specs.Float.Ieee.{div, of_int}
-use Rattle.xls_data.specs.declared.numbers.Number.{Number}
-use Rattle.xls_data.specs.declared.numbers.Number.TheVariants.{Bits, Whole, Hundredths, BitsOver100}
+use Rattle.xls_dates.specs.declared.numbers.Number.{Number}
+use Rattle.xls_dates.specs.declared.numbers.Number.TheVariants.{Bits, Whole, Hundredths, BitsOver100}
 use Rattle.xls_decimals.specs.Decimals.{over_100}
 
 -- the double nearest to a whole number, of two as near the even one

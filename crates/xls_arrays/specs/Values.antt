@@ -1,9 +1,9 @@
 -- The value of a cell in an item of the array.
 use Rattle.std.specs.Prelude.{ℕ, List, [], encode_utf8_all, length, Bool, true, false, not, ◌==◌}
 use Rattle.xls_data.specs.Content.{Content, int, float, text, truth, date, iso_date, iso_duration, failure, nothing}
-use Rattle.xls_data.specs.declared.numbers.Number.TheVariants.{Whole}
-use Rattle.xls_data.specs.declared.dates.ExcelDateTimeType.{ExcelDateTimeType}
-use Rattle.xls_data.specs.declared.dates.ExcelDateTimeType.TheVariants.{DateTime, TimeDelta}
+use Rattle.xls_dates.specs.declared.numbers.Number.TheVariants.{Whole}
+use Rattle.xls_dates.specs.declared.dates.ExcelDateTimeType.{ExcelDateTimeType}
+use Rattle.xls_dates.specs.declared.dates.ExcelDateTimeType.TheVariants.{DateTime, TimeDelta}
 use Rattle.xls_data.specs.declared.errors.CellErrorType.{CellErrorType}
 use Rattle.xls_data.specs.declared.errors.CellErrorType.TheVariants as errors
 use Rattle.xls_biff.specs.Cells.{Entry}

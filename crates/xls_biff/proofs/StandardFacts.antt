@@ -4,8 +4,8 @@ use Rattle.xls_model.specs.declared.part.Part.TheVariants as parts
 use Rattle.xls_text.specs.declared.encoding.XlsEncoding.TheVariants.{Utf16, Windows1252}
 use Rattle.xls_text.specs.declared.error.CfbError.TheVariants.{CodePageNotFound}
 use Rattle.xls_data.specs.Content.{int, float, text, truth, failure}
-use Rattle.xls_data.specs.declared.numbers.Number.TheVariants.{Bits, Hundredths, BitsOver100}
-use Rattle.xls_data.specs.declared.formats.CellFormat.TheVariants.{Other, TimeDelta}
+use Rattle.xls_dates.specs.declared.numbers.Number.TheVariants.{Bits, Hundredths, BitsOver100}
+use Rattle.xls_dates.specs.declared.formats.CellFormat.TheVariants.{Other, TimeDelta}
 use Rattle.xls_data.specs.declared.errors.CellErrorType.TheVariants as failures
 use Rattle.xls_data.specs.declared.sheets.SheetType.TheVariants as kinds
 use Rattle.xls_data.specs.declared.sheets.SheetVisible.TheVariants as states

@@ -8,7 +8,7 @@ use Rattle.xls_data.specs.Data.{content_of}
 use Rattle.xls_data.specs.declared.values.Data.{Data}
 use Rattle.xls_data.specs.declared.numeric.Numeric.{Numeric}
 use Rattle.xls_data.specs.Numeric.{numeric_content}
-use Rattle.xls_data.specs.declared.formats.CellFormat.{CellFormat}
+use Rattle.xls_dates.specs.declared.formats.CellFormat.{CellFormat}
 use Rattle.xls_data.specs.declared.errors.CellErrorType.{CellErrorType}
 use Rattle.xls_data.specs.declared.errors.CellErrorType.TheVariants as failures
 use Rattle.xls_strings.specs.declared.error.XlsError.{XlsError}

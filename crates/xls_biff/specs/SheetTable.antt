@@ -4,7 +4,7 @@ use Rattle.xls_text.specs.declared.encoding.XlsEncoding.{XlsEncoding}
 use Rattle.xls_model.specs.declared.types.TheConstants as types
 use Rattle.xls_data.specs.Content.{Content}
 use Rattle.xls_data.specs.declared.regions.Dimensions.{Dimensions}
-use Rattle.xls_data.specs.declared.formats.CellFormat.{CellFormat}
+use Rattle.xls_dates.specs.declared.formats.CellFormat.{CellFormat}
 use Rattle.xls_strings.specs.declared.version.Biff.{Biff}
 use Rattle.xls_strings.specs.declared.error.XlsError.{XlsError}
 use Rattle.xls_strings.specs.Reading.{gives}

@@ -28,9 +28,7 @@ pub use records::label::{parse_label, split_label};
 pub use records::label_sst::{find_label_sst, parse_label_sst};
 pub use records::merge_cells::{count_merges, merge_region, parse_merge_cells};
 pub use records::number::{parse_number, read_number};
-pub use records::rk::{
-    cell_of_mul_rk, count_mul_rk, parse_mul_rk, parse_rk, read_mul_rk, read_rk,
-};
+pub use records::rk::{cell_of_mul_rk, count_mul_rk, parse_mul_rk, parse_rk, read_mul_rk, read_rk};
 pub use records::xf::parse_xf;
 pub use refs::Refs;
 pub use substream::{PlacedRecords, SheetRecords};

@@ -5,8 +5,8 @@ use Rattle.std.proofs.lemmas.Bool.{cases_lt}
 use Rattle.jiff_core.proofs.SignedLemmas.{signed_arith}
 use Rattle.jiff_core.proofs.CalendarLemmas.{days_from_civil-day_count, days_in_month_bounds, day_count-lt_year, day_count-lt_month, day_count-day, day_count-next_month, day_count-next_year, day_count-last_of_year, day_count-end}
 use Rattle.jiff_core.specs.Calendar.{day_count, days_in_month, IsCivilDate}
-use Rattle.xls_data.proofs.DayLemmas.{known}
-use Rattle.xls_data.specs.SerialDays.{IsDayNumber, day_number, last_day, last_day_of_1904}
+use Rattle.xls_dates.proofs.DayLemmas.{known}
+use Rattle.xls_dates.specs.SerialDays.{IsDayNumber, day_number, last_day, last_day_of_1904}
 use Rattle.xls_csv.specs.Dates.{Ymd, next_day, days_after, serial_date, last_day_in}
 
 -- the calendar has the date, and so many days lie before it

@@ -7,7 +7,7 @@ use Rattle.std.specs.Str.{chars}
 use Rattle.std.specs.String.{string_bytes}
 use Rattle.std.proofs.lemmas.Str.{IsUtf8-string_bytes, encodes-chars}
 use Rattle.xls_data.specs.Data.{content_of, data_text}
-use Rattle.xls_data.specs.Dates.{DateParts}
+use Rattle.xls_dates.specs.Dates.{DateParts}
 use Rattle.xls_data.specs.Refs.{ref_content_of, ref_text}
 use Rattle.xls_data.specs.declared.refs.DataRef.{DataRef}
 use Rattle.xls_data.specs.declared.refs.DataRef.TheVariants as borrowed

@@ -4,8 +4,8 @@ use Rattle.std.specs.Fmt.{digits}
 use Rattle.csv.specs.Writing.{escaped, fields_text, is_blank}
 use Rattle.xls_bytes.specs.Doubles.{size_of_parts}
 use Rattle.xls_data.specs.Content.{int, text, date, truth, nothing}
-use Rattle.xls_data.specs.declared.numbers.Number.TheVariants.{Bits, Whole, Hundredths}
-use Rattle.xls_data.specs.declared.dates.ExcelDateTimeType.TheVariants.{DateTime}
+use Rattle.xls_dates.specs.declared.numbers.Number.TheVariants.{Bits, Whole, Hundredths}
+use Rattle.xls_dates.specs.declared.dates.ExcelDateTimeType.TheVariants.{DateTime}
 use Rattle.xls_csv.specs.Dates.{days_after, date_text, day_in, serial_date}
 use Rattle.xls_csv.specs.Dense.{sheet_csv}
 use Rattle.xls_csv.specs.Text.{row_csv}

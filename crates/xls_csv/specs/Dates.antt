@@ -2,12 +2,12 @@
 use Rattle.std.specs.Prelude.{ℕ, zero, suc, ◌+◌, ◌/◌, ◌%◌, ◌==◌, nat_le, nat_lt, ◌&&◌, Bool, true, false, if◌then◌else◌, ℤ, pos, negsuc, int_div, unsigned_abs, Option, Some, None, List, [], ◌∷◌}
 use Rattle.jiff_core.specs.Calendar.{days_in_month}
 use Rattle.xls_bytes.specs.Doubles.{whole_of}
-use Rattle.xls_data.specs.Dates.{DateParts}
-use Rattle.xls_data.specs.SerialDays.{last_day, last_day_of_1904}
-use Rattle.xls_data.specs.declared.numbers.Number.{Number}
-use Rattle.xls_data.specs.declared.numbers.Number.TheVariants.{Bits, Whole, Hundredths, BitsOver100}
-use Rattle.xls_data.specs.declared.dates.ExcelDateTimeType.{ExcelDateTimeType}
-use Rattle.xls_data.specs.declared.dates.ExcelDateTimeType.TheVariants.{DateTime, TimeDelta}
+use Rattle.xls_dates.specs.Dates.{DateParts}
+use Rattle.xls_dates.specs.SerialDays.{last_day, last_day_of_1904}
+use Rattle.xls_dates.specs.declared.numbers.Number.{Number}
+use Rattle.xls_dates.specs.declared.numbers.Number.TheVariants.{Bits, Whole, Hundredths, BitsOver100}
+use Rattle.xls_dates.specs.declared.dates.ExcelDateTimeType.{ExcelDateTimeType}
+use Rattle.xls_dates.specs.declared.dates.ExcelDateTimeType.TheVariants.{DateTime, TimeDelta}
 
 -- ---- the calendar
 

@@ -4,9 +4,9 @@ use Rattle.std.specs.Fmt.{signed_decimal}
 use Rattle.std.specs.Str.{encode_utf8_all}
 use Rattle.xls_data.specs.Content.{Content, int, float, text, truth, date, iso_date, iso_duration, failure, nothing}
 use Rattle.xls_data.specs.Data.{bool_text}
-use Rattle.xls_data.specs.Dates.{DateParts}
+use Rattle.xls_dates.specs.Dates.{DateParts}
 use Rattle.xls_data.specs.Errors.{error_text}
-use Rattle.xls_data.specs.Numbers.{number_text}
+use Rattle.xls_dates.specs.Numbers.{number_text}
 use Rattle.xls_csv.specs.Dates.{day_of, serial_date, date_text}
 
 -- a date that has a serial day is shown as its date, and any other one as its number

@@ -2,7 +2,7 @@
 use Rattle.std.specs.Prelude.{◌≡◌, Bool, List, map}
 use Rattle.xls_data.specs.Content.{date}
 use Rattle.xls_data.specs.Data.{content_of, data_text}
-use Rattle.xls_data.specs.Dates.{DateParts}
+use Rattle.xls_dates.specs.Dates.{DateParts}
 use Rattle.xls_data.specs.declared.values.Data.{Data}
 use Rattle.xls_range.specs.Grid.{Grid, IsRange}
 use Rattle.xls_range.specs.Sparse.{IsAscending, IsDense}

@@ -11,14 +11,14 @@ use Rattle.std.proofs.lemmas.Slice.Eq.{bytes_eq-Decides}
 use Rattle.xls_data.proofs.TextLemmas.{chars_injective}
 use Rattle.xls_data.specs.Content.{Content, int, float, text, truth, date, iso_date, iso_duration, failure, nothing}
 use Rattle.xls_data.specs.Data.{content_of}
-use Rattle.xls_data.specs.Dates.{DateParts}
-use Rattle.xls_data.specs.declared.numbers.Number.{Number}
-use Rattle.xls_data.specs.declared.numbers.Number.TheVariants as number
-use Rattle.xls_data.specs.contracts.numbers.NumberPartialEq.TheImpl as number_impl
-use Rattle.xls_data.specs.declared.dates.ExcelDateTimeType.{ExcelDateTimeType}
-use Rattle.xls_data.specs.declared.dates.ExcelDateTimeType.TheVariants as kind
-use Rattle.xls_data.specs.contracts.dates.ExcelDateTimeTypePartialEq.TheImpl as kind_impl
-use Rattle.xls_data.specs.contracts.dates.ExcelDateTimePartialEq.TheImpl as date_impl
+use Rattle.xls_dates.specs.Dates.{DateParts}
+use Rattle.xls_dates.specs.declared.numbers.Number.{Number}
+use Rattle.xls_dates.specs.declared.numbers.Number.TheVariants as number
+use Rattle.xls_dates.specs.contracts.numbers.NumberPartialEq.TheImpl as number_impl
+use Rattle.xls_dates.specs.declared.dates.ExcelDateTimeType.{ExcelDateTimeType}
+use Rattle.xls_dates.specs.declared.dates.ExcelDateTimeType.TheVariants as kind
+use Rattle.xls_dates.specs.contracts.dates.ExcelDateTimeTypePartialEq.TheImpl as kind_impl
+use Rattle.xls_dates.specs.contracts.dates.ExcelDateTimePartialEq.TheImpl as date_impl
 use Rattle.xls_data.specs.declared.errors.CellErrorType.{CellErrorType}
 use Rattle.xls_data.specs.declared.errors.CellErrorType.TheVariants as error
 use Rattle.xls_data.specs.contracts.errors.CellErrorTypePartialEq.TheImpl as error_impl

@@ -1,8 +1,8 @@
 -- What a cell contains; a text is the list of its characters.
 use Rattle.std.specs.Prelude.{ℕ, ℤ, Bool, List}
-use Rattle.xls_data.specs.declared.numbers.Number.{Number}
+use Rattle.xls_dates.specs.declared.numbers.Number.{Number}
 use Rattle.xls_data.specs.declared.errors.CellErrorType.{CellErrorType}
-use Rattle.xls_data.specs.Dates.{DateParts}
+use Rattle.xls_dates.specs.Dates.{DateParts}
 
 -- a constructor for each kind of value
 pub data Content : Type 0 where

@@ -1,12 +1,12 @@
 -- The value that a number has under the class of its format.
 use Rattle.std.specs.Prelude.{Bool, ℤ, Option, Some, None}
-use Rattle.xls_data.specs.declared.numbers.Number.{Number}
-use Rattle.xls_data.specs.declared.numbers.Number.TheVariants.{Whole}
-use Rattle.xls_data.specs.declared.dates.ExcelDateTimeType.TheVariants as kind
-use Rattle.xls_data.specs.declared.formats.CellFormat.{CellFormat}
-use Rattle.xls_data.specs.declared.formats.CellFormat.TheVariants as class
+use Rattle.xls_dates.specs.declared.numbers.Number.{Number}
+use Rattle.xls_dates.specs.declared.numbers.Number.TheVariants.{Whole}
+use Rattle.xls_dates.specs.declared.dates.ExcelDateTimeType.TheVariants as kind
+use Rattle.xls_dates.specs.declared.formats.CellFormat.{CellFormat}
+use Rattle.xls_dates.specs.declared.formats.CellFormat.TheVariants as class
 use Rattle.xls_data.specs.Content.{Content, int, float, text, truth, date, iso_date, iso_duration, failure, nothing}
-use Rattle.xls_data.specs.Dates.{DateParts}
+use Rattle.xls_dates.specs.Dates.{DateParts}
 
 -- the date or duration that a number is under a class, if it is one
 abbrev pub date_of : Option CellFormat → Number → Bool → Option DateParts

@@ -4,10 +4,10 @@ use Rattle.std.specs.Option.{SomeIff}
 use Rattle.std.specs.Int.{w64}
 use Rattle.std.specs.Fmt.{signed_decimal}
 use Rattle.std.specs.Str.Parse.{IsNumeral, without_leading_sign, signed_digits_value}
-use Rattle.xls_data.specs.declared.numbers.Number.{Number}
+use Rattle.xls_dates.specs.declared.numbers.Number.{Number}
 use Rattle.xls_data.specs.declared.errors.CellErrorType.{CellErrorType}
-use Rattle.xls_data.specs.Dates.{DateParts}
-use Rattle.xls_data.specs.Numbers.{number_text, number_trunc}
+use Rattle.xls_dates.specs.Dates.{DateParts}
+use Rattle.xls_dates.specs.Numbers.{number_text, number_trunc}
 use Rattle.xls_data.specs.Content.{Content, int, float, text, truth, date, iso_date, iso_duration, failure}
 
 -- a whole number

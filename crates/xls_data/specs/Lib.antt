@@ -1,15 +1,10 @@
 pub mod Blank
-pub mod Builtin
-pub mod Classes
 pub mod Content
 pub mod Data
-pub mod Dates
 pub mod Errors
 pub mod Formatted
 pub mod Kinds
-pub mod Numbers
 pub mod Numeric
 pub mod Refs
 pub mod Regions
-pub mod SerialDays
 pub mod Sheets

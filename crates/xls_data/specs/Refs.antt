@@ -3,7 +3,7 @@ use Rattle.std.specs.Prelude.{[], ℕ, Bool, true, false, List}
 use Rattle.std.specs.Fmt.{signed_decimal}
 use Rattle.std.specs.String.{string_bytes}
 use Rattle.std.specs.Str.{chars, IsUtf8}
-use Rattle.xls_data.specs.Numbers.{number_text}
+use Rattle.xls_dates.specs.Numbers.{number_text}
 use Rattle.xls_data.specs.Errors.{error_text}
 use Rattle.xls_data.specs.Data.{bool_text}
 use Rattle.xls_data.specs.Content.{Content, int, float, text, truth, date, iso_date, iso_duration, failure, nothing}

@@ -1,4 +1,4 @@
-//! Classes of number formats, and the values that numbers have under them.
+//! The values of numbers under the classes of their formats.
 
 ghost use Rattle.std.specs.Prelude.{◌≡◌};
 ghost use Rattle.std.specs.Option.{option_copied};
@@ -6,18 +6,7 @@ ghost use Rattle.xls_data.specs.Data.{content_of};
 ghost use Rattle.xls_data.specs.Refs.{ref_content_of};
 ghost use Rattle.xls_data.specs.Formatted.{formatted_number, formatted_whole};
 
-use crate::{Data, DataRef, Number, Numeric};
-
-/// What a number format shows.
-#[derive(Clone, Copy, Debug, PartialEq, Eq)]
-pub enum CellFormat {
-    /// Neither a date nor a duration.
-    Other,
-    /// A day or a time of day.
-    DateTime,
-    /// A duration.
-    TimeDelta,
-}
+use crate::{CellFormat, Data, DataRef, Number, Numeric};
 
 /// The value of a whole number under a class: an int, or a date or duration of that number. No
 /// class is `Other`. Takes no memory.

@@ -1,34 +1,19 @@
 //! Laws over the definitions, each the contract of a call that does nothing.
 
-ghost use Rattle.std.specs.Prelude.{◌≡◌, ◌↔◌, ◌<◌, ◌^◌, ◌++◌, ◌∷◌, ℕ, List, true, false, IsTrue};
+ghost use Rattle.std.specs.Prelude.{◌≡◌, ◌↔◌, IsTrue};
 ghost use Rattle.std.specs.Cmp.Lexicographic.{slice_cmp};
-ghost use Rattle.std.specs.Fmt.{decimal};
 ghost use Rattle.std.specs.Ordering.{nat_cmp};
-ghost use Rattle.xls_data.specs.Builtin.{class_of_code, class_of_id};
-ghost use Rattle.xls_data.specs.Classes.{class_of, ends_plain};
 ghost use Rattle.xls_data.specs.Data.{content_of};
 ghost use Rattle.xls_data.specs.Refs.{ref_content_of, is_shared, HasText};
 ghost use Rattle.xls_data.specs.Regions.{corners};
 ghost use Rattle.xls_data.specs.Sheets.{sheet_content};
-ghost use Rattle.xls_data.specs.declared.numbers.Number.{Number};
+ghost use Rattle.xls_dates.specs.declared.numbers.Number.{Number};
 ghost use Rattle.xls_data.specs.declared.refs.DataRef.{DataRef};
 ghost use Rattle.xls_data.specs.declared.regions.Dimensions.{Dimensions};
 ghost use Rattle.xls_data.specs.declared.sheets.Sheet.{Sheet};
 ghost use Rattle.xls_data.specs.declared.values.Data.{Data};
 
 use crate::{Data, DataRef, Dimensions, Number, Sheet};
-
-/// The class of a format depends only on the text before the first `;` that is neither escaped nor
-/// inside quotes.
-pub fn class_of_first_section()
-    ensures { (front rest : List ℕ) → ends_plain false false front ≡ true
-        → class_of (front ++ 59 ∷ rest) ≡ class_of front }
-{}
-
-/// The class of a number's decimal text is that of the number.
-pub fn class_of_decimal_text()
-    ensures { (n : ℕ) → n < 2 ^ 16 → class_of_id (decimal n) ≡ class_of_code n }
-{}
 
 /// Two numbers are equal exactly where form and value are, two values where their contents are, two
 /// values with borrowed texts where besides both texts are shared or neither is, and two sheets

@@ -7,7 +7,7 @@ use Rattle.std.proofs.lemmas.Fmt.{IsAscii-decimal}
 use Rattle.std.proofs.lemmas.Str.{IsAscii-append}
 use Rattle.std.proofs.lemmas.Str.Ascii.{IsAscii-nil, IsAscii-cons}
 use Rattle.std.proofs.lemmas.Bool.Decides.{nat_tests}
-use Rattle.xls_data.specs.Numbers.{sixteen_digits, hundredths_text, decimals_text, minus_if_negative}
+use Rattle.xls_dates.specs.Numbers.{sixteen_digits, hundredths_text, decimals_text, minus_if_negative}
 use Rattle.xls_decimals.specs.Fractions.{day}
 use Rattle.xls_decimals.specs.Decimals.{bits_text}
 use Rattle.xls_decimals.specs.Texts.{digit, two_digits, fraction_text, minutes_text, clock_text, date_text, time_after_day, sign_of, duration_text, IsMoment, Ymd}

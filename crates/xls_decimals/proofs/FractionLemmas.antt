@@ -9,7 +9,7 @@ use Rattle.std.proofs.Math.Nat.{div-eq_of_lt, mod-eq_of_lt, mul-one}
 use Rattle.std.proofs.Math.Pow.{pow_mono}
 use Rattle.xls_bytes.proofs.SizeLemmas.{mantissa_above}
 use Rattle.xls_bytes.specs.Doubles.{mantissa_of, up_of, down_of}
-use Rattle.xls_data.specs.SerialDays.{last_day}
+use Rattle.xls_dates.specs.SerialDays.{last_day}
 use Rattle.xls_decimals.specs.Fractions.{Fraction, nearest, day, milliseconds_of}
 use Rattle.xls_decimals.specs.Counted.{counted, days_in, with_milliseconds}
 use Rattle.xls_decimals.specs.Moments.{span_in}

@@ -8,8 +8,8 @@ use Rattle.std.proofs.lemmas.Nat.{mul-le, pow_pos}
 use Rattle.std.proofs.lemmas.Option.{none-some}
 use Rattle.std.proofs.Math.Nat.{lt-div-mul-add, mul-pos, div-add-mod'}
 use Rattle.xls_bytes.specs.Doubles.{exponent_of, down_of}
-use Rattle.xls_data.specs.declared.numbers.Number.{Number}
-use Rattle.xls_data.specs.declared.numbers.Number.TheVariants.{Bits, Whole, Hundredths, BitsOver100}
+use Rattle.xls_dates.specs.declared.numbers.Number.{Number}
+use Rattle.xls_dates.specs.declared.numbers.Number.TheVariants.{Bits, Whole, Hundredths, BitsOver100}
 use Rattle.xls_decimals.specs.Fractions.{Fraction, nearest, value_of, is_below_zero, milliseconds_of, day}
 use Rattle.xls_decimals.proofs.FractionLemmas.{nearest_below, nearest_above, nearest_tie}
 

@@ -3,8 +3,8 @@ use Rattle.std.proofs.Common.{◌≡◌, ◌≢◌, ℕ, ◌+◌, ◌-◌, ◌*�
 use Rattle.std.proofs.lemmas.Bool.{cases_lt, cases_eq, ne_eqb, eq-eqb, lt-ltb, le-ltb}
 use Rattle.jiff_core.proofs.SignedLemmas.{signed_arith}
 use Rattle.jiff_core.proofs.CalendarLemmas.{days_in_month_bounds}
-use Rattle.xls_data.proofs.DayLemmas.{known}
-use Rattle.xls_data.specs.SerialDays.{IsDayNumber, day_number}
+use Rattle.xls_dates.proofs.DayLemmas.{known}
+use Rattle.xls_dates.specs.SerialDays.{IsDayNumber, day_number}
 use Rattle.xls_decimals.specs.Fractions.{day}
 use Rattle.xls_decimals.specs.Texts.{Ymd, IsSerialDate, IsMoment, digit, fraction_text, clock_text, date_text, time_after_day}
 

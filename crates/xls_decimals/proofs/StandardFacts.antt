@@ -8,9 +8,9 @@ use Rattle.std.specs.Float.Ieee.{round, units, odd, of_bits, of_fields}
 use Rattle.ryu.specs.Parse.{parse_float, read_float}
 use Rattle.std.specs.Float.Numeral.{scan_numeral}
 use Rattle.xls_bytes.specs.Doubles.{size_of_parts}
-use Rattle.xls_data.specs.Numbers.{sixteen_digits}
-use Rattle.xls_data.specs.SerialDays.{day_number}
-use Rattle.xls_data.specs.declared.numbers.Number.TheVariants.{Bits, Whole, Hundredths, BitsOver100}
+use Rattle.xls_dates.specs.Numbers.{sixteen_digits}
+use Rattle.xls_dates.specs.SerialDays.{day_number}
+use Rattle.xls_dates.specs.declared.numbers.Number.TheVariants.{Bits, Whole, Hundredths, BitsOver100}
 use Rattle.jiff_core.specs.Calendar.{days_from_civil, day_count, days_of_years, days_of_months}
 use Rattle.xls_decimals.specs.Decimals.{fixed_text}
 use Rattle.xls_decimals.specs.Fractions.{nearest}

@@ -1,6 +1,6 @@
 -- For the proofs: what the code keeps of a number of days.
 use Rattle.std.specs.Prelude.{ℕ, ◌/◌, ◌==◌, nat_le, if◌then◌else◌, Option, Some, None, ℤ, unsigned_abs}
-use Rattle.xls_data.specs.SerialDays.{last_day}
+use Rattle.xls_dates.specs.SerialDays.{last_day}
 use Rattle.xls_decimals.specs.Fractions.{Fraction, day, is_below_zero, milliseconds_of}
 use Rattle.xls_decimals.specs.declared.fractions.Days.{Days}
 

@@ -6,9 +6,9 @@ use Rattle.std.specs.Fmt.{signed_decimal}
 use Rattle.ryu.specs.Parse.{parse_float}
 use Rattle.ryu.specs.Plain.{IsLaidOutNumber}
 use Rattle.xls_bytes.specs.Doubles.{exponent_of, fraction_of, is_negative, signed, whole_of}
-use Rattle.xls_data.specs.Numbers.{sixteen_digits, hundredths_text}
-use Rattle.xls_data.specs.declared.numbers.Number.{Number}
-use Rattle.xls_data.specs.declared.numbers.Number.TheVariants.{Bits, Whole, Hundredths, BitsOver100}
+use Rattle.xls_dates.specs.Numbers.{sixteen_digits, hundredths_text}
+use Rattle.xls_dates.specs.declared.numbers.Number.{Number}
+use Rattle.xls_dates.specs.declared.numbers.Number.TheVariants.{Bits, Whole, Hundredths, BitsOver100}
 
 -- a whole double from 2 ^ 53 to 10 ^ 16 in size: there it is twice 2 ^ 52 and its fraction field
 abbrev pub large_whole_of : ℕ → Option ℤ

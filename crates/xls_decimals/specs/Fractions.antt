@@ -1,8 +1,8 @@
 -- The exact value of a number of days, as a fraction of whole numbers, and its milliseconds.
 use Rattle.std.specs.Prelude.{ℕ, ◌+◌, ◌*◌, ◌/◌, ◌%◌, ◌^◌, nat_lt, if◌then◌else◌, Bool, true, false, Option, Some, None, ℤ, pos, negsuc, unsigned_abs}
 use Rattle.xls_bytes.specs.Doubles.{exponent_of, fraction_of, is_negative, mantissa_of, up_of, down_of}
-use Rattle.xls_data.specs.declared.numbers.Number.{Number}
-use Rattle.xls_data.specs.declared.numbers.Number.TheVariants.{Bits, Whole, Hundredths, BitsOver100}
+use Rattle.xls_dates.specs.declared.numbers.Number.{Number}
+use Rattle.xls_dates.specs.declared.numbers.Number.TheVariants.{Bits, Whole, Hundredths, BitsOver100}
 
 -- a value: whether it has a minus, and its size, a numerator over a denominator that isn't 0
 pub record Fraction : Type 0 where

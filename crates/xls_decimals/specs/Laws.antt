@@ -1,6 +1,6 @@
 -- Laws of the texts.
 use Rattle.std.specs.Prelude.{◌≡◌, ◌≢◌, ℕ, ◌+◌, ◌*◌, ◌<◌, Bool, Some, List}
-use Rattle.xls_data.specs.declared.numbers.Number.{Number}
+use Rattle.xls_dates.specs.declared.numbers.Number.{Number}
 use Rattle.xls_decimals.specs.Fractions.{Fraction, value_of, day}
 use Rattle.xls_decimals.specs.Texts.{IsMoment}
 use Rattle.xls_decimals.specs.Moments.{moment_of}

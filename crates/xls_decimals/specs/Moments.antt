@@ -1,10 +1,10 @@
 -- Which numbers are shown as dates and durations, and how.
 use Rattle.std.specs.Prelude.{◌≡◌, ℕ, ◌/◌, ◌&&◌, nat_le, nat_lt, not, if◌then◌else◌, Bool, true, false, Option, Some, None, MatchOption, List}
-use Rattle.xls_data.specs.Dates.{DateParts}
-use Rattle.xls_data.specs.SerialDays.{last_day, last_day_of_1904}
-use Rattle.xls_data.specs.declared.numbers.Number.{Number}
-use Rattle.xls_data.specs.declared.dates.ExcelDateTimeType.{ExcelDateTimeType}
-use Rattle.xls_data.specs.declared.dates.ExcelDateTimeType.TheVariants.{DateTime, TimeDelta}
+use Rattle.xls_dates.specs.Dates.{DateParts}
+use Rattle.xls_dates.specs.SerialDays.{last_day, last_day_of_1904}
+use Rattle.xls_dates.specs.declared.numbers.Number.{Number}
+use Rattle.xls_dates.specs.declared.dates.ExcelDateTimeType.{ExcelDateTimeType}
+use Rattle.xls_dates.specs.declared.dates.ExcelDateTimeType.TheVariants.{DateTime, TimeDelta}
 use Rattle.xls_decimals.specs.Decimals.{IsDecimal}
 use Rattle.xls_decimals.specs.Fractions.{Fraction, value_of, milliseconds_of, day}
 use Rattle.xls_decimals.specs.Texts.{IsMoment, duration_text}

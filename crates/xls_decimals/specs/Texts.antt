@@ -1,7 +1,7 @@
 -- The texts of dates, times of day and durations, as lists of ASCII codes.
 use Rattle.std.specs.Prelude.{◌≡◌, ℕ, ◌+◌, ◌/◌, ◌%◌, ◌==◌, ◌<◌, nat_lt, MatchBool, if◌then◌else◌, Bool, true, false, List, [], ◌∷◌, ◌++◌, codes, pos, ◌+ℤ◌}
 use Rattle.std.specs.Fmt.{decimal}
-use Rattle.xls_data.specs.SerialDays.{IsDayNumber, day_number}
+use Rattle.xls_dates.specs.SerialDays.{IsDayNumber, day_number}
 use Rattle.xls_decimals.specs.Fractions.{day}
 
 -- a year, a month and a day

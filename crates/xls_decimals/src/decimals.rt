@@ -5,7 +5,7 @@ ghost use Rattle.std.specs.Float.{binary64, float_is_finite};
 ghost use Rattle.std.specs.Fmt.{signed_decimal};
 ghost use Rattle.std.specs.String.{string_bytes};
 ghost use Rattle.xls_bytes.specs.Doubles.{exponent_of};
-ghost use Rattle.xls_data.specs.Numbers.{hundredths_text};
+ghost use Rattle.xls_dates.specs.Numbers.{hundredths_text};
 ghost use Rattle.xls_decimals.specs.Added.{Adds};
 ghost use Rattle.xls_decimals.specs.Decimals.{large_whole_of, short_whole_of, bits_text, over_100, IsDouble, IsDoubleOver100, IsDecimal};
 

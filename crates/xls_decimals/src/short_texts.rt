@@ -3,7 +3,7 @@
 ghost use Rattle.std.specs.Prelude.{◌≡◌, ◌++◌, ◌∷◌, ◌+◌, ◌/◌, ◌%◌, ◌<◌, ◌≤◌, length, OnOk, OnErr};
 ghost use Rattle.std.specs.String.{string_bytes};
 ghost use Rattle.std.specs.Str.{IsAscii};
-ghost use Rattle.xls_data.specs.Numbers.{decimals_text, hundredths_text};
+ghost use Rattle.xls_dates.specs.Numbers.{decimals_text, hundredths_text};
 ghost use Rattle.xls_decimals.specs.Decimals.{bits_text};
 ghost use Rattle.xls_decimals.specs.Texts.{digit, two_digits, fraction_text, minutes_text, clock_text, date_text};
 

@@ -1,7 +1,7 @@
 -- What the count says of a reading.
 use Rattle.std.specs.Prelude.{◌≡◌, ℕ, List, true, map, slice_get, Some}
 use Rattle.xls_model.specs.Listing.{Item, entry_of}
-use Rattle.xls_data.specs.Builtin.{class_of_code}
+use Rattle.xls_dates.specs.Builtin.{class_of_code}
 use Rattle.xls_reading.specs.InForce.{identifiers_in, classes_in}
 use Rattle.xls_reading.specs.Rules.{Rules}
 use Rattle.xls_formats.specs.Uncounted.{touched_xfs, is_touched}

@@ -11,7 +11,7 @@ use Rattle.std.proofs.lemmas.Str.{IsUtf8-string_bytes, scalars-chars, chars-enco
 use Rattle.std.proofs.lemmas.Str.Ascii.{IsAscii-nil, IsAscii-cons, IsAscii-push, IsAscii-from_all}
 use Rattle.xls_bytes.specs.Columns.{word_of, column_name}
 use Rattle.xls_bytes.specs.Doubles.{whole_of}
-use Rattle.xls_data.specs.Numbers.{bits_text, whole_text, sixteen_digits}
+use Rattle.xls_dates.specs.Numbers.{bits_text, whole_text, sixteen_digits}
 use Rattle.xls_data.specs.Errors.{error_text}
 use Rattle.xls_data.specs.declared.errors.CellErrorType.{CellErrorType}
 use Rattle.xls_data.specs.declared.errors.CellErrorType.TheVariants as failures

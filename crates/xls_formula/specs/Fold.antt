@@ -4,7 +4,7 @@ use Rattle.std.specs.Fmt.{decimal}
 use Rattle.xls_strings.specs.Reading.{◌>>=◌, gives}
 use Rattle.xls_text.specs.declared.encoding.XlsEncoding.{XlsEncoding}
 use Rattle.xls_text.specs.Pages.{string_text}
-use Rattle.xls_data.specs.Numbers.{bits_text}
+use Rattle.xls_dates.specs.Numbers.{bits_text}
 use Rattle.xls_model.specs.declared.part.Part.TheVariants as parts
 use Rattle.xls_strings.specs.declared.error.XlsError.{XlsError}
 use Rattle.xls_strings.specs.declared.error.XlsError.TheVariants as errors

@@ -6,7 +6,7 @@ ghost use Rattle.std.specs.Option.{option_map};
 ghost use Rattle.std.specs.Str.{IsAscii, chars};
 ghost use Rattle.xls_bytes.specs.Columns.{column_name};
 ghost use Rattle.xls_strings.specs.Texts.{text_of};
-ghost use Rattle.xls_data.specs.Numbers.{bits_text};
+ghost use Rattle.xls_dates.specs.Numbers.{bits_text};
 ghost use Rattle.xls_text.specs.Pages.{string_text};
 ghost use Rattle.xls_formula.specs.Fold.{str_text};
 ghost use Rattle.xls_formula.specs.Tree.{area_text, corner_text, dollar, on_sheet};

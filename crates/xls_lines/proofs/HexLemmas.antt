@@ -3,7 +3,7 @@ use Rattle.std.proofs.Common.{◌≡◌, ℕ, zero, suc, ◌+◌, ◌-◌, ◌/�
 use Rattle.std.specs.Fmt.{digit_glyph, digits, digits_onto}
 use Rattle.std.proofs.lemmas.Bool.{cases_lt}
 use Rattle.std.proofs.lemmas.Bool.Decides.{nat_tests}
-use Rattle.xls_data.specs.Numbers.{sixteen_digits}
+use Rattle.xls_dates.specs.Numbers.{sixteen_digits}
 
 -- the last k digits of n before a text
 pub low : ℕ → ℕ → List ℕ → List ℕ

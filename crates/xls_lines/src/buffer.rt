@@ -4,7 +4,7 @@ ghost use Rattle.std.specs.Prelude.{◌≡◌, ◌∷◌, ◌++◌, ◌+◌, ◌
 ghost use Rattle.std.specs.List.{flat_map};
 ghost use Rattle.std.specs.Fmt.{decimal, signed_decimal};
 ghost use Rattle.std.specs.Str.{chars};
-ghost use Rattle.xls_data.specs.Numbers.{number_text};
+ghost use Rattle.xls_dates.specs.Numbers.{number_text};
 ghost use Rattle.xls_lines.specs.Gathering.{Delivers, Puts};
 ghost use Rattle.xls_lines.specs.Lines.{field_text, filled_line, numeral_text, tabbed, tabbed_field};
 

@@ -2,7 +2,7 @@
 
 ghost use Rattle.std.specs.Prelude.{◌≡◌, ◌∷◌, ◌++◌, ◌+◌, ◌<◌, ◌≤◌, [], false, length};
 ghost use Rattle.std.specs.Fmt.{decimal, digit_glyph, signed_decimal};
-ghost use Rattle.xls_data.specs.Numbers.{sixteen_digits};
+ghost use Rattle.xls_dates.specs.Numbers.{sixteen_digits};
 
 use itoa::write_digits;
 use std::marker::Model;

@@ -2,9 +2,9 @@
 use Rattle.std.proofs.Common.{◌≡◌, [], ◌∷◌, map, true, false, refl, pos, negsuc, Some, None, codes}
 use Rattle.std.specs.Str.{chars}
 use Rattle.xls_data.specs.Content.{int, float, text, truth, date, iso_date, iso_duration, failure, nothing}
-use Rattle.xls_data.specs.declared.dates.ExcelDateTimeType.TheVariants.{DateTime, TimeDelta}
+use Rattle.xls_dates.specs.declared.dates.ExcelDateTimeType.TheVariants.{DateTime, TimeDelta}
 use Rattle.xls_data.specs.declared.errors.CellErrorType.TheVariants.{NA}
-use Rattle.xls_data.specs.declared.numbers.Number.TheVariants.{Whole}
+use Rattle.xls_dates.specs.declared.numbers.Number.TheVariants.{Whole}
 use Rattle.xls_data.specs.declared.sheets.SheetType.TheVariants.{WorkSheet, ChartSheet}
 use Rattle.xls_data.specs.declared.sheets.SheetVisible.TheVariants.{Visible, VeryHidden}
 use Rattle.xls_reading.specs.Reading.{BookView}

@@ -5,7 +5,7 @@ use Rattle.xls_model.specs.Stream.{Group}
 use Rattle.xls_model.specs.Listing.{Shared, no_table, table_of, table_without, IsShared}
 use Rattle.xls_model.specs.StringTable.{Mark, Missing, marked, Table, TableFault}
 use Rattle.xls_model.proofs.TableReadings.{one_reading}
-use Rattle.xls_data.specs.declared.formats.CellFormat.{CellFormat}
+use Rattle.xls_dates.specs.declared.formats.CellFormat.{CellFormat}
 use Rattle.xls_strings.specs.declared.error.XlsError.{XlsError}
 use Rattle.xls_strings.specs.declared.version.Biff.{Biff}
 use Rattle.xls_strings.specs.Reading.{gives}

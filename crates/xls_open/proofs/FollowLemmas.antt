@@ -8,7 +8,7 @@ use Rattle.xls_model.specs.StringTable.{Mark, Missing, marked, Table, TableFault
 use Rattle.xls_model.proofs.TableReadings.{one_reading}
 use Rattle.xls_text.specs.declared.encoding.XlsEncoding.{XlsEncoding}
 use Rattle.xls_data.specs.Sheets.{SheetContent}
-use Rattle.xls_data.specs.declared.formats.CellFormat.{CellFormat}
+use Rattle.xls_dates.specs.declared.formats.CellFormat.{CellFormat}
 use Rattle.xls_strings.specs.declared.version.Biff.{Biff}
 use Rattle.xls_model.specs.declared.part.Part.{Part}
 use Rattle.xls_model.specs.declared.part.Part.TheVariants.{Sst}

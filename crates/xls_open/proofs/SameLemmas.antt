@@ -6,7 +6,7 @@ use Rattle.xls_model.specs.Listing.{Kept, Carries}
 use Rattle.xls_model.specs.Listing as listing
 use Rattle.xls_data.specs.Sheets.{SheetContent}
 use Rattle.xls_data.specs.declared.regions.Dimensions.{Dimensions}
-use Rattle.xls_data.specs.declared.formats.CellFormat.{CellFormat}
+use Rattle.xls_dates.specs.declared.formats.CellFormat.{CellFormat}
 use Rattle.xls_biff.specs.Cells.{Entry}
 use Rattle.xls_reading.specs.InForce.{InForce, in_force_of, SheetRecords, sheets_of}
 use Rattle.xls_reading.specs.SheetTable.{FormulaEntry}

@@ -8,7 +8,7 @@ use Rattle.xls_model.specs.Listing.{offset_at, Kept, Item, plain_item, table_ite
 use Rattle.xls_model.specs.Walks.{IsBytes}
 use Rattle.xls_model.specs.declared.part.Part.{Part}
 use Rattle.xls_data.specs.Sheets.{SheetContent, sheet_content}
-use Rattle.xls_data.specs.declared.formats.CellFormat.{CellFormat}
+use Rattle.xls_dates.specs.declared.formats.CellFormat.{CellFormat}
 use Rattle.xls_strings.specs.declared.error.XlsError.{XlsError}
 use Rattle.xls_strings.specs.declared.error.XlsError.TheVariants as errors
 use Rattle.xls_strings.specs.declared.version.Biff.{Biff}

@@ -3,7 +3,7 @@
 ghost use Rattle.std.specs.Prelude.{◌≡◌, ◌==◌, ℕ, Some, cond, unwrap_or, IfOk, OnOk, map};
 ghost use Rattle.std.specs.Ordering.{nat_cmp};
 ghost use Rattle.std.specs.BTreeMap.{get};
-ghost use Rattle.xls_data.specs.Builtin.{class_of_code};
+ghost use Rattle.xls_dates.specs.Builtin.{class_of_code};
 ghost use Rattle.xls_reading.specs.InForce.{last_class, class_in};
 
 use std::alloc::{AllocError, Global};

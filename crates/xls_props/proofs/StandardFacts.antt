@@ -15,7 +15,7 @@ use Rattle.xls_props.specs.Values.{without_nuls, page_in, version_text, moment_o
 use Rattle.xls_props.specs.Names.{names_at}
 use Rattle.xls_props.specs.Custom.{customs_of, last_named}
 use Rattle.jiff_core.specs.Calendar.{days_from_civil, day_count, days_of_years, days_of_months}
-use Rattle.xls_data.specs.SerialDays.{day_number}
+use Rattle.xls_dates.specs.SerialDays.{day_number}
 use Rattle.xls_props.specs.Moments.{IsMoment, clock_text, past_last_day}
 use Rattle.jiff.specs.Words.{epoch_day, date_text}
 use Rattle.xls_props.specs.Sections.{section_of, sized_at, summary_id, document_id, custom_id, names_in}

@@ -1,5 +1,5 @@
-pub use Rattle.xls_data.specs.SerialDays
-pub use Rattle.xls_data.specs.Numbers
+pub use Rattle.xls_dates.specs.SerialDays
+pub use Rattle.xls_dates.specs.Numbers
 pub use Rattle.xls_text.specs.Pages
 pub mod Bytes
 pub mod Entries

@@ -3,7 +3,7 @@ use Rattle.std.specs.Prelude.{◌≡◌, ℕ, ◌/◌, ◌%◌, ◌≤◌, ◌�
 use Rattle.std.specs.Fmt.{decimal}
 use Rattle.jiff.specs.Words.{epoch_day, date_text}
 use Rattle.jiff_core.specs.declared.civil.date.Date.{Date}
-use Rattle.xls_data.specs.SerialDays.{day_number}
+use Rattle.xls_dates.specs.SerialDays.{day_number}
 
 -- the tens and the ones
 abbrev pub two_digits : ℕ → List ℕ

@@ -1,7 +1,7 @@
 -- Values as the code has them before it makes their texts.
 use Rattle.std.specs.Prelude.{◌<◌}
 use Rattle.std.specs.Fmt.{decimal, signed_decimal}
-use Rattle.xls_data.specs.Numbers.{bits_text}
+use Rattle.xls_dates.specs.Numbers.{bits_text}
 use Rattle.xls_props.specs.declared.values.Stored.{Stored}
 use Rattle.xls_props.specs.declared.values.Stored.TheVariants as stored
 use Rattle.xls_props.specs.Moments.{past_last_day}

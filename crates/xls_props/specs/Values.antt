@@ -10,7 +10,7 @@ use Rattle.xls_text.specs.declared.encoding.XlsEncoding.{XlsEncoding}
 use Rattle.xls_text.specs.declared.encoding.XlsEncoding.TheVariants.{Utf8, Utf16}
 use Rattle.xls_text.specs.declared.error.CfbError.{CfbError}
 use Rattle.xls_text.specs.Pages.{decoded, page_of}
-use Rattle.xls_data.specs.Numbers.{bits_text}
+use Rattle.xls_dates.specs.Numbers.{bits_text}
 use Rattle.xls_props.specs.PropertyTypes.{VT_I2, VT_I4, VT_R8, VT_BOOL, VT_UI4, VT_LPSTR, VT_LPWSTR, VT_FILETIME}
 use Rattle.xls_props.specs.Bytes.{bytes_at, u16_at, i16_at, u32_at, i32_at, u64_at}
 use Rattle.xls_props.specs.Entries.{Entry, first_of, last_of}

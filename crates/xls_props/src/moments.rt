@@ -3,7 +3,7 @@
 ghost use Rattle.std.specs.Prelude.{◌≡◌, ◌==◌, ◌||◌, nat_le, ◌<◌, ◌≤◌, ◌++◌, pos, ◌+ℤ◌, IfOk, MatchOption};
 ghost use Rattle.std.specs.String.{string_bytes};
 ghost use Rattle.jiff.specs.Words.{epoch_day, IsEpochDay, IsBetween, IsYmd};
-ghost use Rattle.xls_data.specs.SerialDays.{day_number};
+ghost use Rattle.xls_dates.specs.SerialDays.{day_number};
 ghost use Rattle.xls_props.specs.Moments.{IsNoMoment, IsMoment, past_last_day};
 
 use jiff::ToSpan;

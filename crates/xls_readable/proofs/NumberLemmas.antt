@@ -15,9 +15,9 @@ use Rattle.json.proofs.Printed.Floats.{IsNumber-plain}
 use lib.Signed.{mag}
 use Rattle.xls_bytes.specs.Doubles.{exponent_of, fraction_of, is_negative, signed, fits_i64, whole_of}
 use Rattle.xls_bytes.proofs.WholeLemmas.{whole_of_is, unsigned_abs-signed}
-use Rattle.xls_data.specs.Numbers.{decimals_text, hundredths_text}
-use Rattle.xls_data.specs.declared.numbers.Number.{Number}
-use Rattle.xls_data.specs.declared.numbers.Number.TheVariants.{Bits, Whole, Hundredths, BitsOver100}
+use Rattle.xls_dates.specs.Numbers.{decimals_text, hundredths_text}
+use Rattle.xls_dates.specs.declared.numbers.Number.{Number}
+use Rattle.xls_dates.specs.declared.numbers.Number.TheVariants.{Bits, Whole, Hundredths, BitsOver100}
 use Rattle.xls_decimals.specs.Decimals.{IsDecimal, IsDouble, IsDoubleOver100, IsFraction, bits_text, first_of, large_whole_of, over_100, short_whole_of, whole_or_bits_text}
 use Rattle.xls_readable.specs.Json.{IsBare}
 use Rattle.xls_readable.specs.Laws.{IsFiniteNumber, NumbersAreBare}

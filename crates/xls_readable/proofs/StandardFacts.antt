@@ -5,10 +5,10 @@ use Rattle.std.specs.Prelude.{Some, None, codes}
 use Rattle.std.specs.Fmt.{digits}
 use Rattle.std.specs.Str.{chars}
 use Rattle.json.specs.Print.{escape_byte, quoted}
-use Rattle.xls_data.specs.Dates.{DateParts}
-use Rattle.xls_data.specs.declared.dates.ExcelDateTimeType.TheVariants.{DateTime, TimeDelta}
+use Rattle.xls_dates.specs.Dates.{DateParts}
+use Rattle.xls_dates.specs.declared.dates.ExcelDateTimeType.TheVariants.{DateTime, TimeDelta}
 use Rattle.xls_data.specs.declared.errors.CellErrorType.{CellErrorType}
-use Rattle.xls_data.specs.declared.numbers.Number.{Number}
+use Rattle.xls_dates.specs.declared.numbers.Number.{Number}
 use Rattle.xls_data.specs.declared.regions.Dimensions.{Dimensions}
 use Rattle.xls_data.specs.declared.sheets.SheetType.TheVariants as types
 use Rattle.xls_data.specs.declared.sheets.SheetVisible.TheVariants as states

@@ -4,10 +4,10 @@ use Rattle.std.specs.Fmt.{decimal, signed_decimal}
 use Rattle.std.specs.Str.{chars}
 use Rattle.xls_bytes.specs.Escapes.{escaped_text}
 use Rattle.xls_data.specs.Data.{bool_text}
-use Rattle.xls_data.specs.Dates.{DateParts}
+use Rattle.xls_dates.specs.Dates.{DateParts}
 use Rattle.xls_data.specs.Errors.{error_text}
 use Rattle.xls_data.specs.declared.errors.CellErrorType.{CellErrorType}
-use Rattle.xls_data.specs.declared.numbers.Number.{Number}
+use Rattle.xls_dates.specs.declared.numbers.Number.{Number}
 use Rattle.xls_decimals.specs.Decimals.{IsDecimal}
 use Rattle.xls_decimals.specs.Formulas.{IsFormula}
 use Rattle.xls_decimals.specs.Moments.{IsDateOrDuration}

@@ -8,8 +8,8 @@ use Rattle.csv.specs.declared.parser.Config.{Config}
 use Rattle.csv.specs.declared.parser.State.TheVariants.{StartRecord}
 use Rattle.json.specs.Print.{IsNumber}
 use Rattle.xls_bytes.specs.Doubles.{exponent_of, fits_i64}
-use Rattle.xls_data.specs.declared.numbers.Number.{Number}
-use Rattle.xls_data.specs.declared.numbers.Number.TheVariants.{Bits, Whole, Hundredths, BitsOver100}
+use Rattle.xls_dates.specs.declared.numbers.Number.{Number}
+use Rattle.xls_dates.specs.declared.numbers.Number.TheVariants.{Bits, Whole, Hundredths, BitsOver100}
 use Rattle.xls_decimals.specs.Decimals.{IsDecimal}
 use Rattle.xls_readable.specs.Csv.{csv_row, is_delimiter}
 use Rattle.xls_readable.specs.Items.{number}

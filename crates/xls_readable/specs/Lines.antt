@@ -1,7 +1,7 @@
 -- The lines of a workbook: the fields of each kind, by their names, in their order.
 use Rattle.std.specs.Prelude.{◌≡◌, ℕ, Bool, true, false, List, [], ◌∷◌, Option, Some, None, MatchOption, codes}
-use Rattle.xls_data.specs.declared.dates.ExcelDateTimeType.{ExcelDateTimeType}
-use Rattle.xls_data.specs.declared.dates.ExcelDateTimeType.TheVariants.{DateTime, TimeDelta}
+use Rattle.xls_dates.specs.declared.dates.ExcelDateTimeType.{ExcelDateTimeType}
+use Rattle.xls_dates.specs.declared.dates.ExcelDateTimeType.TheVariants.{DateTime, TimeDelta}
 use Rattle.xls_data.specs.declared.regions.Dimensions.{Dimensions}
 use Rattle.xls_data.specs.declared.sheets.SheetType.{SheetType}
 use Rattle.xls_data.specs.declared.sheets.SheetType.TheVariants as types

@@ -9,7 +9,7 @@ use Rattle.xls_bytes.specs.Columns.{word_of, column_name}
 use Rattle.xls_text.specs.declared.encoding.XlsEncoding.TheVariants.{Utf16, Windows1252, Utf8, Latin1}
 use Rattle.xls_text.specs.declared.error.CfbError.TheVariants.{CodePageNotFound}
 use Rattle.xls_model.specs.Listing.{Kept, Entry, plain_entry, table_entry, sheet_entry}
-use Rattle.xls_data.specs.declared.formats.CellFormat.TheVariants.{Other, DateTime, TimeDelta}
+use Rattle.xls_dates.specs.declared.formats.CellFormat.TheVariants.{Other, DateTime, TimeDelta}
 use Rattle.xls_data.specs.declared.sheets.SheetType.TheVariants.{WorkSheet, MacroSheet, ChartSheet, Vba}
 use Rattle.xls_data.specs.declared.sheets.SheetVisible.TheVariants.{Visible, Hidden, VeryHidden}
 use Rattle.xls_strings.specs.declared.error.XlsError.TheVariants as errors

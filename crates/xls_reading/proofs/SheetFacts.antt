@@ -10,10 +10,10 @@ use Rattle.xls_text.specs.declared.encoding.XlsEncoding.TheVariants.{Windows1252
 use Rattle.xls_model.specs.Listing.{Kept, Item, plain_item, sheet_item, Entry, sheet_entry}
 use Rattle.xls_model.specs.declared.part.Part.TheVariants as parts
 use Rattle.xls_data.specs.Content.{Content, int, float, text, truth, date, failure}
-use Rattle.xls_data.specs.declared.numbers.Number.TheVariants.{Bits, Whole}
+use Rattle.xls_dates.specs.declared.numbers.Number.TheVariants.{Bits, Whole}
 use Rattle.xls_data.specs.declared.errors.CellErrorType.TheVariants as failures
-use Rattle.xls_data.specs.declared.dates.ExcelDateTimeType.TheVariants as kinds
-use Rattle.xls_data.specs.declared.formats.CellFormat.TheVariants.{Other, DateTime}
+use Rattle.xls_dates.specs.declared.dates.ExcelDateTimeType.TheVariants as kinds
+use Rattle.xls_dates.specs.declared.formats.CellFormat.TheVariants.{Other, DateTime}
 use Rattle.xls_data.specs.declared.sheets.SheetType.TheVariants.{WorkSheet}
 use Rattle.xls_data.specs.declared.sheets.SheetVisible.TheVariants.{Visible}
 use Rattle.xls_data.specs.Sheets.{SheetContent}

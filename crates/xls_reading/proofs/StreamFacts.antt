@@ -6,7 +6,7 @@ use Rattle.xls_model.specs.Substreams.{IsPlain, GlobalsPart, SheetPart, none, no
 use Rattle.xls_model.specs.Listing.{Kept, Item, plain_item, sheet_item, Entry, plain_entry, sheet_entry, Holds, Carries}
 use Rattle.xls_model.specs.declared.part.Part.TheVariants as parts
 use Rattle.xls_data.specs.Content.{float}
-use Rattle.xls_data.specs.declared.numbers.Number.TheVariants.{Bits}
+use Rattle.xls_dates.specs.declared.numbers.Number.TheVariants.{Bits}
 use Rattle.xls_data.specs.declared.sheets.SheetType.TheVariants.{WorkSheet}
 use Rattle.xls_data.specs.declared.sheets.SheetVisible.TheVariants.{Visible}
 use Rattle.xls_strings.specs.declared.error.XlsError.TheVariants as errors

@@ -8,7 +8,7 @@ use Rattle.xls_model.specs.Listing.{Shared, no_table, table_of, table_without, E
 use Rattle.xls_model.specs.declared.part.Part.TheVariants as parts
 use Rattle.xls_model.specs.declared.types.TheConstants as types
 use Rattle.xls_data.specs.Sheets.{SheetContent}
-use Rattle.xls_data.specs.declared.formats.CellFormat.{CellFormat}
+use Rattle.xls_dates.specs.declared.formats.CellFormat.{CellFormat}
 use Rattle.xls_strings.specs.declared.error.XlsError.{XlsError}
 use Rattle.xls_strings.specs.declared.error.XlsError.TheVariants.{Len, Cfb}
 use Rattle.xls_strings.specs.declared.version.Biff.{Biff}

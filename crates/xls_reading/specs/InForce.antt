@@ -8,9 +8,9 @@ use Rattle.xls_text.specs.Pages.{page_of}
 use Rattle.xls_text.specs.declared.encoding.XlsEncoding.{XlsEncoding}
 use Rattle.xls_text.specs.declared.encoding.XlsEncoding.TheVariants.{Utf16}
 use Rattle.xls_model.specs.Listing.{Kept, Entry, plain_entry, table_entry, sheet_entry}
-use Rattle.xls_data.specs.Builtin.{class_of_code}
+use Rattle.xls_dates.specs.Builtin.{class_of_code}
 use Rattle.xls_data.specs.Sheets.{SheetContent}
-use Rattle.xls_data.specs.declared.formats.CellFormat.{CellFormat}
+use Rattle.xls_dates.specs.declared.formats.CellFormat.{CellFormat}
 use Rattle.xls_strings.specs.declared.version.Biff.{Biff}
 use Rattle.xls_strings.specs.declared.version.Biff.TheVariants.{Biff8}
 use Rattle.xls_strings.specs.Version.{is_biff8}

@@ -14,7 +14,7 @@ use Rattle.xls_reading.specs.Order.{along}
 use Rattle.xls_reading.specs.InForce.{is_1904_in, classes_in, names_in, InForce, in_force_of, SheetRecords, sheets_of}
 use Rattle.xls_reading.specs.SheetTable.{FormulaEntry, Given, nothing, given_in}
 use Rattle.xls_reading.specs.Rules.{Rules}
-use Rattle.xls_data.specs.declared.formats.CellFormat.{CellFormat}
+use Rattle.xls_dates.specs.declared.formats.CellFormat.{CellFormat}
 
 -- ---- sheets
 

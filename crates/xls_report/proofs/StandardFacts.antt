@@ -2,9 +2,9 @@
 use Rattle.std.proofs.Common.{◌≡◌, [], ◌∷◌, ◌++◌, map, true, false, refl, pos, negsuc, Some, codes}
 use Rattle.std.specs.Fmt.{digits}
 use Rattle.xls_data.specs.Content.{int, float, text, truth, date, iso_date, iso_duration, failure, nothing}
-use Rattle.xls_data.specs.declared.dates.ExcelDateTimeType.TheVariants.{DateTime, TimeDelta}
+use Rattle.xls_dates.specs.declared.dates.ExcelDateTimeType.TheVariants.{DateTime, TimeDelta}
 use Rattle.xls_data.specs.declared.errors.CellErrorType.TheVariants.{NA}
-use Rattle.xls_data.specs.declared.numbers.Number.TheVariants.{Whole, Hundredths}
+use Rattle.xls_dates.specs.declared.numbers.Number.TheVariants.{Whole, Hundredths}
 use Rattle.xls_data.specs.declared.sheets.SheetType.TheVariants.{WorkSheet, DialogSheet, MacroSheet, ChartSheet, Vba}
 use Rattle.xls_data.specs.declared.sheets.SheetVisible.TheVariants.{Visible, Hidden, VeryHidden}
 use Rattle.xls_strings.specs.declared.error.XlsError.TheVariants.{Password, TooLarge}

@@ -2,7 +2,7 @@
 use Rattle.std.proofs.Common.{◌≡◌, ℕ, refl, [], ◌∷◌, pos, true, false}
 use Rattle.std.specs.Prelude.{codes, Ok, Err, Some, None}
 use Rattle.xls_data.specs.Content.{int, truth, nothing, failure}
-use Rattle.xls_data.specs.declared.numbers.Number.TheVariants.{Bits}
+use Rattle.xls_dates.specs.declared.numbers.Number.TheVariants.{Bits}
 use Rattle.xls_data.specs.declared.errors.CellErrorType.TheVariants.{NA}
 use Rattle.xls_rows.specs.Refusals.{cell_error, custom}
 use Rattle.xls_rows.specs.Wholes.{not_whole}

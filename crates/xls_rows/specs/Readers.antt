@@ -1,8 +1,8 @@
 -- What a cell is read as, by its content and the position of its row.
 use Rattle.std.specs.Prelude.{◌==◌, ◌^◌, ℕ, ℤ, List, [], ◌∷◌, codes, Option, Some, None, Result, Ok, Err, Bool, true, false, not, ◌||◌, if◌then◌else◌, encode_utf8_all, unsigned_abs}
 use Rattle.std.specs.Str.{bytes_eq}
-use Rattle.xls_data.specs.declared.numbers.Number.{Number}
-use Rattle.xls_data.specs.declared.numbers.Number.TheVariants.{Bits, Whole, Hundredths, BitsOver100}
+use Rattle.xls_dates.specs.declared.numbers.Number.{Number}
+use Rattle.xls_dates.specs.declared.numbers.Number.TheVariants.{Bits, Whole, Hundredths, BitsOver100}
 use Rattle.xls_data.specs.Content.{Content, int, float, text, truth, date, iso_date, iso_duration, failure, nothing}
 use Rattle.xls_rows.specs.Refusals.{Refusal, cell_error, custom}
 use Rattle.xls_rows.specs.Texts.{expecting, quoted, kind_name, printed}

@@ -4,7 +4,7 @@ use Rattle.std.specs.Fmt.{signed_decimal}
 use Rattle.xls_data.specs.Content.{Content, int, float, text, truth, date, iso_date, iso_duration, failure, nothing}
 use Rattle.xls_data.specs.Data.{bool_text}
 use Rattle.xls_data.specs.Errors.{error_text}
-use Rattle.xls_data.specs.Numbers.{number_text}
+use Rattle.xls_dates.specs.Numbers.{number_text}
 
 -- what a cell prints
 abbrev pub printed : Content → List ℕ

@@ -2,7 +2,7 @@
 use Rattle.std.specs.Prelude.{◌≡◌, ℕ, ◌-◌, ◌^◌, List, Option, Some, None, SomeIff, Result, Ok, Err, ℤ, pos, neg_ℤ, ◌≤ℤ◌, int_lt, if◌then◌else◌, encode_utf8_all}
 use Rattle.std.specs.Str.Parse.{IsNumeral, without_leading_sign, without_leading_plus, signed_digits_value, digits_value}
 use Rattle.xls_data.specs.Content.{Content, int, float, text, failure}
-use Rattle.xls_data.specs.Numbers.{number_trunc_checked}
+use Rattle.xls_dates.specs.Numbers.{number_trunc_checked}
 use Rattle.xls_rows.specs.declared.error.DeError.{DeError}
 use Rattle.xls_rows.specs.Refusals.{Refusal, cell_error, custom, Gives}
 use Rattle.xls_rows.specs.Texts.{expecting, shown}

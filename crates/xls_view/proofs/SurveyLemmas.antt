@@ -10,7 +10,7 @@ use Rattle.xls_model.specs.declared.part.Part.TheVariants as parts
 use Rattle.xls_model.specs.declared.types.TheConstants as types
 use Rattle.xls_data.specs.Content.{Content, text}
 use Rattle.xls_data.specs.Formatted.{formatted_number}
-use Rattle.xls_data.specs.declared.numbers.Number.TheVariants.{Bits}
+use Rattle.xls_dates.specs.declared.numbers.Number.TheVariants.{Bits}
 use Rattle.xls_data.specs.declared.regions.Dimensions.{Dimensions}
 use Rattle.xls_cells.specs.Bounds.{bounds_of}
 use Rattle.xls_strings.specs.declared.error.XlsError.{XlsError}

@@ -5,7 +5,7 @@ use Rattle.xls_bytes.specs.Numbers.{le}
 use Rattle.xls_model.specs.Listing.{Kept}
 use Rattle.xls_model.specs.declared.part.Part.TheVariants as parts
 use Rattle.xls_data.specs.Content.{Content}
-use Rattle.xls_data.specs.declared.formats.CellFormat.{CellFormat}
+use Rattle.xls_dates.specs.declared.formats.CellFormat.{CellFormat}
 use Rattle.xls_strings.specs.Reading.{◌>>=◌, ◌>>◌, at_least, gives}
 use Rattle.xls_strings.specs.Strings.{string_at}
 use Rattle.xls_strings.specs.declared.error.XlsError.{XlsError}

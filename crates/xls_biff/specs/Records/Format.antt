@@ -3,9 +3,9 @@ use Rattle.std.specs.Prelude.{ℕ, List, Bool, ◌||◌, if◌then◌else◌, ta
 use Rattle.xls_bytes.specs.Numbers.{le}
 use Rattle.xls_text.specs.declared.encoding.XlsEncoding.{XlsEncoding}
 use Rattle.xls_model.specs.declared.part.Part.TheVariants as parts
-use Rattle.xls_data.specs.Builtin.{between}
-use Rattle.xls_data.specs.Classes.{class_of}
-use Rattle.xls_data.specs.declared.formats.CellFormat.{CellFormat}
+use Rattle.xls_dates.specs.Builtin.{between}
+use Rattle.xls_dates.specs.Classes.{class_of}
+use Rattle.xls_dates.specs.declared.formats.CellFormat.{CellFormat}
 use Rattle.xls_strings.specs.declared.version.Biff.{Biff}
 use Rattle.xls_strings.specs.declared.error.XlsError.{XlsError}
 use Rattle.xls_strings.specs.declared.error.XlsError.TheVariants.{InvalidFormat}

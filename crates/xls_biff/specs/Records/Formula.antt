@@ -6,8 +6,8 @@ use Rattle.xls_model.specs.declared.part.Part.TheVariants as parts
 use Rattle.xls_data.specs.Content.{Content, text, truth, failure}
 use Rattle.xls_data.specs.Numeric.{numeric_content}
 use Rattle.xls_data.specs.Formatted.{formatted_number}
-use Rattle.xls_data.specs.declared.numbers.Number.TheVariants.{Bits}
-use Rattle.xls_data.specs.declared.formats.CellFormat.{CellFormat}
+use Rattle.xls_dates.specs.declared.numbers.Number.TheVariants.{Bits}
+use Rattle.xls_dates.specs.declared.formats.CellFormat.{CellFormat}
 use Rattle.xls_strings.specs.declared.error.XlsError.{XlsError}
 use Rattle.xls_strings.specs.declared.error.XlsError.TheVariants.{Unrecognized}
 use Rattle.xls_strings.specs.Reading.{◌>>=◌, ◌>>◌, at_least, gives}

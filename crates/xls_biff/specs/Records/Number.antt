@@ -3,8 +3,8 @@ use Rattle.std.specs.Prelude.{ℕ, List, Bool, take, drop, Result, Ok}
 use Rattle.xls_bytes.specs.Numbers.{le}
 use Rattle.xls_model.specs.declared.part.Part.TheVariants as parts
 use Rattle.xls_data.specs.Formatted.{formatted_number}
-use Rattle.xls_data.specs.declared.numbers.Number.TheVariants.{Bits}
-use Rattle.xls_data.specs.declared.formats.CellFormat.{CellFormat}
+use Rattle.xls_dates.specs.declared.numbers.Number.TheVariants.{Bits}
+use Rattle.xls_dates.specs.declared.formats.CellFormat.{CellFormat}
 use Rattle.xls_strings.specs.declared.error.XlsError.{XlsError}
 use Rattle.xls_strings.specs.Reading.{◌>>◌, at_least}
 use Rattle.xls_biff.specs.Cells.{Entry, class_at, position_at}

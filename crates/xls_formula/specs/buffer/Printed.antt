@@ -3,7 +3,7 @@ use Rattle.std.specs.Prelude.{ℕ, List, ◌++◌}
 use Rattle.std.specs.Fmt.{decimal}
 use Rattle.std.specs.Option.{option_map}
 use Rattle.std.specs.Str.{chars}
-use Rattle.xls_data.specs.Numbers.{bits_text}
+use Rattle.xls_dates.specs.Numbers.{bits_text}
 use Rattle.xls_formula.specs.declared.words.Word.{Word}
 use Rattle.xls_formula.specs.declared.words.Word.TheVariants as words
 use Rattle.xls_formula.specs.Fold.{str_text}

@@ -2,7 +2,7 @@
 -- seen by `render`, which the proofs show.
 use Rattle.std.specs.Prelude.{ℕ, zero, suc, List, [], ◌∷◌, ◌++◌, length, replicate, nat_lt, if◌then◌else◌, codes, slice_get, Option, Some, None, Result, Ok, Err}
 use Rattle.std.specs.Fmt.{decimal}
-use Rattle.xls_data.specs.Numbers.{bits_text}
+use Rattle.xls_dates.specs.Numbers.{bits_text}
 use Rattle.xls_strings.specs.declared.error.XlsError.{XlsError}
 use Rattle.xls_strings.specs.declared.error.XlsError.TheVariants as errors
 use Rattle.xls_formula.specs.Words.{operator_text, err_text, bool_text, space_mark}

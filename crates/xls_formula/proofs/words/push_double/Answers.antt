@@ -1,4 +1,4 @@
-use Rattle.xls_data.specs.Numbers.{bits_text}
+use Rattle.xls_dates.specs.Numbers.{bits_text}
 use Rattle.xls_formula.proofs.TextLemmas.{ascii_more, bits_ascii}
 use Rattle.xls_formula.proofs.words.push_double.Goals as goal
 

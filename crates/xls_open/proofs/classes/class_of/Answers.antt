@@ -1,6 +1,6 @@
 use Rattle.std.proofs.Common.{ap, sym, ◌∙◌}
 use Rattle.std.specs.Option.{option_copied, unwrap_or}
-use Rattle.xls_data.specs.Builtin.{class_of_code}
+use Rattle.xls_dates.specs.Builtin.{class_of_code}
 use Rattle.xls_open.proofs.classes.class_of.Goals as goal
 
 pub returns-in-Some : goal.returns-in-Some

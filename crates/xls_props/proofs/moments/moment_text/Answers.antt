@@ -2,7 +2,7 @@ use Rattle.std.proofs.Common.{◌≡◌, ◌++◌, ◌/◌, ◌%◌, rules, pos,
 use Rattle.std.specs.String.{string_bytes}
 use Rattle.std.specs.Prelude.{codes}
 use Rattle.jiff.specs.Words.{date_text, epoch_day}
-use Rattle.xls_data.specs.SerialDays.{day_number}
+use Rattle.xls_dates.specs.SerialDays.{day_number}
 use Rattle.xls_props.specs.Moments.{clock_text}
 use Rattle.xls_props.proofs.moments.moment_text.Goals as goal
 
