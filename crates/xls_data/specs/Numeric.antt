@@ -1,6 +1,6 @@
 -- What a number under the class of its format contains.
 use Rattle.xls_data.specs.Content.{Content, int, float, date}
-use Rattle.xls_data.specs.declared.dates.ExcelDateTimeType.TheVariants as kind
+use Rattle.xls_dates.specs.declared.dates.ExcelDateTimeType.TheVariants as kind
 use Rattle.xls_data.specs.declared.numeric.Numeric.{Numeric}
 use Rattle.xls_data.specs.declared.numeric.Numeric.TheVariants as variant
 
