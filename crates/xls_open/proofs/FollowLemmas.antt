@@ -1,22 +1,5 @@
-<<<<<<< HEAD
--- What a step says where a reader refused, and the string table that a reader found.
-use Rattle.std.proofs.Common.{◌≡◌, ℕ, ◌<◌, ◌≤◌, List, [], ◌∷◌, ◌++◌, length, map, drop, refl, sym, ap, ◌∙◌, arith, true, false, Option, Result, Ok, Err}
-use Rattle.std.specs.Prelude.{nat_lt}
-use Rattle.std.specs.Char.Utf16.{utf16_lossy_chars}
-use Rattle.xls_model.specs.Stream.{Group}
-use Rattle.xls_model.specs.Listing.{Shared, no_table, table_of, table_without, IsShared, Kept, plain_item, table_item, sheet_item}
-use Rattle.xls_model.specs.StringTable.{Mark, Missing, marked, Table, TableFault}
-use Rattle.xls_model.proofs.TableReadings.{one_reading}
-use Rattle.xls_text.specs.declared.encoding.XlsEncoding.{XlsEncoding}
-use Rattle.xls_data.specs.Sheets.{SheetContent}
-use Rattle.xls_dates.specs.declared.formats.CellFormat.{CellFormat}
-use Rattle.xls_strings.specs.declared.version.Biff.{Biff}
-use Rattle.xls_model.specs.declared.part.Part.{Part}
-use Rattle.xls_model.specs.declared.part.Part.TheVariants.{Sst}
-=======
 -- What a step of a sheet's record says.
 use Rattle.std.proofs.Common.{Result, Ok, Err}
->>>>>>> da597d80929570f04f296e7711b15be58754e951
 use Rattle.xls_strings.specs.declared.error.XlsError.{XlsError}
 use Rattle.xls_strings.specs.Reading.{gives}
 use Rattle.xls_biff.specs.Cells.{Position}

@@ -8,12 +8,7 @@ use Rattle.xls_text.specs.declared.encoding.XlsEncoding.{XlsEncoding}
 use Rattle.xls_text.specs.declared.encoding.XlsEncoding.TheVariants.{Utf16}
 use Rattle.xls_model.specs.Listing.{offset_at, no_table, table_of, table_without, Entry, Item, plain_item, table_item, sheet_item, entry_of}
 use Rattle.xls_data.specs.Sheets.{SheetContent}
-<<<<<<< HEAD
 use Rattle.xls_dates.specs.declared.formats.CellFormat.{CellFormat}
-use Rattle.xls_strings.specs.declared.error.XlsError.{XlsError}
-=======
-use Rattle.xls_dates.specs.declared.formats.CellFormat.{CellFormat}
->>>>>>> da597d80929570f04f296e7711b15be58754e951
 use Rattle.xls_strings.specs.declared.version.Biff.{Biff}
 use Rattle.xls_strings.specs.declared.version.Biff.TheVariants.{Biff8}
 use Rattle.xls_reading.specs.Order.{along, last_of, somes}
