@@ -101,9 +101,9 @@ module _ {T : Type 0} where
           ap (λ (k : ℕ). kept_cells k (swap xs (kept - 1) i)) (sym again)
           ∙ kept_swapped xs (kept - 1) i c (omega arith) l
           ∙ sym (
-            ap (λ (n : ℕ). set (kept_cells kept xs) (n - 1) (given_entry (get_or xs i c))) (length-kept kept xs (omega arith))
-            ∙ ap (λ (es : List (Entry T)). set es (kept - 1) (given_entry (get_or xs i c))) front
-            ∙ set_at (kept_cells (kept - 1) xs) (given_entry (get_or xs (kept - 1) c)) [] (given_entry (get_or xs i c)) (kept - 1) (length-kept (kept - 1) xs (omega arith))
+          ap (λ (n : ℕ). set (kept_cells kept xs) (n - 1) (given_entry (get_or xs i c))) (length-kept kept xs (omega arith))
+          ∙ ap (λ (es : List (Entry T)). set es (kept - 1) (given_entry (get_or xs i c))) front
+          ∙ set_at (kept_cells (kept - 1) xs) (given_entry (get_or xs (kept - 1) c)) [] (given_entry (get_or xs i c)) (kept - 1) (length-kept (kept - 1) xs (omega arith))
           )
 
   -- after them

@@ -23,6 +23,10 @@ abbrev pub IsNumbered : {T : Type 0} → List (Given T) → Type 0
 IsNumbered [] = Unit {0}
 IsNumbered (x ∷ xs) = AllByRecursion (λ y. x.number < y.number) xs × IsNumbered xs
 
+-- up to a number
+abbrev pub IsNumberedTo : {T : Type 0} → ℕ → List (Given T) → Type 0
+IsNumberedTo n xs = IsNumbered xs × AllByRecursion (λ x. x.number < n) xs
+
 -- the first cells
 abbrev pub kept_cells : {T : Type 0} → ℕ → List (Given T) → List (Entry T)
 kept_cells n given = map given_entry (take n given)
