@@ -18,7 +18,7 @@ use crate::value::FormulaCell;
 use std::alloc::{AllocError, Global};
 use std::marker::Model;
 use xls_biff::{PlacedRecords, Record, SheetRecords, read_formula};
-use xls_cells::sorted_cells;
+use xls_cells::{Given, Settled, Unsettled};
 use xls_data::Cell;
 use xls_model::types::FORMULA;
 use xls_open::{InForce, text_of_formula};
@@ -31,7 +31,7 @@ pub struct SheetFormulas<'v> {
     force: InForce<'v>,
     part: &'v [u8],
     /// Where the formulas stand, in order, where the records don't ascend.
-    sorted: Option<Vec<Cell<usize>>>,
+    sorted: Option<Settled<usize>>,
 }
 
 impl<'v> Model for SheetFormulas<'v> {
@@ -46,11 +46,11 @@ impl<'v> Model for SheetFormulas<'v> {
     ghost invariant = { λ f. IsBytes f.part.now };
 }
 
-/// Where the formulas of a part stand.
-fn places_of(alloc: Global, part: &[u8]) -> Result<Vec<Cell<usize>>, AllocError>
-    ensures { IfOk result (λ v. map (formula_placed part.now) v.items ≡ formulas_of (kept_in part.now 0)) }
+/// Where the formulas of a part stand. So many are expected.
+fn places_of(alloc: Global, part: &[u8], count: usize) -> Result<Unsettled<usize>, AllocError>
+    ensures { IfOk result (λ places. map (formula_placed part.now) places ≡ formulas_of (kept_in part.now 0)) }
 {
-    let mut places = Vec::new(alloc);
+    let mut places = Unsettled::with_room(alloc, count)?;
     for item in PlacedRecords::new(part) {
         let (start, record) = match item {
             Ok(placed) => placed,
@@ -62,27 +62,22 @@ fn places_of(alloc: Global, part: &[u8]) -> Result<Vec<Cell<usize>>, AllocError>
 }
 
 /// Likewise by position, of those of one position the last.
-fn in_order(alloc: Global, part: &[u8]) -> Result<Vec<Cell<usize>>, AllocError>
-    ensures { IfOk result (λ v. map (formula_placed part.now) v.items ≡ settled (formulas_of (kept_in part.now 0))) }
+fn in_order(alloc: Global, part: &[u8], count: usize) -> Result<Settled<usize>, AllocError>
+    ensures { IfOk result (λ places. map (formula_placed part.now) places ≡ settled (formulas_of (kept_in part.now 0))) }
 {
-    let places = places_of(alloc, part)?;
-    let sorted = sorted_cells(alloc, places)?;
-    Ok(sorted)
+    let places = places_of(alloc, part, count)?;
+    Ok(places.settled())
 }
 
 /// Where the formulas of a part stand in order, where they don't ascend.
-fn order_of(
-    alloc: Global,
-    part: &[u8],
-    found: Ascent,
-) -> Result<Option<Vec<Cell<usize>>>, AllocError>
+fn order_of(alloc: Global, part: &[u8], found: Ascent) -> Result<Option<Settled<usize>>, AllocError>
     requires { IsAscent found (map (λ (f : Formula). f.0) (formulas_of (kept_in part.now 0))) }
     ensures { IfOk result (λ o. formulas_held part.now o ≡ settled (formulas_of (kept_in part.now 0))) }
 {
     if found.is_strict() {
         return Ok(None);
     }
-    let sorted = in_order(alloc, part)?;
+    let sorted = in_order(alloc, part, found.count())?;
     Ok(Some(sorted))
 }
 
@@ -126,14 +121,8 @@ impl<'v> SheetFormulas<'v> {
         ensures { result ≡ self.now.left }
     {
         match &self.sorted {
-            None => FormulaCells::new(
-                FormulaWalk::new(self.part),
-                self.part,
-                &[],
-            ),
-            Some(places) => {
-                FormulaCells::new(FormulaWalk::none(), self.part, places)
-            }
+            None => FormulaCells::new(FormulaWalk::new(self.part), self.part, &[]),
+            Some(places) => { FormulaCells::new(FormulaWalk::none(), self.part, places.as_slice()) }
         }
     }
 
@@ -191,12 +180,8 @@ pub(crate) fn formula_of<'c>(r: &Record<'c>) -> Option<FormulaCell<'c>>
 }
 
 /// Puts the place of a Formula record, which begins at this offset of its part.
-fn push_formula(
-    places: &mut Vec<Cell<usize>>,
-    r: &Record<'_>,
-    at: usize,
-) -> Result<(), AllocError>
-    ensures { OnOk result (places.new.items ≡ places.old.items
+fn push_formula(places: &mut Unsettled<usize>, r: &Record<'_>, at: usize) -> Result<(), AllocError>
+    ensures { OnOk result (places.new ≡ places.old
         ++ map (λ (f : Formula). (f.0, at)) (somes (formula_of (kept_group (group_of r.now)) ∷ []))) }
 {
     if let Some(formula) = formula_of(r) {
@@ -280,18 +265,19 @@ pub struct FormulaCells<'c> {
     walk: FormulaWalk<'c>,
     part: &'c [u8],
     /// Else the places that are left.
-    places: &'c [Cell<usize>],
+    places: &'c [Given<usize>],
 }
 
 impl<'c> Model for FormulaCells<'c> {
     ghost use Rattle.std.specs.Prelude.{◌++◌, List, map};
     ghost use Rattle.xls_model.specs.Walks.{IsBytes};
     ghost use Rattle.xls_view.specs.Formulas.{Formula};
+    ghost use Rattle.xls_cells.specs.Positions.{given_entry};
     ghost use Rattle.xls_view.specs.Placing.{formula_placed};
 
     ghost Value = { List Formula };
 
-    ghost view = { λ f. f.walk ++ map (formula_placed f.part.now) f.places.now };
+    ghost view = { λ f. f.walk ++ map (formula_placed f.part.now) (map given_entry f.places.now) };
 
     ghost invariant = { λ f. IsBytes f.part.now };
 }
@@ -319,22 +305,15 @@ impl<'c> Iterator for FormulaCells<'c> {
 impl<'c> FormulaCells<'c> {
     ghost use Rattle.std.specs.Prelude.{◌≡◌, ◌++◌, map};
     ghost use Rattle.xls_model.specs.Walks.{IsBytes};
+    ghost use Rattle.xls_cells.specs.Positions.{given_entry};
     ghost use Rattle.xls_view.specs.Placing.{formula_placed};
 
     /// These formulas, and those at some places of a part.
-    fn new(
-        walk: FormulaWalk<'c>,
-        part: &'c [u8],
-        places: &'c [Cell<usize>],
-    ) -> FormulaCells<'c>
+    fn new(walk: FormulaWalk<'c>, part: &'c [u8], places: &'c [Given<usize>]) -> FormulaCells<'c>
         requires { IsBytes part.now }
-        ensures { result ≡ walk.entry ++ map (formula_placed part.now) places.now }
+        ensures { result ≡ walk.entry ++ map (formula_placed part.now) (map given_entry places.now) }
     {
-        FormulaCells {
-            walk,
-            part,
-            places,
-        }
+        FormulaCells { walk, part, places }
     }
 
     /// The same formulas, to be gone through once more. Takes no memory.

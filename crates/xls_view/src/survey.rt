@@ -68,6 +68,13 @@ impl FoundCells {
         self.ascent.is_strict()
     }
 
+    /// How many they are.
+    pub(crate) fn count(self) -> usize
+        ensures { result ≡ self.ascent.count }
+    {
+        self.ascent.count()
+    }
+
     pub(crate) fn bounds(self) -> Option<Dimensions>
         ensures { result ≡ self.bounds }
     {
@@ -104,12 +111,7 @@ impl FoundCells {
 
     /// After the cells of a record without a fault, where the last Formula before it stands here.
     #[inline]
-    fn with_record(
-        self,
-        r: &Record<'_>,
-        last: (u32, u32),
-        force: &InForce<'_>,
-    ) -> FoundCells
+    fn with_record(self, r: &Record<'_>, last: (u32, u32), force: &InForce<'_>) -> FoundCells
         ensures { (cells : List Entry) (g : SheetRecord) → kept_line force.now.cells (kept_group (group_of r.now)) ≡ Ok g
             → IsFound self cells → IsFound result (cells ++ (adds force.now.formulas last g).cells) }
     {
@@ -137,11 +139,7 @@ fn shared_place(body: &[u8], force: &InForce<'_>) -> Option<(u32, u32)>
 }
 
 /// Where the cell of a record stands that is neither a MulRk nor one whose cell begins with its position.
-fn other_place(
-    r: &Record<'_>,
-    last: (u32, u32),
-    force: &InForce<'_>,
-) -> Option<(u32, u32)>
+fn other_place(r: &Record<'_>, last: (u32, u32), force: &InForce<'_>) -> Option<(u32, u32)>
     requires { r.now.typ ≢ types.MUL_RK }
     ensures { (g : SheetRecord) → kept_line force.now.cells (kept_group (group_of r.now)) ≡ Ok g
         → IsCellAt result (adds force.now.formulas last g).cells }
@@ -155,11 +153,7 @@ fn other_place(
 /// Where the cell of a record without a fault that isn't a MulRk stands, if it has one, where the last
 /// Formula before it stands here.
 #[inline]
-fn place_of(
-    r: &Record<'_>,
-    last: (u32, u32),
-    force: &InForce<'_>,
-) -> Option<(u32, u32)>
+fn place_of(r: &Record<'_>, last: (u32, u32), force: &InForce<'_>) -> Option<(u32, u32)>
     requires { r.now.typ ≢ types.MUL_RK }
     ensures { (g : SheetRecord) → kept_line force.now.cells (kept_group (group_of r.now)) ≡ Ok g
         → IsCellAt result (adds force.now.formulas last g).cells }

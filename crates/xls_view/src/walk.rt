@@ -121,11 +121,6 @@ impl<'c> Iterator for CellWalk<'c> {
         if let Some(cell) = self.run.next() {
             return Some(cell);
         }
-        next_cell(
-            &mut self.records,
-            &mut self.at,
-            &mut self.run,
-            self.force,
-        )
+        next_cell(&mut self.records, &mut self.at, &mut self.run, self.force)
     }
 }
