@@ -3,6 +3,7 @@ pub mod RecordLemmas
 pub mod ContentLemmas
 pub mod SettledLemmas
 pub mod TableLemmas
+pub mod ValueLemmas
 pub mod MeaningLemmas
 pub mod ViewLemmas
 pub mod PlaceLemmas

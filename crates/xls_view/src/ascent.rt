@@ -39,6 +39,7 @@ impl Ascent {
     pub(crate) fn with(self, position: (u32, u32)) -> Ascent
         ensures { (ps : List Position) → IsAscent self ps → IsAscent result (ps ++ position ∷ []) }
     {
+        let count = self.count.saturating_add(1);
         let ascends = match self.last {
             Some(last) => self.ascends && precedes(last, position),
             None => self.ascends,
@@ -46,7 +47,7 @@ impl Ascent {
         Ascent {
             last: Some(position),
             ascends,
-            count: self.count.saturating_add(1),
+            count,
         }
     }
 

@@ -82,10 +82,11 @@ fn label<'c>(body: &'c [u8], force: &InForce<'c>) -> Option<SheetCell<'c>>
     ensures { (e : Entry) → label_at force.now.cells.page force.now.cells.version body.now ≡ Ok e
         → option_map cell_entry result ≡ Some e }
 {
-    match split_label(body) {
-        Ok((position, string)) => Some(encoded(position, string, force)),
-        Err(_) => None,
-    }
+    let (position, string) = match split_label(body) {
+        Ok(parts) => parts,
+        Err(_) => return None,
+    };
+    Some(encoded(position, string, force))
 }
 
 /// A LabelSst whose index is outside the table has no cell.

@@ -56,7 +56,10 @@ impl TextBuffer {
         match value {
             CellValue::Shared(text) => Ok(*text),
             CellValue::Encoded(encoded) => self.decode(*encoded),
-            _ => Ok(""),
+            CellValue::Number(_) => Ok(""),
+            CellValue::Bool(_) => Ok(""),
+            CellValue::Error(_) => Ok(""),
+            CellValue::Empty => Ok(""),
         }
     }
 

@@ -14,7 +14,7 @@ use Rattle.xls_view.proofs.cells.places_of.Goals as goal
 pub loop-item-init : goal.loop-item-init
 loop-item-init c =
     let begins = c.into_iter-item-iterator.ensures.into_iter_gives ∙ c.new-item-items.ensures in
-    rw (begins, c.new-places.ensures.items) (tt, tt, c.requires, ([], refl), refl)
+    rw (begins, c.in_ok-places.ensures) (tt, tt, c.requires, ([], refl), refl)
 
 pub returns-in-Err : goal.returns-in-Err
 returns-in-Err c =

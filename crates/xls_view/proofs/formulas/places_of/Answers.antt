@@ -13,7 +13,7 @@ use Rattle.xls_view.proofs.formulas.places_of.Goals as goal
 pub loop-item-init : goal.loop-item-init
 loop-item-init c =
     let begins = c.into_iter-item-iterator.ensures.into_iter_gives ∙ c.new-item-items.ensures in
-    rw (begins, c.new-places.ensures.items) (tt, tt, λ i. omega (arith, c.type_inv.part i), ([], refl), refl)
+    rw (begins, c.in_ok-places.ensures) (tt, tt, λ i. omega (arith, c.type_inv.part i), ([], refl), refl)
 
 pub returns-in-Err : goal.returns-in-Err
 returns-in-Err c =
