@@ -4,7 +4,7 @@ use Rattle.xls_strings.specs.Reading.{◌>>=◌, gives, Fails, Gives}
 use Rattle.xls_strings.specs.declared.error.XlsError.{XlsError}
 use Rattle.xls_strings.specs.declared.error.XlsError.TheVariants as errors
 use Rattle.xls_formula.specs.Context.{Context}
-use Rattle.xls_formula.specs.Effects.{Effect, effect_by, effect_at}
+use Rattle.xls_formula.specs.Effects.{Effect, effect_at}
 use Rattle.xls_formula.specs.Fold.{walk}
 
 pub fails_same : {Y : Type 0} (e : XlsError) (r : Result Y XlsError) → r ≡ Err e → Fails e r
@@ -49,7 +49,7 @@ module _ {X : Type 0} (context : Context) (change : Effect → X → Result X Xl
 
   walk_first : (bytes : List ℕ) (x : X) → 0 < length bytes → walk context change bytes 0 x ≡ walk_next bytes x (effect_at context bytes)
   walk_first [] x lt = absurd (omega arith)
-  walk_first (b ∷ bytes) x lt = next_here b bytes x (effect_by context b bytes)
+  walk_first (b ∷ bytes) x lt = next_here b bytes x (effect_at context (b ∷ bytes))
 
   first_is : (bytes : List ℕ) (x : X) (r : Read) → 0 < length bytes → effect_at context bytes ≡ r → walk context change bytes 0 x ≡ walk_next bytes x r
   first_is bytes x r lt read = walk_first bytes x lt ∙ ap (walk_next bytes x) read
@@ -92,4 +92,4 @@ module _ {X Y : Type 0} (context : Context) (view : X → Y) (f : Effect → X �
   walk_along [] zero x = refl
   walk_along [] (suc more) x = refl
   walk_along (b ∷ bytes) (suc more) x = walk_along bytes more x
-  walk_along (b ∷ bytes) zero x = after_reading bytes x (effect_by context b bytes) (λ more z. walk_along bytes more z)
+  walk_along (b ∷ bytes) zero x = after_reading bytes x (effect_at context (b ∷ bytes)) (λ more z. walk_along bytes more z)

@@ -1,5 +1,5 @@
 -- What a token does to the operands so far ([MS-XLS] 2.5.198): one table of all tokens.
-use Rattle.std.specs.Prelude.{ℕ, List, [], ◌++◌, drop, replicate, codes, slice_get, slice_index, Option, Some, None, Bool, Result, Ok, Err}
+use Rattle.std.specs.Prelude.{ℕ, List, [], ◌++◌, replicate, codes, slice_get, Option, Some, None, Bool, Result, Ok, Err}
 use Rattle.std.specs.Fmt.{decimal}
 use Rattle.xls_strings.specs.Reading.{◌>>=◌, gives}
 use Rattle.xls_text.specs.declared.encoding.XlsEncoding.{XlsEncoding}
@@ -12,7 +12,7 @@ use Rattle.xls_formula.specs.Functions.{Function}
 use Rattle.xls_formula.specs.Context.{Context, sheet_text, name_text}
 use Rattle.xls_ptg.specs.declared.tokens.Ptg.{Ptg}
 use Rattle.xls_ptg.specs.declared.tokens.Ptg.TheVariants as ptg
-use Rattle.xls_ptg.specs.Tokens.{ptg_by}
+use Rattle.xls_ptg.specs.Tokens.{ptg_at}
 use Rattle.xls_formula.specs.Tree.{Tree, word, ref, area}
 
 -- an operand more; texts around the last operand; an operator between the last two; a call of so many
@@ -34,20 +34,15 @@ str_text page high bytes count =
 abbrev pub err3d_text : Context → ℕ → List ℕ
 err3d_text context ixti = sheet_text context ixti ++ codes "!#REF!"
 
--- a function of the table, by its index
+-- the function of an index: its name and the count of its operands
 abbrev pub known_function : ℕ → Option Function → Result Function XlsError
 known_function iftab None = Err (errors.IfTab iftab)
 known_function iftab (Some f) = Ok f
 
--- with the table's count of operands
-abbrev pub func_effect : ℕ → Option Function → Result Effect XlsError
-func_effect iftab found = gives (λ (f : Function). calls f.1 f.0) (known_function iftab found)
+abbrev pub function_at : Context → ℕ → Result Function XlsError
+function_at context iftab = known_function iftab (slice_get context.functions iftab)
 
--- with the token's count of operands
-abbrev pub func_var_effect : ℕ → ℕ → Option Function → Result Effect XlsError
-func_var_effect count iftab found =
-    gives (λ (f : Function). calls count f.0) (known_function iftab found)
-
+-- each token
 abbrev pub effect : Context → Ptg (List ℕ) → Result Effect XlsError
 effect context ptg.Exp = Ok (pushes (word []))
 effect context (ptg.Binary operator) = Ok (pairs (operator_text operator))
@@ -72,9 +67,8 @@ effect context (ptg.Bool truth) = Ok (pushes (word (bool_text truth)))
 effect context (ptg.Int n) = Ok (pushes (word (decimal n)))
 effect context (ptg.Num bits) = Ok (pushes (word (bits_text bits)))
 effect context ptg.Array = Ok (pushes (word (codes "{PtgArray}")))
-effect context (ptg.Func iftab) = func_effect iftab (slice_get context.functions iftab)
-effect context (ptg.FuncVar count iftab) =
-    func_var_effect count iftab (slice_get context.functions iftab)
+effect context (ptg.Func iftab) = gives (λ f. calls f.1 f.0) (function_at context iftab)
+effect context (ptg.FuncVar count iftab) = gives (λ f. calls count f.0) (function_at context iftab)
 effect context (ptg.Name index) = Ok (pushes (word (name_text context index)))
 effect context (ptg.Ref corner) = Ok (pushes (ref None corner))
 effect context (ptg.Area first last) = Ok (pushes (area None first last))
@@ -87,13 +81,10 @@ effect context (ptg.Area3d ixti first last) =
 effect context (ptg.RefErr3d ixti) = Ok (pushes (word (err3d_text context ixti)))
 effect context (ptg.AreaErr3d ixti) = Ok (pushes (word (err3d_text context ixti)))
 
--- the effect of the token of this first byte, and how many bytes of it stand after that; its bytes
--- refuse it before the function table
-abbrev pub effect_by : Context → ℕ → List ℕ → Result (Effect × ℕ) XlsError
-effect_by context token rest = do
-  x ← ptg_by context.biff token rest
+-- what the first token does, and how many bytes of it stand after its first; its bytes refuse it
+-- before the function table
+abbrev pub effect_at : Context → List ℕ → Result (Effect × ℕ) XlsError
+effect_at context bytes = do
+  x ← ptg_at context.biff bytes
   e ← effect context x.0
   Ok (e, x.1)
-
-abbrev pub effect_at : Context → List ℕ → Result (Effect × ℕ) XlsError
-effect_at context bytes = effect_by context (slice_index bytes 0) (drop 1 bytes)

@@ -5,7 +5,7 @@ use Rattle.xls_model.specs.declared.part.Part.TheVariants as parts
 use Rattle.xls_strings.specs.declared.error.XlsError.{XlsError}
 use Rattle.xls_strings.specs.declared.error.XlsError.TheVariants as errors
 use Rattle.xls_formula.specs.Context.{Context}
-use Rattle.xls_formula.specs.Effects.{Effect, pushes, wraps, pairs, calls, spaces, keeps, effect_by}
+use Rattle.xls_formula.specs.Effects.{Effect, pushes, wraps, pairs, calls, spaces, keeps, effect_at}
 use Rattle.xls_ptg.specs.Fields.{word_at, sized_as}
 use Rattle.xls_formula.specs.Tree.{Tree, Trees, wrap, pair, call, no_trees, tree, render}
 
@@ -52,7 +52,7 @@ abbrev pub walk : {X : Type 0} → Context → (Effect → X → Result X XlsErr
 walk context change [] more x = Ok x
 walk context change (b ∷ bytes) (suc more) x = walk context change bytes more x
 walk context change (b ∷ bytes) zero x = do
-  e ← effect_by context b bytes
+  e ← effect_at context (b ∷ bytes)
   y ← change e.0 x
   walk context change bytes e.1 y
 

@@ -1,13 +1,12 @@
 //! What each token does to the operands so far: one table of all tokens.
 
-ghost use Rattle.std.specs.Prelude.{◌≡◌, ◌<◌, length, IfOk, slice_get};
+ghost use Rattle.std.specs.Prelude.{◌≡◌, ◌<◌, length, IfOk};
 ghost use Rattle.std.specs.Str.{chars};
 ghost use Rattle.xls_strings.specs.Reading.{Exactly};
 ghost use Rattle.xls_ptg.specs.Readings.{ptg_of};
-ghost use Rattle.xls_formula.specs.Effects.{effect, effect_at, func_effect, func_var_effect, known_function};
+ghost use Rattle.xls_formula.specs.Effects.{effect, effect_at, function_at};
 ghost use Rattle.xls_formula.specs.Holding.{as_held, context_of, effect_of};
 
-use crate::functions::FunctionTable;
 use crate::scope::{Scope, defined_name, sheet_name};
 use crate::words::{Word, bool_text, operator_text};
 use xls_biff::XlsError;
@@ -30,29 +29,14 @@ pub enum Effect<'a> {
     Keeps,
 }
 
-fn known_function(functions: &FunctionTable, iftab: u16) -> Result<(&str, u8), XlsError>
-    ensures { Exactly (λ f. (chars f.0.now, f.1)) result
-        (known_function iftab (slice_get functions.now iftab)) }
+/// The function of an index: its name and the count of its operands.
+fn function_at<'a>(scope: Scope<'a>, iftab: u16) -> Result<(&'a str, u8), XlsError>
+    ensures { Exactly (λ f. (chars f.0.now, f.1)) result (function_at (context_of scope.entry) iftab) }
 {
-    match functions.get(usize::from(iftab)) {
+    match scope.functions.get(usize::from(iftab)) {
         Some(function) => Ok(function),
         None => Err(XlsError::IfTab(usize::from(iftab))),
     }
-}
-
-fn func_effect(functions: &FunctionTable, iftab: u16) -> Result<Effect<'_>, XlsError>
-    ensures { Exactly effect_of result (func_effect iftab (slice_get functions.now iftab)) }
-{
-    let (name, count) = known_function(functions, iftab)?;
-    Ok(Effect::Calls { count, name })
-}
-
-fn func_var_effect(functions: &FunctionTable, count: u8, iftab: u16) -> Result<Effect<'_>, XlsError>
-    ensures { Exactly effect_of result
-        (func_var_effect count iftab (slice_get functions.now iftab)) }
-{
-    let (name, _) = known_function(functions, iftab)?;
-    Ok(Effect::Calls { count, name })
 }
 
 /// What a token does. `IfTab` for a function outside the table.
@@ -107,8 +91,14 @@ fn ptg_effect<'a>(scope: Scope<'a>, ptg: Ptg<&'a [u8]>) -> Result<Effect<'a>, Xl
         Ptg::Int(n) => Ok(Effect::Pushes(Word::Int(n))),
         Ptg::Num(bits) => Ok(Effect::Pushes(Word::Num(bits))),
         Ptg::Array => Ok(Effect::Pushes(Word::Plain("{PtgArray}"))),
-        Ptg::Func { iftab } => func_effect(scope.functions, iftab),
-        Ptg::FuncVar { count, iftab } => func_var_effect(scope.functions, count, iftab),
+        Ptg::Func { iftab } => {
+            let (name, count) = function_at(scope, iftab)?;
+            Ok(Effect::Calls { count, name })
+        }
+        Ptg::FuncVar { count, iftab } => {
+            let (name, _) = function_at(scope, iftab)?;
+            Ok(Effect::Calls { count, name })
+        }
         Ptg::Name { index } => Ok(Effect::Pushes(Word::Plain(defined_name(scope, index)))),
         Ptg::Ref(corner) => Ok(Effect::Pushes(Word::Ref {
             sheet: None,
