@@ -1,6 +1,11 @@
 use Rattle.xls_biff.specs.Walking.{group_of}
-use Rattle.xls_open.proofs.RecordLemmas.{table_taken}
+use Rattle.xls_open.proofs.RecordLemmas.{table_taken, only_memory}
 use Rattle.xls_open.proofs.globals.Globals.take.Goals as goal
+
+pub read_again-requires-in-Table : goal.read_again-requires-in-Table
+read_again-requires-in-Table c =
+    let k = rw c.in-Table.is at c.requires in
+    only_memory (group_of c.in-Table.r.now) k.2.0 c.parse_sst.result k.1 k.2.1 c.parse_sst.ensures k.2.2 k.3
 
 pub returns-in_ok-self-inside-in-Table : goal.returns-in_ok-self-inside-in-Table
 returns-in_ok-self-inside-in-Table c = λ body g h.
