@@ -113,6 +113,23 @@ impl Globals {
         self.refs.extend(&refs)
     }
 
+    fn take_name(&mut self, alloc: Global, r: &Record<'_>) -> Result<(), AllocError>
+        requires { IsFaultless self.now (GlobalsRecord.Name r) }
+        ensures { OnOk result (IsTaken self.old (GlobalsRecord.Name r.entry) self.new) }
+    {
+        let name = read_again(parse_lbl(alloc, r, &self.page, self.version))?;
+        self.names.push(name)?;
+        Ok(())
+    }
+
+    fn take_table(&mut self, alloc: Global, r: &Record<'_>) -> Result<(), AllocError>
+        requires { IsFaultless self.now (GlobalsRecord.Table r) }
+        ensures { OnOk result (IsTaken self.old (GlobalsRecord.Table r.entry) self.new) }
+    {
+        self.strings = read_again(parse_sst(alloc, r))?;
+        Ok(())
+    }
+
     fn take_sheet(&mut self, alloc: Global, r: &Record<'_>) -> Result<(), AllocError>
         requires { IsFaultless self.now (GlobalsRecord.Sheet r) }
         ensures { OnOk result (IsTaken self.old (GlobalsRecord.Sheet r.entry) self.new) }
@@ -128,36 +145,18 @@ impl Globals {
         ensures { OnOk result (IsTaken self.old next.entry self.new) }
     {
         match next {
-            GlobalsRecord::Other => Ok(()),
-            GlobalsRecord::Version(biff) => {
-                self.version = biff;
-                Ok(())
-            }
-            GlobalsRecord::Page(page) => {
-                self.page = page;
-                Ok(())
-            }
-            GlobalsRecord::Date(is_1904) => {
-                self.is_1904 = self.is_1904 || is_1904;
-                Ok(())
-            }
-            GlobalsRecord::Xf(identifier) => {
-                self.identifiers.push(identifier)?;
-                Ok(())
-            }
-            GlobalsRecord::Format(r) => self.take_format(alloc, r),
-            GlobalsRecord::References(r) => self.take_references(alloc, r),
-            GlobalsRecord::Name(r) => {
-                let name = read_again(parse_lbl(alloc, r, &self.page, self.version))?;
-                self.names.push(name)?;
-                Ok(())
-            }
-            GlobalsRecord::Table(r) => {
-                self.strings = read_again(parse_sst(alloc, r))?;
-                Ok(())
-            }
-            GlobalsRecord::Sheet(r) => self.take_sheet(alloc, r),
+            GlobalsRecord::Other => {}
+            GlobalsRecord::Version(biff) => self.version = biff,
+            GlobalsRecord::Page(page) => self.page = page,
+            GlobalsRecord::Date(is_1904) => self.is_1904 = self.is_1904 || is_1904,
+            GlobalsRecord::Format(r) => self.take_format(alloc, r)?,
+            GlobalsRecord::Xf(identifier) => self.identifiers.push(identifier)?,
+            GlobalsRecord::References(r) => self.take_references(alloc, r)?,
+            GlobalsRecord::Name(r) => self.take_name(alloc, r)?,
+            GlobalsRecord::Table(r) => self.take_table(alloc, r)?,
+            GlobalsRecord::Sheet(r) => self.take_sheet(alloc, r)?,
         }
+        Ok(())
     }
 }
 
