@@ -1,6 +1,6 @@
 -- Bytes by a test.
 use Rattle.std.proofs.Common.{◌≡◌, ℕ, zero, suc, ◌<◌, List, [], ◌∷◌, Bool, true, false, refl, arith}
-use Rattle.std.specs.Prelude.{◌&&◌, nat_lt, slice_index}
+use Rattle.std.specs.Prelude.{◌&&◌, nat_lt}
 use Rattle.xls_model.specs.Walks.{IsBytes}
 
 -- whether each number is a byte

@@ -18,7 +18,7 @@ use Rattle.xls_strings.specs.Texts.{text_of}
 use Rattle.xls_formula.specs.Context.{Context}
 use Rattle.xls_formula.proofs.TextLemmas.{text_more, ascii_more}
 use Rattle.xls_reading.specs.Order.{along, first_of, somes}
-use Rattle.xls_reading.specs.InForce.{cells_of, page_in, version_in, SheetRecords, sheet_in, sheets_of, sheet_names_of, extern_refs, known_refs, own_refs, lbls_in, told_name, context_by, context_of, in_force_of}
+use Rattle.xls_reading.specs.InForce.{cells_of, page_in, version_in, SheetRecords, sheet_in, sheets_of, sheet_names_of, extern_refs, known_refs, own_refs, lbls_in, told_name, context_by, context_of}
 use Rattle.xls_strings.specs.Reading.{gives}
 use Rattle.xls_reading.specs.GlobalsTable.{Named, sheet_record, sheet_given, fault_of}
 use Rattle.xls_reading.specs.Faults.{item_fault}

@@ -1,6 +1,6 @@
 -- A record of the globals that was read without memory, and its line of the table.
-use Rattle.std.proofs.Common.{◌≡◌, ℕ, ◌<◌, ◌≤◌, List, [], ◌∷◌, ◌++◌, length, map, drop, refl, sym, ap, ◌∙◌, arith, true, false, None, Result, Ok, Err}
-use Rattle.std.specs.Prelude.{nat_lt}
+use Rattle.std.proofs.Common.{◌≡◌, ℕ, ◌<◌, ◌≤◌, List, [], ◌∷◌, ◌++◌, length, map, drop, refl, sym, ap, ◌∙◌, arith, true, false, Some, None, Result, Ok, Err}
+use Rattle.std.specs.Prelude.{IfErr, nat_lt}
 use Rattle.std.specs.Char.Utf16.{utf16_lossy_chars}
 use Rattle.xls_model.specs.Stream.{Group}
 use Rattle.xls_model.specs.Listing.{Shared, no_table, table_of, table_without, IsShared}
@@ -11,7 +11,7 @@ use Rattle.xls_data.specs.Sheets.{SheetContent}
 use Rattle.xls_dates.specs.declared.formats.CellFormat.{CellFormat}
 use Rattle.xls_strings.specs.declared.error.XlsError.{XlsError}
 use Rattle.xls_strings.specs.declared.error.XlsError.TheVariants as errors
-use Rattle.xls_strings.specs.Reading.{Fails, fault_in, gives}
+use Rattle.xls_strings.specs.Reading.{Fails, Gives, fault_in, gives}
 use Rattle.xls_strings.specs.Sst.{error_of, CountsTable, ReadsTable, sst_marks, InTable}
 use Rattle.xls_biff.specs.Records.BoundSheet.{bound_sheet_at}
 use Rattle.xls_reading.specs.GlobalsTable.{GlobalsRecord, other_record, format_record, strings_record, sheet_record, unless_refused, texts_of, Line, fault_of}
@@ -62,15 +62,21 @@ module _ (ms : List Mark) (len : ℕ) where
       ∙ ap (λ (x : XlsError). Err x) (sym i.1)
 
   -- what was read
-  read_whole : (ss texts : List (List ℕ)) → Table ms ss → ReadsTable ms (Ok texts)
-      → texts_of len (table_of ss) ≡ Ok texts
-  read_whole ss texts h i =
+  read_whole : (ss : List (List ℕ)) (r : Result (List (List ℕ)) XlsError) → Table ms ss
+      → ReadsTable ms r → Gives (λ t. t) r (texts_of len (table_of ss))
+  read_whole ss (Ok texts) h i =
       ap (λ (x : List (List ℕ)). Ok (map utf16_lossy_chars x)) ((one_reading ms).table ss i.0 h i.1)
       ∙ ap (λ (x : List (List ℕ)). Ok x) (sym i.2)
+  read_whole ss (Err errors.Memory) h i = tt
+  read_whole ss (Err e) h i = absurd ((one_reading ms).apart ss i.0 h i.2)
 
-  read_faulty : (m : Missing) (texts : List (List ℕ)) → TableFault ms m → ReadsTable ms (Ok texts)
-      → texts_of len (table_without m) ≡ Ok texts
-  read_faulty m texts h i = absurd ((one_reading ms).apart i.0 m i.1 h)
+  read_faulty : (m : Missing) (r : Result (List (List ℕ)) XlsError) → TableFault ms m
+      → ReadsTable ms r → Gives (λ t. t) r (texts_of len (table_without m))
+  read_faulty m (Ok texts) h i = absurd ((one_reading ms).apart i.0 m i.1 h)
+  read_faulty m (Err errors.Memory) h i = tt
+  read_faulty m (Err e) h i =
+      ap (λ (x : Missing). Err (error_of x)) ((one_reading ms).fault m i.0 h i.2)
+      ∙ ap (λ (x : XlsError). Err x) (sym i.1)
 
 -- a count has the fault of the texts
 pub table_counted : (g : Group) (shared : Shared) (r : Result ℕ XlsError) → IsShared g shared
@@ -86,21 +92,35 @@ table_counted g (table_without m) r h i =
     let e = long_marks g h.0 in
     count_faulty (marked (drop 8 g.body) g.tail) (length g.body) m r h.1 (rw e at i)
 
+read_short : (g : Group) (r : Result (List (List ℕ)) XlsError) → r ≡ Err (errors.Len 8 (length g.body) Sst)
+    → Gives (λ t. t) r (texts_of (length g.body) no_table)
+read_short g r h = rw h refl
+
 -- what was read is what the record holds
-pub table_read : (g : Group) (shared : Shared) (texts : List (List ℕ))
-    → IsShared g shared → InTable ReadsTable (sst_marks g.body g.tail) (Ok texts)
-    → texts_of (length g.body) shared ≡ Ok texts
-table_read g no_table texts h i =
-    let e = short_marks g h in
-    absurd (let f : ◌≡◌ {A = Result (List (List ℕ)) XlsError} (Ok texts) (Err (errors.Len 8 (length g.body) Sst)) = rw e at i in cc)
-table_read g (table_of ss) texts h i =
+pub table_read : (g : Group) (shared : Shared) (r : Result (List (List ℕ)) XlsError)
+    → IsShared g shared → InTable ReadsTable (sst_marks g.body g.tail) r
+    → Gives (λ t. t) r (texts_of (length g.body) shared)
+table_read g no_table r h i = let e = short_marks g h in read_short g r (rw e at i)
+table_read g (table_of ss) r h i =
     let e = long_marks g h.0 in
-    read_whole (marked (drop 8 g.body) g.tail) (length g.body) ss texts h.1 (rw e at i)
-table_read g (table_without m) texts h i =
+    read_whole (marked (drop 8 g.body) g.tail) (length g.body) ss r h.1 (rw e at i)
+table_read g (table_without m) r h i =
     let e = long_marks g h.0 in
-    read_faulty (marked (drop 8 g.body) g.tail) (length g.body) m texts h.1 (rw e at i)
+    read_faulty (marked (drop 8 g.body) g.tail) (length g.body) m r h.1 (rw e at i)
 
 -- ---- what is kept
+
+-- the reader of a table without a fault refuses for memory alone
+pub only_memory : (g : Group) (shared : Shared) (r : Result (List (List ℕ)) XlsError) (l : Line) → IsShared g shared
+    → InTable ReadsTable (sst_marks g.body g.tail) r → l ≡ gives strings_record (texts_of (length g.body) shared)
+    → fault_of l ≡ None → IfErr r (λ e. e ≡ errors.Memory)
+only_memory g shared r l h i k none = by_cases r (table_read g shared r h i)
+  where
+    by_cases : (q : Result (List (List ℕ)) XlsError) → Gives (λ t. t) q (texts_of (length g.body) shared) → IfErr q (λ e. e ≡ errors.Memory)
+    by_cases (Ok texts) f = tt
+    by_cases (Err errors.Memory) f = refl
+    by_cases (Err e) f =
+        absurd (let n : Some e ≡ None = sym (ap (fault_of {X = GlobalsRecord}) (k ∙ ap (gives strings_record) f)) ∙ none in cc)
 
 -- what a record of this line gives after what was read of it
 line_is : {X : Type 0} (f : X → GlobalsRecord) (r : Result X XlsError) (x : X) (g : GlobalsRecord) → r ≡ Ok x
@@ -113,7 +133,7 @@ module _ (s : State) (body : List ℕ) (g : GlobalsRecord) where
       → ◌≡◌ {A = Line} (Ok g) (gives strings_record (texts_of (length group.body) shared))
       → record s { strings = texts } ≡ after s body g
   table_taken group shared texts h i k =
-      let e = line_is strings_record (texts_of (length group.body) shared) texts g (table_read group shared texts h i) k in
+      let e = line_is strings_record (texts_of (length group.body) shared) texts g (table_read group shared (Ok texts) h i) k in
       ap (after s body) (sym e)
 
   pub sheet_taken : (o : ℕ) (c : SheetContent) → bound_sheet_at s.page s.version body ≡ Ok (o, c)

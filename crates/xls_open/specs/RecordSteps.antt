@@ -39,6 +39,10 @@ abbrev pub ReadsLine : XlsEncoding → Biff → List ℕ → Line → Result Glo
 ReadsLine page version body line (Ok g) = (fault_of line ≡ None) × Stands page version body g line
 ReadsLine page version body line (Err e) = line ≡ Err e
 
+-- some line that it is has no fault
+abbrev pub IsFaultless : State → GlobalsRecord → Type 0
+IsFaultless s x = (body : List ℕ) × (line : Line) × Stands s.page s.version body x line × (fault_of line ≡ None)
+
 -- the version that it tells, and the version after it
 abbrev pub version_told : GlobalsRecord → Option Biff
 version_told (read.Version v) = Some v

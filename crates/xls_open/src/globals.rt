@@ -1,9 +1,9 @@
 //! The globals: what is in force, and the sheets that they list.
 
-ghost use Rattle.std.specs.Prelude.{◌≡◌, [], Ok, IfOk, OnOk};
+ghost use Rattle.std.specs.Prelude.{◌≡◌, [], Ok, IfErr, IfOk, OnOk};
 ghost use Rattle.xls_reading.specs.InForce.{page_in};
 ghost use Rattle.xls_open.specs.Steps.{first_state, ReadsGlobals};
-ghost use Rattle.xls_open.specs.RecordSteps.{IsTaken};
+ghost use Rattle.xls_open.specs.RecordSteps.{IsFaultless, IsTaken};
 ghost use Rattle.xls_open.specs.Workbook.{rules_of};
 
 use crate::globals_record::{GlobalsRecord, read_globals_record};
@@ -62,8 +62,9 @@ impl Model for Globals {
     } };
 }
 
-/// What a reader gives of a record that has no fault.
+/// What a reader gives of a record that has no fault, unless memory ran out.
 fn read_again<T>(read: Result<T, XlsError>) -> Result<T, AllocError>
+    requires { IfErr read (λ e. e ≡ XlsError.Memory) }
     ensures { IfOk result (λ x. read ≡ Ok x) }
 {
     match read {
@@ -105,13 +106,32 @@ impl Globals {
     }
 
     fn take_references(&mut self, alloc: Global, r: &Record<'_>) -> Result<(), AllocError>
+        requires { IsFaultless self.now (GlobalsRecord.References r) }
         ensures { OnOk result (IsTaken self.old (GlobalsRecord.References r.entry) self.new) }
     {
         let refs = read_again(parse_extern_sheet(alloc, r, self.version))?;
         self.refs.extend(&refs)
     }
 
+    fn take_name(&mut self, alloc: Global, r: &Record<'_>) -> Result<(), AllocError>
+        requires { IsFaultless self.now (GlobalsRecord.Name r) }
+        ensures { OnOk result (IsTaken self.old (GlobalsRecord.Name r.entry) self.new) }
+    {
+        let name = read_again(parse_lbl(alloc, r, &self.page, self.version))?;
+        self.names.push(name)?;
+        Ok(())
+    }
+
+    fn take_table(&mut self, alloc: Global, r: &Record<'_>) -> Result<(), AllocError>
+        requires { IsFaultless self.now (GlobalsRecord.Table r) }
+        ensures { OnOk result (IsTaken self.old (GlobalsRecord.Table r.entry) self.new) }
+    {
+        self.strings = read_again(parse_sst(alloc, r))?;
+        Ok(())
+    }
+
     fn take_sheet(&mut self, alloc: Global, r: &Record<'_>) -> Result<(), AllocError>
+        requires { IsFaultless self.now (GlobalsRecord.Sheet r) }
         ensures { OnOk result (IsTaken self.old (GlobalsRecord.Sheet r.entry) self.new) }
     {
         let (offset, sheet) = read_again(parse_sheet_metadata(alloc, r, &self.page, self.version))?;
@@ -121,39 +141,22 @@ impl Globals {
 
     /// Keeps what a record gives.
     fn take(&mut self, alloc: Global, next: GlobalsRecord<'_>) -> Result<(), AllocError>
+        requires { IsFaultless self.now next }
         ensures { OnOk result (IsTaken self.old next.entry self.new) }
     {
         match next {
-            GlobalsRecord::Other => Ok(()),
-            GlobalsRecord::Version(biff) => {
-                self.version = biff;
-                Ok(())
-            }
-            GlobalsRecord::Page(page) => {
-                self.page = page;
-                Ok(())
-            }
-            GlobalsRecord::Date(is_1904) => {
-                self.is_1904 = self.is_1904 || is_1904;
-                Ok(())
-            }
-            GlobalsRecord::Xf(identifier) => {
-                self.identifiers.push(identifier)?;
-                Ok(())
-            }
-            GlobalsRecord::Format(r) => self.take_format(alloc, r),
-            GlobalsRecord::References(r) => self.take_references(alloc, r),
-            GlobalsRecord::Name(r) => {
-                let name = read_again(parse_lbl(alloc, r, &self.page, self.version))?;
-                self.names.push(name)?;
-                Ok(())
-            }
-            GlobalsRecord::Table(r) => {
-                self.strings = read_again(parse_sst(alloc, r))?;
-                Ok(())
-            }
-            GlobalsRecord::Sheet(r) => self.take_sheet(alloc, r),
+            GlobalsRecord::Other => {}
+            GlobalsRecord::Version(biff) => self.version = biff,
+            GlobalsRecord::Page(page) => self.page = page,
+            GlobalsRecord::Date(is_1904) => self.is_1904 = self.is_1904 || is_1904,
+            GlobalsRecord::Format(r) => self.take_format(alloc, r)?,
+            GlobalsRecord::Xf(identifier) => self.identifiers.push(identifier)?,
+            GlobalsRecord::References(r) => self.take_references(alloc, r)?,
+            GlobalsRecord::Name(r) => self.take_name(alloc, r)?,
+            GlobalsRecord::Table(r) => self.take_table(alloc, r)?,
+            GlobalsRecord::Sheet(r) => self.take_sheet(alloc, r)?,
         }
+        Ok(())
     }
 }
 

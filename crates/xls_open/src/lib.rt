@@ -14,7 +14,7 @@ mod opened;
 mod options;
 mod part;
 
-pub use check::check_stream;
+pub use check::{check_sheets_of, check_stream};
 pub use classes::classes_of;
 pub use force::InForce;
 pub use formula::text_of_formula;

@@ -33,7 +33,8 @@ use xls_biff::{Biff, Strings, XlsError};
 use xls_data::{CellFormat, Sheet};
 use xls_formula::FunctionTable;
 use xls_open::{
-    Globals, InForce, Listed, Naming, XlsOptions, check_stream, classes_of, naming_of, read_globals,
+    Globals, InForce, Listed, Naming, XlsOptions, check_sheets_of, check_stream, classes_of,
+    naming_of, read_globals,
 };
 use xls_text::XlsEncoding;
 
@@ -166,10 +167,23 @@ impl<'a> View<'a> {
         ensures fault { (e : XlsError) → IsFault options.now bytes.now e → result ≡ Err e }
         ensures cause { IfErr result (ViewCause options.now bytes.now) }
     {
-        check_stream(bytes, options.force_codepage, options.max_cells)?;
         let page = options.first_page()?;
-        let globals = read_globals(alloc, bytes, page, options)?;
-        Ok(view_of(alloc, bytes, globals, options)?)
+        match read_globals(alloc, bytes, page, options) {
+            Ok(globals) => {
+                check_sheets_of(
+                    bytes,
+                    globals.version,
+                    options.force_codepage,
+                    options.max_cells,
+                )?;
+                Ok(view_of(alloc, bytes, globals, options)?)
+            }
+            Err(error) => {
+                // A fault comes before the want of memory.
+                check_stream(bytes, options.force_codepage, options.max_cells)?;
+                Err(error)
+            }
+        }
     }
 
     /// Name, kind and visibility of each sheet, in workbook order. Takes no memory.

@@ -1,8 +1,8 @@
-use Rattle.std.proofs.Common.{arith, subst, Ok, Err}
+use Rattle.std.proofs.Common.{arith, refl, subst, Ok, Err}
 use Rattle.std.proofs.lemmas.Result.{err_from_is_err_and}
 use Rattle.xls_biff.specs.Walking.{group_of}
 use Rattle.xls_open.proofs.StateLemmas.{nothing_given}
-use Rattle.xls_open.proofs.GlobalsLemmas.{IsRecordRead, globals_nothing, globals_more, record_refused, globals_cut, globals_eof, globals_end, reads_fault}
+use Rattle.xls_open.proofs.GlobalsLemmas.{IsRecordRead, globals_nothing, globals_next, globals_more, record_refused, globals_cut, globals_eof, globals_end, reads_fault}
 use Rattle.xls_open.specs.Workbook.{rules_of}
 use Rattle.xls_open.proofs.globals.read_globals.Goals as goal
 
@@ -31,6 +31,19 @@ returns-then-record-eq-EOF c =
     let l = c.loop-record in
     let steps = rw c.in_ok-record.was at c.in-Some.ensures.steps in
     globals_eof (rules_of c.args.options.now) c.args.stream.now l.record-iterator l.globals l.invariant.2 (group_of c.in_ok-record.record) c.next.new.self steps c.if-record-eq-EOF.true
+
+-- the record is a line without a fault
+pub take-requires : goal.take-requires
+take-requires c =
+    let l = c.loop-record in
+    let steps = rw c.in_ok-record.was at c.in-Some.ensures.steps in
+    let m = globals_next (rules_of c.args.options.now) c.args.stream.now l.record-iterator c.next.new.self l.globals (group_of c.in_ok-record.record) l.invariant.2 steps c.if-record-eq-EOF.false c.in_ok-read.read
+    (subst (λ s. IsRecordRead c.args.options.now.force_codepage s.version (group_of c.in_ok-record.record) (Ok c.in_ok-read.read)) c.globals.view_is (record {
+      plain = c.in_ok-read.ensures.plain;
+      table = c.in_ok-read.ensures.table;
+      sheet = c.in_ok-read.ensures.sheet;
+    })) in
+    (m.body, Ok m.gives, m.stands, refl)
 
 pub loop-record-preserved : goal.loop-record-preserved
 loop-record-preserved c =
