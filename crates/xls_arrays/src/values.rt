@@ -1,13 +1,14 @@
 //! The value of a cell as an item of the array.
 
-ghost use Rattle.std.specs.Prelude.{◌≡◌, encode_utf8_all};
-ghost use Rattle.std.specs.Str.{chars};
-ghost use Rattle.xls_data.specs.Refs.{ref_content_of};
-ghost use Rattle.xls_arrays.specs.Values.{duration_or_date, error_code, form_in, kind_of, text_in, value_in};
+ghost use Rattle.std.specs.Prelude.{◌≡◌, length};
+ghost use Rattle.xls_arrays.specs.Numbers.{bits_of, form_of};
+ghost use Rattle.xls_arrays.specs.Values.{cell_item, duration_or_date, error_code, text_in};
+ghost use Rattle.xls_view.specs.Values.{value_content};
 
 use crate::items::{CellItem, Span};
 use crate::numbers::{bits_of, form_of};
-use xls_data::{CellErrorType, DataRef, ExcelDateTime, Number};
+use xls_data::{CellErrorType, ExcelDateTime, Number};
+use xls_view::CellValue;
 
 /// The code of an error value in BIFF, [MS-XLS] BErr.
 fn error_code(error: CellErrorType) -> u64
@@ -32,90 +33,63 @@ fn duration_or_date(moment: ExcelDateTime) -> u32
     if moment.is_duration() { 3 } else { 2 }
 }
 
-/// The kind of a value.
-fn kind_of(value: &DataRef<'_>) -> u32
-    ensures { result ≡ kind_of (ref_content_of value.now) }
-{
-    match value {
-        DataRef::Empty => 0,
-        DataRef::Int(_) => 9,
-        DataRef::Float(_) => 1,
-        DataRef::DateTime(moment) => duration_or_date(*moment),
-        DataRef::Bool(_) => 4,
-        DataRef::Error(_) => 5,
-        DataRef::String(_) | DataRef::SharedString(_) => 6,
-        DataRef::DateTimeIso(_) => 7,
-        DataRef::DurationIso(_) => 8,
-    }
-}
-
-/// The form of the number in a value, and 0 where there is none.
-fn form_in(value: &DataRef<'_>) -> u32
-    ensures { result ≡ form_in (ref_content_of value.now) }
-{
-    match value {
-        DataRef::Int(_) => 1,
-        DataRef::Float(number) => form_of(*number),
-        DataRef::DateTime(moment) => form_of(moment.number()),
-        _ => 0,
-    }
-}
-
-/// A text, by its characters.
-fn encoded(text: &str) -> &str
-    ensures { result.now ≡ encode_utf8_all (chars text.now) }
-{
-    text
-}
-
-/// The text in a value, and an empty one where there is none.
-pub(crate) fn text_in<'v>(value: &'v DataRef<'v>) -> &'v str
-    ensures { result.now ≡ text_in (ref_content_of value.now) }
-{
-    match value {
-        DataRef::String(text) => text.as_str(),
-        DataRef::SharedString(text) => encoded(text),
-        DataRef::DateTimeIso(text) => text.as_str(),
-        DataRef::DurationIso(text) => text.as_str(),
-        _ => "",
-    }
-}
-
-/// The number that tells a value whose text is at an offset.
-fn value_in(offset: u64, value: &DataRef<'_>) -> u64
-    ensures { result ≡ value_in offset (ref_content_of value.now) }
-{
-    match value {
-        DataRef::Empty => 0,
-        DataRef::Int(n) => bits_of(Number::Whole(*n)),
-        DataRef::Float(number) => bits_of(*number),
-        DataRef::DateTime(moment) => bits_of(moment.number()),
-        DataRef::Bool(truth) => u64::from(*truth),
-        DataRef::Error(error) => error_code(*error),
-        DataRef::String(_)
-        | DataRef::SharedString(_)
-        | DataRef::DateTimeIso(_)
-        | DataRef::DurationIso(_) => offset,
-    }
-}
-
-/// The item of a cell whose text was laid there.
-pub(crate) fn cell_item(row: u32, column: u32, value: &DataRef<'_>, text: Span) -> CellItem
-    ensures { result ≡ record {
-      row = row;
-      column = column;
-      kind = kind_of (ref_content_of value.now);
-      form = form_in (ref_content_of value.now);
-      value = value_in text.offset (ref_content_of value.now);
-      length = text.length;
-    } }
+/// The item of a value without a text: its kind, the form of its number, and the number that tells it.
+#[inline]
+fn plain_item(row: u32, column: u32, kind: u32, form: u32, value: u64) -> CellItem
+    ensures { result ≡ record { row = row; column = column; kind = kind; form = form; value = value; length = 0 } }
 {
     CellItem {
         row,
         column,
-        kind: kind_of(value),
-        form: form_in(value),
-        value: value_in(text.offset, value),
+        kind,
+        form,
+        value,
+        length: 0,
+    }
+}
+
+/// The item of a number of a kind.
+#[inline]
+fn number_item(row: u32, column: u32, kind: u32, number: Number) -> CellItem
+    ensures { result ≡ record { row = row; column = column; kind = kind; form = form_of number; value = bits_of number; length = 0 } }
+{
+    plain_item(row, column, kind, form_of(number), bits_of(number))
+}
+
+/// The item of a text that was laid there.
+#[inline]
+fn text_item(row: u32, column: u32, text: Span) -> CellItem
+    ensures { result ≡ record { row = row; column = column; kind = 6; form = 0; value = text.offset; length = text.length } }
+{
+    CellItem {
+        row,
+        column,
+        kind: 6,
+        form: 0,
+        value: text.offset,
         length: text.length,
+    }
+}
+
+/// The item of a cell whose text, if it has one, was laid there.
+#[inline]
+pub(crate) fn cell_item(row: u32, column: u32, value: CellValue<'_>, text: Span) -> CellItem
+    requires { text.length ≡ length (text_in (value_content value.entry)) }
+    ensures { result ≡ cell_item text.offset ((row, column), value_content value.entry) }
+{
+    match value {
+        CellValue::Int(n) => number_item(row, column, 9, Number::Whole(n)),
+        CellValue::Float(number) => number_item(row, column, 1, number),
+        CellValue::DateTime(moment) => number_item(
+            row,
+            column,
+            duration_or_date(moment),
+            moment.number(),
+        ),
+        CellValue::Bool(truth) => plain_item(row, column, 4, 0, u64::from(truth)),
+        CellValue::Error(error) => plain_item(row, column, 5, 0, error_code(error)),
+        CellValue::Empty => plain_item(row, column, 0, 0, 0),
+        CellValue::Shared(_) => text_item(row, column, text),
+        CellValue::Encoded(_) => text_item(row, column, text),
     }
 }

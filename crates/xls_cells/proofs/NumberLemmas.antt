@@ -3,25 +3,12 @@ use Rattle.std.proofs.Common.{◌≡◌, ℕ, ◌+◌, ◌<◌, List, [], ◌∷
 use Rattle.std.specs.List.{AllByRecursion}
 use Rattle.std.proofs.lemmas.List.{append-nil, map-append, length-append}
 use Rattle.xls_cells.specs.declared.sorted.Given.{Given}
-use Rattle.xls_cells.specs.Positions.{Entry, Precedes, IsAscending, IsNumbered, cell_position, given_entry}
+use Rattle.xls_cells.specs.Positions.{Entry, Precedes, IsAscending, IsNumbered, IsNumberedTo, cell_position, given_entry}
 use Rattle.xls_cells.proofs.LastLemmas.{weaker}
 use Rattle.xls_cells.proofs.PutLemmas.{all_push, before_trans}
 
 module _ {T : Type 0} where
   -- ---- numbers
-
-  -- the numbers ascend up to n
-  abbrev pub IsNumberedTo : ℕ → List (Given T) → Type 0
-  IsNumberedTo n xs = IsNumbered xs × AllByRecursion (λ x. x.number < n) xs
-
-  -- the cells so far have their numbers, and these are still to come
-  pub record Numbering (all : List (Entry T)) (xs : List (Given T)) (rest : List (Entry T)) : Type 0 where
-    pub numbers : IsNumberedTo (length xs) xs
-    pub whole : all ≡ map given_entry xs ++ rest
-
-  pub numbering_nothing : (all : List (Entry T)) (xs : List (Given T)) → xs ≡ [] → Numbering all xs all
-  numbering_nothing all xs e =
-      subst (λ (l : List (Given T)). Numbering all l all) (sym e) (record { numbers = (tt, tt); whole = refl })
 
   numbers_push : (n : ℕ) (xs : List (Given T)) (y : Given T) → IsNumbered xs
       → AllByRecursion (λ x. x.number < n) xs → y.number ≡ n → IsNumbered (xs ++ y ∷ [])
@@ -30,27 +17,15 @@ module _ {T : Type 0} where
       let l = b.0 in
       (all_push (λ z. x.number < z.number) xs y a.0 (omega arith), numbers_push n xs y a.1 b.1 e)
 
-  pub numbering_push : (all : List (Entry T)) (xs ys : List (Given T)) (y : Given T) (rest : List (Entry T))
-      → Numbering all xs (y.cell ∷ rest) → y.number ≡ length xs → ys ≡ xs ++ y ∷ []
-      → Numbering all ys rest
-  numbering_push all xs ys y rest s n e =
-      let len : length ys ≡ length xs + 1 = ap length e ∙ omega (arith, length-append xs (y ∷ [])) in
-      record {
-        numbers = (
-          subst (λ (l : List (Given T)). IsNumbered l) (sym e) (numbers_push (length xs) xs y s.numbers.0 s.numbers.1 n),
-          subst (λ (l : List (Given T)). AllByRecursion (λ x. x.number < length ys) l) (sym e)
-              (all_push (λ x. x.number < length ys) xs y (weaker (λ x. x.number < length xs) (λ x. x.number < length ys) (λ x l. omega arith) xs s.numbers.1) (omega arith)),
-        );
-        whole = s.whole ∙ sym (append_assoc (map given_entry xs) (y.cell ∷ []) rest)
-            ∙ ap (λ (l : List (Entry T)). l ++ rest) (sym (ap (map given_entry) e ∙ map-append given_entry xs (y ∷ [])));
-      }
-
-  pub numbering_end : (all : List (Entry T)) (xs : List (Given T)) (rest : List (Entry T)) → rest ≡ []
-      → Numbering all xs rest → IsNumbered xs × (map given_entry xs ≡ all)
-  numbering_end all xs rest e s = (
-    s.numbers.0,
-    sym (s.whole ∙ ap (λ (l : List (Entry T)). map given_entry xs ++ l) e ∙ append-nil (map given_entry xs)),
-  )
+  -- the next number
+  pub number_next : (xs ys : List (Given T)) (y : Given T) → IsNumberedTo (length xs) xs → y.number ≡ length xs
+      → ys ≡ xs ++ y ∷ [] → IsNumberedTo (length ys) ys
+  number_next xs ys y s n e =
+      let len : length ys ≡ length xs + 1 = ap length e ∙ omega (arith, length-append xs (y ∷ [])) in (
+        subst (λ (l : List (Given T)). IsNumbered l) (sym e) (numbers_push (length xs) xs y s.0 s.1 n),
+        subst (λ (l : List (Given T)). AllByRecursion (λ x. x.number < length ys) l) (sym e)
+            (all_push (λ x. x.number < length ys) xs y (weaker (λ x. x.number < length xs) (λ x. x.number < length ys) (λ x l. omega arith) xs s.1) (omega arith)),
+      )
 
   -- ---- ascending positions
 

@@ -1,5 +1,5 @@
 -- Positions in order, and the value that was given to a position last.
-use Rattle.std.specs.Prelude.{◌≡◌, ℕ, ◌<◌, ◌≤◌, List, [], ◌∷◌, ◌++◌, map, ◌⊎◌, ◌-◌, length, slice_index_or, slice_set}
+use Rattle.std.specs.Prelude.{◌≡◌, ℕ, ◌<◌, ◌≤◌, List, [], ◌∷◌, ◌++◌, map, ◌⊎◌, ◌-◌, length, take, slice_index_or, slice_set}
 use Rattle.std.specs.List.{AllByRecursion}
 pub use Rattle.xls_range.specs.Sparse.{last_at, Precedes, IsAscending}
 use Rattle.xls_cells.specs.declared.sorted.Given.{Given}
@@ -22,6 +22,14 @@ given_entry g = g.cell
 abbrev pub IsNumbered : {T : Type 0} → List (Given T) → Type 0
 IsNumbered [] = Unit {0}
 IsNumbered (x ∷ xs) = AllByRecursion (λ y. x.number < y.number) xs × IsNumbered xs
+
+-- up to a number
+abbrev pub IsNumberedTo : {T : Type 0} → ℕ → List (Given T) → Type 0
+IsNumberedTo n xs = IsNumbered xs × AllByRecursion (λ x. x.number < n) xs
+
+-- the first cells
+abbrev pub kept_cells : {T : Type 0} → ℕ → List (Given T) → List (Entry T)
+kept_cells n given = map given_entry (take n given)
 
 -- both give each position the same value last
 abbrev pub HasSame : {T : Type 0} → List (Entry T) → List (Given T) → Type 0

@@ -3,4 +3,4 @@
 
 mod sorted;
 
-pub use sorted::{Given, sort_given, sorted_cells};
+pub use sorted::{Given, Settled, Unsettled, sorted_cells};

@@ -3,7 +3,7 @@
 ghost use Rattle.std.specs.Prelude.{◌≡◌};
 ghost use Rattle.std.specs.Option.{option_copied};
 ghost use Rattle.xls_data.specs.Data.{content_of};
-ghost use Rattle.xls_data.specs.Formatted.{date_of, formatted_number, formatted_whole};
+ghost use Rattle.xls_data.specs.Formatted.{formatted_number, formatted_whole};
 ghost use Rattle.xls_data.specs.Numeric.{numeric_content};
 ghost use Rattle.xls_data.specs.Refs.{ref_content_of};
 
@@ -16,20 +16,22 @@ pub enum Numeric {
     Int(i64),
     /// A number.
     Float(Number),
-    /// A date or a duration.
-    DateTime(ExcelDateTime),
+    /// A day and a time of day, and whether days count from 1904-01-01.
+    DateTime(Number, bool),
+    /// A duration, likewise.
+    TimeDelta(Number, bool),
 }
 
-#[inline]
-fn date_of(value: Number, format: Option<&CellFormat>, is_1904: bool) -> Option<ExcelDateTime>
-    ensures { result ≡ date_of (option_copied format.entry) value is_1904 }
+fn date(value: Number, is_1904: bool) -> ExcelDateTime
+    ensures { result ≡ record { number = value; kind = ExcelDateTimeType.DateTime; is_1904 = is_1904 } }
 {
-    let kind = match format? {
-        CellFormat::Other => return None,
-        CellFormat::DateTime => ExcelDateTimeType::DateTime,
-        CellFormat::TimeDelta => ExcelDateTimeType::TimeDelta,
-    };
-    Some(ExcelDateTime::new(value, kind, is_1904))
+    ExcelDateTime::new(value, ExcelDateTimeType::DateTime, is_1904)
+}
+
+fn duration(value: Number, is_1904: bool) -> ExcelDateTime
+    ensures { result ≡ record { number = value; kind = ExcelDateTimeType.TimeDelta; is_1904 = is_1904 } }
+{
+    ExcelDateTime::new(value, ExcelDateTimeType::TimeDelta, is_1904)
 }
 
 impl Numeric {
@@ -39,9 +41,10 @@ impl Numeric {
     pub fn of_i64(value: i64, format: Option<&CellFormat>, is_1904: bool) -> Numeric
         ensures { numeric_content result ≡ formatted_whole (option_copied format.entry) value is_1904 }
     {
-        match date_of(Number::Whole(value), format, is_1904) {
-            Some(date) => Numeric::DateTime(date),
-            None => Numeric::Int(value),
+        match format {
+            Some(CellFormat::DateTime) => Numeric::DateTime(Number::Whole(value), is_1904),
+            Some(CellFormat::TimeDelta) => Numeric::TimeDelta(Number::Whole(value), is_1904),
+            Some(CellFormat::Other) | None => Numeric::Int(value),
         }
     }
 
@@ -51,9 +54,10 @@ impl Numeric {
     pub fn of_number(value: Number, format: Option<&CellFormat>, is_1904: bool) -> Numeric
         ensures { numeric_content result ≡ formatted_number (option_copied format.entry) value is_1904 }
     {
-        match date_of(value, format, is_1904) {
-            Some(date) => Numeric::DateTime(date),
-            None => Numeric::Float(value),
+        match format {
+            Some(CellFormat::DateTime) => Numeric::DateTime(value, is_1904),
+            Some(CellFormat::TimeDelta) => Numeric::TimeDelta(value, is_1904),
+            Some(CellFormat::Other) | None => Numeric::Float(value),
         }
     }
 
@@ -65,7 +69,8 @@ impl Numeric {
         match self {
             Numeric::Int(n) => Data::Int(n),
             Numeric::Float(number) => Data::Float(number),
-            Numeric::DateTime(date) => Data::DateTime(date),
+            Numeric::DateTime(number, is_1904) => Data::DateTime(date(number, is_1904)),
+            Numeric::TimeDelta(number, is_1904) => Data::DateTime(duration(number, is_1904)),
         }
     }
 
@@ -77,7 +82,8 @@ impl Numeric {
         match self {
             Numeric::Int(n) => DataRef::Int(n),
             Numeric::Float(number) => DataRef::Float(number),
-            Numeric::DateTime(date) => DataRef::DateTime(date),
+            Numeric::DateTime(number, is_1904) => DataRef::DateTime(date(number, is_1904)),
+            Numeric::TimeDelta(number, is_1904) => DataRef::DateTime(duration(number, is_1904)),
         }
     }
 }

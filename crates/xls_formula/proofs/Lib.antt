@@ -4,5 +4,6 @@ pub mod GroupLemmas
 pub mod OperandLemmas
 pub mod TextLemmas
 pub mod PutLemmas
+pub mod WalkLemmas
 pub mod Rendering
 mod StandardFacts

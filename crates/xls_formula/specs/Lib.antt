@@ -3,7 +3,9 @@ pub mod Names
 pub mod Functions
 pub mod Context
 pub mod Tree
+pub mod Effects
 pub mod Fold
+pub mod Holding
 pub mod Defined
 pub mod buffer
 pub use Rattle.xls_strings.specs.Reading

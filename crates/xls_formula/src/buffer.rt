@@ -6,10 +6,11 @@ ghost use Rattle.std.specs.List.{concat};
 ghost use Rattle.std.specs.Str.{chars};
 ghost use Rattle.xls_strings.specs.Reading.{Gives};
 ghost use Rattle.xls_strings.specs.Texts.{text_of};
+ghost use Rattle.xls_formula.specs.Holding.{tree_of};
+ghost use Rattle.xls_formula.specs.Tree.{render};
 ghost use Rattle.xls_formula.specs.buffer.Fronts.{IsChain};
 ghost use Rattle.xls_formula.specs.buffer.Leaves.{AreChained, AreWhole, IsMarked, leaf_texts};
 ghost use Rattle.xls_formula.specs.buffer.Pieces.{with_join, with_prefix, with_suffix};
-ghost use Rattle.xls_formula.specs.buffer.Printed.{word_text};
 ghost use Rattle.xls_formula.specs.buffer.Put.{one_text};
 
 use crate::fronts::Fronts;
@@ -125,7 +126,7 @@ impl Operands {
 
     /// Puts a word on top.
     pub(crate) fn push(&mut self, word: Word<'_>) -> Result<(), AllocError>
-        ensures { OnOk result (self.new ≡ word_text word.entry ∷ self.old) }
+        ensures { OnOk result (self.new ≡ render (tree_of word.entry) ∷ self.old) }
     {
         self.push_empty()?;
         self.put_after(word)
@@ -144,7 +145,7 @@ impl Operands {
     /// Appends a word to the text on top. Where memory runs out, no operand is left.
     pub(crate) fn put_after(&mut self, word: Word<'_>) -> Result<(), AllocError>
         requires { 0 < length self.old }
-        ensures { OnOk result (self.new ≡ with_suffix (word_text word.entry) self.old) }
+        ensures { OnOk result (self.new ≡ with_suffix (render (tree_of word.entry)) self.old) }
     {
         let before = self.text.len();
         match push_word(&mut self.text, word) {

@@ -3,6 +3,7 @@
 
 mod buffer;
 mod defined;
+mod effect;
 mod fronts;
 mod ftab;
 mod functions;
@@ -13,9 +14,11 @@ mod scope;
 mod words;
 
 pub use defined::{check_lbl, parse_defined_names, parse_lbl};
+pub use effect::{Effect, read_effect};
 pub use ftab::{FTAB, FTAB_ARGC, FTAB_LEN};
 pub use functions::FunctionTable;
 pub use names::Names;
 pub use parse::{parse_formula, tokens_of};
-pub use scope::sheet_of_reference;
+pub use scope::{Scope, sheet_of_reference};
+pub use words::Word;
 pub use xls_ptg::{RawCite, Token, read_token};

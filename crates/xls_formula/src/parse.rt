@@ -3,19 +3,20 @@
 ghost use Rattle.std.specs.Prelude.{◌≡◌};
 ghost use Rattle.xls_strings.specs.Reading.{Exactly, Gives};
 ghost use Rattle.xls_strings.specs.Texts.{text_of};
-ghost use Rattle.xls_formula.specs.Fold.{formula_text, tokens_at};
-ghost use Rattle.xls_formula.specs.buffer.Put.{put_all};
+ghost use Rattle.xls_formula.specs.Fold.{formula_text, tokens_at, walk};
+ghost use Rattle.xls_formula.specs.Holding.{context_of};
+ghost use Rattle.xls_formula.specs.buffer.Put.{put};
 ghost use Rattle.xls_formula.specs.buffer.Steps.{Leaves};
-ghost use Rattle.xls_formula.specs.buffer.Scopes.{context_of};
 
 use crate::buffer::Operands;
+use crate::effect::read_effect;
 use crate::functions::FunctionTable;
 use crate::names::Names;
-use crate::put::put_ptg;
+use crate::put::put;
 use crate::scope::Scope;
 use std::alloc::Global;
 use xls_biff::{Biff, Part, Refs, Strings, XlsError};
-use xls_ptg::{read_ptg, short, word_at};
+use xls_ptg::{short, word_at};
 use xls_text::XlsEncoding;
 
 /// The tokens after their length in 16 bits, CellParsedFormula of [MS-XLS] 2.5.198.3; what stands after
@@ -36,12 +37,12 @@ pub fn tokens_of(rgce: &[u8]) -> Result<&[u8], XlsError>
 }
 
 fn put_tokens(texts: &mut Operands, scope: Scope<'_>, tokens: &[u8]) -> Result<(), XlsError>
-    ensures { Leaves result texts.new (put_all (context_of scope.entry) tokens.now 0 texts.old) }
+    ensures { Leaves result texts.new (walk (context_of scope.entry) put tokens.now 0 texts.old) }
 {
     let mut rest = tokens;
     'tokens: while !rest.is_empty() {
-        let (ptg, more) = read_ptg(rest, scope.biff)?;
-        put_ptg(texts, scope, ptg)?;
+        let (effect, more) = read_effect(rest, scope)?;
+        put(texts, effect)?;
         let (_, after) = rest.split_at(1);
         let (_, next) = after.split_at(more);
         rest = next;

@@ -3,7 +3,7 @@
 ghost use Rattle.std.specs.Prelude.{◌≡◌, slice_get};
 ghost use Rattle.std.specs.Str.{chars};
 ghost use Rattle.xls_formula.specs.Context.{name_text, numbered_sheet, sheet_text};
-ghost use Rattle.xls_formula.specs.buffer.Scopes.{context_of};
+ghost use Rattle.xls_formula.specs.Holding.{context_of};
 
 use crate::functions::FunctionTable;
 use crate::names::Names;
@@ -12,7 +12,7 @@ use xls_text::XlsEncoding;
 
 /// The lists that a formula names things by, the code page and the version.
 #[derive(Clone, Copy)]
-pub(crate) struct Scope<'a> {
+pub struct Scope<'a> {
     pub sheets: &'a Strings,
     pub names: &'a Names,
     pub refs: &'a Refs,

@@ -1,18 +1,17 @@
 //! The texts that tokens print, appended to one text.
 
-ghost use Rattle.std.specs.Prelude.{◌≡◌, false, ◌++◌, OnOk};
+ghost use Rattle.std.specs.Prelude.{◌≡◌, false, ◌++◌, codes, OnOk};
 ghost use Rattle.std.specs.Fmt.{decimal, digits};
-ghost use Rattle.std.specs.Option.{option_map};
 ghost use Rattle.std.specs.Str.{IsAscii, chars};
 ghost use Rattle.xls_bytes.specs.Columns.{column_name};
 ghost use Rattle.xls_strings.specs.Texts.{text_of};
 ghost use Rattle.xls_dates.specs.Numbers.{bits_text};
 ghost use Rattle.xls_text.specs.Pages.{string_text};
-ghost use Rattle.xls_formula.specs.Fold.{str_text};
-ghost use Rattle.xls_formula.specs.Tree.{area_text, corner_text, dollar, on_sheet};
+ghost use Rattle.xls_formula.specs.Effects.{str_text};
+ghost use Rattle.xls_formula.specs.Holding.{lent_text, tree_of};
+ghost use Rattle.xls_formula.specs.Tree.{area_text, corner_text, dollar, on_sheet, render};
 ghost use Rattle.xls_data.specs.Errors.{error_text};
 ghost use Rattle.xls_formula.specs.Words.{bool_text, err_text, operator_text, space_mark};
-ghost use Rattle.xls_formula.specs.buffer.Printed.{word_text};
 
 use std::alloc::AllocError;
 use std::str::from_utf8;
@@ -21,9 +20,9 @@ use xls_data::{CellErrorType, Number};
 use xls_ptg::{Corner, Operator};
 use xls_text::XlsEncoding;
 
-/// What a token prints.
+/// An operand without operands of its own.
 #[derive(Clone, Copy)]
-pub(crate) enum Word<'a> {
+pub enum Word<'a> {
     /// A text as it stands.
     Plain(&'a str),
     /// A whole number.
@@ -39,17 +38,19 @@ pub(crate) enum Word<'a> {
         units: &'a [u8],
         cch: u8,
     },
-    /// A cell, on the sheet that is told.
+    /// A cell, on the sheet of this name if there is one.
     Ref {
         sheet: Option<&'a str>,
         corner: Corner,
     },
-    /// An area.
+    /// An area, likewise.
     Area {
         sheet: Option<&'a str>,
         first: Corner,
         last: Corner,
     },
+    /// Cells that are gone, on the sheet of this name.
+    Err3d(&'a str),
 }
 
 /// A binary operator. `Ge` and `Gt` are exchanged, as in the crate calamine.
@@ -221,7 +222,7 @@ pub(crate) fn push_area(out: &mut String, first: Corner, last: Corner) -> Result
 #[tactic(auto, unfolding(std::specs::Prelude::chars))]
 fn push_sheet(out: &mut String, sheet: Option<&str>) -> Result<(), AllocError>
     ensures { OnOk result (text_of out.new
-        ≡ text_of out.old ++ on_sheet (option_map (λ name. chars name.now) sheet.entry)) }
+        ≡ text_of out.old ++ on_sheet (lent_text sheet.entry)) }
 {
     if let Some(name) = sheet {
         push_text(out, name)?;
@@ -232,7 +233,7 @@ fn push_sheet(out: &mut String, sheet: Option<&str>) -> Result<(), AllocError>
 
 fn push_ref(out: &mut String, sheet: Option<&str>, corner: Corner) -> Result<(), AllocError>
     ensures { OnOk result (text_of out.new ≡ text_of out.old
-        ++ (on_sheet (option_map (λ name. chars name.now) sheet.entry) ++ corner_text corner)) }
+        ++ (on_sheet (lent_text sheet.entry) ++ corner_text corner)) }
 {
     push_sheet(out, sheet)?;
     push_corner(out, corner)
@@ -245,15 +246,25 @@ fn push_range(
     last: Corner,
 ) -> Result<(), AllocError>
     ensures { OnOk result (text_of out.new ≡ text_of out.old
-        ++ (on_sheet (option_map (λ name. chars name.now) sheet.entry) ++ area_text first last)) }
+        ++ (on_sheet (lent_text sheet.entry) ++ area_text first last)) }
 {
     push_sheet(out, sheet)?;
     push_area(out, first, last)
 }
 
-/// Appends what a token prints.
+/// Appends cells that are gone, on a sheet.
+#[tactic(auto, unfolding(std::specs::Prelude::chars))]
+fn push_err3d(out: &mut String, sheet: &str) -> Result<(), AllocError>
+    ensures { OnOk result (text_of out.new
+        ≡ text_of out.old ++ (chars sheet.now ++ codes "!#REF!")) }
+{
+    push_text(out, sheet)?;
+    push_text(out, "!#REF!")
+}
+
+/// Appends the text of an operand.
 pub(crate) fn push_word(out: &mut String, word: Word<'_>) -> Result<(), AllocError>
-    ensures { OnOk result (text_of out.new ≡ text_of out.old ++ word_text word.entry) }
+    ensures { OnOk result (text_of out.new ≡ text_of out.old ++ render (tree_of word.entry)) }
 {
     match word {
         Word::Plain(text) => push_text(out, text),
@@ -268,5 +279,6 @@ pub(crate) fn push_word(out: &mut String, word: Word<'_>) -> Result<(), AllocErr
         } => push_quoted(out, encoding, high_byte, units, usize::from(cch)),
         Word::Ref { sheet, corner } => push_ref(out, sheet, corner),
         Word::Area { sheet, first, last } => push_range(out, sheet, first, last),
+        Word::Err3d(sheet) => push_err3d(out, sheet),
     }
 }

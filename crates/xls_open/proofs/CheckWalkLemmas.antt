@@ -1,7 +1,9 @@
 -- The walk over the globals with an item for each record.
-use Rattle.std.proofs.Common.{◌≡◌, ℕ, List, [], ◌∷◌, ◌++◌, refl, sym, subst, append_assoc, true, false, Option, Some, None}
+use Rattle.std.proofs.Common.{◌≡◌, ◌≢◌, ℕ, List, [], ◌∷◌, ◌++◌, refl, sym, subst, ◌∙◌, append_assoc, arith, true, false, Option, Some, None}
+use Rattle.std.specs.Prelude.{◌==◌}
 use Rattle.std.specs.List.{filter, AllZip}
 use Rattle.std.proofs.lemmas.List.{append-nil}
+use Rattle.std.proofs.lemmas.List.Elements.{filter-append}
 use Rattle.xls_model.specs.Stream.{Group, Begins}
 use Rattle.xls_model.specs.Counting.{From, globals_of}
 use Rattle.xls_model.specs.Cut.{Cut}
@@ -11,7 +13,26 @@ use Rattle.xls_model.specs.declared.part.Part.{Part}
 use Rattle.xls_model.proofs.Shapes.{run_bytes, has_from}
 use Rattle.xls_model.proofs.HoldingLemmas.{has_items}
 use Rattle.xls_open.proofs.WalkLemmas.{globals_from, begins_from, eof_from, end_from, cut_from}
-use Rattle.xls_open.proofs.GlobalsLemmas.{apart, zip_append, filter_here, filter_not}
+
+pub apart : (m n : ℕ) → m ≢ n → (m == n) ≡ false
+apart m n h = grind arith
+
+pub zip_append : (R : Group → Item → Type 0) (gs hs : List Group) (is js : List Item) → AllZip R gs is
+    → AllZip R hs js → AllZip R (gs ++ hs) (is ++ js)
+zip_append R [] hs [] js a b = b
+zip_append R [] hs (i ∷ is) js a b = absurd a
+zip_append R (g ∷ gs) hs [] js a b = absurd a
+zip_append R (g ∷ gs) hs (i ∷ is) js a b = (a.0, zip_append R gs hs is js a.1 b)
+
+pub filter_here : (gs more : List Group) (g : Group) → is_globals_type g ≡ true
+    → filter is_globals_type (gs ++ g ∷ more) ≡ filter is_globals_type gs
+    ++ g ∷ filter is_globals_type more
+filter_here gs more g t = filter-append is_globals_type gs (g ∷ more) ∙ rw t refl
+
+pub filter_not : (gs : List Group) (g : Group) → is_globals_type g ≡ false
+    → filter is_globals_type (gs ++ g ∷ []) ≡ filter is_globals_type gs
+filter_not gs g t = filter-append is_globals_type gs (g ∷ [])
+    ∙ rw t (append-nil (filter is_globals_type gs))
 
 -- the stream up to the rest, as items
 pub record Passed (stream rest : List ℕ) (items : List Item) : Type 0 where

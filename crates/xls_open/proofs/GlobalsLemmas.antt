@@ -1,45 +1,54 @@
 -- The records of the globals, one after the other.
-use Rattle.std.proofs.Common.{◌≡◌, ◌≢◌, ℕ, List, [], ◌∷◌, ◌++◌, drop, refl, sym, ap, subst, ◌∙◌, append_assoc, arith, Bool, true, false, Option, Some, None, Result, Ok, Err}
-use Rattle.std.specs.Prelude.{◌==◌, ◌||◌}
-use Rattle.std.specs.List.{filter, AllZip}
-use Rattle.std.proofs.lemmas.List.{append-nil}
-use Rattle.std.proofs.lemmas.List.Elements.{filter-append}
+use Rattle.std.proofs.Common.{◌≡◌, ℕ, List, [], ◌∷◌, ◌++◌, drop, refl, sym, ap, subst, ◌∙◌, Bool, true, false, Option, Some, None, Result, Ok, Err}
+use Rattle.std.specs.Prelude.{◌==◌, ◌||◌, length, unwrap_or}
+use Rattle.xls_text.specs.declared.encoding.XlsEncoding.{XlsEncoding}
 use Rattle.xls_model.specs.Stream.{Group, Begins}
-use Rattle.xls_model.specs.Counting.{From, globals_of}
 use Rattle.xls_model.specs.Cut.{Cut}
 use Rattle.xls_model.specs.Walks.{IsBytes}
-use Rattle.xls_model.specs.Listing.{is_among, globals_types, is_globals_type, is_plain_type, Kept, Shared, IsShared, Item, plain_item, table_item, sheet_item, IsItem, Holds}
+use Rattle.xls_model.specs.Listing.{is_among, globals_types, is_globals_type, is_plain_type, Shared, IsShared, Item, plain_item, table_item, sheet_item, IsItem}
 use Rattle.xls_model.specs.declared.part.Part.{Part}
-use Rattle.xls_model.proofs.Shapes.{run_bytes, has_from}
-use Rattle.xls_model.proofs.HoldingLemmas.{has_item, has_items}
+use Rattle.xls_model.proofs.HoldingLemmas.{has_item}
+use Rattle.xls_data.specs.Sheets.{SheetContent}
 use Rattle.xls_strings.specs.declared.error.XlsError.{XlsError}
 use Rattle.xls_strings.specs.declared.error.XlsError.TheVariants as errors
-use Rattle.xls_strings.specs.Reading.{Fails}
+use Rattle.xls_strings.specs.declared.version.Biff.{Biff}
+use Rattle.xls_strings.specs.Reading.{gives}
+use Rattle.xls_strings.specs.declared.version.Biff.TheVariants.{Biff8}
+use Rattle.xls_dates.specs.declared.formats.CellFormat.{CellFormat}
+use Rattle.xls_biff.specs.Records.ExternSheet.{refs_at}
+use Rattle.xls_biff.specs.Records.Format.{format_at}
+use Rattle.xls_formula.specs.Defined.{lbl_at}
+use Rattle.xls_biff.specs.Records.BoundSheet.{bound_sheet_at}
 use Rattle.xls_reading.specs.Order.{along, first_of}
-use Rattle.xls_reading.specs.Faults.{item_fault, cut_fault}
-use Rattle.xls_open.specs.Steps.{State, after, step, IsState, AreGlobals, GlobalsFault, ReadsGlobals}
+use Rattle.xls_reading.specs.GlobalsTable as table
+use Rattle.xls_reading.specs.GlobalsTable.{Line, fault_of, version_given, unless_refused, other_record, references_record, name_record, strings_record, sheet_record, texts_of, plain_record_at, item_record_at}
+use Rattle.xls_reading.specs.Faults.{item_line, item_fault, cut_fault}
 use Rattle.xls_reading.specs.Rules.{Rules}
 use Rattle.xls_reading.proofs.OrderLemmas.{first_at, none_push, first_behind}
-use Rattle.xls_open.proofs.WalkLemmas.{globals_from, begins_from, eof_from, end_from, cut_from}
-use Rattle.xls_open.proofs.StateLemmas.{Says, step_says}
+use Rattle.xls_reading.specs.InForce.{page_in}
+use Rattle.xls_open.specs.Steps.{State, first_state, after, body_of, IsState, AreGlobals, GlobalsFault, ReadsGlobals}
+use Rattle.xls_open.specs.CheckSteps.{AreChecked}
+use Rattle.xls_open.specs.RecordSteps.{Stands, ReadsLine, IsTaken, version_told, version_by}
+use Rattle.xls_open.specs.declared.globals_record.GlobalsRecord.{GlobalsRecord}
+use Rattle.xls_open.specs.declared.globals_record.GlobalsRecord.TheVariants as read
+use Rattle.xls_open.proofs.CheckWalkLemmas.{Passed, passed_nothing, passed_item, passed_other, holds_at, passed_cut, passed_eof, passed_end}
+use Rattle.xls_open.proofs.StateLemmas.{same_in_force, grown, nothing_given}
+use Rattle.xls_open.proofs.LineLemmas.{not_given}
 
 -- ---- a record and its item
 
-pub apart : (m n : ℕ) → m ≢ n → (m == n) ≡ false
-apart m n h = grind arith
-
--- what the code's three clauses say of a record, where new is the state after it
-pub record Taken (rules : Rules) (s : State) (g : Group) (says : Result State XlsError → Type 0) : Type 0 where
-  pub plain : is_plain_type g.typ ≡ true → says (step rules s (plain_item g.typ g.body))
-  pub table : g.typ ≡ 252 → (shared : Shared) → IsShared g shared → says (step rules s (table_item g.body shared))
-  pub sheet : g.typ ≡ 133 → (kept : List Kept) (cut : Option Part) → says (step rules s (sheet_item g.body kept cut))
+-- what the three clauses of its reader say of a record
+pub record IsRecordRead (forced : Option ℕ) (version : Biff) (g : Group) (result : Result GlobalsRecord XlsError) : Type 0 where
+  pub plain : is_plain_type g.typ ≡ true → (page : XlsEncoding) → ReadsLine page version g.body (plain_record_at forced page version g.typ g.body) result
+  pub table : g.typ ≡ 252 → (page : XlsEncoding) (shared : Shared) → IsShared g shared → ReadsLine page version g.body (gives strings_record (texts_of (length g.body) shared)) result
+  pub sheet : g.typ ≡ 133 → (page : XlsEncoding) → ReadsLine page version g.body (gives (λ (q : ℕ × SheetContent). sheet_record q.1) (bound_sheet_at page version g.body)) result
 
 -- they speak of the item that the record stands for
-item_taken : (rules : Rules) (s : State) (bytes : List ℕ) (g : Group) (i : Item) (says : Result State XlsError → Type 0)
-    → Taken rules s g says → IsItem bytes g i → says (step rules s i)
-item_taken rules s bytes g (plain_item typ body) says t k = rw (k.1, k.2) (t.plain k.0)
-item_taken rules s bytes g (table_item body shared) says t k = rw k.1 (t.table k.0 shared k.2)
-item_taken rules s bytes g (sheet_item body kept cut) says t k = rw k.1 (t.sheet k.0 kept cut)
+item_read : (forced : Option ℕ) (version : Biff) (page : XlsEncoding) (bytes : List ℕ) (g : Group) (i : Item) (result : Result GlobalsRecord XlsError)
+    → IsRecordRead forced version g result → IsItem bytes g i → ReadsLine page version (body_of i) (item_record_at forced page version i) result
+item_read forced version page bytes g (plain_item typ body) result t k = rw (k.1, k.2) (t.plain k.0 page)
+item_read forced version page bytes g (table_item body shared) result t k = rw k.1 (t.table k.0 page shared k.2)
+item_read forced version page bytes g (sheet_item body kept cut) result t k = rw k.1 (t.sheet k.0 page)
 
 neither : (a b : Bool) → a || b ≡ false → (a ≡ false) × (b ≡ false)
 neither true b h = absurd cc
@@ -51,9 +60,9 @@ not_among n t [] after h = (neither (n == t) (is_among n after) h).0
 not_among n t (u ∷ before) after h = not_among n t before after (neither (n == u) (is_among n (before ++ t ∷ after)) h).1
 
 -- a record of another type gives nothing
-pub other_step : (rules : Rules) (s : State) (g : Group) → is_globals_type g ≡ false
-    → (is_plain_type g.typ ≡ true) × (step rules s (plain_item g.typ g.body) ≡ Ok s)
-other_step rules s g t =
+other_line : (forced : Option ℕ) (page : XlsEncoding) (version : Biff) (g : Group) → is_globals_type g ≡ false
+    → (is_plain_type g.typ ≡ true) × (plain_record_at forced page version g.typ g.body ≡ Ok other_record)
+other_line forced page version g t =
     let n = g.typ in
     let bof = not_among n 2057 [] (drop 1 globals_types) t in
     let pass = not_among n 47 (2057 ∷ []) (drop 2 globals_types) t in
@@ -69,170 +78,197 @@ other_step rules s g t =
       rw (bof, pass, page, date, format, xf, ext, lbl) refl,
     )
 
-pub zip_append : (R : Group → Item → Type 0) (gs hs : List Group) (is js : List Item) → AllZip R gs is
-    → AllZip R hs js → AllZip R (gs ++ hs) (is ++ js)
-zip_append R [] hs [] js a b = b
-zip_append R [] hs (i ∷ is) js a b = absurd a
-zip_append R (g ∷ gs) hs [] js a b = absurd a
-zip_append R (g ∷ gs) hs (i ∷ is) js a b = (a.0, zip_append R gs hs is js a.1 b)
-
 -- ---- the globals so far
 
 pub record GlobalsSoFar (rules : Rules) (stream rest : List ℕ) (s : State) : Type 0 where
-  pub groups : List Group
-  pub joins : (more : List Group) (cut : Option Part) → From globals_of rest more cut
-      → From globals_of stream (groups ++ more) cut
-  pub whole : IsBytes stream
-  pub fits : IsBytes rest
   pub items : List Item
-  pub are : AllZip (IsItem stream) (filter is_globals_type groups) items
+  pub passed : Passed stream rest items
   pub faultless : first_of (along (item_fault rules) [] items) ≡ None
   pub state : IsState rules items s
 
 pub globals_nothing : (rules : Rules) (stream : List ℕ) (s : State) → IsBytes stream
     → IsState rules [] s → GlobalsSoFar rules stream stream s
-globals_nothing rules stream s fits e =
-    record {
-      groups = [];
-      joins = λ more cut f. f;
-      whole = fits;
-      fits = fits;
-      items = [];
-      are = tt;
-      faultless = refl;
-      state = e;
-    }
-
-pub filter_here : (gs more : List Group) (g : Group) → is_globals_type g ≡ true
-    → filter is_globals_type (gs ++ g ∷ more) ≡ filter is_globals_type gs
-    ++ g ∷ filter is_globals_type more
-filter_here gs more g t = filter-append is_globals_type gs (g ∷ more) ∙ rw t refl
-
-pub filter_not : (gs : List Group) (g : Group) → is_globals_type g ≡ false
-    → filter is_globals_type (gs ++ g ∷ []) ≡ filter is_globals_type gs
-filter_not gs g t = filter-append is_globals_type gs (g ∷ [])
-    ∙ rw t (append-nil (filter is_globals_type gs))
-
-pub globals_more : (rules : Rules) (stream rest after : List ℕ) (s t : State) (g : Group)
-    → GlobalsSoFar rules stream rest s → Begins rest g after → (g.typ ≡ 10 → ⊥)
-    → Taken rules s g (λ r. r ≡ Ok t) → GlobalsSoFar rules stream after t
-globals_more rules stream rest after s t g c b n h = by_type (is_globals_type g) refl
-  where
-    joins : (more : List Group) (cut : Option Part) → From globals_of after more cut
-        → From globals_of stream ((c.groups ++ g ∷ []) ++ more) cut
-    joins more cut f = subst (λ (x : List Group). From globals_of stream x cut) (sym (append_assoc c.groups (g ∷ []) more)) (c.joins (g ∷ more) cut (begins_from rest g after more cut b (apart g.typ 10 n) f))
-
-    fits : IsBytes after
-    fits = run_bytes rest (g ∷ []) after (after, b, refl) c.fits
-
-    by_type : (u : Bool) → is_globals_type g ≡ u → GlobalsSoFar rules stream after t
-    by_type true u =
-        let i = has_item stream g c.whole in
-        let said = item_taken rules s stream g i.0 (λ r. r ≡ Ok t) h i.1 in
-        let told : Says rules c.items i.0 (Ok t) = subst (Says rules c.items i.0) said (step_says rules c.items s c.state i.0) in
-        record {
-          groups = c.groups ++ g ∷ [];
-          joins = joins;
-          whole = c.whole;
-          fits = fits;
-          items = c.items ++ i.0 ∷ [];
-          are = subst (λ (x : List Group). AllZip (IsItem stream) x (c.items
-              ++ i.0 ∷ [])) (sym (filter_here c.groups [] g u)) (zip_append (IsItem stream) (filter is_globals_type c.groups) (g ∷ []) c.items (i.0 ∷ []) c.are (i.1, tt));
-          faultless = none_push (item_fault rules) c.items i.0 c.faultless told.0;
-          state = told.1;
-        }
-    by_type false u =
-        let o = other_step rules s g u in
-        let same : t ≡ s = let e : Ok s ≡ Ok t = sym o.1 ∙ h.plain o.0 in cc in
-        record {
-          groups = c.groups ++ g ∷ [];
-          joins = joins;
-          whole = c.whole;
-          fits = fits;
-          items = c.items;
-          are = subst (λ (x : List Group). AllZip (IsItem stream) x c.items) (sym (filter_not c.groups g u)) c.are;
-          faultless = c.faultless;
-          state = subst (IsState rules c.items) (sym same) c.state;
-        }
-
--- ---- faults
-
-faulty : (rules : Rules) (stream : List ℕ) (e : XlsError) → GlobalsFault rules stream e
-    → ReadsGlobals rules stream (Err e)
-faulty rules stream errors.Memory h = tt
-faulty rules stream e h = h
-
-pub step_refused : (rules : Rules) (stream rest after : List ℕ) (s : State) (g : Group) (e : XlsError)
-    → GlobalsSoFar rules stream rest s → Begins rest g after → (g.typ ≡ 10 → ⊥)
-    → Taken rules s g (Fails e) → ReadsGlobals rules stream (Err e)
-step_refused rules stream rest after s g errors.Memory c b n f = tt
-step_refused rules stream rest after s g e c b n f = by_type (is_globals_type g) refl
-  where
-    by_type : (u : Bool) → is_globals_type g ≡ u → ReadsGlobals rules stream (Err e)
-    by_type false u =
-        let o = other_step rules s g u in
-        absurd (let both : Ok s ≡ Err e = sym o.1 ∙ f.plain o.0 in cc)
-    by_type true u =
-        let i = has_item stream g c.whole in
-        let said : step rules s i.0 ≡ Err e = item_taken rules s stream g i.0 (Fails e) f i.1 in
-        let told : Says rules c.items i.0 (Err e) = subst (Says rules c.items i.0) said (step_says rules c.items s c.state i.0) in
-        let others = has_from globals_of after (run_bytes rest (g ∷ []) after (
-          after,
-          b,
-          refl,
-        ) c.fits) in
-        let js = has_items stream c.whole (filter is_globals_type others.0) in
-        faulty rules stream e (
-          c.items ++ i.0 ∷ js.0,
-          others.1,
-          record {
-            groups = c.groups ++ g ∷ others.0;
-            globals = globals_from stream (c.groups
-                ++ g ∷ others.0) others.1 c.whole (c.joins (g ∷ others.0) others.1 (begins_from rest g after others.0 others.1 b (apart g.typ 10 n) others.2));
-            items_are = subst (λ (x : List Group). AllZip (IsItem stream) x (c.items
-                ++ i.0 ∷ js.0)) (sym (filter_here c.groups others.0 g u))
-                (zip_append (IsItem stream) (filter is_globals_type c.groups) (g ∷ filter is_globals_type others.0) c.items (i.0 ∷ js.0) c.are (i.1, js.1));
-          },
-          first_at (item_fault rules) c.items i.0 js.0 (cut_fault others.1 ∷ []) e c.faultless told,
-        )
-
-ended : (rules : Rules) (stream rest : List ℕ) (s : State) (cut : Option Part)
-    (c : GlobalsSoFar rules stream rest s) → From globals_of rest [] cut → Holds stream c.items cut
-ended rules stream rest s cut c f = record {
-  groups = c.groups;
-  globals = globals_from stream c.groups cut c.whole (subst (λ (x : List Group). From globals_of stream x cut) (append-nil c.groups) (c.joins [] cut f));
-  items_are = c.are;
+globals_nothing rules stream s fits e = record {
+  items = [];
+  passed = passed_nothing stream fits;
+  faultless = refl;
+  state = e;
 }
 
-pub globals_cut : (rules : Rules) (stream rest : List ℕ) (s : State) (e : XlsError) (p : Part)
-    → GlobalsSoFar rules stream rest s → e ≡ errors.EoStream p → Cut rest p
+-- the globals after one more record, which was read so
+pub record GlobalsNext (rules : Rules) (stream rest : List ℕ) (s : State) (x : GlobalsRecord) : Type 0 where
+  pub next : State
+  pub so_far : GlobalsSoFar rules stream rest next
+  pub body : List ℕ
+  pub gives : table.GlobalsRecord
+  pub stands : Stands s.page s.version body x (Ok gives)
+  pub next_is : next ≡ after s body gives
+
+-- a line without a fault
+given_of : (l : Line) → fault_of l ≡ None → (g : table.GlobalsRecord) × (l ≡ Ok g)
+given_of (Ok g) h = (g, refl)
+given_of (Err e) h = absurd cc
+
+module _ (rules : Rules) (stream rest later : List ℕ) (s : State) (g : Group) (c : GlobalsSoFar rules stream rest s) (b : Begins rest g later) (n : g.typ ≡ 10 → ⊥) where
+  abbrev line_of : Item → Line
+  line_of i = item_record_at rules.force_codepage s.page s.version i
+
+  pub globals_next : (x : GlobalsRecord) → IsRecordRead rules.force_codepage s.version g (Ok x) → GlobalsNext rules stream later s x
+  globals_next x t = by_type (is_globals_type g) refl
+    where
+      by_type : (u : Bool) → is_globals_type g ≡ u → GlobalsNext rules stream later s x
+      by_type true u =
+          let i = has_item stream g c.passed.whole in
+          let said = item_read rules.force_codepage s.version s.page stream g i.0 (Ok x) t i.1 in
+          let given = given_of (line_of i.0) said.0 in
+          let line : item_line rules c.items i.0 ≡ Ok given.0 = sym (same_in_force rules c.items s c.state i.0) ∙ given.1 in
+          record {
+            next = after s (body_of i.0) given.0;
+            so_far = record {
+              items = c.items ++ i.0 ∷ [];
+              passed = passed_item stream rest later c.items g c.passed b n i.0 u i.1;
+              faultless = none_push (item_fault rules) c.items i.0 c.faultless (ap (fault_of {X = table.GlobalsRecord}) line);
+              state = grown rules c.items s c.state i.0 given.0 line;
+            };
+            body = body_of i.0;
+            gives = given.0;
+            stands = subst (Stands s.page s.version (body_of i.0) x) given.1 said.1;
+            next_is = refl;
+          }
+      by_type false u =
+          let o = other_line rules.force_codepage s.page s.version g u in
+          record {
+            next = s;
+            so_far = record {
+              items = c.items;
+              passed = passed_other stream rest later c.items g c.passed b n u;
+              faultless = c.faultless;
+              state = c.state;
+            };
+            body = g.body;
+            gives = other_record;
+            stands = subst (Stands s.page s.version g.body x) o.1 (t.plain o.0 s.page).1;
+            next_is = refl;
+          }
+
+  pub record_refused : (e : XlsError) → IsRecordRead rules.force_codepage s.version g (Err e) → GlobalsFault rules stream e
+  record_refused e t = by_type (is_globals_type g) refl
+    where
+      by_type : (u : Bool) → is_globals_type g ≡ u → GlobalsFault rules stream e
+      by_type true u =
+          let i = has_item stream g c.passed.whole in
+          let line : item_line rules c.items i.0 ≡ Err e =
+          sym (same_in_force rules c.items s c.state i.0) ∙ item_read rules.force_codepage s.version s.page stream g i.0 (Err e) t i.1 in
+          let held = holds_at stream rest later c.items g c.passed b n i.0 u i.1 in (
+            c.items ++ i.0 ∷ held.0,
+            held.1,
+            held.2,
+            first_at (item_fault rules) c.items i.0 held.0 (cut_fault held.1 ∷ []) e c.faultless (ap (fault_of {X = table.GlobalsRecord}) line),
+          )
+      by_type false u =
+          let o = other_line rules.force_codepage s.page s.version g u in
+          absurd (let both : ◌≡◌ {A = Line} (Ok other_record) (Err e) = sym o.1 ∙ t.plain o.0 s.page in cc)
+
+  -- what is kept of it
+  pub globals_more : (x : GlobalsRecord) (t : State) → IsRecordRead rules.force_codepage s.version g (Ok x) → IsTaken s x t
+      → GlobalsSoFar rules stream later t
+  globals_more x t h k =
+      let m = globals_next x h in
+      subst (GlobalsSoFar rules stream later) (m.next_is ∙ sym (k m.body m.gives m.stands)) m.so_far
+
+-- ---- the end
+
+module _ (rules : Rules) (stream rest : List ℕ) (s : State) (c : GlobalsSoFar rules stream rest s) where
+  pub globals_cut : (e : XlsError) (p : Part) → e ≡ errors.EoStream p → Cut rest p → GlobalsFault rules stream e
+  globals_cut e p h k = (
+    c.items,
+    Some p,
+    passed_cut stream rest c.items c.passed p k,
+    first_behind (along (item_fault rules) [] c.items) (Some (errors.EoStream p) ∷ []) c.faultless
+        ∙ ap (λ (x : XlsError). Some x) (sym h),
+  )
+
+  pub globals_eof : (g : Group) (later : List ℕ) → Begins rest g later → g.typ ≡ 10 → AreGlobals rules stream s
+  globals_eof g later b e = record {
+    items = c.items;
+    holds = passed_eof stream rest c.items c.passed g later b e;
+    faultless = c.faultless;
+    state = c.state;
+  }
+
+  pub globals_end : rest ≡ [] → AreGlobals rules stream s
+  globals_end e = record {
+    items = c.items;
+    holds = passed_end stream rest c.items c.passed e;
+    faultless = c.faultless;
+    state = c.state;
+  }
+
+-- ---- what reading answers
+
+pub reads_fault : (rules : Rules) (stream : List ℕ) (e : XlsError) → GlobalsFault rules stream e
     → ReadsGlobals rules stream (Err e)
-globals_cut rules stream rest s e p c h k =
-    faulty rules stream e (
-      c.items,
-      Some p,
-      ended rules stream rest s (Some p) c (cut_from rest p k),
-      first_behind (along (item_fault rules) [] c.items) (Some (errors.EoStream p) ∷ []) c.faultless
-          ∙ ap (λ (x : XlsError). Some x) (sym h),
-    )
+reads_fault rules stream errors.Memory h = tt
+reads_fault rules stream e h = h
 
-pub globals_eof : (rules : Rules) (stream rest after : List ℕ) (s : State) (r : Group)
-    → GlobalsSoFar rules stream rest s → Begins rest r after → r.typ ≡ 10
-    → AreGlobals rules stream s
-globals_eof rules stream rest after s r c b e =
+-- ---- what checking keeps: the version
+
+pub record CheckedSoFar (rules : Rules) (stream rest : List ℕ) (version : Biff) : Type 0 where
+  pub state : State
+  pub so_far : GlobalsSoFar rules stream rest state
+  pub version_is : version ≡ state.version
+
+no_version : {X : Type 0} (f : X → table.GlobalsRecord) → ((x : X) → version_given (Ok (f x)) ≡ None) → (r : Result X XlsError)
+    → version_given (gives f r) ≡ None
+no_version f h r = not_given version_given f h (λ e. refl) r
+
+-- a line gives the version that its record tells
+version_stands : (page : XlsEncoding) (version : Biff) (body : List ℕ) (x : GlobalsRecord) (l : Line) → Stands page version body x l
+    → version_given l ≡ version_told x
+version_stands page version body read.Other l h = ap version_given h
+version_stands page version body (read.Version v) l h = ap version_given h
+version_stands page version body (read.Page p) l h = ap version_given h
+version_stands page version body (read.Date b) l h = ap version_given h
+version_stands page version body (read.Format r) l h = ap version_given h ∙ by_format (format_at page version r.now.body.now)
+  where
+    by_format : (f : Result (ℕ × CellFormat) XlsError) → version_given (unless_refused f) ≡ None
+    by_format (Ok f) = refl
+    by_format (Err e) = refl
+version_stands page version body (read.Xf n) l h = ap version_given h
+version_stands page version body (read.References r) l h =
+    ap version_given h ∙ no_version references_record (λ x. refl) (refs_at version r.now.body.now)
+version_stands page version body (read.Name r) l h =
+    ap version_given h ∙ no_version name_record (λ x. refl) (lbl_at page version r.now.body.now)
+version_stands page version body (read.Table r) l h =
+    ap version_given h.2 ∙ no_version strings_record (λ x. refl) (texts_of (length r.now.body.now) h.0)
+version_stands page version body (read.Sheet r) l h =
+    ap version_given h.1 ∙ no_version (λ (q : ℕ × SheetContent). sheet_record q.1) (λ x. refl) (bound_sheet_at page version r.now.body.now)
+
+pub checked_nothing : (rules : Rules) (stream : List ℕ) → IsBytes stream → CheckedSoFar rules stream stream Biff8
+checked_nothing rules stream fits = record {
+  state = first_state (page_in rules []);
+  so_far = globals_nothing rules stream (first_state (page_in rules [])) fits (nothing_given rules (page_in rules []) refl);
+  version_is = refl;
+}
+
+pub checked_more : (rules : Rules) (stream rest later : List ℕ) (version : Biff) (g : Group) (x : GlobalsRecord)
+    → CheckedSoFar rules stream rest version → Begins rest g later → (g.typ ≡ 10 → ⊥)
+    → IsRecordRead rules.force_codepage version g (Ok x) → CheckedSoFar rules stream later (version_by x version)
+checked_more rules stream rest later version g x c b n t =
+    let m = globals_next rules stream rest later c.state g c.so_far b n x (subst (λ (v : Biff). IsRecordRead rules.force_codepage v g (Ok x)) c.version_is t) in
     record {
-      items = c.items;
-      holds = ended rules stream rest s None c (eof_from rest r after b e c.fits);
-      faultless = c.faultless;
-      state = c.state;
+      state = m.next;
+      so_far = m.so_far;
+      version_is = ap (version_by x) c.version_is
+          ∙ ap (λ (o : Option Biff). unwrap_or o c.state.version) (sym (version_stands c.state.page c.state.version m.body x (Ok m.gives) m.stands))
+          ∙ ap (λ (s : State). s.version) (sym m.next_is);
     }
 
-pub globals_end : (rules : Rules) (stream rest : List ℕ) (s : State)
-    → GlobalsSoFar rules stream rest s → rest ≡ [] → AreGlobals rules stream s
-globals_end rules stream rest s c e =
-    record {
-      items = c.items;
-      holds = ended rules stream rest s None c (end_from rest e);
-      faultless = c.faultless;
-      state = c.state;
-    }
+pub are_checked : (rules : Rules) (stream : List ℕ) (version : Biff) (s : State) → version ≡ s.version
+    → AreGlobals rules stream s → AreChecked rules stream version
+are_checked rules stream version s e a = record {
+  items = a.items;
+  holds = a.holds;
+  faultless = a.faultless;
+  version_is = e ∙ a.state.version;
+}

@@ -9,13 +9,12 @@ pub mod ClassLemmas
 pub mod MapLemmas
 pub mod ReadLemmas
 pub mod OpenLemmas
+pub mod RecordLemmas
 pub mod OpeningLemmas
 pub mod PartLemmas
 pub mod NamingLemmas
 pub mod FormulaLemmas
-pub mod CheckLineLemmas
 pub mod CheckWalkLemmas
-pub mod CheckGlobalsLemmas
 pub mod CheckPartLemmas
 pub mod CheckLemmas
 pub mod AlikeLemmas

@@ -79,7 +79,7 @@ choice : {X : Type 0} (f : Line → X) (x : X) (t : Bool) (a b : Line) → f a �
 choice f x true a b h k = h
 choice f x false a b h k = k
 
-not_given : {X Y : Type 0} (f : Line → Option Y) (g : X → GlobalsRecord) → ((x : X) → f (Ok (g x)) ≡ None)
+pub not_given : {X Y : Type 0} (f : Line → Option Y) (g : X → GlobalsRecord) → ((x : X) → f (Ok (g x)) ≡ None)
     → ((e : XlsError) → f (Err e) ≡ None) → (r : Result X XlsError) → f (gives g r) ≡ None
 not_given f g h k (Ok x) = h x
 not_given f g h k (Err e) = k e

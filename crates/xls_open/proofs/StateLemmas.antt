@@ -1,5 +1,5 @@
 -- The state of the globals is what their lines give.
-use Rattle.std.proofs.Common.{◌≡◌, ℕ, List, [], ◌∷◌, ◌++◌, map, refl, sym, ap, subst, ◌∙◌, Bool, Option, Some, None, Result, Ok, Err}
+use Rattle.std.proofs.Common.{◌≡◌, ℕ, List, [], ◌∷◌, ◌++◌, map, refl, sym, ap, ◌∙◌, Bool, Option, Some, None, Ok}
 use Rattle.std.specs.Prelude.{ℤ, unwrap_or}
 use Rattle.std.specs.Option.{option_map}
 use Rattle.std.specs.List.{flat_map}
@@ -9,14 +9,13 @@ use Rattle.xls_text.specs.declared.encoding.XlsEncoding.TheVariants.{Utf16}
 use Rattle.xls_model.specs.Listing.{offset_at, no_table, table_of, table_without, Entry, Item, plain_item, table_item, sheet_item, entry_of}
 use Rattle.xls_data.specs.Sheets.{SheetContent}
 use Rattle.xls_dates.specs.declared.formats.CellFormat.{CellFormat}
-use Rattle.xls_strings.specs.declared.error.XlsError.{XlsError}
 use Rattle.xls_strings.specs.declared.version.Biff.{Biff}
 use Rattle.xls_strings.specs.declared.version.Biff.TheVariants.{Biff8}
 use Rattle.xls_reading.specs.Order.{along, last_of, somes}
-use Rattle.xls_reading.specs.GlobalsTable.{Named, GlobalsRecord, item_record_at, fault_of, Line, version_given, page_given, date_given, format_given, xf_given, references_given, name_given, strings_given, sheet_given}
+use Rattle.xls_reading.specs.GlobalsTable.{Named, GlobalsRecord, item_record_at, Line, version_given, page_given, date_given, format_given, xf_given, references_given, name_given, strings_given, sheet_given}
 use Rattle.xls_reading.specs.InForce.{said_by, first_page, page_in, version_in, line_in, lines_in, sets_1904}
-use Rattle.xls_reading.specs.Faults.{item_line, item_fault}
-use Rattle.xls_open.specs.Steps.{Sheets, State, first_state, with_one, with_all, or_also, placed, after, stepped, step, pair_of, sheets_at, IsState}
+use Rattle.xls_reading.specs.Faults.{item_line}
+use Rattle.xls_open.specs.Steps.{Sheets, State, first_state, with_one, with_all, or_also, placed, after, body_of, pair_of, sheets_at, IsState}
 use Rattle.xls_reading.specs.Held.{OpenedSheet, opened_in, opened_of}
 use Rattle.xls_reading.specs.Rules.{Rules}
 use Rattle.xls_reading.proofs.OrderLemmas.{along-push, somes-append}
@@ -26,15 +25,15 @@ use Rattle.xls_open.proofs.LineLemmas.{somes_push, last_or_push, all_push, date_
 -- ---- the state after one more item
 
 opened_push : (rules : Rules) (is : List Item) (i : Item)
-    → option_map pair_of (opened_in rules is i) ≡ option_map (placed i) (sheet_given (item_line rules is i))
+    → option_map pair_of (opened_in rules is i) ≡ option_map (placed (body_of i)) (sheet_given (item_line rules is i))
 opened_push rules is (plain_item typ body) =
-    sym (ap (option_map (placed (plain_item typ body))) (no_sheet rules.force_codepage (page_in rules (map entry_of is)) (version_in rules (map entry_of is)) typ body))
+    sym (ap (option_map (placed body)) (no_sheet rules.force_codepage (page_in rules (map entry_of is)) (version_in rules (map entry_of is)) typ body))
 opened_push rules is (table_item body no_table) = refl
 opened_push rules is (table_item body (table_of ss)) = refl
 opened_push rules is (table_item body (table_without m)) = refl
 opened_push rules is (sheet_item body kept cut) = found (sheet_given (item_line rules is (sheet_item body kept cut)))
   where
-    found : (o : Option SheetContent) → option_map pair_of (option_map (λ (s : SheetContent). record { offset = offset_at body; head = s; kept = kept; cut = cut }) o) ≡ option_map (placed (sheet_item body kept cut)) o
+    found : (o : Option SheetContent) → option_map pair_of (option_map (λ (s : SheetContent). record { offset = offset_at body; head = s; kept = kept; cut = cut }) o) ≡ option_map (placed body) o
     found None = refl
     found (Some s) = refl
 
@@ -69,12 +68,12 @@ nothing_given rules page h = record {
 
 module _ (rules : Rules) (is : List Item) (s : State) (h : IsState rules is s) (i : Item) where
   -- the line of the item, under what the state has in force
-  same_in_force : item_record_at rules.force_codepage s.page s.version i ≡ item_line rules is i
+  pub same_in_force : item_record_at rules.force_codepage s.page s.version i ≡ item_line rules is i
   same_in_force =
       ap (λ (p : XlsEncoding). item_record_at rules.force_codepage p s.version i) h.page
       ∙ ap (λ (v : Biff). item_record_at rules.force_codepage (page_in rules (map entry_of is)) v i) h.version
 
-  grown : (g : GlobalsRecord) → item_line rules is i ≡ Ok g → IsState rules (is ++ i ∷ []) (after s i (Ok g))
+  pub grown : (g : GlobalsRecord) → item_line rules is i ≡ Ok g → IsState rules (is ++ i ∷ []) (after s (body_of i) g)
   grown g e =
       let es = map entry_of is in
       let push = entries_push is i in
@@ -113,24 +112,9 @@ module _ (rules : Rules) (is : List Item) (s : State) (h : IsState rules is s) (
         names = ap (λ (l : List Named). with_one l (name_given (Ok g))) h.names
             ∙ sym (somes_push name_given (lines_in rules es) (Ok g))
             ∙ ap (λ (l : List Line). somes (map name_given l)) (sym lines);
-        sheets = ap (λ (l : Sheets). with_one l (option_map (placed i) (sheet_given (Ok g)))) h.sheets
-            ∙ ap (λ (l : Line). with_one (sheets_at rules is) (option_map (placed i) (sheet_given l))) (sym e)
+        sheets = ap (λ (l : Sheets). with_one l (option_map (placed (body_of i)) (sheet_given (Ok g)))) h.sheets
+            ∙ ap (λ (l : Line). with_one (sheets_at rules is) (option_map (placed (body_of i)) (sheet_given l))) (sym e)
             ∙ ap (with_one (sheets_at rules is)) (sym (opened_push rules is i))
             ∙ sym (sheets_push (opened_of rules is) (opened_in rules is i))
             ∙ ap (map pair_of) (sym (opened_more rules is i));
       }
-
--- ---- what a step says of the item
-
-abbrev pub Says : Rules → List Item → Item → Result State XlsError → Type 0
-Says rules is i (Ok t) = (item_fault rules is i ≡ None) × IsState rules (is ++ i ∷ []) t
-Says rules is i (Err e) = item_fault rules is i ≡ Some e
-
-pub step_says : (rules : Rules) (is : List Item) (s : State) → IsState rules is s → (i : Item)
-    → Says rules is i (step rules s i)
-step_says rules is s h i =
-    subst (λ (l : Line). Says rules is i (stepped s i l)) (sym (same_in_force rules is s h i)) (by_line (item_line rules is i) refl)
-  where
-    by_line : (l : Line) → item_line rules is i ≡ l → Says rules is i (stepped s i l)
-    by_line (Ok g) e = (ap (fault_of {X = GlobalsRecord}) e, grown rules is s h i g e)
-    by_line (Err x) e = ap (fault_of {X = GlobalsRecord}) e

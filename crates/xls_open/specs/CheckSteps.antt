@@ -1,14 +1,12 @@
 -- What the parts of a check answer: the globals, a sheet part, and all places.
-use Rattle.std.specs.Prelude.{◌≡◌, ℕ, List, [], map, Option, None, unwrap_or, Result, Ok, Err}
+use Rattle.std.specs.Prelude.{◌≡◌, ℕ, List, [], map, Option, None, Result, Ok, Err}
 use Rattle.xls_model.specs.Listing.{Kept, Item, entry_of, Holds}
 use Rattle.xls_model.specs.declared.part.Part.{Part}
 use Rattle.xls_strings.specs.declared.error.XlsError.{XlsError}
 use Rattle.xls_strings.specs.declared.version.Biff.{Biff}
-use Rattle.xls_strings.specs.Reading.{Exactly, gives}
-use Rattle.xls_biff.specs.SheetTable.{CellContext}
 use Rattle.xls_reading.specs.Order.{along, first_of}
 use Rattle.xls_reading.specs.InForce.{version_in, InForce, in_force_of}
-use Rattle.xls_reading.specs.GlobalsTable.{GlobalsRecord, Line, version_given, fault_of}
+use Rattle.xls_reading.specs.GlobalsTable.{fault_of}
 use Rattle.xls_reading.specs.Faults.{item_fault, part_places, places}
 use Rattle.xls_open.specs.Steps.{GlobalsFault}
 use Rattle.xls_open.specs.Checking.{checked}
@@ -23,14 +21,6 @@ abbrev pub force_of : Rules → List Item → InForce
 force_of rules items = in_force_of rules (map entry_of items)
 
 -- ---- the globals
-
--- after a record of this line the version that it gives, or else this one; or the line's fault
-abbrev pub version_after : Biff → Line → Result Biff XlsError
-version_after biff line = gives (λ (g : GlobalsRecord). unwrap_or (version_given (Ok g)) biff) line
-
--- a record of this line leaves the version that is the result
-abbrev pub LeavesVersion : Biff → Line → Result Biff XlsError → Type 0
-LeavesVersion biff line result = Exactly (λ v. v) result (version_after biff line)
 
 -- the globals aren't cut and have no fault, and at their end this version is in force
 pub record AreChecked (rules : Rules) (bytes : List ℕ) (version : Biff) : Type 0 where

@@ -3,4 +3,5 @@ pub mod Opening
 pub mod Checking
 pub mod CheckSteps
 pub mod Steps
+pub mod RecordSteps
 pub mod Laws

@@ -14,10 +14,9 @@ use Rattle.xls_strings.specs.declared.error.XlsError.TheVariants as errors
 use Rattle.xls_strings.specs.declared.version.Biff.{Biff}
 use Rattle.xls_strings.specs.declared.version.Biff.TheVariants.{Biff8}
 use Rattle.xls_strings.specs.Reading.{Fails, gives}
-use Rattle.xls_biff.specs.Cells.{Entry}
 use Rattle.xls_reading.specs.Order.{along, first_of}
 use Rattle.xls_reading.specs.InForce.{page_in, version_in, is_1904_in, formats_in, identifiers_in, texts_in, extern_refs, lbls_in, known_refs, told_name, InForce, SheetRecords}
-use Rattle.xls_reading.specs.GlobalsTable.{Named, GlobalsRecord, Line, item_record_at, version_given, page_given, date_given, format_given, xf_given, references_given, name_given, strings_given, sheet_given}
+use Rattle.xls_reading.specs.GlobalsTable.{Named, GlobalsRecord, version_given, page_given, date_given, format_given, xf_given, references_given, name_given, strings_given, sheet_given}
 use Rattle.xls_reading.specs.SheetTable.{Given}
 use Rattle.xls_reading.specs.Reading.{SheetView, BookView, IsContent, last_named, IsReading, paired}
 use Rattle.xls_open.specs.Workbook.{Workbook, IsOrdered, rules_of, told_of, view_of}
@@ -85,32 +84,28 @@ abbrev pub or_also : Bool → Option Bool → Bool
 or_also b None = b
 or_also b (Some c) = b || c
 
--- a sheet at the offset of its BoundSheet8
-abbrev pub placed : Item → SheetContent → ℕ × SheetContent
-placed (plain_item typ body) sheet = (0, sheet)
-placed (table_item body shared) sheet = (0, sheet)
-placed (sheet_item body kept cut) sheet = (offset_at body, sheet)
+-- a sheet at the offset of its BoundSheet8, which has this body
+abbrev pub placed : List ℕ → SheetContent → ℕ × SheetContent
+placed body sheet = (offset_at body, sheet)
 
--- after one more record, by what the table says that it gives
-abbrev pub after : State → Item → Line → State
-after s i line = record {
-  page = unwrap_or (page_given line) s.page;
-  version = unwrap_or (version_given line) s.version;
-  is_1904 = or_also s.is_1904 (date_given line);
-  formats = with_one s.formats (format_given line);
-  identifiers = with_one s.identifiers (xf_given line);
-  strings = unwrap_or (strings_given line) s.strings;
-  refs = with_all s.refs (references_given line);
-  names = with_one s.names (name_given line);
-  sheets = with_one s.sheets (option_map (placed i) (sheet_given line));
+-- after one more record of this body, by what the table says that it gives
+abbrev pub after : State → List ℕ → GlobalsRecord → State
+after s body g = record {
+  page = unwrap_or (page_given (Ok g)) s.page;
+  version = unwrap_or (version_given (Ok g)) s.version;
+  is_1904 = or_also s.is_1904 (date_given (Ok g));
+  formats = with_one s.formats (format_given (Ok g));
+  identifiers = with_one s.identifiers (xf_given (Ok g));
+  strings = unwrap_or (strings_given (Ok g)) s.strings;
+  refs = with_all s.refs (references_given (Ok g));
+  names = with_one s.names (name_given (Ok g));
+  sheets = with_one s.sheets (option_map (placed body) (sheet_given (Ok g)));
 }
 
-abbrev pub stepped : State → Item → Line → Result State XlsError
-stepped s i line = gives (λ (g : GlobalsRecord). after s i (Ok g)) line
-
--- likewise by the record's line, under what the state has in force
-abbrev pub step : Rules → State → Item → Result State XlsError
-step rules s i = stepped s i (item_record_at rules.force_codepage s.page s.version i)
+abbrev pub body_of : Item → List ℕ
+body_of (plain_item typ body) = body
+body_of (table_item body shared) = body
+body_of (sheet_item body kept cut) = body
 
 -- ---- the sheets of the globals
 

@@ -1,40 +1,23 @@
 //! The globals: what is in force, and the sheets that they list.
 
-ghost use Rattle.std.specs.Prelude.{◌≡◌, ◌++◌, [], ℕ, List, Option, true, IfOk, OnOk, OnErr, MatchResult, None, Some, length};
-ghost use Rattle.xls_data.specs.Sheets.{SheetContent};
-ghost use Rattle.xls_strings.specs.Reading.{Exactly, Fails, gives};
-ghost use Rattle.xls_biff.specs.Walking.{group_of};
-ghost use Rattle.xls_biff.specs.Records.Bof.{bof_at};
-ghost use Rattle.xls_biff.specs.Records.Xf.{xf_at};
-ghost use Rattle.xls_biff.specs.Records.ExternSheet.{refs_at};
-ghost use Rattle.xls_biff.specs.Records.Format.{format_at};
-ghost use Rattle.xls_biff.specs.declared.records.bof.Bof.{Bof};
-ghost use Rattle.xls_formula.specs.Defined.{lbl_at};
-ghost use Rattle.xls_model.specs.Listing.{Kept, Shared, IsShared, is_plain_type, plain_item, table_item, sheet_item};
-ghost use Rattle.xls_model.specs.declared.part.Part.{Part};
-ghost use Rattle.xls_model.specs.declared.types.TheConstants as types;
-ghost use Rattle.xls_biff.specs.Records.FilePass.{file_pass_at};
-ghost use Rattle.xls_biff.specs.Records.CodePage.{code_page_at};
-ghost use Rattle.xls_biff.specs.Records.DateMode.{date_mode_at};
-ghost use Rattle.xls_biff.specs.Records.BoundSheet.{bound_sheet_at};
-ghost use Rattle.xls_reading.specs.GlobalsTable.{other_record, version_record, page_record, date_record, xf_record, references_record, name_record, strings_record, sheet_record, unless_forced, unless_refused, texts_of};
-ghost use Rattle.xls_open.specs.Steps.{Follows, stepped, step, first_state, ReadsGlobals};
+ghost use Rattle.std.specs.Prelude.{◌≡◌, [], Ok, IfOk, OnOk};
 ghost use Rattle.xls_reading.specs.InForce.{page_in};
+ghost use Rattle.xls_open.specs.Steps.{first_state, ReadsGlobals};
+ghost use Rattle.xls_open.specs.RecordSteps.{IsTaken};
 ghost use Rattle.xls_open.specs.Workbook.{rules_of};
 
+use crate::globals_record::{GlobalsRecord, read_globals_record};
 use crate::listed::{Lbl, Listed};
 use crate::options::XlsOptions;
-use std::alloc::Global;
+use std::alloc::{AllocError, Global};
 use std::marker::Model;
 use xls_biff::{
-    Biff, Record, RecordIter, Refs, Strings, XlsError, parse_bof, parse_code_page, parse_date_mode,
-    parse_extern_sheet, parse_file_pass, parse_format, parse_sheet_metadata, parse_sst, parse_xf,
+    Biff, Record, RecordIter, Refs, Strings, XlsError, parse_extern_sheet, parse_format,
+    parse_sheet_metadata, parse_sst,
 };
 use xls_data::CellFormat;
 use xls_formula::parse_lbl;
-use xls_model::types::{
-    BOF, BOUND_SHEET_8, CODE_PAGE, DATE_MODE, EOF, EXTERN_SHEET, FILE_PASS, FORMAT, LBL, SST, XF,
-};
+use xls_model::types::EOF;
 use xls_text::XlsEncoding;
 
 /// What the globals give up to some record.
@@ -79,6 +62,16 @@ impl Model for Globals {
     } };
 }
 
+/// What a reader gives of a record that has no fault.
+fn read_again<T>(read: Result<T, XlsError>) -> Result<T, AllocError>
+    ensures { IfOk result (λ x. read ≡ Ok x) }
+{
+    match read {
+        Ok(value) => Ok(value),
+        Err(_) => Err(AllocError),
+    }
+}
+
 impl Globals {
     /// Before the first record, under this page.
     fn new(alloc: Global, page: XlsEncoding) -> Globals
@@ -97,124 +90,69 @@ impl Globals {
         }
     }
 
-    fn take_bof(&mut self, r: &Record<'_>) -> Result<(), XlsError>
-        ensures { Follows self.new result (stepped self.old (plain_item r.now.typ r.now.body.now)
-            (gives (λ (b : Bof). version_record b.biff) (bof_at r.now.body.now))) }
-    {
-        let bof = parse_bof(r)?;
-        self.version = bof.biff;
-        Ok(())
-    }
-
-    fn take_file_pass(&mut self, r: &Record<'_>) -> Result<(), XlsError>
-        ensures { Follows self.new result (stepped self.old (plain_item r.now.typ r.now.body.now)
-            (gives (λ _. other_record) (file_pass_at r.now.body.now))) }
-    {
-        parse_file_pass(r)
-    }
-
-    /// Takes a CodePage record, which under a forced page says nothing.
-    fn take_code_page(&mut self, r: &Record<'_>, forced: Option<u16>) -> Result<(), XlsError>
-        ensures { Follows self.new result (stepped self.old (plain_item r.now.typ r.now.body.now)
-            (unless_forced forced (gives page_record (code_page_at r.now.body.now)))) }
-    {
-        if forced.is_none() {
-            self.page = parse_code_page(r)?;
-        }
-        Ok(())
-    }
-
-    fn take_date_mode(&mut self, r: &Record<'_>) -> Result<(), XlsError>
-        ensures { Follows self.new result (stepped self.old (plain_item r.now.typ r.now.body.now)
-            (gives date_record (date_mode_at r.now.body.now))) }
-    {
-        let is_1904 = parse_date_mode(r)?;
-        self.is_1904 = self.is_1904 || is_1904;
-        Ok(())
-    }
-
-    /// Takes a Format record, unless its reader refuses it for another cause than memory.
-    fn take_format(&mut self, alloc: Global, r: &Record<'_>) -> Result<(), XlsError>
-        ensures { Follows self.new result (stepped self.old (plain_item r.now.typ r.now.body.now)
-            (unless_refused (format_at self.old.page self.old.version r.now.body.now))) }
+    /// Keeps a format, unless its reader refuses it for another cause than memory.
+    fn take_format(&mut self, alloc: Global, r: &Record<'_>) -> Result<(), AllocError>
+        ensures { OnOk result (IsTaken self.old (GlobalsRecord.Format r.entry) self.new) }
     {
         match parse_format(alloc, r, &self.page, self.version) {
             Ok(format) => {
                 self.formats.push(format)?;
                 Ok(())
             }
-            Err(error) if error.is_memory() => Err(XlsError::Memory),
+            Err(error) if error.is_memory() => Err(AllocError),
             Err(_) => Ok(()),
         }
     }
 
-    fn take_xf(&mut self, r: &Record<'_>) -> Result<(), XlsError>
-        ensures { Follows self.new result (stepped self.old (plain_item r.now.typ r.now.body.now)
-            (gives xf_record (xf_at r.now.body.now))) }
+    fn take_references(&mut self, alloc: Global, r: &Record<'_>) -> Result<(), AllocError>
+        ensures { OnOk result (IsTaken self.old (GlobalsRecord.References r.entry) self.new) }
     {
-        let identifier = parse_xf(r)?;
-        self.identifiers.push(identifier)?;
-        Ok(())
+        let refs = read_again(parse_extern_sheet(alloc, r, self.version))?;
+        self.refs.extend(&refs)
     }
 
-    fn take_extern_sheet(&mut self, alloc: Global, r: &Record<'_>) -> Result<(), XlsError>
-        ensures { Follows self.new result (stepped self.old (plain_item r.now.typ r.now.body.now)
-            (gives references_record (refs_at self.old.version r.now.body.now))) }
+    fn take_sheet(&mut self, alloc: Global, r: &Record<'_>) -> Result<(), AllocError>
+        ensures { OnOk result (IsTaken self.old (GlobalsRecord.Sheet r.entry) self.new) }
     {
-        let refs = parse_extern_sheet(alloc, r, self.version)?;
-        self.refs.extend(&refs)?;
-        Ok(())
-    }
-
-    fn take_name(&mut self, alloc: Global, r: &Record<'_>) -> Result<(), XlsError>
-        ensures { Follows self.new result (stepped self.old (plain_item r.now.typ r.now.body.now)
-            (gives name_record (lbl_at self.old.page self.old.version r.now.body.now))) }
-    {
-        let name = parse_lbl(alloc, r, &self.page, self.version)?;
-        self.names.push(name)?;
-        Ok(())
-    }
-
-    fn take_table(&mut self, alloc: Global, r: &Record<'_>) -> Result<(), XlsError>
-        ensures { (shared : Shared) → IsShared (group_of r.now) shared
-            → Follows self.new result (stepped self.old (table_item r.now.body.now shared)
-            (gives strings_record (texts_of (length r.now.body.now) shared))) }
-    {
-        self.strings = parse_sst(alloc, r)?;
-        Ok(())
-    }
-
-    fn take_sheet(&mut self, alloc: Global, r: &Record<'_>) -> Result<(), XlsError>
-        ensures { (kept : List Kept) (cut : Option Part)
-            → Follows self.new result (stepped self.old (sheet_item r.now.body.now kept cut)
-            (gives (λ (q : ℕ × SheetContent). sheet_record q.1) (bound_sheet_at self.old.page self.old.version r.now.body.now))) }
-    {
-        let (offset, sheet) = parse_sheet_metadata(alloc, r, &self.page, self.version)?;
+        let (offset, sheet) = read_again(parse_sheet_metadata(alloc, r, &self.page, self.version))?;
         self.listed.push(Listed { offset, sheet })?;
         Ok(())
     }
 
-    /// Takes the next record of the globals.
-    fn take(&mut self, alloc: Global, r: &Record<'_>, options: &XlsOptions) -> Result<(), XlsError>
-        ensures plain { is_plain_type r.now.typ ≡ true
-            → Follows self.new result (step (rules_of options.now) self.old (plain_item r.now.typ r.now.body.now)) }
-        ensures table { r.now.typ ≡ types.SST → (shared : Shared) → IsShared (group_of r.now) shared
-            → Follows self.new result (step (rules_of options.now) self.old (table_item r.now.body.now shared)) }
-        ensures sheet { r.now.typ ≡ types.BOUND_SHEET_8 → (kept : List Kept) (cut : Option Part)
-            → Follows self.new result (step (rules_of options.now) self.old (sheet_item r.now.body.now kept cut)) }
+    /// Keeps what a record gives.
+    fn take(&mut self, alloc: Global, next: GlobalsRecord<'_>) -> Result<(), AllocError>
+        ensures { OnOk result (IsTaken self.old next.entry self.new) }
     {
-        match r.typ {
-            BOF => self.take_bof(r),
-            FILE_PASS => self.take_file_pass(r),
-            CODE_PAGE => self.take_code_page(r, options.force_codepage),
-            DATE_MODE => self.take_date_mode(r),
-            FORMAT => self.take_format(alloc, r),
-            XF => self.take_xf(r),
-            EXTERN_SHEET => self.take_extern_sheet(alloc, r),
-            SST => self.take_table(alloc, r),
-            BOUND_SHEET_8 => self.take_sheet(alloc, r),
-            LBL => self.take_name(alloc, r),
-            _ => Ok(()),
+        match next {
+            GlobalsRecord::Other => Ok(()),
+            GlobalsRecord::Version(biff) => {
+                self.version = biff;
+                Ok(())
+            }
+            GlobalsRecord::Page(page) => {
+                self.page = page;
+                Ok(())
+            }
+            GlobalsRecord::Date(is_1904) => {
+                self.is_1904 = self.is_1904 || is_1904;
+                Ok(())
+            }
+            GlobalsRecord::Xf(identifier) => {
+                self.identifiers.push(identifier)?;
+                Ok(())
+            }
+            GlobalsRecord::Format(r) => self.take_format(alloc, r),
+            GlobalsRecord::References(r) => self.take_references(alloc, r),
+            GlobalsRecord::Name(r) => {
+                let name = read_again(parse_lbl(alloc, r, &self.page, self.version))?;
+                self.names.push(name)?;
+                Ok(())
+            }
+            GlobalsRecord::Table(r) => {
+                self.strings = read_again(parse_sst(alloc, r))?;
+                Ok(())
+            }
+            GlobalsRecord::Sheet(r) => self.take_sheet(alloc, r),
         }
     }
 }
@@ -236,7 +174,8 @@ pub fn read_globals(
         if record.typ == EOF {
             return Ok(globals);
         }
-        globals.take(alloc, &record, options)?;
+        let read = read_globals_record(&record, globals.version, options.force_codepage)?;
+        globals.take(alloc, read)?;
     }
     Ok(globals)
 }

@@ -6,6 +6,7 @@ mod classes;
 mod force;
 mod formula;
 mod globals;
+mod globals_record;
 mod laws;
 mod listed;
 mod names;

@@ -57,10 +57,14 @@ impl Delimiter {
     }
 }
 
-// Whether a byte puts its field into quotes.
+// Whether a byte puts its field into quotes. Most bytes are above them all.
+#[inline]
 fn is_marked(delimiter: Delimiter, byte: u8) -> bool
     ensures { result ≡ is_marked delimiter byte }
 {
+    if byte > delimiter.byte.max(b'"') {
+        return false;
+    }
     byte == delimiter.byte || is_special(byte)
 }
 

@@ -12,12 +12,10 @@ use Rattle.xls_view.proofs.NameLemmas.{same_text}
 use Rattle.std.specs.Option.{option_cmp, option_map, option_eq}
 use Rattle.std.specs.Ordering.{nat_cmp, ordering_then, is_eq}
 use Rattle.std.specs.Str.{chars, IsUtf8}
-use Rattle.xls_ptg.specs.declared.cite.RawCite.{RawCite}
 use Rattle.xls_reading.specs.Order.{along, somes}
 use Rattle.xls_reading.proofs.OrderLemmas.{along-push, somes-append}
 use Rattle.xls_refs.specs.Citations.{Citation, same_position, same_cells, unless_before, distinct}
-use Rattle.xls_refs.specs.Steps.{Key, by_text, by_position, by_key, key_cite, IsText, SeenSo, IsDistinctSoFar, cited}
-use Rattle.xls_refs.specs.declared.walk.Scope.{Scope}
+use Rattle.xls_refs.specs.Steps.{Key, by_text, by_position, by_key, key_cite, IsText, SeenSo, IsDistinctSoFar}
 
 -- ---- equal keys
 
@@ -109,14 +107,13 @@ distinct_more seen new before k added old after (so, had) text puts is took = (
 )
 
 -- the citations so far, and one more
-pub taken_more : (scope : Scope) (raws : List RawCite) (i : ℕ) (d : RawCite) → i < length raws
-    → map (cited scope) (take i raws) ++ cited scope (get_or raws i d) ∷ [] ≡ map (cited scope) (take (i + 1) raws)
-taken_more scope raws i d l =
-    sym (map-append (cited scope) (take i raws) (get_or raws i d ∷ [])) ∙ ap (map (cited scope)) (sym (take_more raws i d l))
+pub taken_more : (cites : List Key) (i : ℕ) (d : Key) → i < length cites
+    → map key_cite (take i cites) ++ key_cite (get_or cites i d) ∷ [] ≡ map key_cite (take (i + 1) cites)
+taken_more cites i d l =
+    sym (map-append key_cite (take i cites) (get_or cites i d ∷ [])) ∙ ap (map key_cite) (sym (take_more cites i d l))
 
-pub key_is : (scope : Scope) (raw : RawCite) (k : Key) → (key_cite k).sheet ≡ (cited scope raw).sheet → k.1 ≡ raw.first → k.2 ≡ raw.last
-    → key_cite k ≡ cited scope raw
-key_is scope raw k a b c = rw (a, b, c) refl
+pub key_is : (k q : Key) → k.0 ≡ q.0 → key_cite (k.0, q.1, q.2) ≡ key_cite q
+key_is k q e = ap (λ (sheet : Option (Bor (List ℕ))). key_cite (sheet, q.1, q.2)) e
 
 -- the code has the new list of citations, with one more where the key was new
 pub put_new : {S : Type 0} (cite_of : S → Citation) (old new : List S) (c : S) (k : Key) → new ≡ old ++ c ∷ [] → cite_of c ≡ key_cite k

@@ -1,30 +1,27 @@
 //! The cells that a formula cites.
 
-ghost use Rattle.std.specs.Prelude.{ℕ, List};
-ghost use Rattle.xls_text.specs.declared.encoding.XlsEncoding.{XlsEncoding};
 ghost use Rattle.xls_strings.specs.Reading.{Gives};
+ghost use Rattle.xls_formula.specs.Holding.{context_of};
 ghost use Rattle.xls_refs.specs.Citations.{cites_at};
-ghost use Rattle.xls_refs.specs.Steps.{context_under};
 
 use crate::cite::Cites;
 use crate::distinct::distinct_cites;
-use crate::walk::{Scope, raw_cites};
+use crate::walk::cited_cells;
 use std::alloc::Global;
 use xls_biff::{Biff, Refs, Strings, XlsError};
-use xls_formula::{FunctionTable, Names};
+use xls_formula::{FunctionTable, Names, Scope};
 use xls_text::XlsEncoding;
 
-/// What a formula cites, whatever the names and the page are.
+/// What a formula cites.
 pub(crate) fn cites_in_scope(
     alloc: Global,
     rgce: &[u8],
     scope: Scope<'_>,
 ) -> Result<Cites, XlsError>
-    ensures { (names : List (List ℕ × List ℕ)) (page : XlsEncoding)
-        → Gives (λ c. c) result (cites_at (context_under names page scope.entry) rgce.now) }
+    ensures { Gives (λ c. c) result (cites_at (context_of scope.entry) rgce.now) }
 {
-    let raws = raw_cites(alloc, rgce, scope)?;
-    let cites = distinct_cites(alloc, &raws, scope)?;
+    let cells = cited_cells(alloc, rgce, scope)?;
+    let cites = distinct_cites(alloc, &cells)?;
     Ok(cites)
 }
 
@@ -56,7 +53,9 @@ pub fn cites_of_formula(
 {
     let scope = Scope {
         sheets,
+        names,
         refs,
+        encoding: *encoding,
         biff,
         functions,
     };

@@ -10,9 +10,9 @@ ghost use Rattle.xls_view.specs.Walking.{formula_seen};
 
 use crate::cite::{CitedFormula, Cites};
 use crate::formula::cites_in_scope;
-use crate::walk::Scope;
 use std::alloc::{AllocError, Global};
 use std::marker::Model;
+use xls_formula::Scope;
 use xls_view::{FormulaCell, FormulaCells, SheetFormulas, View, ViewNaming};
 
 /// What a formula cites; nothing where it is refused.
@@ -25,7 +25,9 @@ fn cites_unless_refused(
 {
     let scope = Scope {
         sheets: naming.sheets,
+        names: naming.names,
         refs: naming.refs,
+        encoding: naming.page,
         biff: naming.biff,
         functions: naming.functions,
     };

@@ -1,52 +1,56 @@
 //! The cells that the tokens of a formula cite, in order, repeats too.
 
-ghost use Rattle.std.specs.Prelude.{◌≡◌, ◌++◌, ◌∷◌, [], ℕ, ◌<◌, ◌^◌, List, OnOk, map};
-ghost use Rattle.xls_text.specs.declared.encoding.XlsEncoding.{XlsEncoding};
+ghost use Rattle.std.specs.Prelude.{◌≡◌, ◌++◌, ◌∷◌, [], ◌≤◌, ◌+◌, ◌<◌, ◌^◌, IfOk, OnOk, map};
+ghost use Rattle.std.specs.Option.{option_map};
 ghost use Rattle.xls_strings.specs.Reading.{Exactly, Gives};
-ghost use Rattle.xls_ptg.specs.Readings.{ptg_of};
+ghost use Rattle.xls_ptg.specs.Cites.{position_of};
+ghost use Rattle.xls_formula.specs.Fold.{walk};
+ghost use Rattle.xls_formula.specs.Holding.{context_of, effect_of, tree_of};
 ghost use Rattle.xls_reading.specs.Order.{somes};
-ghost use Rattle.xls_refs.specs.Steps.{arity, cited, context_under, counted, joined, leaves_at, leaves_of};
+ghost use Rattle.xls_refs.specs.Citations.{leaves};
+ghost use Rattle.xls_refs.specs.Steps.{joined, key_cite, leaves_at, leaves_of, tally};
 
 use std::alloc::{AllocError, Global};
-use xls_biff::{Biff, Refs, Strings, XlsError};
-use xls_formula::{FunctionTable, RawCite, read_token, tokens_of};
-use xls_ptg::{Ptg, read_ptg};
+use xls_biff::XlsError;
+use xls_formula::{Effect, Scope, Word, read_effect, tokens_of};
+use xls_ptg::Corner;
 
-/// What citations hang on, of all that a formula may name.
-#[derive(Clone, Copy)]
-pub(crate) struct Scope<'a> {
-    pub sheets: &'a Strings,
-    pub refs: &'a Refs,
-    pub biff: Biff,
-    pub functions: &'a FunctionTable,
+/// Cells that an operand cites: the name of their sheet, where it has one, the first and the last.
+pub(crate) type Cells<'a> = (Option<&'a str>, (u32, u32), (u32, u32));
+
+fn position(corner: Corner) -> (u32, u32)
+    ensures { result ≡ position_of corner }
+{
+    (u32::from(corner.row), u32::from(corner.column))
 }
 
-/// Of how many operands a token makes one, and `None` where it leaves them as many as they are.
-/// `IfTab` for a function outside the table.
-fn arity(ptg: Ptg<&[u8]>, functions: &FunctionTable) -> Result<Option<usize>, XlsError>
-    ensures { Exactly (λ n. n) result (arity functions.now (ptg_of ptg.entry)) }
+/// The cells that an operand cites, if it does.
+fn cells_of<'a>(operand: Word<'a>) -> Option<Cells<'a>>
+    ensures { somes (option_map key_cite result ∷ []) ≡ leaves (tree_of operand.entry) }
 {
-    match ptg {
-        Ptg::Binary(_) => Ok(Some(2)),
-        Ptg::Uplus | Ptg::Uminus | Ptg::Percent | Ptg::Paren | Ptg::AttrSum => Ok(Some(1)),
-        Ptg::Elf | Ptg::AttrSemi | Ptg::AttrIf | Ptg::AttrChoose | Ptg::AttrGoto => Ok(None),
-        Ptg::AttrBaxcel | Ptg::AttrSpace { .. } | Ptg::AttrSpaceSemi { .. } => Ok(None),
-        Ptg::Func { iftab } => match functions.argc(usize::from(iftab)) {
-            Some(argc) => Ok(Some(usize::from(argc))),
-            None => Err(XlsError::IfTab(usize::from(iftab))),
-        },
-        Ptg::FuncVar { count, iftab } => match functions.argc(usize::from(iftab)) {
-            Some(_) => Ok(Some(usize::from(count))),
-            None => Err(XlsError::IfTab(usize::from(iftab))),
-        },
-        _ => Ok(Some(0)),
+    match operand {
+        Word::Ref { sheet, corner } => Some((sheet, position(corner), position(corner))),
+        Word::Area { sheet, first, last } => Some((sheet, position(first), position(last))),
+        _ => None,
     }
+}
+
+/// Puts the cells that an operand cites to the end.
+fn push_cells<'a>(cites: &mut Vec<Cells<'a>>, operand: Word<'a>) -> Result<(), AllocError>
+    ensures { OnOk result (map key_cite cites.new.items
+        ≡ map key_cite cites.old.items ++ leaves (tree_of operand.entry)) }
+{
+    if let Some(cells) = cells_of(operand) {
+        cites.push(cells)?;
+    }
+    Ok(())
 }
 
 /// How many operands there are where the last of so many become one.
 fn join(count: usize, taken: usize) -> Result<usize, XlsError>
     requires { count < 2 ^ 63 }
-    ensures { Exactly (λ n. n) result (joined taken count) }
+    ensures exact { Exactly (λ n. n) result (joined taken count) }
+    ensures within { IfOk result (λ n. n ≤ count + 1) }
 {
     match count.checked_sub(taken) {
         Some(left) => Ok(left + 1),
@@ -54,47 +58,62 @@ fn join(count: usize, taken: usize) -> Result<usize, XlsError>
     }
 }
 
-/// How many operands there are after a token, where there are so many before it.
-fn operands_after(
+/// How many operands there are after a token, where there are so many before it. What it cites is put
+/// to the end.
+fn tally<'a>(
     count: usize,
-    ptg: Ptg<&[u8]>,
-    functions: &FunctionTable,
+    cites: &mut Vec<Cells<'a>>,
+    effect: Effect<'a>,
 ) -> Result<usize, XlsError>
     requires { count < 2 ^ 63 }
-    ensures { Exactly (λ n. n) result (counted functions.now (ptg_of ptg.entry) count) }
+    ensures exact { Gives (λ n. (n, map key_cite cites.new.items)) result
+        (tally (effect_of effect.entry) (count, map key_cite cites.old.items)) }
+    ensures within { IfOk result (λ n. n ≤ count + 1) }
 {
-    match arity(ptg, functions)? {
-        Some(taken) => join(count, taken),
-        None => Ok(count),
+    match effect {
+        Effect::Pushes(operand) => {
+            push_cells(cites, operand)?;
+            Ok(count + 1)
+        }
+        Effect::Wraps { .. } => join(count, 1),
+        Effect::Pairs(_) => join(count, 2),
+        Effect::Calls { count: taken, .. } => join(count, usize::from(taken)),
+        Effect::Spaces { .. } => Ok(count),
+        Effect::Keeps => Ok(count),
     }
 }
 
-fn push_cite(cites: &mut Vec<RawCite>, cite: Option<RawCite>) -> Result<(), AllocError>
-    ensures { OnOk result (cites.new.items ≡ cites.old.items ++ somes (cite ∷ [])) }
+/// How many operands the tokens leave. What they cite is put to the end.
+fn tally_all<'a>(
+    cites: &mut Vec<Cells<'a>>,
+    tokens: &'a [u8],
+    scope: Scope<'a>,
+) -> Result<usize, XlsError>
+    ensures { Gives (λ n. (n, map key_cite cites.new.items)) result
+        (walk (context_of scope.entry) tally tokens.now 0 (0, map key_cite cites.old.items)) }
 {
-    if let Some(cite) = cite {
-        cites.push(cite)?;
-    }
-    Ok(())
-}
-
-/// What the tokens cite, where exactly one operand is left after them.
-fn cites_of_tokens(alloc: Global, tokens: &[u8], scope: Scope<'_>) -> Result<Vec<RawCite>, XlsError>
-    ensures { (names : List (List ℕ × List ℕ)) (page : XlsEncoding)
-        → Gives (λ v. map (cited scope.entry) v.items) result
-        (leaves_of (context_under names page scope.entry) tokens.now) }
-{
-    let mut cites = Vec::new(alloc);
     let mut count = 0;
     let mut rest = tokens;
     'tokens: while !rest.is_empty() {
-        let (ptg, more) = read_ptg(rest, scope.biff)?;
-        count = operands_after(count, ptg, scope.functions)?;
-        push_cite(&mut cites, read_token(rest, scope.biff)?.cite)?;
+        let (effect, more) = read_effect(rest, scope)?;
+        count = tally(count, cites, effect)?;
         let (_, after) = rest.split_at(1);
         let (_, next) = after.split_at(more);
         rest = next;
     }
+    Ok(count)
+}
+
+/// What the tokens cite, where exactly one operand is left after them.
+fn cells_of_tokens<'a>(
+    alloc: Global,
+    tokens: &'a [u8],
+    scope: Scope<'a>,
+) -> Result<Vec<Cells<'a>>, XlsError>
+    ensures { Gives (λ v. map key_cite v.items) result (leaves_of (context_of scope.entry) tokens.now) }
+{
+    let mut cites = Vec::new(alloc);
+    let count = tally_all(&mut cites, tokens, scope)?;
     if count != 1 {
         return Err(XlsError::InvalidFormula { stack_size: count });
     }
@@ -102,15 +121,13 @@ fn cites_of_tokens(alloc: Global, tokens: &[u8], scope: Scope<'_>) -> Result<Vec
 }
 
 /// What a formula cites, or its refusal.
-pub(crate) fn raw_cites(
+pub(crate) fn cited_cells<'a>(
     alloc: Global,
-    rgce: &[u8],
-    scope: Scope<'_>,
-) -> Result<Vec<RawCite>, XlsError>
-    ensures { (names : List (List ℕ × List ℕ)) (page : XlsEncoding)
-        → Gives (λ v. map (cited scope.entry) v.items) result
-        (leaves_at (context_under names page scope.entry) rgce.now) }
+    rgce: &'a [u8],
+    scope: Scope<'a>,
+) -> Result<Vec<Cells<'a>>, XlsError>
+    ensures { Gives (λ v. map key_cite v.items) result (leaves_at (context_of scope.entry) rgce.now) }
 {
     let tokens = tokens_of(rgce)?;
-    cites_of_tokens(alloc, tokens, scope)
+    cells_of_tokens(alloc, tokens, scope)
 }

@@ -1,6 +1,5 @@
 -- The part of a sheet that a view finds, and its cells in order, for the proofs.
-use Rattle.std.specs.Prelude.{◌≡◌, ℕ, List, [], ◌++◌, ◌∷◌, ◌-◌, ◌==◌, if◌then◌else◌, drop, map, slice_get, unwrap_or, true, Option, Some, None, Vec}
-use Rattle.std.specs.Global.{Global}
+use Rattle.std.specs.Prelude.{◌≡◌, ℕ, List, [], ◌++◌, ◌∷◌, ◌-◌, ◌==◌, if◌then◌else◌, drop, map, slice_get, unwrap_or, true, Option, Some, None}
 use Rattle.xls_cells.specs.Positions.{Position, IsAscending}
 use Rattle.xls_view.specs.declared.ascent.Ascent.{Ascent}
 use Rattle.std.specs.Borrow.{Bor}
@@ -91,13 +90,13 @@ abbrev pub formula_placed : List ℕ → Place → Formula
 formula_placed part c = (c.0, tokens_at part c.0 c.1)
 
 -- what a part has: as it stands, or by its places in order
-abbrev pub cells_held : InForce → List ℕ → Option (Vec Place Global) → List Entry
+abbrev pub cells_held : InForce → List ℕ → Option (List Place) → List Entry
 cells_held s part None = cells_from s (0, 0) (kept_in part 0)
-cells_held s part (Some v) = map (cell_placed s part) v.items
+cells_held s part (Some places) = map (cell_placed s part) places
 
-abbrev pub formulas_held : List ℕ → Option (Vec Place Global) → List Formula
+abbrev pub formulas_held : List ℕ → Option (List Place) → List Formula
 formulas_held part None = formulas_of (kept_in part 0)
-formulas_held part (Some v) = map (formula_placed part) v.items
+formulas_held part (Some places) = map (formula_placed part) places
 
 -- ---- what is read at a place
 

@@ -1,7 +1,8 @@
 -- What a cell holds that is lent from a stream.
 use Rattle.std.specs.Prelude.{ℕ, List, [], Result, Ok, Err}
-use Rattle.xls_data.specs.Content.{Content, text}
-use Rattle.xls_data.specs.Refs.{ref_content_of}
+use Rattle.std.specs.Str.{chars}
+use Rattle.xls_data.specs.Content.{Content, text, truth, failure, nothing}
+use Rattle.xls_data.specs.Numeric.{numeric_content}
 use Rattle.xls_strings.specs.declared.error.XlsError.{XlsError}
 use Rattle.xls_strings.specs.Strings.{string_at}
 use Rattle.xls_biff.specs.Cells.{Entry}
@@ -21,8 +22,17 @@ encoded_text e = characters_in (string_at e.page e.version e.string.now)
 
 -- the content of a value
 abbrev pub value_content : CellValue → Content
-value_content (variant.Value d) = ref_content_of d
+value_content (variant.Number n) = numeric_content n
+value_content (variant.Bool b) = truth b
+value_content (variant.Error e) = failure e
+value_content (variant.Shared s) = text (chars s.now)
+value_content variant.Empty = nothing
 value_content (variant.Encoded e) = text (encoded_text e)
+
+-- the characters of a text, and none of another content
+abbrev pub text_in : Content → List ℕ
+text_in (text cs) = cs
+text_in other = []
 
 -- a cell by its content
 abbrev pub cell_entry : SheetCell → Entry

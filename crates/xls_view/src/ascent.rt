@@ -4,11 +4,13 @@ ghost use Rattle.std.specs.Prelude.{◌≡◌, ◌↔◌, ◌++◌, ◌∷◌, [
 ghost use Rattle.xls_cells.specs.Positions.{Position, Precedes};
 ghost use Rattle.xls_view.specs.Placing.{IsAscent};
 
-/// Whether the positions so far ascend strictly, row before column, and the last one of them.
+/// Whether the positions so far ascend strictly, row before column, the last one of them, and how many they are
+/// (at most so many as a `usize` tells).
 #[derive(Clone, Copy)]
 pub(crate) struct Ascent {
     last: Option<(u32, u32)>,
     ascends: bool,
+    count: usize,
 }
 
 /// Whether one position comes before another: in an earlier row, or in the same one in an earlier
@@ -28,6 +30,7 @@ impl Ascent {
         Ascent {
             last: None,
             ascends: true,
+            count: 0,
         }
     }
 
@@ -43,6 +46,7 @@ impl Ascent {
         Ascent {
             last: Some(position),
             ascends,
+            count: self.count.saturating_add(1),
         }
     }
 
@@ -51,6 +55,13 @@ impl Ascent {
         ensures { result ≡ self.ascends }
     {
         self.ascends
+    }
+
+    /// How many they are, as far as a `usize` tells.
+    pub(crate) fn count(self) -> usize
+        ensures { result ≡ self.count }
+    {
+        self.count
     }
 
     /// Whether there is none.

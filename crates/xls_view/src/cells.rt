@@ -16,21 +16,22 @@ use crate::walk::CellWalk;
 use std::alloc::{AllocError, Global};
 use std::marker::Model;
 use xls_biff::{PlacedRecords, formula_position};
-use xls_cells::sorted_cells;
-use xls_data::{Cell, Dimensions};
+use xls_cells::{Given, Settled, Unsettled};
+use xls_data::Dimensions;
 use xls_open::InForce;
 
-/// Where the cells of a part stand.
+/// Where the cells of a part stand. So many are expected.
 fn places_of(
     alloc: Global,
     part: &[u8],
     force: &InForce<'_>,
-) -> Result<Vec<Cell<usize>>, AllocError>
+    count: usize,
+) -> Result<Unsettled<usize>, AllocError>
     requires { IsSound force.now (part.now, 0) }
-    ensures { IfOk result (λ v. map (cell_placed force.now part.now) v.items
+    ensures { IfOk result (λ places. map (cell_placed force.now part.now) places
         ≡ cells_from force.now (0, 0) (kept_in part.now 0)) }
 {
-    let mut places = Vec::new(alloc);
+    let mut places = Unsettled::with_room(alloc, count)?;
     let mut last = (0, 0);
     for item in PlacedRecords::new(part) {
         let (start, record) = match item {
@@ -38,21 +39,25 @@ fn places_of(
             Err(_) => return Ok(places),
         };
         let at = part.len() - start.len();
-        push_cells(alloc, &mut places, &record, last, at, force)?;
+        push_cells(&mut places, &record, last, at, force)?;
         last = formula_position(&record).unwrap_or(last);
     }
     Ok(places)
 }
 
 /// Likewise by position, of those of one position the last.
-fn in_order(alloc: Global, part: &[u8], force: &InForce<'_>) -> Result<Vec<Cell<usize>>, AllocError>
+fn in_order(
+    alloc: Global,
+    part: &[u8],
+    force: &InForce<'_>,
+    count: usize,
+) -> Result<Settled<usize>, AllocError>
     requires { IsSound force.now (part.now, 0) }
-    ensures { IfOk result (λ v. map (cell_placed force.now part.now) v.items
+    ensures { IfOk result (λ places. map (cell_placed force.now part.now) places
         ≡ settled (cells_from force.now (0, 0) (kept_in part.now 0))) }
 {
-    let places = places_of(alloc, part, force)?;
-    let sorted = sorted_cells(alloc, places)?;
-    Ok(sorted)
+    let places = places_of(alloc, part, force, count)?;
+    Ok(places.settled())
 }
 
 /// Where the cells of a part stand in order, where its records don't ascend.
@@ -61,7 +66,7 @@ fn order_of(
     part: &[u8],
     force: &InForce<'_>,
     found: FoundCells,
-) -> Result<Option<Vec<Cell<usize>>>, AllocError>
+) -> Result<Option<Settled<usize>>, AllocError>
     requires sound { IsSound force.now (part.now, 0) }
     requires found { IsFound found (cells_from force.now (0, 0) (kept_in part.now 0)) }
     ensures { IfOk result (λ o. cells_held force.now part.now o ≡ settled (cells_from force.now (0, 0) (kept_in part.now 0))) }
@@ -69,7 +74,7 @@ fn order_of(
     if found.ascends() {
         return Ok(None);
     }
-    let sorted = in_order(alloc, part, force)?;
+    let sorted = in_order(alloc, part, force, found.count())?;
     Ok(Some(sorted))
 }
 
@@ -77,11 +82,10 @@ fn order_of(
 /// of them.
 #[derive(Drop)]
 pub struct SheetCells<'v> {
-    alloc: Global,
     force: InForce<'v>,
     part: &'v [u8],
     /// Where the cells stand, in order, where the records don't ascend.
-    sorted: Option<Vec<Cell<usize>>>,
+    sorted: Option<Settled<usize>>,
     /// The smallest box that holds them.
     bounds: Option<Dimensions>,
 }
@@ -116,7 +120,6 @@ impl<'v> SheetCells<'v> {
     {
         let sorted = order_of(alloc, part, &force, found)?;
         Ok(SheetCells {
-            alloc,
             force,
             part,
             sorted,
@@ -138,18 +141,16 @@ impl<'v> SheetCells<'v> {
     {
         match &self.sorted {
             None => Cells::new(
-                CellWalk::new(self.alloc, &self.force, self.part),
-                self.alloc,
+                CellWalk::new(&self.force, self.part),
                 &self.force,
                 self.part,
                 &[],
             ),
             Some(places) => Cells::new(
-                CellWalk::none(self.alloc, &self.force),
-                self.alloc,
+                CellWalk::none(&self.force),
                 &self.force,
                 self.part,
-                places,
+                places.as_slice(),
             ),
         }
     }
@@ -160,22 +161,22 @@ impl<'v> SheetCells<'v> {
 pub struct Cells<'c> {
     /// The cells of the records that are left, where these ascend.
     walk: CellWalk<'c>,
-    alloc: Global,
     force: &'c InForce<'c>,
     part: &'c [u8],
     /// Else the places that are left.
-    places: &'c [Cell<usize>],
+    places: &'c [Given<usize>],
 }
 
 impl<'c> Model for Cells<'c> {
     ghost use Rattle.std.specs.Prelude.{◌++◌, List, map};
     ghost use Rattle.xls_biff.specs.Cells.{Entry};
     ghost use Rattle.xls_model.specs.Walks.{IsBytes};
+    ghost use Rattle.xls_cells.specs.Positions.{given_entry};
     ghost use Rattle.xls_view.specs.Placing.{cell_placed};
 
     ghost Value = { List Entry };
 
-    ghost view = { λ c. c.walk ++ map (cell_placed c.force.now c.part.now) c.places.now };
+    ghost view = { λ c. c.walk ++ map (cell_placed c.force.now c.part.now) (map given_entry c.places.now) };
 
     ghost invariant = { λ c. IsBytes c.part.now };
 }
@@ -191,35 +192,34 @@ impl<'c> Iterator for Cells<'c> {
 
     ghost remaining = { λ cells. at_most (length cells) };
 
-    #[inline]
+    #[inline(always)]
     fn next(&mut self) -> Option<SheetCell<'c>> {
         if let Some(cell) = self.walk.next() {
             return Some(cell);
         }
         let (position, at) = next_place(&mut self.places)?;
-        Some(placed_cell(self.alloc, self.part, position, at, self.force))
+        Some(placed_cell(self.part, position, at, self.force))
     }
 }
 
 impl<'c> Cells<'c> {
     ghost use Rattle.std.specs.Prelude.{◌≡◌, ◌++◌, map};
     ghost use Rattle.xls_model.specs.Walks.{IsBytes};
+    ghost use Rattle.xls_cells.specs.Positions.{given_entry};
     ghost use Rattle.xls_view.specs.Placing.{cell_placed};
 
     /// These cells, and those at some places of a part.
     fn new(
         walk: CellWalk<'c>,
-        alloc: Global,
         force: &'c InForce<'c>,
         part: &'c [u8],
-        places: &'c [Cell<usize>],
+        places: &'c [Given<usize>],
     ) -> Cells<'c>
         requires { IsBytes part.now }
-        ensures { result ≡ walk.entry ++ map (cell_placed force.now part.now) places.now }
+        ensures { result ≡ walk.entry ++ map (cell_placed force.now part.now) (map given_entry places.now) }
     {
         Cells {
             walk,
-            alloc,
             force,
             part,
             places,
@@ -232,7 +232,6 @@ impl<'c> Cells<'c> {
     {
         Cells {
             walk: self.walk.again(),
-            alloc: self.alloc,
             force: self.force,
             part: self.part,
             places: self.places,

@@ -17,8 +17,8 @@ use crate::places::{next_place, placed_formula};
 use crate::value::FormulaCell;
 use std::alloc::{AllocError, Global};
 use std::marker::Model;
-use xls_biff::{PlacedRecords, Record, SheetRecords, parse_formula_record};
-use xls_cells::sorted_cells;
+use xls_biff::{PlacedRecords, Record, SheetRecords, read_formula};
+use xls_cells::{Given, Settled, Unsettled};
 use xls_data::Cell;
 use xls_model::types::FORMULA;
 use xls_open::{InForce, text_of_formula};
@@ -31,7 +31,7 @@ pub struct SheetFormulas<'v> {
     force: InForce<'v>,
     part: &'v [u8],
     /// Where the formulas stand, in order, where the records don't ascend.
-    sorted: Option<Vec<Cell<usize>>>,
+    sorted: Option<Settled<usize>>,
 }
 
 impl<'v> Model for SheetFormulas<'v> {
@@ -46,43 +46,38 @@ impl<'v> Model for SheetFormulas<'v> {
     ghost invariant = { λ f. IsBytes f.part.now };
 }
 
-/// Where the formulas of a part stand.
-fn places_of(alloc: Global, part: &[u8]) -> Result<Vec<Cell<usize>>, AllocError>
-    ensures { IfOk result (λ v. map (formula_placed part.now) v.items ≡ formulas_of (kept_in part.now 0)) }
+/// Where the formulas of a part stand. So many are expected.
+fn places_of(alloc: Global, part: &[u8], count: usize) -> Result<Unsettled<usize>, AllocError>
+    ensures { IfOk result (λ places. map (formula_placed part.now) places ≡ formulas_of (kept_in part.now 0)) }
 {
-    let mut places = Vec::new(alloc);
+    let mut places = Unsettled::with_room(alloc, count)?;
     for item in PlacedRecords::new(part) {
         let (start, record) = match item {
             Ok(placed) => placed,
             Err(_) => return Ok(places),
         };
-        push_formula(alloc, &mut places, &record, part.len() - start.len())?;
+        push_formula(&mut places, &record, part.len() - start.len())?;
     }
     Ok(places)
 }
 
 /// Likewise by position, of those of one position the last.
-fn in_order(alloc: Global, part: &[u8]) -> Result<Vec<Cell<usize>>, AllocError>
-    ensures { IfOk result (λ v. map (formula_placed part.now) v.items ≡ settled (formulas_of (kept_in part.now 0))) }
+fn in_order(alloc: Global, part: &[u8], count: usize) -> Result<Settled<usize>, AllocError>
+    ensures { IfOk result (λ places. map (formula_placed part.now) places ≡ settled (formulas_of (kept_in part.now 0))) }
 {
-    let places = places_of(alloc, part)?;
-    let sorted = sorted_cells(alloc, places)?;
-    Ok(sorted)
+    let places = places_of(alloc, part, count)?;
+    Ok(places.settled())
 }
 
 /// Where the formulas of a part stand in order, where they don't ascend.
-fn order_of(
-    alloc: Global,
-    part: &[u8],
-    found: Ascent,
-) -> Result<Option<Vec<Cell<usize>>>, AllocError>
+fn order_of(alloc: Global, part: &[u8], found: Ascent) -> Result<Option<Settled<usize>>, AllocError>
     requires { IsAscent found (map (λ (f : Formula). f.0) (formulas_of (kept_in part.now 0))) }
     ensures { IfOk result (λ o. formulas_held part.now o ≡ settled (formulas_of (kept_in part.now 0))) }
 {
     if found.is_strict() {
         return Ok(None);
     }
-    let sorted = in_order(alloc, part)?;
+    let sorted = in_order(alloc, part, found.count())?;
     Ok(Some(sorted))
 }
 
@@ -126,15 +121,8 @@ impl<'v> SheetFormulas<'v> {
         ensures { result ≡ self.now.left }
     {
         match &self.sorted {
-            None => FormulaCells::new(
-                FormulaWalk::new(self.alloc, self.part),
-                self.alloc,
-                self.part,
-                &[],
-            ),
-            Some(places) => {
-                FormulaCells::new(FormulaWalk::none(self.alloc), self.alloc, self.part, places)
-            }
+            None => FormulaCells::new(FormulaWalk::new(self.part), self.part, &[]),
+            Some(places) => { FormulaCells::new(FormulaWalk::none(), self.part, places.as_slice()) }
         }
     }
 
@@ -155,7 +143,6 @@ impl<'v> SheetFormulas<'v> {
 /// The formulas of a part that are left, in the order of its records. Contracts see the list of them.
 #[derive(Drop)]
 pub(crate) struct FormulaWalk<'c> {
-    alloc: Global,
     records: SheetRecords<'c>,
 }
 
@@ -173,13 +160,13 @@ impl<'c> Model for FormulaWalk<'c> {
 }
 
 /// A Formula record, and `None` for a record of another type or with a fault.
-pub(crate) fn formula_of<'c>(alloc: Global, r: &Record<'c>) -> Option<FormulaCell<'c>>
+pub(crate) fn formula_of<'c>(r: &Record<'c>) -> Option<FormulaCell<'c>>
     ensures { option_map formula_seen result ≡ formula_of (kept_group (group_of r.now)) }
 {
     if r.typ != FORMULA {
         return None;
     }
-    match parse_formula_record(alloc, r.body, &[], false) {
+    match read_formula(r.body, &[], false) {
         Ok(formula) => {
             let (row, column) = formula.position;
             Some(FormulaCell {
@@ -193,23 +180,18 @@ pub(crate) fn formula_of<'c>(alloc: Global, r: &Record<'c>) -> Option<FormulaCel
 }
 
 /// Puts the place of a Formula record, which begins at this offset of its part.
-fn push_formula(
-    alloc: Global,
-    places: &mut Vec<Cell<usize>>,
-    r: &Record<'_>,
-    at: usize,
-) -> Result<(), AllocError>
-    ensures { OnOk result (places.new.items ≡ places.old.items
+fn push_formula(places: &mut Unsettled<usize>, r: &Record<'_>, at: usize) -> Result<(), AllocError>
+    ensures { OnOk result (places.new ≡ places.old
         ++ map (λ (f : Formula). (f.0, at)) (somes (formula_of (kept_group (group_of r.now)) ∷ []))) }
 {
-    if let Some(formula) = formula_of(alloc, r) {
+    if let Some(formula) = formula_of(r) {
         places.push(Cell::new((formula.row, formula.column), at))?;
     }
     Ok(())
 }
 
 /// The next formula of the records that are left.
-fn next_formula<'c>(alloc: Global, records: &mut SheetRecords<'c>) -> Option<FormulaCell<'c>>
+fn next_formula<'c>(records: &mut SheetRecords<'c>) -> Option<FormulaCell<'c>>
     requires { IsBytes records.old.0 }
     ensures bytes { IsBytes records.new.0 }
     ensures passes { PassesFormula records.old result records.new }
@@ -219,7 +201,7 @@ fn next_formula<'c>(alloc: Global, records: &mut SheetRecords<'c>) -> Option<For
             Ok(record) => record,
             Err(_) => return None,
         };
-        if let Some(formula) = formula_of(alloc, &record) {
+        if let Some(formula) = formula_of(&record) {
             return Some(formula);
         }
     }
@@ -238,7 +220,7 @@ impl<'c> Iterator for FormulaWalk<'c> {
     ghost remaining = { λ formulas. at_most (length formulas) };
 
     fn next(&mut self) -> Option<FormulaCell<'c>> {
-        next_formula(self.alloc, &mut self.records)
+        next_formula(&mut self.records)
     }
 }
 
@@ -248,22 +230,20 @@ impl<'c> FormulaWalk<'c> {
     ghost use Rattle.xls_view.specs.Formulas.{formulas_of};
 
     /// The formulas of a part.
-    fn new(alloc: Global, part: &'c [u8]) -> FormulaWalk<'c>
+    fn new(part: &'c [u8]) -> FormulaWalk<'c>
         ensures { result ≡ formulas_of (kept_in part.now 0) }
     {
         FormulaWalk {
-            alloc,
             records: SheetRecords::new(part),
         }
     }
 
     /// No formulas.
     #[tactic(auto, using(crate::proofs::WalkLemmas::kept_nothing))]
-    fn none(alloc: Global) -> FormulaWalk<'c>
+    fn none() -> FormulaWalk<'c>
         ensures { result ≡ [] }
     {
         FormulaWalk {
-            alloc,
             records: SheetRecords::new(&[]),
         }
     }
@@ -273,7 +253,6 @@ impl<'c> FormulaWalk<'c> {
         ensures { result ≡ self.now }
     {
         FormulaWalk {
-            alloc: self.alloc,
             records: self.records.again(),
         }
     }
@@ -284,21 +263,21 @@ impl<'c> FormulaWalk<'c> {
 pub struct FormulaCells<'c> {
     /// The formulas of the records that are left, where these ascend.
     walk: FormulaWalk<'c>,
-    alloc: Global,
     part: &'c [u8],
     /// Else the places that are left.
-    places: &'c [Cell<usize>],
+    places: &'c [Given<usize>],
 }
 
 impl<'c> Model for FormulaCells<'c> {
     ghost use Rattle.std.specs.Prelude.{◌++◌, List, map};
     ghost use Rattle.xls_model.specs.Walks.{IsBytes};
     ghost use Rattle.xls_view.specs.Formulas.{Formula};
+    ghost use Rattle.xls_cells.specs.Positions.{given_entry};
     ghost use Rattle.xls_view.specs.Placing.{formula_placed};
 
     ghost Value = { List Formula };
 
-    ghost view = { λ f. f.walk ++ map (formula_placed f.part.now) f.places.now };
+    ghost view = { λ f. f.walk ++ map (formula_placed f.part.now) (map given_entry f.places.now) };
 
     ghost invariant = { λ f. IsBytes f.part.now };
 }
@@ -319,31 +298,22 @@ impl<'c> Iterator for FormulaCells<'c> {
             return Some(formula);
         }
         let (position, at) = next_place(&mut self.places)?;
-        Some(placed_formula(self.alloc, self.part, position, at))
+        Some(placed_formula(self.part, position, at))
     }
 }
 
 impl<'c> FormulaCells<'c> {
     ghost use Rattle.std.specs.Prelude.{◌≡◌, ◌++◌, map};
     ghost use Rattle.xls_model.specs.Walks.{IsBytes};
+    ghost use Rattle.xls_cells.specs.Positions.{given_entry};
     ghost use Rattle.xls_view.specs.Placing.{formula_placed};
 
     /// These formulas, and those at some places of a part.
-    fn new(
-        walk: FormulaWalk<'c>,
-        alloc: Global,
-        part: &'c [u8],
-        places: &'c [Cell<usize>],
-    ) -> FormulaCells<'c>
+    fn new(walk: FormulaWalk<'c>, part: &'c [u8], places: &'c [Given<usize>]) -> FormulaCells<'c>
         requires { IsBytes part.now }
-        ensures { result ≡ walk.entry ++ map (formula_placed part.now) places.now }
+        ensures { result ≡ walk.entry ++ map (formula_placed part.now) (map given_entry places.now) }
     {
-        FormulaCells {
-            walk,
-            alloc,
-            part,
-            places,
-        }
+        FormulaCells { walk, part, places }
     }
 
     /// The same formulas, to be gone through once more. Takes no memory.
@@ -352,7 +322,6 @@ impl<'c> FormulaCells<'c> {
     {
         FormulaCells {
             walk: self.walk.again(),
-            alloc: self.alloc,
             part: self.part,
             places: self.places,
         }

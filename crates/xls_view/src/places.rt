@@ -9,6 +9,7 @@ ghost use Rattle.xls_model.specs.Listing.{kept_group};
 ghost use Rattle.xls_reading.specs.SheetTable.{adds, kept_line};
 ghost use Rattle.xls_biff.specs.Records.Rk.{first_column, mul_rk_at};
 ghost use Rattle.xls_biff.specs.Cells.{Entry};
+ghost use Rattle.xls_cells.specs.Positions.{given_entry};
 ghost use Rattle.xls_view.specs.Placing.{cell_in, cell_placed, first_kept, formula_placed, found_kept, record_at, value_at, value_or_blank, Place};
 ghost use Rattle.xls_view.specs.Walking.{Gives};
 ghost use Rattle.xls_model.specs.Walks.{IsBytes};
@@ -18,11 +19,12 @@ ghost use Rattle.xls_view.specs.Values.{cell_entry, value_content};
 
 use crate::formulas::formula_of;
 use crate::record::cell_of;
-use crate::value::{CellValue, FormulaCell, SheetCell, position_of, read_cell};
-use std::alloc::{AllocError, Global};
-use xls_biff::{Record, RecordIter, cell_of_mul_rk, check_sheet_record, count_mul_rk};
+use crate::value::{CellValue, FormulaCell, SheetCell, cell_at, position_of};
+use std::alloc::AllocError;
+use xls_biff::{Record, RecordIter, check_sheet_record, count_mul_rk, read_mul_rk};
 use xls_bytes::read_u16;
-use xls_data::{Cell, DataRef};
+use xls_cells::{Given, Unsettled};
+use xls_data::Cell;
 use xls_model::types::MUL_RK;
 use xls_open::InForce;
 
@@ -83,24 +85,19 @@ fn value_in_run<'c>(body: &'c [u8], column: u32, force: &InForce<'c>) -> Option<
     if nth >= count {
         return None;
     }
-    let cell = cell_of_mul_rk(body, nth, force.classes, force.is_1904);
-    Some(read_cell(cell).value)
+    let (_, value) = read_mul_rk(body, nth, force.classes, force.is_1904);
+    Some(CellValue::Number(value))
 }
 
 /// The value of the cell of a record without a fault at a position, if the record has it.
-fn value_in<'c>(
-    alloc: Global,
-    r: &Record<'c>,
-    position: (u32, u32),
-    force: &InForce<'c>,
-) -> Option<CellValue<'c>>
+fn value_in<'c>(r: &Record<'c>, position: (u32, u32), force: &InForce<'c>) -> Option<CellValue<'c>>
     ensures { (g : SheetRecord) → kept_line force.now.cells (kept_group (group_of r.now)) ≡ Ok g
         → value_or_blank result ≡ cell_in force.now position (kept_group (group_of r.now)) }
 {
     if r.typ == MUL_RK {
         return value_in_run(r.body, position.1, force);
     }
-    match cell_of(alloc, r, position, force) {
+    match cell_of(r, position, force) {
         Some(cell) => Some(cell.value),
         None => None,
     }
@@ -108,7 +105,6 @@ fn value_in<'c>(
 
 /// The value of the cell at a position whose record begins at an offset of a part, if the record has it.
 fn placed_value<'c>(
-    alloc: Global,
     part: &'c [u8],
     position: (u32, u32),
     at: usize,
@@ -121,14 +117,13 @@ fn placed_value<'c>(
         None => return None,
     };
     match check_sheet_record(&record, force.version) {
-        Ok(()) => value_in(alloc, &record, position, force),
+        Ok(()) => value_in(&record, position, force),
         Err(_) => None,
     }
 }
 
 /// The cell at a position whose record begins at an offset of a part; blank where the record has none.
 pub(crate) fn placed_cell<'c>(
-    alloc: Global,
     part: &'c [u8],
     position: (u32, u32),
     at: usize,
@@ -136,39 +131,34 @@ pub(crate) fn placed_cell<'c>(
 ) -> SheetCell<'c>
     ensures { cell_entry result ≡ cell_placed force.now part.now (position, at) }
 {
-    let (row, column) = position;
-    let value = match placed_value(alloc, part, position, at, force) {
+    let value = match placed_value(part, position, at, force) {
         Some(value) => value,
-        None => CellValue::Value(DataRef::Empty),
+        None => CellValue::Empty,
     };
-    SheetCell { row, column, value }
+    cell_at(position, value)
 }
 
 /// The next of some places.
-pub(crate) fn next_place(places: &mut &[Cell<usize>]) -> Option<((u32, u32), usize)>
-    ensures { Gives (λ (c : Place). c) places.old.now result places.new.now }
+pub(crate) fn next_place(places: &mut &[Given<usize>]) -> Option<((u32, u32), usize)>
+    ensures { Gives (λ (c : Place). c) (map given_entry places.old.now) result (map given_entry places.new.now) }
 {
     if places.is_empty() {
         return None;
     }
     let (first, rest) = places.split_at(1);
     *places = rest;
-    Some((first[0].get_position(), *first[0].get_value()))
+    let cell = &first[0].cell;
+    Some((cell.get_position(), *cell.get_value()))
 }
 
 /// The formula at a position whose record begins at an offset of a part; without tokens where the record is
 /// none.
-pub(crate) fn placed_formula<'c>(
-    alloc: Global,
-    part: &'c [u8],
-    position: (u32, u32),
-    at: usize,
-) -> FormulaCell<'c>
+pub(crate) fn placed_formula<'c>(part: &'c [u8], position: (u32, u32), at: usize) -> FormulaCell<'c>
     ensures { formula_seen result ≡ formula_placed part.now (position, at) }
 {
     let (row, column) = position;
     let rgce = match record_at(part, at) {
-        Some(record) => match formula_of(alloc, &record) {
+        Some(record) => match formula_of(&record) {
             Some(formula) => formula.rgce,
             None => &[],
         },
@@ -179,11 +169,11 @@ pub(crate) fn placed_formula<'c>(
 
 /// Puts a place after those so far.
 fn push_place(
-    places: &mut Vec<Cell<usize>>,
+    places: &mut Unsettled<usize>,
     position: (u32, u32),
     at: usize,
 ) -> Result<(), AllocError>
-    ensures { OnOk result (places.new.items ≡ places.old.items ++ (position, at) ∷ []) }
+    ensures { OnOk result (places.new ≡ places.old ++ (position, at) ∷ []) }
 {
     places.push(Cell::new(position, at))?;
     Ok(())
@@ -200,13 +190,13 @@ pub(crate) fn run_position(body: &[u8], i: usize) -> (u32, u32)
 
 /// Puts the places of the cells of a MulRk record without a fault.
 fn push_run(
-    places: &mut Vec<Cell<usize>>,
+    places: &mut Unsettled<usize>,
     body: &[u8],
     at: usize,
     force: &InForce<'_>,
 ) -> Result<(), AllocError>
     ensures { (cells : List Entry) → mul_rk_at force.now.cells.classes force.now.cells.is_1904 body.now ≡ Ok cells
-        → OnOk result (places.new.items ≡ places.old.items ++ map (λ (c : Entry). (c.0, at)) cells) }
+        → OnOk result (places.new ≡ places.old ++ map (λ (c : Entry). (c.0, at)) cells) }
 {
     let count = match count_mul_rk(body) {
         Ok(count) => count,
@@ -221,8 +211,7 @@ fn push_run(
 /// Puts the places of the cells of a record without a fault, which begins at this offset of its part, where
 /// the last Formula before it stands here.
 pub(crate) fn push_cells(
-    alloc: Global,
-    places: &mut Vec<Cell<usize>>,
+    places: &mut Unsettled<usize>,
     r: &Record<'_>,
     last: (u32, u32),
     at: usize,
@@ -230,13 +219,13 @@ pub(crate) fn push_cells(
 ) -> Result<(), AllocError>
     ensures { (g : SheetRecord) (part : List ℕ) → kept_line force.now.cells (kept_group (group_of r.now)) ≡ Ok g
         → record_at part at ≡ kept_group (group_of r.now)
-        → OnOk result (map (cell_placed force.now part) places.new.items
-        ≡ map (cell_placed force.now part) places.old.items ++ (adds force.now.formulas last g).cells) }
+        → OnOk result (map (cell_placed force.now part) places.new
+        ≡ map (cell_placed force.now part) places.old ++ (adds force.now.formulas last g).cells) }
 {
     if r.typ == MUL_RK {
         return push_run(places, r.body, at, force);
     }
-    match cell_of(alloc, r, last, force) {
+    match cell_of(r, last, force) {
         Some(cell) => push_place(places, position_of(cell), at),
         None => Ok(()),
     }

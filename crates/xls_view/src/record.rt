@@ -16,17 +16,16 @@ ghost use Rattle.xls_data.specs.Content.{Content, text};
 ghost use Rattle.xls_model.specs.Listing.{kept_group};
 ghost use Rattle.xls_reading.specs.SheetTable.{adds, kept_line, listed_cell, listed_value};
 ghost use Rattle.xls_strings.specs.Strings.{string_at};
-ghost use Rattle.xls_view.specs.Values.{cell_entry};
+ghost use Rattle.xls_biff.specs.Records.Formula.{value_content};
+ghost use Rattle.xls_view.specs.Values.{cell_entry, value_content as seen_content};
 ghost use Rattle.xls_view.specs.Walking.{CellSteps};
 
 use crate::run::Run;
-use crate::value::{CellValue, EncodedText, SheetCell, cell_at, lent, read_cell};
-use std::alloc::Global;
+use crate::value::{CellValue, EncodedText, SheetCell, bes_cell, cell_at, number_cell};
 use xls_biff::{
-    FormulaRecord, Record, find_label_sst, parse_bool_err, parse_formula_record, parse_number,
-    parse_rk, split_label,
+    FormulaParts, FormulaValue, Record, find_label_sst, read_bool_err, read_formula, read_number,
+    read_rk, split_label,
 };
-use xls_data::DataRef;
 use xls_model::types::{BOOL_ERR, FORMULA, LABEL, LABEL_SST, MUL_RK, NUMBER, R_STRING, RK, STRING};
 use xls_open::InForce;
 
@@ -37,8 +36,8 @@ fn number<'c>(body: &'c [u8], force: &InForce<'c>) -> Option<SheetCell<'c>>
     ensures { (e : Entry) → number_at force.now.cells.classes force.now.cells.is_1904 body.now ≡ Ok e
         → option_map cell_entry result ≡ Some e }
 {
-    match parse_number(body, force.classes, force.is_1904) {
-        Ok(cell) => Some(read_cell(cell)),
+    match read_number(body, force.classes, force.is_1904) {
+        Ok(cell) => Some(number_cell(cell)),
         Err(_) => None,
     }
 }
@@ -48,8 +47,8 @@ fn rk<'c>(body: &'c [u8], force: &InForce<'c>) -> Option<SheetCell<'c>>
     ensures { (e : Entry) → rk_at force.now.cells.classes force.now.cells.is_1904 body.now ≡ Ok e
         → option_map cell_entry result ≡ Some e }
 {
-    match parse_rk(body, force.classes, force.is_1904) {
-        Ok(cell) => Some(read_cell(cell)),
+    match read_rk(body, force.classes, force.is_1904) {
+        Ok(cell) => Some(number_cell(cell)),
         Err(_) => None,
     }
 }
@@ -58,8 +57,8 @@ fn rk<'c>(body: &'c [u8], force: &InForce<'c>) -> Option<SheetCell<'c>>
 fn bool_err<'c>(body: &'c [u8]) -> Option<SheetCell<'c>>
     ensures { (e : Entry) → bool_err_at body.now ≡ Ok e → option_map cell_entry result ≡ Some e }
 {
-    match parse_bool_err(body) {
-        Ok(cell) => Some(read_cell(cell)),
+    match read_bool_err(body) {
+        Ok(cell) => Some(bes_cell(cell)),
         Err(_) => None,
     }
 }
@@ -70,16 +69,12 @@ fn encoded<'c>(position: (u32, u32), string: &'c [u8], force: &InForce<'c>) -> S
     ensures { (cs : List ℕ) → string_at force.now.cells.page force.now.cells.version string.now ≡ Ok cs
         → cell_entry result ≡ (position, text cs) }
 {
-    let (row, column) = position;
-    SheetCell {
-        row,
-        column,
-        value: CellValue::Encoded(EncodedText {
-            string,
-            page: force.page,
-            version: force.version,
-        }),
-    }
+    let text = EncodedText {
+        string,
+        page: force.page,
+        version: force.version,
+    };
+    cell_at(position, CellValue::Encoded(text))
 }
 
 #[inline]
@@ -100,39 +95,50 @@ fn label_sst<'c>(body: &'c [u8], force: &InForce<'c>) -> Option<SheetCell<'c>>
         → option_map cell_entry result ≡ found }
 {
     match find_label_sst(body, force.strings) {
-        Ok(Some((position, text))) => Some(cell_at(position, DataRef::SharedString(text))),
+        Ok(Some((position, text))) => Some(cell_at(position, CellValue::Shared(text))),
         Ok(None) => None,
         Err(_) => None,
     }
 }
 
+/// The value of a formula; none where it is the text of a String record.
+fn formula_value<'c>(value: FormulaValue) -> Option<CellValue<'c>>
+    ensures { option_map seen_content result ≡ value_content value }
+{
+    match value {
+        FormulaValue::Number(number) => Some(CellValue::Number(number)),
+        FormulaValue::Bool(truth) => Some(CellValue::Bool(truth)),
+        FormulaValue::Error(error) => Some(CellValue::Error(error)),
+        FormulaValue::EmptyText => Some(CellValue::Shared("")),
+        FormulaValue::Text => None,
+    }
+}
+
 /// A formula whose value is the text of a String record has no cell.
-fn formula<'c>(alloc: Global, body: &'c [u8], force: &InForce<'c>) -> Option<SheetCell<'c>>
+fn formula<'c>(body: &'c [u8], force: &InForce<'c>) -> Option<SheetCell<'c>>
     ensures { (f : Position × Option Content × List ℕ)
         → formula_at force.now.cells.classes force.now.cells.is_1904 body.now ≡ Ok f
         → listed_cell (option_map cell_entry result) ≡ listed_value f.0 f.1 }
 {
-    match parse_formula_record(alloc, body, force.classes, force.is_1904) {
-        Ok(read) => {
-            let FormulaRecord {
-                position,
-                value,
-                ..
-            } = read;
-            match value {
-                Some(value) => Some(cell_at(position, lent(value))),
-                None => None,
-            }
-        }
-        Err(_) => None,
+    let FormulaParts {
+        position,
+        value,
+        ..
+    } = match read_formula(body, force.classes, force.is_1904) {
+        Ok(read) => read,
+        Err(_) => return None,
+    };
+    match formula_value(value) {
+        Some(value) => Some(cell_at(position, value)),
+        None => None,
     }
 }
 
 /// The cell of a record without a fault that isn't a MulRk, if it has one, where the last Formula before
 /// it stands here.
 #[tactic(auto, using(crate::proofs::RecordLemmas::no_cell))]
+#[inline(always)]
 pub(crate) fn cell_of<'c>(
-    alloc: Global,
     r: &Record<'c>,
     at: (u32, u32),
     force: &InForce<'c>,
@@ -148,7 +154,7 @@ pub(crate) fn cell_of<'c>(
         LABEL | R_STRING => label(r.body, force),
         LABEL_SST => label_sst(r.body, force),
         STRING => Some(encoded(at, r.body, force)),
-        FORMULA => formula(alloc, r.body, force),
+        FORMULA => formula(r.body, force),
         _ => None,
     }
 }
@@ -157,7 +163,6 @@ pub(crate) fn cell_of<'c>(
 /// after it are left in `run`.
 #[inline(always)]
 pub(crate) fn first_cell<'c>(
-    alloc: Global,
     r: &Record<'c>,
     at: (u32, u32),
     run: &mut Run<'c>,
@@ -168,7 +173,7 @@ pub(crate) fn first_cell<'c>(
         → CellSteps (adds force.now.formulas at g).cells result run.new }
 {
     if r.typ != MUL_RK {
-        return cell_of(alloc, r, at, force);
+        return cell_of(r, at, force);
     }
     *run = Run::new(r.body, force.classes, force.is_1904);
     run.next()

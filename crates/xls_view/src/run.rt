@@ -4,9 +4,9 @@ ghost use Rattle.std.specs.Prelude.{◌≡◌, List, [], Ok};
 ghost use Rattle.xls_biff.specs.Records.Rk.{mul_rk_at};
 ghost use Rattle.xls_biff.specs.Cells.{Entry};
 
-use crate::value::{SheetCell, read_cell};
+use crate::value::{SheetCell, number_cell};
 use std::marker::Model;
-use xls_biff::{cell_of_mul_rk, count_mul_rk};
+use xls_biff::{count_mul_rk, read_mul_rk};
 use xls_data::CellFormat;
 
 /// The cells of a MulRk record that are left. Contracts see the list of them.
@@ -86,8 +86,8 @@ impl<'c> Run<'c> {
         if self.next == self.count {
             return None;
         }
-        let cell = cell_of_mul_rk(self.body, self.next, self.classes, self.is_1904);
+        let cell = read_mul_rk(self.body, self.next, self.classes, self.is_1904);
         self.next += 1;
-        Some(read_cell(cell))
+        Some(number_cell(cell))
     }
 }

@@ -50,7 +50,7 @@ impl<'v> ViewSheet<'v> {
         requires { IsSound (force_of view.now) (part.now, 0) }
         ensures { result ≡ shows (force_of view.entry.now) (kept_in part.entry.now 0) }
     {
-        let survey = survey_of(alloc, part, &view.force());
+        let survey = survey_of(part, &view.force());
         ViewSheet {
             alloc,
             view,

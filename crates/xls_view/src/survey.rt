@@ -22,7 +22,6 @@ use crate::ascent::Ascent;
 use crate::places::run_position;
 use crate::record::cell_of;
 use crate::value::position_of;
-use std::alloc::Global;
 use xls_biff::{
     Record, SheetRecords, cell_position, count_mul_rk, find_label_sst, formula_position,
 };
@@ -69,6 +68,13 @@ impl FoundCells {
         self.ascent.is_strict()
     }
 
+    /// How many they are.
+    pub(crate) fn count(self) -> usize
+        ensures { result ≡ self.ascent.count }
+    {
+        self.ascent.count()
+    }
+
     pub(crate) fn bounds(self) -> Option<Dimensions>
         ensures { result ≡ self.bounds }
     {
@@ -105,20 +111,14 @@ impl FoundCells {
 
     /// After the cells of a record without a fault, where the last Formula before it stands here.
     #[inline]
-    fn with_record(
-        self,
-        alloc: Global,
-        r: &Record<'_>,
-        last: (u32, u32),
-        force: &InForce<'_>,
-    ) -> FoundCells
+    fn with_record(self, r: &Record<'_>, last: (u32, u32), force: &InForce<'_>) -> FoundCells
         ensures { (cells : List Entry) (g : SheetRecord) → kept_line force.now.cells (kept_group (group_of r.now)) ≡ Ok g
             → IsFound self cells → IsFound result (cells ++ (adds force.now.formulas last g).cells) }
     {
         if r.typ == MUL_RK {
             return self.with_run(r.body, force);
         }
-        match place_of(alloc, r, last, force) {
+        match place_of(r, last, force) {
             Some(position) => self.with(position),
             None => self,
         }
@@ -139,17 +139,12 @@ fn shared_place(body: &[u8], force: &InForce<'_>) -> Option<(u32, u32)>
 }
 
 /// Where the cell of a record stands that is neither a MulRk nor one whose cell begins with its position.
-fn other_place(
-    alloc: Global,
-    r: &Record<'_>,
-    last: (u32, u32),
-    force: &InForce<'_>,
-) -> Option<(u32, u32)>
+fn other_place(r: &Record<'_>, last: (u32, u32), force: &InForce<'_>) -> Option<(u32, u32)>
     requires { r.now.typ ≢ types.MUL_RK }
     ensures { (g : SheetRecord) → kept_line force.now.cells (kept_group (group_of r.now)) ≡ Ok g
         → IsCellAt result (adds force.now.formulas last g).cells }
 {
-    match cell_of(alloc, r, last, force) {
+    match cell_of(r, last, force) {
         Some(cell) => Some(position_of(cell)),
         None => None,
     }
@@ -158,12 +153,7 @@ fn other_place(
 /// Where the cell of a record without a fault that isn't a MulRk stands, if it has one, where the last
 /// Formula before it stands here.
 #[inline]
-fn place_of(
-    alloc: Global,
-    r: &Record<'_>,
-    last: (u32, u32),
-    force: &InForce<'_>,
-) -> Option<(u32, u32)>
+fn place_of(r: &Record<'_>, last: (u32, u32), force: &InForce<'_>) -> Option<(u32, u32)>
     requires { r.now.typ ≢ types.MUL_RK }
     ensures { (g : SheetRecord) → kept_line force.now.cells (kept_group (group_of r.now)) ≡ Ok g
         → IsCellAt result (adds force.now.formulas last g).cells }
@@ -174,7 +164,7 @@ fn place_of(
         BOOL_ERR => cell_position(r.body),
         LABEL | R_STRING => cell_position(r.body),
         LABEL_SST => shared_place(r.body, force),
-        _ => other_place(alloc, r, last, force),
+        _ => other_place(r, last, force),
     }
 }
 
@@ -240,14 +230,14 @@ impl Survey {
 
     /// After a record without a fault, where the last Formula before it stands here.
     #[inline]
-    fn with(self, alloc: Global, r: &Record<'_>, last: (u32, u32), force: &InForce<'_>) -> Survey
+    fn with(self, r: &Record<'_>, last: (u32, u32), force: &InForce<'_>) -> Survey
         ensures { (cells : List Entry) (formulas : List Formula) (regions : List Dimensions) (g : SheetRecord)
             → kept_line force.now.cells (kept_group (group_of r.now)) ≡ Ok g → IsSurvey self cells formulas regions
             → IsSurvey result (cells ++ (adds force.now.formulas last g).cells)
             (formulas ++ formula_listed (kept_group (group_of r.now))) (regions ++ regions_at (kept_group (group_of r.now))) }
     {
         Survey {
-            cells: self.cells.with_record(alloc, r, last, force),
+            cells: self.cells.with_record(r, last, force),
             formulas: formulas_with(self.formulas, r),
             has_merges: merges_with(self.has_merges, r),
         }
@@ -255,7 +245,7 @@ impl Survey {
 }
 
 /// What is found of the records of a part. Takes no memory.
-pub(crate) fn survey_of(alloc: Global, part: &[u8], force: &InForce<'_>) -> Survey
+pub(crate) fn survey_of(part: &[u8], force: &InForce<'_>) -> Survey
     requires { IsSound force.now (part.now, 0) }
     ensures { IsSurvey result (cells_from force.now (0, 0) (kept_in part.now 0))
         (formulas_of (kept_in part.now 0)) (regions_of (kept_in part.now 0)) }
@@ -267,7 +257,7 @@ pub(crate) fn survey_of(alloc: Global, part: &[u8], force: &InForce<'_>) -> Surv
             Ok(record) => record,
             Err(_) => return survey,
         };
-        survey = survey.with(alloc, &record, last, force);
+        survey = survey.with(&record, last, force);
         last = formula_position(&record).unwrap_or(last);
     }
     survey

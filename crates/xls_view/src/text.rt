@@ -4,7 +4,7 @@ ghost use Rattle.std.specs.Prelude.{◌≡◌, ◌++◌, IfOk, OnOk, encode_utf8
 ghost use Rattle.std.specs.String.{string_bytes};
 ghost use Rattle.std.specs.Str.{chars};
 ghost use Rattle.xls_data.specs.Refs.{ref_content_of};
-ghost use Rattle.xls_view.specs.Values.{encoded_text, value_content};
+ghost use Rattle.xls_view.specs.Values.{encoded_text, text_in, value_content};
 
 use crate::value::{CellValue, EncodedText};
 use std::alloc::{AllocError, Global};
@@ -48,13 +48,29 @@ impl TextBuffer {
         Ok(self.text.as_str())
     }
 
+    /// The text in a value, and the empty one of a value that is no text. It is lent from the string table or from
+    /// this buffer. Only running out of memory refuses.
+    pub fn text_of<'b>(&'b mut self, value: &CellValue<'b>) -> Result<&'b str, AllocError>
+        ensures { IfOk result (λ s. chars s.now ≡ text_in (value_content value.now)) }
+    {
+        match value {
+            CellValue::Shared(text) => Ok(*text),
+            CellValue::Encoded(encoded) => self.decode(*encoded),
+            _ => Ok(""),
+        }
+    }
+
     /// A value with its text, which is lent from the string table or from this buffer. Only running out of
     /// memory refuses.
     pub fn value_of<'b>(&'b mut self, value: CellValue<'b>) -> Result<DataRef<'b>, AllocError>
         ensures { IfOk result (λ d. ref_content_of d ≡ value_content value.entry) }
     {
         match value {
-            CellValue::Value(value) => Ok(value),
+            CellValue::Number(number) => Ok(number.into_ref()),
+            CellValue::Bool(truth) => Ok(DataRef::Bool(truth)),
+            CellValue::Error(error) => Ok(DataRef::Error(error)),
+            CellValue::Shared(text) => Ok(DataRef::SharedString(text)),
+            CellValue::Empty => Ok(DataRef::Empty),
             CellValue::Encoded(encoded) => Ok(DataRef::SharedString(self.decode(encoded)?)),
         }
     }

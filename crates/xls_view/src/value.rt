@@ -1,13 +1,12 @@
 //! Cells and formulas that are lent from a stream.
 
 ghost use Rattle.std.specs.Prelude.{◌≡◌};
-ghost use Rattle.xls_biff.specs.Cells.{entry_of};
-ghost use Rattle.xls_data.specs.Data.{content_of};
-ghost use Rattle.xls_data.specs.Refs.{ref_content_of};
-ghost use Rattle.xls_view.specs.Values.{cell_entry};
+ghost use Rattle.xls_biff.specs.Cells.{numeric_entry};
+ghost use Rattle.xls_biff.specs.Records.BoolErr.{bes_entry};
+ghost use Rattle.xls_view.specs.Values.{cell_entry, value_content};
 
-use xls_biff::Biff;
-use xls_data::{Cell, Data, DataRef};
+use xls_biff::{Bes, Biff};
+use xls_data::{CellErrorType, Numeric};
 use xls_text::XlsEncoding;
 
 /// A string of a record that isn't decoded, and how it is.
@@ -19,17 +18,25 @@ pub struct EncodedText<'v> {
     pub version: Biff,
 }
 
-/// The value of a cell.
-#[derive(Drop)]
+/// The value of a cell, which owns nothing.
+#[derive(Clone, Copy)]
 pub enum CellValue<'v> {
-    /// A number, a date, a truth value, an error value, or a text of the string table.
-    Value(DataRef<'v>),
+    /// A number, or a date or duration.
+    Number(Numeric),
+    /// A truth value.
+    Bool(bool),
+    /// An error value.
+    Error(CellErrorType),
+    /// A text of the string table.
+    Shared(&'v str),
     /// A text in the record itself.
     Encoded(EncodedText<'v>),
+    /// Nothing, the blank.
+    Empty,
 }
 
 /// A cell: row and column from 0, and its value.
-#[derive(Drop)]
+#[derive(Clone, Copy)]
 pub struct SheetCell<'v> {
     pub row: u32,
     pub column: u32,
@@ -44,44 +51,34 @@ pub struct FormulaCell<'v> {
     pub rgce: &'v [u8],
 }
 
-/// A value that owns its texts, as one that may borrow them.
+/// The cell at a position.
 #[inline(always)]
-pub(crate) fn lent<'v>(value: Data) -> DataRef<'v>
-    ensures { ref_content_of result ≡ content_of value }
-{
-    match value {
-        Data::Int(n) => DataRef::Int(n),
-        Data::Float(n) => DataRef::Float(n),
-        Data::String(s) => DataRef::String(s),
-        Data::Bool(b) => DataRef::Bool(b),
-        Data::DateTime(d) => DataRef::DateTime(d),
-        Data::DateTimeIso(s) => DataRef::DateTimeIso(s),
-        Data::DurationIso(s) => DataRef::DurationIso(s),
-        Data::Error(e) => DataRef::Error(e),
-        Data::Empty => DataRef::Empty,
-    }
-}
-
-/// The cell at a position with a value that isn't a text of its record.
-#[inline(always)]
-pub(crate) fn cell_at<'v>(position: (u32, u32), value: DataRef<'v>) -> SheetCell<'v>
-    ensures { cell_entry result ≡ (position, ref_content_of value.entry) }
+pub(crate) fn cell_at<'v>(position: (u32, u32), value: CellValue<'v>) -> SheetCell<'v>
+    ensures { cell_entry result ≡ (position, value_content value.entry) }
 {
     let (row, column) = position;
-    SheetCell {
-        row,
-        column,
-        value: CellValue::Value(value),
-    }
+    SheetCell { row, column, value }
 }
 
-/// A cell that was read from a record.
+/// The cell of a number that was read from a record.
 #[inline(always)]
-pub(crate) fn read_cell<'v>(cell: Cell<Data>) -> SheetCell<'v>
-    ensures { cell_entry result ≡ entry_of cell }
+pub(crate) fn number_cell<'v>(read: ((u32, u32), Numeric)) -> SheetCell<'v>
+    ensures { cell_entry result ≡ numeric_entry read }
 {
-    let (position, value) = cell.into_parts();
-    cell_at(position, lent(value))
+    let (position, value) = read;
+    cell_at(position, CellValue::Number(value))
+}
+
+/// The cell of a truth value or an error value that was read from a record.
+#[inline(always)]
+pub(crate) fn bes_cell<'v>(read: ((u32, u32), Bes)) -> SheetCell<'v>
+    ensures { cell_entry result ≡ bes_entry read }
+{
+    let (position, value) = read;
+    match value {
+        Bes::Bool(truth) => cell_at(position, CellValue::Bool(truth)),
+        Bes::Error(error) => cell_at(position, CellValue::Error(error)),
+    }
 }
 
 /// Where a cell stands.

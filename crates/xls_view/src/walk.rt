@@ -7,7 +7,6 @@ ghost use Rattle.xls_view.specs.Walking.{CellSteps, IsSound};
 use crate::record::first_cell;
 use crate::run::Run;
 use crate::value::SheetCell;
-use std::alloc::Global;
 use std::marker::Model;
 use xls_biff::{SheetRecords, formula_position};
 use xls_open::InForce;
@@ -16,7 +15,6 @@ use xls_open::InForce;
 /// the list of them.
 #[derive(Drop)]
 pub(crate) struct CellWalk<'c> {
-    alloc: Global,
     force: &'c InForce<'c>,
     records: SheetRecords<'c>,
     /// Where the last Formula stands.
@@ -42,7 +40,6 @@ impl<'c> Model for CellWalk<'c> {
 /// it in its record are left in `run`.
 #[inline(always)]
 fn next_cell<'c>(
-    alloc: Global,
     records: &mut SheetRecords<'c>,
     at: &mut (u32, u32),
     run: &mut Run<'c>,
@@ -61,7 +58,7 @@ fn next_cell<'c>(
         };
         let last = *at;
         *at = formula_position(&record).unwrap_or(last);
-        if let Some(cell) = first_cell(alloc, &record, last, run, force) {
+        if let Some(cell) = first_cell(&record, last, run, force) {
             return Some(cell);
         }
     }
@@ -70,12 +67,11 @@ fn next_cell<'c>(
 
 impl<'c> CellWalk<'c> {
     /// The cells of a part.
-    pub(crate) fn new(alloc: Global, force: &'c InForce<'c>, part: &'c [u8]) -> CellWalk<'c>
+    pub(crate) fn new(force: &'c InForce<'c>, part: &'c [u8]) -> CellWalk<'c>
         requires { IsSound force.now (part.now, 0) }
         ensures { result ≡ cells_from force.entry.now (0, 0) (kept_in part.entry.now 0) }
     {
         CellWalk {
-            alloc,
             force,
             records: SheetRecords::new(part),
             at: (0, 0),
@@ -85,11 +81,10 @@ impl<'c> CellWalk<'c> {
 
     /// No cells.
     #[tactic(auto, using(crate::proofs::WalkLemmas::kept_nothing))]
-    pub(crate) fn none(alloc: Global, force: &'c InForce<'c>) -> CellWalk<'c>
+    pub(crate) fn none(force: &'c InForce<'c>) -> CellWalk<'c>
         ensures { result ≡ [] }
     {
         CellWalk {
-            alloc,
             force,
             records: SheetRecords::new(&[]),
             at: (0, 0),
@@ -102,7 +97,6 @@ impl<'c> CellWalk<'c> {
         ensures { result ≡ self.now }
     {
         CellWalk {
-            alloc: self.alloc,
             force: self.force,
             records: self.records.again(),
             at: self.at,
@@ -122,17 +116,11 @@ impl<'c> Iterator for CellWalk<'c> {
 
     ghost remaining = { λ cells. at_most (length cells) };
 
-    #[inline]
+    #[inline(always)]
     fn next(&mut self) -> Option<SheetCell<'c>> {
         if let Some(cell) = self.run.next() {
             return Some(cell);
         }
-        next_cell(
-            self.alloc,
-            &mut self.records,
-            &mut self.at,
-            &mut self.run,
-            self.force,
-        )
+        next_cell(&mut self.records, &mut self.at, &mut self.run, self.force)
     }
 }

@@ -2,9 +2,9 @@ use Rattle.std.proofs.lemmas.Result.{err_from_is_err_and}
 use Rattle.xls_strings.specs.Texts.{text_of}
 use Rattle.xls_formula.specs.Fold.{formula_text}
 use Rattle.xls_formula.specs.buffer.Put.{one_text}
-use Rattle.xls_formula.specs.buffer.Scopes.{context_of}
+use Rattle.xls_formula.specs.Holding.{context_of}
 use Rattle.xls_formula.proofs.Rendering.{refused, read_whole}
-use Rattle.xls_formula.proofs.PutLemmas.{gives_along}
+use Rattle.xls_formula.proofs.WalkLemmas.{gives_along}
 use Rattle.xls_formula.proofs.parse.text_in_scope.Goals as goal
 
 pub returns-in_err-put_tokens : goal.returns-in_err-put_tokens

@@ -6,5 +6,5 @@ use Rattle.xls_view.proofs.cells.in_order.Goals as goal
 
 pub returns : goal.returns
 returns c =
-    sorted_seen (value_at c.args.force.now c.args.part.now) c.in_ok-places.places.items c.in_ok-sorted.sorted.items c.in_ok-sorted.ensures.ascending c.in_ok-sorted.ensures.last
+    sorted_seen (value_at c.args.force.now c.args.part.now) c.in_ok-places.places c.settled.result c.settled.ensures.ascending c.settled.ensures.last
     ∙ ap settled c.in_ok-places.ensures

@@ -22,7 +22,7 @@ returns-in-Err c =
     let s = c.args.force.now in
     let steps = rw c.in-Err.is at c.in-Some.ensures.steps in
     let none = no_cells s l.item-iterator l.last (cut_sound s l.item-iterator c.in-Err.field-0 l.invariant.2 steps.0) in
-    sym (l.invariant.4 ∙ ap (λ (es : List Entry). map (cell_placed s c.args.part.now) l.places.items ++ es) none ∙ append-nil (map (cell_placed s c.args.part.now) l.places.items))
+    sym (l.invariant.4 ∙ ap (λ (es : List Entry). map (cell_placed s c.args.part.now) l.places ++ es) none ∙ append-nil (map (cell_placed s c.args.part.now) l.places))
 
 pub loop-item-preserved : goal.loop-item-preserved
 loop-item-preserved c =
@@ -43,11 +43,11 @@ loop-item-preserved c =
       sound_next s l.item-iterator g c.next.new.self l.invariant.2 steps.0,
       tail_after part front l.item-iterator.0 l.item-iterator.1 g c.next.new.self.0 c.next.new.self.1 l.invariant.3.1 steps.0,
       l.invariant.4
-          ∙ ap (λ (es : List Entry). map (cell_placed s part) l.places.items ++ es)
+          ∙ ap (λ (es : List Entry). map (cell_placed s part) l.places ++ es)
           (cells_next s l.item-iterator g c.next.new.self l.invariant.2 steps.0 l.last c.unwrap_or-last.result cells
           (λ x e. ap (λ (y : SheetRecord). (adds s.formulas l.last y).cells) (same_ok line.0 x (sym line.1 ∙ e)))
           (λ x e. c.unwrap_or-last.ensures ∙ ap (λ (o : Option Position). unwrap_or o l.last) (c.formula_position.ensures s.cells x e)))
-          ∙ sym (append_assoc (map (cell_placed s part) l.places.items) cells rest)
+          ∙ sym (append_assoc (map (cell_placed s part) l.places) cells rest)
           ∙ ap (λ (es : List Entry). es ++ rest) (sym (c.in_ok-push_cells.ensures line.0 part line.1 here)),
     )
 
@@ -56,4 +56,4 @@ returns c =
     let l = c.loop-item in
     let s = c.args.force.now in
     let none = no_cells s l.item-iterator l.last (over_sound s l.item-iterator l.invariant.2 c.in-None.ensures.steps.0) in
-    sym (l.invariant.4 ∙ ap (λ (es : List Entry). map (cell_placed s c.args.part.now) l.places.items ++ es) none ∙ append-nil (map (cell_placed s c.args.part.now) l.places.items))
+    sym (l.invariant.4 ∙ ap (λ (es : List Entry). map (cell_placed s c.args.part.now) l.places ++ es) none ∙ append-nil (map (cell_placed s c.args.part.now) l.places))

@@ -12,4 +12,4 @@ invariant-loop-item l =
     IsSound l.force l.item-iterator ×
     ((front : List ℕ) × (l.part ≡ front ++ l.item-iterator.0)) ×
     (cells_from l.force (0, 0) (kept_in l.part 0)
-    ≡ map (cell_placed l.force l.part) l.places.items ++ cells_from l.force l.last (kept_in l.item-iterator.0 l.item-iterator.1))
+    ≡ map (cell_placed l.force l.part) l.places ++ cells_from l.force l.last (kept_in l.item-iterator.0 l.item-iterator.1))

@@ -6,5 +6,5 @@ use Rattle.xls_view.proofs.formulas.in_order.Goals as goal
 
 pub returns : goal.returns
 returns c =
-    sorted_seen (tokens_at c.args.part.now) c.in_ok-places.places.items c.in_ok-sorted.sorted.items c.in_ok-sorted.ensures.ascending c.in_ok-sorted.ensures.last
+    sorted_seen (tokens_at c.args.part.now) c.in_ok-places.places c.settled.result c.settled.ensures.ascending c.settled.ensures.last
     ∙ ap settled c.in_ok-places.ensures

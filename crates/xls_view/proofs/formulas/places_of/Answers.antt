@@ -20,7 +20,7 @@ returns-in-Err c =
     let l = c.loop-item in
     let steps = rw c.in-Err.is at c.in-Some.ensures.steps in
     let none = none_cut formulas_of refl l.item-iterator c.in-Err.field-0 l.invariant.2 steps.0 in
-    sym (l.invariant.4 ∙ ap (λ (fs : List Formula). map (formula_placed c.args.part.now) l.places.items ++ fs) none ∙ append-nil (map (formula_placed c.args.part.now) l.places.items))
+    sym (l.invariant.4 ∙ ap (λ (fs : List Formula). map (formula_placed c.args.part.now) l.places ++ fs) none ∙ append-nil (map (formula_placed c.args.part.now) l.places))
 
 pub overflow_sub-part : goal.overflow_sub-part
 overflow_sub-part c =
@@ -47,15 +47,15 @@ loop-item-preserved c =
       left_bytes l.item-iterator g c.next.new.self l.invariant.2 steps.0,
       tail_after part front l.item-iterator.0 l.item-iterator.1 g c.next.new.self.0 c.next.new.self.1 l.invariant.3.1 steps.0,
       l.invariant.4
-          ∙ ap (λ (fs : List Formula). map seen l.places.items ++ fs) (formulas_next l.item-iterator g c.next.new.self l.invariant.2 steps.0 (formula_of (kept_group g)) refl)
-          ∙ sym (append_assoc (map seen l.places.items) more rest)
+          ∙ ap (λ (fs : List Formula). map seen l.places ++ fs) (formulas_next l.item-iterator g c.next.new.self l.invariant.2 steps.0 (formula_of (kept_group g)) refl)
+          ∙ sym (append_assoc (map seen l.places) more rest)
           ∙ ap (λ (fs : List Formula). fs ++ rest)
-          (sym (ap (map seen) c.in_ok-push_formula.ensures ∙ map-append seen l.places.items _
-          ∙ ap (λ (fs : List Formula). map seen l.places.items ++ fs) (formulas_placed part _ (kept_group g) here))),
+          (sym (ap (map seen) c.in_ok-push_formula.ensures ∙ map-append seen l.places _
+          ∙ ap (λ (fs : List Formula). map seen l.places ++ fs) (formulas_placed part _ (kept_group g) here))),
     )
 
 pub returns : goal.returns
 returns c =
     let l = c.loop-item in
     let none = none_over formulas_of refl l.item-iterator l.invariant.2 c.in-None.ensures.steps.0 in
-    sym (l.invariant.4 ∙ ap (λ (fs : List Formula). map (formula_placed c.args.part.now) l.places.items ++ fs) none ∙ append-nil (map (formula_placed c.args.part.now) l.places.items))
+    sym (l.invariant.4 ∙ ap (λ (fs : List Formula). map (formula_placed c.args.part.now) l.places ++ fs) none ∙ append-nil (map (formula_placed c.args.part.now) l.places))

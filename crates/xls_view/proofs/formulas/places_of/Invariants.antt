@@ -12,4 +12,4 @@ invariant-loop-item l =
     (goal.iterator-loop-item).is_finite l.item-iterator ×
     IsBytes l.item-iterator.0 ×
     ((front : List ℕ) × (l.part ≡ front ++ l.item-iterator.0)) ×
-    (formulas_of (kept_in l.part 0) ≡ map (formula_placed l.part) l.places.items ++ formulas_of (kept_in l.item-iterator.0 l.item-iterator.1))
+    (formulas_of (kept_in l.part 0) ≡ map (formula_placed l.part) l.places ++ formulas_of (kept_in l.item-iterator.0 l.item-iterator.1))

@@ -9,7 +9,7 @@ use Rattle.xls_view.proofs.PlaceLemmas.{run_is, run_places}
 use Rattle.xls_view.proofs.places.push_run.Goals as goal
 
 pub loop-i-init : goal.loop-i-init
-loop-i-init c = sym (append-nil c.args.places.now.items)
+loop-i-init c = sym (append-nil c.args.places.now)
 
 pub loop-i-preserved : goal.loop-i-preserved
 loop-i-preserved c =
@@ -18,10 +18,10 @@ loop-i-preserved c =
     let place : ℕ → Place = λ i. ((le (take 2 body), first_column body + i), c.args.at) in
     let zero_add : 0 + l.i ≡ l.i = omega arith in
     c.in_ok-push_place.ensures
-    ∙ ap (λ (p : ℕ × ℕ). l.places.items ++ (p, c.args.at) ∷ []) c.run_position.ensures
+    ∙ ap (λ (p : ℕ × ℕ). l.places ++ (p, c.args.at) ∷ []) c.run_position.ensures
     ∙ ap (λ (ps : List Place). ps ++ place l.i ∷ []) l.invariant
-    ∙ append_assoc c.args.places.now.items (map place (range_with_len 0 l.i)) (place l.i ∷ [])
-    ∙ ap (λ (ps : List Place). c.args.places.now.items ++ ps) (sym (map-range_with_len_more place 0 l.i l.i zero_add))
+    ∙ append_assoc c.args.places.now (map place (range_with_len 0 l.i)) (place l.i ∷ [])
+    ∙ ap (λ (ps : List Place). c.args.places.now ++ ps) (sym (map-range_with_len_more place 0 l.i l.i zero_add))
 
 pub returns : goal.returns
 returns c = λ cells h.
@@ -31,5 +31,5 @@ returns c = λ cells h.
     let count : c.loop-i.i ≡ c.in-Ok.count = omega (arith, c.loop-i.auto.i-end, c.loop-i-test.false) in
     let is = run_is f (mul_rk_count body) c.in-Ok.count cells c.in-Ok.ensures.exact h in
     c.loop-i.invariant
-    ∙ ap (λ (n : ℕ). c.args.places.now.items ++ map {B = Place} (λ (i : ℕ). ((le (take 2 body), first_column body + i), c.args.at)) (range_with_len 0 n)) count
-    ∙ ap (λ (ps : List Place). c.args.places.now.items ++ ps) (sym (run_places f c.args.at c.in-Ok.count cells is))
+    ∙ ap (λ (n : ℕ). c.args.places.now ++ map {B = Place} (λ (i : ℕ). ((le (take 2 body), first_column body + i), c.args.at)) (range_with_len 0 n)) count
+    ∙ ap (λ (ps : List Place). c.args.places.now ++ ps) (sym (run_places f c.args.at c.in-Ok.count cells is))

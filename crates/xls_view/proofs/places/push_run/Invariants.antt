@@ -7,4 +7,4 @@ use Rattle.xls_view.proofs.places.push_run.Given as goal
 -- the places so far
 abbrev pub invariant-loop-i : goal.invariant-loop-i
 invariant-loop-i l =
-    l.places.items ≡ l.fn.places.items ++ map {B = (ℕ × ℕ) × ℕ} (λ (i : ℕ). ((le (take 2 l.body), first_column l.body + i), l.at)) (range_with_len 0 l.i)
+    l.places ≡ l.fn.places ++ map {B = (ℕ × ℕ) × ℕ} (λ (i : ℕ). ((le (take 2 l.body), first_column l.body + i), l.at)) (range_with_len 0 l.i)

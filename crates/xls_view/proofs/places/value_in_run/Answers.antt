@@ -23,7 +23,7 @@ returns c = λ cells h.
     let f = rk_cell s.classes s.is_1904 body in
     let is = run_is f (mul_rk_count body) c.in-Ok.count cells c.in-Ok.ensures.exact h in
     let nth = c.saturating_sub-nth.ensures ∙ ap (λ (n : ℕ). c.args.column - n) c.first_column.ensures.column in
-    let cell = c.read_cell.ensures ∙ c.cell_of_mul_rk-cell.ensures
+    let cell = c.read_mul_rk-value.ensures
     ∙ ap (λ (x : InForce). rk_cell x.cells.classes x.cells.is_1904 body c.saturating_sub-nth.result) c.force.view_is in
     let zero : 0 + (c.args.column - first_column body) ≡ c.saturating_sub-nth.result = omega (arith, nth) in
     ap (λ (x : Entry). Some x.1) cell

@@ -4,7 +4,8 @@ use Rattle.std.specs.String.{string_bytes, string_len}
 use Rattle.xls_formula.specs.declared.buffer.Leaf.{Leaf}
 use Rattle.xls_formula.specs.buffer.Leaves.{texts_of, AreOperands}
 use Rattle.xls_formula.specs.buffer.Pieces.{with_suffix}
-use Rattle.xls_formula.specs.buffer.Printed.{word_text}
+use Rattle.xls_formula.specs.Holding.{tree_of}
+use Rattle.xls_formula.specs.Tree.{render}
 use Rattle.xls_formula.proofs.LeafLemmas.{IsLonger, leaf_within}
 use Rattle.xls_formula.proofs.OperandLemmas.{length-texts_of, leaf_there, suffixed_operands, suffixed_texts}
 use Rattle.xls_formula.proofs.TextLemmas.{IsAdded, added_text, longer_text}
@@ -19,7 +20,7 @@ overflow_sub-last c =
 
 pub overflow_sub-len : goal.overflow_sub-len
 overflow_sub-len c =
-    let added : IsAdded (string_bytes c.self.inside.text) (string_bytes c.push_word.new.out) (word_text c.args.word) = added_text c.self.inside.text c.push_word.new.out (word_text c.args.word) c.in-Ok.ensures in
+    let added : IsAdded (string_bytes c.self.inside.text) (string_bytes c.push_word.new.out) (render (tree_of c.args.word)) = added_text c.self.inside.text c.push_word.new.out (render (tree_of c.args.word)) c.in-Ok.ensures in
     let long : string_len c.push_word.new.out ≡ string_len c.self.inside.text + length added.bytes = longer_text c.self.inside.text c.push_word.new.out added.bytes added.is in
     omega (arith, c.len.ensures, c.len-before.ensures)
 
@@ -35,7 +36,7 @@ overflow_add-index_mut c =
     let n : length c.args.self.now ≡ length c.self.inside.starts.items = sym (ap length c.self.view_is) ∙ length-texts_of c.self.inside.fronts (string_bytes c.self.inside.text) c.self.inside.leaves.items c.self.inside.starts.items in
     let some : 0 < length c.self.inside.starts.items = omega (arith, c.requires) in
     let there : 0 < length c.self.inside.leaves.items = leaf_there c.self.inside.fronts (string_bytes c.self.inside.text) c.self.inside.leaves.items c.self.inside.starts.items some c.self.invariant in
-    let added : IsAdded (string_bytes c.self.inside.text) (string_bytes c.push_word.new.out) (word_text c.args.word) = added_text c.self.inside.text c.push_word.new.out (word_text c.args.word) c.in-Ok.ensures in
+    let added : IsAdded (string_bytes c.self.inside.text) (string_bytes c.push_word.new.out) (render (tree_of c.args.word)) = added_text c.self.inside.text c.push_word.new.out (render (tree_of c.args.word)) c.in-Ok.ensures in
     let long : string_len c.push_word.new.out ≡ string_len c.self.inside.text + length added.bytes = longer_text c.self.inside.text c.push_word.new.out added.bytes added.is in
     let within : c.index_mut.result.now.len ≤ length (string_bytes c.self.inside.text) = leaf_within (string_bytes c.self.inside.text) c.self.inside.leaves.items (c.len-last.result - 1) c.index_mut.result.now (omega (arith, c.len-last.ensures, c.self.inside.leaves.ok.0)) c.index_mut.ensures.value c.self.invariant.whole in
     omega (arith, within, long, c.len.ensures, c.len-before.ensures, c.self.inside.text.bytes.ok.0, c.push_word.new.out.bytes.ok.0, c.push_word.new.out.bytes.ok.1, c.push_word.new.out.bytes.small)
@@ -45,7 +46,7 @@ invariant_of-self c =
     let n : length c.args.self.now ≡ length c.self.inside.starts.items = sym (ap length c.self.view_is) ∙ length-texts_of c.self.inside.fronts (string_bytes c.self.inside.text) c.self.inside.leaves.items c.self.inside.starts.items in
     let some : 0 < length c.self.inside.starts.items = omega (arith, c.requires) in
     let there : 0 < length c.self.inside.leaves.items = leaf_there c.self.inside.fronts (string_bytes c.self.inside.text) c.self.inside.leaves.items c.self.inside.starts.items some c.self.invariant in
-    let added : IsAdded (string_bytes c.self.inside.text) (string_bytes c.push_word.new.out) (word_text c.args.word) = added_text c.self.inside.text c.push_word.new.out (word_text c.args.word) c.in-Ok.ensures in
+    let added : IsAdded (string_bytes c.self.inside.text) (string_bytes c.push_word.new.out) (render (tree_of c.args.word)) = added_text c.self.inside.text c.push_word.new.out (render (tree_of c.args.word)) c.in-Ok.ensures in
     let long : string_len c.push_word.new.out ≡ string_len c.self.inside.text + length added.bytes = longer_text c.self.inside.text c.push_word.new.out added.bytes added.is in
     let last : ℕ = c.len-last.result - 1 in
     let leaf : Leaf = record { front = c.index_mut.result.now.front; len = c.index_mut.result.now.len + (c.len.result - c.len-before.result) } in
@@ -58,7 +59,7 @@ returns-in-Ok c =
     let n : length c.args.self.now ≡ length c.self.inside.starts.items = sym (ap length c.self.view_is) ∙ length-texts_of c.self.inside.fronts (string_bytes c.self.inside.text) c.self.inside.leaves.items c.self.inside.starts.items in
     let some : 0 < length c.self.inside.starts.items = omega (arith, c.requires) in
     let there : 0 < length c.self.inside.leaves.items = leaf_there c.self.inside.fronts (string_bytes c.self.inside.text) c.self.inside.leaves.items c.self.inside.starts.items some c.self.invariant in
-    let added : IsAdded (string_bytes c.self.inside.text) (string_bytes c.push_word.new.out) (word_text c.args.word) = added_text c.self.inside.text c.push_word.new.out (word_text c.args.word) c.in-Ok.ensures in
+    let added : IsAdded (string_bytes c.self.inside.text) (string_bytes c.push_word.new.out) (render (tree_of c.args.word)) = added_text c.self.inside.text c.push_word.new.out (render (tree_of c.args.word)) c.in-Ok.ensures in
     let long : string_len c.push_word.new.out ≡ string_len c.self.inside.text + length added.bytes = longer_text c.self.inside.text c.push_word.new.out added.bytes added.is in
     let last : ℕ = c.len-last.result - 1 in
     let leaf : Leaf = record { front = c.index_mut.result.now.front; len = c.index_mut.result.now.len + (c.len.result - c.len-before.result) } in
@@ -66,4 +67,4 @@ returns-in-Ok c =
     ap (λ (x : List ℕ). texts_of c.self.inside.fronts x (set c.self.inside.leaves.items last leaf) c.self.inside.starts.items) added.is
     ∙ (suffixed_texts c.self.inside.fronts (string_bytes c.self.inside.text) added.bytes c.self.inside.leaves.items last c.index_mut.result.now leaf c.self.inside.starts.items (omega (arith, c.len-last.ensures, c.self.inside.leaves.ok.0)) c.index_mut.ensures.value longer some c.self.invariant
     ∙ (ap (λ (x : List ℕ). with_suffix x (texts_of c.self.inside.fronts (string_bytes c.self.inside.text) c.self.inside.leaves.items c.self.inside.starts.items)) added.spells
-    ∙ ap (with_suffix (word_text c.args.word)) c.self.view_is))
+    ∙ ap (with_suffix (render (tree_of c.args.word))) c.self.view_is))

@@ -1,5 +1,5 @@
 use Rattle.xls_open.specs.CheckSteps.{under}
-use Rattle.xls_open.proofs.CheckGlobalsLemmas.{CheckedSoFar}
+use Rattle.xls_open.proofs.GlobalsLemmas.{CheckedSoFar}
 use Rattle.xls_open.proofs.check.globals.check_globals.Given as goal
 
 abbrev pub invariant-loop-record : goal.invariant-loop-record

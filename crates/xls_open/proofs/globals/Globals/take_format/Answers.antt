@@ -1,15 +1,13 @@
-use Rattle.xls_open.proofs.FollowLemmas.{format_taken, format_passed}
+use Rattle.xls_open.proofs.RecordLemmas.{format_taken, format_passed}
 use Rattle.xls_open.proofs.globals.Globals.take_format.Goals as goal
 
 pub returns-in_ok-push-in-Ok : goal.returns-in_ok-push-in-Ok
 returns-in_ok-push-in-Ok c =
     rw (c.in_ok-push-in-Ok.ensures.items, ← c.self.view_is)
-    (format_taken c.args.r.now.typ c.args.r.now.body.now _ _ c.in-Ok.format c.in-Ok.ensures)
+    (λ body g h. format_taken _ body g _ c.in-Ok.format c.in-Ok.ensures h)
 
-pub returns-in-Err : goal.returns-in-Err
-returns-in-Err c = tt
-
+-- refused, and not for want of memory
 pub returns-in-Err-2 : goal.returns-in-Err-2
 returns-in-Err-2 c =
     rw (← c.self.view_is)
-    (format_passed c.args.r.now.typ c.args.r.now.body.now _ _ c.in-Err.error c.in-Err.ensures (λ m. let t = c.is_memory.ensures.1 m in let f = c.if-is_memory.false in cc))
+    (λ body g h. format_passed _ body g _ c.in-Err.error c.in-Err.ensures (λ m. let t = c.is_memory.ensures.1 m in let f = c.if-is_memory.false in cc) h)

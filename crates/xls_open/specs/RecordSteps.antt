@@ -1,0 +1,53 @@
+-- What a record of the globals that is read without memory stands for, for the proofs.
+use Rattle.std.specs.Prelude.{◌≡◌, ℕ, List, Option, Some, None, unwrap_or, length, Result, Ok, Err}
+use Rattle.xls_text.specs.declared.encoding.XlsEncoding.{XlsEncoding}
+use Rattle.xls_model.specs.Listing.{Shared, IsShared}
+use Rattle.xls_data.specs.Sheets.{SheetContent}
+use Rattle.xls_strings.specs.declared.error.XlsError.{XlsError}
+use Rattle.xls_strings.specs.declared.version.Biff.{Biff}
+use Rattle.xls_strings.specs.Reading.{gives}
+use Rattle.xls_biff.specs.Walking.{group_of}
+use Rattle.xls_biff.specs.Records.BoundSheet.{bound_sheet_at}
+use Rattle.xls_biff.specs.Records.ExternSheet.{refs_at}
+use Rattle.xls_biff.specs.Records.Format.{format_at}
+use Rattle.xls_formula.specs.Defined.{lbl_at}
+use Rattle.xls_reading.specs.GlobalsTable.{other_record, version_record, page_record, date_record, xf_record, references_record, name_record, strings_record, sheet_record, unless_refused, texts_of, Line, fault_of}
+use Rattle.xls_reading.specs.GlobalsTable as table
+use Rattle.xls_open.specs.Steps.{State, after}
+use Rattle.xls_open.specs.declared.globals_record.GlobalsRecord.{GlobalsRecord}
+use Rattle.xls_open.specs.declared.globals_record.GlobalsRecord.TheVariants as read
+
+-- a record of this body, read so, is this line of the table, under a page and a version
+abbrev pub Stands : XlsEncoding → Biff → List ℕ → GlobalsRecord → Line → Type 0
+Stands page version body read.Other line = line ≡ Ok other_record
+Stands page version body (read.Version v) line = line ≡ Ok (version_record v)
+Stands page version body (read.Page p) line = line ≡ Ok (page_record p)
+Stands page version body (read.Date b) line = line ≡ Ok (date_record b)
+Stands page version body (read.Format r) line = line ≡ unless_refused (format_at page version r.now.body.now)
+Stands page version body (read.Xf n) line = line ≡ Ok (xf_record n)
+Stands page version body (read.References r) line = line ≡ gives references_record (refs_at version r.now.body.now)
+Stands page version body (read.Name r) line = line ≡ gives name_record (lbl_at page version r.now.body.now)
+Stands page version body (read.Table r) line =
+    (shared : Shared) × IsShared (group_of r.now) shared
+    × (line ≡ gives strings_record (texts_of (length r.now.body.now) shared))
+Stands page version body (read.Sheet r) line =
+    (body ≡ r.now.body.now)
+    × (line ≡ gives (λ (q : ℕ × SheetContent). sheet_record q.1) (bound_sheet_at page version r.now.body.now))
+
+-- what was read of a record is its line, which has no fault; or it is the line's fault
+abbrev pub ReadsLine : XlsEncoding → Biff → List ℕ → Line → Result GlobalsRecord XlsError → Type 0
+ReadsLine page version body line (Ok g) = (fault_of line ≡ None) × Stands page version body g line
+ReadsLine page version body line (Err e) = line ≡ Err e
+
+-- the version that it tells, and the version after it
+abbrev pub version_told : GlobalsRecord → Option Biff
+version_told (read.Version v) = Some v
+version_told x = None
+
+abbrev pub version_by : GlobalsRecord → Biff → Biff
+version_by x version = unwrap_or (version_told x) version
+
+-- what it gives was kept
+abbrev pub IsTaken : State → GlobalsRecord → State → Type 0
+IsTaken s x t = (body : List ℕ) (g : table.GlobalsRecord)
+    → Stands s.page s.version body x (Ok g) → t ≡ after s body g

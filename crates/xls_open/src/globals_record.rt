@@ -1,0 +1,100 @@
+//! A record of the globals, read without memory.
+
+ghost use Rattle.std.specs.Prelude.{◌≡◌, ℕ, true, length};
+ghost use Rattle.xls_text.specs.declared.encoding.XlsEncoding.{XlsEncoding};
+ghost use Rattle.xls_model.specs.Listing.{Shared, IsShared, is_plain_type};
+ghost use Rattle.xls_model.specs.declared.types.TheConstants as types;
+ghost use Rattle.xls_data.specs.Sheets.{SheetContent};
+ghost use Rattle.xls_strings.specs.Reading.{gives};
+ghost use Rattle.xls_biff.specs.Walking.{group_of};
+ghost use Rattle.xls_biff.specs.Records.BoundSheet.{bound_sheet_at};
+ghost use Rattle.xls_biff.specs.Records.CodePage.{code_page_at};
+ghost use Rattle.xls_biff.specs.Records.ExternSheet.{refs_at};
+ghost use Rattle.xls_formula.specs.Defined.{lbl_at};
+ghost use Rattle.xls_reading.specs.GlobalsTable.{page_record, references_record, name_record, strings_record, sheet_record, texts_of, unless_forced, plain_record_at};
+ghost use Rattle.xls_open.specs.RecordSteps.{ReadsLine, version_by};
+
+use xls_biff::{
+    Biff, Record, XlsError, check_extern_sheet, check_sheet_metadata, parse_bof, parse_code_page,
+    parse_date_mode, parse_file_pass, parse_xf, skip_sst,
+};
+use xls_formula::check_lbl;
+use xls_model::types::{
+    BOF, BOUND_SHEET_8, CODE_PAGE, DATE_MODE, EXTERN_SHEET, FILE_PASS, FORMAT, LBL, SST, XF,
+};
+use xls_text::XlsEncoding;
+
+/// A record of the globals that has no fault. What takes memory to be read is left in its record.
+#[derive(Clone, Copy)]
+pub(crate) enum GlobalsRecord<'a> {
+    /// It gives nothing.
+    Other,
+    Version(Biff),
+    Page(XlsEncoding),
+    /// Whether it sets the date system of 1904.
+    Date(bool),
+    /// A Format, which its reader may refuse.
+    Format(&'a Record<'a>),
+    /// The format identifier of an XF.
+    Xf(u16),
+    References(&'a Record<'a>),
+    Name(&'a Record<'a>),
+    Table(&'a Record<'a>),
+    Sheet(&'a Record<'a>),
+}
+
+impl GlobalsRecord<'_> {
+    /// The version in force after this record.
+    pub(crate) fn version_after(&self, biff: Biff) -> Biff
+        ensures { result ≡ version_by self.now biff }
+    {
+        match self {
+            GlobalsRecord::Version(told) => *told,
+            _ => biff,
+        }
+    }
+}
+
+/// What a record of the globals is under a version and a forced page, or its fault. A CodePage has none
+/// under a forced page, and a Format that its reader refuses is none.
+pub(crate) fn read_globals_record<'a>(
+    r: &'a Record<'a>,
+    biff: Biff,
+    forced: Option<u16>,
+) -> Result<GlobalsRecord<'a>, XlsError>
+    ensures plain { is_plain_type r.now.typ ≡ true → (page : XlsEncoding)
+        → ReadsLine page biff r.now.body.now (plain_record_at forced page biff r.now.typ r.now.body.now) result }
+    ensures table { r.now.typ ≡ types.SST → (page : XlsEncoding) (shared : Shared) → IsShared (group_of r.now) shared
+        → ReadsLine page biff r.now.body.now (gives strings_record (texts_of (length r.now.body.now) shared)) result }
+    ensures sheet { r.now.typ ≡ types.BOUND_SHEET_8 → (page : XlsEncoding)
+        → ReadsLine page biff r.now.body.now (gives (λ (q : ℕ × SheetContent). sheet_record q.1) (bound_sheet_at page biff r.now.body.now)) result }
+{
+    match r.typ {
+        BOF => Ok(GlobalsRecord::Version(parse_bof(r)?.biff)),
+        FILE_PASS => {
+            parse_file_pass(r)?;
+            Ok(GlobalsRecord::Other)
+        }
+        CODE_PAGE if forced.is_none() => Ok(GlobalsRecord::Page(parse_code_page(r)?)),
+        DATE_MODE => Ok(GlobalsRecord::Date(parse_date_mode(r)?)),
+        FORMAT => Ok(GlobalsRecord::Format(r)),
+        XF => Ok(GlobalsRecord::Xf(parse_xf(r)?)),
+        EXTERN_SHEET => {
+            check_extern_sheet(r, biff)?;
+            Ok(GlobalsRecord::References(r))
+        }
+        LBL => {
+            check_lbl(r, biff)?;
+            Ok(GlobalsRecord::Name(r))
+        }
+        SST => {
+            skip_sst(r)?;
+            Ok(GlobalsRecord::Table(r))
+        }
+        BOUND_SHEET_8 => {
+            check_sheet_metadata(r, biff)?;
+            Ok(GlobalsRecord::Sheet(r))
+        }
+        _ => Ok(GlobalsRecord::Other),
+    }
+}
