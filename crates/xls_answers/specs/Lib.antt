@@ -1,4 +1,5 @@
-pub mod Failures
-pub mod Views
-pub mod Sheets
 pub mod Answers
+pub mod Failures
+pub mod Sheets
+pub mod Texts
+pub mod Views

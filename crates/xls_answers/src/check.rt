@@ -1,6 +1,5 @@
 //! Whether a stream has a fault.
 
-ghost use Rattle.std.specs.Prelude.{◌≡◌};
 ghost use Rattle.xls_answers.specs.Answers.{OfCheck};
 
 use crate::failure::Failure;

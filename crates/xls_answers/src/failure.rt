@@ -2,6 +2,7 @@
 
 ghost use Rattle.std.specs.Prelude.{◌≡◌};
 ghost use Rattle.xls_answers.specs.Failures.{failure_of_fault, failure_of_lay, failure_of_stream, status_of};
+ghost use Rattle.xls_answers.specs.Texts.{page_name};
 ghost use Rattle.xls_answers.specs.declared.failure.Failure.TheVariants.{Stopped};
 ghost use Rattle.xls_lines.specs.declared.stop.Stop.TheVariants.{Memory};
 
@@ -61,7 +62,10 @@ impl Failure {
 }
 
 /// The name of a page that isn't read, where it is a known one.
-fn page_name(page: u16) -> &'static str {
+#[tactic(auto, unfolding(crate::specs::Texts::page_name))]
+fn page_name(page: u16) -> &'static str
+    ensures { result.now ≡ page_name page }
+{
     match page {
         437 => " (MS-DOS, United States)",
         850 => " (MS-DOS, Western Europe)",
@@ -85,6 +89,11 @@ fn page_name(page: u16) -> &'static str {
 }
 
 impl fmt::Display for Missing {
+    ghost use Rattle.std.specs.Prelude.{Some};
+    ghost use Rattle.xls_answers.specs.Texts.{missing_text};
+
+    ghost output = { λ sheet. Some (missing_text sheet) };
+
     fn fmt<W: fmt::Write>(&self, f: &mut fmt::Formatter<W>) -> fmt::Result {
         match self {
             Missing::Name(name) => write!(f, "Worksheet '{name}' not found"),
@@ -95,6 +104,11 @@ impl fmt::Display for Missing {
 }
 
 impl fmt::Display for Failure {
+    ghost use Rattle.std.specs.Prelude.{Some};
+    ghost use Rattle.xls_answers.specs.Texts.{failure_text};
+
+    ghost output = { λ failure. Some (failure_text failure) };
+
     fn fmt<W: fmt::Write>(&self, f: &mut fmt::Formatter<W>) -> fmt::Result {
         match self {
             Failure::File(fault) => write!(f, "{fault}"),

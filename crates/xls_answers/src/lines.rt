@@ -1,6 +1,5 @@
 //! The lines of a workbook.
 
-ghost use Rattle.std.specs.Prelude.{◌≡◌};
 ghost use Rattle.xls_listing.specs.Listing.{IsShownLine};
 ghost use Rattle.xls_pieces.specs.Each.{DeliversEach};
 ghost use Rattle.xls_answers.specs.Views.{AreLines, BeginLines, MissesNone, OfView, listed};

@@ -1,7 +1,6 @@
 //! How the workbooks of files are read.
 
-ghost use Rattle.std.specs.Prelude.{◌≡◌, IfOk, true, if◌then◌else◌};
-ghost use Rattle.xls_open.specs.Opening.{default_options};
+ghost use Rattle.std.specs.Prelude.{◌≡◌, IfOk};
 ghost use Rattle.xls_answers.specs.Views.{options_under};
 
 use std::alloc::{AllocError, Global};

@@ -1,6 +1,5 @@
 //! The canonical stream of a workbook, and the stream as it stands.
 
-ghost use Rattle.std.specs.Prelude.{◌≡◌};
 ghost use Rattle.xls_lines.specs.Gathering.{Delivers};
 ghost use Rattle.xls_answers.specs.Answers.{OfBytes, OfRemade};
 

@@ -1,7 +1,6 @@
 //! What is written of a workbook's stream, and of a file.
 
 ghost use Rattle.std.specs.Prelude.{◌≡◌};
-ghost use Rattle.xls_words.specs.Requests.{IsNumbered};
 ghost use Rattle.xls_answers.specs.Answers.{HasNumber, OfFile, OfReadable, OfStream};
 ghost use Rattle.xls_report.specs.Report.{report};
 ghost use Rattle.xls_answers.specs.Views.{MissesNone, OfView};

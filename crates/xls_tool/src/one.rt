@@ -1,6 +1,6 @@
 //! One file by itself.
 
-ghost use Rattle.std.specs.Prelude.{◌≡◌, IfOk};
+ghost use Rattle.std.specs.Prelude.{IfOk};
 ghost use Rattle.xls_tool.specs.Problems.{IsStatus};
 ghost use Rattle.xls_words.specs.Requests as requests;
 

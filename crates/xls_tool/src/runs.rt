@@ -8,10 +8,9 @@ use crate::host::{Host, Place, place_of};
 use crate::job::{Job, job_of, takes_many};
 use crate::many::{do_list, do_many};
 use crate::one::do_one;
-use clap::error::ErrorKind;
 use std::alloc::Global;
 use xls_lines::{Sink, Stop, write_all};
-use xls_words::{Command, Files, Request, SheetChoice, request_of};
+use xls_words::{Command, Files, Request, SheetChoice, Shown, request_of};
 
 /// Where there is no folder for the texts, what is wrong with that.
 fn mistake_in(job: &Job<'_>, is_many: bool) -> Option<&'static str> {
@@ -106,24 +105,20 @@ fn do_request<H: Host, K: Sink>(
 }
 
 /// Tells a mistake in the words; writes help or the version.
-fn do_shown<H: Host, K: Sink>(
-    alloc: Global,
-    host: &mut H,
-    out: &mut K,
-    shown: &clap::Error,
-) -> Result<u8, Stop>
+fn do_shown<H: Host, K: Sink>(host: &mut H, out: &mut K, shown: &Shown) -> Result<u8, Stop>
     ensures { IfOk result (Ends out.old out.new) }
 {
-    if shown.kind() == ErrorKind::OutOfMemory {
-        return Err(Stop::Memory);
+    match shown {
+        Shown::Memory => Err(Stop::Memory),
+        Shown::Mistake(text) => {
+            host.say(text.as_str());
+            Ok(2)
+        }
+        Shown::Help(text) => {
+            write_all(out, text.as_bytes())?;
+            Ok(0)
+        }
     }
-    let text = format!(in alloc; "{shown}")?;
-    if shown.use_stderr() {
-        host.say(text.trim_end());
-        return Ok(2);
-    }
-    write_all(out, text.as_bytes())?;
-    Ok(0)
 }
 
 /// The exit status of work that was stopped, which is told.
@@ -151,7 +146,7 @@ pub fn run<H: Host, K: Sink>(alloc: Global, host: &mut H, out: &mut K, words: &[
 {
     let done = match request_of(alloc, words) {
         Ok(request) => do_request(alloc, host, out, request),
-        Err(shown) => do_shown(alloc, host, out, &shown),
+        Err(shown) => do_shown(host, out, &shown),
     };
     status_of(host, done)
 }

@@ -2,9 +2,12 @@
 #![tactic(auto)]
 
 mod parse;
+mod plain;
 mod request;
+mod shown;
 mod word;
 
 pub use parse::{VERSION, request_of};
 pub use request::{Command, Files, Request, SheetChoice, Style, Table};
+pub use shown::Shown;
 pub use word::Word;

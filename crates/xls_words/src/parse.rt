@@ -1,10 +1,14 @@
 //! Words, and what they ask for.
 
-ghost use Rattle.std.specs.Prelude.{◌≡◌, IfOk, IfSome, map};
+ghost use Rattle.std.specs.Prelude.{◌≡◌, ℕ, List, true, IfOk, IfSome, MatchResult, map};
 ghost use Rattle.std.specs.String.{string_bytes};
-ghost use Rattle.xls_words.specs.Requests.{HasNumber, IsAsked, IsNumbered, IsPage, word_of};
+ghost use Rattle.xls_words.specs.Requests.{AreWordsOf, HasNumber, IsAsked, IsNumbered, IsPage, IsPlain, are_plain, word_of};
+ghost use Rattle.xls_words.specs.declared.shown.Shown.TheVariants as shown;
+ghost use Rattle.xls_words.specs.declared.word.Word.{Word};
 
+use crate::plain::{are_plain, plain_request};
 use crate::request::{Command, Files, Request, SheetChoice, Style, Table};
+use crate::shown::{Shown, shown_of};
 use crate::word::{ALL, Word};
 use clap::error::ErrorKind;
 use clap::{Arg, ArgAction, ArgMatches, Error, value_parser};
@@ -380,32 +384,53 @@ fn request_in<'w>(alloc: Global, word: Word, words: &'w [String]) -> Result<Requ
 }
 
 /// Help, the version, or that there are no words.
-fn shown(alloc: Global, words: &[String]) -> Error {
+fn help_of(alloc: Global, words: &[String]) -> Shown {
     let grammar = match overview(alloc) {
         Ok(grammar) => grammar.no_binary_name(true),
-        Err(error) => return Error::from(error),
+        Err(_) => return Shown::Memory,
     };
     match grammar.try_get_matches_from(words) {
-        Ok(_) => Error::from(AllocError),
-        Err(error) => error,
+        Ok(_) => Shown::Memory,
+        Err(error) => shown_of(alloc, &error),
+    }
+}
+
+// What a command's words ask for.
+fn request_for<'w>(alloc: Global, word: Word, words: &'w [String]) -> Result<Request<'w>, Shown>
+    ensures named { IfOk result (λ r. word_of r.command ≡ word) }
+    ensures numbered { IfOk result (λ r. HasNumber r.command) }
+    ensures page { IfOk result (λ r. IfSome r.page IsPage) }
+    ensures plain { are_plain word (map string_bytes words.now) ≡ true
+        → MatchResult result (IsPlain word (map string_bytes words.now)) (λ s. s ≡ shown.Memory) }
+{
+    if are_plain(word, words) {
+        return Ok(plain_request(alloc, word, words)?);
+    }
+    match request_in(alloc, word, words) {
+        Ok(request) => Ok(request),
+        Err(error) => Err(shown_of(alloc, &error)),
     }
 }
 
 /// What the words of a command line ask for, which stand behind the program's name. The first may be a command's
-/// name; else the command is `dump`. The error's text is for the user: a mistake, help or the version.
-pub fn request_of<'w>(alloc: Global, words: &'w [String]) -> Result<Request<'w>, Error>
+/// name; else the command is `dump`. What is shown in place of that is help or the version, or a mistake.
+pub fn request_of<'w>(alloc: Global, words: &'w [String]) -> Result<Request<'w>, Shown>
     ensures named { IfOk result (λ r. IsAsked (map string_bytes words.now) (word_of r.command)) }
     ensures numbered { IfOk result (λ r. HasNumber r.command) }
     ensures page { IfOk result (λ r. IfSome r.page IsPage) }
+
+    // Files alone are read by the command without options, unless memory runs out.
+    ensures plain { (word : Word) (paths : List (List ℕ)) → AreWordsOf word paths (map string_bytes words.now)
+        → are_plain word paths ≡ true → MatchResult result (IsPlain word paths) (λ s. s ≡ shown.Memory) }
 {
     let Some((first, others)) = words.split_first() else {
-        return Err(shown(alloc, words));
+        return Err(help_of(alloc, words));
     };
     match first.as_str() {
-        "-h" | "--help" | "-V" | "--version" => Err(shown(alloc, words)),
+        "-h" | "--help" | "-V" | "--version" => Err(help_of(alloc, words)),
         name => match Word::of(name) {
-            Some(word) => request_in(alloc, word, others),
-            None => request_in(alloc, Word::Dump, words),
+            Some(word) => request_for(alloc, word, others),
+            None => request_for(alloc, Word::Dump, words),
         },
     }
 }
