@@ -7,6 +7,7 @@ pub mod ValueLemmas
 pub mod MeaningLemmas
 pub mod ViewLemmas
 pub mod PlaceLemmas
+pub mod AscentLemmas
 pub mod NameLemmas
 pub mod IndexLemmas
 pub mod BoundsLemmas

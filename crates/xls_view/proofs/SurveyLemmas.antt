@@ -1,5 +1,5 @@
 -- What is found of a record, by its line of the table.
-use Rattle.std.proofs.Common.{◌≡◌, ℕ, ◌≤◌, List, [], ◌∷◌, ◌++◌, map, length, drop, take, refl, sym, ap, subst, ◌∙◌, append_assoc, arith, Bool, true, false, Option, Some, None, Result, Ok, Err}
+use Rattle.std.proofs.Common.{◌≡◌, ℕ, ◌≤◌, ◌<◌, List, [], ◌∷◌, ◌++◌, map, length, drop, take, refl, sym, ap, subst, ◌∙◌, append_assoc, arith, Bool, true, false, Option, Some, None, Result, Ok, Err}
 use Rattle.std.specs.Prelude.{nat_lt, ◌==◌, slice_index}
 use Rattle.std.specs.Option.{option_map}
 use Rattle.std.proofs.lemmas.List.{append-nil, map-append}
@@ -33,7 +33,7 @@ use Rattle.xls_view.specs.Formulas.{Formula, formula_given, formulas_of}
 use Rattle.xls_view.specs.Placing.{IsAscent}
 use Rattle.xls_view.specs.declared.ascent.Ascent.{Ascent}
 use Rattle.xls_view.proofs.TableLemmas.{formulas_by_the_table}
-use Rattle.xls_view.specs.Surveying.{IsCellAt, IsFound, IsSurvey, formula_listed, widened}
+use Rattle.xls_view.specs.Surveying.{IsCellAt, IsFound, IsSurvey, box_found, formula_listed, widened}
 use Rattle.xls_view.specs.declared.survey.FoundCells.{FoundCells}
 use Rattle.xls_view.specs.declared.survey.Survey.{Survey}
 use Rattle.xls_view.proofs.BoundsLemmas.{bounds_last}
@@ -121,10 +121,11 @@ pub found_one : (found : FoundCells) (cells more : List Entry) (p : Position) (v
 found_one found cells more p v e h = rw e h
 
 pub found_with : (found : FoundCells) (cells : List Entry) (p : Position) (v : Content) (b : Option Dimensions)
-    → IsAscent found.ascent (map (λ (c : Entry). c.0) cells ++ p ∷ []) → found.bounds ≡ Some (widened b p) → b ≡ bounds_of cells
-    → IsFound found (cells ++ (p, v) ∷ [])
-found_with found cells p v b a w e =
+    → IsAscent found.ascent (map (λ (c : Entry). c.0) cells ++ p ∷ []) → box_found found ≡ Some (widened b p) → b ≡ bounds_of cells
+    → 0 < found.ascent.count → IsFound found (cells ++ (p, v) ∷ [])
+found_with found cells p v b a w e some =
     record {
+      unbounded = λ z. absurd (omega (arith, z, some));
       ascent = subst (IsAscent found.ascent) (sym (map-append (λ (c : Entry). c.0) cells ((p, v) ∷ []))) a;
       bounds = w ∙ ap (λ (x : Option Dimensions). Some (widened x p)) e ∙ sym (bounds_last cells (p, v));
     }

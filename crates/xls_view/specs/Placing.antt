@@ -1,5 +1,5 @@
 -- The part of a sheet that a view finds, and its cells in order, for the proofs.
-use Rattle.std.specs.Prelude.{◌≡◌, ℕ, List, [], ◌++◌, ◌∷◌, ◌-◌, ◌==◌, if◌then◌else◌, drop, map, slice_get, unwrap_or, true, Option, Some, None}
+use Rattle.std.specs.Prelude.{◌≡◌, ℕ, ◌<◌, ◌+◌, ◌*◌, ◌^◌, List, [], ◌++◌, ◌∷◌, ◌-◌, ◌==◌, if◌then◌else◌, drop, map, slice_get, unwrap_or, true, Option, Some, None}
 use Rattle.xls_cells.specs.Positions.{Position, IsAscending}
 use Rattle.xls_view.specs.declared.ascent.Ascent.{Ascent}
 use Rattle.std.specs.Borrow.{Bor}
@@ -37,14 +37,23 @@ IsPartOf v content formulas (Some part) =
 
 -- ---- positions in order
 
--- no position, or this one is the last of them
-abbrev pub EndsIn : Option Position → List Position → Type 0
-EndsIn None ps = ps ≡ []
-EndsIn (Some p) ps = (front : List Position) × (ps ≡ front ++ p ∷ [])
+-- a position as one number: 32 bits of the row, and then those of the column
+abbrev pub number_of : Position → ℕ
+number_of p = p.0 * 2 ^ 32 + p.1
+
+-- the last of them has this number
+pub record EndsIn (last : ℕ) (ps : List Position) : Type 0 where
+  pub front : List Position
+  pub position : Position
+  pub whole : ps ≡ front ++ position ∷ []
+  pub number : last ≡ number_of position
+  pub column : position.1 < 2 ^ 32
 
 -- what was found of these positions
-abbrev pub IsAscent : Ascent → List Position → Type 0
-IsAscent a ps = EndsIn a.last ps × (a.ascends ≡ true → IsAscending ps)
+pub record IsAscent (a : Ascent) (ps : List Position) : Type 0 where
+  pub none : a.count ≡ 0 → ps ≡ []
+  pub some : 0 < a.count → EndsIn a.last ps
+  pub order : a.ascends ≡ true → IsAscending ps
 
 -- ---- the record at an offset
 

@@ -1,5 +1,5 @@
 -- What a walk over positions finds, for the proofs.
-use Rattle.std.specs.Prelude.{◌≡◌, min, max, List, [], ◌∷◌, map, false, Option, Some, None}
+use Rattle.std.specs.Prelude.{◌≡◌, ◌-◌, ◌^◌, ◌==◌, if◌then◌else◌, min, max, List, [], ◌∷◌, map, false, Option, Some, None}
 use Rattle.xls_cells.specs.Positions.{Position}
 use Rattle.xls_cells.specs.Bounds.{bounds_of}
 use Rattle.xls_data.specs.Content.{Content}
@@ -26,10 +26,24 @@ IsCellAt (Some p) cells = (v : Content) × (cells ≡ (p, v) ∷ [])
 abbrev pub formula_listed : Kept → List Formula
 formula_listed k = somes (formula_of k ∷ [])
 
+-- the box that was found, if there was a cell
+abbrev pub box_found : FoundCells → Option Dimensions
+box_found f =
+    if f.ascent.count == 0 then None
+    else Some (record { start = (f.top, f.left); end = (f.bottom, f.right) })
+
+-- before the first cell each position widens the box to itself
+pub record IsUnbounded (f : FoundCells) : Type 0 where
+  pub top : f.top ≡ 2 ^ 32 - 1
+  pub left : f.left ≡ 2 ^ 32 - 1
+  pub bottom : f.bottom ≡ 0
+  pub right : f.right ≡ 0
+
 -- what was found of these cells
 pub record IsFound (found : FoundCells) (cells : List Entry) : Type 0 where
   pub ascent : IsAscent found.ascent (map (λ (c : Entry). c.0) cells)
-  pub bounds : found.bounds ≡ bounds_of cells
+  pub bounds : box_found found ≡ bounds_of cells
+  pub unbounded : found.ascent.count ≡ 0 → IsUnbounded found
 
 -- what was found of these cells, formulas and regions
 pub record IsSurvey (survey : Survey) (es : List Entry) (fs : List Formula) (rs : List Dimensions) : Type 0 where

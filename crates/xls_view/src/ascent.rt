@@ -1,25 +1,26 @@
 //! Whether positions ascend.
 
-ghost use Rattle.std.specs.Prelude.{◌≡◌, ◌↔◌, ◌++◌, ◌∷◌, [], ℕ, IsTrue, List, true};
-ghost use Rattle.xls_cells.specs.Positions.{Position, Precedes};
-ghost use Rattle.xls_view.specs.Placing.{IsAscent};
+ghost use Rattle.std.specs.Prelude.{◌≡◌, ◌==◌, ◌<◌, ◌^◌, ◌⊎◌, ◌↔◌, ◌++◌, ◌∷◌, [], IsTrue, List};
+ghost use Rattle.xls_cells.specs.Positions.{Position};
+ghost use Rattle.xls_view.specs.Placing.{IsAscent, number_of};
 
 /// Whether the positions so far ascend strictly, row before column, the last one of them, and how many they are
 /// (at most so many as a `usize` tells).
 #[derive(Clone, Copy)]
 pub(crate) struct Ascent {
-    last: Option<(u32, u32)>,
+    /// The last position as one number; 0 where there is none.
+    last: u64,
     ascends: bool,
     count: usize,
 }
 
-/// Whether one position comes before another: in an earlier row, or in the same one in an earlier
-/// column.
-#[inline]
-fn precedes(before: (u32, u32), after: (u32, u32)) -> bool
-    ensures { IsTrue result ↔ Precedes before after }
+/// A position as one number, by which positions ascend.
+#[inline(always)]
+fn number_of(row: u32, column: u32) -> u64
+    ensures number { result ≡ number_of (row, column) }
+    ensures small { column < 2 ^ 32 }
 {
-    before.0 < after.0 || before.0 == after.0 && before.1 < after.1
+    u64::from(row) * 0x1_0000_0000 + u64::from(column)
 }
 
 impl Ascent {
@@ -28,24 +29,32 @@ impl Ascent {
         ensures { IsAscent result [] }
     {
         Ascent {
-            last: None,
+            last: 0,
             ascends: true,
             count: 0,
         }
     }
 
-    /// After one more position.
-    #[inline]
-    pub(crate) fn with(self, position: (u32, u32)) -> Ascent
-        ensures { (ps : List Position) → IsAscent self ps → IsAscent result (ps ++ position ∷ []) }
+    /// Whether a position, by its number, comes after the last one, if there is one.
+    #[inline(always)]
+    fn is_before(self, next: u64) -> bool
+        ensures { IsTrue result ↔ ((self.count ≡ 0) ⊎ (self.last < next)) }
     {
+        self.count == 0 || self.last < next
+    }
+
+    /// After one more position.
+    #[inline(always)]
+    pub(crate) fn with(self, position: (u32, u32)) -> Ascent
+        ensures steps { (ps : List Position) → IsAscent self ps → IsAscent result (ps ++ position ∷ []) }
+        ensures some { 0 < result.count }
+    {
+        let (row, column) = position;
+        let last = number_of(row, column);
         let count = self.count.saturating_add(1);
-        let ascends = match self.last {
-            Some(last) => self.ascends && precedes(last, position),
-            None => self.ascends,
-        };
+        let ascends = self.ascends && self.is_before(last);
         Ascent {
-            last: Some(position),
+            last,
             ascends,
             count,
         }
@@ -67,8 +76,9 @@ impl Ascent {
 
     /// Whether there is none.
     pub(crate) fn is_empty(self) -> bool
-        ensures { (ps : List Position) → IsAscent self ps → IsTrue result → ps ≡ [] }
+        ensures none { result ≡ (self.count == 0) }
+        ensures empty { (ps : List Position) → IsAscent self ps → IsTrue result → ps ≡ [] }
     {
-        self.last.is_none()
+        self.count == 0
     }
 }

@@ -15,7 +15,7 @@ ghost use Rattle.xls_reading.specs.SheetTable.{adds, kept_line};
 ghost use Rattle.xls_view.specs.Contents.{cells_from, kept_in, regions_at, regions_of};
 ghost use Rattle.xls_view.specs.Formulas.{Formula, formula_of, formulas_of};
 ghost use Rattle.xls_view.specs.Placing.{IsAscent};
-ghost use Rattle.xls_view.specs.Surveying.{IsCellAt, IsFound, IsSurvey, formula_listed, widened};
+ghost use Rattle.xls_view.specs.Surveying.{IsCellAt, IsFound, IsSurvey, box_found, formula_listed};
 ghost use Rattle.xls_view.specs.Walking.{IsSound};
 
 use crate::ascent::Ascent;
@@ -29,26 +29,16 @@ use xls_data::Dimensions;
 use xls_model::types::{BOOL_ERR, LABEL, LABEL_SST, MERGE_CELLS, MUL_RK, NUMBER, R_STRING, RK};
 use xls_open::InForce;
 
-/// The smallest box that holds a position, and a box, if there is one.
-#[inline]
-pub(crate) fn widened(bounds: Option<Dimensions>, position: (u32, u32)) -> Dimensions
-    ensures { result ≡ widened bounds position }
-{
-    let (row, column) = position;
-    match bounds {
-        None => Dimensions::new(position, position),
-        Some(d) => Dimensions::new(
-            (row.min(d.start.0), column.min(d.start.1)),
-            (row.max(d.end.0), column.max(d.end.1)),
-        ),
-    }
-}
-
 /// Whether the cells so far ascend strictly by position, and the smallest box that holds them.
 #[derive(Clone, Copy)]
 pub(crate) struct FoundCells {
     ascent: Ascent,
-    bounds: Option<Dimensions>,
+    /// The first row and column, and the last; the first are the greatest numbers and the last 0 where there is
+    /// no cell.
+    top: u32,
+    left: u32,
+    bottom: u32,
+    right: u32,
 }
 
 impl FoundCells {
@@ -57,7 +47,10 @@ impl FoundCells {
     {
         FoundCells {
             ascent: Ascent::new(),
-            bounds: None,
+            top: u32::MAX,
+            left: u32::MAX,
+            bottom: 0,
+            right: 0,
         }
     }
 
@@ -75,20 +68,28 @@ impl FoundCells {
         self.ascent.count()
     }
 
+    /// The smallest box that holds them.
     pub(crate) fn bounds(self) -> Option<Dimensions>
-        ensures { result ≡ self.bounds }
+        ensures { result ≡ box_found self }
     {
-        self.bounds
+        if self.ascent.is_empty() {
+            return None;
+        }
+        Some(Dimensions::new((self.top, self.left), (self.bottom, self.right)))
     }
 
     /// After a cell at a position.
-    #[inline]
+    #[inline(always)]
     fn with(self, position: (u32, u32)) -> FoundCells
         ensures { (cells : List Entry) (v : Content) → IsFound self cells → IsFound result (cells ++ (position, v) ∷ []) }
     {
+        let (row, column) = position;
         FoundCells {
             ascent: self.ascent.with(position),
-            bounds: Some(widened(self.bounds, position)),
+            top: self.top.min(row),
+            left: self.left.min(column),
+            bottom: self.bottom.max(row),
+            right: self.right.max(column),
         }
     }
 

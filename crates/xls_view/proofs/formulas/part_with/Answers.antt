@@ -9,4 +9,4 @@ pub returns-then-is_empty : goal.returns-then-is_empty
 returns-then-is_empty c =
     let formulas = formulas_of (kept_in c.args.part.now 0) in
     ap formulas_of (kept_nothing 0)
-    ∙ sym (no_more (λ (f : Formula). f.0) formulas (c.is_empty.ensures (map (λ (f : Formula). f.0) formulas) c.requires c.if-is_empty.true))
+    ∙ sym (no_more (λ (f : Formula). f.0) formulas (c.is_empty.ensures.empty (map (λ (f : Formula). f.0) formulas) c.requires c.if-is_empty.true))

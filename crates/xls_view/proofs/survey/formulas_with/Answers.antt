@@ -9,7 +9,7 @@ pub returns-in-Some : goal.returns-in-Some
 returns-in-Some c = λ s g formulas h found.
     formula_found s (kept_group (group_of c.args.r.now)) g c.with.result formulas c.in-Some.position
     (sym c.in-Some.is ∙ c.formula_position.ensures s g h) h
-    (c.with.ensures (map (λ (f : Formula). f.0) formulas) found)
+    (c.with.ensures.steps (map (λ (f : Formula). f.0) formulas) found)
 
 pub returns-in-None : goal.returns-in-None
 returns-in-None c = λ s g formulas h found.

@@ -1,12 +1,15 @@
-use Rattle.std.proofs.Common.{subst, sym, refl, ◌++◌, ◌∷◌, [], List}
-use Rattle.xls_cells.specs.Positions.{Position, IsAscending}
-use Rattle.xls_view.proofs.PlaceLemmas.{ascends_more}
+use Rattle.std.proofs.Common.{◌≡◌, ◌<◌, ℕ, refl, subst, arith}
+use Rattle.std.specs.Prelude.{◌⊎◌}
+use Rattle.xls_view.proofs.AscentLemmas.{ascends_with}
 use Rattle.xls_view.proofs.ascent.Ascent.with.Goals as goal
 
-pub returns-then-self : goal.returns-then-self
-returns-then-self c = λ ps h.
-    let ends = rw c.in-Some.is at h.0 in (
-      (ps, refl),
-      λ t. subst (λ (l : List Position). IsAscending (l ++ c.args.position ∷ [])) (sym ends.1)
-          (ascends_more ends.0 c.in-Some.last c.args.position (subst IsAscending ends.1 (h.1 c.if-self.true)) (c.precedes.ensures.0 t)),
-    )
+pub returns-then-self-clause-steps : goal.returns-then-self-clause-steps
+returns-then-self-clause-steps c = λ ps h.
+    let p = c.args.position in
+    record {
+      none = λ z. absurd (omega (arith, z, c.saturating_add-count.ensures));
+      some = λ l. record { front = ps; position = p; whole = refl; number = c.number_of-last.ensures.number; column = c.number_of-last.ensures.small };
+      order = λ t.
+          ascends_with c.args.self ps p c.number_of-last.ensures.small h c.if-self.true
+          (subst (λ (n : ℕ). (c.args.self.count ≡ 0) ⊎ (c.args.self.last < n)) c.number_of-last.ensures.number (c.is_before-ascends.ensures.0 t));
+    }
