@@ -1,6 +1,6 @@
 //! The text of a formula.
 
-ghost use Rattle.std.specs.Prelude.{◌≡◌, IfOk, IsUtf8};
+ghost use Rattle.std.specs.Prelude.{◌≡◌, [], IfOk, IsUtf8};
 ghost use Rattle.std.specs.Str.{chars};
 ghost use Rattle.xls_strings.specs.Reading.{Exactly, Gives};
 ghost use Rattle.xls_strings.specs.Texts.{text_of};
@@ -16,6 +16,7 @@ use crate::names::Names;
 use crate::put::put;
 use crate::scope::Scope;
 use std::alloc::Global;
+use std::marker::Model;
 use std::str::from_utf8;
 use xls_biff::{Biff, Part, Refs, Strings, XlsError};
 use xls_ptg::{short, word_at};
@@ -77,28 +78,53 @@ fn text_in_scope(alloc: Global, rgce: &[u8], scope: Scope<'_>) -> Result<String,
     Ok(String::from_utf8(out).unwrap())
 }
 
-/// Memory in which texts of formulas are made, one after the other.
+/// Memory in which texts of formulas are made, one after the other. Contracts see the text that it holds.
 #[derive(Drop)]
 pub struct FormulaTexts {
     texts: Operands,
     text: Vec<u8>,
 }
 
+impl Model for FormulaTexts {
+    ghost use Rattle.std.specs.Prelude.{List, ℕ, IsUtf8};
+    ghost use Rattle.std.specs.Str.{chars};
+
+    ghost Value = { List ℕ };
+
+    ghost view = { λ f. chars f.text.items };
+
+    ghost invariant = { λ f. IsUtf8 f.text.items };
+}
+
 impl FormulaTexts {
     /// No text. Takes no memory.
-    pub fn new(alloc: Global) -> FormulaTexts {
+    pub fn new(alloc: Global) -> FormulaTexts
+        ensures { result ≡ [] }
+    {
         FormulaTexts {
             texts: Operands::new(alloc),
             text: Vec::new(alloc),
         }
     }
 
-    /// The text of a formula as by `parse_formula`, made here in place of the one before.
-    pub fn parse(&mut self, rgce: &[u8], scope: Scope<'_>) -> Result<&str, XlsError>
-        ensures { Gives (λ s. chars s.now) result (formula_text (context_of scope.entry) rgce.now) }
+    /// Makes the text of a formula as by `parse_formula`, in place of the one before.
+    pub fn read(&mut self, rgce: &[u8], scope: Scope<'_>) -> Result<(), XlsError>
+        ensures { Gives (λ u. self.new) result (formula_text (context_of scope.entry) rgce.now) }
     {
-        write_formula(&mut self.texts, &mut self.text, rgce, scope)?;
-        Ok(from_utf8(self.text.as_slice()).unwrap())
+        match write_formula(&mut self.texts, &mut self.text, rgce, scope) {
+            Ok(()) => Ok(()),
+            Err(error) => {
+                self.text.clear();
+                Err(error)
+            }
+        }
+    }
+
+    /// The text.
+    pub fn as_str(&self) -> &str
+        ensures { chars result.now ≡ self.now }
+    {
+        from_utf8(self.text.as_slice()).unwrap()
     }
 }
 
