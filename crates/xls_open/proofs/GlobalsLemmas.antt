@@ -28,7 +28,7 @@ use Rattle.xls_reading.proofs.OrderLemmas.{first_at, none_push, first_behind}
 use Rattle.xls_reading.specs.InForce.{page_in}
 use Rattle.xls_open.specs.Steps.{State, first_state, after, body_of, IsState, AreGlobals, GlobalsFault, ReadsGlobals}
 use Rattle.xls_open.specs.CheckSteps.{AreChecked}
-use Rattle.xls_open.specs.RecordSteps.{Stands, ReadsLine, IsTaken, version_told, version_by}
+use Rattle.xls_open.specs.RecordSteps.{Stands, ReadsLine, IsTaken, version_of, version_by}
 use Rattle.xls_open.specs.declared.globals_record.GlobalsRecord.{GlobalsRecord}
 use Rattle.xls_open.specs.declared.globals_record.GlobalsRecord.TheVariants as read
 use Rattle.xls_open.proofs.CheckWalkLemmas.{Passed, passed_nothing, passed_item, passed_other, holds_at, passed_cut, passed_eof, passed_end}
@@ -222,9 +222,9 @@ no_version : {X : Type 0} (f : X → table.GlobalsRecord) → ((x : X) → versi
     → version_given (gives f r) ≡ None
 no_version f h r = not_given version_given f h (λ e. refl) r
 
--- a line gives the version that its record tells
+-- a line gives the version that its record gives
 version_stands : (page : XlsEncoding) (version : Biff) (body : List ℕ) (x : GlobalsRecord) (l : Line) → Stands page version body x l
-    → version_given l ≡ version_told x
+    → version_given l ≡ version_of x
 version_stands page version body read.Other l h = ap version_given h
 version_stands page version body (read.Version v) l h = ap version_given h
 version_stands page version body (read.Page p) l h = ap version_given h

@@ -43,13 +43,13 @@ ReadsLine page version body line (Err e) = line ≡ Err e
 abbrev pub IsFaultless : State → GlobalsRecord → Type 0
 IsFaultless s x = (body : List ℕ) × (line : Line) × Stands s.page s.version body x line × (fault_of line ≡ None)
 
--- the version that it tells, and the version after it
-abbrev pub version_told : GlobalsRecord → Option Biff
-version_told (read.Version v) = Some v
-version_told x = None
+-- the version that it gives, and the version after it
+abbrev pub version_of : GlobalsRecord → Option Biff
+version_of (read.Version v) = Some v
+version_of x = None
 
 abbrev pub version_by : GlobalsRecord → Biff → Biff
-version_by x version = unwrap_or (version_told x) version
+version_by x version = unwrap_or (version_of x) version
 
 -- what it gives was kept
 abbrev pub IsTaken : State → GlobalsRecord → State → Type 0

@@ -8,10 +8,7 @@ ghost use Rattle.xls_data.specs.Sheets.{SheetContent};
 ghost use Rattle.xls_strings.specs.Reading.{gives};
 ghost use Rattle.xls_biff.specs.Walking.{group_of};
 ghost use Rattle.xls_biff.specs.Records.BoundSheet.{bound_sheet_at};
-ghost use Rattle.xls_biff.specs.Records.CodePage.{code_page_at};
-ghost use Rattle.xls_biff.specs.Records.ExternSheet.{refs_at};
-ghost use Rattle.xls_formula.specs.Defined.{lbl_at};
-ghost use Rattle.xls_reading.specs.GlobalsTable.{page_record, references_record, name_record, strings_record, sheet_record, texts_of, unless_forced, plain_record_at};
+ghost use Rattle.xls_reading.specs.GlobalsTable.{strings_record, sheet_record, texts_of, plain_record_at};
 ghost use Rattle.xls_open.specs.RecordSteps.{ReadsLine, version_by};
 
 use xls_biff::{
@@ -49,7 +46,7 @@ impl GlobalsRecord<'_> {
         ensures { result ≡ version_by self.now biff }
     {
         match self {
-            GlobalsRecord::Version(told) => *told,
+            GlobalsRecord::Version(given) => *given,
             _ => biff,
         }
     }

@@ -23,7 +23,7 @@ below a b c d f g h = by_row (nat_lt a c) refl
 pub ends_with : (a : Ascent) (ps : List Position) (p : Position) → p.1 < 2 ^ 32 → a.last ≡ number_of p → EndsIn a.last (ps ++ p ∷ [])
 ends_with a ps p f e = record { front = ps; position = p; whole = refl; number = e; column = f }
 
-pub ascends_with : (a : Ascent) (ps : List Position) (p : Position) → p.1 < 2 ^ 32 → IsAscent a ps → a.ascends ≡ true
+pub ascends_with : (a : Ascent) (ps : List Position) (p : Position) → p.1 < 2 ^ 32 → IsAscent a ps → a.falls ≡ 0
     → (a.count ≡ 0) ⊎ (a.last < number_of p) → IsAscending (ps ++ p ∷ [])
 ascends_with a ps p f h t follows = by_count (a.count == 0) refl
   where

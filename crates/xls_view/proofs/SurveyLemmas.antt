@@ -182,11 +182,10 @@ formula_not_found s k g found formulas e h a =
 
 -- ---- regions
 
-pub no_regions_yet : (has : Bool) (k : Kept) (rs : List Dimensions) → (has ≡ false → rs ≡ []) → has ≡ false → (k.typ ≡ types.MERGE_CELLS → ⊥)
-    → rs ++ regions_at k ≡ []
-no_regions_yet has k rs h f apart =
+pub no_regions_yet : (k : Kept) (rs : List Dimensions) → rs ≡ [] → (k.typ ≡ types.MERGE_CELLS → ⊥) → rs ++ regions_at k ≡ []
+no_regions_yet k rs e apart =
     let typ : (k.typ == types.MERGE_CELLS) ≡ false = grind arith in
-    rw (h f, typ) refl
+    rw (e, typ) refl
 
 -- ---- all records
 

@@ -53,7 +53,7 @@ pub record EndsIn (last : ℕ) (ps : List Position) : Type 0 where
 pub record IsAscent (a : Ascent) (ps : List Position) : Type 0 where
   pub none : a.count ≡ 0 → ps ≡ []
   pub some : 0 < a.count → EndsIn a.last ps
-  pub order : a.ascends ≡ true → IsAscending ps
+  pub order : a.falls ≡ 0 → IsAscending ps
 
 -- ---- the record at an offset
 

@@ -49,4 +49,4 @@ pub record IsFound (found : FoundCells) (cells : List Entry) : Type 0 where
 pub record IsSurvey (survey : Survey) (es : List Entry) (fs : List Formula) (rs : List Dimensions) : Type 0 where
   pub cells : IsFound survey.cells es
   pub formulas : IsAscent survey.formulas (map (λ (f : Formula). f.0) fs)
-  pub merges : survey.has_merges ≡ false → rs ≡ []
+  pub merges : survey.merges ≡ 0 → rs ≡ []

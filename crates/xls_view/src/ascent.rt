@@ -5,12 +5,13 @@ ghost use Rattle.xls_cells.specs.Positions.{Position};
 ghost use Rattle.xls_view.specs.Placing.{IsAscent, number_of};
 
 /// Whether the positions so far ascend strictly, row before column, the last one of them, and how many they are
-/// (at most so many as a `usize` tells).
+/// (at most so many as a `usize` tells). All fields have one size, so that it is copied without padding.
 #[derive(Clone, Copy)]
 pub(crate) struct Ascent {
     /// The last position as one number; 0 where there is none.
     last: u64,
-    ascends: bool,
+    /// How many of them don't come after the one before them.
+    falls: usize,
     count: usize,
 }
 
@@ -30,7 +31,7 @@ impl Ascent {
     {
         Ascent {
             last: 0,
-            ascends: true,
+            falls: 0,
             count: 0,
         }
     }
@@ -43,6 +44,17 @@ impl Ascent {
         self.count == 0 || self.last < next
     }
 
+    /// How many fall with one more position, by its number.
+    #[inline(always)]
+    fn falls_with(self, next: u64) -> usize
+        ensures { result ≡ 0 → (self.falls ≡ 0) × ((self.count ≡ 0) ⊎ (self.last < next)) }
+    {
+        if self.is_before(next) {
+            return self.falls;
+        }
+        self.falls.saturating_add(1)
+    }
+
     /// After one more position.
     #[inline(always)]
     pub(crate) fn with(self, position: (u32, u32)) -> Ascent
@@ -52,19 +64,18 @@ impl Ascent {
         let (row, column) = position;
         let last = number_of(row, column);
         let count = self.count.saturating_add(1);
-        let ascends = self.ascends && self.is_before(last);
         Ascent {
             last,
-            ascends,
+            falls: self.falls_with(last),
             count,
         }
     }
 
     /// Whether all of them ascend.
     pub(crate) fn is_strict(self) -> bool
-        ensures { result ≡ self.ascends }
+        ensures { IsTrue result ↔ (self.falls ≡ 0) }
     {
-        self.ascends
+        self.falls == 0
     }
 
     /// How many they are, as far as a `usize` tells.

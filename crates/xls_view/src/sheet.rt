@@ -67,7 +67,7 @@ impl<'v> ViewSheet<'v> {
         self.survey.cells().bounds()
     }
 
-    /// The cells. Takes memory, 16 bytes a cell, only where they don't stand in order; running out of it is the
+    /// The cells. Takes memory, 24 bytes a cell, only where they don't stand in order; running out of it is the
     /// one refusal.
     pub fn cells(&self) -> Result<SheetCells<'v>, AllocError>
         ensures cells { IfOk result (λ cells. cells ≡ self.now.cells) }
@@ -81,7 +81,7 @@ impl<'v> ViewSheet<'v> {
         )
     }
 
-    /// The formulas. Takes memory, 16 bytes a formula, only where they don't stand in order; running out of it is
+    /// The formulas. Takes memory, 24 bytes a formula, only where they don't stand in order; running out of it is
     /// the one refusal.
     pub fn formulas(&self) -> Result<SheetFormulas<'v>, AllocError>
         ensures { IfOk result (λ formulas. formulas ≡ record { context = self.now.context; left = self.now.formulas }) }

@@ -1,6 +1,6 @@
 //! What one walk over a sheet part finds of the positions of its cells and formulas.
 
-ghost use Rattle.std.specs.Prelude.{◌≡◌, ◌≢◌, ◌++◌, ◌∷◌, [], List, Ok, Option, false, map};
+ghost use Rattle.std.specs.Prelude.{◌≡◌, ◌↔◌, IsTrue, ◌≢◌, ◌++◌, ◌∷◌, [], List, Ok, Option, false, map};
 ghost use Rattle.std.specs.Option.{option_map};
 ghost use Rattle.xls_data.specs.Content.{Content};
 ghost use Rattle.xls_data.specs.declared.regions.Dimensions.{Dimensions};
@@ -56,7 +56,7 @@ impl FoundCells {
 
     /// Whether the cells ascend.
     pub(crate) fn ascends(self) -> bool
-        ensures { result ≡ self.ascent.ascends }
+        ensures { IsTrue result ↔ (self.ascent.falls ≡ 0) }
     {
         self.ascent.is_strict()
     }
@@ -182,22 +182,25 @@ fn formulas_with(found: Ascent, r: &Record<'_>) -> Ascent
     }
 }
 
-/// Whether some records and one more have a MergeCells among them.
+/// How many MergeCells records there are with one more record.
 #[inline]
-fn merges_with(has_merges: bool, r: &Record<'_>) -> bool
-    ensures { (regions : List Dimensions) → (has_merges ≡ false → regions ≡ [])
-        → result ≡ false → regions ++ regions_at (kept_group (group_of r.now)) ≡ [] }
+fn merges_with(merges: usize, r: &Record<'_>) -> usize
+    ensures { (regions : List Dimensions) → (merges ≡ 0 → regions ≡ [])
+        → result ≡ 0 → regions ++ regions_at (kept_group (group_of r.now)) ≡ [] }
 {
-    has_merges || r.typ == MERGE_CELLS
+    if r.typ == MERGE_CELLS {
+        return merges.saturating_add(1);
+    }
+    merges
 }
 
 /// What was found of the records of a part so far: of their cells, whether their formulas ascend strictly
-/// by position, and whether there is a MergeCells record.
+/// by position, and how many MergeCells records there are (at most so many as a `usize` tells).
 #[derive(Clone, Copy)]
 pub(crate) struct Survey {
     cells: FoundCells,
     formulas: Ascent,
-    has_merges: bool,
+    merges: usize,
 }
 
 impl Survey {
@@ -214,9 +217,9 @@ impl Survey {
     }
 
     pub(crate) fn has_merges(self) -> bool
-        ensures { result ≡ self.has_merges }
+        ensures { result ≡ false → self.merges ≡ 0 }
     {
-        self.has_merges
+        self.merges > 0
     }
 
     fn none() -> Survey
@@ -225,7 +228,7 @@ impl Survey {
         Survey {
             cells: FoundCells::none(),
             formulas: Ascent::new(),
-            has_merges: false,
+            merges: 0,
         }
     }
 
@@ -240,7 +243,7 @@ impl Survey {
         Survey {
             cells: self.cells.with_record(r, last, force),
             formulas: formulas_with(self.formulas, r),
-            has_merges: merges_with(self.has_merges, r),
+            merges: merges_with(self.merges, r),
         }
     }
 }

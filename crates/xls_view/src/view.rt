@@ -179,7 +179,7 @@ impl<'a> View<'a> {
                 Ok(view_of(alloc, bytes, globals, options)?)
             }
             Err(error) => {
-                // A fault comes before the want of memory.
+                // A fault comes before running out of memory.
                 check_stream(bytes, options.force_codepage, options.max_cells)?;
                 Err(error)
             }

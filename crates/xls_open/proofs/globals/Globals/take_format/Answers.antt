@@ -6,7 +6,7 @@ returns-in_ok-push-in-Ok c =
     rw (c.in_ok-push-in-Ok.ensures.items, ← c.self.view_is)
     (λ body g h. format_taken _ body g _ c.in-Ok.format c.in-Ok.ensures h)
 
--- refused, and not for want of memory
+-- refused, and memory did not run out
 pub returns-in-Err-2 : goal.returns-in-Err-2
 returns-in-Err-2 c =
     rw (← c.self.view_is)
