@@ -5,8 +5,9 @@ use std::alloc::{AllocError, Global};
 use std::test::Fail;
 use xls_biff::XlsError;
 use xls_book::{Reader as _, SteadySource, StreamBytes, Xls, XlsOptions};
-use xls_csv::*;
+use xls_csv::{dense_boxes, export_csv, field_text, printed_fields, rows_of_sheet, write_rows};
 use xls_data::{Cell, Data, Dimensions, ExcelDateTime, ExcelDateTimeType, Number};
+use xls_lines::MemorySink;
 use xls_range::Range;
 use xls_view::View;
 
@@ -91,19 +92,13 @@ fn exported(alloc: Global, cells: &[((u32, u32), Value)]) -> Result<StreamBytes,
     Ok(export_csv(alloc, &range)?)
 }
 
-// The rows of the first sheet, joined.
-fn joined(alloc: Global, view: &View<'_>) -> Result<Vec<u8>, AllocError> {
-    let mut bytes = Vec::new(alloc);
+// The CSV of the first sheet, up to so many bytes, as it is written into memory.
+fn written(alloc: Global, view: &View<'_>, room: usize) -> Result<MemorySink, Fail> {
+    let mut sink = MemorySink::new(alloc, room, 4_096, Vec::new(alloc))?;
     if let Some(cells) = view.cells_at(0)? {
-        let mut rows = CsvRows::new(alloc, &cells);
-        for _ in 0..100 {
-            if !rows.next_row()? {
-                return Ok(bytes);
-            }
-            bytes.extend_from_slice(rows.row())?;
-        }
+        let _written = write_rows(alloc, &mut sink, &cells);
     }
-    Ok(bytes)
+    Ok(sink)
 }
 
 // The range of the sheet `A`, exported.
@@ -239,20 +234,20 @@ pub(crate) static SHEETS: [(&[&[u8]], &str, &[&[&str]]); 3] = [
     ),
 ];
 
-// Whether the rows joined, and the range exported, are this text, and whether these rows are read of it.
+// Whether what is written, and the range exported, are this text, and whether these rows are read of it.
 fn is_sheet(alloc: Global, parts: &[&[u8]], text: &str, rows: &[&[&str]]) -> Result<bool, Fail> {
     let stream = stream_of(alloc, parts)?;
-    let bytes = joined(alloc, &view_of(alloc, &stream)?)?;
+    let sink = written(alloc, &view_of(alloc, &stream)?, 99)?;
     let exported = exported_of(alloc, parts)?;
     Ok(
-        bytes.as_slice() == text.as_bytes()
+        sink.as_slice() == text.as_bytes()
             && exported.as_slice() == text.as_bytes()
-            && reads_back(alloc, &bytes, rows)?,
+            && reads_back(alloc, sink.as_slice(), rows)?,
     )
 }
 
 #[test]
-fn gives_rows_one_after_another(rt: HostRuntime) -> Result<(), Fail> {
+fn writes_rows_one_after_another(rt: HostRuntime) -> Result<(), Fail> {
     for (parts, text, rows) in SHEETS.iter() {
         assert!(rt; is_sheet(rt.alloc(), parts, text, rows)?, "{text}");
     }
@@ -260,22 +255,6 @@ fn gives_rows_one_after_another(rt: HostRuntime) -> Result<(), Fail> {
     dense_boxes();
     printed_fields();
     Ok(())
-}
-
-// Whether the next row has this length and begins so.
-fn is_long(rows: &mut CsvRows<'_>, len: usize, start: &[u8]) -> Result<bool, AllocError> {
-    Ok(rows.next_row()? && rows.row().len() == len && rows.row().starts_with(start))
-}
-
-// Whether the first sheet has a row that begins with 1, and then one of blanks.
-fn has_two_long_rows(alloc: Global, view: &View<'_>) -> Result<bool, AllocError> {
-    match view.cells_at(0)? {
-        Some(cells) => {
-            let mut rows = CsvRows::new(alloc, &cells);
-            Ok(is_long(&mut rows, 65_537, b"1,,")? && is_long(&mut rows, 65_536, b",,,")?)
-        }
-        None => Ok(false),
-    }
 }
 
 // Whether the box of the first sheet is the one from here to there, as the sheet and as its cells have it.
@@ -288,44 +267,15 @@ fn has_box(view: &View<'_>, bounds: Dimensions) -> Result<bool, AllocError> {
     }
 }
 
-// The box has 2^32 cells, and a row 65,536 bytes.
+// The box has 2^32 cells, and a row 65,536 bytes: the first row, which has a byte more, and a comma of the
+// next one are written before there is no room.
 #[test]
-fn a_far_cell_takes_the_memory_of_a_row(rt: HostRuntime) -> Result<(), Fail> {
+fn a_far_cell_takes_the_memory_of_a_piece(rt: HostRuntime) -> Result<(), Fail> {
     let stream = stream_of(rt.alloc(), &FAR_PARTS)?;
     let view = view_of(rt.alloc(), &stream)?;
     assert!(rt; has_box(&view, Dimensions::new((0, 0), (65_535, 65_535)))?);
-    assert!(rt; has_two_long_rows(rt.alloc(), &view)?);
+    let sink = written(rt.alloc(), &view, 65_538)?;
+    assert!(rt; sink.as_slice().len() == 65_538 && sink.as_slice().starts_with(b"1,,"));
+    assert!(rt; sink.as_slice().ends_with(b",,\n,"));
     Ok(())
-}
-
-// Whether the next row is this one. Where a request for memory is refused, the last row stands until the
-// next call.
-fn gives(rows: &mut CsvRows<'_>, last: &str, wanted: &str) -> bool {
-    let is_kept = rows.next_row().is_ok()
-        || {
-            let is_last = rows.row() == last.as_bytes();
-            is_last && rows.next_row().is_ok()
-        };
-    is_kept && rows.row() == wanted.as_bytes()
-}
-
-// With memory refused at any number, each row comes.
-#[test]
-fn a_refused_row_is_still_to_come(rt: HostRuntime) {
-    let alloc = rt.alloc();
-    let Ok(stream) = stream_of(alloc, &THREE_PARTS) else {
-        return;
-    };
-    let Ok(view) = view_of(alloc, &stream) else {
-        return;
-    };
-    let Ok(Some(cells)) = view.cells_at(0) else {
-        return;
-    };
-    let mut rows = CsvRows::new(alloc, &cells);
-    let mut last = "";
-    for wanted in ["1,,2\n", ",,\n", ",\"a,\"\"b\",\n"] {
-        assert!(rt; gives(&mut rows, last, wanted));
-        last = wanted;
-    }
 }

@@ -5,4 +5,5 @@ pub mod WalkLemmas
 pub mod DenseLemmas
 pub mod BoxLemmas
 pub mod LineLemmas
+pub mod RowLemmas
 pub mod StandardFacts

@@ -6,7 +6,7 @@ use Rattle.std.proofs.Math.ListN.{drop_of_length-le}
 use Rattle.csv.specs.Writing.{default_writer, escaped, field_text, fields_text, is_blank, next_sep, row_body, row_text}
 use Rattle.xls_biff.specs.Cells.{Entry}
 use Rattle.xls_csv.specs.Fields.{field}
-use Rattle.xls_csv.specs.Steps.{end_after}
+use Rattle.xls_csv.specs.Steps.{placed, row_end}
 use Rattle.xls_csv.specs.Walk.{take_at, row_along, left_along}
 
 -- ---- bytes between quotes
@@ -80,8 +80,9 @@ blank_row (f ∷ g ∷ fs) =
     grind (arith, size)
 
 -- the fields of a row and its end are the row
-pub row_ended : (fields : List (List ℕ)) → row_body default_writer fields ++ end_after (row_body default_writer fields) ≡ row_text default_writer fields
-row_ended fields = rw (blank_row fields) refl
+pub row_ended : (fields : List (List ℕ)) (is_bare : Bool) → is_bare ≡ (length (row_body default_writer fields) == 0)
+    → row_body default_writer fields ++ row_end is_bare ≡ row_text default_writer fields
+row_ended fields is_bare e = rw (e, blank_row fields) refl
 
 -- ---- a row, column by column
 
@@ -89,10 +90,10 @@ not_first : (i : ℕ) → (i + 1 == 0) ≡ false
 not_first i = grind arith
 
 -- no column is left
-pub row_end : (line whole : List ℕ) (row column width i : ℕ) (cells : List Entry) → width ≤ i
+pub fields_end : (line whole : List ℕ) (row column width i : ℕ) (cells : List Entry) → width ≤ i
     → line ++ rest_text (i == 0) (map field (row_along row (column + i) (width - i) cells)) ≡ whole → line ≡ whole
 unfolding fields_text
-row_end line whole row column width i cells l h =
+fields_end line whole row column width i cells l h =
     let none : width - i ≡ 0 = omega arith in
     by_test (i == 0) (rw none at h)
   where
@@ -103,7 +104,7 @@ row_end line whole row column width i cells l h =
 -- the first of the columns that are left, and those after it
 pub row_more : (line whole : List ℕ) (row column width i : ℕ) (cells : List Entry) → i < width
     → line ++ rest_text (i == 0) (map field (row_along row (column + i) (width - i) cells)) ≡ whole
-    → ((line ++ next_sep default_writer i) ++ field_text default_writer (field (take_at row (column + i) cells).0))
+    → (line ++ placed i (take_at row (column + i) cells).0)
     ++ rest_text (i + 1 == 0) (map field (row_along row (column + (i + 1)) (width - (i + 1)) (take_at row (column + i) cells).1)) ≡ whole
 row_more line whole row column width i cells l h =
     let e : width - i ≡ suc (width - (i + 1)) = omega arith in
@@ -111,9 +112,10 @@ row_more line whole row column width i cells l h =
     let first = field (take_at row (column + i) cells).0 in
     let others = map field (row_along row (column + i + 1) (width - (i + 1)) (take_at row (column + i) cells).1) in
     rw (not_first i, place)
-    (append_assoc (line ++ next_sep default_writer i) (field_text default_writer first) (fields_text default_writer others)
-    ∙ append_assoc line (next_sep default_writer i) (field_text default_writer first ++ fields_text default_writer others)
-    ∙ ap (λ (t : List ℕ). line ++ t) (sym (rest_next i first others)) ∙ rw e at h)
+    (append_assoc line (next_sep default_writer i ++ field_text default_writer first) (fields_text default_writer others)
+    ∙ ap (λ (t : List ℕ). line ++ t)
+    (append_assoc (next_sep default_writer i) (field_text default_writer first) (fields_text default_writer others)
+    ∙ sym (rest_next i first others)) ∙ rw e at h)
 
 pub left_more : (whole : List Entry) (row column width i : ℕ) (cells : List Entry) → i < width
     → left_along row (column + i) (width - i) cells ≡ whole

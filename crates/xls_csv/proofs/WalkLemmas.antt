@@ -171,6 +171,16 @@ pub rows_next : (n others row left width : ℕ) (cells : List Entry) → n ≡ s
     ≡ row_along row left width cells ∷ rows_along others (row + 1) left width (left_along row left width cells)
 rows_next n others row left width cells e = rw e refl
 
+-- the row that comes after so many, and those after it
+pub rows_from : (height top left width i : ℕ) (cells : List Entry) → i < height
+    → rows_along (height - i) (top + i) left width cells
+    ≡ row_along (top + i) left width cells
+    ∷ rows_along (height - (i + 1)) (top + (i + 1)) left width (left_along (top + i) left width cells)
+rows_from height top left width i cells l =
+    let more : height - i ≡ suc (height - (i + 1)) = omega arith in
+    let next : top + (i + 1) ≡ top + i + 1 = omega arith in
+    rw next (rows_next (height - i) (height - (i + 1)) (top + i) left width cells more)
+
 -- ---- all rows
 
 stand_all : (n m k top left end : ℕ) (cs : List Entry) → top ≤ least n (rows_at cs)

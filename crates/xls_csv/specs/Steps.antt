@@ -1,17 +1,30 @@
 -- Words of private calls, for the proofs.
-use Rattle.std.specs.Prelude.{◌≡◌, ℕ, ◌≤◌, Bool, List, [], ◌∷◌, Option, Some, None, Vec, false, ◌++◌, ◌==◌, length, if◌then◌else◌}
+use Rattle.std.specs.Prelude.{◌≡◌, ℕ, ◌≤◌, Bool, List, [], ◌∷◌, Option, Some, None, Vec, false, ◌++◌, if◌then◌else◌}
 use Rattle.std.specs.Global.{Global}
-use Rattle.csv.specs.Writing.{default_writer, writer_setup, fields_written, has_written, writer_under, writer_pending}
+use Rattle.csv.specs.Writing.{default_writer, field_text, next_sep, writer_setup, fields_written, has_written, writer_under, writer_pending}
 use Rattle.csv.specs.declared.writer.Writer.{Writer}
 use Rattle.xls_data.specs.Content.{Content, nothing}
 use Rattle.xls_data.specs.Refs.{ref_content_of, ref_text}
 use Rattle.xls_data.specs.declared.refs.DataRef.{DataRef}
 use Rattle.xls_biff.specs.Cells.{Entry}
-use Rattle.xls_view.specs.Values.{value_content}
+use Rattle.xls_view.specs.Values.{cell_entry, value_content}
 use Rattle.xls_view.specs.declared.value.CellValue.{CellValue}
+use Rattle.xls_view.specs.declared.value.SheetCell.{SheetCell}
 use Rattle.xls_csv.specs.Dates.{date_text, last_day_in, serial_date}
 use Rattle.xls_csv.specs.Fields.{field}
 use Rattle.xls_csv.specs.Walk.{take_at}
+
+-- ---- cells
+
+-- the next cell, if there is one, and those after it
+abbrev pub cells_ahead : Option SheetCell → List Entry → List Entry
+cells_ahead None others = others
+cells_ahead (Some cell) others = cell_entry cell ∷ others
+
+-- without a next cell there are no others
+abbrev pub IsEnded : Option SheetCell → List Entry → Type 0
+IsEnded None others = others ≡ []
+IsEnded (Some cell) others = Unit {0}
 
 -- the content of a value that may be missing
 abbrev pub value_in : Option CellValue → Content
@@ -40,6 +53,12 @@ pub record IsBetweenRecords (w : Writer (Vec ℕ Global)) : Type 0 where
 abbrev pub written : Writer (Vec ℕ Global) → List ℕ
 written w = (writer_under w).items ++ writer_pending w
 
--- what ends a row of these bytes
-abbrev pub end_after : List ℕ → List ℕ
-end_after bytes = (if length bytes == 0 then 34 ∷ 34 ∷ [] else []) ++ 10 ∷ []
+-- ---- fields in their places
+
+-- a field with what stands before it in its row
+abbrev pub placed : ℕ → Content → List ℕ
+placed place content = next_sep default_writer place ++ field_text default_writer (field content)
+
+-- what ends a row; one without a byte has two quotes before it
+abbrev pub row_end : Bool → List ℕ
+row_end is_bare = (if is_bare then 34 ∷ 34 ∷ [] else []) ++ 10 ∷ []

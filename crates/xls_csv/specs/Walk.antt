@@ -1,25 +1,9 @@
 -- What is seen of cells that are gone through once, row by row. Where they ascend, these are the rows of
 -- the dense box.
-use Rattle.std.specs.Prelude.{◌≡◌, ℕ, zero, suc, ◌+◌, ◌==◌, ◌&&◌, if◌then◌else◌, Bool, true, false, List, [], ◌∷◌}
+use Rattle.std.specs.Prelude.{ℕ, zero, suc, ◌+◌, ◌==◌, ◌&&◌, if◌then◌else◌, List, [], ◌∷◌}
 use Rattle.xls_data.specs.Content.{Content, nothing}
 use Rattle.xls_biff.specs.Cells.{Entry}
-use Rattle.xls_csv.specs.Text.{row_csv}
 use Rattle.xls_csv.specs.Dense.{box_of}
-
--- ---- rows that are given one after another
-
--- the bytes of the row that was given last, and the rows that are still to come
-pub record Rows : Type 0 where
-  pub row : List ℕ
-  pub left : List (List Content)
-
--- a call for the next row: its bytes, or that there is none
-abbrev pub GivesRow : Rows → Bool → Rows → Type 0
-GivesRow before true after =
-    (row : List Content) × (before.left ≡ row ∷ after.left) × (after.row ≡ row_csv row)
-GivesRow before false after = (before.left ≡ []) × (after ≡ before)
-
--- ---- the walk
 
 -- a value, and the cells that are left after it
 abbrev pub Taken : Type 0

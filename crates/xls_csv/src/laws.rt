@@ -12,7 +12,7 @@ pub fn rows_of_sheet()
 {}
 
 /// A range that is the dense box of cells has the contents of the dense box, so that `export_csv` of it
-/// gives the rows of `CsvRows` joined.
+/// gives what `write_rows` writes.
 pub fn dense_boxes()
     ensures { IsDenseOf ⟦<Data as PartialEq>⟧.eq is_nothing }
 {}

@@ -1,4 +1,4 @@
-//! The CSV of a sheet: of a range at once, or of a sheet's cells row by row.
+//! The CSV of a sheet: of a range at once, or of a sheet's cells field by field into a sink.
 #![tactic(auto)]
 
 mod ahead;
@@ -6,13 +6,15 @@ mod dates;
 mod export;
 mod extent;
 mod fields;
+mod gathered;
 mod laws;
 mod line;
 mod record;
 mod rows;
 
+pub use ahead::Ahead;
 pub use export::export_csv;
 pub use extent::{Extent, extent_of};
 pub use fields::field_text;
 pub use laws::{dense_boxes, printed_fields, rows_of_sheet};
-pub use rows::CsvRows;
+pub use rows::write_rows;

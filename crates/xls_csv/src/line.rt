@@ -1,19 +1,15 @@
-//! A row of CSV that is being made, field by field.
+//! A field of a row of CSV, between quotes where it calls for them.
 
 ghost use Rattle.std.specs.Prelude.{◌≡◌, ◌∷◌, ◌++◌, [], IfSome, OnOk};
 ghost use Rattle.std.specs.Fmt.{signed_decimal};
-ghost use Rattle.csv.specs.Writing.{default_writer, escaped, field_text, needs_byte, needs_quotes, next_sep, quoted};
+ghost use Rattle.csv.specs.Writing.{default_writer, escaped, field_text, needs_byte, needs_quotes, quoted};
 ghost use Rattle.xls_data.specs.Refs.{ref_content_of, ref_text};
-ghost use Rattle.xls_view.specs.Values.{value_content};
 ghost use Rattle.xls_csv.specs.Fields.{field};
-ghost use Rattle.xls_csv.specs.Steps.{end_after};
 
 use crate::dates::day_text;
 use crate::fields::{push_printed, shown_day};
-use std::alloc::{AllocError, Global};
-use std::marker::Model;
+use std::alloc::AllocError;
 use xls_data::{DataRef, Number};
-use xls_view::{CellValue, TextBuffer};
 
 /// Whether a byte calls for quotes.
 fn is_special(byte: u8) -> bool
@@ -128,7 +124,7 @@ fn push_plain(
 }
 
 /// Appends the field of a value.
-fn push_value(
+pub(crate) fn push_value(
     bytes: &mut Vec<u8>,
     printed: &mut String,
     value: &DataRef<'_>,
@@ -139,79 +135,5 @@ fn push_value(
     match shown_day(value) {
         Some((day, is_1904)) => push_field(bytes, &day_text(day, is_1904)),
         None => push_plain(bytes, printed, value),
-    }
-}
-
-/// The bytes of a row, in memory that is used again. Contracts see the bytes.
-#[derive(Drop)]
-pub(crate) struct Line {
-    bytes: Vec<u8>,
-    /// Memory for a text that stands in a record.
-    text: TextBuffer,
-    /// A value that has to be printed before it is known whether it calls for quotes.
-    printed: String,
-}
-
-impl Model for Line {
-    ghost use Rattle.std.specs.Prelude.{ℕ, List};
-
-    ghost Value = { List ℕ };
-
-    ghost view = { λ l. l.bytes.items };
-}
-
-impl Line {
-    pub(crate) fn new(alloc: Global) -> Line
-        ensures { result ≡ [] }
-    {
-        Line {
-            bytes: Vec::new(alloc),
-            text: TextBuffer::new(alloc),
-            printed: String::new(alloc),
-        }
-    }
-
-    pub(crate) fn as_slice(&self) -> &[u8]
-        ensures { result.now ≡ self.now }
-    {
-        &self.bytes
-    }
-
-    /// Begins the next row.
-    pub(crate) fn clear(&mut self)
-        ensures { self.new ≡ [] }
-    {
-        self.bytes.clear();
-    }
-
-    /// Appends what stands before the field at a place of the row: a comma, but at the first.
-    pub(crate) fn separate(&mut self, place: u64) -> Result<(), AllocError>
-        ensures { OnOk result (self.new ≡ self.old ++ next_sep default_writer place) }
-    {
-        if place > 0 {
-            self.bytes.push(b',')?;
-        }
-        Ok(())
-    }
-
-    /// Appends the end of the row. A row without a byte has two quotes before it.
-    pub(crate) fn end(&mut self) -> Result<(), AllocError>
-        ensures { OnOk result (self.new ≡ self.old ++ end_after self.old) }
-    {
-        if self.bytes.is_empty() {
-            return self.bytes.extend_from_slice(b"\"\"\n");
-        }
-        self.bytes.push(b'\n')?;
-        Ok(())
-    }
-
-    /// Appends the field of a cell's value.
-    pub(crate) fn push_value(&mut self, value: CellValue<'_>) -> Result<(), AllocError>
-        ensures { OnOk result (self.new ≡ self.old ++ field_text default_writer (field (value_content value.entry))) }
-    {
-        match self.text.value_of(value) {
-            Ok(value) => push_value(&mut self.bytes, &mut self.printed, &value),
-            Err(error) => Err(error),
-        }
     }
 }

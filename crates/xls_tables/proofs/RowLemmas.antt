@@ -5,7 +5,7 @@ use Rattle.std.specs.Result.{IsErrAnd}
 use Rattle.xls_data.specs.Content.{Content}
 use Rattle.xls_biff.specs.Cells.{Entry}
 use Rattle.xls_csv.specs.Walk.{left_along, row_along, rows_along, walk}
-use Rattle.xls_csv.proofs.WalkLemmas.{rows_next}
+use Rattle.xls_csv.proofs.WalkLemmas.{rows_from}
 use Rattle.xls_readable.specs.Csv.{row_end}
 use Rattle.xls_readable.specs.Values.{Concatenates}
 use Rattle.xls_lines.specs.Gathering.{Gathers, Stops}
@@ -84,15 +84,6 @@ rows_first d height top left width all a g =
     let all_of : height - 0 ≡ height = omega arith in
     record { front = []; body = []; are = refl; whole = rw (here, all_of) refl; gathers = gathers-nothing a g }
 
-next_row : (height top left width i : ℕ) (cells : List Entry) → i < height
-    → rows_along (height - i) (top + i) left width cells
-    ≡ row_along (top + i) left width cells
-    ∷ rows_along (height - (i + 1)) (top + (i + 1)) left width (left_along (top + i) left width cells)
-next_row height top left width i cells l =
-    let more : height - i ≡ suc (height - (i + 1)) = omega arith in
-    let next : top + (i + 1) ≡ top + i + 1 = omega arith in
-    rw next (rows_next (height - i) (height - (i + 1)) (top + i) left width cells more)
-
 pub rows_more : {d height top left width i : ℕ} {all cells cells' : List Entry} {a b c : SinkState} {g h k text : List ℕ}
     → i < height → RowsSoFar d height top left width all a g i cells b h
     → IsContentRow d (row_along (top + i) left width cells) text → Gathers b h c k text
@@ -107,7 +98,7 @@ rows_more {d} {height} {top} {left} {width} {i} {all} {cells} {cells'} {a} {b} {
       are = rows_more_text d so.front row so.body text so.are is;
       whole = rw rest
           (append_assoc so.front (row ∷ []) others
-          ∙ ap (λ (r : List (List Content)). so.front ++ r) (sym (next_row height top left width i cells l)) ∙ so.whole);
+          ∙ ap (λ (r : List (List Content)). so.front ++ r) (sym (rows_from height top left width i cells l)) ∙ so.whole);
       gathers = gathers-then so.gathers gathers;
     }
 
@@ -129,7 +120,7 @@ rows_stop {d} {height} {top} {left} {width} {i} {all} {cells} l so (text, begins
     let row = row_along (top + i) left width cells in
     let others = rows_along (height - (i + 1)) (top + (i + 1)) left width (left_along (top + i) left width cells) in
     let is : so.front ++ row ∷ others ≡ rows_along height top left width all =
-    ap (λ (r : List (List Content)). so.front ++ r) (sym (next_row height top left width i cells l)) ∙ so.whole in (
+    ap (λ (r : List (List Content)). so.front ++ r) (sym (rows_from height top left width i cells l)) ∙ so.whole in (
       so.body ++ text,
       subst (λ (r : List (List Content)). BeginsRows d r (so.body ++ text)) is
           (begins_after d so.front others row so.body text so.are begins),

@@ -1,9 +1,6 @@
 -- Words of private calls, for the proofs.
-use Rattle.std.specs.Prelude.{◌≡◌, ℕ, ◌==◌, Bool, true, false, List, [], ◌∷◌, ◌++◌, length, Option, Some, None, Result, Ok, Err}
+use Rattle.std.specs.Prelude.{◌≡◌, ℕ, ◌==◌, Bool, true, false, List, [], ◌∷◌, ◌++◌, length, Result, Ok, Err}
 use Rattle.xls_data.specs.Content.{Content}
-use Rattle.xls_biff.specs.Cells.{Entry}
-use Rattle.xls_view.specs.Values.{cell_entry}
-use Rattle.xls_view.specs.declared.value.SheetCell.{SheetCell}
 use Rattle.xls_readable.specs.Values.{Concatenates, IsFieldText}
 use Rattle.xls_readable.specs.declared.values.Value.{Value}
 use Rattle.xls_lines.specs.Gathering.{Gathers, Stops}
@@ -11,18 +8,6 @@ use Rattle.xls_lines.specs.SinkState.{SinkState}
 use Rattle.xls_lines.specs.declared.stop.Stop.{Stop}
 use Rattle.xls_tables.specs.Rows.{IsContentField, IsContentFields, IsContentRow, IsContentText}
 use Rattle.xls_tables.specs.Tables.{BeginsRow, BeginsRows}
-
--- ---- cells
-
--- the next cell, if there is one, and those after it
-abbrev pub cells_ahead : Option SheetCell → List Entry → List Entry
-cells_ahead None others = others
-cells_ahead (Some cell) others = cell_entry cell ∷ others
-
--- without a next cell there are no others
-abbrev pub IsEnded : Option SheetCell → List Entry → Type 0
-IsEnded None others = others ≡ []
-IsEnded (Some cell) others = Unit {0}
 
 -- ---- values
 

@@ -8,10 +8,9 @@ ghost use Rattle.xls_csv.specs.Walk.{left_along, row_along, rows_along, take_at,
 ghost use Rattle.xls_tables.specs.Steps.{PutsField, PutsFields, PutsRow, PutsRows};
 ghost use Rattle.xls_tables.specs.Tables.{DeliversTable};
 
-use crate::ahead::Ahead;
 use crate::gathered::Gathered;
 use std::alloc::Global;
-use xls_csv::{Extent, extent_of};
+use xls_csv::{Ahead, Extent, extent_of};
 use xls_lines::{Sink, Stop};
 use xls_readable::Delimiter;
 use xls_view::SheetCells;

@@ -1,0 +1,122 @@
+//! The rows that are gathered before they are written.
+
+ghost use Rattle.std.specs.Prelude.{◌≡◌, ◌++◌, ◌==◌, [], length, IfOk, OnOk};
+ghost use Rattle.csv.specs.Writing.{default_writer, field_text, next_sep};
+ghost use Rattle.xls_lines.specs.Gathering.{Puts};
+ghost use Rattle.xls_view.specs.Values.{value_content};
+ghost use Rattle.xls_csv.specs.Fields.{field};
+ghost use Rattle.xls_csv.specs.Steps.{placed, row_end, value_in};
+
+use crate::line::push_value;
+use std::alloc::{AllocError, Global};
+use std::marker::Model;
+use xls_lines::{Sink, Stop, write_all};
+use xls_view::{CellValue, TextBuffer};
+
+/// From so many bytes on, what is gathered is written.
+const PIECE: usize = 65_536;
+
+/// The bytes that are gathered, and memory for the text of one cell. Contracts see what is gathered.
+#[derive(Drop)]
+pub(crate) struct Gathered {
+    bytes: Vec<u8>,
+    /// Memory for a text that stands in a record.
+    text: TextBuffer,
+    /// A value that has to be printed before it is known whether it calls for quotes.
+    printed: String,
+}
+
+impl Model for Gathered {
+    ghost use Rattle.std.specs.Prelude.{ℕ, List};
+
+    ghost Value = { List ℕ };
+
+    ghost view = { λ g. g.bytes.items };
+}
+
+impl Gathered {
+    pub(crate) fn new(alloc: Global) -> Gathered
+        ensures { result ≡ [] }
+    {
+        Gathered {
+            bytes: Vec::new(alloc),
+            text: TextBuffer::new(alloc),
+            printed: String::new(alloc),
+        }
+    }
+
+    /// Writes all that is gathered.
+    pub(crate) fn finish<K: Sink>(&mut self, sink: &mut K) -> Result<(), Stop>
+        ensures puts { Puts (K.state sink.old) self.old (K.state sink.new) self.new [] result }
+        ensures none { OnOk result (self.new ≡ []) }
+    {
+        write_all(sink, &self.bytes)?;
+        self.bytes.clear();
+        Ok(())
+    }
+
+    /// Writes what is gathered, where it is 64 KiB or more.
+    pub(crate) fn pass<K: Sink>(&mut self, sink: &mut K) -> Result<(), Stop>
+        ensures { Puts (K.state sink.old) self.old (K.state sink.new) self.new [] result }
+    {
+        if self.bytes.len() < PIECE {
+            return Ok(());
+        }
+        self.finish(sink)
+    }
+
+    /// Appends what stands before the field at a place of a row: a comma, but at the first.
+    fn separate(&mut self, place: u64) -> Result<(), AllocError>
+        ensures { OnOk result (self.new ≡ self.old ++ next_sep default_writer place) }
+    {
+        if place > 0 {
+            self.bytes.push(b',')?;
+        }
+        Ok(())
+    }
+
+    /// Appends the field of a cell's value.
+    fn push_value(&mut self, value: CellValue<'_>) -> Result<(), AllocError>
+        ensures { OnOk result (self.new ≡ self.old ++ field_text default_writer (field (value_content value.entry))) }
+    {
+        match self.text.value_of(value) {
+            Ok(value) => push_value(&mut self.bytes, &mut self.printed, &value),
+            Err(error) => Err(error),
+        }
+    }
+
+    /// Appends the field of a value, an empty one where there is none.
+    fn push_shown(&mut self, value: Option<CellValue<'_>>) -> Result<(), AllocError>
+        ensures { OnOk result (self.new ≡ self.old ++ field_text default_writer (field (value_in value.entry))) }
+    {
+        match value {
+            Some(value) => self.push_value(value),
+            None => Ok(()),
+        }
+    }
+
+    /// Appends the field at a place of a row, and tells whether that is no byte.
+    pub(crate) fn push_field(
+        &mut self,
+        place: u64,
+        value: Option<CellValue<'_>>,
+    ) -> Result<bool, AllocError>
+        ensures field { OnOk result (self.new ≡ self.old ++ placed place (value_in value.entry)) }
+        ensures bare { IfOk result (λ is_bare. is_bare ≡ (length (placed place (value_in value.entry)) == 0)) }
+    {
+        let before = self.bytes.len();
+        self.separate(place)?;
+        self.push_shown(value)?;
+        Ok(self.bytes.len() == before)
+    }
+
+    /// Appends the end of a row. A row without a byte has two quotes before it.
+    pub(crate) fn push_end(&mut self, is_bare: bool) -> Result<(), AllocError>
+        ensures { OnOk result (self.new ≡ self.old ++ row_end is_bare) }
+    {
+        if is_bare {
+            return self.bytes.extend_from_slice(b"\"\"\n");
+        }
+        self.bytes.extend_from_slice(b"\n")
+    }
+}
