@@ -56,6 +56,7 @@ impl Gathered {
     }
 
     /// Writes what is gathered, where it is 64 KiB or more.
+    #[inline(always)]
     pub(crate) fn pass<K: Sink>(&mut self, sink: &mut K) -> Result<(), Stop>
         ensures { Puts (K.state sink.old) self.old (K.state sink.new) self.new [] result }
     {
@@ -66,6 +67,7 @@ impl Gathered {
     }
 
     /// Appends what stands before the field at a place of a row: a comma, but at the first.
+    #[inline(always)]
     fn separate(&mut self, place: u64) -> Result<(), AllocError>
         ensures { OnOk result (self.new ≡ self.old ++ next_sep default_writer place) }
     {
@@ -76,6 +78,7 @@ impl Gathered {
     }
 
     /// Appends the field of a cell's value.
+    #[inline(always)]
     fn push_value(&mut self, value: CellValue<'_>) -> Result<(), AllocError>
         ensures { OnOk result (self.new ≡ self.old ++ field_text default_writer (field (value_content value.entry))) }
     {
@@ -86,6 +89,7 @@ impl Gathered {
     }
 
     /// Appends the field of a value, an empty one where there is none.
+    #[inline(always)]
     fn push_shown(&mut self, value: Option<CellValue<'_>>) -> Result<(), AllocError>
         ensures { OnOk result (self.new ≡ self.old ++ field_text default_writer (field (value_in value.entry))) }
     {
@@ -96,6 +100,7 @@ impl Gathered {
     }
 
     /// Appends the field at a place of a row, and tells whether that is no byte.
+    #[inline(always)]
     pub(crate) fn push_field(
         &mut self,
         place: u64,
