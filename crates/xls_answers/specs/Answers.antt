@@ -1,13 +1,13 @@
 -- What is written of a file.
-use Rattle.std.specs.Prelude.{◌≡◌, ◌⊎◌, ℕ, ◌<◌, List, [], length, None, Result, Ok, Err, true}
+use Rattle.std.specs.Prelude.{◌≡◌, ◌⊎◌, ℕ, ◌<◌, List, [], length, Result, Ok, Err}
 use Rattle.xls_model.specs.Listing.{Entry}
 use Rattle.xls_strings.specs.declared.error.XlsError.TheVariants.{TooLarge}
 use Rattle.xls_open.specs.declared.options.XlsOptions.{XlsOptions}
-use Rattle.xls_view.specs.Viewing.{Viewed, IsFault}
+use Rattle.xls_view.specs.Viewing.{IsFault}
 use Rattle.xls_lay.specs.Reading.{ReadsList, IsFirst}
 use Rattle.xls_lay.specs.Writing.{Writes}
 use Rattle.xls_lines.specs.SinkState.{SinkState}
-use Rattle.xls_lines.specs.Gathering.{Delivers, Stops, Wrote}
+use Rattle.xls_lines.specs.Gathering.{Stops, Wrote}
 use Rattle.xls_lines.specs.declared.stop.Stop.TheVariants.{Memory}
 use Rattle.xls_report.specs.Endings.{IsUntouched}
 use Rattle.xls_report.specs.Report.{report, sound_line}

@@ -19,11 +19,8 @@ fn lay_cell(
     ensures same { KeepsRooms rooms.old rooms.new }
     ensures ok { OnOk result (Lays rooms.old rooms.new (λ a. with_cell a (cell_entry cell.entry))) }
 {
-    let text = lay_text(rooms, buffer.text_of(cell.value)?)?;
-    lay_cell_item(
-        rooms,
-        cell_item(cell.row, cell.column, cell.value, text),
-    )
+    let text = lay_text(rooms, buffer.text_of(&cell.value)?)?;
+    lay_cell_item(rooms, cell_item(cell.row, cell.column, &cell.value, text))
 }
 
 /// Lays cells.

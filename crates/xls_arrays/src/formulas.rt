@@ -9,8 +9,8 @@ ghost use Rattle.xls_arrays.specs.Filled.{KeepsRooms, Lays};
 
 use crate::items::FormulaItem;
 use crate::rooms::{Rooms, lay_formula_item, lay_text};
-use std::alloc::AllocError;
-use xls_view::{FormulaCell, SheetFormulas};
+use std::alloc::{AllocError, Global};
+use xls_view::{FormulaBuffer, FormulaCell, SheetFormulas};
 
 /// Lays the text of a formula.
 fn lay_formula_text(
@@ -29,6 +29,7 @@ fn lay_formula_text(
 /// Lays a formula of a sheet.
 fn lay_formula(
     rooms: &mut Rooms<'_>,
+    texts: &mut FormulaBuffer,
     formulas: &SheetFormulas<'_>,
     formula: FormulaCell<'_>,
 ) -> Result<(), AllocError>
@@ -36,12 +37,13 @@ fn lay_formula(
     ensures ok { OnOk result (Lays rooms.old rooms.new
         (λ a. with_formula a (text_entry formulas.now.context (formula_seen formula.entry)))) }
 {
-    let text = formulas.text_of(formula)?;
-    lay_formula_text(rooms, formula.row, formula.column, text.as_str())
+    let text = formulas.text_in(texts, formula)?;
+    lay_formula_text(rooms, formula.row, formula.column, text)
 }
 
 /// Lays the formulas of a sheet.
 pub(crate) fn lay_formulas(
+    alloc: Global,
     rooms: &mut Rooms<'_>,
     formulas: &SheetFormulas<'_>,
 ) -> Result<(), AllocError>
@@ -49,8 +51,9 @@ pub(crate) fn lay_formulas(
     ensures ok { OnOk result (Lays rooms.old rooms.new
         (λ a. laid with_formula a (map (text_entry formulas.now.context) formulas.now.left))) }
 {
+    let mut texts = FormulaBuffer::new(alloc);
     for formula in formulas.iter() {
-        lay_formula(rooms, formulas, formula)?;
+        lay_formula(rooms, &mut texts, formulas, formula)?;
     }
     Ok(())
 }

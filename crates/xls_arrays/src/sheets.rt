@@ -48,7 +48,7 @@ fn lay_shown(alloc: Global, rooms: &mut Rooms<'_>, sheet: &ViewSheet<'_>) -> Res
     let cells = sheet.cells()?;
     lay_cells(alloc, rooms, cells.iter())?;
     let formulas = sheet.formulas()?;
-    lay_formulas(rooms, &formulas)?;
+    lay_formulas(alloc, rooms, &formulas)?;
     lay_regions(rooms, sheet.merges())
 }
 

@@ -1,11 +1,10 @@
 //! Texts of operands in one text. What is put before an operand is kept apart and chained to its first leaf,
 //! so that no text is moved.
 
-ghost use Rattle.std.specs.Prelude.{◌≡◌, ℕ, List, [], ◌∷◌, ◌<◌, length, OnOk, OnErr, IfOk};
+ghost use Rattle.std.specs.Prelude.{◌≡◌, ℕ, List, [], ◌∷◌, ◌<◌, length, OnOk, OnErr, IfOk, IsUtf8};
 ghost use Rattle.std.specs.List.{concat};
 ghost use Rattle.std.specs.Str.{chars};
 ghost use Rattle.xls_strings.specs.Reading.{Gives};
-ghost use Rattle.xls_strings.specs.Texts.{text_of};
 ghost use Rattle.xls_formula.specs.Holding.{tree_of};
 ghost use Rattle.xls_formula.specs.Tree.{render};
 ghost use Rattle.xls_formula.specs.buffer.Fronts.{IsChain};
@@ -63,26 +62,27 @@ fn put_at(fronts: &mut Fronts, leaf: &mut Leaf, mark: &str) -> Result<(), AllocE
     Ok(())
 }
 
-/// The leaves one after another, each after what was put before it.
-fn joined(
-    alloc: Global,
+/// The leaves one after another, each after what was put before it, in place of what `out` holds.
+fn join_leaves(
+    out: &mut Vec<u8>,
     text: &[u8],
     fronts: &Fronts,
     leaves: &[Leaf],
-) -> Result<Vec<u8>, AllocError>
+) -> Result<(), AllocError>
     requires whole { AreWhole text.now leaves.now }
     requires chained { AreChained (length fronts.now) leaves.now }
-    ensures { IfOk result (λ out. out.items ≡ concat (leaf_texts fronts.now text.now leaves.now)) }
+    ensures { OnOk result (out.new.items ≡ concat (leaf_texts fronts.now text.now leaves.now)) }
 {
-    let mut out = Vec::with_capacity(alloc, text.len().saturating_add(fronts.size()))?;
+    out.clear();
+    out.reserve(text.len().saturating_add(fronts.size()))?;
     let mut rest = text;
     'leaves: for leaf in leaves {
-        fronts.write(leaf.front, &mut out)?;
+        fronts.write(leaf.front, out)?;
         let (body, after) = rest.split_at(leaf.len);
         out.extend_from_slice(body)?;
         rest = after;
     }
-    Ok(out)
+    Ok(())
 }
 
 impl Operands {
@@ -97,6 +97,16 @@ impl Operands {
             fronts: Fronts::new(alloc),
             starts: Vec::new(alloc),
         }
+    }
+
+    /// Leaves no operand. The memory stays.
+    pub(crate) fn clear(&mut self)
+        ensures { self.new ≡ [] }
+    {
+        self.text.clear();
+        self.leaves.clear();
+        self.fronts.clear();
+        self.starts.clear();
     }
 
     /// How many operands there are.
@@ -172,16 +182,18 @@ impl Operands {
         }
     }
 
-    /// The text where there is one alone. `InvalidFormula` with their number where there is another.
-    pub(crate) fn into_text(self) -> Result<String, XlsError>
-        ensures { Gives text_of result (one_text self) }
+    /// The text where there is one alone, in place of what `out` holds. `InvalidFormula` with their number
+    /// where there is another.
+    pub(crate) fn write_text(&self, out: &mut Vec<u8>) -> Result<(), XlsError>
+        ensures text { Gives (λ u. chars out.new.items) result (one_text self.now) }
+        ensures utf8 { IfOk result (λ u. IsUtf8 out.new.items) }
     {
         if self.starts.len() != 1 {
             return Err(XlsError::InvalidFormula {
                 stack_size: self.starts.len(),
             });
         }
-        let out = joined(self.alloc, self.text.as_bytes(), &self.fronts, &self.leaves)?;
-        Ok(String::from_utf8(out).unwrap())
+        join_leaves(out, self.text.as_bytes(), &self.fronts, &self.leaves)?;
+        Ok(())
     }
 }

@@ -44,6 +44,14 @@ impl Fronts {
         }
     }
 
+    /// Leaves no piece. The memory stays.
+    pub(crate) fn clear(&mut self)
+        ensures { self.new ≡ [] }
+    {
+        self.bytes.clear();
+        self.pieces.clear();
+    }
+
     /// How many bytes all pieces have, by which room is asked for.
     pub(crate) fn size(&self) -> usize {
         self.bytes.len()

@@ -18,7 +18,7 @@ pub use effect::{Effect, read_effect};
 pub use ftab::{FTAB, FTAB_ARGC, FTAB_LEN};
 pub use functions::FunctionTable;
 pub use names::Names;
-pub use parse::{parse_formula, tokens_of};
+pub use parse::{FormulaTexts, parse_formula, tokens_of};
 pub use scope::{Scope, sheet_of_reference};
 pub use words::Word;
 pub use xls_ptg::{RawCite, Token, read_token};

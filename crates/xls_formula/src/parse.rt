@@ -1,6 +1,7 @@
 //! The text of a formula.
 
-ghost use Rattle.std.specs.Prelude.{◌≡◌};
+ghost use Rattle.std.specs.Prelude.{◌≡◌, [], IfOk, IsUtf8};
+ghost use Rattle.std.specs.Str.{chars};
 ghost use Rattle.xls_strings.specs.Reading.{Exactly, Gives};
 ghost use Rattle.xls_strings.specs.Texts.{text_of};
 ghost use Rattle.xls_formula.specs.Fold.{formula_text, tokens_at, walk};
@@ -15,6 +16,8 @@ use crate::names::Names;
 use crate::put::put;
 use crate::scope::Scope;
 use std::alloc::Global;
+use std::marker::Model;
+use std::str::from_utf8;
 use xls_biff::{Biff, Part, Refs, Strings, XlsError};
 use xls_ptg::{short, word_at};
 use xls_text::XlsEncoding;
@@ -50,13 +53,79 @@ fn put_tokens(texts: &mut Operands, scope: Scope<'_>, tokens: &[u8]) -> Result<(
     Ok(())
 }
 
+/// The text of a formula in place of what `out` holds, with the operands in a buffer.
+fn write_formula(
+    texts: &mut Operands,
+    out: &mut Vec<u8>,
+    rgce: &[u8],
+    scope: Scope<'_>,
+) -> Result<(), XlsError>
+    ensures text { Gives (λ u. chars out.new.items) result (formula_text (context_of scope.entry) rgce.now) }
+    ensures utf8 { IfOk result (λ u. IsUtf8 out.new.items) }
+{
+    let tokens = tokens_of(rgce)?;
+    texts.clear();
+    put_tokens(texts, scope, tokens)?;
+    texts.write_text(out)
+}
+
 fn text_in_scope(alloc: Global, rgce: &[u8], scope: Scope<'_>) -> Result<String, XlsError>
     ensures { Gives text_of result (formula_text (context_of scope.entry) rgce.now) }
 {
-    let tokens = tokens_of(rgce)?;
     let mut texts = Operands::new(alloc);
-    put_tokens(&mut texts, scope, tokens)?;
-    texts.into_text()
+    let mut out = Vec::new(alloc);
+    write_formula(&mut texts, &mut out, rgce, scope)?;
+    Ok(String::from_utf8(out).unwrap())
+}
+
+/// Memory in which texts of formulas are made, one after the other. Contracts see the text that it holds.
+#[derive(Drop)]
+pub struct FormulaTexts {
+    texts: Operands,
+    text: Vec<u8>,
+}
+
+impl Model for FormulaTexts {
+    ghost use Rattle.std.specs.Prelude.{List, ℕ, IsUtf8};
+    ghost use Rattle.std.specs.Str.{chars};
+
+    ghost Value = { List ℕ };
+
+    ghost view = { λ f. chars f.text.items };
+
+    ghost invariant = { λ f. IsUtf8 f.text.items };
+}
+
+impl FormulaTexts {
+    /// No text. Takes no memory.
+    pub fn new(alloc: Global) -> FormulaTexts
+        ensures { result ≡ [] }
+    {
+        FormulaTexts {
+            texts: Operands::new(alloc),
+            text: Vec::new(alloc),
+        }
+    }
+
+    /// Makes the text of a formula as by `parse_formula`, in place of the one before.
+    pub fn read(&mut self, rgce: &[u8], scope: Scope<'_>) -> Result<(), XlsError>
+        ensures { Gives (λ u. self.new) result (formula_text (context_of scope.entry) rgce.now) }
+    {
+        match write_formula(&mut self.texts, &mut self.text, rgce, scope) {
+            Ok(()) => Ok(()),
+            Err(error) => {
+                self.text.clear();
+                Err(error)
+            }
+        }
+    }
+
+    /// The text.
+    pub fn as_str(&self) -> &str
+        ensures { chars result.now ≡ self.now }
+    {
+        from_utf8(self.text.as_slice()).unwrap()
+    }
 }
 
 /// The text of a formula, [MS-XLS] CellParsedFormula 2.5.198.3: `rgce` begins with the length of the

@@ -49,6 +49,7 @@ fn room_in<K: Sink>(bytes: &mut Vec<u8>, sink: &mut K) -> Result<usize, Stop>
 }
 
 /// Gathers some bytes. Each full piece is written.
+#[inline(always)]
 fn gather<K: Sink>(bytes: &mut Vec<u8>, sink: &mut K, text: &[u8]) -> Result<(), Stop>
     requires { length bytes.old.items ≤ PIECE }
     ensures puts { Puts (K.state sink.old) bytes.old.items (K.state sink.new) bytes.new.items
@@ -63,6 +64,7 @@ fn gather<K: Sink>(bytes: &mut Vec<u8>, sink: &mut K, text: &[u8]) -> Result<(),
 }
 
 /// Gathers some bytes, as many at a time as there is room for.
+#[inline(never)]
 fn gather_by_pieces<K: Sink>(bytes: &mut Vec<u8>, sink: &mut K, text: &[u8]) -> Result<(), Stop>
     requires { length bytes.old.items ≤ PIECE }
     ensures puts { Puts (K.state sink.old) bytes.old.items (K.state sink.new) bytes.new.items

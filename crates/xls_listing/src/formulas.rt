@@ -16,7 +16,7 @@ use xls_data::Sheet;
 use xls_lines::{Sink, Stop};
 use xls_pieces::Pieces;
 use xls_readable::{Form, push_formula_line};
-use xls_view::{FormulaCell, SheetFormulas, View, ViewSheet};
+use xls_view::{FormulaBuffer, FormulaCell, SheetFormulas, View, ViewSheet};
 
 /// Puts the line of a formula.
 fn put_formula<K: Sink>(
@@ -57,6 +57,7 @@ fn put_formula_of<K: Sink>(
     form: Form,
     pieces: &mut Pieces,
     sink: &mut K,
+    texts: &mut FormulaBuffer,
     formulas: &SheetFormulas<'_>,
     formula: FormulaCell<'_>,
 ) -> Result<(), Stop>
@@ -64,15 +65,8 @@ fn put_formula_of<K: Sink>(
         (map formula_line (shown_formulas (text_entry formulas.now.context (formula_seen formula.entry) ∷ [])))
         (K.state sink.old) pieces.old (K.state sink.new) pieces.new result }
 {
-    let text = formulas.text_of(formula)?;
-    put_shown_formula(
-        form,
-        pieces,
-        sink,
-        formula.row,
-        formula.column,
-        text.as_str(),
-    )
+    let text = formulas.text_in(texts, formula)?;
+    put_shown_formula(form, pieces, sink, formula.row, formula.column, text)
 }
 
 /// Puts the lines of a sheet's formulas.
@@ -80,6 +74,7 @@ fn put_formulas<K: Sink>(
     form: Form,
     pieces: &mut Pieces,
     sink: &mut K,
+    texts: &mut FormulaBuffer,
     formulas: &SheetFormulas<'_>,
 ) -> Result<(), Stop>
     ensures { PutsLines form
@@ -87,7 +82,7 @@ fn put_formulas<K: Sink>(
         (K.state sink.old) pieces.old (K.state sink.new) pieces.new result }
 {
     for formula in formulas.iter() {
-        put_formula_of(form, pieces, sink, formulas, formula)?;
+        put_formula_of(form, pieces, sink, texts, formulas, formula)?;
     }
     Ok(())
 }
@@ -97,13 +92,14 @@ pub(crate) fn put_shown_formulas<K: Sink>(
     form: Form,
     pieces: &mut Pieces,
     sink: &mut K,
+    texts: &mut FormulaBuffer,
     sheet: &ViewSheet<'_>,
 ) -> Result<(), Stop>
     ensures { PutsLines form (lines_of_formulas (content_of sheet.now))
         (K.state sink.old) pieces.old (K.state sink.new) pieces.new result }
 {
     let formulas = sheet.formulas()?;
-    put_formulas(form, pieces, sink, &formulas)
+    put_formulas(form, pieces, sink, texts, &formulas)
 }
 
 /// Puts the lines of the formulas of the sheet at an index.
@@ -111,6 +107,7 @@ fn put_formulas_at<K: Sink>(
     form: Form,
     pieces: &mut Pieces,
     sink: &mut K,
+    texts: &mut FormulaBuffer,
     view: &View<'_>,
     n: usize,
 ) -> Result<(), Stop>
@@ -118,7 +115,7 @@ fn put_formulas_at<K: Sink>(
         (K.state sink.old) pieces.old (K.state sink.new) pieces.new result }
 {
     match view.sheet_at(n) {
-        Some(sheet) => put_shown_formulas(form, pieces, sink, &sheet),
+        Some(sheet) => put_shown_formulas(form, pieces, sink, texts, &sheet),
         None => Ok(()),
     }
 }
@@ -128,6 +125,7 @@ fn put_sheet_formulas<K: Sink>(
     form: Form,
     pieces: &mut Pieces,
     sink: &mut K,
+    texts: &mut FormulaBuffer,
     view: &View<'_>,
     sheet: &Sheet,
     n: usize,
@@ -137,7 +135,7 @@ fn put_sheet_formulas<K: Sink>(
         (K.state sink.old) pieces.old (K.state sink.new) pieces.new result }
 {
     put_sheet(form, pieces, sink, sheet)?;
-    put_formulas_at(form, pieces, sink, view, n)
+    put_formulas_at(form, pieces, sink, texts, view, n)
 }
 
 /// Puts the sheets in workbook order, each with its formulas.
@@ -145,6 +143,7 @@ fn put_all_formulas<K: Sink>(
     form: Form,
     pieces: &mut Pieces,
     sink: &mut K,
+    texts: &mut FormulaBuffer,
     view: &View<'_>,
 ) -> Result<(), Stop>
     ensures { PutsLines form (each_sheet lines_of_formulas view.now.book.sheets view.now.book.contents)
@@ -152,7 +151,7 @@ fn put_all_formulas<K: Sink>(
 {
     let sheets = view.sheets();
     for i in 0..sheets.len() {
-        put_sheet_formulas(form, pieces, sink, view, &sheets[i], i)?;
+        put_sheet_formulas(form, pieces, sink, texts, view, &sheets[i], i)?;
     }
     Ok(())
 }
@@ -169,6 +168,7 @@ pub fn write_formula_list<K: Sink>(
         (K.state sink.old) (K.state sink.new) result }
 {
     let mut pieces = Pieces::new(alloc);
-    put_all_formulas(form, &mut pieces, sink, view)?;
+    let mut texts = FormulaBuffer::new(alloc);
+    put_all_formulas(form, &mut pieces, sink, &mut texts, view)?;
     pieces.finish(sink)
 }

@@ -16,7 +16,7 @@ use xls_data::Sheet;
 use xls_lines::{Sink, Stop};
 use xls_pieces::Pieces;
 use xls_readable::{Form, push_dates, push_name};
-use xls_view::{View, ViewSheet};
+use xls_view::{FormulaBuffer, View, ViewSheet};
 
 /// Puts the line of the date system.
 fn put_dates<K: Sink>(
@@ -81,7 +81,8 @@ fn put_shown<K: Sink>(
         (K.state sink.old) pieces.old (K.state sink.new) pieces.new result }
 {
     put_shown_cells(alloc, form, pieces, sink, sheet)?;
-    put_shown_formulas(form, pieces, sink, sheet)?;
+    let mut texts = FormulaBuffer::new(alloc);
+    put_shown_formulas(form, pieces, sink, &mut texts, sheet)?;
     put_merges(form, pieces, sink, sheet.merges())
 }
 

@@ -1,6 +1,7 @@
 //! The text of a formula.
 
-ghost use Rattle.std.specs.Prelude.{◌≡◌, IfOk};
+ghost use Rattle.std.specs.Prelude.{◌≡◌, IfOk, OnOk};
+ghost use Rattle.std.specs.Str.{chars};
 ghost use Rattle.std.specs.String.{string_bytes};
 ghost use Rattle.xls_strings.specs.Texts.{text_of};
 ghost use Rattle.xls_formula.specs.Fold.{formula_text};
@@ -9,7 +10,7 @@ ghost use Rattle.xls_reading.specs.SheetTable.{refusal_bytes, shown_formula};
 use crate::force::InForce;
 use std::alloc::{AllocError, Global};
 use xls_biff::XlsError;
-use xls_formula::parse_formula;
+use xls_formula::{FormulaTexts, Scope, parse_formula};
 
 /// The text of the formula of a cell, or why it is refused.
 pub fn text_of_formula(
@@ -41,8 +42,72 @@ pub fn text_of_formula(
 fn refusal_of(alloc: Global, position: (u32, u32), error: &XlsError) -> Result<String, AllocError>
     ensures { IfOk result (λ text. string_bytes text ≡ refusal_bytes position error.now) }
 {
-    let (row, column) = position;
-    let mut text = format!(in alloc; "Unrecognised formula for cell ({row}, {column}): ")?;
-    write!(text, "{error}")?;
+    let mut text = String::new(alloc);
+    write_refusal(&mut text, position, error)?;
     Ok(text)
+}
+
+/// The same in a text, in place of what it holds.
+fn write_refusal(
+    text: &mut String,
+    position: (u32, u32),
+    error: &XlsError,
+) -> Result<(), AllocError>
+    ensures { OnOk result (string_bytes text.new ≡ refusal_bytes position error.now) }
+{
+    let (row, column) = position;
+    text.clear();
+    write!(
+        text,
+        "Unrecognised formula for cell ({row}, {column}): {error}"
+    )?;
+    Ok(())
+}
+
+/// Memory in which texts of formulas are made, one after the other.
+#[derive(Drop)]
+pub struct FormulaBuffer {
+    texts: FormulaTexts,
+    /// What stands in place of a formula that is refused.
+    refusal: String,
+}
+
+impl FormulaBuffer {
+    /// No text. Takes no memory.
+    pub fn new(alloc: Global) -> FormulaBuffer {
+        FormulaBuffer {
+            texts: FormulaTexts::new(alloc),
+            refusal: String::new(alloc),
+        }
+    }
+
+    /// The text of the formula of a cell, or why it is refused, made here in place of the one before.
+    pub fn text_of(
+        &mut self,
+        rgce: &[u8],
+        position: (u32, u32),
+        force: &InForce<'_>,
+    ) -> Result<&str, AllocError>
+        ensures { IfOk result (λ text. chars text.now
+            ≡ shown_formula position (formula_text force.now.formulas rgce.now)) }
+    {
+        let scope = Scope {
+            sheets: force.sheets,
+            names: force.names,
+            refs: force.refs,
+            encoding: force.page,
+            biff: force.version,
+            functions: force.functions,
+        };
+        match self.texts.read(rgce, scope) {
+            Ok(()) => Ok(self.texts.as_str()),
+            Err(error) => {
+                if error.is_memory() {
+                    return Err(AllocError);
+                }
+                write_refusal(&mut self.refusal, position, &error)?;
+                Ok(self.refusal.as_str())
+            }
+        }
+    }
 }

@@ -17,7 +17,7 @@ mod part;
 pub use check::{check_sheets_of, check_stream};
 pub use classes::classes_of;
 pub use force::InForce;
-pub use formula::text_of_formula;
+pub use formula::{FormulaBuffer, text_of_formula};
 pub use globals::{Globals, read_globals};
 pub use laws::{
     checked_alike, laid_checks, laid_opens, laid_sound, one_list_per_stream, pages_hang_on_nothing,

@@ -24,7 +24,10 @@ use xls_biff::XlsError;
 use xls_data::{DataRef, Dimensions, Sheet, SheetType, SheetVisible};
 use xls_lay::LayError;
 use xls_lines::{Buffer, Field, Sink, Stop, write_line};
-use xls_view::{Cells, FormulaCell, Merges, SheetCell, SheetFormulas, TextBuffer, View, ViewSheet};
+use xls_view::{
+    Cells, FormulaBuffer, FormulaCell, Merges, SheetCell, SheetFormulas, TextBuffer, View,
+    ViewSheet,
+};
 
 /// The word for a date or a span.
 fn date_kind(is_span: bool) -> &'static str
@@ -181,18 +184,20 @@ fn put_shown_formula<K: Sink>(
 fn put_formula_of<K: Sink>(
     buffer: &mut Buffer,
     sink: &mut K,
+    texts: &mut FormulaBuffer,
     formulas: &SheetFormulas<'_>,
     formula: FormulaCell<'_>,
 ) -> Result<(), Stop>
     ensures { Puts (K.state sink.old) buffer.old (K.state sink.new) buffer.new
         (formula_lines (text_entry formulas.now.context (formula_seen formula.entry) ∷ [])) result }
 {
-    let text = formulas.text_of(formula)?;
-    put_shown_formula(buffer, sink, formula.row, formula.column, text.as_str())
+    let text = formulas.text_in(texts, formula)?;
+    put_shown_formula(buffer, sink, formula.row, formula.column, text)
 }
 
 /// Puts the lines of a sheet's formulas.
 fn put_formulas<K: Sink>(
+    alloc: Global,
     buffer: &mut Buffer,
     sink: &mut K,
     formulas: &SheetFormulas<'_>,
@@ -200,8 +205,9 @@ fn put_formulas<K: Sink>(
     ensures { Puts (K.state sink.old) buffer.old (K.state sink.new) buffer.new
         (formula_lines (map (text_entry formulas.now.context) formulas.now.left)) result }
 {
+    let mut texts = FormulaBuffer::new(alloc);
     for formula in formulas.iter() {
-        put_formula_of(buffer, sink, formulas, formula)?;
+        put_formula_of(buffer, sink, &mut texts, formulas, formula)?;
     }
     Ok(())
 }
@@ -249,6 +255,7 @@ fn put_shown_cells<K: Sink>(
 
 /// Puts the lines of the formulas that a sheet shows.
 fn put_shown_formulas<K: Sink>(
+    alloc: Global,
     buffer: &mut Buffer,
     sink: &mut K,
     sheet: &ViewSheet<'_>,
@@ -257,7 +264,7 @@ fn put_shown_formulas<K: Sink>(
         (formula_lines (content_of sheet.now).formulas) result }
 {
     let formulas = sheet.formulas()?;
-    put_formulas(buffer, sink, &formulas)
+    put_formulas(alloc, buffer, sink, &formulas)
 }
 
 /// Puts the lines of what a sheet shows.
@@ -271,7 +278,7 @@ fn put_shown<K: Sink>(
         (lines_at (Some (content_of sheet.now))) result }
 {
     put_shown_cells(alloc, buffer, sink, sheet)?;
-    put_shown_formulas(buffer, sink, sheet)?;
+    put_shown_formulas(alloc, buffer, sink, sheet)?;
     put_merges(buffer, sink, sheet.merges())?;
     Ok(())
 }

@@ -1,5 +1,5 @@
 -- What is written of a file whose workbook is asked for.
-use Rattle.std.specs.Prelude.{◌≡◌, ℕ, List, Option, None, Some, Result, Ok, Err}
+use Rattle.std.specs.Prelude.{ℕ, List, Option, None, Some, Result, Ok, Err}
 use Rattle.xls_answers.specs.Answers.{OfFile}
 use Rattle.xls_answers.specs.declared.answer.Answer.{Answer}
 use Rattle.xls_answers.specs.declared.answer.Answer.TheVariants as answers

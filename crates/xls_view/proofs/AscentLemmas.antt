@@ -1,6 +1,6 @@
 -- Positions that ascend, by their numbers, and boxes that are widened.
-use Rattle.std.proofs.Common.{◌≡◌, ℕ, ◌+◌, ◌*◌, ◌^◌, ◌-◌, ◌<◌, List, [], ◌∷◌, ◌++◌, refl, sym, ap, subst, ◌∙◌, arith, Bool, true, false, Some, None, inl, inr}
-use Rattle.std.specs.Prelude.{◌⊎◌, ◌==◌, if◌then◌else◌, min, max, nat_lt}
+use Rattle.std.proofs.Common.{◌≡◌, ℕ, ◌+◌, ◌*◌, ◌^◌, ◌<◌, List, [], ◌∷◌, ◌++◌, refl, sym, ap, subst, ◌∙◌, arith, Bool, true, false, Some, inl, inr}
+use Rattle.std.specs.Prelude.{◌⊎◌, ◌==◌, min, max, nat_lt}
 use Rattle.xls_data.specs.declared.regions.Dimensions.{Dimensions}
 use Rattle.xls_cells.specs.Positions.{IsAscending, Position, Precedes}
 use Rattle.xls_view.specs.Placing.{EndsIn, IsAscent, number_of}

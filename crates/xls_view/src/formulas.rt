@@ -4,7 +4,7 @@ ghost use Rattle.xls_model.specs.Walks.{IsBytes};
 ghost use Rattle.std.specs.Prelude.{◌≡◌, ◌++◌, ◌∷◌, [], IfOk, OnOk, map};
 ghost use Rattle.xls_reading.specs.Order.{somes};
 ghost use Rattle.xls_view.specs.Placing.{IsAscent, formula_placed, formulas_held};
-ghost use Rattle.xls_strings.specs.Texts.{text_of};
+ghost use Rattle.std.specs.Str.{chars};
 ghost use Rattle.xls_view.specs.Formulas.{Formula, formula_of, formulas_of, text_entry};
 ghost use Rattle.xls_view.specs.Contents.{kept_in, settled};
 ghost use Rattle.xls_biff.specs.Walking.{group_of};
@@ -21,13 +21,12 @@ use xls_biff::{PlacedRecords, Record, SheetRecords, read_formula};
 use xls_cells::{Given, Settled, Unsettled};
 use xls_data::Cell;
 use xls_model::types::FORMULA;
-use xls_open::{InForce, text_of_formula};
+use xls_open::{FormulaBuffer, InForce};
 
 /// The formulas of a sheet, by row, then column, of those of one position the last. Contracts see the list
 /// of them, each by its tokens, and what they may name.
 #[derive(Drop)]
 pub struct SheetFormulas<'v> {
-    alloc: Global,
     force: InForce<'v>,
     part: &'v [u8],
     /// Where the formulas stand, in order, where the records don't ascend.
@@ -109,7 +108,6 @@ impl<'v> SheetFormulas<'v> {
         let part = part_with(part, found);
         let sorted = order_of(alloc, part, found)?;
         Ok(SheetFormulas {
-            alloc,
             force,
             part,
             sorted,
@@ -126,17 +124,17 @@ impl<'v> SheetFormulas<'v> {
         }
     }
 
-    /// The text of a formula of the sheet, or why it is refused. Only running out of memory refuses.
-    pub fn text_of(&self, formula: FormulaCell<'_>) -> Result<String, AllocError>
-        ensures { IfOk result (λ text. ((formula.entry.row, formula.entry.column), text_of text)
+    /// The text of a formula of the sheet, or why it is refused, made in this buffer in place of the one
+    /// before. Only running out of memory refuses.
+    pub fn text_in<'b>(
+        &self,
+        buffer: &'b mut FormulaBuffer,
+        formula: FormulaCell<'_>,
+    ) -> Result<&'b str, AllocError>
+        ensures { IfOk result (λ text. ((formula.entry.row, formula.entry.column), chars text.now)
             ≡ text_entry self.now.context (formula_seen formula.entry)) }
     {
-        text_of_formula(
-            self.alloc,
-            formula.rgce,
-            (formula.row, formula.column),
-            &self.force,
-        )
+        buffer.text_of(formula.rgce, (formula.row, formula.column), &self.force)
     }
 }
 

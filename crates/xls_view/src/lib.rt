@@ -27,3 +27,4 @@ pub use sheet::ViewSheet;
 pub use text::TextBuffer;
 pub use value::{CellValue, EncodedText, FormulaCell, SheetCell};
 pub use view::View;
+pub use xls_open::FormulaBuffer;

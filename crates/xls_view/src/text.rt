@@ -40,6 +40,7 @@ impl TextBuffer {
     }
 
     /// The text of a string, decoded here.
+    #[inline(never)]
     fn decode(&mut self, encoded: EncodedText<'_>) -> Result<&str, AllocError>
         ensures { IfOk result (λ s. chars s.now ≡ encoded_text encoded.entry) }
     {
@@ -50,6 +51,7 @@ impl TextBuffer {
 
     /// The text in a value, and the empty one of a value that is no text. It is lent from the string table or from
     /// this buffer. Only running out of memory refuses.
+    #[inline(always)]
     pub fn text_of<'b>(&'b mut self, value: &CellValue<'b>) -> Result<&'b str, AllocError>
         ensures { IfOk result (λ s. chars s.now ≡ text_in (value_content value.now)) }
     {
@@ -65,6 +67,7 @@ impl TextBuffer {
 
     /// A value with its text, which is lent from the string table or from this buffer. Only running out of
     /// memory refuses.
+    #[inline(always)]
     pub fn value_of<'b>(&'b mut self, value: CellValue<'b>) -> Result<DataRef<'b>, AllocError>
         ensures { IfOk result (λ d. ref_content_of d ≡ value_content value.entry) }
     {

@@ -1,7 +1,9 @@
 use super::*;
 use std::test::*;
 use xls_data::{Data, Dimensions};
-use xls_view::{Merges, SheetCell, SheetCells, SheetFormulas, TextBuffer, View, ViewSheet};
+use xls_view::{
+    FormulaBuffer, Merges, SheetCell, SheetCells, SheetFormulas, TextBuffer, View, ViewSheet,
+};
 
 // A cell as `row,column=` with a space after it, as `push_sheet` has it.
 fn push_cell(alloc: Global, text: &mut String, cell: SheetCell<'_>) -> Result<(), AllocError> {
@@ -20,10 +22,15 @@ fn push_cells(alloc: Global, text: &mut String, cells: &SheetCells<'_>) -> Resul
 }
 
 // An opened workbook leaves out a formula whose text is empty.
-fn push_formulas(text: &mut String, formulas: &SheetFormulas<'_>) -> Result<(), AllocError> {
+fn push_formulas(
+    alloc: Global,
+    text: &mut String,
+    formulas: &SheetFormulas<'_>,
+) -> Result<(), AllocError> {
+    let mut texts = FormulaBuffer::new(alloc);
     for formula in formulas.iter() {
         let (row, column) = (formula.row, formula.column);
-        let told = formulas.text_of(formula)?;
+        let told = formulas.text_in(&mut texts, formula)?;
         if !told.is_empty() {
             write!(text, "{row},{column}={told} ")?;
         }
@@ -66,7 +73,7 @@ fn push_apart(
         push_cells(alloc, text, &cells)?;
     }
     if let Some(formulas) = view.formulas_at(n)? {
-        push_formulas(text, &formulas)?;
+        push_formulas(alloc, text, &formulas)?;
     }
     push_regions(text, view.merges_at(n))
 }
@@ -81,14 +88,14 @@ fn push_named(
         push_cells(alloc, text, &cells)?;
     }
     if let Some(formulas) = view.formulas_named(name)? {
-        push_formulas(text, &formulas)?;
+        push_formulas(alloc, text, &formulas)?;
     }
     push_regions(text, view.merges_named(name))
 }
 
 fn push_whole(alloc: Global, text: &mut String, sheet: &ViewSheet<'_>) -> Result<(), AllocError> {
     push_cells(alloc, text, &sheet.cells()?)?;
-    push_formulas(text, &sheet.formulas()?)?;
+    push_formulas(alloc, text, &sheet.formulas()?)?;
     push_regions(text, Some(sheet.merges()))
 }
 

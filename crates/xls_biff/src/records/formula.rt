@@ -86,9 +86,7 @@ fn read_formula_value(
         return special(r[0], r[2]);
     }
     let number = Number::Bits(read_bits(r));
-    Ok(FormulaValue::Number(Numeric::of_number(
-        number, format, is_1904,
-    )))
+    Ok(FormulaValue::Number(Numeric::of_number(number, format, is_1904)))
 }
 
 /// The value of a formula in 8 bytes, as `read_formula_value` reads it; `None` where a String record

@@ -1,6 +1,5 @@
 use Rattle.std.proofs.Common.{subst, sym}
 use Rattle.xls_container.specs.Files.{HasWorkbook}
-use Rattle.xls_answers.specs.Answers.{OfReadable}
 use Rattle.xls_answers.proofs.FileLemmas.{of-workbook, workbook-refused}
 use Rattle.xls_answers.proofs.stream.write_file.Goals as goal
 

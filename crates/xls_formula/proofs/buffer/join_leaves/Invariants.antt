@@ -1,5 +1,5 @@
 use Rattle.xls_formula.proofs.LeafLemmas.{IsWritten}
-use Rattle.xls_formula.proofs.buffer.joined.Given as goal
+use Rattle.xls_formula.proofs.buffer.join_leaves.Given as goal
 
 abbrev pub invariant-leaves : goal.invariant-leaves
 invariant-leaves l = IsWritten l.fronts l.text l.leaves l.out.items l.rest l.leaf-index
