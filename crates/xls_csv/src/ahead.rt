@@ -4,7 +4,6 @@ ghost use Rattle.std.specs.Prelude.{◌≡◌};
 ghost use Rattle.xls_csv.specs.Steps.{Takes};
 
 use std::marker::Model;
-use std::mem;
 use xls_view::{CellValue, Cells, SheetCell};
 
 /// The cells that are left. Contracts see their list.
@@ -39,15 +38,15 @@ impl<'c> Ahead<'c> {
     }
 
     /// The value of the next cell, if that stands at this position; then the cell is taken.
+    #[inline(always)]
     pub fn take_at(&mut self, row: u64, column: u64) -> Option<CellValue<'c>>
         ensures { Takes self.old row column result self.new }
     {
-        match &self.next {
-            Some(cell) if u64::from(cell.row) == row && u64::from(cell.column) == column => {}
+        let cell = match self.next {
+            Some(cell) if u64::from(cell.row) == row && u64::from(cell.column) == column => cell,
             _ => return None,
-        }
-        let after = self.others.next();
-        let cell = mem::replace(&mut self.next, after)?;
+        };
+        self.next = self.others.next();
         Some(cell.value)
     }
 }
