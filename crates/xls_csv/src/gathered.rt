@@ -7,9 +7,10 @@ ghost use Rattle.xls_view.specs.Values.{value_content};
 ghost use Rattle.xls_csv.specs.Fields.{field};
 ghost use Rattle.xls_csv.specs.Steps.{placed, row_end, value_in};
 
-use crate::line::push_value;
+use crate::line::{push_int, push_text, push_value};
 use std::alloc::{AllocError, Global};
 use std::marker::Model;
+use xls_data::{Number, Numeric};
 use xls_lines::{Sink, Stop, write_all};
 use xls_view::{CellValue, TextBuffer};
 
@@ -46,6 +47,7 @@ impl Gathered {
     }
 
     /// Writes all that is gathered.
+    #[inline(never)]
     pub(crate) fn finish<K: Sink>(&mut self, sink: &mut K) -> Result<(), Stop>
         ensures puts { Puts (K.state sink.old) self.old (K.state sink.new) self.new [] result }
         ensures none { OnOk result (self.new ≡ []) }
@@ -77,14 +79,27 @@ impl Gathered {
         Ok(())
     }
 
-    /// Appends the field of a cell's value.
-    #[inline(always)]
-    fn push_value(&mut self, value: CellValue<'_>) -> Result<(), AllocError>
+    /// Appends the field of a cell's value that isn't a text of the string table.
+    #[inline(never)]
+    fn push_other(&mut self, value: CellValue<'_>) -> Result<(), AllocError>
         ensures { OnOk result (self.new ≡ self.old ++ field_text default_writer (field (value_content value.entry))) }
     {
         match self.text.value_of(value) {
             Ok(value) => push_value(&mut self.bytes, &mut self.printed, &value),
             Err(error) => Err(error),
+        }
+    }
+
+    /// Appends the field of a cell's value.
+    #[inline(always)]
+    fn push_value(&mut self, value: CellValue<'_>) -> Result<(), AllocError>
+        ensures { OnOk result (self.new ≡ self.old ++ field_text default_writer (field (value_content value.entry))) }
+    {
+        match value {
+            CellValue::Shared(text) => push_text(&mut self.bytes, text),
+            CellValue::Number(Numeric::Int(n)) => push_int(&mut self.bytes, n),
+            CellValue::Number(Numeric::Float(Number::Whole(n))) => push_int(&mut self.bytes, n),
+            _ => self.push_other(value),
         }
     }
 

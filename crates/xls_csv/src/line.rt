@@ -2,6 +2,7 @@
 
 ghost use Rattle.std.specs.Prelude.{◌≡◌, ◌∷◌, ◌++◌, [], IfSome, OnOk};
 ghost use Rattle.std.specs.Fmt.{signed_decimal};
+ghost use Rattle.std.specs.Str.{chars, encode_utf8_all};
 ghost use Rattle.csv.specs.Writing.{default_writer, escaped, field_text, needs_byte, needs_quotes, quoted};
 ghost use Rattle.xls_data.specs.Refs.{ref_content_of, ref_text};
 ghost use Rattle.xls_csv.specs.Fields.{field};
@@ -63,6 +64,21 @@ fn push_field(bytes: &mut Vec<u8>, text: &[u8]) -> Result<(), AllocError>
     bytes.extend_from_slice(text)
 }
 
+/// Appends the field of a text.
+pub(crate) fn push_text(bytes: &mut Vec<u8>, text: &str) -> Result<(), AllocError>
+    ensures { OnOk result (bytes.new.items ≡ bytes.old.items ++ field_text default_writer (encode_utf8_all (chars text.now))) }
+{
+    push_field(bytes, text.as_bytes())
+}
+
+/// Appends the field of a whole number, which has no quotes.
+pub(crate) fn push_int(bytes: &mut Vec<u8>, n: i64) -> Result<(), AllocError>
+    ensures { OnOk result (bytes.new.items ≡ bytes.old.items ++ field_text default_writer (signed_decimal n)) }
+{
+    let mut digits = itoa::Buffer::new();
+    push_field(bytes, digits.format(n).as_bytes())
+}
+
 /// The whole number that a value is, if it is one as it stands.
 fn whole_in(value: &DataRef<'_>) -> Option<i64>
     ensures { IfSome result (λ n. field (ref_content_of value.now) ≡ signed_decimal n) }
@@ -98,10 +114,7 @@ fn push_other(
         ≡ bytes.old.items ++ field_text default_writer (field (ref_content_of value.now))) }
 {
     match whole_in(value) {
-        Some(n) => {
-            let mut digits = itoa::Buffer::new();
-            push_field(bytes, digits.format(n).as_bytes())
-        }
+        Some(n) => push_int(bytes, n),
         None => print_field(bytes, printed, value),
     }
 }
