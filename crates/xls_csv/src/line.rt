@@ -12,10 +12,14 @@ use crate::fields::{push_printed, shown_day};
 use std::alloc::AllocError;
 use xls_data::{DataRef, Number};
 
-/// Whether a byte calls for quotes.
+/// Whether a byte calls for quotes. Most bytes are above them all.
+#[inline(always)]
 fn is_special(byte: u8) -> bool
     ensures { result ≡ needs_byte default_writer byte }
 {
+    if byte > b',' {
+        return false;
+    }
     matches!(byte, b',' | b'"' | b'\r' | b'\n')
 }
 
