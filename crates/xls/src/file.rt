@@ -84,7 +84,7 @@ impl<'r> OutFile<'r> {
         written
     }
 
-    /// Makes the file where nothing was written.
+    /// Makes the file where nothing was written. Where a write failed, what was written is taken away.
     pub(crate) fn close(self) -> Result<(), Reason> {
         let OutFile {
             rt,
@@ -95,6 +95,10 @@ impl<'r> OutFile<'r> {
             ..
         } = self;
         if let Some(said) = said {
+            if file.is_some() {
+                // A part would be in the way of the next run. Where it can't be taken away, it stays.
+                let _ = fs::remove_file(rt, path.as_str());
+            }
             return Err(said);
         }
         if file.is_some() {

@@ -45,6 +45,7 @@ impl Gathered {
     }
 
     /// Writes what is gathered, where it is 64 KiB or more.
+    #[inline(always)]
     pub(crate) fn pass<K: Sink>(&mut self, sink: &mut K) -> Result<(), Stop>
         ensures { Puts (K.state sink.old) self.old (K.state sink.new) self.new [] result }
     {
@@ -70,6 +71,7 @@ impl Gathered {
     }
 
     /// Appends what stands before the field at a place of a row: a delimiter, but at the first.
+    #[inline(always)]
     fn separate(&mut self, delimiter: Delimiter, place: u64) -> Result<(), AllocError>
         ensures { OnOk result (self.new ≡ self.old ++ separator delimiter (place == 0)) }
     {
@@ -80,6 +82,7 @@ impl Gathered {
     }
 
     /// Appends the field of a cell's value.
+    #[inline(always)]
     fn push_value(&mut self, delimiter: Delimiter, value: CellValue<'_>) -> Result<(), AllocError>
         ensures { OnOk result (Adds (IsContentField delimiter (value_content value.entry)) self.old self.new) }
     {
@@ -95,6 +98,7 @@ impl Gathered {
     }
 
     /// Appends the field of a value, an empty one where there is none.
+    #[inline(always)]
     fn push_shown(
         &mut self,
         delimiter: Delimiter,
@@ -109,6 +113,7 @@ impl Gathered {
     }
 
     /// Appends the field at a place of a row, and tells whether that is no byte.
+    #[inline(always)]
     pub(crate) fn push_field(
         &mut self,
         delimiter: Delimiter,

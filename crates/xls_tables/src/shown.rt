@@ -7,6 +7,7 @@ use xls_data::DataRef;
 use xls_readable::Value;
 
 /// The value of a cell, lent: a text is one, whether it is shared or not.
+#[inline(always)]
 pub(crate) fn shown_value<'a>(value: &'a DataRef<'_>) -> Value<'a>
     ensures { ShowsContent (ref_content_of value.now) result }
 {

@@ -16,6 +16,7 @@ use xls_readable::Delimiter;
 use xls_view::SheetCells;
 
 /// Puts the field at a position of a row that begins at a column, and tells whether that is no byte.
+#[inline(always)]
 fn put_field<K: Sink>(
     gathered: &mut Gathered,
     sink: &mut K,
