@@ -19,17 +19,17 @@ write_stream-requires g c = record {
   short = not_long c.args.list.now c.canonical_length-found.result c.canonical_length-found.ensures c.if-found-ge-TOO_LONG.false;
 }
 
-pub returns-in_err-write_unwritten-then-found-ge-TOO_LONG : goal.returns-in_err-write_unwritten-then-found-ge-TOO_LONG
-returns-in_err-write_unwritten-then-found-ge-TOO_LONG g c =
+pub returns-in_err-write_unwritten : goal.returns-in_err-write_unwritten
+returns-in_err-write_unwritten g c =
     let list = c.args.list.now in
     either-stopped (IsWrittenOf list) (IsUnwrittenOf list) c.from_residual.result c.from_residual.ensures.1
     (inr (too_long list c.canonical_length-found.result c.canonical_length-found.ensures c.if-found-ge-TOO_LONG.true))
-    c.in_err-write_unwritten-then-found-ge-TOO_LONG.ensures
+    c.in_err-write_unwritten.ensures
 
-pub returns-in_ok-write_unwritten-then-found-ge-TOO_LONG : goal.returns-in_ok-write_unwritten-then-found-ge-TOO_LONG
-returns-in_ok-write_unwritten-then-found-ge-TOO_LONG g c =
+pub returns-then-found-ge-TOO_LONG : goal.returns-then-found-ge-TOO_LONG
+returns-then-found-ge-TOO_LONG g c =
     (_, too_long c.args.list.now c.canonical_length-found.result c.canonical_length-found.ensures c.if-found-ge-TOO_LONG.true,
-      c.in_ok-write_unwritten-then-found-ge-TOO_LONG.ensures)
+      c.in_ok-write_unwritten.ensures)
 
 pub returns-in_err-write_stream : goal.returns-in_err-write_stream
 returns-in_err-write_stream g c =
