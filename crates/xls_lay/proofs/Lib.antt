@@ -15,3 +15,4 @@ pub mod PartReadLemmas
 pub mod ReadLemmas
 pub mod StandardFacts
 pub mod CountedLemmas
+pub mod PieceLemmas

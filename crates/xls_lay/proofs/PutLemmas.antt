@@ -1,6 +1,13 @@
 -- Marks that are put one after the other.
-use Rattle.std.proofs.Common.{◌≡◌, ℕ, suc, ◌+◌, ◌<◌, ◌≤◌, ◌^◌, Bool, true, false, List, [], ◌∷◌, ◌++◌, length, map, drop, get_or, Some, None, refl, sym, ap, subst, ◌∙◌, append_assoc, arith}
+use Rattle.std.proofs.Common.{◌≡◌, ℕ, suc, ◌+◌, ◌<◌, ◌≤◌, ◌^◌, Bool, true, false, List, [], ◌∷◌, ◌++◌, length, map, drop, get_or, Some, None, refl, sym, ap, subst, ◌∙◌, append_assoc, arith, Result, Ok, Err}
 use Rattle.std.specs.Prelude.{not}
+use Rattle.std.specs.Result.{IsErrAnd}
+use Rattle.xls_lines.specs.Gathering.{Gathers, Stops}
+use Rattle.xls_lines.specs.Gathering as gathering
+use Rattle.xls_lines.specs.SinkState.{SinkState}
+use Rattle.xls_lines.specs.declared.stop.Stop.{Stop}
+use Rattle.xls_lines.specs.declared.stop.Stop.TheVariants.{Memory}
+use Rattle.xls_lines.proofs.GatherLemmas.{gathers-added, gathers-after, gathers-nothing, gathers-then, stops-after, stops-as, stops-memory-now, stops-more, stops-then}
 use Rattle.std.specs.List.{flat_map, AllByRecursion}
 use Rattle.std.proofs.lemmas.List.{append-nil, drop_all, length-append}
 use Rattle.xls_model.specs.Stream.{enc}
@@ -9,19 +16,84 @@ use Rattle.xls_layout.specs.LaidStrings.{put, wide_bit, unit_bytes, marks_of_bre
 use Rattle.xls_layout.specs.Canonical.{passes, cut_if, fill_from, unit_size, used_after, canonical_string, is_narrow, IsUnit}
 use Rattle.xls_layout.proofs.CanonicalTableLemmas.{fit_width}
 use Rattle.xls_lay.specs.Cutting.{rest_bytes}
-use Rattle.xls_lay.specs.Putting.{with_marks, Puts, cut_marks}
+use Rattle.xls_lay.specs.Putting.{Moves, Puts, PutsOn, PutsOrStops, StopsOn, cut_marks}
 use Rattle.xls_lay.specs.declared.table.TableWriter.{TableWriter}
 use Rattle.xls_lay.proofs.FillLemmas.{fill-append, below, not_below}
 use Rattle.xls_lay.proofs.CutLemmas.{unit_marks, units_marks, marks_next, fill_unit, next_is, head_marks, fill_head, string_marks}
 
+moves_both : (typ typ' typ'' : ℕ) (a b c : List ℕ) (ms ns : List Mark) (xs ys : List ℕ) → Moves typ a ms xs typ' b → Moves typ' b ns ys typ'' c
+    → Moves typ a (ms ++ ns) (xs ++ ys) typ'' c
+moves_both typ typ' typ'' a b c ms ns xs ys h k = record {
+  whole = λ more.
+      append_assoc xs ys (rest_bytes typ'' c more) ∙ ap (λ (x : List ℕ). xs ++ x) (k.whole more) ∙ h.whole (ns ++ more)
+      ∙ ap (λ (x : List Mark). rest_bytes typ a x) (sym (append_assoc ms ns more));
+  used = k.used ∙ ap (λ (n : ℕ). fill_from n ns) h.used ∙ sym (fill-append (length a) ms ns);
+}
+
 pub puts_same : (p : TableWriter) → Puts p [] p
-puts_same p = record { whole = λ more. refl; used = refl }
+puts_same p = record { bytes = []; done = sym (append-nil p.done.items); moves = record { whole = λ more. refl; used = refl } }
 
 pub puts_both : (a b c : TableWriter) (ms ns : List Mark) → Puts a ms b → Puts b ns c → Puts a (ms ++ ns) c
 puts_both a b c ms ns h k = record {
-  whole = λ more. k.whole more ∙ h.whole (ns ++ more) ∙ ap (λ (x : List Mark). with_marks a x) (sym (append_assoc ms ns more));
-  used = k.used ∙ ap (λ (n : ℕ). fill_from n ns) h.used ∙ sym (fill-append (length a.body.items) ms ns);
+  bytes = h.bytes ++ k.bytes;
+  done = k.done ∙ ap (λ (x : List ℕ). x ++ k.bytes) h.done ∙ append_assoc a.done.items h.bytes k.bytes;
+  moves = moves_both a.typ b.typ c.typ a.body.items b.body.items c.body.items ms ns h.bytes k.bytes h.moves k.moves;
 }
+
+-- ---- with a sink
+
+pub on_same : (s : SinkState) (p : TableWriter) → PutsOn s p [] s p
+on_same s p = record { bytes = []; gathers = gathers-nothing s p.done.items; moves = record { whole = λ more. refl; used = refl } }
+
+pub on_both : {s t u : SinkState} (a b c : TableWriter) (ms ns : List Mark) → PutsOn s a ms t b → PutsOn t b ns u c → PutsOn s a (ms ++ ns) u c
+on_both a b c ms ns h k = record {
+  bytes = h.bytes ++ k.bytes;
+  gathers = gathers-then h.gathers k.gathers;
+  moves = moves_both a.typ b.typ c.typ a.body.items b.body.items c.body.items ms ns h.bytes k.bytes h.moves k.moves;
+}
+
+-- marks were put, and then what was done was passed on
+pub on_passed : {s t : SinkState} (a b c : TableWriter) (ms : List Mark) → Puts a ms b → Gathers s b.done.items t c.done.items []
+    → c.typ ≡ b.typ → c.body.items ≡ b.body.items → PutsOn s a ms t c
+on_passed {s} {t} a b c ms h passed typ body = record {
+  bytes = h.bytes;
+  gathers = gathers-after (gathers-added s a.done.items b.done.items h.bytes h.done) passed;
+  moves = rw (typ, body) h.moves;
+}
+
+pub on_unpassed : {s t : SinkState} {e : Stop} (a b : TableWriter) (ms : List Mark) → Puts a ms b → Stops s b.done.items t [] e
+    → StopsOn s a ms t e
+on_unpassed {s} {t} {e} a b ms h stops = λ more.
+    stops-as (stops-more (rest_bytes b.typ b.body.items more) (stops-after (gathers-added s a.done.items b.done.items h.bytes h.done) stops))
+    (h.moves.whole more)
+
+-- marks were put, and then others weren't
+pub on_stopped : {s t u : SinkState} {e : Stop} (a b : TableWriter) (ms ns : List Mark) → PutsOn s a ms t b → StopsOn t b ns u e
+    → StopsOn s a (ms ++ ns) u e
+on_stopped a b ms ns h stops = λ more.
+    stops-as (stops-then h.gathers (stops more))
+    (h.moves.whole (ns ++ more) ∙ ap (λ (x : List Mark). rest_bytes a.typ a.body.items x) (sym (append_assoc ms ns more)))
+
+-- of more marks too
+pub on_stopped_more : {s t : SinkState} {e : Stop} (a : TableWriter) (ms ns all : List Mark) → ms ++ ns ≡ all → StopsOn s a ms t e → StopsOn s a all t e
+on_stopped_more a ms ns all is stops = λ more.
+    stops-as (stops (ns ++ more))
+    (ap (λ (x : List Mark). rest_bytes a.typ a.body.items x) (sym (append_assoc ms ns more) ∙ ap (λ (x : List Mark). x ++ more) is))
+
+pub on_memory : (s : SinkState) (a : TableWriter) (ms : List Mark) → StopsOn s a ms s Memory
+on_memory s a ms = λ more. stops-memory-now s a.done.items (rest_bytes a.typ a.body.items (ms ++ more))
+
+pub on_stop : {X : Type 0} (s : SinkState) (a : TableWriter) (ms : List Mark) (t : SinkState) (b : TableWriter) {e : Stop} (r : Result X Stop)
+    → IsErrAnd r (λ d. d ≡ e) → StopsOn s a ms t e → PutsOrStops s a ms t b r
+on_stop s a ms t b (Ok x) none p = absurd none
+on_stop s a ms t b {e} (Err d) is p = subst (StopsOn s a ms t) (sym is) p
+
+-- marks were put, and then what was done was passed on, or not
+pub on_pass : {X : Type 0} (s : SinkState) (a b : TableWriter) (ms : List Mark) (t : SinkState) (c : TableWriter) (r : Result X Stop)
+    → Puts a ms b → gathering.Puts s b.done.items t c.done.items [] r → c.typ ≡ b.typ → c.body.items ≡ b.body.items
+    → PutsOrStops s a ms t c r
+on_pass s a b ms t c (Ok x) h p typ body = on_passed a b c ms h p typ body
+on_pass s a b ms t c (Err d) h p typ body = on_unpassed a b ms h p
 
 -- ---- bytes, and a mark
 
@@ -40,26 +112,31 @@ fill-bytes used (b ∷ bs) = fill-bytes (suc used) bs ∙ omega arith
 pub puts_bytes : (a b : TableWriter) (bytes : List ℕ) → b.done.items ≡ a.done.items → b.typ ≡ a.typ
     → b.body.items ≡ a.body.items ++ bytes → Puts a (map Some bytes) b
 puts_bytes a b bytes d t e = record {
-  whole = λ more.
-      ap (λ (x : List ℕ). x ++ rest_bytes b.typ b.body.items more) d
-      ∙ ap (λ (n : ℕ). a.done.items ++ rest_bytes n b.body.items more) t
-      ∙ ap (λ (x : List ℕ). a.done.items ++ rest_bytes a.typ x more) e
-      ∙ ap (λ (x : List ℕ). a.done.items ++ (enc a.typ x ++ flat_map (enc 60) (pieces_of more))) (append_assoc a.body.items bytes (front_of more))
-      ∙ ap (λ (x : List ℕ). a.done.items ++ (enc a.typ (a.body.items ++ x) ++ flat_map (enc 60) (pieces_of more))) (sym (fronts bytes more))
-      ∙ ap (λ (x : List (List ℕ)). a.done.items ++ (enc a.typ (a.body.items ++ front_of (map Some bytes ++ more)) ++ flat_map (enc 60) x)) (sym (others bytes more));
-  used = ap length e ∙ length-append a.body.items bytes ∙ sym (fill-bytes (length a.body.items) bytes);
+  bytes = [];
+  done = d ∙ sym (append-nil a.done.items);
+  moves = record {
+    whole = λ more.
+        ap (λ (n : ℕ). rest_bytes n b.body.items more) t
+        ∙ ap (λ (x : List ℕ). rest_bytes a.typ x more) e
+        ∙ ap (λ (x : List ℕ). enc a.typ x ++ flat_map (enc 60) (pieces_of more)) (append_assoc a.body.items bytes (front_of more))
+        ∙ ap (λ (x : List ℕ). enc a.typ (a.body.items ++ x) ++ flat_map (enc 60) (pieces_of more)) (sym (fronts bytes more))
+        ∙ ap (λ (x : List (List ℕ)). enc a.typ (a.body.items ++ front_of (map Some bytes ++ more)) ++ flat_map (enc 60) x) (sym (others bytes more));
+    used = ap length e ∙ length-append a.body.items bytes ∙ sym (fill-bytes (length a.body.items) bytes);
+  };
 }
 
 pub puts_mark : (a b : TableWriter) → b.done.items ≡ a.done.items ++ enc a.typ a.body.items → b.typ ≡ 60
     → b.body.items ≡ [] → Puts a (None ∷ []) b
 puts_mark a b d t e = record {
-  whole = λ more.
-      ap (λ (x : List ℕ). x ++ rest_bytes b.typ b.body.items more) d
-      ∙ ap (λ (n : ℕ). (a.done.items ++ enc a.typ a.body.items) ++ rest_bytes n b.body.items more) t
-      ∙ ap (λ (x : List ℕ). (a.done.items ++ enc a.typ a.body.items) ++ rest_bytes 60 x more) e
-      ∙ append_assoc a.done.items (enc a.typ a.body.items) (rest_bytes 60 [] more)
-      ∙ ap (λ (x : List ℕ). a.done.items ++ (enc a.typ x ++ rest_bytes 60 [] more)) (sym (append-nil a.body.items));
-  used = ap length e;
+  bytes = enc a.typ a.body.items;
+  done = d;
+  moves = record {
+    whole = λ more.
+        ap (λ (n : ℕ). enc a.typ a.body.items ++ rest_bytes n b.body.items more) t
+        ∙ ap (λ (x : List ℕ). enc a.typ a.body.items ++ rest_bytes 60 x more) e
+        ∙ ap (λ (x : List ℕ). enc a.typ x ++ rest_bytes 60 [] more) (sym (append-nil a.body.items));
+    used = ap length e;
+  };
 }
 
 -- ---- units
@@ -90,7 +167,7 @@ module _ (old now : TableWriter) (wide : Bool) (units : List ℕ) (i : ℕ) (h :
         puts = puts_both old now new h.ms um h.puts p;
         whole =
             append_assoc h.ms um (units_marks wide (length new.body.items) rest)
-            ∙ ap (λ (n : ℕ). h.ms ++ (um ++ units_marks wide n rest)) (p.used ∙ fill_unit wide used u)
+            ∙ ap (λ (n : ℕ). h.ms ++ (um ++ units_marks wide n rest)) (p.moves.used ∙ fill_unit wide used u)
             ∙ ap (λ (x : List Mark). h.ms ++ x) (sym (marks_next wide used u rest))
             ∙ ap (λ (x : List ℕ). h.ms ++ units_marks wide used x) (sym (next_is units i lt))
             ∙ h.whole;
@@ -116,7 +193,7 @@ puts_string old middle new us narrow e t f =
     let h : Puts old head middle = subst (λ (b : Bool). Puts old (head_marks (passes used 3) (not b) (length us)) middle) e t in
     let units = units_marks wide (used_after (passes used 3) 0 used 3) us in
     let g : Puts middle units new =
-    subst (λ (n : ℕ). Puts middle (units_marks wide n us) new) (h.used ∙ fill_head (passes used 3) wide used (length us))
+    subst (λ (n : ℕ). Puts middle (units_marks wide n us) new) (h.moves.used ∙ fill_head (passes used 3) wide used (length us))
     (subst (λ (b : Bool). Puts middle (units_marks (not b) (length middle.body.items) us) new) e f) in
     subst (λ (x : List Mark). Puts old x new) (sym (string_marks used us)) (puts_both old middle new head units h g)
 

@@ -6,12 +6,14 @@ use Rattle.xls_layout.specs.LaidStrings.{marks_of_string, marks_of_strings}
 use Rattle.xls_layout.specs.Canonical.{fill_from, canonical_string, canonical_strings}
 use Rattle.xls_lay.specs.Inside.{total, parts_of}
 use Rattle.xls_lay.specs.Filling.{IsFilled, Fills}
-use Rattle.xls_lay.specs.Putting.{Puts}
+use Rattle.xls_lines.specs.SinkState.{SinkState}
+use Rattle.xls_lines.specs.declared.stop.Stop.{Stop}
+use Rattle.xls_lay.specs.Putting.{PutsOn, StopsOn}
 use Rattle.xls_lay.specs.declared.fill.Fill.{Fill}
 use Rattle.xls_lay.specs.declared.table.TableWriter.{TableWriter}
 use Rattle.xls_lay.proofs.InsideLemmas.{next_size}
 use Rattle.xls_lay.proofs.FilledLemmas.{fills_both, fills_same}
-use Rattle.xls_lay.proofs.PutLemmas.{puts_both, puts_same}
+use Rattle.xls_lay.proofs.PutLemmas.{on_both, on_same, on_stopped, on_stopped_more}
 
 abbrev pub strings_marks : ℕ → List (List ℕ) → List Mark
 strings_marks used strings = marks_of_strings (canonical_strings used strings)
@@ -90,35 +92,43 @@ module _ (old now : Fill) (sizes units rest : List ℕ) (i : ℕ) (h : Counted o
 
 -- ---- strings that are put
 
-pub record PutStrings (old now : TableWriter) (sizes units rest : List ℕ) (i : ℕ) : Type 0 where
+pub record PutStrings (before : SinkState) (old : TableWriter) (after : SinkState) (now : TableWriter) (sizes units rest : List ℕ) (i : ℕ) : Type 0 where
   pub ms : List Mark
-  pub puts : Puts old ms now
+  pub puts : PutsOn before old ms after now
   pub walked : Walked (length old.body.items) (length now.body.items) sizes units rest i ms
 
-pub strings_none : (old : TableWriter) (sizes units : List ℕ) → total sizes ≡ length units
-    → PutStrings old old sizes units units 0
-strings_none old sizes units e = record {
+pub strings_none : (s : SinkState) (old : TableWriter) (sizes units : List ℕ) → total sizes ≡ length units
+    → PutStrings s old s old sizes units units 0
+strings_none s old sizes units e = record {
   ms = [];
-  puts = puts_same old;
+  puts = on_same s old;
   walked = walked_none (length old.body.items) sizes units e;
 }
 
-module _ (old now : TableWriter) (sizes units rest : List ℕ) (i : ℕ) (h : PutStrings old now sizes units rest i) where
+module _ (s : SinkState) (old : TableWriter) (t : SinkState) (now : TableWriter) (sizes units rest : List ℕ) (i : ℕ) (h : PutStrings s old t now sizes units rest i) where
   pub strings_within : i < length sizes → get_or sizes i 0 ≤ length rest
   strings_within lt = walked_within (length old.body.items) (length now.body.items) sizes units rest i h.ms h.walked lt
 
-  pub strings_more : (new : TableWriter) → i < length sizes
-      → Puts now (marks_of_string (canonical_string (length now.body.items) (take (get_or sizes i 0) rest))) new
-      → PutStrings old new sizes units (drop (get_or sizes i 0) rest) (i + 1)
-  strings_more new lt f =
-      let string = marks_of_string (canonical_string (length now.body.items) (take (get_or sizes i 0) rest)) in
-      record {
-        ms = h.ms ++ string;
-        puts = puts_both old now new h.ms string h.puts f;
-        walked = walked_more (length old.body.items) (length now.body.items) sizes units rest i h.ms h.walked (length new.body.items) lt f.used;
-      }
+  abbrev next : List Mark
+  next = marks_of_string (canonical_string (length now.body.items) (take (get_or sizes i 0) rest))
 
-  pub strings_all : length sizes ≤ i → Puts old (strings_marks (length old.body.items) (parts_of sizes units)) now
+  pub strings_more : (u : SinkState) (new : TableWriter) → i < length sizes → PutsOn t now next u new
+      → PutStrings s old u new sizes units (drop (get_or sizes i 0) rest) (i + 1)
+  strings_more u new lt f = record {
+    ms = h.ms ++ next;
+    puts = on_both old now new h.ms next h.puts f;
+    walked = walked_more (length old.body.items) (length now.body.items) sizes units rest i h.ms h.walked (length new.body.items) lt f.moves.used;
+  }
+
+  -- the next string wasn't put
+  pub strings_stop : (u : SinkState) (e : Stop) → i < length sizes → StopsOn t now next u e
+      → StopsOn s old (strings_marks (length old.body.items) (parts_of sizes units)) u e
+  strings_stop u e lt stops =
+      let w = walked_more (length old.body.items) (length now.body.items) sizes units rest i h.ms h.walked (fill_from (length now.body.items) next) lt refl in
+      on_stopped_more old (h.ms ++ next) (strings_marks (fill_from (length now.body.items) next) (parts_of (drop (i + 1) sizes) (drop (get_or sizes i 0) rest))) _ w.whole
+      (on_stopped old now h.ms next h.puts stops)
+
+  pub strings_all : length sizes ≤ i → PutsOn s old (strings_marks (length old.body.items) (parts_of sizes units)) t now
   strings_all le =
-      subst (λ (x : List Mark). Puts old x now)
+      subst (λ (x : List Mark). PutsOn s old x t now)
       (walked_all (length old.body.items) (length now.body.items) sizes units rest i h.ms h.walked le) h.puts

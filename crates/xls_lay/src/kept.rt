@@ -1,7 +1,9 @@
 //! The kept records of a sheet, their bodies in one run of bytes.
 
-ghost use Rattle.std.specs.Prelude.{◌≡◌, ◌<◌, ◌^◌, ◌++◌, ◌∷◌, [], length, OnOk, OnErr};
+ghost use Rattle.std.specs.Prelude.{◌≡◌, ◌<◌, ◌≤◌, ◌^◌, ◌++◌, ◌∷◌, [], drop, length, take, OnOk, OnErr};
 ghost use Rattle.std.specs.List.{flat_map};
+ghost use Rattle.xls_model.specs.Stream.{enc};
+ghost use Rattle.xls_lines.specs.Gathering as gathering;
 ghost use Rattle.xls_lay.specs.Writing.{saturated};
 ghost use Rattle.xls_lay.specs.Cutting.{kept_bytes};
 ghost use Rattle.xls_lay.specs.Inside.{records_of, sizes_sum};
@@ -9,6 +11,7 @@ ghost use Rattle.xls_lay.specs.Inside.{records_of, sizes_sum};
 use crate::write::put_record;
 use std::alloc::{AllocError, Global};
 use std::marker::Model;
+use xls_lines::{Sink, Stop};
 
 /// The type of a record and the size of its body.
 #[derive(Clone, Copy)]
@@ -17,16 +20,43 @@ pub(crate) struct RecordHead {
     pub size: u16,
 }
 
-/// Appends the records of these heads, whose bodies stand one after the other.
-fn put_records(heads: &[RecordHead], bytes: &[u8], out: &mut Vec<u8>) -> Result<(), AllocError>
+/// Puts the record of a head, whose body stands first.
+fn put_first<K: Sink>(
+    head: &RecordHead,
+    bytes: &[u8],
+    out: &mut Vec<u8>,
+    sink: &mut K,
+) -> Result<(), Stop>
+    requires { head.now.size ≤ length bytes.now }
+    ensures { gathering.Puts (K.state sink.old) out.old.items (K.state sink.new) out.new.items
+        (enc head.now.typ (take head.now.size bytes.now)) result }
+{
+    put_record(out, sink, head.typ, bytes.split_at(head.size as usize).0)
+}
+
+/// The bytes after the body of a head.
+fn after_first<'b>(head: &RecordHead, bytes: &'b [u8]) -> &'b [u8]
+    requires { head.now.size ≤ length bytes.now }
+    ensures { result.now ≡ drop head.now.size bytes.now }
+{
+    bytes.split_at(head.size as usize).1
+}
+
+/// Puts the records of these heads, whose bodies stand one after the other.
+fn put_records<K: Sink>(
+    heads: &[RecordHead],
+    bytes: &[u8],
+    out: &mut Vec<u8>,
+    sink: &mut K,
+) -> Result<(), Stop>
     requires { sizes_sum heads.now ≡ length bytes.now }
-    ensures { OnOk result (out.new.items ≡ out.old.items ++ flat_map kept_bytes (records_of heads.now bytes.now)) }
+    ensures { gathering.Puts (K.state sink.old) out.old.items (K.state sink.new) out.new.items
+        (flat_map kept_bytes (records_of heads.now bytes.now)) result }
 {
     let mut rest = bytes;
     for head in heads {
-        let (body, others) = rest.split_at(head.size as usize);
-        put_record(out, head.typ, body)?;
-        rest = others;
+        put_first(head, rest, out, sink)?;
+        rest = after_first(head, rest);
     }
     Ok(())
 }
@@ -89,10 +119,11 @@ impl KeptRecords {
         heads.saturating_add(self.bytes.len() as u64)
     }
 
-    /// Appends the bytes of the records, as they stand in a stream.
-    pub(crate) fn put(&self, out: &mut Vec<u8>) -> Result<(), AllocError>
-        ensures { OnOk result (out.new.items ≡ out.old.items ++ flat_map kept_bytes self.now) }
+    /// Puts the bytes of the records, as they stand in a stream.
+    pub(crate) fn put<K: Sink>(&self, out: &mut Vec<u8>, sink: &mut K) -> Result<(), Stop>
+        ensures { gathering.Puts (K.state sink.old) out.old.items (K.state sink.new) out.new.items
+            (flat_map kept_bytes self.now) result }
     {
-        put_records(&self.heads, &self.bytes, out)
+        put_records(&self.heads, &self.bytes, out, sink)
     }
 }

@@ -8,6 +8,9 @@ ghost use Rattle.xls_lay.specs.Cutting.{globals_size, part_size as size_of_part,
 use crate::entry::Entry;
 use crate::logical::Logical;
 
+/// The least length that offsets of 32 bits don't reach.
+pub const TOO_LONG: u64 = 4_294_967_296;
+
 /// How many bytes an entry has in the globals.
 fn entry_size(entry: &Entry) -> u64
     ensures { result ≡ saturated (globals_size (entry_in entry.now)) }

@@ -8,16 +8,18 @@ mod kept;
 mod laws;
 mod length;
 mod logical;
+mod pieces;
 mod read;
 mod table;
 mod units;
+mod whole;
 mod write;
 
 pub use error::LayError;
 pub use laws::{
     canonical_carries, canonical_equality, canonical_opens, opens_again, written_again,
 };
-pub use length::canonical_length;
+pub use length::{TOO_LONG, canonical_length};
 pub use logical::Logical;
 pub use read::logical_of;
-pub use write::write_workbook;
+pub use write::{write_stream, write_workbook};

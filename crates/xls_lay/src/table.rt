@@ -6,14 +6,16 @@ ghost use Rattle.xls_model.specs.declared.types.TheConstants as types;
 ghost use Rattle.xls_layout.specs.LaidStrings.{head_bytes, le32, marks_of_break, marks_of_steps, marks_of_string, unit_bytes, FitsWidth};
 ghost use Rattle.xls_layout.specs.Canonical.{passes, unit_size, canonical_steps, canonical_string};
 ghost use Rattle.xls_lay.specs.Cutting.{rest_bytes};
-ghost use Rattle.xls_lay.specs.Putting.{Puts, HasRoom, cut_marks};
+ghost use Rattle.xls_lay.specs.Putting.{Puts, PutsOrStops, HasRoom, cut_marks};
 
 use crate::fill::{FULL, is_all_narrow, size_of_unit};
-use crate::write::{push_u32, put_record};
+use crate::pieces::pass;
+use crate::write::{push_record, push_u32};
 use std::alloc::{AllocError, Global};
+use xls_lines::{Sink, Stop};
 use xls_model::types::{CONTINUE, SST};
 
-/// The records before the current one, and the type and the body of that.
+/// The records before the current one that aren't written, and the type and the body of that.
 #[derive(Drop)]
 pub(crate) struct TableWriter {
     done: Vec<u8>,
@@ -52,7 +54,7 @@ impl TableWriter {
         requires { HasRoom self.old }
         ensures { OnOk result (Puts self.old (None ∷ []) self.new) }
     {
-        put_record(&mut self.done, self.typ, &self.body)?;
+        push_record(&mut self.done, self.typ, &self.body)?;
         self.typ = CONTINUE;
         self.body.clear();
         Ok(())
@@ -102,7 +104,8 @@ impl TableWriter {
         ensures room { OnOk result (HasRoom self.new) }
     {
         self.cut_before_unit(is_wide)?;
-        self.push_unit(is_wide, unit)
+        self.push_unit(is_wide, unit)?;
+        Ok(())
     }
 
     fn put_units(&mut self, is_wide: bool, units: &[u16]) -> Result<(), AllocError>
@@ -125,11 +128,12 @@ impl TableWriter {
         ensures room { OnOk result (HasRoom self.new) }
     {
         self.cut_before_head()?;
-        self.push(&[(count % 256) as u8, (count / 256) as u8, u8::from(is_wide)])
+        self.push(&[(count % 256) as u8, (count / 256) as u8, u8::from(is_wide)])?;
+        Ok(())
     }
 
     /// Puts a string.
-    pub(crate) fn put_string(&mut self, units: &[u16]) -> Result<(), AllocError>
+    fn put_string(&mut self, units: &[u16]) -> Result<(), AllocError>
         requires size { length units.now < 2 ^ 16 }
         requires room { HasRoom self.old }
         ensures puts { OnOk result (Puts self.old
@@ -142,13 +146,25 @@ impl TableWriter {
         Ok(())
     }
 
-    /// All records.
+    /// Puts a string, and writes the records before the current one where they are 64 KiB or more.
+    pub(crate) fn pass_string<K: Sink>(&mut self, sink: &mut K, units: &[u16]) -> Result<(), Stop>
+        requires size { length units.now < 2 ^ 16 }
+        requires room { HasRoom self.old }
+        ensures puts { PutsOrStops (K.state sink.old) self.old
+            (marks_of_string (canonical_string (length self.old.body.items) units.now)) (K.state sink.new) self.new result }
+        ensures room { OnOk result (HasRoom self.new) }
+    {
+        self.put_string(units)?;
+        pass(&mut self.done, sink)
+    }
+
+    /// The records that aren't written, all of them.
     pub(crate) fn finish(self) -> Result<Vec<u8>, AllocError>
         requires { HasRoom self }
         ensures { IfOk result (λ out. out.items ≡ self.done.items ++ rest_bytes self.typ self.body.items []) }
     {
         let mut out = self.done;
-        put_record(&mut out, self.typ, &self.body)?;
+        push_record(&mut out, self.typ, &self.body)?;
         Ok(out)
     }
 }

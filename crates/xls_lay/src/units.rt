@@ -7,12 +7,13 @@ ghost use Rattle.xls_lay.specs.Writing.{saturated};
 ghost use Rattle.xls_lay.specs.Cutting.{marks_size};
 ghost use Rattle.xls_lay.specs.Filling.{IsFilled, Fills};
 ghost use Rattle.xls_lay.specs.Inside.{parts_of, total};
-ghost use Rattle.xls_lay.specs.Putting.{Puts, HasRoom};
+ghost use Rattle.xls_lay.specs.Putting.{PutsOrStops, HasRoom};
 
 use crate::fill::Fill;
 use crate::table::TableWriter;
 use std::alloc::{AllocError, Global};
 use std::marker::Model;
+use xls_lines::{Sink, Stop};
 
 /// Adds the strings of these sizes, whose units stand one after the other.
 fn fill_strings(sizes: &[u16], units: &[u16], fill: &mut Fill)
@@ -29,17 +30,23 @@ fn fill_strings(sizes: &[u16], units: &[u16], fill: &mut Fill)
 }
 
 /// Puts them.
-fn put_strings(sizes: &[u16], units: &[u16], writer: &mut TableWriter) -> Result<(), AllocError>
+fn put_strings<K: Sink>(
+    sizes: &[u16],
+    units: &[u16],
+    writer: &mut TableWriter,
+    sink: &mut K,
+) -> Result<(), Stop>
     requires sizes { total sizes.now ≡ length units.now }
     requires room { HasRoom writer.old }
-    ensures puts { OnOk result (Puts writer.old
-        (marks_of_strings (canonical_strings (length writer.old.body.items) (parts_of sizes.now units.now))) writer.new) }
+    ensures puts { PutsOrStops (K.state sink.old) writer.old
+        (marks_of_strings (canonical_strings (length writer.old.body.items) (parts_of sizes.now units.now)))
+        (K.state sink.new) writer.new result }
     ensures room { OnOk result (HasRoom writer.new) }
 {
     let mut rest = units;
     for size in sizes {
         let (string, others) = rest.split_at(*size as usize);
-        writer.put_string(string)?;
+        writer.pass_string(sink, string)?;
         rest = others;
     }
     Ok(())
@@ -104,12 +111,13 @@ impl UnitLists {
     }
 
     /// Puts the strings one after the other.
-    pub(crate) fn put(&self, writer: &mut TableWriter) -> Result<(), AllocError>
+    pub(crate) fn put<K: Sink>(&self, writer: &mut TableWriter, sink: &mut K) -> Result<(), Stop>
         requires { HasRoom writer.old }
-        ensures puts { OnOk result (Puts writer.old
-            (marks_of_strings (canonical_strings (length writer.old.body.items) self.now)) writer.new) }
+        ensures puts { PutsOrStops (K.state sink.old) writer.old
+            (marks_of_strings (canonical_strings (length writer.old.body.items) self.now))
+            (K.state sink.new) writer.new result }
         ensures room { OnOk result (HasRoom writer.new) }
     {
-        put_strings(&self.sizes, &self.units, writer)
+        put_strings(&self.sizes, &self.units, writer, sink)
     }
 }

@@ -6,24 +6,26 @@ ghost use Rattle.xls_model.specs.declared.types.TheConstants as types;
 ghost use Rattle.xls_layout.specs.LaidStrings.{le32};
 ghost use Rattle.xls_layout.specs.Layout.{sheet_body};
 ghost use Rattle.xls_layout.specs.Canonical.{Fits};
+ghost use Rattle.xls_lines.specs.Gathering.{Delivers, Puts};
 ghost use Rattle.xls_lay.specs.Counted.{CountedEntry, Counted};
-ghost use Rattle.xls_lay.specs.Writing.{Writes};
+ghost use Rattle.xls_lay.specs.Writing.{Writes, canonical_bytes};
 ghost use Rattle.xls_lay.specs.Entries.{entry_in, entries_in};
 ghost use Rattle.xls_lay.specs.Cutting.{part_of, part_bytes, table_bytes, entry_bytes, globals_from, parts_from};
 
 use crate::entry::Entry;
 use crate::error::LayError;
 use crate::kept::KeptRecords;
-use crate::length::{globals_length, part_size, parts_length};
+use crate::length::{TOO_LONG, globals_length, part_size, parts_length};
 use crate::logical::Logical;
+use crate::pieces::{finish, pass};
 use crate::table::TableWriter;
 use crate::units::UnitLists;
+use crate::whole::Whole;
 use std::alloc::{AllocError, Global};
+use std::mem;
+use xls_lines::{Sink, Stop};
 use xls_model::types::{BOF, EOF};
 use xls_source::StreamBytes;
-
-/// The least length that offsets of 32 bits don't reach.
-const TOO_LONG: u64 = 4_294_967_296;
 
 /// Appends a 32-bit number.
 pub(crate) fn push_u32(out: &mut Vec<u8>, n: u32) -> Result<(), AllocError>
@@ -39,7 +41,7 @@ pub(crate) fn push_u32(out: &mut Vec<u8>, n: u32) -> Result<(), AllocError>
 }
 
 /// Appends a record without Continue records.
-pub(crate) fn put_record(out: &mut Vec<u8>, typ: u16, body: &[u8]) -> Result<(), AllocError>
+pub(crate) fn push_record(out: &mut Vec<u8>, typ: u16, body: &[u8]) -> Result<(), AllocError>
     requires { length body.now < 2 ^ 16 }
     ensures { OnOk result (out.new.items ≡ out.old.items ++ enc typ body.now) }
 {
@@ -54,8 +56,22 @@ pub(crate) fn put_record(out: &mut Vec<u8>, typ: u16, body: &[u8]) -> Result<(),
     out.extend_from_slice(body)
 }
 
+/// Puts a record without Continue records.
+pub(crate) fn put_record<K: Sink>(
+    out: &mut Vec<u8>,
+    sink: &mut K,
+    typ: u16,
+    body: &[u8],
+) -> Result<(), Stop>
+    requires { length body.now < 2 ^ 16 }
+    ensures { Puts (K.state sink.old) out.old.items (K.state sink.new) out.new.items (enc typ body.now) result }
+{
+    push_record(out, typ, body)?;
+    pass(out, sink)
+}
+
 /// Appends the BoundSheet8 record of a sheet, whose part begins at this offset.
-fn put_sheet(
+fn push_sheet(
     out: &mut Vec<u8>,
     offset: u32,
     state: u8,
@@ -72,86 +88,144 @@ fn put_sheet(
     out.extend_from_slice(name)
 }
 
-/// Appends the SST record of a table, with its Continue records.
-fn put_table(alloc: Global, out: Vec<u8>, strings: &UnitLists) -> Result<Vec<u8>, AllocError>
-    requires { length strings.now < 2 ^ 32 }
-    ensures { IfOk result (λ v. v.items ≡ out.items ++ table_bytes strings.now) }
+/// Puts it.
+fn put_sheet<K: Sink>(
+    out: &mut Vec<u8>,
+    sink: &mut K,
+    offset: u32,
+    state: u8,
+    kind: u8,
+    name: &[u8],
+) -> Result<(), Stop>
+    requires { 6 + length name.now < 2 ^ 16 }
+    ensures { Puts (K.state sink.old) out.old.items (K.state sink.new) out.new.items
+        (enc types.BOUND_SHEET_8 (sheet_body offset state kind name.now)) result }
 {
-    let mut writer = TableWriter::new(alloc, out, strings.len() as u32)?;
-    strings.put(&mut writer)?;
-    let out = writer.finish()?;
-    Ok(out)
+    push_sheet(out, offset, state, kind, name)?;
+    pass(out, sink)
 }
 
-/// Appends an entry of the globals; its part begins at this offset, if it is a sheet.
-fn put_entry(
+/// Puts the SST record of a table, with its Continue records.
+fn put_table<K: Sink>(
     alloc: Global,
-    mut out: Vec<u8>,
+    out: &mut Vec<u8>,
+    sink: &mut K,
+    strings: &UnitLists,
+) -> Result<(), Stop>
+    requires { length strings.now < 2 ^ 32 }
+    ensures { Puts (K.state sink.old) out.old.items (K.state sink.new) out.new.items (table_bytes strings.now) result }
+{
+    let done = mem::replace(out, Vec::new(alloc));
+    let mut writer = TableWriter::new(alloc, done, strings.len() as u32)?;
+    strings.put(&mut writer, sink)?;
+    *out = writer.finish()?;
+    Ok(())
+}
+
+/// Puts an entry of the globals; its part begins at this offset, if it is a sheet.
+fn put_entry<K: Sink>(
+    alloc: Global,
+    out: &mut Vec<u8>,
+    sink: &mut K,
     offset: u32,
     entry: &Entry,
-) -> Result<Vec<u8>, AllocError>
+) -> Result<(), Stop>
     requires { CountedEntry (entry_in entry.now) }
-    ensures { IfOk result (λ v. v.items ≡ out.items ++ entry_bytes offset (entry_in entry.now)) }
+    ensures { Puts (K.state sink.old) out.old.items (K.state sink.new) out.new.items
+        (entry_bytes offset (entry_in entry.now)) result }
 {
     match entry {
-        Entry::Plain { typ, body } => put_record(&mut out, *typ, body)?,
+        Entry::Plain { typ, body } => put_record(out, sink, *typ, body),
         Entry::Sheet {
             state,
             kind,
             name,
             ..
-        } => put_sheet(&mut out, offset, *state, *kind, name)?,
-        Entry::Table { strings } => return put_table(alloc, out, strings),
+        } => put_sheet(out, sink, offset, *state, *kind, name),
+        Entry::Table { strings } => put_table(alloc, out, sink, strings),
     }
-    Ok(out)
 }
 
-/// Appends the globals, with their EOF; the first part begins at this offset.
-fn put_globals(
+/// Puts the globals, with their EOF; the first part begins at this offset.
+fn put_globals<K: Sink>(
     alloc: Global,
-    mut out: Vec<u8>,
+    out: &mut Vec<u8>,
+    sink: &mut K,
     mut offset: u64,
     entries: &[Entry],
-) -> Result<Vec<u8>, AllocError>
+) -> Result<(), Stop>
     requires fits { Counted (entries_in entries.now) }
     requires short { offset + length (parts_from (entries_in entries.now)) < 2 ^ 32 }
-    ensures { IfOk result (λ v. v.items ≡ out.items ++ globals_from offset (entries_in entries.now)) }
+    ensures { Puts (K.state sink.old) out.old.items (K.state sink.new) out.new.items
+        (globals_from offset (entries_in entries.now)) result }
 {
     for entry in entries {
-        out = put_entry(alloc, out, offset as u32, entry)?;
+        put_entry(alloc, out, sink, offset as u32, entry)?;
         offset += part_size(entry);
     }
-    put_record(&mut out, EOF, &[])?;
-    Ok(out)
+    put_record(out, sink, EOF, &[])
 }
 
-/// Appends the part of a sheet.
-fn put_sheet_part(out: &mut Vec<u8>, kept: &KeptRecords) -> Result<(), AllocError>
-    ensures { OnOk result (out.new.items ≡ out.old.items ++ part_of kept.now) }
+/// Puts the part of a sheet.
+fn put_sheet_part<K: Sink>(out: &mut Vec<u8>, sink: &mut K, kept: &KeptRecords) -> Result<(), Stop>
+    ensures { Puts (K.state sink.old) out.old.items (K.state sink.new) out.new.items (part_of kept.now) result }
 {
-    put_record(out, BOF, &[0x00, 0x06, 0x10, 0x00])?;
-    kept.put(out)?;
-    put_record(out, EOF, &[])
+    put_record(out, sink, BOF, &[0x00, 0x06, 0x10, 0x00])?;
+    kept.put(out, sink)?;
+    put_record(out, sink, EOF, &[])?;
+    Ok(())
 }
 
-/// Appends the part of an entry, if it is a sheet.
-fn put_part(out: &mut Vec<u8>, entry: &Entry) -> Result<(), AllocError>
-    ensures { OnOk result (out.new.items ≡ out.old.items ++ part_bytes (entry_in entry.now)) }
+/// Puts the part of an entry, if it is a sheet.
+fn put_part<K: Sink>(out: &mut Vec<u8>, sink: &mut K, entry: &Entry) -> Result<(), Stop>
+    ensures { Puts (K.state sink.old) out.old.items (K.state sink.new) out.new.items
+        (part_bytes (entry_in entry.now)) result }
 {
     match entry {
-        Entry::Sheet { kept, .. } => put_sheet_part(out, kept),
+        Entry::Sheet { kept, .. } => put_sheet_part(out, sink, kept),
         _ => Ok(()),
     }
 }
 
-/// Appends the parts of the sheets in order.
-fn put_parts(out: &mut Vec<u8>, entries: &[Entry]) -> Result<(), AllocError>
-    ensures { OnOk result (out.new.items ≡ out.old.items ++ parts_from (entries_in entries.now)) }
+/// Puts the parts of the sheets in order.
+fn put_parts<K: Sink>(out: &mut Vec<u8>, sink: &mut K, entries: &[Entry]) -> Result<(), Stop>
+    ensures { Puts (K.state sink.old) out.old.items (K.state sink.new) out.new.items
+        (parts_from (entries_in entries.now)) result }
 {
     for entry in entries {
-        put_part(out, entry)?;
+        put_part(out, sink, entry)?;
     }
     Ok(())
+}
+
+/// Writes the globals and then the parts; the first part begins at this offset.
+fn write_entries<K: Sink>(
+    alloc: Global,
+    sink: &mut K,
+    offset: u64,
+    entries: &[Entry],
+) -> Result<(), Stop>
+    requires fits { Counted (entries_in entries.now) }
+    requires short { offset + length (parts_from (entries_in entries.now)) < 2 ^ 32 }
+    ensures { Delivers (K.state sink.old) (K.state sink.new)
+        (globals_from offset (entries_in entries.now) ++ parts_from (entries_in entries.now)) result }
+{
+    let mut out = Vec::new(alloc);
+    put_globals(alloc, &mut out, sink, offset, entries)?;
+    put_parts(&mut out, sink, entries)?;
+    finish(&mut out, sink)?;
+    Ok(())
+}
+
+/// Writes the canonical stream of a list that offsets of 32 bits reach, as `canonical_length` tells. At most
+/// 64 KiB and one record or string are gathered. Only a write that fails, or running out of memory, stops it.
+pub fn write_stream<K: Sink>(alloc: Global, sink: &mut K, list: &Logical) -> Result<(), Stop>
+    requires short { length (canonical_bytes list.now) < 2 ^ 32 }
+    ensures { Delivers (K.state sink.old) (K.state sink.new) (canonical_bytes list.now) result }
+{
+    let entries = list.entries();
+    let globals = globals_length(entries);
+    write_entries(alloc, sink, globals, entries)
 }
 
 /// The globals and then the parts, which have so many bytes; the first part begins at this offset.
@@ -165,10 +239,11 @@ fn put_all(
     requires short { offset + length (parts_from (entries_in entries.now)) < 2 ^ 32 }
     ensures { IfOk result (λ v. v.items ≡ globals_from offset (entries_in entries.now) ++ parts_from (entries_in entries.now)) }
 {
-    let out = Vec::with_capacity(alloc, size)?;
-    let mut out = put_globals(alloc, out, offset, entries)?;
-    put_parts(&mut out, entries)?;
-    Ok(out)
+    let mut whole = Whole::new(alloc, size)?;
+    match write_entries(alloc, &mut whole, offset, entries) {
+        Ok(()) => Ok(whole.into_bytes()),
+        Err(_) => Err(AllocError),
+    }
 }
 
 /// The canonical stream of a list. `TooLong` exactly where it would have 2^32 bytes or more; else only

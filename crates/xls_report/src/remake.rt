@@ -2,7 +2,6 @@
 
 ghost use Rattle.std.specs.Prelude.{◌≤◌, length};
 ghost use Rattle.xls_open.specs.Opening.{default_options};
-ghost use Rattle.xls_lines.specs.Gathering.{Delivers};
 ghost use Rattle.xls_report.specs.Endings.{EndsWithEither};
 ghost use Rattle.xls_report.specs.Texts.{IsRemadeText, IsUnremadeLine};
 ghost use Rattle.xls_report.specs.Remaking.{IsUnwrittenOf, IsWrittenOf, TellsList};
@@ -12,35 +11,21 @@ use crate::report::{write_refusal, write_unwritten};
 use std::alloc::Global;
 use xls_biff::XlsError;
 use xls_book::StreamBytes;
-use xls_lay::{LayError, Logical, logical_of, write_workbook};
-use xls_lines::{Buffer, Sink, Stop};
-
-/// Writes bytes.
-fn write_bytes<K: Sink>(alloc: Global, sink: &mut K, bytes: &[u8]) -> Result<(), Stop>
-    ensures { Delivers (K.state sink.old) (K.state sink.new) bytes.now result }
-{
-    let mut buffer = Buffer::new(alloc);
-    buffer.put(sink, bytes)?;
-    buffer.finish(sink)?;
-    Ok(())
-}
+use xls_lay::{LayError, Logical, TOO_LONG, canonical_length, logical_of, write_stream};
+use xls_lines::{Sink, Stop};
 
 /// Writes the canonical stream of a list, or that it is too long.
 fn write_list<K: Sink>(alloc: Global, sink: &mut K, list: &Logical) -> Result<Ending, Stop>
     ensures { EndsWithEither (IsWrittenOf list.now) (IsUnwrittenOf list.now)
         (K.state sink.old) (K.state sink.new) result }
 {
-    match write_workbook(alloc, list) {
-        Ok(bytes) => {
-            write_bytes(alloc, sink, bytes.as_slice())?;
-            Ok(Ending::Done)
-        }
-        Err(LayError::Memory) => Err(Stop::Memory),
-        Err(LayError::TooLong { found }) => {
-            write_unwritten(alloc, sink, LayError::TooLong { found })?;
-            Ok(Ending::Refused)
-        }
+    let found = canonical_length(list);
+    if found >= TOO_LONG {
+        write_unwritten(alloc, sink, LayError::TooLong { found })?;
+        return Ok(Ending::Refused);
     }
+    write_stream(alloc, sink, list)?;
+    Ok(Ending::Done)
 }
 
 /// The one list that bytes carry, or their first fault.
@@ -52,7 +37,7 @@ fn list_of(alloc: Global, bytes: &[u8]) -> Result<Logical, XlsError>
 }
 
 /// Writes the canonical stream of the list that bytes carry, or their first fault, or that it is too long. The
-/// bytes are given back before anything is written.
+/// bytes are given back before anything is written, and the stream is written in pieces as it is made.
 pub fn write_remake<K: Sink>(
     alloc: Global,
     sink: &mut K,

@@ -1,5 +1,7 @@
-use Rattle.xls_lay.proofs.WriteLemmas.{PutParts}
+use Rattle.xls_lay.proofs.WriteLemmas.{PartsOn}
 use Rattle.xls_lay.proofs.write.put_parts.Given as goal
 
 abbrev pub invariant-loop-entry : goal.invariant-loop-entry
-invariant-loop-entry l = PutParts l.fn.out.items l.out.items l.entries l.entry-index
+invariant-loop-entry g l =
+    let sink = g.K.Sink in
+    PartsOn (sink.state l.fn.sink) l.fn.out.items (sink.state l.sink) l.out.items l.entries l.entry-index
