@@ -27,9 +27,11 @@ returns-in_err-write_unwritten g c =
     c.in_err-write_unwritten.ensures
 
 pub returns-then-found-ge-TOO_LONG : goal.returns-then-found-ge-TOO_LONG
-returns-then-found-ge-TOO_LONG g c =
-    (_, too_long c.args.list.now c.canonical_length-found.result c.canonical_length-found.ensures c.if-found-ge-TOO_LONG.true,
-      c.in_ok-write_unwritten.ensures)
+returns-then-found-ge-TOO_LONG g c = (
+  _,
+  too_long c.args.list.now c.canonical_length-found.result c.canonical_length-found.ensures c.if-found-ge-TOO_LONG.true,
+  c.in_ok-write_unwritten.ensures,
+)
 
 pub returns-in_err-write_stream : goal.returns-in_err-write_stream
 returns-in_err-write_stream g c =
