@@ -5,7 +5,7 @@ use Rattle.std.proofs.lemmas.Grind.{flat_map-append}
 use Rattle.std.proofs.lemmas.List.{append-nil}
 use Rattle.xls_data.specs.Sheets.{SheetContent, sheet_content}
 use Rattle.xls_data.specs.declared.sheets.Sheet.{Sheet}
-use Rattle.xls_reading.specs.Reading.{SheetView}
+use Rattle.xls_meaning.specs.Reading.{SheetView}
 use Rattle.example_formulas.specs.Lines.{lines_at, listing}
 
 listing_of_none : (sheets : List SheetContent) → listing sheets [] ≡ []

@@ -5,8 +5,8 @@ use Rattle.std.specs.Fmt.{decimal}
 use Rattle.xls_bytes.specs.Columns.{column_name}
 use Rattle.xls_bytes.specs.Escapes.{escaped_text}
 use Rattle.xls_data.specs.Sheets.{SheetContent}
-use Rattle.xls_reading.specs.SheetTable.{FormulaEntry, shown_formulas}
-use Rattle.xls_reading.specs.Reading.{SheetView}
+use Rattle.xls_meaning.specs.SheetTable.{FormulaEntry, shown_formulas}
+use Rattle.xls_meaning.specs.Reading.{SheetView}
 
 -- the sheet, the cell as `B7`, and the text, separated by tabs, and a newline
 abbrev pub formula_line : List ℕ → FormulaEntry → List ℕ

@@ -1,7 +1,7 @@
 -- Records before the first string table.
 use Rattle.std.proofs.Common.{◌≢◌, ℕ, List, [], ◌∷◌, ◌++◌}
-use Rattle.xls_model.specs.Stream.{Group, Begins, Run}
-use Rattle.xls_model.proofs.Runs.{Run-push}
+use Rattle.xls_stream.specs.Stream.{Group, Begins, Run}
+use Rattle.xls_stream.proofs.Runs.{Run-push}
 use Rattle.example_strings.specs.Counts.{NoTable}
 
 -- records without a table were passed

@@ -1,9 +1,9 @@
 -- How many strings the first string table of a stream has.
 use Rattle.std.specs.Prelude.{◌≡◌, ◌≢◌, ◌⊎◌, ℕ, List, [], ◌∷◌, length, drop, Err}
-use Rattle.xls_model.specs.Cut.{Cut}
-use Rattle.xls_model.specs.Stream.{Group, Begins, Run}
-use Rattle.xls_model.specs.StringTable.{Table, marked}
-use Rattle.xls_model.specs.declared.part.Part.{Part}
+use Rattle.xls_stream.specs.Cut.{Cut}
+use Rattle.xls_stream.specs.Stream.{Group, Begins, Run}
+use Rattle.xls_stream.specs.StringTable.{Table, marked}
+use Rattle.xls_stream.specs.declared.part.Part.{Part}
 use Rattle.xls_strings.specs.Sst.{InTable, ReadsTable, sst_marks}
 use Rattle.xls_strings.specs.declared.error.XlsError.{XlsError}
 use Rattle.xls_strings.specs.declared.error.XlsError.TheVariants.{EoStream}

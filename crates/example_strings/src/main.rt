@@ -8,7 +8,7 @@ use std::alloc::Global;
 use std::io::Read;
 use std::process::ExitCode;
 use xls_biff::{RecordIter, XlsError, parse_sst};
-use xls_model::types::SST;
+use xls_stream::types::SST;
 
 /// The number of the strings of the first string table; 0 where there is none.
 fn count_strings(alloc: Global, stream: &[u8]) -> Result<usize, XlsError>

@@ -5,7 +5,7 @@ use Rattle.xls_data.specs.Data.{is_nothing}
 use Rattle.xls_data.specs.declared.values.Data.{Data}
 use Rattle.xls_data.specs.declared.values.Data.TheVariants as variant
 use Rattle.xls_range.specs.Grid.{Grid, cell_at}
-use Rattle.xls_reading.specs.Reading.{SheetView}
+use Rattle.xls_meaning.specs.Reading.{SheetView}
 use Rattle.xls_open.specs.Workbook.{Workbook, view_named}
 use Rattle.xls_book.specs.LookUps.{Equal, IsRange}
 

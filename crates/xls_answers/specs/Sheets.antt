@@ -6,7 +6,7 @@ use Rattle.std.specs.String.{string_bytes}
 use Rattle.xls_data.specs.Sheets.{SheetContent}
 use Rattle.xls_data.specs.declared.sheets.SheetType.{SheetType}
 use Rattle.xls_data.specs.declared.sheets.SheetType.TheVariants as types
-use Rattle.xls_reading.specs.Reading.{SheetView, BookView, shown_of}
+use Rattle.xls_meaning.specs.Reading.{SheetView, BookView, shown_of}
 use Rattle.xls_view.specs.Viewing.{Viewed}
 use Rattle.xls_csv.specs.Dense.{dense_rows, sheet_csv}
 use Rattle.xls_tables.specs.Tables.{IsTable, BeginsTable}

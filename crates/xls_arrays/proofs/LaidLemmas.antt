@@ -4,8 +4,8 @@ use Rattle.std.proofs.lemmas.List.{length_push}
 use Rattle.std.specs.Prelude.{encode_utf8_all}
 use Rattle.xls_data.specs.Sheets.{SheetContent}
 use Rattle.xls_biff.specs.Cells.{Entry}
-use Rattle.xls_reading.specs.SheetTable.{FormulaEntry}
-use Rattle.xls_reading.specs.Reading.{SheetView}
+use Rattle.xls_meaning.specs.SheetTable.{FormulaEntry}
+use Rattle.xls_meaning.specs.Reading.{SheetView}
 use Rattle.xls_arrays.specs.Values.{cell_item, form_in, kind_of, text_in, value_in}
 use Rattle.xls_arrays.specs.Arrays.{Arrays, Told, formula_item, laid, next_span, sheet_item, with_cell, with_cell_item, with_content, with_formula, with_formula_item, with_name, with_name_item, with_region, with_sheet, with_sheet_item, with_text}
 use Rattle.xls_arrays.specs.Shown.{content_in, item_between, no_content}

@@ -2,7 +2,7 @@
 use Rattle.std.proofs.Common.{◌≡◌, ℕ, zero, suc, ◌+◌, ◌<◌, ◌≤◌, List, [], ◌∷◌, length, map, get_or, drop, drop-cons, add-one, refl, sym, ap, ◌∙◌, arith, slice_get, Option, Some, None, if◌then◌else◌, ◌==◌, rules}
 use Rattle.std.proofs.lemmas.List.{drop_all}
 use Rattle.xls_data.specs.Sheets.{SheetContent}
-use Rattle.xls_reading.specs.Reading.{BookView, SheetView}
+use Rattle.xls_meaning.specs.Reading.{BookView, SheetView}
 use Rattle.xls_arrays.specs.Arrays.{Told}
 use Rattle.xls_arrays.specs.Shown.{alone, asked_for, content_in, each_with, no_content}
 use Rattle.xls_arrays.specs.declared.options.Options.{Options}

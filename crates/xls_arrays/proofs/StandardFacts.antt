@@ -7,7 +7,7 @@ use Rattle.xls_dates.specs.declared.dates.ExcelDateTimeType.TheVariants.{DateTim
 use Rattle.xls_data.specs.declared.errors.CellErrorType.TheVariants as failures
 use Rattle.xls_data.specs.declared.sheets.SheetType.TheVariants as sheets
 use Rattle.xls_data.specs.declared.sheets.SheetVisible.TheVariants as visible
-use Rattle.xls_model.specs.declared.part.Part.TheVariants as parts
+use Rattle.xls_stream.specs.declared.part.Part.TheVariants as parts
 use Rattle.xls_text.specs.declared.error.CfbError.TheVariants as pages
 use Rattle.xls_strings.specs.declared.error.XlsError.TheVariants as errors
 use Rattle.xls_sectors.specs.declared.error.Table.TheVariants as tables

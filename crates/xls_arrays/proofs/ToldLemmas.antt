@@ -4,7 +4,7 @@ use Rattle.std.proofs.lemmas.List.{append-nil, append_assoc, drop-append-le, dro
 use Rattle.std.specs.List.{AllZip}
 use Rattle.xls_data.specs.declared.regions.Dimensions.{Dimensions}
 use Rattle.xls_biff.specs.Cells.{Entry}
-use Rattle.xls_reading.specs.SheetTable.{FormulaEntry}
+use Rattle.xls_meaning.specs.SheetTable.{FormulaEntry}
 use Rattle.xls_arrays.specs.Values.{cell_item, text_in}
 use Rattle.xls_arrays.specs.Arrays.{Arrays, Told, empty, laid, next_span, sheet_item, with_cell, with_content, with_formula, with_name, with_region, with_sheet, with_sheet_item, with_text}
 use Rattle.xls_arrays.specs.Laws.{AreOf, ArraysAreTold, IsCellOf, IsFormulaOf, IsNameOf, IsRegionOf, IsSheetOf, Stands}

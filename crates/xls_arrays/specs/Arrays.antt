@@ -7,8 +7,8 @@ use Rattle.xls_data.specs.declared.sheets.SheetVisible.{SheetVisible}
 use Rattle.xls_data.specs.declared.sheets.SheetVisible.TheVariants.{Visible, Hidden, VeryHidden}
 use Rattle.xls_data.specs.declared.regions.Dimensions.{Dimensions}
 use Rattle.xls_biff.specs.Cells.{Entry}
-use Rattle.xls_reading.specs.SheetTable.{FormulaEntry}
-use Rattle.xls_reading.specs.Reading.{SheetView}
+use Rattle.xls_meaning.specs.SheetTable.{FormulaEntry}
+use Rattle.xls_meaning.specs.Reading.{SheetView}
 use Rattle.xls_arrays.specs.Values.{cell_item, text_in}
 use Rattle.xls_arrays.specs.declared.items.Span.{Span}
 use Rattle.xls_arrays.specs.declared.items.Sizes.{Sizes}

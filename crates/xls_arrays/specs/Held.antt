@@ -1,6 +1,6 @@
 -- What a stream holds, as arrays, and why it isn't read.
 use Rattle.std.specs.Prelude.{◌≡◌, ◌⊎◌, ℕ, ◌<◌, ◌≤◌, Bool, List, Some, length}
-use Rattle.xls_reading.specs.Reading.{BookView}
+use Rattle.xls_meaning.specs.Reading.{BookView}
 use Rattle.xls_container.specs.Obfuscation.{IsObfuscated}
 use Rattle.xls_strings.specs.declared.error.XlsError.TheVariants as errors
 use Rattle.xls_view.specs.Viewing.{IsFault, IsViewed, Viewed}

@@ -10,7 +10,7 @@ use Rattle.xls_directory.specs.declared.fault.DirectoryFault.{DirectoryFault}
 use Rattle.xls_directory.specs.declared.fault.DirectoryFault.TheVariants as entries
 use Rattle.xls_data.specs.declared.regions.Dimensions.{Dimensions}
 use Rattle.xls_biff.specs.Cells.{Entry}
-use Rattle.xls_reading.specs.SheetTable.{FormulaEntry}
+use Rattle.xls_meaning.specs.SheetTable.{FormulaEntry}
 use Rattle.xls_arrays.specs.Values.{cell_item, text_in}
 use Rattle.xls_arrays.specs.Arrays.{Arrays, Told, arrays_of, formula_item, kind_number, region_item, visibility_number}
 use Rattle.xls_arrays.specs.Faults.{fault_of}

@@ -1,6 +1,6 @@
 -- Steps of laying what a view shows, for the contracts of the steps.
 use Rattle.std.specs.Prelude.{◌≡◌, ℕ, ◌≤◌, List, Some, length, slice_get}
-use Rattle.xls_reading.specs.Reading.{BookView}
+use Rattle.xls_meaning.specs.Reading.{BookView}
 use Rattle.xls_arrays.specs.Arrays.{Told, laid, with_name, with_sheet}
 use Rattle.xls_arrays.specs.Filled.{Lays}
 use Rattle.xls_arrays.specs.Held.{Misses}

@@ -1,7 +1,7 @@
 -- The parts of a stream by their numbers, from 1.
 use Rattle.std.specs.Prelude.{ℕ, ◌-◌, ◌==◌, if◌then◌else◌, List, [], ◌∷◌, Option, None, slice_get}
-use Rattle.xls_model.specs.declared.part.Part.{Part}
-use Rattle.xls_model.specs.declared.part.Part.TheVariants as parts
+use Rattle.xls_stream.specs.declared.part.Part.{Part}
+use Rattle.xls_stream.specs.declared.part.Part.TheVariants as parts
 
 abbrev pub part_number : Part → ℕ
 part_number parts.RecordHeader = 1

@@ -1,7 +1,7 @@
 -- Which sheets of a workbook are laid, and with which content.
 use Rattle.std.specs.Prelude.{◌-◌, List, [], ◌∷◌, Option, Some, None, slice_get, if◌then◌else◌, ◌==◌}
 use Rattle.xls_data.specs.Sheets.{SheetContent}
-use Rattle.xls_reading.specs.Reading.{BookView, SheetView}
+use Rattle.xls_meaning.specs.Reading.{BookView, SheetView}
 use Rattle.xls_arrays.specs.Arrays.{Told, kind_number, visibility_number}
 use Rattle.xls_arrays.specs.declared.items.Span.{Span}
 use Rattle.xls_arrays.specs.declared.items.Sizes.{Sizes}

@@ -2,12 +2,12 @@
 use Rattle.std.proofs.Common.{◌≡◌, true, false, ℕ, ◌+◌, ◌-◌, ◌<◌, ◌≤◌, List, [], ◌∷◌, ◌++◌, refl, sym, ap, ◌∙◌, append_assoc, arith, inl, inr, Option, None}
 use Rattle.std.proofs.lemmas.List.{append-nil}
 use Rattle.std.specs.List.{flat_map}
-use Rattle.xls_model.specs.Stream.{Group, group_bytes, Begins}
-use Rattle.xls_model.specs.Substreams.{IsBof, IsEof, IsPlain, is_sheet_type}
-use Rattle.xls_model.specs.Counting.{Found, with_group, keep, found_from}
-use Rattle.xls_model.specs.declared.part.Part.{Part}
-use Rattle.xls_model.proofs.Runs.{Run-push, Run-whole, begins_fewer}
-use Rattle.xls_model.proofs.Founds.{step_bof, step_eof, step_inside, step_kept, step_over, found_nothing}
+use Rattle.xls_stream.specs.Stream.{Group, group_bytes, Begins}
+use Rattle.xls_stream.specs.Substreams.{IsBof, IsEof, IsPlain, is_sheet_type}
+use Rattle.xls_stream.specs.Counting.{Found, with_group, keep, found_from}
+use Rattle.xls_stream.specs.declared.part.Part.{Part}
+use Rattle.xls_stream.proofs.Runs.{Run-push, Run-whole, begins_fewer}
+use Rattle.xls_stream.proofs.Founds.{step_bof, step_eof, step_inside, step_kept, step_over, found_nothing}
 use Rattle.xls_biff.specs.Outer.{Skips, Keeps, Over}
 
 pub skips_none : (b : List ℕ) (n : ℕ) → Skips b n b n

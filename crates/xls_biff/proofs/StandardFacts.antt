@@ -1,6 +1,6 @@
 -- Values from outside, in the bytes of records, so that a wrong rule in the definitions does not check.
 use Rattle.std.proofs.Common.{◌≡◌, ℕ, [], ◌∷◌, ◌++◌, map, replicate, refl, pos, negsuc, codes, true, false, Some, None, Ok, Err}
-use Rattle.xls_model.specs.declared.part.Part.TheVariants as parts
+use Rattle.xls_stream.specs.declared.part.Part.TheVariants as parts
 use Rattle.xls_text.specs.declared.encoding.XlsEncoding.TheVariants.{Utf16, Windows1252}
 use Rattle.xls_text.specs.declared.error.CfbError.TheVariants.{CodePageNotFound}
 use Rattle.xls_data.specs.Content.{int, float, text, truth, failure}

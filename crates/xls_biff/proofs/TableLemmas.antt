@@ -1,7 +1,7 @@
 -- What the records of a sheet weigh.
 use Rattle.std.proofs.Common.{◌≡◌, ℕ, ◌≤◌, List, [], ◌∷◌, length, Result, Ok, refl, ap, ◌∙◌, ◌⊎◌, inl, inr, arith}
 use Rattle.std.proofs.lemmas.Bool.{cases_lt}
-use Rattle.xls_model.specs.declared.types.TheConstants as types
+use Rattle.xls_stream.specs.declared.types.TheConstants as types
 use Rattle.xls_strings.specs.declared.error.XlsError.{XlsError}
 use Rattle.xls_strings.specs.Reading.{gives}
 use Rattle.xls_strings.specs.Strings.{string_at}

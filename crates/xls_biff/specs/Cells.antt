@@ -2,7 +2,7 @@
 use Rattle.std.specs.Prelude.{ℕ, List, not, ◌==◌, if◌then◌else◌, take, drop, slice_get, Option, Result, Ok, Err}
 use Rattle.std.specs.Option.{option_map}
 use Rattle.xls_bytes.specs.Numbers.{le}
-use Rattle.xls_model.specs.declared.part.Part.TheVariants as parts
+use Rattle.xls_stream.specs.declared.part.Part.TheVariants as parts
 use Rattle.xls_data.specs.Content.{Content, truth}
 use Rattle.xls_data.specs.Data.{content_of}
 use Rattle.xls_data.specs.declared.values.Data.{Data}

@@ -3,4 +3,4 @@ pub mod Outer
 pub mod Cells
 pub mod Records
 pub mod SheetTable
-pub use Rattle.xls_model.specs.Stream
+pub use Rattle.xls_stream.specs.Stream

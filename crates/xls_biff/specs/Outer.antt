@@ -1,11 +1,11 @@
 -- What a step over a sheet part gives, where some BOF records are open.
 use Rattle.std.specs.Prelude.{◌≡◌, true, ℕ, ◌<◌, ◌≤◌, List, [], ◌∷◌, ◌++◌, length, Option, Some, None, Result, Ok, Err, ◌⊎◌}
 use Rattle.std.specs.Borrow.{Bor}
-use Rattle.xls_model.specs.Stream.{Group, Begins, Run}
-use Rattle.xls_model.specs.Cut.{Cut}
-use Rattle.xls_model.specs.Substreams.{is_sheet_type}
-use Rattle.xls_model.specs.Counting.{found_from, with_group}
-use Rattle.xls_model.specs.declared.part.Part.{Part}
+use Rattle.xls_stream.specs.Stream.{Group, Begins, Run}
+use Rattle.xls_stream.specs.Cut.{Cut}
+use Rattle.xls_stream.specs.Substreams.{is_sheet_type}
+use Rattle.xls_stream.specs.Counting.{found_from, with_group}
+use Rattle.xls_stream.specs.declared.part.Part.{Part}
 use Rattle.xls_strings.specs.declared.record.Record.{Record}
 use Rattle.xls_strings.specs.declared.error.XlsError.{XlsError}
 use Rattle.xls_strings.specs.declared.error.XlsError.TheVariants.{EoStream}

@@ -1,8 +1,8 @@
 -- What a step of the walk over records gives.
 use Rattle.std.specs.Prelude.{◌≡◌, ℕ, List, [], Option, Some, None, Result, Ok, Err}
-use Rattle.xls_model.specs.Stream.{Group, Begins}
-use Rattle.xls_model.specs.Cut.{Cut}
-use Rattle.xls_model.specs.declared.part.Part.{Part}
+use Rattle.xls_stream.specs.Stream.{Group, Begins}
+use Rattle.xls_stream.specs.Cut.{Cut}
+use Rattle.xls_stream.specs.declared.part.Part.{Part}
 use Rattle.xls_strings.specs.declared.record.Record.{Record}
 use Rattle.xls_strings.specs.declared.error.XlsError.{XlsError}
 use Rattle.xls_strings.specs.declared.error.XlsError.TheVariants.{EoStream}

@@ -4,7 +4,7 @@ ghost use Rattle.std.specs.Prelude.{◌≡◌, ◌≢◌, Ok, IsErr};
 ghost use Rattle.xls_strings.specs.Reading.{Exactly, fault_in};
 ghost use Rattle.xls_biff.specs.SheetTable.{CellContext, SheetRecord, sheet_record_at, weight_of, weight_of_type};
 ghost use Rattle.xls_biff.specs.Records.Rk.{mul_rk_count};
-ghost use Rattle.xls_model.specs.declared.types.TheConstants as types;
+ghost use Rattle.xls_stream.specs.declared.types.TheConstants as types;
 
 use crate::records::bool_err::check_bool_err;
 use crate::records::dimensions::check_dimensions;
@@ -15,7 +15,7 @@ use crate::records::merge_cells::check_merge_cells;
 use crate::records::number::check_number;
 use crate::records::rk::{check_mul_rk, check_rk, weight_of_mul_rk};
 use crate::records::string::check_string;
-use xls_model::types::{
+use xls_stream::types::{
     BOOL_ERR, DIMENSIONS, FORMULA, LABEL, LABEL_SST, MERGE_CELLS, MUL_RK, NUMBER, R_STRING, RK,
     STRING,
 };

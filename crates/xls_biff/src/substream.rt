@@ -1,12 +1,12 @@
 //! The records of a sheet part outside nested substreams.
 
 ghost use Rattle.std.specs.Prelude.{◌≡◌, ◌+◌, ◌<◌, ◌≤◌, ◌^◌, length};
-ghost use Rattle.xls_model.specs.Substreams.{is_among, sheet_types};
+ghost use Rattle.xls_stream.specs.Substreams.{is_among, sheet_types};
 ghost use Rattle.xls_biff.specs.Outer.{PlacedSteps};
 
 use crate::walk::RecordIter;
 use std::marker::Model;
-use xls_model::types::{
+use xls_stream::types::{
     BOF, BOOL_ERR, DIMENSIONS, EOF, FORMULA, LABEL, LABEL_SST, MERGE_CELLS, MUL_RK, NUMBER,
     R_STRING, RK, STRING,
 };

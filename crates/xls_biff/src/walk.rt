@@ -1,13 +1,13 @@
 //! A walk over the records of a stream.
 
 ghost use Rattle.std.specs.Prelude.{◌≡◌, ◌≢◌, ◌↔◌, ◌<◌, [], IsTrue, MatchResult, length};
-ghost use Rattle.xls_model.specs.Stream.{Begins, IsRecord, StartsContinue};
-ghost use Rattle.xls_model.specs.Cut.{Cut};
+ghost use Rattle.xls_stream.specs.Stream.{Begins, IsRecord, StartsContinue};
+ghost use Rattle.xls_stream.specs.Cut.{Cut};
 ghost use Rattle.xls_biff.specs.Walking.{group_of, Steps};
 
 use std::marker::Model;
 use xls_bytes::read_u16;
-use xls_model::types::CONTINUE;
+use xls_stream::types::CONTINUE;
 use xls_strings::{Part, Pieces, Record, XlsError};
 
 /// The type and the body of the first record, and the bytes after it.

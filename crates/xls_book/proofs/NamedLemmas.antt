@@ -6,7 +6,7 @@ use Rattle.std.specs.Borrow.{Bor}
 use Rattle.std.specs.List.{AllByRecursion}
 use Rattle.std.specs.Cmp.Lexicographic.{pointwise}
 use Rattle.xls_data.specs.Sheets.{SheetContent}
-use Rattle.xls_reading.specs.Reading.{last_named, paired}
+use Rattle.xls_meaning.specs.Reading.{last_named, paired}
 
 module _ {X : Type 0} (P : X → Type 0) where
   last_holds : (o : Option X) (x v : X) (b : Bool) → ((w : X) → o ≡ Some w → P w) → P x

@@ -18,12 +18,12 @@ use Rattle.std.proofs.lemmas.Slice.Eq.{bytes_eq-Decides}
 use Rattle.std.proofs.lemmas.Str.{IsUtf8-string_bytes}
 use Rattle.xls_data.specs.Sheets.{SheetContent, sheet_content}
 use Rattle.xls_data.specs.declared.sheets.Sheet.{Sheet}
-use Rattle.xls_reading.specs.Reading.{SheetView, last_named, paired}
+use Rattle.xls_meaning.specs.Reading.{SheetView, last_named, paired}
 use Rattle.xls_view.specs.Index.{last_place, IsIndex}
-use Rattle.xls_reading.specs.Held.{no_view}
+use Rattle.xls_meaning.specs.Held.{no_view}
 use Rattle.xls_book.specs.LookUps.{Equal, Blank, IsBox, IsListed, Worksheet, IsWorksheet, AreWorksheets}
 use Rattle.xls_view.proofs.IndexLemmas.{at_place, named_place}
-use Rattle.xls_reading.proofs.NamedLemmas.{named_some}
+use Rattle.xls_meaning.proofs.NamedLemmas.{named_some}
 
 -- a name of the index, and the place of its last sheet
 abbrev Placed : Type 0

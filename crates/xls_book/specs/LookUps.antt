@@ -20,9 +20,9 @@ use Rattle.xls_cells.specs.Positions.{Position}
 use Rattle.xls_biff.specs.Cells.{Entry}
 use Rattle.xls_strings.specs.declared.error.XlsError.{XlsError}
 use Rattle.xls_strings.specs.declared.error.XlsError.TheVariants as errors
-use Rattle.xls_reading.specs.Reading.{SheetView}
+use Rattle.xls_meaning.specs.Reading.{SheetView}
 use Rattle.xls_open.specs.Workbook.{Workbook, cell_content, formula_content}
-use Rattle.xls_reading.specs.SheetTable.{FormulaEntry}
+use Rattle.xls_meaning.specs.SheetTable.{FormulaEntry}
 
 -- the workbook with this header row, and else as it was
 abbrev pub under_header : Workbook → HeaderRow → Workbook

@@ -8,7 +8,7 @@ use Rattle.xls_data.specs.declared.values.Data.{Data}
 use Rattle.xls_cells.specs.Positions.{Position}
 use Rattle.xls_biff.specs.Cells.{Entry}
 use Rattle.xls_biff.specs.Cells as cells
-use Rattle.xls_reading.specs.SheetTable.{FormulaEntry, shown_formulas}
+use Rattle.xls_meaning.specs.SheetTable.{FormulaEntry, shown_formulas}
 use Rattle.xls_open.specs.Workbook.{formula_content}
 
 -- a call of next with these cells left

@@ -14,7 +14,7 @@ pub struct Formulas<'a> {
 
 impl<'a> Model for Formulas<'a> {
     ghost use Rattle.std.specs.Prelude.{List, map};
-    ghost use Rattle.xls_reading.specs.SheetTable.{shown_formulas, FormulaEntry};
+    ghost use Rattle.xls_meaning.specs.SheetTable.{shown_formulas, FormulaEntry};
     ghost use Rattle.xls_open.specs.Workbook.{formula_content};
 
     ghost Value = { List FormulaEntry };
@@ -70,7 +70,7 @@ fn first_shown(cells: &[Cell<String>]) -> Option<(u32, u32, &str, &[Cell<String>
 
 impl<'a> Formulas<'a> {
     ghost use Rattle.std.specs.Prelude.{◌≡◌, map};
-    ghost use Rattle.xls_reading.specs.SheetTable.{shown_formulas};
+    ghost use Rattle.xls_meaning.specs.SheetTable.{shown_formulas};
     ghost use Rattle.xls_open.specs.Workbook.{formula_content};
 
     pub(crate) fn new(cells: &'a [Cell<String>]) -> Formulas<'a>

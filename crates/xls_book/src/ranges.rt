@@ -7,7 +7,7 @@ ghost use Rattle.xls_data.specs.Sheets.{sheet_content};
 ghost use Rattle.xls_data.specs.Data.{is_nothing};
 ghost use Rattle.xls_book.specs.LookUps.{AreWorksheets, IsBox, IsCut, IsRange, IsTextBox, Worksheet, is_empty_text};
 ghost use Rattle.xls_open.specs.Workbook.{IsOrdered};
-ghost use Rattle.xls_reading.specs.Reading.{last_named, paired};
+ghost use Rattle.xls_meaning.specs.Reading.{last_named, paired};
 ghost use Rattle.xls_view.specs.Index.{IsIndex};
 
 use std::alloc::{AllocError, Global};

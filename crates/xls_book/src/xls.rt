@@ -10,10 +10,10 @@ ghost use Rattle.xls_cells.specs.Positions.{IsAscending};
 ghost use Rattle.xls_biff.specs.Cells.{Entry};
 ghost use Rattle.xls_props.specs.Properties.{IsProperties};
 ghost use Rattle.xls_open.specs.Opening.{IsOfOpening, IsOpened, OpenCause, Opens};
-ghost use Rattle.xls_reading.specs.Reading.{SheetView};
+ghost use Rattle.xls_meaning.specs.Reading.{SheetView};
 ghost use Rattle.xls_book.specs.LookUps.{AreWorksheets, GivesMerges, NameCause, out_of_range, under_header};
 ghost use Rattle.xls_open.specs.Workbook.{IsOrdered, told_of, view_named};
-ghost use Rattle.xls_reading.specs.SheetTable.{shown_formulas};
+ghost use Rattle.xls_meaning.specs.SheetTable.{shown_formulas};
 ghost use Rattle.xls_open.specs.Steps.{IsReady, book_of};
 ghost use Rattle.xls_source.specs.Bounded.{AnswersAtEnd};
 
@@ -59,7 +59,7 @@ impl Model for Xls {
     ghost use Rattle.xls_data.specs.Sheets.{sheet_content};
     ghost use Rattle.xls_open.specs.Workbook.{Workbook, told_of, IsOrdered};
     ghost use Rattle.std.specs.List.{AllByRecursion};
-    ghost use Rattle.xls_reading.specs.Reading.{paired};
+    ghost use Rattle.xls_meaning.specs.Reading.{paired};
     ghost use Rattle.xls_open.specs.Steps.{shown};
     ghost use Rattle.xls_view.specs.Index.{IsIndex};
 

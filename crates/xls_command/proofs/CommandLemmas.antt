@@ -8,7 +8,7 @@ use Rattle.xls_strings.specs.declared.error.XlsError.{XlsError}
 use Rattle.xls_strings.specs.declared.error.XlsError.TheVariants as errors
 use Rattle.xls_open.specs.Workbook.{Workbook, view_named}
 use Rattle.xls_open.proofs.SameLemmas.{same_list_same_book}
-use Rattle.xls_reading.specs.Faults.{IsSound}
+use Rattle.xls_meaning.specs.Faults.{IsSound}
 use Rattle.xls_open.specs.Opening.{IsOpened, default_options, default_rules}
 use Rattle.xls_source.specs.Bounded.{ReadCause}
 use Rattle.xls_lines.specs.SinkState.{SinkState, TakesEach}

@@ -3,8 +3,8 @@ use Rattle.std.specs.Prelude.{◌≡◌, ◌≢◌, ℕ, List, Option, Result, O
 use Rattle.std.specs.Io.KnownBytes.{Keeps}
 use Rattle.xls_strings.specs.declared.error.XlsError.{XlsError}
 use Rattle.xls_strings.specs.declared.error.XlsError.TheVariants as errors
-use Rattle.xls_reading.specs.Reading.{BookView}
-use Rattle.xls_reading.specs.Faults.{FirstFault}
+use Rattle.xls_meaning.specs.Reading.{BookView}
+use Rattle.xls_meaning.specs.Faults.{FirstFault}
 use Rattle.xls_open.specs.Workbook.{Workbook, view_of}
 use Rattle.xls_open.specs.Opening.{IsOpened, default_options, default_rules}
 use Rattle.xls_source.specs.Causes.{Rose}

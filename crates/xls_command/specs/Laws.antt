@@ -1,8 +1,8 @@
 -- A law over what the commands write.
 use Rattle.std.specs.Prelude.{ℕ, ◌≤◌, List, length, Some}
-use Rattle.xls_model.specs.Walks.{IsBytes}
-use Rattle.xls_model.specs.Listing.{Entry, Carries}
-use Rattle.xls_layout.specs.Canonical.{Fits}
+use Rattle.xls_stream.specs.Walks.{IsBytes}
+use Rattle.xls_stream.specs.Listing.{Entry, Carries}
+use Rattle.xls_layouts.specs.Canonical.{Fits}
 use Rattle.xls_open.specs.Opening.{default_options}
 use Rattle.xls_command.specs.Outputs.{IsOutput}
 use Rattle.xls_command.specs.declared.command.Command.TheVariants.{Dump, Remake}

@@ -4,11 +4,11 @@ use Rattle.std.specs.Str.{chars}
 use Rattle.std.specs.Io.KnownBytes.{IsAtEnd}
 use Rattle.xls_strings.specs.declared.error.XlsError.TheVariants.{TooLarge}
 use Rattle.xls_open.specs.Workbook.{Workbook, view_named, view_of}
-use Rattle.xls_reading.specs.Reading.{BookView}
-use Rattle.xls_model.specs.Listing.{Entry, Carries}
+use Rattle.xls_meaning.specs.Reading.{BookView}
+use Rattle.xls_stream.specs.Listing.{Entry, Carries}
 use Rattle.xls_lay.specs.Writing.{canonical_bytes}
 use Rattle.xls_report.specs.Texts.{IsPropertyText, IsFirstLine, IsRefsText, IsRemadeText, IsUnremadeLine, IsCsvOf, IsMissingOf}
-use Rattle.xls_reading.specs.Faults.{IsSound}
+use Rattle.xls_meaning.specs.Faults.{IsSound}
 use Rattle.xls_open.specs.Opening.{IsOpened, default_options, default_rules}
 use Rattle.xls_report.specs.Report.{report, sheet_report, sound_line, fault_line}
 use Rattle.xls_command.specs.Summary.{summary_text}

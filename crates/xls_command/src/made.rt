@@ -2,14 +2,14 @@
 
 ghost use Rattle.std.specs.Prelude.{◌≡◌, ◌≤◌, ◌<◌, ◌++◌, ◌^◌, ◌*◌, ◌+◌, ◌%◌, IfOk, OnOk};
 ghost use Rattle.xls_bytes.specs.Numbers.{le16};
-ghost use Rattle.xls_model.specs.Stream.{enc};
-ghost use Rattle.xls_model.specs.declared.types.TheConstants as types;
-ghost use Rattle.xls_made.specs.Made.{cell_body, le32, made_globals, made_part, made_row, made_stream, part_body};
+ghost use Rattle.xls_stream.specs.Stream.{enc};
+ghost use Rattle.xls_stream.specs.declared.types.TheConstants as types;
+ghost use Rattle.xls_sample_stream.specs.Made.{cell_body, le32, made_globals, made_part, made_row, made_stream, part_body};
 ghost use Rattle.xls_command.specs.Words.{max_rows};
 
 use std::alloc::{AllocError, Global};
 use xls_book::StreamBytes;
-use xls_model::types::{LABEL_SST, RK};
+use xls_stream::types::{LABEL_SST, RK};
 
 /// The globals: BOF, the sheet `G` whose part begins at byte 52, the strings `a`, `bb` and `ccc`, and EOF.
 static GLOBALS: [u8; 52] = [

@@ -2,7 +2,7 @@
 
 ghost use Rattle.std.specs.Prelude.{◌≡◌, ◌≤◌, IfOk};
 ghost use Rattle.xls_data.specs.Data.{content_of, is_nothing};
-ghost use Rattle.xls_made.specs.Made.{IsMadeRange, int_of};
+ghost use Rattle.xls_sample_stream.specs.Made.{IsMadeRange, int_of};
 ghost use Rattle.xls_lines.specs.Gathering.{Delivers};
 ghost use Rattle.xls_command.specs.Summary.{counts_text};
 ghost use Rattle.xls_command.specs.Words.{max_rows};

@@ -8,7 +8,7 @@ use Rattle.std.proofs.lemmas.Option.{slice_get-map}
 use Rattle.std.proofs.lemmas.Bool.Decides.{eqb_tells}
 use Rattle.xls_bytes.specs.Numbers.{le}
 use Rattle.xls_text.specs.declared.encoding.XlsEncoding.{XlsEncoding}
-use Rattle.xls_model.specs.Listing.{is_among, Entry, plain_entry, table_entry, sheet_entry, Item, plain_item, table_item, sheet_item, entry_of}
+use Rattle.xls_stream.specs.Listing.{is_among, Entry, plain_entry, table_entry, sheet_entry, Item, plain_item, table_item, sheet_item, entry_of}
 use Rattle.xls_dates.specs.Builtin.{class_of_code}
 use Rattle.xls_data.specs.Sheets.{SheetContent}
 use Rattle.xls_dates.specs.Classes.{class_of}
@@ -17,7 +17,7 @@ use Rattle.xls_strings.specs.declared.version.Biff.{Biff}
 use Rattle.xls_strings.specs.declared.error.XlsError.{XlsError}
 use Rattle.xls_strings.specs.declared.error.XlsError.TheVariants.{InvalidFormat}
 use Rattle.xls_strings.specs.Reading.{◌>>=◌, ◌>>◌, gives, at_least}
-use Rattle.xls_model.specs.declared.part.Part.TheVariants as parts
+use Rattle.xls_stream.specs.declared.part.Part.TheVariants as parts
 use Rattle.xls_biff.specs.declared.records.bof.Bof.{Bof}
 use Rattle.xls_biff.specs.Records.Bof.{bof_at}
 use Rattle.xls_biff.specs.Records.BoundSheet.{sheet_by}
@@ -28,10 +28,10 @@ use Rattle.xls_biff.specs.Records.FilePass.{file_pass_at}
 use Rattle.xls_biff.specs.Records.Format.{format_at, format_text_at, is_format_id}
 use Rattle.xls_biff.specs.Records.Xf.{xf_at}
 use Rattle.xls_formula.specs.Defined.{lbl_at}
-use Rattle.xls_reading.specs.Order.{along, somes}
-use Rattle.xls_reading.specs.GlobalsTable.{Named, GlobalsRecord, version_record, other_record, page_record, date_record, xf_record, references_record, name_record, sheet_record, unless_forced, unless_refused, plain_record_at, Line, format_given, xf_given}
-use Rattle.xls_reading.specs.InForce.{page_in, version_in, line_in, formats_in, last_class, class_in, identifiers_in}
-use Rattle.xls_reading.specs.Rules.{Rules}
+use Rattle.xls_meaning.specs.Order.{along, somes}
+use Rattle.xls_meaning.specs.GlobalsTable.{Named, GlobalsRecord, version_record, other_record, page_record, date_record, xf_record, references_record, name_record, sheet_record, unless_forced, unless_refused, plain_record_at, Line, format_given, xf_given}
+use Rattle.xls_meaning.specs.InForce.{page_in, version_in, line_in, formats_in, last_class, class_in, identifiers_in}
+use Rattle.xls_meaning.specs.Rules.{Rules}
 use Rattle.xls_formats.specs.Uncounted.{xf_identifier_at, uncounted_in, xf_identifier_in, uncounted_ids, is_touched}
 use Rattle.xls_formats.specs.Laws.{TouchedAreBuiltIn}
 

@@ -5,11 +5,11 @@ use Rattle.std.specs.List.{filter_map, cons_option}
 use Rattle.std.proofs.lemmas.List.{append-nil}
 use Rattle.std.proofs.lemmas.List.Elements.{filter_map-append}
 use Rattle.std.proofs.lemmas.Bool.Decides.{eqb_tells}
-use Rattle.xls_model.specs.Stream.{Group, Begins}
-use Rattle.xls_model.specs.Walks.{IsBytes}
-use Rattle.xls_model.specs.Listing.{is_globals_type, Item, plain_item, table_item, sheet_item, IsItem, Holds}
-use Rattle.xls_model.specs.declared.part.Part.{Part}
-use Rattle.xls_model.proofs.HoldingLemmas.{has_item}
+use Rattle.xls_stream.specs.Stream.{Group, Begins}
+use Rattle.xls_stream.specs.Walks.{IsBytes}
+use Rattle.xls_stream.specs.Listing.{is_globals_type, Item, plain_item, table_item, sheet_item, IsItem, Holds}
+use Rattle.xls_stream.specs.declared.part.Part.{Part}
+use Rattle.xls_stream.proofs.HoldingLemmas.{has_item}
 use Rattle.xls_open.proofs.CheckWalkLemmas.{Passed, passed_nothing, passed_item, passed_other, passed_cut, passed_eof, passed_end}
 use Rattle.xls_formats.specs.Uncounted.{uncounted_at, xf_identifier_at, uncounted_in, xf_identifier_in, uncounted_ids}
 use Rattle.xls_formats.specs.Steps.{AreOver, AreIdentifiers}

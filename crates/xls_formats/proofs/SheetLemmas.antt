@@ -4,12 +4,12 @@ use Rattle.std.specs.Prelude.{min, nat_lt, ◌==◌}
 use Rattle.std.specs.List.{count_by, flat_map}
 use Rattle.std.proofs.lemmas.List.{append-nil}
 use Rattle.std.proofs.lemmas.Grind.{flat_map-append}
-use Rattle.xls_model.specs.Stream.{Group, Begins}
-use Rattle.xls_model.specs.Counting.{From, found_from}
-use Rattle.xls_model.specs.Walks.{IsBytes}
-use Rattle.xls_model.specs.Listing.{is_among, is_globals_type, offset_at, IsSheetPart, Kept, kept_group, kept_of, IsPart, Item, plain_item, table_item, sheet_item, IsItem}
-use Rattle.xls_model.specs.declared.part.Part.{Part}
-use Rattle.xls_model.proofs.HoldingLemmas.{has_item, one_holds}
+use Rattle.xls_stream.specs.Stream.{Group, Begins}
+use Rattle.xls_stream.specs.Counting.{From, found_from}
+use Rattle.xls_stream.specs.Walks.{IsBytes}
+use Rattle.xls_stream.specs.Listing.{is_among, is_globals_type, offset_at, IsSheetPart, Kept, kept_group, kept_of, IsPart, Item, plain_item, table_item, sheet_item, IsItem}
+use Rattle.xls_stream.specs.declared.part.Part.{Part}
+use Rattle.xls_stream.proofs.HoldingLemmas.{has_item, one_holds}
 use Rattle.xls_strings.specs.declared.error.XlsError.{XlsError}
 use Rattle.xls_biff.specs.Outer.{Keeps, Over, CutShort}
 use Rattle.xls_open.proofs.PartLemmas.{part_from, keeps_from, over_from, cut_from, keeps_bytes, kept_push}

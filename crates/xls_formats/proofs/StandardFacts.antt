@@ -1,7 +1,7 @@
 -- Known values, in the bytes of records, so that a wrong rule in the definitions does not check.
 use Rattle.std.proofs.Common.{◌≡◌, ℕ, List, [], ◌∷◌, map, refl, true, false, Option, Some, None}
-use Rattle.xls_model.specs.Listing.{Kept, Item, plain_item, sheet_item}
-use Rattle.xls_model.specs.declared.types.TheConstants as types
+use Rattle.xls_stream.specs.Listing.{Kept, Item, plain_item, sheet_item}
+use Rattle.xls_stream.specs.declared.types.TheConstants as types
 use Rattle.xls_formats.specs.Uncounted.{uncounted_at, xf_identifier_at, ixfes_at, touched_xfs, uncounted_of}
 
 -- a Format record with this low and high byte of its identifier, and a text of one byte

@@ -1,9 +1,9 @@
 -- What the count says of a reading.
 use Rattle.std.specs.Prelude.{◌≡◌, ℕ, List, true, map, slice_get, Some}
-use Rattle.xls_model.specs.Listing.{Item, entry_of}
+use Rattle.xls_stream.specs.Listing.{Item, entry_of}
 use Rattle.xls_dates.specs.Builtin.{class_of_code}
-use Rattle.xls_reading.specs.InForce.{identifiers_in, classes_in}
-use Rattle.xls_reading.specs.Rules.{Rules}
+use Rattle.xls_meaning.specs.InForce.{identifiers_in, classes_in}
+use Rattle.xls_meaning.specs.Rules.{Rules}
 use Rattle.xls_formats.specs.Uncounted.{touched_xfs, is_touched}
 
 -- under all rules, a touched XF has the class of the built-in format of its identifier

@@ -1,12 +1,12 @@
 -- Steps of the count, for the proofs.
 use Rattle.std.specs.Prelude.{◌≡◌, ◌≢◌, ◌⊎◌, ℕ, List, [], Bool, Option, Some, None}
 use Rattle.std.specs.List.{filter_map, flat_map}
-use Rattle.xls_model.specs.Stream.{Group, Begins}
-use Rattle.xls_model.specs.Cut.{Cut}
-use Rattle.xls_model.specs.Substreams.{IsEof}
-use Rattle.xls_model.specs.Listing.{Kept, Item, Holds}
-use Rattle.xls_model.specs.declared.part.Part.{Part}
-use Rattle.xls_model.specs.declared.types.TheConstants as types
+use Rattle.xls_stream.specs.Stream.{Group, Begins}
+use Rattle.xls_stream.specs.Cut.{Cut}
+use Rattle.xls_stream.specs.Substreams.{IsEof}
+use Rattle.xls_stream.specs.Listing.{Kept, Item, Holds}
+use Rattle.xls_stream.specs.declared.part.Part.{Part}
+use Rattle.xls_stream.specs.declared.types.TheConstants as types
 use Rattle.xls_strings.specs.declared.record.Record.{Record}
 use Rattle.xls_biff.specs.Walking.{group_of}
 use Rattle.xls_formats.specs.Uncounted.{uncounted_ids, xf_identifier_in, ixfes_of, ixfes_in, touched_count}

@@ -4,9 +4,9 @@ use Rattle.std.specs.Prelude.{◌≡◌, ℕ, ◌+◌, ◌-◌, ◌*◌, ◌^◌
 use Rattle.std.specs.Result.{result_ok}
 use Rattle.std.specs.List.{count_by, filter_map, flat_map}
 use Rattle.xls_bytes.specs.Numbers.{le}
-use Rattle.xls_model.specs.Listing.{is_among, Kept, Item, plain_item, table_item, sheet_item, Holds}
-use Rattle.xls_model.specs.declared.part.Part.{Part}
-use Rattle.xls_model.specs.declared.types.TheConstants as types
+use Rattle.xls_stream.specs.Listing.{is_among, Kept, Item, plain_item, table_item, sheet_item, Holds}
+use Rattle.xls_stream.specs.declared.part.Part.{Part}
+use Rattle.xls_stream.specs.declared.types.TheConstants as types
 use Rattle.xls_strings.specs.Reading.{listed}
 use Rattle.xls_biff.specs.Records.Format.{is_format_id}
 use Rattle.xls_biff.specs.Records.Rk.{mul_rk_count}

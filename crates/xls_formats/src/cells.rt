@@ -6,7 +6,7 @@ ghost use Rattle.xls_formats.specs.Uncounted.{cell_ixfe, is_touched, ixfes_at, m
 
 use xls_biff::{Record, count_mul_rk};
 use xls_bytes::read_u16;
-use xls_model::types::{BOOL_ERR, FORMULA, LABEL, LABEL_SST, MUL_RK, NUMBER, R_STRING, RK};
+use xls_stream::types::{BOOL_ERR, FORMULA, LABEL, LABEL_SST, MUL_RK, NUMBER, R_STRING, RK};
 
 /// Whether the XF of an index is touched.
 fn is_touched(touched: &[bool], ixfe: u16) -> bool

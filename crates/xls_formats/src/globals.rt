@@ -2,7 +2,7 @@
 
 ghost use Rattle.std.specs.Prelude.{◌≡◌, ◌++◌, ◌<◌, ◌^◌, ℕ, IfOk, OnOk, Some, false, length, map, slice_get};
 ghost use Rattle.std.specs.Option.{option_to_list};
-ghost use Rattle.xls_model.specs.Listing.{is_among};
+ghost use Rattle.xls_stream.specs.Listing.{is_among};
 ghost use Rattle.xls_biff.specs.Records.Format.{is_format_id};
 ghost use Rattle.xls_formats.specs.Uncounted.{uncounted_at, xf_identifier_at};
 ghost use Rattle.xls_formats.specs.Steps.{AreIdentifiers, GlobalsSteps};
@@ -11,7 +11,7 @@ use std::alloc::{AllocError, Global};
 use std::marker::Model;
 use xls_biff::{Record, RecordIter, parse_xf};
 use xls_bytes::read_u16;
-use xls_model::types::{EOF, FORMAT, XF};
+use xls_stream::types::{EOF, FORMAT, XF};
 
 /// The next record of the globals, and none at their EOF, at the end and in a cut.
 fn next_of_globals<'a>(records: &mut RecordIter<'a>) -> Option<Record<'a>>

@@ -1,7 +1,7 @@
 //! The cells of a stream's sheets that have a touched XF.
 
 ghost use Rattle.std.specs.Prelude.{◌≡◌};
-ghost use Rattle.xls_model.specs.Listing.{Item, IsItem, IsPart, IsSheetPart};
+ghost use Rattle.xls_stream.specs.Listing.{Item, IsItem, IsPart, IsSheetPart};
 ghost use Rattle.xls_biff.specs.Walking.{group_of};
 ghost use Rattle.xls_formats.specs.Uncounted.{ixfes_in, touched_count};
 ghost use Rattle.xls_formats.specs.Steps.{CountsPart, CountsSheets};
@@ -10,7 +10,7 @@ use crate::cells::cells_of_record;
 use crate::globals::GlobalsRecords;
 use xls_biff::{Record, SheetRecords};
 use xls_bytes::read_usize;
-use xls_model::types::BOUND_SHEET_8;
+use xls_stream::types::BOUND_SHEET_8;
 
 /// How many cells of a part have a touched XF, up to its end or a cut.
 fn cells_of_part(part: &[u8], touched: &[bool]) -> u64

@@ -4,7 +4,7 @@ use Rattle.std.specs.Fmt.{digits}
 use Rattle.std.specs.Global.{Global}
 use Rattle.xls_text.specs.declared.encoding.XlsEncoding.{XlsEncoding}
 use Rattle.xls_text.specs.Pages.{string_text}
-use Rattle.xls_model.specs.declared.part.Part.TheVariants as parts
+use Rattle.xls_stream.specs.declared.part.Part.TheVariants as parts
 use Rattle.xls_strings.specs.Version.{is_biff8}
 use Rattle.xls_strings.specs.declared.error.XlsError.{XlsError}
 use Rattle.xls_strings.specs.declared.version.Biff.{Biff}

@@ -1,7 +1,7 @@
 -- What is counted fits.
 use Rattle.std.proofs.Common.{List, [], ◌∷◌}
-use Rattle.xls_model.specs.Listing.{Entry, plain_entry, table_entry, sheet_entry}
-use Rattle.xls_layout.specs.Canonical.{Fits}
+use Rattle.xls_stream.specs.Listing.{Entry, plain_entry, table_entry, sheet_entry}
+use Rattle.xls_layouts.specs.Canonical.{Fits}
 use Rattle.xls_lay.specs.Counted.{Counted}
 
 pub counted_fits : (list : List Entry) → Counted list → Fits list

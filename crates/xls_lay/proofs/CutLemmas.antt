@@ -3,10 +3,10 @@ use Rattle.std.proofs.Common.{◌≡◌, ℕ, suc, ◌+◌, ◌<◌, Bool, true,
 use Rattle.std.specs.Prelude.{not}
 use Rattle.std.proofs.Math.Seq.{drop-cons}
 use Rattle.std.proofs.lemmas.List.{append-nil}
-use Rattle.xls_model.specs.StringTable.{Mark}
-use Rattle.xls_layout.specs.LaidStrings.{Step, put, head_bytes, marks_of_break, marks_of_steps, marks_of_string}
-use Rattle.xls_layout.specs.Canonical.{passes, fill_from, unit_size, cut_if, used_after, canonical_steps, canonical_string, is_narrow}
-use Rattle.xls_layout.proofs.CanonicalTableLemmas.{same_units}
+use Rattle.xls_stream.specs.StringTable.{Mark}
+use Rattle.xls_layouts.specs.LaidStrings.{Step, put, head_bytes, marks_of_break, marks_of_steps, marks_of_string}
+use Rattle.xls_layouts.specs.Canonical.{passes, fill_from, unit_size, cut_if, used_after, canonical_steps, canonical_string, is_narrow}
+use Rattle.xls_layouts.proofs.CanonicalTableLemmas.{same_units}
 use Rattle.xls_lay.specs.Cutting.{marks_size}
 use Rattle.xls_lay.specs.Filling.{size_after}
 

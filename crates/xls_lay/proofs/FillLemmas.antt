@@ -3,8 +3,8 @@ use Rattle.std.proofs.Common.{◌≡◌, ℕ, suc, ◌+◌, ◌<◌, ◌≤◌, 
 use Rattle.std.specs.Prelude.{nat_lt, ◌&&◌}
 use Rattle.std.proofs.Math.Seq.{drop-cons}
 use Rattle.std.proofs.lemmas.List.{drop_all}
-use Rattle.xls_model.specs.StringTable.{Mark}
-use Rattle.xls_layout.specs.Canonical.{fill_from, is_narrow}
+use Rattle.xls_stream.specs.StringTable.{Mark}
+use Rattle.xls_layouts.specs.Canonical.{fill_from, is_narrow}
 use Rattle.xls_lay.specs.Writing.{saturated}
 use Rattle.xls_lay.specs.Cutting.{marks_size}
 

@@ -2,9 +2,9 @@
 use Rattle.std.proofs.Common.{◌≡◌, ℕ, ◌+◌, ◌<◌, ◌≤◌, ◌^◌, Bool, List, [], ◌++◌, length, drop, get_or, refl, sym, ap, subst, ◌∙◌, append_assoc, arith}
 use Rattle.std.specs.Prelude.{not}
 use Rattle.std.proofs.lemmas.List.{drop_all, append-nil}
-use Rattle.xls_model.specs.StringTable.{Mark}
-use Rattle.xls_layout.specs.LaidStrings.{marks_of_string}
-use Rattle.xls_layout.specs.Canonical.{passes, fill_from, unit_size, used_after, canonical_string, is_narrow}
+use Rattle.xls_stream.specs.StringTable.{Mark}
+use Rattle.xls_layouts.specs.LaidStrings.{marks_of_string}
+use Rattle.xls_layouts.specs.Canonical.{passes, fill_from, unit_size, used_after, canonical_string, is_narrow}
 use Rattle.xls_lay.specs.Writing.{saturated}
 use Rattle.xls_lay.specs.Cutting.{marks_size}
 use Rattle.xls_lay.specs.Filling.{IsFilled, Fills, Takes}

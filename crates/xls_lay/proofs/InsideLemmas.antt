@@ -3,8 +3,8 @@ use Rattle.std.proofs.Common.{◌≡◌, ℕ, suc, ◌+◌, ◌*◌, ◌<◌, �
 use Rattle.std.specs.List.{flat_map}
 use Rattle.std.proofs.Math.Seq.{drop-cons, take-length}
 use Rattle.std.proofs.lemmas.List.{append-nil, drop_all, length-append, length-take-le, length-drop, take-append-le, drop-append-le}
-use Rattle.xls_model.specs.Stream.{enc}
-use Rattle.xls_model.specs.Listing.{Kept}
+use Rattle.xls_stream.specs.Stream.{enc}
+use Rattle.xls_stream.specs.Listing.{Kept}
 use Rattle.xls_lines.specs.Gathering.{Gathers, Stops}
 use Rattle.xls_lines.specs.SinkState.{SinkState}
 use Rattle.xls_lines.specs.declared.stop.Stop.{Stop}

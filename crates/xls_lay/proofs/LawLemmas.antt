@@ -1,15 +1,15 @@
 -- Canonical bytes carry their list, and are equal where the lists are.
 use Rattle.std.proofs.Common.{◌≡◌, ◌↔◌, ℕ, ◌^◌, ◌<◌, ◌≤◌, List, length, Option, Some, Result, ap, subst, sym, ◌∙◌}
-use Rattle.xls_model.specs.Listing.{Entry, Carries}
-use Rattle.xls_model.specs.Walks.{IsBytes}
-use Rattle.xls_model.proofs.HoldingLemmas.{one_list}
+use Rattle.xls_stream.specs.Listing.{Entry, Carries}
+use Rattle.xls_stream.specs.Walks.{IsBytes}
+use Rattle.xls_stream.proofs.HoldingLemmas.{one_list}
 use Rattle.xls_strings.specs.declared.error.XlsError.{XlsError}
-use Rattle.xls_layout.specs.Layout.{lay}
-use Rattle.xls_layout.specs.Canonical.{canonical, Fits}
-use Rattle.xls_layout.proofs.LaidStreamLemmas.{laid_stream, laid_alone}
-use Rattle.xls_layout.proofs.CanonicalListLemmas.{canonical_layout}
-use Rattle.xls_reading.specs.Faults.{IsFull}
-use Rattle.xls_reading.specs.Reading.{IsReading}
+use Rattle.xls_layouts.specs.Layout.{lay}
+use Rattle.xls_layouts.specs.Canonical.{canonical, Fits}
+use Rattle.xls_layouts.proofs.LaidStreamLemmas.{laid_stream, laid_alone}
+use Rattle.xls_layouts.proofs.CanonicalListLemmas.{canonical_layout}
+use Rattle.xls_meaning.specs.Faults.{IsFull}
+use Rattle.xls_meaning.specs.Reading.{IsReading}
 use Rattle.xls_open.specs.declared.options.XlsOptions.{XlsOptions}
 use Rattle.xls_open.specs.Workbook.{Workbook, rules_of, view_of}
 use Rattle.xls_open.specs.Opening.{IsOpened, Opens}

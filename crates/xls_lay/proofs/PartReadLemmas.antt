@@ -1,12 +1,12 @@
 -- A sheet part as far as it was read.
 use Rattle.std.proofs.Common.{◌≡◌, ℕ, List, [], ◌∷◌, ◌++◌, refl, sym, ap, subst, ◌∙◌, append_assoc, Option, Some, None}
 use Rattle.std.proofs.lemmas.List.{append-nil, map-append}
-use Rattle.xls_model.specs.Stream.{Group, Run, IsBody}
-use Rattle.xls_model.specs.Counting.{From, found_from}
-use Rattle.xls_model.specs.Walks.{IsBytes}
-use Rattle.xls_model.specs.Listing.{Kept, kept_group, kept_of, Entry, sheet_entry, IsPart}
-use Rattle.xls_model.specs.declared.part.Part.{Part}
-use Rattle.xls_model.proofs.HoldingLemmas.{one_part}
+use Rattle.xls_stream.specs.Stream.{Group, Run, IsBody}
+use Rattle.xls_stream.specs.Counting.{From, found_from}
+use Rattle.xls_stream.specs.Walks.{IsBytes}
+use Rattle.xls_stream.specs.Listing.{Kept, kept_group, kept_of, Entry, sheet_entry, IsPart}
+use Rattle.xls_stream.specs.declared.part.Part.{Part}
+use Rattle.xls_stream.proofs.HoldingLemmas.{one_part}
 use Rattle.xls_strings.specs.declared.error.XlsError.{XlsError}
 use Rattle.xls_biff.specs.Outer.{Keeps, Over, CutShort}
 use Rattle.xls_open.proofs.PartLemmas.{part_from, keeps_from, over_from, cut_from, keeps_bytes}

@@ -3,11 +3,11 @@ use Rattle.std.proofs.Common.{◌≡◌, ◌↔◌, ℕ, zero, suc, ◌+◌, ◌
 use Rattle.std.specs.Prelude.{set, Bool, IsTrue}
 use Rattle.std.specs.List.{AllByRecursion}
 use Rattle.std.proofs.lemmas.List.{map-append, length-append}
-use Rattle.xls_model.specs.Substreams.{is_among}
-use Rattle.xls_layout.specs.Layout.{IsPlainType}
-use Rattle.xls_model.specs.Listing.{Kept, plain_entry, table_entry, sheet_entry}
-use Rattle.xls_model.specs.Listing as listing
-use Rattle.xls_layout.specs.Canonical.{AreBytes, IsUnit, FitsKept, FitsString}
+use Rattle.xls_stream.specs.Substreams.{is_among}
+use Rattle.xls_layouts.specs.Layout.{IsPlainType}
+use Rattle.xls_stream.specs.Listing.{Kept, plain_entry, table_entry, sheet_entry}
+use Rattle.xls_stream.specs.Listing as listing
+use Rattle.xls_layouts.specs.Canonical.{AreBytes, IsUnit, FitsKept, FitsString}
 use Rattle.xls_lay.specs.Counted.{CountedEntry, Counted}
 use Rattle.xls_lay.specs.Pushing.{EndsInSheet, EndsInTable, count_in, last_count, AddsKept, AddsString}
 use Rattle.xls_lay.specs.Entries.{entry_in, entries_in, is_sheet, is_table, KeptPushed, StringPushed}

@@ -10,11 +10,11 @@ use Rattle.xls_lines.specs.declared.stop.Stop.TheVariants.{Memory}
 use Rattle.xls_lines.proofs.GatherLemmas.{gathers-added, gathers-after, gathers-nothing, gathers-then, stops-after, stops-as, stops-memory-now, stops-more, stops-then}
 use Rattle.std.specs.List.{flat_map, AllByRecursion}
 use Rattle.std.proofs.lemmas.List.{append-nil, drop_all, length-append}
-use Rattle.xls_model.specs.Stream.{enc}
-use Rattle.xls_model.specs.StringTable.{Mark, front_of}
-use Rattle.xls_layout.specs.LaidStrings.{put, wide_bit, unit_bytes, marks_of_break, marks_of_steps, pieces_of, marks_of_string, FitsWidth}
-use Rattle.xls_layout.specs.Canonical.{passes, cut_if, fill_from, unit_size, used_after, canonical_string, is_narrow, IsUnit}
-use Rattle.xls_layout.proofs.CanonicalTableLemmas.{fit_width}
+use Rattle.xls_stream.specs.Stream.{enc}
+use Rattle.xls_stream.specs.StringTable.{Mark, front_of}
+use Rattle.xls_layouts.specs.LaidStrings.{put, wide_bit, unit_bytes, marks_of_break, marks_of_steps, pieces_of, marks_of_string, FitsWidth}
+use Rattle.xls_layouts.specs.Canonical.{passes, cut_if, fill_from, unit_size, used_after, canonical_string, is_narrow, IsUnit}
+use Rattle.xls_layouts.proofs.CanonicalTableLemmas.{fit_width}
 use Rattle.xls_lay.specs.Cutting.{rest_bytes}
 use Rattle.xls_lay.specs.Putting.{Moves, Puts, PutsOn, PutsOrStops, StopsOn, cut_marks}
 use Rattle.xls_lay.specs.declared.table.TableWriter.{TableWriter}

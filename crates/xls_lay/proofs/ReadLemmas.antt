@@ -2,21 +2,21 @@
 use Rattle.std.proofs.Common.{◌≡◌, ℕ, ◌+◌, ◌<◌, ◌≤◌, ◌^◌, Bool, true, false, List, [], ◌∷◌, ◌++◌, length, map, drop, slice_index, refl, sym, ap, subst, ◌∙◌, arith, inl, inr, Option, Some, None, Result, Ok, Err}
 use Rattle.std.specs.List.{AllByRecursion}
 use Rattle.std.proofs.lemmas.List.{map-append, length-append}
-use Rattle.xls_model.specs.Stream.{Group, Begins, group_bytes}
-use Rattle.xls_model.specs.Cut.{Cut}
-use Rattle.xls_model.specs.Walks.{IsBytes}
-use Rattle.xls_model.specs.Listing.{Kept, Entry, sheet_entry, entry_of, is_globals_type, offset_at, is_plain_type, Item, plain_item, table_item, sheet_item, IsItem, IsWhole, IsPart, IsSheetPart, Holds, Carries}
-use Rattle.xls_model.specs.declared.part.Part.{Part}
-use Rattle.xls_model.proofs.HoldingLemmas.{has_item, one_holds}
+use Rattle.xls_stream.specs.Stream.{Group, Begins, group_bytes}
+use Rattle.xls_stream.specs.Cut.{Cut}
+use Rattle.xls_stream.specs.Walks.{IsBytes}
+use Rattle.xls_stream.specs.Listing.{Kept, Entry, sheet_entry, entry_of, is_globals_type, offset_at, is_plain_type, Item, plain_item, table_item, sheet_item, IsItem, IsWhole, IsPart, IsSheetPart, Holds, Carries}
+use Rattle.xls_stream.specs.declared.part.Part.{Part}
+use Rattle.xls_stream.proofs.HoldingLemmas.{has_item, one_holds}
 use Rattle.xls_strings.specs.declared.error.XlsError.{XlsError}
 use Rattle.xls_strings.specs.declared.error.XlsError.TheVariants as errors
-use Rattle.xls_reading.specs.Rules.{Rules}
-use Rattle.xls_reading.specs.Faults.{IsSound}
+use Rattle.xls_meaning.specs.Rules.{Rules}
+use Rattle.xls_meaning.specs.Faults.{IsSound}
 use Rattle.xls_open.proofs.AlikeLemmas.{checked_alike}
 use Rattle.xls_open.proofs.LaidLemmas.{one_list_per_stream}
 use Rattle.xls_open.proofs.CheckWalkLemmas.{Passed, passed_nothing, passed_item, passed_other, holds_at, passed_cut, passed_eof, passed_end}
-use Rattle.xls_layout.specs.Canonical.{AreBytes}
-use Rattle.xls_layout.proofs.CanonicalByteLemmas.{each_byte}
+use Rattle.xls_layouts.specs.Canonical.{AreBytes}
+use Rattle.xls_layouts.proofs.CanonicalByteLemmas.{each_byte}
 use Rattle.xls_lay.specs.Reading.{IsFaultless}
 use Rattle.xls_lay.specs.Taking.{Takes, TakesNothing, TakesPart}
 use Rattle.xls_lay.proofs.PushLemmas.{are_bytes}

@@ -3,11 +3,11 @@ use Rattle.std.proofs.Common.{◌≡◌, ℕ, suc, ◌+◌, ◌<◌, ◌≤◌, 
 use Rattle.std.specs.List.{flat_map}
 use Rattle.std.proofs.Math.Seq.{drop-cons}
 use Rattle.std.proofs.lemmas.List.{drop_all, length-append}
-use Rattle.xls_model.specs.Stream.{enc}
-use Rattle.xls_model.specs.StringTable.{Mark, front_of}
-use Rattle.xls_model.specs.Listing.{Kept, Entry, plain_entry, table_entry, sheet_entry}
-use Rattle.xls_layout.specs.LaidStrings.{pieces_of, marks_of_strings}
-use Rattle.xls_layout.specs.Canonical.{canonical_strings, counts_of}
+use Rattle.xls_stream.specs.Stream.{enc}
+use Rattle.xls_stream.specs.StringTable.{Mark, front_of}
+use Rattle.xls_stream.specs.Listing.{Kept, Entry, plain_entry, table_entry, sheet_entry}
+use Rattle.xls_layouts.specs.LaidStrings.{pieces_of, marks_of_strings}
+use Rattle.xls_layouts.specs.Canonical.{canonical_strings, counts_of}
 use Rattle.xls_lay.specs.Writing.{saturated}
 use Rattle.xls_lay.specs.Cutting.{kept_bytes, eof_bytes, part_of, part_bytes, part_size, table_bytes, entry_bytes, globals_size, globals_from, parts_from, marks_size}
 use Rattle.xls_lay.specs.Entries.{entry_in, entries_in}

@@ -1,6 +1,6 @@
 -- Known values of this crate's definitions.
 use Rattle.std.proofs.Common.{◌≡◌, [], ◌∷◌, refl, codes}
-use Rattle.xls_model.specs.Listing.{plain_entry, table_entry, sheet_entry}
+use Rattle.xls_stream.specs.Listing.{plain_entry, table_entry, sheet_entry}
 use Rattle.xls_lay.specs.Pushing.{last_count}
 use Rattle.xls_lay.specs.Writing.{canonical_bytes, saturated}
 

@@ -1,9 +1,9 @@
 -- The strings of a table, one after the other.
 use Rattle.std.proofs.Common.{◌≡◌, ℕ, ◌+◌, ◌<◌, ◌≤◌, ◌^◌, List, [], ◌++◌, length, take, drop, get_or, refl, sym, ap, subst, ◌∙◌, append_assoc, arith}
 use Rattle.std.proofs.lemmas.List.{append-nil, drop_all, length-drop}
-use Rattle.xls_model.specs.StringTable.{Mark}
-use Rattle.xls_layout.specs.LaidStrings.{marks_of_string, marks_of_strings}
-use Rattle.xls_layout.specs.Canonical.{fill_from, canonical_string, canonical_strings}
+use Rattle.xls_stream.specs.StringTable.{Mark}
+use Rattle.xls_layouts.specs.LaidStrings.{marks_of_string, marks_of_strings}
+use Rattle.xls_layouts.specs.Canonical.{fill_from, canonical_string, canonical_strings}
 use Rattle.xls_lay.specs.Inside.{total, parts_of}
 use Rattle.xls_lay.specs.Filling.{IsFilled, Fills}
 use Rattle.xls_lines.specs.SinkState.{SinkState}

@@ -2,11 +2,11 @@
 use Rattle.std.proofs.Common.{◌≡◌, ◌≢◌, ℕ, ◌+◌, ◌*◌, ◌<◌, ◌≤◌, ◌^◌, true, false, List, [], ◌∷◌, ◌++◌, length, drop, Ok, Err, Result, refl, sym, ap, subst, ◌∙◌, arith}
 use Rattle.std.specs.Prelude.{nat_lt}
 use Rattle.std.proofs.lemmas.List.{length-append, length-drop}
-use Rattle.xls_model.specs.Stream.{Group, enc, continues, group_bytes}
-use Rattle.xls_model.specs.Walks.{IsBytes}
-use Rattle.xls_model.specs.StringTable.{Mark, Missing, marked, weight, next_at, Strings, Table}
-use Rattle.xls_model.specs.Listing.{Entry, table_entry, IsShared, table_of}
-use Rattle.xls_model.proofs.TableReadings.{one_reading}
+use Rattle.xls_stream.specs.Stream.{Group, enc, continues, group_bytes}
+use Rattle.xls_stream.specs.Walks.{IsBytes}
+use Rattle.xls_stream.specs.StringTable.{Mark, Missing, marked, weight, next_at, Strings, Table}
+use Rattle.xls_stream.specs.Listing.{Entry, table_entry, IsShared, table_of}
+use Rattle.xls_stream.proofs.TableReadings.{one_reading}
 use Rattle.xls_strings.specs.declared.error.XlsError.{XlsError}
 use Rattle.xls_strings.specs.declared.error.XlsError.TheVariants as errors
 use Rattle.xls_strings.specs.Reading.{Fails}

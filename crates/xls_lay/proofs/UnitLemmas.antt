@@ -3,12 +3,12 @@ use Rattle.std.proofs.Common.{◌≡◌, ℕ, ◌<◌, ◌^◌, Bool, List, [], 
 use Rattle.std.specs.List.{flat_map, AllByRecursion}
 use Rattle.std.proofs.lemmas.List.{take-append-drop}
 use Rattle.xls_bytes.specs.Numbers.{le}
-use Rattle.xls_model.specs.Stream.{Group, enc, continues, group_bytes}
-use Rattle.xls_model.specs.Walks.{IsBytes}
-use Rattle.xls_model.specs.StringTable.{Mark, marked, marked_piece, next_at}
-use Rattle.xls_layout.specs.TableGrammar.{UnitStep, one_byte, two_bytes, flags_byte, units_in, marks_of_units, AreUnits, Str, IsElement}
-use Rattle.xls_layout.specs.Canonical.{AreBytes}
-use Rattle.xls_layout.proofs.GrammarLemmas.{same_elements}
+use Rattle.xls_stream.specs.Stream.{Group, enc, continues, group_bytes}
+use Rattle.xls_stream.specs.Walks.{IsBytes}
+use Rattle.xls_stream.specs.StringTable.{Mark, marked, marked_piece, next_at}
+use Rattle.xls_layouts.specs.TableGrammar.{UnitStep, one_byte, two_bytes, flags_byte, units_in, marks_of_units, AreUnits, Str, IsElement}
+use Rattle.xls_layouts.specs.Canonical.{AreBytes}
+use Rattle.xls_layouts.proofs.GrammarLemmas.{same_elements}
 use Rattle.xls_lay.proofs.PushLemmas.{are_bytes}
 
 -- ---- marks of bytes

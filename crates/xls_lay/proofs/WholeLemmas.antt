@@ -3,12 +3,12 @@ use Rattle.std.proofs.Common.{◌≡◌, ℕ, suc, ◌+◌, List, [], ◌∷◌,
 use Rattle.std.specs.List.{flat_map}
 use Rattle.std.proofs.Math.Seq.{take-append_seam}
 use Rattle.std.proofs.lemmas.List.{append-nil, length-append}
-use Rattle.xls_model.specs.Stream.{enc, group_bytes}
-use Rattle.xls_model.specs.Substreams.{groups_of}
-use Rattle.xls_model.specs.Listing.{Kept, Entry, plain_entry, table_entry, sheet_entry}
-use Rattle.xls_model.specs.declared.types.TheConstants as types
-use Rattle.xls_layout.specs.Layout.{LaidPart, eof_group, bytes_of_part, bytes_of_globals, sheet_body, offset_in}
-use Rattle.xls_layout.specs.Canonical.{bare_group, canonical_records, canonical_part, canonical_parts, canonical_items, canonical}
+use Rattle.xls_stream.specs.Stream.{enc, group_bytes}
+use Rattle.xls_stream.specs.Substreams.{groups_of}
+use Rattle.xls_stream.specs.Listing.{Kept, Entry, plain_entry, table_entry, sheet_entry}
+use Rattle.xls_stream.specs.declared.types.TheConstants as types
+use Rattle.xls_layouts.specs.Layout.{LaidPart, eof_group, bytes_of_part, bytes_of_globals, sheet_body, offset_in}
+use Rattle.xls_layouts.specs.Canonical.{bare_group, canonical_records, canonical_part, canonical_parts, canonical_items, canonical}
 use Rattle.xls_lay.specs.Writing.{canonical_bytes}
 use Rattle.xls_lay.specs.Cutting.{kept_bytes, bof_bytes, eof_bytes, part_of, table_bytes, globals_size, globals_from, parts_from}
 use Rattle.xls_lay.proofs.SizeLemmas.{sum_by, globals_sum, same_length}

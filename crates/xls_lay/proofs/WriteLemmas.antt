@@ -2,11 +2,11 @@
 use Rattle.std.proofs.Common.{◌≡◌, ℕ, ◌+◌, ◌<◌, ◌≤◌, ◌^◌, List, [], ◌++◌, length, drop, get_or, refl, sym, ap, subst, ◌∙◌, append_assoc, arith, Result, Ok, Err}
 use Rattle.std.proofs.lemmas.List.{append-nil, drop_all, length-append}
 use Rattle.xls_lay.specs.Counted.{Counted, CountedEntry}
-use Rattle.xls_model.specs.Listing as listing
-use Rattle.xls_model.specs.StringTable.{Mark}
-use Rattle.xls_model.specs.declared.types.TheConstants as types
-use Rattle.xls_layout.specs.LaidStrings.{le32, marks_of_strings}
-use Rattle.xls_layout.specs.Canonical.{canonical_strings, counts_of}
+use Rattle.xls_stream.specs.Listing as listing
+use Rattle.xls_stream.specs.StringTable.{Mark}
+use Rattle.xls_stream.specs.declared.types.TheConstants as types
+use Rattle.xls_layouts.specs.LaidStrings.{le32, marks_of_strings}
+use Rattle.xls_layouts.specs.Canonical.{canonical_strings, counts_of}
 use Rattle.xls_lay.specs.Writing.{saturated, canonical_bytes, canonical_size}
 use Rattle.xls_lay.specs.Cutting.{eof_bytes, part_bytes, part_size, entry_bytes, table_bytes, rest_bytes, globals_from, parts_from}
 use Rattle.xls_lines.specs.Gathering.{Gathers, Puts, Stops}

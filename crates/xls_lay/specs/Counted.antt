@@ -1,8 +1,8 @@
 -- What a list that is put together meets besides: its tables can be counted in their records.
 use Rattle.std.specs.Prelude.{ℕ, ◌<◌, ◌^◌, List, length}
 use Rattle.std.specs.List.{AllByRecursion}
-use Rattle.xls_model.specs.Listing.{Entry, plain_entry, table_entry, sheet_entry}
-use Rattle.xls_layout.specs.Canonical.{FitsEntry}
+use Rattle.xls_stream.specs.Listing.{Entry, plain_entry, table_entry, sheet_entry}
+use Rattle.xls_layouts.specs.Canonical.{FitsEntry}
 
 -- an entry that fits; the number of strings of a table has 32 bits
 abbrev pub CountedEntry : Entry → Type 0

@@ -1,13 +1,13 @@
 -- For the proofs: the canonical bytes of a list entry by entry, and how many they are.
 use Rattle.std.specs.Prelude.{ℕ, ◌+◌, List, [], ◌∷◌, ◌++◌, length, Some, None}
 use Rattle.std.specs.List.{flat_map}
-use Rattle.xls_model.specs.Stream.{enc, group_bytes}
-use Rattle.xls_model.specs.StringTable.{Mark, front_of}
-use Rattle.xls_model.specs.Listing.{Kept, Entry, plain_entry, table_entry, sheet_entry}
-use Rattle.xls_model.specs.declared.types.TheConstants as types
-use Rattle.xls_layout.specs.LaidStrings.{pieces_of, marks_of_strings, table_group}
-use Rattle.xls_layout.specs.Layout.{sheet_body}
-use Rattle.xls_layout.specs.Canonical.{canonical_strings, counts_of}
+use Rattle.xls_stream.specs.Stream.{enc, group_bytes}
+use Rattle.xls_stream.specs.StringTable.{Mark, front_of}
+use Rattle.xls_stream.specs.Listing.{Kept, Entry, plain_entry, table_entry, sheet_entry}
+use Rattle.xls_stream.specs.declared.types.TheConstants as types
+use Rattle.xls_layouts.specs.LaidStrings.{pieces_of, marks_of_strings, table_group}
+use Rattle.xls_layouts.specs.Layout.{sheet_body}
+use Rattle.xls_layouts.specs.Canonical.{canonical_strings, counts_of}
 
 -- ---- records and parts
 

@@ -1,7 +1,7 @@
 -- For the proofs: what an entry that is kept in memory is in the list.
 use Rattle.std.specs.Prelude.{◌≡◌, ℕ, List, [], ◌∷◌, ◌++◌, map, Bool, true, false}
-use Rattle.xls_model.specs.Listing.{plain_entry, table_entry, sheet_entry}
-use Rattle.xls_model.specs.Listing as listing
+use Rattle.xls_stream.specs.Listing.{plain_entry, table_entry, sheet_entry}
+use Rattle.xls_stream.specs.Listing as listing
 use Rattle.xls_lay.specs.declared.entry.Entry.{Entry}
 use Rattle.xls_lay.specs.declared.entry.Entry.TheVariants.{Plain, Table, Sheet}
 

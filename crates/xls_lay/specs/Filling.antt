@@ -1,7 +1,7 @@
 -- For the proofs: what marks add to the bytes of a string table.
 use Rattle.std.specs.Prelude.{◌≡◌, ℕ, ◌+◌, ◌≤◌, List, Bool, true, false}
-use Rattle.xls_model.specs.StringTable.{Mark}
-use Rattle.xls_layout.specs.Canonical.{passes, fill_from, used_after}
+use Rattle.xls_stream.specs.StringTable.{Mark}
+use Rattle.xls_layouts.specs.Canonical.{passes, fill_from, used_after}
 use Rattle.xls_lay.specs.Writing.{saturated}
 use Rattle.xls_lay.specs.Cutting.{marks_size}
 use Rattle.xls_lay.specs.declared.fill.Fill.{Fill}

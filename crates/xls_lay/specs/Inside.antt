@@ -1,6 +1,6 @@
 -- For the proofs: how records and strings are kept in memory.
 use Rattle.std.specs.Prelude.{ℕ, ◌+◌, List, [], ◌∷◌, take, drop}
-use Rattle.xls_model.specs.Listing.{Kept}
+use Rattle.xls_stream.specs.Listing.{Kept}
 use Rattle.xls_lay.specs.declared.kept.RecordHead.{RecordHead}
 
 -- the sum of sizes

@@ -1,14 +1,14 @@
 -- Laws over canonical bytes.
 use Rattle.std.specs.Prelude.{◌≡◌, ◌↔◌, ℕ, ◌<◌, ◌≤◌, ◌^◌, List, length, Option, Some, Result}
-use Rattle.xls_model.specs.Walks.{IsBytes}
-use Rattle.xls_model.specs.Listing.{Entry, Carries}
+use Rattle.xls_stream.specs.Walks.{IsBytes}
+use Rattle.xls_stream.specs.Listing.{Entry, Carries}
 use Rattle.xls_strings.specs.declared.error.XlsError.{XlsError}
-use Rattle.xls_reading.specs.Faults.{IsFull}
+use Rattle.xls_meaning.specs.Faults.{IsFull}
 use Rattle.xls_open.specs.declared.options.XlsOptions.{XlsOptions}
 use Rattle.xls_open.specs.Workbook.{Workbook, rules_of}
 use Rattle.xls_open.specs.Opening.{IsOpened, Opens}
 use Rattle.xls_open.specs.Laws.{OpensAs}
-use Rattle.xls_layout.specs.Canonical.{Fits}
+use Rattle.xls_layouts.specs.Canonical.{Fits}
 use Rattle.xls_lay.specs.Writing.{canonical_bytes}
 
 -- canonical bytes with offsets of 32 bits carry their list

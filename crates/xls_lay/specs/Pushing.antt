@@ -1,8 +1,8 @@
 -- A logical list that is put together from its start: what its last entry is, and how that grows.
 use Rattle.std.specs.Prelude.{◌≡◌, ℕ, List, [], ◌∷◌, ◌++◌, length}
-use Rattle.xls_model.specs.Listing.{Kept, Entry, plain_entry, table_entry, sheet_entry}
-pub use Rattle.xls_model.specs.Listing.{is_among, sheet_types}
-pub use Rattle.xls_layout.specs.Canonical.{Fits}
+use Rattle.xls_stream.specs.Listing.{Kept, Entry, plain_entry, table_entry, sheet_entry}
+pub use Rattle.xls_stream.specs.Listing.{is_among, sheet_types}
+pub use Rattle.xls_layouts.specs.Canonical.{Fits}
 
 -- the last entry is a sheet
 pub record EndsInSheet (list : List Entry) : Type 0 where

@@ -1,11 +1,11 @@
 -- For the proofs: a string table that is being written.
 use Rattle.std.specs.Prelude.{◌≡◌, ℕ, ◌≤◌, List, [], ◌++◌, length, Bool, Result, MatchResult}
-use Rattle.xls_model.specs.StringTable.{Mark}
+use Rattle.xls_stream.specs.StringTable.{Mark}
 use Rattle.xls_lines.specs.Gathering.{Gathers, Stops}
 use Rattle.xls_lines.specs.SinkState.{SinkState}
 use Rattle.xls_lines.specs.declared.stop.Stop.{Stop}
-use Rattle.xls_layout.specs.LaidStrings.{marks_of_steps}
-use Rattle.xls_layout.specs.Canonical.{passes, unit_size, cut_if, fill_from}
+use Rattle.xls_layouts.specs.LaidStrings.{marks_of_steps}
+use Rattle.xls_layouts.specs.Canonical.{passes, unit_size, cut_if, fill_from}
 use Rattle.xls_lay.specs.Cutting.{rest_bytes}
 use Rattle.xls_lay.specs.declared.table.TableWriter.{TableWriter}
 

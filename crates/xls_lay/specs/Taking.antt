@@ -1,6 +1,6 @@
 -- For the proofs: how a list grows as a stream is read that has no fault.
 use Rattle.std.specs.Prelude.{◌≡◌, ℕ, List, [], ◌∷◌, ◌++◌, Result, Ok, Err}
-use Rattle.xls_model.specs.Listing.{Kept, Entry, sheet_entry}
+use Rattle.xls_stream.specs.Listing.{Kept, Entry, sheet_entry}
 use Rattle.xls_strings.specs.declared.error.XlsError.{XlsError}
 use Rattle.xls_strings.specs.declared.error.XlsError.TheVariants as errors
 

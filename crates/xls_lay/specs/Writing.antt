@@ -1,8 +1,8 @@
 -- What is written of a logical list: the bytes of its canonical layout.
 use Rattle.std.specs.Prelude.{◌≡◌, ℕ, ◌≤◌, ◌<◌, ◌^◌, ◌-◌, List, length, min, Result, Ok, Err}
-use Rattle.xls_model.specs.Listing.{Entry}
-use Rattle.xls_layout.specs.Layout.{lay}
-use Rattle.xls_layout.specs.Canonical.{canonical}
+use Rattle.xls_stream.specs.Listing.{Entry}
+use Rattle.xls_layouts.specs.Layout.{lay}
+use Rattle.xls_layouts.specs.Canonical.{canonical}
 use Rattle.xls_lay.specs.declared.error.LayError.{LayError}
 use Rattle.xls_lay.specs.declared.error.LayError.TheVariants as errors
 

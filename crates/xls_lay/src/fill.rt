@@ -1,8 +1,8 @@
 //! How many bytes a string table takes, cut where a record body or piece is full.
 
 ghost use Rattle.std.specs.Prelude.{◌≡◌, ◌+◌, ◌≤◌};
-ghost use Rattle.xls_layout.specs.LaidStrings.{marks_of_steps, marks_of_string};
-ghost use Rattle.xls_layout.specs.Canonical.{unit_size, canonical_steps, canonical_string, is_narrow};
+ghost use Rattle.xls_layouts.specs.LaidStrings.{marks_of_steps, marks_of_string};
+ghost use Rattle.xls_layouts.specs.Canonical.{unit_size, canonical_steps, canonical_string, is_narrow};
 ghost use Rattle.xls_lay.specs.Filling.{IsFilled, Fills, Takes};
 
 /// How many bytes a record body or piece has at most.

@@ -2,7 +2,7 @@
 
 ghost use Rattle.std.specs.Prelude.{◌≡◌, ◌<◌, ◌≤◌, ◌^◌, ◌++◌, ◌∷◌, [], drop, length, take, OnOk, OnErr};
 ghost use Rattle.std.specs.List.{flat_map};
-ghost use Rattle.xls_model.specs.Stream.{enc};
+ghost use Rattle.xls_stream.specs.Stream.{enc};
 ghost use Rattle.xls_lines.specs.Gathering as gathering;
 ghost use Rattle.xls_lay.specs.Writing.{saturated};
 ghost use Rattle.xls_lay.specs.Cutting.{kept_bytes};
@@ -70,7 +70,7 @@ pub(crate) struct KeptRecords {
 
 impl Model for KeptRecords {
     ghost use Rattle.std.specs.Prelude.{◌≡◌, List, length};
-    ghost use Rattle.xls_model.specs.Listing.{Kept};
+    ghost use Rattle.xls_stream.specs.Listing.{Kept};
     ghost use Rattle.xls_lay.specs.Inside.{records_of, sizes_sum};
 
     ghost Value = { List Kept };

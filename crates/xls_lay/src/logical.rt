@@ -1,8 +1,8 @@
 //! A logical list, put together from its start.
 
 ghost use Rattle.std.specs.Prelude.{◌≡◌, ◌↔◌, ◌+◌, ◌<◌, ◌≤◌, ◌^◌, ◌++◌, ◌∷◌, [], length, true, IsTrue, OnOk, OnErr};
-ghost use Rattle.xls_model.specs.Listing.{plain_entry, table_entry, sheet_entry, is_among, sheet_types};
-ghost use Rattle.xls_layout.specs.Layout.{IsPlainType};
+ghost use Rattle.xls_stream.specs.Listing.{plain_entry, table_entry, sheet_entry, is_among, sheet_types};
+ghost use Rattle.xls_layouts.specs.Layout.{IsPlainType};
 ghost use Rattle.xls_lay.specs.Counted.{Counted};
 ghost use Rattle.xls_lay.specs.Pushing.{EndsInSheet, EndsInTable, AddsKept, AddsString, last_count};
 ghost use Rattle.xls_lay.specs.Entries.{entries_in};
@@ -22,7 +22,7 @@ pub struct Logical {
 
 impl Model for Logical {
     ghost use Rattle.std.specs.Prelude.{List};
-    ghost use Rattle.xls_model.specs.Listing as listing;
+    ghost use Rattle.xls_stream.specs.Listing as listing;
     ghost use Rattle.xls_lay.specs.Counted.{Counted};
     ghost use Rattle.xls_lay.specs.Entries.{entries_in};
 

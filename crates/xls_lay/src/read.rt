@@ -1,11 +1,11 @@
 //! The logical list that a stream carries.
 
 ghost use Rattle.std.specs.Prelude.{◌≡◌, ◌↔◌, IsTrue, ℕ, List, ◌<◌, ◌≤◌, ◌^◌, length, drop, slice_index, None, true, false};
-ghost use Rattle.xls_model.specs.Stream.{group_bytes};
-ghost use Rattle.xls_model.specs.Walks.{IsBytes};
-ghost use Rattle.xls_model.specs.Listing.{Kept, Item, IsItem, IsWhole, entry_of, is_globals_type, IsShared, table_of};
-ghost use Rattle.xls_model.specs.Listing.{IsPart, IsSheetPart, offset_at, table_entry, sheet_entry};
-ghost use Rattle.xls_layout.specs.Layout.{IsPlainType};
+ghost use Rattle.xls_stream.specs.Stream.{group_bytes};
+ghost use Rattle.xls_stream.specs.Walks.{IsBytes};
+ghost use Rattle.xls_stream.specs.Listing.{Kept, Item, IsItem, IsWhole, entry_of, is_globals_type, IsShared, table_of};
+ghost use Rattle.xls_stream.specs.Listing.{IsPart, IsSheetPart, offset_at, table_entry, sheet_entry};
+ghost use Rattle.xls_layouts.specs.Layout.{IsPlainType};
 ghost use Rattle.xls_biff.specs.Walking.{group_of};
 ghost use Rattle.xls_lay.specs.Reading.{ReadsList};
 ghost use Rattle.xls_lay.specs.Pushing.{EndsInSheet};
@@ -15,10 +15,10 @@ use crate::logical::Logical;
 use std::alloc::Global;
 use xls_biff::{Record, RecordIter, SheetRecords, SstReader, XlsError};
 use xls_bytes::read_usize;
-use xls_model::types::{
+use xls_open::check_stream;
+use xls_stream::types::{
     BOF, BOUND_SHEET_8, CODE_PAGE, DATE_MODE, EOF, EXTERN_SHEET, FILE_PASS, FORMAT, LBL, SST, XF,
 };
-use xls_open::check_stream;
 
 /// How many cells the records of one sheet may give.
 const MAX_CELLS: u64 = 33_554_432;

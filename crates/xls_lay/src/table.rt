@@ -2,9 +2,9 @@
 
 ghost use Rattle.std.specs.Prelude.{◌≡◌, ◌+◌, ◌≤◌, ◌<◌, ◌^◌, ◌++◌, ◌∷◌, [], length, map, Some, None, OnOk, IfOk};
 ghost use Rattle.std.specs.List.{AllByRecursion};
-ghost use Rattle.xls_model.specs.declared.types.TheConstants as types;
-ghost use Rattle.xls_layout.specs.LaidStrings.{head_bytes, le32, marks_of_break, marks_of_steps, marks_of_string, unit_bytes, FitsWidth};
-ghost use Rattle.xls_layout.specs.Canonical.{passes, unit_size, canonical_steps, canonical_string};
+ghost use Rattle.xls_stream.specs.declared.types.TheConstants as types;
+ghost use Rattle.xls_layouts.specs.LaidStrings.{head_bytes, le32, marks_of_break, marks_of_steps, marks_of_string, unit_bytes, FitsWidth};
+ghost use Rattle.xls_layouts.specs.Canonical.{passes, unit_size, canonical_steps, canonical_string};
 ghost use Rattle.xls_lay.specs.Cutting.{rest_bytes};
 ghost use Rattle.xls_lay.specs.Putting.{Puts, PutsOrStops, HasRoom, cut_marks};
 
@@ -13,7 +13,7 @@ use crate::pieces::pass;
 use crate::write::{push_record, push_u32};
 use std::alloc::{AllocError, Global};
 use xls_lines::{Sink, Stop};
-use xls_model::types::{CONTINUE, SST};
+use xls_stream::types::{CONTINUE, SST};
 
 /// The records before the current one that aren't written, and the type and the body of that.
 #[derive(Drop)]
@@ -24,7 +24,7 @@ pub(crate) struct TableWriter {
 }
 
 impl TableWriter {
-    ghost use Rattle.xls_layout.specs.Canonical.{counts_of};
+    ghost use Rattle.xls_layouts.specs.Canonical.{counts_of};
 
     /// The SST record of so many strings, after what is done. The number stands twice.
     pub(crate) fn new(alloc: Global, done: Vec<u8>, count: u32) -> Result<TableWriter, AllocError>

@@ -1,8 +1,8 @@
 //! The strings of a table, their units in one run.
 
 ghost use Rattle.std.specs.Prelude.{◌≡◌, ◌<◌, ◌^◌, ◌++◌, ◌∷◌, [], length, OnOk, OnErr};
-ghost use Rattle.xls_layout.specs.LaidStrings.{marks_of_strings};
-ghost use Rattle.xls_layout.specs.Canonical.{canonical_strings};
+ghost use Rattle.xls_layouts.specs.LaidStrings.{marks_of_strings};
+ghost use Rattle.xls_layouts.specs.Canonical.{canonical_strings};
 ghost use Rattle.xls_lay.specs.Writing.{saturated};
 ghost use Rattle.xls_lay.specs.Cutting.{marks_size};
 ghost use Rattle.xls_lay.specs.Filling.{IsFilled, Fills};

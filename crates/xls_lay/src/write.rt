@@ -1,11 +1,11 @@
 //! The canonical stream of a list.
 
 ghost use Rattle.std.specs.Prelude.{◌≡◌, ◌+◌, ◌<◌, ◌^◌, ◌++◌, length, IfOk, OnOk};
-ghost use Rattle.xls_model.specs.Stream.{enc};
-ghost use Rattle.xls_model.specs.declared.types.TheConstants as types;
-ghost use Rattle.xls_layout.specs.LaidStrings.{le32};
-ghost use Rattle.xls_layout.specs.Layout.{sheet_body};
-ghost use Rattle.xls_layout.specs.Canonical.{Fits};
+ghost use Rattle.xls_stream.specs.Stream.{enc};
+ghost use Rattle.xls_stream.specs.declared.types.TheConstants as types;
+ghost use Rattle.xls_layouts.specs.LaidStrings.{le32};
+ghost use Rattle.xls_layouts.specs.Layout.{sheet_body};
+ghost use Rattle.xls_layouts.specs.Canonical.{Fits};
 ghost use Rattle.xls_lines.specs.Gathering.{Delivers, Puts};
 ghost use Rattle.xls_lay.specs.Counted.{CountedEntry, Counted};
 ghost use Rattle.xls_lay.specs.Writing.{Writes, canonical_bytes};
@@ -24,8 +24,8 @@ use crate::whole::Whole;
 use std::alloc::{AllocError, Global};
 use std::mem;
 use xls_lines::{Sink, Stop};
-use xls_model::types::{BOF, EOF};
 use xls_source::StreamBytes;
+use xls_stream::types::{BOF, EOF};
 
 /// Appends a 32-bit number.
 pub(crate) fn push_u32(out: &mut Vec<u8>, n: u32) -> Result<(), AllocError>

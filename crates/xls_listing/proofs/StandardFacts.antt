@@ -7,7 +7,7 @@ use Rattle.xls_data.specs.declared.errors.CellErrorType.TheVariants.{NA}
 use Rattle.xls_dates.specs.declared.numbers.Number.TheVariants.{Whole}
 use Rattle.xls_data.specs.declared.sheets.SheetType.TheVariants.{WorkSheet, ChartSheet}
 use Rattle.xls_data.specs.declared.sheets.SheetVisible.TheVariants.{Visible, VeryHidden}
-use Rattle.xls_reading.specs.Reading.{BookView}
+use Rattle.xls_meaning.specs.Reading.{BookView}
 use Rattle.xls_readable.specs.Items as item
 use Rattle.xls_readable.specs.declared.forms.Form.TheVariants.{Text}
 use Rattle.xls_listing.specs.Listing.{Line, IsShownLine, cell_lines, dump_lines, formula_lines, kind_and_value, ref_lines, sheet_lines}

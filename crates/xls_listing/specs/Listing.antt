@@ -7,8 +7,8 @@ use Rattle.xls_data.specs.Sheets.{SheetContent}
 use Rattle.xls_data.specs.declared.regions.Dimensions.{Dimensions}
 use Rattle.xls_cells.specs.Positions.{Position}
 use Rattle.xls_biff.specs.Cells.{Entry}
-use Rattle.xls_reading.specs.Reading.{SheetView, BookView}
-use Rattle.xls_reading.specs.SheetTable.{FormulaEntry, shown_formulas}
+use Rattle.xls_meaning.specs.Reading.{SheetView, BookView}
+use Rattle.xls_meaning.specs.SheetTable.{FormulaEntry, shown_formulas}
 use Rattle.xls_refs.specs.Cited.{BookCitation, BookCited}
 use Rattle.xls_lines.specs.SinkState.{SinkState}
 use Rattle.xls_lines.specs.declared.stop.Stop.{Stop}

@@ -3,7 +3,7 @@
 ghost use Rattle.std.specs.Prelude.{◌≡◌, ◌∷◌, [], map, slice_get};
 ghost use Rattle.std.specs.Str.{chars};
 ghost use Rattle.xls_data.specs.Sheets.{sheet_content};
-ghost use Rattle.xls_reading.specs.SheetTable.{shown_formulas};
+ghost use Rattle.xls_meaning.specs.SheetTable.{shown_formulas};
 ghost use Rattle.xls_view.specs.Formulas.{text_entry};
 ghost use Rattle.xls_view.specs.Viewing.{content_of};
 ghost use Rattle.xls_view.specs.Walking.{formula_seen};

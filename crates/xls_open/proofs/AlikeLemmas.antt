@@ -3,20 +3,20 @@ use Rattle.std.proofs.Common.{◌≡◌, ℕ, ◌+◌, ◌≤◌, List, [], ◌�
 use Rattle.std.specs.Prelude.{◌↔◌, nat_lt, if◌then◌else◌}
 use Rattle.std.specs.Option.{option_or}
 use Rattle.std.specs.List.{flat_map}
-use Rattle.xls_model.specs.Listing.{Kept, Item, plain_item, table_item, sheet_item}
-use Rattle.xls_model.specs.declared.part.Part.{Part}
+use Rattle.xls_stream.specs.Listing.{Kept, Item, plain_item, table_item, sheet_item}
+use Rattle.xls_stream.specs.declared.part.Part.{Part}
 use Rattle.xls_strings.specs.declared.error.XlsError.{XlsError}
 use Rattle.xls_strings.specs.declared.error.XlsError.TheVariants.{TooManyCells}
 use Rattle.xls_biff.specs.SheetTable.{CellContext}
-use Rattle.xls_reading.specs.Order.{along, first_of}
-use Rattle.xls_reading.specs.GlobalsTable.{forced_fault, fault_of}
-use Rattle.xls_reading.specs.SheetTable.{kept_line}
-use Rattle.xls_reading.specs.Faults.{outer_fault, weight_given, weight_in, weight_fault, kept_fault, cut_fault, part_places, sheet_places, globals_places, places, FirstBehind, FirstFault}
+use Rattle.xls_meaning.specs.Order.{along, first_of}
+use Rattle.xls_meaning.specs.GlobalsTable.{forced_fault, fault_of}
+use Rattle.xls_meaning.specs.SheetTable.{kept_line}
+use Rattle.xls_meaning.specs.Faults.{outer_fault, weight_given, weight_in, weight_fault, kept_fault, cut_fault, part_places, sheet_places, globals_places, places, FirstBehind, FirstFault}
 use Rattle.xls_open.specs.Checking.{checked, FirstChecked}
 use Rattle.xls_open.specs.CheckSteps.{force_of}
-use Rattle.xls_reading.specs.Rules.{Rules}
-use Rattle.xls_reading.proofs.LawLemmas.{limit_none}
-use Rattle.xls_reading.specs.InForce.{InForce}
+use Rattle.xls_meaning.specs.Rules.{Rules}
+use Rattle.xls_meaning.proofs.LawLemmas.{limit_none}
+use Rattle.xls_meaning.specs.InForce.{InForce}
 
 along_same : {X Y : Type 0} (f g : List X → X → Y) → ((before : List X) (x : X) → f before x ≡ g before x)
     → (xs before : List X) → along f before xs ≡ along g before xs

@@ -1,7 +1,7 @@
 -- Bytes by a test.
 use Rattle.std.proofs.Common.{◌≡◌, ℕ, zero, suc, ◌<◌, List, [], ◌∷◌, Bool, true, false, refl, arith}
 use Rattle.std.specs.Prelude.{◌&&◌, nat_lt}
-use Rattle.xls_model.specs.Walks.{IsBytes}
+use Rattle.xls_stream.specs.Walks.{IsBytes}
 
 -- whether each number is a byte
 abbrev pub are_bytes : List ℕ → Bool

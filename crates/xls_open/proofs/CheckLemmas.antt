@@ -2,27 +2,27 @@
 use Rattle.std.proofs.Common.{◌≡◌, ℕ, ◌≤◌, List, [], ◌∷◌, ◌++◌, map, length, refl, sym, ap, subst, ◌∙◌, append_assoc, arith, Bool, true, false, Option, Some, None, Result, Ok, Err}
 use Rattle.std.specs.List.{flat_map}
 use Rattle.std.proofs.lemmas.List.{append-nil}
-use Rattle.xls_model.specs.Stream.{Group, Begins}
-use Rattle.xls_model.specs.Cut.{Cut}
-use Rattle.xls_model.specs.Walks.{IsBytes}
-use Rattle.xls_model.specs.Listing.{is_globals_type, is_plain_type, offset_at, Item, plain_item, table_item, sheet_item, entry_of, IsItem, IsSheetPart, Holds}
-use Rattle.xls_model.specs.declared.part.Part.{Part}
-use Rattle.xls_model.proofs.HoldingLemmas.{has_item, one_holds}
+use Rattle.xls_stream.specs.Stream.{Group, Begins}
+use Rattle.xls_stream.specs.Cut.{Cut}
+use Rattle.xls_stream.specs.Walks.{IsBytes}
+use Rattle.xls_stream.specs.Listing.{is_globals_type, is_plain_type, offset_at, Item, plain_item, table_item, sheet_item, entry_of, IsItem, IsSheetPart, Holds}
+use Rattle.xls_stream.specs.declared.part.Part.{Part}
+use Rattle.xls_stream.proofs.HoldingLemmas.{has_item, one_holds}
 use Rattle.xls_strings.specs.declared.error.XlsError.{XlsError}
 use Rattle.xls_strings.specs.declared.version.Biff.{Biff}
 use Rattle.xls_biff.specs.Records.BoundSheet.{bound_sheet_at}
-use Rattle.xls_reading.specs.Order.{along, first_of}
-use Rattle.xls_reading.specs.InForce.{page_in, version_in}
-use Rattle.xls_reading.specs.GlobalsTable.{forced_fault, fault_of}
-use Rattle.xls_reading.specs.Faults.{item_fault, sheet_places, globals_places, places, FirstBehind}
+use Rattle.xls_meaning.specs.Order.{along, first_of}
+use Rattle.xls_meaning.specs.InForce.{page_in, version_in}
+use Rattle.xls_meaning.specs.GlobalsTable.{forced_fault, fault_of}
+use Rattle.xls_meaning.specs.Faults.{item_fault, sheet_places, globals_places, places, FirstBehind}
 use Rattle.xls_open.specs.Checking.{checked, FirstChecked, Checks}
 use Rattle.xls_open.specs.CheckSteps.{force_of, AreChecked, ChecksPart, ChecksPlaces}
 use Rattle.xls_open.specs.Steps.{GlobalsFault}
-use Rattle.xls_reading.specs.Rules.{Rules}
-use Rattle.xls_reading.proofs.OrderLemmas.{first_behind, first_early, or_none, none_both, none_append, along-append}
-use Rattle.xls_reading.proofs.HeldLemmas.{Found, sheet_line, said, is_named}
+use Rattle.xls_meaning.specs.Rules.{Rules}
+use Rattle.xls_meaning.proofs.OrderLemmas.{first_behind, first_early, or_none, none_both, none_append, along-append}
+use Rattle.xls_meaning.proofs.HeldLemmas.{Found, sheet_line, said, is_named}
 use Rattle.xls_open.proofs.CheckWalkLemmas.{Passed, passed_nothing, passed_item, passed_other, holds_at, passed_cut, passed_eof, passed_end}
-use Rattle.xls_reading.specs.InForce.{InForce}
+use Rattle.xls_meaning.specs.InForce.{InForce}
 
 -- ---- places of the sheets
 

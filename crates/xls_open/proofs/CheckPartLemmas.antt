@@ -2,26 +2,26 @@
 use Rattle.std.proofs.Common.{◌≡◌, ℕ, ◌+◌, ◌<◌, List, [], ◌∷◌, ◌++◌, refl, sym, ap, subst, ◌∙◌, append_assoc, arith, Option, Some, None, Result, Ok, Err}
 use Rattle.std.specs.Option.{option_or}
 use Rattle.std.proofs.lemmas.List.{append-nil, map-append}
-use Rattle.xls_model.specs.Stream.{Group}
-use Rattle.xls_model.specs.Counting.{From, found_from}
-use Rattle.xls_model.specs.Walks.{IsBytes}
-use Rattle.xls_model.specs.Listing.{Kept, kept_group, kept_of, IsPart}
-use Rattle.xls_model.specs.declared.part.Part.{Part}
-use Rattle.xls_model.proofs.Shapes.{has_from}
+use Rattle.xls_stream.specs.Stream.{Group}
+use Rattle.xls_stream.specs.Counting.{From, found_from}
+use Rattle.xls_stream.specs.Walks.{IsBytes}
+use Rattle.xls_stream.specs.Listing.{Kept, kept_group, kept_of, IsPart}
+use Rattle.xls_stream.specs.declared.part.Part.{Part}
+use Rattle.xls_stream.proofs.Shapes.{has_from}
 use Rattle.xls_strings.specs.declared.error.XlsError.{XlsError}
 use Rattle.xls_strings.specs.declared.error.XlsError.TheVariants as errors
 use Rattle.xls_strings.specs.Reading.{fault_in}
 use Rattle.xls_biff.specs.Outer.{Keeps, Over, CutShort}
 use Rattle.xls_biff.specs.SheetTable.{SheetRecord, weight_of}
-use Rattle.xls_reading.specs.Order.{along, first_of}
-use Rattle.xls_reading.specs.GlobalsTable.{fault_of}
-use Rattle.xls_reading.specs.SheetTable.{kept_line}
-use Rattle.xls_reading.specs.Faults.{weight_given, weight_in, weight_fault, kept_fault, cut_fault, part_places}
+use Rattle.xls_meaning.specs.Order.{along, first_of}
+use Rattle.xls_meaning.specs.GlobalsTable.{fault_of}
+use Rattle.xls_meaning.specs.SheetTable.{kept_line}
+use Rattle.xls_meaning.specs.Faults.{weight_given, weight_in, weight_fault, kept_fault, cut_fault, part_places}
 use Rattle.xls_open.specs.CheckSteps.{ChecksPart}
-use Rattle.xls_reading.specs.Rules.{Rules}
-use Rattle.xls_reading.proofs.OrderLemmas.{first_at, none_push, first_behind}
+use Rattle.xls_meaning.specs.Rules.{Rules}
+use Rattle.xls_meaning.proofs.OrderLemmas.{first_at, none_push, first_behind}
 use Rattle.xls_open.proofs.PartLemmas.{part_from, keeps_from, over_from, cut_from, keeps_bytes, kept_push, weight_push, has_room, no_room, light, heavy, Weighs}
-use Rattle.xls_reading.specs.InForce.{InForce}
+use Rattle.xls_meaning.specs.InForce.{InForce}
 
 -- the records so far have no fault, and there may be so many more cells
 pub record CheckedPart (part rest : List ℕ) (depth : ℕ) (rules : Rules) (s : InForce) (room : ℕ) : Type 0 where

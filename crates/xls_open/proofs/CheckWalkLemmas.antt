@@ -4,14 +4,14 @@ use Rattle.std.specs.Prelude.{◌==◌}
 use Rattle.std.specs.List.{filter, AllZip}
 use Rattle.std.proofs.lemmas.List.{append-nil}
 use Rattle.std.proofs.lemmas.List.Elements.{filter-append}
-use Rattle.xls_model.specs.Stream.{Group, Begins}
-use Rattle.xls_model.specs.Counting.{From, globals_of}
-use Rattle.xls_model.specs.Cut.{Cut}
-use Rattle.xls_model.specs.Walks.{IsBytes}
-use Rattle.xls_model.specs.Listing.{is_globals_type, Item, IsItem, Holds}
-use Rattle.xls_model.specs.declared.part.Part.{Part}
-use Rattle.xls_model.proofs.Shapes.{run_bytes, has_from}
-use Rattle.xls_model.proofs.HoldingLemmas.{has_items}
+use Rattle.xls_stream.specs.Stream.{Group, Begins}
+use Rattle.xls_stream.specs.Counting.{From, globals_of}
+use Rattle.xls_stream.specs.Cut.{Cut}
+use Rattle.xls_stream.specs.Walks.{IsBytes}
+use Rattle.xls_stream.specs.Listing.{is_globals_type, Item, IsItem, Holds}
+use Rattle.xls_stream.specs.declared.part.Part.{Part}
+use Rattle.xls_stream.proofs.Shapes.{run_bytes, has_from}
+use Rattle.xls_stream.proofs.HoldingLemmas.{has_items}
 use Rattle.xls_open.proofs.WalkLemmas.{globals_from, begins_from, eof_from, end_from, cut_from}
 
 pub apart : (m n : ℕ) → m ≢ n → (m == n) ≡ false

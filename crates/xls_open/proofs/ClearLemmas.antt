@@ -9,10 +9,10 @@ use Rattle.xls_bytes.specs.Numbers.{le}
 use Rattle.xls_text.specs.Pages.{page_of}
 use Rattle.xls_text.specs.declared.encoding.XlsEncoding.{XlsEncoding}
 use Rattle.xls_text.specs.declared.error.CfbError.{CfbError}
-use Rattle.xls_model.specs.Listing.{Kept, Shared, no_table, table_of, table_without, Item, plain_item, table_item, sheet_item, entry_of}
-use Rattle.xls_model.specs.StringTable.{Missing, short_head, no_units, no_tail}
-use Rattle.xls_model.specs.declared.part.Part.{Part}
-use Rattle.xls_model.specs.declared.part.Part.TheVariants as parts
+use Rattle.xls_stream.specs.Listing.{Kept, Shared, no_table, table_of, table_without, Item, plain_item, table_item, sheet_item, entry_of}
+use Rattle.xls_stream.specs.StringTable.{Missing, short_head, no_units, no_tail}
+use Rattle.xls_stream.specs.declared.part.Part.{Part}
+use Rattle.xls_stream.specs.declared.part.Part.TheVariants as parts
 use Rattle.xls_dates.specs.declared.formats.CellFormat.{CellFormat}
 use Rattle.xls_strings.specs.declared.error.XlsError.{XlsError}
 use Rattle.xls_strings.specs.declared.error.XlsError.TheVariants as errors
@@ -44,14 +44,14 @@ use Rattle.xls_formula.specs.Fields.{word_at, sized_as}
 use Rattle.xls_formula.specs.PtgStr.{no_cch_at}
 use Rattle.xls_formula.specs.References3d.{ixti_size, ref3d_size, area3d_size}
 use Rattle.xls_formula.specs.Defined.{place_at, name_units, name_tokens, lbl_parts, lbl_at}
-use Rattle.xls_reading.specs.Order.{along, first_of}
-use Rattle.xls_reading.specs.InForce.{page_in, version_in, cells_of}
-use Rattle.xls_reading.specs.GlobalsTable.{Line, unless_forced, unless_refused, texts_of, plain_record_at, fault_of, forced_fault}
-use Rattle.xls_reading.specs.SheetTable.{kept_line}
+use Rattle.xls_meaning.specs.Order.{along, first_of}
+use Rattle.xls_meaning.specs.InForce.{page_in, version_in, cells_of}
+use Rattle.xls_meaning.specs.GlobalsTable.{Line, unless_forced, unless_refused, texts_of, plain_record_at, fault_of, forced_fault}
+use Rattle.xls_meaning.specs.SheetTable.{kept_line}
 use Rattle.xls_open.specs.Opening.{IsOfOpening}
-use Rattle.xls_reading.specs.Faults.{item_fault, weight_in, weight_fault, kept_fault, cut_fault, part_places, sheet_places, globals_places, places}
+use Rattle.xls_meaning.specs.Faults.{item_fault, weight_in, weight_fault, kept_fault, cut_fault, part_places, sheet_places, globals_places, places}
 use Rattle.xls_open.specs.Steps.{StreamFault}
-use Rattle.xls_reading.specs.Rules.{Rules}
+use Rattle.xls_meaning.specs.Rules.{Rules}
 
 abbrev pub IsClear : Option XlsError → Type 0
 IsClear (Some errors.Io) = ⊥

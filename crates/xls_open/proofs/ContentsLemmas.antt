@@ -4,13 +4,13 @@ use Rattle.std.specs.Prelude.{◌==◌, if◌then◌else◌, unwrap_or}
 use Rattle.std.specs.Option.{option_or}
 use Rattle.std.specs.List.{AllZip}
 use Rattle.std.specs.Cmp.Lexicographic.{pointwise}
-use Rattle.xls_model.specs.Listing.{Kept}
+use Rattle.xls_stream.specs.Listing.{Kept}
 use Rattle.xls_data.specs.Sheets.{SheetContent}
-use Rattle.xls_reading.specs.InForce.{InForce, SheetRecords}
-use Rattle.xls_reading.specs.Reading.{SheetView, IsContent, last_named, kept_named, IsShown}
+use Rattle.xls_meaning.specs.InForce.{InForce, SheetRecords}
+use Rattle.xls_meaning.specs.Reading.{SheetView, IsContent, last_named, kept_named, IsShown}
 use Rattle.xls_open.specs.Steps.{AreSheets, shown}
-use Rattle.xls_reading.specs.Reading.{paired}
-use Rattle.xls_reading.specs.Held.{no_view}
+use Rattle.xls_meaning.specs.Reading.{paired}
+use Rattle.xls_meaning.specs.Held.{no_view}
 
 module _ (s : InForce) where
   -- ---- the last of two

@@ -5,8 +5,8 @@ use Rattle.xls_strings.specs.Reading.{gives}
 use Rattle.xls_biff.specs.Cells.{Position}
 use Rattle.xls_biff.specs.SheetTable.{SheetRecord}
 use Rattle.xls_formula.specs.Context.{Context}
-use Rattle.xls_reading.specs.SheetTable.{adds}
-use Rattle.xls_reading.specs.Reading.{SheetView}
+use Rattle.xls_meaning.specs.SheetTable.{adds}
+use Rattle.xls_meaning.specs.Reading.{SheetView}
 use Rattle.xls_open.specs.Steps.{Follows, given_step}
 
 -- what a reader gave is what the record's line adds

@@ -7,7 +7,7 @@ use Rattle.xls_strings.specs.declared.error.XlsError.TheVariants as errors
 use Rattle.xls_strings.specs.Reading.{Fails}
 use Rattle.xls_strings.specs.Texts.{text_of}
 use Rattle.xls_cells.specs.Positions.{Position}
-use Rattle.xls_reading.specs.SheetTable.{refusal_bytes, shown_formula}
+use Rattle.xls_meaning.specs.SheetTable.{refusal_bytes, shown_formula}
 
 -- what stands in place of a formula that is refused for another cause than memory
 pub refused : {E : Type 0} (p : Position) (e : XlsError) (read : Result (List ℕ) XlsError) (r : Result (String Global) E)

@@ -2,12 +2,12 @@
 use Rattle.std.proofs.Common.{◌≡◌, ℕ, List, [], ◌∷◌, ◌++◌, drop, refl, sym, ap, subst, ◌∙◌, Bool, true, false, Option, Some, None, Result, Ok, Err}
 use Rattle.std.specs.Prelude.{◌==◌, ◌||◌, length, unwrap_or}
 use Rattle.xls_text.specs.declared.encoding.XlsEncoding.{XlsEncoding}
-use Rattle.xls_model.specs.Stream.{Group, Begins}
-use Rattle.xls_model.specs.Cut.{Cut}
-use Rattle.xls_model.specs.Walks.{IsBytes}
-use Rattle.xls_model.specs.Listing.{is_among, globals_types, is_globals_type, is_plain_type, Shared, IsShared, Item, plain_item, table_item, sheet_item, IsItem}
-use Rattle.xls_model.specs.declared.part.Part.{Part}
-use Rattle.xls_model.proofs.HoldingLemmas.{has_item}
+use Rattle.xls_stream.specs.Stream.{Group, Begins}
+use Rattle.xls_stream.specs.Cut.{Cut}
+use Rattle.xls_stream.specs.Walks.{IsBytes}
+use Rattle.xls_stream.specs.Listing.{is_among, globals_types, is_globals_type, is_plain_type, Shared, IsShared, Item, plain_item, table_item, sheet_item, IsItem}
+use Rattle.xls_stream.specs.declared.part.Part.{Part}
+use Rattle.xls_stream.proofs.HoldingLemmas.{has_item}
 use Rattle.xls_data.specs.Sheets.{SheetContent}
 use Rattle.xls_strings.specs.declared.error.XlsError.{XlsError}
 use Rattle.xls_strings.specs.declared.error.XlsError.TheVariants as errors
@@ -19,13 +19,13 @@ use Rattle.xls_biff.specs.Records.ExternSheet.{refs_at}
 use Rattle.xls_biff.specs.Records.Format.{format_at}
 use Rattle.xls_formula.specs.Defined.{lbl_at}
 use Rattle.xls_biff.specs.Records.BoundSheet.{bound_sheet_at}
-use Rattle.xls_reading.specs.Order.{along, first_of}
-use Rattle.xls_reading.specs.GlobalsTable as table
-use Rattle.xls_reading.specs.GlobalsTable.{Line, fault_of, version_given, unless_refused, other_record, references_record, name_record, strings_record, sheet_record, texts_of, plain_record_at, item_record_at}
-use Rattle.xls_reading.specs.Faults.{item_line, item_fault, cut_fault}
-use Rattle.xls_reading.specs.Rules.{Rules}
-use Rattle.xls_reading.proofs.OrderLemmas.{first_at, none_push, first_behind}
-use Rattle.xls_reading.specs.InForce.{page_in}
+use Rattle.xls_meaning.specs.Order.{along, first_of}
+use Rattle.xls_meaning.specs.GlobalsTable as table
+use Rattle.xls_meaning.specs.GlobalsTable.{Line, fault_of, version_given, unless_refused, other_record, references_record, name_record, strings_record, sheet_record, texts_of, plain_record_at, item_record_at}
+use Rattle.xls_meaning.specs.Faults.{item_line, item_fault, cut_fault}
+use Rattle.xls_meaning.specs.Rules.{Rules}
+use Rattle.xls_meaning.proofs.OrderLemmas.{first_at, none_push, first_behind}
+use Rattle.xls_meaning.specs.InForce.{page_in}
 use Rattle.xls_open.specs.Steps.{State, first_state, after, body_of, IsState, AreGlobals, GlobalsFault, ReadsGlobals}
 use Rattle.xls_open.specs.CheckSteps.{AreChecked}
 use Rattle.xls_open.specs.RecordSteps.{Stands, ReadsLine, IsTaken, version_of, version_by}

@@ -1,14 +1,14 @@
 -- A stream and its list; layouts of a full list are opened and checked without a fault.
 use Rattle.std.proofs.Common.{◌≡◌, ℕ, ◌≤◌, List, length, Option, Some, Result, Ok, Err, refl, arith}
-use Rattle.xls_model.specs.Walks.{IsBytes}
-use Rattle.xls_model.proofs.HoldingLemmas.{one_list}
+use Rattle.xls_stream.specs.Walks.{IsBytes}
+use Rattle.xls_stream.proofs.HoldingLemmas.{one_list}
 use Rattle.xls_strings.specs.declared.error.XlsError.{XlsError}
 use Rattle.xls_strings.specs.declared.error.XlsError.TheVariants as errors
-use Rattle.xls_layout.specs.Layout.{Layout, lay, list_of, IsLayout}
-use Rattle.xls_layout.proofs.LaidStreamLemmas.{laid_stream}
-use Rattle.xls_reading.specs.Rules.{Rules}
-use Rattle.xls_reading.specs.Faults.{IsSound, IsFull}
-use Rattle.xls_reading.proofs.LawLemmas.{sound_where_full}
+use Rattle.xls_layouts.specs.Layout.{Layout, lay, list_of, IsLayout}
+use Rattle.xls_layouts.proofs.LaidStreamLemmas.{laid_stream}
+use Rattle.xls_meaning.specs.Rules.{Rules}
+use Rattle.xls_meaning.specs.Faults.{IsSound, IsFull}
+use Rattle.xls_meaning.proofs.LawLemmas.{sound_where_full}
 use Rattle.xls_open.specs.Workbook.{Workbook, rules_of}
 use Rattle.xls_open.specs.Opening.{OpenCause, Opens}
 use Rattle.xls_open.specs.Checking.{Checks}

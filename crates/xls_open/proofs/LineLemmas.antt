@@ -4,8 +4,8 @@ use Rattle.std.specs.Prelude.{ℤ, ◌==◌, ◌||◌, nat_lt, slice_index, if�
 use Rattle.std.specs.List.{flat_map}
 use Rattle.std.proofs.lemmas.List.{append-nil, map-append}
 use Rattle.xls_text.specs.declared.encoding.XlsEncoding.{XlsEncoding}
-use Rattle.xls_model.specs.Listing.{no_table, table_of, table_without, Entry, plain_entry, table_entry, sheet_entry, Item, plain_item, table_item, sheet_item, entry_of}
-use Rattle.xls_model.specs.declared.part.Part.TheVariants as parts
+use Rattle.xls_stream.specs.Listing.{no_table, table_of, table_without, Entry, plain_entry, table_entry, sheet_entry, Item, plain_item, table_item, sheet_item, entry_of}
+use Rattle.xls_stream.specs.declared.part.Part.TheVariants as parts
 use Rattle.xls_data.specs.Sheets.{SheetContent}
 use Rattle.xls_dates.specs.declared.formats.CellFormat.{CellFormat}
 use Rattle.xls_strings.specs.declared.error.XlsError.{XlsError}
@@ -21,12 +21,12 @@ use Rattle.xls_biff.specs.Records.FilePass.{file_pass_at}
 use Rattle.xls_biff.specs.Records.CodePage.{code_page_at}
 use Rattle.xls_biff.specs.Records.DateMode.{date_mode_at}
 use Rattle.xls_biff.specs.Records.BoundSheet.{sheet_by, bound_sheet_at}
-use Rattle.xls_reading.specs.Order.{last_of, somes}
-use Rattle.xls_reading.specs.GlobalsTable.{Named, GlobalsRecord, other_record, page_record, date_record, format_record, xf_record, references_record, name_record, sheet_record, unless_forced, unless_refused, plain_record_at, item_record_at, entry_record_at, Line, version_given, page_given, date_given, sheet_given}
-use Rattle.xls_reading.specs.InForce.{sets_1904}
+use Rattle.xls_meaning.specs.Order.{last_of, somes}
+use Rattle.xls_meaning.specs.GlobalsTable.{Named, GlobalsRecord, other_record, page_record, date_record, format_record, xf_record, references_record, name_record, sheet_record, unless_forced, unless_refused, plain_record_at, item_record_at, entry_record_at, Line, version_given, page_given, date_given, sheet_given}
+use Rattle.xls_meaning.specs.InForce.{sets_1904}
 use Rattle.xls_open.specs.Steps.{with_one, with_all, or_also}
-use Rattle.xls_reading.proofs.OrderLemmas.{somes-append, last-push, unwrap_push, flat_push}
-use Rattle.xls_reading.proofs.EntryLemmas.{long_sheet}
+use Rattle.xls_meaning.proofs.OrderLemmas.{somes-append, last-push, unwrap_push, flat_push}
+use Rattle.xls_meaning.proofs.EntryLemmas.{long_sheet}
 
 -- ---- what one more item gives
 

@@ -4,33 +4,33 @@ use Rattle.std.specs.Prelude.{nat_lt, slice_index}
 use Rattle.std.specs.Option.{option_map}
 use Rattle.std.specs.List.{flat_map, filter, AllZip, AllByRecursion}
 use Rattle.xls_text.specs.declared.encoding.XlsEncoding.{XlsEncoding}
-use Rattle.xls_model.specs.Walks.{IsBytes}
-use Rattle.xls_model.specs.Listing.{is_globals_type, offset_at, Kept, Item, plain_item, table_item, sheet_item, entry_of, IsItem, IsSheetPart}
-use Rattle.xls_model.specs.Stream.{Group}
-use Rattle.xls_model.specs.declared.part.Part.{Part}
-use Rattle.xls_model.specs.declared.part.Part.TheVariants as parts
-use Rattle.xls_model.proofs.HoldingLemmas.{one_sheet_part}
+use Rattle.xls_stream.specs.Walks.{IsBytes}
+use Rattle.xls_stream.specs.Listing.{is_globals_type, offset_at, Kept, Item, plain_item, table_item, sheet_item, entry_of, IsItem, IsSheetPart}
+use Rattle.xls_stream.specs.Stream.{Group}
+use Rattle.xls_stream.specs.declared.part.Part.{Part}
+use Rattle.xls_stream.specs.declared.part.Part.TheVariants as parts
+use Rattle.xls_stream.proofs.HoldingLemmas.{one_sheet_part}
 use Rattle.xls_data.specs.Sheets.{SheetContent}
 use Rattle.xls_dates.specs.declared.formats.CellFormat.{CellFormat}
 use Rattle.xls_strings.specs.declared.error.XlsError.{XlsError}
 use Rattle.xls_strings.specs.declared.error.XlsError.TheVariants as errors
 use Rattle.xls_strings.specs.declared.version.Biff.{Biff}
 use Rattle.xls_formula.specs.Context.{Context}
-use Rattle.xls_reading.specs.Order.{along, first_of, somes}
-use Rattle.xls_reading.specs.InForce.{cells_of, page_in, version_in, is_1904_in, formats_in, class_in, classes_in, texts_in, context_of, InForce, in_force_of, sheets_of}
+use Rattle.xls_meaning.specs.Order.{along, first_of, somes}
+use Rattle.xls_meaning.specs.InForce.{cells_of, page_in, version_in, is_1904_in, formats_in, class_in, classes_in, texts_in, context_of, InForce, in_force_of, sheets_of}
 use Rattle.xls_strings.specs.Reading.{◌>>=◌}
 use Rattle.xls_biff.specs.Records.BoundSheet.{sheet_by, bound_sheet_at}
-use Rattle.xls_reading.specs.GlobalsTable.{sheet_given, forced_fault}
-use Rattle.xls_reading.specs.Reading.{SheetView, BookView, IsContent, IsShown}
+use Rattle.xls_meaning.specs.GlobalsTable.{sheet_given, forced_fault}
+use Rattle.xls_meaning.specs.Reading.{SheetView, BookView, IsContent, IsShown}
 use Rattle.xls_open.specs.Workbook.{IsOrdered}
-use Rattle.xls_reading.specs.Faults.{item_line, kept_fault, part_places, sheet_places, globals_places}
+use Rattle.xls_meaning.specs.Faults.{item_line, kept_fault, part_places, sheet_places, globals_places}
 use Rattle.xls_open.specs.Steps.{RefusesStream, PartFault, pair_of, Sheets, State, IsState, AreGlobals, ReadsGlobals, AreContents, ReadsContents, AreSheets, shown, IsStreamOpened, StreamFault}
-use Rattle.xls_reading.specs.Held.{OpenedSheet, opened_in, opened_of}
-use Rattle.xls_reading.specs.Reading.{paired}
-use Rattle.xls_reading.specs.Rules.{Rules}
-use Rattle.xls_reading.proofs.OrderLemmas.{first_behind, first_early}
+use Rattle.xls_meaning.specs.Held.{OpenedSheet, opened_in, opened_of}
+use Rattle.xls_meaning.specs.Reading.{paired}
+use Rattle.xls_meaning.specs.Rules.{Rules}
+use Rattle.xls_meaning.proofs.OrderLemmas.{first_behind, first_early}
 use Rattle.xls_open.proofs.ContentsLemmas.{heads, same_length, all_shown}
-use Rattle.xls_reading.proofs.HeldLemmas.{Found, IsFine, sheet_view, fine_places, good, flat_both, opened_places, carries_full, after_globals}
+use Rattle.xls_meaning.proofs.HeldLemmas.{Found, IsFine, sheet_view, fine_places, good, flat_both, opened_places, carries_full, after_globals}
 
 -- ---- a BoundSheet8, by its bytes and by its entry
 

@@ -4,23 +4,23 @@ use Rattle.std.specs.Prelude.{IfErr, IfOk, IfSome}
 use Rattle.std.specs.Option.{option_or}
 use Rattle.std.specs.Io.KnownBytes.{Consumes, IsAtEnd}
 use Rattle.std.proofs.lemmas.List.{append-nil}
-use Rattle.xls_model.specs.Listing.{Entry}
-use Rattle.xls_model.proofs.HoldingLemmas.{one_list}
+use Rattle.xls_stream.specs.Listing.{Entry}
+use Rattle.xls_stream.proofs.HoldingLemmas.{one_list}
 use Rattle.xls_strings.specs.declared.error.XlsError.{XlsError}
 use Rattle.xls_strings.specs.declared.error.XlsError.TheVariants as errors
-use Rattle.xls_reading.specs.GlobalsTable.{forced_fault}
+use Rattle.xls_meaning.specs.GlobalsTable.{forced_fault}
 use Rattle.xls_open.specs.Workbook.{rules_of, view_of}
-use Rattle.xls_reading.specs.Reading.{IsReading}
-use Rattle.xls_reading.specs.Faults.{outer_fault, FirstBehind, FirstFault, IsSound}
+use Rattle.xls_meaning.specs.Reading.{IsReading}
+use Rattle.xls_meaning.specs.Faults.{outer_fault, FirstBehind, FirstFault, IsSound}
 use Rattle.xls_source.specs.Causes.{Rose}
 use Rattle.xls_open.specs.Opening.{IsOfOpening, OpenCause, IsOpened}
 use Rattle.xls_source.specs.Bounded.{ReadCause}
 use Rattle.xls_open.specs.Steps.{StreamFault, OpensStream, IsReady, book_of}
-use Rattle.xls_reading.specs.Rules.{Rules}
+use Rattle.xls_meaning.specs.Rules.{Rules}
 use Rattle.xls_open.specs.declared.opened.Opened.{Opened}
 use Rattle.xls_open.specs.declared.options.XlsOptions.{XlsOptions}
 use Rattle.xls_open.proofs.ClearLemmas.{IsClear, forced_clear, of_stream, is_of_opening}
-use Rattle.xls_reading.proofs.LawLemmas.{limit_none, limit_some, outer_none, full_sound}
+use Rattle.xls_meaning.proofs.LawLemmas.{limit_none, limit_some, outer_none, full_sound}
 
 -- ---- opening
 

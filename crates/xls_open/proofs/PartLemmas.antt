@@ -5,16 +5,16 @@ use Rattle.std.specs.Global.{Global}
 use Rattle.std.specs.Option.{option_or, option_map}
 use Rattle.std.specs.List.{flat_map}
 use Rattle.std.proofs.lemmas.List.{append-nil, map-append}
-use Rattle.xls_model.specs.Stream.{Group}
-use Rattle.xls_model.specs.Counting.{From, found_from, with_group}
-use Rattle.xls_model.specs.Walks.{IsBytes}
-use Rattle.xls_model.specs.Substreams.{SheetPart}
-use Rattle.xls_model.specs.Listing.{Kept, kept_group, kept_of, IsPart}
-use Rattle.xls_model.specs.declared.part.Part.{Part}
-use Rattle.xls_model.proofs.Runs.{Run-append}
-use Rattle.xls_model.proofs.Founds.{found_nothing}
-use Rattle.xls_model.proofs.Ends.{has_groups}
-use Rattle.xls_model.proofs.Shapes.{run_bytes, has_from, same_parts}
+use Rattle.xls_stream.specs.Stream.{Group}
+use Rattle.xls_stream.specs.Counting.{From, found_from, with_group}
+use Rattle.xls_stream.specs.Walks.{IsBytes}
+use Rattle.xls_stream.specs.Substreams.{SheetPart}
+use Rattle.xls_stream.specs.Listing.{Kept, kept_group, kept_of, IsPart}
+use Rattle.xls_stream.specs.declared.part.Part.{Part}
+use Rattle.xls_stream.proofs.Runs.{Run-append}
+use Rattle.xls_stream.proofs.Founds.{found_nothing}
+use Rattle.xls_stream.proofs.Ends.{has_groups}
+use Rattle.xls_stream.proofs.Shapes.{run_bytes, has_from, same_parts}
 use Rattle.xls_data.specs.Data.{content_of}
 use Rattle.xls_data.specs.declared.values.Data.{Data}
 use Rattle.xls_data.specs.declared.regions.Dimensions.{Dimensions}
@@ -26,17 +26,17 @@ use Rattle.xls_strings.specs.Texts.{text_of}
 use Rattle.xls_biff.specs.SheetTable.{CellContext, SheetRecord, weight_of, formula_position, position_in}
 use Rattle.xls_biff.specs.Cells.{Entry}
 use Rattle.xls_cells.specs.Positions.{Position, IsAscending, last_at, cell_position}
-use Rattle.xls_reading.specs.Order.{along, first_of, last_of}
-use Rattle.xls_reading.specs.InForce.{InForce}
-use Rattle.xls_reading.specs.GlobalsTable.{fault_of}
-use Rattle.xls_reading.specs.SheetTable.{FormulaEntry, Given, adds, kept_line, given_at, last_formula, given_in}
-use Rattle.xls_reading.specs.Reading.{SheetView, given_by, gifts_of, values_of, formulas_of, merges_of}
-use Rattle.xls_reading.specs.Faults.{weight_given, weight_in, weight_fault, kept_fault, cut_fault, part_places}
+use Rattle.xls_meaning.specs.Order.{along, first_of, last_of}
+use Rattle.xls_meaning.specs.InForce.{InForce}
+use Rattle.xls_meaning.specs.GlobalsTable.{fault_of}
+use Rattle.xls_meaning.specs.SheetTable.{FormulaEntry, Given, adds, kept_line, given_at, last_formula, given_in}
+use Rattle.xls_meaning.specs.Reading.{SheetView, given_by, gifts_of, values_of, formulas_of, merges_of}
+use Rattle.xls_meaning.specs.Faults.{weight_given, weight_in, weight_fault, kept_fault, cut_fault, part_places}
 use Rattle.xls_open.specs.Workbook.{cell_content, formula_content}
-use Rattle.xls_reading.specs.Held.{no_view}
+use Rattle.xls_meaning.specs.Held.{no_view}
 use Rattle.xls_open.specs.Steps.{with_given, given_step, weight_left, IsRead, PartFault, Reads}
-use Rattle.xls_reading.specs.Rules.{Rules}
-use Rattle.xls_reading.proofs.OrderLemmas.{first_at, none_push, first_behind, along-push, last-push, unwrap_push, flat_push}
+use Rattle.xls_meaning.specs.Rules.{Rules}
+use Rattle.xls_meaning.proofs.OrderLemmas.{first_at, none_push, first_behind, along-push, last-push, unwrap_push, flat_push}
 
 pub part_from : (part : List ℕ) (groups : List Group) (cut : Option Part) → IsBytes part
     → From (found_from 0) part groups cut → SheetPart part groups cut

@@ -4,12 +4,12 @@ use Rattle.std.proofs.lemmas.List.{map-append}
 use Rattle.xls_data.specs.Sheets.{SheetContent}
 use Rattle.xls_strings.specs.declared.error.XlsError.{XlsError}
 use Rattle.xls_strings.specs.declared.error.XlsError.TheVariants as errors
-use Rattle.xls_reading.specs.InForce.{InForce}
-use Rattle.xls_reading.specs.Reading.{SheetView}
+use Rattle.xls_meaning.specs.InForce.{InForce}
+use Rattle.xls_meaning.specs.Reading.{SheetView}
 use Rattle.xls_open.specs.Steps.{Sheets, listed_of, IsRead, Reads, AreContents, ContentsFault, ReadsContents}
-use Rattle.xls_reading.specs.Rules.{Rules}
+use Rattle.xls_meaning.specs.Rules.{Rules}
 use Rattle.xls_open.specs.declared.listed.Listed.{Listed}
-use Rattle.xls_model.specs.Listing.{IsSheetPart}
+use Rattle.xls_stream.specs.Listing.{IsSheetPart}
 use Rattle.xls_open.proofs.MapLemmas.{map_more}
 
 -- ---- contents

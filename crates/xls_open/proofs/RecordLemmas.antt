@@ -2,11 +2,11 @@
 use Rattle.std.proofs.Common.{◌≡◌, ℕ, ◌<◌, ◌≤◌, List, [], ◌∷◌, ◌++◌, length, map, drop, refl, sym, ap, ◌∙◌, arith, true, false, Some, None, Result, Ok, Err}
 use Rattle.std.specs.Prelude.{IfErr, nat_lt}
 use Rattle.std.specs.Char.Utf16.{utf16_lossy_chars}
-use Rattle.xls_model.specs.Stream.{Group}
-use Rattle.xls_model.specs.Listing.{Shared, no_table, table_of, table_without, IsShared}
-use Rattle.xls_model.specs.StringTable.{Mark, Missing, marked, Table, TableFault}
-use Rattle.xls_model.specs.declared.part.Part.TheVariants.{Sst}
-use Rattle.xls_model.proofs.TableReadings.{one_reading}
+use Rattle.xls_stream.specs.Stream.{Group}
+use Rattle.xls_stream.specs.Listing.{Shared, no_table, table_of, table_without, IsShared}
+use Rattle.xls_stream.specs.StringTable.{Mark, Missing, marked, Table, TableFault}
+use Rattle.xls_stream.specs.declared.part.Part.TheVariants.{Sst}
+use Rattle.xls_stream.proofs.TableReadings.{one_reading}
 use Rattle.xls_data.specs.Sheets.{SheetContent}
 use Rattle.xls_dates.specs.declared.formats.CellFormat.{CellFormat}
 use Rattle.xls_strings.specs.declared.error.XlsError.{XlsError}
@@ -14,7 +14,7 @@ use Rattle.xls_strings.specs.declared.error.XlsError.TheVariants as errors
 use Rattle.xls_strings.specs.Reading.{Fails, Gives, fault_in, gives}
 use Rattle.xls_strings.specs.Sst.{error_of, CountsTable, ReadsTable, sst_marks, InTable}
 use Rattle.xls_biff.specs.Records.BoundSheet.{bound_sheet_at}
-use Rattle.xls_reading.specs.GlobalsTable.{GlobalsRecord, other_record, format_record, strings_record, sheet_record, unless_refused, texts_of, Line, fault_of}
+use Rattle.xls_meaning.specs.GlobalsTable.{GlobalsRecord, other_record, format_record, strings_record, sheet_record, unless_refused, texts_of, Line, fault_of}
 use Rattle.xls_open.specs.Steps.{State, after}
 use Rattle.xls_open.proofs.OpenLemmas.{bound_offset}
 

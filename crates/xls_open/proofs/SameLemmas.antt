@@ -2,16 +2,16 @@
 use Rattle.std.proofs.Common.{◌≡◌, List, [], ◌∷◌, Bool, refl, sym, ap, ◌∙◌}
 use Rattle.std.specs.Prelude.{ℕ}
 use Rattle.std.specs.List.{AllZip}
-use Rattle.xls_model.specs.Listing.{Kept, Carries}
-use Rattle.xls_model.specs.Listing as listing
+use Rattle.xls_stream.specs.Listing.{Kept, Carries}
+use Rattle.xls_stream.specs.Listing as listing
 use Rattle.xls_data.specs.Sheets.{SheetContent}
 use Rattle.xls_data.specs.declared.regions.Dimensions.{Dimensions}
 use Rattle.xls_dates.specs.declared.formats.CellFormat.{CellFormat}
 use Rattle.xls_biff.specs.Cells.{Entry}
-use Rattle.xls_reading.specs.InForce.{InForce, in_force_of, SheetRecords, sheets_of}
-use Rattle.xls_reading.specs.SheetTable.{FormulaEntry}
-use Rattle.xls_reading.specs.Reading.{SheetView, IsContent, IsShown, IsReading}
-use Rattle.xls_reading.specs.Rules.{Rules}
+use Rattle.xls_meaning.specs.InForce.{InForce, in_force_of, SheetRecords, sheets_of}
+use Rattle.xls_meaning.specs.SheetTable.{FormulaEntry}
+use Rattle.xls_meaning.specs.Reading.{SheetView, IsContent, IsShown, IsReading}
+use Rattle.xls_meaning.specs.Rules.{Rules}
 use Rattle.xls_open.specs.Workbook.{Workbook, rules_of, view_of}
 use Rattle.xls_open.specs.Opening.{IsOpened}
 use Rattle.xls_open.specs.declared.options.XlsOptions.{XlsOptions}

@@ -6,20 +6,20 @@ use Rattle.std.specs.List.{flat_map}
 use Rattle.std.proofs.lemmas.List.{append-nil, map-append}
 use Rattle.xls_text.specs.declared.encoding.XlsEncoding.{XlsEncoding}
 use Rattle.xls_text.specs.declared.encoding.XlsEncoding.TheVariants.{Utf16}
-use Rattle.xls_model.specs.Listing.{offset_at, no_table, table_of, table_without, Entry, Item, plain_item, table_item, sheet_item, entry_of}
+use Rattle.xls_stream.specs.Listing.{offset_at, no_table, table_of, table_without, Entry, Item, plain_item, table_item, sheet_item, entry_of}
 use Rattle.xls_data.specs.Sheets.{SheetContent}
 use Rattle.xls_dates.specs.declared.formats.CellFormat.{CellFormat}
 use Rattle.xls_strings.specs.declared.version.Biff.{Biff}
 use Rattle.xls_strings.specs.declared.version.Biff.TheVariants.{Biff8}
-use Rattle.xls_reading.specs.Order.{along, last_of, somes}
-use Rattle.xls_reading.specs.GlobalsTable.{Named, GlobalsRecord, item_record_at, Line, version_given, page_given, date_given, format_given, xf_given, references_given, name_given, strings_given, sheet_given}
-use Rattle.xls_reading.specs.InForce.{said_by, first_page, page_in, version_in, line_in, lines_in, sets_1904}
-use Rattle.xls_reading.specs.Faults.{item_line}
+use Rattle.xls_meaning.specs.Order.{along, last_of, somes}
+use Rattle.xls_meaning.specs.GlobalsTable.{Named, GlobalsRecord, item_record_at, Line, version_given, page_given, date_given, format_given, xf_given, references_given, name_given, strings_given, sheet_given}
+use Rattle.xls_meaning.specs.InForce.{said_by, first_page, page_in, version_in, line_in, lines_in, sets_1904}
+use Rattle.xls_meaning.specs.Faults.{item_line}
 use Rattle.xls_open.specs.Steps.{Sheets, State, first_state, with_one, with_all, or_also, placed, after, body_of, pair_of, sheets_at, IsState}
-use Rattle.xls_reading.specs.Held.{OpenedSheet, opened_in, opened_of}
-use Rattle.xls_reading.specs.Rules.{Rules}
-use Rattle.xls_reading.proofs.OrderLemmas.{along-push, somes-append}
-use Rattle.xls_reading.proofs.EntryLemmas.{entries_push}
+use Rattle.xls_meaning.specs.Held.{OpenedSheet, opened_in, opened_of}
+use Rattle.xls_meaning.specs.Rules.{Rules}
+use Rattle.xls_meaning.proofs.OrderLemmas.{along-push, somes-append}
+use Rattle.xls_meaning.proofs.EntryLemmas.{entries_push}
 use Rattle.xls_open.proofs.LineLemmas.{somes_push, last_or_push, all_push, date_push, no_sheet, same_page, same_version, same_line}
 
 -- ---- the state after one more item

@@ -1,14 +1,14 @@
 -- The walk over the globals.
 use Rattle.std.proofs.Common.{◌≡◌, ℕ, List, [], ◌∷◌, refl, ap, false, Option, Some, None}
 use Rattle.std.specs.Prelude.{◌==◌}
-use Rattle.xls_model.specs.Stream.{Group, Begins}
-use Rattle.xls_model.specs.Substreams.{GlobalsPart}
-use Rattle.xls_model.specs.Counting.{From, globals_of, with_group}
-use Rattle.xls_model.specs.Cut.{Cut}
-use Rattle.xls_model.specs.Walks.{IsBytes}
-use Rattle.xls_model.specs.declared.part.Part.{Part}
-use Rattle.xls_model.proofs.Ends.{has_groups}
-use Rattle.xls_model.proofs.Shapes.{run_bytes, same_globals}
+use Rattle.xls_stream.specs.Stream.{Group, Begins}
+use Rattle.xls_stream.specs.Substreams.{GlobalsPart}
+use Rattle.xls_stream.specs.Counting.{From, globals_of, with_group}
+use Rattle.xls_stream.specs.Cut.{Cut}
+use Rattle.xls_stream.specs.Walks.{IsBytes}
+use Rattle.xls_stream.specs.declared.part.Part.{Part}
+use Rattle.xls_stream.proofs.Ends.{has_groups}
+use Rattle.xls_stream.proofs.Shapes.{run_bytes, same_globals}
 use Rattle.xls_open.specs.Steps.{after}
 
 pub globals_from : (bytes : List ℕ) (groups : List Group) (cut : Option Part) → IsBytes bytes

@@ -1,16 +1,16 @@
 -- What the parts of a check answer: the globals, a sheet part, and all places.
 use Rattle.std.specs.Prelude.{◌≡◌, ℕ, List, [], map, Option, None, Result, Ok, Err}
-use Rattle.xls_model.specs.Listing.{Kept, Item, entry_of, Holds}
-use Rattle.xls_model.specs.declared.part.Part.{Part}
+use Rattle.xls_stream.specs.Listing.{Kept, Item, entry_of, Holds}
+use Rattle.xls_stream.specs.declared.part.Part.{Part}
 use Rattle.xls_strings.specs.declared.error.XlsError.{XlsError}
 use Rattle.xls_strings.specs.declared.version.Biff.{Biff}
-use Rattle.xls_reading.specs.Order.{along, first_of}
-use Rattle.xls_reading.specs.InForce.{version_in, InForce, in_force_of}
-use Rattle.xls_reading.specs.GlobalsTable.{fault_of}
-use Rattle.xls_reading.specs.Faults.{item_fault, part_places, places}
+use Rattle.xls_meaning.specs.Order.{along, first_of}
+use Rattle.xls_meaning.specs.InForce.{version_in, InForce, in_force_of}
+use Rattle.xls_meaning.specs.GlobalsTable.{fault_of}
+use Rattle.xls_meaning.specs.Faults.{item_fault, part_places, places}
 use Rattle.xls_open.specs.Steps.{GlobalsFault}
 use Rattle.xls_open.specs.Checking.{checked}
-use Rattle.xls_reading.specs.Rules.{Rules}
+use Rattle.xls_meaning.specs.Rules.{Rules}
 use Rattle.xls_open.specs.declared.check.CheckRules.{CheckRules}
 
 abbrev pub under : CheckRules → Rules

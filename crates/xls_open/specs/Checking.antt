@@ -1,9 +1,9 @@
 -- What a check of a stream answers.
 use Rattle.std.specs.Prelude.{ℕ, List, [], Option, Result, Ok, Err}
 use Rattle.xls_strings.specs.declared.error.XlsError.{XlsError}
-use Rattle.xls_reading.specs.GlobalsTable.{forced_fault}
-use Rattle.xls_reading.specs.Faults.{FirstBehind}
-use Rattle.xls_reading.specs.Rules.{Rules}
+use Rattle.xls_meaning.specs.GlobalsTable.{forced_fault}
+use Rattle.xls_meaning.specs.Faults.{FirstBehind}
+use Rattle.xls_meaning.specs.Rules.{Rules}
 
 -- the rules of a check; neither the limit of bytes nor the functions count (`checked_alike`)
 abbrev pub checked : Option ℕ → ℕ → Rules

@@ -1,18 +1,18 @@
 -- Laws over opening and the check of a stream.
 use Rattle.std.specs.Prelude.{◌≡◌, ◌↔◌, ℕ, ◌≤◌, List, length, Option, None, Some, Result, Ok, Err}
 use Rattle.std.specs.Io.KnownBytes.{IsAtEnd}
-use Rattle.xls_model.specs.Walks.{IsBytes}
-use Rattle.xls_model.specs.Listing.{Entry, Carries}
+use Rattle.xls_stream.specs.Walks.{IsBytes}
+use Rattle.xls_stream.specs.Listing.{Entry, Carries}
 use Rattle.xls_strings.specs.declared.error.XlsError.{XlsError}
 use Rattle.xls_strings.specs.declared.error.XlsError.TheVariants as errors
-use Rattle.xls_layout.specs.Layout.{Layout, lay, list_of, IsLayout}
-use Rattle.xls_reading.specs.Rules.{Rules}
+use Rattle.xls_layouts.specs.Layout.{Layout, lay, list_of, IsLayout}
+use Rattle.xls_meaning.specs.Rules.{Rules}
 use Rattle.xls_text.specs.declared.encoding.XlsEncoding.{XlsEncoding}
 use Rattle.xls_strings.specs.declared.version.Biff.{Biff}
-use Rattle.xls_reading.specs.GlobalsTable.{forced_fault, entry_record_at, page_given, version_given}
-use Rattle.xls_reading.specs.InForce.{said_by}
-use Rattle.xls_reading.specs.Reading.{IsReading}
-use Rattle.xls_reading.specs.Faults.{FirstFault, IsSound, IsFull}
+use Rattle.xls_meaning.specs.GlobalsTable.{forced_fault, entry_record_at, page_given, version_given}
+use Rattle.xls_meaning.specs.InForce.{said_by}
+use Rattle.xls_meaning.specs.Reading.{IsReading}
+use Rattle.xls_meaning.specs.Faults.{FirstFault, IsSound, IsFull}
 use Rattle.xls_source.specs.Causes.{Rose}
 use Rattle.xls_open.specs.Workbook.{Workbook, rules_of, view_of}
 use Rattle.xls_open.specs.Opening.{IsOpened, Opens}

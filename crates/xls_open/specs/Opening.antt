@@ -1,16 +1,16 @@
 -- What reading a source and opening its bytes answer.
 use Rattle.std.specs.Prelude.{◌≡◌, ℕ, ◌+◌, ◌≤◌, List, length, Option, None, Result, IfOk, IfErr, OnOk, IfSome}
 use Rattle.std.specs.Io.KnownBytes.{Consumes, IsAtEnd}
-use Rattle.xls_model.specs.Listing.{Entry, Carries}
+use Rattle.xls_stream.specs.Listing.{Entry, Carries}
 use Rattle.xls_strings.specs.declared.error.XlsError.{XlsError}
 use Rattle.xls_strings.specs.declared.error.XlsError.TheVariants as errors
 use Rattle.xls_data.specs.declared.regions.HeaderRow.TheVariants.{FirstNonEmptyRow}
 use Rattle.xls_formula.specs.Functions.{shipped}
 use Rattle.xls_source.specs.Causes.{Rose}
-use Rattle.xls_reading.specs.Rules.{Rules}
+use Rattle.xls_meaning.specs.Rules.{Rules}
 use Rattle.xls_open.specs.Workbook.{Workbook, rules_of, view_of}
-use Rattle.xls_reading.specs.Reading.{IsReading}
-use Rattle.xls_reading.specs.Faults.{FirstFault, IsSound, IsFull}
+use Rattle.xls_meaning.specs.Reading.{IsReading}
+use Rattle.xls_meaning.specs.Faults.{FirstFault, IsSound, IsFull}
 use Rattle.xls_open.specs.declared.options.XlsOptions.{XlsOptions}
 
 -- why a stream isn't opened: Io by its count, Memory freely, and else the first fault of the bytes

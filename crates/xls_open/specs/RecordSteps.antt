@@ -1,7 +1,7 @@
 -- What a record of the globals that is read without memory stands for, for the proofs.
 use Rattle.std.specs.Prelude.{◌≡◌, ℕ, List, Option, Some, None, unwrap_or, length, Result, Ok, Err}
 use Rattle.xls_text.specs.declared.encoding.XlsEncoding.{XlsEncoding}
-use Rattle.xls_model.specs.Listing.{Shared, IsShared}
+use Rattle.xls_stream.specs.Listing.{Shared, IsShared}
 use Rattle.xls_data.specs.Sheets.{SheetContent}
 use Rattle.xls_strings.specs.declared.error.XlsError.{XlsError}
 use Rattle.xls_strings.specs.declared.version.Biff.{Biff}
@@ -11,8 +11,8 @@ use Rattle.xls_biff.specs.Records.BoundSheet.{bound_sheet_at}
 use Rattle.xls_biff.specs.Records.ExternSheet.{refs_at}
 use Rattle.xls_biff.specs.Records.Format.{format_at}
 use Rattle.xls_formula.specs.Defined.{lbl_at}
-use Rattle.xls_reading.specs.GlobalsTable.{other_record, version_record, page_record, date_record, xf_record, references_record, name_record, strings_record, sheet_record, unless_refused, texts_of, Line, fault_of}
-use Rattle.xls_reading.specs.GlobalsTable as table
+use Rattle.xls_meaning.specs.GlobalsTable.{other_record, version_record, page_record, date_record, xf_record, references_record, name_record, strings_record, sheet_record, unless_refused, texts_of, Line, fault_of}
+use Rattle.xls_meaning.specs.GlobalsTable as table
 use Rattle.xls_open.specs.Steps.{State, after}
 use Rattle.xls_open.specs.declared.globals_record.GlobalsRecord.{GlobalsRecord}
 use Rattle.xls_open.specs.declared.globals_record.GlobalsRecord.TheVariants as read

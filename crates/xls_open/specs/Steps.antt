@@ -3,10 +3,10 @@ use Rattle.std.specs.Prelude.{◌≡◌, ℕ, ℤ, List, [], ◌∷◌, ◌++◌
 use Rattle.std.specs.Option.{option_map}
 use Rattle.std.specs.List.{AllByRecursion}
 use Rattle.xls_text.specs.declared.encoding.XlsEncoding.{XlsEncoding}
-use Rattle.xls_model.specs.Listing as listing
-use Rattle.xls_model.specs.Listing.{offset_at, Kept, Item, plain_item, table_item, sheet_item, entry_of, IsSheetPart, Holds, Carries}
-use Rattle.xls_model.specs.Walks.{IsBytes}
-use Rattle.xls_model.specs.declared.part.Part.{Part}
+use Rattle.xls_stream.specs.Listing as listing
+use Rattle.xls_stream.specs.Listing.{offset_at, Kept, Item, plain_item, table_item, sheet_item, entry_of, IsSheetPart, Holds, Carries}
+use Rattle.xls_stream.specs.Walks.{IsBytes}
+use Rattle.xls_stream.specs.declared.part.Part.{Part}
 use Rattle.xls_data.specs.Sheets.{SheetContent, sheet_content}
 use Rattle.xls_dates.specs.declared.formats.CellFormat.{CellFormat}
 use Rattle.xls_strings.specs.declared.error.XlsError.{XlsError}
@@ -14,20 +14,20 @@ use Rattle.xls_strings.specs.declared.error.XlsError.TheVariants as errors
 use Rattle.xls_strings.specs.declared.version.Biff.{Biff}
 use Rattle.xls_strings.specs.declared.version.Biff.TheVariants.{Biff8}
 use Rattle.xls_strings.specs.Reading.{Fails, gives}
-use Rattle.xls_reading.specs.Order.{along, first_of}
-use Rattle.xls_reading.specs.InForce.{page_in, version_in, is_1904_in, formats_in, identifiers_in, texts_in, extern_refs, lbls_in, known_refs, told_name, InForce, SheetRecords}
-use Rattle.xls_reading.specs.GlobalsTable.{Named, GlobalsRecord, version_given, page_given, date_given, format_given, xf_given, references_given, name_given, strings_given, sheet_given}
-use Rattle.xls_reading.specs.SheetTable.{Given}
-use Rattle.xls_reading.specs.Reading.{SheetView, BookView, IsContent, last_named, IsReading, paired}
+use Rattle.xls_meaning.specs.Order.{along, first_of}
+use Rattle.xls_meaning.specs.InForce.{page_in, version_in, is_1904_in, formats_in, identifiers_in, texts_in, extern_refs, lbls_in, known_refs, told_name, InForce, SheetRecords}
+use Rattle.xls_meaning.specs.GlobalsTable.{Named, GlobalsRecord, version_given, page_given, date_given, format_given, xf_given, references_given, name_given, strings_given, sheet_given}
+use Rattle.xls_meaning.specs.SheetTable.{Given}
+use Rattle.xls_meaning.specs.Reading.{SheetView, BookView, IsContent, last_named, IsReading, paired}
 use Rattle.xls_open.specs.Workbook.{Workbook, IsOrdered, rules_of, told_of, view_of}
-use Rattle.xls_reading.specs.Faults.{item_fault, kept_fault, part_places, globals_places, FirstBehind, IsFull}
+use Rattle.xls_meaning.specs.Faults.{item_fault, kept_fault, part_places, globals_places, FirstBehind, IsFull}
 use Rattle.xls_open.specs.declared.options.XlsOptions.{XlsOptions}
 use Rattle.xls_open.specs.declared.opened.Opened.{Opened}
 use Rattle.xls_open.specs.declared.listed.Listed.{Listed}
 use Rattle.xls_open.specs.declared.names.Naming.{Naming}
-use Rattle.xls_reading.specs.Rules.{Rules}
-use Rattle.xls_reading.specs.Held.{OpenedSheet, opened_of}
-use Rattle.xls_reading.specs.Held.{no_view}
+use Rattle.xls_meaning.specs.Rules.{Rules}
+use Rattle.xls_meaning.specs.Held.{OpenedSheet, opened_of}
+use Rattle.xls_meaning.specs.Held.{no_view}
 
 -- ---- steps
 

@@ -8,9 +8,9 @@ use Rattle.xls_cells.specs.Positions.{Position, IsAscending}
 use Rattle.xls_strings.specs.Texts.{text_of}
 use Rattle.xls_biff.specs.Cells.{Entry}
 use Rattle.xls_biff.specs.Cells as cells
-use Rattle.xls_reading.specs.Rules.{Rules}
-use Rattle.xls_reading.specs.Reading.{SheetView, BookView, shown_of}
-use Rattle.xls_reading.specs.SheetTable.{FormulaEntry}
+use Rattle.xls_meaning.specs.Rules.{Rules}
+use Rattle.xls_meaning.specs.Reading.{SheetView, BookView, shown_of}
+use Rattle.xls_meaning.specs.SheetTable.{FormulaEntry}
 use Rattle.xls_open.specs.declared.options.XlsOptions.{XlsOptions}
 
 -- ---- the options

@@ -3,7 +3,7 @@
 ghost use Rattle.std.specs.Prelude.{◌≡◌, None};
 ghost use Rattle.xls_open.specs.Checking.{checked, Checks};
 ghost use Rattle.xls_open.specs.CheckSteps.{under, AreChecked};
-ghost use Rattle.xls_reading.specs.GlobalsTable.{fault_of, forced_fault};
+ghost use Rattle.xls_meaning.specs.GlobalsTable.{fault_of, forced_fault};
 
 mod globals;
 mod sheets;

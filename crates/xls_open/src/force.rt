@@ -24,7 +24,7 @@ pub struct InForce<'a> {
 }
 
 impl<'a> Model for InForce<'a> {
-    ghost use Rattle.xls_reading.specs.InForce as in_force;
+    ghost use Rattle.xls_meaning.specs.InForce as in_force;
 
     ghost Value = { in_force.InForce };
 

@@ -5,7 +5,7 @@ ghost use Rattle.std.specs.Str.{chars};
 ghost use Rattle.std.specs.String.{string_bytes};
 ghost use Rattle.xls_strings.specs.Texts.{text_of};
 ghost use Rattle.xls_formula.specs.Fold.{formula_text};
-ghost use Rattle.xls_reading.specs.SheetTable.{refusal_bytes, shown_formula};
+ghost use Rattle.xls_meaning.specs.SheetTable.{refusal_bytes, shown_formula};
 
 use crate::force::InForce;
 use std::alloc::{AllocError, Global};

@@ -1,7 +1,7 @@
 //! The globals: what is in force, and the sheets that they list.
 
 ghost use Rattle.std.specs.Prelude.{◌≡◌, [], Ok, IfErr, IfOk, OnOk};
-ghost use Rattle.xls_reading.specs.InForce.{page_in};
+ghost use Rattle.xls_meaning.specs.InForce.{page_in};
 ghost use Rattle.xls_open.specs.Steps.{first_state, ReadsGlobals};
 ghost use Rattle.xls_open.specs.RecordSteps.{IsFaultless, IsTaken};
 ghost use Rattle.xls_open.specs.Workbook.{rules_of};
@@ -17,7 +17,7 @@ use xls_biff::{
 };
 use xls_data::CellFormat;
 use xls_formula::parse_lbl;
-use xls_model::types::EOF;
+use xls_stream::types::EOF;
 use xls_text::XlsEncoding;
 
 /// What the globals give up to some record.

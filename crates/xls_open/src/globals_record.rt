@@ -2,13 +2,13 @@
 
 ghost use Rattle.std.specs.Prelude.{◌≡◌, ℕ, true, length};
 ghost use Rattle.xls_text.specs.declared.encoding.XlsEncoding.{XlsEncoding};
-ghost use Rattle.xls_model.specs.Listing.{Shared, IsShared, is_plain_type};
-ghost use Rattle.xls_model.specs.declared.types.TheConstants as types;
+ghost use Rattle.xls_stream.specs.Listing.{Shared, IsShared, is_plain_type};
+ghost use Rattle.xls_stream.specs.declared.types.TheConstants as types;
 ghost use Rattle.xls_data.specs.Sheets.{SheetContent};
 ghost use Rattle.xls_strings.specs.Reading.{gives};
 ghost use Rattle.xls_biff.specs.Walking.{group_of};
 ghost use Rattle.xls_biff.specs.Records.BoundSheet.{bound_sheet_at};
-ghost use Rattle.xls_reading.specs.GlobalsTable.{strings_record, sheet_record, texts_of, plain_record_at};
+ghost use Rattle.xls_meaning.specs.GlobalsTable.{strings_record, sheet_record, texts_of, plain_record_at};
 ghost use Rattle.xls_open.specs.RecordSteps.{ReadsLine, version_by};
 
 use xls_biff::{
@@ -16,7 +16,7 @@ use xls_biff::{
     parse_date_mode, parse_file_pass, parse_xf, skip_sst,
 };
 use xls_formula::check_lbl;
-use xls_model::types::{
+use xls_stream::types::{
     BOF, BOUND_SHEET_8, CODE_PAGE, DATE_MODE, EXTERN_SHEET, FILE_PASS, FORMAT, LBL, SST, XF,
 };
 use xls_text::XlsEncoding;

@@ -16,11 +16,11 @@ ghost use Rattle.xls_biff.specs.Records.Number.{number_at};
 ghost use Rattle.xls_biff.specs.Records.Rk.{rk_at, mul_rk_at};
 ghost use Rattle.xls_biff.specs.SheetTable.{CellContext, SheetRecord, weight_of};
 ghost use Rattle.xls_biff.specs.Walking.{group_of};
-ghost use Rattle.xls_model.specs.Listing.{IsPart, IsSheetPart, kept_group};
-ghost use Rattle.xls_reading.specs.SheetTable.{shown_formulas, nothing, one_cell, many_cells, listed_cell, text_cell, all_regions, listed_value, formula_cell, kept_line, given_at};
-ghost use Rattle.xls_reading.specs.Reading.{SheetView};
+ghost use Rattle.xls_stream.specs.Listing.{IsPart, IsSheetPart, kept_group};
+ghost use Rattle.xls_meaning.specs.SheetTable.{shown_formulas, nothing, one_cell, many_cells, listed_cell, text_cell, all_regions, listed_value, formula_cell, kept_line, given_at};
+ghost use Rattle.xls_meaning.specs.Reading.{SheetView};
 ghost use Rattle.xls_open.specs.Steps.{Follows, given_step, Reads, weight_left};
-ghost use Rattle.xls_reading.specs.Held.{no_view};
+ghost use Rattle.xls_meaning.specs.Held.{no_view};
 ghost use Rattle.xls_open.specs.Workbook.{cell_content};
 ghost use Rattle.xls_open.specs.Workbook.{rules_of};
 
@@ -36,7 +36,7 @@ use xls_biff::{
 };
 use xls_cells::sorted_cells;
 use xls_data::{Cell, Data, Dimensions};
-use xls_model::types::{
+use xls_stream::types::{
     BOOL_ERR, DIMENSIONS, FORMULA, LABEL, LABEL_SST, MERGE_CELLS, MUL_RK, NUMBER, R_STRING, RK,
     STRING,
 };
@@ -51,7 +51,7 @@ pub struct Content {
 
 impl Model for Content {
     ghost use Rattle.std.specs.Prelude.{map};
-    ghost use Rattle.xls_reading.specs.Reading.{SheetView};
+    ghost use Rattle.xls_meaning.specs.Reading.{SheetView};
     ghost use Rattle.xls_open.specs.Workbook.{cell_content, formula_content};
 
     ghost Value = { SheetView };

@@ -2,7 +2,7 @@
 -- bytes after the attribute byte, and a reading that byte too.
 use Rattle.std.specs.Prelude.{ℕ, ◌+◌, ◌*◌, ◌%◌, List, drop, slice_index, Bool, ◌||◌, nat_lt, ◌==◌, if◌then◌else◌, Result, Ok, Err}
 use Rattle.xls_strings.specs.Reading.{gives}
-use Rattle.xls_model.specs.declared.part.Part.TheVariants as parts
+use Rattle.xls_stream.specs.declared.part.Part.TheVariants as parts
 use Rattle.xls_strings.specs.declared.error.XlsError.{XlsError}
 use Rattle.xls_strings.specs.declared.error.XlsError.TheVariants as errors
 use Rattle.xls_ptg.specs.declared.tokens.Ptg.{Ptg}

@@ -2,7 +2,7 @@
 use Rattle.std.specs.Prelude.{ℕ, List, take, slice_index, not, ◌==◌, Result, Ok, Err}
 use Rattle.xls_strings.specs.Reading.{gives}
 use Rattle.xls_bytes.specs.Numbers.{le}
-use Rattle.xls_model.specs.declared.part.Part.TheVariants as parts
+use Rattle.xls_stream.specs.declared.part.Part.TheVariants as parts
 use Rattle.xls_data.specs.declared.errors.CellErrorType.{CellErrorType}
 use Rattle.xls_biff.specs.Cells.{cell_error}
 use Rattle.xls_strings.specs.declared.error.XlsError.{XlsError}

@@ -1,6 +1,6 @@
 -- The control tokens that have bytes of their own ([MS-XLS] 2.5.198).
 use Rattle.std.specs.Prelude.{ℕ, List, Ok}
-use Rattle.xls_model.specs.declared.part.Part.TheVariants as parts
+use Rattle.xls_stream.specs.declared.part.Part.TheVariants as parts
 use Rattle.xls_ptg.specs.declared.tokens.Ptg.TheVariants as ptg
 use Rattle.xls_ptg.specs.Fields.{sized, sized_as}
 use Rattle.xls_ptg.specs.Readings.{Reading}

@@ -1,8 +1,8 @@
 -- Numbers in the bytes of a token, and the refusal of too few bytes.
 use Rattle.std.specs.Prelude.{ℕ, List, length, take, drop, nat_lt, if◌then◌else◌, Result, Err}
 use Rattle.xls_bytes.specs.Numbers.{le}
-use Rattle.xls_model.specs.declared.part.Part.{Part}
-use Rattle.xls_model.specs.declared.part.Part.TheVariants as parts
+use Rattle.xls_stream.specs.declared.part.Part.{Part}
+use Rattle.xls_stream.specs.declared.part.Part.TheVariants as parts
 use Rattle.xls_strings.specs.declared.error.XlsError.{XlsError}
 use Rattle.xls_strings.specs.declared.error.XlsError.TheVariants as errors
 

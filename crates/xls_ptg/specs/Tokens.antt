@@ -2,7 +2,7 @@
 -- tables. Those of BIFF8 follow [MS-XLS] 2.5.198; the sizes and layouts before BIFF8, and which
 -- attributes are read, are this project's rule.
 use Rattle.std.specs.Prelude.{ℕ, ◌%◌, List, drop, slice_index, ◌&&◌, nat_lt, ◌==◌, if◌then◌else◌, Ok, Err}
-use Rattle.xls_model.specs.declared.part.Part.TheVariants as parts
+use Rattle.xls_stream.specs.declared.part.Part.TheVariants as parts
 use Rattle.xls_strings.specs.declared.error.XlsError.TheVariants as errors
 use Rattle.xls_strings.specs.declared.version.Biff.{Biff}
 use Rattle.xls_ptg.specs.declared.tokens.Ptg.TheVariants as ptg

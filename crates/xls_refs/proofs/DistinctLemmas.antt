@@ -12,8 +12,8 @@ use Rattle.xls_view.proofs.NameLemmas.{same_text}
 use Rattle.std.specs.Option.{option_cmp, option_map, option_eq}
 use Rattle.std.specs.Ordering.{nat_cmp, ordering_then, is_eq}
 use Rattle.std.specs.Str.{chars, IsUtf8}
-use Rattle.xls_reading.specs.Order.{along, somes}
-use Rattle.xls_reading.proofs.OrderLemmas.{along-push, somes-append}
+use Rattle.xls_meaning.specs.Order.{along, somes}
+use Rattle.xls_meaning.proofs.OrderLemmas.{along-push, somes-append}
 use Rattle.xls_refs.specs.Citations.{Citation, same_position, same_cells, unless_before, distinct}
 use Rattle.xls_refs.specs.Steps.{Key, by_text, by_position, by_key, key_cite, IsText, SeenSo, IsDistinctSoFar}
 

@@ -5,7 +5,7 @@ use Rattle.std.specs.List.{flat_map, AllZip}
 use Rattle.std.specs.Option.{option_map}
 use Rattle.std.proofs.lemmas.List.{append-nil}
 use Rattle.xls_formula.specs.Context.{Context}
-use Rattle.xls_reading.specs.InForce.{SheetRecords, sheets_of, sheet_names_of, context_of}
+use Rattle.xls_meaning.specs.InForce.{SheetRecords, sheets_of, sheet_names_of, context_of}
 use Rattle.xls_open.specs.Workbook.{rules_of}
 use Rattle.xls_open.specs.declared.options.XlsOptions.{XlsOptions}
 use Rattle.xls_view.specs.Formulas.{Formula}

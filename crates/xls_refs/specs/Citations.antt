@@ -12,7 +12,7 @@ use Rattle.xls_ptg.specs.declared.corner.Corner.{Corner}
 use Rattle.xls_formula.specs.Context.{Context}
 use Rattle.xls_formula.specs.Fold.{fold}
 use Rattle.xls_formula.specs.Tree.{Tree, Trees, word, ref, area, wrap, pair, call, no_trees, tree}
-use Rattle.xls_reading.specs.Order.{along, somes}
+use Rattle.xls_meaning.specs.Order.{along, somes}
 use Rattle.xls_refs.specs.declared.cite.Cite.{Cite}
 
 -- cells that are cited: the name of their sheet, where the formula tells one, and the first and the

@@ -1,13 +1,13 @@
 -- The cells that the formulas of a workbook cite, by its logical list.
 use Rattle.std.specs.Prelude.{◌≡◌, ℕ, suc, List, [], ◌∷◌, ◌++◌, map, Some, unwrap_or, Result, Ok, Err}
 use Rattle.std.specs.List.{flat_map}
-use Rattle.xls_model.specs.Listing.{Kept, Entry}
+use Rattle.xls_stream.specs.Listing.{Kept, Entry}
 use Rattle.xls_cells.specs.Positions.{Position}
 use Rattle.xls_strings.specs.declared.error.XlsError.{XlsError}
 use Rattle.xls_formula.specs.Context.{Context}
-use Rattle.xls_reading.specs.InForce.{SheetRecords, sheets_of, sheet_names_of, context_of}
-use Rattle.xls_reading.specs.Reading.{kept_named}
-use Rattle.xls_reading.specs.Rules.{Rules}
+use Rattle.xls_meaning.specs.InForce.{SheetRecords, sheets_of, sheet_names_of, context_of}
+use Rattle.xls_meaning.specs.Reading.{kept_named}
+use Rattle.xls_meaning.specs.Rules.{Rules}
 use Rattle.xls_view.specs.Formulas.{Formula, AreLast, formulas_of}
 use Rattle.xls_refs.specs.Citations.{Citation, citation_of, cites_at}
 use Rattle.xls_refs.specs.declared.cite.BookCite.{BookCite}

@@ -1,8 +1,8 @@
 -- Laws over the definitions.
 use Rattle.std.specs.Prelude.{◌≡◌, ◌↔◌, ℕ, List, true}
-use Rattle.xls_model.specs.Listing.{Kept}
+use Rattle.xls_stream.specs.Listing.{Kept}
 use Rattle.xls_biff.specs.SheetTable.{CellContext}
-use Rattle.xls_reading.specs.SheetTable.{kept_line}
+use Rattle.xls_meaning.specs.SheetTable.{kept_line}
 use Rattle.xls_open.specs.declared.options.XlsOptions.{XlsOptions}
 use Rattle.xls_view.specs.Formulas.{formula_given, formula_of}
 use Rattle.xls_view.specs.Viewing.{Viewed, IsViewed}

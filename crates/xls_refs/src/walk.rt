@@ -6,7 +6,7 @@ ghost use Rattle.xls_strings.specs.Reading.{Exactly, Gives};
 ghost use Rattle.xls_ptg.specs.Cites.{position_of};
 ghost use Rattle.xls_formula.specs.Fold.{walk};
 ghost use Rattle.xls_formula.specs.Holding.{context_of, effect_of, tree_of};
-ghost use Rattle.xls_reading.specs.Order.{somes};
+ghost use Rattle.xls_meaning.specs.Order.{somes};
 ghost use Rattle.xls_refs.specs.Citations.{leaves};
 ghost use Rattle.xls_refs.specs.Steps.{joined, key_cite, leaves_at, leaves_of, tally};
 

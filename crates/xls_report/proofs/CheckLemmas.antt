@@ -2,7 +2,7 @@
 use Rattle.std.proofs.Common.{◌≡◌, ℕ, ◌<◌, ◌≤◌, List, length, sym, subst, None}
 use Rattle.xls_strings.specs.declared.error.XlsError.{XlsError}
 use Rattle.xls_strings.specs.declared.error.XlsError.TheVariants.{TooLarge}
-use Rattle.xls_reading.specs.Faults.{FirstFault, IsSound}
+use Rattle.xls_meaning.specs.Faults.{FirstFault, IsSound}
 use Rattle.xls_open.specs.Opening.{default_rules}
 use Rattle.xls_open.specs.Checking.{FirstChecked}
 use Rattle.xls_open.proofs.AlikeLemmas.{checked_alike}

@@ -4,7 +4,7 @@ use Rattle.std.specs.Option.{option_map}
 use Rattle.std.specs.Str.{chars}
 use Rattle.xls_biff.specs.Cells.{Entry}
 use Rattle.xls_csv.specs.Dense.{sheet_csv}
-use Rattle.xls_reading.specs.Reading.{BookView, SheetView, shown_of}
+use Rattle.xls_meaning.specs.Reading.{BookView, SheetView, shown_of}
 use Rattle.xls_report.specs.Texts.{IsCsvOf}
 
 module _ (name : List ℕ) (book : BookView) (cells : List Entry) where

@@ -8,8 +8,8 @@ use Rattle.std.specs.List.{flat_map}
 use Rattle.std.proofs.lemmas.List.{append-nil}
 use Rattle.xls_data.specs.Sheets.{SheetContent}
 use Rattle.xls_cells.specs.Positions.{Position}
-use Rattle.xls_reading.specs.Reading.{SheetView}
-use Rattle.xls_reading.specs.SheetTable.{FormulaEntry}
+use Rattle.xls_meaning.specs.Reading.{SheetView}
+use Rattle.xls_meaning.specs.SheetTable.{FormulaEntry}
 use Rattle.xls_open.specs.Workbook.{told_of}
 use Rattle.xls_formula.specs.Context.{Context}
 use Rattle.xls_view.specs.Formulas.{Formula, text_entry}

@@ -19,8 +19,8 @@ use Rattle.xls_lay.specs.ErrorText as lay_errors
 use Rattle.xls_lay.specs.declared.error.LayError.{LayError}
 use Rattle.xls_strings.specs.declared.error.XlsError.{XlsError}
 use Rattle.xls_data.specs.declared.regions.Dimensions.{Dimensions}
-use Rattle.xls_reading.specs.Reading.{SheetView, BookView}
-use Rattle.xls_reading.specs.SheetTable.{FormulaEntry, shown_formulas}
+use Rattle.xls_meaning.specs.Reading.{SheetView, BookView}
+use Rattle.xls_meaning.specs.SheetTable.{FormulaEntry, shown_formulas}
 use Rattle.xls_lines.specs.Lines.{line, escaped_text, filled_line}
 
 -- ---- cells

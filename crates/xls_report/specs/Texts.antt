@@ -8,14 +8,14 @@ use Rattle.xls_strings.specs.declared.error.XlsError.{XlsError}
 use Rattle.xls_strings.specs.declared.error.XlsError.TheVariants.{WorksheetNotFound}
 use Rattle.xls_props.specs.Properties.{IsProperties}
 use Rattle.xls_props.specs.declared.properties.WorkbookProperties.{WorkbookProperties}
-use Rattle.xls_reading.specs.Reading.{SheetView, BookView, shown_of}
+use Rattle.xls_meaning.specs.Reading.{SheetView, BookView, shown_of}
 use Rattle.xls_csv.specs.Dense.{sheet_csv}
 use Rattle.xls_refs.specs.Cited.{BookCited}
 use Rattle.xls_refs.specs.Citing.{IsBookCited}
 use Rattle.xls_report.specs.Refs.{refs_text}
-use Rattle.xls_model.specs.Listing.{Entry, Carries}
+use Rattle.xls_stream.specs.Listing.{Entry, Carries}
 use Rattle.xls_report.specs.Remaking.{IsWrittenOf, IsUnwrittenOf}
-use Rattle.xls_reading.specs.Faults.{FirstFault, IsSound}
+use Rattle.xls_meaning.specs.Faults.{FirstFault, IsSound}
 use Rattle.xls_open.specs.Opening.{default_options, default_rules}
 use Rattle.xls_report.specs.Report.{sound_line, fault_line}
 use Rattle.xls_report.specs.Properties.{property_lines}

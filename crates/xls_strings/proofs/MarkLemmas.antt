@@ -1,10 +1,10 @@
 -- Steps over marked bytes.
 use Rattle.std.proofs.Common.{◌≡◌, ℕ, suc, ◌+◌, ◌-◌, ◌*◌, ◌<◌, ◌≤◌, Bool, true, false, List, [], ◌∷◌, ◌++◌, length, Option, Some, None, refl, sym, ap, subst, ◌∙◌, append_assoc, arith, inl, inr, is_some}
 use Rattle.std.proofs.lemmas.List.{append-nil, length-append}
-use Rattle.xls_model.specs.StringTable.{Mark, weight, marked, marked_piece, with_unit, units_at}
-use Rattle.xls_model.specs.Stream.{continues}
+use Rattle.xls_stream.specs.StringTable.{Mark, weight, marked, marked_piece, with_unit, units_at}
+use Rattle.xls_stream.specs.Stream.{continues}
 use Rattle.std.specs.List.{flat_map}
-use Rattle.xls_model.proofs.StringUnits.{weight-bytes, UnitsSoFar, with_front, regroup, unit_at_narrow, unit_at_wide, unit_at_mark}
+use Rattle.xls_stream.proofs.StringUnits.{weight-bytes, UnitsSoFar, with_front, regroup, unit_at_narrow, unit_at_wide, unit_at_mark}
 use Rattle.xls_strings.specs.MarkSteps.{IsAtMark, IsPastMark, TakesByte, TakesHigh, TakesWidth}
 
 -- ---- a hand and pieces

@@ -4,13 +4,13 @@ use Rattle.std.specs.Prelude.{IsTrue}
 use Rattle.std.specs.Char.Utf16.{utf16_lossy_chars}
 use Rattle.std.proofs.lemmas.Bool.{false≢true}
 use Rattle.std.proofs.lemmas.List.{map_push, nil_from_length, length-append}
-use Rattle.xls_model.specs.StringTable.{Mark, weight, marked}
-use Rattle.xls_model.proofs.StringUnits.{nothing_marked}
+use Rattle.xls_stream.specs.StringTable.{Mark, weight, marked}
+use Rattle.xls_stream.proofs.StringUnits.{nothing_marked}
 use Rattle.xls_strings.specs.declared.error.XlsError.{XlsError}
 use Rattle.xls_strings.specs.declared.error.XlsError.TheVariants as errors
 use Rattle.xls_strings.specs.Reading.{Fails}
-use Rattle.xls_model.specs.StringTable.{Missing, next_at, Strings}
-use Rattle.xls_model.proofs.TableReadings.{next_shrinks, Shrinks}
+use Rattle.xls_stream.specs.StringTable.{Missing, next_at, Strings}
+use Rattle.xls_stream.proofs.TableReadings.{next_shrinks, Shrinks}
 use Rattle.xls_strings.specs.Sst.{AddsAt, SkipsAt, error_of, as_error, FailsTable, ReadsTable}
 
 pub is_over : (hand : List ℕ) (pieces : List (List ℕ)) (v : List Mark) (r : Bool) → marked hand pieces ≡ v → length hand ≡ 0 → (IsTrue r → pieces ≡ []) × (pieces ≡ [] → IsTrue r) → (IsTrue r → v ≡ []) × (v ≡ [] → IsTrue r)

@@ -1,8 +1,8 @@
 -- Values from outside, so that a wrong rule in the definitions does not check.
 use Rattle.std.proofs.Common.{◌≡◌, [], ◌∷◌, map, refl, codes, Some, Ok, Err}
 use Rattle.std.specs.Fmt.{digits}
-use Rattle.xls_model.specs.StringTable.{marked, units_at, tail_at, next_at, no_units, no_tail}
-use Rattle.xls_model.specs.declared.part.Part.TheVariants as parts
+use Rattle.xls_stream.specs.StringTable.{marked, units_at, tail_at, next_at, no_units, no_tail}
+use Rattle.xls_stream.specs.declared.part.Part.TheVariants as parts
 use Rattle.xls_text.specs.declared.encoding.XlsEncoding.TheVariants.{Utf16}
 use Rattle.xls_strings.specs.declared.version.Biff.TheVariants.{Biff8}
 use Rattle.xls_strings.specs.declared.error.XlsError.TheVariants as errors

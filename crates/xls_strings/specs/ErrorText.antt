@@ -2,7 +2,7 @@
 use Rattle.std.specs.Prelude.{ℕ, List, ◌++◌, codes}
 use Rattle.std.specs.Fmt.{decimal}
 use Rattle.std.specs.String.{string_bytes}
-use Rattle.xls_model.specs.PartText.{part_text}
+use Rattle.xls_stream.specs.PartText.{part_text}
 use Rattle.xls_text.specs.Errors.{upper_hex, error_text as page_text}
 use Rattle.xls_strings.specs.declared.error.XlsError.{XlsError}
 use Rattle.xls_strings.specs.declared.error.XlsError.TheVariants as errors

@@ -1,7 +1,7 @@
 -- What the steps over marked bytes give.
 use Rattle.std.specs.Prelude.{◌≡◌, ℕ, List, [], ◌∷◌, ◌++◌, Bool, true, false, Option, Some, None, Result, Ok, Err, ◌⊎◌}
-use Rattle.xls_model.specs.StringTable.{Mark, is_wide, units_at, tail_at, tail_of}
-use Rattle.xls_model.specs.declared.part.Part.TheVariants.{Dbcs}
+use Rattle.xls_stream.specs.StringTable.{Mark, is_wide, units_at, tail_at, tail_of}
+use Rattle.xls_stream.specs.declared.part.Part.TheVariants.{Dbcs}
 use Rattle.xls_strings.specs.declared.error.XlsError.{XlsError}
 use Rattle.xls_strings.specs.declared.error.XlsError.TheVariants as errors
 

@@ -2,7 +2,7 @@
 -- says of the definition that it reads by.
 use Rattle.std.specs.Prelude.{◌≡◌, ℕ, List, ◌++◌, map, length, nat_lt, if◌then◌else◌, Result, Ok, Err}
 use Rattle.std.specs.List.{range_with_len}
-use Rattle.xls_model.specs.declared.part.Part.{Part}
+use Rattle.xls_stream.specs.declared.part.Part.{Part}
 use Rattle.xls_strings.specs.declared.error.XlsError.{XlsError}
 use Rattle.xls_strings.specs.declared.error.XlsError.TheVariants as errors
 

@@ -5,8 +5,8 @@ use Rattle.std.specs.Prelude.{ℕ, List, [], ◌==◌, ◌&&◌, Bool, false, if
 use Rattle.xls_bytes.specs.Numbers.{le}
 use Rattle.xls_text.specs.Pages.{string_text}
 use Rattle.xls_text.specs.declared.encoding.XlsEncoding.{XlsEncoding}
-use Rattle.xls_model.specs.StringTable.{is_wide}
-use Rattle.xls_model.specs.declared.part.Part.TheVariants as parts
+use Rattle.xls_stream.specs.StringTable.{is_wide}
+use Rattle.xls_stream.specs.declared.part.Part.TheVariants as parts
 use Rattle.xls_strings.specs.declared.version.Biff.{Biff}
 use Rattle.xls_strings.specs.declared.error.XlsError.{XlsError}
 use Rattle.xls_strings.specs.Reading.{◌>>◌, at_least, gives}

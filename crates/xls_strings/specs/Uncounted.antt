@@ -1,8 +1,8 @@
 -- Strings without a count: XLUnicodeStringNoCch of [MS-XLS]. The count stands elsewhere, and a string
 -- with fewer units is refused.
 use Rattle.std.specs.Prelude.{ℕ, ◌+◌, ◌*◌, List, if◌then◌else◌, slice_index, Result, Ok}
-use Rattle.xls_model.specs.StringTable.{is_wide}
-use Rattle.xls_model.specs.declared.part.Part.TheVariants as parts
+use Rattle.xls_stream.specs.StringTable.{is_wide}
+use Rattle.xls_stream.specs.declared.part.Part.TheVariants as parts
 use Rattle.xls_strings.specs.declared.error.XlsError.{XlsError}
 use Rattle.xls_strings.specs.Reading.{◌>>◌, at_least}
 

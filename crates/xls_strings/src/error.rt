@@ -5,7 +5,7 @@ ghost use Rattle.xls_strings.specs.declared.error.XlsError.TheVariants.{Memory, 
 
 use std::alloc::{AllocError, AllocFailed};
 use std::fmt;
-use xls_model::Part;
+use xls_stream::Part;
 use xls_text::CfbError;
 
 /// Why a workbook stream, or a part of it, is refused.

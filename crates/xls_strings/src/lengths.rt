@@ -4,7 +4,7 @@ ghost use Rattle.std.specs.Prelude.{◌≡◌, ◌≤◌, length, IfOk};
 ghost use Rattle.xls_strings.specs.Reading.{Exactly, at_least};
 
 use crate::error::XlsError;
-use xls_model::Part;
+use xls_stream::Part;
 
 /// Nothing, where the part `typ` has `least` bytes or more; else `Len`. Takes no memory.
 pub fn need(body: &[u8], least: usize, typ: Part) -> Result<(), XlsError>

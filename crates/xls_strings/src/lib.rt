@@ -21,4 +21,4 @@ pub use sst::{SstReader, parse_sst, skip_sst};
 pub use strings::{parse_short_string, parse_string, split_short, split_string};
 pub use uncounted::size_of_uncounted;
 pub use version::{Biff, is_biff8};
-pub use xls_model::Part;
+pub use xls_stream::Part;

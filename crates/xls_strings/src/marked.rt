@@ -6,7 +6,7 @@ ghost use Rattle.xls_strings.specs.MarkSteps.{TakesByte, TakesMark, TakesHigh, T
 use crate::error::XlsError;
 use crate::record::Pieces;
 use std::marker::Model;
-use xls_model::Part;
+use xls_stream::Part;
 
 /// The rest of a body, and the bodies that follow it, with a mark before each of those.
 #[derive(Drop)]
@@ -17,7 +17,7 @@ pub(crate) struct Marked<'a> {
 
 impl<'a> Model for Marked<'a> {
     ghost use Rattle.std.specs.Prelude.{List};
-    ghost use Rattle.xls_model.specs.StringTable.{Mark, marked};
+    ghost use Rattle.xls_stream.specs.StringTable.{Mark, marked};
 
     ghost Value = { List Mark };
 
@@ -25,7 +25,7 @@ impl<'a> Model for Marked<'a> {
 }
 
 impl<'a> Marked<'a> {
-    ghost use Rattle.xls_model.specs.StringTable.{marked, front_of};
+    ghost use Rattle.xls_stream.specs.StringTable.{marked, front_of};
 
     /// The bytes of a body, and the bodies attached to it.
     pub(crate) fn new(body: &'a [u8], pieces: Pieces<'a>) -> Marked<'a>

@@ -2,8 +2,8 @@
 
 ghost use Rattle.std.specs.Prelude.{◌≡◌, ◌≢◌, ◌↔◌, ◌<◌, ◌^◌, ◌∷◌, [], IsTrue, MatchOption};
 ghost use Rattle.std.specs.List.{flat_map};
-ghost use Rattle.xls_model.specs.Stream.{bodies_of, AreContinues};
-ghost use Rattle.xls_model.specs.StringTable.{marked_piece, weight};
+ghost use Rattle.xls_stream.specs.Stream.{bodies_of, AreContinues};
+ghost use Rattle.xls_stream.specs.StringTable.{marked_piece, weight};
 
 use std::fmt;
 use std::marker::Model;
@@ -30,7 +30,7 @@ pub struct Pieces<'a> {
 
 impl<'a> Model for Pieces<'a> {
     ghost use Rattle.std.specs.Prelude.{List, ℕ};
-    ghost use Rattle.xls_model.specs.Stream.{bodies_of, AreContinues};
+    ghost use Rattle.xls_stream.specs.Stream.{bodies_of, AreContinues};
 
     ghost Value = { List (List ℕ) };
 
@@ -79,7 +79,7 @@ impl<'a> Pieces<'a> {
 /// A record of the stream, [MS-XLS] 2.1.4, borrowed from it.
 #[derive(Drop)]
 pub struct Record<'a> {
-    /// The type, as in `xls_model::types`.
+    /// The type, as in `xls_stream::types`.
     pub typ: u16,
     /// The body, of at most 65,535 bytes.
     pub body: &'a [u8],

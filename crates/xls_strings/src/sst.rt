@@ -1,7 +1,7 @@
 //! The string table, cut anywhere by Continue records.
 
 ghost use Rattle.std.specs.Prelude.{◌≡◌, ◌<◌, ◌^◌, IfOk};
-ghost use Rattle.xls_model.specs.StringTable.{head_at, next_at, str_at, weight};
+ghost use Rattle.xls_stream.specs.StringTable.{head_at, next_at, str_at, weight};
 ghost use Rattle.xls_strings.specs.Reading.{Exactly};
 ghost use Rattle.xls_strings.specs.MarkSteps.{SkipsBehind};
 ghost use Rattle.xls_strings.specs.Sst.{AddsAt, CountsTable, GivesHead, InTable, ReadsTable, SkipsAt, sst_marks};
@@ -14,7 +14,7 @@ use crate::record::Record;
 use std::alloc::Global;
 use std::marker::Model;
 use xls_bytes::{read_u16, read_u32};
-use xls_model::Part;
+use xls_stream::Part;
 use xls_text::text_of_units;
 
 /// What stands before the units of a string.
@@ -180,7 +180,7 @@ pub struct SstReader<'a> {
 
 impl<'a> Model for SstReader<'a> {
     ghost use Rattle.std.specs.Prelude.{List};
-    ghost use Rattle.xls_model.specs.StringTable.{Mark};
+    ghost use Rattle.xls_stream.specs.StringTable.{Mark};
 
     ghost Value = { List Mark };
 

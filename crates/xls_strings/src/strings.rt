@@ -11,7 +11,7 @@ use crate::lengths::need;
 use crate::version::{Biff, is_biff8};
 use std::alloc::{AllocError, Global};
 use xls_bytes::read_u16;
-use xls_model::Part;
+use xls_stream::Part;
 use xls_text::XlsEncoding;
 
 /// The count of a short string, ShortXLUnicodeString, the flag of its width if it has one, and the

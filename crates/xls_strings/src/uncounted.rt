@@ -6,7 +6,7 @@ ghost use Rattle.xls_strings.specs.Uncounted.{uncounted_size};
 
 use crate::error::XlsError;
 use crate::lengths::need;
-use xls_model::Part;
+use xls_stream::Part;
 
 /// How many bytes a string without a count takes, XLUnicodeStringNoCch of [MS-XLS]: a flags byte, and
 /// `count` units of one byte, or of two where flag 01 is set. `Len` where no flags byte is there, and

@@ -2,21 +2,21 @@
 use Rattle.std.proofs.Common.{◌≡◌, ℕ, zero, suc, ◌+◌, ◌-◌, ◌<◌, take, List, [], ◌∷◌, ◌++◌, map, refl, sym, ap, subst, ◌∙◌, arith, Option, Some, Result, Ok}
 use Rattle.std.specs.Prelude.{unwrap_or, slice_get}
 use Rattle.std.specs.List.{AllByRecursion, range_with_len}
-use Rattle.xls_model.specs.Stream.{Group}
-use Rattle.xls_model.specs.Walks.{IsBytes}
-use Rattle.xls_model.specs.Listing.{Kept, kept_group}
+use Rattle.xls_stream.specs.Stream.{Group}
+use Rattle.xls_stream.specs.Walks.{IsBytes}
+use Rattle.xls_stream.specs.Listing.{Kept, kept_group}
 use Rattle.xls_strings.specs.declared.error.XlsError.{XlsError}
 use Rattle.xls_biff.specs.Cells.{Entry, Position}
 use Rattle.xls_biff.specs.Outer.{Keeps, Over, CutShort}
 use Rattle.xls_biff.specs.SheetTable.{SheetRecord, formula_position, position_in}
-use Rattle.xls_reading.specs.InForce.{InForce}
-use Rattle.xls_reading.specs.SheetTable.{adds, given_at, kept_line}
-use Rattle.xls_reading.specs.Reading.{given_by}
+use Rattle.xls_meaning.specs.InForce.{InForce}
+use Rattle.xls_meaning.specs.SheetTable.{adds, given_at, kept_line}
+use Rattle.xls_meaning.specs.Reading.{given_by}
 use Rattle.xls_strings.specs.Reading.{gives}
 use Rattle.xls_open.proofs.PartLemmas.{keeps_bytes}
 use Rattle.xls_data.specs.declared.regions.Dimensions.{Dimensions}
-use Rattle.xls_reading.specs.Order.{somes}
-use Rattle.xls_reading.proofs.OrderLemmas.{somes-append}
+use Rattle.xls_meaning.specs.Order.{somes}
+use Rattle.xls_meaning.proofs.OrderLemmas.{somes-append}
 use Rattle.xls_view.specs.Formulas.{Formula, formula_of, formulas_of}
 use Rattle.xls_view.specs.Contents.{IsReadable, cells_from, kept_in, moved, regions_at, regions_of}
 use Rattle.xls_view.specs.Walking.{IsSound, Left}

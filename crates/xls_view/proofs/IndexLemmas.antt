@@ -12,13 +12,13 @@ use Rattle.std.proofs.lemmas.Option.{slice_get-map, slice_get_past, slice_get_re
 use Rattle.std.proofs.lemmas.Str.{IsUtf8-string_bytes}
 use Rattle.xls_data.specs.Sheets.{SheetContent, sheet_content}
 use Rattle.xls_data.specs.declared.sheets.Sheet.{Sheet}
-use Rattle.xls_reading.specs.Reading.{SheetView, last_named, paired}
+use Rattle.xls_meaning.specs.Reading.{SheetView, last_named, paired}
 use Rattle.xls_view.specs.Index.{last_place}
-use Rattle.xls_reading.specs.Held.{no_view}
+use Rattle.xls_meaning.specs.Held.{no_view}
 use Rattle.xls_open.specs.Steps.{shown}
 use Rattle.xls_view.proofs.NameLemmas.{same_text}
 use Rattle.xls_open.proofs.MapLemmas.{map_more}
-use Rattle.xls_reading.proofs.NamedLemmas.{named_some}
+use Rattle.xls_meaning.proofs.NamedLemmas.{named_some}
 
 -- ---- places
 

@@ -3,7 +3,7 @@ use Rattle.std.proofs.Common.{◌≡◌, ℕ, List, [], ◌∷◌, ◌++◌, map
 use Rattle.std.specs.Option.{option_or, option_map}
 use Rattle.std.specs.List.{AllByRecursion, flat_map}
 use Rattle.std.proofs.lemmas.List.{map-append}
-use Rattle.xls_model.specs.Listing.{Kept}
+use Rattle.xls_stream.specs.Listing.{Kept}
 use Rattle.xls_data.specs.declared.regions.Dimensions.{Dimensions}
 use Rattle.xls_cells.specs.Positions.{last_at, IsAscending}
 use Rattle.xls_strings.specs.declared.error.XlsError.{XlsError}
@@ -12,14 +12,14 @@ use Rattle.xls_biff.specs.Cells.{Entry, Position}
 use Rattle.xls_biff.specs.SheetTable.{CellContext, SheetRecord, empty_record, cells_record, shared_record, string_record, formula_record, regions_record}
 use Rattle.xls_formula.specs.Context.{Context}
 use Rattle.xls_formula.specs.Fold.{formula_text}
-use Rattle.xls_reading.specs.Order.{along, first_of, somes}
-use Rattle.xls_reading.specs.InForce.{InForce}
-use Rattle.xls_reading.specs.Rules.{Rules}
-use Rattle.xls_reading.specs.GlobalsTable.{fault_of}
-use Rattle.xls_reading.specs.Faults.{kept_fault, weight_fault}
-use Rattle.xls_reading.specs.SheetTable.{FormulaEntry, Given, adds, kept_line, last_formula, given_in, shown_formula}
-use Rattle.xls_reading.specs.Reading.{IsContent, given_by}
-use Rattle.xls_reading.proofs.OrderLemmas.{somes-append}
+use Rattle.xls_meaning.specs.Order.{along, first_of, somes}
+use Rattle.xls_meaning.specs.InForce.{InForce}
+use Rattle.xls_meaning.specs.Rules.{Rules}
+use Rattle.xls_meaning.specs.GlobalsTable.{fault_of}
+use Rattle.xls_meaning.specs.Faults.{kept_fault, weight_fault}
+use Rattle.xls_meaning.specs.SheetTable.{FormulaEntry, Given, adds, kept_line, last_formula, given_in, shown_formula}
+use Rattle.xls_meaning.specs.Reading.{IsContent, given_by}
+use Rattle.xls_meaning.proofs.OrderLemmas.{somes-append}
 use Rattle.xls_open.proofs.PartLemmas.{place_push}
 use Rattle.xls_view.specs.Contents.{IsReadable, cells_from, content_by, moved, regions_at, regions_of, settled}
 use Rattle.xls_view.specs.Formulas.{Formula, formula_given, formula_of, formulas_of, text_entry}

@@ -4,15 +4,15 @@ use Rattle.std.specs.Prelude.{◌==◌, if◌then◌else◌, slice_get, unwrap_o
 use Rattle.std.specs.Option.{option_map}
 use Rattle.std.specs.List.{AllByRecursion, range_with_len, flat_map}
 use Rattle.std.proofs.lemmas.List.{map-append, length-append}
-use Rattle.xls_model.specs.Stream.{Group, Begins, group_bytes}
-use Rattle.xls_model.specs.Cut.{Cut}
-use Rattle.xls_model.specs.Walks.{IsBytes, Groups}
-use Rattle.xls_model.specs.Listing.{Kept, kept_group}
-use Rattle.xls_model.specs.declared.part.Part.{Part}
-use Rattle.xls_model.specs.declared.types.TheConstants as types
-use Rattle.xls_model.proofs.Ends.{has_groups, one_groups}
-use Rattle.xls_model.proofs.Runs.{Run-whole}
-use Rattle.xls_model.proofs.Shapes.{run_bytes}
+use Rattle.xls_stream.specs.Stream.{Group, Begins, group_bytes}
+use Rattle.xls_stream.specs.Cut.{Cut}
+use Rattle.xls_stream.specs.Walks.{IsBytes, Groups}
+use Rattle.xls_stream.specs.Listing.{Kept, kept_group}
+use Rattle.xls_stream.specs.declared.part.Part.{Part}
+use Rattle.xls_stream.specs.declared.types.TheConstants as types
+use Rattle.xls_stream.proofs.Ends.{has_groups, one_groups}
+use Rattle.xls_stream.proofs.Runs.{Run-whole}
+use Rattle.xls_stream.proofs.Shapes.{run_bytes}
 use Rattle.xls_data.specs.Content.{Content, nothing, text}
 use Rattle.xls_cells.specs.Positions.{Position, Precedes, IsAscending, last_at, cell_position}
 use Rattle.xls_strings.specs.declared.error.XlsError.{XlsError}
@@ -22,10 +22,10 @@ use Rattle.xls_biff.specs.Outer.{Keeps}
 use Rattle.xls_biff.specs.Records.Rk.{first_column, mul_rk_at, mul_rk_count, rk_cell}
 use Rattle.xls_biff.specs.SheetTable.{SheetRecord, empty_record, cells_record, shared_record, string_record, formula_record, regions_record}
 use Rattle.xls_formula.specs.Context.{Context}
-use Rattle.xls_reading.specs.InForce.{InForce}
-use Rattle.xls_reading.specs.SheetTable.{Given, adds, given_at, kept_line, listed_cell}
-use Rattle.xls_reading.specs.Reading.{given_by}
-use Rattle.xls_reading.specs.Order.{somes}
+use Rattle.xls_meaning.specs.InForce.{InForce}
+use Rattle.xls_meaning.specs.SheetTable.{Given, adds, given_at, kept_line, listed_cell}
+use Rattle.xls_meaning.specs.Reading.{given_by}
+use Rattle.xls_meaning.specs.Order.{somes}
 use Rattle.xls_view.specs.Contents.{settled}
 use Rattle.xls_view.specs.Formulas.{Formula, formula_of}
 use Rattle.xls_view.specs.Groups.{groups_in}

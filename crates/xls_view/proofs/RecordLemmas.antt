@@ -1,7 +1,7 @@
 -- The cells of a record, by its line of the table.
 use Rattle.std.proofs.Common.{◌≡◌, ◌≢◌, ℕ, List, [], ◌∷◌, refl, sym, ap, ◌∙◌, arith, Bool, true, false, Option, Some, None, Result, Ok, Err}
 use Rattle.std.specs.Prelude.{◌==◌, if◌then◌else◌}
-use Rattle.xls_model.specs.declared.types.TheConstants as types
+use Rattle.xls_stream.specs.declared.types.TheConstants as types
 use Rattle.xls_data.specs.Content.{Content, text}
 use Rattle.xls_data.specs.declared.regions.Dimensions.{Dimensions}
 use Rattle.xls_strings.specs.declared.error.XlsError.{XlsError}
@@ -11,7 +11,7 @@ use Rattle.xls_biff.specs.Records.MergeCells.{merges_at}
 use Rattle.xls_biff.specs.Records.Dimensions.{dimensions_at}
 use Rattle.xls_biff.specs.SheetTable.{CellContext, SheetRecord, empty_record, cells_record, shared_record, string_record, formula_record, regions_record, sheet_record_at}
 use Rattle.xls_formula.specs.Context.{Context}
-use Rattle.xls_reading.specs.SheetTable.{adds, listed_cell, listed_value}
+use Rattle.xls_meaning.specs.SheetTable.{adds, listed_cell, listed_value}
 use Rattle.std.specs.Option.{option_map}
 use Rattle.xls_view.specs.Values.{cell_entry}
 use Rattle.xls_view.specs.Walking.{CellSteps}

@@ -4,10 +4,10 @@ use Rattle.std.specs.Prelude.{nat_lt, ◌==◌, slice_index}
 use Rattle.std.specs.Option.{option_map}
 use Rattle.std.proofs.lemmas.List.{append-nil, map-append}
 use Rattle.xls_bytes.specs.Numbers.{le}
-use Rattle.xls_model.specs.Listing.{Kept}
-use Rattle.xls_model.specs.declared.part.Part.{Part}
-use Rattle.xls_model.specs.declared.part.Part.TheVariants as parts
-use Rattle.xls_model.specs.declared.types.TheConstants as types
+use Rattle.xls_stream.specs.Listing.{Kept}
+use Rattle.xls_stream.specs.declared.part.Part.{Part}
+use Rattle.xls_stream.specs.declared.part.Part.TheVariants as parts
+use Rattle.xls_stream.specs.declared.types.TheConstants as types
 use Rattle.xls_data.specs.Content.{Content, text}
 use Rattle.xls_data.specs.Formatted.{formatted_number}
 use Rattle.xls_dates.specs.declared.numbers.Number.TheVariants.{Bits}
@@ -25,9 +25,9 @@ use Rattle.xls_biff.specs.Records.Number.{number_at}
 use Rattle.xls_biff.specs.Records.Rk.{rk_at, rk_content}
 use Rattle.xls_biff.specs.SheetTable.{CellContext, SheetRecord, empty_record, cells_record, shared_record, string_record, formula_record, regions_record, formula_position}
 use Rattle.xls_formula.specs.Context.{Context}
-use Rattle.xls_reading.specs.SheetTable.{adds, kept_line, listed_cell}
-use Rattle.xls_reading.specs.Order.{somes}
-use Rattle.xls_reading.specs.InForce.{InForce}
+use Rattle.xls_meaning.specs.SheetTable.{adds, kept_line, listed_cell}
+use Rattle.xls_meaning.specs.Order.{somes}
+use Rattle.xls_meaning.specs.InForce.{InForce}
 use Rattle.xls_view.specs.Contents.{cells_from, regions_at, regions_of}
 use Rattle.xls_view.specs.Formulas.{Formula, formula_given, formulas_of}
 use Rattle.xls_view.specs.Placing.{IsAscent}

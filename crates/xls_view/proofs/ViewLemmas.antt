@@ -7,25 +7,25 @@ use Rattle.std.proofs.lemmas.Option.{slice_get-map}
 use Rattle.std.specs.Option.{option_or, option_map}
 use Rattle.std.specs.List.{flat_map, AllByRecursion, AllZip}
 use Rattle.std.specs.Cmp.Lexicographic.{pointwise}
-use Rattle.xls_model.specs.Walks.{IsBytes}
-use Rattle.xls_model.specs.Listing.{Kept, Item, Entry, Holds, entry_of, IsSheetPart}
-use Rattle.xls_model.specs.declared.part.Part.{Part}
-use Rattle.xls_model.proofs.HoldingLemmas.{one_list}
+use Rattle.xls_stream.specs.Walks.{IsBytes}
+use Rattle.xls_stream.specs.Listing.{Kept, Item, Entry, Holds, entry_of, IsSheetPart}
+use Rattle.xls_stream.specs.declared.part.Part.{Part}
+use Rattle.xls_stream.proofs.HoldingLemmas.{one_list}
 use Rattle.xls_data.specs.Sheets.{SheetContent}
 use Rattle.xls_strings.specs.declared.error.XlsError.{XlsError}
 use Rattle.xls_strings.specs.declared.error.XlsError.TheVariants as errors
 use Rattle.xls_biff.specs.SheetTable.{CellContext}
-use Rattle.xls_reading.specs.Order.{along, first_of}
-use Rattle.xls_reading.specs.GlobalsTable.{forced_fault}
-use Rattle.xls_reading.specs.InForce.{InForce, SheetRecords, sheets_of, context_of, cells_of, in_force_of}
-use Rattle.xls_reading.specs.Reading.{SheetView, IsReading, paired, last_named, kept_named, shown_of}
-use Rattle.xls_reading.specs.Faults.{kept_fault, cut_fault, sheet_places, globals_places, places, FirstBehind}
-use Rattle.xls_reading.specs.Held.{OpenedSheet, opened_of, no_view}
-use Rattle.xls_reading.proofs.NamedLemmas.{named_some, named_shown}
-use Rattle.xls_reading.specs.Rules.{Rules}
-use Rattle.xls_reading.proofs.OrderLemmas.{none_both, first_early}
-use Rattle.xls_reading.proofs.HeldLemmas.{IsFine, sheet_view, good, opened_places, after_globals, carries_full}
-use Rattle.xls_reading.proofs.LawLemmas.{one_first_fault}
+use Rattle.xls_meaning.specs.Order.{along, first_of}
+use Rattle.xls_meaning.specs.GlobalsTable.{forced_fault}
+use Rattle.xls_meaning.specs.InForce.{InForce, SheetRecords, sheets_of, context_of, cells_of, in_force_of}
+use Rattle.xls_meaning.specs.Reading.{SheetView, IsReading, paired, last_named, kept_named, shown_of}
+use Rattle.xls_meaning.specs.Faults.{kept_fault, cut_fault, sheet_places, globals_places, places, FirstBehind}
+use Rattle.xls_meaning.specs.Held.{OpenedSheet, opened_of, no_view}
+use Rattle.xls_meaning.proofs.NamedLemmas.{named_some, named_shown}
+use Rattle.xls_meaning.specs.Rules.{Rules}
+use Rattle.xls_meaning.proofs.OrderLemmas.{none_both, first_early}
+use Rattle.xls_meaning.proofs.HeldLemmas.{IsFine, sheet_view, good, opened_places, after_globals, carries_full}
+use Rattle.xls_meaning.proofs.LawLemmas.{one_first_fault}
 use Rattle.xls_open.specs.Checking.{checked}
 use Rattle.xls_open.specs.Steps.{State, AreGlobals, ReadsGlobals, AreContents, pair_of, Sheets}
 use Rattle.xls_open.specs.Workbook.{rules_of}

@@ -1,12 +1,12 @@
 -- The kept records that are left of a part, after each step of the walk.
 use Rattle.std.proofs.Common.{◌≡◌, ℕ, zero, suc, ◌<◌, List, [], ◌∷◌, length, drop, refl, sym, ap, ◌∙◌, arith, inl, inr, Bool, true, false, Option, Some, None}
-use Rattle.xls_model.specs.Stream.{Group}
-use Rattle.xls_model.specs.Walks.{IsBytes, Groups}
-use Rattle.xls_model.specs.Counting.{From, found_from, Found}
-use Rattle.xls_model.specs.Listing.{Kept, kept_group, kept_of, IsPart, IsSheetPart}
-use Rattle.xls_model.specs.declared.part.Part.{Part}
-use Rattle.xls_model.proofs.Ends.{has_groups, one_groups}
-use Rattle.xls_model.proofs.Shapes.{has_from, same_parts}
+use Rattle.xls_stream.specs.Stream.{Group}
+use Rattle.xls_stream.specs.Walks.{IsBytes, Groups}
+use Rattle.xls_stream.specs.Counting.{From, found_from, Found}
+use Rattle.xls_stream.specs.Listing.{Kept, kept_group, kept_of, IsPart, IsSheetPart}
+use Rattle.xls_stream.specs.declared.part.Part.{Part}
+use Rattle.xls_stream.proofs.Ends.{has_groups, one_groups}
+use Rattle.xls_stream.proofs.Shapes.{has_from, same_parts}
 use Rattle.xls_strings.specs.declared.error.XlsError.{XlsError}
 use Rattle.xls_biff.specs.Outer.{Keeps, Over, CutShort}
 use Rattle.xls_open.proofs.ByteLemmas.{are_bytes, bytes_where, where_bytes}

@@ -1,9 +1,9 @@
 -- The content of the parts of a stream, as functions of their bytes, for the views of the code's types.
 use Rattle.std.specs.Prelude.{◌≡◌, ℕ, List, [], ◌∷◌, ◌++◌, nat_lt, Bool, true, false, if◌then◌else◌, map, drop, unwrap_or, Result, Ok, Err, ◌==◌}
 use Rattle.std.specs.List.{AllByRecursion, flat_map}
-use Rattle.xls_model.specs.Counting.{found_from}
-use Rattle.xls_model.specs.Listing.{Kept, kept_of}
-use Rattle.xls_model.specs.declared.types.TheConstants as types
+use Rattle.xls_stream.specs.Counting.{found_from}
+use Rattle.xls_stream.specs.Listing.{Kept, kept_of}
+use Rattle.xls_stream.specs.declared.types.TheConstants as types
 use Rattle.xls_data.specs.Sheets.{SheetContent}
 use Rattle.xls_data.specs.declared.regions.Dimensions.{Dimensions}
 use Rattle.xls_cells.specs.Positions.{Position}
@@ -11,9 +11,9 @@ use Rattle.xls_biff.specs.Cells.{Entry}
 use Rattle.xls_biff.specs.Records.MergeCells.{merges_at}
 use Rattle.xls_strings.specs.declared.error.XlsError.{XlsError}
 use Rattle.xls_biff.specs.SheetTable.{CellContext, SheetRecord, position_in}
-use Rattle.xls_reading.specs.InForce.{InForce}
-use Rattle.xls_reading.specs.SheetTable.{given_at, kept_line}
-use Rattle.xls_reading.specs.Reading.{SheetView, given_by, last_named, paired}
+use Rattle.xls_meaning.specs.InForce.{InForce}
+use Rattle.xls_meaning.specs.SheetTable.{given_at, kept_line}
+use Rattle.xls_meaning.specs.Reading.{SheetView, given_by, last_named, paired}
 use Rattle.xls_open.specs.Steps.{shown}
 use Rattle.xls_view.specs.Formulas.{Formula, formulas_of, text_entry}
 use Rattle.xls_view.specs.Groups.{groups_in}

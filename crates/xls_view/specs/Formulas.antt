@@ -1,7 +1,7 @@
 -- The formulas of a sheet by their tokens, by its kept records.
 use Rattle.std.specs.Prelude.{◌≡◌, ℕ, List, map, ◌==◌, false, if◌then◌else◌, Option, Some, None, [], Result, Ok, Err}
-use Rattle.xls_model.specs.Listing.{Kept}
-use Rattle.xls_model.specs.declared.types.TheConstants as types
+use Rattle.xls_stream.specs.Listing.{Kept}
+use Rattle.xls_stream.specs.declared.types.TheConstants as types
 use Rattle.xls_data.specs.Content.{Content}
 use Rattle.xls_cells.specs.Positions.{Position, IsAscending, last_at}
 use Rattle.xls_strings.specs.declared.error.XlsError.{XlsError}
@@ -9,8 +9,8 @@ use Rattle.xls_biff.specs.Records.Formula.{formula_at}
 use Rattle.xls_biff.specs.SheetTable.{SheetRecord, formula_record}
 use Rattle.xls_formula.specs.Context.{Context}
 use Rattle.xls_formula.specs.Fold.{formula_text}
-use Rattle.xls_reading.specs.Order.{somes}
-use Rattle.xls_reading.specs.SheetTable.{FormulaEntry, shown_formula}
+use Rattle.xls_meaning.specs.Order.{somes}
+use Rattle.xls_meaning.specs.SheetTable.{FormulaEntry, shown_formula}
 
 -- where a formula stands, and its tokens
 abbrev pub Formula : Type 0

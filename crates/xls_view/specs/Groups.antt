@@ -1,8 +1,8 @@
 -- The groups of a list of bytes, by the law that it has exactly one list of them.
 use Rattle.std.specs.Prelude.{◌≡◌, ℕ, List, [], Bool, true, false, refl, Option, None}
-use Rattle.xls_model.specs.Stream.{Group}
-use Rattle.xls_model.specs.declared.part.Part.{Part}
-use Rattle.xls_model.proofs.Ends.{has_groups}
+use Rattle.xls_stream.specs.Stream.{Group}
+use Rattle.xls_stream.specs.declared.part.Part.{Part}
+use Rattle.xls_stream.proofs.Ends.{has_groups}
 use Rattle.xls_open.proofs.ByteLemmas.{are_bytes, bytes_where}
 
 -- where each number is a byte, the groups that stand there and how the bytes end

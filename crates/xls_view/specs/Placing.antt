@@ -3,18 +3,18 @@ use Rattle.std.specs.Prelude.{◌≡◌, ℕ, ◌<◌, ◌+◌, ◌*◌, ◌^◌
 use Rattle.xls_cells.specs.Positions.{Position, IsAscending}
 use Rattle.xls_view.specs.declared.ascent.Ascent.{Ascent}
 use Rattle.std.specs.Borrow.{Bor}
-use Rattle.xls_reading.specs.InForce.{InForce}
-use Rattle.xls_reading.specs.Reading.{SheetView}
-use Rattle.xls_model.specs.Stream.{Group}
-use Rattle.xls_model.specs.Listing.{Kept, kept_group}
-use Rattle.xls_model.specs.declared.types.TheConstants as types
+use Rattle.xls_meaning.specs.InForce.{InForce}
+use Rattle.xls_meaning.specs.Reading.{SheetView}
+use Rattle.xls_stream.specs.Stream.{Group}
+use Rattle.xls_stream.specs.Listing.{Kept, kept_group}
+use Rattle.xls_stream.specs.declared.types.TheConstants as types
 use Rattle.xls_data.specs.Content.{Content, nothing}
 use Rattle.xls_strings.specs.declared.record.Record.{Record}
 use Rattle.xls_biff.specs.Cells.{Entry}
 use Rattle.xls_biff.specs.Records.Rk.{first_column}
 use Rattle.xls_biff.specs.Walking.{group_of}
-use Rattle.xls_reading.specs.SheetTable.{given_at}
-use Rattle.xls_reading.specs.Reading.{given_by}
+use Rattle.xls_meaning.specs.SheetTable.{given_at}
+use Rattle.xls_meaning.specs.Reading.{given_by}
 use Rattle.xls_view.specs.Groups.{groups_in}
 use Rattle.xls_view.specs.Values.{value_content}
 use Rattle.xls_view.specs.declared.value.CellValue.{CellValue}

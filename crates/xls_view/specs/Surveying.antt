@@ -4,9 +4,9 @@ use Rattle.xls_cells.specs.Positions.{Position}
 use Rattle.xls_cells.specs.Bounds.{bounds_of}
 use Rattle.xls_data.specs.Content.{Content}
 use Rattle.xls_data.specs.declared.regions.Dimensions.{Dimensions}
-use Rattle.xls_model.specs.Listing.{Kept}
+use Rattle.xls_stream.specs.Listing.{Kept}
 use Rattle.xls_biff.specs.Cells.{Entry}
-use Rattle.xls_reading.specs.Order.{somes}
+use Rattle.xls_meaning.specs.Order.{somes}
 use Rattle.xls_view.specs.Formulas.{Formula, formula_of}
 use Rattle.xls_view.specs.Placing.{IsAscent}
 use Rattle.xls_view.specs.declared.survey.FoundCells.{FoundCells}

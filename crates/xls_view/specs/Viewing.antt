@@ -1,16 +1,16 @@
 -- What a view of a stream shows, and what making one answers.
 use Rattle.std.specs.Prelude.{◌≡◌, ℕ, List, map, Option}
 use Rattle.std.specs.List.{AllZip}
-use Rattle.xls_model.specs.Listing.{Entry, Carries}
+use Rattle.xls_stream.specs.Listing.{Entry, Carries}
 use Rattle.xls_strings.specs.declared.error.XlsError.{XlsError}
 use Rattle.xls_strings.specs.declared.error.XlsError.TheVariants as errors
 use Rattle.xls_biff.specs.Cells.{Entry as Cell}
 use Rattle.xls_biff.specs.SheetTable.{CellContext}
 use Rattle.xls_data.specs.declared.regions.Dimensions.{Dimensions}
 use Rattle.xls_formula.specs.Context.{Context}
-use Rattle.xls_reading.specs.InForce.{SheetRecords, sheets_of, context_of}
-use Rattle.xls_reading.specs.Reading.{BookView, SheetView, IsReading, kept_named, paired, last_named}
-use Rattle.xls_reading.specs.Faults.{IsFull}
+use Rattle.xls_meaning.specs.InForce.{SheetRecords, sheets_of, context_of}
+use Rattle.xls_meaning.specs.Reading.{BookView, SheetView, IsReading, kept_named, paired, last_named}
+use Rattle.xls_meaning.specs.Faults.{IsFull}
 use Rattle.xls_open.specs.Checking.{FirstChecked}
 use Rattle.xls_open.specs.Workbook.{rules_of}
 use Rattle.xls_open.specs.declared.options.XlsOptions.{XlsOptions}

@@ -1,11 +1,11 @@
 -- Steps of the iterators over a sheet.
 use Rattle.std.specs.Prelude.{◌≡◌, ℕ, List, [], ◌∷◌, ◌++◌, Option, Some, None}
 use Rattle.std.specs.List.{AllByRecursion}
-use Rattle.xls_model.specs.Walks.{IsBytes}
+use Rattle.xls_stream.specs.Walks.{IsBytes}
 use Rattle.xls_data.specs.declared.regions.Dimensions.{Dimensions}
 use Rattle.xls_biff.specs.Cells.{Entry}
 use Rattle.xls_formula.specs.Context.{Context}
-use Rattle.xls_reading.specs.InForce.{InForce}
+use Rattle.xls_meaning.specs.InForce.{InForce}
 use Rattle.xls_view.specs.Contents.{IsReadable, kept_in, regions_of}
 use Rattle.xls_view.specs.Formulas.{Formula, formulas_of}
 use Rattle.xls_view.specs.Values.{cell_entry}

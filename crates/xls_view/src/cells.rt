@@ -170,7 +170,7 @@ pub struct Cells<'c> {
 impl<'c> Model for Cells<'c> {
     ghost use Rattle.std.specs.Prelude.{◌++◌, List, map};
     ghost use Rattle.xls_biff.specs.Cells.{Entry};
-    ghost use Rattle.xls_model.specs.Walks.{IsBytes};
+    ghost use Rattle.xls_stream.specs.Walks.{IsBytes};
     ghost use Rattle.xls_cells.specs.Positions.{given_entry};
     ghost use Rattle.xls_view.specs.Placing.{cell_placed};
 
@@ -204,7 +204,7 @@ impl<'c> Iterator for Cells<'c> {
 
 impl<'c> Cells<'c> {
     ghost use Rattle.std.specs.Prelude.{◌≡◌, ◌++◌, map};
-    ghost use Rattle.xls_model.specs.Walks.{IsBytes};
+    ghost use Rattle.xls_stream.specs.Walks.{IsBytes};
     ghost use Rattle.xls_cells.specs.Positions.{given_entry};
     ghost use Rattle.xls_view.specs.Placing.{cell_placed};
 

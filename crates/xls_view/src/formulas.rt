@@ -1,14 +1,14 @@
 //! The formulas of a sheet.
 
-ghost use Rattle.xls_model.specs.Walks.{IsBytes};
+ghost use Rattle.xls_stream.specs.Walks.{IsBytes};
 ghost use Rattle.std.specs.Prelude.{◌≡◌, ◌++◌, ◌∷◌, [], IfOk, OnOk, map};
-ghost use Rattle.xls_reading.specs.Order.{somes};
+ghost use Rattle.xls_meaning.specs.Order.{somes};
 ghost use Rattle.xls_view.specs.Placing.{IsAscent, formula_placed, formulas_held};
 ghost use Rattle.std.specs.Str.{chars};
 ghost use Rattle.xls_view.specs.Formulas.{Formula, formula_of, formulas_of, text_entry};
 ghost use Rattle.xls_view.specs.Contents.{kept_in, settled};
 ghost use Rattle.xls_biff.specs.Walking.{group_of};
-ghost use Rattle.xls_model.specs.Listing.{kept_group};
+ghost use Rattle.xls_stream.specs.Listing.{kept_group};
 ghost use Rattle.std.specs.Option.{option_map};
 ghost use Rattle.xls_view.specs.Walking.{formula_seen, PassesFormula};
 
@@ -20,8 +20,8 @@ use std::marker::Model;
 use xls_biff::{PlacedRecords, Record, SheetRecords, read_formula};
 use xls_cells::{Given, Settled, Unsettled};
 use xls_data::Cell;
-use xls_model::types::FORMULA;
 use xls_open::{FormulaBuffer, InForce};
+use xls_stream::types::FORMULA;
 
 /// The formulas of a sheet, by row, then column, of those of one position the last. Contracts see the list
 /// of them, each by its tokens, and what they may name.
@@ -34,7 +34,7 @@ pub struct SheetFormulas<'v> {
 }
 
 impl<'v> Model for SheetFormulas<'v> {
-    ghost use Rattle.xls_model.specs.Walks.{IsBytes};
+    ghost use Rattle.xls_stream.specs.Walks.{IsBytes};
     ghost use Rattle.xls_view.specs.Placing.{formulas_held};
     ghost use Rattle.xls_view.specs.Walking.{Named};
 
@@ -146,7 +146,7 @@ pub(crate) struct FormulaWalk<'c> {
 
 impl<'c> Model for FormulaWalk<'c> {
     ghost use Rattle.std.specs.Prelude.{List};
-    ghost use Rattle.xls_model.specs.Walks.{IsBytes};
+    ghost use Rattle.xls_stream.specs.Walks.{IsBytes};
     ghost use Rattle.xls_view.specs.Contents.{kept_in};
     ghost use Rattle.xls_view.specs.Formulas.{Formula, formulas_of};
 
@@ -268,7 +268,7 @@ pub struct FormulaCells<'c> {
 
 impl<'c> Model for FormulaCells<'c> {
     ghost use Rattle.std.specs.Prelude.{◌++◌, List, map};
-    ghost use Rattle.xls_model.specs.Walks.{IsBytes};
+    ghost use Rattle.xls_stream.specs.Walks.{IsBytes};
     ghost use Rattle.xls_view.specs.Formulas.{Formula};
     ghost use Rattle.xls_cells.specs.Positions.{given_entry};
     ghost use Rattle.xls_view.specs.Placing.{formula_placed};
@@ -302,7 +302,7 @@ impl<'c> Iterator for FormulaCells<'c> {
 
 impl<'c> FormulaCells<'c> {
     ghost use Rattle.std.specs.Prelude.{◌≡◌, ◌++◌, map};
-    ghost use Rattle.xls_model.specs.Walks.{IsBytes};
+    ghost use Rattle.xls_stream.specs.Walks.{IsBytes};
     ghost use Rattle.xls_cells.specs.Positions.{given_entry};
     ghost use Rattle.xls_view.specs.Placing.{formula_placed};
 

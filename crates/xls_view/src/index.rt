@@ -6,7 +6,7 @@ ghost use Rattle.std.specs.Str.{bytes_eq, chars};
 ghost use Rattle.std.specs.BTreeMap.{get_by_text};
 ghost use Rattle.std.specs.Map.{update};
 ghost use Rattle.xls_data.specs.Sheets.{sheet_content};
-ghost use Rattle.xls_reading.specs.Reading.{last_named, paired};
+ghost use Rattle.xls_meaning.specs.Reading.{last_named, paired};
 ghost use Rattle.xls_view.specs.Index.{IsIndex};
 
 use std::alloc::{AllocError, Global};

@@ -1,17 +1,17 @@
 //! The merged regions of a sheet.
 
-ghost use Rattle.xls_model.specs.Walks.{IsBytes};
+ghost use Rattle.xls_stream.specs.Walks.{IsBytes};
 ghost use Rattle.std.specs.Prelude.{◌≡◌, []};
 ghost use Rattle.xls_biff.specs.Records.MergeCells.{merges_at};
 ghost use Rattle.xls_view.specs.Walking.{MergeSteps, PassesRegions};
 ghost use Rattle.xls_biff.specs.Walking.{group_of};
-ghost use Rattle.xls_model.specs.Listing.{kept_group};
+ghost use Rattle.xls_stream.specs.Listing.{kept_group};
 ghost use Rattle.xls_view.specs.Contents.{regions_at};
 
 use std::marker::Model;
 use xls_biff::{Record, SheetRecords, count_merges, merge_region};
 use xls_data::Dimensions;
-use xls_model::types::MERGE_CELLS;
+use xls_stream::types::MERGE_CELLS;
 
 /// The regions of a MergeCells record that are left. Contracts see the list of them.
 #[derive(Drop)]
@@ -88,7 +88,7 @@ pub struct Merges<'c> {
 impl<'c> Model for Merges<'c> {
     ghost use Rattle.std.specs.Prelude.{◌++◌, List};
     ghost use Rattle.xls_data.specs.declared.regions.Dimensions.{Dimensions};
-    ghost use Rattle.xls_model.specs.Walks.{IsBytes};
+    ghost use Rattle.xls_stream.specs.Walks.{IsBytes};
     ghost use Rattle.xls_view.specs.Contents.{kept_in, regions_of};
 
     ghost Value = { List Dimensions };

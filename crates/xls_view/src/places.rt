@@ -5,14 +5,14 @@ ghost use Rattle.xls_bytes.specs.Numbers.{le};
 ghost use Rattle.std.specs.Option.{option_map};
 ghost use Rattle.xls_biff.specs.SheetTable.{SheetRecord};
 ghost use Rattle.xls_biff.specs.Walking.{group_of};
-ghost use Rattle.xls_model.specs.Listing.{kept_group};
-ghost use Rattle.xls_reading.specs.SheetTable.{adds, kept_line};
+ghost use Rattle.xls_stream.specs.Listing.{kept_group};
+ghost use Rattle.xls_meaning.specs.SheetTable.{adds, kept_line};
 ghost use Rattle.xls_biff.specs.Records.Rk.{first_column, mul_rk_at};
 ghost use Rattle.xls_biff.specs.Cells.{Entry};
 ghost use Rattle.xls_cells.specs.Positions.{given_entry};
 ghost use Rattle.xls_view.specs.Placing.{cell_in, cell_placed, first_kept, formula_placed, found_kept, record_at, value_at, value_or_blank, Place};
 ghost use Rattle.xls_view.specs.Walking.{Gives};
-ghost use Rattle.xls_model.specs.Walks.{IsBytes};
+ghost use Rattle.xls_stream.specs.Walks.{IsBytes};
 ghost use Rattle.xls_view.specs.Groups.{groups_in};
 ghost use Rattle.xls_view.specs.Walking.{formula_seen};
 ghost use Rattle.xls_view.specs.Values.{cell_entry, value_content};
@@ -25,8 +25,8 @@ use xls_biff::{Record, RecordIter, check_sheet_record, count_mul_rk, read_mul_rk
 use xls_bytes::read_u16;
 use xls_cells::{Given, Unsettled};
 use xls_data::Cell;
-use xls_model::types::MUL_RK;
 use xls_open::InForce;
+use xls_stream::types::MUL_RK;
 
 /// The first of these records, if there is one.
 fn first_of<'c>(records: &mut RecordIter<'c>) -> Option<Record<'c>>

@@ -1,7 +1,7 @@
 //! The cells of a record.
 
 ghost use Rattle.std.specs.Prelude.{◌≡◌, ◌≢◌, [], ℕ, List, Option, Some, Ok};
-ghost use Rattle.xls_model.specs.declared.types.TheConstants as types;
+ghost use Rattle.xls_stream.specs.declared.types.TheConstants as types;
 ghost use Rattle.std.specs.Option.{option_map};
 ghost use Rattle.xls_biff.specs.Cells.{Entry, Position};
 ghost use Rattle.xls_biff.specs.Records.BoolErr.{bool_err_at};
@@ -13,8 +13,8 @@ ghost use Rattle.xls_biff.specs.Records.Rk.{rk_at};
 ghost use Rattle.xls_biff.specs.SheetTable.{SheetRecord};
 ghost use Rattle.xls_biff.specs.Walking.{group_of};
 ghost use Rattle.xls_data.specs.Content.{Content, text};
-ghost use Rattle.xls_model.specs.Listing.{kept_group};
-ghost use Rattle.xls_reading.specs.SheetTable.{adds, kept_line, listed_cell, listed_value};
+ghost use Rattle.xls_stream.specs.Listing.{kept_group};
+ghost use Rattle.xls_meaning.specs.SheetTable.{adds, kept_line, listed_cell, listed_value};
 ghost use Rattle.xls_strings.specs.Strings.{string_at};
 ghost use Rattle.xls_biff.specs.Records.Formula.{value_content};
 ghost use Rattle.xls_view.specs.Values.{cell_entry, value_content as seen_content};
@@ -26,8 +26,10 @@ use xls_biff::{
     FormulaParts, FormulaValue, Record, find_label_sst, read_bool_err, read_formula, read_number,
     read_rk, split_label,
 };
-use xls_model::types::{BOOL_ERR, FORMULA, LABEL, LABEL_SST, MUL_RK, NUMBER, R_STRING, RK, STRING};
 use xls_open::InForce;
+use xls_stream::types::{
+    BOOL_ERR, FORMULA, LABEL, LABEL_SST, MUL_RK, NUMBER, R_STRING, RK, STRING,
+};
 
 // The cell of a record without a fault, by its type.
 

@@ -4,14 +4,14 @@ ghost use Rattle.std.specs.Prelude.{◌≡◌, ◌↔◌, IsTrue, ◌≢◌, ◌
 ghost use Rattle.std.specs.Option.{option_map};
 ghost use Rattle.xls_data.specs.Content.{Content};
 ghost use Rattle.xls_data.specs.declared.regions.Dimensions.{Dimensions};
-ghost use Rattle.xls_model.specs.Listing.{kept_group};
-ghost use Rattle.xls_model.specs.declared.types.TheConstants as types;
+ghost use Rattle.xls_stream.specs.Listing.{kept_group};
+ghost use Rattle.xls_stream.specs.declared.types.TheConstants as types;
 ghost use Rattle.xls_biff.specs.Cells.{Entry};
 ghost use Rattle.xls_biff.specs.Records.LabelSst.{label_sst_at};
 ghost use Rattle.xls_biff.specs.Records.Rk.{mul_rk_at};
 ghost use Rattle.xls_biff.specs.SheetTable.{CellContext, SheetRecord};
 ghost use Rattle.xls_biff.specs.Walking.{group_of};
-ghost use Rattle.xls_reading.specs.SheetTable.{adds, kept_line};
+ghost use Rattle.xls_meaning.specs.SheetTable.{adds, kept_line};
 ghost use Rattle.xls_view.specs.Contents.{cells_from, kept_in, regions_at, regions_of};
 ghost use Rattle.xls_view.specs.Formulas.{Formula, formula_of, formulas_of};
 ghost use Rattle.xls_view.specs.Placing.{IsAscent};
@@ -26,8 +26,8 @@ use xls_biff::{
     Record, SheetRecords, cell_position, count_mul_rk, find_label_sst, formula_position,
 };
 use xls_data::Dimensions;
-use xls_model::types::{BOOL_ERR, LABEL, LABEL_SST, MERGE_CELLS, MUL_RK, NUMBER, R_STRING, RK};
 use xls_open::InForce;
+use xls_stream::types::{BOOL_ERR, LABEL, LABEL_SST, MERGE_CELLS, MUL_RK, NUMBER, R_STRING, RK};
 
 /// Whether the cells so far ascend strictly by position, and the smallest box that holds them.
 #[derive(Clone, Copy)]

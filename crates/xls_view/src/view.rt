@@ -6,10 +6,10 @@ ghost use Rattle.std.specs.Str.{chars};
 ghost use Rattle.xls_data.specs.Sheets.{sheet_content};
 ghost use Rattle.xls_open.specs.Workbook.{rules_of, told_of};
 ghost use Rattle.xls_open.specs.Steps.{AreGlobals};
-ghost use Rattle.xls_reading.specs.GlobalsTable.{forced_fault};
+ghost use Rattle.xls_meaning.specs.GlobalsTable.{forced_fault};
 ghost use Rattle.xls_biff.specs.Cells.{Entry};
 ghost use Rattle.xls_cells.specs.Positions.{IsAscending};
-ghost use Rattle.xls_reading.specs.Reading.{SheetView, shown_of};
+ghost use Rattle.xls_meaning.specs.Reading.{SheetView, shown_of};
 ghost use Rattle.xls_view.specs.Viewing.{IsFault, IsViewed, ShownSheet, ViewCause, content_of, formulas_named};
 ghost use Rattle.xls_view.specs.Walking.{Named};
 ghost use Rattle.xls_view.specs.Placing.{IsPartOf, force_of};
@@ -63,7 +63,7 @@ pub struct View<'a> {
 impl<'a> Model for View<'a> {
     ghost use Rattle.std.specs.Prelude.{◌≡◌, length, map};
     ghost use Rattle.xls_data.specs.Sheets.{sheet_content};
-    ghost use Rattle.xls_model.specs.Walks.{IsBytes};
+    ghost use Rattle.xls_stream.specs.Walks.{IsBytes};
     ghost use Rattle.xls_open.specs.Workbook.{told_of};
     ghost use Rattle.xls_view.specs.Contents.{AreReadable, viewed};
     ghost use Rattle.xls_view.specs.Index.{IsIndex};

@@ -2,7 +2,7 @@
 
 use super::readers::*;
 use super::*;
-use xls_model::types::{
+use xls_stream::types::{
     BOOL_ERR, DIMENSIONS, FORMULA, LABEL, LABEL_SST, MERGE_CELLS, MUL_RK, NUMBER, R_STRING, RK,
     STRING,
 };

@@ -3,7 +3,7 @@
 use super::*;
 use std::fmt;
 use xls_data::{CellFormat, Dimensions};
-use xls_model::types::{
+use xls_stream::types::{
     BOF, BOUND_SHEET_8, CODE_PAGE, DATE_MODE, EXTERN_SHEET, FILE_PASS, FORMAT, XF,
 };
 

@@ -1,7 +1,7 @@
 //! String tables in one piece, and lists of texts.
 
 use super::*;
-use xls_model::types::SST;
+use xls_stream::types::SST;
 
 /// Eight bytes, `a` and U+00E9 in units of one byte, and U+1F600 in units of two.
 const BODY: [u8; 20] = [

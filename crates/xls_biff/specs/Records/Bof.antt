@@ -1,7 +1,7 @@
 -- BOF ([MS-XLS] 2.4.21); the versions before BIFF8 are this project's rule.
 use Rattle.std.specs.Prelude.{ℕ, List, ◌||◌, ◌==◌, if◌then◌else◌, nat_lt, length, take, drop, Option, Some, None, Result, Ok}
 use Rattle.xls_bytes.specs.Numbers.{le}
-use Rattle.xls_model.specs.declared.part.Part.TheVariants as parts
+use Rattle.xls_stream.specs.declared.part.Part.TheVariants as parts
 use Rattle.xls_strings.specs.declared.version.Biff.{Biff}
 use Rattle.xls_strings.specs.declared.version.Biff.TheVariants.{Biff2, Biff3, Biff4, Biff5, Biff8}
 use Rattle.xls_strings.specs.declared.error.XlsError.{XlsError}

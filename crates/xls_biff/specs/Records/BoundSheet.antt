@@ -5,7 +5,7 @@ use Rattle.std.specs.Prelude.{ℕ, ◌%◌, List, ◌==◌, if◌then◌else◌,
 use Rattle.std.specs.List.{filter}
 use Rattle.xls_bytes.specs.Numbers.{le}
 use Rattle.xls_text.specs.declared.encoding.XlsEncoding.{XlsEncoding}
-use Rattle.xls_model.specs.declared.part.Part.TheVariants as parts
+use Rattle.xls_stream.specs.declared.part.Part.TheVariants as parts
 use Rattle.xls_data.specs.Sheets.{SheetContent}
 use Rattle.xls_data.specs.declared.sheets.SheetType.{SheetType}
 use Rattle.xls_data.specs.declared.sheets.SheetType.TheVariants as kinds

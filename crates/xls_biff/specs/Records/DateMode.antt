@@ -1,7 +1,7 @@
 -- DateMode ([MS-XLS] 2.4.77): 1 in bytes 0 and 1 sets the date system of 1904.
 use Rattle.std.specs.Prelude.{ℕ, List, Bool, ◌==◌, take, Result, Ok}
 use Rattle.xls_bytes.specs.Numbers.{le}
-use Rattle.xls_model.specs.declared.part.Part.TheVariants as parts
+use Rattle.xls_stream.specs.declared.part.Part.TheVariants as parts
 use Rattle.xls_strings.specs.declared.error.XlsError.{XlsError}
 use Rattle.xls_strings.specs.Reading.{◌>>◌, at_least}
 

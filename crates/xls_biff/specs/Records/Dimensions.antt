@@ -2,7 +2,7 @@
 -- rows of 32 bits in BIFF8, of 16 bits before.
 use Rattle.std.specs.Prelude.{ℕ, ◌-◌, List, ◌||◌, ◌&&◌, ◌==◌, if◌then◌else◌, nat_lt, length, take, drop, Result, Ok, Err}
 use Rattle.xls_bytes.specs.Numbers.{le}
-use Rattle.xls_model.specs.declared.part.Part.TheVariants as parts
+use Rattle.xls_stream.specs.declared.part.Part.TheVariants as parts
 use Rattle.xls_data.specs.declared.regions.Dimensions.{Dimensions}
 use Rattle.xls_strings.specs.declared.error.XlsError.{XlsError}
 use Rattle.xls_strings.specs.declared.error.XlsError.TheVariants.{Len}

@@ -2,7 +2,7 @@
 -- before BIFF8 it is not read. That a structure's workbook (iSupBook) isn't looked at is this project's rule.
 use Rattle.std.specs.Prelude.{ℕ, ◌+◌, ◌-◌, ◌*◌, ◌/◌, min, ℤ, List, [], if◌then◌else◌, length, take, drop, Result, Ok}
 use Rattle.xls_bytes.specs.Numbers.{le, twos_complement}
-use Rattle.xls_model.specs.declared.part.Part.TheVariants as parts
+use Rattle.xls_stream.specs.declared.part.Part.TheVariants as parts
 use Rattle.xls_strings.specs.declared.version.Biff.{Biff}
 use Rattle.xls_strings.specs.declared.error.XlsError.{XlsError}
 use Rattle.xls_strings.specs.Reading.{◌>>◌, at_least, listed}

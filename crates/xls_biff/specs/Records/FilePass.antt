@@ -2,7 +2,7 @@
 -- records of such a workbook are read as they stand is this project's rule. Under every other kind nothing is read.
 use Rattle.std.specs.Prelude.{ℕ, List, ◌==◌, if◌then◌else◌, take, Result, Ok, Err}
 use Rattle.xls_bytes.specs.Numbers.{le}
-use Rattle.xls_model.specs.declared.part.Part.TheVariants as parts
+use Rattle.xls_stream.specs.declared.part.Part.TheVariants as parts
 use Rattle.xls_strings.specs.declared.error.XlsError.{XlsError}
 use Rattle.xls_strings.specs.declared.error.XlsError.TheVariants.{Password}
 use Rattle.xls_strings.specs.Reading.{◌>>◌, at_least}

@@ -2,7 +2,7 @@
 use Rattle.std.specs.Prelude.{ℕ, List, Bool, ◌||◌, if◌then◌else◌, take, drop, Result, Ok, Err}
 use Rattle.xls_bytes.specs.Numbers.{le}
 use Rattle.xls_text.specs.declared.encoding.XlsEncoding.{XlsEncoding}
-use Rattle.xls_model.specs.declared.part.Part.TheVariants as parts
+use Rattle.xls_stream.specs.declared.part.Part.TheVariants as parts
 use Rattle.xls_dates.specs.Builtin.{between}
 use Rattle.xls_dates.specs.Classes.{class_of}
 use Rattle.xls_dates.specs.declared.formats.CellFormat.{CellFormat}

@@ -2,7 +2,7 @@
 -- on the tokens.
 use Rattle.std.specs.Prelude.{[], ℕ, List, Bool, ◌==◌, if◌then◌else◌, take, drop, slice_index, Option, Some, None, Result, Ok, Err}
 use Rattle.xls_bytes.specs.Numbers.{le}
-use Rattle.xls_model.specs.declared.part.Part.TheVariants as parts
+use Rattle.xls_stream.specs.declared.part.Part.TheVariants as parts
 use Rattle.xls_data.specs.Content.{Content, text, truth, failure}
 use Rattle.xls_data.specs.Numeric.{numeric_content}
 use Rattle.xls_data.specs.Formatted.{formatted_number}

@@ -1,7 +1,7 @@
 -- Label ([MS-XLS] 2.4.148), and RString likewise: row, column, XF index, and a string.
 use Rattle.std.specs.Prelude.{ℕ, List, drop, Result, Ok}
 use Rattle.xls_text.specs.declared.encoding.XlsEncoding.{XlsEncoding}
-use Rattle.xls_model.specs.declared.part.Part.TheVariants as parts
+use Rattle.xls_stream.specs.declared.part.Part.TheVariants as parts
 use Rattle.xls_data.specs.Content.{text}
 use Rattle.xls_strings.specs.declared.version.Biff.{Biff}
 use Rattle.xls_strings.specs.declared.error.XlsError.{XlsError}

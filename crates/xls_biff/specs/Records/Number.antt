@@ -1,7 +1,7 @@
 -- Number ([MS-XLS] Number): row, column, XF index, and the bits of a double in bytes 6 to 13.
 use Rattle.std.specs.Prelude.{ℕ, List, Bool, take, drop, Result, Ok}
 use Rattle.xls_bytes.specs.Numbers.{le}
-use Rattle.xls_model.specs.declared.part.Part.TheVariants as parts
+use Rattle.xls_stream.specs.declared.part.Part.TheVariants as parts
 use Rattle.xls_data.specs.Formatted.{formatted_number}
 use Rattle.xls_dates.specs.declared.numbers.Number.TheVariants.{Bits}
 use Rattle.xls_dates.specs.declared.formats.CellFormat.{CellFormat}

@@ -1,7 +1,7 @@
 -- RK and MulRk, and the numbers in them.
 use Rattle.std.specs.Prelude.{ℕ, ◌+◌, ◌-◌, ◌*◌, ◌/◌, ◌%◌, ◌^◌, ℤ, pos, int_div, unsigned_abs, List, Bool, ◌==◌, if◌then◌else◌, nat_lt, length, take, drop, slice_get, Option, Result, Ok, Err}
 use Rattle.xls_bytes.specs.Numbers.{le, twos_complement}
-use Rattle.xls_model.specs.declared.part.Part.TheVariants as parts
+use Rattle.xls_stream.specs.declared.part.Part.TheVariants as parts
 use Rattle.xls_data.specs.Content.{Content}
 use Rattle.xls_data.specs.Formatted.{formatted_number, formatted_whole}
 use Rattle.xls_dates.specs.declared.numbers.Number.TheVariants.{Bits, Hundredths, BitsOver100}

@@ -1,7 +1,7 @@
 -- XF ([MS-XLS] 2.4.353): the format identifier (ifmt) in bytes 2 and 3.
 use Rattle.std.specs.Prelude.{ℕ, List, take, drop, Result, Ok}
 use Rattle.xls_bytes.specs.Numbers.{le}
-use Rattle.xls_model.specs.declared.part.Part.TheVariants as parts
+use Rattle.xls_stream.specs.declared.part.Part.TheVariants as parts
 use Rattle.xls_strings.specs.declared.error.XlsError.{XlsError}
 use Rattle.xls_strings.specs.Reading.{◌>>◌, at_least}
 

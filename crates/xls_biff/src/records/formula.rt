@@ -15,7 +15,7 @@ use crate::fields::u16_at;
 use std::alloc::Global;
 use xls_bytes::read_bits;
 use xls_data::{CellErrorType, CellFormat, Data, Number, Numeric};
-use xls_model::types::FORMULA;
+use xls_stream::types::FORMULA;
 use xls_strings::{Part, Record, XlsError, need};
 
 /// The empty text, which takes no memory.

@@ -5,7 +5,7 @@ ghost use Rattle.xls_open.specs.CheckSteps.{under, ChecksGlobals};
 use crate::check::CheckRules;
 use crate::globals_record::read_globals_record;
 use xls_biff::{Biff, RecordIter, XlsError};
-use xls_model::types::EOF;
+use xls_stream::types::EOF;
 
 /// The version in force at the end of the globals, which is their EOF or the end of the stream, or
 /// their first fault.

@@ -4,10 +4,10 @@ ghost use Rattle.std.specs.Prelude.{◌≡◌, Ok};
 ghost use Rattle.xls_strings.specs.Reading.{Exactly};
 ghost use Rattle.xls_biff.specs.SheetTable.{CellContext, SheetRecord, weight_of};
 ghost use Rattle.xls_biff.specs.Walking.{group_of};
-ghost use Rattle.xls_model.specs.Listing.{IsPart, IsSheetPart, kept_group};
-ghost use Rattle.xls_reading.specs.SheetTable.{kept_line};
+ghost use Rattle.xls_stream.specs.Listing.{IsPart, IsSheetPart, kept_group};
+ghost use Rattle.xls_meaning.specs.SheetTable.{kept_line};
 ghost use Rattle.xls_open.specs.Steps.{weight_left};
-ghost use Rattle.xls_reading.specs.InForce.{InForce};
+ghost use Rattle.xls_meaning.specs.InForce.{InForce};
 ghost use Rattle.xls_open.specs.CheckSteps.{under, AreChecked, ChecksPart, ChecksPlaces};
 
 use crate::check::CheckRules;
@@ -15,7 +15,7 @@ use xls_biff::{
     Biff, Part, Record, RecordIter, SheetRecords, XlsError, check_sheet_record, sheet_record_weight,
 };
 use xls_bytes::read_usize;
-use xls_model::types::{BOUND_SHEET_8, EOF};
+use xls_stream::types::{BOUND_SHEET_8, EOF};
 
 /// How many more cells a sheet may have after this record without a fault, where it may have so many
 /// before it and that many in all.

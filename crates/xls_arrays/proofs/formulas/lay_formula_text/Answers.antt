@@ -1,7 +1,7 @@
 use Rattle.std.proofs.Common.{sym}
 use Rattle.std.proofs.lemmas.Result.{on_ok_weaker}
 use Rattle.std.specs.Str.{chars}
-use Rattle.xls_reading.specs.SheetTable.{FormulaEntry}
+use Rattle.xls_meaning.specs.SheetTable.{FormulaEntry}
 use Rattle.xls_arrays.proofs.LaidLemmas.{lays-formula}
 use Rattle.xls_arrays.proofs.TextLemmas.{encodes}
 use Rattle.xls_arrays.proofs.formulas.lay_formula_text.Goals as goal

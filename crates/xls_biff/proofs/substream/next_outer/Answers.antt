@@ -1,6 +1,6 @@
 use Rattle.std.proofs.Common.{arith, sym, ◌∙◌, length, ◌+◌, ◌≤◌}
-use Rattle.xls_model.proofs.Runs.{begins_fewer}
-use Rattle.xls_model.specs.Substreams.{IsPlain}
+use Rattle.xls_stream.proofs.Runs.{begins_fewer}
+use Rattle.xls_stream.specs.Substreams.{IsPlain}
 use Rattle.xls_biff.specs.Walking.{group_of}
 use Rattle.xls_biff.specs.Outer.{Skips}
 use Rattle.xls_biff.proofs.OuterLemmas.{skips_bof, skips_eof, skips_inside, skips_other, keeps, over_eof, over_end, skipped_of}

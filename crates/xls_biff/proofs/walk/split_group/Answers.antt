@@ -1,10 +1,10 @@
 use Rattle.std.proofs.Common.{◌≡◌, ◌∙◌, refl, sym, ap, subst, List, ℕ}
 use Rattle.std.specs.Prelude.{IsTrue}
 use Rattle.std.proofs.lemmas.Bool.{false≢true}
-use Rattle.xls_model.specs.Stream.{Begins, bodies_of, StartsContinue}
-use Rattle.xls_model.specs.declared.part.Part.TheVariants.{ContinueLength}
-use Rattle.xls_model.proofs.Records.{gathers_more, gathered, begins, bodies-continues}
-use Rattle.xls_model.proofs.Pieces.{cuts}
+use Rattle.xls_stream.specs.Stream.{Begins, bodies_of, StartsContinue}
+use Rattle.xls_stream.specs.declared.part.Part.TheVariants.{ContinueLength}
+use Rattle.xls_stream.proofs.Records.{gathers_more, gathered, begins, bodies-continues}
+use Rattle.xls_stream.proofs.Pieces.{cuts}
 use Rattle.xls_biff.proofs.walk.split_group.Goals as goal
 
 pub returns-in-Err-split_record : goal.returns-in-Err-split_record

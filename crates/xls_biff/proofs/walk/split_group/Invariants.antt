@@ -1,5 +1,5 @@
 use Rattle.std.proofs.Common.{length}
-use Rattle.xls_model.specs.Stream.{Gathers}
+use Rattle.xls_stream.specs.Stream.{Gathers}
 use Rattle.xls_biff.proofs.walk.split_group.Given as goal
 
 abbrev pub invariant-loop-after : goal.invariant-loop-after

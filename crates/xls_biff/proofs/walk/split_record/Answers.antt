@@ -1,7 +1,7 @@
 use Rattle.std.proofs.Common.{◌∙◌, ap, arith, take}
 use Rattle.std.proofs.lemmas.List.{take_rest}
 use Rattle.xls_bytes.specs.Numbers.{le}
-use Rattle.xls_model.proofs.Records.{is_record}
+use Rattle.xls_stream.proofs.Records.{is_record}
 use Rattle.xls_biff.proofs.walk.split_record.Goals as goal
 
 pub returns : goal.returns

@@ -1,5 +1,5 @@
 use Rattle.std.proofs.Common.{◌≡◌, length, map}
-use Rattle.xls_reading.specs.SheetTable.{shown_formulas}
+use Rattle.xls_meaning.specs.SheetTable.{shown_formulas}
 use Rattle.xls_open.specs.Workbook.{formula_content}
 use Rattle.xls_book.proofs.formulas.from_shown.Given as goal
 

@@ -7,7 +7,7 @@ use Rattle.std.specs.String.{string_bytes}
 use Rattle.xls_data.specs.Data.{is_nothing}
 use Rattle.xls_data.specs.Sheets.{sheet_content}
 use Rattle.xls_data.specs.contracts.values.DataPartialEq.TheImpl as data_impl
-use Rattle.xls_reading.specs.Reading.{last_named, paired}
+use Rattle.xls_meaning.specs.Reading.{last_named, paired}
 use Rattle.xls_view.proofs.IndexLemmas.{looked, place_within}
 use Rattle.xls_book.proofs.WorksheetLemmas.{Listing, listing_more, listing_end, entry_holds, entry_shows, not_past}
 use Rattle.xls_book.proofs.ranges.list_worksheets.Goals as goal

@@ -2,7 +2,7 @@ use Rattle.std.proofs.Common.{map}
 use Rattle.xls_data.specs.Data.{is_nothing}
 use Rattle.xls_data.specs.Sheets.{sheet_content}
 use Rattle.xls_data.specs.contracts.values.DataPartialEq.TheImpl as data_impl
-use Rattle.xls_reading.specs.Reading.{last_named, paired}
+use Rattle.xls_meaning.specs.Reading.{last_named, paired}
 use Rattle.xls_book.proofs.WorksheetLemmas.{Listing}
 use Rattle.xls_book.proofs.ranges.list_worksheets.Given as goal
 

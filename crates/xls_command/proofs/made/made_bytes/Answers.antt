@@ -1,8 +1,8 @@
 use Rattle.std.proofs.Common.{List, ℕ, [], ◌++◌, ◌≡◌, append_assoc, sym, ap, ◌∙◌, arith}
-use Rattle.xls_model.specs.Stream.{enc}
-use Rattle.xls_model.specs.declared.types.TheConstants as types
-use Rattle.xls_made.specs.Made.{made_globals, made_row, made_rows, made_stream, part_body}
-use Rattle.xls_made.proofs.BuildLemmas.{rows_more, stream_parts}
+use Rattle.xls_stream.specs.Stream.{enc}
+use Rattle.xls_stream.specs.declared.types.TheConstants as types
+use Rattle.xls_sample_stream.specs.Made.{made_globals, made_row, made_rows, made_stream, part_body}
+use Rattle.xls_sample_stream.proofs.BuildLemmas.{rows_more, stream_parts}
 use Rattle.xls_command.proofs.made.made_bytes.Goals as goal
 
 -- one row more

@@ -1,7 +1,7 @@
 use Rattle.std.proofs.Common.{◌≡◌, ◌++◌}
-use Rattle.xls_model.specs.Stream.{enc}
-use Rattle.xls_model.specs.declared.types.TheConstants as types
-use Rattle.xls_made.specs.Made.{made_globals, made_rows, part_body}
+use Rattle.xls_stream.specs.Stream.{enc}
+use Rattle.xls_stream.specs.declared.types.TheConstants as types
+use Rattle.xls_sample_stream.specs.Made.{made_globals, made_rows, part_body}
 use Rattle.xls_command.proofs.made.made_bytes.Given as goal
 
 -- the globals, the head of the sheet, and the rows so far

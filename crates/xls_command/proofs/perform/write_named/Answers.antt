@@ -1,5 +1,5 @@
 use Rattle.std.proofs.Common.{inl, inr, subst, sym}
-use Rattle.xls_reading.specs.Reading.{BookView}
+use Rattle.xls_meaning.specs.Reading.{BookView}
 use Rattle.xls_report.specs.Texts.{IsCsvOf, IsMissingOf}
 use Rattle.xls_report.proofs.EndingLemmas.{either-as}
 use Rattle.xls_command.proofs.perform.write_named.Goals as goal

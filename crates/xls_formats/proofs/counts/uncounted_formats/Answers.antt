@@ -1,6 +1,6 @@
 use Rattle.std.proofs.Common.{◌≡◌, ℕ, List, Bool, false, length, map, arith, sym, ap, subst, ◌∙◌}
 use Rattle.std.specs.Prelude.{◌==◌}
-use Rattle.xls_model.specs.Listing.{is_among}
+use Rattle.xls_stream.specs.Listing.{is_among}
 use Rattle.xls_formats.specs.Steps.{CountsSheets}
 use Rattle.xls_formats.proofs.SheetLemmas.{answer_some}
 use Rattle.xls_formats.proofs.counts.uncounted_formats.Goals as goal

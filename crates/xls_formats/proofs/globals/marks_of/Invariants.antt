@@ -1,5 +1,5 @@
 use Rattle.std.proofs.Common.{◌≡◌, ◌<◌, ◌^◌, ℕ, Some, length, take, slice_get}
-use Rattle.xls_model.specs.Listing.{is_among}
+use Rattle.xls_stream.specs.Listing.{is_among}
 use Rattle.xls_formats.proofs.globals.marks_of.Given as goal
 
 -- the numbers so far are marked

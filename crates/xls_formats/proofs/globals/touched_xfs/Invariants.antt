@@ -1,5 +1,5 @@
 use Rattle.std.proofs.Common.{◌≡◌, map, take}
-use Rattle.xls_model.specs.Listing.{is_among}
+use Rattle.xls_stream.specs.Listing.{is_among}
 use Rattle.xls_formats.proofs.globals.touched_xfs.Given as goal
 
 -- the XFs so far

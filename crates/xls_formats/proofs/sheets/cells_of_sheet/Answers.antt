@@ -1,6 +1,6 @@
 use Rattle.std.proofs.Common.{[], Some, inl, inr, refl, subst, ℕ, List}
-use Rattle.xls_model.specs.Listing.{IsPart}
-use Rattle.xls_model.specs.declared.part.Part.TheVariants.{SheetOffset}
+use Rattle.xls_stream.specs.Listing.{IsPart}
+use Rattle.xls_stream.specs.declared.part.Part.TheVariants.{SheetOffset}
 use Rattle.xls_formats.proofs.sheets.cells_of_sheet.Goals as goal
 
 -- the offset passes the end

@@ -2,8 +2,8 @@ use Rattle.std.proofs.Common.{◌≡◌, ◌+◌, ◌∙◌, sym, ap, arith}
 use Rattle.xls_lay.specs.Writing.{saturated}
 use Rattle.xls_lay.specs.Entries.{entry_in}
 use Rattle.xls_lay.specs.Cutting.{globals_size}
-use Rattle.xls_layout.specs.LaidStrings.{marks_of_strings}
-use Rattle.xls_layout.specs.Canonical.{canonical_strings}
+use Rattle.xls_layouts.specs.LaidStrings.{marks_of_strings}
+use Rattle.xls_layouts.specs.Canonical.{canonical_strings}
 use Rattle.xls_lay.specs.Cutting.{marks_size}
 use Rattle.xls_lay.proofs.SizeLemmas.{length-table}
 use Rattle.xls_lay.proofs.length.entry_size.Goals as goal

@@ -1,5 +1,5 @@
 use Rattle.std.proofs.Common.{◌≡◌, ◌∙◌, ◌++◌, ◌∷◌, [], ℕ, List, ap, subst, sym, drop, slice_index, None}
-use Rattle.xls_model.specs.Listing.{sheet_entry, IsPart, offset_at}
+use Rattle.xls_stream.specs.Listing.{sheet_entry, IsPart, offset_at}
 use Rattle.xls_lay.proofs.ReadLemmas.{sheet_taken, part_there}
 use Rattle.xls_lay.proofs.read.take_sheet.Goals as goal
 

@@ -1,7 +1,7 @@
 use Rattle.std.proofs.Common.{◌<◌, ◌^◌, ℕ, List, length, sym, subst, arith}
 use Rattle.std.proofs.lemmas.Result.{err_from_is_err_and}
 use Rattle.xls_biff.specs.Walking.{group_of}
-use Rattle.xls_model.specs.StringTable.{Mark, weight, Table}
+use Rattle.xls_stream.specs.StringTable.{Mark, weight, Table}
 use Rattle.xls_lay.specs.Pushing.{AddsString}
 use Rattle.xls_strings.proofs.SstLemmas.{next_lighter}
 use Rattle.xls_lay.proofs.TableReadLemmas.{marks_long, marks_weight, read_none, read_count, read_size, read_more, read_all, read_fails}

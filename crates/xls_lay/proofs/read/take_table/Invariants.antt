@@ -1,5 +1,5 @@
 use Rattle.std.proofs.Common.{◌≡◌, ◌<◌, ◌^◌, List, Ok}
-use Rattle.xls_model.specs.StringTable.{Mark, weight}
+use Rattle.xls_stream.specs.StringTable.{Mark, weight}
 use Rattle.xls_strings.specs.Sst.{sst_marks}
 use Rattle.xls_lay.proofs.TableReadLemmas.{ReadSoFar}
 use Rattle.xls_lay.proofs.read.take_table.Given as goal

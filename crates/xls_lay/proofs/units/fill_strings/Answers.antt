@@ -1,6 +1,6 @@
 use Rattle.std.proofs.Common.{List, ℕ, ◌+◌, subst, sym}
-use Rattle.xls_layout.specs.LaidStrings.{marks_of_string}
-use Rattle.xls_layout.specs.Canonical.{canonical_string}
+use Rattle.xls_layouts.specs.LaidStrings.{marks_of_string}
+use Rattle.xls_layouts.specs.Canonical.{canonical_string}
 use Rattle.xls_lay.specs.Filling.{Fills}
 use Rattle.xls_lay.proofs.StringLemmas.{Counted, counted_more}
 use Rattle.xls_lay.proofs.units.fill_strings.Goals as goal

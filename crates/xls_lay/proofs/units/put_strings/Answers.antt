@@ -1,6 +1,6 @@
 use Rattle.std.proofs.Common.{List, ℕ, ◌+◌, length, subst, sym}
-use Rattle.xls_layout.specs.LaidStrings.{marks_of_string}
-use Rattle.xls_layout.specs.Canonical.{canonical_string}
+use Rattle.xls_layouts.specs.LaidStrings.{marks_of_string}
+use Rattle.xls_layouts.specs.Canonical.{canonical_string}
 use Rattle.xls_lay.specs.Putting.{PutsOn, StopsOn}
 use Rattle.xls_lay.proofs.PutLemmas.{on_stop}
 use Rattle.xls_lay.proofs.StringLemmas.{PutStrings, strings_more, strings_none, strings_stop}

@@ -1,8 +1,8 @@
 use Rattle.std.proofs.Common.{◌≡◌, ◌^◌, ◌<◌, ◌≤◌, ◌∙◌, List, length, subst}
 use Rattle.std.proofs.lemmas.Result.{err_from_is_err_and}
-use Rattle.xls_model.specs.Listing as listing
+use Rattle.xls_stream.specs.Listing as listing
 use Rattle.xls_lay.specs.Writing.{canonical_bytes, canonical_size}
-use Rattle.xls_layout.specs.Canonical.{Fits}
+use Rattle.xls_layouts.specs.Canonical.{Fits}
 use Rattle.xls_lay.proofs.CountedLemmas.{counted_fits}
 use Rattle.xls_lay.specs.Entries.{entries_in}
 use Rattle.xls_lay.proofs.WriteLemmas.{too_long, not_long, all_put}

@@ -1,5 +1,5 @@
 use Rattle.std.proofs.Common.{ap, map}
-use Rattle.xls_reading.specs.SheetTable.{shown_formulas}
+use Rattle.xls_meaning.specs.SheetTable.{shown_formulas}
 use Rattle.xls_view.specs.Formulas.{text_entry}
 use Rattle.xls_view.specs.Walking.{Named}
 use Rattle.xls_listing.specs.Listing.{IsShownLine, formula_line}

@@ -4,7 +4,7 @@ use Rattle.xls_biff.specs.Walking.{group_of}
 use Rattle.xls_biff.specs.Records.BoundSheet.{bound_sheet_at}
 use Rattle.xls_biff.specs.Records.Format.{format_at}
 use Rattle.xls_formula.specs.Defined.{lbl_at}
-use Rattle.xls_reading.specs.GlobalsTable.{name_record, strings_record, sheet_record, texts_of}
+use Rattle.xls_meaning.specs.GlobalsTable.{name_record, strings_record, sheet_record, texts_of}
 use Rattle.xls_open.proofs.RecordLemmas.{fine, refused, format_fine, table_counted}
 use Rattle.xls_open.proofs.globals_record.read_globals_record.Goals as goal
 

@@ -1,7 +1,7 @@
 use Rattle.std.proofs.Common.{◌≡◌, ◌++◌, map}
 use Rattle.std.specs.Vec.Iter.{into_iter_items}
 use Rattle.xls_formula.specs.Defined.{named_of}
-use Rattle.xls_reading.specs.InForce.{told_name}
+use Rattle.xls_meaning.specs.InForce.{told_name}
 use Rattle.xls_open.specs.Workbook.{told_of}
 use Rattle.xls_open.proofs.names.told_names.Given as goal
 

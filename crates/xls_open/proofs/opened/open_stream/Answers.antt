@@ -2,7 +2,7 @@ use Rattle.std.proofs.Common.{refl, sym, ap, subst, ◌∙◌, map, ℕ, arith}
 use Rattle.std.proofs.lemmas.List.{length-map}
 use Rattle.std.proofs.lemmas.Result.{err_from_is_err_and}
 use Rattle.xls_data.specs.Sheets.{SheetContent, sheet_content}
-use Rattle.xls_reading.specs.InForce.{class_in}
+use Rattle.xls_meaning.specs.InForce.{class_in}
 use Rattle.xls_formula.specs.Defined.{named_of}
 use Rattle.xls_open.specs.Steps.{listed_of, AreGlobals, IsNaming}
 use Rattle.xls_open.specs.Workbook.{rules_of, told_of}

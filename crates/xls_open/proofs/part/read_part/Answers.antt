@@ -3,7 +3,7 @@ use Rattle.std.specs.Prelude.{unwrap_or}
 use Rattle.std.proofs.lemmas.Result.{err_from_is_err_and}
 use Rattle.xls_biff.specs.Cells.{Position}
 use Rattle.xls_biff.specs.Walking.{group_of}
-use Rattle.xls_reading.specs.Reading.{SheetView}
+use Rattle.xls_meaning.specs.Reading.{SheetView}
 use Rattle.xls_open.proofs.PartLemmas.{PartSoFar, part_more, record_refused, weight_refused, part_cut, part_end}
 use Rattle.xls_open.specs.Workbook.{rules_of}
 use Rattle.xls_open.proofs.part.read_part.Goals as goal

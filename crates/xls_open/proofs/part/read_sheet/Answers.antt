@@ -1,5 +1,5 @@
 use Rattle.std.proofs.Common.{[], Some, inr, refl}
-use Rattle.xls_model.specs.declared.part.Part.TheVariants.{SheetOffset}
+use Rattle.xls_stream.specs.declared.part.Part.TheVariants.{SheetOffset}
 use Rattle.xls_open.proofs.part.read_sheet.Goals as goal
 
 -- the offset passes the end

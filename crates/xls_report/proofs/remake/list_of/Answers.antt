@@ -1,7 +1,7 @@
 use Rattle.std.proofs.Common.{ℕ, ◌≤◌, List, length, inl, inr, Result, Ok, Err, arith}
-use Rattle.xls_model.specs.Listing.{Entry}
-use Rattle.xls_model.specs.Walks.{IsBytes}
-use Rattle.xls_model.proofs.HoldingLemmas.{one_list}
+use Rattle.xls_stream.specs.Listing.{Entry}
+use Rattle.xls_stream.specs.Walks.{IsBytes}
+use Rattle.xls_stream.proofs.HoldingLemmas.{one_list}
 use Rattle.xls_strings.specs.declared.error.XlsError.{XlsError}
 use Rattle.xls_strings.specs.declared.error.XlsError.TheVariants as errors
 use Rattle.xls_open.specs.Opening.{default_options}

@@ -1,5 +1,5 @@
 use Rattle.std.proofs.Common.{◌≡◌, ◌≤◌, ◌<◌, ◌^◌, ℕ, List, length, inl, inr, refl, ap, arith}
-use Rattle.xls_model.specs.Listing.{Entry}
+use Rattle.xls_stream.specs.Listing.{Entry}
 use Rattle.xls_lay.specs.Writing.{canonical_bytes, canonical_size}
 use Rattle.xls_lay.specs.declared.error.LayError.TheVariants.{TooLong}
 use Rattle.xls_report.specs.Remaking.{IsUnwrittenOf, IsWrittenOf}

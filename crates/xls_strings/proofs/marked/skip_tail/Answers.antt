@@ -1,6 +1,6 @@
 use Rattle.std.proofs.Common.{refl, arith, ◌-◌, ◌≡◌, ◌∙◌, sym, ap, ℕ, suc, Some, [], ◌∷◌}
-use Rattle.xls_model.specs.StringTable.{tail_at}
-use Rattle.xls_model.proofs.StringUnits.{tail_over_byte, tail_over_mark, no_tail, tail_done}
+use Rattle.xls_stream.specs.StringTable.{tail_at}
+use Rattle.xls_stream.proofs.StringUnits.{tail_over_byte, tail_over_mark, no_tail, tail_done}
 use Rattle.xls_strings.proofs.MarkLemmas.{ends_here, took_byte, took_none}
 use Rattle.xls_strings.proofs.marked.skip_tail.Goals as goal
 

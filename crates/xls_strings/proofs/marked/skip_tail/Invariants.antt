@@ -1,5 +1,5 @@
 use Rattle.std.proofs.Common.{length, ◌≡◌}
-use Rattle.xls_model.specs.StringTable.{tail_at}
+use Rattle.xls_stream.specs.StringTable.{tail_at}
 use Rattle.xls_strings.proofs.marked.skip_tail.Given as goal
 
 abbrev pub invariant-loop-left : goal.invariant-loop-left

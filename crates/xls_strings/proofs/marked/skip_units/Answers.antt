@@ -1,5 +1,5 @@
 use Rattle.std.proofs.Common.{refl, arith, ◌+◌, ◌*◌, ◌-◌, [], ◌∷◌, ◌++◌}
-use Rattle.xls_model.specs.StringTable.{units_at}
+use Rattle.xls_stream.specs.StringTable.{units_at}
 use Rattle.xls_strings.proofs.MarkLemmas.{units_more, unit_step, no_unit, no_width, width_more, units_fail, units_done}
 use Rattle.xls_strings.proofs.marked.skip_units.Goals as goal
 

@@ -1,6 +1,6 @@
 use Rattle.std.proofs.Common.{ℕ, List, [], length}
-use Rattle.xls_model.specs.StringTable.{units_at}
-use Rattle.xls_model.proofs.StringUnits.{UnitsSoFar}
+use Rattle.xls_stream.specs.StringTable.{units_at}
+use Rattle.xls_stream.proofs.StringUnits.{UnitsSoFar}
 use Rattle.xls_strings.proofs.marked.skip_units.Given as goal
 
 abbrev pub invariant-loop-left : goal.invariant-loop-left

@@ -1,6 +1,6 @@
 use Rattle.std.proofs.Common.{arith}
 use Rattle.std.proofs.lemmas.List.{take_rest, length-drop}
-use Rattle.xls_model.proofs.Pieces.{taken, room_taken, size_taken, rest_continues, bodies_taken}
+use Rattle.xls_stream.proofs.Pieces.{taken, room_taken, size_taken, rest_continues, bodies_taken}
 use Rattle.xls_strings.proofs.record.split_continue.Goals as goal
 
 pub slice_bounds-read_u16-count : goal.slice_bounds-read_u16-count

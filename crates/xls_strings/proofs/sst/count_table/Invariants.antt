@@ -1,5 +1,5 @@
 use Rattle.std.proofs.Common.{◌≡◌, ◌≤◌, ◌+◌, ◌*◌, ℕ, List, length}
-use Rattle.xls_model.specs.StringTable.{Strings, weight}
+use Rattle.xls_stream.specs.StringTable.{Strings, weight}
 use Rattle.xls_strings.proofs.sst.count_table.Given as goal
 
 -- the strings so far, each of which took three at least

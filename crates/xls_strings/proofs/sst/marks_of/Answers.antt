@@ -1,6 +1,6 @@
 use Rattle.std.proofs.Common.{arith, rules, length, ◌<◌, ◌^◌, ap}
 use Rattle.std.specs.List.{flat_map}
-use Rattle.xls_model.specs.StringTable.{marked_piece, weight}
+use Rattle.xls_stream.specs.StringTable.{marked_piece, weight}
 use Rattle.xls_strings.proofs.MarkLemmas.{weight-marked}
 use Rattle.xls_strings.proofs.sst.marks_of.Goals as goal
 

@@ -1,6 +1,6 @@
 use Rattle.std.proofs.Common.{◌≡◌, ℕ, List, map}
 use Rattle.std.specs.Char.Utf16.{utf16_lossy_chars}
-use Rattle.xls_model.specs.StringTable.{Strings, weight}
+use Rattle.xls_stream.specs.StringTable.{Strings, weight}
 use Rattle.xls_strings.proofs.sst.read_table.Given as goal
 
 -- the strings so far

@@ -4,7 +4,7 @@ use Rattle.std.proofs.lemmas.List.{append-nil}
 use Rattle.xls_biff.specs.Cells.{Entry, Position}
 use Rattle.xls_biff.specs.SheetTable.{SheetRecord}
 use Rattle.xls_biff.specs.Walking.{group_of}
-use Rattle.xls_reading.specs.SheetTable.{adds}
+use Rattle.xls_meaning.specs.SheetTable.{adds}
 use Rattle.xls_view.specs.Contents.{cells_from, kept_in}
 use Rattle.xls_view.specs.Placing.{cell_placed}
 use Rattle.xls_view.proofs.ContentLemmas.{cells_next, cut_sound, line_next, no_cells, over_sound, sound_next}

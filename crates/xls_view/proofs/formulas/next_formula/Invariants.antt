@@ -1,5 +1,5 @@
 use Rattle.std.proofs.Common.{◌≡◌}
-use Rattle.xls_model.specs.Walks.{IsBytes}
+use Rattle.xls_stream.specs.Walks.{IsBytes}
 use Rattle.xls_view.specs.Contents.{kept_in}
 use Rattle.xls_view.specs.Formulas.{formulas_of}
 use Rattle.xls_view.proofs.formulas.next_formula.Given as goal

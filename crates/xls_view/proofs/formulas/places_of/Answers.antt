@@ -1,8 +1,8 @@
 use Rattle.std.proofs.Common.{◌++◌, ◌∷◌, [], List, map, refl, sym, ap, ◌∙◌, append_assoc, arith}
 use Rattle.std.proofs.lemmas.List.{append-nil, map-append}
 use Rattle.xls_biff.specs.Walking.{group_of}
-use Rattle.xls_model.specs.Listing.{kept_group}
-use Rattle.xls_reading.specs.Order.{somes}
+use Rattle.xls_stream.specs.Listing.{kept_group}
+use Rattle.xls_meaning.specs.Order.{somes}
 use Rattle.xls_view.specs.Contents.{kept_in}
 use Rattle.xls_view.specs.Formulas.{Formula, formula_of, formulas_of}
 use Rattle.xls_view.specs.Placing.{formula_placed}

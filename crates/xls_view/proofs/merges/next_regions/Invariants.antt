@@ -1,5 +1,5 @@
 use Rattle.std.proofs.Common.{◌≡◌}
-use Rattle.xls_model.specs.Walks.{IsBytes}
+use Rattle.xls_stream.specs.Walks.{IsBytes}
 use Rattle.xls_view.specs.Contents.{kept_in, regions_of}
 use Rattle.xls_view.proofs.merges.next_regions.Given as goal
 

@@ -1,8 +1,8 @@
 use Rattle.std.proofs.Common.{ap, ◌∙◌, sym}
 use Rattle.xls_biff.specs.Walking.{group_of}
-use Rattle.xls_model.specs.Listing.{kept_group}
-use Rattle.xls_reading.specs.InForce.{InForce}
-use Rattle.xls_reading.specs.SheetTable.{kept_line}
+use Rattle.xls_stream.specs.Listing.{kept_group}
+use Rattle.xls_meaning.specs.InForce.{InForce}
+use Rattle.xls_meaning.specs.SheetTable.{kept_line}
 use Rattle.xls_view.specs.Placing.{cell_in}
 use Rattle.xls_view.proofs.PlaceLemmas.{faulty_record, sound_record}
 use Rattle.xls_view.proofs.places.placed_value.Goals as goal

@@ -2,11 +2,11 @@ use Rattle.std.proofs.Common.{◌≡◌, ◌++◌, ◌∷◌, [], ℕ, List, map
 use Rattle.std.specs.Prelude.{OnOk}
 use Rattle.std.specs.Option.{option_map}
 use Rattle.std.proofs.lemmas.List.{append-nil}
-use Rattle.xls_model.specs.Listing.{kept_group}
+use Rattle.xls_stream.specs.Listing.{kept_group}
 use Rattle.xls_biff.specs.Cells.{Entry}
 use Rattle.xls_biff.specs.Records.Rk.{mul_rk_at}
 use Rattle.xls_biff.specs.Walking.{group_of}
-use Rattle.xls_reading.specs.SheetTable.{adds, listed_cell}
+use Rattle.xls_meaning.specs.SheetTable.{adds, listed_cell}
 use Rattle.xls_view.specs.Placing.{cell_placed}
 use Rattle.xls_view.specs.Values.{cell_entry}
 use Rattle.xls_view.proofs.PlaceLemmas.{apart, on_ok, place_of, place_one, put_all, run_placed, run_pushed}

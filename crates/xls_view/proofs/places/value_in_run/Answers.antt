@@ -3,7 +3,7 @@ use Rattle.std.specs.Prelude.{slice_get}
 use Rattle.std.specs.Option.{option_map}
 use Rattle.xls_biff.specs.Cells.{Entry}
 use Rattle.xls_biff.specs.Records.Rk.{first_column, mul_rk_count, rk_cell}
-use Rattle.xls_reading.specs.InForce.{InForce}
+use Rattle.xls_meaning.specs.InForce.{InForce}
 use Rattle.xls_view.proofs.PlaceLemmas.{get_past_run, get_run, run_is}
 use Rattle.xls_view.proofs.places.value_in_run.Goals as goal
 

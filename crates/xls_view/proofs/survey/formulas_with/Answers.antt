@@ -1,5 +1,5 @@
 use Rattle.std.proofs.Common.{map, sym, ◌∙◌}
-use Rattle.xls_model.specs.Listing.{kept_group}
+use Rattle.xls_stream.specs.Listing.{kept_group}
 use Rattle.xls_biff.specs.Walking.{group_of}
 use Rattle.xls_view.specs.Formulas.{Formula}
 use Rattle.xls_view.proofs.SurveyLemmas.{formula_found, formula_not_found}

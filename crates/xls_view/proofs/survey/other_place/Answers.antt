@@ -1,6 +1,6 @@
 use Rattle.std.proofs.Common.{ap, sym, ◌∙◌}
 use Rattle.std.specs.Option.{option_map}
-use Rattle.xls_reading.specs.SheetTable.{listed_cell}
+use Rattle.xls_meaning.specs.SheetTable.{listed_cell}
 use Rattle.xls_view.specs.Values.{cell_entry}
 use Rattle.xls_view.proofs.SurveyLemmas.{at_position}
 use Rattle.xls_view.proofs.survey.other_place.Goals as goal

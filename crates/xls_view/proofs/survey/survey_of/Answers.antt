@@ -3,8 +3,8 @@ use Rattle.std.specs.Prelude.{unwrap_or}
 use Rattle.xls_biff.specs.Cells.{Position}
 use Rattle.xls_biff.specs.SheetTable.{SheetRecord}
 use Rattle.xls_biff.specs.Walking.{group_of}
-use Rattle.xls_model.specs.Listing.{kept_group}
-use Rattle.xls_reading.specs.SheetTable.{adds}
+use Rattle.xls_stream.specs.Listing.{kept_group}
+use Rattle.xls_meaning.specs.SheetTable.{adds}
 use Rattle.xls_view.specs.Contents.{cells_from, kept_in, regions_at, regions_of}
 use Rattle.xls_view.specs.Formulas.{formula_of, formulas_of}
 use Rattle.xls_view.specs.Surveying.{formula_listed}

@@ -4,7 +4,7 @@ use Rattle.std.specs.Prelude.{slice_get}
 use Rattle.std.specs.Option.{option_copied}
 use Rattle.std.specs.Str.{chars}
 use Rattle.xls_data.specs.Sheets.{sheet_content}
-use Rattle.xls_reading.specs.Reading.{last_named, paired}
+use Rattle.xls_meaning.specs.Reading.{last_named, paired}
 use Rattle.xls_view.proofs.IndexLemmas.{looked, shown_at, nothing_at}
 use Rattle.xls_open.specs.Workbook.{IsOrdered}
 use Rattle.xls_book.proofs.NamedLemmas.{found_holds}

@@ -3,9 +3,9 @@ use Rattle.std.specs.List.{AllByRecursion}
 use Rattle.std.specs.Str.{chars}
 use Rattle.std.proofs.lemmas.List.{length-map}
 use Rattle.xls_data.specs.Sheets.{sheet_content}
-use Rattle.xls_reading.specs.Reading.{last_named, paired}
-use Rattle.xls_reading.specs.Held.{no_view}
-use Rattle.xls_reading.proofs.NamedLemmas.{named_shown}
+use Rattle.xls_meaning.specs.Reading.{last_named, paired}
+use Rattle.xls_meaning.specs.Held.{no_view}
+use Rattle.xls_meaning.proofs.NamedLemmas.{named_shown}
 use Rattle.xls_open.specs.Workbook.{IsOrdered}
 use Rattle.xls_book.proofs.NamedLemmas.{found_holds}
 use Rattle.xls_book.proofs.xls.Xls.content_named.Goals as goal

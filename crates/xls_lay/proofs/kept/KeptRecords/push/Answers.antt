@@ -1,6 +1,6 @@
 use Rattle.std.proofs.Common.{◌≡◌, ◌∙◌, ◌++◌, ◌∷◌, [], ℕ, ◌+◌, List, refl, sym, ap, length}
 use Rattle.std.proofs.lemmas.List.{length-append}
-use Rattle.xls_model.specs.Listing.{Kept}
+use Rattle.xls_stream.specs.Listing.{Kept}
 use Rattle.xls_lay.specs.Inside.{sizes_sum, records_of}
 use Rattle.xls_lay.specs.declared.kept.RecordHead.{RecordHead}
 use Rattle.xls_lay.proofs.InsideLemmas.{sizes_push, records_push}

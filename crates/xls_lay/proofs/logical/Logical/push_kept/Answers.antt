@@ -1,6 +1,6 @@
 use Rattle.std.proofs.Common.{rules, ◌≡◌, suc, ◌-◌, length}
 use Rattle.std.specs.Prelude.{vec_len}
-use Rattle.xls_layout.specs.Canonical.{FitsKept}
+use Rattle.xls_layouts.specs.Canonical.{FitsKept}
 use Rattle.xls_lay.proofs.PushLemmas.{one_kept, are_bytes, kept_pushed, kept_pushed_fits}
 use Rattle.xls_lay.proofs.logical.Logical.push_kept.Goals as goal
 

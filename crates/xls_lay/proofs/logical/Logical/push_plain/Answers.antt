@@ -1,5 +1,5 @@
 use Rattle.std.proofs.Common.{List, ℕ, ◌++◌, ◌∙◌, ap, sym, subst}
-use Rattle.xls_model.specs.Listing.{plain_entry}
+use Rattle.xls_stream.specs.Listing.{plain_entry}
 use Rattle.xls_lay.specs.Counted.{CountedEntry}
 use Rattle.xls_lay.proofs.PushLemmas.{fits_pushed, plain_fits}
 use Rattle.xls_lay.proofs.logical.Logical.push_plain.Goals as goal

@@ -1,5 +1,5 @@
 use Rattle.std.proofs.Common.{List, ℕ, ◌++◌, ◌∙◌, ap, sym, subst}
-use Rattle.xls_model.specs.Listing.{Kept, sheet_entry}
+use Rattle.xls_stream.specs.Listing.{Kept, sheet_entry}
 use Rattle.xls_lay.specs.Counted.{CountedEntry}
 use Rattle.xls_lay.proofs.PushLemmas.{fits_pushed, sheet_fits}
 use Rattle.xls_lay.proofs.logical.Logical.push_sheet.Goals as goal

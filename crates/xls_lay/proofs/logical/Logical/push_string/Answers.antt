@@ -1,6 +1,6 @@
 use Rattle.std.proofs.Common.{rules, ◌≡◌, suc, ◌-◌, length}
 use Rattle.std.specs.Prelude.{vec_len}
-use Rattle.xls_layout.specs.Canonical.{FitsString}
+use Rattle.xls_layouts.specs.Canonical.{FitsString}
 use Rattle.xls_lay.proofs.PushLemmas.{are_units, string_pushed, string_pushed_fits}
 use Rattle.xls_lay.proofs.logical.Logical.push_string.Goals as goal
 

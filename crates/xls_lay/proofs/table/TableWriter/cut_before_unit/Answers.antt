@@ -1,6 +1,6 @@
 use Rattle.std.proofs.Common.{rules, ◌≡◌, subst, ℕ, ◌+◌, ◌<◌, length, Some, [], ◌∷◌}
-use Rattle.xls_layout.specs.LaidStrings.{wide_bit}
-use Rattle.xls_layout.specs.Canonical.{unit_size}
+use Rattle.xls_layouts.specs.LaidStrings.{wide_bit}
+use Rattle.xls_layouts.specs.Canonical.{unit_size}
 use Rattle.xls_lay.specs.Putting.{Puts}
 use Rattle.xls_lay.proofs.PutLemmas.{unit_cut}
 use Rattle.xls_lay.proofs.table.TableWriter.cut_before_unit.Goals as goal

@@ -1,5 +1,5 @@
 use Rattle.std.proofs.Common.{◌≡◌, ◌+◌, ◌/◌, ◌%◌, ◌∙◌, ◌∷◌, [], ℕ, Some, arith, rules, subst, sym}
-use Rattle.xls_layout.specs.LaidStrings.{wide_bit}
+use Rattle.xls_layouts.specs.LaidStrings.{wide_bit}
 use Rattle.xls_lay.specs.Putting.{Puts}
 use Rattle.xls_lay.proofs.PutLemmas.{puts_both}
 use Rattle.xls_lay.proofs.table.TableWriter.put_head.Goals as goal

@@ -1,5 +1,5 @@
 use Rattle.std.proofs.Common.{List, subst, get_or}
-use Rattle.xls_model.specs.StringTable.{Mark}
+use Rattle.xls_stream.specs.StringTable.{Mark}
 use Rattle.xls_lay.specs.Putting.{Puts}
 use Rattle.xls_lay.proofs.PutLemmas.{units_more, cut_unit}
 use Rattle.xls_lay.proofs.table.TableWriter.put_units.Goals as goal

@@ -2,7 +2,7 @@ use Rattle.std.proofs.Common.{◌≡◌}
 use Rattle.xls_open.specs.CheckSteps.{under}
 use Rattle.xls_open.proofs.CheckPartLemmas.{CheckedPart}
 use Rattle.xls_open.proofs.check.sheets.check_part.Given as goal
-use Rattle.xls_reading.specs.InForce.{InForce}
+use Rattle.xls_meaning.specs.InForce.{InForce}
 
 abbrev pub invariant-loop-record : goal.invariant-loop-record
 invariant-loop-record l =

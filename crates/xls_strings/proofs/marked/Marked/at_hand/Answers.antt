@@ -1,6 +1,6 @@
 use Rattle.std.proofs.Common.{◌∙◌, sym, ap}
-use Rattle.xls_model.specs.StringTable.{front_of}
-use Rattle.xls_model.proofs.StringUnits.{front-marked}
+use Rattle.xls_stream.specs.StringTable.{front_of}
+use Rattle.xls_stream.proofs.StringUnits.{front-marked}
 use Rattle.xls_strings.proofs.marked.Marked.at_hand.Goals as goal
 
 pub returns : goal.returns

@@ -1,6 +1,6 @@
 use Rattle.std.proofs.Common.{◌∙◌, sym, ap, length, drop, ◌≤◌, List}
-use Rattle.xls_model.specs.StringTable.{front_of, marked, Mark}
-use Rattle.xls_model.proofs.StringUnits.{front-marked, drop-marked}
+use Rattle.xls_stream.specs.StringTable.{front_of, marked, Mark}
+use Rattle.xls_stream.proofs.StringUnits.{front-marked, drop-marked}
 use Rattle.xls_strings.proofs.marked.Marked.skip.Goals as goal
 
 pub split_at-requires : goal.split_at-requires

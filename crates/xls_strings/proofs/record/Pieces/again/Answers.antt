@@ -1,5 +1,5 @@
 use Rattle.std.proofs.Common.{◌≡◌, ◌∙◌, ap, sym, length, arith}
-use Rattle.xls_model.proofs.Records.{bodies-are}
+use Rattle.xls_stream.proofs.Records.{bodies-are}
 use Rattle.xls_strings.proofs.MarkLemmas.{weight-pieces}
 use Rattle.xls_strings.proofs.record.Pieces.again.Goals as goal
 

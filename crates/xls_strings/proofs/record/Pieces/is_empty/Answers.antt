@@ -1,4 +1,4 @@
-use Rattle.xls_model.proofs.Pieces.{empty_pieces}
+use Rattle.xls_stream.proofs.Pieces.{empty_pieces}
 use Rattle.xls_strings.proofs.record.Pieces.is_empty.Goals as goal
 
 pub returns : goal.returns

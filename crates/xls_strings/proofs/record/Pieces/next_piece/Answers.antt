@@ -1,4 +1,4 @@
-use Rattle.xls_model.proofs.Pieces.{empty_pieces}
+use Rattle.xls_stream.proofs.Pieces.{empty_pieces}
 use Rattle.xls_strings.proofs.record.Pieces.next_piece.Goals as goal
 
 pub returns-then-is_empty : goal.returns-then-is_empty

@@ -5,7 +5,7 @@ use Rattle.std.proofs.lemmas.List.{length-map}
 use Rattle.std.proofs.lemmas.Option.{slice_get-map}
 use Rattle.xls_data.specs.Sheets.{sheet_content}
 use Rattle.xls_open.specs.Workbook.{told_of}
-use Rattle.xls_reading.specs.InForce.{InForce}
+use Rattle.xls_meaning.specs.InForce.{InForce}
 use Rattle.xls_view.proofs.IndexLemmas.{looked}
 use Rattle.xls_view.proofs.ViewLemmas.{part_at_index, no_part_at_index}
 use Rattle.xls_view.proofs.view.View.part_at.Goals as goal

@@ -4,8 +4,8 @@ use Rattle.std.specs.Str.{chars}
 use Rattle.std.proofs.lemmas.List.{length-map}
 use Rattle.xls_data.specs.Sheets.{sheet_content}
 use Rattle.xls_open.specs.Workbook.{told_of}
-use Rattle.xls_reading.specs.InForce.{InForce}
-use Rattle.xls_reading.specs.Reading.{last_named, paired}
+use Rattle.xls_meaning.specs.InForce.{InForce}
+use Rattle.xls_meaning.specs.Reading.{last_named, paired}
 use Rattle.xls_view.proofs.ViewLemmas.{part_is, no_part}
 use Rattle.xls_view.proofs.view.View.part_named.Goals as goal
 

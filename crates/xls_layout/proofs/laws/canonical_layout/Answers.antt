@@ -1,5 +1,0 @@
-use Rattle.xls_layout.proofs.CanonicalListLemmas.{canonical_layout}
-use Rattle.xls_layout.proofs.laws.canonical_layout.Goals as goal
-
-pub returns : goal.returns
-returns c = canonical_layout

@@ -1,5 +1,0 @@
-use Rattle.xls_layout.proofs.TableLemmas.{laid_count}
-use Rattle.xls_layout.proofs.laws.laid_count.Goals as goal
-
-pub returns : goal.returns
-returns c = laid_count

@@ -1,5 +1,0 @@
-use Rattle.xls_layout.proofs.LaidFitLemmas.{laid_fits}
-use Rattle.xls_layout.proofs.laws.laid_fits.Goals as goal
-
-pub returns : goal.returns
-returns c = laid_fits

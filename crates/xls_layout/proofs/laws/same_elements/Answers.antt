@@ -1,5 +1,0 @@
-use Rattle.xls_layout.proofs.GrammarLemmas.{same_elements}
-use Rattle.xls_layout.proofs.laws.same_elements.Goals as goal
-
-pub returns : goal.returns
-returns c = same_elements

@@ -1,5 +1,0 @@
-use Rattle.xls_layout.proofs.GrammarLemmas.{same_tables}
-use Rattle.xls_layout.proofs.laws.same_tables.Goals as goal
-
-pub returns : goal.returns
-returns c = same_tables

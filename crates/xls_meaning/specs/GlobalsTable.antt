@@ -1,0 +1,146 @@
+-- The record table of the globals: what a record of each type gives, or its first fault.
+use Rattle.std.specs.Prelude.{ℕ, ℤ, List, Bool, ◌==◌, if◌then◌else◌, map, length, Option, Some, None, Result, Ok, Err}
+use Rattle.std.specs.Result.{result_map_both}
+use Rattle.std.specs.Char.Utf16.{utf16_lossy_chars}
+use Rattle.xls_text.specs.Pages.{page_of}
+use Rattle.xls_text.specs.declared.encoding.XlsEncoding.{XlsEncoding}
+use Rattle.xls_stream.specs.Listing.{Shared, no_table, table_of, table_without, Entry, plain_entry, table_entry, sheet_entry, Item, plain_item, table_item, sheet_item}
+use Rattle.xls_stream.specs.declared.part.Part.TheVariants as parts
+use Rattle.xls_stream.specs.declared.types.TheConstants as types
+use Rattle.xls_data.specs.Sheets.{SheetContent}
+use Rattle.xls_dates.specs.declared.formats.CellFormat.{CellFormat}
+use Rattle.xls_strings.specs.declared.error.XlsError.{XlsError}
+use Rattle.xls_strings.specs.declared.error.XlsError.TheVariants.{Len, Cfb}
+use Rattle.xls_strings.specs.declared.version.Biff.{Biff}
+use Rattle.xls_biff.specs.declared.records.bof.Bof.{Bof}
+use Rattle.xls_biff.specs.Records.Bof.{bof_at}
+use Rattle.xls_biff.specs.Records.Xf.{xf_at}
+use Rattle.xls_biff.specs.Records.ExternSheet.{refs_at}
+use Rattle.xls_biff.specs.Records.Format.{format_at}
+use Rattle.xls_strings.specs.Sst.{error_of}
+use Rattle.xls_formula.specs.Defined.{Located, lbl_at}
+use Rattle.xls_strings.specs.Reading.{gives}
+use Rattle.xls_biff.specs.Records.FilePass.{file_pass_at}
+use Rattle.xls_biff.specs.Records.CodePage.{code_page_at}
+use Rattle.xls_biff.specs.Records.DateMode.{date_mode_at}
+use Rattle.xls_biff.specs.Records.BoundSheet.{sheet_by, bound_sheet_at}
+
+-- Lbl ([MS-XLS] 2.4.150): the name and what it names
+abbrev pub Named : Type 0
+Named = List ℕ × Located
+
+-- what a record of the globals gives
+pub data GlobalsRecord : Type 0 where
+  other_record : GlobalsRecord
+  version_record : (version : Biff) → GlobalsRecord
+  page_record : (page : XlsEncoding) → GlobalsRecord
+  date_record : (is_1904 : Bool) → GlobalsRecord
+  format_record : (ifmt : ℕ) (class : CellFormat) → GlobalsRecord
+  xf_record : (ifmt : ℕ) → GlobalsRecord
+  references_record : (firsts : List ℤ) → GlobalsRecord
+  name_record : (name : Named) → GlobalsRecord
+  strings_record : (texts : List (List ℕ)) → GlobalsRecord
+  sheet_record : (sheet : SheetContent) → GlobalsRecord
+
+-- ---- the lines that say more than their record's reader
+
+-- under a forced page a CodePage ([MS-XLS] 2.4.52) gives nothing and has no fault
+abbrev pub unless_forced : Option ℕ → Result GlobalsRecord XlsError → Result GlobalsRecord XlsError
+unless_forced None line = line
+unless_forced (Some n) line = Ok other_record
+
+-- a Format ([MS-XLS] 2.4.126) that its reader refuses is passed over
+abbrev pub unless_refused : Result (ℕ × CellFormat) XlsError → Result GlobalsRecord XlsError
+unless_refused (Ok f) = Ok (format_record f.0 f.1)
+unless_refused (Err e) = Ok other_record
+
+-- SST ([MS-XLS] 2.4.265), of a body of so many bytes: the texts of its strings
+abbrev pub texts_of : ℕ → Shared → Result (List (List ℕ)) XlsError
+texts_of len no_table = Err (Len 8 len parts.Sst)
+texts_of len (table_of strings) = Ok (map utf16_lossy_chars strings)
+texts_of len (table_without missing) = Err (error_of missing)
+
+-- ---- the table
+
+-- a record that is neither SST nor BoundSheet8, under a forced page, the page and the version; those
+-- of other types give nothing
+abbrev pub plain_record_at : Option ℕ → XlsEncoding → Biff → ℕ → List ℕ → Result GlobalsRecord XlsError
+plain_record_at forced page version typ body =
+    if typ == types.BOF then gives (λ (b : Bof). version_record b.biff) (bof_at body)
+    else if typ == types.FILE_PASS then gives (λ (u : Unit {0}). other_record) (file_pass_at body)
+    else if typ == types.CODE_PAGE then unless_forced forced (gives page_record (code_page_at body))
+    else if typ == types.DATE_MODE then gives date_record (date_mode_at body)
+    else if typ == types.FORMAT then unless_refused (format_at page version body)
+    else if typ == types.XF then gives xf_record (xf_at body)
+    else if typ == types.EXTERN_SHEET then gives references_record (refs_at version body)
+    else if typ == types.LBL then gives name_record (lbl_at page version body)
+    else Ok other_record
+
+-- a record as it stands in the globals
+abbrev pub item_record_at : Option ℕ → XlsEncoding → Biff → Item → Result GlobalsRecord XlsError
+item_record_at forced page version (plain_item typ body) = plain_record_at forced page version typ body
+item_record_at forced page version (table_item body shared) =
+    gives strings_record (texts_of (length body) shared)
+item_record_at forced page version (sheet_item body kept cut) =
+    gives (λ (q : ℕ × SheetContent). sheet_record q.1) (bound_sheet_at page version body)
+
+-- an entry of the list that they carry: a string table is whole, and a sheet has no offset
+abbrev pub entry_record_at : Option ℕ → XlsEncoding → Biff → Entry → Result GlobalsRecord XlsError
+entry_record_at forced page version (plain_entry typ body) = plain_record_at forced page version typ body
+entry_record_at forced page version (table_entry strings) =
+    Ok (strings_record (map utf16_lossy_chars strings))
+entry_record_at forced page version (sheet_entry state kind name kept) =
+    gives sheet_record (sheet_by page version state kind name)
+
+-- ---- its first fault
+
+-- what a definition refuses
+abbrev pub fault_of : {X : Type 0} → Result X XlsError → Option XlsError
+fault_of (Ok x) = None
+fault_of (Err e) = Some e
+
+-- the number of a forced page that isn't kept
+abbrev pub forced_fault : Option ℕ → Option XlsError
+forced_fault None = None
+forced_fault (Some n) = fault_of (result_map_both (λ page. page) (λ e. Cfb e) (page_of n))
+
+-- ---- what it gives, by kind
+
+abbrev pub Line : Type 0
+Line = Result GlobalsRecord XlsError
+
+abbrev pub version_given : Line → Option Biff
+version_given (Ok (version_record version)) = Some version
+version_given line = None
+
+abbrev pub page_given : Line → Option XlsEncoding
+page_given (Ok (page_record page)) = Some page
+page_given line = None
+
+abbrev pub date_given : Line → Option Bool
+date_given (Ok (date_record is_1904)) = Some is_1904
+date_given line = None
+
+abbrev pub format_given : Line → Option (ℕ × CellFormat)
+format_given (Ok (format_record ifmt class)) = Some (ifmt, class)
+format_given line = None
+
+abbrev pub xf_given : Line → Option ℕ
+xf_given (Ok (xf_record ifmt)) = Some ifmt
+xf_given line = None
+
+abbrev pub references_given : Line → Option (List ℤ)
+references_given (Ok (references_record firsts)) = Some firsts
+references_given line = None
+
+abbrev pub name_given : Line → Option Named
+name_given (Ok (name_record name)) = Some name
+name_given line = None
+
+abbrev pub strings_given : Line → Option (List (List ℕ))
+strings_given (Ok (strings_record texts)) = Some texts
+strings_given line = None
+
+abbrev pub sheet_given : Line → Option SheetContent
+sheet_given (Ok (sheet_record sheet)) = Some sheet
+sheet_given line = None

@@ -1,5 +1,0 @@
-use Rattle.xls_model.proofs.Ends as ends
-use Rattle.xls_model.proofs.laws.has_groups.Goals as goal
-
-pub returns : goal.returns
-returns c = ends.has_groups

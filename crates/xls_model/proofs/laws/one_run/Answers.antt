@@ -1,5 +1,0 @@
-use Rattle.xls_model.proofs.Total.{no_others}
-use Rattle.xls_model.proofs.laws.one_run.Goals as goal
-
-pub returns : goal.returns
-returns c = no_others

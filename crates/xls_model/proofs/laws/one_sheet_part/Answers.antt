@@ -1,5 +1,0 @@
-use Rattle.xls_model.proofs.Shapes as shapes
-use Rattle.xls_model.proofs.laws.one_sheet_part.Goals as goal
-
-pub returns : goal.returns
-returns c = shapes.one_sheet_part

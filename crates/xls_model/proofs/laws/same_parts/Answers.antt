@@ -1,5 +1,0 @@
-use Rattle.xls_model.proofs.Shapes as shapes
-use Rattle.xls_model.proofs.laws.same_parts.Goals as goal
-
-pub returns : goal.returns
-returns c = shapes.same_parts

@@ -1,0 +1,5 @@
+use Rattle.xls_stream.proofs.Shapes as shapes
+use Rattle.xls_stream.proofs.laws.same_parts.Goals as goal
+
+pub returns : goal.returns
+returns c = shapes.same_parts
