@@ -3,8 +3,8 @@
 
 ghost use Rattle.std.specs.Prelude.{[]};
 ghost use Rattle.xls_text.specs.declared.encoding.XlsEncoding.TheVariants.{Utf16};
-ghost use Rattle.xls_strings.specs.declared.version.Biff.TheVariants.{Biff8};
-ghost use Rattle.xls_strings.specs.Reading.{Gives};
+ghost use Rattle.xls_record.specs.declared.version.Biff.TheVariants.{Biff8};
+ghost use Rattle.xls_record.specs.Reading.{Gives};
 ghost use Rattle.xls_strings.specs.Texts.{text_of};
 ghost use Rattle.xls_formula.specs.Fold.{formula_text};
 ghost use Rattle.xls_formula.specs.Functions.{shipped};

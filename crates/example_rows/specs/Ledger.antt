@@ -10,7 +10,7 @@ use Rattle.xls_rows.specs.Refusals.{Refusal, Refuses}
 use Rattle.xls_rows.specs.Rows.{Row}
 use Rattle.xls_rows.specs.declared.error.DeError.{DeError}
 use Rattle.xls_rows.specs.declared.error.DeError.TheVariants as refusal
-use Rattle.xls_strings.specs.declared.error.XlsError.{XlsError}
+use Rattle.xls_record.specs.declared.error.XlsError.{XlsError}
 use Rattle.xls_meaning.specs.Reading.{SheetView}
 use Rattle.xls_open.specs.Opening.{IsOpened, default_options}
 use Rattle.xls_open.specs.Workbook.{Workbook, view_named}

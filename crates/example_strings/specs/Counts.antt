@@ -5,8 +5,8 @@ use Rattle.xls_stream.specs.Stream.{Group, Begins, Run}
 use Rattle.xls_stream.specs.StringTable.{Table, marked}
 use Rattle.xls_stream.specs.declared.part.Part.{Part}
 use Rattle.xls_strings.specs.Sst.{InTable, ReadsTable, sst_marks}
-use Rattle.xls_strings.specs.declared.error.XlsError.{XlsError}
-use Rattle.xls_strings.specs.declared.error.XlsError.TheVariants.{EoStream}
+use Rattle.xls_record.specs.declared.error.XlsError.{XlsError}
+use Rattle.xls_record.specs.declared.error.XlsError.TheVariants.{EoStream}
 
 -- none of them is an SST record ([MS-XLS] 2.4.265)
 abbrev pub NoTable : List Group → Type 0

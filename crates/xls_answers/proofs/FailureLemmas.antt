@@ -2,8 +2,8 @@
 use Rattle.std.proofs.Common.{◌≡◌, ◌⊎◌, ℕ, List, Result, Ok, Err, inl, inr, refl, sym, subst}
 use Rattle.std.specs.Result.{IsErrAnd}
 use Rattle.std.proofs.KnownBytes.{Keeps-refl}
-use Rattle.xls_strings.specs.declared.error.XlsError.{XlsError}
-use Rattle.xls_strings.specs.declared.error.XlsError.TheVariants as errors
+use Rattle.xls_record.specs.declared.error.XlsError.{XlsError}
+use Rattle.xls_record.specs.declared.error.XlsError.TheVariants as errors
 use Rattle.xls_lay.specs.Reading.{ReadsList}
 use Rattle.xls_lines.specs.SinkState.{SinkState}
 use Rattle.xls_report.specs.Endings.{IsUntouched}

@@ -2,7 +2,7 @@
 use Rattle.std.proofs.Common.{◌≡◌, [], ◌∷◌, map, refl, codes}
 use Rattle.std.specs.Fmt.{digits}
 use Rattle.xls_text.specs.declared.error.CfbError.TheVariants.{CodePageNotFound}
-use Rattle.xls_strings.specs.declared.error.XlsError.TheVariants.{Cfb, Password, StackLen}
+use Rattle.xls_record.specs.declared.error.XlsError.TheVariants.{Cfb, Password, StackLen}
 use Rattle.xls_lines.specs.declared.stop.Stop.TheVariants.{Read, Write, Memory}
 use Rattle.xls_answers.specs.Texts.{failure_text, page_name}
 use Rattle.xls_answers.specs.declared.failure.Failure.TheVariants.{Obfuscated, Stream, Missing, Stopped}

@@ -1,7 +1,7 @@
 -- What is written of a file.
 use Rattle.std.specs.Prelude.{◌≡◌, ◌⊎◌, ℕ, ◌<◌, List, [], length, Result, Ok, Err}
 use Rattle.xls_stream.specs.Listing.{Entry}
-use Rattle.xls_strings.specs.declared.error.XlsError.TheVariants.{TooLarge}
+use Rattle.xls_record.specs.declared.error.XlsError.TheVariants.{TooLarge}
 use Rattle.xls_open.specs.declared.options.XlsOptions.{XlsOptions}
 use Rattle.xls_view.specs.Viewing.{IsFault}
 use Rattle.xls_lay.specs.Reading.{ReadsList, IsFirst}

@@ -1,7 +1,7 @@
 -- Why nothing is written of a file, or not all.
 use Rattle.std.specs.Prelude.{ℕ}
-use Rattle.xls_strings.specs.declared.error.XlsError.{XlsError}
-use Rattle.xls_strings.specs.declared.error.XlsError.TheVariants as stream
+use Rattle.xls_record.specs.declared.error.XlsError.{XlsError}
+use Rattle.xls_record.specs.declared.error.XlsError.TheVariants as stream
 use Rattle.xls_container.specs.declared.fault.FileFault.{FileFault}
 use Rattle.xls_container.specs.declared.fault.FileFault.TheVariants as file
 use Rattle.xls_lay.specs.declared.error.LayError.{LayError}

@@ -3,9 +3,9 @@ use Rattle.std.specs.Prelude.{ℕ, List, [], ◌∷◌, ◌++◌, ◌==◌, code
 use Rattle.std.specs.Fmt.{decimal}
 use Rattle.std.specs.String.{string_bytes}
 use Rattle.xls_text.specs.declared.error.CfbError.TheVariants.{CodePageNotFound}
-use Rattle.xls_strings.specs.declared.error.XlsError.{XlsError}
-use Rattle.xls_strings.specs.declared.error.XlsError.TheVariants as stream
-use Rattle.xls_strings.specs.ErrorText.{error_text}
+use Rattle.xls_record.specs.declared.error.XlsError.{XlsError}
+use Rattle.xls_record.specs.declared.error.XlsError.TheVariants as stream
+use Rattle.xls_record.specs.ErrorText.{error_text}
 use Rattle.xls_container.specs.Texts.{fault_text}
 use Rattle.xls_lay.specs.ErrorText.{error_text as canonical_text}
 use Rattle.xls_lines.specs.declared.stop.Stop.TheVariants.{Read, Write, Memory}

@@ -9,7 +9,7 @@ use Rattle.xls_data.specs.declared.sheets.SheetType.TheVariants as sheets
 use Rattle.xls_data.specs.declared.sheets.SheetVisible.TheVariants as visible
 use Rattle.xls_stream.specs.declared.part.Part.TheVariants as parts
 use Rattle.xls_text.specs.declared.error.CfbError.TheVariants as pages
-use Rattle.xls_strings.specs.declared.error.XlsError.TheVariants as errors
+use Rattle.xls_record.specs.declared.error.XlsError.TheVariants as errors
 use Rattle.xls_sectors.specs.declared.error.Table.TheVariants as tables
 use Rattle.xls_sectors.specs.declared.error.SectorFault.TheVariants as sectors
 use Rattle.xls_directory.specs.declared.fault.DirectoryFault.TheVariants as entries

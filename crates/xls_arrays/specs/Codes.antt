@@ -1,8 +1,8 @@
 -- Faults as numbers.
 use Rattle.std.specs.Prelude.{ℕ, Some, None}
 use Rattle.xls_text.specs.declared.error.CfbError.TheVariants as pages
-use Rattle.xls_strings.specs.declared.error.XlsError.{XlsError}
-use Rattle.xls_strings.specs.declared.error.XlsError.TheVariants as errors
+use Rattle.xls_record.specs.declared.error.XlsError.{XlsError}
+use Rattle.xls_record.specs.declared.error.XlsError.TheVariants as errors
 use Rattle.xls_sectors.specs.declared.error.Table.{Table}
 use Rattle.xls_sectors.specs.declared.error.Table.TheVariants as tables
 use Rattle.xls_sectors.specs.declared.error.SectorFault.{SectorFault}

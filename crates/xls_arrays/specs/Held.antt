@@ -2,7 +2,7 @@
 use Rattle.std.specs.Prelude.{◌≡◌, ◌⊎◌, ℕ, ◌<◌, ◌≤◌, Bool, List, Some, length}
 use Rattle.xls_meaning.specs.Reading.{BookView}
 use Rattle.xls_container.specs.Obfuscation.{IsObfuscated}
-use Rattle.xls_strings.specs.declared.error.XlsError.TheVariants as errors
+use Rattle.xls_record.specs.declared.error.XlsError.TheVariants as errors
 use Rattle.xls_view.specs.Viewing.{IsFault, IsViewed, Viewed}
 use Rattle.xls_arrays.specs.Arrays.{Arrays, Told, arrays_of}
 use Rattle.xls_arrays.specs.Options.{max_bytes_in, options_by}

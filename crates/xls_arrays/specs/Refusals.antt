@@ -3,8 +3,8 @@ use Rattle.xls_compound.specs.declared.error.CompoundError.{CompoundError}
 use Rattle.xls_compound.specs.declared.error.CompoundError.TheVariants as compounds
 use Rattle.xls_container.specs.declared.fault.FileFault.{FileFault}
 use Rattle.xls_container.specs.declared.fault.FileFault.TheVariants as files
-use Rattle.xls_strings.specs.declared.error.XlsError.{XlsError}
-use Rattle.xls_strings.specs.declared.error.XlsError.TheVariants as errors
+use Rattle.xls_record.specs.declared.error.XlsError.{XlsError}
+use Rattle.xls_record.specs.declared.error.XlsError.TheVariants as errors
 use Rattle.xls_arrays.specs.declared.refusal.Chain.TheVariants as chains
 use Rattle.xls_arrays.specs.declared.refusal.Refusal.{Refusal}
 use Rattle.xls_arrays.specs.declared.refusal.Refusal.TheVariants as refusals

@@ -3,8 +3,8 @@ use Rattle.std.specs.Prelude.{ℕ, ◌%◌, ◌^◌, ◌==◌, nat_lt, if◌then
 use Rattle.std.specs.Option.{option_map}
 use Rattle.xls_text.specs.declared.error.CfbError.TheVariants as pages
 use Rattle.xls_stream.specs.declared.part.Part.{Part}
-use Rattle.xls_strings.specs.declared.error.XlsError.{XlsError}
-use Rattle.xls_strings.specs.declared.error.XlsError.TheVariants as errors
+use Rattle.xls_record.specs.declared.error.XlsError.{XlsError}
+use Rattle.xls_record.specs.declared.error.XlsError.TheVariants as errors
 use Rattle.xls_sectors.specs.declared.error.Table.{Table}
 use Rattle.xls_sectors.specs.declared.error.Table.TheVariants as tables
 use Rattle.xls_sectors.specs.declared.error.SectorFault.{SectorFault}

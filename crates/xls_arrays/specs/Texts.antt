@@ -1,7 +1,7 @@
 -- The printed texts of refusals.
 use Rattle.std.specs.Prelude.{ℕ, List, [], ◌++◌, codes}
 use Rattle.std.specs.Fmt.{decimal}
-use Rattle.xls_strings.specs.ErrorText.{error_text}
+use Rattle.xls_record.specs.ErrorText.{error_text}
 use Rattle.xls_sectors.specs.Errors.{fault_text}
 use Rattle.xls_directory.specs.Errors as directory
 use Rattle.xls_container.specs.Texts as files

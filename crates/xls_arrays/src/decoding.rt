@@ -6,7 +6,7 @@ ghost use Rattle.xls_arrays.specs.Telling.{call_refusal, chain_of, chain_refusal
 ghost use Rattle.xls_arrays.specs.Telling.{file_refusal, kind_of, numbered_fault, old_kind};
 ghost use Rattle.xls_arrays.specs.Telling.{part_fault, refusal_of, sector_of, stream_error};
 ghost use Rattle.xls_arrays.specs.Telling.{table_fault, table_of};
-ghost use Rattle.xls_strings.specs.declared.error.XlsError.TheVariants as errors;
+ghost use Rattle.xls_record.specs.declared.error.XlsError.TheVariants as errors;
 ghost use Rattle.xls_text.specs.declared.error.CfbError.TheVariants as pages;
 ghost use Rattle.xls_arrays.specs.declared.refusal.Refusal.TheVariants as refusals;
 

@@ -3,9 +3,9 @@ use Rattle.std.proofs.Common.{◌≡◌, ℕ, ◌+◌, List, [], ◌∷◌, ◌+
 use Rattle.std.specs.List.{range_with_len}
 use Rattle.std.proofs.lemmas.List.{map_push}
 use Rattle.std.proofs.lemmas.List.FromFn.{length-map-range_with_len, map-range_with_len_more}
-use Rattle.xls_strings.specs.declared.error.XlsError.{XlsError}
-use Rattle.xls_strings.specs.Reading.{Adds, listed}
-use Rattle.xls_strings.proofs.ReadingLemmas.{gives-ok}
+use Rattle.xls_record.specs.declared.error.XlsError.{XlsError}
+use Rattle.xls_record.specs.Reading.{Adds, listed}
+use Rattle.xls_record.proofs.ReadingLemmas.{gives-ok}
 
 -- the items so far, and the next one
 pub listed_more : {Y : Type 0} (f : ℕ → Y) (now new : List Y) (i : ℕ) (y : Y) → now ≡ map f (range_with_len 0 i) → new ≡ now ++ y ∷ [] → y ≡ f i → new ≡ map f (range_with_len 0 (i + 1))

@@ -4,11 +4,11 @@ use Rattle.std.specs.Prelude.{◌==◌, ◌||◌, nat_lt, if◌then◌else◌}
 use Rattle.xls_stream.specs.declared.part.Part.TheVariants as parts
 use Rattle.xls_data.specs.Content.{Content}
 use Rattle.xls_dates.specs.declared.formats.CellFormat.{CellFormat}
-use Rattle.xls_strings.specs.declared.error.XlsError.{XlsError}
-use Rattle.xls_strings.specs.declared.error.XlsError.TheVariants.{Len}
-use Rattle.xls_strings.specs.Reading.{◌>>=◌, gives}
+use Rattle.xls_record.specs.declared.error.XlsError.{XlsError}
+use Rattle.xls_record.specs.declared.error.XlsError.TheVariants.{Len}
+use Rattle.xls_record.specs.Reading.{◌>>=◌, gives}
 use Rattle.xls_strings.specs.Strings.{string_at}
-use Rattle.xls_strings.proofs.ReadingLemmas.{gives-ok}
+use Rattle.xls_record.proofs.ReadingLemmas.{gives-ok}
 use Rattle.xls_biff.specs.Cells.{Position, position_at, class_at}
 use Rattle.xls_biff.specs.Records.BoolErr.{bool_err_at}
 use Rattle.xls_biff.specs.Records.Dimensions.{dimensions_at}

@@ -9,9 +9,9 @@ use Rattle.xls_dates.specs.declared.formats.CellFormat.TheVariants.{Other, TimeD
 use Rattle.xls_data.specs.declared.errors.CellErrorType.TheVariants as failures
 use Rattle.xls_data.specs.declared.sheets.SheetType.TheVariants as kinds
 use Rattle.xls_data.specs.declared.sheets.SheetVisible.TheVariants as states
-use Rattle.xls_strings.specs.declared.version.Biff.TheVariants.{Biff2, Biff3, Biff4, Biff5, Biff8}
-use Rattle.xls_strings.specs.declared.error.XlsError.TheVariants as errors
-use Rattle.xls_strings.specs.Reading.{fault_in, gives}
+use Rattle.xls_record.specs.declared.version.Biff.TheVariants.{Biff2, Biff3, Biff4, Biff5, Biff8}
+use Rattle.xls_record.specs.declared.error.XlsError.TheVariants as errors
+use Rattle.xls_record.specs.Reading.{fault_in, gives}
 use Rattle.xls_biff.specs.declared.records.bof.Bof.{Bof}
 use Rattle.xls_biff.specs.Cells.{cell_error}
 use Rattle.xls_biff.specs.Records.Bof.{bof_at}

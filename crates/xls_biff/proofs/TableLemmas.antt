@@ -2,10 +2,10 @@
 use Rattle.std.proofs.Common.{◌≡◌, ℕ, ◌≤◌, List, [], ◌∷◌, length, Result, Ok, refl, ap, ◌∙◌, ◌⊎◌, inl, inr, arith}
 use Rattle.std.proofs.lemmas.Bool.{cases_lt}
 use Rattle.xls_stream.specs.declared.types.TheConstants as types
-use Rattle.xls_strings.specs.declared.error.XlsError.{XlsError}
-use Rattle.xls_strings.specs.Reading.{gives}
+use Rattle.xls_record.specs.declared.error.XlsError.{XlsError}
+use Rattle.xls_record.specs.Reading.{gives}
 use Rattle.xls_strings.specs.Strings.{string_at}
-use Rattle.xls_strings.proofs.ReadingLemmas.{gives-ok}
+use Rattle.xls_record.proofs.ReadingLemmas.{gives-ok}
 use Rattle.xls_biff.specs.Cells.{Entry}
 use Rattle.xls_biff.specs.Records.BoolErr.{bool_err_at}
 use Rattle.xls_biff.specs.Records.Formula.{formula_at}

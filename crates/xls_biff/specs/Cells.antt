@@ -11,8 +11,8 @@ use Rattle.xls_data.specs.Numeric.{numeric_content}
 use Rattle.xls_dates.specs.declared.formats.CellFormat.{CellFormat}
 use Rattle.xls_data.specs.declared.errors.CellErrorType.{CellErrorType}
 use Rattle.xls_data.specs.declared.errors.CellErrorType.TheVariants as failures
-use Rattle.xls_strings.specs.declared.error.XlsError.{XlsError}
-use Rattle.xls_strings.specs.declared.error.XlsError.TheVariants.{Unrecognized}
+use Rattle.xls_record.specs.declared.error.XlsError.{XlsError}
+use Rattle.xls_record.specs.declared.error.XlsError.TheVariants.{Unrecognized}
 
 -- a row and a column
 abbrev pub Position : Type 0

@@ -6,9 +6,9 @@ use Rattle.xls_stream.specs.Cut.{Cut}
 use Rattle.xls_stream.specs.Substreams.{is_sheet_type}
 use Rattle.xls_stream.specs.Counting.{found_from, with_group}
 use Rattle.xls_stream.specs.declared.part.Part.{Part}
-use Rattle.xls_strings.specs.declared.record.Record.{Record}
-use Rattle.xls_strings.specs.declared.error.XlsError.{XlsError}
-use Rattle.xls_strings.specs.declared.error.XlsError.TheVariants.{EoStream}
+use Rattle.xls_record.specs.declared.record.Record.{Record}
+use Rattle.xls_record.specs.declared.error.XlsError.{XlsError}
+use Rattle.xls_record.specs.declared.error.XlsError.TheVariants.{EoStream}
 use Rattle.xls_biff.specs.Walking.{group_of}
 
 -- some groups lead from these bytes to those, and none of them is kept

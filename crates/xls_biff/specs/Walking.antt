@@ -3,9 +3,9 @@ use Rattle.std.specs.Prelude.{◌≡◌, ℕ, List, [], Option, Some, None, Resu
 use Rattle.xls_stream.specs.Stream.{Group, Begins}
 use Rattle.xls_stream.specs.Cut.{Cut}
 use Rattle.xls_stream.specs.declared.part.Part.{Part}
-use Rattle.xls_strings.specs.declared.record.Record.{Record}
-use Rattle.xls_strings.specs.declared.error.XlsError.{XlsError}
-use Rattle.xls_strings.specs.declared.error.XlsError.TheVariants.{EoStream}
+use Rattle.xls_record.specs.declared.record.Record.{Record}
+use Rattle.xls_record.specs.declared.error.XlsError.{XlsError}
+use Rattle.xls_record.specs.declared.error.XlsError.TheVariants.{EoStream}
 
 abbrev pub group_of : Record → Group
 group_of r = record { typ = r.typ; body = r.body.now; tail = r.pieces }

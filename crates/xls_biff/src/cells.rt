@@ -1,7 +1,7 @@
 //! What the cell records of a sheet have in common.
 
 ghost use Rattle.std.specs.Prelude.{◌≡◌, ◌≤◌, Some, length};
-ghost use Rattle.xls_strings.specs.Reading.{Exactly};
+ghost use Rattle.xls_record.specs.Reading.{Exactly};
 ghost use Rattle.xls_biff.specs.Cells.{cell_error, position_at};
 
 use crate::fields::u16_at;

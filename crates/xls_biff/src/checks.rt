@@ -1,7 +1,7 @@
 //! The first fault of a sheet's record, and how many cells it gives, without memory.
 
 ghost use Rattle.std.specs.Prelude.{◌≡◌, ◌≢◌, Ok, IsErr};
-ghost use Rattle.xls_strings.specs.Reading.{Exactly, fault_in};
+ghost use Rattle.xls_record.specs.Reading.{Exactly, fault_in};
 ghost use Rattle.xls_biff.specs.SheetTable.{CellContext, SheetRecord, sheet_record_at, weight_of, weight_of_type};
 ghost use Rattle.xls_biff.specs.Records.Rk.{mul_rk_count};
 ghost use Rattle.xls_stream.specs.declared.types.TheConstants as types;

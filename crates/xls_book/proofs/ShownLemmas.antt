@@ -5,7 +5,7 @@ use Rattle.std.specs.Str.{chars}
 use Rattle.std.proofs.lemmas.Str.{IsUtf8-string_bytes, chars-IsAscii, encodes-chars}
 use Rattle.std.proofs.lemmas.Str.Ascii.{IsAscii-nil}
 use Rattle.xls_strings.specs.Texts.{text_of}
-use Rattle.xls_cells.specs.Positions.{Position}
+use Rattle.xls_range.specs.Positions.{Position}
 use Rattle.xls_meaning.specs.SheetTable.{FormulaEntry, shown_formulas}
 use Rattle.xls_open.specs.Workbook.{formula_content}
 use Rattle.xls_book.specs.Steps.{BeginsShown}

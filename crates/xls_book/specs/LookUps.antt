@@ -16,10 +16,10 @@ use Rattle.xls_data.specs.declared.regions.HeaderRow.TheVariants.{FirstNonEmptyR
 use Rattle.xls_data.specs.declared.values.Data.{Data}
 use Rattle.xls_range.specs.Grid.{Grid, no_cells, start_of, end_of, cell_at, IsOfCorners, Shows}
 use Rattle.xls_range.specs.Sparse.{IsDense}
-use Rattle.xls_cells.specs.Positions.{Position}
+use Rattle.xls_range.specs.Positions.{Position}
 use Rattle.xls_biff.specs.Cells.{Entry}
-use Rattle.xls_strings.specs.declared.error.XlsError.{XlsError}
-use Rattle.xls_strings.specs.declared.error.XlsError.TheVariants as errors
+use Rattle.xls_record.specs.declared.error.XlsError.{XlsError}
+use Rattle.xls_record.specs.declared.error.XlsError.TheVariants as errors
 use Rattle.xls_meaning.specs.Reading.{SheetView}
 use Rattle.xls_open.specs.Workbook.{Workbook, cell_content, formula_content}
 use Rattle.xls_meaning.specs.SheetTable.{FormulaEntry}

@@ -7,7 +7,7 @@ ghost use Rattle.std.specs.Str.{chars};
 ghost use Rattle.xls_data.specs.Sheets.{SheetContent, sheet_content};
 ghost use Rattle.xls_data.specs.declared.regions.HeaderRow.TheVariants.{FirstNonEmptyRow};
 ghost use Rattle.xls_strings.specs.Texts.{text_of};
-ghost use Rattle.xls_strings.specs.declared.error.XlsError.TheVariants.{Memory};
+ghost use Rattle.xls_record.specs.declared.error.XlsError.TheVariants.{Memory};
 ghost use Rattle.xls_meaning.specs.Reading.{SheetView};
 ghost use Rattle.xls_open.specs.Workbook.{Workbook, told_of, view_named};
 ghost use Rattle.xls_book.specs.LookUps.{AreWorksheets, IsRange, IsTextBox, NameCause, is_empty_text, names_in, under_header};

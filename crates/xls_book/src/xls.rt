@@ -6,7 +6,7 @@ ghost use Rattle.std.specs.Io.KnownBytes.{Consumes, IsAtEnd};
 ghost use Rattle.std.specs.Str.{chars};
 ghost use Rattle.xls_data.specs.Data.{is_nothing};
 ghost use Rattle.xls_data.specs.Sheets.{SheetContent, sheet_content};
-ghost use Rattle.xls_cells.specs.Positions.{IsAscending};
+ghost use Rattle.xls_range.specs.Positions.{IsAscending};
 ghost use Rattle.xls_biff.specs.Cells.{Entry};
 ghost use Rattle.xls_props.specs.Properties.{IsProperties};
 ghost use Rattle.xls_open.specs.Opening.{IsOfOpening, IsOpened, OpenCause, Opens};

@@ -1,6 +1,6 @@
 -- How any command ends, by what was written.
 use Rattle.std.proofs.Common.{◌≡◌, ℕ, List, [], Option, Result, Ok, Err, inl, inr, sym, subst, arith}
-use Rattle.xls_strings.specs.declared.error.XlsError.{XlsError}
+use Rattle.xls_record.specs.declared.error.XlsError.{XlsError}
 use Rattle.xls_lines.specs.SinkState.{SinkState, TakesEach}
 use Rattle.xls_lines.specs.Gathering.{Stops, Wrote}
 use Rattle.xls_report.specs.Report.{fault_line}

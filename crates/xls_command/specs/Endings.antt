@@ -1,8 +1,8 @@
 -- How a command ends.
 use Rattle.std.specs.Prelude.{◌≡◌, ◌≢◌, ℕ, List, Option, Result, Ok, Err}
 use Rattle.std.specs.Io.KnownBytes.{Keeps}
-use Rattle.xls_strings.specs.declared.error.XlsError.{XlsError}
-use Rattle.xls_strings.specs.declared.error.XlsError.TheVariants as errors
+use Rattle.xls_record.specs.declared.error.XlsError.{XlsError}
+use Rattle.xls_record.specs.declared.error.XlsError.TheVariants as errors
 use Rattle.xls_meaning.specs.Reading.{BookView}
 use Rattle.xls_meaning.specs.Faults.{FirstFault}
 use Rattle.xls_open.specs.Workbook.{Workbook, view_of}

@@ -18,7 +18,7 @@ use Rattle.xls_range.specs.Sparse.{last_at, IsLeast, IsGreatest, AreCorners, IsD
 use Rattle.xls_range.proofs.CellLemmas.{cell_at-IsIn}
 use Rattle.xls_biff.specs.Cells.{Entry, Position, entry_of}
 use Rattle.xls_csv.specs.Text.{contents_of}
-use Rattle.xls_cells.specs.Bounds.{least, greatest, rows_at, columns_at}
+use Rattle.xls_range.specs.Bounds.{least, greatest, rows_at, columns_at}
 use Rattle.xls_csv.specs.Dense.{value_at, box_of, dense}
 
 -- ---- corners

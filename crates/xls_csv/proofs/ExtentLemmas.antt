@@ -3,7 +3,7 @@ use Rattle.std.proofs.Common.{◌≡◌, ℕ, ◌≤◌, List, [], ◌∷◌, ap
 use Rattle.std.specs.Prelude.{unwrap_or}
 use Rattle.xls_data.specs.declared.regions.Dimensions.{Dimensions}
 use Rattle.xls_biff.specs.Cells.{Entry}
-use Rattle.xls_cells.specs.Bounds.{bounds_of, columns_at, greatest, least, rows_at}
+use Rattle.xls_range.specs.Bounds.{bounds_of, columns_at, greatest, least, rows_at}
 
 least_le : (n : ℕ) (ms : List ℕ) → least n ms ≤ n
 least_le n [] = omega arith

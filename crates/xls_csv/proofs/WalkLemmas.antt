@@ -3,14 +3,14 @@ use Rattle.std.proofs.Common.{◌≡◌, ℕ, zero, suc, ◌+◌, ◌-◌, ◌<�
 use Rattle.std.specs.Prelude.{◌==◌, ◌&&◌, unwrap_or}
 use Rattle.std.specs.Option.{option_or}
 use Rattle.std.specs.List.{AllByRecursion, range_with_len}
-use Rattle.xls_cells.proofs.PutLemmas.{before_trans}
+use Rattle.xls_range.proofs.PutLemmas.{before_trans}
 use Rattle.xls_range.specs.Sparse.{last_at, Precedes, IsAscending}
 use Rattle.xls_data.specs.Content.{Content, nothing}
 use Rattle.xls_biff.specs.Cells.{Entry}
 use Rattle.xls_csv.specs.Text.{rows_csv}
 use Rattle.xls_csv.proofs.DenseLemmas.{rows_of_dense}
 use Rattle.xls_csv.specs.Walk.{take_at, row_along, left_along, rows_along}
-use Rattle.xls_cells.specs.Bounds.{least, greatest, rows_at, columns_at}
+use Rattle.xls_range.specs.Bounds.{least, greatest, rows_at, columns_at}
 use Rattle.xls_csv.specs.Dense.{value_at}
 use Rattle.xls_csv.specs.Laws.{JoinsToCsv, WalksDense, positions_of}
 

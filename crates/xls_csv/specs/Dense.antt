@@ -5,7 +5,7 @@ use Rattle.xls_data.specs.Content.{Content, nothing}
 use Rattle.xls_data.specs.declared.regions.Dimensions.{Dimensions}
 use Rattle.xls_range.specs.Grid.{Grid}
 use Rattle.xls_range.specs.Sparse.{last_at}
-use Rattle.xls_cells.specs.Bounds.{bounds_of}
+use Rattle.xls_range.specs.Bounds.{bounds_of}
 use Rattle.xls_biff.specs.Cells.{Entry}
 use Rattle.xls_csv.specs.Text.{csv_text}
 use Rattle.xls_csv.specs.declared.extent.Extent.{Extent}

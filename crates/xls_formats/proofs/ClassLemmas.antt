@@ -13,10 +13,10 @@ use Rattle.xls_dates.specs.Builtin.{class_of_code}
 use Rattle.xls_data.specs.Sheets.{SheetContent}
 use Rattle.xls_dates.specs.Classes.{class_of}
 use Rattle.xls_dates.specs.declared.formats.CellFormat.{CellFormat}
-use Rattle.xls_strings.specs.declared.version.Biff.{Biff}
-use Rattle.xls_strings.specs.declared.error.XlsError.{XlsError}
-use Rattle.xls_strings.specs.declared.error.XlsError.TheVariants.{InvalidFormat}
-use Rattle.xls_strings.specs.Reading.{◌>>=◌, ◌>>◌, gives, at_least}
+use Rattle.xls_record.specs.declared.version.Biff.{Biff}
+use Rattle.xls_record.specs.declared.error.XlsError.{XlsError}
+use Rattle.xls_record.specs.declared.error.XlsError.TheVariants.{InvalidFormat}
+use Rattle.xls_record.specs.Reading.{◌>>=◌, ◌>>◌, gives, at_least}
 use Rattle.xls_stream.specs.declared.part.Part.TheVariants as parts
 use Rattle.xls_biff.specs.declared.records.bof.Bof.{Bof}
 use Rattle.xls_biff.specs.Records.Bof.{bof_at}

@@ -10,7 +10,7 @@ use Rattle.xls_stream.specs.Walks.{IsBytes}
 use Rattle.xls_stream.specs.Listing.{is_among, is_globals_type, offset_at, IsSheetPart, Kept, kept_group, kept_of, IsPart, Item, plain_item, table_item, sheet_item, IsItem}
 use Rattle.xls_stream.specs.declared.part.Part.{Part}
 use Rattle.xls_stream.proofs.HoldingLemmas.{has_item, one_holds}
-use Rattle.xls_strings.specs.declared.error.XlsError.{XlsError}
+use Rattle.xls_record.specs.declared.error.XlsError.{XlsError}
 use Rattle.xls_biff.specs.Outer.{Keeps, Over, CutShort}
 use Rattle.xls_open.proofs.PartLemmas.{part_from, keeps_from, over_from, cut_from, keeps_bytes, kept_push}
 use Rattle.xls_open.proofs.CheckWalkLemmas.{Passed, passed_nothing, passed_item, passed_other}

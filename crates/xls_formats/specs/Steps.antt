@@ -7,7 +7,7 @@ use Rattle.xls_stream.specs.Substreams.{IsEof}
 use Rattle.xls_stream.specs.Listing.{Kept, Item, Holds}
 use Rattle.xls_stream.specs.declared.part.Part.{Part}
 use Rattle.xls_stream.specs.declared.types.TheConstants as types
-use Rattle.xls_strings.specs.declared.record.Record.{Record}
+use Rattle.xls_record.specs.declared.record.Record.{Record}
 use Rattle.xls_biff.specs.Walking.{group_of}
 use Rattle.xls_formats.specs.Uncounted.{uncounted_ids, xf_identifier_in, ixfes_of, ixfes_in, touched_count}
 use Rattle.xls_formats.specs.declared.globals.Identifiers.{Identifiers}

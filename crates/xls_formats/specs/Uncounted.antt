@@ -7,7 +7,7 @@ use Rattle.xls_bytes.specs.Numbers.{le}
 use Rattle.xls_stream.specs.Listing.{is_among, Kept, Item, plain_item, table_item, sheet_item, Holds}
 use Rattle.xls_stream.specs.declared.part.Part.{Part}
 use Rattle.xls_stream.specs.declared.types.TheConstants as types
-use Rattle.xls_strings.specs.Reading.{listed}
+use Rattle.xls_record.specs.Reading.{listed}
 use Rattle.xls_biff.specs.Records.Format.{is_format_id}
 use Rattle.xls_biff.specs.Records.Rk.{mul_rk_count}
 use Rattle.xls_biff.specs.Records.Xf.{xf_at}

@@ -1,7 +1,7 @@
 -- Steps over texts.
 use Rattle.std.proofs.Common.{suc, zero, ◌≡◌, ◌≢◌, ℕ, ◌+◌, ◌-◌, ◌<◌, List, [], ◌∷◌, length, Err, refl, ap, arith}
 use Rattle.std.specs.Prelude.{codes}
-use Rattle.xls_strings.specs.declared.error.XlsError.TheVariants as errors
+use Rattle.xls_record.specs.declared.error.XlsError.TheVariants as errors
 use Rattle.xls_formula.specs.buffer.Pieces.{with_prefix, with_suffix, with_join}
 use Rattle.xls_formula.specs.buffer.Put.{with_joins, with_call, one_text}
 

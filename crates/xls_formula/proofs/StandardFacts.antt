@@ -7,9 +7,9 @@ use Rattle.xls_bytes.specs.Doubles.{size_of_parts}
 use Rattle.xls_dates.specs.Numbers.{sixteen_digits}
 use Rattle.xls_stream.specs.declared.part.Part.TheVariants as parts
 use Rattle.xls_text.specs.declared.encoding.XlsEncoding.TheVariants.{Utf16, Windows1252}
-use Rattle.xls_strings.specs.declared.error.XlsError.TheVariants as errors
-use Rattle.xls_strings.specs.declared.version.Biff.{Biff}
-use Rattle.xls_strings.specs.declared.version.Biff.TheVariants.{Biff5, Biff8}
+use Rattle.xls_record.specs.declared.error.XlsError.TheVariants as errors
+use Rattle.xls_record.specs.declared.version.Biff.{Biff}
+use Rattle.xls_record.specs.declared.version.Biff.TheVariants.{Biff5, Biff8}
 use Rattle.xls_text.specs.declared.encoding.XlsEncoding.{XlsEncoding}
 use Rattle.xls_formula.specs.Context.{Context}
 use Rattle.xls_formula.specs.Defined.{defined_at, lbl_at}

@@ -1,7 +1,7 @@
 -- What a formula may name, and how its tokens are read.
 use Rattle.std.specs.Prelude.{ℕ, ◌-◌, ℤ, pos, negsuc, List, ◌==◌, if◌then◌else◌, codes, slice_get, Option, Some, None}
 use Rattle.xls_text.specs.declared.encoding.XlsEncoding.{XlsEncoding}
-use Rattle.xls_strings.specs.declared.version.Biff.{Biff}
+use Rattle.xls_record.specs.declared.version.Biff.{Biff}
 use Rattle.xls_formula.specs.Functions.{Function}
 
 -- names of the sheets, defined names with their texts, the numbers of the references' sheets, code

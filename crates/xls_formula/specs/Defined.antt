@@ -5,9 +5,9 @@ use Rattle.std.specs.Global.{Global}
 use Rattle.xls_text.specs.declared.encoding.XlsEncoding.{XlsEncoding}
 use Rattle.xls_text.specs.Pages.{string_text}
 use Rattle.xls_stream.specs.declared.part.Part.TheVariants as parts
-use Rattle.xls_strings.specs.Version.{is_biff8}
-use Rattle.xls_strings.specs.declared.error.XlsError.{XlsError}
-use Rattle.xls_strings.specs.declared.version.Biff.{Biff}
+use Rattle.xls_record.specs.Version.{is_biff8}
+use Rattle.xls_record.specs.declared.error.XlsError.{XlsError}
+use Rattle.xls_record.specs.declared.version.Biff.{Biff}
 use Rattle.xls_strings.specs.Texts.{text_of}
 use Rattle.xls_formula.specs.declared.defined.Lbl.{Lbl}
 use Rattle.xls_formula.specs.declared.defined.Place.{Place}
@@ -17,7 +17,7 @@ use Rattle.xls_ptg.specs.Corners.{pinned}
 use Rattle.xls_ptg.specs.PtgStr.{no_cch_at}
 use Rattle.xls_ptg.specs.References3d.{ixti_size, ixti_at, ref3d_size, ref3d_corner, area3d_size, area3d_first, area3d_last}
 use Rattle.xls_formula.specs.Tree.{corner_text, area_text}
-use Rattle.xls_strings.specs.Reading.{◌>>=◌, gives}
+use Rattle.xls_record.specs.Reading.{◌>>=◌, gives}
 
 -- 3A (PtgRef3d)
 abbrev pub ref3d_place : Biff → List ℕ → Result Place XlsError

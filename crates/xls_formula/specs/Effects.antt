@@ -1,12 +1,12 @@
 -- What a token does to the operands so far ([MS-XLS] 2.5.198): one table of all tokens.
 use Rattle.std.specs.Prelude.{ℕ, List, [], ◌++◌, replicate, codes, slice_get, Option, Some, None, Bool, Result, Ok, Err}
 use Rattle.std.specs.Fmt.{decimal}
-use Rattle.xls_strings.specs.Reading.{◌>>=◌, gives}
+use Rattle.xls_record.specs.Reading.{◌>>=◌, gives}
 use Rattle.xls_text.specs.declared.encoding.XlsEncoding.{XlsEncoding}
 use Rattle.xls_text.specs.Pages.{string_text}
 use Rattle.xls_dates.specs.Numbers.{bits_text}
-use Rattle.xls_strings.specs.declared.error.XlsError.{XlsError}
-use Rattle.xls_strings.specs.declared.error.XlsError.TheVariants as errors
+use Rattle.xls_record.specs.declared.error.XlsError.{XlsError}
+use Rattle.xls_record.specs.declared.error.XlsError.TheVariants as errors
 use Rattle.xls_formula.specs.Words.{operator_text, err_text, bool_text, space_mark}
 use Rattle.xls_formula.specs.Functions.{Function}
 use Rattle.xls_formula.specs.Context.{Context, sheet_text, name_text}

@@ -1,9 +1,9 @@
 -- From tokens to the tree of a formula, and its first refusal ([MS-XLS] 2.5.198).
 use Rattle.std.specs.Prelude.{ℕ, zero, suc, ◌+◌, List, [], ◌∷◌, length, take, drop, Result, Ok, Err}
-use Rattle.xls_strings.specs.Reading.{◌>>=◌, gives}
+use Rattle.xls_record.specs.Reading.{◌>>=◌, gives}
 use Rattle.xls_stream.specs.declared.part.Part.TheVariants as parts
-use Rattle.xls_strings.specs.declared.error.XlsError.{XlsError}
-use Rattle.xls_strings.specs.declared.error.XlsError.TheVariants as errors
+use Rattle.xls_record.specs.declared.error.XlsError.{XlsError}
+use Rattle.xls_record.specs.declared.error.XlsError.TheVariants as errors
 use Rattle.xls_formula.specs.Context.{Context}
 use Rattle.xls_formula.specs.Effects.{Effect, pushes, wraps, pairs, calls, spaces, keeps, effect_at}
 use Rattle.xls_ptg.specs.Fields.{word_at, sized_as}

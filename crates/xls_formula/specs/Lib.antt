@@ -8,7 +8,7 @@ pub mod Fold
 pub mod Holding
 pub mod Defined
 pub mod buffer
-pub use Rattle.xls_strings.specs.Reading
+pub use Rattle.xls_record.specs.Reading
 pub use Rattle.xls_ptg.specs.Fields
 pub use Rattle.xls_ptg.specs.Corners
 pub use Rattle.xls_ptg.specs.Operators

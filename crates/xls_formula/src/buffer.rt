@@ -4,7 +4,7 @@
 ghost use Rattle.std.specs.Prelude.{◌≡◌, ℕ, List, [], ◌∷◌, ◌<◌, length, OnOk, OnErr, IfOk, IsUtf8};
 ghost use Rattle.std.specs.List.{concat};
 ghost use Rattle.std.specs.Str.{chars};
-ghost use Rattle.xls_strings.specs.Reading.{Gives};
+ghost use Rattle.xls_record.specs.Reading.{Gives};
 ghost use Rattle.xls_formula.specs.Holding.{tree_of};
 ghost use Rattle.xls_formula.specs.Tree.{render};
 ghost use Rattle.xls_formula.specs.buffer.Fronts.{IsChain};

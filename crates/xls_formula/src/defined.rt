@@ -2,7 +2,7 @@
 
 ghost use Rattle.std.specs.Prelude.{◌≡◌, ◌≤◌, length, IfOk, codes, if◌then◌else◌};
 ghost use Rattle.xls_text.specs.declared.encoding.XlsEncoding.{XlsEncoding};
-ghost use Rattle.xls_strings.specs.Reading.{fault_in, Exactly, Gives};
+ghost use Rattle.xls_record.specs.Reading.{fault_in, Exactly, Gives};
 ghost use Rattle.xls_strings.specs.Texts.{text_of};
 ghost use Rattle.xls_formula.specs.Defined.{area3d_place, defined_at, err3d_place, lbl_at, lbl_parts, located_of, name_tokens, name_units, named_of, parts_of, place_at, place_by, place_sheet, place_text, ref3d_place};
 ghost use Rattle.xls_ptg.specs.Corners.{pinned};

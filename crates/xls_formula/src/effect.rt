@@ -2,7 +2,7 @@
 
 ghost use Rattle.std.specs.Prelude.{◌≡◌, ◌<◌, length, IfOk};
 ghost use Rattle.std.specs.Str.{chars};
-ghost use Rattle.xls_strings.specs.Reading.{Exactly};
+ghost use Rattle.xls_record.specs.Reading.{Exactly};
 ghost use Rattle.xls_ptg.specs.Readings.{ptg_of};
 ghost use Rattle.xls_formula.specs.Effects.{effect, effect_at, function_at};
 ghost use Rattle.xls_formula.specs.Holding.{as_held, context_of, effect_of};

@@ -2,7 +2,7 @@
 
 ghost use Rattle.std.specs.Prelude.{◌≡◌, [], IfOk, IsUtf8};
 ghost use Rattle.std.specs.Str.{chars};
-ghost use Rattle.xls_strings.specs.Reading.{Exactly, Gives};
+ghost use Rattle.xls_record.specs.Reading.{Exactly, Gives};
 ghost use Rattle.xls_strings.specs.Texts.{text_of};
 ghost use Rattle.xls_formula.specs.Fold.{formula_text, tokens_at, walk};
 ghost use Rattle.xls_formula.specs.Holding.{context_of};

@@ -3,7 +3,7 @@ use Rattle.std.proofs.Common.{◌≡◌, ◌↔◌, ℕ, ◌^◌, ◌<◌, ◌�
 use Rattle.xls_stream.specs.Listing.{Entry, Carries}
 use Rattle.xls_stream.specs.Walks.{IsBytes}
 use Rattle.xls_stream.proofs.HoldingLemmas.{one_list}
-use Rattle.xls_strings.specs.declared.error.XlsError.{XlsError}
+use Rattle.xls_record.specs.declared.error.XlsError.{XlsError}
 use Rattle.xls_layouts.specs.Layout.{lay}
 use Rattle.xls_layouts.specs.Canonical.{canonical, Fits}
 use Rattle.xls_layouts.proofs.LaidStreamLemmas.{laid_stream, laid_alone}

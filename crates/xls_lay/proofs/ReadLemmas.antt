@@ -8,8 +8,8 @@ use Rattle.xls_stream.specs.Walks.{IsBytes}
 use Rattle.xls_stream.specs.Listing.{Kept, Entry, sheet_entry, entry_of, is_globals_type, offset_at, is_plain_type, Item, plain_item, table_item, sheet_item, IsItem, IsWhole, IsPart, IsSheetPart, Holds, Carries}
 use Rattle.xls_stream.specs.declared.part.Part.{Part}
 use Rattle.xls_stream.proofs.HoldingLemmas.{has_item, one_holds}
-use Rattle.xls_strings.specs.declared.error.XlsError.{XlsError}
-use Rattle.xls_strings.specs.declared.error.XlsError.TheVariants as errors
+use Rattle.xls_record.specs.declared.error.XlsError.{XlsError}
+use Rattle.xls_record.specs.declared.error.XlsError.TheVariants as errors
 use Rattle.xls_meaning.specs.Rules.{Rules}
 use Rattle.xls_meaning.specs.Faults.{IsSound}
 use Rattle.xls_open.proofs.AlikeLemmas.{checked_alike}

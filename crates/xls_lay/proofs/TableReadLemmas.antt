@@ -7,12 +7,13 @@ use Rattle.xls_stream.specs.Walks.{IsBytes}
 use Rattle.xls_stream.specs.StringTable.{Mark, Missing, marked, weight, next_at, Strings, Table}
 use Rattle.xls_stream.specs.Listing.{Entry, table_entry, IsShared, table_of}
 use Rattle.xls_stream.proofs.TableReadings.{one_reading}
-use Rattle.xls_strings.specs.declared.error.XlsError.{XlsError}
-use Rattle.xls_strings.specs.declared.error.XlsError.TheVariants as errors
-use Rattle.xls_strings.specs.Reading.{Fails}
+use Rattle.xls_record.specs.declared.error.XlsError.{XlsError}
+use Rattle.xls_record.specs.declared.error.XlsError.TheVariants as errors
+use Rattle.xls_record.specs.Reading.{Fails}
 use Rattle.xls_strings.specs.Sst.{as_error, sst_marks}
 use Rattle.xls_strings.proofs.SstLemmas.{Strings-push, next_lighter}
-use Rattle.xls_strings.proofs.MarkLemmas.{weight-pieces, weight-marked}
+use Rattle.xls_record.proofs.PieceLemmas.{weight-pieces}
+use Rattle.xls_strings.proofs.MarkLemmas.{weight-marked}
 use Rattle.xls_lay.specs.Pushing.{EndsInTable, last_count, AddsString}
 use Rattle.xls_lay.proofs.PushLemmas.{count_last, same_last, same_front}
 use Rattle.xls_lay.proofs.FillLemmas.{not_below}

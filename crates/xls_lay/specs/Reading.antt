@@ -1,8 +1,8 @@
 -- What is read of the bytes of a stream: the logical list that they carry, or their first fault.
 use Rattle.std.specs.Prelude.{◌≡◌, ◌⊎◌, ℕ, List, None, Result, Ok, Err}
 use Rattle.xls_stream.specs.Listing.{Entry, Carries}
-use Rattle.xls_strings.specs.declared.error.XlsError.{XlsError}
-use Rattle.xls_strings.specs.declared.error.XlsError.TheVariants.{Memory}
+use Rattle.xls_record.specs.declared.error.XlsError.{XlsError}
+use Rattle.xls_record.specs.declared.error.XlsError.TheVariants.{Memory}
 use Rattle.xls_open.specs.Checking.{FirstChecked}
 
 -- e is the first fault of the bytes, under no forced page and the bound of cells by default; their

@@ -1,8 +1,8 @@
 -- For the proofs: how a list grows as a stream is read that has no fault.
 use Rattle.std.specs.Prelude.{◌≡◌, ℕ, List, [], ◌∷◌, ◌++◌, Result, Ok, Err}
 use Rattle.xls_stream.specs.Listing.{Kept, Entry, sheet_entry}
-use Rattle.xls_strings.specs.declared.error.XlsError.{XlsError}
-use Rattle.xls_strings.specs.declared.error.XlsError.TheVariants as errors
+use Rattle.xls_record.specs.declared.error.XlsError.{XlsError}
+use Rattle.xls_record.specs.declared.error.XlsError.TheVariants as errors
 
 -- this entry was appended, or memory ran out
 abbrev pub Takes : List Entry → Entry → Result (Unit {0}) XlsError → List Entry → Type 0

@@ -6,8 +6,8 @@ use Rattle.std.specs.Char.Utf16.{utf16_lossy_chars}
 use Rattle.std.proofs.lemmas.List.{length-map}
 use Rattle.xls_stream.specs.StringTable.{Mark, front_of, marked, Table}
 use Rattle.xls_stream.proofs.TableReadings.{one_reading}
-use Rattle.xls_strings.specs.declared.error.XlsError.{XlsError}
-use Rattle.xls_strings.specs.declared.error.XlsError.TheVariants as errors
+use Rattle.xls_record.specs.declared.error.XlsError.{XlsError}
+use Rattle.xls_record.specs.declared.error.XlsError.TheVariants as errors
 use Rattle.xls_strings.specs.Sst.{FailsTable, ReadsTable, CountsTable, InTable, sst_marks}
 use Rattle.xls_layouts.specs.TableGrammar.{IsTable}
 use Rattle.xls_layouts.specs.LaidStrings.{LaidString, units_of, IsLaidString, marks_of_strings, lists_of, pieces_of, IsLaidTable}

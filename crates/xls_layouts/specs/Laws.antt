@@ -5,8 +5,8 @@ use Rattle.std.specs.Char.Utf16.{utf16_lossy_chars}
 use Rattle.xls_stream.specs.Stream.{Group}
 use Rattle.xls_stream.specs.StringTable.{Mark, next_at, Table}
 use Rattle.xls_stream.specs.Listing.{Entry, Carries}
-use Rattle.xls_strings.specs.declared.error.XlsError.{XlsError}
-use Rattle.xls_strings.specs.declared.error.XlsError.TheVariants as errors
+use Rattle.xls_record.specs.declared.error.XlsError.{XlsError}
+use Rattle.xls_record.specs.declared.error.XlsError.TheVariants as errors
 use Rattle.xls_strings.specs.Sst.{ReadsTable, CountsTable, InTable, sst_marks}
 use Rattle.xls_layouts.specs.TableGrammar.{IsElement, IsTable}
 use Rattle.xls_layouts.specs.LaidStrings.{LaidString, IsLaidString, marks_of_strings, lists_of, table_group, IsLaidTable}

@@ -5,7 +5,7 @@ use Rattle.std.specs.Fmt.{decimal, signed_decimal}
 use Rattle.std.specs.Str.{chars}
 use Rattle.xls_data.specs.Errors as cell_errors
 use Rattle.xls_dates.specs.Numbers.{number_text, sixteen_digits}
-use Rattle.xls_strings.specs.ErrorText.{error_text}
+use Rattle.xls_record.specs.ErrorText.{error_text}
 use Rattle.xls_lines.specs.declared.field.Field.{Field}
 use Rattle.xls_lines.specs.declared.field.Field.TheVariants.{Word, Text, Number, Int, Fraction, Failure, Fault}
 use Rattle.xls_lines.specs.declared.buffer.Numeral.{Numeral}

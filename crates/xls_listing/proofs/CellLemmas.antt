@@ -1,7 +1,7 @@
 -- The line of a cell.
 use Rattle.std.proofs.Common.{ℕ, List, append-nil, Option, Some, None, codes, ap, ◌∙◌, ◌≡◌, ◌++◌, [], Result}
 use Rattle.std.specs.Prelude.{MatchOption}
-use Rattle.xls_cells.specs.Positions.{Position}
+use Rattle.xls_range.specs.Positions.{Position}
 use Rattle.xls_decimals.specs.Added.{Adds}
 use Rattle.xls_lines.specs.SinkState.{SinkState}
 use Rattle.xls_lines.specs.Gathering.{Puts}

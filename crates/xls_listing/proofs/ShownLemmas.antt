@@ -5,7 +5,7 @@ use Rattle.std.specs.Global.{Global}
 use Rattle.std.specs.Str.{chars, IsUtf8}
 use Rattle.std.proofs.lemmas.Str.{chars-nil, encodes-chars}
 use Rattle.xls_data.specs.Sheets.{SheetContent}
-use Rattle.xls_cells.specs.Positions.{Position}
+use Rattle.xls_range.specs.Positions.{Position}
 use Rattle.xls_meaning.specs.Reading.{SheetView}
 use Rattle.xls_meaning.specs.SheetTable.{FormulaEntry, shown_formulas}
 use Rattle.xls_formula.specs.Context.{Context}

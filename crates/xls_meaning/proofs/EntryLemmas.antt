@@ -6,9 +6,9 @@ use Rattle.xls_bytes.specs.Numbers.{le}
 use Rattle.xls_text.specs.declared.encoding.XlsEncoding.{XlsEncoding}
 use Rattle.xls_stream.specs.Listing.{Item, entry_of}
 use Rattle.xls_data.specs.Sheets.{SheetContent}
-use Rattle.xls_strings.specs.declared.error.XlsError.{XlsError}
-use Rattle.xls_strings.specs.declared.version.Biff.{Biff}
-use Rattle.xls_strings.specs.Reading.{◌>>=◌, gives}
+use Rattle.xls_record.specs.declared.error.XlsError.{XlsError}
+use Rattle.xls_record.specs.declared.version.Biff.{Biff}
+use Rattle.xls_record.specs.Reading.{◌>>=◌, gives}
 use Rattle.xls_biff.specs.Records.BoundSheet.{sheet_by, bound_sheet_at}
 
 -- ---- what one more item gives

@@ -8,7 +8,7 @@ use Rattle.xls_stream.specs.StringTable.{short_head, no_units, no_tail, units_at
 use Rattle.xls_stream.specs.declared.part.Part.{Part}
 use Rattle.xls_stream.specs.declared.part.Part.TheVariants as parts
 use Rattle.xls_text.specs.declared.error.CfbError.TheVariants.{CodePageNotFound}
-use Rattle.xls_strings.specs.declared.error.XlsError.TheVariants as errors
+use Rattle.xls_record.specs.declared.error.XlsError.TheVariants as errors
 use Rattle.xls_meaning.specs.Faults.{FirstFault, outer_fault}
 use Rattle.xls_meaning.specs.Rules.{Rules}
 use Rattle.xls_meaning.proofs.SampleStreams.{bare, eof, in_globals, in_sheet, behind, held, nothing_starts}

@@ -12,8 +12,8 @@ use Rattle.xls_stream.specs.Listing.{Kept, Entry, plain_entry, table_entry, shee
 use Rattle.xls_dates.specs.declared.formats.CellFormat.TheVariants.{Other, DateTime, TimeDelta}
 use Rattle.xls_data.specs.declared.sheets.SheetType.TheVariants.{WorkSheet, MacroSheet, ChartSheet, Vba}
 use Rattle.xls_data.specs.declared.sheets.SheetVisible.TheVariants.{Visible, Hidden, VeryHidden}
-use Rattle.xls_strings.specs.declared.error.XlsError.TheVariants as errors
-use Rattle.xls_strings.specs.declared.version.Biff.TheVariants.{Biff2, Biff3, Biff4, Biff5, Biff8}
+use Rattle.xls_record.specs.declared.error.XlsError.TheVariants as errors
+use Rattle.xls_record.specs.declared.version.Biff.TheVariants.{Biff2, Biff3, Biff4, Biff5, Biff8}
 use Rattle.xls_meaning.specs.GlobalsTable.{other_record, version_record, page_record, date_record, format_record, xf_record, references_record, name_record, strings_record, sheet_record, entry_record_at, forced_fault}
 use Rattle.xls_meaning.specs.InForce.{page_in, version_in, is_1904_in, classes_in, texts_in, sheets_of, sheet_names_of, extern_refs, known_refs, lbls_in, in_force_of}
 use Rattle.xls_meaning.specs.Rules.{Rules}

@@ -8,12 +8,12 @@ use Rattle.xls_stream.specs.Listing.{Entry, Shared, no_table, table_of, table_wi
 use Rattle.xls_stream.specs.declared.part.Part.{Part}
 use Rattle.xls_stream.proofs.HoldingLemmas.{has_holds, one_holds}
 use Rattle.xls_data.specs.Sheets.{SheetContent}
-use Rattle.xls_strings.specs.declared.error.XlsError.{XlsError}
-use Rattle.xls_strings.specs.declared.error.XlsError.TheVariants as errors
+use Rattle.xls_record.specs.declared.error.XlsError.{XlsError}
+use Rattle.xls_record.specs.declared.error.XlsError.TheVariants as errors
 use Rattle.xls_biff.specs.SheetTable.{CellContext}
 use Rattle.xls_meaning.specs.Order.{along, first_of}
 use Rattle.xls_meaning.specs.InForce.{page_in, version_in, cells_of}
-use Rattle.xls_strings.specs.Reading.{gives}
+use Rattle.xls_record.specs.Reading.{gives}
 use Rattle.xls_biff.specs.Records.BoundSheet.{sheet_by, bound_sheet_at}
 use Rattle.xls_meaning.specs.GlobalsTable.{strings_record, sheet_record, fault_of, forced_fault, texts_of}
 use Rattle.xls_meaning.specs.Faults.{limit_fault, outer_fault, item_fault, kept_fault, cut_fault, part_places, sheet_places, globals_places, places, FirstBehind, FirstFault, IsSound, entry_fault, IsFullSheet, IsFull}

@@ -4,7 +4,7 @@ use Rattle.xls_stream.specs.Stream.{enc, Group, StartsContinue, Begins, Run}
 use Rattle.xls_stream.specs.Substreams.{SheetPart, bare_closed, bare_open}
 use Rattle.xls_stream.specs.Listing.{Kept, Shared, IsShared, Item, plain_item, table_item, sheet_item, is_plain_type, IsItem, IsSheetPart, Holds, offset_at, is_among, globals_types, sheet_types}
 use Rattle.xls_stream.specs.declared.part.Part.{Part}
-use Rattle.xls_strings.specs.declared.error.XlsError.{XlsError}
+use Rattle.xls_record.specs.declared.error.XlsError.{XlsError}
 use Rattle.xls_meaning.specs.Order.{first_of}
 use Rattle.xls_meaning.specs.Faults.{outer_fault, places, FirstBehind, FirstFault}
 use Rattle.xls_meaning.specs.Rules.{Rules}

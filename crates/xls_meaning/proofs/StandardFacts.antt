@@ -5,8 +5,8 @@ use Rattle.std.specs.Fmt.{digits}
 use Rattle.xls_text.specs.declared.encoding.XlsEncoding.TheVariants.{Utf16}
 use Rattle.xls_stream.specs.Listing.{Kept}
 use Rattle.xls_biff.specs.SheetTable.{CellContext}
-use Rattle.xls_strings.specs.declared.error.XlsError.TheVariants.{StackLen}
-use Rattle.xls_strings.specs.declared.version.Biff.TheVariants.{Biff5, Biff8}
+use Rattle.xls_record.specs.declared.error.XlsError.TheVariants.{StackLen}
+use Rattle.xls_record.specs.declared.version.Biff.TheVariants.{Biff5, Biff8}
 use Rattle.xls_meaning.specs.InForce.{known_refs, placed_text, told_name}
 use Rattle.xls_meaning.specs.SheetTable.{shown_formulas, refusal_bytes, last_formula}
 

@@ -9,7 +9,7 @@ use Rattle.xls_data.specs.Content.{float}
 use Rattle.xls_dates.specs.declared.numbers.Number.TheVariants.{Bits}
 use Rattle.xls_data.specs.declared.sheets.SheetType.TheVariants.{WorkSheet}
 use Rattle.xls_data.specs.declared.sheets.SheetVisible.TheVariants.{Visible}
-use Rattle.xls_strings.specs.declared.error.XlsError.TheVariants as errors
+use Rattle.xls_record.specs.declared.error.XlsError.TheVariants as errors
 use Rattle.xls_meaning.specs.Reading.{BookView, IsReading}
 use Rattle.xls_meaning.specs.Faults.{FirstFault, IsFull, IsSound}
 use Rattle.xls_meaning.specs.Rules.{Rules}

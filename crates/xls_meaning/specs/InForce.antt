@@ -11,9 +11,9 @@ use Rattle.xls_stream.specs.Listing.{Kept, Entry, plain_entry, table_entry, shee
 use Rattle.xls_dates.specs.Builtin.{class_of_code}
 use Rattle.xls_data.specs.Sheets.{SheetContent}
 use Rattle.xls_dates.specs.declared.formats.CellFormat.{CellFormat}
-use Rattle.xls_strings.specs.declared.version.Biff.{Biff}
-use Rattle.xls_strings.specs.declared.version.Biff.TheVariants.{Biff8}
-use Rattle.xls_strings.specs.Version.{is_biff8}
+use Rattle.xls_record.specs.declared.version.Biff.{Biff}
+use Rattle.xls_record.specs.declared.version.Biff.TheVariants.{Biff8}
+use Rattle.xls_record.specs.Version.{is_biff8}
 use Rattle.xls_biff.specs.SheetTable.{CellContext}
 use Rattle.xls_formula.specs.Context.{Context, numbered_sheet}
 use Rattle.xls_formula.specs.Defined.{Located}

@@ -3,7 +3,7 @@ use Rattle.std.specs.Prelude.{◌≡◌, ◌↔◌, ℕ, ◌≤◌, List, Some, 
 use Rattle.xls_stream.specs.Walks.{IsBytes}
 use Rattle.xls_stream.specs.Listing.{Entry, Carries}
 use Rattle.xls_data.specs.Sheets.{SheetContent}
-use Rattle.xls_strings.specs.declared.error.XlsError.{XlsError}
+use Rattle.xls_record.specs.declared.error.XlsError.{XlsError}
 use Rattle.xls_meaning.specs.Reading.{SheetView, BookView, IsReading, shown_of}
 use Rattle.xls_meaning.specs.Faults.{FirstFault, IsSound, IsFull}
 use Rattle.xls_meaning.specs.Rules.{Rules}

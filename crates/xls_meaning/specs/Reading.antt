@@ -7,8 +7,8 @@ use Rattle.xls_stream.specs.Listing.{Kept}
 use Rattle.xls_stream.specs.Listing as listing
 use Rattle.xls_data.specs.Sheets.{SheetContent}
 use Rattle.xls_data.specs.declared.regions.Dimensions.{Dimensions}
-use Rattle.xls_cells.specs.Positions.{Position, IsAscending, last_at}
-use Rattle.xls_strings.specs.declared.error.XlsError.{XlsError}
+use Rattle.xls_range.specs.Positions.{Position, IsAscending, last_at}
+use Rattle.xls_record.specs.declared.error.XlsError.{XlsError}
 use Rattle.xls_biff.specs.Cells.{Entry}
 use Rattle.xls_meaning.specs.Order.{along}
 use Rattle.xls_meaning.specs.InForce.{is_1904_in, classes_in, names_in, InForce, in_force_of, SheetRecords, sheets_of}

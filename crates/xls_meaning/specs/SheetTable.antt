@@ -5,9 +5,9 @@ use Rattle.std.specs.Str.{chars}
 use Rattle.xls_stream.specs.Listing.{Kept}
 use Rattle.xls_data.specs.Content.{Content, text}
 use Rattle.xls_data.specs.declared.regions.Dimensions.{Dimensions}
-use Rattle.xls_strings.specs.declared.error.XlsError.{XlsError}
-use Rattle.xls_strings.specs.ErrorText.{error_text}
-use Rattle.xls_strings.specs.Reading.{gives}
+use Rattle.xls_record.specs.declared.error.XlsError.{XlsError}
+use Rattle.xls_record.specs.ErrorText.{error_text}
+use Rattle.xls_record.specs.Reading.{gives}
 use Rattle.xls_biff.specs.Cells.{Position, Entry}
 use Rattle.xls_biff.specs.SheetTable.{CellContext, SheetRecord, empty_record, cells_record, shared_record, string_record, formula_record, regions_record, sheet_record_at, position_in}
 use Rattle.xls_formula.specs.Context.{Context}

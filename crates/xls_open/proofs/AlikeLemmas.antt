@@ -5,8 +5,8 @@ use Rattle.std.specs.Option.{option_or}
 use Rattle.std.specs.List.{flat_map}
 use Rattle.xls_stream.specs.Listing.{Kept, Item, plain_item, table_item, sheet_item}
 use Rattle.xls_stream.specs.declared.part.Part.{Part}
-use Rattle.xls_strings.specs.declared.error.XlsError.{XlsError}
-use Rattle.xls_strings.specs.declared.error.XlsError.TheVariants.{TooManyCells}
+use Rattle.xls_record.specs.declared.error.XlsError.{XlsError}
+use Rattle.xls_record.specs.declared.error.XlsError.TheVariants.{TooManyCells}
 use Rattle.xls_biff.specs.SheetTable.{CellContext}
 use Rattle.xls_meaning.specs.Order.{along, first_of}
 use Rattle.xls_meaning.specs.GlobalsTable.{forced_fault, fault_of}

@@ -3,7 +3,7 @@ use Rattle.std.proofs.Common.{◌≡◌, ℕ, ◌<◌, Bool, true, false, List, 
 use Rattle.std.specs.Prelude.{◌⊎◌, ◌==◌, ◌&&◌}
 use Rattle.std.specs.Option.{option_or}
 use Rattle.std.specs.List.{AllByRecursion}
-use Rattle.xls_cells.specs.Positions.{last_at, Precedes, IsAscending}
+use Rattle.xls_range.specs.Positions.{last_at, Precedes, IsAscending}
 
 -- a row and a column
 abbrev Position : Type 0

@@ -14,11 +14,11 @@ use Rattle.xls_stream.specs.StringTable.{Missing, short_head, no_units, no_tail}
 use Rattle.xls_stream.specs.declared.part.Part.{Part}
 use Rattle.xls_stream.specs.declared.part.Part.TheVariants as parts
 use Rattle.xls_dates.specs.declared.formats.CellFormat.{CellFormat}
-use Rattle.xls_strings.specs.declared.error.XlsError.{XlsError}
-use Rattle.xls_strings.specs.declared.error.XlsError.TheVariants as errors
-use Rattle.xls_strings.specs.declared.version.Biff.{Biff}
-use Rattle.xls_strings.specs.Reading.{◌>>=◌, ◌>>◌, gives, at_least}
-use Rattle.xls_strings.specs.Version.{is_biff8}
+use Rattle.xls_record.specs.declared.error.XlsError.{XlsError}
+use Rattle.xls_record.specs.declared.error.XlsError.TheVariants as errors
+use Rattle.xls_record.specs.declared.version.Biff.{Biff}
+use Rattle.xls_record.specs.Reading.{◌>>=◌, ◌>>◌, gives, at_least}
+use Rattle.xls_record.specs.Version.{is_biff8}
 use Rattle.xls_strings.specs.Strings.{short_front, is_bare_zero, string_front, front_text, short_string_at, string_at}
 use Rattle.xls_strings.specs.Sst.{error_of}
 use Rattle.xls_strings.specs.Uncounted.{size_by, uncounted_size}

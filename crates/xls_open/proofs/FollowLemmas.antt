@@ -1,7 +1,7 @@
 -- What a step of a sheet's record says.
 use Rattle.std.proofs.Common.{Result, Ok, Err}
-use Rattle.xls_strings.specs.declared.error.XlsError.{XlsError}
-use Rattle.xls_strings.specs.Reading.{gives}
+use Rattle.xls_record.specs.declared.error.XlsError.{XlsError}
+use Rattle.xls_record.specs.Reading.{gives}
 use Rattle.xls_biff.specs.Cells.{Position}
 use Rattle.xls_biff.specs.SheetTable.{SheetRecord}
 use Rattle.xls_formula.specs.Context.{Context}

@@ -2,11 +2,11 @@
 use Rattle.std.proofs.Common.{◌≡◌, ℕ, List, refl, sym, ap, ◌∙◌, Result, Ok, Err, IfOk, String, Global}
 use Rattle.std.specs.String.{string_bytes}
 use Rattle.std.specs.Str.{chars}
-use Rattle.xls_strings.specs.declared.error.XlsError.{XlsError}
-use Rattle.xls_strings.specs.declared.error.XlsError.TheVariants as errors
-use Rattle.xls_strings.specs.Reading.{Fails}
+use Rattle.xls_record.specs.declared.error.XlsError.{XlsError}
+use Rattle.xls_record.specs.declared.error.XlsError.TheVariants as errors
+use Rattle.xls_record.specs.Reading.{Fails}
 use Rattle.xls_strings.specs.Texts.{text_of}
-use Rattle.xls_cells.specs.Positions.{Position}
+use Rattle.xls_range.specs.Positions.{Position}
 use Rattle.xls_meaning.specs.SheetTable.{refusal_bytes, shown_formula}
 
 -- what stands in place of a formula that is refused for another cause than memory

@@ -9,11 +9,11 @@ use Rattle.xls_stream.specs.Listing.{is_among, globals_types, is_globals_type, i
 use Rattle.xls_stream.specs.declared.part.Part.{Part}
 use Rattle.xls_stream.proofs.HoldingLemmas.{has_item}
 use Rattle.xls_data.specs.Sheets.{SheetContent}
-use Rattle.xls_strings.specs.declared.error.XlsError.{XlsError}
-use Rattle.xls_strings.specs.declared.error.XlsError.TheVariants as errors
-use Rattle.xls_strings.specs.declared.version.Biff.{Biff}
-use Rattle.xls_strings.specs.Reading.{gives}
-use Rattle.xls_strings.specs.declared.version.Biff.TheVariants.{Biff8}
+use Rattle.xls_record.specs.declared.error.XlsError.{XlsError}
+use Rattle.xls_record.specs.declared.error.XlsError.TheVariants as errors
+use Rattle.xls_record.specs.declared.version.Biff.{Biff}
+use Rattle.xls_record.specs.Reading.{gives}
+use Rattle.xls_record.specs.declared.version.Biff.TheVariants.{Biff8}
 use Rattle.xls_dates.specs.declared.formats.CellFormat.{CellFormat}
 use Rattle.xls_biff.specs.Records.ExternSheet.{refs_at}
 use Rattle.xls_biff.specs.Records.Format.{format_at}

@@ -2,8 +2,8 @@
 use Rattle.std.proofs.Common.{◌≡◌, ℕ, ◌≤◌, List, length, Option, Some, Result, Ok, Err, refl, arith}
 use Rattle.xls_stream.specs.Walks.{IsBytes}
 use Rattle.xls_stream.proofs.HoldingLemmas.{one_list}
-use Rattle.xls_strings.specs.declared.error.XlsError.{XlsError}
-use Rattle.xls_strings.specs.declared.error.XlsError.TheVariants as errors
+use Rattle.xls_record.specs.declared.error.XlsError.{XlsError}
+use Rattle.xls_record.specs.declared.error.XlsError.TheVariants as errors
 use Rattle.xls_layouts.specs.Layout.{Layout, lay, list_of, IsLayout}
 use Rattle.xls_layouts.proofs.LaidStreamLemmas.{laid_stream}
 use Rattle.xls_meaning.specs.Rules.{Rules}

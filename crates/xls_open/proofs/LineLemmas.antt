@@ -8,15 +8,15 @@ use Rattle.xls_stream.specs.Listing.{no_table, table_of, table_without, Entry, p
 use Rattle.xls_stream.specs.declared.part.Part.TheVariants as parts
 use Rattle.xls_data.specs.Sheets.{SheetContent}
 use Rattle.xls_dates.specs.declared.formats.CellFormat.{CellFormat}
-use Rattle.xls_strings.specs.declared.error.XlsError.{XlsError}
-use Rattle.xls_strings.specs.declared.error.XlsError.TheVariants as errors
-use Rattle.xls_strings.specs.declared.version.Biff.{Biff}
+use Rattle.xls_record.specs.declared.error.XlsError.{XlsError}
+use Rattle.xls_record.specs.declared.error.XlsError.TheVariants as errors
+use Rattle.xls_record.specs.declared.version.Biff.{Biff}
 use Rattle.xls_biff.specs.Records.Bof.{bof_at}
 use Rattle.xls_biff.specs.Records.Xf.{xf_at}
 use Rattle.xls_biff.specs.Records.ExternSheet.{refs_at}
 use Rattle.xls_biff.specs.Records.Format.{format_at}
 use Rattle.xls_formula.specs.Defined.{lbl_at}
-use Rattle.xls_strings.specs.Reading.{gives}
+use Rattle.xls_record.specs.Reading.{gives}
 use Rattle.xls_biff.specs.Records.FilePass.{file_pass_at}
 use Rattle.xls_biff.specs.Records.CodePage.{code_page_at}
 use Rattle.xls_biff.specs.Records.DateMode.{date_mode_at}

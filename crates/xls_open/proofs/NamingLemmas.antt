@@ -12,14 +12,14 @@ use Rattle.xls_text.specs.declared.encoding.XlsEncoding.{XlsEncoding}
 use Rattle.xls_stream.specs.Listing.{offset_at, Kept, Entry, Item, plain_item, table_item, sheet_item, entry_of}
 use Rattle.xls_stream.specs.declared.part.Part.{Part}
 use Rattle.xls_data.specs.Sheets.{SheetContent}
-use Rattle.xls_strings.specs.declared.version.Biff.{Biff}
-use Rattle.xls_strings.specs.declared.error.XlsError.{XlsError}
+use Rattle.xls_record.specs.declared.version.Biff.{Biff}
+use Rattle.xls_record.specs.declared.error.XlsError.{XlsError}
 use Rattle.xls_strings.specs.Texts.{text_of}
 use Rattle.xls_formula.specs.Context.{Context}
 use Rattle.xls_formula.proofs.TextLemmas.{text_more, ascii_more}
 use Rattle.xls_meaning.specs.Order.{along, first_of, somes}
 use Rattle.xls_meaning.specs.InForce.{cells_of, page_in, version_in, SheetRecords, sheet_in, sheets_of, sheet_names_of, extern_refs, known_refs, own_refs, lbls_in, told_name, context_by, context_of}
-use Rattle.xls_strings.specs.Reading.{gives}
+use Rattle.xls_record.specs.Reading.{gives}
 use Rattle.xls_meaning.specs.GlobalsTable.{Named, sheet_record, sheet_given, fault_of}
 use Rattle.xls_meaning.specs.Faults.{item_fault}
 use Rattle.xls_open.specs.Steps.{Sheets, pair_of, sheets_at, State, IsState, names_listed, IsNaming}

@@ -12,13 +12,13 @@ use Rattle.xls_stream.specs.declared.part.Part.TheVariants as parts
 use Rattle.xls_stream.proofs.HoldingLemmas.{one_sheet_part}
 use Rattle.xls_data.specs.Sheets.{SheetContent}
 use Rattle.xls_dates.specs.declared.formats.CellFormat.{CellFormat}
-use Rattle.xls_strings.specs.declared.error.XlsError.{XlsError}
-use Rattle.xls_strings.specs.declared.error.XlsError.TheVariants as errors
-use Rattle.xls_strings.specs.declared.version.Biff.{Biff}
+use Rattle.xls_record.specs.declared.error.XlsError.{XlsError}
+use Rattle.xls_record.specs.declared.error.XlsError.TheVariants as errors
+use Rattle.xls_record.specs.declared.version.Biff.{Biff}
 use Rattle.xls_formula.specs.Context.{Context}
 use Rattle.xls_meaning.specs.Order.{along, first_of, somes}
 use Rattle.xls_meaning.specs.InForce.{cells_of, page_in, version_in, is_1904_in, formats_in, class_in, classes_in, texts_in, context_of, InForce, in_force_of, sheets_of}
-use Rattle.xls_strings.specs.Reading.{◌>>=◌}
+use Rattle.xls_record.specs.Reading.{◌>>=◌}
 use Rattle.xls_biff.specs.Records.BoundSheet.{sheet_by, bound_sheet_at}
 use Rattle.xls_meaning.specs.GlobalsTable.{sheet_given, forced_fault}
 use Rattle.xls_meaning.specs.Reading.{SheetView, BookView, IsContent, IsShown}

@@ -6,8 +6,8 @@ use Rattle.std.specs.Io.KnownBytes.{Consumes, IsAtEnd}
 use Rattle.std.proofs.lemmas.List.{append-nil}
 use Rattle.xls_stream.specs.Listing.{Entry}
 use Rattle.xls_stream.proofs.HoldingLemmas.{one_list}
-use Rattle.xls_strings.specs.declared.error.XlsError.{XlsError}
-use Rattle.xls_strings.specs.declared.error.XlsError.TheVariants as errors
+use Rattle.xls_record.specs.declared.error.XlsError.{XlsError}
+use Rattle.xls_record.specs.declared.error.XlsError.TheVariants as errors
 use Rattle.xls_meaning.specs.GlobalsTable.{forced_fault}
 use Rattle.xls_open.specs.Workbook.{rules_of, view_of}
 use Rattle.xls_meaning.specs.Reading.{IsReading}

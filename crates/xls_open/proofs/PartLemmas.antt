@@ -18,14 +18,14 @@ use Rattle.xls_stream.proofs.Shapes.{run_bytes, has_from, same_parts}
 use Rattle.xls_data.specs.Data.{content_of}
 use Rattle.xls_data.specs.declared.values.Data.{Data}
 use Rattle.xls_data.specs.declared.regions.Dimensions.{Dimensions}
-use Rattle.xls_strings.specs.declared.error.XlsError.{XlsError}
-use Rattle.xls_strings.specs.declared.error.XlsError.TheVariants as errors
+use Rattle.xls_record.specs.declared.error.XlsError.{XlsError}
+use Rattle.xls_record.specs.declared.error.XlsError.TheVariants as errors
 use Rattle.xls_biff.specs.Outer.{Keeps, Over, CutShort}
-use Rattle.xls_strings.specs.Reading.{Fails, gives}
+use Rattle.xls_record.specs.Reading.{Fails, gives}
 use Rattle.xls_strings.specs.Texts.{text_of}
 use Rattle.xls_biff.specs.SheetTable.{CellContext, SheetRecord, weight_of, formula_position, position_in}
 use Rattle.xls_biff.specs.Cells.{Entry}
-use Rattle.xls_cells.specs.Positions.{Position, IsAscending, last_at, cell_position}
+use Rattle.xls_range.specs.Positions.{Position, IsAscending, last_at, cell_position}
 use Rattle.xls_meaning.specs.Order.{along, first_of, last_of}
 use Rattle.xls_meaning.specs.InForce.{InForce}
 use Rattle.xls_meaning.specs.GlobalsTable.{fault_of}

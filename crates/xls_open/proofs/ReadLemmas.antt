@@ -2,8 +2,8 @@
 use Rattle.std.proofs.Common.{◌≡◌, ℕ, zero, suc, ◌+◌, ◌<◌, List, [], ◌∷◌, ◌++◌, length, map, take, get_or, refl, sym, ap, subst, ◌∙◌, arith, Err}
 use Rattle.std.proofs.lemmas.List.{map-append}
 use Rattle.xls_data.specs.Sheets.{SheetContent}
-use Rattle.xls_strings.specs.declared.error.XlsError.{XlsError}
-use Rattle.xls_strings.specs.declared.error.XlsError.TheVariants as errors
+use Rattle.xls_record.specs.declared.error.XlsError.{XlsError}
+use Rattle.xls_record.specs.declared.error.XlsError.TheVariants as errors
 use Rattle.xls_meaning.specs.InForce.{InForce}
 use Rattle.xls_meaning.specs.Reading.{SheetView}
 use Rattle.xls_open.specs.Steps.{Sheets, listed_of, IsRead, Reads, AreContents, ContentsFault, ReadsContents}

@@ -9,9 +9,9 @@ use Rattle.xls_stream.specs.declared.part.Part.TheVariants.{Sst}
 use Rattle.xls_stream.proofs.TableReadings.{one_reading}
 use Rattle.xls_data.specs.Sheets.{SheetContent}
 use Rattle.xls_dates.specs.declared.formats.CellFormat.{CellFormat}
-use Rattle.xls_strings.specs.declared.error.XlsError.{XlsError}
-use Rattle.xls_strings.specs.declared.error.XlsError.TheVariants as errors
-use Rattle.xls_strings.specs.Reading.{Fails, Gives, fault_in, gives}
+use Rattle.xls_record.specs.declared.error.XlsError.{XlsError}
+use Rattle.xls_record.specs.declared.error.XlsError.TheVariants as errors
+use Rattle.xls_record.specs.Reading.{Fails, Gives, fault_in, gives}
 use Rattle.xls_strings.specs.Sst.{error_of, CountsTable, ReadsTable, sst_marks, InTable}
 use Rattle.xls_biff.specs.Records.BoundSheet.{bound_sheet_at}
 use Rattle.xls_meaning.specs.GlobalsTable.{GlobalsRecord, other_record, format_record, strings_record, sheet_record, unless_refused, texts_of, Line, fault_of}

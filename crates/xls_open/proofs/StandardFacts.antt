@@ -1,7 +1,7 @@
 -- Known values of the options, and of what opening never answers.
 use Rattle.std.proofs.Common.{◌≡◌, [], ◌∷◌, length, refl, None, Some, codes}
 use Rattle.xls_data.specs.declared.regions.HeaderRow.TheVariants.{FirstNonEmptyRow}
-use Rattle.xls_strings.specs.declared.error.XlsError.TheVariants as errors
+use Rattle.xls_record.specs.declared.error.XlsError.TheVariants as errors
 use Rattle.xls_formula.specs.Functions.{shipped}
 use Rattle.xls_open.specs.Workbook.{rules_of}
 use Rattle.xls_open.specs.Opening.{default_options, default_rules, IsOfOpening}

@@ -9,8 +9,8 @@ use Rattle.xls_text.specs.declared.encoding.XlsEncoding.TheVariants.{Utf16}
 use Rattle.xls_stream.specs.Listing.{offset_at, no_table, table_of, table_without, Entry, Item, plain_item, table_item, sheet_item, entry_of}
 use Rattle.xls_data.specs.Sheets.{SheetContent}
 use Rattle.xls_dates.specs.declared.formats.CellFormat.{CellFormat}
-use Rattle.xls_strings.specs.declared.version.Biff.{Biff}
-use Rattle.xls_strings.specs.declared.version.Biff.TheVariants.{Biff8}
+use Rattle.xls_record.specs.declared.version.Biff.{Biff}
+use Rattle.xls_record.specs.declared.version.Biff.TheVariants.{Biff8}
 use Rattle.xls_meaning.specs.Order.{along, last_of, somes}
 use Rattle.xls_meaning.specs.GlobalsTable.{Named, GlobalsRecord, item_record_at, Line, version_given, page_given, date_given, format_given, xf_given, references_given, name_given, strings_given, sheet_given}
 use Rattle.xls_meaning.specs.InForce.{said_by, first_page, page_in, version_in, line_in, lines_in, sets_1904}

@@ -2,8 +2,8 @@
 use Rattle.std.specs.Prelude.{◌≡◌, ℕ, List, [], map, Option, None, Result, Ok, Err}
 use Rattle.xls_stream.specs.Listing.{Kept, Item, entry_of, Holds}
 use Rattle.xls_stream.specs.declared.part.Part.{Part}
-use Rattle.xls_strings.specs.declared.error.XlsError.{XlsError}
-use Rattle.xls_strings.specs.declared.version.Biff.{Biff}
+use Rattle.xls_record.specs.declared.error.XlsError.{XlsError}
+use Rattle.xls_record.specs.declared.version.Biff.{Biff}
 use Rattle.xls_meaning.specs.Order.{along, first_of}
 use Rattle.xls_meaning.specs.InForce.{version_in, InForce, in_force_of}
 use Rattle.xls_meaning.specs.GlobalsTable.{fault_of}

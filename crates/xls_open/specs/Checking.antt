@@ -1,6 +1,6 @@
 -- What a check of a stream answers.
 use Rattle.std.specs.Prelude.{ℕ, List, [], Option, Result, Ok, Err}
-use Rattle.xls_strings.specs.declared.error.XlsError.{XlsError}
+use Rattle.xls_record.specs.declared.error.XlsError.{XlsError}
 use Rattle.xls_meaning.specs.GlobalsTable.{forced_fault}
 use Rattle.xls_meaning.specs.Faults.{FirstBehind}
 use Rattle.xls_meaning.specs.Rules.{Rules}

@@ -3,12 +3,12 @@ use Rattle.std.specs.Prelude.{◌≡◌, ◌↔◌, ℕ, ◌≤◌, List, length
 use Rattle.std.specs.Io.KnownBytes.{IsAtEnd}
 use Rattle.xls_stream.specs.Walks.{IsBytes}
 use Rattle.xls_stream.specs.Listing.{Entry, Carries}
-use Rattle.xls_strings.specs.declared.error.XlsError.{XlsError}
-use Rattle.xls_strings.specs.declared.error.XlsError.TheVariants as errors
+use Rattle.xls_record.specs.declared.error.XlsError.{XlsError}
+use Rattle.xls_record.specs.declared.error.XlsError.TheVariants as errors
 use Rattle.xls_layouts.specs.Layout.{Layout, lay, list_of, IsLayout}
 use Rattle.xls_meaning.specs.Rules.{Rules}
 use Rattle.xls_text.specs.declared.encoding.XlsEncoding.{XlsEncoding}
-use Rattle.xls_strings.specs.declared.version.Biff.{Biff}
+use Rattle.xls_record.specs.declared.version.Biff.{Biff}
 use Rattle.xls_meaning.specs.GlobalsTable.{forced_fault, entry_record_at, page_given, version_given}
 use Rattle.xls_meaning.specs.InForce.{said_by}
 use Rattle.xls_meaning.specs.Reading.{IsReading}

@@ -9,11 +9,11 @@ use Rattle.xls_stream.specs.Walks.{IsBytes}
 use Rattle.xls_stream.specs.declared.part.Part.{Part}
 use Rattle.xls_data.specs.Sheets.{SheetContent, sheet_content}
 use Rattle.xls_dates.specs.declared.formats.CellFormat.{CellFormat}
-use Rattle.xls_strings.specs.declared.error.XlsError.{XlsError}
-use Rattle.xls_strings.specs.declared.error.XlsError.TheVariants as errors
-use Rattle.xls_strings.specs.declared.version.Biff.{Biff}
-use Rattle.xls_strings.specs.declared.version.Biff.TheVariants.{Biff8}
-use Rattle.xls_strings.specs.Reading.{Fails, gives}
+use Rattle.xls_record.specs.declared.error.XlsError.{XlsError}
+use Rattle.xls_record.specs.declared.error.XlsError.TheVariants as errors
+use Rattle.xls_record.specs.declared.version.Biff.{Biff}
+use Rattle.xls_record.specs.declared.version.Biff.TheVariants.{Biff8}
+use Rattle.xls_record.specs.Reading.{Fails, gives}
 use Rattle.xls_meaning.specs.Order.{along, first_of}
 use Rattle.xls_meaning.specs.InForce.{page_in, version_in, is_1904_in, formats_in, identifiers_in, texts_in, extern_refs, lbls_in, known_refs, told_name, InForce, SheetRecords}
 use Rattle.xls_meaning.specs.GlobalsTable.{Named, GlobalsRecord, version_given, page_given, date_given, format_given, xf_given, references_given, name_given, strings_given, sheet_given}

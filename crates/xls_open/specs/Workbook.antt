@@ -4,7 +4,7 @@ use Rattle.std.specs.Global.{Global}
 use Rattle.xls_data.specs.Sheets.{SheetContent}
 use Rattle.xls_data.specs.declared.values.Data.{Data}
 use Rattle.xls_dates.specs.declared.formats.CellFormat.{CellFormat}
-use Rattle.xls_cells.specs.Positions.{Position, IsAscending}
+use Rattle.xls_range.specs.Positions.{Position, IsAscending}
 use Rattle.xls_strings.specs.Texts.{text_of}
 use Rattle.xls_biff.specs.Cells.{Entry}
 use Rattle.xls_biff.specs.Cells as cells

@@ -5,7 +5,7 @@ ghost use Rattle.xls_text.specs.declared.encoding.XlsEncoding.{XlsEncoding};
 ghost use Rattle.xls_stream.specs.Listing.{Shared, IsShared, is_plain_type};
 ghost use Rattle.xls_stream.specs.declared.types.TheConstants as types;
 ghost use Rattle.xls_data.specs.Sheets.{SheetContent};
-ghost use Rattle.xls_strings.specs.Reading.{gives};
+ghost use Rattle.xls_record.specs.Reading.{gives};
 ghost use Rattle.xls_biff.specs.Walking.{group_of};
 ghost use Rattle.xls_biff.specs.Records.BoundSheet.{bound_sheet_at};
 ghost use Rattle.xls_meaning.specs.GlobalsTable.{strings_record, sheet_record, texts_of, plain_record_at};

@@ -2,7 +2,7 @@
 
 ghost use Rattle.std.specs.Prelude.{◌≡◌, ◌++◌, [], ◌∷◌, ◌≤◌, ◌+◌, MatchResult, Ok, map, length};
 ghost use Rattle.std.specs.List.{AllByRecursion};
-ghost use Rattle.xls_strings.specs.Reading.{Exactly, Fails, gives};
+ghost use Rattle.xls_record.specs.Reading.{Exactly, Fails, gives};
 ghost use Rattle.xls_strings.specs.Strings.{string_at};
 ghost use Rattle.xls_strings.specs.Texts.{text_of};
 ghost use Rattle.xls_biff.specs.Cells.{value_of};
@@ -34,8 +34,8 @@ use xls_biff::{
     parse_formula_record, parse_label, parse_label_sst, parse_merge_cells, parse_mul_rk,
     parse_number, parse_rk, parse_string, sheet_record_weight,
 };
-use xls_cells::sorted_cells;
 use xls_data::{Cell, Data, Dimensions};
+use xls_range::sorted_cells;
 use xls_stream::types::{
     BOOL_ERR, DIMENSIONS, FORMULA, LABEL, LABEL_SST, MERGE_CELLS, MUL_RK, NUMBER, R_STRING, RK,
     STRING,

@@ -2,8 +2,8 @@
 use Rattle.std.proofs.Common.{◌≡◌, ℕ, List, [], ◌∷◌, ◌++◌, refl, false, true, codes, Some, None, Ok, Err, replicate, map}
 use Rattle.xls_stream.specs.declared.part.Part.TheVariants as parts
 use Rattle.xls_data.specs.declared.errors.CellErrorType.TheVariants as failures
-use Rattle.xls_strings.specs.declared.error.XlsError.TheVariants as errors
-use Rattle.xls_strings.specs.declared.version.Biff.TheVariants.{Biff2, Biff4, Biff5, Biff8}
+use Rattle.xls_record.specs.declared.error.XlsError.TheVariants as errors
+use Rattle.xls_record.specs.declared.version.Biff.TheVariants.{Biff2, Biff4, Biff5, Biff8}
 use Rattle.xls_ptg.specs.declared.corner.Corner.{Corner}
 use Rattle.xls_ptg.specs.declared.operators.Operator.{Operator}
 use Rattle.xls_ptg.specs.declared.operators.Operator.TheVariants as operators

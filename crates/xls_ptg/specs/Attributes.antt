@@ -1,10 +1,10 @@
 -- 19, the attributes ([MS-XLS] 2.5.198). Which of them are read is this project's rule. Sizes count the
 -- bytes after the attribute byte, and a reading that byte too.
 use Rattle.std.specs.Prelude.{ℕ, ◌+◌, ◌*◌, ◌%◌, List, drop, slice_index, Bool, ◌||◌, nat_lt, ◌==◌, if◌then◌else◌, Result, Ok, Err}
-use Rattle.xls_strings.specs.Reading.{gives}
+use Rattle.xls_record.specs.Reading.{gives}
 use Rattle.xls_stream.specs.declared.part.Part.TheVariants as parts
-use Rattle.xls_strings.specs.declared.error.XlsError.{XlsError}
-use Rattle.xls_strings.specs.declared.error.XlsError.TheVariants as errors
+use Rattle.xls_record.specs.declared.error.XlsError.{XlsError}
+use Rattle.xls_record.specs.declared.error.XlsError.TheVariants as errors
 use Rattle.xls_ptg.specs.declared.tokens.Ptg.{Ptg}
 use Rattle.xls_ptg.specs.declared.tokens.Ptg.TheVariants as ptg
 use Rattle.xls_ptg.specs.Fields.{word_at, sized}

@@ -1,7 +1,7 @@
 -- The size of a token, and the cells that it cites.
 use Rattle.std.specs.Prelude.{ℕ, ◌+◌, List, Option, Some, None, Result}
-use Rattle.xls_strings.specs.Reading.{gives}
-use Rattle.xls_strings.specs.declared.error.XlsError.{XlsError}
+use Rattle.xls_record.specs.Reading.{gives}
+use Rattle.xls_record.specs.declared.error.XlsError.{XlsError}
 use Rattle.xls_ptg.specs.declared.corner.Corner.{Corner}
 use Rattle.xls_ptg.specs.declared.cite.RawCite.{RawCite}
 use Rattle.xls_ptg.specs.declared.cite.Token.{Token}

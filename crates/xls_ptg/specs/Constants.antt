@@ -1,12 +1,12 @@
 -- Constants ([MS-XLS] 2.5.198).
 use Rattle.std.specs.Prelude.{ℕ, List, take, slice_index, not, ◌==◌, Result, Ok, Err}
-use Rattle.xls_strings.specs.Reading.{gives}
+use Rattle.xls_record.specs.Reading.{gives}
 use Rattle.xls_bytes.specs.Numbers.{le}
 use Rattle.xls_stream.specs.declared.part.Part.TheVariants as parts
 use Rattle.xls_data.specs.declared.errors.CellErrorType.{CellErrorType}
 use Rattle.xls_biff.specs.Cells.{cell_error}
-use Rattle.xls_strings.specs.declared.error.XlsError.{XlsError}
-use Rattle.xls_strings.specs.declared.error.XlsError.TheVariants as errors
+use Rattle.xls_record.specs.declared.error.XlsError.{XlsError}
+use Rattle.xls_record.specs.declared.error.XlsError.TheVariants as errors
 use Rattle.xls_ptg.specs.declared.tokens.Ptg.TheVariants as ptg
 use Rattle.xls_ptg.specs.Fields.{word_at, sized}
 use Rattle.xls_ptg.specs.Readings.{Reading}

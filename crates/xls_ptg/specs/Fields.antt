@@ -3,8 +3,8 @@ use Rattle.std.specs.Prelude.{ℕ, List, length, take, drop, nat_lt, if◌then�
 use Rattle.xls_bytes.specs.Numbers.{le}
 use Rattle.xls_stream.specs.declared.part.Part.{Part}
 use Rattle.xls_stream.specs.declared.part.Part.TheVariants as parts
-use Rattle.xls_strings.specs.declared.error.XlsError.{XlsError}
-use Rattle.xls_strings.specs.declared.error.XlsError.TheVariants as errors
+use Rattle.xls_record.specs.declared.error.XlsError.{XlsError}
+use Rattle.xls_record.specs.declared.error.XlsError.TheVariants as errors
 
 -- the number in two bytes at a place
 abbrev pub word_at : ℕ → List ℕ → ℕ

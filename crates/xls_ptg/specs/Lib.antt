@@ -12,4 +12,4 @@ pub mod References
 pub mod References3d
 pub mod Tokens
 pub mod Cites
-pub use Rattle.xls_strings.specs.Reading
+pub use Rattle.xls_record.specs.Reading

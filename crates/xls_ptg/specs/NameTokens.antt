@@ -1,8 +1,8 @@
 -- Names ([MS-XLS] 2.5.198). What stands before BIFF8 is this project's rule.
 use Rattle.std.specs.Prelude.{ℕ, List, take, if◌then◌else◌, Ok}
 use Rattle.xls_bytes.specs.Numbers.{le}
-use Rattle.xls_strings.specs.Version.{is_biff8}
-use Rattle.xls_strings.specs.declared.version.Biff.{Biff}
+use Rattle.xls_record.specs.Version.{is_biff8}
+use Rattle.xls_record.specs.declared.version.Biff.{Biff}
 use Rattle.xls_ptg.specs.declared.tokens.Ptg.TheVariants as ptg
 use Rattle.xls_ptg.specs.Fields.{word_at, sized}
 use Rattle.xls_ptg.specs.Readings.{Reading}

@@ -1,12 +1,12 @@
 -- 17 (PtgStr, [MS-XLS] 2.5.198.89). What stands before BIFF8 is this project's rule.
 use Rattle.std.specs.Prelude.{ℕ, ◌+◌, List, length, take, drop, slice_index, Bool, if◌then◌else◌, Some, None, Result, Ok}
-use Rattle.xls_strings.specs.Reading.{gives}
+use Rattle.xls_record.specs.Reading.{gives}
 use Rattle.xls_stream.specs.StringTable.{is_wide}
 use Rattle.xls_stream.specs.declared.part.Part.TheVariants as parts
-use Rattle.xls_strings.specs.Version.{is_biff8}
+use Rattle.xls_record.specs.Version.{is_biff8}
 use Rattle.xls_strings.specs.Uncounted.{uncounted_size}
-use Rattle.xls_strings.specs.declared.error.XlsError.{XlsError}
-use Rattle.xls_strings.specs.declared.version.Biff.{Biff}
+use Rattle.xls_record.specs.declared.error.XlsError.{XlsError}
+use Rattle.xls_record.specs.declared.version.Biff.{Biff}
 use Rattle.xls_ptg.specs.declared.tokens.Ptg.TheVariants as ptg
 use Rattle.xls_ptg.specs.Fields.{sized_as}
 use Rattle.xls_ptg.specs.Readings.{Reading}

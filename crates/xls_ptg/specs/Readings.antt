@@ -1,7 +1,7 @@
 -- What is read of a token, or its first fault by its bytes and the code tables.
 use Rattle.std.specs.Prelude.{ℕ, List, Result}
 use Rattle.std.specs.Borrow.{Bor}
-use Rattle.xls_strings.specs.declared.error.XlsError.{XlsError}
+use Rattle.xls_record.specs.declared.error.XlsError.{XlsError}
 use Rattle.xls_ptg.specs.declared.tokens.Ptg.{Ptg}
 use Rattle.xls_ptg.specs.declared.tokens.Ptg.TheVariants as ptg
 

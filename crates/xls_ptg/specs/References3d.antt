@@ -1,7 +1,7 @@
 -- Cells on the sheet of a reference ([MS-XLS] 2.5.198). What stands before BIFF8 is this project's rule.
 use Rattle.std.specs.Prelude.{ℕ, List, slice_index, if◌then◌else◌, Ok}
-use Rattle.xls_strings.specs.Version.{is_biff8}
-use Rattle.xls_strings.specs.declared.version.Biff.{Biff}
+use Rattle.xls_record.specs.Version.{is_biff8}
+use Rattle.xls_record.specs.declared.version.Biff.{Biff}
 use Rattle.xls_ptg.specs.declared.corner.Corner.{Corner}
 use Rattle.xls_ptg.specs.declared.tokens.Ptg.TheVariants as ptg
 use Rattle.xls_ptg.specs.Corners.{corner_of, early_corner_of, pinned}

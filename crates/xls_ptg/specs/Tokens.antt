@@ -3,8 +3,8 @@
 -- attributes are read, are this project's rule.
 use Rattle.std.specs.Prelude.{ℕ, ◌%◌, List, drop, slice_index, ◌&&◌, nat_lt, ◌==◌, if◌then◌else◌, Ok, Err}
 use Rattle.xls_stream.specs.declared.part.Part.TheVariants as parts
-use Rattle.xls_strings.specs.declared.error.XlsError.TheVariants as errors
-use Rattle.xls_strings.specs.declared.version.Biff.{Biff}
+use Rattle.xls_record.specs.declared.error.XlsError.TheVariants as errors
+use Rattle.xls_record.specs.declared.version.Biff.{Biff}
 use Rattle.xls_ptg.specs.declared.tokens.Ptg.TheVariants as ptg
 use Rattle.xls_ptg.specs.Operators.{operator_of}
 use Rattle.xls_ptg.specs.Readings.{Reading}

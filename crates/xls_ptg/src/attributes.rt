@@ -1,7 +1,7 @@
 //! The attributes, PtgAttrSemi to PtgAttrSpaceSemi. `body` is what stands after the attribute byte.
 
 ghost use Rattle.std.specs.Prelude.{◌≡◌, ◌≤◌, ◌+◌, length, IfOk};
-ghost use Rattle.xls_strings.specs.Reading.{Exactly};
+ghost use Rattle.xls_record.specs.Reading.{Exactly};
 ghost use Rattle.xls_ptg.specs.Attributes.{attr_at, attr_by, attr_choose_at, attr_space, attr_space_semi, plain_attr, space_at, space_by};
 ghost use Rattle.xls_ptg.specs.Readings.{as_read, ptg_of};
 

@@ -1,7 +1,7 @@
 //! What one token is: its size, and the cells that it cites.
 
 ghost use Rattle.std.specs.Prelude.{◌≡◌, ◌<◌, length};
-ghost use Rattle.xls_strings.specs.Reading.{Exactly};
+ghost use Rattle.xls_record.specs.Reading.{Exactly};
 ghost use Rattle.xls_ptg.specs.Cites.{cite_of, measured, position_of, raw_cite};
 ghost use Rattle.xls_ptg.specs.Readings.{ptg_of};
 ghost use Rattle.xls_ptg.specs.Tokens.{ptg_at};

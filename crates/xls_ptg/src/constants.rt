@@ -1,7 +1,7 @@
 //! Constants: PtgErr, PtgBool, PtgInt, PtgNum, PtgArray.
 
 ghost use Rattle.std.specs.Prelude.{◌≡◌, ◌≤◌, length, IfOk};
-ghost use Rattle.xls_strings.specs.Reading.{Exactly};
+ghost use Rattle.xls_record.specs.Reading.{Exactly};
 ghost use Rattle.xls_ptg.specs.Constants.{array_at, bool_at, err_at, err_of, int_at, num_at};
 ghost use Rattle.xls_ptg.specs.Readings.{as_read};
 

@@ -1,7 +1,7 @@
 //! The control tokens that have bytes of their own: PtgExp and PtgElf.
 
 ghost use Rattle.std.specs.Prelude.{◌≡◌, ◌≤◌, length, IfOk};
-ghost use Rattle.xls_strings.specs.Reading.{Exactly};
+ghost use Rattle.xls_record.specs.Reading.{Exactly};
 ghost use Rattle.xls_ptg.specs.Control.{elf_at, exp_at};
 ghost use Rattle.xls_ptg.specs.Readings.{as_read};
 

@@ -1,7 +1,7 @@
 //! The fields of a token, and the refusals of one.
 
 ghost use Rattle.std.specs.Prelude.{◌≡◌, ◌+◌, ◌≤◌, length};
-ghost use Rattle.xls_strings.specs.Version.{is_biff8};
+ghost use Rattle.xls_record.specs.Version.{is_biff8};
 ghost use Rattle.xls_ptg.specs.Fields.{word_at};
 
 use xls_biff::{Biff, Part, XlsError};

@@ -1,7 +1,7 @@
 //! Functions: PtgFunc and PtgFuncVar.
 
 ghost use Rattle.std.specs.Prelude.{◌≡◌, ◌≤◌, length, IfOk};
-ghost use Rattle.xls_strings.specs.Reading.{Exactly};
+ghost use Rattle.xls_record.specs.Reading.{Exactly};
 ghost use Rattle.xls_ptg.specs.FunctionTokens.{func_at, func_var_at};
 ghost use Rattle.xls_ptg.specs.Readings.{as_read};
 

@@ -1,7 +1,7 @@
 //! Names: PtgName and PtgNameX.
 
 ghost use Rattle.std.specs.Prelude.{◌≡◌, ◌≤◌, length, IfOk};
-ghost use Rattle.xls_strings.specs.Reading.{Exactly};
+ghost use Rattle.xls_record.specs.Reading.{Exactly};
 ghost use Rattle.xls_ptg.specs.NameTokens.{name_at, name_x_at, name_x_size};
 ghost use Rattle.xls_ptg.specs.Readings.{as_read};
 

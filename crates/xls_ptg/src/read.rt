@@ -1,7 +1,7 @@
 //! One token by its first byte.
 
 ghost use Rattle.std.specs.Prelude.{◌≡◌, ◌≤◌, ◌<◌, length, IfOk};
-ghost use Rattle.xls_strings.specs.Reading.{Exactly};
+ghost use Rattle.xls_record.specs.Reading.{Exactly};
 ghost use Rattle.xls_ptg.specs.Readings.{as_read};
 ghost use Rattle.xls_ptg.specs.Tokens.{basic_by, by_3d, classed_by, ptg_at};
 

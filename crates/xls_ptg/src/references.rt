@@ -1,7 +1,7 @@
 //! Cells on the formula's own sheet: PtgRef, PtgArea, PtgRefErr, PtgAreaErr.
 
 ghost use Rattle.std.specs.Prelude.{◌≡◌, ◌≤◌, length, IfOk};
-ghost use Rattle.xls_strings.specs.Reading.{Exactly};
+ghost use Rattle.xls_record.specs.Reading.{Exactly};
 ghost use Rattle.xls_ptg.specs.Readings.{as_read};
 ghost use Rattle.xls_ptg.specs.References.{area_at, area_err_at, area_size, early_area_at, ref_at, ref_err_at, ref_size};
 

@@ -1,7 +1,7 @@
 //! Cells on the sheet of a reference: PtgRef3d, PtgArea3d, PtgRefErr3d, PtgAreaErr3d.
 
 ghost use Rattle.std.specs.Prelude.{◌≡◌, ◌≤◌, length, IfOk};
-ghost use Rattle.xls_strings.specs.Reading.{Exactly};
+ghost use Rattle.xls_record.specs.Reading.{Exactly};
 ghost use Rattle.xls_ptg.specs.Readings.{as_read};
 ghost use Rattle.xls_ptg.specs.References3d.{area3d_at, area3d_first, area3d_last, area3d_size, area_err3d_at, ixti_at, ixti_size, ref3d_at, ref3d_corner, ref3d_size, ref_err3d_at};
 

@@ -1,7 +1,7 @@
 //! PtgStr.
 
 ghost use Rattle.std.specs.Prelude.{◌≡◌, ◌≤◌, ◌+◌, length, IfOk};
-ghost use Rattle.xls_strings.specs.Reading.{Exactly};
+ghost use Rattle.xls_record.specs.Reading.{Exactly};
 ghost use Rattle.xls_ptg.specs.PtgStr.{early_str_at, no_cch_at, str_at};
 ghost use Rattle.xls_ptg.specs.Readings.{as_read};
 

@@ -12,3 +12,8 @@ pub mod WalkLemmas
 pub mod DenseLemmas
 pub mod StandardFacts
 pub mod CallLemmas
+pub mod KeptLemmas
+pub mod LastLemmas
+pub mod NumberLemmas
+pub mod OrderLemmas
+pub mod PutLemmas

@@ -1,4 +1,4 @@
-//! Dense ranges of cells, for every type of cells.
+//! Dense ranges of cells, for every type of cells; and the cells of a sheet in order of their positions.
 #![tactic(auto)]
 
 mod error;
@@ -7,8 +7,10 @@ mod iters;
 pub mod laws;
 mod moves;
 mod range;
+mod sorted;
 mod sparse;
 
 pub use error::RangeError;
 pub use iters::{Cells, Rows, UsedCells};
 pub use range::Range;
+pub use sorted::{Given, Settled, Unsettled, sorted_cells};

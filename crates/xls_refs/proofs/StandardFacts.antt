@@ -1,8 +1,8 @@
 -- Values from outside, so that a wrong rule in the definitions does not check.
 use Rattle.std.proofs.Common.{◌≡◌, ℕ, [], ◌∷◌, refl, pos, negsuc, codes, Some, None, Ok, Err, true, false}
 use Rattle.xls_text.specs.declared.encoding.XlsEncoding.TheVariants.{Utf16}
-use Rattle.xls_strings.specs.declared.error.XlsError.TheVariants as errors
-use Rattle.xls_strings.specs.declared.version.Biff.TheVariants.{Biff8}
+use Rattle.xls_record.specs.declared.error.XlsError.TheVariants as errors
+use Rattle.xls_record.specs.declared.version.Biff.TheVariants.{Biff8}
 use Rattle.xls_formula.specs.Context.{Context}
 use Rattle.xls_refs.specs.Citations.{Citation, same_cells, distinct, cites_at}
 use Rattle.xls_refs.specs.Cited.{on_own_sheet}

@@ -3,10 +3,10 @@ use Rattle.std.specs.Prelude.{ℕ, List, [], ◌∷◌, ◌++◌, Bool, ◌&&◌
 use Rattle.std.specs.Cmp.Lexicographic.{pointwise}
 use Rattle.std.specs.List.{list_any}
 use Rattle.std.specs.Option.{option_eq, option_map}
-use Rattle.xls_cells.specs.Positions.{Position}
-use Rattle.xls_strings.specs.Reading.{gives}
+use Rattle.xls_range.specs.Positions.{Position}
+use Rattle.xls_record.specs.Reading.{gives}
 use Rattle.xls_strings.specs.Texts.{text_of}
-use Rattle.xls_strings.specs.declared.error.XlsError.{XlsError}
+use Rattle.xls_record.specs.declared.error.XlsError.{XlsError}
 use Rattle.xls_ptg.specs.Cites.{position_of}
 use Rattle.xls_ptg.specs.declared.corner.Corner.{Corner}
 use Rattle.xls_formula.specs.Context.{Context}

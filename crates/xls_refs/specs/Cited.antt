@@ -2,8 +2,8 @@
 use Rattle.std.specs.Prelude.{◌≡◌, ℕ, suc, List, [], ◌∷◌, ◌++◌, map, Some, unwrap_or, Result, Ok, Err}
 use Rattle.std.specs.List.{flat_map}
 use Rattle.xls_stream.specs.Listing.{Kept, Entry}
-use Rattle.xls_cells.specs.Positions.{Position}
-use Rattle.xls_strings.specs.declared.error.XlsError.{XlsError}
+use Rattle.xls_range.specs.Positions.{Position}
+use Rattle.xls_record.specs.declared.error.XlsError.{XlsError}
 use Rattle.xls_formula.specs.Context.{Context}
 use Rattle.xls_meaning.specs.InForce.{SheetRecords, sheets_of, sheet_names_of, context_of}
 use Rattle.xls_meaning.specs.Reading.{kept_named}

@@ -1,7 +1,7 @@
 -- What the citations of a stream answer.
 use Rattle.std.specs.Prelude.{ℕ, List}
 use Rattle.xls_stream.specs.Listing.{Entry, Carries}
-use Rattle.xls_strings.specs.declared.error.XlsError.{XlsError}
+use Rattle.xls_record.specs.declared.error.XlsError.{XlsError}
 use Rattle.xls_meaning.specs.Faults.{IsFull}
 use Rattle.xls_open.specs.Workbook.{rules_of}
 use Rattle.xls_open.specs.declared.options.XlsOptions.{XlsOptions}

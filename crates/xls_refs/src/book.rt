@@ -2,7 +2,7 @@
 
 ghost use Rattle.std.specs.Prelude.{◌≡◌, ◌++◌, Err, IfErr, IfOk, OnOk, map, slice_get};
 ghost use Rattle.std.specs.Str.{chars};
-ghost use Rattle.xls_strings.specs.declared.error.XlsError.{XlsError};
+ghost use Rattle.xls_record.specs.declared.error.XlsError.{XlsError};
 ghost use Rattle.xls_refs.specs.Citations.{citation_of};
 ghost use Rattle.xls_refs.specs.Cited.{book_citation_of, on_own_sheet};
 ghost use Rattle.xls_refs.specs.Citing.{CitingCause, IsBookCited};

@@ -1,6 +1,6 @@
 //! The cells that a formula cites.
 
-ghost use Rattle.xls_strings.specs.Reading.{Gives};
+ghost use Rattle.xls_record.specs.Reading.{Gives};
 ghost use Rattle.xls_formula.specs.Holding.{context_of};
 ghost use Rattle.xls_refs.specs.Citations.{cites_at};
 

@@ -2,7 +2,7 @@
 
 ghost use Rattle.std.specs.Prelude.{◌≡◌, ◌++◌, ◌∷◌, [], ◌≤◌, ◌+◌, ◌<◌, ◌^◌, IfOk, OnOk, map};
 ghost use Rattle.std.specs.Option.{option_map};
-ghost use Rattle.xls_strings.specs.Reading.{Exactly, Gives};
+ghost use Rattle.xls_record.specs.Reading.{Exactly, Gives};
 ghost use Rattle.xls_ptg.specs.Cites.{position_of};
 ghost use Rattle.xls_formula.specs.Fold.{walk};
 ghost use Rattle.xls_formula.specs.Holding.{context_of, effect_of, tree_of};

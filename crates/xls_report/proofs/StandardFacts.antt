@@ -7,7 +7,7 @@ use Rattle.xls_data.specs.declared.errors.CellErrorType.TheVariants.{NA}
 use Rattle.xls_dates.specs.declared.numbers.Number.TheVariants.{Whole, Hundredths}
 use Rattle.xls_data.specs.declared.sheets.SheetType.TheVariants.{WorkSheet, DialogSheet, MacroSheet, ChartSheet, Vba}
 use Rattle.xls_data.specs.declared.sheets.SheetVisible.TheVariants.{Visible, Hidden, VeryHidden}
-use Rattle.xls_strings.specs.declared.error.XlsError.TheVariants.{Password, TooLarge}
+use Rattle.xls_record.specs.declared.error.XlsError.TheVariants.{Password, TooLarge}
 use Rattle.xls_lay.specs.declared.error.LayError.TheVariants.{TooLong}
 use Rattle.xls_meaning.specs.Reading.{BookView}
 use Rattle.xls_report.specs.Report.{cell_line, fault_line, report, sheet_report, sound_line, unwritten_line}

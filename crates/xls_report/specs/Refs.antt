@@ -2,7 +2,7 @@
 use Rattle.std.specs.Prelude.{ℕ, List, [], ◌∷◌, codes, slice_get, unwrap_or, Option, Some, None}
 use Rattle.std.specs.List.{flat_map}
 use Rattle.std.specs.Fmt.{decimal}
-use Rattle.xls_cells.specs.Positions.{Position}
+use Rattle.xls_range.specs.Positions.{Position}
 use Rattle.xls_refs.specs.Cited.{BookCitation, BookCited}
 use Rattle.xls_lines.specs.Lines.{line, escaped_text}
 

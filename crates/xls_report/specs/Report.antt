@@ -14,10 +14,10 @@ use Rattle.xls_data.specs.declared.sheets.SheetType.TheVariants as types
 use Rattle.xls_data.specs.declared.sheets.SheetVisible.{SheetVisible}
 use Rattle.xls_data.specs.declared.sheets.SheetVisible.TheVariants as states
 use Rattle.xls_biff.specs.Cells.{Entry}
-use Rattle.xls_strings.specs.ErrorText.{error_text}
+use Rattle.xls_record.specs.ErrorText.{error_text}
 use Rattle.xls_lay.specs.ErrorText as lay_errors
 use Rattle.xls_lay.specs.declared.error.LayError.{LayError}
-use Rattle.xls_strings.specs.declared.error.XlsError.{XlsError}
+use Rattle.xls_record.specs.declared.error.XlsError.{XlsError}
 use Rattle.xls_data.specs.declared.regions.Dimensions.{Dimensions}
 use Rattle.xls_meaning.specs.Reading.{SheetView, BookView}
 use Rattle.xls_meaning.specs.SheetTable.{FormulaEntry, shown_formulas}

@@ -7,7 +7,7 @@ ghost use Rattle.std.specs.Str.{chars};
 ghost use Rattle.xls_data.specs.Data.{bool_text};
 ghost use Rattle.xls_data.specs.Refs.{ref_content_of};
 ghost use Rattle.xls_data.specs.Sheets.{sheet_content};
-ghost use Rattle.xls_strings.specs.declared.error.XlsError.TheVariants.{Memory};
+ghost use Rattle.xls_record.specs.declared.error.XlsError.TheVariants.{Memory};
 ghost use Rattle.xls_lines.specs.Gathering.{Delivers, Puts};
 ghost use Rattle.xls_report.specs.Endings.{EndsWithEither};
 ghost use Rattle.xls_lines.specs.Lines.{field_text};

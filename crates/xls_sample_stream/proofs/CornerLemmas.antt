@@ -5,7 +5,7 @@ use Rattle.std.specs.List.{flat_map, range_with_len, AllByRecursion}
 use Rattle.std.proofs.lemmas.List.Elements.{All-from_recursion}
 use Rattle.xls_data.specs.declared.values.Data.{Data}
 use Rattle.xls_range.specs.Sparse.{AreCorners}
-use Rattle.xls_cells.specs.Positions.{Position}
+use Rattle.xls_range.specs.Positions.{Position}
 use Rattle.xls_biff.specs.Cells.{Entry}
 use Rattle.xls_open.specs.Workbook.{cell_content}
 use Rattle.xls_sample_stream.specs.Made.{row_cells, made_cells}

@@ -14,7 +14,7 @@ use Rattle.xls_range.specs.Grid.{Grid, IsOfCorners, IsCopyOf, cell_at}
 use Rattle.xls_range.specs.Grid as grid
 use Rattle.xls_range.specs.Sparse.{last_at}
 use Rattle.xls_range.proofs.CellLemmas.{cell_at_index}
-use Rattle.xls_cells.specs.Positions.{Position}
+use Rattle.xls_range.specs.Positions.{Position}
 use Rattle.xls_biff.specs.Cells.{Entry}
 use Rattle.xls_open.specs.Workbook.{cell_content, view_named, Workbook}
 use Rattle.xls_data.specs.declared.regions.HeaderRow.TheVariants.{FirstNonEmptyRow}

@@ -9,8 +9,8 @@ use Rattle.xls_data.specs.Sheets.{SheetContent}
 use Rattle.xls_range.specs.Sparse.{last_at, Precedes, IsAscending}
 use Rattle.xls_biff.specs.Cells.{Entry}
 use Rattle.xls_biff.specs.SheetTable.{CellContext, SheetRecord}
-use Rattle.xls_strings.specs.Reading.{gives}
-use Rattle.xls_strings.specs.declared.error.XlsError.{XlsError}
+use Rattle.xls_record.specs.Reading.{gives}
+use Rattle.xls_record.specs.declared.error.XlsError.{XlsError}
 use Rattle.xls_meaning.specs.Order.{along}
 use Rattle.xls_meaning.specs.InForce.{sheets_of, cells_of, InForce, in_force_of, classes_in, texts_in, is_1904_in}
 use Rattle.xls_meaning.specs.SheetTable.{FormulaEntry, Given, one_cell, adds, given_in, last_formula}

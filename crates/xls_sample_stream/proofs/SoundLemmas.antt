@@ -7,7 +7,7 @@ use Rattle.std.proofs.lemmas.List.FromFn.{length-range_with_len}
 use Rattle.xls_stream.specs.Listing.{Kept}
 use Rattle.xls_data.specs.Content.{int, text}
 use Rattle.xls_biff.specs.SheetTable.{CellContext, SheetRecord, cells_record, shared_record}
-use Rattle.xls_strings.specs.declared.error.XlsError.{XlsError}
+use Rattle.xls_record.specs.declared.error.XlsError.{XlsError}
 use Rattle.xls_meaning.specs.Order.{along, first_of}
 use Rattle.xls_meaning.specs.InForce.{cells_of}
 use Rattle.xls_meaning.specs.GlobalsTable.{fault_of}

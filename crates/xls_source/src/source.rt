@@ -15,7 +15,7 @@ pub struct ReadFault;
 
 impl From<ReadFault> for XlsError {
     ghost use Rattle.std.specs.Prelude.{◌≡◌};
-    ghost use Rattle.xls_strings.specs.declared.error.XlsError.TheVariants.{Io};
+    ghost use Rattle.xls_record.specs.declared.error.XlsError.TheVariants.{Io};
 
     ghost from_gives = { λ _ e. e ≡ Io };
 

@@ -1,4 +1,3 @@
-pub mod ReadingLemmas
 pub mod TextLemmas
 pub mod MarkLemmas
 pub mod SstLemmas

@@ -2,7 +2,6 @@
 use Rattle.std.proofs.Common.{◌≡◌, ℕ, suc, ◌+◌, ◌-◌, ◌*◌, ◌<◌, ◌≤◌, Bool, true, false, List, [], ◌∷◌, ◌++◌, length, Option, Some, None, refl, sym, ap, subst, ◌∙◌, append_assoc, arith, inl, inr, is_some}
 use Rattle.std.proofs.lemmas.List.{append-nil, length-append}
 use Rattle.xls_stream.specs.StringTable.{Mark, weight, marked, marked_piece, with_unit, units_at}
-use Rattle.xls_stream.specs.Stream.{continues}
 use Rattle.std.specs.List.{flat_map}
 use Rattle.xls_stream.proofs.StringUnits.{weight-bytes, UnitsSoFar, with_front, regroup, unit_at_narrow, unit_at_wide, unit_at_mark}
 use Rattle.xls_strings.specs.MarkSteps.{IsAtMark, IsPastMark, TakesByte, TakesHigh, TakesWidth}
@@ -98,10 +97,6 @@ took_none before after (Some b) t e = absurd cc
 took_none before after None t e = t
 
 -- ---- what marked bytes weigh
-
-pub weight-pieces : (bodies : List (List ℕ)) → weight (flat_map marked_piece bodies) ≤ length (continues bodies)
-weight-pieces [] = omega arith
-weight-pieces (b ∷ bs) = omega (arith, weight-pieces bs, weight-bytes b (flat_map marked_piece bs), length-append b (continues bs))
 
 pub weight-marked : (hand : List ℕ) (bodies : List (List ℕ)) → weight (marked hand bodies) ≡ length hand + weight (flat_map marked_piece bodies)
 weight-marked hand bodies = weight-bytes hand (flat_map marked_piece bodies)

@@ -6,9 +6,9 @@ use Rattle.std.proofs.lemmas.Bool.{false≢true}
 use Rattle.std.proofs.lemmas.List.{map_push, nil_from_length, length-append}
 use Rattle.xls_stream.specs.StringTable.{Mark, weight, marked}
 use Rattle.xls_stream.proofs.StringUnits.{nothing_marked}
-use Rattle.xls_strings.specs.declared.error.XlsError.{XlsError}
-use Rattle.xls_strings.specs.declared.error.XlsError.TheVariants as errors
-use Rattle.xls_strings.specs.Reading.{Fails}
+use Rattle.xls_record.specs.declared.error.XlsError.{XlsError}
+use Rattle.xls_record.specs.declared.error.XlsError.TheVariants as errors
+use Rattle.xls_record.specs.Reading.{Fails}
 use Rattle.xls_stream.specs.StringTable.{Missing, next_at, Strings}
 use Rattle.xls_stream.proofs.TableReadings.{next_shrinks, Shrinks}
 use Rattle.xls_strings.specs.Sst.{AddsAt, SkipsAt, error_of, as_error, FailsTable, ReadsTable}

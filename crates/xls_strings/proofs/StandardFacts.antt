@@ -1,12 +1,10 @@
 -- Values from outside, so that a wrong rule in the definitions does not check.
-use Rattle.std.proofs.Common.{◌≡◌, [], ◌∷◌, map, refl, codes, Some, Ok, Err}
-use Rattle.std.specs.Fmt.{digits}
+use Rattle.std.proofs.Common.{◌≡◌, [], ◌∷◌, refl, Some, Ok, Err}
 use Rattle.xls_stream.specs.StringTable.{marked, units_at, tail_at, next_at, no_units, no_tail}
 use Rattle.xls_stream.specs.declared.part.Part.TheVariants as parts
 use Rattle.xls_text.specs.declared.encoding.XlsEncoding.TheVariants.{Utf16}
-use Rattle.xls_strings.specs.declared.version.Biff.TheVariants.{Biff8}
-use Rattle.xls_strings.specs.declared.error.XlsError.TheVariants as errors
-use Rattle.xls_strings.specs.ErrorText.{error_text}
+use Rattle.xls_record.specs.declared.version.Biff.TheVariants.{Biff8}
+use Rattle.xls_record.specs.declared.error.XlsError.TheVariants as errors
 use Rattle.xls_strings.specs.Strings.{short_string_at, string_at}
 use Rattle.xls_strings.specs.Uncounted.{uncounted_size}
 
@@ -51,9 +49,3 @@ known_uncounted = refl
 
 pub known_missing : uncounted_size 2 (1 ∷ 0x41 ∷ 0 ∷ 0x42 ∷ []) ≡ Err (errors.Len 5 4 parts.NoCch)
 known_missing = refl
-
--- printed texts
-pub known_texts : map error_text (errors.Len 14 3 parts.Number ∷ errors.Unrecognized parts.HsState 63 ∷ errors.IfTab 72 ∷ errors.InvalidFormat 4 ∷ [])
-    ≡ codes "Invalid number length, expected at least 14, found 3" ∷ codes "Unrecognized BoundSheet8:hsState: 0x3F" ∷ codes "Invalid iftab 48" ∷ codes "Invalid ifmt value: '4'" ∷ []
-unfolding digits
-known_texts = refl

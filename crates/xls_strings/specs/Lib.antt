@@ -1,6 +1,3 @@
-pub mod Version
-pub mod ErrorText
-pub mod Reading
 pub mod Texts
 pub mod Strings
 pub mod Uncounted

@@ -2,8 +2,8 @@
 use Rattle.std.specs.Prelude.{◌≡◌, ℕ, List, [], ◌∷◌, ◌++◌, Bool, true, false, Option, Some, None, Result, Ok, Err, ◌⊎◌}
 use Rattle.xls_stream.specs.StringTable.{Mark, is_wide, units_at, tail_at, tail_of}
 use Rattle.xls_stream.specs.declared.part.Part.TheVariants.{Dbcs}
-use Rattle.xls_strings.specs.declared.error.XlsError.{XlsError}
-use Rattle.xls_strings.specs.declared.error.XlsError.TheVariants as errors
+use Rattle.xls_record.specs.declared.error.XlsError.{XlsError}
+use Rattle.xls_record.specs.declared.error.XlsError.TheVariants as errors
 
 -- no byte stands before the next mark
 abbrev pub IsAtMark : List Mark → Type 0

@@ -4,10 +4,10 @@ use Rattle.std.specs.Char.Utf16.{utf16_lossy_chars}
 use Rattle.std.specs.Global.{Vec}
 use Rattle.xls_stream.specs.StringTable.{Mark, marked, Missing, short_head, no_units, no_tail, Head as Shape, next_at, Table, TableFault}
 use Rattle.xls_stream.specs.declared.part.Part.TheVariants.{RichString, Dbcs, Sst}
-use Rattle.xls_strings.specs.declared.error.XlsError.{XlsError}
-use Rattle.xls_strings.specs.declared.error.XlsError.TheVariants as errors
+use Rattle.xls_record.specs.declared.error.XlsError.{XlsError}
+use Rattle.xls_record.specs.declared.error.XlsError.TheVariants as errors
 use Rattle.xls_strings.specs.declared.sst.Head.{Head}
-use Rattle.xls_strings.specs.Reading.{◌>>◌, at_least, Fails}
+use Rattle.xls_record.specs.Reading.{◌>>◌, at_least, Fails}
 
 -- ---- one string
 

@@ -7,10 +7,10 @@ use Rattle.xls_text.specs.Pages.{string_text}
 use Rattle.xls_text.specs.declared.encoding.XlsEncoding.{XlsEncoding}
 use Rattle.xls_stream.specs.StringTable.{is_wide}
 use Rattle.xls_stream.specs.declared.part.Part.TheVariants as parts
-use Rattle.xls_strings.specs.declared.version.Biff.{Biff}
-use Rattle.xls_strings.specs.declared.error.XlsError.{XlsError}
-use Rattle.xls_strings.specs.Reading.{◌>>◌, at_least, gives}
-use Rattle.xls_strings.specs.Version.{is_biff8}
+use Rattle.xls_record.specs.declared.version.Biff.{Biff}
+use Rattle.xls_record.specs.declared.error.XlsError.{XlsError}
+use Rattle.xls_record.specs.Reading.{◌>>◌, at_least, gives}
+use Rattle.xls_record.specs.Version.{is_biff8}
 
 -- ---- what stands before a text
 

@@ -3,8 +3,8 @@
 use Rattle.std.specs.Prelude.{ℕ, ◌+◌, ◌*◌, List, if◌then◌else◌, slice_index, Result, Ok}
 use Rattle.xls_stream.specs.StringTable.{is_wide}
 use Rattle.xls_stream.specs.declared.part.Part.TheVariants as parts
-use Rattle.xls_strings.specs.declared.error.XlsError.{XlsError}
-use Rattle.xls_strings.specs.Reading.{◌>>◌, at_least}
+use Rattle.xls_record.specs.declared.error.XlsError.{XlsError}
+use Rattle.xls_record.specs.Reading.{◌>>◌, at_least}
 
 -- a flags byte and so many units
 abbrev pub size_by : ℕ → ℕ → ℕ

@@ -3,9 +3,8 @@
 ghost use Rattle.std.specs.Prelude.{◌≡◌, ◌≤◌, ◌↔◌, [], IsTrue, length, drop};
 ghost use Rattle.xls_strings.specs.MarkSteps.{TakesByte, TakesMark, TakesHigh, TakesWidth, TakesUnits, SkipsTail, SkipsUnits};
 
-use crate::error::XlsError;
-use crate::record::Pieces;
 use std::marker::Model;
+use xls_record::{Pieces, XlsError};
 use xls_stream::Part;
 
 /// The rest of a body, and the bodies that follow it, with a mark before each of those.

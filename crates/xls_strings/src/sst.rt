@@ -2,18 +2,16 @@
 
 ghost use Rattle.std.specs.Prelude.{◌≡◌, ◌<◌, ◌^◌, IfOk};
 ghost use Rattle.xls_stream.specs.StringTable.{head_at, next_at, str_at, weight};
-ghost use Rattle.xls_strings.specs.Reading.{Exactly};
+ghost use Rattle.xls_record.specs.Reading.{Exactly};
 ghost use Rattle.xls_strings.specs.MarkSteps.{SkipsBehind};
 ghost use Rattle.xls_strings.specs.Sst.{AddsAt, CountsTable, GivesHead, InTable, ReadsTable, SkipsAt, sst_marks};
 
-use crate::error::XlsError;
-use crate::lengths::need;
 use crate::lists::Strings;
 use crate::marked::{Marked, read_units, skip_tail, skip_units};
-use crate::record::Record;
 use std::alloc::Global;
 use std::marker::Model;
 use xls_bytes::{read_u16, read_u32};
+use xls_record::{Record, XlsError, need};
 use xls_stream::Part;
 use xls_text::text_of_units;
 

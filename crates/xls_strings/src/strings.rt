@@ -2,15 +2,13 @@
 
 ghost use Rattle.std.specs.Prelude.{◌≡◌, IfOk};
 ghost use Rattle.xls_text.specs.Pages.{string_text};
-ghost use Rattle.xls_strings.specs.Reading.{Exactly, Gives};
+ghost use Rattle.xls_record.specs.Reading.{Exactly, Gives};
 ghost use Rattle.xls_strings.specs.Strings.{short_front, short_string_at, string_at, string_front};
 ghost use Rattle.xls_strings.specs.Texts.{text_of};
 
-use crate::error::XlsError;
-use crate::lengths::need;
-use crate::version::{Biff, is_biff8};
 use std::alloc::{AllocError, Global};
 use xls_bytes::read_u16;
+use xls_record::{Biff, XlsError, is_biff8, need};
 use xls_stream::Part;
 use xls_text::XlsEncoding;
 

@@ -1,11 +1,10 @@
 //! Strings without a count.
 
 ghost use Rattle.std.specs.Prelude.{◌≡◌, ◌<◌, ◌≤◌, length, IfOk};
-ghost use Rattle.xls_strings.specs.Reading.{Exactly};
+ghost use Rattle.xls_record.specs.Reading.{Exactly};
 ghost use Rattle.xls_strings.specs.Uncounted.{uncounted_size};
 
-use crate::error::XlsError;
-use crate::lengths::need;
+use xls_record::{XlsError, need};
 use xls_stream::Part;
 
 /// How many bytes a string without a count takes, XLUnicodeStringNoCch of [MS-XLS]: a flags byte, and

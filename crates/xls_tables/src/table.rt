@@ -2,7 +2,7 @@
 
 ghost use Rattle.std.specs.Prelude.{◌≡◌, ◌≤◌, ◌^◌, ◌+◌, ◌==◌, ◌++◌, map, OnOk};
 ghost use Rattle.xls_biff.specs.Cells.{Entry};
-ghost use Rattle.xls_cells.specs.Positions.{IsAscending};
+ghost use Rattle.xls_range.specs.Positions.{IsAscending};
 ghost use Rattle.xls_csv.specs.Dense.{dense_rows};
 ghost use Rattle.xls_csv.specs.Walk.{left_along, row_along, rows_along, take_at, walk};
 ghost use Rattle.xls_tables.specs.Steps.{PutsField, PutsFields, PutsRow, PutsRows};

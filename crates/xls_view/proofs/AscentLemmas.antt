@@ -2,7 +2,7 @@
 use Rattle.std.proofs.Common.{◌≡◌, ℕ, ◌+◌, ◌*◌, ◌^◌, ◌<◌, List, [], ◌∷◌, ◌++◌, refl, sym, ap, subst, ◌∙◌, arith, Bool, true, false, Some, inl, inr}
 use Rattle.std.specs.Prelude.{◌⊎◌, ◌==◌, min, max, nat_lt}
 use Rattle.xls_data.specs.declared.regions.Dimensions.{Dimensions}
-use Rattle.xls_cells.specs.Positions.{IsAscending, Position, Precedes}
+use Rattle.xls_range.specs.Positions.{IsAscending, Position, Precedes}
 use Rattle.xls_view.specs.Placing.{EndsIn, IsAscent, number_of}
 use Rattle.xls_view.specs.Surveying.{IsUnbounded, box_found, widened}
 use Rattle.xls_view.specs.declared.ascent.Ascent.{Ascent}

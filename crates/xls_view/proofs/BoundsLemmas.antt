@@ -2,8 +2,8 @@
 use Rattle.std.proofs.Common.{◌≡◌, ℕ, List, [], ◌∷◌, ◌++◌, refl, sym, ap, ◌∙◌, arith, Bool, true, false, Option, Some, None}
 use Rattle.std.specs.Prelude.{min, max, if◌then◌else◌}
 use Rattle.xls_data.specs.declared.regions.Dimensions.{Dimensions}
-use Rattle.xls_cells.specs.Positions.{Position}
-use Rattle.xls_cells.specs.Bounds.{bounds_of, columns_at, greatest, least, rows_at}
+use Rattle.xls_range.specs.Positions.{Position}
+use Rattle.xls_range.specs.Bounds.{bounds_of, columns_at, greatest, least, rows_at}
 use Rattle.xls_view.specs.Contents.{precedes, put_under, settled}
 use Rattle.xls_view.specs.Surveying.{widened}
 use Rattle.xls_view.proofs.SettledLemmas.{neither}

@@ -5,14 +5,14 @@ use Rattle.std.specs.List.{AllByRecursion, range_with_len}
 use Rattle.xls_stream.specs.Stream.{Group}
 use Rattle.xls_stream.specs.Walks.{IsBytes}
 use Rattle.xls_stream.specs.Listing.{Kept, kept_group}
-use Rattle.xls_strings.specs.declared.error.XlsError.{XlsError}
+use Rattle.xls_record.specs.declared.error.XlsError.{XlsError}
 use Rattle.xls_biff.specs.Cells.{Entry, Position}
 use Rattle.xls_biff.specs.Outer.{Keeps, Over, CutShort}
 use Rattle.xls_biff.specs.SheetTable.{SheetRecord, formula_position, position_in}
 use Rattle.xls_meaning.specs.InForce.{InForce}
 use Rattle.xls_meaning.specs.SheetTable.{adds, given_at, kept_line}
 use Rattle.xls_meaning.specs.Reading.{given_by}
-use Rattle.xls_strings.specs.Reading.{gives}
+use Rattle.xls_record.specs.Reading.{gives}
 use Rattle.xls_open.proofs.PartLemmas.{keeps_bytes}
 use Rattle.xls_data.specs.declared.regions.Dimensions.{Dimensions}
 use Rattle.xls_meaning.specs.Order.{somes}

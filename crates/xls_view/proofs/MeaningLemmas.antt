@@ -5,9 +5,9 @@ use Rattle.std.specs.List.{AllByRecursion, flat_map}
 use Rattle.std.proofs.lemmas.List.{map-append}
 use Rattle.xls_stream.specs.Listing.{Kept}
 use Rattle.xls_data.specs.declared.regions.Dimensions.{Dimensions}
-use Rattle.xls_cells.specs.Positions.{last_at, IsAscending}
-use Rattle.xls_strings.specs.declared.error.XlsError.{XlsError}
-use Rattle.xls_strings.specs.Reading.{gives}
+use Rattle.xls_range.specs.Positions.{last_at, IsAscending}
+use Rattle.xls_record.specs.declared.error.XlsError.{XlsError}
+use Rattle.xls_record.specs.Reading.{gives}
 use Rattle.xls_biff.specs.Cells.{Entry, Position}
 use Rattle.xls_biff.specs.SheetTable.{CellContext, SheetRecord, empty_record, cells_record, shared_record, string_record, formula_record, regions_record}
 use Rattle.xls_formula.specs.Context.{Context}

@@ -14,9 +14,9 @@ use Rattle.xls_stream.proofs.Ends.{has_groups, one_groups}
 use Rattle.xls_stream.proofs.Runs.{Run-whole}
 use Rattle.xls_stream.proofs.Shapes.{run_bytes}
 use Rattle.xls_data.specs.Content.{Content, nothing, text}
-use Rattle.xls_cells.specs.Positions.{Position, Precedes, IsAscending, last_at, cell_position}
-use Rattle.xls_strings.specs.declared.error.XlsError.{XlsError}
-use Rattle.xls_strings.specs.Reading.{gives, listed, fault_in}
+use Rattle.xls_range.specs.Positions.{Position, Precedes, IsAscending, last_at, cell_position}
+use Rattle.xls_record.specs.declared.error.XlsError.{XlsError}
+use Rattle.xls_record.specs.Reading.{gives, listed, fault_in}
 use Rattle.xls_biff.specs.Cells.{Entry}
 use Rattle.xls_biff.specs.Outer.{Keeps}
 use Rattle.xls_biff.specs.Records.Rk.{first_column, mul_rk_at, mul_rk_count, rk_cell}

@@ -4,8 +4,8 @@ use Rattle.std.specs.Prelude.{◌==◌, if◌then◌else◌}
 use Rattle.xls_stream.specs.declared.types.TheConstants as types
 use Rattle.xls_data.specs.Content.{Content, text}
 use Rattle.xls_data.specs.declared.regions.Dimensions.{Dimensions}
-use Rattle.xls_strings.specs.declared.error.XlsError.{XlsError}
-use Rattle.xls_strings.specs.Reading.{gives}
+use Rattle.xls_record.specs.declared.error.XlsError.{XlsError}
+use Rattle.xls_record.specs.Reading.{gives}
 use Rattle.xls_biff.specs.Cells.{Entry, Position}
 use Rattle.xls_biff.specs.Records.MergeCells.{merges_at}
 use Rattle.xls_biff.specs.Records.Dimensions.{dimensions_at}

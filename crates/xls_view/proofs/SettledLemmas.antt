@@ -3,7 +3,7 @@ use Rattle.std.proofs.Common.{◌≡◌, ℕ, ◌<◌, List, [], ◌∷◌, map,
 use Rattle.std.specs.Prelude.{◌⊎◌, ◌==◌, ◌&&◌, nat_lt, if◌then◌else◌}
 use Rattle.std.specs.Option.{option_or, option_map}
 use Rattle.std.specs.List.{AllByRecursion}
-use Rattle.xls_cells.specs.Positions.{Position, last_at, Precedes, IsAscending}
+use Rattle.xls_range.specs.Positions.{Position, last_at, Precedes, IsAscending}
 use Rattle.xls_open.proofs.AscendingLemmas.{same_cells}
 use Rattle.xls_view.specs.Contents.{precedes, put_under, settled}
 

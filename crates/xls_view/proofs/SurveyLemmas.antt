@@ -12,12 +12,12 @@ use Rattle.xls_data.specs.Content.{Content, text}
 use Rattle.xls_data.specs.Formatted.{formatted_number}
 use Rattle.xls_dates.specs.declared.numbers.Number.TheVariants.{Bits}
 use Rattle.xls_data.specs.declared.regions.Dimensions.{Dimensions}
-use Rattle.xls_cells.specs.Bounds.{bounds_of}
-use Rattle.xls_strings.specs.declared.error.XlsError.{XlsError}
-use Rattle.xls_strings.specs.declared.error.XlsError.TheVariants.{Len}
-use Rattle.xls_strings.specs.Reading.{◌>>=◌, ◌>>◌, at_least, gives, listed}
+use Rattle.xls_range.specs.Bounds.{bounds_of}
+use Rattle.xls_record.specs.declared.error.XlsError.{XlsError}
+use Rattle.xls_record.specs.declared.error.XlsError.TheVariants.{Len}
+use Rattle.xls_record.specs.Reading.{◌>>=◌, ◌>>◌, at_least, gives, listed}
 use Rattle.xls_strings.specs.Strings.{string_at}
-use Rattle.xls_strings.proofs.ReadingLemmas.{gives-ok}
+use Rattle.xls_record.proofs.ReadingLemmas.{gives-ok}
 use Rattle.xls_biff.specs.Cells.{Entry, Position, class_at, position_at}
 use Rattle.xls_biff.specs.Records.BoolErr.{bes_content, bool_err_at}
 use Rattle.xls_biff.specs.Records.Label.{label_at}

@@ -6,9 +6,9 @@ use Rattle.xls_stream.specs.Listing.{Kept}
 use Rattle.xls_stream.specs.declared.part.Part.TheVariants as parts
 use Rattle.xls_data.specs.Content.{Content}
 use Rattle.xls_dates.specs.declared.formats.CellFormat.{CellFormat}
-use Rattle.xls_strings.specs.Reading.{◌>>=◌, ◌>>◌, at_least, gives}
+use Rattle.xls_record.specs.Reading.{◌>>=◌, ◌>>◌, at_least, gives}
 use Rattle.xls_strings.specs.Strings.{string_at}
-use Rattle.xls_strings.specs.declared.error.XlsError.{XlsError}
+use Rattle.xls_record.specs.declared.error.XlsError.{XlsError}
 use Rattle.xls_biff.specs.Cells.{Position, class_at, position_at}
 use Rattle.xls_biff.specs.Records.BoolErr.{bool_err_at}
 use Rattle.xls_biff.specs.Records.Dimensions.{dimensions_at}

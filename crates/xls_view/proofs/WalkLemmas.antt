@@ -7,7 +7,7 @@ use Rattle.xls_stream.specs.Listing.{Kept, kept_group, kept_of, IsPart, IsSheetP
 use Rattle.xls_stream.specs.declared.part.Part.{Part}
 use Rattle.xls_stream.proofs.Ends.{has_groups, one_groups}
 use Rattle.xls_stream.proofs.Shapes.{has_from, same_parts}
-use Rattle.xls_strings.specs.declared.error.XlsError.{XlsError}
+use Rattle.xls_record.specs.declared.error.XlsError.{XlsError}
 use Rattle.xls_biff.specs.Outer.{Keeps, Over, CutShort}
 use Rattle.xls_open.proofs.ByteLemmas.{are_bytes, bytes_where, where_bytes}
 use Rattle.xls_open.proofs.PartLemmas.{keeps_from, over_from, cut_from, keeps_bytes}

@@ -3,8 +3,8 @@ use Rattle.std.specs.Prelude.{◌≡◌, ℕ, List, map, ◌==◌, false, if◌t
 use Rattle.xls_stream.specs.Listing.{Kept}
 use Rattle.xls_stream.specs.declared.types.TheConstants as types
 use Rattle.xls_data.specs.Content.{Content}
-use Rattle.xls_cells.specs.Positions.{Position, IsAscending, last_at}
-use Rattle.xls_strings.specs.declared.error.XlsError.{XlsError}
+use Rattle.xls_range.specs.Positions.{Position, IsAscending, last_at}
+use Rattle.xls_record.specs.declared.error.XlsError.{XlsError}
 use Rattle.xls_biff.specs.Records.Formula.{formula_at}
 use Rattle.xls_biff.specs.SheetTable.{SheetRecord, formula_record}
 use Rattle.xls_formula.specs.Context.{Context}

@@ -1,6 +1,6 @@
 -- The part of a sheet that a view finds, and its cells in order, for the proofs.
 use Rattle.std.specs.Prelude.{◌≡◌, ℕ, ◌<◌, ◌+◌, ◌*◌, ◌^◌, List, [], ◌++◌, ◌∷◌, ◌-◌, ◌==◌, if◌then◌else◌, drop, map, slice_get, unwrap_or, true, Option, Some, None}
-use Rattle.xls_cells.specs.Positions.{Position, IsAscending}
+use Rattle.xls_range.specs.Positions.{Position, IsAscending}
 use Rattle.xls_view.specs.declared.ascent.Ascent.{Ascent}
 use Rattle.std.specs.Borrow.{Bor}
 use Rattle.xls_meaning.specs.InForce.{InForce}
@@ -9,7 +9,7 @@ use Rattle.xls_stream.specs.Stream.{Group}
 use Rattle.xls_stream.specs.Listing.{Kept, kept_group}
 use Rattle.xls_stream.specs.declared.types.TheConstants as types
 use Rattle.xls_data.specs.Content.{Content, nothing}
-use Rattle.xls_strings.specs.declared.record.Record.{Record}
+use Rattle.xls_record.specs.declared.record.Record.{Record}
 use Rattle.xls_biff.specs.Cells.{Entry}
 use Rattle.xls_biff.specs.Records.Rk.{first_column}
 use Rattle.xls_biff.specs.Walking.{group_of}

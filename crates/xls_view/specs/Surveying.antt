@@ -1,7 +1,7 @@
 -- What a walk over positions finds, for the proofs.
 use Rattle.std.specs.Prelude.{◌≡◌, ◌-◌, ◌^◌, ◌==◌, if◌then◌else◌, min, max, List, [], ◌∷◌, map, false, Option, Some, None}
-use Rattle.xls_cells.specs.Positions.{Position}
-use Rattle.xls_cells.specs.Bounds.{bounds_of}
+use Rattle.xls_range.specs.Positions.{Position}
+use Rattle.xls_range.specs.Bounds.{bounds_of}
 use Rattle.xls_data.specs.Content.{Content}
 use Rattle.xls_data.specs.declared.regions.Dimensions.{Dimensions}
 use Rattle.xls_stream.specs.Listing.{Kept}

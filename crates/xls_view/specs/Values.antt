@@ -3,7 +3,7 @@ use Rattle.std.specs.Prelude.{ℕ, List, [], Result, Ok, Err}
 use Rattle.std.specs.Str.{chars}
 use Rattle.xls_data.specs.Content.{Content, text, truth, failure, nothing}
 use Rattle.xls_data.specs.Numeric.{numeric_content}
-use Rattle.xls_strings.specs.declared.error.XlsError.{XlsError}
+use Rattle.xls_record.specs.declared.error.XlsError.{XlsError}
 use Rattle.xls_strings.specs.Strings.{string_at}
 use Rattle.xls_biff.specs.Cells.{Entry}
 use Rattle.xls_view.specs.declared.value.CellValue.{CellValue}

@@ -1,7 +1,7 @@
 //! Whether positions ascend.
 
 ghost use Rattle.std.specs.Prelude.{◌≡◌, ◌==◌, ◌<◌, ◌^◌, ◌⊎◌, ◌↔◌, ◌++◌, ◌∷◌, [], IsTrue, List};
-ghost use Rattle.xls_cells.specs.Positions.{Position};
+ghost use Rattle.xls_range.specs.Positions.{Position};
 ghost use Rattle.xls_view.specs.Placing.{IsAscent, number_of};
 
 /// Whether the positions so far ascend strictly, row before column, the last one of them, and how many they are

@@ -2,8 +2,8 @@
 
 ghost use Rattle.std.specs.Prelude.{◌≡◌, IfOk, map};
 ghost use Rattle.xls_biff.specs.Cells.{Entry};
-ghost use Rattle.xls_cells.specs.Bounds.{bounds_of};
-ghost use Rattle.xls_cells.specs.Positions.{IsAscending};
+ghost use Rattle.xls_range.specs.Bounds.{bounds_of};
+ghost use Rattle.xls_range.specs.Positions.{IsAscending};
 ghost use Rattle.xls_view.specs.Contents.{cells_from, kept_in, settled};
 ghost use Rattle.xls_view.specs.Placing.{cell_placed, cells_held};
 ghost use Rattle.xls_view.specs.Surveying.{IsFound};
@@ -16,9 +16,9 @@ use crate::walk::CellWalk;
 use std::alloc::{AllocError, Global};
 use std::marker::Model;
 use xls_biff::{PlacedRecords, formula_position};
-use xls_cells::{Given, Settled, Unsettled};
 use xls_data::Dimensions;
 use xls_open::InForce;
+use xls_range::{Given, Settled, Unsettled};
 
 /// Where the cells of a part stand. So many are expected.
 fn places_of(
@@ -93,7 +93,7 @@ pub struct SheetCells<'v> {
 impl<'v> Model for SheetCells<'v> {
     ghost use Rattle.std.specs.Prelude.{◌≡◌, List};
     ghost use Rattle.xls_biff.specs.Cells.{Entry};
-    ghost use Rattle.xls_cells.specs.Bounds.{bounds_of};
+    ghost use Rattle.xls_range.specs.Bounds.{bounds_of};
     ghost use Rattle.xls_view.specs.Placing.{cells_held};
     ghost use Rattle.xls_view.specs.Walking.{IsSound};
 
@@ -171,7 +171,7 @@ impl<'c> Model for Cells<'c> {
     ghost use Rattle.std.specs.Prelude.{◌++◌, List, map};
     ghost use Rattle.xls_biff.specs.Cells.{Entry};
     ghost use Rattle.xls_stream.specs.Walks.{IsBytes};
-    ghost use Rattle.xls_cells.specs.Positions.{given_entry};
+    ghost use Rattle.xls_range.specs.Positions.{given_entry};
     ghost use Rattle.xls_view.specs.Placing.{cell_placed};
 
     ghost Value = { List Entry };
@@ -205,7 +205,7 @@ impl<'c> Iterator for Cells<'c> {
 impl<'c> Cells<'c> {
     ghost use Rattle.std.specs.Prelude.{◌≡◌, ◌++◌, map};
     ghost use Rattle.xls_stream.specs.Walks.{IsBytes};
-    ghost use Rattle.xls_cells.specs.Positions.{given_entry};
+    ghost use Rattle.xls_range.specs.Positions.{given_entry};
     ghost use Rattle.xls_view.specs.Placing.{cell_placed};
 
     /// These cells, and those at some places of a part.

@@ -18,9 +18,9 @@ use crate::value::FormulaCell;
 use std::alloc::{AllocError, Global};
 use std::marker::Model;
 use xls_biff::{PlacedRecords, Record, SheetRecords, read_formula};
-use xls_cells::{Given, Settled, Unsettled};
 use xls_data::Cell;
 use xls_open::{FormulaBuffer, InForce};
+use xls_range::{Given, Settled, Unsettled};
 use xls_stream::types::FORMULA;
 
 /// The formulas of a sheet, by row, then column, of those of one position the last. Contracts see the list
@@ -270,7 +270,7 @@ impl<'c> Model for FormulaCells<'c> {
     ghost use Rattle.std.specs.Prelude.{◌++◌, List, map};
     ghost use Rattle.xls_stream.specs.Walks.{IsBytes};
     ghost use Rattle.xls_view.specs.Formulas.{Formula};
-    ghost use Rattle.xls_cells.specs.Positions.{given_entry};
+    ghost use Rattle.xls_range.specs.Positions.{given_entry};
     ghost use Rattle.xls_view.specs.Placing.{formula_placed};
 
     ghost Value = { List Formula };
@@ -303,7 +303,7 @@ impl<'c> Iterator for FormulaCells<'c> {
 impl<'c> FormulaCells<'c> {
     ghost use Rattle.std.specs.Prelude.{◌≡◌, ◌++◌, map};
     ghost use Rattle.xls_stream.specs.Walks.{IsBytes};
-    ghost use Rattle.xls_cells.specs.Positions.{given_entry};
+    ghost use Rattle.xls_range.specs.Positions.{given_entry};
     ghost use Rattle.xls_view.specs.Placing.{formula_placed};
 
     /// These formulas, and those at some places of a part.

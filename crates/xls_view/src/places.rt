@@ -9,7 +9,7 @@ ghost use Rattle.xls_stream.specs.Listing.{kept_group};
 ghost use Rattle.xls_meaning.specs.SheetTable.{adds, kept_line};
 ghost use Rattle.xls_biff.specs.Records.Rk.{first_column, mul_rk_at};
 ghost use Rattle.xls_biff.specs.Cells.{Entry};
-ghost use Rattle.xls_cells.specs.Positions.{given_entry};
+ghost use Rattle.xls_range.specs.Positions.{given_entry};
 ghost use Rattle.xls_view.specs.Placing.{cell_in, cell_placed, first_kept, formula_placed, found_kept, record_at, value_at, value_or_blank, Place};
 ghost use Rattle.xls_view.specs.Walking.{Gives};
 ghost use Rattle.xls_stream.specs.Walks.{IsBytes};
@@ -23,9 +23,9 @@ use crate::value::{CellValue, FormulaCell, SheetCell, cell_at, position_of};
 use std::alloc::AllocError;
 use xls_biff::{Record, RecordIter, check_sheet_record, count_mul_rk, read_mul_rk};
 use xls_bytes::read_u16;
-use xls_cells::{Given, Unsettled};
 use xls_data::Cell;
 use xls_open::InForce;
+use xls_range::{Given, Unsettled};
 use xls_stream::types::MUL_RK;
 
 /// The first of these records, if there is one.

@@ -2,8 +2,8 @@
 
 ghost use Rattle.std.specs.Prelude.{◌≡◌, IfOk, map};
 ghost use Rattle.xls_biff.specs.Cells.{Entry};
-ghost use Rattle.xls_cells.specs.Bounds.{bounds_of};
-ghost use Rattle.xls_cells.specs.Positions.{IsAscending};
+ghost use Rattle.xls_range.specs.Bounds.{bounds_of};
+ghost use Rattle.xls_range.specs.Positions.{IsAscending};
 ghost use Rattle.xls_view.specs.Contents.{kept_in, shows};
 ghost use Rattle.xls_view.specs.Placing.{force_of};
 ghost use Rattle.xls_view.specs.Walking.{IsSound};

@@ -8,14 +8,14 @@ ghost use Rattle.xls_open.specs.Workbook.{rules_of, told_of};
 ghost use Rattle.xls_open.specs.Steps.{AreGlobals};
 ghost use Rattle.xls_meaning.specs.GlobalsTable.{forced_fault};
 ghost use Rattle.xls_biff.specs.Cells.{Entry};
-ghost use Rattle.xls_cells.specs.Positions.{IsAscending};
+ghost use Rattle.xls_range.specs.Positions.{IsAscending};
 ghost use Rattle.xls_meaning.specs.Reading.{SheetView, shown_of};
 ghost use Rattle.xls_view.specs.Viewing.{IsFault, IsViewed, ShownSheet, ViewCause, content_of, formulas_named};
 ghost use Rattle.xls_view.specs.Walking.{Named};
 ghost use Rattle.xls_view.specs.Placing.{IsPartOf, force_of};
 ghost use Rattle.xls_view.specs.Formulas.{text_entry};
 ghost use Rattle.xls_view.specs.Naming.{context_in};
-ghost use Rattle.xls_strings.specs.declared.error.XlsError.{XlsError};
+ghost use Rattle.xls_record.specs.declared.error.XlsError.{XlsError};
 ghost use Rattle.xls_data.specs.Sheets.{SheetContent};
 ghost use Rattle.xls_open.specs.Steps.{listed_of};
 

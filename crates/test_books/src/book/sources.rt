@@ -1,5 +1,5 @@
 ghost use Rattle.std.specs.Prelude.{◌≡◌, ◌⊎◌, ◌≤◌, None, IfOk, IfSome};
-ghost use Rattle.xls_strings.specs.declared.error.XlsError.TheVariants.{Memory, TooLarge};
+ghost use Rattle.xls_record.specs.declared.error.XlsError.TheVariants.{Memory, TooLarge};
 
 use super::*;
 use std::io::{self, Cursor, ErrorKind, Read};

@@ -2,10 +2,10 @@
 use Rattle.std.specs.Prelude.{ℕ, List, ◌||◌, ◌==◌, if◌then◌else◌, nat_lt, length, take, drop, Option, Some, None, Result, Ok}
 use Rattle.xls_bytes.specs.Numbers.{le}
 use Rattle.xls_stream.specs.declared.part.Part.TheVariants as parts
-use Rattle.xls_strings.specs.declared.version.Biff.{Biff}
-use Rattle.xls_strings.specs.declared.version.Biff.TheVariants.{Biff2, Biff3, Biff4, Biff5, Biff8}
-use Rattle.xls_strings.specs.declared.error.XlsError.{XlsError}
-use Rattle.xls_strings.specs.Reading.{◌>>◌, at_least}
+use Rattle.xls_record.specs.declared.version.Biff.{Biff}
+use Rattle.xls_record.specs.declared.version.Biff.TheVariants.{Biff2, Biff3, Biff4, Biff5, Biff8}
+use Rattle.xls_record.specs.declared.error.XlsError.{XlsError}
+use Rattle.xls_record.specs.Reading.{◌>>◌, at_least}
 use Rattle.xls_biff.specs.declared.records.bof.Bof.{Bof}
 
 -- the second 16-bit number, where it is there

@@ -2,9 +2,9 @@
 use Rattle.std.specs.Prelude.{ℕ, List, ◌==◌, if◌then◌else◌, slice_index, Result, Ok, Err}
 use Rattle.xls_stream.specs.declared.part.Part.TheVariants as parts
 use Rattle.xls_data.specs.Content.{Content, truth, failure}
-use Rattle.xls_strings.specs.declared.error.XlsError.{XlsError}
-use Rattle.xls_strings.specs.declared.error.XlsError.TheVariants.{Unrecognized}
-use Rattle.xls_strings.specs.Reading.{◌>>=◌, ◌>>◌, at_least, gives}
+use Rattle.xls_record.specs.declared.error.XlsError.{XlsError}
+use Rattle.xls_record.specs.declared.error.XlsError.TheVariants.{Unrecognized}
+use Rattle.xls_record.specs.Reading.{◌>>=◌, ◌>>◌, at_least, gives}
 use Rattle.xls_biff.specs.Cells.{Entry, Position, cell_error, position_at, truth_of}
 use Rattle.xls_biff.specs.declared.records.bool_err.Bes.{Bes}
 use Rattle.xls_biff.specs.declared.records.bool_err.Bes.TheVariants as bes

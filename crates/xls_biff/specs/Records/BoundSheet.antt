@@ -11,10 +11,10 @@ use Rattle.xls_data.specs.declared.sheets.SheetType.{SheetType}
 use Rattle.xls_data.specs.declared.sheets.SheetType.TheVariants as kinds
 use Rattle.xls_data.specs.declared.sheets.SheetVisible.{SheetVisible}
 use Rattle.xls_data.specs.declared.sheets.SheetVisible.TheVariants as states
-use Rattle.xls_strings.specs.declared.version.Biff.{Biff}
-use Rattle.xls_strings.specs.declared.error.XlsError.{XlsError}
-use Rattle.xls_strings.specs.declared.error.XlsError.TheVariants.{Unrecognized}
-use Rattle.xls_strings.specs.Reading.{◌>>=◌, ◌>>◌, at_least}
+use Rattle.xls_record.specs.declared.version.Biff.{Biff}
+use Rattle.xls_record.specs.declared.error.XlsError.{XlsError}
+use Rattle.xls_record.specs.declared.error.XlsError.TheVariants.{Unrecognized}
+use Rattle.xls_record.specs.Reading.{◌>>=◌, ◌>>◌, at_least}
 use Rattle.xls_strings.specs.Strings.{short_string_at}
 
 abbrev pub visible_at : ℕ → Result SheetVisible XlsError

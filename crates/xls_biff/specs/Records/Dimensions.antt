@@ -4,8 +4,8 @@ use Rattle.std.specs.Prelude.{ℕ, ◌-◌, List, ◌||◌, ◌&&◌, ◌==◌, 
 use Rattle.xls_bytes.specs.Numbers.{le}
 use Rattle.xls_stream.specs.declared.part.Part.TheVariants as parts
 use Rattle.xls_data.specs.declared.regions.Dimensions.{Dimensions}
-use Rattle.xls_strings.specs.declared.error.XlsError.{XlsError}
-use Rattle.xls_strings.specs.declared.error.XlsError.TheVariants.{Len}
+use Rattle.xls_record.specs.declared.error.XlsError.{XlsError}
+use Rattle.xls_record.specs.declared.error.XlsError.TheVariants.{Len}
 
 -- a first column that passes 255 or the column after the last becomes 0: this project's rule
 abbrev pub first_within : ℕ → ℕ → ℕ

@@ -3,10 +3,10 @@
 use Rattle.std.specs.Prelude.{ℕ, ◌+◌, ◌-◌, ◌*◌, ◌/◌, min, ℤ, List, [], if◌then◌else◌, length, take, drop, Result, Ok}
 use Rattle.xls_bytes.specs.Numbers.{le, twos_complement}
 use Rattle.xls_stream.specs.declared.part.Part.TheVariants as parts
-use Rattle.xls_strings.specs.declared.version.Biff.{Biff}
-use Rattle.xls_strings.specs.declared.error.XlsError.{XlsError}
-use Rattle.xls_strings.specs.Reading.{◌>>◌, at_least, listed}
-use Rattle.xls_strings.specs.Version.{is_biff8}
+use Rattle.xls_record.specs.declared.version.Biff.{Biff}
+use Rattle.xls_record.specs.declared.error.XlsError.{XlsError}
+use Rattle.xls_record.specs.Reading.{◌>>◌, at_least, listed}
+use Rattle.xls_record.specs.Version.{is_biff8}
 
 -- the whole structures, at most the count
 abbrev pub refs_count : List ℕ → Result ℕ XlsError

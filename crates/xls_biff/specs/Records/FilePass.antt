@@ -3,9 +3,9 @@
 use Rattle.std.specs.Prelude.{ℕ, List, ◌==◌, if◌then◌else◌, take, Result, Ok, Err}
 use Rattle.xls_bytes.specs.Numbers.{le}
 use Rattle.xls_stream.specs.declared.part.Part.TheVariants as parts
-use Rattle.xls_strings.specs.declared.error.XlsError.{XlsError}
-use Rattle.xls_strings.specs.declared.error.XlsError.TheVariants.{Password}
-use Rattle.xls_strings.specs.Reading.{◌>>◌, at_least}
+use Rattle.xls_record.specs.declared.error.XlsError.{XlsError}
+use Rattle.xls_record.specs.declared.error.XlsError.TheVariants.{Password}
+use Rattle.xls_record.specs.Reading.{◌>>◌, at_least}
 
 abbrev pub file_pass_at : List ℕ → Result (Unit {0}) XlsError
 file_pass_at body = do

@@ -6,12 +6,12 @@ use Rattle.xls_stream.specs.declared.part.Part.TheVariants as parts
 use Rattle.xls_dates.specs.Builtin.{between}
 use Rattle.xls_dates.specs.Classes.{class_of}
 use Rattle.xls_dates.specs.declared.formats.CellFormat.{CellFormat}
-use Rattle.xls_strings.specs.declared.version.Biff.{Biff}
-use Rattle.xls_strings.specs.declared.error.XlsError.{XlsError}
-use Rattle.xls_strings.specs.declared.error.XlsError.TheVariants.{InvalidFormat}
-use Rattle.xls_strings.specs.Reading.{◌>>=◌, ◌>>◌, at_least}
+use Rattle.xls_record.specs.declared.version.Biff.{Biff}
+use Rattle.xls_record.specs.declared.error.XlsError.{XlsError}
+use Rattle.xls_record.specs.declared.error.XlsError.TheVariants.{InvalidFormat}
+use Rattle.xls_record.specs.Reading.{◌>>=◌, ◌>>◌, at_least}
 use Rattle.xls_strings.specs.Strings.{short_string_at, string_at}
-use Rattle.xls_strings.specs.Version.{is_biff8}
+use Rattle.xls_record.specs.Version.{is_biff8}
 
 abbrev pub is_format_id : ℕ → Bool
 is_format_id n =

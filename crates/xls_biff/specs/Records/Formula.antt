@@ -8,9 +8,9 @@ use Rattle.xls_data.specs.Numeric.{numeric_content}
 use Rattle.xls_data.specs.Formatted.{formatted_number}
 use Rattle.xls_dates.specs.declared.numbers.Number.TheVariants.{Bits}
 use Rattle.xls_dates.specs.declared.formats.CellFormat.{CellFormat}
-use Rattle.xls_strings.specs.declared.error.XlsError.{XlsError}
-use Rattle.xls_strings.specs.declared.error.XlsError.TheVariants.{Unrecognized}
-use Rattle.xls_strings.specs.Reading.{◌>>=◌, ◌>>◌, at_least, gives}
+use Rattle.xls_record.specs.declared.error.XlsError.{XlsError}
+use Rattle.xls_record.specs.declared.error.XlsError.TheVariants.{Unrecognized}
+use Rattle.xls_record.specs.Reading.{◌>>=◌, ◌>>◌, at_least, gives}
 use Rattle.xls_biff.specs.Cells.{Position, cell_error, class_at, position_at, truth_of}
 use Rattle.xls_biff.specs.declared.records.formula.FormulaValue.{FormulaValue}
 use Rattle.xls_biff.specs.declared.records.formula.FormulaValue.TheVariants as value

@@ -3,9 +3,9 @@ use Rattle.std.specs.Prelude.{ℕ, List, drop, Result, Ok}
 use Rattle.xls_text.specs.declared.encoding.XlsEncoding.{XlsEncoding}
 use Rattle.xls_stream.specs.declared.part.Part.TheVariants as parts
 use Rattle.xls_data.specs.Content.{text}
-use Rattle.xls_strings.specs.declared.version.Biff.{Biff}
-use Rattle.xls_strings.specs.declared.error.XlsError.{XlsError}
-use Rattle.xls_strings.specs.Reading.{◌>>=◌, ◌>>◌, at_least}
+use Rattle.xls_record.specs.declared.version.Biff.{Biff}
+use Rattle.xls_record.specs.declared.error.XlsError.{XlsError}
+use Rattle.xls_record.specs.Reading.{◌>>=◌, ◌>>◌, at_least}
 use Rattle.xls_strings.specs.Strings.{string_at}
 use Rattle.xls_biff.specs.Cells.{Entry, Position, position_at}
 

@@ -5,8 +5,8 @@ use Rattle.xls_stream.specs.declared.part.Part.TheVariants as parts
 use Rattle.xls_data.specs.Formatted.{formatted_number}
 use Rattle.xls_dates.specs.declared.numbers.Number.TheVariants.{Bits}
 use Rattle.xls_dates.specs.declared.formats.CellFormat.{CellFormat}
-use Rattle.xls_strings.specs.declared.error.XlsError.{XlsError}
-use Rattle.xls_strings.specs.Reading.{◌>>◌, at_least}
+use Rattle.xls_record.specs.declared.error.XlsError.{XlsError}
+use Rattle.xls_record.specs.Reading.{◌>>◌, at_least}
 use Rattle.xls_biff.specs.Cells.{Entry, class_at, position_at}
 
 abbrev pub number_at : List CellFormat → Bool → List ℕ → Result Entry XlsError

@@ -6,9 +6,9 @@ use Rattle.xls_data.specs.Content.{Content}
 use Rattle.xls_data.specs.Formatted.{formatted_number, formatted_whole}
 use Rattle.xls_dates.specs.declared.numbers.Number.TheVariants.{Bits, Hundredths, BitsOver100}
 use Rattle.xls_dates.specs.declared.formats.CellFormat.{CellFormat}
-use Rattle.xls_strings.specs.declared.error.XlsError.{XlsError}
-use Rattle.xls_strings.specs.declared.error.XlsError.TheVariants.{Len}
-use Rattle.xls_strings.specs.Reading.{◌>>◌, at_least, listed}
+use Rattle.xls_record.specs.declared.error.XlsError.{XlsError}
+use Rattle.xls_record.specs.declared.error.XlsError.TheVariants.{Len}
+use Rattle.xls_record.specs.Reading.{◌>>◌, at_least, listed}
 use Rattle.xls_biff.specs.Cells.{Entry, class_at, position_at}
 
 -- ---- RK numbers ([MS-XLS] RkNumber)

@@ -2,8 +2,8 @@
 use Rattle.std.specs.Prelude.{ℕ, List, take, drop, Result, Ok}
 use Rattle.xls_bytes.specs.Numbers.{le}
 use Rattle.xls_stream.specs.declared.part.Part.TheVariants as parts
-use Rattle.xls_strings.specs.declared.error.XlsError.{XlsError}
-use Rattle.xls_strings.specs.Reading.{◌>>◌, at_least}
+use Rattle.xls_record.specs.declared.error.XlsError.{XlsError}
+use Rattle.xls_record.specs.Reading.{◌>>◌, at_least}
 
 abbrev pub xf_at : List ℕ → Result ℕ XlsError
 xf_at body = do

@@ -1,7 +1,7 @@
 //! BOF.
 
 ghost use Rattle.std.specs.Prelude.{◌≡◌};
-ghost use Rattle.xls_strings.specs.Reading.{Exactly};
+ghost use Rattle.xls_record.specs.Reading.{Exactly};
 ghost use Rattle.xls_biff.specs.Records.Bof.{bof_at};
 
 use xls_bytes::read_u16;

@@ -1,6 +1,6 @@
 //! BoolErr.
 
-ghost use Rattle.xls_strings.specs.Reading.{Exactly, fault_in};
+ghost use Rattle.xls_record.specs.Reading.{Exactly, fault_in};
 ghost use Rattle.xls_biff.specs.Cells.{entry_of};
 ghost use Rattle.xls_biff.specs.Records.BoolErr.{bes_content, bes_entry, bes_value, bool_err_at};
 

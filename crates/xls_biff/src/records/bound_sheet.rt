@@ -5,7 +5,7 @@ ghost use Rattle.std.specs.String.{string_bytes};
 ghost use Rattle.std.specs.Str.{chars};
 ghost use Rattle.xls_text.specs.declared.encoding.XlsEncoding.{XlsEncoding};
 ghost use Rattle.xls_data.specs.Sheets.{sheet_content};
-ghost use Rattle.xls_strings.specs.Reading.{Exactly, Gives, gives};
+ghost use Rattle.xls_record.specs.Reading.{Exactly, Gives, gives};
 ghost use Rattle.xls_strings.specs.Texts.{text_of};
 ghost use Rattle.xls_biff.specs.Records.BoundSheet.{bound_sheet_at, kind_at, visible_at, without_nuls};
 

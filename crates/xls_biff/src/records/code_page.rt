@@ -1,6 +1,6 @@
 //! CodePage.
 
-ghost use Rattle.xls_strings.specs.Reading.{Exactly};
+ghost use Rattle.xls_record.specs.Reading.{Exactly};
 ghost use Rattle.xls_biff.specs.Records.CodePage.{code_page_at};
 
 use xls_bytes::read_u16;

@@ -1,7 +1,7 @@
 //! Dimensions.
 
 ghost use Rattle.std.specs.Prelude.{◌≡◌};
-ghost use Rattle.xls_strings.specs.Reading.{Exactly, fault_in};
+ghost use Rattle.xls_record.specs.Reading.{Exactly, fault_in};
 ghost use Rattle.xls_biff.specs.Records.Dimensions.{bounds, dimensions_at};
 
 use crate::fields::{u16_at, u32_at};

@@ -2,7 +2,7 @@
 
 ghost use Rattle.std.specs.Prelude.{◌≡◌, ◌+◌, ◌*◌, ◌≤◌, length, map, IfOk};
 ghost use Rattle.std.specs.List.{range_with_len};
-ghost use Rattle.xls_strings.specs.Reading.{Exactly, Gives, fault_in};
+ghost use Rattle.xls_record.specs.Reading.{Exactly, Gives, fault_in};
 ghost use Rattle.xls_biff.specs.Records.ExternSheet.{ref_at, refs_at, refs_count};
 
 use crate::fields::i16_at;

@@ -1,6 +1,6 @@
 //! FilePass.
 
-ghost use Rattle.xls_strings.specs.Reading.{Exactly};
+ghost use Rattle.xls_record.specs.Reading.{Exactly};
 ghost use Rattle.xls_biff.specs.Records.FilePass.{file_pass_at};
 
 use xls_bytes::read_u16;

@@ -1,7 +1,7 @@
 //! Format.
 
 ghost use Rattle.std.specs.Prelude.{◌≡◌};
-ghost use Rattle.xls_strings.specs.Reading.{Exactly, Gives};
+ghost use Rattle.xls_record.specs.Reading.{Exactly, Gives};
 ghost use Rattle.xls_strings.specs.Texts.{text_of};
 ghost use Rattle.xls_biff.specs.Records.Format.{format_at, format_id, format_text_at};
 

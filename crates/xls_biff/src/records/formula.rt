@@ -5,7 +5,7 @@ ghost use Rattle.std.specs.Option.{option_copied};
 ghost use Rattle.xls_data.specs.Content.{text};
 ghost use Rattle.xls_data.specs.Data.{content_of};
 ghost use Rattle.xls_dates.specs.declared.formats.CellFormat.{CellFormat};
-ghost use Rattle.xls_strings.specs.Reading.{Exactly, fault_in};
+ghost use Rattle.xls_record.specs.Reading.{Exactly, fault_in};
 ghost use Rattle.xls_biff.specs.Cells.{value_of};
 ghost use Rattle.xls_biff.specs.Records.Formula.{formula_at, formula_value_at, special_value, value_content};
 ghost use Rattle.xls_biff.specs.SheetTable.{CellContext, SheetRecord, sheet_record_at, formula_position};

@@ -1,7 +1,7 @@
 //! Label and RString.
 
 ghost use Rattle.xls_text.specs.declared.encoding.XlsEncoding.{XlsEncoding};
-ghost use Rattle.xls_strings.specs.Reading.{Exactly, Gives, fault_in};
+ghost use Rattle.xls_record.specs.Reading.{Exactly, Gives, fault_in};
 ghost use Rattle.xls_biff.specs.Cells.{entry_of};
 ghost use Rattle.xls_biff.specs.Records.Label.{label_at, label_front};
 

@@ -4,7 +4,7 @@ ghost use Rattle.std.specs.Prelude.{ℕ, List};
 ghost use Rattle.std.specs.Option.{option_map};
 ghost use Rattle.std.specs.Str.{chars};
 ghost use Rattle.xls_data.specs.Content.{text};
-ghost use Rattle.xls_strings.specs.Reading.{Exactly, Gives, fault_in};
+ghost use Rattle.xls_record.specs.Reading.{Exactly, Gives, fault_in};
 ghost use Rattle.xls_biff.specs.Cells.{entry_of};
 ghost use Rattle.xls_biff.specs.Records.LabelSst.{label_sst_at};
 

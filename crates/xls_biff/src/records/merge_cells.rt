@@ -2,7 +2,7 @@
 
 ghost use Rattle.std.specs.Prelude.{◌≡◌, ◌+◌, ◌*◌, ◌≤◌, length, map, OnOk, IfOk};
 ghost use Rattle.std.specs.List.{range_with_len};
-ghost use Rattle.xls_strings.specs.Reading.{Adds, Appends, Exactly, IsLonger, fault_in};
+ghost use Rattle.xls_record.specs.Reading.{Adds, Appends, Exactly, IsLonger, fault_in};
 ghost use Rattle.xls_biff.specs.Records.MergeCells.{merge_count, merges_at, region_at};
 
 use crate::fields::u16_at;

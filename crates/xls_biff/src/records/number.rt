@@ -2,7 +2,7 @@
 
 ghost use Rattle.xls_dates.specs.declared.formats.CellFormat.{CellFormat};
 ghost use Rattle.std.specs.Prelude.{List, Bool};
-ghost use Rattle.xls_strings.specs.Reading.{Exactly, fault_in};
+ghost use Rattle.xls_record.specs.Reading.{Exactly, fault_in};
 ghost use Rattle.xls_biff.specs.Cells.{entry_of, numeric_entry};
 ghost use Rattle.xls_biff.specs.Records.Number.{number_at};
 

@@ -5,7 +5,7 @@ ghost use Rattle.std.specs.List.{range_with_len};
 ghost use Rattle.std.specs.Option.{option_copied};
 ghost use Rattle.xls_data.specs.Numeric.{numeric_content};
 ghost use Rattle.xls_dates.specs.declared.formats.CellFormat.{CellFormat};
-ghost use Rattle.xls_strings.specs.Reading.{Adds, Appends, Exactly, IsLonger, fault_in};
+ghost use Rattle.xls_record.specs.Reading.{Adds, Appends, Exactly, IsLonger, fault_in};
 ghost use Rattle.xls_biff.specs.Cells.{Entry, entry_of, numeric_entry};
 ghost use Rattle.xls_biff.specs.Records.Rk.{hundredths_content, mul_rk_at, mul_rk_count, rk_at, rk_bits, rk_cell, rk_content, rk_whole};
 

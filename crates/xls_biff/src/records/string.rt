@@ -1,7 +1,7 @@
 //! String: its body is a string, which `parse_string` reads.
 
 ghost use Rattle.xls_text.specs.declared.encoding.XlsEncoding.{XlsEncoding};
-ghost use Rattle.xls_strings.specs.Reading.{Exactly, fault_in};
+ghost use Rattle.xls_record.specs.Reading.{Exactly, fault_in};
 ghost use Rattle.xls_strings.specs.Strings.{string_at};
 
 use xls_strings::{Biff, XlsError, split_string};

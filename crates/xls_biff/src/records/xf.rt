@@ -1,6 +1,6 @@
 //! XF.
 
-ghost use Rattle.xls_strings.specs.Reading.{Exactly};
+ghost use Rattle.xls_record.specs.Reading.{Exactly};
 ghost use Rattle.xls_biff.specs.Records.Xf.{xf_at};
 
 use crate::fields::u16_at;

@@ -1,8 +1,8 @@
 -- What an effect leaves of the texts of the operands, the last one first. It is `grow` of the trees
 -- seen by `render`, which the proofs show.
 use Rattle.std.specs.Prelude.{ℕ, zero, suc, List, [], ◌∷◌, length, nat_lt, if◌then◌else◌, codes, Result, Ok, Err}
-use Rattle.xls_strings.specs.declared.error.XlsError.{XlsError}
-use Rattle.xls_strings.specs.declared.error.XlsError.TheVariants as errors
+use Rattle.xls_record.specs.declared.error.XlsError.{XlsError}
+use Rattle.xls_record.specs.declared.error.XlsError.TheVariants as errors
 use Rattle.xls_formula.specs.Effects.{Effect, pushes, wraps, pairs, calls, spaces, keeps}
 use Rattle.xls_formula.specs.Tree.{render}
 use Rattle.xls_formula.specs.buffer.Pieces.{Texts, with_prefix, with_suffix, with_join}

@@ -1,7 +1,7 @@
 //! The first fault of the sheets, one after the other.
 
 ghost use Rattle.std.specs.Prelude.{◌≡◌, Ok};
-ghost use Rattle.xls_strings.specs.Reading.{Exactly};
+ghost use Rattle.xls_record.specs.Reading.{Exactly};
 ghost use Rattle.xls_biff.specs.SheetTable.{CellContext, SheetRecord, weight_of};
 ghost use Rattle.xls_biff.specs.Walking.{group_of};
 ghost use Rattle.xls_stream.specs.Listing.{IsPart, IsSheetPart, kept_group};

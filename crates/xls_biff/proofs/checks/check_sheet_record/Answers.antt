@@ -1,6 +1,6 @@
 use Rattle.std.proofs.Common.{[], ◌∷◌, inl, inr}
 use Rattle.xls_strings.specs.Strings.{string_at}
-use Rattle.xls_strings.proofs.ReadingLemmas.{Exactly-gives}
+use Rattle.xls_record.proofs.ReadingLemmas.{Exactly-gives}
 use Rattle.xls_biff.specs.Records.BoolErr.{bool_err_at}
 use Rattle.xls_biff.specs.Records.Dimensions.{dimensions_at}
 use Rattle.xls_biff.specs.Records.Formula.{formula_at}

@@ -1,5 +1,5 @@
 use Rattle.std.proofs.Common.{map, sym, ap, subst, ◌∙◌}
-use Rattle.xls_cells.specs.Positions.{IsAscending, cell_position}
+use Rattle.xls_range.specs.Positions.{IsAscending, cell_position}
 use Rattle.xls_data.specs.Data.{content_of}
 use Rattle.xls_open.specs.Workbook.{IsOrdered}
 use Rattle.xls_open.proofs.PartLemmas.{positions}

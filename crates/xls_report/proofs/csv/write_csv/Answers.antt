@@ -1,7 +1,7 @@
 use Rattle.std.proofs.Common.{◌≡◌, inl, List, map, Option, Some, subst, sym, ◌∙◌}
 use Rattle.std.specs.Prelude.{IfSome}
 use Rattle.xls_biff.specs.Cells.{Entry}
-use Rattle.xls_cells.specs.Positions.{IsAscending}
+use Rattle.xls_range.specs.Positions.{IsAscending}
 use Rattle.xls_report.specs.Texts.{IsCsvOf, IsMissingOf}
 use Rattle.xls_report.proofs.EndingLemmas.{either-as, either-memory, either-stopped}
 use Rattle.xls_report.proofs.NamedLemmas.{csv_of, no_view}

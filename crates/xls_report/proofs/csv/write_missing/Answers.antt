@@ -1,5 +1,5 @@
 use Rattle.std.proofs.Common.{refl, inr}
-use Rattle.xls_strings.specs.declared.error.XlsError.TheVariants.{WorksheetNotFound}
+use Rattle.xls_record.specs.declared.error.XlsError.TheVariants.{WorksheetNotFound}
 use Rattle.xls_report.specs.Report.{fault_line}
 use Rattle.xls_report.specs.Texts.{IsMissingLine}
 use Rattle.xls_report.proofs.EndingLemmas.{either-memory, either-stopped}

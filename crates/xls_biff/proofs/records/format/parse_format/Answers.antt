@@ -3,8 +3,8 @@ use Rattle.std.proofs.lemmas.Result.{err_from_is_err_and}
 use Rattle.xls_bytes.specs.Numbers.{le}
 use Rattle.xls_dates.specs.Classes.{class_of}
 use Rattle.xls_dates.specs.declared.formats.CellFormat.{CellFormat}
-use Rattle.xls_strings.specs.Reading.{Fails}
-use Rattle.xls_strings.proofs.ReadingLemmas.{Fails-then}
+use Rattle.xls_record.specs.Reading.{Fails}
+use Rattle.xls_record.proofs.ReadingLemmas.{Fails-then}
 use Rattle.xls_biff.specs.Records.Format.{format_id, format_text_at}
 use Rattle.xls_biff.proofs.records.format.parse_format.Goals as goal
 

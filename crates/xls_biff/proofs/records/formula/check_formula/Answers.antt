@@ -1,5 +1,5 @@
 use Rattle.std.proofs.Common.{take, drop}
-use Rattle.xls_strings.proofs.ReadingLemmas.{Exactly-gives}
+use Rattle.xls_record.proofs.ReadingLemmas.{Exactly-gives}
 use Rattle.xls_biff.specs.Cells.{class_at, position_at}
 use Rattle.xls_biff.specs.Records.Formula.{formula_value_at}
 use Rattle.xls_biff.proofs.records.formula.check_formula.Goals as goal

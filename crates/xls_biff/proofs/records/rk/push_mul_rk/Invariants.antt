@@ -2,7 +2,7 @@ use Rattle.std.proofs.Common.{map}
 use Rattle.std.specs.List.{range_with_len}
 use Rattle.xls_biff.specs.Cells.{entry_of}
 use Rattle.xls_biff.specs.Records.Rk.{rk_cell}
-use Rattle.xls_strings.specs.Reading.{Adds}
+use Rattle.xls_record.specs.Reading.{Adds}
 use Rattle.xls_biff.proofs.records.rk.push_mul_rk.Given as goal
 
 -- the cells so far

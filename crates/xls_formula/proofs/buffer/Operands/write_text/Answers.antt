@@ -3,7 +3,7 @@ use Rattle.std.specs.Prelude.{IsUtf8}
 use Rattle.std.specs.List.{concat}
 use Rattle.std.specs.Str.{chars}
 use Rattle.std.specs.String.{string_bytes}
-use Rattle.xls_strings.specs.declared.error.XlsError.TheVariants.{InvalidFormula}
+use Rattle.xls_record.specs.declared.error.XlsError.TheVariants.{InvalidFormula}
 use Rattle.xls_formula.specs.declared.buffer.Leaf.{Leaf}
 use Rattle.xls_formula.specs.buffer.Leaves.{leaf_texts}
 use Rattle.xls_formula.specs.buffer.Put.{one_text}

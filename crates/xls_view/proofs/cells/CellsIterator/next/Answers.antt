@@ -2,7 +2,7 @@ use Rattle.std.proofs.Common.{◌++◌, ◌∷◌, List, map, sym, ap, ◌∙◌
 use Rattle.xls_biff.specs.Cells.{Entry}
 use Rattle.xls_view.specs.Placing.{cell_placed}
 use Rattle.xls_view.specs.Values.{cell_entry}
-use Rattle.xls_cells.specs.Positions.{given_entry}
+use Rattle.xls_range.specs.Positions.{given_entry}
 use Rattle.xls_view.proofs.cells.CellsIterator.next.Goals as goal
 
 pub returns-clause-steps : goal.returns-clause-steps

@@ -1,7 +1,7 @@
 use Rattle.std.proofs.Common.{List, map, subst, sym, ap, ◌∙◌}
 use Rattle.xls_biff.specs.Cells.{Entry}
-use Rattle.xls_cells.specs.Bounds.{bounds_of}
-use Rattle.xls_cells.specs.Positions.{IsAscending}
+use Rattle.xls_range.specs.Bounds.{bounds_of}
+use Rattle.xls_range.specs.Positions.{IsAscending}
 use Rattle.xls_view.specs.Contents.{cells_from, kept_in}
 use Rattle.xls_view.proofs.BoundsLemmas.{bounds_settled}
 use Rattle.xls_view.proofs.SettledLemmas.{ascending_settled}

@@ -2,7 +2,7 @@ use Rattle.std.proofs.Common.{◌++◌, ◌∷◌, List, map, sym, ap, ◌∙◌
 use Rattle.xls_view.specs.Formulas.{Formula}
 use Rattle.xls_view.specs.Placing.{formula_placed}
 use Rattle.xls_view.specs.Walking.{formula_seen}
-use Rattle.xls_cells.specs.Positions.{given_entry}
+use Rattle.xls_range.specs.Positions.{given_entry}
 use Rattle.xls_view.proofs.formulas.FormulaCellsIterator.next.Goals as goal
 
 pub returns-clause-steps : goal.returns-clause-steps

@@ -1,5 +1,5 @@
 use Rattle.std.proofs.Common.{sym, ap, ◌∙◌}
-use Rattle.xls_cells.specs.Bounds.{bounds_of}
+use Rattle.xls_range.specs.Bounds.{bounds_of}
 use Rattle.xls_view.specs.Contents.{cells_from, kept_in}
 use Rattle.xls_view.specs.Placing.{force_of}
 use Rattle.xls_view.specs.Viewing.{ShownSheet}

@@ -1,6 +1,6 @@
 use Rattle.std.proofs.Common.{ap, arith, Err}
 use Rattle.std.proofs.lemmas.Result.{err_from_is_err_and}
-use Rattle.xls_strings.specs.declared.error.XlsError.{XlsError}
+use Rattle.xls_record.specs.declared.error.XlsError.{XlsError}
 use Rattle.xls_view.proofs.ViewLemmas.{globals_cause, one_fault}
 use Rattle.xls_view.proofs.view.View.new.Goals as goal
 
