@@ -2,7 +2,7 @@
 
 ghost use Rattle.std.specs.Prelude.{◌≡◌, ◌-◌, [], OnOk, slice_get};
 ghost use Rattle.xls_data.specs.Sheets.{sheet_content};
-ghost use Rattle.xls_view.specs.Viewing.{content_of};
+ghost use Rattle.xls_cursors.specs.Shown.{content_of};
 ghost use Rattle.xls_arrays.specs.Arrays.{kind_number, laid, visibility_number, with_content, with_sheet};
 ghost use Rattle.xls_arrays.specs.Filled.{KeepsRooms, Lays};
 ghost use Rattle.xls_arrays.specs.Shown.{content_in, each_with, item_between, no_content};

@@ -4,7 +4,7 @@ ghost use Rattle.std.specs.Prelude.{◌≡◌};
 ghost use Rattle.xls_arrays.specs.Numbers.{bits_of, form_of};
 ghost use Rattle.xls_arrays.specs.Values.{error_code, form_in, kind_of, value_in};
 ghost use Rattle.xls_data.specs.Numeric.{numeric_content};
-ghost use Rattle.xls_view.specs.Values.{value_content};
+ghost use Rattle.xls_cursors.specs.Values.{value_content};
 
 use crate::items::{CellItem, Span};
 use crate::numbers::{bits_of, form_of};

@@ -7,9 +7,9 @@ use Rattle.xls_data.specs.Content.{Content, nothing}
 use Rattle.xls_data.specs.Refs.{ref_content_of, ref_text}
 use Rattle.xls_data.specs.declared.refs.DataRef.{DataRef}
 use Rattle.xls_biff.specs.Cells.{Entry}
-use Rattle.xls_view.specs.Values.{cell_entry, value_content}
-use Rattle.xls_view.specs.declared.value.CellValue.{CellValue}
-use Rattle.xls_view.specs.declared.value.SheetCell.{SheetCell}
+use Rattle.xls_cursors.specs.Values.{cell_entry, value_content}
+use Rattle.xls_cursors.specs.declared.value.CellValue.{CellValue}
+use Rattle.xls_cursors.specs.declared.value.SheetCell.{SheetCell}
 use Rattle.xls_csv.specs.Dates.{date_text, last_day_in, serial_date}
 use Rattle.xls_csv.specs.Fields.{field}
 use Rattle.xls_csv.specs.Walk.{take_at}

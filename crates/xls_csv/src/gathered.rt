@@ -3,7 +3,7 @@
 ghost use Rattle.std.specs.Prelude.{◌≡◌, ◌++◌, ◌==◌, [], length, IfOk, OnOk};
 ghost use Rattle.csv.specs.Writing.{default_writer, field_text, next_sep};
 ghost use Rattle.xls_lines.specs.Gathering.{Puts};
-ghost use Rattle.xls_view.specs.Values.{value_content};
+ghost use Rattle.xls_cursors.specs.Values.{value_content};
 ghost use Rattle.xls_csv.specs.Fields.{field};
 ghost use Rattle.xls_csv.specs.Steps.{placed, row_end, value_in};
 

@@ -4,9 +4,9 @@ ghost use Rattle.std.specs.Prelude.{◌≡◌, ◌∷◌, [], map, slice_get};
 ghost use Rattle.std.specs.Str.{chars};
 ghost use Rattle.xls_data.specs.Sheets.{sheet_content};
 ghost use Rattle.xls_meaning.specs.SheetTable.{shown_formulas};
-ghost use Rattle.xls_view.specs.Formulas.{text_entry};
-ghost use Rattle.xls_view.specs.Viewing.{content_of};
-ghost use Rattle.xls_view.specs.Walking.{formula_seen};
+ghost use Rattle.xls_cursors.specs.Formulas.{text_entry};
+ghost use Rattle.xls_cursors.specs.Shown.{content_of};
+ghost use Rattle.xls_cursors.specs.Walking.{formula_seen};
 ghost use Rattle.xls_listing.specs.Listing.{IsShownLine, PutsLines, each_sheet, formula_line, formula_lines, lines_of_formulas, sheet_line, shown_at};
 ghost use Rattle.xls_pieces.specs.Each.{DeliversEach};
 

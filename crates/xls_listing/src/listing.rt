@@ -3,7 +3,7 @@
 ghost use Rattle.std.specs.Prelude.{◌≡◌, ◌∷◌, [], map, slice_get};
 ghost use Rattle.xls_data.specs.Sheets.{sheet_content};
 ghost use Rattle.xls_open.specs.Workbook.{told_of};
-ghost use Rattle.xls_view.specs.Viewing.{content_of};
+ghost use Rattle.xls_cursors.specs.Shown.{content_of};
 ghost use Rattle.xls_listing.specs.Listing.{IsShownLine, PutsLines, dates_line, dump_lines, each_sheet, lines_of_sheet, name_line, sheet_line, shown_at};
 ghost use Rattle.xls_pieces.specs.Each.{DeliversEach};
 

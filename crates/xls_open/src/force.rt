@@ -46,3 +46,24 @@ impl<'a> Model for InForce<'a> {
       };
     } };
 }
+
+impl<'a> InForce<'a> {
+    ghost use Rattle.std.specs.Prelude.{◌≡◌};
+
+    /// The same once more, for what borrows no more than this does.
+    pub fn again(&self) -> InForce<'a>
+        ensures { result ≡ self.now }
+    {
+        InForce {
+            page: self.page,
+            version: self.version,
+            classes: self.classes,
+            strings: self.strings,
+            is_1904: self.is_1904,
+            sheets: self.sheets,
+            names: self.names,
+            refs: self.refs,
+            functions: self.functions,
+        }
+    }
+}

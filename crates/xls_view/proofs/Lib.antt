@@ -1,14 +1,3 @@
-pub mod WalkLemmas
-pub mod RecordLemmas
-pub mod ContentLemmas
-pub mod SettledLemmas
-pub mod TableLemmas
-pub mod ValueLemmas
-pub mod MeaningLemmas
 pub mod ViewLemmas
-pub mod PlaceLemmas
-pub mod AscentLemmas
 pub mod NameLemmas
 pub mod IndexLemmas
-pub mod BoundsLemmas
-pub mod SurveyLemmas

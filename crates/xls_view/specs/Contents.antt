@@ -1,101 +1,13 @@
--- The content of the parts of a stream, as functions of their bytes, for the views of the code's types.
-use Rattle.std.specs.Prelude.{◌≡◌, ℕ, List, [], ◌∷◌, ◌++◌, nat_lt, Bool, true, false, if◌then◌else◌, map, drop, unwrap_or, Result, Ok, Err, ◌==◌}
-use Rattle.std.specs.List.{AllByRecursion, flat_map}
-use Rattle.xls_stream.specs.Counting.{found_from}
-use Rattle.xls_stream.specs.Listing.{Kept, kept_of}
-use Rattle.xls_stream.specs.declared.types.TheConstants as types
+-- The workbook of a stream, as functions of its bytes, for the view of a `View`.
+use Rattle.std.specs.Prelude.{ℕ, List, [], map, unwrap_or}
+use Rattle.std.specs.List.{AllByRecursion}
 use Rattle.xls_data.specs.Sheets.{SheetContent}
-use Rattle.xls_data.specs.declared.regions.Dimensions.{Dimensions}
-use Rattle.xls_range.specs.Positions.{Position}
-use Rattle.xls_biff.specs.Cells.{Entry}
-use Rattle.xls_biff.specs.Records.MergeCells.{merges_at}
-use Rattle.xls_record.specs.declared.error.XlsError.{XlsError}
-use Rattle.xls_biff.specs.SheetTable.{CellContext, SheetRecord, position_in}
+use Rattle.xls_biff.specs.SheetTable.{CellContext}
 use Rattle.xls_meaning.specs.InForce.{InForce}
-use Rattle.xls_meaning.specs.SheetTable.{given_at, kept_line}
-use Rattle.xls_meaning.specs.Reading.{SheetView, given_by, last_named, paired}
+use Rattle.xls_meaning.specs.Reading.{last_named, paired}
 use Rattle.xls_open.specs.Steps.{shown}
-use Rattle.xls_view.specs.Formulas.{Formula, formulas_of, text_entry}
-use Rattle.xls_view.specs.Groups.{groups_in}
-use Rattle.xls_view.specs.Viewing.{ShownSheet, Viewed}
-
--- ---- records
-
--- the kept records of a part, of which so many BOF records are open
-abbrev pub kept_in : List ℕ → ℕ → List Kept
-kept_in bytes depth = let g = groups_in bytes in kept_of (found_from depth g.0 g.1).0
-
--- a record has no fault
-abbrev pub IsReadable : CellContext → Kept → Type 0
-IsReadable s k = (g : SheetRecord) × (kept_line s k ≡ Ok g)
-
--- ---- what records give, in order
-
--- where the last Formula stands after a record, where it stood here before it
-abbrev pub moved : CellContext → Position → Kept → Position
-moved s at k = unwrap_or (position_in (kept_line s k)) at
-
--- the cells of these records, where the last Formula before them stands here
-abbrev pub cells_from : InForce → Position → List Kept → List Entry
-cells_from s at [] = []
-cells_from s at (k ∷ ks) = (given_by (given_at s at k)).cells ++ cells_from s (moved s.cells at k) ks
-
-abbrev pub regions_in : Result (List Dimensions) XlsError → List Dimensions
-regions_in (Ok rs) = rs
-regions_in (Err e) = []
-
--- the merged regions of a record, and of records in order
-abbrev pub regions_at : Kept → List Dimensions
-regions_at k = if k.typ == types.MERGE_CELLS then regions_in (merges_at k.body) else []
-
-abbrev pub regions_of : List Kept → List Dimensions
-regions_of ks = flat_map regions_at ks
-
--- ---- by position
-
--- one position comes before another
-abbrev pub precedes : Position → Position → Bool
-precedes p q = if nat_lt p.0 q.0 then true else if nat_lt q.0 p.0 then false else nat_lt p.1 q.1
-
--- a value put among those that ascend, unless its position has one
-abbrev pub put_under : {X : Type 0} → Position × X → List (Position × X) → List (Position × X)
-put_under c [] = c ∷ []
-put_under c (x ∷ xs) =
-    if precedes c.0 x.0 then c ∷ x ∷ xs else if precedes x.0 c.0 then x ∷ put_under c xs else x ∷ xs
-
--- by position, of those of one position the last
-abbrev pub settled : {X : Type 0} → List (Position × X) → List (Position × X)
-settled [] = []
-settled (c ∷ cs) = put_under c (settled cs)
-
--- ---- parts
-
--- the kept records of the part at an offset, and none past the end
-abbrev pub kept_at : List ℕ → ℕ → List Kept
-kept_at bytes offset = kept_in (drop offset bytes) 0
-
--- what the formulas of the part at an offset are
-abbrev pub formulas_at : List ℕ → ℕ → List Formula
-formulas_at bytes offset = settled (formulas_of (kept_at bytes offset))
-
--- what a sheet of these kept records shows
-abbrev pub content_by : InForce → List Kept → SheetView
-content_by s kept =
-    record {
-      cells = settled (cells_from s (0, 0) kept);
-      formulas = map (text_entry s.formulas) (settled (formulas_of kept));
-      merges = regions_of kept;
-    }
-
--- likewise with the formulas by their tokens
-abbrev pub shows : InForce → List Kept → ShownSheet
-shows s kept =
-    record {
-      cells = settled (cells_from s (0, 0) kept);
-      formulas = settled (formulas_of kept);
-      merges = regions_of kept;
-      context = s.formulas;
-    }
+use Rattle.xls_view.specs.Viewing.{Viewed}
+use Rattle.xls_cursors.specs.Contents.{IsReadable, content_by, formulas_at, kept_at}
 
 -- each kept record of the parts at these offsets has no fault
 abbrev pub AreReadable : CellContext → List ℕ → List ℕ → Type 0

@@ -1,10 +1,5 @@
-pub mod Formulas
-pub mod Walking
-pub mod Values
 pub mod Index
-pub mod Groups
 pub mod Contents
 pub mod Viewing
 pub mod Naming
 pub mod Placing
-pub mod Surveying

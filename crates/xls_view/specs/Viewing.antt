@@ -1,20 +1,18 @@
 -- What a view of a stream shows, and what making one answers.
-use Rattle.std.specs.Prelude.{◌≡◌, ℕ, List, map, Option}
+use Rattle.std.specs.Prelude.{◌≡◌, ℕ, List, Option}
 use Rattle.std.specs.List.{AllZip}
 use Rattle.xls_stream.specs.Listing.{Entry, Carries}
 use Rattle.xls_record.specs.declared.error.XlsError.{XlsError}
 use Rattle.xls_record.specs.declared.error.XlsError.TheVariants as errors
-use Rattle.xls_biff.specs.Cells.{Entry as Cell}
 use Rattle.xls_biff.specs.SheetTable.{CellContext}
-use Rattle.xls_data.specs.declared.regions.Dimensions.{Dimensions}
 use Rattle.xls_formula.specs.Context.{Context}
 use Rattle.xls_meaning.specs.InForce.{SheetRecords, sheets_of, context_of}
-use Rattle.xls_meaning.specs.Reading.{BookView, SheetView, IsReading, kept_named, paired, last_named}
+use Rattle.xls_meaning.specs.Reading.{BookView, IsReading, kept_named, paired, last_named}
 use Rattle.xls_meaning.specs.Faults.{IsFull}
 use Rattle.xls_open.specs.Checking.{FirstChecked}
 use Rattle.xls_open.specs.Workbook.{rules_of}
 use Rattle.xls_open.specs.declared.options.XlsOptions.{XlsOptions}
-use Rattle.xls_view.specs.Formulas.{Formula, AreLast, formulas_of, text_entry}
+use Rattle.xls_cursors.specs.Formulas.{Formula, AreLast, formulas_of}
 
 -- what a workbook shows, what is in force for its cells, what its formulas may name, and the formulas that
 -- each index shows, by their tokens
@@ -23,17 +21,6 @@ pub record Viewed : Type 0 where
   pub cells : CellContext
   pub context : Context
   pub formulas : List (List Formula)
-
--- what a sheet shows, and what its formulas may name
-pub record ShownSheet : Type 0 where
-  pub cells : List Cell
-  pub formulas : List Formula
-  pub merges : List Dimensions
-  pub context : Context
-
--- with its formulas by their texts
-abbrev pub content_of : ShownSheet → SheetView
-content_of s = record { cells = s.cells; formulas = map (text_entry s.context) s.formulas; merges = s.merges }
 
 -- the formulas of the last sheet of a name
 abbrev pub formulas_named : Viewed → List ℕ → Option (List Formula)

@@ -10,26 +10,23 @@ ghost use Rattle.xls_meaning.specs.GlobalsTable.{forced_fault};
 ghost use Rattle.xls_biff.specs.Cells.{Entry};
 ghost use Rattle.xls_range.specs.Positions.{IsAscending};
 ghost use Rattle.xls_meaning.specs.Reading.{SheetView, shown_of};
-ghost use Rattle.xls_view.specs.Viewing.{IsFault, IsViewed, ShownSheet, ViewCause, content_of, formulas_named};
-ghost use Rattle.xls_view.specs.Walking.{Named};
+ghost use Rattle.xls_cursors.specs.Shown.{ShownSheet, content_of};
+ghost use Rattle.xls_view.specs.Viewing.{IsFault, IsViewed, ViewCause, formulas_named};
+ghost use Rattle.xls_cursors.specs.Walking.{Named};
 ghost use Rattle.xls_view.specs.Placing.{IsPartOf, force_of};
-ghost use Rattle.xls_view.specs.Formulas.{text_entry};
+ghost use Rattle.xls_cursors.specs.Formulas.{text_entry};
 ghost use Rattle.xls_view.specs.Naming.{context_in};
 ghost use Rattle.xls_record.specs.declared.error.XlsError.{XlsError};
 ghost use Rattle.xls_data.specs.Sheets.{SheetContent};
 ghost use Rattle.xls_open.specs.Steps.{listed_of};
 
-use crate::cells::SheetCells;
-use crate::formulas::SheetFormulas;
 use crate::index::{find_named, index_of};
-use crate::merges::Merges;
 use crate::naming::ViewNaming;
-use crate::places::part_at;
-use crate::sheet::ViewSheet;
 use std::alloc::{AllocError, Global};
 use std::collections::BTreeMap;
 use std::marker::Model;
 use xls_biff::{Biff, Strings, XlsError};
+use xls_cursors::{Merges, SheetCells, SheetFormulas, ViewSheet, part_at};
 use xls_data::{CellFormat, Sheet};
 use xls_formula::FunctionTable;
 use xls_open::{
@@ -273,7 +270,7 @@ impl<'a> View<'a> {
         ensures context { IfSome result (λ s. s.context ≡ self.now.context) }
     {
         match self.part_named(name) {
-            Some(part) => Some(ViewSheet::new(self.alloc, self, part)),
+            Some(part) => Some(ViewSheet::new(self.alloc, self.force(), part)),
             None => None,
         }
     }
@@ -286,7 +283,7 @@ impl<'a> View<'a> {
         ensures context { IfSome result (λ s. s.context ≡ self.now.context) }
     {
         match self.part_at(n) {
-            Some(part) => Some(ViewSheet::new(self.alloc, self, part)),
+            Some(part) => Some(ViewSheet::new(self.alloc, self.force(), part)),
             None => None,
         }
     }

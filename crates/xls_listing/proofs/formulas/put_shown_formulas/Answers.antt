@@ -1,7 +1,7 @@
 use Rattle.std.proofs.Common.{ap, map}
 use Rattle.xls_meaning.specs.SheetTable.{shown_formulas}
-use Rattle.xls_view.specs.Formulas.{text_entry}
-use Rattle.xls_view.specs.Walking.{Named}
+use Rattle.xls_cursors.specs.Formulas.{text_entry}
+use Rattle.xls_cursors.specs.Walking.{Named}
 use Rattle.xls_listing.specs.Listing.{IsShownLine, formula_line}
 use Rattle.xls_listing.proofs.LineLemmas.{puts-as, puts-memory}
 use Rattle.xls_listing.proofs.formulas.put_shown_formulas.Goals as goal

@@ -1,5 +1,5 @@
 use Rattle.std.proofs.Common.{◌++◌, append_assoc, ap, map}
-use Rattle.xls_view.specs.Viewing.{content_of}
+use Rattle.xls_cursors.specs.Shown.{content_of}
 use Rattle.xls_listing.specs.Listing.{IsShownLine, lines_of_cells, lines_of_formulas, lines_of_merges, merge_line}
 use Rattle.xls_listing.proofs.LineLemmas.{puts-as, puts-then}
 use Rattle.xls_pieces.proofs.EachLemmas.{each-stops-more, each-stops-then, each-then, puts-each-stop}

@@ -1,6 +1,6 @@
 use Rattle.std.proofs.Common.{ap, sym, ◌∙◌}
 use Rattle.std.specs.Option.{option_map}
-use Rattle.xls_view.specs.Viewing.{content_of}
+use Rattle.xls_cursors.specs.Shown.{content_of}
 use Rattle.xls_listing.specs.Listing.{IsShownLine, lines_of_sheet, shown_at}
 use Rattle.xls_listing.proofs.LineLemmas.{puts-as}
 use Rattle.xls_pieces.proofs.EachLemmas.{each-as, each-none}

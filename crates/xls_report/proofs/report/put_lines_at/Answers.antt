@@ -1,6 +1,6 @@
 use Rattle.std.proofs.Common.{ap, sym, ◌∙◌}
 use Rattle.std.specs.Option.{option_map}
-use Rattle.xls_view.specs.Viewing.{content_of}
+use Rattle.xls_cursors.specs.Shown.{content_of}
 use Rattle.xls_report.specs.Report.{lines_at}
 use Rattle.xls_lines.proofs.GatherLemmas.{gathers-as, gathers-nothing, puts-as}
 use Rattle.xls_report.proofs.report.put_lines_at.Goals as goal

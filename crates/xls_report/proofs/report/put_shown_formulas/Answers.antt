@@ -1,6 +1,6 @@
 use Rattle.std.proofs.Common.{ap, map}
-use Rattle.xls_view.specs.Formulas.{text_entry}
-use Rattle.xls_view.specs.Walking.{Named}
+use Rattle.xls_cursors.specs.Formulas.{text_entry}
+use Rattle.xls_cursors.specs.Walking.{Named}
 use Rattle.xls_report.specs.Report.{formula_lines}
 use Rattle.xls_lines.proofs.GatherLemmas.{puts-as, puts-memory}
 use Rattle.xls_report.proofs.report.put_shown_formulas.Goals as goal

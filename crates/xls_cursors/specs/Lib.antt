@@ -1,0 +1,9 @@
+pub mod Formulas
+pub mod Shown
+pub mod Walking
+pub mod Values
+pub mod Groups
+pub mod Contents
+pub mod Placed
+pub mod Placing
+pub mod Surveying

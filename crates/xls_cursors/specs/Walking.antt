@@ -1,0 +1,60 @@
+-- Steps of the iterators over a sheet.
+use Rattle.std.specs.Prelude.{◌≡◌, ℕ, List, [], ◌∷◌, ◌++◌, Option, Some, None}
+use Rattle.std.specs.List.{AllByRecursion}
+use Rattle.xls_stream.specs.Walks.{IsBytes}
+use Rattle.xls_data.specs.declared.regions.Dimensions.{Dimensions}
+use Rattle.xls_biff.specs.Cells.{Entry}
+use Rattle.xls_formula.specs.Context.{Context}
+use Rattle.xls_meaning.specs.InForce.{InForce}
+use Rattle.xls_cursors.specs.Contents.{IsReadable, kept_in, regions_of}
+use Rattle.xls_cursors.specs.Formulas.{Formula, formulas_of}
+use Rattle.xls_cursors.specs.Values.{cell_entry}
+use Rattle.xls_cursors.specs.declared.value.SheetCell.{SheetCell}
+use Rattle.xls_cursors.specs.declared.value.FormulaCell.{FormulaCell}
+
+-- ---- what a call of next gives
+
+-- a call of next with these left gives the first of them and leaves the others
+abbrev pub Gives : {C E : Type 0} → (C → E) → List E → Option C → List E → Type 0
+Gives seen before None after = (before ≡ []) × (after ≡ [])
+Gives seen before (Some c) after = before ≡ seen c ∷ after
+
+abbrev pub CellSteps : List Entry → Option SheetCell → List Entry → Type 0
+CellSteps = Gives cell_entry
+
+-- a formula by its position and its tokens
+abbrev pub formula_seen : FormulaCell → Formula
+formula_seen f = ((f.row, f.column), f.rgce.now)
+
+abbrev pub FormulaSteps : List Formula → Option FormulaCell → List Formula → Type 0
+FormulaSteps = Gives formula_seen
+
+abbrev pub MergeSteps : List Dimensions → Option Dimensions → List Dimensions → Type 0
+MergeSteps = Gives (λ d. d)
+
+-- the formulas that are left, and what they may name
+pub record Named : Type 0 where
+  pub context : Context
+  pub left : List Formula
+
+-- ---- the records that are left
+
+-- the bytes of the records that are left, and how many BOF records are open
+abbrev pub Left : Type 0
+Left = List ℕ × ℕ
+
+-- each kept record that is left has no fault
+abbrev pub IsSound : InForce → Left → Type 0
+IsSound s left = IsBytes left.0 × AllByRecursion (IsReadable s.cells) (kept_in left.0 left.1)
+
+-- the first formula of the records that are left
+abbrev pub PassesFormula : Left → Option FormulaCell → Left → Type 0
+PassesFormula before found after =
+    Gives formula_seen (formulas_of (kept_in before.0 before.1)) found (formulas_of (kept_in after.0 after.1))
+
+-- the first regions of the records that are left
+abbrev pub PassesRegions : Left → Option (Dimensions × List Dimensions) → Left → Type 0
+PassesRegions before None after =
+    (regions_of (kept_in before.0 before.1) ≡ []) × (regions_of (kept_in after.0 after.1) ≡ [])
+PassesRegions before (Some x) after =
+    regions_of (kept_in before.0 before.1) ≡ x.0 ∷ x.1 ++ regions_of (kept_in after.0 after.1)

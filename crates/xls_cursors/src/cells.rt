@@ -1,0 +1,240 @@
+//! The cells of a sheet.
+
+ghost use Rattle.std.specs.Prelude.{◌≡◌, IfOk, map};
+ghost use Rattle.xls_biff.specs.Cells.{Entry};
+ghost use Rattle.xls_range.specs.Bounds.{bounds_of};
+ghost use Rattle.xls_range.specs.Positions.{IsAscending};
+ghost use Rattle.xls_cursors.specs.Contents.{cells_from, kept_in, settled};
+ghost use Rattle.xls_cursors.specs.Placed.{cell_placed, cells_held};
+ghost use Rattle.xls_cursors.specs.Surveying.{IsFound};
+ghost use Rattle.xls_cursors.specs.Walking.{IsSound};
+
+use crate::places::{next_place, placed_cell, push_cells};
+use crate::survey::FoundCells;
+use crate::value::SheetCell;
+use crate::walk::CellWalk;
+use std::alloc::{AllocError, Global};
+use std::marker::Model;
+use xls_biff::{PlacedRecords, formula_position};
+use xls_data::Dimensions;
+use xls_open::InForce;
+use xls_range::{Given, Settled, Unsettled};
+
+/// Where the cells of a part stand. So many are expected.
+fn places_of(
+    alloc: Global,
+    part: &[u8],
+    force: &InForce<'_>,
+    count: usize,
+) -> Result<Unsettled<usize>, AllocError>
+    requires { IsSound force.now (part.now, 0) }
+    ensures { IfOk result (λ places. map (cell_placed force.now part.now) places
+        ≡ cells_from force.now (0, 0) (kept_in part.now 0)) }
+{
+    let mut places = Unsettled::with_room(alloc, count)?;
+    let mut last = (0, 0);
+    for item in PlacedRecords::new(part) {
+        let (start, record) = match item {
+            Ok(placed) => placed,
+            Err(_) => return Ok(places),
+        };
+        let at = part.len() - start.len();
+        push_cells(&mut places, &record, last, at, force)?;
+        last = formula_position(&record).unwrap_or(last);
+    }
+    Ok(places)
+}
+
+/// Likewise by position, of those of one position the last.
+fn in_order(
+    alloc: Global,
+    part: &[u8],
+    force: &InForce<'_>,
+    count: usize,
+) -> Result<Settled<usize>, AllocError>
+    requires { IsSound force.now (part.now, 0) }
+    ensures { IfOk result (λ places. map (cell_placed force.now part.now) places
+        ≡ settled (cells_from force.now (0, 0) (kept_in part.now 0))) }
+{
+    let places = places_of(alloc, part, force, count)?;
+    Ok(places.settled())
+}
+
+/// Where the cells of a part stand in order, where its records don't ascend.
+fn order_of(
+    alloc: Global,
+    part: &[u8],
+    force: &InForce<'_>,
+    found: FoundCells,
+) -> Result<Option<Settled<usize>>, AllocError>
+    requires sound { IsSound force.now (part.now, 0) }
+    requires found { IsFound found (cells_from force.now (0, 0) (kept_in part.now 0)) }
+    ensures { IfOk result (λ o. cells_held force.now part.now o ≡ settled (cells_from force.now (0, 0) (kept_in part.now 0))) }
+{
+    if found.ascends() {
+        return Ok(None);
+    }
+    let sorted = in_order(alloc, part, force, found.count())?;
+    Ok(Some(sorted))
+}
+
+/// The cells of a sheet, by row, then column, of those of one position the last. Contracts see the list
+/// of them.
+#[derive(Drop)]
+pub struct SheetCells<'v> {
+    force: InForce<'v>,
+    part: &'v [u8],
+    /// Where the cells stand, in order, where the records don't ascend.
+    sorted: Option<Settled<usize>>,
+    /// The smallest box that holds them.
+    bounds: Option<Dimensions>,
+}
+
+impl<'v> Model for SheetCells<'v> {
+    ghost use Rattle.std.specs.Prelude.{◌≡◌, List};
+    ghost use Rattle.xls_biff.specs.Cells.{Entry};
+    ghost use Rattle.xls_range.specs.Bounds.{bounds_of};
+    ghost use Rattle.xls_cursors.specs.Placed.{cells_held};
+    ghost use Rattle.xls_cursors.specs.Walking.{IsSound};
+
+    ghost Value = { List Entry };
+
+    ghost view = { λ c. cells_held c.force c.part.now c.sorted };
+
+    ghost invariant = { λ c. IsSound c.force (c.part.now, 0) × (c.bounds ≡ bounds_of (cells_held c.force c.part.now c.sorted)) };
+}
+
+impl<'v> SheetCells<'v> {
+    /// The cells of a part whose records have no fault, of which this was found. Takes memory only where they
+    /// don't ascend.
+    pub(crate) fn new(
+        alloc: Global,
+        force: InForce<'v>,
+        part: &'v [u8],
+        found: FoundCells,
+    ) -> Result<SheetCells<'v>, AllocError>
+        requires sound { IsSound force (part.now, 0) }
+        requires found { IsFound found (cells_from force (0, 0) (kept_in part.now 0)) }
+        ensures settled { IfOk result (λ cells. cells ≡ settled (cells_from force.entry (0, 0) (kept_in part.now 0))) }
+        ensures ordered { IfOk result (λ cells. IsAscending (map (λ (c : Entry). c.0) cells)) }
+    {
+        let sorted = order_of(alloc, part, &force, found)?;
+        Ok(SheetCells {
+            force,
+            part,
+            sorted,
+            bounds: found.bounds(),
+        })
+    }
+
+    /// The smallest box that holds the cells, from its first row and column to its last; `None` exactly where
+    /// there is no cell. Takes no memory.
+    pub fn bounds(&self) -> Option<Dimensions>
+        ensures { result ≡ bounds_of self.now }
+    {
+        self.bounds
+    }
+
+    /// The cells in order. Takes no memory.
+    pub fn iter(&self) -> Cells<'_>
+        ensures { result ≡ self.now }
+    {
+        match &self.sorted {
+            None => Cells::new(
+                CellWalk::new(&self.force, self.part),
+                &self.force,
+                self.part,
+                &[],
+            ),
+            Some(places) => Cells::new(
+                CellWalk::none(&self.force),
+                &self.force,
+                self.part,
+                places.as_slice(),
+            ),
+        }
+    }
+}
+
+/// The cells of a sheet that are left: each once, by row, then column. Contracts see the list of them.
+#[derive(Drop)]
+pub struct Cells<'c> {
+    /// The cells of the records that are left, where these ascend.
+    walk: CellWalk<'c>,
+    force: &'c InForce<'c>,
+    part: &'c [u8],
+    /// Else the places that are left.
+    places: &'c [Given<usize>],
+}
+
+impl<'c> Model for Cells<'c> {
+    ghost use Rattle.std.specs.Prelude.{◌++◌, List, map};
+    ghost use Rattle.xls_biff.specs.Cells.{Entry};
+    ghost use Rattle.xls_stream.specs.Walks.{IsBytes};
+    ghost use Rattle.xls_range.specs.Positions.{given_entry};
+    ghost use Rattle.xls_cursors.specs.Placed.{cell_placed};
+
+    ghost Value = { List Entry };
+
+    ghost view = { λ c. c.walk ++ map (cell_placed c.force.now c.part.now) (map given_entry c.places.now) };
+
+    ghost invariant = { λ c. IsBytes c.part.now };
+}
+
+impl<'c> Iterator for Cells<'c> {
+    ghost use Rattle.std.specs.Prelude.{length};
+    ghost use Rattle.std.specs.Iterator.{at_most};
+    ghost use Rattle.xls_cursors.specs.Walking.{CellSteps};
+
+    type Item = SheetCell<'c>;
+
+    ghost next_gives = { CellSteps };
+
+    ghost remaining = { λ cells. at_most (length cells) };
+
+    #[inline(always)]
+    fn next(&mut self) -> Option<SheetCell<'c>> {
+        if let Some(cell) = self.walk.next() {
+            return Some(cell);
+        }
+        let (position, at) = next_place(&mut self.places)?;
+        Some(placed_cell(self.part, position, at, self.force))
+    }
+}
+
+impl<'c> Cells<'c> {
+    ghost use Rattle.std.specs.Prelude.{◌≡◌, ◌++◌, map};
+    ghost use Rattle.xls_stream.specs.Walks.{IsBytes};
+    ghost use Rattle.xls_range.specs.Positions.{given_entry};
+    ghost use Rattle.xls_cursors.specs.Placed.{cell_placed};
+
+    /// These cells, and those at some places of a part.
+    fn new(
+        walk: CellWalk<'c>,
+        force: &'c InForce<'c>,
+        part: &'c [u8],
+        places: &'c [Given<usize>],
+    ) -> Cells<'c>
+        requires { IsBytes part.now }
+        ensures { result ≡ walk.entry ++ map (cell_placed force.now part.now) (map given_entry places.now) }
+    {
+        Cells {
+            walk,
+            force,
+            part,
+            places,
+        }
+    }
+
+    /// The same cells, to be gone through once more. Takes no memory.
+    pub fn again(&self) -> Cells<'c>
+        ensures { result ≡ self.now }
+    {
+        Cells {
+            walk: self.walk.again(),
+            force: self.force,
+            part: self.part,
+            places: self.places,
+        }
+    }
+}

@@ -1,0 +1,233 @@
+//! Where the cells and the formulas of a part stand, for parts whose records don't ascend.
+
+ghost use Rattle.std.specs.Prelude.{◌≡◌, ◌≤◌, ◌<◌, ◌^◌, ◌+◌, ◌++◌, ◌∷◌, ◌-◌, [], ℕ, List, OnOk, Ok, drop, length, map, slice_get, take};
+ghost use Rattle.xls_bytes.specs.Numbers.{le};
+ghost use Rattle.std.specs.Option.{option_map};
+ghost use Rattle.xls_biff.specs.SheetTable.{SheetRecord};
+ghost use Rattle.xls_biff.specs.Walking.{group_of};
+ghost use Rattle.xls_stream.specs.Listing.{kept_group};
+ghost use Rattle.xls_meaning.specs.SheetTable.{adds, kept_line};
+ghost use Rattle.xls_biff.specs.Records.Rk.{first_column, mul_rk_at};
+ghost use Rattle.xls_biff.specs.Cells.{Entry};
+ghost use Rattle.xls_range.specs.Positions.{given_entry};
+ghost use Rattle.xls_cursors.specs.Placed.{cell_in, cell_placed, first_kept, formula_placed, record_at, value_at, Place};
+ghost use Rattle.xls_cursors.specs.Placing.{found_kept, value_or_blank};
+ghost use Rattle.xls_cursors.specs.Walking.{Gives};
+ghost use Rattle.xls_stream.specs.Walks.{IsBytes};
+ghost use Rattle.xls_cursors.specs.Groups.{groups_in};
+ghost use Rattle.xls_cursors.specs.Walking.{formula_seen};
+ghost use Rattle.xls_cursors.specs.Values.{cell_entry, value_content};
+
+use crate::formulas::formula_of;
+use crate::record::cell_of;
+use crate::value::{CellValue, FormulaCell, SheetCell, cell_at, position_of};
+use std::alloc::AllocError;
+use xls_biff::{Record, RecordIter, check_sheet_record, count_mul_rk, read_mul_rk};
+use xls_bytes::read_u16;
+use xls_data::Cell;
+use xls_open::InForce;
+use xls_range::{Given, Unsettled};
+use xls_stream::types::MUL_RK;
+
+/// The first of these records, if there is one.
+fn first_of<'c>(records: &mut RecordIter<'c>) -> Option<Record<'c>>
+    requires { IsBytes records.old }
+    ensures { found_kept result ≡ first_kept (groups_in records.old).0 }
+{
+    let item = match records.next() {
+        Some(item) => item,
+        None => return None,
+    };
+    let record = match item {
+        Ok(record) => record,
+        Err(_) => return None,
+    };
+    Some(record)
+}
+
+/// The bytes from an offset on, and none past the end.
+pub fn part_at(bytes: &[u8], offset: usize) -> &[u8]
+    ensures { result.now ≡ drop offset bytes.now }
+{
+    if bytes.len() < offset {
+        return &[];
+    }
+    let (_, part) = bytes.split_at(offset);
+    part
+}
+
+/// The record that begins at an offset of a part.
+fn record_at<'c>(part: &'c [u8], at: usize) -> Option<Record<'c>>
+    ensures { found_kept result ≡ record_at part.now at }
+{
+    first_of(&mut RecordIter::new(part_at(part, at)))
+}
+
+/// The first column of a MulRk record.
+fn first_column(body: &[u8]) -> u32
+    requires { 4 ≤ length body.now }
+    ensures column { result ≡ first_column body.now }
+    ensures small { result < 2 ^ 16 }
+{
+    let (_, behind) = body.split_at(2);
+    u32::from(read_u16(behind))
+}
+
+/// The value of the cell at a column of a MulRk record without a fault.
+fn value_in_run<'c>(body: &'c [u8], column: u32, force: &InForce<'c>) -> Option<CellValue<'c>>
+    ensures { (cells : List Entry) → mul_rk_at force.now.cells.classes force.now.cells.is_1904 body.now ≡ Ok cells
+        → option_map value_content result ≡ option_map (λ (c : Entry). c.1) (slice_get cells (column - first_column body.now)) }
+{
+    let count = match count_mul_rk(body) {
+        Ok(count) => count,
+        Err(_) => return None,
+    };
+    let nth = column.saturating_sub(first_column(body)) as usize;
+    if nth >= count {
+        return None;
+    }
+    let (_, value) = read_mul_rk(body, nth, force.classes, force.is_1904);
+    Some(CellValue::Number(value))
+}
+
+/// The value of the cell of a record without a fault at a position, if the record has it.
+fn value_in<'c>(r: &Record<'c>, position: (u32, u32), force: &InForce<'c>) -> Option<CellValue<'c>>
+    ensures { (g : SheetRecord) → kept_line force.now.cells (kept_group (group_of r.now)) ≡ Ok g
+        → value_or_blank result ≡ cell_in force.now position (kept_group (group_of r.now)) }
+{
+    if r.typ == MUL_RK {
+        return value_in_run(r.body, position.1, force);
+    }
+    match cell_of(r, position, force) {
+        Some(cell) => Some(cell.value),
+        None => None,
+    }
+}
+
+/// The value of the cell at a position whose record begins at an offset of a part, if the record has it.
+fn placed_value<'c>(
+    part: &'c [u8],
+    position: (u32, u32),
+    at: usize,
+    force: &InForce<'c>,
+) -> Option<CellValue<'c>>
+    ensures { value_or_blank result ≡ value_at force.now part.now position at }
+{
+    let record = match record_at(part, at) {
+        Some(record) => record,
+        None => return None,
+    };
+    match check_sheet_record(&record, force.version) {
+        Ok(()) => value_in(&record, position, force),
+        Err(_) => None,
+    }
+}
+
+/// The cell at a position whose record begins at an offset of a part; blank where the record has none.
+pub(crate) fn placed_cell<'c>(
+    part: &'c [u8],
+    position: (u32, u32),
+    at: usize,
+    force: &InForce<'c>,
+) -> SheetCell<'c>
+    ensures { cell_entry result ≡ cell_placed force.now part.now (position, at) }
+{
+    let value = match placed_value(part, position, at, force) {
+        Some(value) => value,
+        None => CellValue::Empty,
+    };
+    cell_at(position, value)
+}
+
+/// The next of some places.
+pub(crate) fn next_place(places: &mut &[Given<usize>]) -> Option<((u32, u32), usize)>
+    ensures { Gives (λ (c : Place). c) (map given_entry places.old.now) result (map given_entry places.new.now) }
+{
+    if places.is_empty() {
+        return None;
+    }
+    let (first, rest) = places.split_at(1);
+    *places = rest;
+    let cell = &first[0].cell;
+    Some((cell.get_position(), *cell.get_value()))
+}
+
+/// The formula at a position whose record begins at an offset of a part; without tokens where the record is
+/// none.
+pub(crate) fn placed_formula<'c>(part: &'c [u8], position: (u32, u32), at: usize) -> FormulaCell<'c>
+    ensures { formula_seen result ≡ formula_placed part.now (position, at) }
+{
+    let (row, column) = position;
+    let rgce = match record_at(part, at) {
+        Some(record) => match formula_of(&record) {
+            Some(formula) => formula.rgce,
+            None => &[],
+        },
+        None => &[],
+    };
+    FormulaCell { row, column, rgce }
+}
+
+/// Puts a place after those so far.
+fn push_place(
+    places: &mut Unsettled<usize>,
+    position: (u32, u32),
+    at: usize,
+) -> Result<(), AllocError>
+    ensures { OnOk result (places.new ≡ places.old ++ (position, at) ∷ []) }
+{
+    places.push(Cell::new(position, at))?;
+    Ok(())
+}
+
+/// Where a cell of a MulRk record stands, by its number there.
+pub(crate) fn run_position(body: &[u8], i: usize) -> (u32, u32)
+    requires head { 4 ≤ length body.now }
+    requires few { i < 2 ^ 16 }
+    ensures { result ≡ (le (take 2 body.now), first_column body.now + i) }
+{
+    (u32::from(read_u16(body)), first_column(body) + i as u32)
+}
+
+/// Puts the places of the cells of a MulRk record without a fault.
+fn push_run(
+    places: &mut Unsettled<usize>,
+    body: &[u8],
+    at: usize,
+    force: &InForce<'_>,
+) -> Result<(), AllocError>
+    ensures { (cells : List Entry) → mul_rk_at force.now.cells.classes force.now.cells.is_1904 body.now ≡ Ok cells
+        → OnOk result (places.new ≡ places.old ++ map (λ (c : Entry). (c.0, at)) cells) }
+{
+    let count = match count_mul_rk(body) {
+        Ok(count) => count,
+        Err(_) => return Ok(()),
+    };
+    for i in 0..count {
+        push_place(places, run_position(body, i), at)?;
+    }
+    Ok(())
+}
+
+/// Puts the places of the cells of a record without a fault, which begins at this offset of its part, where
+/// the last Formula before it stands here.
+pub(crate) fn push_cells(
+    places: &mut Unsettled<usize>,
+    r: &Record<'_>,
+    last: (u32, u32),
+    at: usize,
+    force: &InForce<'_>,
+) -> Result<(), AllocError>
+    ensures { (g : SheetRecord) (part : List ℕ) → kept_line force.now.cells (kept_group (group_of r.now)) ≡ Ok g
+        → record_at part at ≡ kept_group (group_of r.now)
+        → OnOk result (map (cell_placed force.now part) places.new
+        ≡ map (cell_placed force.now part) places.old ++ (adds force.now.formulas last g).cells) }
+{
+    if r.typ == MUL_RK {
+        return push_run(places, r.body, at, force);
+    }
+    match cell_of(r, last, force) {
+        Some(cell) => push_place(places, position_of(cell), at),
+        None => Ok(()),
+    }
+}

@@ -1,7 +1,0 @@
-use Rattle.std.proofs.Common.{ap}
-use Rattle.xls_view.specs.Formulas.{formulas_of}
-use Rattle.xls_view.proofs.WalkLemmas.{kept_nothing}
-use Rattle.xls_view.proofs.formulas.FormulaWalk.none.Goals as goal
-
-pub returns : goal.returns
-returns c = rw c.new.ensures (ap formulas_of (kept_nothing 0))
