@@ -1,5 +1,9 @@
 -- What the look-ups of a workbook answer.
-use Rattle.std.specs.Prelude.{◌≡◌, ◌⊎◌, ℕ, String, ◌<◌, ◌≤◌, List, [], ◌∷◌, ◌++◌, codes, map, Bool, Option, Some, None, Vec}
+use Rattle.std.specs.Prelude.{◌≡◌, ℕ, String, List, [], ◌∷◌, map, Option, Some, None, ◌⊎◌, ◌<◌, ◌≤◌, ◌++◌, codes, Bool, Vec}
+use Rattle.std.specs.Borrow.{Bor}
+use Rattle.xls_biff.specs.Cells as cells
+use Rattle.xls_meaning.specs.SheetTable.{FormulaEntry}
+use Rattle.xls_open.specs.Workbook.{formula_content, Workbook, cell_content}
 use Rattle.std.specs.List.{AllByRecursion}
 use Rattle.std.specs.Fmt.{decimal}
 use Rattle.std.specs.String.{string_bytes}
@@ -21,8 +25,6 @@ use Rattle.xls_biff.specs.Cells.{Entry}
 use Rattle.xls_record.specs.declared.error.XlsError.{XlsError}
 use Rattle.xls_record.specs.declared.error.XlsError.TheVariants as errors
 use Rattle.xls_meaning.specs.Reading.{SheetView}
-use Rattle.xls_open.specs.Workbook.{Workbook, cell_content, formula_content}
-use Rattle.xls_meaning.specs.SheetTable.{FormulaEntry}
 
 -- the workbook with this header row, and else as it was
 abbrev pub under_header : Workbook → HeaderRow → Workbook
@@ -126,3 +128,15 @@ abbrev pub GivesMerges : {A : Type 0} → Option SheetView → Option (Vec Dimen
 GivesMerges None None = Unit {0}
 GivesMerges (Some v) (Some regions) = regions.items ≡ v.merges
 GivesMerges view regions = ⊥
+
+-- ---- steps of the iterators
+
+-- a call of next with these cells left
+abbrev pub ValueSteps : List Entry → Option (ℕ × ℕ × Bor Data) → List Entry → Type 0
+ValueSteps before None after = (before ≡ []) × (after ≡ [])
+ValueSteps before (Some v) after = before ≡ cells.entry_of ((v.0, v.1), v.2.now) ∷ after
+
+-- a call of next with these formulas left
+abbrev pub FormulaSteps : List FormulaEntry → Option (ℕ × ℕ × Bor (List ℕ)) → List FormulaEntry → Type 0
+FormulaSteps before None after = (before ≡ []) × (after ≡ [])
+FormulaSteps before (Some v) after = before ≡ ((v.0, v.1), chars v.2.now) ∷ after

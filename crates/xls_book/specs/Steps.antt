@@ -4,17 +4,9 @@ use Rattle.std.specs.String.{string_bytes}
 use Rattle.std.specs.Str.{chars}
 use Rattle.std.specs.Global.{Global}
 use Rattle.std.specs.Borrow.{Bor}
-use Rattle.xls_data.specs.declared.values.Data.{Data}
 use Rattle.xls_range.specs.Positions.{Position}
-use Rattle.xls_biff.specs.Cells.{Entry}
-use Rattle.xls_biff.specs.Cells as cells
-use Rattle.xls_meaning.specs.SheetTable.{FormulaEntry, shown_formulas}
+use Rattle.xls_meaning.specs.SheetTable.{shown_formulas}
 use Rattle.xls_open.specs.Workbook.{formula_content}
-
--- a call of next with these cells left
-abbrev pub ValueSteps : List Entry → Option (ℕ × ℕ × Bor Data) → List Entry → Type 0
-ValueSteps before None after = (before ≡ []) × (after ≡ [])
-ValueSteps before (Some v) after = before ≡ cells.entry_of ((v.0, v.1), v.2.now) ∷ after
 
 -- a list of formulas that is empty or begins with one that is shown
 abbrev pub BeginsShown : List (Position × String Global) → Type 0
@@ -33,8 +25,3 @@ FirstShown all None = shown_formulas (map formula_content all) ≡ []
 FirstShown all (Some f) =
     shown_formulas (map formula_content all)
     ≡ ((f.0, f.1), chars f.2.now) ∷ shown_formulas (map formula_content f.3.now)
-
--- likewise with these formulas left
-abbrev pub FormulaSteps : List FormulaEntry → Option (ℕ × ℕ × Bor (List ℕ)) → List FormulaEntry → Type 0
-FormulaSteps before None after = (before ≡ []) × (after ≡ [])
-FormulaSteps before (Some v) after = before ≡ ((v.0, v.1), chars v.2.now) ∷ after

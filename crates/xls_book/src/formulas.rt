@@ -25,7 +25,7 @@ impl<'a> Model for Formulas<'a> {
 impl<'a> Iterator for Formulas<'a> {
     ghost use Rattle.std.specs.Prelude.{length};
     ghost use Rattle.std.specs.Iterator.{at_most};
-    ghost use Rattle.xls_book.specs.Steps.{FormulaSteps};
+    ghost use Rattle.xls_book.specs.LookUps.{FormulaSteps};
 
     type Item = (u32, u32, &'a str);
 

@@ -23,7 +23,7 @@ impl<'a> Model for Values<'a> {
 impl<'a> Iterator for Values<'a> {
     ghost use Rattle.std.specs.Prelude.{length};
     ghost use Rattle.std.specs.Iterator.{at_most};
-    ghost use Rattle.xls_book.specs.Steps.{ValueSteps};
+    ghost use Rattle.xls_book.specs.LookUps.{ValueSteps};
 
     type Item = (u32, u32, &'a Data);
 

@@ -60,7 +60,7 @@ impl Model for Xls {
     ghost use Rattle.xls_open.specs.Workbook.{Workbook, told_of, IsOrdered};
     ghost use Rattle.std.specs.List.{AllByRecursion};
     ghost use Rattle.xls_meaning.specs.Reading.{paired};
-    ghost use Rattle.xls_open.specs.Steps.{shown};
+    ghost use Rattle.xls_open.specs.Workbook.{shown};
     ghost use Rattle.xls_view.specs.Index.{IsIndex};
 
     ghost Value = { Workbook };

@@ -3,37 +3,20 @@ use Rattle.std.specs.Prelude.{◌≡◌, ℕ, ◌≤◌, Bool, List, [], ◌∷�
 use Rattle.std.specs.Global.{Global}
 use Rattle.csv.specs.Writing.{default_writer, field_text, next_sep, writer_setup, fields_written, has_written, writer_under, writer_pending}
 use Rattle.csv.specs.declared.writer.Writer.{Writer}
-use Rattle.xls_data.specs.Content.{Content, nothing}
+use Rattle.xls_data.specs.Content.{Content}
 use Rattle.xls_data.specs.Refs.{ref_content_of, ref_text}
 use Rattle.xls_data.specs.declared.refs.DataRef.{DataRef}
 use Rattle.xls_biff.specs.Cells.{Entry}
-use Rattle.xls_cursors.specs.Values.{cell_entry, value_content}
-use Rattle.xls_cursors.specs.declared.value.CellValue.{CellValue}
 use Rattle.xls_cursors.specs.declared.value.SheetCell.{SheetCell}
 use Rattle.xls_csv.specs.Dates.{date_text, last_day_in, serial_date}
 use Rattle.xls_csv.specs.Fields.{field}
-use Rattle.xls_csv.specs.Walk.{take_at}
 
 -- ---- cells
-
--- the next cell, if there is one, and those after it
-abbrev pub cells_ahead : Option SheetCell → List Entry → List Entry
-cells_ahead None others = others
-cells_ahead (Some cell) others = cell_entry cell ∷ others
 
 -- without a next cell there are no others
 abbrev pub IsEnded : Option SheetCell → List Entry → Type 0
 IsEnded None others = others ≡ []
 IsEnded (Some cell) others = Unit {0}
-
--- the content of a value that may be missing
-abbrev pub value_in : Option CellValue → Content
-value_in None = nothing
-value_in (Some v) = value_content v
-
--- the value at a position was taken, if it stood next
-abbrev pub Takes : List Entry → ℕ → ℕ → Option CellValue → List Entry → Type 0
-Takes before row column value after = take_at row column before ≡ (value_in value, after)
 
 -- the serial day of a value that is shown as a date, with its date system; every other value is shown
 -- as it is printed

@@ -1,8 +1,11 @@
 -- What is seen of cells that are gone through once, row by row. Where they ascend, these are the rows of
 -- the dense box.
-use Rattle.std.specs.Prelude.{ℕ, zero, suc, ◌+◌, ◌==◌, ◌&&◌, if◌then◌else◌, List, [], ◌∷◌}
+use Rattle.std.specs.Prelude.{◌≡◌, ℕ, List, [], ◌∷◌, Option, Some, None, if◌then◌else◌, zero, suc, ◌+◌, ◌==◌, ◌&&◌}
 use Rattle.xls_data.specs.Content.{Content, nothing}
 use Rattle.xls_biff.specs.Cells.{Entry}
+use Rattle.xls_cursors.specs.Values.{cell_entry, value_content}
+use Rattle.xls_cursors.specs.declared.value.CellValue.{CellValue}
+use Rattle.xls_cursors.specs.declared.value.SheetCell.{SheetCell}
 use Rattle.xls_csv.specs.Dense.{box_of}
 
 -- a value, and the cells that are left after it
@@ -37,3 +40,19 @@ rows_along (suc n) row left width cells =
 abbrev pub walk : List Entry → List (List Content)
 walk cells =
     rows_along (box_of cells).height (box_of cells).top (box_of cells).left (box_of cells).width cells
+
+-- ---- a cell ahead
+
+-- the next cell, if there is one, and those after it
+abbrev pub cells_ahead : Option SheetCell → List Entry → List Entry
+cells_ahead None others = others
+cells_ahead (Some cell) others = cell_entry cell ∷ others
+
+-- the content of a value that may be missing
+abbrev pub value_in : Option CellValue → Content
+value_in None = nothing
+value_in (Some v) = value_content v
+
+-- the value at a position was taken, if it stood next
+abbrev pub Takes : List Entry → ℕ → ℕ → Option CellValue → List Entry → Type 0
+Takes before row column value after = take_at row column before ≡ (value_in value, after)

@@ -1,7 +1,7 @@
 //! The cells of a sheet, with a look at the next one.
 
 ghost use Rattle.std.specs.Prelude.{◌≡◌};
-ghost use Rattle.xls_csv.specs.Steps.{Takes};
+ghost use Rattle.xls_csv.specs.Walk.{Takes};
 
 use std::marker::Model;
 use xls_view::{CellValue, Cells, SheetCell};
@@ -17,7 +17,8 @@ pub struct Ahead<'c> {
 impl<'c> Model for Ahead<'c> {
     ghost use Rattle.std.specs.Prelude.{List};
     ghost use Rattle.xls_biff.specs.Cells.{Entry};
-    ghost use Rattle.xls_csv.specs.Steps.{IsEnded, cells_ahead};
+    ghost use Rattle.xls_csv.specs.Walk.{cells_ahead};
+    ghost use Rattle.xls_csv.specs.Steps.{IsEnded};
 
     ghost Value = { List Entry };
 

@@ -5,7 +5,8 @@ ghost use Rattle.csv.specs.Writing.{default_writer, field_text, next_sep};
 ghost use Rattle.xls_lines.specs.Gathering.{Puts};
 ghost use Rattle.xls_cursors.specs.Values.{value_content};
 ghost use Rattle.xls_csv.specs.Fields.{field};
-ghost use Rattle.xls_csv.specs.Steps.{placed, row_end, value_in};
+ghost use Rattle.xls_csv.specs.Walk.{value_in};
+ghost use Rattle.xls_csv.specs.Steps.{placed, row_end};
 
 use crate::line::{push_int, push_text, push_value};
 use std::alloc::{AllocError, Global};

@@ -2,6 +2,7 @@ pub mod Formulas
 pub mod Shown
 pub mod Walking
 pub mod Values
+pub mod Bytes
 pub mod Groups
 pub mod Contents
 pub mod Placed

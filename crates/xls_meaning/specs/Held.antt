@@ -1,4 +1,4 @@
--- The sheets of a stream with their parts, for the proofs.
+-- The sheets of a stream with their parts, and what a sheet without records shows.
 use Rattle.std.specs.Prelude.{ℕ, List, [], Option, None}
 use Rattle.std.specs.Option.{option_map}
 use Rattle.xls_stream.specs.Listing.{offset_at, Kept, Item, plain_item, table_item, sheet_item}

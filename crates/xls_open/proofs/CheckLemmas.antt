@@ -17,7 +17,7 @@ use Rattle.xls_meaning.specs.GlobalsTable.{forced_fault, fault_of}
 use Rattle.xls_meaning.specs.Faults.{item_fault, sheet_places, globals_places, places, FirstBehind}
 use Rattle.xls_open.specs.Checking.{checked, FirstChecked, Checks}
 use Rattle.xls_open.specs.CheckSteps.{force_of, AreChecked, ChecksPart, ChecksPlaces}
-use Rattle.xls_open.specs.Steps.{GlobalsFault}
+use Rattle.xls_open.specs.Globals.{GlobalsFault}
 use Rattle.xls_meaning.specs.Rules.{Rules}
 use Rattle.xls_meaning.proofs.OrderLemmas.{first_behind, first_early, or_none, none_both, none_append, along-append}
 use Rattle.xls_meaning.proofs.HeldLemmas.{Found, sheet_line, said, is_named}

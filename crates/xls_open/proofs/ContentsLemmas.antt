@@ -8,7 +8,8 @@ use Rattle.xls_stream.specs.Listing.{Kept}
 use Rattle.xls_data.specs.Sheets.{SheetContent}
 use Rattle.xls_meaning.specs.InForce.{InForce, SheetRecords}
 use Rattle.xls_meaning.specs.Reading.{SheetView, IsContent, last_named, kept_named, IsShown}
-use Rattle.xls_open.specs.Steps.{AreSheets, shown}
+use Rattle.xls_open.specs.Workbook.{shown}
+use Rattle.xls_open.specs.Steps.{AreSheets}
 use Rattle.xls_meaning.specs.Reading.{paired}
 use Rattle.xls_meaning.specs.Held.{no_view}
 

@@ -26,7 +26,8 @@ use Rattle.xls_meaning.specs.Faults.{item_line, item_fault, cut_fault}
 use Rattle.xls_meaning.specs.Rules.{Rules}
 use Rattle.xls_meaning.proofs.OrderLemmas.{first_at, none_push, first_behind}
 use Rattle.xls_meaning.specs.InForce.{page_in}
-use Rattle.xls_open.specs.Steps.{State, first_state, after, body_of, IsState, AreGlobals, GlobalsFault, ReadsGlobals}
+use Rattle.xls_open.specs.Globals.{State, IsState, AreGlobals, GlobalsFault, ReadsGlobals}
+use Rattle.xls_open.specs.Steps.{first_state, after, body_of}
 use Rattle.xls_open.specs.CheckSteps.{AreChecked}
 use Rattle.xls_open.specs.RecordSteps.{Stands, ReadsLine, IsTaken, version_of, version_by}
 use Rattle.xls_open.specs.declared.globals_record.GlobalsRecord.{GlobalsRecord}

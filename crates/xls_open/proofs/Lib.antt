@@ -22,4 +22,3 @@ pub mod AscendingLemmas
 pub mod SameLemmas
 pub mod LaidLemmas
 pub mod StandardFacts
-pub mod ByteLemmas

@@ -22,7 +22,7 @@ use Rattle.xls_meaning.specs.InForce.{cells_of, page_in, version_in, SheetRecord
 use Rattle.xls_record.specs.Reading.{gives}
 use Rattle.xls_meaning.specs.GlobalsTable.{Named, sheet_record, sheet_given, fault_of}
 use Rattle.xls_meaning.specs.Faults.{item_fault}
-use Rattle.xls_open.specs.Steps.{Sheets, pair_of, sheets_at, State, IsState, names_listed, IsNaming}
+use Rattle.xls_open.specs.Globals.{Sheets, pair_of, sheets_at, State, IsState, names_listed, IsNaming}
 use Rattle.xls_meaning.specs.Held.{OpenedSheet, opened_in}
 use Rattle.xls_open.specs.declared.names.Naming.{Naming}
 use Rattle.xls_meaning.specs.Rules.{Rules}

@@ -24,7 +24,9 @@ use Rattle.xls_meaning.specs.GlobalsTable.{sheet_given, forced_fault}
 use Rattle.xls_meaning.specs.Reading.{SheetView, BookView, IsContent, IsShown}
 use Rattle.xls_open.specs.Workbook.{IsOrdered}
 use Rattle.xls_meaning.specs.Faults.{item_line, kept_fault, part_places, sheet_places, globals_places}
-use Rattle.xls_open.specs.Steps.{RefusesStream, PartFault, pair_of, Sheets, State, IsState, AreGlobals, ReadsGlobals, AreContents, ReadsContents, AreSheets, shown, IsStreamOpened, StreamFault}
+use Rattle.xls_open.specs.Globals.{pair_of, Sheets, State, IsState, AreGlobals, ReadsGlobals}
+use Rattle.xls_open.specs.Workbook.{shown}
+use Rattle.xls_open.specs.Steps.{RefusesStream, PartFault, AreContents, ReadsContents, AreSheets, IsStreamOpened, StreamFault}
 use Rattle.xls_meaning.specs.Held.{OpenedSheet, opened_in, opened_of}
 use Rattle.xls_meaning.specs.Reading.{paired}
 use Rattle.xls_meaning.specs.Rules.{Rules}

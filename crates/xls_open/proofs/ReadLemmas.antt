@@ -6,7 +6,8 @@ use Rattle.xls_record.specs.declared.error.XlsError.{XlsError}
 use Rattle.xls_record.specs.declared.error.XlsError.TheVariants as errors
 use Rattle.xls_meaning.specs.InForce.{InForce}
 use Rattle.xls_meaning.specs.Reading.{SheetView}
-use Rattle.xls_open.specs.Steps.{Sheets, listed_of, IsRead, Reads, AreContents, ContentsFault, ReadsContents}
+use Rattle.xls_open.specs.Globals.{Sheets, listed_of}
+use Rattle.xls_open.specs.Steps.{IsRead, Reads, AreContents, ContentsFault, ReadsContents}
 use Rattle.xls_meaning.specs.Rules.{Rules}
 use Rattle.xls_open.specs.declared.listed.Listed.{Listed}
 use Rattle.xls_stream.specs.Listing.{IsSheetPart}

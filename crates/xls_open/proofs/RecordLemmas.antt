@@ -15,7 +15,8 @@ use Rattle.xls_record.specs.Reading.{Fails, Gives, fault_in, gives}
 use Rattle.xls_strings.specs.Sst.{error_of, CountsTable, ReadsTable, sst_marks, InTable}
 use Rattle.xls_biff.specs.Records.BoundSheet.{bound_sheet_at}
 use Rattle.xls_meaning.specs.GlobalsTable.{GlobalsRecord, other_record, format_record, strings_record, sheet_record, unless_refused, texts_of, Line, fault_of}
-use Rattle.xls_open.specs.Steps.{State, after}
+use Rattle.xls_open.specs.Globals.{State}
+use Rattle.xls_open.specs.Steps.{after}
 use Rattle.xls_open.proofs.OpenLemmas.{bound_offset}
 
 -- ---- a line without a fault, by what a check says of its reader

@@ -15,7 +15,8 @@ use Rattle.xls_meaning.specs.Order.{along, last_of, somes}
 use Rattle.xls_meaning.specs.GlobalsTable.{Named, GlobalsRecord, item_record_at, Line, version_given, page_given, date_given, format_given, xf_given, references_given, name_given, strings_given, sheet_given}
 use Rattle.xls_meaning.specs.InForce.{said_by, first_page, page_in, version_in, line_in, lines_in, sets_1904}
 use Rattle.xls_meaning.specs.Faults.{item_line}
-use Rattle.xls_open.specs.Steps.{Sheets, State, first_state, with_one, with_all, or_also, placed, after, body_of, pair_of, sheets_at, IsState}
+use Rattle.xls_open.specs.Globals.{Sheets, State, pair_of, sheets_at, IsState}
+use Rattle.xls_open.specs.Steps.{first_state, with_one, with_all, or_also, placed, after, body_of}
 use Rattle.xls_meaning.specs.Held.{OpenedSheet, opened_in, opened_of}
 use Rattle.xls_meaning.specs.Rules.{Rules}
 use Rattle.xls_meaning.proofs.OrderLemmas.{along-push, somes-append}

@@ -8,7 +8,7 @@ use Rattle.xls_meaning.specs.Order.{along, first_of}
 use Rattle.xls_meaning.specs.InForce.{version_in, InForce, in_force_of}
 use Rattle.xls_meaning.specs.GlobalsTable.{fault_of}
 use Rattle.xls_meaning.specs.Faults.{item_fault, part_places, places}
-use Rattle.xls_open.specs.Steps.{GlobalsFault}
+use Rattle.xls_open.specs.Globals.{GlobalsFault}
 use Rattle.xls_open.specs.Checking.{checked}
 use Rattle.xls_meaning.specs.Rules.{Rules}
 use Rattle.xls_open.specs.declared.check.CheckRules.{CheckRules}

@@ -13,7 +13,8 @@ use Rattle.xls_biff.specs.Records.Format.{format_at}
 use Rattle.xls_formula.specs.Defined.{lbl_at}
 use Rattle.xls_meaning.specs.GlobalsTable.{other_record, version_record, page_record, date_record, xf_record, references_record, name_record, strings_record, sheet_record, unless_refused, texts_of, Line, fault_of}
 use Rattle.xls_meaning.specs.GlobalsTable as table
-use Rattle.xls_open.specs.Steps.{State, after}
+use Rattle.xls_open.specs.Globals.{State}
+use Rattle.xls_open.specs.Steps.{after}
 use Rattle.xls_open.specs.declared.globals_record.GlobalsRecord.{GlobalsRecord}
 use Rattle.xls_open.specs.declared.globals_record.GlobalsRecord.TheVariants as read
 

@@ -1,33 +1,28 @@
 -- Steps of opening, for the proofs.
-use Rattle.std.specs.Prelude.{◌≡◌, ℕ, ℤ, List, [], ◌∷◌, ◌++◌, ◌-◌, ◌||◌, Bool, false, if◌then◌else◌, nat_lt, length, map, Option, Some, None, unwrap_or, Result, Ok, Err, Vec}
+use Rattle.std.specs.Prelude.{◌≡◌, ℕ, List, [], ◌∷◌, ◌++◌, ◌-◌, ◌||◌, Bool, false, if◌then◌else◌, nat_lt, length, map, Option, Some, None, unwrap_or, Result, Ok, Err, Vec}
 use Rattle.std.specs.Option.{option_map}
 use Rattle.std.specs.List.{AllByRecursion}
 use Rattle.xls_text.specs.declared.encoding.XlsEncoding.{XlsEncoding}
 use Rattle.xls_stream.specs.Listing as listing
-use Rattle.xls_stream.specs.Listing.{offset_at, Kept, Item, plain_item, table_item, sheet_item, entry_of, IsSheetPart, Holds, Carries}
+use Rattle.xls_stream.specs.Listing.{offset_at, Kept, Item, plain_item, table_item, sheet_item, IsSheetPart, Carries}
 use Rattle.xls_stream.specs.Walks.{IsBytes}
 use Rattle.xls_stream.specs.declared.part.Part.{Part}
 use Rattle.xls_data.specs.Sheets.{SheetContent, sheet_content}
-use Rattle.xls_dates.specs.declared.formats.CellFormat.{CellFormat}
 use Rattle.xls_record.specs.declared.error.XlsError.{XlsError}
 use Rattle.xls_record.specs.declared.error.XlsError.TheVariants as errors
-use Rattle.xls_record.specs.declared.version.Biff.{Biff}
 use Rattle.xls_record.specs.declared.version.Biff.TheVariants.{Biff8}
 use Rattle.xls_record.specs.Reading.{Fails, gives}
 use Rattle.xls_meaning.specs.Order.{along, first_of}
-use Rattle.xls_meaning.specs.InForce.{page_in, version_in, is_1904_in, formats_in, identifiers_in, texts_in, extern_refs, lbls_in, known_refs, told_name, InForce, SheetRecords}
-use Rattle.xls_meaning.specs.GlobalsTable.{Named, GlobalsRecord, version_given, page_given, date_given, format_given, xf_given, references_given, name_given, strings_given, sheet_given}
+use Rattle.xls_meaning.specs.InForce.{InForce, SheetRecords}
+use Rattle.xls_meaning.specs.GlobalsTable.{GlobalsRecord, version_given, page_given, date_given, format_given, xf_given, references_given, name_given, strings_given, sheet_given}
 use Rattle.xls_meaning.specs.SheetTable.{Given}
-use Rattle.xls_meaning.specs.Reading.{SheetView, BookView, IsContent, last_named, IsReading, paired}
-use Rattle.xls_open.specs.Workbook.{Workbook, IsOrdered, rules_of, told_of, view_of}
-use Rattle.xls_meaning.specs.Faults.{item_fault, kept_fault, part_places, globals_places, FirstBehind, IsFull}
+use Rattle.xls_meaning.specs.Reading.{SheetView, BookView, IsContent, IsReading, paired}
+use Rattle.xls_open.specs.Workbook.{Workbook, IsOrdered, rules_of, told_of, view_of, shown}
+use Rattle.xls_meaning.specs.Faults.{kept_fault, part_places, FirstBehind, IsFull}
 use Rattle.xls_open.specs.declared.options.XlsOptions.{XlsOptions}
 use Rattle.xls_open.specs.declared.opened.Opened.{Opened}
-use Rattle.xls_open.specs.declared.listed.Listed.{Listed}
-use Rattle.xls_open.specs.declared.names.Naming.{Naming}
 use Rattle.xls_meaning.specs.Rules.{Rules}
-use Rattle.xls_meaning.specs.Held.{OpenedSheet, opened_of}
-use Rattle.xls_meaning.specs.Held.{no_view}
+use Rattle.xls_open.specs.Globals.{Sheets, State}
 
 -- ---- steps
 
@@ -37,25 +32,6 @@ Follows new (Ok u) given = given ≡ Ok new
 Follows new (Err e) given = Fails e given
 
 -- ---- the globals
-
--- the sheets that the globals list, each with its offset
-abbrev pub Sheets : Type 0
-Sheets = List (ℕ × SheetContent)
-
-abbrev pub listed_of : Listed → ℕ × SheetContent
-listed_of l = (l.offset, sheet_content l.sheet)
-
--- what the records so far give
-pub record State : Type 0 where
-  pub page : XlsEncoding
-  pub version : Biff
-  pub is_1904 : Bool
-  pub formats : List (ℕ × CellFormat)
-  pub identifiers : List ℕ
-  pub strings : List (List ℕ)
-  pub refs : List ℤ
-  pub names : List Named
-  pub sheets : Sheets
 
 -- before the first record, under this page
 abbrev pub first_state : XlsEncoding → State
@@ -109,52 +85,7 @@ body_of (sheet_item body kept cut) = body
 
 -- ---- the sheets of the globals
 
-abbrev pub pair_of : OpenedSheet → ℕ × SheetContent
-pair_of o = (o.offset, o.head)
-
--- the sheets listed by these items
-abbrev pub sheets_at : Rules → List Item → Sheets
-sheets_at rules items = map pair_of (opened_of rules items)
-
--- the state is what these items give
-pub record IsState (rules : Rules) (items : List Item) (s : State) : Type 0 where
-  pub page : s.page ≡ page_in rules (map entry_of items)
-  pub version : s.version ≡ version_in rules (map entry_of items)
-  pub is_1904 : s.is_1904 ≡ is_1904_in rules (map entry_of items)
-  pub formats : s.formats ≡ formats_in rules (map entry_of items)
-  pub identifiers : s.identifiers ≡ identifiers_in rules (map entry_of items)
-  pub strings : s.strings ≡ texts_in rules (map entry_of items)
-  pub refs : s.refs ≡ extern_refs rules (map entry_of items)
-  pub names : s.names ≡ lbls_in rules (map entry_of items)
-  pub sheets : s.sheets ≡ sheets_at rules items
-
-pub record AreGlobals (rules : Rules) (bytes : List ℕ) (s : State) : Type 0 where
-  pub items : List Item
-  pub holds : Holds bytes items None
-  pub faultless : first_of (along (item_fault rules) [] items) ≡ None
-  pub state : IsState rules items s
-
-abbrev pub GlobalsFault : Rules → List ℕ → XlsError → Type 0
-GlobalsFault rules bytes e =
-    (items : List Item) × (cut : Option Part) × Holds bytes items cut
-    × (first_of (globals_places rules items cut) ≡ Some e)
-
-abbrev pub ReadsGlobals : Rules → List ℕ → Result State XlsError → Type 0
-ReadsGlobals rules bytes (Ok s) = AreGlobals rules bytes s
-ReadsGlobals rules bytes (Err errors.Memory) = Unit {0}
-ReadsGlobals rules bytes (Err e) = GlobalsFault rules bytes e
-
 -- ---- what formulas may name
-
-abbrev pub names_listed : Sheets → List (List ℕ)
-names_listed = map (λ (q : ℕ × SheetContent). q.1.name)
-
--- by a version, sheets, the references of all ExternSheets, and Lbls
-pub record IsNaming (version : Biff) (listed : Sheets) (refs : List ℤ) (lbls : List Named) (n : Naming) : Type 0 where
-  pub sheets : n.sheets ≡ names_listed listed
-  pub known : n.refs ≡ known_refs version (length listed) refs
-  pub names : n.names ≡ map (told_name (names_listed listed) (known_refs version (length listed) refs)) lbls
-  pub told : map told_of n.told.items ≡ n.names
 
 -- ---- a sheet part
 
@@ -230,10 +161,6 @@ AreSheets s [] [] [] = Unit {0}
 AreSheets s (t ∷ ts) (v ∷ vs) (q ∷ qs) =
     (t ≡ q.0) × IsContent s q.1 v × AreSheets s ts vs qs
 AreSheets s ts vs qs = ⊥
-
--- for each of these sheets the content of the last sheet of its name
-abbrev pub shown : List (SheetContent × SheetView) → List SheetContent → List SheetView
-shown all ss = map (λ (s : SheetContent). unwrap_or (last_named all s.name) no_view) ss
 
 -- ---- the workbook of a stream, its byte limit and the forced page apart
 

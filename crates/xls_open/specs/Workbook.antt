@@ -1,5 +1,5 @@
 -- What a workbook shows, and how the values of the code are seen.
-use Rattle.std.specs.Prelude.{ℕ, String, List, map, Bool, Option}
+use Rattle.std.specs.Prelude.{ℕ, String, List, map, Bool, Option, unwrap_or}
 use Rattle.std.specs.Global.{Global}
 use Rattle.xls_data.specs.Sheets.{SheetContent}
 use Rattle.xls_data.specs.declared.values.Data.{Data}
@@ -9,8 +9,9 @@ use Rattle.xls_strings.specs.Texts.{text_of}
 use Rattle.xls_biff.specs.Cells.{Entry}
 use Rattle.xls_biff.specs.Cells as cells
 use Rattle.xls_meaning.specs.Rules.{Rules}
-use Rattle.xls_meaning.specs.Reading.{SheetView, BookView, shown_of}
+use Rattle.xls_meaning.specs.Reading.{SheetView, BookView, shown_of, last_named}
 use Rattle.xls_meaning.specs.SheetTable.{FormulaEntry}
+use Rattle.xls_meaning.specs.Held.{no_view}
 use Rattle.xls_open.specs.declared.options.XlsOptions.{XlsOptions}
 
 -- ---- the options
@@ -47,6 +48,10 @@ view_of book =
       is_1904 = book.is_1904;
       classes = book.classes;
     }
+
+-- for each of these sheets the content of the last sheet of its name
+abbrev pub shown : List (SheetContent × SheetView) → List SheetContent → List SheetView
+shown all ss = map (λ (s : SheetContent). unwrap_or (last_named all s.name) no_view) ss
 
 -- of the last sheet of a name
 abbrev pub view_named : Workbook → List ℕ → Option SheetView

@@ -2,7 +2,8 @@
 
 ghost use Rattle.std.specs.Prelude.{◌≡◌, [], Ok, IfErr, IfOk, OnOk};
 ghost use Rattle.xls_meaning.specs.InForce.{page_in};
-ghost use Rattle.xls_open.specs.Steps.{first_state, ReadsGlobals};
+ghost use Rattle.xls_open.specs.Globals.{ReadsGlobals};
+ghost use Rattle.xls_open.specs.Steps.{first_state};
 ghost use Rattle.xls_open.specs.RecordSteps.{IsFaultless, IsTaken};
 ghost use Rattle.xls_open.specs.Workbook.{rules_of};
 
@@ -45,7 +46,7 @@ pub struct Globals {
 impl Model for Globals {
     ghost use Rattle.std.specs.Prelude.{map};
     ghost use Rattle.xls_formula.specs.Defined.{named_of};
-    ghost use Rattle.xls_open.specs.Steps.{State, listed_of};
+    ghost use Rattle.xls_open.specs.Globals.{State, listed_of};
 
     ghost Value = { State };
 

@@ -6,7 +6,7 @@ ghost use Rattle.xls_strings.specs.Texts.{text_of};
 ghost use Rattle.xls_data.specs.Sheets.{SheetContent};
 ghost use Rattle.xls_formula.specs.Defined.{located_of, named_of};
 ghost use Rattle.xls_meaning.specs.InForce.{known_refs, own_refs, placed_text, told_name};
-ghost use Rattle.xls_open.specs.Steps.{IsNaming, listed_of};
+ghost use Rattle.xls_open.specs.Globals.{IsNaming, listed_of};
 ghost use Rattle.xls_open.specs.Workbook.{told_of};
 
 use crate::listed::{Lbl, Listed};

@@ -6,7 +6,8 @@ ghost use Rattle.xls_data.specs.Sheets.{SheetContent, sheet_content};
 ghost use Rattle.xls_meaning.specs.GlobalsTable.{forced_fault};
 ghost use Rattle.xls_meaning.specs.InForce.{page_in};
 ghost use Rattle.xls_open.specs.Opening.{IsOfOpening, IsOpened, OpenCause};
-ghost use Rattle.xls_open.specs.Steps.{IsReady, OpensStream, ReadsContents, book_of, items_of, listed_of};
+ghost use Rattle.xls_open.specs.Globals.{listed_of};
+ghost use Rattle.xls_open.specs.Steps.{IsReady, OpensStream, ReadsContents, book_of, items_of};
 ghost use Rattle.xls_open.specs.Workbook.{rules_of};
 ghost use Rattle.xls_source.specs.Bounded.{AnswersAtEnd};
 

@@ -5,7 +5,7 @@ ghost use Rattle.xls_decimals.specs.Added.{Adds};
 ghost use Rattle.xls_lines.specs.Gathering.{Puts};
 ghost use Rattle.xls_readable.specs.Csv.{row_end};
 ghost use Rattle.xls_cursors.specs.Values.{value_content};
-ghost use Rattle.xls_csv.specs.Steps.{value_in};
+ghost use Rattle.xls_csv.specs.Walk.{value_in};
 ghost use Rattle.xls_tables.specs.Rows.{IsContentField};
 ghost use Rattle.xls_tables.specs.Tables.{byte_order_mark};
 ghost use Rattle.xls_tables.specs.Steps.{AddsPlaced, separator};

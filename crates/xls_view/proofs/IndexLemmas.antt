@@ -15,7 +15,7 @@ use Rattle.xls_data.specs.declared.sheets.Sheet.{Sheet}
 use Rattle.xls_meaning.specs.Reading.{SheetView, last_named, paired}
 use Rattle.xls_view.specs.Index.{last_place}
 use Rattle.xls_meaning.specs.Held.{no_view}
-use Rattle.xls_open.specs.Steps.{shown}
+use Rattle.xls_open.specs.Workbook.{shown}
 use Rattle.xls_view.proofs.NameLemmas.{same_text}
 use Rattle.xls_open.proofs.MapLemmas.{map_more}
 use Rattle.xls_meaning.proofs.NamedLemmas.{named_some}

@@ -27,7 +27,8 @@ use Rattle.xls_meaning.proofs.OrderLemmas.{none_both, first_early}
 use Rattle.xls_meaning.proofs.HeldLemmas.{IsFine, sheet_view, good, opened_places, after_globals, carries_full}
 use Rattle.xls_meaning.proofs.LawLemmas.{one_first_fault}
 use Rattle.xls_open.specs.Checking.{checked}
-use Rattle.xls_open.specs.Steps.{State, AreGlobals, ReadsGlobals, AreContents, pair_of, Sheets}
+use Rattle.xls_open.specs.Globals.{State, AreGlobals, ReadsGlobals, pair_of, Sheets}
+use Rattle.xls_open.specs.Steps.{AreContents}
 use Rattle.xls_open.specs.Workbook.{rules_of}
 use Rattle.xls_open.specs.declared.options.XlsOptions.{XlsOptions}
 use Rattle.xls_open.proofs.AlikeLemmas.{places_same, checked_alike}

@@ -5,7 +5,7 @@ use Rattle.xls_data.specs.Sheets.{SheetContent}
 use Rattle.xls_biff.specs.SheetTable.{CellContext}
 use Rattle.xls_meaning.specs.InForce.{InForce}
 use Rattle.xls_meaning.specs.Reading.{last_named, paired}
-use Rattle.xls_open.specs.Steps.{shown}
+use Rattle.xls_open.specs.Workbook.{shown}
 use Rattle.xls_view.specs.Viewing.{Viewed}
 use Rattle.xls_cursors.specs.Contents.{IsReadable, content_by, formulas_at, kept_at}
 

@@ -5,7 +5,7 @@ ghost use Rattle.std.specs.Option.{option_map};
 ghost use Rattle.std.specs.Str.{chars};
 ghost use Rattle.xls_data.specs.Sheets.{sheet_content};
 ghost use Rattle.xls_open.specs.Workbook.{rules_of, told_of};
-ghost use Rattle.xls_open.specs.Steps.{AreGlobals};
+ghost use Rattle.xls_open.specs.Globals.{AreGlobals};
 ghost use Rattle.xls_meaning.specs.GlobalsTable.{forced_fault};
 ghost use Rattle.xls_biff.specs.Cells.{Entry};
 ghost use Rattle.xls_range.specs.Positions.{IsAscending};
@@ -18,7 +18,7 @@ ghost use Rattle.xls_cursors.specs.Formulas.{text_entry};
 ghost use Rattle.xls_view.specs.Naming.{context_in};
 ghost use Rattle.xls_record.specs.declared.error.XlsError.{XlsError};
 ghost use Rattle.xls_data.specs.Sheets.{SheetContent};
-ghost use Rattle.xls_open.specs.Steps.{listed_of};
+ghost use Rattle.xls_open.specs.Globals.{listed_of};
 
 use crate::index::{find_named, index_of};
 use crate::naming::ViewNaming;

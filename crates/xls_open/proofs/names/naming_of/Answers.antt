@@ -2,7 +2,7 @@ use Rattle.std.proofs.Common.{map, sym, ap, ◌∙◌}
 use Rattle.std.proofs.lemmas.List.{length-map}
 use Rattle.xls_formula.specs.Defined.{named_of}
 use Rattle.xls_meaning.specs.InForce.{known_refs, told_name}
-use Rattle.xls_open.specs.Steps.{names_listed, listed_of}
+use Rattle.xls_open.specs.Globals.{names_listed, listed_of}
 use Rattle.xls_open.specs.Workbook.{told_of}
 use Rattle.xls_open.proofs.names.naming_of.Goals as goal
 

@@ -1,5 +1,5 @@
 use Rattle.std.proofs.Common.{◌≡◌, map, take}
-use Rattle.xls_open.specs.Steps.{listed_of, names_listed}
+use Rattle.xls_open.specs.Globals.{listed_of, names_listed}
 use Rattle.xls_open.proofs.names.sheet_names.Given as goal
 
 -- the names of the sheets so far

@@ -4,7 +4,7 @@ use Rattle.std.proofs.lemmas.Result.{err_from_is_err_and}
 use Rattle.xls_data.specs.Sheets.{SheetContent, sheet_content}
 use Rattle.xls_meaning.specs.InForce.{class_in}
 use Rattle.xls_formula.specs.Defined.{named_of}
-use Rattle.xls_open.specs.Steps.{listed_of, AreGlobals, IsNaming}
+use Rattle.xls_open.specs.Globals.{listed_of, AreGlobals, IsNaming}
 use Rattle.xls_open.specs.Workbook.{rules_of, told_of}
 use Rattle.xls_open.proofs.NamingLemmas.{context_is}
 use Rattle.xls_open.proofs.OpenLemmas.{globals_refused, force_is, refused_under, opened_under, all_ordered}

@@ -1,5 +1,6 @@
 use Rattle.std.proofs.Common.{take, map}
-use Rattle.xls_open.specs.Steps.{listed_of, AreContents}
+use Rattle.xls_open.specs.Globals.{listed_of}
+use Rattle.xls_open.specs.Steps.{AreContents}
 use Rattle.xls_open.specs.Workbook.{rules_of}
 use Rattle.xls_open.proofs.opened.read_contents.Given as goal
 

@@ -1,7 +1,7 @@
 use Rattle.std.proofs.Common.{◌≡◌, ◌++◌, ℕ, map}
 use Rattle.std.specs.Vec.Iter.{into_iter_items}
 use Rattle.xls_data.specs.Sheets.{SheetContent, sheet_content}
-use Rattle.xls_open.specs.Steps.{listed_of}
+use Rattle.xls_open.specs.Globals.{listed_of}
 use Rattle.xls_view.proofs.view.split_listed.Given as goal
 
 -- the sheets so far, and those that are left

@@ -4,7 +4,7 @@ use Rattle.xls_data.specs.Sheets.{SheetContent, sheet_content}
 use Rattle.xls_data.specs.declared.sheets.Sheet.{Sheet}
 use Rattle.xls_formula.specs.Defined.{named_of}
 use Rattle.xls_meaning.specs.InForce.{class_in}
-use Rattle.xls_open.specs.Steps.{AreGlobals, IsNaming, listed_of}
+use Rattle.xls_open.specs.Globals.{AreGlobals, IsNaming, listed_of}
 use Rattle.xls_open.specs.Workbook.{rules_of, told_of}
 use Rattle.xls_open.proofs.NamingLemmas.{context_is}
 use Rattle.xls_open.proofs.OpenLemmas.{force_is}

@@ -7,7 +7,7 @@ use Rattle.xls_data.specs.contracts.values.DataPartialEq.TheImpl as data_impl
 use Rattle.xls_book.specs.LookUps.{AreWorksheets}
 use Rattle.xls_meaning.specs.Reading.{last_named, paired}
 use Rattle.xls_meaning.specs.Held.{no_view}
-use Rattle.xls_open.specs.Steps.{shown}
+use Rattle.xls_open.specs.Workbook.{shown}
 use Rattle.xls_meaning.proofs.NamedLemmas.{named_shown}
 use Rattle.xls_book.proofs.WorksheetLemmas.{listed_shown}
 use Rattle.xls_book.proofs.xls.Xls.named_boxes.Goals as goal

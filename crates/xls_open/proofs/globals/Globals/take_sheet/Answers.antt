@@ -1,7 +1,7 @@
 use Rattle.std.proofs.Common.{map, ap, ◌∙◌, ◌∷◌, []}
 use Rattle.std.proofs.lemmas.List.{map-append}
 use Rattle.xls_formula.specs.Defined.{named_of}
-use Rattle.xls_open.specs.Steps.{State, listed_of}
+use Rattle.xls_open.specs.Globals.{State, listed_of}
 use Rattle.xls_open.proofs.RecordLemmas.{sheet_taken}
 use Rattle.xls_open.proofs.globals.Globals.take_sheet.Goals as goal
 

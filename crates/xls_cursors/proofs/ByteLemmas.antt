@@ -2,11 +2,7 @@
 use Rattle.std.proofs.Common.{◌≡◌, ℕ, zero, suc, ◌<◌, List, [], ◌∷◌, Bool, true, false, refl, arith}
 use Rattle.std.specs.Prelude.{◌&&◌, nat_lt}
 use Rattle.xls_stream.specs.Walks.{IsBytes}
-
--- whether each number is a byte
-abbrev pub are_bytes : List ℕ → Bool
-are_bytes [] = true
-are_bytes (b ∷ bs) = nat_lt b 256 && are_bytes bs
+use Rattle.xls_cursors.specs.Bytes.{are_bytes}
 
 both : (a b : Bool) → (a && b) ≡ true → (a ≡ true) × (b ≡ true)
 both true true e = (refl, refl)
