@@ -7,18 +7,12 @@ use Rattle.xls_dates.specs.declared.formats.CellFormat.{CellFormat}
 use Rattle.xls_record.specs.declared.error.XlsError.{XlsError}
 use Rattle.xls_record.specs.declared.error.XlsError.TheVariants.{Len}
 use Rattle.xls_record.specs.Reading.{◌>>=◌, gives}
-use Rattle.xls_strings.specs.Strings.{string_at}
 use Rattle.xls_record.proofs.ReadingLemmas.{gives-ok}
 use Rattle.xls_biff.specs.Cells.{Position, position_at, class_at}
-use Rattle.xls_biff.specs.Records.BoolErr.{bool_err_at}
-use Rattle.xls_biff.specs.Records.Dimensions.{dimensions_at}
 use Rattle.xls_biff.specs.Records.Formula.{formula_value_at, formula_at}
-use Rattle.xls_biff.specs.Records.Label.{label_at}
-use Rattle.xls_biff.specs.Records.LabelSst.{label_sst_at}
-use Rattle.xls_biff.specs.Records.MergeCells.{merges_at}
-use Rattle.xls_biff.specs.Records.Number.{number_at}
-use Rattle.xls_biff.specs.Records.Rk.{mul_rk_at, rk_at}
 use Rattle.xls_biff.specs.SheetTable.{CellContext, SheetRecord, formula_record, sheet_record_at, formula_position, position_in}
+use Rattle.xls_biff.proofs.TableLemmas.{each_kind}
+use Rattle.xls_stream.specs.declared.types.TheConstants as types
 
 -- ---- a Formula
 
@@ -56,28 +50,11 @@ at_formula force body place is g h =
 
 -- ---- another record
 
-choice : (t : Bool) (a b : Result SheetRecord XlsError) → position_in a ≡ None → position_in b ≡ None
-    → position_in (if t then a else b) ≡ None
-choice true a b h k = h
-choice false a b h k = k
-
-none : {X : Type 0} (f : X → SheetRecord) → ((x : X) → formula_position (f x) ≡ None)
-    → (r : Result X XlsError) → position_in (gives f r) ≡ None
-none f h (Ok x) = h x
-none f h (Err e) = refl
-
-no_place : (force : CellContext) (typ : ℕ) (body : List ℕ) → (typ == 6) ≡ false
+no_place : (force : CellContext) (typ : ℕ) (body : List ℕ) → (typ == types.FORMULA) ≡ false
     → position_in (sheet_record_at force typ body) ≡ None
 no_place force typ body other =
-    choice (typ == 515) _ _ (none _ (λ c. refl) (number_at force.classes force.is_1904 body))
-    (choice (typ == 638) _ _ (none _ (λ c. refl) (rk_at force.classes force.is_1904 body))
-    (choice (typ == 189) _ _ (none _ (λ c. refl) (mul_rk_at force.classes force.is_1904 body))
-    (choice (typ == 517) _ _ (none _ (λ c. refl) (bool_err_at body))
-    (choice (typ == 516 || typ == 214) _ _ (none _ (λ c. refl) (label_at force.page force.version body))
-    (choice (typ == 253) _ _ (none _ (λ c. refl) (label_sst_at force.strings body))
-    (choice (typ == 519) _ _ (none _ (λ c. refl) (string_at force.page force.version body))
-    (rw other (choice (typ == 229) _ _ (none _ (λ c. refl) (merges_at body))
-    (choice (typ == 512) _ _ (none _ (λ c. refl) (dimensions_at body)) refl)))))))))
+    each_kind (λ r. position_in r ≡ None) (λ e. refl) refl (λ cs. refl) (λ c. refl) (λ cs. refl) typ
+    (λ is at value tokens. absurd (let same : (types.FORMULA == types.FORMULA) ≡ false = rw is at other in cc)) (λ is rs. refl) force body
 
 pub elsewhere : (force : CellContext) (typ : ℕ) (body : List ℕ) (g : SheetRecord) → (typ == 6) ≡ false
     → sheet_record_at force typ body ≡ Ok g → None ≡ formula_position g

@@ -1,5 +1,6 @@
 -- Values from outside, in the bytes of records, so that a wrong rule in the definitions does not check.
 use Rattle.std.proofs.Common.{◌≡◌, ℕ, [], ◌∷◌, ◌++◌, map, replicate, refl, pos, negsuc, codes, true, false, Some, None, Ok, Err}
+use Rattle.xls_stream.specs.Substreams.{sheet_types}
 use Rattle.xls_stream.specs.declared.part.Part.TheVariants as parts
 use Rattle.xls_text.specs.declared.encoding.XlsEncoding.TheVariants.{Utf16, Windows1252}
 use Rattle.xls_text.specs.declared.error.CfbError.TheVariants.{CodePageNotFound}
@@ -30,7 +31,7 @@ use Rattle.xls_biff.specs.Records.MergeCells.{merges_at}
 use Rattle.xls_biff.specs.Records.Number.{number_at}
 use Rattle.xls_biff.specs.Records.Rk.{rk_at, rk_content, rk_whole, mul_rk_at}
 use Rattle.xls_biff.specs.Records.Xf.{xf_at}
-use Rattle.xls_biff.specs.SheetTable.{weight_of_type}
+use Rattle.xls_biff.specs.SheetTable.{sheet_table, weight_of_type}
 
 -- ---- the globals
 
@@ -194,6 +195,12 @@ pub known_formula : formula_at [] false (
     ∷ 0x00 ∷ 0x00 ∷ 0x00 ∷ 0x00 ∷ 0x00 ∷ 0x00 ∷ 0x03 ∷ 0x00 ∷ 0x1E ∷ 0x05 ∷ 0x00 ∷ [])
     ≡ Ok ((1, 2), Some (truth true), 0x03 ∷ 0x00 ∷ 0x1E ∷ 0x05 ∷ 0x00 ∷ [])
 known_formula = refl
+
+-- ---- the table of a sheet
+
+-- its types are those of a sheet's records
+pub known_types : map (λ line. line.0) sheet_table ≡ sheet_types
+known_types = refl
 
 -- ---- weights
 

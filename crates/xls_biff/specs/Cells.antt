@@ -1,5 +1,5 @@
 -- What the cell records of a sheet have in common.
-use Rattle.std.specs.Prelude.{ℕ, List, not, ◌==◌, if◌then◌else◌, take, drop, slice_get, Option, Result, Ok, Err}
+use Rattle.std.specs.Prelude.{ℕ, List, [], not, ◌==◌, if◌then◌else◌, take, drop, slice_get, Option, Result, Ok, Err}
 use Rattle.std.specs.Option.{option_map}
 use Rattle.xls_bytes.specs.Numbers.{le}
 use Rattle.xls_stream.specs.declared.part.Part.TheVariants as parts
@@ -41,6 +41,11 @@ position_at body = (le (take 2 body), le (take 2 (drop 2 body)))
 -- and an XF index (ixfe) in bytes 4 and 5, whose class it is; none where the classes end before it
 abbrev pub class_at : List CellFormat → List ℕ → Option CellFormat
 class_at formats body = slice_get formats (le (take 2 (drop 4 body)))
+
+-- the characters of a string, and none of one with a fault
+abbrev pub characters_in : Result (List ℕ) XlsError → List ℕ
+characters_in (Ok cs) = cs
+characters_in (Err e) = []
 
 -- every byte but 0 is true
 abbrev pub truth_of : ℕ → Content

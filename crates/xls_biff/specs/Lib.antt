@@ -3,4 +3,5 @@ pub mod Outer
 pub mod Cells
 pub mod Records
 pub mod SheetTable
+pub mod SheetReading
 pub use Rattle.xls_stream.specs.Stream

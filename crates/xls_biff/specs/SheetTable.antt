@@ -1,6 +1,7 @@
 -- The records of a sheet: what each gives, or its first fault. One line a type.
-use Rattle.std.specs.Prelude.{ℕ, List, [], ◌∷◌, Bool, ◌==◌, ◌||◌, if◌then◌else◌, length, Option, Some, None, Result, Ok, Err}
+use Rattle.std.specs.Prelude.{ℕ, List, [], ◌∷◌, Bool, ◌==◌, if◌then◌else◌, length, Option, Some, None, Result, Ok, Err}
 use Rattle.xls_text.specs.declared.encoding.XlsEncoding.{XlsEncoding}
+use Rattle.xls_stream.specs.Substreams.{is_among, sheet_types}
 use Rattle.xls_stream.specs.declared.types.TheConstants as types
 use Rattle.xls_data.specs.Content.{Content}
 use Rattle.xls_data.specs.declared.regions.Dimensions.{Dimensions}
@@ -43,23 +44,44 @@ pub data SheetRecord : Type 0 where
   -- regions: MergeCells
   regions_record : (rs : List Dimensions) → SheetRecord
 
+-- how the records of a type read
+abbrev pub Reads : Type 0
+Reads = CellContext → List ℕ → Result SheetRecord XlsError
+
+-- one cell
+abbrev pub cell_record : Entry → SheetRecord
+cell_record c = cells_record (c ∷ [])
+
+abbrev pub cell_of_label : Reads
+cell_of_label force body = gives cell_record (label_at force.page force.version body)
+
+-- one line a type
+abbrev pub sheet_table : List (ℕ × Reads)
+sheet_table =
+    (types.NUMBER, λ force body. gives cell_record (number_at force.classes force.is_1904 body))
+    ∷ (types.DIMENSIONS, λ force body. gives (λ d. empty_record) (dimensions_at body))
+    ∷ (types.LABEL, cell_of_label)
+    ∷ (types.R_STRING, cell_of_label)
+    ∷ (types.BOOL_ERR, λ force body. gives cell_record (bool_err_at body))
+    ∷ (types.STRING, λ force body. gives string_record (string_at force.page force.version body))
+    ∷ (types.RK, λ force body. gives cell_record (rk_at force.classes force.is_1904 body))
+    ∷ (types.LABEL_SST, λ force body. gives shared_record (label_sst_at force.strings body))
+    ∷ (types.MUL_RK, λ force body. gives cells_record (mul_rk_at force.classes force.is_1904 body))
+    ∷ (types.MERGE_CELLS, λ force body. gives regions_record (merges_at body))
+    ∷ (types.FORMULA, λ force body. gives (λ f. formula_record f.0 f.1 f.2) (formula_at force.classes force.is_1904 body))
+    ∷ []
+
+-- a record of a type that has no line gives nothing, whatever its body
+abbrev pub no_line : Reads
+no_line force body = Ok empty_record
+
+-- the line of a type
+abbrev pub line_of : List (ℕ × Reads) → ℕ → Reads
+line_of [] typ = no_line
+line_of (line ∷ lines) typ = if typ == line.0 then line.1 else line_of lines typ
+
 abbrev pub sheet_record_at : CellContext → ℕ → List ℕ → Result SheetRecord XlsError
-sheet_record_at force typ body =
-    if typ == types.NUMBER
-    then gives (λ c. cells_record (c ∷ [])) (number_at force.classes force.is_1904 body)
-    else if typ == types.RK
-    then gives (λ c. cells_record (c ∷ [])) (rk_at force.classes force.is_1904 body)
-    else if typ == types.MUL_RK then gives cells_record (mul_rk_at force.classes force.is_1904 body)
-    else if typ == types.BOOL_ERR then gives (λ c. cells_record (c ∷ [])) (bool_err_at body)
-    else if typ == types.LABEL || typ == types.R_STRING
-    then gives (λ c. cells_record (c ∷ [])) (label_at force.page force.version body)
-    else if typ == types.LABEL_SST then gives shared_record (label_sst_at force.strings body)
-    else if typ == types.STRING then gives string_record (string_at force.page force.version body)
-    else if typ == types.FORMULA
-    then gives (λ f. formula_record f.0 f.1 f.2) (formula_at force.classes force.is_1904 body)
-    else if typ == types.MERGE_CELLS then gives regions_record (merges_at body)
-    else if typ == types.DIMENSIONS then gives (λ d. empty_record) (dimensions_at body)
-    else Ok empty_record
+sheet_record_at force typ body = line_of sheet_table typ force body
 
 -- how many cells a record weighs; a Formula and a LabelSst count as one even where they give none
 abbrev pub weight_of : SheetRecord → ℕ
@@ -70,12 +92,14 @@ weight_of (string_record cs) = 1
 weight_of (formula_record at value tokens) = 1
 weight_of (regions_record rs) = 0
 
--- how many cells a record of a type weighs, whatever its body; a MulRk weighs as many as it gives
+-- the types of a sheet whose records don't weigh as one cell: a MulRk weighs as many as it gives, the
+-- others none
+abbrev pub other_weights : List ℕ
+other_weights = types.MUL_RK ∷ types.MERGE_CELLS ∷ types.DIMENSIONS ∷ []
+
+-- how many cells a record of a type weighs, whatever its body, if it isn't a MulRk
 abbrev pub weight_of_type : ℕ → ℕ
-weight_of_type typ =
-    if (typ == types.NUMBER) || (typ == types.RK) || (typ == types.LABEL) || (typ == types.R_STRING)
-    || (typ == types.BOOL_ERR) || (typ == types.LABEL_SST) || (typ == types.STRING) || (typ == types.FORMULA)
-    then 1 else 0
+weight_of_type typ = if is_among typ other_weights then 0 else if is_among typ sheet_types then 1 else 0
 
 -- where a Formula stands
 abbrev pub formula_position : SheetRecord → Option Position

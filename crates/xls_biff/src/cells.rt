@@ -1,12 +1,13 @@
 //! What the cell records of a sheet have in common.
 
-ghost use Rattle.std.specs.Prelude.{◌≡◌, ◌≤◌, Some, length};
+ghost use Rattle.std.specs.Prelude.{◌≡◌, ◌≤◌, Some, length, slice_get};
+ghost use Rattle.std.specs.Option.{option_copied};
 ghost use Rattle.xls_record.specs.Reading.{Exactly};
 ghost use Rattle.xls_biff.specs.Cells.{cell_error, position_at};
 
 use crate::fields::u16_at;
 use xls_bytes::read_u16;
-use xls_data::CellErrorType;
+use xls_data::{CellErrorType, CellFormat};
 use xls_strings::{Part, XlsError};
 
 /// The row and the column that begin a cell record.
@@ -30,6 +31,14 @@ pub fn cell_position(body: &[u8]) -> Option<(u32, u32)>
         return None;
     }
     Some(position_of(body))
+}
+
+/// The class of an XF index; none where the classes end before it.
+#[inline(always)]
+pub(crate) fn class_of(formats: &[CellFormat], xf: u16) -> Option<&CellFormat>
+    ensures { option_copied result ≡ slice_get formats.now xf }
+{
+    formats.get(usize::from(xf))
 }
 
 /// The error value of a code, BErr of [MS-XLS], as cells and formulas have it. `Unrecognized` for the

@@ -14,7 +14,7 @@ use xls_strings::{Record, XlsError};
 
 /// Whether records of this type are kept.
 #[inline]
-fn is_sheet_type(typ: u16) -> bool
+pub(crate) fn is_sheet_type(typ: u16) -> bool
     ensures { result ≡ is_among typ sheet_types }
 {
     matches!(

@@ -10,7 +10,6 @@ use Rattle.xls_stream.specs.declared.part.Part.{Part}
 use Rattle.xls_stream.proofs.Shapes.{has_from}
 use Rattle.xls_record.specs.declared.error.XlsError.{XlsError}
 use Rattle.xls_record.specs.declared.error.XlsError.TheVariants as errors
-use Rattle.xls_record.specs.Reading.{fault_in}
 use Rattle.xls_biff.specs.Outer.{Keeps, Over, CutShort}
 use Rattle.xls_biff.specs.SheetTable.{SheetRecord, weight_of}
 use Rattle.xls_meaning.specs.Order.{along, first_of}
@@ -18,9 +17,10 @@ use Rattle.xls_meaning.specs.GlobalsTable.{fault_of}
 use Rattle.xls_meaning.specs.SheetTable.{kept_line}
 use Rattle.xls_meaning.specs.Faults.{weight_given, weight_in, weight_fault, kept_fault, cut_fault, part_places}
 use Rattle.xls_open.specs.CheckSteps.{ChecksPart}
+use Rattle.xls_open.specs.Steps.{weight_left}
 use Rattle.xls_meaning.specs.Rules.{Rules}
 use Rattle.xls_meaning.proofs.OrderLemmas.{first_at, none_push, first_behind}
-use Rattle.xls_open.proofs.PartLemmas.{part_from, keeps_from, over_from, cut_from, keeps_bytes, kept_push, weight_push, has_room, no_room, light, heavy, Weighs}
+use Rattle.xls_open.proofs.PartLemmas.{part_from, keeps_from, over_from, cut_from, keeps_bytes, kept_push, weight_push, has_room, no_room, light, heavy}
 use Rattle.xls_meaning.specs.InForce.{InForce}
 
 -- the records so far have no fault, and there may be so many more cells
@@ -44,15 +44,6 @@ part_nothing part rules s fits = record {
   weighed = omega arith;
 }
 
--- a line without a fault
-line_given : (r : Result SheetRecord XlsError) → fault_in r ≡ Ok tt → (g : SheetRecord) × (r ≡ Ok g)
-line_given (Ok g) h = (g, refl)
-line_given (Err e) h = absurd cc
-
-line_fault : (r : Result SheetRecord XlsError) (e : XlsError) → fault_in r ≡ Err e → fault_of r ≡ Some e
-line_fault (Ok g) e h = absurd cc
-line_fault (Err d) e h = let same : d ≡ e = cc in ap (λ (x : XlsError). Some x) same
-
 module _ (part rest after : List ℕ) (depth now : ℕ) (rules : Rules) (s : InForce) (room : ℕ) (g : Group) (p : CheckedPart part rest depth rules s room) (k : Keeps rest depth g after now) where
   joined : (more : List Group) (cut : Option Part) → From (found_from now) after more cut
       → From (found_from 0) part (p.groups ++ g ∷ more) cut
@@ -67,18 +58,17 @@ module _ (part rest after : List ℕ) (depth now : ℕ) (rules : Rules) (s : InF
   abbrev line : Result SheetRecord XlsError
   line = kept_line s.cells one
 
-  pub part_more : (left : ℕ) → fault_in line ≡ Ok tt → Weighs rules room one (Ok left)
-      → CheckedPart part after now rules s left
-  part_more left fine weighs =
+  pub part_more : (left : ℕ) (given : SheetRecord) → line ≡ Ok given
+      → weight_left rules.max_cells room (weight_of given) ≡ Ok left → CheckedPart part after now rules s left
+  part_more left given is weighs =
       let new : kept_of (p.groups ++ g ∷ []) ≡ old ++ one ∷ [] = kept_push p.groups g in
-      let t = line_given line fine in
-      let fits = has_room rules.max_cells room (weight_of t.0) left (weighs s.cells t.0 t.1) in
-      let weight : weight_given line ≡ weight_of t.0 = ap weight_given t.1 in
+      let fits = has_room rules.max_cells room (weight_of given) left weighs in
+      let weight : weight_given line ≡ weight_of given = ap weight_given is in
       let heavier = weight_push s old one in
       let had = p.weighed in
       let sum : left + weight_in s.cells (old ++ one ∷ []) ≡ rules.max_cells = omega (arith, fits, heavier, had, weight) in
       let none : kept_fault rules s.cells old one ≡ None =
-      ap (λ (r : Result SheetRecord XlsError). option_or (fault_of r) (weight_fault rules s.cells (old ++ one ∷ []))) t.1
+      ap (λ (r : Result SheetRecord XlsError). option_or (fault_of r) (weight_fault rules s.cells (old ++ one ∷ []))) is
       ∙ light rules s (old ++ one ∷ []) (omega (arith, sum)) in
       record {
         groups = p.groups ++ g ∷ [];
@@ -102,23 +92,22 @@ module _ (part rest after : List ℕ) (depth now : ℕ) (rules : Rules) (s : InF
       )
 
   -- a record's own fault
-  pub record_refused : (e : XlsError) → fault_in line ≡ Err e → ChecksPart (IsPart part) rules s (Err e)
+  pub record_refused : (e : XlsError) → line ≡ Err e → ChecksPart (IsPart part) rules s (Err e)
   record_refused e f =
-      record_fault e (ap (λ (o : Option XlsError). option_or o (weight_fault rules s.cells (old ++ one ∷ []))) (line_fault line e f))
+      record_fault e (ap (λ (r : Result SheetRecord XlsError). option_or (fault_of r) (weight_fault rules s.cells (old ++ one ∷ []))) f)
 
   -- too many cells
-  pub weight_refused : (e : XlsError) → fault_in line ≡ Ok tt → Weighs rules room one (Err e)
-      → ChecksPart (IsPart part) rules s (Err e)
-  weight_refused e fine weighs =
-      let t = line_given line fine in
-      let n = no_room rules.max_cells room (weight_of t.0) e (weighs s.cells t.0 t.1) in
-      let weight : weight_given line ≡ weight_of t.0 = ap weight_given t.1 in
+  pub weight_refused : (e : XlsError) (given : SheetRecord) → line ≡ Ok given
+      → weight_left rules.max_cells room (weight_of given) ≡ Err e → ChecksPart (IsPart part) rules s (Err e)
+  weight_refused e given is weighs =
+      let n = no_room rules.max_cells room (weight_of given) e weighs in
+      let weight : weight_given line ≡ weight_of given = ap weight_given is in
       let heavier = weight_push s old one in
       let had = p.weighed in
       let less = n.0 in
       let over : rules.max_cells < weight_in s.cells (old ++ one ∷ []) = omega (arith, heavier, had, less, weight) in
       record_fault e
-      (ap (λ (r : Result SheetRecord XlsError). option_or (fault_of r) (weight_fault rules s.cells (old ++ one ∷ []))) t.1
+      (ap (λ (r : Result SheetRecord XlsError). option_or (fault_of r) (weight_fault rules s.cells (old ++ one ∷ []))) is
       ∙ heavy rules s (old ++ one ∷ []) over ∙ ap (λ (x : XlsError). Some x) (sym n.1))
 
 module _ (part rest : List ℕ) (depth : ℕ) (rules : Rules) (s : InForce) (room : ℕ) (p : CheckedPart part rest depth rules s room) where

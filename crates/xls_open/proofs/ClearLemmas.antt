@@ -39,7 +39,8 @@ use Rattle.xls_biff.specs.Records.MergeCells.{merge_count, merges_at}
 use Rattle.xls_biff.specs.Records.Number.{number_at}
 use Rattle.xls_biff.specs.Records.Rk.{rk_at, mul_rk_count, mul_rk_at, first_column, last_column}
 use Rattle.xls_biff.specs.Records.Xf.{xf_at}
-use Rattle.xls_biff.specs.SheetTable.{CellContext}
+use Rattle.xls_biff.specs.SheetTable.{CellContext, Reads, sheet_table}
+use Rattle.xls_biff.proofs.TableLemmas.{◌&◌, every_type}
 use Rattle.xls_formula.specs.Fields.{word_at, sized_as}
 use Rattle.xls_formula.specs.PtgStr.{no_cch_at}
 use Rattle.xls_formula.specs.References3d.{ixti_size, ref3d_size, area3d_size}
@@ -277,19 +278,26 @@ formula_clear cs b body =
     (λ u. next (formula_value_at (class_at cs body) b bs) _
     (when (le (take 2 (drop 6 bs)) == 65535) _ _ (special_clear (slice_index bs 0) (slice_index bs 2)) tt) (λ value. tt))
 
+-- every record of a type is clear
+abbrev AreClear : ℕ → Reads → Type 0
+AreClear typ reads = (f : CellContext) (b : List ℕ) → Clear (reads f b)
+
 line_clear : (f : CellContext) (k : Kept) → Clear (kept_line f k)
 line_clear f k =
-    let b = k.body in
-    when (k.typ == 515) _ _ (changed _ (number_at f.classes f.is_1904 b) (sized 14 parts.Number b _))
-    (when (k.typ == 638) _ _ (changed _ (rk_at f.classes f.is_1904 b) (sized 10 parts.Rk b _))
-    (when (k.typ == 189) _ _ (changed _ (mul_rk_at f.classes f.is_1904 b) (changed _ (mul_rk_count b) (count_clear b)))
-    (when (k.typ == 517) _ _ (changed _ (bool_err_at b) (bool_clear b))
-    (when (k.typ == 516 || k.typ == 214) _ _ (changed _ (label_at f.page f.version b) (label_clear f.page f.version b))
-    (when (k.typ == 253) _ _ (changed _ (label_sst_at f.strings b) (sized 10 parts.LabelSst b _))
-    (when (k.typ == 519) _ _ (changed _ (string_at f.page f.version b) (string_clear f.page f.version b))
-    (when (k.typ == 6) _ _ (changed _ (formula_at f.classes f.is_1904 b) (formula_clear f.classes f.is_1904 b))
-    (when (k.typ == 229) _ _ (changed _ (merges_at b) (changed _ (merge_count b) (merge_clear b)))
-    (when (k.typ == 512) _ _ (changed _ (dimensions_at b) (bounds_clear b)) tt)))))))))
+    every_type AreClear sheet_table k.typ (λ h f b. tt)
+    ((λ f b. changed _ (number_at f.classes f.is_1904 b) (sized 14 parts.Number b _))
+    & (λ f b. changed _ (dimensions_at b) (bounds_clear b))
+    & (λ f b. changed _ (label_at f.page f.version b) (label_clear f.page f.version b))
+    & (λ f b. changed _ (label_at f.page f.version b) (label_clear f.page f.version b))
+    & (λ f b. changed _ (bool_err_at b) (bool_clear b))
+    & (λ f b. changed _ (string_at f.page f.version b) (string_clear f.page f.version b))
+    & (λ f b. changed _ (rk_at f.classes f.is_1904 b) (sized 10 parts.Rk b _))
+    & (λ f b. changed _ (label_sst_at f.strings b) (sized 10 parts.LabelSst b _))
+    & (λ f b. changed _ (mul_rk_at f.classes f.is_1904 b) (changed _ (mul_rk_count b) (count_clear b)))
+    & (λ f b. changed _ (merges_at b) (changed _ (merge_count b) (merge_clear b)))
+    & (λ f b. changed _ (formula_at f.classes f.is_1904 b) (formula_clear f.classes f.is_1904 b))
+    & tt)
+    f k.body
 
 weight_clear : (rules : Rules) (s : CellContext) (ks : List Kept) → IsClear (weight_fault rules s ks)
 weight_clear rules s ks = either (nat_lt rules.max_cells (weight_in s ks))

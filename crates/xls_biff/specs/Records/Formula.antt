@@ -1,10 +1,9 @@
 -- Formula ([MS-XLS] Formula): row, column, XF index, a FormulaValue in bytes 6 to 13, and from byte 20
 -- on the tokens.
-use Rattle.std.specs.Prelude.{[], ℕ, List, Bool, ◌==◌, if◌then◌else◌, take, drop, slice_index, Option, Some, None, Result, Ok, Err}
+use Rattle.std.specs.Prelude.{[], ℕ, List, Bool, ◌==◌, if◌then◌else◌, take, drop, slice_get, slice_index, Option, Some, None, Result, Ok, Err}
 use Rattle.xls_bytes.specs.Numbers.{le}
 use Rattle.xls_stream.specs.declared.part.Part.TheVariants as parts
 use Rattle.xls_data.specs.Content.{Content, text, truth, failure}
-use Rattle.xls_data.specs.Numeric.{numeric_content}
 use Rattle.xls_data.specs.Formatted.{formatted_number}
 use Rattle.xls_dates.specs.declared.numbers.Number.TheVariants.{Bits}
 use Rattle.xls_dates.specs.declared.formats.CellFormat.{CellFormat}
@@ -12,16 +11,17 @@ use Rattle.xls_record.specs.declared.error.XlsError.{XlsError}
 use Rattle.xls_record.specs.declared.error.XlsError.TheVariants.{Unrecognized}
 use Rattle.xls_record.specs.Reading.{◌>>=◌, ◌>>◌, at_least, gives}
 use Rattle.xls_biff.specs.Cells.{Position, cell_error, class_at, position_at, truth_of}
+use Rattle.xls_biff.specs.declared.records.formula.FormulaParts.{FormulaParts}
 use Rattle.xls_biff.specs.declared.records.formula.FormulaValue.{FormulaValue}
 use Rattle.xls_biff.specs.declared.records.formula.FormulaValue.TheVariants as value
 
--- a value by its content: None where a String record follows
-abbrev pub value_content : FormulaValue → Option Content
-value_content (value.Number n) = Some (numeric_content n)
-value_content (value.Bool b) = Some (truth b)
-value_content (value.Error e) = Some (failure e)
-value_content value.EmptyText = Some (text [])
-value_content value.Text = None
+-- a value under a class and a date system: None where a String record follows
+abbrev pub value_content : Option CellFormat → Bool → FormulaValue → Option Content
+value_content class is_1904 (value.Number bits) = Some (formatted_number class (Bits bits) is_1904)
+value_content class is_1904 (value.Bool b) = Some (truth b)
+value_content class is_1904 (value.Error e) = Some (failure e)
+value_content class is_1904 value.EmptyText = Some (text [])
+value_content class is_1904 value.Text = None
 
 -- a value that is no number, by the bytes 0 and 2: None where a String record follows
 abbrev pub special_value : ℕ → ℕ → Result (Option Content) XlsError
@@ -44,3 +44,7 @@ formula_at formats is_1904 body = do
   at_least 20 parts.Formula body
   value ← formula_value_at (class_at formats body) is_1904 (take 8 (drop 6 body))
   Ok (position_at body, value, drop 20 body)
+
+-- what was read of it, under the classes and the date system
+abbrev pub formula_parts : List CellFormat → Bool → FormulaParts → Position × Option Content × List ℕ
+formula_parts formats is_1904 f = (f.position, value_content (slice_get formats f.xf) is_1904 f.value, f.rgce.now)

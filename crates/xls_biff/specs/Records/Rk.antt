@@ -10,6 +10,7 @@ use Rattle.xls_record.specs.declared.error.XlsError.{XlsError}
 use Rattle.xls_record.specs.declared.error.XlsError.TheVariants.{Len}
 use Rattle.xls_record.specs.Reading.{◌>>◌, at_least, listed}
 use Rattle.xls_biff.specs.Cells.{Entry, class_at, position_at}
+use Rattle.xls_biff.specs.declared.records.rk.RkCell.{RkCell}
 
 -- ---- RK numbers ([MS-XLS] RkNumber)
 
@@ -49,6 +50,10 @@ abbrev pub rk_at : List CellFormat → Bool → List ℕ → Result Entry XlsErr
 rk_at formats is_1904 body = do
   at_least 10 parts.Rk body
   Ok (position_at body, rk_content (class_at formats body) (le (take 4 (drop 6 body))) is_1904)
+
+-- what was read of it, under the classes and the date system
+abbrev pub rk_entry : List CellFormat → Bool → RkCell → Entry
+rk_entry formats is_1904 c = (c.position, rk_content (slice_get formats c.xf) c.rk is_1904)
 
 -- ---- MulRk ([MS-XLS] MulRk): row, first column (colFirst), for each cell an XF index and an RK number
 -- in six bytes, and the last column (colLast)

@@ -1,6 +1,6 @@
 //! BoolErr.
 
-ghost use Rattle.xls_record.specs.Reading.{Exactly, fault_in};
+ghost use Rattle.xls_record.specs.Reading.{Exactly};
 ghost use Rattle.xls_biff.specs.Cells.{entry_of};
 ghost use Rattle.xls_biff.specs.Records.BoolErr.{bes_content, bes_entry, bes_value, bool_err_at};
 
@@ -54,13 +54,4 @@ pub fn parse_bool_err(r: &[u8]) -> Result<Cell<Data>, XlsError>
         Bes::Error(error) => Data::Error(error),
     };
     Ok(Cell::new(position, value))
-}
-
-/// The fault of `parse_bool_err`.
-#[inline]
-pub(crate) fn check_bool_err(r: &[u8]) -> Result<(), XlsError>
-    ensures { Exactly (λ u. u) result (fault_in (bool_err_at r.now)) }
-{
-    read_bool_err(r)?;
-    Ok(())
 }

@@ -1,7 +1,7 @@
 //! Dimensions.
 
 ghost use Rattle.std.specs.Prelude.{◌≡◌};
-ghost use Rattle.xls_record.specs.Reading.{Exactly, fault_in};
+ghost use Rattle.xls_record.specs.Reading.{Exactly};
 ghost use Rattle.xls_biff.specs.Records.Dimensions.{bounds, dimensions_at};
 
 use crate::fields::{u16_at, u32_at};
@@ -49,12 +49,4 @@ pub fn parse_dimensions(r: &[u8]) -> Result<Dimensions, XlsError>
         found: r.len(),
         typ: Part::Dimensions,
     })
-}
-
-/// The fault of `parse_dimensions`.
-pub(crate) fn check_dimensions(r: &[u8]) -> Result<(), XlsError>
-    ensures { Exactly (λ u. u) result (fault_in (dimensions_at r.now)) }
-{
-    parse_dimensions(r)?;
-    Ok(())
 }

@@ -5,12 +5,12 @@ ghost use Rattle.std.specs.Option.{option_copied};
 ghost use Rattle.xls_data.specs.Content.{text};
 ghost use Rattle.xls_data.specs.Data.{content_of};
 ghost use Rattle.xls_dates.specs.declared.formats.CellFormat.{CellFormat};
-ghost use Rattle.xls_record.specs.Reading.{Exactly, fault_in};
+ghost use Rattle.xls_record.specs.Reading.{Exactly};
 ghost use Rattle.xls_biff.specs.Cells.{value_of};
-ghost use Rattle.xls_biff.specs.Records.Formula.{formula_at, formula_value_at, special_value, value_content};
+ghost use Rattle.xls_biff.specs.Records.Formula.{formula_at, formula_parts, formula_value_at, special_value, value_content};
 ghost use Rattle.xls_biff.specs.SheetTable.{CellContext, SheetRecord, sheet_record_at, formula_position};
 
-use crate::cells::{cell_position, error_of_code, position_of};
+use crate::cells::{cell_position, class_of, error_of_code, position_of};
 use crate::fields::u16_at;
 use std::alloc::Global;
 use xls_bytes::read_bits;
@@ -28,8 +28,8 @@ fn empty_text(alloc: Global) -> Data
 /// The value of a formula, FormulaValue of [MS-XLS], without the text of a String record.
 #[derive(Clone, Copy)]
 pub enum FormulaValue {
-    /// A number, or a date or duration.
-    Number(Numeric),
+    /// A number by the bits of its double, which may be a date or a duration.
+    Number(u64),
     /// A truth value.
     Bool(bool),
     /// An error value.
@@ -41,12 +41,15 @@ pub enum FormulaValue {
 }
 
 impl FormulaValue {
-    /// The same as a value that owns its text; `None` where a String record has it. Takes no memory.
-    fn into_data(self, alloc: Global) -> Option<Data>
-        ensures { value_of result ≡ value_content self }
+    /// The same as a value that owns its text, a number in the form `Bits` under a class and a date
+    /// system; `None` where a String record has it. Takes no memory.
+    fn into_data(self, alloc: Global, class: Option<&CellFormat>, is_1904: bool) -> Option<Data>
+        ensures { value_of result ≡ value_content (option_copied class.entry) is_1904 self }
     {
         match self {
-            FormulaValue::Number(number) => Some(number.into_data()),
+            FormulaValue::Number(bits) => {
+                Some(Numeric::of_number(Number::Bits(bits), class, is_1904).into_data())
+            }
             FormulaValue::Bool(truth) => Some(Data::Bool(truth)),
             FormulaValue::Error(error) => Some(Data::Error(error)),
             FormulaValue::EmptyText => Some(empty_text(alloc)),
@@ -57,7 +60,8 @@ impl FormulaValue {
 
 /// A value that is no number, by the bytes 0 and 2.
 fn special(kind: u8, byte: u8) -> Result<FormulaValue, XlsError>
-    ensures { Exactly value_content result (special_value kind byte) }
+    ensures { (class : Option CellFormat) (is_1904 : Bool) →
+        Exactly (value_content class is_1904) result (special_value kind byte) }
 {
     match kind {
         0 => Ok(FormulaValue::Text),
@@ -71,22 +75,18 @@ fn special(kind: u8, byte: u8) -> Result<FormulaValue, XlsError>
     }
 }
 
-/// The value of a formula, FormulaValue ([MS-XLS] 2.5.133), in 8 bytes: a double in the form `Bits`,
-/// a truth value, an error value, an empty text, or none where a String record follows with the text.
-/// `Unrecognized` for another kind and for the code of no error value. Takes no memory.
-fn read_formula_value(
-    r: &[u8],
-    format: Option<&CellFormat>,
-    is_1904: bool,
-) -> Result<FormulaValue, XlsError>
+/// The value of a formula, FormulaValue ([MS-XLS] 2.5.133), in 8 bytes: a double, a truth value, an error
+/// value, an empty text, or none where a String record follows with the text. `Unrecognized` for another
+/// kind and for the code of no error value. Takes no memory.
+fn read_formula_value(r: &[u8]) -> Result<FormulaValue, XlsError>
     requires { 8 ≤ length r.now }
-    ensures { Exactly value_content result (formula_value_at (option_copied format.entry) is_1904 r.now) }
+    ensures { (class : Option CellFormat) (is_1904 : Bool) →
+        Exactly (value_content class is_1904) result (formula_value_at class is_1904 r.now) }
 {
     if u16_at(r, 6) == 0xFFFF {
         return special(r[0], r[2]);
     }
-    let number = Number::Bits(read_bits(r));
-    Ok(FormulaValue::Number(Numeric::of_number(number, format, is_1904)))
+    Ok(FormulaValue::Number(read_bits(r)))
 }
 
 /// The value of a formula in 8 bytes, as `read_formula_value` reads it; `None` where a String record
@@ -100,8 +100,8 @@ pub fn parse_formula_value(
     requires { 8 ≤ length r.now }
     ensures { Exactly value_of result (formula_value_at (option_copied format.entry) is_1904 r.now) }
 {
-    let value = read_formula_value(r, format, is_1904)?;
-    Ok(value.into_data(alloc))
+    let value = read_formula_value(r)?;
+    Ok(value.into_data(alloc, format, is_1904))
 }
 
 /// What a Formula record holds: its position, its value, if the record has it, and the tokens.
@@ -112,37 +112,35 @@ pub struct FormulaRecord<'a> {
     pub rgce: &'a [u8],
 }
 
-/// The same with a value that owns nothing.
+/// The same with an XF index, under whose class the value stands, and a value that owns nothing.
 #[derive(Clone, Copy)]
 pub struct FormulaParts<'a> {
     pub position: (u32, u32),
+    pub xf: u16,
     pub value: FormulaValue,
     pub rgce: &'a [u8],
 }
 
 /// What a Formula record's body holds: row, column, XF index, a FormulaValue in bytes 6 to 13, and from
-/// byte 20 on the tokens, with their length before them. The class is that of the XF index, and `Other`
-/// where `formats` ends before it. `Len` for fewer than 20 bytes, and the value's errors. Takes no
-/// memory.
-pub fn read_formula<'a>(
-    r: &'a [u8],
-    formats: &[CellFormat],
-    is_1904: bool,
-) -> Result<FormulaParts<'a>, XlsError>
-    ensures { Exactly (λ f. (f.position, value_content f.value, f.rgce.now)) result (formula_at formats.now is_1904 r.now) }
+/// byte 20 on the tokens, with their length before them. `Len` for fewer than 20 bytes, and the value's
+/// errors. Takes no memory.
+pub fn read_formula(r: &[u8]) -> Result<FormulaParts<'_>, XlsError>
+    ensures { (formats : List CellFormat) (is_1904 : Bool) →
+        Exactly (formula_parts formats is_1904) result (formula_at formats is_1904 r.now) }
 {
     need(r, 20, Part::Formula)?;
-    let class = formats.get(usize::from(u16_at(r, 4)));
-    let value = read_formula_value(&r[6..14], class, is_1904)?;
+    let value = read_formula_value(&r[6..14])?;
     let (_, rgce) = r.split_at(20);
     Ok(FormulaParts {
         position: position_of(r),
+        xf: u16_at(r, 4),
         value,
         rgce,
     })
 }
 
-/// What a Formula record's body holds, as `read_formula` reads it. Takes no memory.
+/// What a Formula record's body holds, as `read_formula` reads it. The class is that of the XF index, and
+/// `Other` where `formats` ends before it. Takes no memory.
 pub fn parse_formula_record<'a>(
     alloc: Global,
     r: &'a [u8],
@@ -151,15 +149,12 @@ pub fn parse_formula_record<'a>(
 ) -> Result<FormulaRecord<'a>, XlsError>
     ensures { Exactly (λ f. (f.position, value_of f.value, f.rgce.now)) result (formula_at formats.now is_1904 r.now) }
 {
-    let FormulaParts {
-        position,
-        value,
-        rgce,
-    } = read_formula(r, formats, is_1904)?;
+    let read = read_formula(r)?;
+    let class = class_of(formats, read.xf);
     Ok(FormulaRecord {
-        position,
-        value: value.into_data(alloc),
-        rgce,
+        position: read.position,
+        value: read.value.into_data(alloc, class, is_1904),
+        rgce: read.rgce,
     })
 }
 
@@ -174,42 +169,4 @@ pub fn formula_position(r: &Record<'_>) -> Option<(u32, u32)>
         return None;
     }
     cell_position(r.body)
-}
-
-/// The fault of `special`.
-fn check_special(kind: u8, byte: u8) -> Result<(), XlsError>
-    ensures { Exactly (λ u. u) result (fault_in (special_value kind byte)) }
-{
-    match kind {
-        0 | 1 | 3 => Ok(()),
-        2 => {
-            error_of_code(byte)?;
-            Ok(())
-        }
-        _ => Err(XlsError::Unrecognized {
-            typ: Part::CellError,
-            val: kind,
-        }),
-    }
-}
-
-/// The fault of `parse_formula_value`, under all classes and date systems.
-fn check_value(bytes: &[u8]) -> Result<(), XlsError>
-    requires { 8 ≤ length bytes.now }
-    ensures { (class : Option CellFormat) (is_1904 : Bool) →
-        Exactly (λ u. u) result (fault_in (formula_value_at class is_1904 bytes.now)) }
-{
-    if u16_at(bytes, 6) == 0xFFFF {
-        return check_special(bytes[0], bytes[2]);
-    }
-    Ok(())
-}
-
-/// The fault of `parse_formula_record`, under all classes and date systems.
-pub(crate) fn check_formula(r: &[u8]) -> Result<(), XlsError>
-    ensures { (formats : List CellFormat) (is_1904 : Bool) →
-        Exactly (λ u. u) result (fault_in (formula_at formats is_1904 r.now)) }
-{
-    need(r, 20, Part::Formula)?;
-    check_value(&r[6..14])
 }

@@ -1,9 +1,9 @@
 //! Label and RString.
 
 ghost use Rattle.xls_text.specs.declared.encoding.XlsEncoding.{XlsEncoding};
-ghost use Rattle.xls_record.specs.Reading.{Exactly, Gives, fault_in};
+ghost use Rattle.xls_record.specs.Reading.{Exactly, Gives};
 ghost use Rattle.xls_biff.specs.Cells.{entry_of};
-ghost use Rattle.xls_biff.specs.Records.Label.{label_at, label_front};
+ghost use Rattle.xls_biff.specs.Records.Label.{label_at, label_entry, label_front};
 
 use crate::cells::position_of;
 use std::alloc::Global;
@@ -37,11 +37,13 @@ pub fn parse_label(
     Ok(Cell::new(at, Data::String(text)))
 }
 
-/// The fault of `parse_label`, under all pages. Takes no memory.
-pub(crate) fn check_label(r: &[u8], biff: Biff) -> Result<(), XlsError>
-    ensures { (page : XlsEncoding) → Exactly (λ u. u) result (fault_in (label_at page biff r.now)) }
+/// What the body of a Label or an RString holds, as `split_label` says, where its string has no fault
+/// either. Takes no memory.
+pub fn read_label(r: &[u8], biff: Biff) -> Result<((u32, u32), &[u8]), XlsError>
+    ensures { (page : XlsEncoding) →
+        Exactly (λ x. label_entry page biff (x.0, x.1.now)) result (label_at page biff r.now) }
 {
-    let (_, string) = split_label(r)?;
+    let (position, string) = split_label(r)?;
     split_string(string, biff)?;
-    Ok(())
+    Ok((position, string))
 }

@@ -4,9 +4,9 @@ ghost use Rattle.std.specs.Prelude.{ℕ, List};
 ghost use Rattle.std.specs.Option.{option_map};
 ghost use Rattle.std.specs.Str.{chars};
 ghost use Rattle.xls_data.specs.Content.{text};
-ghost use Rattle.xls_record.specs.Reading.{Exactly, Gives, fault_in};
+ghost use Rattle.xls_record.specs.Reading.{Exactly, Gives};
 ghost use Rattle.xls_biff.specs.Cells.{entry_of};
-ghost use Rattle.xls_biff.specs.Records.LabelSst.{label_sst_at};
+ghost use Rattle.xls_biff.specs.Records.LabelSst.{label_sst_at, shared_entry};
 
 use crate::cells::position_of;
 use crate::fields::u32_at;
@@ -14,9 +14,18 @@ use std::alloc::Global;
 use xls_data::{Cell, Data};
 use xls_strings::{Part, Strings, XlsError, need};
 
-/// The row and the column of a LabelSst record's body, both counted from 0, and the string of the table,
-/// lent by it, whose 32-bit index stands after the XF index; `None` exactly where the table has no such
-/// string. `Len` for fewer than 10 bytes. Takes no memory.
+/// The row and the column of a LabelSst record's body, both counted from 0, and the 32-bit index of a
+/// string of the table, which stands after the XF index. `Len` for fewer than 10 bytes. Takes no memory.
+#[inline]
+pub fn read_label_sst(r: &[u8]) -> Result<((u32, u32), u32), XlsError>
+    ensures { (strings : List (List ℕ)) → Exactly (shared_entry strings) result (label_sst_at strings r.now) }
+{
+    need(r, 10, Part::LabelSst)?;
+    Ok((position_of(r), u32_at(r, 6)))
+}
+
+/// Where a LabelSst record's body stands, and the string of the table, lent by it; `None` exactly where
+/// the table has no such string. `Len` as `read_label_sst` says. Takes no memory.
 #[inline]
 pub fn find_label_sst<'s>(
     r: &[u8],
@@ -24,9 +33,9 @@ pub fn find_label_sst<'s>(
 ) -> Result<Option<((u32, u32), &'s str)>, XlsError>
     ensures { Exactly (λ found. option_map (λ x. (x.0, text (chars x.1.now))) found) result (label_sst_at strings.now r.now) }
 {
-    need(r, 10, Part::LabelSst)?;
-    match strings.get(u32_at(r, 6) as usize) {
-        Some(string) => Ok(Some((position_of(r), string))),
+    let (position, index) = read_label_sst(r)?;
+    match strings.get(index as usize) {
+        Some(string) => Ok(Some((position, string))),
         None => Ok(None),
     }
 }
@@ -45,12 +54,4 @@ pub fn parse_label_sst(
     };
     let value = Data::from_text(alloc, string)?;
     Ok(Some(Cell::new(at, value)))
-}
-
-/// The fault of `parse_label_sst`, under all tables. Takes no memory.
-#[inline]
-pub(crate) fn check_label_sst(r: &[u8]) -> Result<(), XlsError>
-    ensures { (strings : List (List ℕ)) → Exactly (λ u. u) result (fault_in (label_sst_at strings r.now)) }
-{
-    need(r, 10, Part::LabelSst)
 }

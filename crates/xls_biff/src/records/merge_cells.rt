@@ -2,7 +2,7 @@
 
 ghost use Rattle.std.specs.Prelude.{◌≡◌, ◌+◌, ◌*◌, ◌≤◌, length, map, OnOk, IfOk};
 ghost use Rattle.std.specs.List.{range_with_len};
-ghost use Rattle.xls_record.specs.Reading.{Adds, Appends, Exactly, IsLonger, fault_in};
+ghost use Rattle.xls_record.specs.Reading.{Adds, Appends, Exactly, IsLonger};
 ghost use Rattle.xls_biff.specs.Records.MergeCells.{merge_count, merges_at, region_at};
 
 use crate::fields::u16_at;
@@ -62,12 +62,4 @@ pub fn parse_merge_cells(r: &[u8], merges: &mut Vec<Dimensions>) -> Result<(), X
         merges.truncate(before);
     }
     Ok(done?)
-}
-
-/// The fault of `parse_merge_cells`. Takes no memory.
-pub(crate) fn check_merge_cells(r: &[u8]) -> Result<(), XlsError>
-    ensures { Exactly (λ u. u) result (fault_in (merges_at r.now)) }
-{
-    count_merges(r)?;
-    Ok(())
 }

@@ -5,11 +5,11 @@ ghost use Rattle.std.specs.List.{range_with_len};
 ghost use Rattle.std.specs.Option.{option_copied};
 ghost use Rattle.xls_data.specs.Numeric.{numeric_content};
 ghost use Rattle.xls_dates.specs.declared.formats.CellFormat.{CellFormat};
-ghost use Rattle.xls_record.specs.Reading.{Adds, Appends, Exactly, IsLonger, fault_in};
+ghost use Rattle.xls_record.specs.Reading.{Adds, Appends, Exactly, IsLonger};
 ghost use Rattle.xls_biff.specs.Cells.{Entry, entry_of, numeric_entry};
-ghost use Rattle.xls_biff.specs.Records.Rk.{hundredths_content, mul_rk_at, mul_rk_count, rk_at, rk_bits, rk_cell, rk_content, rk_whole};
+ghost use Rattle.xls_biff.specs.Records.Rk.{hundredths_content, mul_rk_at, mul_rk_count, rk_at, rk_bits, rk_cell, rk_content, rk_entry, rk_whole};
 
-use crate::cells::position_of;
+use crate::cells::{class_of, position_of};
 use crate::fields::{u16_at, u32_at};
 use std::alloc::AllocError;
 use xls_bytes::read_u16;
@@ -72,22 +72,39 @@ fn value_of_rk(rk: u32, class: Option<&CellFormat>, is_1904: bool) -> Numeric
     }
 }
 
-/// Where the cell of an RK record's body stands, and its value: row, column, XF index and an RK number,
-/// which is a whole number or the top of a double, and over 100 where its lowest bit is set. The class
-/// is that of the XF index, and `Other` where `formats` ends before it. `Len` for fewer than 10 bytes.
+/// An RK record: where it stands, its XF index, and its RK number, which is a whole number or the top of
+/// a double, and over 100 where its lowest bit is set.
+#[derive(Clone, Copy)]
+pub struct RkCell {
+    pub position: (u32, u32),
+    pub xf: u16,
+    pub rk: u32,
+}
+
+impl RkCell {
+    /// Its value. The class is that of the XF index, and `Other` where `formats` ends before it. Takes no
+    /// memory.
+    #[inline(always)]
+    pub fn value(&self, formats: &[CellFormat], is_1904: bool) -> Numeric
+        ensures { (self.now.position, numeric_content result) ≡ rk_entry formats.now is_1904 self.now }
+    {
+        value_of_rk(self.rk, class_of(formats, self.xf), is_1904)
+    }
+}
+
+/// What an RK record's body holds: row, column, XF index and an RK number. `Len` for fewer than 10 bytes.
 /// Takes no memory.
 #[inline(always)]
-pub fn read_rk(
-    r: &[u8],
-    formats: &[CellFormat],
-    is_1904: bool,
-) -> Result<((u32, u32), Numeric), XlsError>
-    ensures { Exactly numeric_entry result (rk_at formats.now is_1904 r.now) }
+pub fn read_rk(r: &[u8]) -> Result<RkCell, XlsError>
+    ensures { (formats : List CellFormat) (is_1904 : Bool) →
+        Exactly (rk_entry formats is_1904) result (rk_at formats is_1904 r.now) }
 {
     need(r, 10, Part::Rk)?;
-    let class = formats.get(usize::from(u16_at(r, 4)));
-    let value = value_of_rk(u32_at(r, 6), class, is_1904);
-    Ok((position_of(r), value))
+    Ok(RkCell {
+        position: position_of(r),
+        xf: u16_at(r, 4),
+        rk: u32_at(r, 6),
+    })
 }
 
 /// The cell of an RK record's body, as `read_rk` reads it. Takes no memory.
@@ -95,17 +112,9 @@ pub fn read_rk(
 pub fn parse_rk(r: &[u8], formats: &[CellFormat], is_1904: bool) -> Result<Cell<Data>, XlsError>
     ensures { Exactly entry_of result (rk_at formats.now is_1904 r.now) }
 {
-    let (position, value) = read_rk(r, formats, is_1904)?;
-    Ok(Cell::new(position, value.into_data()))
-}
-
-/// The fault of `parse_rk`, under all classes and date systems.
-#[inline]
-pub(crate) fn check_rk(r: &[u8]) -> Result<(), XlsError>
-    ensures { (formats : List CellFormat) (is_1904 : Bool) →
-        Exactly (λ u. u) result (fault_in (rk_at formats is_1904 r.now)) }
-{
-    need(r, 10, Part::Rk)
+    let cell = read_rk(r)?;
+    let value = cell.value(formats, is_1904);
+    Ok(Cell::new(cell.position, value.into_data()))
 }
 
 fn short(expected: usize, found: usize) -> XlsError
@@ -152,7 +161,7 @@ pub fn read_mul_rk(
     requires within { i < 2 ^ 16 }
     ensures { numeric_entry result ≡ rk_cell formats.now is_1904 r.now i }
 {
-    let class = formats.get(usize::from(u16_at(r, 4 + 6 * i)));
+    let class = class_of(formats, u16_at(r, 4 + 6 * i));
     let value = value_of_rk(u32_at(r, 6 + 6 * i), class, is_1904);
     let column = u32::from(u16_at(r, 2)) + i as u32;
     ((u32::from(read_u16(r)), column), value)
@@ -207,15 +216,6 @@ pub fn parse_mul_rk(
         cells.truncate(before);
     }
     Ok(done?)
-}
-
-/// The fault of `parse_mul_rk`, under all classes and date systems.
-pub(crate) fn check_mul_rk(r: &[u8]) -> Result<(), XlsError>
-    ensures { (formats : List CellFormat) (is_1904 : Bool) →
-        Exactly (λ u. u) result (fault_in (mul_rk_at formats is_1904 r.now)) }
-{
-    count_mul_rk(r)?;
-    Ok(())
 }
 
 /// How many cells `parse_mul_rk` appends, and 0 where it refuses. Takes no memory.

@@ -1,30 +1,23 @@
 //! The first fault of the sheets, one after the other.
 
-ghost use Rattle.std.specs.Prelude.{◌≡◌, Ok};
+ghost use Rattle.std.specs.Prelude.{◌≡◌};
 ghost use Rattle.xls_record.specs.Reading.{Exactly};
-ghost use Rattle.xls_biff.specs.SheetTable.{CellContext, SheetRecord, weight_of};
-ghost use Rattle.xls_biff.specs.Walking.{group_of};
-ghost use Rattle.xls_stream.specs.Listing.{IsPart, IsSheetPart, kept_group};
-ghost use Rattle.xls_meaning.specs.SheetTable.{kept_line};
+ghost use Rattle.xls_stream.specs.Listing.{IsPart, IsSheetPart};
 ghost use Rattle.xls_open.specs.Steps.{weight_left};
 ghost use Rattle.xls_meaning.specs.InForce.{InForce};
 ghost use Rattle.xls_open.specs.CheckSteps.{under, AreChecked, ChecksPart, ChecksPlaces};
 
 use crate::check::CheckRules;
-use xls_biff::{
-    Biff, Part, Record, RecordIter, SheetRecords, XlsError, check_sheet_record, sheet_record_weight,
-};
+use xls_biff::{Biff, Part, RecordIter, SheetRecords, XlsError, read_sheet_record};
 use xls_bytes::read_usize;
 use xls_stream::types::{BOUND_SHEET_8, EOF};
 
-/// How many more cells a sheet may have after this record without a fault, where it may have so many
-/// before it and that many in all.
-fn room_after(room: u64, r: &Record<'_>, max_cells: u64) -> Result<u64, XlsError>
-    ensures { (cells : CellContext) (g : SheetRecord)
-        → kept_line cells (kept_group (group_of r.now)) ≡ Ok g
-        → Exactly (λ left. left) result (weight_left max_cells room (weight_of g)) }
+/// How many more cells a sheet may have after a record of this weight, where it may have so many before
+/// it and that many in all.
+fn room_after(room: u64, weight: u64, max_cells: u64) -> Result<u64, XlsError>
+    ensures { Exactly (λ left. left) result (weight_left max_cells room weight) }
 {
-    match room.checked_sub(sheet_record_weight(r)) {
+    match room.checked_sub(weight) {
         Some(left) => Ok(left),
         None => Err(XlsError::TooManyCells { limit: max_cells }),
     }
@@ -38,8 +31,8 @@ fn check_part(part: &[u8], biff: Biff, rules: CheckRules) -> Result<(), XlsError
     let mut room = rules.max_cells;
     for record in SheetRecords::new(part) {
         let record = record?;
-        check_sheet_record(&record, biff)?;
-        room = room_after(room, &record, rules.max_cells)?;
+        let read = read_sheet_record(&record, biff)?;
+        room = room_after(room, read.weight(), rules.max_cells)?;
     }
     Ok(())
 }

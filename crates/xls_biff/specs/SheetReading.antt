@@ -1,0 +1,37 @@
+-- What a record of a sheet that was read without what is in force stands for.
+use Rattle.std.specs.Prelude.{◌≡◌, ℕ, ◌+◌, ◌*◌, ◌≤◌, ◌^◌, map, length}
+use Rattle.std.specs.List.{range_with_len}
+use Rattle.xls_strings.specs.Strings.{string_at}
+use Rattle.xls_biff.specs.Cells.{characters_in}
+use Rattle.xls_biff.specs.Records.BoolErr.{bes_entry}
+use Rattle.xls_biff.specs.Records.Formula.{formula_parts}
+use Rattle.xls_biff.specs.Records.Label.{label_entry}
+use Rattle.xls_biff.specs.Records.LabelSst.{shared_entry}
+use Rattle.xls_biff.specs.Records.MergeCells.{region_at}
+use Rattle.xls_biff.specs.Records.Number.{number_entry}
+use Rattle.xls_biff.specs.Records.Rk.{rk_cell, rk_entry}
+use Rattle.xls_biff.specs.SheetTable.{CellContext, SheetRecord, empty_record, cell_record, cells_record, shared_record, string_record, formula_record, regions_record}
+use Rattle.xls_biff.specs.declared.sheet_record.SheetRecord as read
+use Rattle.xls_biff.specs.declared.sheet_record.SheetRecord.TheVariants as variant
+
+-- what it gives under what is in force, by the table of a sheet
+abbrev pub stands_for : CellContext → read.SheetRecord → SheetRecord
+stands_for force variant.Other = empty_record
+stands_for force (variant.Number c) = cell_record (number_entry force.classes force.is_1904 c)
+stands_for force (variant.Rk c) = cell_record (rk_entry force.classes force.is_1904 c)
+stands_for force (variant.MulRk body count) =
+    cells_record (map (rk_cell force.classes force.is_1904 body.now) (range_with_len 0 count))
+stands_for force (variant.BoolErr position value) = cell_record (bes_entry (position, value))
+stands_for force (variant.Label position string) = cell_record (label_entry force.page force.version (position, string.now))
+stands_for force (variant.LabelSst position index) = shared_record (shared_entry force.strings (position, index))
+stands_for force (variant.String string) = string_record (characters_in (string_at force.page force.version string.now))
+stands_for force (variant.Formula f) =
+    let parts = formula_parts force.classes force.is_1904 f in formula_record parts.0 parts.1 parts.2
+stands_for force (variant.MergeCells body count) = regions_record (map (region_at body.now) (range_with_len 0 count))
+stands_for force (variant.Dimensions d) = empty_record
+
+-- a body that is kept has all of its items
+abbrev pub HasItems : read.SheetRecord → Type 0
+HasItems (variant.MulRk body count) = (length body.now ≡ 6 + 6 * count) × (count ≤ 2 ^ 16)
+HasItems (variant.MergeCells body count) = 2 + 8 * count ≤ length body.now
+HasItems _ = Unit {0}
