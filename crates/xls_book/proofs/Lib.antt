@@ -1,3 +1,4 @@
+pub mod OpenLemmas
 pub mod NamedLemmas
 pub mod ShownLemmas
 pub mod WorksheetLemmas

@@ -2,6 +2,7 @@
 //! names and properties.
 #![tactic(auto)]
 
+mod collect;
 mod formulas;
 mod ranges;
 mod reader;

@@ -10,10 +10,10 @@ ghost use Rattle.xls_open.specs.Workbook.{IsOrdered};
 ghost use Rattle.xls_meaning.specs.Reading.{last_named, paired};
 ghost use Rattle.xls_view.specs.Index.{IsIndex};
 
+use crate::collect::Content;
 use std::alloc::{AllocError, Global};
 use std::collections::BTreeMap;
 use xls_data::{Data, HeaderRow, Sheet};
-use xls_open::Content;
 use xls_range::Range;
 
 /// The smallest box with a sheet's cells, and blanks elsewhere. A box of 2^64 cells or more doesn't fit

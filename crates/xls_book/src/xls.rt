@@ -9,14 +9,15 @@ ghost use Rattle.xls_data.specs.Sheets.{SheetContent, sheet_content};
 ghost use Rattle.xls_range.specs.Positions.{IsAscending};
 ghost use Rattle.xls_biff.specs.Cells.{Entry};
 ghost use Rattle.xls_props.specs.Properties.{IsProperties};
-ghost use Rattle.xls_open.specs.Opening.{IsOfOpening, IsOpened, OpenCause, Opens};
+ghost use Rattle.xls_open.specs.Opening.{Opens};
 ghost use Rattle.xls_meaning.specs.Reading.{SheetView};
 ghost use Rattle.xls_book.specs.LookUps.{AreWorksheets, GivesMerges, NameCause, out_of_range, under_header};
 ghost use Rattle.xls_open.specs.Workbook.{IsOrdered, told_of, view_named};
 ghost use Rattle.xls_meaning.specs.SheetTable.{shown_formulas};
-ghost use Rattle.xls_open.specs.Steps.{IsReady, book_of};
+ghost use Rattle.xls_book.specs.Steps.{OpensBytes};
 ghost use Rattle.xls_source.specs.Bounded.{AnswersAtEnd};
 
+use crate::collect::{Content, contents_of};
 use crate::formulas::Formulas;
 use crate::ranges::list_worksheets;
 use crate::values::Values;
@@ -25,11 +26,11 @@ use std::collections::BTreeMap;
 use std::marker::Model;
 use xls_biff::XlsError;
 use xls_data::{CellFormat, Data, Dimensions, HeaderRow, Sheet};
-use xls_open::{Content, Opened, XlsOptions, open};
+use xls_open::XlsOptions;
 use xls_props::{WorkbookProperties, workbook_properties_of};
 use xls_range::Range;
-use xls_source::{Source, StreamBytes};
-use xls_view::{find_named, index_of};
+use xls_source::{Source, StreamBytes, read_all};
+use xls_view::{View, ViewParts, find_named};
 
 /// What is told of a whole workbook.
 #[derive(Drop)]
@@ -45,7 +46,7 @@ pub struct Metadata {
 pub struct Xls {
     options: XlsOptions,
     metadata: Metadata,
-    /// The content of each sheet's own part.
+    /// What each index shows.
     contents: Vec<Content>,
     /// The place of the last sheet of each name.
     index: BTreeMap<String, usize>,
@@ -59,8 +60,6 @@ impl Model for Xls {
     ghost use Rattle.xls_data.specs.Sheets.{sheet_content};
     ghost use Rattle.xls_open.specs.Workbook.{Workbook, told_of, IsOrdered};
     ghost use Rattle.std.specs.List.{AllByRecursion};
-    ghost use Rattle.xls_meaning.specs.Reading.{paired};
-    ghost use Rattle.xls_open.specs.Workbook.{shown};
     ghost use Rattle.xls_view.specs.Index.{IsIndex};
 
     ghost Value = { Workbook };
@@ -69,7 +68,7 @@ impl Model for Xls {
       options = b.options;
       sheets = map sheet_content b.metadata.sheets.items;
       names = map told_of b.metadata.names.items;
-      contents = shown (paired (map sheet_content b.metadata.sheets.items) b.contents.items) (map sheet_content b.metadata.sheets.items);
+      contents = b.contents.items;
       is_1904 = b.is_1904;
       classes = b.classes.items;
     } };
@@ -78,20 +77,19 @@ impl Model for Xls {
         × IsIndex b.index b.metadata.sheets.items × AllByRecursion IsOrdered b.contents.items };
 }
 
-/// The workbook of what was opened, with the place of the last sheet of each name.
-fn indexed(alloc: Global, opened: Opened) -> Result<Xls, AllocError>
-    requires { IsReady opened }
-    ensures { IfOk result (λ book. book ≡ book_of opened) }
+/// The workbook of bytes within the limit, or their first fault.
+fn open_bytes(alloc: Global, bytes: &[u8], options: XlsOptions) -> Result<Xls, XlsError>
+    ensures { OpensBytes options bytes.now result }
 {
-    let Opened {
-        options,
+    let view = View::new(alloc, bytes, &options)?;
+    let contents = contents_of(alloc, &view)?;
+    let ViewParts {
         sheets,
         names,
-        contents,
+        index,
         is_1904,
         classes,
-    } = opened;
-    let index = index_of(alloc, &sheets)?;
+    } = view.into_parts();
     Ok(Xls {
         options,
         metadata: Metadata { sheets, names },
@@ -100,22 +98,6 @@ fn indexed(alloc: Global, opened: Opened) -> Result<Xls, AllocError>
         is_1904,
         classes,
     })
-}
-
-/// Reads the source to its end and opens the bytes. The clauses are those of `new_with_options`.
-fn read_book<S: Source>(alloc: Global, source: &mut S, options: XlsOptions) -> Result<Xls, XlsError>
-    ensures ok { IfOk result (λ book. IfSome (S.left source.old) (IsOpened options book)) }
-    ensures end { IfOk result (λ _. IsAtEnd (S.left source.new)) }
-    ensures cause { IfErr result (OpenCause options (S.left source.old) (S.faults source.old) (S.faults source.new)) }
-    ensures named { IfErr result IsOfOpening }
-    ensures ended { AnswersAtEnd options.max_bytes (S.ended source.new) result }
-    ensures front { (taken : List ℕ) × (length taken ≤ options.max_bytes + 1)
-        × Consumes (S.left source.old) (S.left source.new) taken }
-    ensures count { S.faults source.old ≤ S.faults source.new }
-    ensures faultless { OnOk result (S.faults source.new ≡ S.faults source.old) }
-{
-    let opened = open(alloc, source, options)?;
-    Ok(indexed(alloc, opened)?)
 }
 
 /// A copy of some regions.
@@ -172,7 +154,8 @@ impl Xls {
         // Another answer than `Io`, `TooLarge` and `Memory` comes only at the end of the source.
         ensures ended { AnswersAtEnd options.max_bytes (S.ended source.new) result }
     {
-        read_book(alloc, source, options)
+        let bytes = read_all(alloc, source, options.max_bytes)?;
+        open_bytes(alloc, bytes.as_slice(), options)
     }
 
     /// The values of the sheet at an index, which are those of the last sheet of its name. `None`

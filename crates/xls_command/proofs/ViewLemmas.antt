@@ -27,7 +27,6 @@ opened_by bytes view within h = (
     within = within;
     entries = h.entries;
     carries = h.carries;
-    full = h.full;
     kept = refl;
     every = h.every;
   },

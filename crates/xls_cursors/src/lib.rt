@@ -6,6 +6,7 @@ mod ascent;
 mod cells;
 mod formulas;
 mod merges;
+mod owned;
 mod places;
 mod record;
 mod run;

@@ -8,6 +8,7 @@ use Rattle.xls_layouts.specs.Layout.{lay}
 use Rattle.xls_layouts.specs.Canonical.{canonical, Fits}
 use Rattle.xls_layouts.proofs.LaidStreamLemmas.{laid_stream, laid_alone}
 use Rattle.xls_layouts.proofs.CanonicalListLemmas.{canonical_layout}
+use Rattle.xls_meaning.proofs.LawLemmas.{sound_where_full}
 use Rattle.xls_meaning.specs.Faults.{IsFull}
 use Rattle.xls_meaning.specs.Reading.{IsReading}
 use Rattle.xls_open.specs.declared.options.XlsOptions.{XlsOptions}
@@ -58,14 +59,13 @@ pub opens_again : (options : XlsOptions) (book : Workbook) (bytes : List ℕ) (l
 opens_again options book bytes list are carries h fits within opened =
     let rules = rules_of options in
     let laid = canonical_layout list h fits in
-    let same : opened.entries ≡ list = one_list bytes are opened.entries list opened.carries carries in
-    let full : IsFull rules list = subst (IsFull rules) same opened.full in
+    let f = (sound_where_full rules bytes are).0 opened.sound in
+    let full : IsFull rules list = subst (IsFull rules) (one_list bytes are f.1 list f.2 carries) f.3 in
     record {
       sound = laid_sound rules (canonical list) laid.0 (subst (IsFull rules) (sym laid.1) full) within;
       within = within;
       entries = list;
       carries = canonical_carries list h fits;
-      full = full;
       kept = opened.kept;
       every = λ others c.
           subst (λ (x : List Entry). IsReading rules x (view_of book)) (sym (carried_alone list others h fits c)) (opened.every list carries);

@@ -1,13 +1,11 @@
 pub mod ClearLemmas
 pub mod ContentsLemmas
-pub mod FollowLemmas
 pub mod WalkLemmas
 pub mod LineLemmas
 pub mod StateLemmas
 pub mod GlobalsLemmas
 pub mod ClassLemmas
 pub mod MapLemmas
-pub mod ReadLemmas
 pub mod OpenLemmas
 pub mod RecordLemmas
 pub mod OpeningLemmas

@@ -2,7 +2,7 @@
 use Rattle.std.proofs.Common.{◌≡◌, ℕ, List, [], ◌∷◌, ◌++◌, map, length, drop, refl, sym, ap, subst, ◌∙◌, Bool, true, false, Option, Some, None, Result, Ok, Err}
 use Rattle.std.specs.Prelude.{nat_lt, slice_index}
 use Rattle.std.specs.Option.{option_map}
-use Rattle.std.specs.List.{flat_map, filter, AllZip, AllByRecursion}
+use Rattle.std.specs.List.{filter, AllZip, AllByRecursion}
 use Rattle.xls_text.specs.declared.encoding.XlsEncoding.{XlsEncoding}
 use Rattle.xls_stream.specs.Walks.{IsBytes}
 use Rattle.xls_stream.specs.Listing.{is_globals_type, offset_at, Kept, Item, plain_item, table_item, sheet_item, entry_of, IsItem, IsSheetPart}
@@ -17,22 +17,20 @@ use Rattle.xls_record.specs.declared.error.XlsError.TheVariants as errors
 use Rattle.xls_record.specs.declared.version.Biff.{Biff}
 use Rattle.xls_formula.specs.Context.{Context}
 use Rattle.xls_meaning.specs.Order.{along, first_of, somes}
-use Rattle.xls_meaning.specs.InForce.{cells_of, page_in, version_in, is_1904_in, formats_in, class_in, classes_in, texts_in, context_of, InForce, in_force_of, sheets_of}
+use Rattle.xls_meaning.specs.InForce.{page_in, version_in, is_1904_in, formats_in, class_in, classes_in, texts_in, context_of, InForce, in_force_of, sheets_of}
 use Rattle.xls_record.specs.Reading.{◌>>=◌}
 use Rattle.xls_biff.specs.Records.BoundSheet.{sheet_by, bound_sheet_at}
 use Rattle.xls_meaning.specs.GlobalsTable.{sheet_given, forced_fault}
 use Rattle.xls_meaning.specs.Reading.{SheetView, BookView, IsContent, IsShown}
-use Rattle.xls_open.specs.Workbook.{IsOrdered}
-use Rattle.xls_meaning.specs.Faults.{item_line, kept_fault, part_places, sheet_places, globals_places}
-use Rattle.xls_open.specs.Globals.{pair_of, Sheets, State, IsState, AreGlobals, ReadsGlobals}
+use Rattle.xls_meaning.specs.Faults.{item_line, kept_fault}
+use Rattle.xls_open.specs.Globals.{pair_of, Sheets, State, IsState, AreGlobals}
 use Rattle.xls_open.specs.Workbook.{shown}
-use Rattle.xls_open.specs.Steps.{RefusesStream, PartFault, AreContents, ReadsContents, AreSheets, IsStreamOpened, StreamFault}
+use Rattle.xls_open.specs.Steps.{AreContents, AreSheets, IsStreamOpened}
 use Rattle.xls_meaning.specs.Held.{OpenedSheet, opened_in, opened_of}
 use Rattle.xls_meaning.specs.Reading.{paired}
 use Rattle.xls_meaning.specs.Rules.{Rules}
-use Rattle.xls_meaning.proofs.OrderLemmas.{first_behind, first_early}
 use Rattle.xls_open.proofs.ContentsLemmas.{heads, same_length, all_shown}
-use Rattle.xls_meaning.proofs.HeldLemmas.{Found, IsFine, sheet_view, fine_places, good, flat_both, opened_places, carries_full, after_globals}
+use Rattle.xls_meaning.proofs.HeldLemmas.{Found, IsFine, sheet_view, good, carries_full}
 
 -- ---- a BoundSheet8, by its bytes and by its entry
 
@@ -101,68 +99,7 @@ module _ (rules : Rules) (s : InForce) (bytes : List ℕ) (fits : IsBytes bytes)
         are = (head, subst (λ (k : List Kept). IsContent s k v) same.0 c.0.content, rest.are);
       }
 
-  -- so many sheets were read, and the part of the next one has a fault
-  pub record Broken (os : List OpenedSheet) (e : XlsError) : Type 0 where
-    pub done : List OpenedSheet
-    pub at : OpenedSheet
-    pub behind : List OpenedSheet
-    pub split : os ≡ done ++ at ∷ behind
-    pub fine : AllByRecursion (IsFine rules s.cells) done
-    pub fault : first_of (opened_places rules s.cells at) ≡ Some e
-
-  pub broken : (os : List OpenedSheet) (done : Sheets) (views : List SheetView) (q : ℕ × SheetContent) (behind : Sheets) (e : XlsError)
-      → map pair_of os ≡ done ++ q ∷ behind → AllByRecursion Stands os
-      → AreContents rules s bytes done views → PartFault (IsSheetPart bytes q.0) rules s e → Broken os e
-  broken [] [] views q behind e f a c p = absurd cc
-  broken [] (d ∷ done) views q behind e f a c p = absurd cc
-  broken (o ∷ os) [] views q behind e f a c p =
-      let first : pair_of o ≡ q = cc in
-      let offset : o.offset ≡ q.0 = ap (λ (x : ℕ × SheetContent). x.0) first in
-      let stands : IsSheetPart bytes q.0 o.kept o.cut = subst (λ (n : ℕ). IsSheetPart bytes n o.kept o.cut) offset a.0 in
-      let same = one_sheet_part bytes fits q.0 p.0 o.kept p.1 o.cut p.2 stands in
-      record {
-        done = [];
-        at = o;
-        behind = os;
-        split = refl;
-        fine = tt;
-        fault = ap (λ (k : List Kept). first_of (part_places rules s.cells k o.cut)) (sym same.0)
-            ∙ ap (λ (x : Option Part). first_of (part_places rules s.cells p.0 x)) (sym same.1) ∙ p.3;
-      }
-  broken (o ∷ os) (d ∷ done) [] q behind e f a c p = absurd c
-  broken (o ∷ os) (d ∷ done) (v ∷ views) q behind e f a c p =
-      let first : pair_of o ≡ d = cc in
-      let others : map pair_of os ≡ done ++ q ∷ behind = cc in
-      let offset : o.offset ≡ d.0 = ap (λ (x : ℕ × SheetContent). x.0) first in
-      let stands : IsSheetPart bytes d.0 o.kept o.cut = subst (λ (n : ℕ). IsSheetPart bytes n o.kept o.cut) offset a.0 in
-      let same = one_sheet_part bytes fits d.0 c.0.kept o.kept None o.cut c.0.stands stands in
-      let rest = broken os done views q behind e others a.1 c.1 p in
-      record {
-        done = o ∷ rest.done;
-        at = rest.at;
-        behind = rest.behind;
-        split = ap (λ (l : List OpenedSheet). o ∷ l) rest.split;
-        fine = ((sym same.1, subst (λ (k : List Kept). first_of (along (kept_fault rules s.cells) [] k) ≡ None) same.0 c.0.faultless), rest.fine);
-        fault = rest.fault;
-      }
-
 -- ---- the whole
-
-faulty : (rules : Rules) (stream : List ℕ) (e : XlsError) → StreamFault rules stream e
-    → RefusesStream rules stream e
-faulty rules stream errors.Memory h = tt
-faulty rules stream e h = h
-
-pub globals_refused : (stream : List ℕ) (rules : Rules) (e : XlsError)
-    → ReadsGlobals rules stream (Err e) → RefusesStream rules stream e
-globals_refused stream rules errors.Memory r = tt
-globals_refused stream rules e r =
-    faulty rules stream e (
-      r.0,
-      r.1,
-      r.2,
-      first_early (globals_places rules r.0 r.1) (flat_map (sheet_places rules (cells_of rules (map entry_of r.0))) r.0) e r.3,
-    )
 
 same_force : (p q : XlsEncoding) (v w : Biff) (c d : List CellFormat) (ss ts : List (List ℕ)) (x y : Bool) (n m : Context)
     → p ≡ q → v ≡ w → c ≡ d → ss ≡ ts → x ≡ y → n ≡ m
@@ -198,23 +135,6 @@ module _ (rules : Rules) (stream : List ℕ) (fits : IsBytes stream) (t : State)
   pub stands : AllByRecursion (λ (o : OpenedSheet). IsSheetPart stream o.offset o.kept o.cut) (opened_of rules a.items)
   stands = all_opened rules force stream fits (filter is_globals_type a.holds.groups) a.items [] a.holds.items_are
 
-  pub contents_refused : (e : XlsError) → ReadsContents rules force stream t.sheets (Err e)
-      → RefusesStream rules stream e
-  contents_refused errors.Memory r = tt
-  contents_refused e r =
-      let b = broken rules force stream fits (opened_of rules a.items) r.done r.views r.at r.behind e (sym a.state.sheets ∙ r.split) stands r.were r.fault in
-      let places_of = opened_places rules force.cells in
-      faulty rules stream e (
-        a.items,
-        None,
-        a.holds,
-        after_globals rules a.items a.faultless
-            ∙ ap (λ (x : List OpenedSheet). first_of (flat_map places_of x)) b.split
-            ∙ ap first_of (flat_both rules force.cells b.done (b.at ∷ b.behind))
-            ∙ first_behind (flat_map places_of b.done) (flat_map places_of (b.at ∷ b.behind)) (fine_places rules force.cells b.done b.fine)
-            ∙ first_early (places_of b.at) (flat_map places_of b.behind) e b.fault,
-      )
-
   pub opened_so : (views : List SheetView) (book : BookView) → forced_fault rules.force_codepage ≡ None
       → AreContents rules force stream t.sheets views
       → book.sheets ≡ map (λ (q : ℕ × SheetContent). q.1) t.sheets
@@ -246,13 +166,6 @@ module _ (rules : Rules) (stream : List ℕ) (fits : IsBytes stream) (t : State)
         same_length force heads_of views (sheets_of rules (map entry_of a.items)) are,
       )
 
-  -- likewise with the force and the sheets as the code has them
-  pub refused_under : (s : InForce) (sheets : Sheets) (e : XlsError) → s ≡ force → sheets ≡ t.sheets
-      → ReadsContents rules s stream sheets (Err e) → RefusesStream rules stream e
-  refused_under s sheets e same listed r =
-      contents_refused e (subst (λ (x : Sheets). ReadsContents rules force stream x (Err e)) listed
-      (subst (λ (x : InForce). ReadsContents rules x stream sheets (Err e)) same r))
-
   pub opened_under : (s : InForce) (sheets : Sheets) (heads_of : List SheetContent) (views : List SheetView) (is_1904 : Bool) (classes : List CellFormat) (told : List (List ℕ × List ℕ))
       → s ≡ force → sheets ≡ t.sheets → heads_of ≡ map (λ (q : ℕ × SheetContent). q.1) sheets
       → forced_fault rules.force_codepage ≡ None → AreContents rules s stream sheets views
@@ -279,12 +192,3 @@ module _ (rules : Rules) (stream : List ℕ) (fits : IsBytes stream) (t : State)
       (date ∙ ap (λ (x : InForce). x.cells.is_1904) same) (formats ∙ ap (λ (x : InForce). x.cells.classes) same)
       (told_is ∙ ap (λ (x : InForce). x.formulas.names) same) in
       (o.0, o.1 ∙ ap length (sym names))
-
--- what was read stands in order
-pub all_ordered : (rules : Rules) (s : InForce) (stream : List ℕ) (sheets : Sheets) (views : List SheetView)
-    → AreContents rules s stream sheets views → AllByRecursion IsOrdered views
-all_ordered rules s stream [] [] c = tt
-all_ordered rules s stream [] (v ∷ views) c = absurd c
-all_ordered rules s stream (q ∷ sheets) [] c = absurd c
-all_ordered rules s stream (q ∷ sheets) (v ∷ views) c =
-    ((c.0.content.ascending, c.0.content.formulas_ascending), all_ordered rules s stream sheets views c.1)

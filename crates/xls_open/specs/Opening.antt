@@ -10,7 +10,7 @@ use Rattle.xls_source.specs.Causes.{Rose}
 use Rattle.xls_meaning.specs.Rules.{Rules}
 use Rattle.xls_open.specs.Workbook.{Workbook, rules_of, view_of}
 use Rattle.xls_meaning.specs.Reading.{IsReading}
-use Rattle.xls_meaning.specs.Faults.{FirstFault, IsSound, IsFull}
+use Rattle.xls_meaning.specs.Faults.{FirstFault, IsSound}
 use Rattle.xls_open.specs.declared.options.XlsOptions.{XlsOptions}
 
 -- why a stream isn't opened: Io by its count, Memory freely, and else the first fault of the bytes
@@ -45,14 +45,13 @@ IsOfOpening (errors.InvalidFormat ifmt) = ⊥
 IsOfOpening (errors.WorksheetNotFound name) = ⊥
 IsOfOpening e = Unit {0}
 
--- no place of the bytes has a fault; they are within the limit and carry a full list, and the
--- workbook keeps the options and is the reading of every list that they carry
+-- no place of the bytes has a fault; they are within the limit and carry a list, and the workbook keeps the
+-- options and is the reading of every list that they carry (`sound_where_full`: that list is full)
 pub record IsOpened (options : XlsOptions) (book : Workbook) (bytes : List ℕ) : Type 0 where
   pub sound : IsSound (rules_of options) bytes
   pub within : length bytes ≤ options.max_bytes
   pub entries : List Entry
   pub carries : Carries bytes entries
-  pub full : IsFull (rules_of options) entries
   pub kept : book.options ≡ options
   pub every : (others : List Entry) → Carries bytes others
       → IsReading (rules_of options) others (view_of book)

@@ -1,35 +1,25 @@
 -- Steps of opening, for the proofs.
-use Rattle.std.specs.Prelude.{◌≡◌, ℕ, List, [], ◌∷◌, ◌++◌, ◌-◌, ◌||◌, Bool, false, if◌then◌else◌, nat_lt, length, map, Option, Some, None, unwrap_or, Result, Ok, Err, Vec}
+use Rattle.std.specs.Prelude.{◌≡◌, ℕ, List, [], ◌∷◌, ◌++◌, ◌-◌, ◌||◌, Bool, false, if◌then◌else◌, nat_lt, Option, Some, None, unwrap_or, Result, Ok, Err}
 use Rattle.std.specs.Option.{option_map}
-use Rattle.std.specs.List.{AllByRecursion}
 use Rattle.xls_text.specs.declared.encoding.XlsEncoding.{XlsEncoding}
 use Rattle.xls_stream.specs.Listing as listing
 use Rattle.xls_stream.specs.Listing.{offset_at, Kept, Item, plain_item, table_item, sheet_item, IsSheetPart, Carries}
 use Rattle.xls_stream.specs.Walks.{IsBytes}
 use Rattle.xls_stream.specs.declared.part.Part.{Part}
-use Rattle.xls_data.specs.Sheets.{SheetContent, sheet_content}
+use Rattle.xls_data.specs.Sheets.{SheetContent}
 use Rattle.xls_record.specs.declared.error.XlsError.{XlsError}
 use Rattle.xls_record.specs.declared.error.XlsError.TheVariants as errors
 use Rattle.xls_record.specs.declared.version.Biff.TheVariants.{Biff8}
-use Rattle.xls_record.specs.Reading.{Fails, gives}
+use Rattle.xls_record.specs.Reading.{gives}
 use Rattle.xls_meaning.specs.Order.{along, first_of}
 use Rattle.xls_meaning.specs.InForce.{InForce, SheetRecords}
 use Rattle.xls_meaning.specs.GlobalsTable.{GlobalsRecord, version_given, page_given, date_given, format_given, xf_given, references_given, name_given, strings_given, sheet_given}
-use Rattle.xls_meaning.specs.SheetTable.{Given}
-use Rattle.xls_meaning.specs.Reading.{SheetView, BookView, IsContent, IsReading, paired}
-use Rattle.xls_open.specs.Workbook.{Workbook, IsOrdered, rules_of, told_of, view_of, shown}
-use Rattle.xls_meaning.specs.Faults.{kept_fault, part_places, FirstBehind, IsFull}
-use Rattle.xls_open.specs.declared.options.XlsOptions.{XlsOptions}
-use Rattle.xls_open.specs.declared.opened.Opened.{Opened}
+use Rattle.xls_meaning.specs.Reading.{SheetView, BookView, IsContent, IsReading}
+use Rattle.xls_meaning.specs.Faults.{kept_fault, FirstBehind, IsFull}
 use Rattle.xls_meaning.specs.Rules.{Rules}
 use Rattle.xls_open.specs.Globals.{Sheets, State}
 
 -- ---- steps
-
--- a step of a definition gives what was made, or the refusal, unless memory ran out
-abbrev pub Follows : {S : Type 0} → S → Result (Unit {0}) XlsError → Result S XlsError → Type 0
-Follows new (Ok u) given = given ≡ Ok new
-Follows new (Err e) given = Fails e given
 
 -- ---- the globals
 
@@ -89,18 +79,6 @@ body_of (sheet_item body kept cut) = body
 
 -- ---- a sheet part
 
-abbrev pub with_given : SheetView → Given → SheetView
-with_given v g =
-    record {
-      cells = v.cells ++ g.cells;
-      formulas = v.formulas ++ g.formulas;
-      merges = v.merges ++ g.regions;
-    }
-
--- after one more record
-abbrev pub given_step : SheetView → Result Given XlsError → Result SheetView XlsError
-given_step v line = gives (with_given v) line
-
 -- how many more cells there may be, of these that there may be, after a record of this weight
 abbrev pub weight_left : ℕ → ℕ → ℕ → Result ℕ XlsError
 weight_left limit room weight =
@@ -114,17 +92,6 @@ pub record IsRead (Stands : List Kept → Option Part
   pub faultless : first_of (along (kept_fault rules s.cells) [] kept) ≡ None
   pub content : IsContent s kept view
 
-abbrev pub PartFault : (List Kept → Option Part → Type 0) → Rules → InForce → XlsError → Type 0
-PartFault Stands rules s e =
-    (kept : List Kept) × (cut : Option Part) × Stands kept cut
-    × (first_of (part_places rules s.cells kept cut) ≡ Some e)
-
-abbrev pub Reads : (List Kept → Option Part → Type 0) → Rules → InForce
-    → Result SheetView XlsError → Type 0
-Reads Stands rules s (Ok view) = IsRead Stands rules s view
-Reads Stands rules s (Err errors.Memory) = Unit {0}
-Reads Stands rules s (Err e) = PartFault Stands rules s e
-
 -- ---- the sheets
 
 -- each of these sheets was read so
@@ -133,27 +100,6 @@ AreContents rules s stream [] [] = Unit {0}
 AreContents rules s stream (q ∷ qs) (v ∷ vs) =
     IsRead (IsSheetPart stream q.0) rules s v × AreContents rules s stream qs vs
 AreContents rules s stream qs vs = ⊥
-
--- after sheets that were read so, the part of one has this fault
-pub record ContentsFault (rules : Rules) (s : InForce) (stream : List ℕ) (sheets : Sheets) (e : XlsError) : Type 0 where
-  pub done : Sheets
-  pub views : List SheetView
-  pub were : AreContents rules s stream done views
-  pub at : ℕ × SheetContent
-  pub behind : Sheets
-  pub split : sheets ≡ done ++ at ∷ behind
-  pub fault : PartFault (IsSheetPart stream at.0) rules s e
-
-abbrev pub ReadsContents : Rules → InForce → List ℕ → Sheets → Result (List SheetView) XlsError
-    → Type 0
-ReadsContents rules s stream sheets (Ok views) = AreContents rules s stream sheets views
-ReadsContents rules s stream sheets (Err errors.Memory) = Unit {0}
-ReadsContents rules s stream sheets (Err e) = ContentsFault rules s stream sheets e
-
--- the elements of a vector
-abbrev pub items_of : {T A E : Type 0} → Result (Vec T A) E → Result (List T) E
-items_of (Ok v) = Ok v.items
-items_of (Err e) = Err e
 
 -- these sheets with these contents are those of the list
 abbrev pub AreSheets : InForce → List SheetContent → List SheetView → List SheetRecords → Type 0
@@ -173,29 +119,3 @@ pub record IsStreamOpened (rules : Rules) (bytes : List ℕ) (book : BookView) :
 
 abbrev pub StreamFault : Rules → List ℕ → XlsError → Type 0
 StreamFault rules bytes e = FirstBehind None rules bytes e
-
--- the first fault of a stream, unless memory ran out
-abbrev pub RefusesStream : Rules → List ℕ → XlsError → Type 0
-RefusesStream rules bytes errors.Memory = Unit {0}
-RefusesStream rules bytes e = StreamFault rules bytes e
-
--- what is shown of what was opened
-abbrev pub book_of : Opened → Workbook
-book_of o =
-    record {
-      options = o.options;
-      sheets = map sheet_content o.sheets.items;
-      names = map told_of o.names.items;
-      contents = shown (paired (map sheet_content o.sheets.items) o.contents.items) (map sheet_content o.sheets.items);
-      is_1904 = o.is_1904;
-      classes = o.classes.items;
-    }
-
--- it has the content of each sheet, in order
-abbrev pub IsReady : Opened → Type 0
-IsReady o = (length o.contents.items ≡ length o.sheets.items) × AllByRecursion IsOrdered o.contents.items
-
-abbrev pub OpensStream : XlsOptions → List ℕ → Result Opened XlsError → Type 0
-OpensStream options bytes (Ok o) =
-    (o.options ≡ options) × IsStreamOpened (rules_of options) bytes (view_of (book_of o)) × IsReady o
-OpensStream options bytes (Err e) = RefusesStream (rules_of options) bytes e

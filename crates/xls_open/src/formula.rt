@@ -12,42 +12,7 @@ use std::alloc::{AllocError, Global};
 use xls_biff::XlsError;
 use xls_formula::{FormulaTexts, Scope, parse_formula};
 
-/// The text of the formula of a cell, or why it is refused.
-pub fn text_of_formula(
-    alloc: Global,
-    rgce: &[u8],
-    position: (u32, u32),
-    force: &InForce<'_>,
-) -> Result<String, AllocError>
-    ensures { IfOk result (λ text. text_of text ≡ shown_formula position (formula_text force.now.formulas rgce.now)) }
-{
-    let read = parse_formula(
-        alloc,
-        rgce,
-        force.sheets,
-        force.names,
-        force.refs,
-        &force.page,
-        force.version,
-        force.functions,
-    );
-    match read {
-        Ok(text) => Ok(text),
-        Err(error) if error.is_memory() => Err(AllocError),
-        Err(error) => refusal_of(alloc, position, &error),
-    }
-}
-
-/// What stands in place of a formula that is refused.
-fn refusal_of(alloc: Global, position: (u32, u32), error: &XlsError) -> Result<String, AllocError>
-    ensures { IfOk result (λ text. string_bytes text ≡ refusal_bytes position error.now) }
-{
-    let mut text = String::new(alloc);
-    write_refusal(&mut text, position, error)?;
-    Ok(text)
-}
-
-/// The same in a text, in place of what it holds.
+/// Writes what stands in place of a formula that is refused, in place of what the text holds.
 fn write_refusal(
     text: &mut String,
     position: (u32, u32),

@@ -1,4 +1,4 @@
-//! Opening: what the bytes of a source give, or their first fault.
+//! What opening the bytes of a source answers, the globals of a stream, and the check of a stream.
 #![tactic(auto)]
 
 mod check;
@@ -10,14 +10,12 @@ mod globals_record;
 mod laws;
 mod listed;
 mod names;
-mod opened;
 mod options;
-mod part;
 
 pub use check::{check_sheets_of, check_stream};
 pub use classes::classes_of;
 pub use force::InForce;
-pub use formula::{FormulaBuffer, text_of_formula};
+pub use formula::FormulaBuffer;
 pub use globals::{Globals, read_globals};
 pub use laws::{
     checked_alike, laid_checks, laid_opens, laid_sound, one_list_per_stream, pages_hang_on_nothing,
@@ -25,6 +23,4 @@ pub use laws::{
 };
 pub use listed::{Lbl, Listed};
 pub use names::{Naming, naming_of};
-pub use opened::{Opened, open};
 pub use options::XlsOptions;
-pub use part::Content;

@@ -8,7 +8,7 @@ mod view;
 
 pub use index::{find_named, index_of};
 pub use naming::ViewNaming;
-pub use view::View;
+pub use view::{View, ViewParts};
 pub use xls_cursors::{
     CellValue, Cells, EncodedText, FormulaBuffer, FormulaCell, FormulaCells, Merges, SheetCell,
     SheetCells, SheetFormulas, TextBuffer, ViewSheet,

@@ -15,6 +15,7 @@ ghost use Rattle.xls_view.specs.Viewing.{IsFault, IsViewed, ViewCause, formulas_
 ghost use Rattle.xls_cursors.specs.Walking.{Named};
 ghost use Rattle.xls_view.specs.Placing.{IsPartOf, force_of};
 ghost use Rattle.xls_cursors.specs.Formulas.{text_entry};
+ghost use Rattle.xls_view.specs.Index.{IsIndex};
 ghost use Rattle.xls_view.specs.Naming.{context_in};
 ghost use Rattle.xls_record.specs.declared.error.XlsError.{XlsError};
 ghost use Rattle.xls_data.specs.Sheets.{SheetContent};
@@ -95,6 +96,21 @@ impl<'a> Model for View<'a> {
           strings = v.strings;
           is_1904 = v.is_1904;
         }) v.bytes.now v.offsets.items };
+}
+
+/// What a view keeps of its globals.
+#[derive(Drop)]
+pub struct ViewParts {
+    /// The sheets in workbook order.
+    pub sheets: Vec<Sheet>,
+    /// The defined names and their texts in workbook order.
+    pub names: Vec<(String, String)>,
+    /// The place of the last sheet of each name.
+    pub index: BTreeMap<String, usize>,
+    /// Whether dates count from 1904.
+    pub is_1904: bool,
+    /// The format class of each XF.
+    pub classes: Vec<CellFormat>,
 }
 
 /// The sheets, and where the part of each begins.
@@ -180,6 +196,31 @@ impl<'a> View<'a> {
                 check_stream(bytes, options.force_codepage, options.max_cells)?;
                 Err(error)
             }
+        }
+    }
+
+    /// What it keeps of the globals, without a copy. Takes no memory.
+    pub fn into_parts(self) -> ViewParts
+        ensures sheets { map sheet_content result.sheets.items ≡ self.book.sheets }
+        ensures names { map told_of result.names.items ≡ self.book.names }
+        ensures index { IsIndex result.index result.sheets.items }
+        ensures date_system { result.is_1904 ≡ self.book.is_1904 }
+        ensures classes { result.classes.items ≡ self.book.classes }
+    {
+        let View {
+            sheets,
+            naming,
+            index,
+            is_1904,
+            classes,
+            ..
+        } = self;
+        ViewParts {
+            sheets,
+            names: naming.told,
+            index,
+            is_1904,
+            classes,
         }
     }
 

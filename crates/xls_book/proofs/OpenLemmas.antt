@@ -1,0 +1,86 @@
+-- The workbook of a view, and why there is none.
+use Rattle.std.proofs.Common.{◌≡◌, ℕ, suc, ◌≤◌, List, [], ◌∷◌, length, map, refl, sym, ap, subst, ◌∙◌, Option, Some, None, Result, Ok, Err}
+use Rattle.std.specs.Prelude.{IfErr, IfOk, IfSome}
+use Rattle.std.specs.List.{AllByRecursion, AllZip}
+use Rattle.std.proofs.lemmas.List.{length-map}
+use Rattle.xls_record.specs.declared.error.XlsError.{XlsError}
+use Rattle.xls_record.specs.declared.error.XlsError.TheVariants as errors
+use Rattle.xls_meaning.specs.InForce.{InForce, SheetRecords, in_force_of, sheets_of}
+use Rattle.xls_meaning.specs.Reading.{IsReading, IsShown, SheetView}
+use Rattle.xls_meaning.specs.Rules.{Rules}
+use Rattle.xls_open.specs.Opening.{IsOfOpening, IsOpened, OpenCause}
+use Rattle.xls_open.specs.Workbook.{IsOrdered, Workbook, rules_of, view_of}
+use Rattle.xls_open.specs.declared.options.XlsOptions.{XlsOptions}
+use Rattle.xls_open.proofs.OpeningLemmas.{checked_cause, checked_named, checked_sound}
+use Rattle.xls_view.specs.Viewing.{IsViewed, ViewCause, Viewed}
+use Rattle.xls_book.specs.Steps.{OpensBytes}
+
+-- ---- what a view shows
+
+module _ (s : InForce) (all : List SheetRecords) where
+  shown_many : (vs : List SheetView) (qs : List SheetRecords) → AllZip (IsShown s all) vs qs → length vs ≡ length qs
+  shown_many [] [] a = refl
+  shown_many [] (q ∷ qs) a = absurd a
+  shown_many (v ∷ vs) [] a = absurd a
+  shown_many (v ∷ vs) (q ∷ qs) a = ap suc (shown_many vs qs a.1)
+
+  shown_ordered : (vs : List SheetView) (qs : List SheetRecords) → AllZip (IsShown s all) vs qs → AllByRecursion IsOrdered vs
+  shown_ordered [] qs a = tt
+  shown_ordered (v ∷ vs) [] a = absurd a
+  shown_ordered (v ∷ vs) (q ∷ qs) a = ((a.0.ascending, a.0.formulas_ascending), shown_ordered vs qs a.1)
+
+module _ (options : XlsOptions) (bytes : List ℕ) (v : Viewed) (is : IsViewed options bytes v) where
+  reading : IsReading (rules_of options) is.entries v.book
+  reading = is.every is.entries is.carries
+
+  -- each sheet has its content
+  pub as_many : length v.book.contents ≡ length v.book.sheets
+  as_many =
+      let qs = sheets_of (rules_of options) is.entries in
+      shown_many (in_force_of (rules_of options) is.entries) qs v.book.contents qs reading.contents
+      ∙ sym (length-map qs (λ (q : SheetRecords). q.0)) ∙ ap length (sym reading.sheets)
+
+  -- in order
+  pub all_ordered : AllByRecursion IsOrdered v.book.contents
+  all_ordered =
+      let qs = sheets_of (rules_of options) is.entries in
+      shown_ordered (in_force_of (rules_of options) is.entries) qs v.book.contents qs reading.contents
+
+-- ---- what opening answers
+
+opened : (options : XlsOptions) (bytes : List ℕ) (book : Workbook) → length bytes ≤ options.max_bytes
+    → OpensBytes options bytes (Ok book) → IsOpened options book bytes
+opened options bytes book within o =
+    let is = o.2 in
+    record {
+      sound = checked_sound options bytes within is.sound;
+      within = within;
+      entries = is.entries;
+      carries = is.carries;
+      kept = o.0;
+      every = λ others c. subst (IsReading (rules_of options) others) (sym o.3) (is.every others c);
+    }
+
+pub open_ok : (options : XlsOptions) (bytes : List ℕ) (left : Option (List ℕ)) (r : Result Workbook XlsError) → IfSome left (λ all. all ≡ bytes)
+    → length bytes ≤ options.max_bytes → OpensBytes options bytes r → IfOk r (λ book. IfSome left (IsOpened options book))
+open_ok options bytes None (Ok book) same within o = tt
+open_ok options bytes (Some all) (Ok book) same within o = subst (IsOpened options book) (sym same) (opened options bytes book within o)
+open_ok options bytes left (Err e) same within o = tt
+
+view_cause : (options : XlsOptions) (bytes : List ℕ) (left : Option (List ℕ)) (before now : ℕ) (e : XlsError) → IfSome left (λ all. all ≡ bytes)
+    → length bytes ≤ options.max_bytes → ViewCause options bytes e → OpenCause options left before now e
+view_cause options bytes left before now errors.Memory same within c = tt
+view_cause options bytes left before now e same within c = checked_cause options bytes left before now e same within c
+
+view_named : (options : XlsOptions) (bytes : List ℕ) (e : XlsError) → ViewCause options bytes e → IsOfOpening e
+view_named options bytes errors.Memory c = tt
+view_named options bytes e c = checked_named options bytes e c
+
+pub open_cause : (options : XlsOptions) (bytes : List ℕ) (left : Option (List ℕ)) (before now : ℕ) (r : Result Workbook XlsError) → IfSome left (λ all. all ≡ bytes)
+    → length bytes ≤ options.max_bytes → OpensBytes options bytes r → IfErr r (OpenCause options left before now)
+open_cause options bytes left before now (Ok book) same within o = tt
+open_cause options bytes left before now (Err e) same within o = view_cause options bytes left before now e same within o
+
+pub open_named : (options : XlsOptions) (bytes : List ℕ) (r : Result Workbook XlsError) → OpensBytes options bytes r → IfErr r IsOfOpening
+open_named options bytes (Ok book) o = tt
+open_named options bytes (Err e) o = view_named options bytes e o
