@@ -1,5 +1,5 @@
 -- The workbook of a view, and why there is none.
-use Rattle.std.proofs.Common.{◌≡◌, ℕ, suc, ◌≤◌, List, [], ◌∷◌, length, map, refl, sym, ap, subst, ◌∙◌, Option, Some, None, Result, Ok, Err}
+use Rattle.std.proofs.Common.{◌≡◌, ℕ, suc, ◌≤◌, List, [], ◌∷◌, length, refl, sym, ap, subst, ◌∙◌, Option, Some, None, Result, Ok, Err}
 use Rattle.std.specs.Prelude.{IfErr, IfOk, IfSome}
 use Rattle.std.specs.List.{AllByRecursion, AllZip}
 use Rattle.std.proofs.lemmas.List.{length-map}
@@ -7,9 +7,8 @@ use Rattle.xls_record.specs.declared.error.XlsError.{XlsError}
 use Rattle.xls_record.specs.declared.error.XlsError.TheVariants as errors
 use Rattle.xls_meaning.specs.InForce.{InForce, SheetRecords, in_force_of, sheets_of}
 use Rattle.xls_meaning.specs.Reading.{IsReading, IsShown, SheetView}
-use Rattle.xls_meaning.specs.Rules.{Rules}
 use Rattle.xls_open.specs.Opening.{IsOfOpening, IsOpened, OpenCause}
-use Rattle.xls_open.specs.Workbook.{IsOrdered, Workbook, rules_of, view_of}
+use Rattle.xls_open.specs.Workbook.{IsOrdered, Workbook, rules_of}
 use Rattle.xls_open.specs.declared.options.XlsOptions.{XlsOptions}
 use Rattle.xls_open.proofs.OpeningLemmas.{checked_cause, checked_named, checked_sound}
 use Rattle.xls_view.specs.Viewing.{IsViewed, ViewCause, Viewed}

@@ -1,6 +1,6 @@
 -- The names of a workbook with their ranges, in the order of the index.
 use Rattle.std.proofs.Common.{◌≡◌, ℕ, List, [], ◌∷◌, ◌++◌, length, map, refl, sym, ap, subst, ◌∙◌, append_assoc, arith, inl, inr, Bool, true, false, cond, Option, Some, None, Less}
-use Rattle.std.specs.Prelude.{String, Vec, Result, Ok, Err, IfOk, slice_get, nat_lt, get_or, ◌<◌}
+use Rattle.std.specs.Prelude.{String, slice_get, nat_lt, get_or, ◌<◌}
 use Rattle.std.specs.Global.{Global}
 use Rattle.std.specs.List.{All, AllByRecursion}
 use Rattle.std.specs.Option.{option_map}
@@ -181,26 +181,3 @@ module _ (sheets : List Sheet) (contents : List SheetView) (index : BTreeMap (St
         each = l.each;
         every = all_listed (map (λ (w : Worksheet). chars (string_bytes w.0)) list) (chars_of list ∙ ap (map chars) names) sheets [] refl;
       }
-
--- ---- another look-up with the same answers
-
-module _ (eq : Equal) (blank : Blank) (named shown : List ℕ → Option SheetView) (same : (name : List ℕ) → shown name ≡ named name) where
-  all_shown : (list : List Worksheet) → AllByRecursion (IsWorksheet eq blank named) list
-      → AllByRecursion (IsWorksheet eq blank shown) list
-  all_shown [] a = tt
-  all_shown (w ∷ list) a =
-      ((a.0.0, same (chars (string_bytes w.0)) ∙ a.0.1, a.0.2), all_shown list a.1)
-
-  pub worksheets_shown : (sheets : List SheetContent) (list : List Worksheet)
-      → AreWorksheets eq blank named sheets list → AreWorksheets eq blank shown sheets list
-  worksheets_shown sheets list a = record {
-    ordered = a.ordered;
-    each = all_shown list a.each;
-    every = a.every;
-  }
-
-  pub listed_shown : {A E : Type 0} (sheets : List SheetContent) (r : Result (Vec Worksheet A) E)
-      → IfOk r (λ (list : Vec Worksheet A). AreWorksheets eq blank named sheets list.items)
-      → IfOk r (λ (list : Vec Worksheet A). AreWorksheets eq blank shown sheets list.items)
-  listed_shown sheets (Ok list) a = worksheets_shown sheets list.items a
-  listed_shown sheets (Err e) a = a

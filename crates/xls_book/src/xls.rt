@@ -315,20 +315,12 @@ impl Xls {
         find_named(&self.metadata.sheets, &self.contents, &self.index, name)
     }
 
-    /// The content of the last sheet of the name that the sheet at an index has.
+    /// What an index shows.
     pub(crate) fn content_at(&self, n: usize) -> Option<&Content>
         ensures found { option_copied result ≡ slice_get self.now.contents n }
         ensures ordered { IfSome result (λ content. IsOrdered content.now) }
     {
-        match self.metadata.sheets.get(n) {
-            Some(sheet) => find_named(
-                &self.metadata.sheets,
-                &self.contents,
-                &self.index,
-                sheet.name.as_str(),
-            ),
-            None => None,
-        }
+        self.contents.get(n)
     }
 
     /// The sheets in order.

@@ -1,24 +1,21 @@
 -- The last of a name or of an identifier among the first so many, and the contents by name.
 use Rattle.std.proofs.Common.{◌≡◌, ℕ, zero, suc, ◌+◌, ◌<◌, ◌≤◌, List, [], ◌∷◌, ◌++◌, length, map, take, get_or, refl, sym, ap, subst, ◌∙◌, arith, Bool, true, false, cond, Option, Some, None}
-use Rattle.std.specs.Prelude.{◌==◌, if◌then◌else◌, is_some, unwrap_or, slice_get, nat_lt, IfSome}
+use Rattle.std.specs.Prelude.{◌==◌, if◌then◌else◌, is_some, slice_get, nat_lt, IfSome}
 use Rattle.std.specs.Option.{option_or, option_map, option_copied}
 use Rattle.std.specs.Borrow.{Bor}
 use Rattle.std.specs.List.{AllByRecursion}
 use Rattle.std.specs.String.{string_bytes}
 use Rattle.std.specs.Str.{chars, bytes_eq, IsUtf8}
 use Rattle.std.specs.Cmp.Lexicographic.{pointwise}
-use Rattle.std.proofs.lemmas.List.{take_more, length-take-le, length-map, map-append}
-use Rattle.std.proofs.lemmas.Option.{slice_get-map, slice_get_past, slice_get_read}
+use Rattle.std.proofs.lemmas.List.{take_more, length-take-le, map-append}
+use Rattle.std.proofs.lemmas.Option.{slice_get_past, slice_get_read}
 use Rattle.std.proofs.lemmas.Str.{IsUtf8-string_bytes}
 use Rattle.xls_data.specs.Sheets.{SheetContent, sheet_content}
 use Rattle.xls_data.specs.declared.sheets.Sheet.{Sheet}
-use Rattle.xls_meaning.specs.Reading.{SheetView, last_named, paired}
+use Rattle.xls_meaning.specs.Reading.{last_named, paired}
 use Rattle.xls_view.specs.Index.{last_place}
-use Rattle.xls_meaning.specs.Held.{no_view}
-use Rattle.xls_open.specs.Workbook.{shown}
 use Rattle.xls_view.proofs.NameLemmas.{same_text}
 use Rattle.xls_open.proofs.MapLemmas.{map_more}
-use Rattle.xls_meaning.proofs.NamedLemmas.{named_some}
 
 -- ---- places
 
@@ -135,27 +132,6 @@ all_looked P xs n (Some x) t h a = all_read P xs n x.now a (within t) h
   where
     within : true ≡ nat_lt n (length xs) → n < length xs
     within e = grind arith
-
--- what is shown at an index
-pub shown_at : (ts : List Sheet) (vs : List SheetView) (n : ℕ) (t : Sheet) (r : Option SheetView)
-    → length vs ≡ length ts → slice_get ts n ≡ Some t
-    → r ≡ last_named (paired (map sheet_content ts) vs) (chars (string_bytes t.name))
-    → r ≡ slice_get (shown (paired (map sheet_content ts) vs) (map sheet_content ts)) n
-shown_at ts vs n t r len at is =
-    let names = map sheet_content ts in
-    let all = paired names vs in
-    let here : slice_get names n ≡ Some (sheet_content t) =
-    slice_get-map sheet_content ts n ∙ ap (option_map sheet_content) at in
-    is
-    ∙ named_some no_view names vs n (sheet_content t) (len ∙ sym (length-map ts sheet_content)) here
-    ∙ sym (slice_get-map (λ (s : SheetContent). unwrap_or (last_named all s.name) no_view) names n
-    ∙ ap (option_map (λ (s : SheetContent). unwrap_or (last_named all s.name) no_view)) here)
-
-pub nothing_at : (ts : List Sheet) (all : List (SheetContent × SheetView)) (n : ℕ) → slice_get ts n ≡ None
-    → None ≡ slice_get (shown all (map sheet_content ts)) n
-nothing_at ts all n at =
-    sym (slice_get-map (λ (s : SheetContent). unwrap_or (last_named all s.name) no_view) (map sheet_content ts) n
-    ∙ ap (option_map (λ (s : SheetContent). unwrap_or (last_named all s.name) no_view)) (slice_get-map sheet_content ts n ∙ ap (option_map sheet_content) at))
 
 -- ---- names
 

@@ -1,25 +1,19 @@
 use Rattle.std.proofs.Common.{sym, ap, map, subst, ◌∙◌}
 use Rattle.std.specs.List.{AllByRecursion}
 use Rattle.std.specs.Str.{chars}
-use Rattle.std.proofs.lemmas.List.{length-map}
 use Rattle.xls_data.specs.Sheets.{sheet_content}
 use Rattle.xls_meaning.specs.Reading.{last_named, paired}
-use Rattle.xls_meaning.specs.Held.{no_view}
-use Rattle.xls_meaning.proofs.NamedLemmas.{named_shown}
 use Rattle.xls_open.specs.Workbook.{IsOrdered}
 use Rattle.xls_book.proofs.NamedLemmas.{found_holds}
 use Rattle.xls_book.proofs.xls.Xls.content_named.Goals as goal
 
 pub returns-clause-found : goal.returns-clause-found
 returns-clause-found c =
-    let sheets = c.self.inside.metadata.sheets.items in
-    let contents = c.self.inside.contents.items in
     let name = chars c.args.name.now in
     rw (← c.self.view_is)
     (c.find_named.ensures
     ∙ ap (λ ss. last_named (paired (map sheet_content ss) c.deref-2.result.now) name) c.deref.ensures.value
-    ∙ ap (λ vs. last_named (paired (map sheet_content sheets) vs) name) c.deref-2.ensures.value
-    ∙ sym (named_shown no_view (map sheet_content sheets) contents name (c.self.invariant.0 ∙ sym (length-map sheets sheet_content))))
+    ∙ ap (λ vs. last_named (paired (map sheet_content c.self.inside.metadata.sheets.items) vs) name) c.deref-2.ensures.value)
 
 pub returns-clause-ordered : goal.returns-clause-ordered
 returns-clause-ordered c =
