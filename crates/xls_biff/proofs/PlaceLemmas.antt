@@ -1,12 +1,12 @@
 -- Where Formulas stand.
 use Rattle.std.proofs.Common.{◌≡◌, ◌≢◌, ℕ, ◌≤◌, List, length, take, drop, refl, sym, ap, ◌∙◌, arith, Bool, true, false, Option, Some, None, Result, Ok, Err}
-use Rattle.std.specs.Prelude.{◌==◌, ◌||◌, nat_lt, if◌then◌else◌}
+use Rattle.std.specs.Prelude.{◌==◌, nat_lt}
 use Rattle.xls_stream.specs.declared.part.Part.TheVariants as parts
 use Rattle.xls_data.specs.Content.{Content}
 use Rattle.xls_dates.specs.declared.formats.CellFormat.{CellFormat}
 use Rattle.xls_record.specs.declared.error.XlsError.{XlsError}
 use Rattle.xls_record.specs.declared.error.XlsError.TheVariants.{Len}
-use Rattle.xls_record.specs.Reading.{◌>>=◌, gives}
+use Rattle.xls_record.specs.Reading.{◌>>=◌}
 use Rattle.xls_record.proofs.ReadingLemmas.{gives-ok}
 use Rattle.xls_biff.specs.Cells.{Position, position_at, class_at}
 use Rattle.xls_biff.specs.Records.Formula.{formula_value_at, formula_at}

@@ -1,5 +1,5 @@
 -- The table of a sheet's records, line by line.
-use Rattle.std.proofs.Common.{◌≡◌, ◌≢◌, ℕ, List, [], ◌∷◌, map, length, Bool, true, false, Option, Some, None, Result, Ok, Err, refl, sym, ap, subst, ◌∙◌}
+use Rattle.std.proofs.Common.{◌≡◌, ◌≢◌, ℕ, List, [], ◌∷◌, map, length, Bool, true, false, Option, rules, Result, Ok, Err, refl, sym, ap, subst, ◌∙◌}
 use Rattle.std.specs.Prelude.{◌==◌, if◌then◌else◌}
 use Rattle.std.specs.List.{AllByRecursion}
 use Rattle.std.proofs.lemmas.Bool.{eqb-true}
@@ -8,19 +8,11 @@ use Rattle.xls_stream.specs.declared.types.TheConstants as types
 use Rattle.xls_record.specs.declared.error.XlsError.{XlsError}
 use Rattle.xls_record.specs.Reading.{gives}
 use Rattle.xls_record.proofs.ReadingLemmas.{gives-ok}
-use Rattle.xls_strings.specs.Strings.{string_at}
 use Rattle.xls_data.specs.Content.{Content}
 use Rattle.xls_data.specs.declared.regions.Dimensions.{Dimensions}
 use Rattle.xls_biff.specs.Cells.{Entry, Position}
-use Rattle.xls_biff.specs.Records.BoolErr.{bool_err_at}
-use Rattle.xls_biff.specs.Records.Dimensions.{dimensions_at}
-use Rattle.xls_biff.specs.Records.Formula.{formula_at}
-use Rattle.xls_biff.specs.Records.Label.{label_at}
-use Rattle.xls_biff.specs.Records.LabelSst.{label_sst_at}
-use Rattle.xls_biff.specs.Records.MergeCells.{merges_at}
-use Rattle.xls_biff.specs.Records.Number.{number_at}
-use Rattle.xls_biff.specs.Records.Rk.{mul_rk_at, rk_at}
-use Rattle.xls_biff.specs.SheetTable.{CellContext, SheetRecord, Reads, empty_record, cell_record, cells_record, shared_record, string_record, formula_record, regions_record, no_line, line_of, sheet_table, sheet_record_at, weight_of, weight_of_type, other_weights}
+use Rattle.xls_biff.specs.Records.Rk.{mul_rk_at}
+use Rattle.xls_biff.specs.SheetTable.{CellContext, SheetRecord, Line, empty_record, cell_record, cells_record, shared_record, string_record, formula_record, regions_record, other_line, bounds_line, cell_line, cells_line, shared_line, string_line, formula_line, regions_line, given_on, line_of, sheet_table, sheet_record_at, weight_of, weight_of_type, other_weights}
 
 infixr 4 ◌&◌
 -- what a line has, and what those after it have
@@ -28,8 +20,8 @@ pub ◌&◌ : {A B : Type 0} → A → B → A × B
 a & b = (a, b)
 
 -- what all lines have, and a type that has none, each type has
-pub every_type : (P : ℕ → Reads → Type 0) (lines : List (ℕ × Reads)) (typ : ℕ)
-    → (is_among typ (map (λ line. line.0) lines) ≡ false → P typ no_line)
+pub every_type : (P : ℕ → Line → Type 0) (lines : List (ℕ × Line)) (typ : ℕ)
+    → (is_among typ (map (λ line. line.0) lines) ≡ false → P typ other_line)
     → AllByRecursion (λ line. P line.0 line.1) lines → P typ (line_of lines typ)
 every_type P [] typ none all = none refl
 every_type P (line ∷ lines) typ none all =
@@ -42,49 +34,58 @@ every_type P (line ∷ lines) typ none all =
 
 -- ---- kinds
 
--- what a fault has and each kind of record, each type has, where Formulas alone give formulas, and
--- MergeCells alone regions
+-- Formulas alone give formulas, and MergeCells alone regions
+abbrev IsOwn : ℕ → Line → Type 0
+IsOwn typ (formula_line read) = typ ≡ types.FORMULA
+IsOwn typ (regions_line read) = typ ≡ types.MERGE_CELLS
+IsOwn typ _ = Unit {0}
+
+pub each_own : (typ : ℕ) → IsOwn typ (line_of sheet_table typ)
+each_own typ = every_type IsOwn sheet_table typ (λ h. tt) (search rules)
+
+-- what a fault has and each kind of record, each type has
 module _ (Q : Result SheetRecord XlsError → Type 0) (fault : (e : XlsError) → Q (Err e)) (empty : Q (Ok empty_record)) (cells : (cs : List Entry) → Q (Ok (cells_record cs))) (shared : (c : Option Entry) → Q (Ok (shared_record c))) (string : (cs : List ℕ) → Q (Ok (string_record cs))) where
   kind : {X : Type 0} (f : X → SheetRecord) (r : Result X XlsError) → ((x : X) → Q (Ok (f x))) → Q (gives f r)
   kind f (Ok x) h = h x
   kind f (Err e) h = fault e
 
-  abbrev Has : ℕ → Reads → Type 0
-  Has typ reads =
-      (typ ≡ types.FORMULA → (at : Position) (value : Option Content) (tokens : List ℕ) → Q (Ok (formula_record at value tokens)))
+  on_line : (typ : ℕ) (line : Line) → IsOwn typ line
+      → (typ ≡ types.FORMULA → (at : Position) (value : Option Content) (tokens : List ℕ) → Q (Ok (formula_record at value tokens)))
       → (typ ≡ types.MERGE_CELLS → (rs : List Dimensions) → Q (Ok (regions_record rs)))
-      → (force : CellContext) (body : List ℕ) → Q (reads force body)
+      → (force : CellContext) (body : List ℕ) → Q (given_on line force body)
+  on_line typ other_line own formula regions force body = empty
+  on_line typ (bounds_line read) own formula regions force body = kind (λ d. empty_record) (read force body) (λ d. empty)
+  on_line typ (cell_line read) own formula regions force body = kind cell_record (read force body) (λ c. cells (c ∷ []))
+  on_line typ (cells_line read) own formula regions force body = kind cells_record (read force body) cells
+  on_line typ (shared_line read) own formula regions force body = kind shared_record (read force body) shared
+  on_line typ (string_line read) own formula regions force body = kind string_record (read force body) string
+  on_line typ (formula_line read) own formula regions force body =
+      kind (λ f. formula_record f.0 f.1 f.2) (read force body) (λ f. formula own f.0 f.1 f.2)
+  on_line typ (regions_line read) own formula regions force body = kind regions_record (read force body) (regions own)
 
-  pub each_kind : (typ : ℕ) → Has typ (line_of sheet_table typ)
-  each_kind typ =
-      every_type Has sheet_table typ (λ h formula regions force body. empty)
-      ((λ formula regions force body. kind cell_record (number_at force.classes force.is_1904 body) (λ c. cells (c ∷ [])))
-      & (λ formula regions force body. kind (λ d. empty_record) (dimensions_at body) (λ d. empty))
-      & (λ formula regions force body. kind cell_record (label_at force.page force.version body) (λ c. cells (c ∷ [])))
-      & (λ formula regions force body. kind cell_record (label_at force.page force.version body) (λ c. cells (c ∷ [])))
-      & (λ formula regions force body. kind cell_record (bool_err_at body) (λ c. cells (c ∷ [])))
-      & (λ formula regions force body. kind string_record (string_at force.page force.version body) string)
-      & (λ formula regions force body. kind cell_record (rk_at force.classes force.is_1904 body) (λ c. cells (c ∷ [])))
-      & (λ formula regions force body. kind shared_record (label_sst_at force.strings body) shared)
-      & (λ formula regions force body. kind cells_record (mul_rk_at force.classes force.is_1904 body) cells)
-      & (λ formula regions force body. kind regions_record (merges_at body) (regions refl))
-      & (λ formula regions force body. kind (λ f. formula_record f.0 f.1 f.2) (formula_at force.classes force.is_1904 body) (λ f. formula refl f.0 f.1 f.2))
-      & tt)
+  pub each_kind : (typ : ℕ)
+      → (typ ≡ types.FORMULA → (at : Position) (value : Option Content) (tokens : List ℕ) → Q (Ok (formula_record at value tokens)))
+      → (typ ≡ types.MERGE_CELLS → (rs : List Dimensions) → Q (Ok (regions_record rs)))
+      → (force : CellContext) (body : List ℕ) → Q (sheet_record_at force typ body)
+  each_kind typ = on_line typ (line_of sheet_table typ) (each_own typ)
 
 -- ---- weights
 
--- every record of a type that isn't a MulRk weighs so much
-abbrev Weighs : ℕ → Reads → Type 0
-Weighs typ reads =
-    typ ≢ types.MUL_RK → (force : CellContext) (body : List ℕ) (g : SheetRecord) → reads force body ≡ Ok g
-    → weight_of_type typ ≡ weight_of g
+-- every record of a line that isn't a MulRk's weighs so much
+abbrev weight_on : Line → ℕ
+weight_on other_line = 0
+weight_on (bounds_line read) = 0
+weight_on (cells_line read) = 0
+weight_on (regions_line read) = 0
+weight_on _ = 1
+
+abbrev Weighs : ℕ → Line → Type 0
+Weighs typ (cells_line read) = typ ≡ types.MUL_RK
+Weighs typ line = weight_of_type typ ≡ weight_on line
 
 weighs : {X : Type 0} (f : X → SheetRecord) (r : Result X XlsError) (n : ℕ)
     → ((x : X) → n ≡ weight_of (f x)) → (g : SheetRecord) → gives f r ≡ Ok g → n ≡ weight_of g
 weighs f r n same g e = let h = gives-ok f r g e in same h.0 ∙ ap weight_of h.2
-
-one : (r : Result Entry XlsError) (g : SheetRecord) → gives cell_record r ≡ Ok g → 1 ≡ weight_of g
-one r = weighs cell_record r 1 (λ c. refl)
 
 unlisted : (typ : ℕ) → is_among typ sheet_types ≡ false → weight_of_type typ ≡ 0
 unlisted typ h = rw h (either (is_among typ other_weights))
@@ -93,27 +94,24 @@ unlisted typ h = rw h (either (is_among typ other_weights))
     either true = refl
     either false = refl
 
+each_weight : (typ : ℕ) → Weighs typ (line_of sheet_table typ)
+each_weight typ = every_type Weighs sheet_table typ (unlisted typ) (search rules)
+
+weight_by : (typ : ℕ) (line : Line) → Weighs typ line → typ ≢ types.MUL_RK → (force : CellContext) (body : List ℕ) (g : SheetRecord)
+    → given_on line force body ≡ Ok g → weight_of_type typ ≡ weight_of g
+weight_by typ other_line w apart force body g e = w ∙ let same : empty_record ≡ g = cc in ap weight_of same
+weight_by typ (bounds_line read) w apart force body g e = w ∙ weighs (λ d. empty_record) (read force body) 0 (λ d. refl) g e
+weight_by typ (cell_line read) w apart force body g e = w ∙ weighs cell_record (read force body) 1 (λ c. refl) g e
+weight_by typ (cells_line read) w apart force body g e = absurd (apart w)
+weight_by typ (shared_line read) w apart force body g e = w ∙ weighs shared_record (read force body) 1 (λ c. refl) g e
+weight_by typ (string_line read) w apart force body g e = w ∙ weighs string_record (read force body) 1 (λ cs. refl) g e
+weight_by typ (formula_line read) w apart force body g e =
+    w ∙ weighs (λ f. formula_record f.0 f.1 f.2) (read force body) 1 (λ f. refl) g e
+weight_by typ (regions_line read) w apart force body g e = w ∙ weighs regions_record (read force body) 0 (λ rs. refl) g e
+
 pub weight_by_the_table : (typ : ℕ) → typ ≢ types.MUL_RK → (force : CellContext) (body : List ℕ) (g : SheetRecord)
     → sheet_record_at force typ body ≡ Ok g → weight_of_type typ ≡ weight_of g
-weight_by_the_table typ =
-    every_type Weighs sheet_table typ
-    (λ h o force body g e. unlisted typ h ∙ ap (λ (r : Result SheetRecord XlsError). weight_in r) e)
-    ((λ o force body. one (number_at force.classes force.is_1904 body))
-    & (λ o force body. weighs (λ d. empty_record) (dimensions_at body) 0 (λ d. refl))
-    & (λ o force body. one (label_at force.page force.version body))
-    & (λ o force body. one (label_at force.page force.version body))
-    & (λ o force body. one (bool_err_at body))
-    & (λ o force body. weighs string_record (string_at force.page force.version body) 1 (λ cs. refl))
-    & (λ o force body. one (rk_at force.classes force.is_1904 body))
-    & (λ o force body. weighs shared_record (label_sst_at force.strings body) 1 (λ c. refl))
-    & (λ o. absurd (o refl))
-    & (λ o force body. weighs regions_record (merges_at body) 0 (λ rs. refl))
-    & (λ o force body. weighs (λ f. formula_record f.0 f.1 f.2) (formula_at force.classes force.is_1904 body) 1 (λ f. refl))
-    & tt)
-  where
-    weight_in : Result SheetRecord XlsError → ℕ
-    weight_in (Ok g) = weight_of g
-    weight_in (Err e) = 0
+weight_by_the_table typ = weight_by typ (line_of sheet_table typ) (each_weight typ)
 
 -- a MulRk weighs as its cells
 pub all_cells : (force : CellContext) (body : List ℕ) (n : ℕ)

@@ -45,43 +45,60 @@ pub data SheetRecord : Type 0 where
   regions_record : (rs : List Dimensions) → SheetRecord
 
 -- how the records of a type read
-abbrev pub Reads : Type 0
-Reads = CellContext → List ℕ → Result SheetRecord XlsError
+pub data Line : Type 0 where
+  -- they give nothing, whatever their bodies
+  other_line : Line
+  -- they give nothing, and may have a fault
+  bounds_line : (read : CellContext → List ℕ → Result Dimensions XlsError) → Line
+  -- a cell each
+  cell_line : (read : CellContext → List ℕ → Result Entry XlsError) → Line
+  cells_line : (read : CellContext → List ℕ → Result (List Entry) XlsError) → Line
+  shared_line : (read : CellContext → List ℕ → Result (Option Entry) XlsError) → Line
+  string_line : (read : CellContext → List ℕ → Result (List ℕ) XlsError) → Line
+  formula_line : (read : CellContext → List ℕ → Result (Position × Option Content × List ℕ) XlsError) → Line
+  regions_line : (read : CellContext → List ℕ → Result (List Dimensions) XlsError) → Line
 
 -- one cell
 abbrev pub cell_record : Entry → SheetRecord
 cell_record c = cells_record (c ∷ [])
 
-abbrev pub cell_of_label : Reads
-cell_of_label force body = gives cell_record (label_at force.page force.version body)
+-- what a record of a line gives, or its first fault
+abbrev pub given_on : Line → CellContext → List ℕ → Result SheetRecord XlsError
+given_on other_line force body = Ok empty_record
+given_on (bounds_line read) force body = gives (λ d. empty_record) (read force body)
+given_on (cell_line read) force body = gives cell_record (read force body)
+given_on (cells_line read) force body = gives cells_record (read force body)
+given_on (shared_line read) force body = gives shared_record (read force body)
+given_on (string_line read) force body = gives string_record (read force body)
+given_on (formula_line read) force body = gives (λ f. formula_record f.0 f.1 f.2) (read force body)
+given_on (regions_line read) force body = gives regions_record (read force body)
+
+abbrev pub label_line : Line
+label_line = cell_line (λ force body. label_at force.page force.version body)
 
 -- one line a type
-abbrev pub sheet_table : List (ℕ × Reads)
+abbrev pub sheet_table : List (ℕ × Line)
 sheet_table =
-    (types.NUMBER, λ force body. gives cell_record (number_at force.classes force.is_1904 body))
-    ∷ (types.DIMENSIONS, λ force body. gives (λ d. empty_record) (dimensions_at body))
-    ∷ (types.LABEL, cell_of_label)
-    ∷ (types.R_STRING, cell_of_label)
-    ∷ (types.BOOL_ERR, λ force body. gives cell_record (bool_err_at body))
-    ∷ (types.STRING, λ force body. gives string_record (string_at force.page force.version body))
-    ∷ (types.RK, λ force body. gives cell_record (rk_at force.classes force.is_1904 body))
-    ∷ (types.LABEL_SST, λ force body. gives shared_record (label_sst_at force.strings body))
-    ∷ (types.MUL_RK, λ force body. gives cells_record (mul_rk_at force.classes force.is_1904 body))
-    ∷ (types.MERGE_CELLS, λ force body. gives regions_record (merges_at body))
-    ∷ (types.FORMULA, λ force body. gives (λ f. formula_record f.0 f.1 f.2) (formula_at force.classes force.is_1904 body))
+    (types.NUMBER, cell_line (λ force body. number_at force.classes force.is_1904 body))
+    ∷ (types.DIMENSIONS, bounds_line (λ force body. dimensions_at body))
+    ∷ (types.LABEL, label_line)
+    ∷ (types.R_STRING, label_line)
+    ∷ (types.BOOL_ERR, cell_line (λ force body. bool_err_at body))
+    ∷ (types.STRING, string_line (λ force body. string_at force.page force.version body))
+    ∷ (types.RK, cell_line (λ force body. rk_at force.classes force.is_1904 body))
+    ∷ (types.LABEL_SST, shared_line (λ force body. label_sst_at force.strings body))
+    ∷ (types.MUL_RK, cells_line (λ force body. mul_rk_at force.classes force.is_1904 body))
+    ∷ (types.MERGE_CELLS, regions_line (λ force body. merges_at body))
+    ∷ (types.FORMULA, formula_line (λ force body. formula_at force.classes force.is_1904 body))
     ∷ []
 
--- a record of a type that has no line gives nothing, whatever its body
-abbrev pub no_line : Reads
-no_line force body = Ok empty_record
-
 -- the line of a type
-abbrev pub line_of : List (ℕ × Reads) → ℕ → Reads
-line_of [] typ = no_line
+abbrev pub line_of : List (ℕ × Line) → ℕ → Line
+line_of [] typ = other_line
 line_of (line ∷ lines) typ = if typ == line.0 then line.1 else line_of lines typ
 
 abbrev pub sheet_record_at : CellContext → ℕ → List ℕ → Result SheetRecord XlsError
-sheet_record_at force typ body = line_of sheet_table typ force body
+sheet_record_at force typ body = given_on (line_of sheet_table typ) force body
 
 -- how many cells a record weighs; a Formula and a LabelSst count as one even where they give none
 abbrev pub weight_of : SheetRecord → ℕ

@@ -6,6 +6,7 @@ ghost use Rattle.xls_biff.specs.SheetReading.{HasItems, stands_for};
 ghost use Rattle.xls_biff.specs.SheetTable.{CellContext, sheet_record_at, weight_of, weight_of_type, formula_position};
 ghost use Rattle.xls_biff.specs.SheetTable as table;
 ghost use Rattle.xls_biff.specs.Records.Rk.{mul_rk_count};
+ghost use Rattle.xls_stream.specs.Substreams.{is_among, sheet_types};
 ghost use Rattle.xls_stream.specs.declared.types.TheConstants as types;
 
 use crate::records::bool_err::{Bes, read_bool_err};
@@ -17,13 +18,33 @@ use crate::records::merge_cells::count_merges;
 use crate::records::number::{NumberCell, read_number};
 use crate::records::rk::{RkCell, count_mul_rk, read_rk, weight_of_mul_rk};
 use crate::records::string::read_string;
-use crate::substream::is_sheet_type;
 use xls_data::Dimensions;
 use xls_stream::types::{
     BOOL_ERR, DIMENSIONS, FORMULA, LABEL, LABEL_SST, MERGE_CELLS, MUL_RK, NUMBER, R_STRING, RK,
     STRING,
 };
 use xls_strings::{Biff, Record, XlsError};
+
+/// Whether a record is one of a sheet's, by its type.
+#[inline]
+pub(crate) fn is_sheet_type(typ: u16) -> bool
+    ensures { result ≡ is_among typ sheet_types }
+{
+    matches!(
+        typ,
+        NUMBER
+            | DIMENSIONS
+            | LABEL
+            | R_STRING
+            | BOOL_ERR
+            | STRING
+            | RK
+            | LABEL_SST
+            | MUL_RK
+            | MERGE_CELLS
+            | FORMULA
+    )
+}
 
 /// A record of a sheet that has no fault, as far as it can be read without what is in force.
 #[derive(Clone, Copy)]

@@ -1,37 +1,13 @@
 //! The records of a sheet part outside nested substreams.
 
 ghost use Rattle.std.specs.Prelude.{◌≡◌, ◌+◌, ◌<◌, ◌≤◌, ◌^◌, length};
-ghost use Rattle.xls_stream.specs.Substreams.{is_among, sheet_types};
 ghost use Rattle.xls_biff.specs.Outer.{PlacedSteps};
 
+use crate::sheet_record::is_sheet_type;
 use crate::walk::RecordIter;
 use std::marker::Model;
-use xls_stream::types::{
-    BOF, BOOL_ERR, DIMENSIONS, EOF, FORMULA, LABEL, LABEL_SST, MERGE_CELLS, MUL_RK, NUMBER,
-    R_STRING, RK, STRING,
-};
+use xls_stream::types::{BOF, EOF};
 use xls_strings::{Record, XlsError};
-
-/// Whether records of this type are kept.
-#[inline]
-pub(crate) fn is_sheet_type(typ: u16) -> bool
-    ensures { result ≡ is_among typ sheet_types }
-{
-    matches!(
-        typ,
-        NUMBER
-            | DIMENSIONS
-            | LABEL
-            | R_STRING
-            | BOOL_ERR
-            | STRING
-            | RK
-            | LABEL_SST
-            | MUL_RK
-            | MERGE_CELLS
-            | FORMULA
-    )
-}
 
 /// The next record of a sheet's types outside nested substreams, where so many BOF records are open, and
 /// the bytes from its header on.

@@ -39,7 +39,8 @@ use Rattle.xls_biff.specs.Records.MergeCells.{merge_count, merges_at}
 use Rattle.xls_biff.specs.Records.Number.{number_at}
 use Rattle.xls_biff.specs.Records.Rk.{rk_at, mul_rk_count, mul_rk_at, first_column, last_column}
 use Rattle.xls_biff.specs.Records.Xf.{xf_at}
-use Rattle.xls_biff.specs.SheetTable.{CellContext, Reads, sheet_table}
+use Rattle.xls_biff.specs.SheetTable.{CellContext, given_on, sheet_table}
+use Rattle.xls_biff.specs.SheetTable as biff
 use Rattle.xls_biff.proofs.TableLemmas.{◌&◌, every_type}
 use Rattle.xls_formula.specs.Fields.{word_at, sized_as}
 use Rattle.xls_formula.specs.PtgStr.{no_cch_at}
@@ -279,8 +280,8 @@ formula_clear cs b body =
     (when (le (take 2 (drop 6 bs)) == 65535) _ _ (special_clear (slice_index bs 0) (slice_index bs 2)) tt) (λ value. tt))
 
 -- every record of a type is clear
-abbrev AreClear : ℕ → Reads → Type 0
-AreClear typ reads = (f : CellContext) (b : List ℕ) → Clear (reads f b)
+abbrev AreClear : ℕ → biff.Line → Type 0
+AreClear typ line = (f : CellContext) (b : List ℕ) → Clear (given_on line f b)
 
 line_clear : (f : CellContext) (k : Kept) → Clear (kept_line f k)
 line_clear f k =

@@ -18,6 +18,7 @@ pub enum Bes {
 }
 
 /// A truth value, or the error value of a code.
+#[inline(always)]
 fn bes_of(byte: u8, is_error: u8) -> Result<Bes, XlsError>
     ensures { Exactly bes_value result (bes_content byte is_error) }
 {

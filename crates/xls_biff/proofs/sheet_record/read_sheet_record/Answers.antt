@@ -1,4 +1,4 @@
-use Rattle.std.proofs.Common.{Ok, Err, inl, inr}
+use Rattle.std.proofs.Common.{inl, inr}
 use Rattle.std.proofs.lemmas.Result.{err_from_is_err_and}
 use Rattle.xls_strings.specs.Strings.{string_at}
 use Rattle.xls_biff.specs.Records.Formula.{formula_at}
