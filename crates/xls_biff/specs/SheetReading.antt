@@ -1,6 +1,7 @@
 -- What a record of a sheet that was read without what is in force stands for.
-use Rattle.std.specs.Prelude.{◌≡◌, ℕ, ◌+◌, ◌*◌, ◌≤◌, ◌^◌, map, length}
+use Rattle.std.specs.Prelude.{◌≡◌, ◌≢◌, ℕ, ◌+◌, ◌*◌, ◌≤◌, ◌^◌, List, map, length}
 use Rattle.std.specs.List.{range_with_len}
+use Rattle.xls_stream.specs.declared.types.TheConstants as types
 use Rattle.xls_strings.specs.Strings.{string_at}
 use Rattle.xls_biff.specs.Cells.{characters_in}
 use Rattle.xls_biff.specs.Records.BoolErr.{bes_entry}
@@ -30,8 +31,11 @@ stands_for force (variant.Formula f) =
 stands_for force (variant.MergeCells body count) = regions_record (map (region_at body.now) (range_with_len 0 count))
 stands_for force (variant.Dimensions d) = empty_record
 
--- a body that is kept has all of its items
-abbrev pub HasItems : read.SheetRecord → Type 0
-HasItems (variant.MulRk body count) = (length body.now ≡ 6 + 6 * count) × (count ≤ 2 ^ 16)
-HasItems (variant.MergeCells body count) = 2 + 8 * count ≤ length body.now
-HasItems _ = Unit {0}
+-- of a record of this type and body: a MulRk and a MergeCells have the body, with all of its items, and
+-- no other record has their types
+abbrev pub HasItems : ℕ → List ℕ → read.SheetRecord → Type 0
+HasItems typ body (variant.MulRk kept count) =
+    (typ ≡ types.MUL_RK) × (kept.now ≡ body) × (length body ≡ 6 + 6 * count) × (count ≤ 2 ^ 16)
+HasItems typ body (variant.MergeCells kept count) =
+    (typ ≡ types.MERGE_CELLS) × (kept.now ≡ body) × (2 + 8 * count ≤ length body)
+HasItems typ body _ = (typ ≢ types.MUL_RK) × (typ ≢ types.MERGE_CELLS)

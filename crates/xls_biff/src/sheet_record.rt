@@ -95,7 +95,7 @@ impl SheetRecord<'_> {
 pub fn read_sheet_record<'a>(r: &Record<'a>, biff: Biff) -> Result<SheetRecord<'a>, XlsError>
     ensures exact { (force : CellContext) → force.version ≡ biff →
         Exactly (stands_for force) result (sheet_record_at force r.now.typ r.now.body.now) }
-    ensures items { IfOk result HasItems }
+    ensures items { IfOk result (HasItems r.now.typ r.now.body.now) }
 {
     match r.typ {
         NUMBER => Ok(SheetRecord::Number(read_number(r.body)?)),

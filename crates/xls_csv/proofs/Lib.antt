@@ -5,5 +5,6 @@ pub mod WalkLemmas
 pub mod DenseLemmas
 pub mod BoxLemmas
 pub mod LineLemmas
+pub mod BareLemmas
 pub mod RowLemmas
 pub mod StandardFacts

@@ -32,7 +32,7 @@ fn lent(value: &Data) -> DataRef<'_>
 }
 
 /// The serial day of a value that is shown as a date, and whether days count from 1904.
-pub(crate) fn shown_day(value: &DataRef<'_>) -> Option<(u64, bool)>
+fn shown_day(value: &DataRef<'_>) -> Option<(u64, bool)>
     ensures { IsShownDay value.now result }
 {
     match value {
@@ -64,7 +64,7 @@ fn push_day(day: u64, is_1904: bool, text: &mut String) -> Result<(), AllocError
 }
 
 /// Appends what a value prints.
-pub(crate) fn push_printed(value: &DataRef<'_>, text: &mut String) -> Result<(), AllocError>
+fn push_printed(value: &DataRef<'_>, text: &mut String) -> Result<(), AllocError>
     ensures { OnOk result (string_bytes text.new ≡ string_bytes text.old ++ ref_text value.now) }
 {
     write!(text, "{value}")?;

@@ -1,17 +1,17 @@
 //! The rows that are gathered before they are written.
 
-ghost use Rattle.std.specs.Prelude.{◌≡◌, ◌++◌, ◌==◌, [], length, IfOk, OnOk};
+ghost use Rattle.std.specs.Prelude.{◌≡◌, ◌++◌, ◌==◌, [], length, encode_utf8_all, IfOk, OnOk};
 ghost use Rattle.csv.specs.Writing.{default_writer, field_text, next_sep};
 ghost use Rattle.xls_lines.specs.Gathering.{Puts};
-ghost use Rattle.xls_cursors.specs.Values.{value_content};
+ghost use Rattle.xls_cursors.specs.Values.{text_in, value_content};
 ghost use Rattle.xls_csv.specs.Fields.{field};
 ghost use Rattle.xls_csv.specs.Walk.{value_in};
 ghost use Rattle.xls_csv.specs.Steps.{placed, row_end};
 
-use crate::line::{push_int, push_text, push_value};
+use crate::line::{push_error, push_text, push_truth};
+use crate::numbers::push_number;
 use std::alloc::{AllocError, Global};
 use std::marker::Model;
-use xls_data::{Number, Numeric};
 use xls_lines::{Sink, Stop, write_all};
 use xls_view::{CellValue, TextBuffer};
 
@@ -24,7 +24,7 @@ pub(crate) struct Gathered {
     bytes: Vec<u8>,
     /// Memory for a text that stands in a record.
     text: TextBuffer,
-    /// A value that has to be printed before it is known whether it calls for quotes.
+    /// An error value that is printed.
     printed: String,
 }
 
@@ -80,13 +80,14 @@ impl Gathered {
         Ok(())
     }
 
-    /// Appends the field of a cell's value that isn't a text of the string table.
+    /// Appends the field of a text that stands in a record.
     #[inline(never)]
-    fn push_other(&mut self, value: CellValue<'_>) -> Result<(), AllocError>
-        ensures { OnOk result (self.new ≡ self.old ++ field_text default_writer (field (value_content value.entry))) }
+    fn push_encoded(&mut self, value: CellValue<'_>) -> Result<(), AllocError>
+        ensures { OnOk result (self.new
+            ≡ self.old ++ field_text default_writer (encode_utf8_all (text_in (value_content value.entry)))) }
     {
-        match self.text.value_of(value) {
-            Ok(value) => push_value(&mut self.bytes, &mut self.printed, &value),
+        match self.text.text_of(&value) {
+            Ok(text) => push_text(&mut self.bytes, text),
             Err(error) => Err(error),
         }
     }
@@ -97,10 +98,12 @@ impl Gathered {
         ensures { OnOk result (self.new ≡ self.old ++ field_text default_writer (field (value_content value.entry))) }
     {
         match value {
+            CellValue::Number(number) => push_number(&mut self.bytes, number),
             CellValue::Shared(text) => push_text(&mut self.bytes, text),
-            CellValue::Number(Numeric::Int(n)) => push_int(&mut self.bytes, n),
-            CellValue::Number(Numeric::Float(Number::Whole(n))) => push_int(&mut self.bytes, n),
-            _ => self.push_other(value),
+            CellValue::Encoded(_) => self.push_encoded(value),
+            CellValue::Bool(truth) => push_truth(&mut self.bytes, truth),
+            CellValue::Error(error) => push_error(&mut self.bytes, &mut self.printed, error),
+            CellValue::Empty => Ok(()),
         }
     }
 

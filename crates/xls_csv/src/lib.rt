@@ -9,6 +9,7 @@ mod fields;
 mod gathered;
 mod laws;
 mod line;
+mod numbers;
 mod record;
 mod rows;
 

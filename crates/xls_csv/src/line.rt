@@ -1,16 +1,13 @@
 //! A field of a row of CSV, between quotes where it calls for them.
 
-ghost use Rattle.std.specs.Prelude.{◌≡◌, ◌∷◌, ◌++◌, [], IfSome, OnOk};
-ghost use Rattle.std.specs.Fmt.{signed_decimal};
+ghost use Rattle.std.specs.Prelude.{◌≡◌, ◌∷◌, ◌++◌, [], false, OnOk};
 ghost use Rattle.std.specs.Str.{chars, encode_utf8_all};
 ghost use Rattle.csv.specs.Writing.{default_writer, escaped, field_text, needs_byte, needs_quotes, quoted};
-ghost use Rattle.xls_data.specs.Refs.{ref_content_of, ref_text};
-ghost use Rattle.xls_csv.specs.Fields.{field};
+ghost use Rattle.xls_data.specs.Data.{bool_text};
+ghost use Rattle.xls_data.specs.Errors.{error_text};
 
-use crate::dates::day_text;
-use crate::fields::{push_printed, shown_day};
 use std::alloc::AllocError;
-use xls_data::{DataRef, Number};
+use xls_data::CellErrorType;
 
 /// Whether a byte calls for quotes. Most bytes are above them all.
 #[inline(always)]
@@ -75,82 +72,33 @@ pub(crate) fn push_text(bytes: &mut Vec<u8>, text: &str) -> Result<(), AllocErro
     push_field(bytes, text.as_bytes())
 }
 
-/// Appends the field of a whole number, which has no quotes.
-pub(crate) fn push_int(bytes: &mut Vec<u8>, n: i64) -> Result<(), AllocError>
-    ensures { OnOk result (bytes.new.items ≡ bytes.old.items ++ field_text default_writer (signed_decimal n)) }
+/// Appends a field that calls for no quotes.
+fn push_bare(bytes: &mut Vec<u8>, text: &[u8]) -> Result<(), AllocError>
+    requires { needs_quotes default_writer text.now ≡ false }
+    ensures { OnOk result (bytes.new.items ≡ bytes.old.items ++ field_text default_writer text.now) }
 {
-    let mut digits = itoa::Buffer::new();
-    push_field(bytes, digits.format(n).as_bytes())
+    bytes.extend_from_slice(text)
 }
 
-/// The whole number that a value is, if it is one as it stands.
-fn whole_in(value: &DataRef<'_>) -> Option<i64>
-    ensures { IfSome result (λ n. field (ref_content_of value.now) ≡ signed_decimal n) }
+/// Appends the field of a truth value.
+pub(crate) fn push_truth(bytes: &mut Vec<u8>, truth: bool) -> Result<(), AllocError>
+    ensures { OnOk result (bytes.new.items ≡ bytes.old.items ++ field_text default_writer (bool_text truth)) }
 {
-    match value {
-        DataRef::Int(n) => Some(*n),
-        DataRef::Float(Number::Whole(n)) => Some(*n),
-        _ => None,
+    if truth {
+        return push_bare(bytes, b"true");
     }
+    push_bare(bytes, b"false")
 }
 
-/// Appends the field of a value that is printed first.
-fn print_field(
+/// Appends the field of an error value, which is printed in `room` first.
+pub(crate) fn push_error(
     bytes: &mut Vec<u8>,
-    printed: &mut String,
-    value: &DataRef<'_>,
+    room: &mut String,
+    error: CellErrorType,
 ) -> Result<(), AllocError>
-    ensures { OnOk result (bytes.new.items ≡ bytes.old.items ++ field_text default_writer (ref_text value.now)) }
+    ensures { OnOk result (bytes.new.items ≡ bytes.old.items ++ field_text default_writer (error_text error)) }
 {
-    printed.clear();
-    push_printed(value, printed)?;
-    push_field(bytes, printed.as_bytes())
-}
-
-/// Appends the field of a value that isn't a text.
-fn push_other(
-    bytes: &mut Vec<u8>,
-    printed: &mut String,
-    value: &DataRef<'_>,
-) -> Result<(), AllocError>
-    requires { field (ref_content_of value.now) ≡ ref_text value.now }
-    ensures { OnOk result (bytes.new.items
-        ≡ bytes.old.items ++ field_text default_writer (field (ref_content_of value.now))) }
-{
-    match whole_in(value) {
-        Some(n) => push_int(bytes, n),
-        None => print_field(bytes, printed, value),
-    }
-}
-
-/// Appends the field of a value that isn't shown as a date.
-fn push_plain(
-    bytes: &mut Vec<u8>,
-    printed: &mut String,
-    value: &DataRef<'_>,
-) -> Result<(), AllocError>
-    requires { field (ref_content_of value.now) ≡ ref_text value.now }
-    ensures { OnOk result (bytes.new.items
-        ≡ bytes.old.items ++ field_text default_writer (field (ref_content_of value.now))) }
-{
-    match value {
-        DataRef::String(text) => push_field(bytes, text.as_bytes()),
-        DataRef::SharedString(text) => push_field(bytes, text.as_bytes()),
-        _ => push_other(bytes, printed, value),
-    }
-}
-
-/// Appends the field of a value.
-pub(crate) fn push_value(
-    bytes: &mut Vec<u8>,
-    printed: &mut String,
-    value: &DataRef<'_>,
-) -> Result<(), AllocError>
-    ensures { OnOk result (bytes.new.items
-        ≡ bytes.old.items ++ field_text default_writer (field (ref_content_of value.now))) }
-{
-    match shown_day(value) {
-        Some((day, is_1904)) => push_field(bytes, &day_text(day, is_1904)),
-        None => push_plain(bytes, printed, value),
-    }
+    room.clear();
+    write!(room, "{error}")?;
+    push_bare(bytes, room.as_bytes())
 }

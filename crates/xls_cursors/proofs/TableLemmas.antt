@@ -1,24 +1,19 @@
 -- Formulas and regions by the table of a sheet's records.
-use Rattle.std.proofs.Common.{◌≡◌, ℕ, List, [], ◌∷◌, take, drop, refl, sym, ◌∙◌, Bool, true, false, Option, Some, None, Result, Ok, Err, arith}
-use Rattle.std.specs.Prelude.{◌==◌, ◌||◌, if◌then◌else◌, slice_index}
+use Rattle.std.proofs.Common.{◌≡◌, ℕ, List, [], take, drop, refl, sym, ◌∙◌, Bool, true, false, Option, Some, None, Result, Ok, Err, arith}
+use Rattle.std.specs.Prelude.{◌==◌, if◌then◌else◌, slice_index}
 use Rattle.xls_bytes.specs.Numbers.{le}
 use Rattle.xls_stream.specs.Listing.{Kept}
 use Rattle.xls_stream.specs.declared.part.Part.TheVariants as parts
+use Rattle.xls_stream.specs.declared.types.TheConstants as types
 use Rattle.xls_data.specs.Content.{Content}
 use Rattle.xls_dates.specs.declared.formats.CellFormat.{CellFormat}
 use Rattle.xls_record.specs.Reading.{◌>>=◌, ◌>>◌, at_least, gives}
-use Rattle.xls_strings.specs.Strings.{string_at}
 use Rattle.xls_record.specs.declared.error.XlsError.{XlsError}
 use Rattle.xls_biff.specs.Cells.{Position, class_at, position_at}
-use Rattle.xls_biff.specs.Records.BoolErr.{bool_err_at}
-use Rattle.xls_biff.specs.Records.Dimensions.{dimensions_at}
 use Rattle.xls_biff.specs.Records.Formula.{formula_value_at, formula_at, special_value}
-use Rattle.xls_biff.specs.Records.Label.{label_at}
-use Rattle.xls_biff.specs.Records.LabelSst.{label_sst_at}
 use Rattle.xls_biff.specs.Records.MergeCells.{merges_at}
-use Rattle.xls_biff.specs.Records.Number.{number_at}
-use Rattle.xls_biff.specs.Records.Rk.{mul_rk_at, rk_at}
-use Rattle.xls_biff.specs.SheetTable.{CellContext, SheetRecord, cells_record, shared_record, string_record, formula_record, regions_record, empty_record, sheet_record_at}
+use Rattle.xls_biff.specs.SheetTable.{CellContext, SheetRecord, formula_record, regions_record, sheet_record_at}
+use Rattle.xls_biff.proofs.TableLemmas.{each_kind}
 use Rattle.xls_cursors.specs.Formulas.{formula_in, formula_of, formula_given}
 use Rattle.xls_cursors.specs.Contents.{regions_in, regions_at}
 use Rattle.xls_data.specs.declared.regions.Dimensions.{Dimensions}
@@ -52,26 +47,11 @@ in_given : (r : Result (Position × Option Content × List ℕ) XlsError) → fo
 in_given (Ok f) = refl
 in_given (Err e) = refl
 
-choice : (t : Bool) (a b : Result SheetRecord XlsError) → formula_given a ≡ None → formula_given b ≡ None → formula_given (if t then a else b) ≡ None
-choice true a b h k = h
-choice false a b h k = k
-
-none : {X : Type 0} (g : X → SheetRecord) → ((x : X) → formula_given (Ok (g x)) ≡ None) → (r : Result X XlsError) → formula_given (gives g r) ≡ None
-none g h (Ok x) = h x
-none g h (Err e) = refl
-
 -- a record of another type is no formula
-other : (s : CellContext) (typ : ℕ) (body : List ℕ) → (typ == 6) ≡ false → formula_given (sheet_record_at s typ body) ≡ None
+other : (s : CellContext) (typ : ℕ) (body : List ℕ) → (typ == types.FORMULA) ≡ false → formula_given (sheet_record_at s typ body) ≡ None
 other s typ body f =
-    choice (typ == 515) _ _ (none (λ c. cells_record (c ∷ [])) (λ c. refl) (number_at s.classes s.is_1904 body))
-    (choice (typ == 638) _ _ (none (λ c. cells_record (c ∷ [])) (λ c. refl) (rk_at s.classes s.is_1904 body))
-    (choice (typ == 189) _ _ (none cells_record (λ cs. refl) (mul_rk_at s.classes s.is_1904 body))
-    (choice (typ == 517) _ _ (none (λ c. cells_record (c ∷ [])) (λ c. refl) (bool_err_at body))
-    (choice (typ == 516 || typ == 214) _ _ (none (λ c. cells_record (c ∷ [])) (λ c. refl) (label_at s.page s.version body))
-    (choice (typ == 253) _ _ (none shared_record (λ c. refl) (label_sst_at s.strings body))
-    (choice (typ == 519) _ _ (none string_record (λ cs. refl) (string_at s.page s.version body))
-    (rw f (choice (typ == 229) _ _ (none regions_record (λ rs. refl) (merges_at body))
-    (choice (typ == 512) _ _ (none (λ d. empty_record) (λ d. refl) (dimensions_at body)) refl)))))))))
+    each_kind (λ r. formula_given r ≡ None) (λ e. refl) refl (λ cs. refl) (λ c. refl) (λ cs. refl) typ
+    (λ is at value tokens. absurd (let same : (types.FORMULA == types.FORMULA) ≡ false = rw is at f in cc)) (λ is rs. refl) s body
 
 by_type : (s : CellContext) (typ : ℕ) (body : List ℕ) (t : Bool) → (typ == 6) ≡ t
     → (if t then formula_in (formula_at [] false body) else None) ≡ formula_given (sheet_record_at s typ body)
@@ -93,26 +73,11 @@ in_regions : (r : Result (List Dimensions) XlsError) → regions_in r ≡ region
 in_regions (Ok rs) = refl
 in_regions (Err e) = refl
 
-pass : (t : Bool) (a b : Result SheetRecord XlsError) → regions_given a ≡ [] → regions_given b ≡ [] → regions_given (if t then a else b) ≡ []
-pass true a b h k = h
-pass false a b h k = k
-
-no_region : {X : Type 0} (g : X → SheetRecord) → ((x : X) → regions_given (Ok (g x)) ≡ []) → (r : Result X XlsError) → regions_given (gives g r) ≡ []
-no_region g h (Ok x) = h x
-no_region g h (Err e) = refl
-
 -- a record of another type has no region
-no_merge : (s : CellContext) (typ : ℕ) (body : List ℕ) → (typ == 229) ≡ false → regions_given (sheet_record_at s typ body) ≡ []
+no_merge : (s : CellContext) (typ : ℕ) (body : List ℕ) → (typ == types.MERGE_CELLS) ≡ false → regions_given (sheet_record_at s typ body) ≡ []
 no_merge s typ body f =
-    pass (typ == 515) _ _ (no_region (λ c. cells_record (c ∷ [])) (λ c. refl) (number_at s.classes s.is_1904 body))
-    (pass (typ == 638) _ _ (no_region (λ c. cells_record (c ∷ [])) (λ c. refl) (rk_at s.classes s.is_1904 body))
-    (pass (typ == 189) _ _ (no_region cells_record (λ cs. refl) (mul_rk_at s.classes s.is_1904 body))
-    (pass (typ == 517) _ _ (no_region (λ c. cells_record (c ∷ [])) (λ c. refl) (bool_err_at body))
-    (pass (typ == 516 || typ == 214) _ _ (no_region (λ c. cells_record (c ∷ [])) (λ c. refl) (label_at s.page s.version body))
-    (pass (typ == 253) _ _ (no_region shared_record (λ c. refl) (label_sst_at s.strings body))
-    (pass (typ == 519) _ _ (no_region string_record (λ cs. refl) (string_at s.page s.version body))
-    (pass (typ == 6) _ _ (no_region (λ x. formula_record x.0 x.1 x.2) (λ x. refl) (formula_at s.classes s.is_1904 body))
-    (rw f (pass (typ == 512) _ _ (no_region (λ d. empty_record) (λ d. refl) (dimensions_at body)) refl)))))))))
+    each_kind (λ r. regions_given r ≡ []) (λ e. refl) refl (λ cs. refl) (λ c. refl) (λ cs. refl) typ (λ is at value tokens. refl)
+    (λ is rs. absurd (let same : (types.MERGE_CELLS == types.MERGE_CELLS) ≡ false = rw is at f in cc)) s body
 
 by_merge : (s : CellContext) (typ : ℕ) (body : List ℕ) (t : Bool) → (typ == 229) ≡ t
     → (if t then regions_in (merges_at body) else []) ≡ regions_given (sheet_record_at s typ body)

@@ -1,5 +1,5 @@
 -- What a walk finds of positions, and what is read at a place, for the proofs.
-use Rattle.std.specs.Prelude.{◌≡◌, ℕ, ◌<◌, ◌+◌, ◌*◌, ◌^◌, List, [], ◌++◌, ◌∷◌, ◌-◌, Option, Some, None}
+use Rattle.std.specs.Prelude.{◌≡◌, ℕ, ◌<◌, ◌+◌, ◌*◌, ◌^◌, List, [], ◌++◌, ◌∷◌, Option, Some, None}
 use Rattle.xls_range.specs.Positions.{Position, IsAscending}
 use Rattle.xls_cursors.specs.declared.ascent.Ascent.{Ascent}
 use Rattle.xls_stream.specs.Listing.{Kept, kept_group}

@@ -1,20 +1,14 @@
 -- What a cell holds that is lent from a stream.
-use Rattle.std.specs.Prelude.{ℕ, List, [], Result, Ok, Err}
+use Rattle.std.specs.Prelude.{ℕ, List, []}
 use Rattle.std.specs.Str.{chars}
 use Rattle.xls_data.specs.Content.{Content, text, truth, failure, nothing}
 use Rattle.xls_data.specs.Numeric.{numeric_content}
-use Rattle.xls_record.specs.declared.error.XlsError.{XlsError}
 use Rattle.xls_strings.specs.Strings.{string_at}
-use Rattle.xls_biff.specs.Cells.{Entry}
+use Rattle.xls_biff.specs.Cells.{Entry, characters_in}
 use Rattle.xls_cursors.specs.declared.value.CellValue.{CellValue}
 use Rattle.xls_cursors.specs.declared.value.CellValue.TheVariants as variant
 use Rattle.xls_cursors.specs.declared.value.EncodedText.{EncodedText}
 use Rattle.xls_cursors.specs.declared.value.SheetCell.{SheetCell}
-
--- the characters of a string, and none of one with a fault
-abbrev pub characters_in : Result (List ℕ) XlsError → List ℕ
-characters_in (Ok cs) = cs
-characters_in (Err e) = []
 
 -- the characters of a string that isn't decoded
 abbrev pub encoded_text : EncodedText → List ℕ

@@ -4,6 +4,9 @@ use Rattle.std.specs.List.{AllByRecursion}
 use Rattle.xls_stream.specs.Walks.{IsBytes}
 use Rattle.xls_data.specs.declared.regions.Dimensions.{Dimensions}
 use Rattle.xls_biff.specs.Cells.{Entry}
+use Rattle.xls_biff.specs.SheetReading.{HasItems}
+use Rattle.xls_biff.specs.declared.sheet_record.SheetRecord.{SheetRecord}
+use Rattle.xls_biff.specs.declared.sheet_record.SheetRecord.TheVariants as variant
 use Rattle.xls_formula.specs.Context.{Context}
 use Rattle.xls_meaning.specs.InForce.{InForce}
 use Rattle.xls_cursors.specs.Contents.{IsReadable, kept_in, regions_of}
@@ -58,3 +61,14 @@ PassesRegions before None after =
     (regions_of (kept_in before.0 before.1) ≡ []) × (regions_of (kept_in after.0 after.1) ≡ [])
 PassesRegions before (Some x) after =
     regions_of (kept_in before.0 before.1) ≡ x.0 ∷ x.1 ++ regions_of (kept_in after.0 after.1)
+
+-- ---- a record
+
+-- the body of a MulRk, and how many cells it has
+abbrev pub run_of : SheetRecord → Option (List ℕ × ℕ)
+run_of (variant.MulRk body count) = Some (body.now, count)
+run_of _ = None
+
+-- it was read from some record
+abbrev pub IsRead : SheetRecord → Type 0
+IsRead x = (typ : ℕ) × (body : List ℕ) × HasItems typ body x

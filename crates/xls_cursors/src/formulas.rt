@@ -165,7 +165,7 @@ pub(crate) fn formula_of<'c>(r: &Record<'c>) -> Option<FormulaCell<'c>>
     if r.typ != FORMULA {
         return None;
     }
-    match read_formula(r.body, &[], false) {
+    match read_formula(r.body) {
         Ok(formula) => {
             let (row, column) = formula.position;
             Some(FormulaCell {

@@ -1,75 +1,29 @@
 //! The cells of a record.
 
-ghost use Rattle.std.specs.Prelude.{◌≡◌, ◌≢◌, [], ℕ, List, Option, Some, Ok};
-ghost use Rattle.xls_stream.specs.declared.types.TheConstants as types;
+ghost use Rattle.std.specs.Prelude.{◌≡◌, ◌≢◌, [], ℕ, List, Option, Some, None, Ok, slice_get};
 ghost use Rattle.std.specs.Option.{option_map};
-ghost use Rattle.xls_biff.specs.Cells.{Entry, Position};
-ghost use Rattle.xls_biff.specs.Records.BoolErr.{bool_err_at};
-ghost use Rattle.xls_biff.specs.Records.Formula.{formula_at};
-ghost use Rattle.xls_biff.specs.Records.Label.{label_at};
-ghost use Rattle.xls_biff.specs.Records.LabelSst.{label_sst_at};
-ghost use Rattle.xls_biff.specs.Records.Number.{number_at};
-ghost use Rattle.xls_biff.specs.Records.Rk.{rk_at};
-ghost use Rattle.xls_biff.specs.SheetTable.{SheetRecord};
-ghost use Rattle.xls_biff.specs.Walking.{group_of};
-ghost use Rattle.xls_data.specs.Content.{Content, text};
 ghost use Rattle.xls_stream.specs.Listing.{kept_group};
-ghost use Rattle.xls_meaning.specs.SheetTable.{adds, kept_line, listed_cell, listed_value};
-ghost use Rattle.xls_strings.specs.Strings.{string_at};
+ghost use Rattle.xls_stream.specs.declared.types.TheConstants as types;
+ghost use Rattle.xls_biff.specs.Cells.{Entry};
 ghost use Rattle.xls_biff.specs.Records.Formula.{value_content};
+ghost use Rattle.xls_biff.specs.Records.Label.{label_entry};
+ghost use Rattle.xls_biff.specs.Records.LabelSst.{shared_entry};
+ghost use Rattle.xls_biff.specs.SheetReading.{stands_for};
+ghost use Rattle.xls_biff.specs.SheetTable as table;
+ghost use Rattle.xls_biff.specs.Walking.{group_of};
+ghost use Rattle.xls_meaning.specs.SheetTable.{adds, kept_line, listed_cell, listed_value};
 ghost use Rattle.xls_cursors.specs.Values.{cell_entry, value_content as seen_content};
-ghost use Rattle.xls_cursors.specs.Walking.{CellSteps};
+ghost use Rattle.xls_cursors.specs.Walking.{CellSteps, run_of};
 
 use crate::run::Run;
 use crate::value::{CellValue, EncodedText, SheetCell, bes_cell, cell_at, number_cell};
-use xls_biff::{
-    FormulaParts, FormulaValue, Record, find_label_sst, read_bool_err, read_formula, read_number,
-    read_rk, split_label,
-};
+use xls_biff::{FormulaParts, FormulaValue, Record, SheetRecord, read_sheet_record, value_of_bits};
 use xls_open::InForce;
-use xls_stream::types::{
-    BOOL_ERR, FORMULA, LABEL, LABEL_SST, MUL_RK, NUMBER, R_STRING, RK, STRING,
-};
-
-// The cell of a record without a fault, by its type.
-
-#[inline]
-fn number<'c>(body: &'c [u8], force: &InForce<'c>) -> Option<SheetCell<'c>>
-    ensures { (e : Entry) → number_at force.now.cells.classes force.now.cells.is_1904 body.now ≡ Ok e
-        → option_map cell_entry result ≡ Some e }
-{
-    match read_number(body, force.classes, force.is_1904) {
-        Ok(cell) => Some(number_cell(cell)),
-        Err(_) => None,
-    }
-}
-
-#[inline]
-fn rk<'c>(body: &'c [u8], force: &InForce<'c>) -> Option<SheetCell<'c>>
-    ensures { (e : Entry) → rk_at force.now.cells.classes force.now.cells.is_1904 body.now ≡ Ok e
-        → option_map cell_entry result ≡ Some e }
-{
-    match read_rk(body, force.classes, force.is_1904) {
-        Ok(cell) => Some(number_cell(cell)),
-        Err(_) => None,
-    }
-}
-
-#[inline]
-fn bool_err<'c>(body: &'c [u8]) -> Option<SheetCell<'c>>
-    ensures { (e : Entry) → bool_err_at body.now ≡ Ok e → option_map cell_entry result ≡ Some e }
-{
-    match read_bool_err(body) {
-        Ok(cell) => Some(bes_cell(cell)),
-        Err(_) => None,
-    }
-}
 
 /// A cell with a text that stands in its record.
-#[inline]
+#[inline(always)]
 fn encoded<'c>(position: (u32, u32), string: &'c [u8], force: &InForce<'c>) -> SheetCell<'c>
-    ensures { (cs : List ℕ) → string_at force.now.cells.page force.now.cells.version string.now ≡ Ok cs
-        → cell_entry result ≡ (position, text cs) }
+    ensures { cell_entry result ≡ label_entry force.now.cells.page force.now.cells.version (position, string.now) }
 {
     let text = EncodedText {
         string,
@@ -79,37 +33,27 @@ fn encoded<'c>(position: (u32, u32), string: &'c [u8], force: &InForce<'c>) -> S
     cell_at(position, CellValue::Encoded(text))
 }
 
-#[inline]
-fn label<'c>(body: &'c [u8], force: &InForce<'c>) -> Option<SheetCell<'c>>
-    ensures { (e : Entry) → label_at force.now.cells.page force.now.cells.version body.now ≡ Ok e
-        → option_map cell_entry result ≡ Some e }
+/// A cell with a text of the table, if the table has it.
+#[inline(always)]
+fn shared<'c>(position: (u32, u32), index: u32, force: &InForce<'c>) -> Option<SheetCell<'c>>
+    ensures { option_map cell_entry result ≡ shared_entry force.now.cells.strings (position, index) }
 {
-    let (position, string) = match split_label(body) {
-        Ok(parts) => parts,
-        Err(_) => return None,
-    };
-    Some(encoded(position, string, force))
-}
-
-/// A LabelSst whose index is outside the table has no cell.
-#[inline]
-fn label_sst<'c>(body: &'c [u8], force: &InForce<'c>) -> Option<SheetCell<'c>>
-    ensures { (found : Option Entry) → label_sst_at force.now.cells.strings body.now ≡ Ok found
-        → option_map cell_entry result ≡ found }
-{
-    match find_label_sst(body, force.strings) {
-        Ok(Some((position, text))) => Some(cell_at(position, CellValue::Shared(text))),
-        Ok(None) => None,
-        Err(_) => None,
+    match force.strings.get(index as usize) {
+        Some(text) => Some(cell_at(position, CellValue::Shared(text))),
+        None => None,
     }
 }
 
 /// The value of a formula; none where it is the text of a String record.
-fn formula_value<'c>(value: FormulaValue) -> Option<CellValue<'c>>
-    ensures { option_map seen_content result ≡ value_content value }
+fn formula_value<'c>(value: FormulaValue, xf: u16, force: &InForce<'c>) -> Option<CellValue<'c>>
+    ensures { option_map seen_content result
+        ≡ value_content (slice_get force.now.cells.classes xf) force.now.cells.is_1904 value }
 {
     match value {
-        FormulaValue::Number(number) => Some(CellValue::Number(number)),
+        FormulaValue::Number(bits) => {
+            let number = value_of_bits(bits, xf, force.classes, force.is_1904);
+            Some(CellValue::Number(number))
+        }
         FormulaValue::Bool(truth) => Some(CellValue::Bool(truth)),
         FormulaValue::Error(error) => Some(CellValue::Error(error)),
         FormulaValue::EmptyText => Some(CellValue::Shared("")),
@@ -118,28 +62,60 @@ fn formula_value<'c>(value: FormulaValue) -> Option<CellValue<'c>>
 }
 
 /// A formula whose value is the text of a String record has no cell.
-fn formula<'c>(body: &'c [u8], force: &InForce<'c>) -> Option<SheetCell<'c>>
-    ensures { (f : Position × Option Content × List ℕ)
-        → formula_at force.now.cells.classes force.now.cells.is_1904 body.now ≡ Ok f
-        → listed_cell (option_map cell_entry result) ≡ listed_value f.0 f.1 }
+fn formula<'c>(read: &FormulaParts<'c>, force: &InForce<'c>) -> Option<SheetCell<'c>>
+    ensures { listed_cell (option_map cell_entry result) ≡ listed_value read.now.position
+        (value_content (slice_get force.now.cells.classes read.now.xf) force.now.cells.is_1904 read.now.value) }
 {
-    let FormulaParts {
-        position,
-        value,
-        ..
-    } = match read_formula(body, force.classes, force.is_1904) {
-        Ok(read) => read,
-        Err(_) => return None,
-    };
-    match formula_value(value) {
-        Some(value) => Some(cell_at(position, value)),
+    match formula_value(read.value, read.xf, force) {
+        Some(value) => Some(cell_at(read.position, value)),
         None => None,
+    }
+}
+
+/// The body of a MulRk, and how many cells it has.
+#[inline(always)]
+pub(crate) fn run_of<'c>(read: &SheetRecord<'c>) -> Option<(&'c [u8], usize)>
+    ensures { option_map (λ x. (x.0.now, x.1)) result ≡ run_of read.now }
+{
+    match read {
+        SheetRecord::MulRk { body, count } => Some((*body, *count)),
+        _ => None,
+    }
+}
+
+/// The cell of a record that isn't a MulRk, if it has one, where the last Formula before it stands here.
+#[inline(always)]
+pub(crate) fn single_cell<'c>(
+    read: &SheetRecord<'c>,
+    at: (u32, u32),
+    force: &InForce<'c>,
+) -> Option<SheetCell<'c>>
+    ensures { run_of read.now ≡ None → listed_cell (option_map cell_entry result)
+        ≡ (adds force.now.formulas at (stands_for force.now.cells read.now)).cells }
+{
+    match read {
+        SheetRecord::Number(cell) => {
+            let value = cell.value(force.classes, force.is_1904);
+            Some(number_cell((cell.position, value)))
+        }
+        SheetRecord::Rk(cell) => {
+            let value = cell.value(force.classes, force.is_1904);
+            Some(number_cell((cell.position, value)))
+        }
+        SheetRecord::BoolErr { position, value } => Some(bes_cell((*position, *value))),
+        SheetRecord::Label { position, string } => Some(encoded(*position, string, force)),
+        SheetRecord::LabelSst { position, index } => shared(*position, *index, force),
+        SheetRecord::String(string) => Some(encoded(at, string, force)),
+        SheetRecord::Formula(read) => formula(read, force),
+        SheetRecord::MulRk { .. }
+        | SheetRecord::MergeCells { .. }
+        | SheetRecord::Dimensions(_)
+        | SheetRecord::Other => None,
     }
 }
 
 /// The cell of a record without a fault that isn't a MulRk, if it has one, where the last Formula before
 /// it stands here.
-#[tactic(auto, using(crate::proofs::RecordLemmas::no_cell))]
 #[inline(always)]
 pub(crate) fn cell_of<'c>(
     r: &Record<'c>,
@@ -147,18 +123,12 @@ pub(crate) fn cell_of<'c>(
     force: &InForce<'c>,
 ) -> Option<SheetCell<'c>>
     requires { r.now.typ ≢ types.MUL_RK }
-    ensures { (g : SheetRecord) → kept_line force.now.cells (kept_group (group_of r.now)) ≡ Ok g
+    ensures { (g : table.SheetRecord) → kept_line force.now.cells (kept_group (group_of r.now)) ≡ Ok g
         → listed_cell (option_map cell_entry result) ≡ (adds force.now.formulas at g).cells }
 {
-    match r.typ {
-        NUMBER => number(r.body, force),
-        RK => rk(r.body, force),
-        BOOL_ERR => bool_err(r.body),
-        LABEL | R_STRING => label(r.body, force),
-        LABEL_SST => label_sst(r.body, force),
-        STRING => Some(encoded(at, r.body, force)),
-        FORMULA => formula(r.body, force),
-        _ => None,
+    match read_sheet_record(r, force.version) {
+        Ok(read) => single_cell(&read, at, force),
+        Err(_) => None,
     }
 }
 
@@ -172,12 +142,18 @@ pub(crate) fn first_cell<'c>(
     force: &InForce<'c>,
 ) -> Option<SheetCell<'c>>
     requires { run.old ≡ [] }
-    ensures { (g : SheetRecord) → kept_line force.now.cells (kept_group (group_of r.now)) ≡ Ok g
+    ensures { (g : table.SheetRecord) → kept_line force.now.cells (kept_group (group_of r.now)) ≡ Ok g
         → CellSteps (adds force.now.formulas at g).cells result run.new }
 {
-    if r.typ != MUL_RK {
-        return cell_of(r, at, force);
+    let read = match read_sheet_record(r, force.version) {
+        Ok(read) => read,
+        Err(_) => return None,
+    };
+    match run_of(&read) {
+        Some((body, count)) => {
+            *run = Run::new(body, count, force.classes, force.is_1904);
+            run.next()
+        }
+        None => single_cell(&read, at, force),
     }
-    *run = Run::new(r.body, force.classes, force.is_1904);
-    run.next()
 }

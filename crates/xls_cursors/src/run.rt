@@ -1,12 +1,12 @@
 //! The cells of a MulRk record.
 
-ghost use Rattle.std.specs.Prelude.{◌≡◌, List, [], Ok};
-ghost use Rattle.xls_biff.specs.Records.Rk.{mul_rk_at};
-ghost use Rattle.xls_biff.specs.Cells.{Entry};
+ghost use Rattle.std.specs.Prelude.{◌≡◌, ◌+◌, ◌*◌, ◌≤◌, ◌^◌, [], length, map};
+ghost use Rattle.std.specs.List.{range_with_len};
+ghost use Rattle.xls_biff.specs.Records.Rk.{rk_cell};
 
 use crate::value::{SheetCell, number_cell};
 use std::marker::Model;
-use xls_biff::{count_mul_rk, read_mul_rk};
+use xls_biff::read_mul_rk;
 use xls_data::CellFormat;
 
 /// The cells of a MulRk record that are left. Contracts see the list of them.
@@ -49,19 +49,23 @@ impl<'c> Run<'c> {
         }
     }
 
-    /// The cells of a MulRk record's body, and none of one with a fault.
-    pub(crate) fn new(body: &'c [u8], classes: &'c [CellFormat], is_1904: bool) -> Run<'c>
-        ensures { (cells : List Entry) → mul_rk_at classes.entry.now is_1904 body.entry.now ≡ Ok cells → result ≡ cells }
+    /// The cells of a MulRk record's body, which are so many.
+    pub(crate) fn new(
+        body: &'c [u8],
+        count: usize,
+        classes: &'c [CellFormat],
+        is_1904: bool,
+    ) -> Run<'c>
+        requires sized { length body.now ≡ 6 + 6 * count }
+        requires few { count ≤ 2 ^ 16 }
+        ensures { result ≡ map (rk_cell classes.entry.now is_1904 body.entry.now) (range_with_len 0 count) }
     {
-        match count_mul_rk(body) {
-            Ok(count) => Run {
-                body,
-                next: 0,
-                count,
-                classes,
-                is_1904,
-            },
-            Err(_) => Run::none(),
+        Run {
+            body,
+            next: 0,
+            count,
+            classes,
+            is_1904,
         }
     }
 

@@ -1,33 +1,32 @@
 //! What one walk over a sheet part finds of the positions of its cells and formulas.
 
-ghost use Rattle.std.specs.Prelude.{◌≡◌, ◌↔◌, IsTrue, ◌≢◌, ◌++◌, ◌∷◌, [], List, Ok, Option, false, map};
+ghost use Rattle.std.specs.Prelude.{◌≡◌, ◌↔◌, IsTrue, ◌++◌, ◌∷◌, ◌+◌, ◌*◌, ◌≤◌, ◌^◌, [], List, Ok, None, false, length, map};
+ghost use Rattle.std.specs.List.{range_with_len};
 ghost use Rattle.std.specs.Option.{option_map};
 ghost use Rattle.xls_data.specs.Content.{Content};
 ghost use Rattle.xls_data.specs.declared.regions.Dimensions.{Dimensions};
-ghost use Rattle.xls_stream.specs.Listing.{kept_group};
-ghost use Rattle.xls_stream.specs.declared.types.TheConstants as types;
+ghost use Rattle.xls_stream.specs.Listing.{Kept, kept_group};
 ghost use Rattle.xls_biff.specs.Cells.{Entry};
-ghost use Rattle.xls_biff.specs.Records.LabelSst.{label_sst_at};
-ghost use Rattle.xls_biff.specs.Records.Rk.{mul_rk_at};
-ghost use Rattle.xls_biff.specs.SheetTable.{CellContext, SheetRecord};
+ghost use Rattle.xls_biff.specs.Records.LabelSst.{shared_entry};
+ghost use Rattle.xls_biff.specs.Records.Rk.{rk_cell};
+ghost use Rattle.xls_biff.specs.SheetReading.{HasItems, stands_for};
+ghost use Rattle.xls_biff.specs.SheetTable.{CellContext};
+ghost use Rattle.xls_biff.specs.SheetTable as table;
 ghost use Rattle.xls_biff.specs.Walking.{group_of};
 ghost use Rattle.xls_meaning.specs.SheetTable.{adds, kept_line};
 ghost use Rattle.xls_cursors.specs.Contents.{cells_from, kept_in, regions_at, regions_of};
-ghost use Rattle.xls_cursors.specs.Formulas.{Formula, formula_of, formulas_of};
+ghost use Rattle.xls_cursors.specs.Formulas.{Formula, formulas_of};
 ghost use Rattle.xls_cursors.specs.Placing.{IsAscent};
 ghost use Rattle.xls_cursors.specs.Surveying.{IsCellAt, IsFound, IsSurvey, box_found, formula_listed};
-ghost use Rattle.xls_cursors.specs.Walking.{IsSound};
+ghost use Rattle.xls_cursors.specs.Walking.{IsRead, IsSound, run_of};
 
 use crate::ascent::Ascent;
 use crate::places::run_position;
-use crate::record::cell_of;
+use crate::record::{run_of, single_cell};
 use crate::value::position_of;
-use xls_biff::{
-    Record, SheetRecords, cell_position, count_mul_rk, find_label_sst, formula_position,
-};
+use xls_biff::{Record, SheetRecord, SheetRecords, formula_position, read_sheet_record};
 use xls_data::Dimensions;
 use xls_open::InForce;
-use xls_stream::types::{BOOL_ERR, LABEL, LABEL_SST, MERGE_CELLS, MUL_RK, NUMBER, R_STRING, RK};
 
 /// Whether the cells so far ascend strictly by position, and the smallest box that holds them.
 #[derive(Clone, Copy)]
@@ -93,16 +92,14 @@ impl FoundCells {
         }
     }
 
-    /// After the cells of a MulRk record without a fault.
+    /// After the cells of a MulRk record's body, which are so many.
     #[inline]
-    fn with_run(self, body: &[u8], force: &InForce<'_>) -> FoundCells
-        ensures { (cells run : List Entry) → mul_rk_at force.now.cells.classes force.now.cells.is_1904 body.now ≡ Ok run
-            → IsFound self cells → IsFound result (cells ++ run) }
+    fn with_run(self, body: &[u8], count: usize, force: &InForce<'_>) -> FoundCells
+        requires sized { length body.now ≡ 6 + 6 * count }
+        requires few { count ≤ 2 ^ 16 }
+        ensures { (cells : List Entry) → IsFound self cells
+            → IsFound result (cells ++ map (rk_cell force.now.cells.classes force.now.cells.is_1904 body.now) (range_with_len 0 count)) }
     {
-        let count = match count_mul_rk(body) {
-            Ok(count) => count,
-            Err(_) => return self,
-        };
         let mut found = self;
         for i in 0..count {
             found = found.with(run_position(body, i));
@@ -110,16 +107,22 @@ impl FoundCells {
         found
     }
 
-    /// After the cells of a record without a fault, where the last Formula before it stands here.
-    #[inline]
-    fn with_record(self, r: &Record<'_>, last: (u32, u32), force: &InForce<'_>) -> FoundCells
-        ensures { (cells : List Entry) (g : SheetRecord) → kept_line force.now.cells (kept_group (group_of r.now)) ≡ Ok g
-            → IsFound self cells → IsFound result (cells ++ (adds force.now.formulas last g).cells) }
+    /// After the cells of a record, where the last Formula before it stands here.
+    #[inline(always)]
+    fn with_record(
+        self,
+        read: &SheetRecord<'_>,
+        last: (u32, u32),
+        force: &InForce<'_>,
+    ) -> FoundCells
+        requires { IsRead read.now }
+        ensures { (cells : List Entry) → IsFound self cells
+            → IsFound result (cells ++ (adds force.now.formulas last (stands_for force.now.cells read.now)).cells) }
     {
-        if r.typ == MUL_RK {
-            return self.with_run(r.body, force);
+        if let Some((body, count)) = run_of(read) {
+            return self.with_run(body, count, force);
         }
-        match place_of(r, last, force) {
+        match place_of(read, last, force) {
             Some(position) => self.with(position),
             None => self,
         }
@@ -127,71 +130,67 @@ impl FoundCells {
 }
 
 /// Where the cell of a LabelSst record stands, if the table has its text.
-#[inline]
-fn shared_place(body: &[u8], force: &InForce<'_>) -> Option<(u32, u32)>
-    ensures { (found : Option Entry) → label_sst_at force.now.cells.strings body.now ≡ Ok found
-        → result ≡ option_map (λ (c : Entry). c.0) found }
+#[inline(always)]
+fn shared_place(position: (u32, u32), index: u32, force: &InForce<'_>) -> Option<(u32, u32)>
+    ensures { result ≡ option_map (λ (c : Entry). c.0) (shared_entry force.now.cells.strings (position, index)) }
 {
-    match find_label_sst(body, force.strings) {
-        Ok(Some((position, _))) => Some(position),
-        Ok(None) => None,
-        Err(_) => None,
+    match force.strings.get(index as usize) {
+        Some(_) => Some(position),
+        None => None,
     }
 }
 
-/// Where the cell of a record stands that is neither a MulRk nor one whose cell begins with its position.
-fn other_place(r: &Record<'_>, last: (u32, u32), force: &InForce<'_>) -> Option<(u32, u32)>
-    requires { r.now.typ ≢ types.MUL_RK }
-    ensures { (g : SheetRecord) → kept_line force.now.cells (kept_group (group_of r.now)) ≡ Ok g
-        → IsCellAt result (adds force.now.formulas last g).cells }
+/// Where the cell of a record stands that isn't a MulRk, whatever the record.
+fn other_place(read: &SheetRecord<'_>, last: (u32, u32), force: &InForce<'_>) -> Option<(u32, u32)>
+    ensures { run_of read.now ≡ None
+        → IsCellAt result (adds force.now.formulas last (stands_for force.now.cells read.now)).cells }
 {
-    match cell_of(r, last, force) {
+    match single_cell(read, last, force) {
         Some(cell) => Some(position_of(cell)),
         None => None,
     }
 }
 
-/// Where the cell of a record without a fault that isn't a MulRk stands, if it has one, where the last
-/// Formula before it stands here.
-#[inline]
-fn place_of(r: &Record<'_>, last: (u32, u32), force: &InForce<'_>) -> Option<(u32, u32)>
-    requires { r.now.typ ≢ types.MUL_RK }
-    ensures { (g : SheetRecord) → kept_line force.now.cells (kept_group (group_of r.now)) ≡ Ok g
-        → IsCellAt result (adds force.now.formulas last g).cells }
+/// Where the cell of a record that isn't a MulRk stands, if it has one, where the last Formula before it
+/// stands here.
+#[inline(always)]
+fn place_of(read: &SheetRecord<'_>, last: (u32, u32), force: &InForce<'_>) -> Option<(u32, u32)>
+    ensures { run_of read.now ≡ None
+        → IsCellAt result (adds force.now.formulas last (stands_for force.now.cells read.now)).cells }
 {
-    match r.typ {
-        NUMBER => cell_position(r.body),
-        RK => cell_position(r.body),
-        BOOL_ERR => cell_position(r.body),
-        LABEL | R_STRING => cell_position(r.body),
-        LABEL_SST => shared_place(r.body, force),
-        _ => other_place(r, last, force),
+    match read {
+        SheetRecord::Number(cell) => Some(cell.position),
+        SheetRecord::Rk(cell) => Some(cell.position),
+        SheetRecord::BoolErr { position, .. } => Some(*position),
+        SheetRecord::Label { position, .. } => Some(*position),
+        SheetRecord::LabelSst { position, index } => shared_place(*position, *index, force),
+        _ => other_place(read, last, force),
     }
 }
 
 /// Whether the formulas of some records and of one more ascend.
-#[inline]
-fn formulas_with(found: Ascent, r: &Record<'_>) -> Ascent
-    ensures { (s : CellContext) (g : SheetRecord) (formulas : List Formula) → kept_line s (kept_group (group_of r.now)) ≡ Ok g
+#[inline(always)]
+fn formulas_with(found: Ascent, read: &SheetRecord<'_>) -> Ascent
+    ensures { (s : CellContext) (k : Kept) (formulas : List Formula) → kept_line s k ≡ Ok (stands_for s read.now)
         → IsAscent found (map (λ (f : Formula). f.0) formulas)
-        → IsAscent result (map (λ (f : Formula). f.0) (formulas ++ formula_listed (kept_group (group_of r.now)))) }
+        → IsAscent result (map (λ (f : Formula). f.0) (formulas ++ formula_listed k)) }
 {
-    match formula_position(r) {
+    match read.formula_position() {
         Some(position) => found.with(position),
         None => found,
     }
 }
 
 /// How many MergeCells records there are with one more record.
-#[inline]
-fn merges_with(merges: usize, r: &Record<'_>) -> usize
-    ensures { (regions : List Dimensions) → (merges ≡ 0 → regions ≡ [])
-        → result ≡ 0 → regions ++ regions_at (kept_group (group_of r.now)) ≡ [] }
+#[inline(always)]
+fn merges_with(merges: usize, read: &SheetRecord<'_>) -> usize
+    ensures { (k : Kept) (regions : List Dimensions) → HasItems k.typ k.body read.now → (merges ≡ 0 → regions ≡ [])
+        → result ≡ 0 → regions ++ regions_at k ≡ [] }
 {
-    if r.typ == MERGE_CELLS {
-        return merges.saturating_add(1);
+    match read {
+        SheetRecord::MergeCells { .. } => merges.saturating_add(1),
+        _ => merges,
     }
-    merges
 }
 
 /// What was found of the records of a part so far: of their cells, whether their formulas ascend strictly
@@ -233,17 +232,21 @@ impl Survey {
     }
 
     /// After a record without a fault, where the last Formula before it stands here.
-    #[inline]
+    #[inline(always)]
     fn with(self, r: &Record<'_>, last: (u32, u32), force: &InForce<'_>) -> Survey
-        ensures { (cells : List Entry) (formulas : List Formula) (regions : List Dimensions) (g : SheetRecord)
+        ensures { (cells : List Entry) (formulas : List Formula) (regions : List Dimensions) (g : table.SheetRecord)
             → kept_line force.now.cells (kept_group (group_of r.now)) ≡ Ok g → IsSurvey self cells formulas regions
             → IsSurvey result (cells ++ (adds force.now.formulas last g).cells)
             (formulas ++ formula_listed (kept_group (group_of r.now))) (regions ++ regions_at (kept_group (group_of r.now))) }
     {
+        let read = match read_sheet_record(r, force.version) {
+            Ok(read) => read,
+            Err(_) => return self,
+        };
         Survey {
-            cells: self.cells.with_record(r, last, force),
-            formulas: formulas_with(self.formulas, r),
-            merges: merges_with(self.merges, r),
+            cells: self.cells.with_record(&read, last, force),
+            formulas: formulas_with(self.formulas, &read),
+            merges: merges_with(self.merges, &read),
         }
     }
 }

@@ -4,12 +4,10 @@ use Rattle.std.specs.List.{flat_map}
 use Rattle.std.specs.Fmt.{decimal, signed_decimal}
 use Rattle.std.specs.Str.{chars}
 use Rattle.xls_data.specs.Errors as cell_errors
-use Rattle.xls_dates.specs.Numbers.{number_text, sixteen_digits}
+use Rattle.xls_dates.specs.Numbers.{number_text}
 use Rattle.xls_record.specs.ErrorText.{error_text}
 use Rattle.xls_lines.specs.declared.field.Field.{Field}
 use Rattle.xls_lines.specs.declared.field.Field.TheVariants.{Word, Text, Number, Int, Fraction, Failure, Fault}
-use Rattle.xls_lines.specs.declared.buffer.Numeral.{Numeral}
-use Rattle.xls_lines.specs.declared.buffer.Numeral.TheVariants.{Whole, Bits}
 pub use Rattle.xls_bytes.specs.Escapes.{escaped_char, escaped, escaped_text}
 
 -- ---- lines
@@ -45,10 +43,3 @@ abbrev pub filled_line : ℕ → ℕ → Option (List ℕ × List ℕ) → List 
 filled_line row column None = []
 filled_line row column (Some v) =
     line (codes "cell") (decimal row ∷ decimal column ∷ v.0 ∷ v.1 ∷ [])
-
--- ---- numbers that are printed in place
-
--- a whole number in decimal, or the bits of a double in hexadecimal
-abbrev pub numeral_text : Numeral → List ℕ
-numeral_text (Whole n) = signed_decimal n
-numeral_text (Bits bits) = codes "0x" ++ sixteen_digits bits

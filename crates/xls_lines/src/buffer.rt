@@ -2,11 +2,11 @@
 
 ghost use Rattle.std.specs.Prelude.{◌≡◌, ◌∷◌, ◌++◌, ◌+◌, ◌<◌, ◌≤◌, [], true, length, Some, IfOk, IfSome, OnOk, codes};
 ghost use Rattle.std.specs.List.{flat_map};
-ghost use Rattle.std.specs.Fmt.{decimal, signed_decimal};
+ghost use Rattle.std.specs.Fmt.{decimal};
 ghost use Rattle.std.specs.Str.{chars};
 ghost use Rattle.xls_dates.specs.Numbers.{number_text};
 ghost use Rattle.xls_lines.specs.Gathering.{Delivers, Puts};
-ghost use Rattle.xls_lines.specs.Lines.{field_text, filled_line, numeral_text, tabbed, tabbed_field};
+ghost use Rattle.xls_lines.specs.Lines.{field_text, filled_line, tabbed, tabbed_field};
 
 use crate::field::{Field, printed};
 use crate::short::Short;
@@ -14,8 +14,7 @@ use crate::sink::{Sink, write_all};
 use crate::stop::Stop;
 use std::alloc::Global;
 use std::marker::Model;
-use xls_bytes::whole_of_bits;
-use xls_data::Number as Decimal;
+use xls_data::Number;
 
 /// How many bytes are written at a time, at most.
 const PIECE: usize = 65_536;
@@ -81,55 +80,14 @@ fn gather_by_pieces<K: Sink>(bytes: &mut Vec<u8>, sink: &mut K, text: &[u8]) -> 
     Ok(())
 }
 
-/// The bits of the double negative zero.
-const NEGATIVE_ZERO: u64 = 1 << 63;
-
-/// A number that is printed in place.
-#[derive(Clone, Copy)]
-enum Numeral {
-    /// In decimal.
-    Whole(i64),
-    /// The bits of a double, in hexadecimal.
-    Bits(u64),
-}
-
-/// How a number is printed in place, if it is.
-fn numeral_in(n: Decimal) -> Option<Numeral>
-    ensures { IfSome result (λ numeral. number_text n ≡ numeral_text numeral) }
-{
-    match n {
-        Decimal::Whole(whole) => Some(Numeral::Whole(whole)),
-        Decimal::Bits(bits) if bits != NEGATIVE_ZERO => Some(match whole_of_bits(bits) {
-            Some(whole) => Numeral::Whole(whole),
-            None => Numeral::Bits(bits),
-        }),
-        _ => None,
-    }
-}
-
-/// How a field is printed in place, if it is.
-fn numeral_of(field: Field<'_>) -> Option<Numeral>
-    ensures { IfSome result (λ numeral. field_text field.entry ≡ numeral_text numeral) }
+/// The number that a field prints, if it is one.
+fn number_in(field: Field<'_>) -> Option<Number>
+    ensures { IfSome result (λ n. field_text field.entry ≡ number_text n) }
 {
     match field {
-        Field::Int(n) => Some(Numeral::Whole(n)),
-        Field::Fraction(n) => numeral_in(n),
+        Field::Int(n) => Some(Number::Whole(n)),
+        Field::Fraction(n) => Some(n),
         _ => None,
-    }
-}
-
-/// Puts a number that is printed in place before a text.
-fn put_numeral(line: &mut Short, numeral: Numeral)
-    requires { length line.old ≤ 1 }
-    ensures puts { line.new ≡ numeral_text numeral ++ line.old }
-    ensures room { length line.new ≤ 22 }
-{
-    match numeral {
-        Numeral::Whole(n) => line.put_int(n),
-        Numeral::Bits(bits) => {
-            line.put_hex(bits);
-            line.put_word(b"0x");
-        }
     }
 }
 
@@ -298,22 +256,22 @@ impl Buffer {
         Ok(())
     }
 
-    /// Puts the line of a cell with a number that is printed in place, all at once.
+    /// Puts the line of a cell with a number, all at once.
     fn put_number_cell<K: Sink>(
         &mut self,
         sink: &mut K,
         row: u32,
         column: u32,
         kind: &str,
-        numeral: Numeral,
+        number: Number,
     ) -> Result<(), Stop>
         requires { length kind.now ≤ 5 }
         ensures { Puts (K.state sink.old) self.old (K.state sink.new) self.new
-            (filled_line row column (Some (kind.now, numeral_text numeral))) result }
+            (filled_line row column (Some (kind.now, number_text number))) result }
     {
         let mut line = Short::new();
         line.put_byte(b'\n');
-        put_numeral(&mut line, numeral);
+        line.put_number(number);
         put_head(&mut line, row, column, kind);
         self.put(sink, line.as_slice())
     }
@@ -348,8 +306,8 @@ impl Buffer {
         ensures { Puts (K.state sink.old) self.old (K.state sink.new) self.new
             (filled_line row column (Some (kind.now, field_text shown.entry))) result }
     {
-        match numeral_of(shown) {
-            Some(numeral) => self.put_number_cell(sink, row, column, kind, numeral),
+        match number_in(shown) {
+            Some(number) => self.put_number_cell(sink, row, column, kind, number),
             None => self.put_other_cell(sink, row, column, kind, shown),
         }
     }

@@ -1,14 +1,19 @@
 //! A short text, made from its end to its beginning, as digits are.
 
-ghost use Rattle.std.specs.Prelude.{◌≡◌, ◌∷◌, ◌++◌, ◌+◌, ◌<◌, ◌≤◌, [], false, length};
+ghost use Rattle.std.specs.Prelude.{◌≡◌, ◌∷◌, ◌++◌, ◌+◌, ◌<◌, ◌≤◌, [], codes, false, length};
 ghost use Rattle.std.specs.Fmt.{decimal, digit_glyph, signed_decimal};
-ghost use Rattle.xls_dates.specs.Numbers.{sixteen_digits};
+ghost use Rattle.xls_dates.specs.Numbers.{bits_text, decimals_text, hundredths_text, number_text, over_100_text, sixteen_digits};
 
 use itoa::write_digits;
 use std::marker::Model;
+use xls_bytes::whole_of_bits;
+use xls_data::Number;
 
 /// How long a short text may be.
 const ROOM: usize = 96;
+
+/// The bits of the double negative zero.
+const NEGATIVE_ZERO: u64 = 1 << 63;
 
 /// A digit in hexadecimal.
 fn hex_digit(n: u8) -> u8
@@ -103,6 +108,95 @@ impl Short {
         for i in 0..16_usize {
             self.put_byte(hex_digit((left % 16) as u8));
             left /= 16;
+        }
+    }
+
+    /// Puts the bits of a double in hexadecimal before the text.
+    fn put_bits_in_hex(&mut self, bits: u64)
+        requires { length self.old + 18 ≤ ROOM }
+        ensures puts { self.new ≡ (codes "0x" ++ sixteen_digits bits) ++ self.old }
+        ensures room { length self.new ≤ length self.old + 18 }
+    {
+        self.put_hex(bits);
+        self.put_word(b"0x");
+    }
+
+    /// Puts so many hundredths, below one, before the text: a point and as many decimals as are needed.
+    fn put_decimals(&mut self, rest: u64)
+        requires hundredths { rest < 100 }
+        requires room { length self.old + 3 ≤ ROOM }
+        ensures puts { self.new ≡ decimals_text rest ++ self.old }
+        ensures room { length self.new ≤ length self.old + 3 }
+    {
+        if rest == 0 {
+            return;
+        }
+        if rest % 10 != 0 {
+            self.put_byte(b'0' + (rest % 10) as u8);
+        }
+        self.put_byte(b'0' + (rest / 10) as u8);
+        self.put_byte(b'.');
+    }
+
+    /// Puts a number of hundredths before the text.
+    fn put_hundredths(&mut self, n: i64)
+        requires { length self.old + 24 ≤ ROOM }
+        ensures puts { self.new ≡ hundredths_text n ++ self.old }
+        ensures room { length self.new ≤ length self.old + 24 }
+    {
+        let size = n.unsigned_abs();
+        self.put_decimals(size % 100);
+        self.put_digits(size / 100);
+        if n < 0 {
+            self.put_byte(b'-');
+        }
+    }
+
+    /// Puts the double with these bits before the text.
+    fn put_bits(&mut self, bits: u64)
+        requires { length self.old + 24 ≤ ROOM }
+        ensures puts { self.new ≡ bits_text bits ++ self.old }
+        ensures room { length self.new ≤ length self.old + 24 }
+    {
+        if bits == NEGATIVE_ZERO {
+            return self.put_word(b"-0");
+        }
+        match whole_of_bits(bits) {
+            Some(n) => self.put_int(n),
+            None => self.put_bits_in_hex(bits),
+        }
+    }
+
+    /// Puts the double with these bits, over 100, before the text.
+    fn put_bits_over_100(&mut self, bits: u64)
+        requires { length self.old + 24 ≤ ROOM }
+        ensures puts { self.new ≡ over_100_text bits ++ self.old }
+        ensures room { length self.new ≤ length self.old + 24 }
+    {
+        if bits == NEGATIVE_ZERO {
+            return self.put_word(b"-0");
+        }
+        match whole_of_bits(bits) {
+            Some(n) => self.put_hundredths(n),
+            None => {
+                self.put_word(b"/100");
+                self.put_bits_in_hex(bits);
+            }
+        }
+    }
+
+    /// Puts a number before the text, as the workbook has it: a whole number or hundredths in decimal, the bits
+    /// of another double in hexadecimal.
+    pub fn put_number(&mut self, n: Number)
+        requires { length self.old + 24 ≤ ROOM }
+        ensures puts { self.new ≡ number_text n ++ self.old }
+        ensures room { length self.new ≤ length self.old + 24 }
+    {
+        match n {
+            Number::Bits(bits) => self.put_bits(bits),
+            Number::Whole(n) => self.put_int(n),
+            Number::Hundredths(n) => self.put_hundredths(n),
+            Number::BitsOver100(bits) => self.put_bits_over_100(bits),
         }
     }
 }

@@ -1,4 +1,3 @@
-use Rattle.std.proofs.Common.{sym, ◌∙◌}
 use Rattle.xls_cursors.proofs.SettledLemmas.{settled_same}
 use Rattle.xls_cursors.proofs.cells.order_of.Goals as goal
 

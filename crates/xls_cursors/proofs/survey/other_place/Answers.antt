@@ -6,6 +6,6 @@ use Rattle.xls_cursors.proofs.SurveyLemmas.{at_position}
 use Rattle.xls_cursors.proofs.survey.other_place.Goals as goal
 
 pub returns-in-Some : goal.returns-in-Some
-returns-in-Some c = λ g h.
-    let one = ap (λ o. listed_cell (option_map cell_entry o)) (sym c.in-Some.is) ∙ c.cell_of.ensures g h in
+returns-in-Some c = λ none.
+    let one = ap (λ o. listed_cell (option_map cell_entry o)) (sym c.in-Some.is) ∙ c.single_cell.ensures none in
     at_position _ _ (cell_entry c.in-Some.cell) c.position_of.ensures one

@@ -1,4 +1,4 @@
-use Rattle.std.proofs.Common.{ℕ, List, Option, Some, None, Result, Ok, Err, subst, ap, sym, ◌∙◌, ◌++◌}
+use Rattle.std.proofs.Common.{ℕ, List, Option, Some, None, Result, Ok, Err, ap, ◌∙◌, ◌++◌}
 use Rattle.std.specs.Io.KnownBytes.{Appends, Keeps, WriteAppends}
 use Rattle.std.proofs.KnownBytes.{Keeps-trans}
 use Rattle.xls_lines.proofs.sink.write_on.Goals as goal

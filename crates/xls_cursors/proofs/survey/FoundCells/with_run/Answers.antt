@@ -3,14 +3,9 @@ use Rattle.std.specs.List.{range_with_len}
 use Rattle.std.proofs.lemmas.List.{append-nil}
 use Rattle.std.proofs.lemmas.List.FromFn.{map-range_with_len_more}
 use Rattle.xls_biff.specs.Cells.{Entry}
-use Rattle.xls_biff.specs.Records.Rk.{mul_rk_count, rk_cell}
+use Rattle.xls_biff.specs.Records.Rk.{rk_cell}
 use Rattle.xls_cursors.specs.Surveying.{IsFound}
-use Rattle.xls_cursors.proofs.PlaceLemmas.{run_is}
-use Rattle.xls_cursors.proofs.SurveyLemmas.{run_refused}
 use Rattle.xls_cursors.proofs.survey.FoundCells.with_run.Goals as goal
-
-pub returns-in-Err : goal.returns-in-Err
-returns-in-Err c = λ cells run h found. run_refused _ _ _ _ c.in-Err.ensures.exact h
 
 pub loop-i-init : goal.loop-i-init
 loop-i-init c = λ cells found. subst (IsFound c.args.self) (sym (append-nil cells)) found
@@ -29,11 +24,9 @@ loop-i-preserved c = λ cells found.
     (rw c.run_position.ensures at one)
 
 pub returns : goal.returns
-returns c = λ cells run h found.
+returns c = λ cells found.
     let l = c.loop-i in
     let s = c.args.force.now.cells in
     let f = rk_cell s.classes s.is_1904 c.args.body.now in
-    let count : l.i ≡ c.in-Ok.count = omega (arith, l.auto.i-end, c.loop-i-test.false) in
-    let is = run_is f (mul_rk_count c.args.body.now) c.in-Ok.count run c.in-Ok.ensures.exact h in
-    subst (λ (es : List Entry). IsFound l.found (cells ++ es))
-    (ap (λ (n : ℕ). map f (range_with_len 0 n)) count ∙ sym is) (l.invariant cells found)
+    let count : l.i ≡ c.args.count = omega (arith, l.auto.i-end, c.loop-i-test.false) in
+    subst (λ (es : List Entry). IsFound l.found (cells ++ es)) (ap (λ (n : ℕ). map f (range_with_len 0 n)) count) (l.invariant cells found)
