@@ -17,7 +17,8 @@ fn told(alloc: Global, refusal: Refusal) -> Result<String, AllocError>
     format!(in alloc; "{refusal}")
 }
 
-/// The sentence of a fault, in English: `No fault` for the code 0, `An unknown fault` for numbers that no call gives.
+/// The sentence of a fault, in English: `No fault` for the code 0, `An unknown fault` for numbers that no call
+/// gives.
 pub fn sentence_of(alloc: Global, fault: &Fault) -> Result<String, AllocError>
     ensures { IfOk result (λ text. string_bytes text ≡ sentence fault.now) }
 {
