@@ -1,4 +1,3 @@
-pub mod ByteLemmas
 pub mod WalkLemmas
 pub mod RecordLemmas
 pub mod ContentLemmas

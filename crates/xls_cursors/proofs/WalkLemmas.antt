@@ -9,8 +9,8 @@ use Rattle.xls_stream.proofs.Ends.{has_groups, one_groups}
 use Rattle.xls_stream.proofs.Shapes.{has_from, same_parts}
 use Rattle.xls_record.specs.declared.error.XlsError.{XlsError}
 use Rattle.xls_biff.specs.Outer.{Keeps, Over, CutShort}
-use Rattle.xls_cursors.specs.Bytes.{are_bytes}
-use Rattle.xls_cursors.proofs.ByteLemmas.{bytes_where, where_bytes}
+use Rattle.xls_open.specs.Bytes.{are_bytes}
+use Rattle.xls_open.proofs.ByteLemmas.{bytes_where, where_bytes}
 use Rattle.xls_open.proofs.PartLemmas.{keeps_from, over_from, cut_from, keeps_bytes}
 use Rattle.xls_cursors.specs.Groups.{groups_by, groups_in}
 use Rattle.xls_cursors.specs.Contents.{kept_in, kept_at}

@@ -3,8 +3,8 @@ use Rattle.std.specs.Prelude.{◌≡◌, ℕ, List, [], Bool, true, false, refl,
 use Rattle.xls_stream.specs.Stream.{Group}
 use Rattle.xls_stream.specs.declared.part.Part.{Part}
 use Rattle.xls_stream.proofs.Ends.{has_groups}
-use Rattle.xls_cursors.specs.Bytes.{are_bytes}
-use Rattle.xls_cursors.proofs.ByteLemmas.{bytes_where}
+use Rattle.xls_open.specs.Bytes.{are_bytes}
+use Rattle.xls_open.proofs.ByteLemmas.{bytes_where}
 
 -- where each number is a byte, the groups that stand there and how the bytes end
 abbrev pub groups_by : (bytes : List ℕ) (b : Bool) → are_bytes bytes ≡ b → List Group × Option Part

@@ -2,7 +2,6 @@ pub mod Formulas
 pub mod Shown
 pub mod Walking
 pub mod Values
-pub mod Bytes
 pub mod Groups
 pub mod Contents
 pub mod Placed

@@ -26,7 +26,7 @@ impl<'c> EncodedText<'c> {
 impl<'c> CellValue<'c> {
     /// The value with a text of its own. Only running out of memory refuses.
     pub fn to_data(self, alloc: Global) -> Result<Data, AllocError>
-        ensures { IfOk result (λ data. content_of data ≡ value_content self.entry) }
+        ensures { IfOk result (λ d. content_of d ≡ value_content self.entry) }
     {
         match self {
             CellValue::Number(number) => Ok(number.into_data()),

@@ -11,7 +11,6 @@ pub mod RecordLemmas
 pub mod OpeningLemmas
 pub mod PartLemmas
 pub mod NamingLemmas
-pub mod FormulaLemmas
 pub mod CheckWalkLemmas
 pub mod CheckPartLemmas
 pub mod CheckLemmas
@@ -20,3 +19,4 @@ pub mod AscendingLemmas
 pub mod SameLemmas
 pub mod LaidLemmas
 pub mod StandardFacts
+pub mod ByteLemmas

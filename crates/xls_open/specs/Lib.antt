@@ -1,6 +1,7 @@
 pub mod Workbook
 pub mod Opening
 pub mod Checking
+pub mod Bytes
 pub mod Globals
 pub mod CheckSteps
 pub mod Steps

@@ -201,11 +201,11 @@ impl<'a> View<'a> {
 
     /// What it keeps of the globals, without a copy. Takes no memory.
     pub fn into_parts(self) -> ViewParts
-        ensures sheets { map sheet_content result.sheets.items ≡ self.book.sheets }
-        ensures names { map told_of result.names.items ≡ self.book.names }
+        ensures sheets { map sheet_content result.sheets.items ≡ self.entry.book.sheets }
+        ensures names { map told_of result.names.items ≡ self.entry.book.names }
         ensures index { IsIndex result.index result.sheets.items }
-        ensures date_system { result.is_1904 ≡ self.book.is_1904 }
-        ensures classes { result.classes.items ≡ self.book.classes }
+        ensures date_system { result.is_1904 ≡ self.entry.book.is_1904 }
+        ensures classes { result.classes.items ≡ self.entry.book.classes }
     {
         let View {
             sheets,
