@@ -1,31 +1,19 @@
 -- How calls end.
-use Rattle.std.proofs.Common.{◌≡◌, ℕ, List, Result, Ok, Err, OnOk, IfErr, Some, None, if◌then◌else◌, ◌==◌, inl, inr, refl, ap, subst, ◌∙◌, rules, codes}
+use Rattle.std.proofs.Common.{◌≡◌, ℕ, List, Result, Ok, Err, OnOk, IfErr, inl, inr, refl, subst}
+use Rattle.xls_refusals.specs.declared.faults.Fault.{Fault}
+use Rattle.xls_refusals.specs.declared.refusal.Refusal.{Refusal}
 use Rattle.xls_arrays.specs.Answers.{AreFilled, Answers, IsAnswer, Reads, RefusesToFill}
 use Rattle.xls_arrays.specs.Arrays.{Arrays}
 use Rattle.xls_arrays.specs.Filled.{in_rooms}
-use Rattle.xls_arrays.specs.Telling.{refusal_of, sentence, sentence_in}
-use Rattle.xls_arrays.specs.Texts.{refusal_text}
 use Rattle.xls_arrays.specs.declared.items.Sizes.{Sizes}
 use Rattle.xls_arrays.specs.declared.options.Options.{Options}
 use Rattle.xls_arrays.specs.declared.rooms.Rooms.{Rooms}
-use Rattle.xls_arrays.specs.declared.faults.Fault.{Fault}
-use Rattle.xls_arrays.specs.declared.refusal.Refusal.{Refusal}
 
 -- what was done, or refused, inside ends the call
 pub ends-as : {Done : Type 0} {Refuses : Refusal → Type 0} (done : Result (Unit {0}) Refusal) {fault : Fault} {code : ℕ}
     → OnOk done Done → IfErr done Refuses → IsAnswer done fault code → Answers Done Refuses fault code
 ends-as (Ok x) ok err is = record { told = is.1; ends = inl (ok, is.0) }
 ends-as (Err r) ok err is = record { told = is.1; ends = inr (r, err, is.0) }
-
-unless : (n : ℕ) (x y : List ℕ) → (n ≡ 0 → ⊥) → (if n == 0 then x else y) ≡ y
-unless n x y some = search (rules, some)
-
--- the sentence of a fault that a refusal tells, and of another
-pub sentence-some : (f : Fault) (r : Refusal) → (f.code ≡ 0 → ⊥) → refusal_of f ≡ Some r → sentence f ≡ refusal_text r
-sentence-some f r some is = unless f.code _ _ some ∙ ap sentence_in is
-
-pub sentence-none : (f : Fault) → (f.code ≡ 0 → ⊥) → refusal_of f ≡ None → sentence f ≡ codes "An unknown fault"
-sentence-none f some is = unless f.code _ _ some ∙ ap sentence_in is
 
 -- what was filled, or not, inside, by the arrays of the caller
 pub read-ends : {options : Options} {stream : List ℕ} {after : Arrays} {sizes : Sizes} (rooms : Rooms) (done : Result (Unit {0}) Refusal) {fault : Fault} {code : ℕ}

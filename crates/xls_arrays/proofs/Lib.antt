@@ -2,7 +2,6 @@ pub mod AnswerLemmas
 pub mod FilledLemmas
 pub mod HeldLemmas
 pub mod LaidLemmas
-pub mod RefusalLemmas
 pub mod ShownLemmas
 pub mod StandardFacts
 pub mod TextLemmas

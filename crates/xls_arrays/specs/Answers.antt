@@ -4,20 +4,20 @@ use Rattle.xls_container.specs.Files.{RefusesFile, WorkbookBytes}
 use Rattle.xls_container.specs.declared.fault.FileFault.{FileFault}
 use Rattle.xls_dates.specs.declared.numbers.Number.TheVariants.{Bits}
 use Rattle.xls_decimals.specs.Moments.{IsDate, IsDuration}
+use Rattle.xls_refusals.specs.Codes.{plain}
+use Rattle.xls_refusals.specs.Faults.{fault_of}
+use Rattle.xls_refusals.specs.Refusals.{refusal_of_file}
+use Rattle.xls_refusals.specs.declared.faults.Fault.{Fault}
+use Rattle.xls_refusals.specs.declared.refusal.Refusal.{Refusal}
+use Rattle.xls_refusals.specs.declared.refusal.Refusal.TheVariants as refusals
 use Rattle.xls_arrays.specs.Values.{truth_bit}
 use Rattle.xls_arrays.specs.Arrays.{Arrays, empty, sizes_of}
 use Rattle.xls_arrays.specs.Filled.{Fits, Holds}
 use Rattle.xls_arrays.specs.Held.{IsHeld, RefusesStream}
 use Rattle.xls_arrays.specs.Whole.{PutsWhole}
-use Rattle.xls_arrays.specs.Codes.{plain}
-use Rattle.xls_arrays.specs.Faults.{fault_of}
-use Rattle.xls_arrays.specs.Refusals.{refusal_of_file}
 use Rattle.xls_arrays.specs.declared.options.Options.{Options}
 use Rattle.xls_arrays.specs.declared.items.Sizes.{Sizes}
 use Rattle.xls_arrays.specs.declared.rooms.Rooms.{Rooms}
-use Rattle.xls_arrays.specs.declared.faults.Fault.{Fault}
-use Rattle.xls_arrays.specs.declared.refusal.Refusal.{Refusal}
-use Rattle.xls_arrays.specs.declared.refusal.Refusal.TheVariants as refusals
 
 -- how a call ends: it is done, and the fault is all 0; or it is refused, for what the fault tells. The code is
 -- that of the fault

@@ -4,12 +4,12 @@ use Rattle.xls_meaning.specs.Reading.{BookView}
 use Rattle.xls_container.specs.Obfuscation.{IsObfuscated}
 use Rattle.xls_record.specs.declared.error.XlsError.TheVariants as errors
 use Rattle.xls_view.specs.Viewing.{IsFault, IsViewed, Viewed}
+use Rattle.xls_refusals.specs.declared.refusal.Refusal.{Refusal}
+use Rattle.xls_refusals.specs.declared.refusal.Refusal.TheVariants as refusals
 use Rattle.xls_arrays.specs.Arrays.{Arrays, Told, arrays_of}
 use Rattle.xls_arrays.specs.Options.{max_bytes_in, options_by}
 use Rattle.xls_arrays.specs.Shown.{asked_for}
 use Rattle.xls_arrays.specs.declared.options.Options.{Options}
-use Rattle.xls_arrays.specs.declared.refusal.Refusal.{Refusal}
-use Rattle.xls_arrays.specs.declared.refusal.Refusal.TheVariants as refusals
 
 -- the records aren't obfuscated, and the stream is within the limit of bytes
 pub record IsPlain (options : Options) (stream : List ℕ) : Type 0 where

@@ -1,14 +1,14 @@
 -- Steps of laying what a view shows, for the contracts of the steps.
 use Rattle.std.specs.Prelude.{◌≡◌, ℕ, ◌≤◌, List, Some, length, slice_get}
 use Rattle.xls_meaning.specs.Reading.{BookView}
+use Rattle.xls_refusals.specs.declared.refusal.Refusal.{Refusal}
+use Rattle.xls_refusals.specs.declared.refusal.Refusal.TheVariants as refusals
 use Rattle.xls_arrays.specs.Arrays.{Told, laid, with_name, with_sheet}
 use Rattle.xls_arrays.specs.Filled.{Lays}
 use Rattle.xls_arrays.specs.Held.{Misses}
 use Rattle.xls_arrays.specs.Shown.{asked_for, each_with}
 use Rattle.xls_arrays.specs.declared.options.Options.{Options}
 use Rattle.xls_arrays.specs.declared.rooms.Rooms.{Rooms}
-use Rattle.xls_arrays.specs.declared.refusal.Refusal.{Refusal}
-use Rattle.xls_arrays.specs.declared.refusal.Refusal.TheVariants as refusals
 
 -- the sheet of an index was laid
 abbrev pub LaysOne : BookView → ℕ → Rooms → Rooms → Type 0

@@ -1,15 +1,9 @@
-//! Laws of the definitions.
+//! The law of the definitions.
 
-ghost use Rattle.xls_arrays.specs.Laws.{ArraysAreTold, RefusalsAreTold};
+ghost use Rattle.xls_arrays.specs.Laws.{ArraysAreTold};
 
 /// The arrays of a workbook have an item for each name and each sheet; an item of a sheet cites its name, and the
 /// items of its cells, formulas and regions, one for each; and where an item cites a text, that text stands there.
 pub fn arrays_are_told()
     ensures { ArraysAreTold }
-{}
-
-/// The numbers of a refusal tell it, and so its sentence: of each that a call may have, with numbers that its
-/// fields hold.
-pub fn refusals_are_told()
-    ensures { RefusalsAreTold }
 {}

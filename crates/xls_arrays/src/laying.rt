@@ -10,11 +10,11 @@ ghost use Rattle.xls_arrays.specs.Laying.{LaysAskedFor, LaysOne, LaysView, Misse
 
 use crate::items::NameItem;
 use crate::options::{ALL_SHEETS, MAX_BYTES, ONE_SHEET, Options, limit_or, options_of};
-use crate::refusal::Refusal;
 use crate::rooms::{Rooms, lay_name_item, lay_text};
 use crate::sheets::{lay_bare_sheets, lay_whole_sheet, lay_whole_sheets};
 use std::alloc::{AllocError, Global};
 use xls_container::is_obfuscated;
+use xls_refusals::Refusal;
 use xls_strings::XlsError;
 use xls_view::View;
 

@@ -7,13 +7,12 @@ ghost use Rattle.xls_arrays.specs.Filled.{Holds, KeepsRooms, in_rooms};
 ghost use Rattle.xls_arrays.specs.Held.{RefusesStream};
 ghost use Rattle.xls_arrays.specs.Values.{truth_bit};
 
-use crate::faults::{Fault, fault_of, plain};
 use crate::items::{CellItem, FormulaItem, NameItem, RegionItem, SheetItem, Sizes};
 use crate::laying::lay_stream;
 use crate::options::Options;
-use crate::refusal::Refusal;
 use crate::rooms::{NOTHING, Rooms, fits};
 use std::alloc::Global;
+use xls_refusals::{Fault, Refusal, fault_of, plain};
 
 /// Puts the numbers of a refusal into `fault`, and gives its code; all 0 where what was asked for was done.
 pub(crate) fn answer(done: Result<(), Refusal>, fault: &mut Fault) -> u32

@@ -4,12 +4,11 @@ ghost use Rattle.std.specs.Prelude.{◌≡◌, IfErr, OnOk, true};
 ghost use Rattle.xls_container.specs.Files.{WorkbookBytes};
 ghost use Rattle.xls_arrays.specs.Answers.{KeepsStream, PutsStream, RefusesStreamOf};
 
-use crate::faults::Fault;
 use crate::reading::answer;
-use crate::refusal::Refusal;
 use crate::whole::put_whole;
 use std::alloc::Global;
 use xls_container::Container;
+use xls_refusals::{Fault, Refusal};
 
 /// Puts the workbook's stream of a file into an array.
 fn put_stream(alloc: Global, file: &[u8], out: &mut [u8], size: &mut u64) -> Result<(), Refusal>

@@ -1,8 +1,8 @@
 -- Refusals as numbers.
-use Rattle.xls_arrays.specs.Codes.{chain_number, directory_fault, kind_number, numbered, numbers, plain, sector_fault, stream_fault}
-use Rattle.xls_arrays.specs.declared.refusal.Refusal.{Refusal}
-use Rattle.xls_arrays.specs.declared.refusal.Refusal.TheVariants as refusals
-use Rattle.xls_arrays.specs.declared.faults.Fault.{Fault}
+use Rattle.xls_refusals.specs.Codes.{chain_number, directory_fault, kind_number, numbered, numbers, plain, sector_fault, stream_fault}
+use Rattle.xls_refusals.specs.declared.refusal.Refusal.{Refusal}
+use Rattle.xls_refusals.specs.declared.refusal.Refusal.TheVariants as refusals
+use Rattle.xls_refusals.specs.declared.faults.Fault.{Fault}
 
 abbrev pub fault_of : Refusal → Fault
 fault_of refusals.Memory = plain 1

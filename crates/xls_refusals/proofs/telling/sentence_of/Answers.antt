@@ -1,6 +1,6 @@
 use Rattle.std.proofs.Common.{rules, sym}
-use Rattle.xls_arrays.proofs.AnswerLemmas.{sentence-none, sentence-some}
-use Rattle.xls_arrays.proofs.telling.sentence_of.Goals as goal
+use Rattle.xls_refusals.proofs.RefusalLemmas.{sentence-none, sentence-some}
+use Rattle.xls_refusals.proofs.telling.sentence_of.Goals as goal
 
 pub returns-in-Some : goal.returns-in-Some
 returns-in-Some c =

@@ -1,16 +1,16 @@
 //! Refusals as numbers, as C lays them out.
 
 ghost use Rattle.std.specs.Prelude.{◌≡◌};
-ghost use Rattle.xls_arrays.specs.Faults.{fault_of};
-ghost use Rattle.xls_arrays.specs.Codes.{chain_number, numbered, numbers, plain, directory_fault};
-ghost use Rattle.xls_arrays.specs.Codes.{kind_number, sector_fault, stream_fault, table_number};
+ghost use Rattle.xls_refusals.specs.Faults.{fault_of};
+ghost use Rattle.xls_refusals.specs.Codes.{chain_number, numbered, numbers, plain, directory_fault};
+ghost use Rattle.xls_refusals.specs.Codes.{kind_number, sector_fault, stream_fault, table_number};
 
 use crate::parts::part_number;
 use crate::refusal::{Chain, Refusal};
 use xls_container::FileKind;
 use xls_directory::DirectoryFault;
+use xls_record::XlsError;
 use xls_sectors::{SectorFault, Table};
-use xls_strings::XlsError;
 use xls_text::CfbError;
 
 /// Why a call doesn't do what is asked for: a code, and what belongs to it; the rest is 0. All is 0 where it
@@ -46,7 +46,7 @@ fn numbers(code: u32, part: u32, table: u32, first: u64, second: u64, third: u64
 }
 
 /// A code alone; 0 where what was asked for is done.
-pub(crate) fn plain(code: u32) -> Fault
+pub fn plain(code: u32) -> Fault
     ensures { result ≡ plain code }
 {
     numbers(code, 0, 0, 0, 0, 0)

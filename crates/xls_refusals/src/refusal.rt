@@ -5,8 +5,8 @@ use std::fmt;
 use xls_compound::CompoundError;
 use xls_container::{FileFault, FileKind};
 use xls_directory::DirectoryFault;
+use xls_record::XlsError;
 use xls_sectors::SectorFault;
-use xls_strings::XlsError;
 
 /// Which chain of a compound file is damaged.
 #[derive(Clone, Copy, Debug, PartialEq, Eq)]
@@ -45,7 +45,7 @@ pub enum Refusal {
 
 impl From<AllocError> for Refusal {
     ghost use Rattle.std.specs.Prelude.{◌≡◌};
-    ghost use Rattle.xls_arrays.specs.declared.refusal.Refusal.TheVariants.{Memory};
+    ghost use Rattle.xls_refusals.specs.declared.refusal.Refusal.TheVariants.{Memory};
 
     ghost from_gives = { λ _ r. r ≡ Memory };
 
@@ -56,7 +56,7 @@ impl From<AllocError> for Refusal {
 
 impl From<XlsError> for Refusal {
     ghost use Rattle.std.specs.Prelude.{◌≡◌};
-    ghost use Rattle.xls_arrays.specs.Refusals.{refusal_of_stream};
+    ghost use Rattle.xls_refusals.specs.Refusals.{refusal_of_stream};
 
     ghost from_gives = { λ error r. r ≡ refusal_of_stream error };
 
@@ -70,7 +70,7 @@ impl From<XlsError> for Refusal {
 
 impl From<CompoundError> for Refusal {
     ghost use Rattle.std.specs.Prelude.{◌≡◌};
-    ghost use Rattle.xls_arrays.specs.Refusals.{refusal_of_compound};
+    ghost use Rattle.xls_refusals.specs.Refusals.{refusal_of_compound};
 
     ghost from_gives = { λ error r. r ≡ refusal_of_compound error };
 
@@ -89,7 +89,7 @@ impl From<CompoundError> for Refusal {
 
 impl From<FileFault> for Refusal {
     ghost use Rattle.std.specs.Prelude.{◌≡◌};
-    ghost use Rattle.xls_arrays.specs.Refusals.{refusal_of_file};
+    ghost use Rattle.xls_refusals.specs.Refusals.{refusal_of_file};
 
     ghost from_gives = { λ fault r. r ≡ refusal_of_file fault };
 
@@ -105,7 +105,7 @@ impl From<FileFault> for Refusal {
 
 impl fmt::Display for Chain {
     ghost use Rattle.std.specs.Prelude.{Some};
-    ghost use Rattle.xls_arrays.specs.Texts.{chain_text};
+    ghost use Rattle.xls_refusals.specs.Texts.{chain_text};
 
     ghost output = { λ chain. Some (chain_text chain) };
 
@@ -122,7 +122,7 @@ impl fmt::Display for Chain {
 
 impl fmt::Display for Refusal {
     ghost use Rattle.std.specs.Prelude.{Some};
-    ghost use Rattle.xls_arrays.specs.Texts.{refusal_text};
+    ghost use Rattle.xls_refusals.specs.Texts.{refusal_text};
 
     ghost output = { λ refusal. Some (refusal_text refusal) };
 

@@ -1,5 +1,5 @@
 -- Refusals and their numbers.
-use Rattle.std.proofs.Common.{◌≡◌, ℕ, ◌%◌, ◌^◌, Some, None, refl, sym, ap, ◌∙◌}
+use Rattle.std.proofs.Common.{◌≡◌, ℕ, ◌%◌, ◌^◌, ◌==◌, if◌then◌else◌, List, codes, Some, None, refl, sym, ap, ◌∙◌, rules}
 use Rattle.std.proofs.Math.Nat.{mod-eq_of_lt}
 use Rattle.std.specs.Option.{option_map}
 use Rattle.xls_text.specs.declared.error.CfbError.TheVariants as pages
@@ -15,17 +15,29 @@ use Rattle.xls_directory.specs.declared.fault.DirectoryFault.{DirectoryFault}
 use Rattle.xls_directory.specs.declared.fault.DirectoryFault.TheVariants as entries
 use Rattle.xls_container.specs.declared.kind.FileKind.{FileKind}
 use Rattle.xls_container.specs.declared.kind.FileKind.TheVariants as kinds
-use Rattle.xls_arrays.specs.Codes.{chain_number, directory_fault, kind_number, sector_fault, stream_fault, table_number}
-use Rattle.xls_arrays.specs.Faults.{fault_of}
-use Rattle.xls_arrays.specs.Laws.{FitsDirectory, FitsError, FitsRefusal, FitsSector, RefusalsAreTold}
-use Rattle.xls_arrays.specs.Parts.{part_number, part_of}
-use Rattle.xls_arrays.specs.Telling.{chain_of, chain_refusal, entry_of, kind_of, part_fault, refusal_of, sector_of, stream_error, table_fault, table_of}
-use Rattle.xls_arrays.specs.declared.faults.Fault.{Fault}
-use Rattle.xls_arrays.proofs.AnswerLemmas.{sentence-some}
-use Rattle.xls_arrays.specs.declared.refusal.Chain.{Chain}
-use Rattle.xls_arrays.specs.declared.refusal.Chain.TheVariants as chains
-use Rattle.xls_arrays.specs.declared.refusal.Refusal.{Refusal}
-use Rattle.xls_arrays.specs.declared.refusal.Refusal.TheVariants as refusals
+use Rattle.xls_refusals.specs.Codes.{chain_number, directory_fault, kind_number, sector_fault, stream_fault, table_number}
+use Rattle.xls_refusals.specs.Faults.{fault_of}
+use Rattle.xls_refusals.specs.Laws.{FitsDirectory, FitsError, FitsRefusal, FitsSector, RefusalsAreTold}
+use Rattle.xls_refusals.specs.Parts.{part_number, part_of}
+use Rattle.xls_refusals.specs.Telling.{chain_of, chain_refusal, entry_of, kind_of, part_fault, refusal_of, sector_of, sentence, sentence_in, stream_error, table_fault, table_of}
+use Rattle.xls_refusals.specs.Texts.{refusal_text}
+use Rattle.xls_refusals.specs.declared.faults.Fault.{Fault}
+use Rattle.xls_refusals.specs.declared.refusal.Chain.{Chain}
+use Rattle.xls_refusals.specs.declared.refusal.Chain.TheVariants as chains
+use Rattle.xls_refusals.specs.declared.refusal.Refusal.{Refusal}
+use Rattle.xls_refusals.specs.declared.refusal.Refusal.TheVariants as refusals
+
+-- ---- sentences
+
+unless : (n : ℕ) (x y : List ℕ) → (n ≡ 0 → ⊥) → (if n == 0 then x else y) ≡ y
+unless n x y some = search (rules, some)
+
+-- the sentence of a fault that a refusal tells, and of another
+pub sentence-some : (f : Fault) (r : Refusal) → (f.code ≡ 0 → ⊥) → refusal_of f ≡ Some r → sentence f ≡ refusal_text r
+sentence-some f r some is = unless f.code _ _ some ∙ ap sentence_in is
+
+pub sentence-none : (f : Fault) → (f.code ≡ 0 → ⊥) → refusal_of f ≡ None → sentence f ≡ codes "An unknown fault"
+sentence-none f some is = unless f.code _ _ some ∙ ap sentence_in is
 
 -- ---- back from numbers
 

@@ -1,9 +1,9 @@
 //! The parts of a stream by their numbers.
 
 ghost use Rattle.std.specs.Prelude.{◌≡◌, slice_get};
-ghost use Rattle.xls_arrays.specs.Parts.{part_number, part_of};
+ghost use Rattle.xls_refusals.specs.Parts.{part_number, part_of};
 
-use xls_strings::Part;
+use xls_record::Part;
 
 /// The parts in the order of their numbers, from 1.
 const PARTS: [Part; 38] = [

@@ -6,10 +6,10 @@ use Rattle.xls_sectors.specs.Errors.{fault_text}
 use Rattle.xls_directory.specs.Errors as directory
 use Rattle.xls_container.specs.Texts as files
 use Rattle.xls_container.specs.declared.fault.FileFault.TheVariants as faults
-use Rattle.xls_arrays.specs.declared.refusal.Chain.{Chain}
-use Rattle.xls_arrays.specs.declared.refusal.Chain.TheVariants as chains
-use Rattle.xls_arrays.specs.declared.refusal.Refusal.{Refusal}
-use Rattle.xls_arrays.specs.declared.refusal.Refusal.TheVariants as refusals
+use Rattle.xls_refusals.specs.declared.refusal.Chain.{Chain}
+use Rattle.xls_refusals.specs.declared.refusal.Chain.TheVariants as chains
+use Rattle.xls_refusals.specs.declared.refusal.Refusal.{Refusal}
+use Rattle.xls_refusals.specs.declared.refusal.Refusal.TheVariants as refusals
 
 -- what stands before the fault of a chain
 abbrev pub chain_text : Chain → List ℕ

@@ -11,10 +11,10 @@ use Rattle.xls_directory.specs.declared.fault.DirectoryFault.{DirectoryFault}
 use Rattle.xls_directory.specs.declared.fault.DirectoryFault.TheVariants as entries
 use Rattle.xls_container.specs.declared.kind.FileKind.{FileKind}
 use Rattle.xls_container.specs.declared.kind.FileKind.TheVariants as kinds
-use Rattle.xls_arrays.specs.Parts.{part_number}
-use Rattle.xls_arrays.specs.declared.refusal.Chain.{Chain}
-use Rattle.xls_arrays.specs.declared.refusal.Chain.TheVariants as chains
-use Rattle.xls_arrays.specs.declared.faults.Fault.{Fault}
+use Rattle.xls_refusals.specs.Parts.{part_number}
+use Rattle.xls_refusals.specs.declared.refusal.Chain.{Chain}
+use Rattle.xls_refusals.specs.declared.refusal.Chain.TheVariants as chains
+use Rattle.xls_refusals.specs.declared.faults.Fault.{Fault}
 
 abbrev pub numbers : ℕ → ℕ → ℕ → ℕ → ℕ → ℕ → Fault
 numbers code part table first second third =

@@ -2,21 +2,21 @@
 
 ghost use Rattle.std.specs.Prelude.{◌≡◌, ◌%◌, ◌^◌};
 ghost use Rattle.std.specs.Option.{option_map};
-ghost use Rattle.xls_arrays.specs.Telling.{call_refusal, chain_of, chain_refusal, entry_of};
-ghost use Rattle.xls_arrays.specs.Telling.{file_refusal, kind_of, numbered_fault, old_kind};
-ghost use Rattle.xls_arrays.specs.Telling.{part_fault, refusal_of, sector_of, stream_error};
-ghost use Rattle.xls_arrays.specs.Telling.{table_fault, table_of};
+ghost use Rattle.xls_refusals.specs.Telling.{call_refusal, chain_of, chain_refusal, entry_of};
+ghost use Rattle.xls_refusals.specs.Telling.{file_refusal, kind_of, numbered_fault, old_kind};
+ghost use Rattle.xls_refusals.specs.Telling.{part_fault, refusal_of, sector_of, stream_error};
+ghost use Rattle.xls_refusals.specs.Telling.{table_fault, table_of};
 ghost use Rattle.xls_record.specs.declared.error.XlsError.TheVariants as errors;
 ghost use Rattle.xls_text.specs.declared.error.CfbError.TheVariants as pages;
-ghost use Rattle.xls_arrays.specs.declared.refusal.Refusal.TheVariants as refusals;
+ghost use Rattle.xls_refusals.specs.declared.refusal.Refusal.TheVariants as refusals;
 
 use crate::faults::Fault;
 use crate::parts::part_of;
 use crate::refusal::{Chain, Refusal};
 use xls_container::FileKind;
 use xls_directory::DirectoryFault;
+use xls_record::{Part, XlsError};
 use xls_sectors::{SectorFault, Table};
-use xls_strings::{Part, XlsError};
 use xls_text::CfbError;
 
 /// The lowest 8 bits of a number.

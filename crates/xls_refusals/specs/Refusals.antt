@@ -5,9 +5,9 @@ use Rattle.xls_container.specs.declared.fault.FileFault.{FileFault}
 use Rattle.xls_container.specs.declared.fault.FileFault.TheVariants as files
 use Rattle.xls_record.specs.declared.error.XlsError.{XlsError}
 use Rattle.xls_record.specs.declared.error.XlsError.TheVariants as errors
-use Rattle.xls_arrays.specs.declared.refusal.Chain.TheVariants as chains
-use Rattle.xls_arrays.specs.declared.refusal.Refusal.{Refusal}
-use Rattle.xls_arrays.specs.declared.refusal.Refusal.TheVariants as refusals
+use Rattle.xls_refusals.specs.declared.refusal.Chain.TheVariants as chains
+use Rattle.xls_refusals.specs.declared.refusal.Refusal.{Refusal}
+use Rattle.xls_refusals.specs.declared.refusal.Refusal.TheVariants as refusals
 
 abbrev pub refusal_of_stream : XlsError → Refusal
 refusal_of_stream errors.Memory = refusals.Memory
