@@ -1,5 +1,5 @@
 -- The workbook of a view, and why there is none.
-use Rattle.std.proofs.Common.{◌≡◌, ℕ, suc, ◌≤◌, List, [], ◌∷◌, length, refl, sym, ap, subst, ◌∙◌, Option, Some, None, Result, Ok, Err}
+use Rattle.std.proofs.Common.{◌≡◌, ℕ, suc, ◌+◌, ◌≤◌, List, [], ◌∷◌, length, refl, sym, ap, subst, ◌∙◌, Option, Some, None, Result, Ok, Err}
 use Rattle.std.specs.Prelude.{IfErr, IfOk, IfSome}
 use Rattle.std.specs.List.{AllByRecursion, AllZip}
 use Rattle.std.proofs.lemmas.List.{length-map}
@@ -7,10 +7,12 @@ use Rattle.xls_record.specs.declared.error.XlsError.{XlsError}
 use Rattle.xls_record.specs.declared.error.XlsError.TheVariants as errors
 use Rattle.xls_meaning.specs.InForce.{InForce, SheetRecords, in_force_of, sheets_of}
 use Rattle.xls_meaning.specs.Reading.{IsReading, IsShown, SheetView}
-use Rattle.xls_open.specs.Opening.{IsOfOpening, IsOpened, OpenCause}
+use Rattle.std.specs.Io.KnownBytes.{Consumes, IsAtEnd}
+use Rattle.xls_source.specs.Bounded.{ReadCause}
+use Rattle.xls_open.specs.Opening.{IsOfOpening, IsOpened, OpenCause, Opens}
 use Rattle.xls_open.specs.Workbook.{IsOrdered, Workbook, rules_of}
 use Rattle.xls_open.specs.declared.options.XlsOptions.{XlsOptions}
-use Rattle.xls_open.proofs.OpeningLemmas.{checked_cause, checked_named, checked_sound}
+use Rattle.xls_open.proofs.OpeningLemmas.{checked_cause, checked_named, checked_sound, complete, read_cause, read_named}
 use Rattle.xls_view.specs.Viewing.{IsViewed, ViewCause, Viewed}
 use Rattle.xls_book.specs.Steps.{OpensBytes}
 
@@ -60,7 +62,7 @@ opened options bytes book within o =
       every = λ others c. subst (IsReading (rules_of options) others) (sym o.3) (is.every others c);
     }
 
-pub open_ok : (options : XlsOptions) (bytes : List ℕ) (left : Option (List ℕ)) (r : Result Workbook XlsError) → IfSome left (λ all. all ≡ bytes)
+open_ok : (options : XlsOptions) (bytes : List ℕ) (left : Option (List ℕ)) (r : Result Workbook XlsError) → IfSome left (λ all. all ≡ bytes)
     → length bytes ≤ options.max_bytes → OpensBytes options bytes r → IfOk r (λ book. IfSome left (IsOpened options book))
 open_ok options bytes None (Ok book) same within o = tt
 open_ok options bytes (Some all) (Ok book) same within o = subst (IsOpened options book) (sym same) (opened options bytes book within o)
@@ -75,11 +77,58 @@ view_named : (options : XlsOptions) (bytes : List ℕ) (e : XlsError) → ViewCa
 view_named options bytes errors.Memory c = tt
 view_named options bytes e c = checked_named options bytes e c
 
-pub open_cause : (options : XlsOptions) (bytes : List ℕ) (left : Option (List ℕ)) (before now : ℕ) (r : Result Workbook XlsError) → IfSome left (λ all. all ≡ bytes)
+open_cause : (options : XlsOptions) (bytes : List ℕ) (left : Option (List ℕ)) (before now : ℕ) (r : Result Workbook XlsError) → IfSome left (λ all. all ≡ bytes)
     → length bytes ≤ options.max_bytes → OpensBytes options bytes r → IfErr r (OpenCause options left before now)
 open_cause options bytes left before now (Ok book) same within o = tt
 open_cause options bytes left before now (Err e) same within o = view_cause options bytes left before now e same within o
 
-pub open_named : (options : XlsOptions) (bytes : List ℕ) (r : Result Workbook XlsError) → OpensBytes options bytes r → IfErr r IsOfOpening
+open_named : (options : XlsOptions) (bytes : List ℕ) (r : Result Workbook XlsError) → OpensBytes options bytes r → IfErr r IsOfOpening
 open_named options bytes (Ok book) o = tt
 open_named options bytes (Err e) o = view_named options bytes e o
+
+-- what was taken of a source: at most one byte more than the limit
+abbrev Front : XlsOptions → Option (List ℕ) → Option (List ℕ) → Type 0
+Front options left after = (taken : List ℕ) × (length taken ≤ options.max_bytes + 1) × Consumes left after taken
+
+-- the read was refused
+pub refused_open : (options : XlsOptions) (left after : Option (List ℕ)) (before now : ℕ) (e : XlsError) → ReadCause options.max_bytes left before now e
+    → Front options left after → before ≤ now → Opens options left after before now (Err e)
+refused_open options left after before now e c front count =
+    let cause = read_cause options left before now e c in
+    record {
+      ok = tt;
+      end = tt;
+      cause = cause;
+      named = read_named options.max_bytes left before now e c;
+      complete = λ quiet. complete {B = Workbook} options left before now (Err e) cause quiet;
+      front = front;
+      count = count;
+      faultless = tt;
+    }
+
+-- all was read, and these are the bytes
+pub bytes_open : (options : XlsOptions) (bytes : List ℕ) (left after : Option (List ℕ)) (before now : ℕ) (r : Result Workbook XlsError)
+    → IfSome left (λ all. all ≡ bytes) → length bytes ≤ options.max_bytes → OpensBytes options bytes r → IsAtEnd after
+    → Front options left after → before ≤ now → now ≡ before → Opens options left after before now r
+bytes_open options bytes left after before now (Ok book) same within o end front count faultless = record {
+  ok = open_ok options bytes left (Ok book) same within o;
+  end = end;
+  cause = tt;
+  named = tt;
+  complete = λ quiet. complete {B = Workbook} options left before now (Ok book) tt quiet;
+  front = front;
+  count = count;
+  faultless = faultless;
+}
+bytes_open options bytes left after before now (Err e) same within o end front count faultless =
+    let cause = open_cause options bytes left before now (Err e) same within o in
+    record {
+      ok = tt;
+      end = tt;
+      cause = cause;
+      named = open_named options bytes (Err e) o;
+      complete = λ quiet. complete {B = Workbook} options left before now (Err e) cause quiet;
+      front = front;
+      count = count;
+      faultless = tt;
+    }
