@@ -27,16 +27,7 @@ not_refused r e g h k = absurd (let both : ◌≡◌ {A = Result SheetRecord Xls
 
 pub no_run : (typ : ℕ) (body : List ℕ) (x : read.SheetRecord) → HasItems typ body x → typ ≢ types.MUL_RK → run_of x ≡ None
 no_run typ body (variant.MulRk kept count) h apart = absurd (apart h.0)
-no_run typ body variant.Other h apart = refl
-no_run typ body (variant.Number c) h apart = refl
-no_run typ body (variant.Rk c) h apart = refl
-no_run typ body (variant.BoolErr position value) h apart = refl
-no_run typ body (variant.Label position string) h apart = refl
-no_run typ body (variant.LabelSst position index) h apart = refl
-no_run typ body (variant.String string) h apart = refl
-no_run typ body (variant.Formula f) h apart = refl
-no_run typ body (variant.MergeCells kept count) h apart = refl
-no_run typ body (variant.Dimensions d) h apart = refl
+no_run typ body _ h apart = refl
 
 -- ---- the first cell of a record
 
