@@ -6,7 +6,7 @@ ghost use Rattle.xls_answers.specs.Answers.{OfBytes, OfRemade};
 use crate::failure::Failure;
 use std::alloc::Global;
 use xls_biff::XlsError;
-use xls_lay::{logical_of, write_workbook};
+use xls_lay::{LayError, TOO_LONG, canonical_length, logical_of, write_stream};
 use xls_lines::{Buffer, Sink, Stop};
 
 /// How many bytes a stream may have that is written once more.
@@ -30,7 +30,7 @@ pub(crate) fn write_whole<K: Sink>(alloc: Global, sink: &mut K, bytes: &[u8]) ->
     Ok(())
 }
 
-/// Writes the canonical stream of the list that bytes carry.
+/// Writes the canonical stream of the list that bytes carry, in pieces as it is made.
 pub(crate) fn write_remade<K: Sink>(
     alloc: Global,
     sink: &mut K,
@@ -44,7 +44,10 @@ pub(crate) fn write_remade<K: Sink>(
         }));
     }
     let list = logical_of(alloc, bytes)?;
-    let stream = write_workbook(alloc, &list)?;
-    write_bytes(alloc, sink, stream.as_slice())?;
+    let found = canonical_length(&list);
+    if found >= TOO_LONG {
+        return Err(Failure::Canonical(LayError::TooLong { found }));
+    }
+    write_stream(alloc, sink, &list)?;
     Ok(())
 }

@@ -87,6 +87,7 @@ impl Short {
     }
 
     /// Puts a number with its sign before the text.
+    #[inline(always)]
     pub fn put_int(&mut self, n: i64)
         requires { length self.old + 21 ≤ ROOM }
         ensures puts { self.new ≡ signed_decimal n ++ self.old }
@@ -187,6 +188,7 @@ impl Short {
 
     /// Puts a number before the text, as the workbook has it: a whole number or hundredths in decimal, the bits
     /// of another double in hexadecimal.
+    #[inline(always)]
     pub fn put_number(&mut self, n: Number)
         requires { length self.old + 24 ≤ ROOM }
         ensures puts { self.new ≡ number_text n ++ self.old }

@@ -6,4 +6,5 @@ pub mod RowLemmas
 pub mod RoundTripLemmas
 pub mod QuotientLemmas
 pub mod NumberLemmas
+pub mod QuoteLemmas
 pub mod StandardFacts

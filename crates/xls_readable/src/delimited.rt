@@ -1,15 +1,18 @@
 //! Fields of CSV and what stands between them, by RFC 4180.
 
-ghost use Rattle.std.specs.Prelude.{◌≡◌, ◌∷◌, ◌++◌, ◌<◌, ◌==◌, [], true, false, length, take, get_or, MatchOption, IfSome, OnOk, OnErr, codes};
+ghost use Rattle.std.specs.Prelude.{◌≡◌, ◌∷◌, ◌++◌, ◌<◌, ◌==◌, ◌↔◌, [], true, false, length, take, get_or, IsTrue, MatchOption, IfSome, OnOk, OnErr, codes};
 ghost use Rattle.std.specs.List.{flat_map, list_any};
 ghost use Rattle.std.specs.String.{string_bytes, string_len};
 ghost use Rattle.xls_bytes.specs.Growth.{IsGrown};
 ghost use Rattle.xls_decimals.specs.Added.{Adds};
+ghost use Rattle.xls_readable.specs.declared.values.Value.TheVariants.{Float, Int};
 ghost use Rattle.xls_readable.specs.Csv.{IsField, csv_field, doubled, doubled_byte, is_delimiter, is_marked, is_special, quoted, row_end};
 
-use crate::values::{Value, push_value};
+use crate::values::{Value, failure_text, push_int, push_value, truth_text};
 use std::alloc::AllocError;
 use std::marker::Model;
+use xls_data::Number;
+use xls_decimals::push_decimal;
 
 /// A byte that separates the fields of a row: ASCII, and no quote, newline or return. Contracts see
 /// the byte.
@@ -156,6 +159,32 @@ fn push_text(text: &str, delimiter: Delimiter, buf: &mut String) -> Result<(), A
     buf.push_str(text)
 }
 
+// Whether a delimiter is below all bytes of numbers, as a comma and a tab are.
+#[inline]
+fn is_below_numbers(delimiter: Delimiter) -> bool
+    ensures { IsTrue result ↔ (delimiter < 0x2D) }
+{
+    delimiter.byte < b'-'
+}
+
+// Appends the field of a whole number, which calls for no quotes.
+fn push_whole(n: i64, delimiter: Delimiter, buf: &mut String) -> Result<(), AllocError>
+    requires { delimiter < 0x2D }
+    ensures ok { OnOk result (Adds (IsField delimiter (Int n)) (string_bytes buf.old) (string_bytes buf.new)) }
+    ensures err { OnErr result (string_bytes buf.new ≡ string_bytes buf.old) }
+{
+    push_int(n, buf)
+}
+
+// Appends the field of a number, which calls for no quotes.
+fn push_number(n: Number, delimiter: Delimiter, buf: &mut String) -> Result<(), AllocError>
+    requires { delimiter < 0x2D }
+    ensures ok { OnOk result (Adds (IsField delimiter (Float n)) (string_bytes buf.old) (string_bytes buf.new)) }
+    ensures err { OnErr result (string_bytes buf.new ≡ string_bytes buf.old) }
+{
+    push_decimal(n, buf)
+}
+
 // Appends the field of a value that is printed into `room` first.
 fn push_printed(
     value: &Value<'_>,
@@ -187,6 +216,10 @@ pub fn push_field(
 {
     match value {
         Value::Text(text) => push_text(text, delimiter, buf),
+        Value::Truth(truth) => push_text(truth_text(*truth), delimiter, buf),
+        Value::Failure(failure) => push_text(failure_text(*failure), delimiter, buf),
+        Value::Int(n) if is_below_numbers(delimiter) => push_whole(*n, delimiter, buf),
+        Value::Float(n) if is_below_numbers(delimiter) => push_number(*n, delimiter, buf),
         _ => push_printed(value, delimiter, room, buf),
     }
 }

@@ -5,7 +5,7 @@ ghost use Rattle.std.specs.String.{string_bytes};
 ghost use Rattle.std.specs.Fmt.{signed_decimal};
 ghost use Rattle.xls_data.specs.Errors.{error_text};
 ghost use Rattle.xls_decimals.specs.Added.{Adds};
-ghost use Rattle.xls_readable.specs.Values.{IsFieldText, IsValueOf};
+ghost use Rattle.xls_readable.specs.Values.{IsFieldText, IsValueOf, truth_text};
 
 use std::alloc::AllocError;
 use xls_data::{CellErrorType, Data, ExcelDateTime, Number};
@@ -53,6 +53,13 @@ impl<'a> Value<'a> {
     }
 }
 
+// The word of a truth value.
+pub(crate) fn truth_text(truth: bool) -> &'static str
+    ensures { result.now ≡ truth_text truth }
+{
+    if truth { "TRUE" } else { "FALSE" }
+}
+
 // The word of an error value.
 pub(crate) fn failure_text(failure: CellErrorType) -> &'static str
     ensures { result.now ≡ error_text failure }
@@ -87,8 +94,7 @@ pub(crate) fn push_value(value: &Value<'_>, buf: &mut String) -> Result<(), Allo
         Value::Int(n) => push_int(*n, buf),
         Value::Float(n) => push_decimal(*n, buf),
         Value::Text(text) | Value::IsoDate(text) | Value::IsoDuration(text) => buf.push_str(text),
-        Value::Truth(true) => buf.push_str("TRUE"),
-        Value::Truth(false) => buf.push_str("FALSE"),
+        Value::Truth(truth) => buf.push_str(truth_text(*truth)),
         Value::Moment(moment) => push_date_or_duration(*moment, buf),
         Value::Failure(failure) => buf.push_str(failure_text(*failure)),
         Value::Empty => Ok(()),

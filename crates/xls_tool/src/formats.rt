@@ -1,11 +1,11 @@
 //! Number formats of a workbook's own that don't count.
 
-use crate::host::Host;
 use crate::job::Job;
 use crate::problem::Problem;
 use crate::say::say_of;
 use std::alloc::Global;
 use xls_container::Container;
+use xls_files::Host;
 use xls_formats::uncounted_formats;
 use xls_words::Command;
 

@@ -3,20 +3,17 @@
 #![tactic(auto)]
 
 mod formats;
-mod host;
 mod job;
 mod many;
 mod one;
-mod paths;
 mod problem;
-mod queue;
 mod runs;
 mod say;
 mod sheets;
 mod tell;
 mod work;
 
-pub use host::{Host, Listed, Name, Place, Reason};
 pub use problem::Problem;
 pub use runs::run;
+pub use xls_files::{Host, Listed, Name, Place, Reason};
 pub use xls_lines::{MemorySink, Sink, StdSink, WriteFault};

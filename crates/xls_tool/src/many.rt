@@ -5,14 +5,13 @@ ghost use Rattle.xls_tool.specs.Problems.{IsStatus};
 ghost use Rattle.xls_words.specs.Requests as requests;
 
 use crate::formats::tell_formats;
-use crate::host::{Host, Name, Reason};
 use crate::job::Job;
 use crate::problem::Problem;
-use crate::queue::{Next, Queue};
 use crate::sheets::write_files;
 use crate::tell::{Counts, counts_line, tell, write_counts};
 use crate::work::write_text;
 use std::alloc::{AllocError, Global};
+use xls_files::{Host, Name, Next, Queue, Reason};
 use xls_lines::{Sink, Stop, WriteFault};
 
 /// A sink that keeps nothing.

@@ -4,13 +4,13 @@ ghost use Rattle.std.specs.Prelude.{IfOk};
 ghost use Rattle.xls_tool.specs.Problems.{IsStatus};
 ghost use Rattle.xls_words.specs.Requests as requests;
 
-use crate::host::{Host, Place, Reason};
 use crate::job::Job;
 use crate::many::do_file;
 use crate::problem::Problem;
 use crate::say::say_problem;
 use std::alloc::Global;
 use xls_answers::Failure;
+use xls_files::{Host, Place, Reason};
 use xls_lines::{Sink, Stop};
 
 /// Does the work of what stands at a path, if that is a file.

@@ -7,12 +7,12 @@ ghost use Rattle.xls_tool.specs.declared.problem.Problem.TheVariants as problems
 ghost use Rattle.xls_answers.specs.declared.failure.Failure.TheVariants.{Stopped};
 ghost use Rattle.xls_lines.specs.declared.stop.Stop.TheVariants.{Memory};
 
-use crate::host::Reason;
 use std::alloc::AllocError;
 use std::fmt;
 use xls_answers::Failure;
 use xls_container::FileFault;
 use xls_documents::ProjectFault;
+use xls_files::Reason;
 use xls_lines::Stop;
 
 /// How it went with a file.

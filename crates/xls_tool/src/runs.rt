@@ -4,11 +4,11 @@ ghost use Rattle.std.specs.Prelude.{◌≡◌, IfOk, MatchResult};
 ghost use Rattle.xls_tool.specs.Problems.{Ends, IsStatus};
 ghost use Rattle.xls_words.specs.Requests as requests;
 
-use crate::host::{Host, Place, place_of};
 use crate::job::{Job, job_of, takes_many};
 use crate::many::{do_list, do_many};
 use crate::one::do_one;
 use std::alloc::Global;
+use xls_files::{Host, Place, place_of};
 use xls_lines::{Sink, Stop, write_all};
 use xls_words::{Command, Files, Request, SheetChoice, Shown, request_of};
 

@@ -1,9 +1,9 @@
 //! Lines on standard error.
 
-use crate::host::Host;
 use crate::problem::Problem;
 use std::alloc::{AllocError, Global};
 use xls_bytes::push_escaped;
+use xls_files::Host;
 
 /// A line about a file. The tabs, newlines and returns of its name and of the text are escaped.
 fn line_of(alloc: Global, file: &str, text: &str) -> Result<String, AllocError> {

@@ -2,9 +2,7 @@
 
 ghost use Rattle.xls_words.specs.Requests as requests;
 
-use crate::host::{Host, Reason};
 use crate::job::{Job, ending_of};
-use crate::paths::{folder_of, path_in};
 use crate::problem::Problem;
 use crate::say::say_of;
 use crate::work::write_text;
@@ -12,6 +10,7 @@ use std::alloc::Global;
 use xls_answers::{Failure, Missing, write_sheet};
 use xls_container::{Container, is_obfuscated};
 use xls_data::{Sheet, SheetType, SheetVisible};
+use xls_files::{Host, Reason, file_path, folder_of};
 use xls_lines::Stop;
 use xls_tables::file_name;
 use xls_view::View;
@@ -52,7 +51,7 @@ fn write_text_file<H: Host>(
 ) -> Result<(), Problem>
     requires { requests.HasNumber job.now.request.command }
 {
-    let path = path_in(
+    let path = file_path(
         alloc,
         folder,
         job.request.command.word().name(),
@@ -90,7 +89,7 @@ fn write_sheet_file<H: Host>(
         _ => return Err(Problem::Failure(Failure::Missing(Missing::Worksheet))),
     };
     let name = file_name(alloc, number as usize, sheet.name.as_str())?;
-    let path = path_in(alloc, folder, name.as_str(), "csv")?;
+    let path = file_path(alloc, folder, name.as_str(), "csv")?;
     let mut file = match create(host, path.as_str(), job.request.writes_over) {
         Ok(file) => file,
         Err(reason) => return Err(Problem::Unwritten(path, reason)),

@@ -4,13 +4,13 @@ ghost use Rattle.xls_words.specs.Requests as requests;
 ghost use Rattle.xls_tool.specs.Texts.{OfText, answer_of};
 
 use crate::job::{Job, answer_of};
-use crate::paths::names_of;
 use crate::problem::{Absent, Problem};
 use std::alloc::Global;
 use xls_answers::write_file;
 use xls_compound::{Compound, Entry};
 use xls_container::{Container, FileFault};
 use xls_documents::{project_of, properties_of, write_project, write_properties, write_streams};
+use xls_files::names_of;
 use xls_lines::{Sink, write_all};
 use xls_readable::Form;
 use xls_words::Command;

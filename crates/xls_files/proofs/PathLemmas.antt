@@ -7,7 +7,7 @@ use Rattle.std.proofs.lemmas.List.{take_all}
 use Rattle.std.proofs.lemmas.List.Elements.{All-nil, All-cons}
 use Rattle.std.proofs.lemmas.List.Folds.{flat_map-map}
 use Rattle.std.proofs.lemmas.Slice.Eq.{bytes_eq-Decides}
-use Rattle.xls_tool.specs.Paths.{IsInside, LeadsDown, below, file_called, folder_path, kept_name, names_in}
+use Rattle.xls_files.specs.Paths.{IsInside, LeadsDown, below, file_called, folder_path, kept_name, names_in}
 
 -- what the loop appended
 pub folder_whole : (out file path : List ℕ) (names : List (Bor (List ℕ))) (index : ℕ)

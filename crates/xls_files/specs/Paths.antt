@@ -1,5 +1,5 @@
 -- Where the texts of files are written, and which files of a folder are workbooks.
-use Rattle.std.specs.Prelude.{◌≡◌, ◌≢◌, ◌⊎◌, ℕ, ◌-◌, ◌==◌, ◌||◌, if◌then◌else◌, List, [], ◌∷◌, ◌++◌, length, drop, map, codes, All, Option, None, Some}
+use Rattle.std.specs.Prelude.{◌≡◌, ◌≢◌, ◌⊎◌, ℕ, ◌-◌, ◌==◌, ◌||◌, if◌then◌else◌, slice_index, Bool, List, [], ◌∷◌, ◌++◌, length, drop, map, codes, All, Option, None, Some}
 use Rattle.std.specs.Char.{to_ascii_lowercase}
 use Rattle.std.specs.List.{flat_map, slice_split}
 use Rattle.std.specs.Str.{bytes_eq}
@@ -36,6 +36,20 @@ LeadsDown name = (name ≢ []) × (name ≢ codes ".") × (name ≢ codes "..") 
 -- a path that such names lead to
 abbrev pub IsInside : List ℕ → List ℕ → Type 0
 IsInside out path = (names : List (List ℕ)) × All LeadsDown names × (path ≡ out ++ flat_map (λ name. 47 ∷ name) names)
+
+-- ---- paths in a folder
+
+-- a file in a folder, by its name and its ending
+abbrev pub file_path : List ℕ → List ℕ → List ℕ → List ℕ
+file_path folder name ending = folder ++ (codes "/" ++ (name ++ (codes "." ++ ending)))
+
+-- whether a path ends with a slash
+abbrev pub ends_with_slash : List ℕ → Bool
+ends_with_slash path = slice_index path (length path - 1) == 47
+
+-- something in a folder
+abbrev pub joined : List ℕ → List ℕ → List ℕ
+joined folder name = folder ++ ((if ends_with_slash folder then [] else codes "/") ++ name)
 
 -- ---- workbooks
 

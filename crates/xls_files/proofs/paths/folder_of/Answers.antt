@@ -1,6 +1,6 @@
 use Rattle.std.proofs.Common.{rules}
-use Rattle.xls_tool.proofs.PathLemmas.{folder_inside, folder_whole}
-use Rattle.xls_tool.proofs.paths.folder_of.Goals as goal
+use Rattle.xls_files.proofs.PathLemmas.{folder_inside, folder_whole}
+use Rattle.xls_files.proofs.paths.folder_of.Goals as goal
 
 pub returns-clause-path : goal.returns-clause-path
 returns-clause-path c =

@@ -3,7 +3,7 @@
 ghost use Rattle.std.specs.Prelude.{◌≡◌, ◌++◌, ◌↔◌, map, IsTrue, IfOk, OnOk};
 ghost use Rattle.std.specs.Option.{option_map};
 ghost use Rattle.std.specs.String.{string_bytes};
-ghost use Rattle.xls_tool.specs.Paths.{IsInside, IsWorkbookName, below, file_called, folder_path, kept_name, names_in};
+ghost use Rattle.xls_files.specs.Paths.{IsInside, IsWorkbookName, below, file_called, file_path, folder_path, joined, kept_name, names_in};
 
 use std::alloc::{AllocError, Global};
 
@@ -32,7 +32,7 @@ fn push_name(path: &mut String, name: &str) -> Result<(), AllocError>
 }
 
 /// The names of a path, which slashes separate.
-pub(crate) fn names_of(alloc: Global, path: &str) -> Result<Vec<&str>, AllocError>
+pub fn names_of(alloc: Global, path: &str) -> Result<Vec<&str>, AllocError>
     ensures { IfOk result (λ names. map (λ n. n.now) names.items ≡ names_in path.now) }
 {
     path.split('/').collect(alloc)
@@ -47,7 +47,7 @@ fn called(file: &str) -> &str
 
 /// The folder for the texts of a file: the folder for all, and in it the file's own path, without the slashes
 /// before it, `.` left out and `..` as `__`. Standard input is `stdin`.
-pub(crate) fn folder_of(alloc: Global, out: &str, file: &str) -> Result<String, AllocError>
+pub fn folder_of(alloc: Global, out: &str, file: &str) -> Result<String, AllocError>
     ensures path { IfOk result (λ s. string_bytes s ≡ folder_path out.now file.now) }
     ensures inside { IfOk result (λ s. IsInside out.now (string_bytes s)) }
 {
@@ -59,13 +59,15 @@ pub(crate) fn folder_of(alloc: Global, out: &str, file: &str) -> Result<String, 
     Ok(path)
 }
 
-/// The path of a name with an ending in a folder.
-pub(crate) fn path_in(
+/// The path of a file in a folder, by its name and its ending.
+pub fn file_path(
     alloc: Global,
     folder: &str,
     name: &str,
     ending: &str,
-) -> Result<String, AllocError> {
+) -> Result<String, AllocError>
+    ensures { IfOk result (λ s. string_bytes s ≡ file_path folder.now name.now ending.now) }
+{
     let mut path = String::from_str(alloc, folder)?;
     path.push('/')?;
     path.push_str(name)?;
@@ -74,8 +76,10 @@ pub(crate) fn path_in(
     Ok(path)
 }
 
-/// The path of something in a folder.
-pub(crate) fn joined(alloc: Global, folder: &str, name: &str) -> Result<String, AllocError> {
+/// The path of something in a folder. No slash follows one that ends the folder's path.
+pub fn joined(alloc: Global, folder: &str, name: &str) -> Result<String, AllocError>
+    ensures { IfOk result (λ s. string_bytes s ≡ joined folder.now name.now) }
+{
     let mut path = String::from_str(alloc, folder)?;
     if !folder.ends_with('/') {
         path.push('/')?;
@@ -85,7 +89,7 @@ pub(crate) fn joined(alloc: Global, folder: &str, name: &str) -> Result<String, 
 }
 
 /// Whether a name is that of a workbook.
-pub(crate) fn is_workbook(name: &str) -> bool
+pub fn is_workbook(name: &str) -> bool
     ensures { IsTrue result ↔ IsWorkbookName name.now }
 {
     let bytes = name.as_bytes();

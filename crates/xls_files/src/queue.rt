@@ -17,7 +17,7 @@ enum Item {
 
 /// What comes next.
 #[derive(Drop)]
-pub(crate) enum Next {
+pub enum Next {
     /// A regular file, or standard input.
     File(String),
     /// What is no regular file.
@@ -30,13 +30,13 @@ pub(crate) enum Next {
 
 /// Files and folders that are still to be answered, the next one last.
 #[derive(Drop)]
-pub(crate) struct Queue {
+pub struct Queue {
     alloc: Global,
     left: Vec<Item>,
 }
 
 impl Queue {
-    pub(crate) fn new(alloc: Global) -> Queue {
+    pub fn new(alloc: Global) -> Queue {
         Queue {
             alloc,
             left: Vec::new(alloc),
@@ -44,7 +44,7 @@ impl Queue {
     }
 
     /// Puts a file or folder before those that are left.
-    pub(crate) fn give(&mut self, path: &str) -> Result<(), AllocError> {
+    pub fn give(&mut self, path: &str) -> Result<(), AllocError> {
         let path = String::from_str(self.alloc, path)?;
         self.left.push(Item::Given(path))?;
         Ok(())
@@ -115,7 +115,7 @@ impl Queue {
     }
 
     /// The next file, or what can't be read.
-    pub(crate) fn next<H: Host>(&mut self, host: &mut H) -> Result<Option<Next>, AllocError> {
+    pub fn next<H: Host>(&mut self, host: &mut H) -> Result<Option<Next>, AllocError> {
         for _ in 0..u64::MAX {
             let Some(item) = self.left.pop() else {
                 return Ok(None);

@@ -25,7 +25,7 @@ impl fmt::Display for Reason {
 }
 
 impl From<AllocError> for Reason {
-    ghost use Rattle.xls_tool.specs.declared.host.Reason.TheVariants.{Memory};
+    ghost use Rattle.xls_files.specs.declared.host.Reason.TheVariants.{Memory};
 
     ghost from_gives = { λ _ e. e ≡ Memory };
 
@@ -100,7 +100,7 @@ pub trait Host {
 }
 
 /// What stands at a path; `-` is standard input, which is read as a file.
-pub(crate) fn place_of<H: Host>(host: &mut H, path: &str) -> Result<Place, Reason> {
+pub fn place_of<H: Host>(host: &mut H, path: &str) -> Result<Place, Reason> {
     if path == "-" {
         return Ok(Place::File);
     }
