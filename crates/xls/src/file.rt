@@ -17,15 +17,25 @@ fn make_folders(rt: &HostRuntime, path: &str) -> io::Result<()> {
     }
 }
 
-/// Makes a file, in folders that are made with it. One that exists is written over only where that is said.
-fn make(rt: &HostRuntime, path: &str, writes_over: bool) -> io::Result<File> {
-    make_folders(rt, path)?;
+/// Opens a file to be written. One that exists is written over only where that is said.
+fn open(rt: &HostRuntime, path: &str, writes_over: bool) -> io::Result<File> {
     let mut options = OpenOptions::new();
     options.write(true);
     options.create(writes_over);
     options.truncate(writes_over);
     options.create_new(!writes_over);
     options.open(rt, path)
+}
+
+/// Makes a file. Folders that aren't there are made with it.
+fn make(rt: &HostRuntime, path: &str, writes_over: bool) -> io::Result<File> {
+    match open(rt, path, writes_over) {
+        // Most files go into the folder of the file before, so a folder is looked for only where it is missed.
+        Err(error) if error.kind() == ErrorKind::NotFound => {}
+        answer => return answer,
+    }
+    make_folders(rt, path)?;
+    open(rt, path, writes_over)
 }
 
 /// How often an interrupted write is tried again.
