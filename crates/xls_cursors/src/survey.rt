@@ -231,36 +231,6 @@ impl Survey {
         }
     }
 
-    /// After a record that was read, where the last Formula before it stands here.
-    #[inline(always)]
-    fn with_read(self, read: &SheetRecord<'_>, last: (u32, u32), force: &InForce<'_>) -> Survey
-        requires { IsRead read.now }
-        ensures { (k : Kept) (cells : List Entry) (formulas : List Formula) (regions : List Dimensions)
-            → kept_line force.now.cells k ≡ Ok (stands_for force.now.cells read.now) → HasItems k.typ k.body read.now
-            → IsSurvey self cells formulas regions
-            → IsSurvey result (cells ++ (adds force.now.formulas last (stands_for force.now.cells read.now)).cells)
-            (formulas ++ formula_listed k) (regions ++ regions_at k) }
-    {
-        Survey {
-            cells: self.cells.with_record(read, last, force),
-            formulas: formulas_with(self.formulas, read),
-            merges: merges_with(self.merges, read),
-        }
-    }
-
-    /// The same, for records that are rare: so that the others pass with the cells alone.
-    #[inline(never)]
-    fn with_rare(self, read: &SheetRecord<'_>, last: (u32, u32), force: &InForce<'_>) -> Survey
-        requires { IsRead read.now }
-        ensures { (k : Kept) (cells : List Entry) (formulas : List Formula) (regions : List Dimensions)
-            → kept_line force.now.cells k ≡ Ok (stands_for force.now.cells read.now) → HasItems k.typ k.body read.now
-            → IsSurvey self cells formulas regions
-            → IsSurvey result (cells ++ (adds force.now.formulas last (stands_for force.now.cells read.now)).cells)
-            (formulas ++ formula_listed k) (regions ++ regions_at k) }
-    {
-        self.with_read(read, last, force)
-    }
-
     /// After a record without a fault, where the last Formula before it stands here.
     #[inline(always)]
     fn with(self, r: &Record<'_>, last: (u32, u32), force: &InForce<'_>) -> Survey
@@ -273,10 +243,10 @@ impl Survey {
             Ok(read) => read,
             Err(_) => return self,
         };
-        match read {
-            SheetRecord::Formula(_) => self.with_rare(&read, last, force),
-            SheetRecord::MergeCells { .. } => self.with_rare(&read, last, force),
-            _ => self.with_read(&read, last, force),
+        Survey {
+            cells: self.cells.with_record(&read, last, force),
+            formulas: formulas_with(self.formulas, &read),
+            merges: merges_with(self.merges, &read),
         }
     }
 }
