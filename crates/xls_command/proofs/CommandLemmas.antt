@@ -12,7 +12,7 @@ use Rattle.xls_open.specs.Opening.{IsOpened, default_options, default_rules}
 use Rattle.xls_source.specs.Bounded.{ReadCause}
 use Rattle.xls_lines.specs.SinkState.{SinkState, TakesEach}
 use Rattle.xls_report.specs.Report.{fault_line}
-use Rattle.xls_command.specs.Outputs.{IsOutput, IsRefusal, MayWrite, ReadsNothing, EndsBy, Spec, reading, accepting, accepting_sound, spec_of, property_limit, IsNameLine, HasSheet, HasCanonical}
+use Rattle.xls_command.specs.Outputs.{IsOutput, IsRefusal, MayWrite, ReadsNothing, EndsBy, Spec, reading, accepting_sound, spec_of, IsNameLine, HasSheet, HasCanonical}
 use Rattle.xls_report.specs.Texts.{IsFirstLine, IsUnremadeLine}
 use Rattle.xls_report.specs.Endings.{IsFault, EndsWithError, EndsWithEither}
 use Rattle.xls_command.specs.Endings.{Ends}
@@ -27,19 +27,18 @@ use Rattle.xls_command.proofs.EndingLemmas.{ends-either, ends-error, steady-eith
 
 -- what its output, its refusal and its end say of each other
 pub record IsReading (c : Spec) : Type 0 where
-  pub at_end : (before after : Option (List ℕ)) → IsAtEnd after → c.has_read before after
   pub unseen_output : (bytes text : List ℕ) → c.output (Some bytes) text → c.output None text
   pub unseen_refusal : (text : List ℕ) → c.refusal None text
-  pub done : (left : Option (List ℕ)) (text : List ℕ) → IfSome left (λ bytes. length bytes ≤ property_limit)
+  pub done : (left : Option (List ℕ)) (text : List ℕ) → IfSome left (λ bytes. length bytes ≤ default_options.max_bytes)
       → c.output left text → c.ends_well left 0
   pub refused : (left : Option (List ℕ)) (text : List ℕ) → c.refusal left text → c.ends_well left 1
   pub given_up : (left : Option (List ℕ)) → c.ends_well left 5
-  pub too_long : (left : Option (List ℕ)) → IfSome left (λ bytes. property_limit < length bytes)
-      → c.refusal left (fault_line (errors.TooLarge property_limit))
+  pub too_long : (left : Option (List ℕ)) → IfSome left (λ bytes. default_options.max_bytes < length bytes)
+      → c.refusal left (fault_line (errors.TooLarge default_options.max_bytes))
 
 module _ (IsText : Option (List ℕ) → List ℕ → Type 0) (IsLine : List ℕ → List ℕ → Type 0) (IsAccepted IsRefused : List ℕ → Type 0) where
-  reading_done : ((bytes text : List ℕ) → length bytes ≤ property_limit → IsText (Some bytes) text → IsAccepted bytes)
-      → (left : Option (List ℕ)) (text : List ℕ) → IfSome left (λ bytes. length bytes ≤ property_limit)
+  reading_done : ((bytes text : List ℕ) → length bytes ≤ default_options.max_bytes → IsText (Some bytes) text → IsAccepted bytes)
+      → (left : Option (List ℕ)) (text : List ℕ) → IfSome left (λ bytes. length bytes ≤ default_options.max_bytes)
       → IsText left text → EndsBy IsAccepted IsRefused left 0
   reading_done accepted None text le is = (inl refl, λ e. absurd (omega arith), λ _. tt)
   reading_done accepted (Some bytes) text le is =
@@ -52,20 +51,19 @@ module _ (IsText : Option (List ℕ) → List ℕ → Type 0) (IsLine : List ℕ
   reading_refused refused (Some bytes) text is =
       (inr (inl refl), λ _. refused bytes text is, λ e. absurd (omega arith))
 
-  reading_long : ((bytes : List ℕ) → property_limit < length bytes → IsLine bytes (fault_line (errors.TooLarge property_limit)))
-      → (left : Option (List ℕ)) → IfSome left (λ bytes. property_limit < length bytes)
-      → IfSome left (λ bytes. IsLine bytes (fault_line (errors.TooLarge property_limit)))
+  reading_long : ((bytes : List ℕ) → default_options.max_bytes < length bytes → IsLine bytes (fault_line (errors.TooLarge default_options.max_bytes)))
+      → (left : Option (List ℕ)) → IfSome left (λ bytes. default_options.max_bytes < length bytes)
+      → IfSome left (λ bytes. IsLine bytes (fault_line (errors.TooLarge default_options.max_bytes)))
   reading_long long None more = tt
   reading_long long (Some bytes) more = long bytes more
 
   -- by what its texts say of the bytes
   is_reading : ((bytes text : List ℕ) → IsText (Some bytes) text → IsText None text)
-      → ((bytes text : List ℕ) → length bytes ≤ property_limit → IsText (Some bytes) text → IsAccepted bytes)
+      → ((bytes text : List ℕ) → length bytes ≤ default_options.max_bytes → IsText (Some bytes) text → IsAccepted bytes)
       → ((bytes text : List ℕ) → IsLine bytes text → IsRefused bytes)
-      → ((bytes : List ℕ) → property_limit < length bytes → IsLine bytes (fault_line (errors.TooLarge property_limit)))
+      → ((bytes : List ℕ) → default_options.max_bytes < length bytes → IsLine bytes (fault_line (errors.TooLarge default_options.max_bytes)))
       → IsReading (reading IsText IsLine IsAccepted IsRefused)
   is_reading unseen accepted refused long = record {
-    at_end = λ before after end. end;
     unseen_output = unseen;
     unseen_refusal = λ text. tt;
     done = reading_done accepted;
@@ -77,13 +75,13 @@ module _ (IsText : Option (List ℕ) → List ℕ → Type 0) (IsLine : List ℕ
 -- ---- the commands that do
 
 -- too many bytes are the first fault
-first_long : (bytes : List ℕ) → property_limit < length bytes → IsFirstLine bytes (fault_line (errors.TooLarge property_limit))
-first_long bytes more = (errors.TooLarge property_limit, too_large bytes property_limit refl more, refl)
+first_long : (bytes : List ℕ) → default_options.max_bytes < length bytes → IsFirstLine bytes (fault_line (errors.TooLarge default_options.max_bytes))
+first_long bytes more = (errors.TooLarge default_options.max_bytes, too_large bytes default_options.max_bytes refl more, refl)
 
 -- one that refuses exactly bytes with a fault
 is_sound : (IsText : Option (List ℕ) → List ℕ → Type 0)
     → ((bytes text : List ℕ) → IsText (Some bytes) text → IsText None text)
-    → ((bytes text : List ℕ) → length bytes ≤ property_limit → IsText (Some bytes) text → IsSound default_rules bytes)
+    → ((bytes text : List ℕ) → length bytes ≤ default_options.max_bytes → IsText (Some bytes) text → IsSound default_rules bytes)
     → IsReading (accepting_sound IsText)
 is_sound IsText unseen sound =
     is_reading IsText IsFirstLine (IsSound default_rules) (λ bytes. IsSound default_rules bytes → ⊥) unseen sound
@@ -104,7 +102,7 @@ unremade : (bytes text : List ℕ) → IsUnremadeLine bytes text → HasCanonica
 unremade bytes text (inl first) has = has.0 first.0 first.1
 unremade bytes text (inr long) has = omega (arith, (long.every has.1 has.2).0, has.3)
 
--- each command that doesn't read nothing, as its test says
+-- each command but those of which the test `reads_nothing` holds
 pub reads_source : (c : Command) → (IsTrue false ↔ ReadsNothing c) → IsReading (spec_of c)
 reads_source Dump reads = is_sound _ (λ bytes text is. tt) (λ bytes text le is. is.1.sound)
 reads_source Sheets reads = is_sound _ (λ bytes text is. tt) (λ bytes text le is. is.1.sound)
@@ -140,10 +138,10 @@ module _ (c : Command) (command : IsReading (spec_of c)) (left left' : Option (L
   refusal_left bytes text all end =
       of_left (λ l. IsRefusal c l text) left left' bytes all end (λ _. command.unseen_refusal text)
 
-  pub ends-of_bytes : (bytes : List ℕ) → Consumes left left' bytes → IsAtEnd left' → length bytes ≤ property_limit
+  pub ends-of_bytes : (bytes : List ℕ) → Consumes left left' bytes → IsAtEnd left' → length bytes ≤ default_options.max_bytes
       → EndsWithEither (IsOutput c (Some bytes)) (IsRefusal c (Some bytes)) before after r → Ends c left before after r
   ends-of_bytes bytes all end le =
-      let within = Consumes-whole left left' bytes (λ b. length b ≤ property_limit) all end le in
+      let within = Consumes-whole left left' bytes (λ b. length b ≤ default_options.max_bytes) all end le in
       ends-either c left before after r (command.given_up left)
       (λ text is. let o = output_left bytes text all end is in (command.done left text within o, o))
       (λ text is. let l = refusal_left bytes text all end is in (command.refused left text l, l))
@@ -159,7 +157,7 @@ module _ (c : Command) (command : IsReading (spec_of c)) (left left' : Option (L
 
 -- by the line of too many bytes
 line_of_cause : (c : Spec) → IsReading c → (left : Option (List ℕ)) (f f' : ℕ) (e : XlsError)
-    → ReadCause property_limit left f f' e → IsFault e → c.refusal left (fault_line e)
+    → ReadCause default_options.max_bytes left f f' e → IsFault e → c.refusal left (fault_line e)
 line_of_cause c command left f f' errors.Io cause fault = absurd (fault.0 refl)
 line_of_cause c command left f f' errors.Memory cause fault = absurd (fault.1 refl)
 line_of_cause c command left f f' (errors.TooLarge n) cause fault =
@@ -167,11 +165,11 @@ line_of_cause c command left f f' (errors.TooLarge n) cause fault =
 line_of_cause c command left f f' e cause fault = absurd cause
 
 module _ (c : Command) (command : IsReading (spec_of c)) (left : Option (List ℕ)) (f f' : ℕ) (before after : SinkState) (r : Result Ending Stop) (e : XlsError) where
-  pub ends-of_cause : ReadCause property_limit left f f' e → EndsWithError e before after r → Ends c left before after r
+  pub ends-of_cause : ReadCause default_options.max_bytes left f f' e → EndsWithError e before after r → Ends c left before after r
   ends-of_cause cause =
       let line = line_of_cause (spec_of c) command left f f' e cause in
       ends-error c left before after r e (command.given_up left) (λ fault. command.refused left (fault_line e) (line fault)) line
 
-  pub steady-of_cause : ReadCause property_limit left f f' e → EndsWithError e before after r
+  pub steady-of_cause : ReadCause default_options.max_bytes left f f' e → EndsWithError e before after r
       → TakesEach before (MayWrite c left) → after.faults ≡ before.faults
   steady-of_cause cause = steady-error c left before after r e (line_of_cause (spec_of c) command left f f' e cause)
