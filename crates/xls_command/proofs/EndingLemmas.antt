@@ -5,7 +5,7 @@ use Rattle.xls_lines.specs.SinkState.{SinkState, TakesEach}
 use Rattle.xls_lines.specs.Gathering.{Stops, Wrote}
 use Rattle.xls_report.specs.Report.{fault_line}
 use Rattle.xls_command.specs.Outputs.{IsOutput, IsRefusal, MayWrite, EndsWell}
-use Rattle.xls_report.specs.Endings.{IsFault, EndsWithError, EndsWithText, EndsWithEither}
+use Rattle.xls_report.specs.Endings.{IsFault, EndsWithError, EndsWithEither}
 use Rattle.xls_command.specs.Endings.{Ends}
 use Rattle.xls_command.specs.declared.command.Command.{Command}
 use Rattle.xls_report.specs.declared.ending.Ending.{Ending}
@@ -21,17 +21,6 @@ ends-stopped : (c : Command) (left : Option (List ℕ)) {before after : SinkStat
 ends-stopped c left {before} {after} {text} Read well may p = absurd p.cause
 ends-stopped c left {before} {after} {text} Write well may p = (p.cause, inr (text, may, p.start))
 ends-stopped c left {before} {after} {text} Memory well may p = (well, inr (text, may, p.start))
-
--- the command's output was written, or a prefix of it
-pub ends-text : (c : Command) (left : Option (List ℕ)) (before after : SinkState) (r : Result Ending Stop) {IsText : List ℕ → Type 0}
-    → EndsWell c left 0 → EndsWell c left 5 → ((text : List ℕ) → IsText text → IsOutput c left text)
-    → EndsWithText IsText before after r → Ends c left before after r
-ends-text c left before after (Ok Done) done up output p = (done, (p.0, output p.0 p.1, p.2.appends))
-ends-text c left before after (Ok Refused) done up output p = absurd p
-ends-text c left before after (Err e) done up output (inl p) =
-    subst (λ d. Ends c left before after (Err d)) (sym p.0) (up, inl p.1.0)
-ends-text c left before after (Err e) done up output (inr p) =
-    ends-stopped c left e up (inl (output p.0 p.1)) p.2
 
 -- a text of one of two kinds was written, or a prefix of it
 pub ends-either : (c : Command) (left : Option (List ℕ)) (before after : SinkState) (r : Result Ending Stop) {IsDone IsRefused : List ℕ → Type 0}
@@ -70,14 +59,6 @@ steady-stopped c left {before} {after} {text} may p takes = p.steady takes.0 (om
 pub steady-wrote : (c : Command) (left : Option (List ℕ)) {before after : SinkState} {text : List ℕ}
     → MayWrite c left text → Wrote before after text → TakesEach before (MayWrite c left) → after.faults ≡ before.faults
 steady-wrote c left {before} {after} {text} may p takes = p.steady takes.0 (takes.2 text may) takes.1
-
-pub steady-text : (c : Command) (left : Option (List ℕ)) (before after : SinkState) (r : Result Ending Stop) {IsText : List ℕ → Type 0}
-    → ((text : List ℕ) → IsText text → IsOutput c left text) → EndsWithText IsText before after r
-    → TakesEach before (MayWrite c left) → after.faults ≡ before.faults
-steady-text c left before after (Ok Done) output p takes = steady-wrote c left (inl (output p.0 p.1)) p.2 takes
-steady-text c left before after (Ok Refused) output p takes = absurd p
-steady-text c left before after (Err e) output (inl p) takes = p.1.1
-steady-text c left before after (Err e) output (inr p) takes = steady-stopped c left (inl (output p.0 p.1)) p.2 takes
 
 pub steady-either : (c : Command) (left : Option (List ℕ)) (before after : SinkState) (r : Result Ending Stop) {IsDone IsRefused : List ℕ → Type 0}
     → ((text : List ℕ) → IsDone text → IsOutput c left text) → ((text : List ℕ) → IsRefused text → IsRefusal c left text)

@@ -1,4 +1,4 @@
--- What a command writes, by what a source had left.
+-- What a command reads, writes and refuses, by what a source had left.
 use Rattle.std.specs.Prelude.{◌≡◌, ◌≢◌, ◌⊎◌, ℕ, ◌<◌, ◌≤◌, ◌^◌, List, length, Option, None, IfSome}
 use Rattle.std.specs.Str.{chars}
 use Rattle.std.specs.Io.KnownBytes.{IsAtEnd}
@@ -15,57 +15,119 @@ use Rattle.xls_command.specs.Summary.{summary_text}
 use Rattle.xls_command.specs.declared.command.Command.{Command}
 use Rattle.xls_command.specs.declared.command.Command.TheVariants.{Dump, Sheets, Props, Check, Refs, Remake, Csv, Generate}
 
--- a text of what the workbook shows that the bytes open to
-abbrev pub IsOutputOf : (BookView → List ℕ) → Option (List ℕ) → List ℕ → Type 0
-IsOutputOf text_of left text =
-    IfSome left (λ bytes. (book : Workbook) × IsOpened default_options book bytes
-    × (text ≡ text_of (view_of book)))
+-- ---- what a command is
 
--- how many bytes a property stream may have
-abbrev pub property_limit : ℕ
-property_limit = 268_435_456
+-- whether it reads nothing; what it leaves of the source where it is done; the text that it writes where it is done,
+-- and the line where its input is refused; and how it ends where neither source nor sink fails
+pub record Spec : Type 1 where
+  pub reads_nothing : Type 0
+  pub has_read : Option (List ℕ) → Option (List ℕ) → Type 0
+  pub output : Option (List ℕ) → List ℕ → Type 0
+  pub refusal : Option (List ℕ) → List ℕ → Type 0
+  pub ends_well : Option (List ℕ) → ℕ → Type 0
+
+-- bytes that are refused have no output, and bytes that are accepted aren't refused
+abbrev pub EndsBy : (IsAccepted IsRefused : List ℕ → Type 0) → Option (List ℕ) → ℕ → Type 0
+EndsBy IsAccepted IsRefused left status = ((status ≡ 0) ⊎ (status ≡ 1) ⊎ (status ≡ 5))
+    × (status ≡ 1 → IfSome left IsRefused)
+    × (status ≡ 0 → IfSome left IsAccepted)
+
+-- a command that reads all of the source: its output, the line of bytes that it refuses, and which bytes it accepts
+-- and refuses
+abbrev pub reading : (Option (List ℕ) → List ℕ → Type 0) → (List ℕ → List ℕ → Type 0)
+    → (IsAccepted IsRefused : List ℕ → Type 0) → Spec
+reading IsText IsLine IsAccepted IsRefused = record {
+  reads_nothing = ⊥;
+  has_read = λ before after. IsAtEnd after;
+  output = IsText;
+  refusal = λ left text. IfSome left (λ bytes. IsLine bytes text);
+  ends_well = EndsBy IsAccepted IsRefused;
+}
+
+-- a command that refuses exactly the bytes that it doesn't accept
+abbrev pub accepting : (List ℕ → Type 0) → (List ℕ → List ℕ → Type 0) → (Option (List ℕ) → List ℕ → Type 0) → Spec
+accepting IsAccepted IsLine IsText = reading IsText IsLine IsAccepted (λ bytes. IsAccepted bytes → ⊥)
+
+-- a command that refuses exactly bytes with a fault, by the line of their first one
+abbrev pub accepting_sound : (Option (List ℕ) → List ℕ → Type 0) → Spec
+accepting_sound IsText = accepting (IsSound default_rules) IsFirstLine IsText
+
+-- a command that reads nothing and has one text
+abbrev pub making : List ℕ → Spec
+making made = record {
+  reads_nothing = Unit {0};
+  has_read = λ before after. after ≡ before;
+  output = λ left text. text ≡ made;
+  refusal = λ left text. ⊥;
+  ends_well = λ left status. (status ≡ 0) ⊎ (status ≡ 5);
+}
+
+-- ---- what the commands write, accept and refuse
+
+-- a text of the bytes that were left
+abbrev pub OfBytes : (List ℕ → List ℕ → Type 0) → Option (List ℕ) → List ℕ → Type 0
+OfBytes IsText left text = IfSome left (λ bytes. IsText bytes text)
+
+-- a text of what the workbook shows that the bytes open to
+abbrev pub IsOutputOf : (BookView → List ℕ) → List ℕ → List ℕ → Type 0
+IsOutputOf text_of bytes text =
+    (book : Workbook) × IsOpened default_options book bytes × (text ≡ text_of (view_of book))
 
 -- either of what the workbook shows that the bytes open to
 abbrev pub IsOfBook : (BookView → List ℕ → Type 0) → List ℕ → List ℕ → Type 0
 IsOfBook IsOf bytes text =
     (book : Workbook) × IsOpened default_options book bytes × IsOf (view_of book) text
 
--- the text of a command that is done
-abbrev pub IsOutput : Command → Option (List ℕ) → List ℕ → Type 0
-IsOutput Dump left text = IsOutputOf report left text
-IsOutput Sheets left text = IsOutputOf sheet_report left text
-IsOutput Props left text = IfSome left (λ bytes. (length bytes ≤ property_limit) × IsPropertyText bytes text)
-IsOutput Check left text = IfSome left (IsSound default_rules) × (text ≡ sound_line)
-IsOutput Refs left text = IfSome left (λ bytes. IsRefsText bytes text)
-IsOutput Remake left text = IfSome left (λ bytes. IsRemadeText bytes text)
-IsOutput (Csv name) left text = IfSome left (λ bytes. IsOfBook (IsCsvOf name.now) bytes text)
-IsOutput (Generate n) left text = text ≡ summary_text n
+-- the line of bytes without a fault
+abbrev pub IsSoundText : Option (List ℕ) → List ℕ → Type 0
+IsSoundText left text = IfSome left (IsSound default_rules) × (text ≡ sound_line)
 
--- the line of the first fault
-abbrev pub IsFaultLine : Option (List ℕ) → List ℕ → Type 0
-IsFaultLine left text = IfSome left (λ bytes. IsFirstLine bytes text)
+-- how many bytes a property stream may have
+abbrev pub property_limit : ℕ
+property_limit = 268_435_456
+
+-- the properties that the bytes hold
+abbrev pub IsPropertyOutput : List ℕ → List ℕ → Type 0
+IsPropertyOutput bytes text = (length bytes ≤ property_limit) × IsPropertyText bytes text
 
 -- the line of too many bytes
-abbrev pub IsLengthLine : Option (List ℕ) → List ℕ → Type 0
-IsLengthLine left text =
-    IfSome left (λ bytes. (property_limit < length bytes)
-    × (text ≡ fault_line (TooLarge property_limit)))
+abbrev pub IsLengthLine : List ℕ → List ℕ → Type 0
+IsLengthLine bytes text = (property_limit < length bytes) × (text ≡ fault_line (TooLarge property_limit))
 
 -- the line of the first fault, or of a name that no sheet has
-abbrev pub IsNameLine : List ℕ → Option (List ℕ) → List ℕ → Type 0
-IsNameLine name left text =
-    IfSome left (λ bytes. IsFirstLine bytes text ⊎ IsOfBook (IsMissingOf name) bytes text)
+abbrev pub IsNameLine : List ℕ → List ℕ → List ℕ → Type 0
+IsNameLine name bytes text = IsFirstLine bytes text ⊎ IsOfBook (IsMissingOf name) bytes text
+
+-- no place of the bytes has a fault, and a sheet of their workbook has this name
+abbrev pub HasSheet : List ℕ → List ℕ → Type 0
+HasSheet name bytes = (book : Workbook) × IsOpened default_options book bytes
+    × (view_named book (chars name) ≢ None)
+
+-- no place of the bytes has a fault, and the canonical bytes of their list have offsets of 32 bits
+abbrev pub HasCanonical : List ℕ → Type 0
+HasCanonical bytes = IsSound default_rules bytes
+    × (list : List Entry) × Carries bytes list × (length (canonical_bytes list) < 2 ^ 32)
+
+-- ---- the commands
+
+abbrev pub spec_of : Command → Spec
+spec_of Dump = accepting_sound (OfBytes (IsOutputOf report))
+spec_of Sheets = accepting_sound (OfBytes (IsOutputOf sheet_report))
+spec_of Props = reading (OfBytes IsPropertyOutput) IsLengthLine
+    (λ bytes. length bytes ≤ property_limit) (λ bytes. property_limit < length bytes)
+spec_of Check = accepting_sound IsSoundText
+spec_of Refs = accepting_sound (OfBytes IsRefsText)
+spec_of Remake = accepting HasCanonical IsUnremadeLine (OfBytes IsRemadeText)
+spec_of (Csv name) = accepting (HasSheet name.now) (IsNameLine name.now) (OfBytes (IsOfBook (IsCsvOf name.now)))
+spec_of (Generate n) = making (summary_text n)
+
+-- the text of a command that is done
+abbrev pub IsOutput : Command → Option (List ℕ) → List ℕ → Type 0
+IsOutput c left text = (spec_of c).output left text
 
 -- the line of a command whose input is refused
 abbrev pub IsRefusal : Command → Option (List ℕ) → List ℕ → Type 0
-IsRefusal Dump left text = IsFaultLine left text
-IsRefusal Sheets left text = IsFaultLine left text
-IsRefusal Props left text = IsLengthLine left text
-IsRefusal Check left text = IsFaultLine left text
-IsRefusal Refs left text = IsFaultLine left text
-IsRefusal Remake left text = IfSome left (λ bytes. IsUnremadeLine bytes text)
-IsRefusal (Csv name) left text = IsNameLine name.now left text
-IsRefusal (Generate n) left text = ⊥
+IsRefusal c left text = (spec_of c).refusal left text
 
 -- either of them
 abbrev pub MayWrite : Command → Option (List ℕ) → List ℕ → Type 0
@@ -73,67 +135,12 @@ MayWrite c left text = IsOutput c left text ⊎ IsRefusal c left text
 
 -- a command that is done has read all of the source, or leaves it as it was where it reads nothing
 abbrev pub HasRead : Command → Option (List ℕ) → Option (List ℕ) → Type 0
-HasRead Dump before after = IsAtEnd after
-HasRead Sheets before after = IsAtEnd after
-HasRead Props before after = IsAtEnd after
-HasRead Check before after = IsAtEnd after
-HasRead Refs before after = IsAtEnd after
-HasRead Remake before after = IsAtEnd after
-HasRead (Csv name) before after = IsAtEnd after
-HasRead (Generate n) before after = after ≡ before
-
--- bytes without a fault aren't refused, and those with one have no output
-abbrev pub EndsBySoundness : Option (List ℕ) → ℕ → Type 0
-EndsBySoundness left status = ((status ≡ 0) ⊎ (status ≡ 1) ⊎ (status ≡ 5))
-    × (status ≡ 1 → IfSome left (λ bytes. IsSound default_rules bytes → ⊥))
-    × (status ≡ 0 → IfSome left (IsSound default_rules))
-
--- exactly too many bytes are refused
-abbrev pub EndsByLength : Option (List ℕ) → ℕ → Type 0
-EndsByLength left status = ((status ≡ 0) ⊎ (status ≡ 1) ⊎ (status ≡ 5))
-    × (status ≡ 1 → IfSome left (λ bytes. property_limit < length bytes))
-    × (status ≡ 0 → IfSome left (λ bytes. length bytes ≤ property_limit))
-
--- no place of the bytes has a fault, and a sheet of their workbook has this name
-abbrev pub HasSheet : List ℕ → List ℕ → Type 0
-HasSheet name bytes = (book : Workbook) × IsOpened default_options book bytes
-    × (view_named book (chars name) ≢ None)
-
--- bytes without a fault that have a sheet of this name aren't refused, and others have no output
-abbrev pub EndsByName : List ℕ → Option (List ℕ) → ℕ → Type 0
-EndsByName name left status = ((status ≡ 0) ⊎ (status ≡ 1) ⊎ (status ≡ 5))
-    × (status ≡ 1 → IfSome left (λ bytes. HasSheet name bytes → ⊥))
-    × (status ≡ 0 → IfSome left (HasSheet name))
-
--- no place of the bytes has a fault, and the canonical bytes of their list have offsets of 32 bits
-abbrev pub HasCanonical : List ℕ → Type 0
-HasCanonical bytes = IsSound default_rules bytes
-    × (list : List Entry) × Carries bytes list × (length (canonical_bytes list) < 2 ^ 32)
-
--- bytes without a fault whose canonical bytes aren't too many aren't refused, and others have no output
-abbrev pub EndsByRemaking : Option (List ℕ) → ℕ → Type 0
-EndsByRemaking left status = ((status ≡ 0) ⊎ (status ≡ 1) ⊎ (status ≡ 5))
-    × (status ≡ 1 → IfSome left (λ bytes. HasCanonical bytes → ⊥))
-    × (status ≡ 0 → IfSome left HasCanonical)
+HasRead c before after = (spec_of c).has_read before after
 
 -- how a command ends where neither source nor sink fails
 abbrev pub EndsWell : Command → Option (List ℕ) → ℕ → Type 0
-EndsWell Dump left status = EndsBySoundness left status
-EndsWell Sheets left status = EndsBySoundness left status
-EndsWell Props left status = EndsByLength left status
-EndsWell Check left status = EndsBySoundness left status
-EndsWell Refs left status = EndsBySoundness left status
-EndsWell Remake left status = EndsByRemaking left status
-EndsWell (Csv name) left status = EndsByName name.now left status
-EndsWell (Generate n) left status = (status ≡ 0) ⊎ (status ≡ 5)
+EndsWell c left status = (spec_of c).ends_well left status
 
 -- the command reads nothing
 abbrev pub ReadsNothing : Command → Type 0
-ReadsNothing Dump = ⊥
-ReadsNothing Sheets = ⊥
-ReadsNothing Props = ⊥
-ReadsNothing Check = ⊥
-ReadsNothing Refs = ⊥
-ReadsNothing Remake = ⊥
-ReadsNothing (Csv name) = ⊥
-ReadsNothing (Generate n) = Unit {0}
+ReadsNothing c = (spec_of c).reads_nothing
