@@ -9,3 +9,4 @@ pub mod PlaceLemmas
 pub mod AscentLemmas
 pub mod BoundsLemmas
 pub mod SurveyLemmas
+pub mod PlainLemmas

@@ -1,5 +1,5 @@
 -- What a walk over positions finds, for the proofs.
-use Rattle.std.specs.Prelude.{◌≡◌, ◌-◌, ◌^◌, ◌==◌, if◌then◌else◌, min, max, List, [], ◌∷◌, map, Option, Some, None}
+use Rattle.std.specs.Prelude.{◌≡◌, ◌-◌, ◌^◌, ◌==◌, if◌then◌else◌, min, max, List, [], ◌∷◌, map, Option, Some, None, Ok}
 use Rattle.xls_range.specs.Positions.{Position}
 use Rattle.xls_range.specs.Bounds.{bounds_of}
 use Rattle.xls_data.specs.Content.{Content}
@@ -7,6 +7,9 @@ use Rattle.xls_data.specs.declared.regions.Dimensions.{Dimensions}
 use Rattle.xls_stream.specs.Listing.{Kept}
 use Rattle.xls_biff.specs.Cells.{Entry}
 use Rattle.xls_meaning.specs.Order.{somes}
+use Rattle.xls_stream.specs.declared.types.TheConstants as types
+use Rattle.xls_biff.specs.SheetTable.{CellContext, SheetRecord, cells_record}
+use Rattle.xls_meaning.specs.SheetTable.{kept_line}
 use Rattle.xls_cursors.specs.Formulas.{Formula, formula_of}
 use Rattle.xls_cursors.specs.Placing.{IsAscent}
 use Rattle.xls_cursors.specs.declared.survey.FoundCells.{FoundCells}
@@ -21,6 +24,11 @@ widened (Some d) p = record { start = (min p.0 d.start.0, min p.1 d.start.1); en
 abbrev pub IsCellAt : Option Position → List Entry → Type 0
 IsCellAt None cells = cells ≡ []
 IsCellAt (Some p) cells = (v : Content) × (cells ≡ (p, v) ∷ [])
+
+-- a record has one cell, which stands here, no formula and no region
+pub record IsPlain (k : Kept) (p : Position) : Type 0 where
+  pub one : (s : CellContext) (g : SheetRecord) → kept_line s k ≡ Ok g → (v : Content) × (g ≡ cells_record ((p, v) ∷ []))
+  pub apart : k.typ ≡ types.MERGE_CELLS → ⊥
 
 -- the formula of a record, if it is a Formula
 abbrev pub formula_listed : Kept → List Formula

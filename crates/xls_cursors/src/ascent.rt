@@ -71,6 +71,14 @@ impl Ascent {
         }
     }
 
+    /// One more position, for positions that are rare: where they are found stays in memory.
+    #[inline(never)]
+    pub(crate) fn add(&mut self, position: (u32, u32))
+        ensures { (ps : List Position) → IsAscent self.old ps → IsAscent self.new (ps ++ position ∷ []) }
+    {
+        *self = self.with(position);
+    }
+
     /// Whether all of them ascend.
     pub(crate) fn is_strict(self) -> bool
         ensures { IsTrue result ↔ (self.falls ≡ 0) }

@@ -1,6 +1,6 @@
 //! What one walk over a sheet part finds of the positions of its cells and formulas.
 
-ghost use Rattle.std.specs.Prelude.{◌≡◌, ◌↔◌, IsTrue, ◌++◌, ◌∷◌, ◌+◌, ◌*◌, ◌≤◌, ◌^◌, [], List, Ok, None, false, length, map};
+ghost use Rattle.std.specs.Prelude.{◌≡◌, ◌↔◌, IsTrue, ◌++◌, ◌∷◌, ◌+◌, ◌*◌, ◌≤◌, ◌^◌, [], List, Ok, None, IfSome, false, length, map};
 ghost use Rattle.std.specs.List.{range_with_len};
 ghost use Rattle.std.specs.Option.{option_map};
 ghost use Rattle.xls_data.specs.Content.{Content};
@@ -17,16 +17,19 @@ ghost use Rattle.xls_meaning.specs.SheetTable.{adds, kept_line};
 ghost use Rattle.xls_cursors.specs.Contents.{cells_from, kept_in, regions_at, regions_of};
 ghost use Rattle.xls_cursors.specs.Formulas.{Formula, formulas_of};
 ghost use Rattle.xls_cursors.specs.Placing.{IsAscent};
-ghost use Rattle.xls_cursors.specs.Surveying.{IsCellAt, IsFound, IsSurvey, box_found, formula_listed};
+ghost use Rattle.xls_cursors.specs.Surveying.{IsCellAt, IsFound, IsPlain, IsSurvey, box_found, formula_listed};
 ghost use Rattle.xls_cursors.specs.Walking.{IsRead, IsSound, run_of};
 
 use crate::ascent::Ascent;
 use crate::places::run_position;
 use crate::record::{run_of, single_cell};
 use crate::value::position_of;
-use xls_biff::{Record, SheetRecord, SheetRecords, formula_position, read_sheet_record};
+use xls_biff::{
+    Record, SheetRecord, SheetRecords, cell_position, formula_position, read_sheet_record,
+};
 use xls_data::Dimensions;
 use xls_open::InForce;
+use xls_stream::types::{BOOL_ERR, LABEL, NUMBER, R_STRING, RK};
 
 /// Whether the cells so far ascend strictly by position, and the smallest box that holds them.
 #[derive(Clone, Copy)]
@@ -168,16 +171,15 @@ fn place_of(read: &SheetRecord<'_>, last: (u32, u32), force: &InForce<'_>) -> Op
     }
 }
 
-/// Whether the formulas of some records and of one more ascend.
+/// One more record, to find whether the formulas of the records ascend.
 #[inline(always)]
-fn formulas_with(found: Ascent, read: &SheetRecord<'_>) -> Ascent
+fn add_formula(found: &mut Ascent, read: &SheetRecord<'_>)
     ensures { (s : CellContext) (k : Kept) (formulas : List Formula) → kept_line s k ≡ Ok (stands_for s read.now)
-        → IsAscent found (map (λ (f : Formula). f.0) formulas)
-        → IsAscent result (map (λ (f : Formula). f.0) (formulas ++ formula_listed k)) }
+        → IsAscent found.old (map (λ (f : Formula). f.0) formulas)
+        → IsAscent found.new (map (λ (f : Formula). f.0) (formulas ++ formula_listed k)) }
 {
-    match read.formula_position() {
-        Some(position) => found.with(position),
-        None => found,
+    if let Some(position) = read.formula_position() {
+        found.add(position);
     }
 }
 
@@ -220,35 +222,54 @@ impl Survey {
     {
         self.merges > 0
     }
+}
 
-    fn none() -> Survey
-        ensures { IsSurvey result [] [] [] }
-    {
-        Survey {
-            cells: FoundCells::none(),
-            formulas: Ascent::new(),
-            merges: 0,
-        }
+/// Where the one cell of a record stands that begins with its position, of the types that sheets have most of: these
+/// needn't be read for that.
+#[inline(always)]
+fn first_place(r: &Record<'_>) -> Option<(u32, u32)>
+    ensures { IfSome result (IsPlain (kept_group (group_of r.now))) }
+{
+    match r.typ {
+        NUMBER => cell_position(r.body),
+        RK => cell_position(r.body),
+        BOOL_ERR => cell_position(r.body),
+        LABEL | R_STRING => cell_position(r.body),
+        _ => None,
     }
+}
 
-    /// After a record without a fault, where the last Formula before it stands here.
-    #[inline(always)]
-    fn with(self, r: &Record<'_>, last: (u32, u32), force: &InForce<'_>) -> Survey
-        ensures { (cells : List Entry) (formulas : List Formula) (regions : List Dimensions) (g : table.SheetRecord)
-            → kept_line force.now.cells (kept_group (group_of r.now)) ≡ Ok g → IsSurvey self cells formulas regions
-            → IsSurvey result (cells ++ (adds force.now.formulas last g).cells)
-            (formulas ++ formula_listed (kept_group (group_of r.now))) (regions ++ regions_at (kept_group (group_of r.now))) }
-    {
-        let read = match read_sheet_record(r, force.version) {
-            Ok(read) => read,
-            Err(_) => return self,
-        };
-        Survey {
-            cells: self.cells.with_record(&read, last, force),
-            formulas: formulas_with(self.formulas, &read),
-            merges: merges_with(self.merges, &read),
-        }
+/// After a record without a fault, where the last Formula before it stands here: what was found of the cells, and how
+/// many MergeCells records there are. What was found of the formulas, which are rarer, stays in memory, so that the
+/// cells pass in registers.
+#[inline(always)]
+fn pass(
+    cells: FoundCells,
+    formulas: &mut Ascent,
+    merges: usize,
+    r: &Record<'_>,
+    last: (u32, u32),
+    force: &InForce<'_>,
+) -> (FoundCells, usize)
+    ensures { (es : List Entry) (fs : List Formula) (rs : List Dimensions) (g : table.SheetRecord)
+        → kept_line force.now.cells (kept_group (group_of r.now)) ≡ Ok g
+        → IsSurvey (record { cells = cells; formulas = formulas.old; merges = merges }) es fs rs
+        → IsSurvey (record { cells = result.0; formulas = formulas.new; merges = result.1 })
+        (es ++ (adds force.now.formulas last g).cells)
+        (fs ++ formula_listed (kept_group (group_of r.now))) (rs ++ regions_at (kept_group (group_of r.now))) }
+{
+    if let Some(position) = first_place(r) {
+        return (cells.with(position), merges);
     }
+    let read = match read_sheet_record(r, force.version) {
+        Ok(read) => read,
+        Err(_) => return (cells, merges),
+    };
+    add_formula(formulas, &read);
+    (
+        cells.with_record(&read, last, force),
+        merges_with(merges, &read),
+    )
 }
 
 /// What is found of the records of a part. Takes no memory.
@@ -257,15 +278,29 @@ pub(crate) fn survey_of(part: &[u8], force: &InForce<'_>) -> Survey
     ensures { IsSurvey result (cells_from force.now (0, 0) (kept_in part.now 0))
         (formulas_of (kept_in part.now 0)) (regions_of (kept_in part.now 0)) }
 {
-    let mut survey = Survey::none();
+    let mut cells = FoundCells::none();
+    let mut formulas = Ascent::new();
+    let mut merges = 0;
     let mut last = (0, 0);
     for item in SheetRecords::new(part) {
         let record = match item {
             Ok(record) => record,
-            Err(_) => return survey,
+            Err(_) => {
+                return Survey {
+                    cells,
+                    formulas,
+                    merges,
+                };
+            }
         };
-        survey = survey.with(&record, last, force);
+        let (found, regions) = pass(cells, &mut formulas, merges, &record, last, force);
+        cells = found;
+        merges = regions;
         last = formula_position(&record).unwrap_or(last);
     }
-    survey
+    Survey {
+        cells,
+        formulas,
+        merges,
+    }
 }

@@ -16,7 +16,7 @@ use Rattle.xls_cursors.proofs.survey.survey_of.Goals as goal
 pub loop-item-init : goal.loop-item-init
 loop-item-init c =
     let begins = c.into_iter-item-iterator.ensures.into_iter_gives ∙ c.new-item-items.ensures in
-    rw begins (tt, tt, c.requires, [], [], [], c.none-survey.ensures, refl, refl, refl)
+    rw begins (tt, tt, c.requires, [], [], [], record { cells = c.none-cells.ensures; formulas = c.new-formulas.ensures; merges = λ e. refl }, refl, refl, refl)
 
 pub returns-in-Err : goal.returns-in-Err
 returns-in-Err c =
@@ -24,7 +24,7 @@ returns-in-Err c =
     let s = c.args.force.now in
     let i = l.invariant in
     let steps = rw c.in-Err.is at c.in-Some.ensures.steps in
-    survey_done l.survey s l.last (kept_in l.item-iterator.0 l.item-iterator.1) i.3 _ i.4 _ i.5 _ i.6 i.7 i.8 i.9
+    survey_done (record { cells = l.cells; formulas = l.formulas; merges = l.merges }) s l.last (kept_in l.item-iterator.0 l.item-iterator.1) i.3 _ i.4 _ i.5 _ i.6 i.7 i.8 i.9
     (cut_sound s l.item-iterator c.in-Err.field-0 i.2 steps.0)
 
 pub loop-item-preserved : goal.loop-item-preserved
@@ -48,7 +48,7 @@ loop-item-preserved c =
       i.3 ++ cells,
       i.4 ++ formula_listed k,
       i.5 ++ regions_at k,
-      c.with-survey.ensures i.3 i.4 i.5 line.0 line.1 i.6,
+      c.pass-regions.ensures i.3 i.4 i.5 line.0 line.1 i.6,
       more_done i.3 cells (cells_from s c.unwrap_or-last.result (kept_in after.0 after.1)) _ _ i.7 next,
       more_done i.4 (formula_listed k) (formulas_of (kept_in after.0 after.1)) _ _ i.8 (formulas_next before g after i.2.0 steps (formula_of k) refl),
       more_done i.5 (regions_at k) (regions_of (kept_in after.0 after.1)) _ _ i.9 (regions_next before g after i.2.0 steps (regions_at k) refl),
@@ -59,5 +59,5 @@ returns c =
     let l = c.loop-item in
     let s = c.args.force.now in
     let i = l.invariant in
-    survey_done l.survey s l.last (kept_in l.item-iterator.0 l.item-iterator.1) i.3 _ i.4 _ i.5 _ i.6 i.7 i.8 i.9
+    survey_done (record { cells = l.cells; formulas = l.formulas; merges = l.merges }) s l.last (kept_in l.item-iterator.0 l.item-iterator.1) i.3 _ i.4 _ i.5 _ i.6 i.7 i.8 i.9
     (over_sound s l.item-iterator i.2 c.in-None.ensures.steps.0)

@@ -13,7 +13,7 @@ invariant-loop-item l =
     (goal.iterator-loop-item).can_next l.item-iterator ×
     (goal.iterator-loop-item).is_finite l.item-iterator ×
     IsSound l.force l.item-iterator ×
-    (es : List Entry) × (fs : List Formula) × (rs : List Dimensions) × IsSurvey l.survey es fs rs ×
+    (es : List Entry) × (fs : List Formula) × (rs : List Dimensions) × IsSurvey (record { cells = l.cells; formulas = l.formulas; merges = l.merges }) es fs rs ×
     (es ++ cells_from l.force l.last (kept_in l.item-iterator.0 l.item-iterator.1) ≡ cells_from l.force (0, 0) (kept_in l.part 0)) ×
     (fs ++ formulas_of (kept_in l.item-iterator.0 l.item-iterator.1) ≡ formulas_of (kept_in l.part 0)) ×
     (rs ++ regions_of (kept_in l.item-iterator.0 l.item-iterator.1) ≡ regions_of (kept_in l.part 0))

@@ -1,4 +1,4 @@
-use Rattle.std.proofs.Common.{◌++◌, sym, ap, subst}
+use Rattle.std.proofs.Common.{◌++◌, refl, sym, ap, subst}
 use Rattle.xls_stream.specs.Listing.{kept_group}
 use Rattle.xls_biff.specs.SheetTable.{SheetRecord}
 use Rattle.xls_biff.specs.Walking.{group_of}
@@ -6,7 +6,21 @@ use Rattle.xls_meaning.specs.InForce.{InForce}
 use Rattle.xls_meaning.specs.SheetTable.{adds}
 use Rattle.xls_cursors.specs.Surveying.{IsFound}
 use Rattle.xls_cursors.proofs.RecordLemmas.{read_as}
-use Rattle.xls_cursors.proofs.survey.Survey.with.Goals as goal
+use Rattle.xls_cursors.proofs.SurveyLemmas.{formula_not_found, no_regions_yet}
+use Rattle.xls_cursors.proofs.survey.pass.Goals as goal
+
+-- a record that begins with the position of its one cell
+pub returns-in-Some : goal.returns-in-Some
+returns-in-Some c = λ es fs rs g h found.
+    let s = c.args.force.now in
+    let k = kept_group (group_of c.args.r.now) in
+    let plain = rw c.in-Some.is at c.first_place.ensures in
+    let one = plain.one s.cells g h in
+    record {
+      cells = rw one.1 (c.with.ensures es one.0 found.cells);
+      formulas = formula_not_found s.cells k g c.args.formulas.now fs (rw one.1 refl) h found.formulas;
+      merges = λ e. no_regions_yet k rs (found.merges e) plain.apart;
+    }
 
 pub returns : goal.returns
 returns c = λ es fs rs g h found.
@@ -16,6 +30,6 @@ returns c = λ es fs rs g h found.
     let line = c.in-Ok.ensures.exact s.cells version in
     record {
       cells = subst (λ (x : SheetRecord). IsFound c.with_record.result (es ++ (adds s.formulas c.args.last x).cells)) (read_as _ _ g line h) (c.with_record.ensures es found.cells);
-      formulas = c.formulas_with.ensures s.cells k fs line found.formulas;
+      formulas = c.add_formula.ensures s.cells k fs line found.formulas;
       merges = c.merges_with.ensures k rs c.in-Ok.ensures.items found.merges;
     }
