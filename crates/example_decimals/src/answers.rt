@@ -2,7 +2,7 @@
 
 ghost use Rattle.std.specs.Prelude.{◌≡◌, OnOk, IfOk, true, false, codes};
 ghost use Rattle.std.specs.String.{string_bytes};
-ghost use Rattle.xls_decimals.specs.Added.{Adds};
+ghost use Rattle.xls_decimals.specs.Added.{AddsText};
 ghost use Rattle.xls_decimals.specs.Decimals.{IsDecimal};
 ghost use Rattle.xls_decimals.specs.Moments.{IsDate, IsDuration};
 
@@ -13,13 +13,13 @@ use xls_decimals::{push_date, push_decimal, push_duration};
 // Appends a number as its kind asks. False for a kind that isn't known.
 fn push_number(kind: &str, number: Number, text: &mut String) -> Result<bool, AllocError>
     ensures decimal { kind.now ≡ codes "d"
-        → OnOk result (Adds (IsDecimal number) (string_bytes text.old) (string_bytes text.new)) }
+        → OnOk result (AddsText (IsDecimal number) (string_bytes text.old) (string_bytes text.new)) }
     ensures date { kind.now ≡ codes "t0"
-        → OnOk result (Adds (IsDate false number) (string_bytes text.old) (string_bytes text.new)) }
+        → OnOk result (AddsText (IsDate false number) (string_bytes text.old) (string_bytes text.new)) }
     ensures date_1904 { kind.now ≡ codes "t4"
-        → OnOk result (Adds (IsDate true number) (string_bytes text.old) (string_bytes text.new)) }
+        → OnOk result (AddsText (IsDate true number) (string_bytes text.old) (string_bytes text.new)) }
     ensures duration { kind.now ≡ codes "u"
-        → OnOk result (Adds (IsDuration number) (string_bytes text.old) (string_bytes text.new)) }
+        → OnOk result (AddsText (IsDuration number) (string_bytes text.old) (string_bytes text.new)) }
     ensures known { kind.now ≡ codes "d" → IfOk result (λ known. known ≡ true) }
 {
     match kind {

@@ -46,8 +46,8 @@ sheet_at [] i s below is = absurd (omega (arith, below))
 sheet_at (t ∷ sheets) zero s below is = ap (λ (x : Sheet). Some (sheet_content x)) (sym is)
 sheet_at (t ∷ sheets) (suc i) s below is = sheet_at sheets i s (omega (arith, below)) is
 
-pub told_at : (sheets : List Sheet) (told : List SheetContent) (i : ℕ) (s : Sheet)
-    → i < length sheets → s ≡ get_or sheets i s → map sheet_content sheets ≡ told
-    → slice_get told i ≡ Some (sheet_content s)
-told_at sheets told i s below is e =
+pub reported_at : (sheets : List Sheet) (reported : List SheetContent) (i : ℕ) (s : Sheet)
+    → i < length sheets → s ≡ get_or sheets i s → map sheet_content sheets ≡ reported
+    → slice_get reported i ≡ Some (sheet_content s)
+reported_at sheets reported i s below is e =
     subst (λ (l : List SheetContent). slice_get l i ≡ Some (sheet_content s)) e (sheet_at sheets i s below is)

@@ -5,7 +5,7 @@ use Rattle.std.specs.Fmt.{decimal}
 use Rattle.xls_bytes.specs.Columns.{column_name}
 use Rattle.xls_bytes.specs.Escapes.{escaped_text}
 use Rattle.xls_data.specs.Sheets.{SheetContent}
-use Rattle.xls_meaning.specs.SheetTable.{FormulaEntry, shown_formulas}
+use Rattle.xls_meaning.specs.SheetTable.{FormulaEntry, nonempty_formulas}
 use Rattle.xls_meaning.specs.Reading.{SheetView}
 
 -- the sheet, the cell as `B7`, and the text, separated by tabs, and a newline
@@ -18,7 +18,7 @@ formula_line sheet f =
 -- has none
 abbrev pub lines_at : List ℕ → Option SheetView → List ℕ
 lines_at sheet None = []
-lines_at sheet (Some view) = flat_map (formula_line sheet) (shown_formulas view.formulas)
+lines_at sheet (Some view) = flat_map (formula_line sheet) (nonempty_formulas view.formulas)
 
 -- the lines of the formulas of all sheets, in the order of the workbook
 abbrev pub listing : List SheetContent → List SheetView → List ℕ

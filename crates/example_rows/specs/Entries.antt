@@ -6,7 +6,7 @@ use Rattle.xls_data.specs.Content.{Content, int, float}
 use Rattle.xls_dates.specs.declared.numbers.Number.{Number}
 use Rattle.xls_dates.specs.declared.numbers.Number.TheVariants.{Whole}
 use Rattle.xls_rows.specs.Refusals.{Refusal, end_of_row, custom, Gives}
-use Rattle.xls_rows.specs.Readers.{text_in, data_in}
+use Rattle.xls_rows.specs.Readers.{text_read, data_in}
 use Rattle.xls_rows.specs.Rows.{Row, contents_of}
 use Rattle.xls_rows.specs.declared.error.DeError.{DeError}
 use Rattle.example_rows.specs.declared.entry.Entry.{Entry}
@@ -31,7 +31,7 @@ number_in row c = Err (no_number row)
 -- that is wrong
 abbrev pub pair_in : ℕ × ℕ → Content → Content → Result (List ℕ × Number) Refusal
 pair_in place name amount = do
-  text ← text_in place name
+  text ← text_read place name
   copy ← data_in place amount
   number ← number_in place.0 copy
   Ok (text, number)

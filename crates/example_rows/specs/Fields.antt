@@ -4,7 +4,7 @@ use Rattle.std.specs.Global.{Global}
 use Rattle.std.specs.String.{string_bytes}
 use Rattle.xls_data.specs.Content.{Content}
 use Rattle.xls_rows.specs.Refusals.{Refusal, Gives}
-use Rattle.xls_rows.specs.Readers.{text_in, is_nothing}
+use Rattle.xls_rows.specs.Readers.{text_read, is_empty_cell}
 use Rattle.xls_rows.specs.Rows.{Row, all_read}
 use Rattle.xls_rows.specs.Laws.{named_values}
 use Rattle.xls_rows.specs.declared.error.DeError.{DeError}
@@ -23,7 +23,7 @@ pub record IsNextField {T : Type 0} (empty : T → Bool) (old new : Row T) (fiel
 abbrev pub field_in : {T : Type 0} → (T → Content) → ℕ × ℕ → Option (List ℕ) × T
     → Result (Option (List ℕ) × List ℕ) Refusal
 field_in content place field = do
-  text ← text_in place (content field.1)
+  text ← text_read place (content field.1)
   Ok (field.0, text)
 
 -- those of a row's cells that aren't empty, or the first refusal
@@ -31,7 +31,7 @@ abbrev pub fields_in : {T : Type 0} → (T → Content) → ℕ × ℕ → Row T
     → Result (List (Option (List ℕ) × List ℕ)) Refusal
 fields_in content place row =
     all_read (field_in content place)
-    (named_values (λ x. is_nothing (content x)) row.exposed)
+    (named_values (λ x. is_empty_cell (content x)) row.exposed)
 
 -- a field as the code has it
 abbrev pub field_view : String Global × String Global → Option (List ℕ) × List ℕ

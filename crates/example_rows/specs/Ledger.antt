@@ -14,7 +14,7 @@ use Rattle.xls_record.specs.declared.error.XlsError.{XlsError}
 use Rattle.xls_meaning.specs.Reading.{SheetView}
 use Rattle.xls_open.specs.Opening.{IsOpened, default_options}
 use Rattle.xls_open.specs.Workbook.{Workbook, view_named}
-use Rattle.xls_book.specs.LookUps.{Equal, IsRange}
+use Rattle.xls_book.specs.LookUps.{Equal, IsRangeOf}
 use Rattle.example_rows.specs.Entries.{ReadsEntry}
 use Rattle.example_rows.specs.Fields.{ReadsFields}
 use Rattle.example_rows.specs.declared.error.LedgerError.{LedgerError}
@@ -27,7 +27,7 @@ abbrev pub IsSheetIn : Equal → List ℕ → List ℕ → Grid Data → Type 0
 IsSheetIn eq bytes name range =
     (book : Workbook) × IsOpened default_options book bytes
     × (view : SheetView) × (view_named book (chars name) ≡ Some view)
-    × IsRange eq is_nothing book.options.header_row view.cells range
+    × IsRangeOf eq is_nothing book.options.header_row view.cells range
 
 -- the columns of an entry
 abbrev pub entry_columns : List (List ℕ)

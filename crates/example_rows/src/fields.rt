@@ -2,7 +2,7 @@
 
 ghost use Rattle.std.specs.Prelude.{◌≡◌, [], Some, IsTrue, MatchOption};
 ghost use Rattle.xls_rows.specs.Laws.{named_values};
-ghost use Rattle.xls_rows.specs.Readers.{is_nothing};
+ghost use Rattle.xls_rows.specs.Readers.{is_empty_cell};
 ghost use Rattle.xls_rows.specs.Refusals.{Gives};
 ghost use Rattle.example_rows.specs.Fields.{IsNextField, field_in, field_view};
 
@@ -47,8 +47,8 @@ impl FromRow for Fields {
 fn next_field<'h, 'c, T: ReadCell>(row: &mut RowDeserializer<'h, 'c, T>) -> Option<(&'h str, &'c T)>
     requires { IsTrue row.old.named }
     ensures { MatchOption result
-        (named_values (λ x. is_nothing (T.content x)) row.old.exposed ≡ [])
-        (λ f. IsNextField (λ x. is_nothing (T.content x)) row.old row.new (f.0.now, f.1.now)) }
+        (named_values (λ x. is_empty_cell (T.content x)) row.old.exposed ≡ [])
+        (λ f. IsNextField (λ x. is_empty_cell (T.content x)) row.old row.new (f.0.now, f.1.now)) }
 {
     let Some(header) = row.next_key() else {
         return None;

@@ -7,7 +7,7 @@ use Rattle.xls_data.specs.declared.values.Data.TheVariants as variant
 use Rattle.xls_range.specs.Grid.{Grid, cell_at}
 use Rattle.xls_meaning.specs.Reading.{SheetView}
 use Rattle.xls_open.specs.Workbook.{Workbook, view_named}
-use Rattle.xls_book.specs.LookUps.{Equal, IsRange}
+use Rattle.xls_book.specs.LookUps.{Equal, IsRangeOf}
 
 -- the whole number that a cell holds, and 0 for any other cell
 abbrev pub int_in : Option Data → ℤ
@@ -28,5 +28,5 @@ total range column = total_above range column range.height
 abbrev pub IsSumIn : Equal → Workbook → List ℕ → ℕ → ℤ → Type 0
 IsSumIn eq book name column sum =
     (view : SheetView) × (view_named book (chars name) ≡ Some view)
-    × (range : Grid Data) × IsRange eq is_nothing book.options.header_row view.cells range
+    × (range : Grid Data) × IsRangeOf eq is_nothing book.options.header_row view.cells range
     × (sum ≡ total range column)

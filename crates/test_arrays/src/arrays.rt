@@ -182,8 +182,8 @@ fn tells_what_a_file_is(rt: HostRuntime) -> Result<(), Fail> {
     let code = stream(rt.alloc(), &[], &mut [], &mut size, &mut fault);
     assert_eq!(rt; code, 48);
     let mut out = [0u8; 64];
-    let told = fault_text(rt.alloc(), &fault, &mut out, &mut size);
-    assert_eq!(rt; told, 0);
+    let reported = fault_text(rt.alloc(), &fault, &mut out, &mut size);
+    assert_eq!(rt; reported, 0);
     assert!(rt; size <= 64);
     assert_eq!(rt;
         &out[..size as usize],

@@ -77,7 +77,7 @@ enum Asked {
     /// The values of each sheet and a bar, then its formulas and a bar.
     Sheets,
     /// Whether dates count from 1904, the formats, the defined names and the sheets.
-    Told,
+    Reported,
     /// The sheets and the names by `metadata`, and the names of the sheets.
     Names,
     /// The bound of bytes.
@@ -189,7 +189,7 @@ fn ranges(alloc: Global, book: &mut Xls) -> Result<String, XlsError> {
 fn answer(alloc: Global, book: &mut Xls, asked: Asked) -> Result<String, XlsError> {
     let text = match asked {
         Asked::Sheets => sheets(alloc, book),
-        Asked::Told => format!(in alloc;
+        Asked::Reported => format!(in alloc;
             "{} {:?} {:?} {:?}",
             book.has_1904_epoch(),
             book.formats(),
@@ -249,7 +249,7 @@ fn answer_of(
 }
 
 // Whether the answer, or the refusal, is this text.
-fn is_told(
+fn is_reported(
     alloc: Global,
     opening: Opening,
     parts: &[&[u8]],
@@ -265,5 +265,5 @@ fn is_told(
 
 fn is_case(alloc: Global, case: &Case) -> Result<bool, AllocError> {
     let (_, opening, parts, asked, wanted) = case;
-    is_told(alloc, *opening, parts, *asked, wanted)
+    is_reported(alloc, *opening, parts, *asked, wanted)
 }

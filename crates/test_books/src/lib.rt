@@ -8,4 +8,4 @@ mod csv_rows;
 #[cfg(test)]
 mod lay;
 #[cfg(test)]
-mod made;
+mod sample;

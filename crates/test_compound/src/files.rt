@@ -1,7 +1,7 @@
 //! Whole files, each fault once, tables that loop, and refused memory. The texts are those that the README's crates state, the
-//! numbers those of the layout in `made.rt`, and the sums Python's of the same bytes.
+//! numbers those of the layout in `sample.rt`, and the sums Python's of the same bytes.
 
-use crate::made::{made, put};
+use crate::sample::{sample, put};
 use std::alloc::{AllocError, Global};
 use std::test::Fail;
 use xls_compound::{Compound, CompoundError, Entry};
@@ -55,7 +55,7 @@ struct Case {
 
 // What is listed of the file with these changes, or why it is refused.
 fn said(alloc: Global, case: &Case) -> Result<String, AllocError> {
-    let mut file = made(alloc, case.is_version_4)?;
+    let mut file = sample(alloc, case.is_version_4)?;
     let sector = if case.is_version_4 { 4096 } else { 512 };
     for (number, offset, value) in case.changes {
         put(
@@ -363,7 +363,7 @@ fn size_at(compound: &Compound<'_>, path: &[&str]) -> Option<u64> {
 }
 
 fn is_found(alloc: Global) -> Result<bool, CompoundError> {
-    let file = made(alloc, false)?;
+    let file = sample(alloc, false)?;
     let compound = Compound::open(alloc, &file)?;
     Ok(
         size_at(&compound, &["sub", "SMALL"]) == Some(70)

@@ -4,4 +4,4 @@
 #[cfg(test)]
 mod files;
 #[cfg(test)]
-mod made;
+mod sample;

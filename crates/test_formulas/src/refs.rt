@@ -199,7 +199,7 @@ fn joined(alloc: Global, parts: &[&[u8]]) -> Result<Vec<u8>, AllocError> {
 }
 
 /// Each citation after the sheet, the row and the column of its formula.
-fn told(alloc: Global, book: &BookCites) -> Result<String, AllocError> {
+fn reported(alloc: Global, book: &BookCites) -> Result<String, AllocError> {
     let mut out = String::new(alloc);
     for i in 0..book.len() {
         if let Some(found) = book.get(i) {
@@ -243,7 +243,7 @@ fn cites_what_the_formulas_of_a_ledger_do(rt: HostRuntime) -> Result<(), Fail> {
         ],
     )?;
     let wanted = "0 1 1 Data!2,0:2,1 0 2 0 Data!0,0:0,0 0 2 0 Data!0,0:0,0 1 0 0 Data!1,0:1,0 ";
-    assert_eq!(rt; told(alloc, &book)?.as_str(), wanted);
+    assert_eq!(rt; reported(alloc, &book)?.as_str(), wanted);
     assert_eq!(rt;
         (book.sheet_name(1), book.sheet_name(2)),
         (Some("Log"), None)
@@ -282,7 +282,7 @@ fn a_name_shows_the_formulas_of_its_last_sheet(rt: HostRuntime) -> Result<(), Fa
         ],
     )?;
     let wanted = "0 0 1 A!0,3:0,3 0 1 0 A!0,1:0,1 1 0 1 A!0,3:0,3 1 1 0 A!0,1:0,1 ";
-    assert_eq!(rt; told(alloc, &book)?.as_str(), wanted);
+    assert_eq!(rt; reported(alloc, &book)?.as_str(), wanted);
     Ok(())
 }
 

@@ -5,11 +5,11 @@ use xls_data::{Cell, CellType, Data};
 use xls_range::{Range, RangeError};
 
 fn usize_cells(alloc: Global, cells: &[(u32, u32, usize)]) -> Result<Vec<Cell<usize>>, AllocError> {
-    let mut given = Vec::new(alloc);
+    let mut input = Vec::new(alloc);
     for (row, column, value) in cells {
-        given.push(Cell::new((*row, *column), *value))?;
+        input.push(Cell::new((*row, *column), *value))?;
     }
-    Ok(given)
+    Ok(input)
 }
 
 fn same(range: &Range<usize>, wanted: &[usize]) -> bool {
@@ -73,12 +73,12 @@ fn grows_from_nothing(rt: HostRuntime) -> Result<(), Fail> {
     Ok(())
 }
 
-fn is_out_of_bounds<T: Drop>(made: Result<T, RangeError>) -> bool {
-    matches!(made, Err(RangeError::Bounds))
+fn is_out_of_bounds<T: Drop>(built: Result<T, RangeError>) -> bool {
+    matches!(built, Err(RangeError::Bounds))
 }
 
-fn is_too_large(made: Result<Range<usize>, RangeError>) -> bool {
-    matches!(made, Err(RangeError::TooLarge))
+fn is_too_large(built: Result<Range<usize>, RangeError>) -> bool {
+    matches!(built, Err(RangeError::TooLarge))
 }
 
 #[test]
@@ -126,7 +126,7 @@ fn is_column_of_three(range: &Range<usize>) -> bool {
 }
 
 #[test]
-fn spans_the_given_cells(rt: HostRuntime) -> Result<(), Fail> {
+fn spans_its_cells(rt: HostRuntime) -> Result<(), Fail> {
     let range = spanned(rt.alloc(), &[(2, 2, 1), (5, 2, 2), (9, 2, 3)])?;
     assert!(rt; is_column_of_three(&range));
     Ok(())
@@ -154,11 +154,11 @@ fn spans_sorted_cells_alike(rt: HostRuntime) -> Result<(), Fail> {
 
 // Int 1, 2, 3 at (1, 1), (1, 2), (3, 1).
 fn three_cells(alloc: Global) -> Result<Range<Data>, Fail> {
-    let mut given = Vec::new(alloc);
-    given.push(Cell::new((1, 1), Data::Int(1)))?;
-    given.push(Cell::new((1, 2), Data::Int(2)))?;
-    given.push(Cell::new((3, 1), Data::Int(3)))?;
-    Ok(Range::from_sparse(alloc, given)?)
+    let mut input = Vec::new(alloc);
+    input.push(Cell::new((1, 1), Data::Int(1)))?;
+    input.push(Cell::new((1, 2), Data::Int(2)))?;
+    input.push(Cell::new((3, 1), Data::Int(3)))?;
+    Ok(Range::from_sparse(alloc, input)?)
 }
 
 // From (0, 0) to (2, 1) they are 1, 2, blank, blank, 3 and blank.
@@ -360,8 +360,8 @@ fn takes_or_stays(range: &mut Range<usize>, position: (u32, u32)) -> bool {
 // Each request for memory is refused in turn by a run with a failing allocation.
 #[test]
 fn stays_as_it_was_without_memory(rt: HostRuntime) {
-    let made: Result<Range<usize>, RangeError> = Range::new(rt.alloc(), (0, 0), (1, 1));
-    let Ok(mut range) = made else {
+    let built: Result<Range<usize>, RangeError> = Range::new(rt.alloc(), (0, 0), (1, 1));
+    let Ok(mut range) = built else {
         return;
     };
     for position in [(1, 1), (5, 1), (5, 7), (9, 9)] {

@@ -8,18 +8,18 @@ use xls_text::XlsEncoding;
 pub const UTF16: XlsEncoding = XlsEncoding::Utf16;
 
 /// An answer as `{:?}` writes it.
-pub fn shown<T: fmt::Debug + Drop>(alloc: Global, answer: T) -> Result<String, AllocError> {
+pub fn displayed<T: fmt::Debug + Drop>(alloc: Global, answer: T) -> Result<String, AllocError> {
     format!(in alloc; "{answer:?}")
 }
 
 /// A refusal, of whatever was to be read.
 pub fn refusal(alloc: Global, fault: XlsError) -> Result<String, AllocError> {
-    shown(alloc, Err::<(), XlsError>(fault))
+    displayed(alloc, Err::<(), XlsError>(fault))
 }
 
 /// The number of the texts, then each of them behind a bar, and a dot for the index past the end.
 fn texts_of(alloc: Global, strings: &Strings) -> Result<String, AllocError> {
-    let mut texts = shown(alloc, strings.len())?;
+    let mut texts = displayed(alloc, strings.len())?;
     for i in 0..strings.len().saturating_add(1) {
         texts.push_str("|")?;
         texts.push_str(strings.get(i).unwrap_or("."))?;
@@ -40,13 +40,13 @@ fn steps_of(alloc: Global, r: &Record<'_>) -> Result<String, AllocError> {
         }
     };
     for _ in 0..4 {
-        let step = shown(alloc, reader.next_units(alloc))?;
+        let step = displayed(alloc, reader.next_units(alloc))?;
         steps.push_str(&step)?;
         if !step.starts_with("Ok(Some(") {
             break;
         }
     }
-    steps.push_str(&shown(alloc, reader.next_units(alloc))?)?;
+    steps.push_str(&displayed(alloc, reader.next_units(alloc))?)?;
     Ok(steps)
 }
 

@@ -1,4 +1,4 @@
-use crate::answers::{Table, UTF16, answers, shown};
+use crate::answers::{Table, UTF16, answers, displayed};
 use std::alloc::{AllocError, Global};
 use std::test::*;
 use xls_strings::*;

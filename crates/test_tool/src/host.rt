@@ -41,12 +41,12 @@ pub struct MemoryHost {
     pub written: String,
 }
 
-fn told(alloc: Global, text: &str) -> Result<Reason, AllocError> {
-    Ok(Reason::Told(String::from_str(alloc, text)?))
+fn reported(alloc: Global, text: &str) -> Result<Reason, AllocError> {
+    Ok(Reason::Reported(String::from_str(alloc, text)?))
 }
 
 fn reason(alloc: Global, text: &str) -> Reason {
-    match told(alloc, text) {
+    match reported(alloc, text) {
         Ok(reason) => reason,
         Err(_) => Reason::Memory,
     }

@@ -236,19 +236,19 @@ static RUNS: [Run; 37] = [
 
 /// What a run writes and tells.
 #[derive(Drop)]
-struct Told {
+struct Reported {
     status: u8,
     text: Vec<u8>,
     host: MemoryHost,
 }
 
-fn outcome(alloc: Global, words: &[&str], room: usize) -> Result<Told, AllocError> {
+fn outcome(alloc: Global, words: &[&str], room: usize) -> Result<Reported, AllocError> {
     let mut host = MemoryHost::new(alloc);
     host.names.push("z.zip")?;
     host.names.push("a.xls")?;
     let mut sink = MemorySink::new(alloc, room, 64, Vec::new(alloc))?;
     let status = run(alloc, &mut host, &mut sink, &words_of(alloc, words)?);
-    Ok(Told {
+    Ok(Reported {
         status,
         text: sink.as_slice().to_vec(alloc)?,
         host,
@@ -256,19 +256,19 @@ fn outcome(alloc: Global, words: &[&str], room: usize) -> Result<Told, AllocErro
 }
 
 /// What a run did, as one text: its status, what it wrote, what it told and which files it wrote.
-fn told_of(alloc: Global, words: &[&str]) -> Result<String, AllocError> {
-    let told = outcome(alloc, words, 4096)?;
-    let text = String::from_utf8_lossy(alloc, &told.text)?;
+fn name_texts(alloc: Global, words: &[&str]) -> Result<String, AllocError> {
+    let reported = outcome(alloc, words, 4096)?;
+    let text = String::from_utf8_lossy(alloc, &reported.text)?;
     format!(in alloc;
         "{}|{text}|{}|{}",
-        told.status, told.host.said, told.host.written
+        reported.status, reported.host.said, reported.host.written
     )
 }
 
 fn check(rt: &impl Abort, alloc: Global, run: &Run) -> Result<(), Fail> {
     let (words, status, text, said, written) = run;
     let wanted = format!(in alloc; "{status}|{text}|{said}|{written}")?;
-    assert_eq!(rt; told_of(alloc, words)?.as_str(), wanted.as_str());
+    assert_eq!(rt; name_texts(alloc, words)?.as_str(), wanted.as_str());
     Ok(())
 }
 
@@ -284,8 +284,8 @@ fn does_what_the_words_ask_for(rt: HostRuntime) -> Result<(), Fail> {
 #[test]
 fn a_full_output_ends_with_4(rt: HostRuntime) -> Result<(), Fail> {
     for room in 0..DUMP.len() {
-        let told = outcome(rt.alloc(), &["a.xls"], room)?;
-        assert_eq!(rt; told.status, 4);
+        let reported = outcome(rt.alloc(), &["a.xls"], room)?;
+        assert_eq!(rt; reported.status, 4);
     }
     Ok(())
 }

@@ -180,7 +180,7 @@ fn states_its_laws(_rt: HostRuntime) {
 
 // A value of a table of cases.
 #[derive(Clone, Copy)]
-enum Given {
+enum Input {
     Int(i64),
     Float(Number),
     Text(&'static str),
@@ -196,37 +196,37 @@ fn date_of(number: Number, is_1904: bool) -> ExcelDateTime {
     ExcelDateTime::new(number, ExcelDateTimeType::DateTime, is_1904)
 }
 
-fn data_of(alloc: Global, given: Given) -> Result<Data, AllocError> {
-    match given {
-        Given::Int(n) => Ok(Data::Int(n)),
-        Given::Float(x) => Ok(Data::Float(x)),
-        Given::Text(s) => Data::from_text(alloc, s),
-        Given::Truth(b) => Ok(Data::Bool(b)),
-        Given::Date(x, is_1904) => Ok(Data::DateTime(date_of(x, is_1904))),
-        Given::IsoDate(s) => Ok(Data::DateTimeIso(String::from_str(alloc, s)?)),
-        Given::IsoDuration(s) => Ok(Data::DurationIso(String::from_str(alloc, s)?)),
-        Given::Wrong(e) => Ok(Data::Error(e)),
-        Given::Nothing => Ok(Data::Empty),
+fn data_of(alloc: Global, input: Input) -> Result<Data, AllocError> {
+    match input {
+        Input::Int(n) => Ok(Data::Int(n)),
+        Input::Float(x) => Ok(Data::Float(x)),
+        Input::Text(s) => Data::from_text(alloc, s),
+        Input::Truth(b) => Ok(Data::Bool(b)),
+        Input::Date(x, is_1904) => Ok(Data::DateTime(date_of(x, is_1904))),
+        Input::IsoDate(s) => Ok(Data::DateTimeIso(String::from_str(alloc, s)?)),
+        Input::IsoDuration(s) => Ok(Data::DurationIso(String::from_str(alloc, s)?)),
+        Input::Wrong(e) => Ok(Data::Error(e)),
+        Input::Nothing => Ok(Data::Empty),
     }
 }
 
-fn ref_of(given: Given) -> DataRef<'static> {
-    match given {
-        Given::Int(n) => DataRef::Int(n),
-        Given::Float(x) => DataRef::Float(x),
-        Given::Text(s) => DataRef::SharedString(s),
-        Given::Truth(b) => DataRef::Bool(b),
-        Given::Date(x, is_1904) => DataRef::DateTime(date_of(x, is_1904)),
-        Given::Wrong(e) => DataRef::Error(e),
-        Given::IsoDate(_) | Given::IsoDuration(_) | Given::Nothing => DataRef::Empty,
+fn ref_of(input: Input) -> DataRef<'static> {
+    match input {
+        Input::Int(n) => DataRef::Int(n),
+        Input::Float(x) => DataRef::Float(x),
+        Input::Text(s) => DataRef::SharedString(s),
+        Input::Truth(b) => DataRef::Bool(b),
+        Input::Date(x, is_1904) => DataRef::DateTime(date_of(x, is_1904)),
+        Input::Wrong(e) => DataRef::Error(e),
+        Input::IsoDate(_) | Input::IsoDuration(_) | Input::Nothing => DataRef::Empty,
     }
 }
 
-fn is_value(alloc: Global, found: Data, wanted: Given) -> Result<bool, AllocError> {
+fn is_value(alloc: Global, found: Data, wanted: Input) -> Result<bool, AllocError> {
     Ok(found == data_of(alloc, wanted)?)
 }
 
-fn is_ref(found: DataRef<'_>, wanted: Given) -> bool {
+fn is_ref(found: DataRef<'_>, wanted: Input) -> bool {
     found == ref_of(wanted)
 }
 
@@ -234,10 +234,10 @@ fn is_ref(found: DataRef<'_>, wanted: Given) -> bool {
 fn gives_numbers_their_values_under_a_class(rt: HostRuntime) -> Result<(), Fail> {
     let (alloc, two) = (rt.alloc(), Number::Whole(2));
     let date = format_excel_i64(2, Some(&CellFormat::DateTime), true);
-    assert!(rt; is_value(alloc, date, Given::Date(two, true))?);
-    assert!(rt; is_value(alloc, format_excel_i64(2, None, false), Given::Int(2))?);
+    assert!(rt; is_value(alloc, date, Input::Date(two, true))?);
+    assert!(rt; is_value(alloc, format_excel_i64(2, None, false), Input::Int(2))?);
     let float = format_excel_number(two, Some(&CellFormat::Other), false);
-    assert!(rt; is_value(alloc, float, Given::Float(two))?);
+    assert!(rt; is_value(alloc, float, Input::Float(two))?);
     Ok(())
 }
 
@@ -250,8 +250,8 @@ fn gives_a_span(number: Number) -> bool {
 fn gives_spans_and_references(rt: HostRuntime) {
     let two = Number::Whole(2);
     assert!(rt; gives_a_span(two));
-    assert!(rt; is_ref(format_excel_i64_ref(2, None, false), Given::Int(2)));
-    assert!(rt; is_ref(format_excel_number_ref(two, None, false), Given::Float(two)));
+    assert!(rt; is_ref(format_excel_i64_ref(2, None, false), Input::Int(2)));
+    assert!(rt; is_ref(format_excel_number_ref(two, None, false), Input::Float(two)));
 }
 
 #[test]
@@ -271,23 +271,23 @@ fn copies<T: CellType>(alloc: Global, value: &T) -> Result<bool, AllocError> {
     Ok(copy == *value && blank.is_blank() && value.is_blank() == (*value == blank))
 }
 
-static VALUES: [Given; 10] = [
-    Given::Int(1),
-    Given::Float(Number::Hundredths(1)),
-    Given::Text("x"),
-    Given::Text(""),
-    Given::Truth(true),
-    Given::Date(Number::Whole(2), true),
-    Given::IsoDate("2020-02-29"),
-    Given::IsoDuration("PT1H"),
-    Given::Wrong(CellErrorType::NA),
-    Given::Nothing,
+static VALUES: [Input; 10] = [
+    Input::Int(1),
+    Input::Float(Number::Hundredths(1)),
+    Input::Text("x"),
+    Input::Text(""),
+    Input::Truth(true),
+    Input::Date(Number::Whole(2), true),
+    Input::IsoDate("2020-02-29"),
+    Input::IsoDuration("PT1H"),
+    Input::Wrong(CellErrorType::NA),
+    Input::Nothing,
 ];
 
 #[test]
 fn copies_every_value(rt: HostRuntime) -> Result<(), Fail> {
-    for given in VALUES.iter() {
-        assert!(rt; copies(rt.alloc(), &data_of(rt.alloc(), *given)?)?);
+    for input in VALUES.iter() {
+        assert!(rt; copies(rt.alloc(), &data_of(rt.alloc(), *input)?)?);
     }
     Ok(())
 }
@@ -306,17 +306,17 @@ fn copies_owned_texts_and_numbers(rt: HostRuntime) -> Result<(), Fail> {
     Ok(())
 }
 
-static REFERENCES: [Given; 4] = [
-    Given::Int(1),
-    Given::Text("x"),
-    Given::Date(Number::Whole(2), true),
-    Given::Nothing,
+static REFERENCES: [Input; 4] = [
+    Input::Int(1),
+    Input::Text("x"),
+    Input::Date(Number::Whole(2), true),
+    Input::Nothing,
 ];
 
 #[test]
 fn copies_every_reference(rt: HostRuntime) -> Result<(), Fail> {
-    for given in REFERENCES.iter() {
-        assert!(rt; copies(rt.alloc(), &ref_of(*given))?);
+    for input in REFERENCES.iter() {
+        assert!(rt; copies(rt.alloc(), &ref_of(*input))?);
     }
     Ok(())
 }
@@ -335,31 +335,31 @@ fn has_text<T: DataType>(alloc: Global, value: &T, text: &str) -> Result<bool, A
 }
 
 // The same of a value of a table.
-fn gives_text(alloc: Global, given: Given, text: &str) -> Result<bool, AllocError> {
-    has_text(alloc, &data_of(alloc, given)?, text)
+fn gives_text(alloc: Global, input: Input, text: &str) -> Result<bool, AllocError> {
+    has_text(alloc, &data_of(alloc, input)?, text)
 }
 
 // Values, and their texts through the bound.
-static TEXTS: [(Given, &str); 3] = [
-    (Given::Text("x"), "x"),
-    (Given::Float(Number::Hundredths(150)), "1.5"),
-    (Given::Int(-3), "-3"),
+static TEXTS: [(Input, &str); 3] = [
+    (Input::Text("x"), "x"),
+    (Input::Float(Number::Hundredths(150)), "1.5"),
+    (Input::Int(-3), "-3"),
 ];
 
 #[test]
 fn reads_values_through_the_bound(rt: HostRuntime) -> Result<(), Fail> {
-    for (given, text) in TEXTS.iter() {
-        assert!(rt; gives_text(rt.alloc(), *given, text)?);
+    for (input, text) in TEXTS.iter() {
+        assert!(rt; gives_text(rt.alloc(), *input, text)?);
     }
-    assert!(rt; has_text(rt.alloc(), &ref_of(Given::Text("y")), "y")?);
+    assert!(rt; has_text(rt.alloc(), &ref_of(Input::Text("y")), "y")?);
     assert!(rt; text_of(rt.alloc(), &Data::Bool(true))?.is_none());
     Ok(())
 }
 
 #[test]
 fn copies_a_reference_into_a_value(rt: HostRuntime) -> Result<(), Fail> {
-    let owned = Data::from_ref(rt.alloc(), ref_of(Given::Text("x")))?;
-    assert!(rt; is_value(rt.alloc(), owned, Given::Text("x"))?);
+    let owned = Data::from_ref(rt.alloc(), ref_of(Input::Text("x")))?;
+    assert!(rt; is_value(rt.alloc(), owned, Input::Text("x"))?);
     Ok(())
 }
 
@@ -412,52 +412,52 @@ fn tells_the_kind_of_a_value(rt: HostRuntime) -> Result<(), Fail> {
 }
 
 // Values, and the whole numbers that they are taken for.
-static WHOLES: [(Given, Option<i64>); 6] = [
-    (Given::Int(-7), Some(-7)),
-    (Given::Float(Number::Hundredths(-199)), Some(-1)),
-    (Given::Truth(true), Some(1)),
-    (Given::Text("-12"), Some(-12)),
-    (Given::Text("1.5"), None),
-    (Given::Nothing, None),
+static WHOLES: [(Input, Option<i64>); 6] = [
+    (Input::Int(-7), Some(-7)),
+    (Input::Float(Number::Hundredths(-199)), Some(-1)),
+    (Input::Truth(true), Some(1)),
+    (Input::Text("-12"), Some(-12)),
+    (Input::Text("1.5"), None),
+    (Input::Nothing, None),
 ];
 
-fn is_taken_for(alloc: Global, given: Given, whole: Option<i64>) -> Result<bool, AllocError> {
-    Ok(data_of(alloc, given)?.as_i64() == whole)
+fn is_taken_for(alloc: Global, input: Input, whole: Option<i64>) -> Result<bool, AllocError> {
+    Ok(data_of(alloc, input)?.as_i64() == whole)
 }
 
 #[test]
 fn takes_values_for_whole_numbers(rt: HostRuntime) -> Result<(), Fail> {
-    for (given, whole) in WHOLES.iter() {
-        assert!(rt; is_taken_for(rt.alloc(), *given, *whole)?);
+    for (input, whole) in WHOLES.iter() {
+        assert!(rt; is_taken_for(rt.alloc(), *input, *whole)?);
     }
-    assert!(rt; ref_of(Given::Text("9223372036854775808")).as_i64() == None);
+    assert!(rt; ref_of(Input::Text("9223372036854775808")).as_i64() == None);
     Ok(())
 }
 
 #[test]
 fn compares_values_with_their_contents(rt: HostRuntime) {
-    let text = ref_of(Given::Text("x"));
+    let text = ref_of(Input::Text("x"));
     assert!(rt; text.eq_text("x") && !text.eq_text("y"));
     assert!(rt; Data::Int(1).eq_int(1) && !Data::Float(Number::Whole(1)).eq_int(1));
     assert!(rt; Data::Bool(false).eq_bool(false) && !Data::Empty.eq_bool(false));
 }
 
 // Values, and the texts of a reference to them and of an owned copy of it.
-static PRINTED: [(Given, &str); 14] = [
-    (Given::Int(-1), "-1"),
-    (Given::Float(Number::Hundredths(5)), "0.05"),
-    (Given::Text("ä"), "ä"),
-    (Given::Truth(false), "false"),
-    (Given::Date(Number::Hundredths(250), false), "2.5"),
-    (Given::Wrong(CellErrorType::GettingData), "#DATA!"),
-    (Given::Wrong(CellErrorType::Div0), "#DIV/0!"),
-    (Given::Wrong(CellErrorType::NA), "#N/A"),
-    (Given::Wrong(CellErrorType::Name), "#NAME?"),
-    (Given::Wrong(CellErrorType::Null), "#NULL!"),
-    (Given::Wrong(CellErrorType::Num), "#NUM!"),
-    (Given::Wrong(CellErrorType::Ref), "#REF!"),
-    (Given::Wrong(CellErrorType::Value), "#VALUE!"),
-    (Given::Nothing, ""),
+static PRINTED: [(Input, &str); 14] = [
+    (Input::Int(-1), "-1"),
+    (Input::Float(Number::Hundredths(5)), "0.05"),
+    (Input::Text("ä"), "ä"),
+    (Input::Truth(false), "false"),
+    (Input::Date(Number::Hundredths(250), false), "2.5"),
+    (Input::Wrong(CellErrorType::GettingData), "#DATA!"),
+    (Input::Wrong(CellErrorType::Div0), "#DIV/0!"),
+    (Input::Wrong(CellErrorType::NA), "#N/A"),
+    (Input::Wrong(CellErrorType::Name), "#NAME?"),
+    (Input::Wrong(CellErrorType::Null), "#NULL!"),
+    (Input::Wrong(CellErrorType::Num), "#NUM!"),
+    (Input::Wrong(CellErrorType::Ref), "#REF!"),
+    (Input::Wrong(CellErrorType::Value), "#VALUE!"),
+    (Input::Nothing, ""),
 ];
 
 fn owned_text(alloc: Global, value: &DataRef<'_>) -> Result<String, AllocError> {
@@ -465,16 +465,16 @@ fn owned_text(alloc: Global, value: &DataRef<'_>) -> Result<String, AllocError> 
 }
 
 // Whether a reference to a value and an owned copy of it have this text.
-fn prints(alloc: Global, given: Given, text: &str) -> Result<bool, AllocError> {
-    let value = ref_of(given);
+fn prints(alloc: Global, input: Input, text: &str) -> Result<bool, AllocError> {
+    let value = ref_of(input);
     let printed = value.to_string(alloc)?;
     Ok(printed.as_str() == text && owned_text(alloc, &value)?.as_str() == text)
 }
 
 #[test]
 fn prints_values(rt: HostRuntime) -> Result<(), Fail> {
-    for (given, text) in PRINTED.iter() {
-        assert!(rt; prints(rt.alloc(), *given, text)?, "{text}");
+    for (input, text) in PRINTED.iter() {
+        assert!(rt; prints(rt.alloc(), *input, text)?, "{text}");
     }
     Ok(())
 }
@@ -482,19 +482,19 @@ fn prints_values(rt: HostRuntime) -> Result<(), Fail> {
 // Whether numbers and truths become values, and what may be missing the value or the blank.
 fn converts_numbers(alloc: Global) -> Result<bool, AllocError> {
     Ok(
-        is_value(alloc, Data::from(3i64), Given::Int(3))?
-            && is_value(alloc, Data::from(Some(3i64)), Given::Int(3))?
-            && is_value(alloc, Data::from(None::<bool>), Given::Nothing)?,
+        is_value(alloc, Data::from(3i64), Input::Int(3))?
+            && is_value(alloc, Data::from(Some(3i64)), Input::Int(3))?
+            && is_value(alloc, Data::from(None::<bool>), Input::Nothing)?,
     )
 }
 
 fn converts_others(alloc: Global) -> Result<bool, AllocError> {
     let (one, error) = (Number::Whole(1), CellErrorType::Num);
     Ok(
-        is_value(alloc, Data::from(true), Given::Truth(true))?
-            && is_value(alloc, Data::from(one), Given::Float(one))?
-            && is_value(alloc, Data::from(error), Given::Wrong(error))?
-            && is_value(alloc, Data::from(()), Given::Nothing)?,
+        is_value(alloc, Data::from(true), Input::Truth(true))?
+            && is_value(alloc, Data::from(one), Input::Float(one))?
+            && is_value(alloc, Data::from(error), Input::Wrong(error))?
+            && is_value(alloc, Data::from(()), Input::Nothing)?,
     )
 }
 

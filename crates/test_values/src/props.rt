@@ -107,9 +107,9 @@ fn is_text(text: &Option<String>, wanted: Option<&str>) -> bool {
     }
 }
 
-fn front(bytes: &[u8], n: usize) -> &[u8] {
-    let (front, _) = bytes.split_at(n.min(bytes.len()));
-    front
+fn prefix(bytes: &[u8], n: usize) -> &[u8] {
+    let (prefix, _) = bytes.split_at(n.min(bytes.len()));
+    prefix
 }
 
 fn has_no_field(p: &WorkbookProperties) -> bool {
@@ -281,7 +281,7 @@ fn reads_what_stands_in_streams(rt: HostRuntime) -> Result<(), Fail> {
 fn reads_a_summary_stream_cut_to_each_length(rt: HostRuntime) -> Result<(), Fail> {
     for n in 0..TITLE.len() {
         assert!(rt;
-            have(rt.alloc(), Some(front(&TITLE, n)), None, Wanted::NoField)?,
+            have(rt.alloc(), Some(prefix(&TITLE, n)), None, Wanted::NoField)?,
             "{n}"
         );
     }
@@ -310,7 +310,7 @@ fn reads_a_document_stream_cut_to_each_length(rt: HostRuntime) -> Result<(), Fai
     for n in 0..CUSTOM.len() + 1 {
         let wanted = Wanted::Count(whole_within(n));
         assert!(rt;
-            have(rt.alloc(), None, Some(front(&CUSTOM, n)), wanted)?,
+            have(rt.alloc(), None, Some(prefix(&CUSTOM, n)), wanted)?,
             "{n}"
         );
     }

@@ -88,7 +88,7 @@ static LATER: [u8; 285] = [
 // The end of the references and no module.
 static NO_MODULES: [u8; 16] = [0x0F, 0, 0, 0, 0, 0, 0, 0, 0, 0, 0, 0, 0, 0, 0, 0];
 
-fn behind_header(alloc: Global, bytes: &[u8]) -> Result<Vec<u8>, AllocError> {
+fn after_header(alloc: Global, bytes: &[u8]) -> Result<Vec<u8>, AllocError> {
     let mut all = HEADER.to_vec(alloc)?;
     for byte in bytes {
         all.push(*byte)?;
@@ -96,9 +96,9 @@ fn behind_header(alloc: Global, bytes: &[u8]) -> Result<Vec<u8>, AllocError> {
     Ok(all)
 }
 
-fn front(bytes: &[u8], n: usize) -> &[u8] {
-    let (front, _) = bytes.split_at(n.min(bytes.len()));
-    front
+fn prefix(bytes: &[u8], n: usize) -> &[u8] {
+    let (prefix, _) = bytes.split_at(n.min(bytes.len()));
+    prefix
 }
 
 fn refusal(alloc: Global, bytes: &[u8]) -> Result<String, AllocError> {
@@ -189,7 +189,7 @@ fn lacks_module(
 
 #[test]
 fn has_no_module_of_another_name(rt: HostRuntime) -> Result<(), Fail> {
-    let bytes = behind_header(rt.alloc(), &NO_MODULES)?;
+    let bytes = after_header(rt.alloc(), &NO_MODULES)?;
     let project = VbaProject::from_dir(rt.alloc(), &bytes)?;
     assert!(rt; project.get_references().is_empty());
     assert!(rt; project.get_module_names(rt.alloc())?.is_empty());
@@ -204,7 +204,7 @@ fn reads_a_directory_cut_to_each_length(rt: HostRuntime) -> Result<(), Fail> {
         assert!(rt;
             answers(
                 rt.alloc(),
-                front(&PROJECT, n),
+                prefix(&PROJECT, n),
                 "Unexpected end of directory"
             )?
         );
@@ -236,7 +236,7 @@ static PARTS: [(&[u8], &str); 7] = [
 #[test]
 fn refuses_the_first_field_that_differs(rt: HostRuntime) -> Result<(), Fail> {
     for (part, wanted) in PARTS.iter() {
-        let bytes = behind_header(rt.alloc(), part)?;
+        let bytes = after_header(rt.alloc(), part)?;
         assert!(rt; answers(rt.alloc(), bytes.as_slice(), wanted)?);
     }
     Ok(())

@@ -30,7 +30,7 @@ impl<'r> StdHost<'r> {
     }
 
     /// What the system answered, or why it didn't.
-    fn told<T>(&self, answer: io::Result<T>) -> Result<T, Reason> {
+    fn reported<T>(&self, answer: io::Result<T>) -> Result<T, Reason> {
         match answer {
             Ok(value) => Ok(value),
             Err(error) => Err(reason_of(self.rt.alloc(), &error)),
@@ -60,25 +60,25 @@ impl<'r> Host for StdHost<'r> {
     type File = OutFile<'r>;
 
     fn place(&mut self, path: &str) -> Result<Place, Reason> {
-        self.told(place_at(self.rt, path))
+        self.reported(place_at(self.rt, path))
     }
 
     fn list(&mut self, folder: &str) -> Result<Vec<Listed>, Reason> {
-        self.told(list_at(self.rt, folder))
+        self.reported(list_at(self.rt, folder))
     }
 
     fn read(&mut self, path: &str) -> Result<Vec<u8>, Reason> {
-        self.told(fs::read(self.rt, path))
+        self.reported(fs::read(self.rt, path))
     }
 
     fn read_input(&mut self) -> Result<Vec<u8>, Reason> {
-        self.told(input(self.rt))
+        self.reported(input(self.rt))
     }
 
     fn next_name(&mut self, list: &str, by_nul: bool) -> Result<Option<Name>, Reason> {
         let end = if by_nul { 0 } else { b'\n' };
         let name = self.take_name(list, end);
-        self.told(name)
+        self.reported(name)
     }
 
     fn create(&mut self, path: &str, writes_over: bool) -> Result<OutFile<'r>, Reason> {

@@ -16,7 +16,7 @@ use std::process::ExitCode;
 use xls_tool::{Host, StdSink, run};
 
 /// The status where the words can't be taken, and what is told of it.
-fn told(error: &io::Error) -> (u8, &'static str) {
+fn reported(error: &io::Error) -> (u8, &'static str) {
     match error.kind() {
         ErrorKind::OutOfMemory => (5, "xls: out of memory"),
         _ => (2, "error: a word of the command line isn't UTF-8"),
@@ -32,7 +32,7 @@ fn status_of(rt: &HostRuntime) -> u8 {
             run(rt.alloc(), &mut host, &mut out, words.as_slice())
         }
         Err(error) => {
-            let (status, line) = told(&error);
+            let (status, line) = reported(&error);
             host.say(line);
             status
         }

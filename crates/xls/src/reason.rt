@@ -20,7 +20,7 @@ pub(crate) fn reason_of(alloc: Global, error: &io::Error) -> Reason {
         return Reason::Memory;
     }
     match text_of(alloc, error) {
-        Ok(text) => Reason::Told(text),
+        Ok(text) => Reason::Reported(text),
         Err(_) => Reason::Memory,
     }
 }

@@ -4,7 +4,7 @@ use Rattle.std.specs.Result.{IsErrAnd}
 use Rattle.std.proofs.KnownBytes.{Keeps-refl}
 use Rattle.xls_lines.specs.SinkState.{SinkState}
 use Rattle.xls_open.specs.declared.options.XlsOptions.{XlsOptions}
-use Rattle.xls_container.specs.Files.{Container, Opens, RefusesWorkbook, WorkbookBytes}
+use Rattle.xls_container.specs.Files.{Container, OpensContainer, RefusesWorkbook, WorkbookBytes}
 use Rattle.xls_container.specs.declared.fault.FileFault.{FileFault}
 use Rattle.xls_container.specs.declared.fault.FileFault.TheVariants as file
 use Rattle.xls_answers.specs.Answers.{OfFile, OfReadable, OfStream}
@@ -17,14 +17,14 @@ use Rattle.xls_answers.specs.declared.failure.Failure.TheVariants as failures
 -- ---- an opened file that gives no workbook
 
 refused : (answer : Answer) (options : XlsOptions) (bytes : List ℕ) (w : SinkState) (c : Container) (fault : FileFault)
-    → Opens bytes c → RefusesWorkbook c fault → OfFile answer options bytes w w (Err (failure_of_fault fault))
+    → OpensContainer bytes c → RefusesWorkbook c fault → OfFile answer options bytes w w (Err (failure_of_fault fault))
 refused answer options bytes w c file.Memory opens p = inl (refl, (Keeps-refl w.written, refl))
 refused answer options bytes w c (file.Kind k) opens p = (inr (c, opens, p), (Keeps-refl w.written, refl))
 refused answer options bytes w c (file.Compound e) opens p = (inr (c, opens, p), (Keeps-refl w.written, refl))
 refused answer options bytes w c file.NoWorkbook opens p = (inr (c, opens, p), (Keeps-refl w.written, refl))
 
 pub workbook-refused : (answer : Answer) (options : XlsOptions) (bytes : List ℕ) (w : SinkState) (c : Container) (fault : FileFault)
-    (r : Result (Unit {0}) Failure) → IsErrAnd r (λ d. d ≡ failure_of_fault fault) → Opens bytes c → RefusesWorkbook c fault
+    (r : Result (Unit {0}) Failure) → IsErrAnd r (λ d. d ≡ failure_of_fault fault) → OpensContainer bytes c → RefusesWorkbook c fault
     → OfFile answer options bytes w w r
 workbook-refused answer options bytes w c fault (Ok x) none opens p = absurd none
 workbook-refused answer options bytes w c fault (Err d) is opens p =

@@ -1,11 +1,11 @@
 -- What is written of a file.
 use Rattle.std.specs.Prelude.{◌≡◌, ◌⊎◌, ℕ, ◌<◌, List, [], length, Result, Ok, Err}
-use Rattle.xls_stream.specs.Listing.{Entry}
+use Rattle.xls_stream.specs.Listing.{ListEntry}
 use Rattle.xls_record.specs.declared.error.XlsError.TheVariants.{TooLarge}
 use Rattle.xls_open.specs.declared.options.XlsOptions.{XlsOptions}
-use Rattle.xls_view.specs.Viewing.{IsFault}
+use Rattle.xls_view.specs.Viewing.{IsViewFault}
 use Rattle.xls_lay.specs.Reading.{ReadsList, IsFirst}
-use Rattle.xls_lay.specs.Writing.{Writes}
+use Rattle.xls_lay.specs.Writing.{WritesList}
 use Rattle.xls_lines.specs.SinkState.{SinkState}
 use Rattle.xls_lines.specs.Gathering.{Stops, Wrote}
 use Rattle.xls_lines.specs.declared.stop.Stop.TheVariants.{Memory}
@@ -25,10 +25,10 @@ use Rattle.xls_answers.specs.Sheets.{IsTableOf, BeginsTableOf, MissesSheet}
 
 -- the line of bytes without a fault, or their first fault
 abbrev pub OfCheck : XlsOptions → List ℕ → SinkState → SinkState → Result (Unit {0}) Failure → Type 0
-OfCheck options bytes before after (Ok x) = ((e : _) → IsFault options bytes e → ⊥) × Wrote before after sound_line
-OfCheck options bytes before after (Err (failures.Stream e)) = IsFault options bytes e × IsUntouched before after
+OfCheck options bytes before after (Ok x) = ((e : _) → IsViewFault options bytes e → ⊥) × Wrote before after sound_line
+OfCheck options bytes before after (Err (failures.Stream e)) = IsViewFault options bytes e × IsUntouched before after
 OfCheck options bytes before after (Err (failures.Stopped s)) =
-    ((s ≡ Memory) × IsUntouched before after) ⊎ (((e : _) → IsFault options bytes e → ⊥) × Stops before [] after sound_line s)
+    ((s ≡ Memory) × IsUntouched before after) ⊎ (((e : _) → IsViewFault options bytes e → ⊥) × Stops before [] after sound_line s)
 OfCheck options bytes before after (Err other) = ⊥
 
 -- how many bytes a stream may have that is written once more
@@ -38,14 +38,14 @@ remade_limit = 268_435_456
 -- the canonical bytes of the list that the bytes carry, or why not
 abbrev pub OfRemade : List ℕ → SinkState → SinkState → Result (Unit {0}) Failure → Type 0
 OfRemade bytes before after (Ok x) =
-    (list : List Entry) × ReadsList bytes (Ok list) × (text : List ℕ) × Writes list (Ok text) × Wrote before after text
+    (list : List ListEntry) × ReadsList bytes (Ok list) × (text : List ℕ) × WritesList list (Ok text) × Wrote before after text
 OfRemade bytes before after (Err (failures.Stream e)) =
     (((e ≡ TooLarge remade_limit) × (remade_limit < length bytes)) ⊎ IsFirst bytes e) × IsUntouched before after
 OfRemade bytes before after (Err (failures.Canonical e)) =
-    (list : List Entry) × ReadsList bytes (Ok list) × Writes list (Err e) × IsUntouched before after
+    (list : List ListEntry) × ReadsList bytes (Ok list) × WritesList list (Err e) × IsUntouched before after
 OfRemade bytes before after (Err (failures.Stopped s)) =
     ((s ≡ Memory) × IsUntouched before after)
-    ⊎ ((list : List Entry) × ReadsList bytes (Ok list) × (text : List ℕ) × Writes list (Ok text) × Stops before [] after text s)
+    ⊎ ((list : List ListEntry) × ReadsList bytes (Ok list) × (text : List ℕ) × WritesList list (Ok text) × Stops before [] after text s)
 OfRemade bytes before after (Err other) = ⊥
 
 -- the bytes as they stand

@@ -6,7 +6,7 @@ use Rattle.std.specs.String.{string_bytes}
 use Rattle.xls_data.specs.Sheets.{SheetContent}
 use Rattle.xls_data.specs.declared.sheets.SheetType.{SheetType}
 use Rattle.xls_data.specs.declared.sheets.SheetType.TheVariants as types
-use Rattle.xls_meaning.specs.Reading.{SheetView, BookView, shown_of}
+use Rattle.xls_meaning.specs.Reading.{SheetView, BookView, displayed_of}
 use Rattle.xls_view.specs.Viewing.{Viewed}
 use Rattle.xls_csv.specs.Dense.{dense_rows, sheet_csv}
 use Rattle.xls_tables.specs.Tables.{IsTable, BeginsTable}
@@ -47,13 +47,13 @@ chosen_name (Number n) sheets = option_map (λ (s : SheetContent). s.name) (slic
 chosen_name All sheets = first_worksheet sheets
 
 -- what is shown under a name, if there is one
-abbrev pub shown_under : BookView → Option (List ℕ) → Option SheetView
-shown_under book None = None
-shown_under book (Some name) = shown_of book name
+abbrev pub displayed_under : BookView → Option (List ℕ) → Option SheetView
+displayed_under book None = None
+displayed_under book (Some name) = displayed_of book name
 
 -- the last sheet of that name
 abbrev pub chosen_sheet : SheetChoice → BookView → Option SheetView
-chosen_sheet choice book = shown_under book (chosen_name choice book.sheets)
+chosen_sheet choice book = displayed_under book (chosen_name choice book.sheets)
 
 -- how it is told that there is none
 abbrev pub IsMissing : SheetChoice → Missing → Type 0
@@ -112,23 +112,23 @@ OfSheet table book before after (Err other) = ⊥
 -- the CSV of the last sheet of a name, as xls_dump writes it
 abbrev pub DeliversExact : BookView → List ℕ → SinkState → SinkState → Result (Unit {0}) Stop → Type 0
 DeliversExact book name before after (Ok x) =
-    (sheet : SheetView) × (shown_of book name ≡ Some sheet) × Wrote before after (sheet_csv sheet.cells)
+    (sheet : SheetView) × (displayed_of book name ≡ Some sheet) × Wrote before after (sheet_csv sheet.cells)
 DeliversExact book name before after (Err s) =
     ((s ≡ Memory) × IsUntouched before after)
-    ⊎ ((sheet : SheetView) × (shown_of book name ≡ Some sheet) × Stops before [] after (sheet_csv sheet.cells) s)
+    ⊎ ((sheet : SheetView) × (displayed_of book name ≡ Some sheet) × Stops before [] after (sheet_csv sheet.cells) s)
 
 -- the text of the sheet that is shown, if there is one
-abbrev pub WritesShown : Table → Option SheetView → SinkState → SinkState → Result Bool Stop → Type 0
-WritesShown table shown before after (Ok true) =
-    (sheet : SheetView) × (shown ≡ Some sheet) × (text : List ℕ) × IsSheetText table.style table sheet text × Wrote before after text
-WritesShown table shown before after (Ok false) = (shown ≡ None) × IsUntouched before after
-WritesShown table shown before after (Err s) =
+abbrev pub WritesDisplayed : Table → Option SheetView → SinkState → SinkState → Result Bool Stop → Type 0
+WritesDisplayed table displayed before after (Ok true) =
+    (sheet : SheetView) × (displayed ≡ Some sheet) × (text : List ℕ) × IsSheetText table.style table sheet text × Wrote before after text
+WritesDisplayed table displayed before after (Ok false) = (displayed ≡ None) × IsUntouched before after
+WritesDisplayed table displayed before after (Err s) =
     ((s ≡ Memory) × IsUntouched before after)
-    ⊎ ((sheet : SheetView) × (shown ≡ Some sheet) × (text : List ℕ) × BeginsSheetText table.style table sheet text
+    ⊎ ((sheet : SheetView) × (displayed ≡ Some sheet) × (text : List ℕ) × BeginsSheetText table.style table sheet text
     × Stops before [] after text s)
 
 abbrev pub WritesNamed : Table → BookView → List ℕ → SinkState → SinkState → Result Bool Stop → Type 0
-WritesNamed table book name = WritesShown table (shown_of book name)
+WritesNamed table book name = WritesDisplayed table (displayed_of book name)
 
 abbrev pub WritesChosen : Table → BookView → SinkState → SinkState → Result Bool Stop → Type 0
-WritesChosen table book = WritesShown table (chosen_sheet table.choice book)
+WritesChosen table book = WritesDisplayed table (chosen_sheet table.choice book)

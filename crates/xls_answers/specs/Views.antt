@@ -4,14 +4,14 @@ use Rattle.xls_functions.specs.Table.{from_index_72}
 use Rattle.xls_formula.specs.Functions.{shipped}
 use Rattle.xls_open.specs.Opening.{default_options}
 use Rattle.xls_open.specs.declared.options.XlsOptions.{XlsOptions}
-use Rattle.xls_view.specs.Viewing.{Viewed, IsViewed, IsFault}
+use Rattle.xls_view.specs.Viewing.{Viewed, IsViewed, IsViewFault}
 use Rattle.xls_lines.specs.SinkState.{SinkState}
 use Rattle.xls_lines.specs.Gathering.{Stops, Wrote}
 use Rattle.xls_lines.specs.declared.stop.Stop.TheVariants.{Memory}
 use Rattle.xls_readable.specs.Values.{Concatenates}
 use Rattle.xls_readable.specs.declared.forms.Form.{Form}
 use Rattle.xls_refs.specs.Views.{cited_in}
-use Rattle.xls_listing.specs.Listing.{Line, IsShownLine, dump_lines, sheet_lines, formula_lines, ref_lines}
+use Rattle.xls_listing.specs.Listing.{Line, IsDisplayedLine, dump_lines, sheet_lines, formula_lines, ref_lines}
 use Rattle.xls_report.specs.Endings.{IsUntouched}
 use Rattle.xls_answers.specs.declared.lines.Listing.{Listing}
 use Rattle.xls_answers.specs.declared.lines.Listing.TheVariants as listing
@@ -28,18 +28,18 @@ options_under page false = record default_options { force_codepage = page; funct
 
 -- ---- lines
 
-abbrev pub listed : Listing → Viewed → List Line
-listed listing.Dump view = dump_lines view.book
-listed listing.Sheets view = sheet_lines view.book
-listed listing.Formulas view = formula_lines view.book
-listed listing.Refs view = ref_lines (cited_in view)
+abbrev pub lines_listed : Listing → Viewed → List Line
+lines_listed listing.Dump view = dump_lines view.book
+lines_listed listing.Sheets view = sheet_lines view.book
+lines_listed listing.Formulas view = formula_lines view.book
+lines_listed listing.Refs view = ref_lines (cited_in view)
 
 -- the lines of a view, all of them, and the first so many
 abbrev pub AreLines : Listing → Form → Viewed → List ℕ → Type 0
-AreLines lines form view text = Concatenates (IsShownLine form) (listed lines view) text
+AreLines lines form view text = Concatenates (IsDisplayedLine form) (lines_listed lines view) text
 
 abbrev pub BeginLines : Listing → Form → Viewed → List ℕ → Type 0
-BeginLines lines form view text = (count : ℕ) × Concatenates (IsShownLine form) (take count (listed lines view)) text
+BeginLines lines form view text = (count : ℕ) × Concatenates (IsDisplayedLine form) (take count (lines_listed lines view)) text
 
 -- no sheet is asked for
 abbrev pub MissesNone : Missing → Viewed → Type 0
@@ -54,7 +54,7 @@ abbrev pub OfView : XlsOptions → List ℕ → (IsWhole IsPart : Viewed → Lis
 OfView options bytes IsWhole IsPart Misses before after (Ok x) =
     (view : Viewed) × IsViewed options bytes view × (text : List ℕ) × IsWhole view text × Wrote before after text
 OfView options bytes IsWhole IsPart Misses before after (Err (failures.Stream e)) =
-    IsFault options bytes e × IsUntouched before after
+    IsViewFault options bytes e × IsUntouched before after
 OfView options bytes IsWhole IsPart Misses before after (Err (failures.Missing m)) =
     (view : Viewed) × IsViewed options bytes view × Misses m view × IsUntouched before after
 OfView options bytes IsWhole IsPart Misses before after (Err (failures.Stopped s)) =

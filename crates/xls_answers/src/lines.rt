@@ -1,8 +1,8 @@
 //! The lines of a workbook.
 
-ghost use Rattle.xls_listing.specs.Listing.{IsShownLine};
+ghost use Rattle.xls_listing.specs.Listing.{IsDisplayedLine};
 ghost use Rattle.xls_pieces.specs.Each.{DeliversEach};
-ghost use Rattle.xls_answers.specs.Views.{AreLines, BeginLines, MissesNone, OfView, listed};
+ghost use Rattle.xls_answers.specs.Views.{AreLines, BeginLines, MissesNone, OfView, lines_listed};
 
 use crate::failure::Failure;
 use std::alloc::Global;
@@ -33,7 +33,7 @@ fn write_view<K: Sink>(
     form: Form,
     view: &View<'_>,
 ) -> Result<(), Stop>
-    ensures { DeliversEach (IsShownLine form) (listed lines view.now) (K.state sink.old) (K.state sink.new) result }
+    ensures { DeliversEach (IsDisplayedLine form) (lines_listed lines view.now) (K.state sink.old) (K.state sink.new) result }
 {
     match lines {
         Listing::Dump => write_listing(alloc, sink, form, view),

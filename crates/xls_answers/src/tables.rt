@@ -5,13 +5,13 @@ ghost use Rattle.std.specs.Option.{option_map};
 ghost use Rattle.std.specs.Str.{chars};
 ghost use Rattle.xls_data.specs.Sheets.{sheet_content};
 ghost use Rattle.xls_range.specs.Positions.{IsAscending};
-ghost use Rattle.xls_biff.specs.Cells.{Entry};
-ghost use Rattle.xls_meaning.specs.Reading.{shown_of};
+ghost use Rattle.xls_biff.specs.Cells.{CellEntry};
+ghost use Rattle.xls_meaning.specs.Reading.{displayed_of};
 ghost use Rattle.xls_csv.specs.Dense.{dense_rows};
 ghost use Rattle.xls_tables.specs.Tables.{DeliversTable};
 ghost use Rattle.xls_words.specs.Requests.{IsNumbered};
 ghost use Rattle.xls_words.specs.declared.request.SheetChoice.TheVariants.{Number};
-ghost use Rattle.xls_answers.specs.Sheets.{BeginsTableOf, DeliversExact, IsMissing, IsTableOf, MissesSheet, OfSheet, WritesChosen, WritesNamed, WritesShown, chosen_name, first_worksheet, is_worksheet, shown_under};
+ghost use Rattle.xls_answers.specs.Sheets.{BeginsTableOf, DeliversExact, IsMissing, IsTableOf, MissesSheet, OfSheet, WritesChosen, WritesNamed, WritesDisplayed, chosen_name, first_worksheet, is_worksheet, displayed_under};
 ghost use Rattle.xls_answers.specs.Views.{OfView};
 
 use crate::failure::{Failure, Missing};
@@ -70,7 +70,7 @@ fn write_exact<K: Sink>(
     view: &View<'_>,
     name: &str,
 ) -> Result<(), Stop>
-    requires { shown_of view.now.book (chars name.now) ≢ None }
+    requires { displayed_of view.now.book (chars name.now) ≢ None }
     ensures { DeliversExact view.now.book (chars name.now) (K.state sink.old) (K.state sink.new) result }
 {
     // A sheet has the name, so its cells were written.
@@ -85,7 +85,7 @@ fn write_cells<K: Sink>(
     table: &Table<'_>,
     cells: &SheetCells<'_>,
 ) -> Result<(), Stop>
-    requires { IsAscending (map (λ (c : Entry). c.0) cells.now) }
+    requires { IsAscending (map (λ (c : CellEntry). c.0) cells.now) }
     ensures { DeliversTable table.now.delimiter table.now.begins_with_mark (dense_rows cells.now) (K.state sink.old) (K.state sink.new) result }
 {
     write_table(alloc, sink, table.delimiter, table.begins_with_mark, cells)
@@ -119,7 +119,7 @@ fn write_found<K: Sink>(
     view: &View<'_>,
     name: Option<&str>,
 ) -> Result<bool, Stop>
-    ensures { WritesShown table.now (shown_under view.now.book (option_map (λ n. chars n.now) name.entry)) (K.state sink.old) (K.state sink.new) result }
+    ensures { WritesDisplayed table.now (displayed_under view.now.book (option_map (λ n. chars n.now) name.entry)) (K.state sink.old) (K.state sink.new) result }
 {
     match name {
         Some(name) => write_named(alloc, sink, table, view, name),

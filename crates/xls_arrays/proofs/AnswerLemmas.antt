@@ -12,8 +12,8 @@ use Rattle.xls_arrays.specs.declared.rooms.Rooms.{Rooms}
 -- what was done, or refused, inside ends the call
 pub ends-as : {Done : Type 0} {Refuses : Refusal → Type 0} (done : Result (Unit {0}) Refusal) {fault : Fault} {code : ℕ}
     → OnOk done Done → IfErr done Refuses → IsAnswer done fault code → Answers Done Refuses fault code
-ends-as (Ok x) ok err is = record { told = is.1; ends = inl (ok, is.0) }
-ends-as (Err r) ok err is = record { told = is.1; ends = inr (r, err, is.0) }
+ends-as (Ok x) ok err is = record { reported = is.1; ends = inl (ok, is.0) }
+ends-as (Err r) ok err is = record { reported = is.1; ends = inr (r, err, is.0) }
 
 -- what was filled, or not, inside, by the arrays of the caller
 pub read-ends : {options : Options} {stream : List ℕ} {after : Arrays} {sizes : Sizes} (rooms : Rooms) (done : Result (Unit {0}) Refusal) {fault : Fault} {code : ℕ}

@@ -6,7 +6,7 @@ use Rattle.std.proofs.lemmas.Grind.{common_steps}
 use Rattle.std.proofs.lemmas.List.{length-append, length-take-le, take_all}
 use Rattle.xls_arrays.specs.Answers.{Begin}
 use Rattle.xls_arrays.specs.Arrays.{Arrays}
-use Rattle.xls_arrays.specs.Filled.{Fits, Holds, IsFilled, in_rooms}
+use Rattle.xls_arrays.specs.Filled.{FitsBefore, RoomsHold, IsFilled, in_rooms}
 use Rattle.xls_arrays.specs.declared.rooms.Rooms.{Rooms}
 
 -- nothing was laid
@@ -67,7 +67,7 @@ bytes-laid before after items bytes place count inside f least written same =
 -- ---- arrays with room for all
 
 -- they begin with what was laid
-pub all_begin : (rooms : Rooms) (a : Arrays) → Holds rooms a → Fits (in_rooms rooms) a → Begin (in_rooms rooms) a
+pub all_begin : (rooms : Rooms) (a : Arrays) → RoomsHold rooms a → FitsBefore (in_rooms rooms) a → Begin (in_rooms rooms) a
 all_begin rooms a h f =
     record {
       sheets = filled-fits rooms.sheets.now rooms.laid.sheets a.sheets h.sheets f.sheets;

@@ -3,7 +3,7 @@ use Rattle.std.proofs.Common.{◌≡◌, ℕ, List, Result, Ok, Err, IfErr, IsEr
 use Rattle.xls_view.specs.Viewing.{Viewed}
 use Rattle.xls_refusals.specs.declared.refusal.Refusal.{Refusal}
 use Rattle.xls_refusals.specs.declared.refusal.Refusal.TheVariants as refusals
-use Rattle.xls_arrays.specs.Held.{RefusesStream, Shows}
+use Rattle.xls_arrays.specs.Held.{RefusesStream, ShowsStream}
 use Rattle.xls_arrays.specs.Laying.{MissesSheet}
 use Rattle.xls_arrays.specs.declared.options.Options.{Options}
 
@@ -13,7 +13,7 @@ err-as P (Ok x) e none p = tt
 err-as P (Err d) e is p = subst P (sym is) p
 
 -- a sheet that isn't there refuses the stream
-pub misses-refused : (options : Options) (stream : List ℕ) (view : Viewed) → Shows options stream view
+pub misses-refused : (options : Options) (stream : List ℕ) (view : Viewed) → ShowsStream options stream view
     → (r : Refusal) → MissesSheet options view.book r → RefusesStream options stream r
 misses-refused options stream view shows refusals.Memory p = tt
 misses-refused options stream view shows refusals.TooShort p = p

@@ -3,13 +3,13 @@ use Rattle.std.proofs.Common.{◌≡◌, ℕ, ◌+◌, ◌-◌, ◌*◌, List, [
 use Rattle.std.proofs.lemmas.List.{length_push}
 use Rattle.std.specs.Prelude.{encode_utf8_all}
 use Rattle.xls_data.specs.Sheets.{SheetContent}
-use Rattle.xls_biff.specs.Cells.{Entry}
+use Rattle.xls_biff.specs.Cells.{CellEntry}
 use Rattle.xls_meaning.specs.SheetTable.{FormulaEntry}
 use Rattle.xls_meaning.specs.Reading.{SheetView}
-use Rattle.xls_arrays.specs.Values.{cell_item, form_in, kind_of, text_in, value_in}
-use Rattle.xls_arrays.specs.Arrays.{Arrays, Told, formula_item, laid, next_span, sheet_item, with_cell, with_cell_item, with_content, with_formula, with_formula_item, with_name, with_name_item, with_region, with_sheet, with_sheet_item, with_text}
-use Rattle.xls_arrays.specs.Shown.{content_in, item_between, no_content}
-use Rattle.xls_arrays.specs.Filled.{Holds, KeepsRooms, Lays, LaysText}
+use Rattle.xls_arrays.specs.Values.{cell_item, form_in, content_kind, content_text, value_in}
+use Rattle.xls_arrays.specs.Arrays.{Arrays, Reported, formula_item, laid, next_span, sheet_item, with_cell_laid, with_cell_item, with_content, with_formula, with_formula_item, with_name, with_name_item, with_region, with_sheet, with_sheet_item, with_text}
+use Rattle.xls_arrays.specs.Displayed.{content_in, item_between, no_content}
+use Rattle.xls_arrays.specs.Filled.{RoomsHold, KeepsRooms, Lays, LaysText}
 use Rattle.xls_arrays.specs.declared.items.Span.{Span}
 use Rattle.xls_arrays.specs.declared.items.SheetItem.{SheetItem}
 use Rattle.xls_arrays.specs.declared.items.CellItem.{CellItem}
@@ -45,7 +45,7 @@ keeps-trans a b =
 -- after what was laid before, these things are to be laid in all, and those are left
 pub record IsPartly {X : Type 0} (step : Arrays → X → Arrays) (all left : List X) (before now : Rooms) : Type 0 where
   pub same : KeepsRooms before now
-  pub laid : (a : Arrays) → Holds before a → (b : Arrays) × Holds now b × (laid step b left ≡ laid step a all)
+  pub laid : (a : Arrays) → RoomsHold before a → (b : Arrays) × RoomsHold now b × (laid step b left ≡ laid step a all)
 
 pub partly-first : {X : Type 0} (step : Arrays → X → Arrays) (all left : List X) (r : Rooms) → left ≡ all
     → IsPartly step all left r r
@@ -87,26 +87,26 @@ laid-counts step count k adds a (x ∷ xs) =
 -- ---- a thing with its text
 
 -- the item of a cell whose text is there
-abbrev pub item_by : Entry → Span → CellItem
+abbrev pub item_by : CellEntry → Span → CellItem
 item_by c span =
     record {
       row = c.0.0;
       column = c.0.1;
-      kind = kind_of c.1;
+      kind = content_kind c.1;
       form = form_in c.1;
       value = value_in span.offset c.1;
       length = span.length;
     }
 
-pub lays-cell : {r s t : Rooms} {text : List ℕ} {span : Span} (item : CellItem) (c : Entry) → LaysText r s text span → text ≡ text_in c.1
-    → item ≡ item_by c span → Lays s t (λ a. with_cell_item a item) → Lays r t (λ a. with_cell a c)
-lays-cell {t = t} {text = text} item c lays is made then =
+pub lays-cell : {r s t : Rooms} {text : List ℕ} {span : Span} (item : CellItem) (c : CellEntry) → LaysText r s text span → text ≡ content_text c.1
+    → item ≡ item_by c span → Lays s t (λ a. with_cell_item a item) → Lays r t (λ a. with_cell_laid a c)
+lays-cell {t = t} {text = text} item c lays is built then =
     λ a h.
     let laid = lays a h in
-    let all : with_cell_item (with_text a text) item ≡ with_cell a c =
-    ap (with_cell_item (with_text a text)) (made ∙ ap (item_by c) (laid.1 ∙ ap (next_span a) is))
+    let all : with_cell_item (with_text a text) item ≡ with_cell_laid a c =
+    ap (with_cell_item (with_text a text)) (built ∙ ap (item_by c) (laid.1 ∙ ap (next_span a) is))
     ∙ ap (λ bytes. with_cell_item (with_text a bytes) (cell_item (length a.texts) c)) is in
-    subst (Holds t) all (then _ laid.0)
+    subst (RoomsHold t) all (then _ laid.0)
 
 pub lays-formula : {r s t : Rooms} {text : List ℕ} {span : Span} (f : FormulaEntry) → LaysText r s text span → text ≡ encode_utf8_all f.1
     → Lays s t (λ a. with_formula_item a (formula_item span f)) → Lays r t (λ a. with_formula a f)
@@ -116,7 +116,7 @@ lays-formula {t = t} {text = text} {span = span} f lays is then =
     let all : with_formula_item (with_text a text) (formula_item span f) ≡ with_formula a f =
     ap (λ at. with_formula_item (with_text a text) (formula_item at f)) (laid.1 ∙ ap (next_span a) is)
     ∙ ap (λ bytes. with_formula_item (with_text a bytes) (formula_item (next_span a (encode_utf8_all f.1)) f)) is in
-    subst (Holds t) all (then _ laid.0)
+    subst (RoomsHold t) all (then _ laid.0)
 
 pub lays-name : {r s t u : Rooms} {name text : List ℕ} {first second : Span} (n : List ℕ × List ℕ)
     → LaysText r s name first → LaysText s t text second → name ≡ encode_utf8_all n.0 → text ≡ encode_utf8_all n.1
@@ -136,36 +136,36 @@ lays-name {u = u} {name = name} {text = text} {first = first} {second = second} 
     (record { name = next_span a bytes; formula = next_span (with_text a bytes) text })) name_is
     ∙ ap (λ bytes. with_name_item (with_text (with_text a (encode_utf8_all n.0)) bytes)
     (record { name = next_span a (encode_utf8_all n.0); formula = next_span (with_text a (encode_utf8_all n.0)) bytes })) text_is in
-    subst (Holds u) (spans ∙ texts) (then _ two.0)
+    subst (RoomsHold u) (spans ∙ texts) (then _ two.0)
 
 -- ---- a sheet
 
 module _ (a : Arrays) (v : SheetView) where
   content_cells : length (with_content a v).cells ≡ length a.cells + length v.cells
   content_cells =
-      let cells = laid with_cell a v.cells in
+      let cells = laid with_cell_laid a v.cells in
       let formulas = laid with_formula cells v.formulas in
       laid-counts with_region (λ b. length b.cells) 0 (λ b x. sym (add-zero _)) formulas v.merges
       ∙ ap (λ n. n + 0 * length v.merges) (laid-counts with_formula (λ b. length b.cells) 0 (λ b x. sym (add-zero _)) cells v.formulas)
-      ∙ ap (λ n. n + 0 * length v.formulas + 0 * length v.merges) (laid-counts with_cell (λ b. length b.cells) 1 (λ b x. length_push b.cells _) a v.cells)
+      ∙ ap (λ n. n + 0 * length v.formulas + 0 * length v.merges) (laid-counts with_cell_laid (λ b. length b.cells) 1 (λ b x. length_push b.cells _) a v.cells)
       ∙ omega arith
 
   content_formulas : length (with_content a v).formulas ≡ length a.formulas + length v.formulas
   content_formulas =
-      let cells = laid with_cell a v.cells in
+      let cells = laid with_cell_laid a v.cells in
       let formulas = laid with_formula cells v.formulas in
       laid-counts with_region (λ b. length b.formulas) 0 (λ b x. sym (add-zero _)) formulas v.merges
       ∙ ap (λ n. n + 0 * length v.merges) (laid-counts with_formula (λ b. length b.formulas) 1 (λ b x. length_push b.formulas _) cells v.formulas)
-      ∙ ap (λ n. n + 1 * length v.formulas + 0 * length v.merges) (laid-counts with_cell (λ b. length b.formulas) 0 (λ b x. sym (add-zero _)) a v.cells)
+      ∙ ap (λ n. n + 1 * length v.formulas + 0 * length v.merges) (laid-counts with_cell_laid (λ b. length b.formulas) 0 (λ b x. sym (add-zero _)) a v.cells)
       ∙ omega arith
 
   content_regions : length (with_content a v).regions ≡ length a.regions + length v.merges
   content_regions =
-      let cells = laid with_cell a v.cells in
+      let cells = laid with_cell_laid a v.cells in
       let formulas = laid with_formula cells v.formulas in
       laid-counts with_region (λ b. length b.regions) 1 (λ b x. length_push b.regions _) formulas v.merges
       ∙ ap (λ n. n + 1 * length v.merges) (laid-counts with_formula (λ b. length b.regions) 0 (λ b x. sym (add-zero _)) cells v.formulas)
-      ∙ ap (λ n. n + 0 * length v.formulas + 1 * length v.merges) (laid-counts with_cell (λ b. length b.regions) 0 (λ b x. sym (add-zero _)) a v.cells)
+      ∙ ap (λ n. n + 0 * length v.formulas + 1 * length v.merges) (laid-counts with_cell_laid (λ b. length b.regions) 0 (λ b x. sym (add-zero _)) a v.cells)
       ∙ omega arith
 
 -- a sheet without content adds none
@@ -179,7 +179,7 @@ lays-missing None r e = lays-none r
 lays-missing (Some v) r e = absurd (let none : None ≡ Some v = e in cc)
 
 -- the counts after its content less those before it are its own
-item_is : (a : Arrays) (s : SheetContent) (v : SheetView) (name : Span) (r t : Rooms) (b : Arrays) → Holds r a → Holds t (with_content b v)
+item_is : (a : Arrays) (s : SheetContent) (v : SheetView) (name : Span) (r t : Rooms) (b : Arrays) → RoomsHold r a → RoomsHold t (with_content b v)
     → length b.cells ≡ length a.cells → length b.formulas ≡ length a.formulas → length b.regions ≡ length a.regions
     → item_between s name r.laid t.laid ≡ sheet_item a name s v
 item_is a s v name r t b before after cells formulas regions =
@@ -194,20 +194,20 @@ item_is a s v name r t b before after cells formulas regions =
 pub lays-sheet : {r s t u : Rooms} {name : List ℕ} {span : Span} (item : SheetItem) (c : SheetContent) (v : SheetView)
     → LaysText r s name span → name ≡ encode_utf8_all c.name → Lays s t (λ a. with_content a v)
     → item ≡ item_between c span r.laid t.laid → Lays t u (λ a. with_sheet_item a item) → Lays r u (λ a. with_sheet a (c, v))
-lays-sheet {r} {s} {t} {u} {name} {span} item c v lays is content made then =
+lays-sheet {r} {s} {t} {u} {name} {span} item c v lays is content built then =
     λ a h.
     let text = lays a h in
     let filled = content _ text.0 in
     let itself : item ≡ sheet_item a (next_span a (encode_utf8_all c.name)) c v =
-    made ∙ item_is a c v span r t (with_text a name) h filled refl refl refl
+    built ∙ item_is a c v span r t (with_text a name) h filled refl refl refl
     ∙ ap (λ at. sheet_item a at c v) (text.1 ∙ ap (next_span a) is) in
     let all : with_sheet_item (with_content (with_text a name) v) item ≡ with_sheet a (c, v) =
     ap (with_sheet_item (with_content (with_text a name) v)) itself
     ∙ ap (λ bytes. with_sheet_item (with_content (with_text a bytes) v)
     (sheet_item a (next_span a (encode_utf8_all c.name)) c v)) is in
-    subst (Holds u) all (then _ filled)
+    subst (RoomsHold u) all (then _ filled)
 
 -- one sheet alone
-pub lays-alone : {r s : Rooms} (t : Told) → Lays r s (λ a. with_sheet a t) → Lays r s (λ a. laid with_sheet a (t ∷ []))
+pub lays-alone : {r s : Rooms} (t : Reported) → Lays r s (λ a. with_sheet a t) → Lays r s (λ a. laid with_sheet a (t ∷ []))
 unfolding laid
 lays-alone t lays = lays

@@ -6,10 +6,10 @@ use Rattle.xls_dates.specs.declared.dates.ExcelDateTimeType.TheVariants.{DateTim
 use Rattle.xls_data.specs.declared.errors.CellErrorType.TheVariants as failures
 use Rattle.xls_data.specs.declared.sheets.SheetType.TheVariants as sheets
 use Rattle.xls_data.specs.declared.sheets.SheetVisible.TheVariants as visible
-use Rattle.xls_arrays.specs.Arrays.{Told, arrays_of, kind_number, laid, visibility_number}
+use Rattle.xls_arrays.specs.Arrays.{Reported, arrays_of, sheet_kind_number, laid, visibility_number}
 use Rattle.xls_arrays.specs.Numbers.{bits_of}
 use Rattle.xls_arrays.specs.Options.{max_bytes_in, options_by}
-use Rattle.xls_arrays.specs.Values.{error_code, kind_of}
+use Rattle.xls_arrays.specs.Values.{error_code, content_kind}
 use Rattle.xls_arrays.specs.declared.options.Options.{Options}
 
 -- ---- numbers
@@ -35,14 +35,14 @@ pub known_errors : map error_code (failures.Null ∷ failures.Div0 ∷ failures.
     ≡ 0x00 ∷ 0x07 ∷ 0x0F ∷ 0x17 ∷ 0x1D ∷ 0x24 ∷ 0x2A ∷ 0x2B ∷ []
 known_errors = refl
 
-pub known_kinds : map kind_of (content.nothing ∷ content.int (pos 1) ∷ content.float (Bits 0)
+pub known_kinds : map content_kind (content.nothing ∷ content.int (pos 1) ∷ content.float (Bits 0)
     ∷ content.date (record { number = Bits 0; kind = DateTime; is_1904 = false })
     ∷ content.date (record { number = Bits 0; kind = TimeDelta; is_1904 = false })
     ∷ content.truth true ∷ content.failure failures.NA ∷ content.text [] ∷ content.iso_date [] ∷ content.iso_duration [] ∷ [])
     ≡ 0x00 ∷ 0x09 ∷ 0x01 ∷ 0x02 ∷ 0x03 ∷ 0x04 ∷ 0x05 ∷ 0x06 ∷ 0x07 ∷ 0x08 ∷ []
 known_kinds = refl
 
-pub known_sheets : map kind_number (sheets.WorkSheet ∷ sheets.DialogSheet ∷ sheets.MacroSheet ∷ sheets.ChartSheet ∷ sheets.Vba ∷ [])
+pub known_sheets : map sheet_kind_number (sheets.WorkSheet ∷ sheets.DialogSheet ∷ sheets.MacroSheet ∷ sheets.ChartSheet ∷ sheets.Vba ∷ [])
     ≡ 0x00 ∷ 0x01 ∷ 0x02 ∷ 0x03 ∷ 0x04 ∷ []
 known_sheets = refl
 
@@ -53,7 +53,7 @@ known_visible = refl
 
 -- two sheets: the first has `é` in A1, 3 in B1, `é` again in A2, the formula `A1` in A2 and the region A1:B1; the second
 -- has `z` in A1. The name `N` means `A!1`
-abbrev two_sheets : List Told
+abbrev two_sheets : List Reported
 two_sheets = (
   record { name = codes "A"; typ = sheets.WorkSheet; visible = visible.Visible },
   record {

@@ -4,10 +4,10 @@ use Rattle.std.specs.Prelude.{encode_utf8_all}
 use Rattle.std.specs.Str.{chars, IsUtf8}
 use Rattle.std.proofs.lemmas.Str.{encodes-chars}
 use Rattle.xls_data.specs.declared.numeric.Numeric.TheVariants as numbers
-use Rattle.xls_cursors.specs.Values.{value_content, text_in as characters_in}
+use Rattle.xls_cursors.specs.Values.{lent_content, content_text as characters_in}
 use Rattle.xls_cursors.specs.declared.value.CellValue.{CellValue}
 use Rattle.xls_cursors.specs.declared.value.CellValue.TheVariants as values
-use Rattle.xls_arrays.specs.Values.{text_in}
+use Rattle.xls_arrays.specs.Values.{content_text}
 
 -- the bytes of the characters of a text
 pub encodes : (text : List ℕ) → IsUtf8 text → encode_utf8_all (chars text) ≡ text
@@ -21,8 +21,8 @@ none-laid : (bytes : List ℕ) → IsUtf8 bytes → chars bytes ≡ [] → bytes
 none-laid bytes u e = sym (encodes bytes u) ∙ ap encode_utf8_all e
 
 -- the text of a cell's value
-pub text-laid : (bytes : List ℕ) → IsUtf8 bytes → (v : CellValue) → chars bytes ≡ characters_in (value_content v)
-    → bytes ≡ text_in (value_content v)
+pub text-laid : (bytes : List ℕ) → IsUtf8 bytes → (v : CellValue) → chars bytes ≡ characters_in (lent_content v)
+    → bytes ≡ content_text (lent_content v)
 text-laid bytes u (values.Number (numbers.Int n)) e = none-laid bytes u e
 text-laid bytes u (values.Number (numbers.Float n)) e = none-laid bytes u e
 text-laid bytes u (values.Number (numbers.DateTime n epoch)) e = none-laid bytes u e

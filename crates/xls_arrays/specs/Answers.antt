@@ -5,14 +5,14 @@ use Rattle.xls_container.specs.declared.fault.FileFault.{FileFault}
 use Rattle.xls_dates.specs.declared.numbers.Number.TheVariants.{Bits}
 use Rattle.xls_decimals.specs.Moments.{IsDate, IsDuration}
 use Rattle.xls_refusals.specs.Codes.{plain}
-use Rattle.xls_refusals.specs.Faults.{fault_of}
+use Rattle.xls_refusals.specs.Faults.{fault_numbered}
 use Rattle.xls_refusals.specs.Refusals.{refusal_of_file}
 use Rattle.xls_refusals.specs.declared.faults.Fault.{Fault}
 use Rattle.xls_refusals.specs.declared.refusal.Refusal.{Refusal}
 use Rattle.xls_refusals.specs.declared.refusal.Refusal.TheVariants as refusals
 use Rattle.xls_arrays.specs.Values.{truth_bit}
 use Rattle.xls_arrays.specs.Arrays.{Arrays, empty, sizes_of}
-use Rattle.xls_arrays.specs.Filled.{Fits, Holds}
+use Rattle.xls_arrays.specs.Filled.{FitsBefore, RoomsHold}
 use Rattle.xls_arrays.specs.Held.{IsHeld, RefusesStream}
 use Rattle.xls_arrays.specs.Whole.{PutsWhole}
 use Rattle.xls_arrays.specs.declared.options.Options.{Options}
@@ -22,16 +22,16 @@ use Rattle.xls_arrays.specs.declared.rooms.Rooms.{Rooms}
 -- how a call ends: it is done, and the fault is all 0; or it is refused, for what the fault tells. The code is
 -- that of the fault
 pub record Answers (Done : Type 0) (Refuses : Refusal → Type 0) (fault : Fault) (code : ℕ) : Type 0 where
-  pub told : code ≡ fault.code
-  pub ends : (Done × (fault ≡ plain 0)) ⊎ ((r : Refusal) × Refuses r × (fault ≡ fault_of r))
+  pub reported : code ≡ fault.code
+  pub ends : (Done × (fault ≡ plain 0)) ⊎ ((r : Refusal) × Refuses r × (fault ≡ fault_numbered r))
 
 -- likewise of what was done inside
-abbrev pub fault_in : Result (Unit {0}) Refusal → Fault
-fault_in (Ok x) = plain 0
-fault_in (Err r) = fault_of r
+abbrev pub answered_fault : Result (Unit {0}) Refusal → Fault
+answered_fault (Ok x) = plain 0
+answered_fault (Err r) = fault_numbered r
 
 abbrev pub IsAnswer : Result (Unit {0}) Refusal → Fault → ℕ → Type 0
-IsAnswer done fault code = (fault ≡ fault_in done) × (code ≡ fault.code)
+IsAnswer done fault code = (fault ≡ answered_fault done) × (code ≡ fault.code)
 
 -- ---- counting
 
@@ -43,7 +43,7 @@ AreSizes options stream sizes =
 -- these were laid, and have these sizes
 abbrev pub AreLaid : Options → List ℕ → Rooms → Sizes → Type 0
 AreLaid options stream rooms sizes =
-    (is_1904 : Bool) × (a : Arrays) × IsHeld options stream is_1904 a × (sizes ≡ sizes_of a (truth_bit is_1904)) × Holds rooms a
+    (is_1904 : Bool) × (a : Arrays) × IsHeld options stream is_1904 a × (sizes ≡ sizes_of a (truth_bit is_1904)) × RoomsHold rooms a
 
 -- they are told, or none
 abbrev pub Measures : Options → List ℕ → Sizes → Fault → ℕ → Type 0
@@ -71,7 +71,7 @@ AreFilled options stream after sizes =
 -- read, and the sizes are none
 abbrev pub RefusesToFill : Options → List ℕ → Arrays → Sizes → Refusal → Type 0
 RefusesToFill options stream after sizes refusals.TooShort =
-    (is_1904 : Bool) × (a : Arrays) × IsHeld options stream is_1904 a × (sizes ≡ sizes_of a (truth_bit is_1904)) × (Fits after a → ⊥)
+    (is_1904 : Bool) × (a : Arrays) × IsHeld options stream is_1904 a × (sizes ≡ sizes_of a (truth_bit is_1904)) × (FitsBefore after a → ⊥)
 RefusesToFill options stream after sizes other = RefusesStream options stream other × (sizes ≡ sizes_of empty 0)
 
 -- an array keeps its length, so these are those that the caller gave

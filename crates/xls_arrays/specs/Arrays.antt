@@ -6,10 +6,10 @@ use Rattle.xls_data.specs.declared.sheets.SheetType.TheVariants as kinds
 use Rattle.xls_data.specs.declared.sheets.SheetVisible.{SheetVisible}
 use Rattle.xls_data.specs.declared.sheets.SheetVisible.TheVariants.{Visible, Hidden, VeryHidden}
 use Rattle.xls_data.specs.declared.regions.Dimensions.{Dimensions}
-use Rattle.xls_biff.specs.Cells.{Entry}
+use Rattle.xls_biff.specs.Cells.{CellEntry}
 use Rattle.xls_meaning.specs.SheetTable.{FormulaEntry}
 use Rattle.xls_meaning.specs.Reading.{SheetView}
-use Rattle.xls_arrays.specs.Values.{cell_item, text_in}
+use Rattle.xls_arrays.specs.Values.{cell_item, content_text}
 use Rattle.xls_arrays.specs.declared.items.Span.{Span}
 use Rattle.xls_arrays.specs.declared.items.Sizes.{Sizes}
 use Rattle.xls_arrays.specs.declared.items.SheetItem.{SheetItem}
@@ -54,8 +54,8 @@ abbrev pub next_span : Arrays → List ℕ → Span
 next_span a text = record { offset = length a.texts; length = length text }
 
 -- a cell, and its text
-abbrev pub with_cell : Arrays → Entry → Arrays
-with_cell a c = with_cell_item (with_text a (text_in c.1)) (cell_item (length a.texts) c)
+abbrev pub with_cell_laid : Arrays → CellEntry → Arrays
+with_cell_laid a c = with_cell_item (with_text a (content_text c.1)) (cell_item (length a.texts) c)
 
 abbrev pub formula_item : Span → FormulaEntry → FormulaItem
 formula_item span f = record { row = f.0.0; column = f.0.1; text = span }
@@ -88,12 +88,12 @@ laid step a (x ∷ xs) = laid step (step a x) xs
 
 -- ---- sheets
 
-abbrev pub kind_number : SheetType → ℕ
-kind_number kinds.WorkSheet = 0
-kind_number kinds.DialogSheet = 1
-kind_number kinds.MacroSheet = 2
-kind_number kinds.ChartSheet = 3
-kind_number kinds.Vba = 4
+abbrev pub sheet_kind_number : SheetType → ℕ
+sheet_kind_number kinds.WorkSheet = 0
+sheet_kind_number kinds.DialogSheet = 1
+sheet_kind_number kinds.MacroSheet = 2
+sheet_kind_number kinds.ChartSheet = 3
+sheet_kind_number kinds.Vba = 4
 
 abbrev pub visibility_number : SheetVisible → ℕ
 visibility_number Visible = 0
@@ -111,20 +111,20 @@ sheet_item a name s v =
       formulas = length v.formulas;
       first_region = length a.regions;
       regions = length v.merges;
-      kind = kind_number s.typ;
+      kind = sheet_kind_number s.typ;
       visibility = visibility_number s.visible;
     }
 
 -- cells, then formulas, then regions
 abbrev pub with_content : Arrays → SheetView → Arrays
-with_content a v = laid with_region (laid with_formula (laid with_cell a v.cells) v.formulas) v.merges
+with_content a v = laid with_region (laid with_formula (laid with_cell_laid a v.cells) v.formulas) v.merges
 
 -- a sheet and its content
-abbrev pub Told : Type 0
-Told = SheetContent × SheetView
+abbrev pub Reported : Type 0
+Reported = SheetContent × SheetView
 
 -- its name, its content, and its item
-abbrev pub with_sheet : Arrays → Told → Arrays
+abbrev pub with_sheet : Arrays → Reported → Arrays
 with_sheet a t =
     let name = encode_utf8_all t.0.name in
     with_sheet_item (with_content (with_text a name) t.1) (sheet_item a (next_span a name) t.0 t.1)
@@ -132,7 +132,7 @@ with_sheet a t =
 -- ---- a workbook
 
 -- its defined names, and then these of its sheets
-abbrev pub arrays_of : List (List ℕ × List ℕ) → List Told → Arrays
+abbrev pub arrays_of : List (List ℕ × List ℕ) → List Reported → Arrays
 arrays_of names sheets = laid with_sheet (laid with_name empty names) sheets
 
 abbrev pub sizes_of : Arrays → ℕ → Sizes

@@ -10,7 +10,7 @@ pub record IsFilled {X : Type 0} (room : List X) (laid : ℕ) (items : List X) :
   pub begins : take laid room ≡ take (length room) items
 
 -- these arrays were laid
-pub record Holds (rooms : Rooms) (a : Arrays) : Type 0 where
+pub record RoomsHold (rooms : Rooms) (a : Arrays) : Type 0 where
   pub sheets : IsFilled rooms.sheets.now rooms.laid.sheets a.sheets
   pub names : IsFilled rooms.names.now rooms.laid.names a.names
   pub cells : IsFilled rooms.cells.now rooms.laid.cells a.cells
@@ -31,15 +31,15 @@ pub record KeepsRooms (before after : Rooms) : Type 0 where
 
 -- after what was laid before, so much more was
 abbrev pub Lays : Rooms → Rooms → (Arrays → Arrays) → Type 0
-Lays before after step = (a : Arrays) → Holds before a → Holds after (step a)
+Lays before after step = (a : Arrays) → RoomsHold before a → RoomsHold after (step a)
 
 -- a text was, and this is where
 abbrev pub LaysText : Rooms → Rooms → List ℕ → Span → Type 0
-LaysText before after text span = (a : Arrays) → Holds before a
-    → Holds after (with_text a text) × (span ≡ record { offset = length a.texts; length = length text })
+LaysText before after text span = (a : Arrays) → RoomsHold before a
+    → RoomsHold after (with_text a text) × (span ≡ record { offset = length a.texts; length = length text })
 
 -- arrays as long as these have room for those
-pub record Fits (before a : Arrays) : Type 0 where
+pub record FitsBefore (before a : Arrays) : Type 0 where
   pub sheets : length a.sheets ≤ length before.sheets
   pub names : length a.names ≤ length before.names
   pub cells : length a.cells ≤ length before.cells

@@ -3,29 +3,29 @@ use Rattle.std.specs.Prelude.{◌≡◌, ◌⊎◌, ℕ, ◌<◌, ◌≤◌, Boo
 use Rattle.xls_meaning.specs.Reading.{BookView}
 use Rattle.xls_container.specs.Obfuscation.{IsObfuscated}
 use Rattle.xls_record.specs.declared.error.XlsError.TheVariants as errors
-use Rattle.xls_view.specs.Viewing.{IsFault, IsViewed, Viewed}
+use Rattle.xls_view.specs.Viewing.{IsViewFault, IsViewed, Viewed}
 use Rattle.xls_refusals.specs.declared.refusal.Refusal.{Refusal}
 use Rattle.xls_refusals.specs.declared.refusal.Refusal.TheVariants as refusals
-use Rattle.xls_arrays.specs.Arrays.{Arrays, Told, arrays_of}
+use Rattle.xls_arrays.specs.Arrays.{Arrays, Reported, arrays_of}
 use Rattle.xls_arrays.specs.Options.{max_bytes_in, options_by}
-use Rattle.xls_arrays.specs.Shown.{asked_for}
+use Rattle.xls_arrays.specs.Displayed.{asked_for}
 use Rattle.xls_arrays.specs.declared.options.Options.{Options}
 
 -- the records aren't obfuscated, and the stream is within the limit of bytes
-pub record IsPlain (options : Options) (stream : List ℕ) : Type 0 where
+pub record IsPlainStream (options : Options) (stream : List ℕ) : Type 0 where
   pub readable : IsObfuscated stream → ⊥
   pub within : length stream ≤ max_bytes_in options
 
 -- the view of a stream that is read
-pub record Shows (options : Options) (stream : List ℕ) (view : Viewed) : Type 0 where
-  pub plain : IsPlain options stream
+pub record ShowsStream (options : Options) (stream : List ℕ) (view : Viewed) : Type 0 where
+  pub plain : IsPlainStream options stream
   pub viewed : IsViewed (options_by options) stream view
 
 -- these are the arrays of the sheets that are asked for, and this is the date system
 pub record IsHeld (options : Options) (stream : List ℕ) (is_1904 : Bool) (a : Arrays) : Type 0 where
   pub view : Viewed
-  pub shows : Shows options stream view
-  pub sheets : List Told
+  pub shows : ShowsStream options stream view
+  pub sheets : List Reported
   pub asked : asked_for options view.book ≡ Some sheets
   pub arrays : a ≡ arrays_of view.book.names sheets
   pub epoch : is_1904 ≡ view.book.is_1904
@@ -44,7 +44,7 @@ RefusesStream options stream refusals.Obfuscated = IsObfuscated stream
 RefusesStream options stream (refusals.Stream error) =
     (IsObfuscated stream → ⊥)
     × (((max_bytes_in options < length stream) × (error ≡ errors.TooLarge (max_bytes_in options)))
-    ⊎ ((length stream ≤ max_bytes_in options) × IsFault (options_by options) stream error))
+    ⊎ ((length stream ≤ max_bytes_in options) × IsViewFault (options_by options) stream error))
 RefusesStream options stream (refusals.NoSheet index) =
-    (view : Viewed) × Shows options stream view × Misses options view.book index
+    (view : Viewed) × ShowsStream options stream view × Misses options view.book index
 RefusesStream options stream other = ⊥

@@ -3,27 +3,27 @@ use Rattle.std.specs.Prelude.{◌≡◌, ℕ, ◌≤◌, List, Some, length, sli
 use Rattle.xls_meaning.specs.Reading.{BookView}
 use Rattle.xls_refusals.specs.declared.refusal.Refusal.{Refusal}
 use Rattle.xls_refusals.specs.declared.refusal.Refusal.TheVariants as refusals
-use Rattle.xls_arrays.specs.Arrays.{Told, laid, with_name, with_sheet}
+use Rattle.xls_arrays.specs.Arrays.{Reported, laid, with_name, with_sheet}
 use Rattle.xls_arrays.specs.Filled.{Lays}
 use Rattle.xls_arrays.specs.Held.{Misses}
-use Rattle.xls_arrays.specs.Shown.{asked_for, each_with}
+use Rattle.xls_arrays.specs.Displayed.{asked_for, each_with}
 use Rattle.xls_arrays.specs.declared.options.Options.{Options}
 use Rattle.xls_arrays.specs.declared.rooms.Rooms.{Rooms}
 
 -- the sheet of an index was laid
 abbrev pub LaysOne : BookView → ℕ → Rooms → Rooms → Type 0
 LaysOne book index before after =
-    (t : Told) × (slice_get (each_with book.sheets book.contents) index ≡ Some t) × Lays before after (λ a. with_sheet a t)
+    (t : Reported) × (slice_get (each_with book.sheets book.contents) index ≡ Some t) × Lays before after (λ a. with_sheet a t)
 
 -- the sheets that are asked for were
 abbrev pub LaysAskedFor : Options → BookView → Rooms → Rooms → Type 0
 LaysAskedFor options book before after =
-    (ts : List Told) × (asked_for options book ≡ Some ts) × Lays before after (λ a. laid with_sheet a ts)
+    (ts : List Reported) × (asked_for options book ≡ Some ts) × Lays before after (λ a. laid with_sheet a ts)
 
 -- the defined names were, and then these sheets
 abbrev pub LaysView : Options → BookView → Rooms → Rooms → Type 0
 LaysView options book before after =
-    (ts : List Told) × (asked_for options book ≡ Some ts)
+    (ts : List Reported) × (asked_for options book ≡ Some ts)
     × Lays before after (λ a. laid with_sheet (laid with_name a book.names) ts)
 
 -- no sheet has the index, unless memory ran out

@@ -7,6 +7,6 @@ pub mod Laws
 pub mod Laying
 pub mod Numbers
 pub mod Options
-pub mod Shown
+pub mod Displayed
 pub mod Values
 pub mod Whole

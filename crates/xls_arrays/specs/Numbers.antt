@@ -26,8 +26,8 @@ bits_of (Hundredths n) = hundredths_bits n
 bits_of (BitsOver100 bits) = over_100_bits bits
 
 -- the form in which the stream has it
-abbrev pub form_of : Number → ℕ
-form_of (Bits bits) = 0
-form_of (Whole n) = 1
-form_of (Hundredths n) = 2
-form_of (BitsOver100 bits) = 3
+abbrev pub number_form : Number → ℕ
+number_form (Bits bits) = 0
+number_form (Whole n) = 1
+number_form (Hundredths n) = 2
+number_form (BitsOver100 bits) = 3

@@ -6,8 +6,8 @@ use Rattle.xls_dates.specs.declared.dates.ExcelDateTimeType.{ExcelDateTimeType}
 use Rattle.xls_dates.specs.declared.dates.ExcelDateTimeType.TheVariants.{DateTime, TimeDelta}
 use Rattle.xls_data.specs.declared.errors.CellErrorType.{CellErrorType}
 use Rattle.xls_data.specs.declared.errors.CellErrorType.TheVariants as errors
-use Rattle.xls_biff.specs.Cells.{Entry}
-use Rattle.xls_arrays.specs.Numbers.{bits_of, form_of, whole_bits}
+use Rattle.xls_biff.specs.Cells.{CellEntry}
+use Rattle.xls_arrays.specs.Numbers.{bits_of, number_form, whole_bits}
 use Rattle.xls_arrays.specs.declared.items.CellItem.{CellItem}
 
 -- the code of an error value ([MS-XLS] BErr)
@@ -27,30 +27,30 @@ duration_or_date DateTime = 2
 duration_or_date TimeDelta = 3
 
 -- 0 blank, 1 number, 4 truth value, 5 error value, 6 text, 7 a date as text, 8 a duration as text, 9 whole number
-abbrev pub kind_of : Content → ℕ
-kind_of nothing = 0
-kind_of (int n) = 9
-kind_of (float number) = 1
-kind_of (date moment) = duration_or_date moment.kind
-kind_of (truth b) = 4
-kind_of (failure error) = 5
-kind_of (text cs) = 6
-kind_of (iso_date cs) = 7
-kind_of (iso_duration cs) = 8
+abbrev pub content_kind : Content → ℕ
+content_kind nothing = 0
+content_kind (int n) = 9
+content_kind (float number) = 1
+content_kind (date moment) = duration_or_date moment.kind
+content_kind (truth b) = 4
+content_kind (failure error) = 5
+content_kind (text cs) = 6
+content_kind (iso_date cs) = 7
+content_kind (iso_duration cs) = 8
 
 -- the form of its number
 abbrev pub form_in : Content → ℕ
-form_in (int n) = form_of (Whole n)
-form_in (float number) = form_of number
-form_in (date moment) = form_of moment.number
+form_in (int n) = number_form (Whole n)
+form_in (float number) = number_form number
+form_in (date moment) = number_form moment.number
 form_in other = 0
 
 -- its text in UTF-8
-abbrev pub text_in : Content → List ℕ
-text_in (text cs) = encode_utf8_all cs
-text_in (iso_date cs) = encode_utf8_all cs
-text_in (iso_duration cs) = encode_utf8_all cs
-text_in other = []
+abbrev pub content_text : Content → List ℕ
+content_text (text cs) = encode_utf8_all cs
+content_text (iso_date cs) = encode_utf8_all cs
+content_text (iso_duration cs) = encode_utf8_all cs
+content_text other = []
 
 abbrev pub truth_bit : Bool → ℕ
 truth_bit true = 1
@@ -73,13 +73,13 @@ value_in offset (iso_date cs) = offset
 value_in offset (iso_duration cs) = offset
 
 -- a cell whose text begins at an offset
-abbrev pub cell_item : ℕ → Entry → CellItem
+abbrev pub cell_item : ℕ → CellEntry → CellItem
 cell_item offset c =
     record {
       row = c.0.0;
       column = c.0.1;
-      kind = kind_of c.1;
+      kind = content_kind c.1;
       form = form_in c.1;
       value = value_in offset c.1;
-      length = length (text_in c.1);
+      length = length (content_text c.1);
     }

@@ -2,7 +2,7 @@
 
 ghost use Rattle.std.specs.Prelude.{OnOk};
 ghost use Rattle.xls_cursors.specs.Values.{cell_entry};
-ghost use Rattle.xls_arrays.specs.Arrays.{laid, with_cell};
+ghost use Rattle.xls_arrays.specs.Arrays.{laid, with_cell_laid};
 ghost use Rattle.xls_arrays.specs.Filled.{KeepsRooms, Lays};
 
 use crate::rooms::{Rooms, lay_cell_item, lay_text};
@@ -17,7 +17,7 @@ fn lay_cell(
     cell: SheetCell<'_>,
 ) -> Result<(), AllocError>
     ensures same { KeepsRooms rooms.old rooms.new }
-    ensures ok { OnOk result (Lays rooms.old rooms.new (λ a. with_cell a (cell_entry cell.entry))) }
+    ensures ok { OnOk result (Lays rooms.old rooms.new (λ a. with_cell_laid a (cell_entry cell.entry))) }
 {
     let text = lay_text(rooms, buffer.text_of(&cell.value)?)?;
     lay_cell_item(rooms, cell_item(cell.row, cell.column, &cell.value, text))
@@ -30,7 +30,7 @@ pub(crate) fn lay_cells(
     cells: Cells<'_>,
 ) -> Result<(), AllocError>
     ensures same { KeepsRooms rooms.old rooms.new }
-    ensures ok { OnOk result (Lays rooms.old rooms.new (λ a. laid with_cell a cells.entry)) }
+    ensures ok { OnOk result (Lays rooms.old rooms.new (λ a. laid with_cell_laid a cells.entry)) }
 {
     let mut buffer = TextBuffer::new(alloc);
     for cell in cells {

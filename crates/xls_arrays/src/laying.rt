@@ -2,10 +2,10 @@
 
 ghost use Rattle.std.specs.Prelude.{◌≡◌, IfOk, IfErr, OnOk, Some, None, map};
 ghost use Rattle.std.specs.Str.{chars};
-ghost use Rattle.xls_open.specs.Workbook.{told_of};
+ghost use Rattle.xls_open.specs.Workbook.{name_texts};
 ghost use Rattle.xls_arrays.specs.Arrays.{Arrays, empty, laid, with_name};
-ghost use Rattle.xls_arrays.specs.Filled.{Holds, KeepsRooms, Lays};
-ghost use Rattle.xls_arrays.specs.Held.{IsHeld, IsPlain, RefusesStream};
+ghost use Rattle.xls_arrays.specs.Filled.{RoomsHold, KeepsRooms, Lays};
+ghost use Rattle.xls_arrays.specs.Held.{IsHeld, IsPlainStream, RefusesStream};
 ghost use Rattle.xls_arrays.specs.Laying.{LaysAskedFor, LaysOne, LaysView, MissesIndex, MissesSheet};
 
 use crate::items::NameItem;
@@ -29,9 +29,9 @@ fn lay_name(rooms: &mut Rooms<'_>, name: &str, formula: &str) -> Result<(), Allo
 }
 
 /// Likewise of both in one.
-fn lay_told(rooms: &mut Rooms<'_>, name: &(String, String)) -> Result<(), AllocError>
+fn lay_reported(rooms: &mut Rooms<'_>, name: &(String, String)) -> Result<(), AllocError>
     ensures same { KeepsRooms rooms.old rooms.new }
-    ensures ok { OnOk result (Lays rooms.old rooms.new (λ a. with_name a (told_of name.now))) }
+    ensures ok { OnOk result (Lays rooms.old rooms.new (λ a. with_name a (name_texts name.now))) }
 {
     lay_name(rooms, name.0.as_str(), name.1.as_str())
 }
@@ -39,10 +39,10 @@ fn lay_told(rooms: &mut Rooms<'_>, name: &(String, String)) -> Result<(), AllocE
 /// Lays the defined names.
 fn lay_names(rooms: &mut Rooms<'_>, names: &[(String, String)]) -> Result<(), AllocError>
     ensures same { KeepsRooms rooms.old rooms.new }
-    ensures ok { OnOk result (Lays rooms.old rooms.new (λ a. laid with_name a (map told_of names.now))) }
+    ensures ok { OnOk result (Lays rooms.old rooms.new (λ a. laid with_name a (map name_texts names.now))) }
 {
     for name in names {
-        lay_told(rooms, name)?;
+        lay_reported(rooms, name)?;
     }
     Ok(())
 }
@@ -102,7 +102,7 @@ fn lay_view(
 /// The first refusal of a stream that its bytes alone tell: records that are obfuscated, and then more bytes
 /// than the limit.
 fn refuse_bytes(stream: &[u8], options: &Options) -> Result<(), Refusal>
-    ensures ok { OnOk result (IsPlain options.now stream.now) }
+    ensures ok { OnOk result (IsPlainStream options.now stream.now) }
     ensures err { IfErr result (RefusesStream options.now stream.now) }
 {
     if is_obfuscated(stream) {
@@ -123,8 +123,8 @@ pub(crate) fn lay_stream(
     options: &Options,
 ) -> Result<bool, Refusal>
     ensures same { KeepsRooms rooms.old rooms.new }
-    ensures ok { IfOk result (λ is_1904. Holds rooms.old empty
-        → (a : Arrays) × IsHeld options.now stream.now is_1904 a × Holds rooms.new a) }
+    ensures ok { IfOk result (λ is_1904. RoomsHold rooms.old empty
+        → (a : Arrays) × IsHeld options.now stream.now is_1904 a × RoomsHold rooms.new a) }
     ensures err { IfErr result (RefusesStream options.now stream.now) }
 {
     refuse_bytes(stream, options)?;

@@ -1,7 +1,7 @@
 //! Numbers as doubles.
 
 ghost use Rattle.std.specs.Prelude.{◌≡◌};
-ghost use Rattle.xls_arrays.specs.Numbers.{bits_of, form_of, hundredths_bits, over_100_bits, whole_bits};
+ghost use Rattle.xls_arrays.specs.Numbers.{bits_of, number_form, hundredths_bits, over_100_bits, whole_bits};
 
 use std::num::{f64_from_bits_with_nan, f64_to_bits_with_nan, nearest_i64_to_f64};
 use xls_data::Number;
@@ -45,7 +45,7 @@ pub fn bits_of(number: Number) -> u64
 
 /// The form of a number: 0 a double, 1 a whole number, 2 hundredths, 3 a double over 100.
 pub fn form_of(number: Number) -> u32
-    ensures { result ≡ form_of number }
+    ensures { result ≡ number_form number }
 {
     match number {
         Number::Bits(_) => 0,

@@ -1,7 +1,7 @@
 //! How a stream is read, as a caller in C says it.
 
 ghost use Rattle.std.specs.Prelude.{◌≡◌, ◌==◌, IfOk, if◌then◌else◌};
-ghost use Rattle.xls_arrays.specs.Options.{limit_or, options_by, page_of};
+ghost use Rattle.xls_arrays.specs.Options.{limit_or, options_by, forced_page_of};
 
 use std::alloc::{AllocError, Global};
 use xls_functions::push_functions;
@@ -37,28 +37,28 @@ pub(crate) const ONE_SHEET: u32 = 1;
 pub(crate) const MAX_BYTES: u64 = 268_435_456;
 
 /// A limit that was given, or, for 0, the one by default.
-pub(crate) fn limit_or(given: u64, default: u64) -> u64
-    ensures { result ≡ limit_or given default }
+pub(crate) fn limit_or(input: u64, default: u64) -> u64
+    ensures { result ≡ limit_or input default }
 {
-    if given == 0 { default } else { given }
+    if input == 0 { default } else { input }
 }
 
 /// The page that is forced, and None for 0.
-fn page_of(given: u16) -> Option<u16>
-    ensures { result ≡ page_of given }
+fn page_of(input: u16) -> Option<u16>
+    ensures { result ≡ forced_page_of input }
 {
-    if given == 0 { None } else { Some(given) }
+    if input == 0 { None } else { Some(input) }
 }
 
 /// The options of the reader. Only running out of memory refuses.
-pub(crate) fn options_of(alloc: Global, given: &Options) -> Result<XlsOptions, AllocError>
-    ensures { IfOk result (λ options. options ≡ options_by given.now) }
+pub(crate) fn options_of(alloc: Global, input: &Options) -> Result<XlsOptions, AllocError>
+    ensures { IfOk result (λ options. options ≡ options_by input.now) }
 {
     let mut options = XlsOptions::defaults(alloc)?;
-    options.force_codepage = page_of(given.code_page);
-    options.max_bytes = limit_or(given.max_bytes, options.max_bytes);
-    options.max_cells = limit_or(given.max_cells, options.max_cells);
-    if given.all_functions != 0 {
+    options.force_codepage = page_of(input.code_page);
+    options.max_bytes = limit_or(input.max_bytes, options.max_bytes);
+    options.max_cells = limit_or(input.max_cells, options.max_cells);
+    if input.all_functions != 0 {
         push_functions(&mut options.functions)?;
     }
     Ok(options)

@@ -3,7 +3,7 @@
 ghost use Rattle.std.specs.Prelude.{◌≡◌, IfErr, IfOk, MatchResult, OnOk};
 ghost use Rattle.xls_arrays.specs.Answers.{AreFilled, AreLaid, AreSizes, IsAnswer, Measures, Reads, RefusesToFill};
 ghost use Rattle.xls_arrays.specs.Arrays.{empty};
-ghost use Rattle.xls_arrays.specs.Filled.{Holds, KeepsRooms, in_rooms};
+ghost use Rattle.xls_arrays.specs.Filled.{RoomsHold, KeepsRooms, in_rooms};
 ghost use Rattle.xls_arrays.specs.Held.{RefusesStream};
 ghost use Rattle.xls_arrays.specs.Values.{truth_bit};
 
@@ -39,7 +39,7 @@ fn lay_all(
     stream: &[u8],
     options: &Options,
 ) -> Result<Sizes, Refusal>
-    requires none { Holds rooms.old empty }
+    requires none { RoomsHold rooms.old empty }
     requires reserved { rooms.old.laid.reserved ≡ 0 }
     ensures same { KeepsRooms rooms.old rooms.new }
     ensures ok { IfOk result (AreLaid options.now stream.now rooms.new) }
@@ -99,7 +99,7 @@ fn fill(
     rooms: &mut Rooms<'_>,
     sizes: &mut Sizes,
 ) -> Result<(), Refusal>
-    requires none { Holds rooms.old empty }
+    requires none { RoomsHold rooms.old empty }
     requires reserved { rooms.old.laid.reserved ≡ 0 }
     ensures same { KeepsRooms rooms.old rooms.new }
     ensures ok { OnOk result (AreFilled options.now stream.now (in_rooms rooms.new) sizes.new) }

@@ -4,7 +4,7 @@ ghost use Rattle.std.specs.Prelude.{◌≡◌, ◌+◌, ◌≤◌, ◌++◌, ◌
 ghost use Rattle.xls_arrays.specs.Arrays.{Arrays, with_cell_item, with_formula_item};
 ghost use Rattle.xls_arrays.specs.Arrays.{with_name_item, with_region_item, with_sheet_item};
 ghost use Rattle.xls_arrays.specs.Arrays.{with_text};
-ghost use Rattle.xls_arrays.specs.Filled.{Fits, Holds, IsFilled, KeepsRooms, Lays, LaysText, in_rooms};
+ghost use Rattle.xls_arrays.specs.Filled.{FitsBefore, RoomsHold, IsFilled, KeepsRooms, Lays, LaysText, in_rooms};
 
 use crate::items::{CellItem, FormulaItem, NameItem, RegionItem, SheetItem, Sizes, Span};
 use std::alloc::AllocError;
@@ -151,7 +151,7 @@ pub(crate) fn lay_region_item(rooms: &mut Rooms<'_>, item: RegionItem) -> Result
 
 /// Whether the arrays have room for all that was laid.
 pub(crate) fn fits(rooms: &Rooms<'_>) -> bool
-    ensures { (a : Arrays) → Holds rooms.now a → IsTrue result ↔ Fits (in_rooms rooms.now) a }
+    ensures { (a : Arrays) → RoomsHold rooms.now a → IsTrue result ↔ FitsBefore (in_rooms rooms.now) a }
 {
     rooms.laid.sheets <= rooms.sheets.len() as u64
         && rooms.laid.names <= rooms.names.len() as u64

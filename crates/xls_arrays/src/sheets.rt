@@ -2,10 +2,10 @@
 
 ghost use Rattle.std.specs.Prelude.{◌≡◌, ◌-◌, [], OnOk, slice_get};
 ghost use Rattle.xls_data.specs.Sheets.{sheet_content};
-ghost use Rattle.xls_cursors.specs.Shown.{content_of};
-ghost use Rattle.xls_arrays.specs.Arrays.{kind_number, laid, visibility_number, with_content, with_sheet};
+ghost use Rattle.xls_cursors.specs.Displayed.{sheet_view_of};
+ghost use Rattle.xls_arrays.specs.Arrays.{sheet_kind_number, laid, visibility_number, with_content, with_sheet};
 ghost use Rattle.xls_arrays.specs.Filled.{KeepsRooms, Lays};
-ghost use Rattle.xls_arrays.specs.Shown.{content_in, each_with, item_between, no_content};
+ghost use Rattle.xls_arrays.specs.Displayed.{content_in, each_with, item_between, no_content};
 
 use crate::cells::lay_cells;
 use crate::formulas::lay_formulas;
@@ -18,7 +18,7 @@ use xls_view::{View, ViewSheet};
 
 /// The number of a kind of sheets.
 fn kind_number(kind: SheetType) -> u32
-    ensures { result ≡ kind_number kind }
+    ensures { result ≡ sheet_kind_number kind }
 {
     match kind {
         SheetType::WorkSheet => 0,
@@ -41,9 +41,9 @@ fn visibility_number(visible: SheetVisible) -> u32
 }
 
 /// Lays what a sheet shows.
-fn lay_shown(alloc: Global, rooms: &mut Rooms<'_>, sheet: &ViewSheet<'_>) -> Result<(), AllocError>
+fn lay_displayed(alloc: Global, rooms: &mut Rooms<'_>, sheet: &ViewSheet<'_>) -> Result<(), AllocError>
     ensures same { KeepsRooms rooms.old rooms.new }
-    ensures ok { OnOk result (Lays rooms.old rooms.new (λ a. with_content a (content_of sheet.now))) }
+    ensures ok { OnOk result (Lays rooms.old rooms.new (λ a. with_content a (sheet_view_of sheet.now))) }
 {
     let cells = sheet.cells()?;
     lay_cells(alloc, rooms, cells.iter())?;
@@ -64,7 +64,7 @@ fn lay_content(
         (λ a. with_content a (content_in (slice_get view.now.book.contents n)))) }
 {
     match view.sheet_at(n) {
-        Some(sheet) => lay_shown(alloc, rooms, &sheet),
+        Some(sheet) => lay_displayed(alloc, rooms, &sheet),
         None => Ok(()),
     }
 }

@@ -1,13 +1,13 @@
 //! The value of a cell as an item of the array.
 
 ghost use Rattle.std.specs.Prelude.{◌≡◌};
-ghost use Rattle.xls_arrays.specs.Numbers.{bits_of, form_of};
-ghost use Rattle.xls_arrays.specs.Values.{error_code, form_in, kind_of, value_in};
+ghost use Rattle.xls_arrays.specs.Numbers.{bits_of, number_form};
+ghost use Rattle.xls_arrays.specs.Values.{error_code, form_in, content_kind, value_in};
 ghost use Rattle.xls_data.specs.Numeric.{numeric_content};
-ghost use Rattle.xls_cursors.specs.Values.{value_content};
+ghost use Rattle.xls_cursors.specs.Values.{lent_content};
 
 use crate::items::{CellItem, Span};
-use crate::numbers::{bits_of, form_of};
+use crate::numbers::{bits_of, number_form};
 use xls_data::{CellErrorType, Number, Numeric};
 use xls_view::CellValue;
 
@@ -45,7 +45,7 @@ fn item(row: u32, column: u32, kind: u32, form: u32, value: u64, text: Span) -> 
 /// The item of a number of a kind.
 #[inline]
 fn number_item(row: u32, column: u32, kind: u32, number: Number, text: Span) -> CellItem
-    ensures { result ≡ record { row = row; column = column; kind = kind; form = form_of number; value = bits_of number; length = text.length } }
+    ensures { result ≡ record { row = row; column = column; kind = kind; form = number_form number; value = bits_of number; length = text.length } }
 {
     item(row, column, kind, form_of(number), bits_of(number), text)
 }
@@ -56,7 +56,7 @@ fn numeric_item(row: u32, column: u32, value: Numeric, text: Span) -> CellItem
     ensures { result ≡ record {
       row = row;
       column = column;
-      kind = kind_of (numeric_content value);
+      kind = content_kind (numeric_content value);
       form = form_in (numeric_content value);
       value = value_in text.offset (numeric_content value);
       length = text.length;
@@ -76,9 +76,9 @@ pub(crate) fn cell_item(row: u32, column: u32, value: &CellValue<'_>, text: Span
     ensures { result ≡ record {
       row = row;
       column = column;
-      kind = kind_of (value_content value.now);
-      form = form_in (value_content value.now);
-      value = value_in text.offset (value_content value.now);
+      kind = content_kind (lent_content value.now);
+      form = form_in (lent_content value.now);
+      value = value_in text.offset (lent_content value.now);
       length = text.length;
     } }
 {

@@ -2,7 +2,7 @@
 
 ghost use Rattle.std.specs.Prelude.{ℕ, List};
 ghost use Rattle.std.specs.String.{string_bytes};
-ghost use Rattle.xls_arrays.specs.Whole.{PutsMade, PutsWhole};
+ghost use Rattle.xls_arrays.specs.Whole.{PutsBuilt, PutsWhole};
 
 use std::alloc::AllocError;
 
@@ -19,10 +19,10 @@ pub(crate) fn put_whole(bytes: &[u8], out: &mut [u8], size: &mut u64) -> bool
 }
 
 /// Likewise a text that was made. Answers 0, 1 where memory ran out, or 2 where the array is too short.
-pub(crate) fn put_text(made: Result<String, AllocError>, out: &mut [u8], size: &mut u64) -> u32
-    ensures { PutsMade made out.old out.new size.new result }
+pub(crate) fn put_text(built: Result<String, AllocError>, out: &mut [u8], size: &mut u64) -> u32
+    ensures { PutsBuilt built out.old out.new size.new result }
 {
-    match made {
+    match built {
         Ok(text) => {
             if put_whole(text.as_bytes(), out, size) {
                 0

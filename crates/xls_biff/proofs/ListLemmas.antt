@@ -4,7 +4,7 @@ use Rattle.std.specs.List.{range_with_len}
 use Rattle.std.proofs.lemmas.List.{map_push}
 use Rattle.std.proofs.lemmas.List.FromFn.{length-map-range_with_len, map-range_with_len_more}
 use Rattle.xls_record.specs.declared.error.XlsError.{XlsError}
-use Rattle.xls_record.specs.Reading.{Adds, listed}
+use Rattle.xls_record.specs.Reading.{Adds, results_listed}
 use Rattle.xls_record.proofs.ReadingLemmas.{gives-ok}
 
 -- the items so far, and the next one
@@ -17,7 +17,7 @@ adds_more {X} view f old now new i x a push item =
     (a.0 ++ x ∷ [], push ∙ ap (λ (xs : List X). xs ++ x ∷ []) a.1 ∙ append_assoc old a.0 (x ∷ []), listed_more f (map view a.0) (map view (a.0 ++ x ∷ [])) i (view x) a.2 (map_push view a.0 x) item)
 
 -- a list of so many items
-pub length-listed : {Y : Type 0} (item : ℕ → Y) (count : Result ℕ XlsError) (ys : List Y) → listed item count ≡ Ok ys → (n : ℕ) × (count ≡ Ok n) × (n ≡ length ys)
+pub length-listed : {Y : Type 0} (item : ℕ → Y) (count : Result ℕ XlsError) (ys : List Y) → results_listed item count ≡ Ok ys → (n : ℕ) × (count ≡ Ok n) × (n ≡ length ys)
 length-listed item count ys e =
     let h = gives-ok (λ n. map item (range_with_len 0 n)) count ys e in
     (h.0, h.1, sym (length-map-range_with_len item 0 h.0) ∙ ap length h.2)

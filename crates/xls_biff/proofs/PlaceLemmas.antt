@@ -39,26 +39,26 @@ stands cs b body f h = by_test (nat_lt (length body) 20) refl
     by_test true t = absurd (let e : ◌≡◌ {A = Result (Position × Option Content × List ℕ) XlsError} (Err (Len 20 (length body) parts.Formula)) (Ok f) = rw t at h in cc)
     by_test false t = found (long t) (formula_value_at (class_at cs body) b (take 8 (drop 6 body))) (rw t at h)
 
-pub at_formula : (force : CellContext) (body : List ℕ) (place : Option Position)
+pub at_formula : (settings : CellContext) (body : List ℕ) (place : Option Position)
     → (4 ≤ length body → place ≡ Some (position_at body)) → (g : SheetRecord)
-    → sheet_record_at force 6 body ≡ Ok g → place ≡ formula_position g
-at_formula force body place is g h =
-    let f = gives-ok (λ f. formula_record f.0 f.1 f.2) (formula_at force.classes force.is_1904 body) g h in
-    let s = stands force.classes force.is_1904 body f.0 f.1 in
+    → sheet_record_at settings 6 body ≡ Ok g → place ≡ formula_position g
+at_formula settings body place is g h =
+    let f = gives-ok (λ f. formula_record f.0 f.1 f.2) (formula_at settings.classes settings.is_1904 body) g h in
+    let s = stands settings.classes settings.is_1904 body f.0 f.1 in
     let long = s.long in
     is (omega (arith, long)) ∙ ap (λ (p : Position). Some p) (sym s.place) ∙ ap formula_position f.2
 
 -- ---- another record
 
-no_place : (force : CellContext) (typ : ℕ) (body : List ℕ) → (typ == types.FORMULA) ≡ false
-    → position_in (sheet_record_at force typ body) ≡ None
-no_place force typ body other =
+no_place : (settings : CellContext) (typ : ℕ) (body : List ℕ) → (typ == types.FORMULA) ≡ false
+    → position_in (sheet_record_at settings typ body) ≡ None
+no_place settings typ body other =
     each_kind (λ r. position_in r ≡ None) (λ e. refl) refl (λ cs. refl) (λ c. refl) (λ cs. refl) typ
-    (λ is at value tokens. absurd (let same : (types.FORMULA == types.FORMULA) ≡ false = rw is at other in cc)) (λ is rs. refl) force body
+    (λ is at value tokens. absurd (let same : (types.FORMULA == types.FORMULA) ≡ false = rw is at other in cc)) (λ is rs. refl) settings body
 
-pub elsewhere : (force : CellContext) (typ : ℕ) (body : List ℕ) (g : SheetRecord) → (typ == 6) ≡ false
-    → sheet_record_at force typ body ≡ Ok g → None ≡ formula_position g
-elsewhere force typ body g other h = sym (no_place force typ body other) ∙ ap position_in h
+pub elsewhere : (settings : CellContext) (typ : ℕ) (body : List ℕ) (g : SheetRecord) → (typ == 6) ≡ false
+    → sheet_record_at settings typ body ≡ Ok g → None ≡ formula_position g
+elsewhere settings typ body g other h = sym (no_place settings typ body other) ∙ ap position_in h
 
 pub apart : (typ : ℕ) → typ ≢ 6 → (typ == 6) ≡ false
 apart typ other = grind arith

@@ -25,7 +25,7 @@ use Rattle.xls_biff.specs.Records.ExternSheet.{refs_at}
 use Rattle.xls_biff.specs.Records.FilePass.{file_pass_at}
 use Rattle.xls_biff.specs.Records.Format.{format_at}
 use Rattle.xls_biff.specs.Records.Formula.{formula_at, formula_value_at}
-use Rattle.xls_biff.specs.Records.Label.{label_at, label_front}
+use Rattle.xls_biff.specs.Records.Label.{label_at, label_prefix}
 use Rattle.xls_biff.specs.Records.LabelSst.{label_sst_at}
 use Rattle.xls_biff.specs.Records.MergeCells.{merges_at}
 use Rattle.xls_biff.specs.Records.Number.{number_at}
@@ -164,11 +164,11 @@ pub known_label_5 : label_at Windows1252 Biff5 (0x00 ∷ 0x00 ∷ 0x03 ∷ 0x00 
 known_label_5 = refl
 
 -- row 1, column 3, and the three bytes of the string; and a body of five bytes
-pub known_label_front : map label_front (
+pub known_label_prefix : map label_prefix (
     (0x01 ∷ 0x00 ∷ 0x03 ∷ 0x00 ∷ 0x00 ∷ 0x00 ∷ 0x01 ∷ 0x00 ∷ 0x80 ∷ [])
     ∷ (0x01 ∷ 0x00 ∷ 0x03 ∷ 0x00 ∷ 0x00 ∷ []) ∷ [])
     ≡ Ok ((1, 3), 0x01 ∷ 0x00 ∷ 0x80 ∷ []) ∷ Err (errors.Len 6 5 parts.Label) ∷ []
-known_label_front = refl
+known_label_prefix = refl
 
 pub known_shared : map (label_sst_at (codes "a" ∷ codes "b" ∷ [])) (
     (0x04 ∷ 0x00 ∷ 0x00 ∷ 0x00 ∷ 0x00 ∷ 0x00 ∷ 0x01 ∷ 0x00 ∷ 0x00 ∷ 0x00 ∷ [])

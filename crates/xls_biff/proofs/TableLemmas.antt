@@ -10,9 +10,9 @@ use Rattle.xls_record.specs.Reading.{gives}
 use Rattle.xls_record.proofs.ReadingLemmas.{gives-ok}
 use Rattle.xls_data.specs.Content.{Content}
 use Rattle.xls_data.specs.declared.regions.Dimensions.{Dimensions}
-use Rattle.xls_biff.specs.Cells.{Entry, Position}
+use Rattle.xls_biff.specs.Cells.{CellEntry, Position}
 use Rattle.xls_biff.specs.Records.Rk.{mul_rk_at}
-use Rattle.xls_biff.specs.SheetTable.{CellContext, SheetRecord, Line, empty_record, cell_record, cells_record, shared_record, string_record, formula_record, regions_record, other_line, bounds_line, cell_line, cells_line, shared_line, string_line, formula_line, regions_line, given_on, line_of, sheet_table, sheet_record_at, weight_of, weight_of_type, other_weights}
+use Rattle.xls_biff.specs.SheetTable.{CellContext, SheetRecord, TableLine, empty_record, cell_record, cells_record, shared_record, string_record, formula_record, regions_record, other_line, bounds_line, cell_line, cells_line, shared_line, string_line, formula_line, regions_line, read_on_line, line_of, sheet_table, sheet_record_at, weight_of, weight_of_type, other_weights}
 
 infixr 4 ◌&◌
 -- what a line has, and what those after it have
@@ -20,7 +20,7 @@ pub ◌&◌ : {A B : Type 0} → A → B → A × B
 a & b = (a, b)
 
 -- what all lines have, and a type that has none, each type has
-pub every_type : (P : ℕ → Line → Type 0) (lines : List (ℕ × Line)) (typ : ℕ)
+pub every_type : (P : ℕ → TableLine → Type 0) (lines : List (ℕ × TableLine)) (typ : ℕ)
     → (is_among typ (map (λ line. line.0) lines) ≡ false → P typ other_line)
     → AllByRecursion (λ line. P line.0 line.1) lines → P typ (line_of lines typ)
 every_type P [] typ none all = none refl
@@ -35,7 +35,7 @@ every_type P (line ∷ lines) typ none all =
 -- ---- kinds
 
 -- Formulas alone give formulas, and MergeCells alone regions
-abbrev IsOwn : ℕ → Line → Type 0
+abbrev IsOwn : ℕ → TableLine → Type 0
 IsOwn typ (formula_line read) = typ ≡ types.FORMULA
 IsOwn typ (regions_line read) = typ ≡ types.MERGE_CELLS
 IsOwn typ _ = Unit {0}
@@ -44,42 +44,42 @@ pub each_own : (typ : ℕ) → IsOwn typ (line_of sheet_table typ)
 each_own typ = every_type IsOwn sheet_table typ (λ h. tt) (search rules)
 
 -- what a fault has and each kind of record, each type has
-module _ (Q : Result SheetRecord XlsError → Type 0) (fault : (e : XlsError) → Q (Err e)) (empty : Q (Ok empty_record)) (cells : (cs : List Entry) → Q (Ok (cells_record cs))) (shared : (c : Option Entry) → Q (Ok (shared_record c))) (string : (cs : List ℕ) → Q (Ok (string_record cs))) where
+module _ (Q : Result SheetRecord XlsError → Type 0) (fault : (e : XlsError) → Q (Err e)) (empty : Q (Ok empty_record)) (cells : (cs : List CellEntry) → Q (Ok (cells_record cs))) (shared : (c : Option CellEntry) → Q (Ok (shared_record c))) (string : (cs : List ℕ) → Q (Ok (string_record cs))) where
   kind : {X : Type 0} (f : X → SheetRecord) (r : Result X XlsError) → ((x : X) → Q (Ok (f x))) → Q (gives f r)
   kind f (Ok x) h = h x
   kind f (Err e) h = fault e
 
-  on_line : (typ : ℕ) (line : Line) → IsOwn typ line
+  on_line : (typ : ℕ) (line : TableLine) → IsOwn typ line
       → (typ ≡ types.FORMULA → (at : Position) (value : Option Content) (tokens : List ℕ) → Q (Ok (formula_record at value tokens)))
       → (typ ≡ types.MERGE_CELLS → (rs : List Dimensions) → Q (Ok (regions_record rs)))
-      → (force : CellContext) (body : List ℕ) → Q (given_on line force body)
-  on_line typ other_line own formula regions force body = empty
-  on_line typ (bounds_line read) own formula regions force body = kind (λ d. empty_record) (read force body) (λ d. empty)
-  on_line typ (cell_line read) own formula regions force body = kind cell_record (read force body) (λ c. cells (c ∷ []))
-  on_line typ (cells_line read) own formula regions force body = kind cells_record (read force body) cells
-  on_line typ (shared_line read) own formula regions force body = kind shared_record (read force body) shared
-  on_line typ (string_line read) own formula regions force body = kind string_record (read force body) string
-  on_line typ (formula_line read) own formula regions force body =
-      kind (λ f. formula_record f.0 f.1 f.2) (read force body) (λ f. formula own f.0 f.1 f.2)
-  on_line typ (regions_line read) own formula regions force body = kind regions_record (read force body) (regions own)
+      → (settings : CellContext) (body : List ℕ) → Q (read_on_line line settings body)
+  on_line typ other_line own formula regions settings body = empty
+  on_line typ (bounds_line read) own formula regions settings body = kind (λ d. empty_record) (read settings body) (λ d. empty)
+  on_line typ (cell_line read) own formula regions settings body = kind cell_record (read settings body) (λ c. cells (c ∷ []))
+  on_line typ (cells_line read) own formula regions settings body = kind cells_record (read settings body) cells
+  on_line typ (shared_line read) own formula regions settings body = kind shared_record (read settings body) shared
+  on_line typ (string_line read) own formula regions settings body = kind string_record (read settings body) string
+  on_line typ (formula_line read) own formula regions settings body =
+      kind (λ f. formula_record f.0 f.1 f.2) (read settings body) (λ f. formula own f.0 f.1 f.2)
+  on_line typ (regions_line read) own formula regions settings body = kind regions_record (read settings body) (regions own)
 
   pub each_kind : (typ : ℕ)
       → (typ ≡ types.FORMULA → (at : Position) (value : Option Content) (tokens : List ℕ) → Q (Ok (formula_record at value tokens)))
       → (typ ≡ types.MERGE_CELLS → (rs : List Dimensions) → Q (Ok (regions_record rs)))
-      → (force : CellContext) (body : List ℕ) → Q (sheet_record_at force typ body)
+      → (settings : CellContext) (body : List ℕ) → Q (sheet_record_at settings typ body)
   each_kind typ = on_line typ (line_of sheet_table typ) (each_own typ)
 
 -- ---- weights
 
 -- every record of a line that isn't a MulRk's weighs so much
-abbrev weight_on : Line → ℕ
+abbrev weight_on : TableLine → ℕ
 weight_on other_line = 0
 weight_on (bounds_line read) = 0
 weight_on (cells_line read) = 0
 weight_on (regions_line read) = 0
 weight_on _ = 1
 
-abbrev Weighs : ℕ → Line → Type 0
+abbrev Weighs : ℕ → TableLine → Type 0
 Weighs typ (cells_line read) = typ ≡ types.MUL_RK
 Weighs typ line = weight_of_type typ ≡ weight_on line
 
@@ -97,28 +97,28 @@ unlisted typ h = rw h (either (is_among typ other_weights))
 each_weight : (typ : ℕ) → Weighs typ (line_of sheet_table typ)
 each_weight typ = every_type Weighs sheet_table typ (unlisted typ) (search rules)
 
-weight_by : (typ : ℕ) (line : Line) → Weighs typ line → typ ≢ types.MUL_RK → (force : CellContext) (body : List ℕ) (g : SheetRecord)
-    → given_on line force body ≡ Ok g → weight_of_type typ ≡ weight_of g
-weight_by typ other_line w apart force body g e = w ∙ let same : empty_record ≡ g = cc in ap weight_of same
-weight_by typ (bounds_line read) w apart force body g e = w ∙ weighs (λ d. empty_record) (read force body) 0 (λ d. refl) g e
-weight_by typ (cell_line read) w apart force body g e = w ∙ weighs cell_record (read force body) 1 (λ c. refl) g e
-weight_by typ (cells_line read) w apart force body g e = absurd (apart w)
-weight_by typ (shared_line read) w apart force body g e = w ∙ weighs shared_record (read force body) 1 (λ c. refl) g e
-weight_by typ (string_line read) w apart force body g e = w ∙ weighs string_record (read force body) 1 (λ cs. refl) g e
-weight_by typ (formula_line read) w apart force body g e =
-    w ∙ weighs (λ f. formula_record f.0 f.1 f.2) (read force body) 1 (λ f. refl) g e
-weight_by typ (regions_line read) w apart force body g e = w ∙ weighs regions_record (read force body) 0 (λ rs. refl) g e
+weight_by : (typ : ℕ) (line : TableLine) → Weighs typ line → typ ≢ types.MUL_RK → (settings : CellContext) (body : List ℕ) (g : SheetRecord)
+    → read_on_line line settings body ≡ Ok g → weight_of_type typ ≡ weight_of g
+weight_by typ other_line w apart settings body g e = w ∙ let same : empty_record ≡ g = cc in ap weight_of same
+weight_by typ (bounds_line read) w apart settings body g e = w ∙ weighs (λ d. empty_record) (read settings body) 0 (λ d. refl) g e
+weight_by typ (cell_line read) w apart settings body g e = w ∙ weighs cell_record (read settings body) 1 (λ c. refl) g e
+weight_by typ (cells_line read) w apart settings body g e = absurd (apart w)
+weight_by typ (shared_line read) w apart settings body g e = w ∙ weighs shared_record (read settings body) 1 (λ c. refl) g e
+weight_by typ (string_line read) w apart settings body g e = w ∙ weighs string_record (read settings body) 1 (λ cs. refl) g e
+weight_by typ (formula_line read) w apart settings body g e =
+    w ∙ weighs (λ f. formula_record f.0 f.1 f.2) (read settings body) 1 (λ f. refl) g e
+weight_by typ (regions_line read) w apart settings body g e = w ∙ weighs regions_record (read settings body) 0 (λ rs. refl) g e
 
-pub weight_by_the_table : (typ : ℕ) → typ ≢ types.MUL_RK → (force : CellContext) (body : List ℕ) (g : SheetRecord)
-    → sheet_record_at force typ body ≡ Ok g → weight_of_type typ ≡ weight_of g
+pub weight_by_the_table : (typ : ℕ) → typ ≢ types.MUL_RK → (settings : CellContext) (body : List ℕ) (g : SheetRecord)
+    → sheet_record_at settings typ body ≡ Ok g → weight_of_type typ ≡ weight_of g
 weight_by_the_table typ = weight_by typ (line_of sheet_table typ) (each_weight typ)
 
 -- a MulRk weighs as its cells
-pub all_cells : (force : CellContext) (body : List ℕ) (n : ℕ)
-    → ((cs : List Entry) → mul_rk_at force.classes force.is_1904 body ≡ Ok cs → n ≡ length cs)
-    → (g : SheetRecord) → sheet_record_at force types.MUL_RK body ≡ Ok g → n ≡ weight_of g
-all_cells force body n count g e =
-    let h = gives-ok cells_record (mul_rk_at force.classes force.is_1904 body) g e in
+pub all_cells : (settings : CellContext) (body : List ℕ) (n : ℕ)
+    → ((cs : List CellEntry) → mul_rk_at settings.classes settings.is_1904 body ≡ Ok cs → n ≡ length cs)
+    → (g : SheetRecord) → sheet_record_at settings types.MUL_RK body ≡ Ok g → n ≡ weight_of g
+all_cells settings body n count g e =
+    let h = gives-ok cells_record (mul_rk_at settings.classes settings.is_1904 body) g e in
     count h.0 h.1 ∙ ap weight_of h.2
 
 -- ---- reading

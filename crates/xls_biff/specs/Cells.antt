@@ -19,15 +19,15 @@ abbrev pub Position : Type 0
 Position = ℕ × ℕ
 
 -- what a cell record gives: a position and the content of a value
-abbrev pub Entry : Type 0
-Entry = Position × Content
+abbrev pub CellEntry : Type 0
+CellEntry = Position × Content
 
 -- a cell by its content
-abbrev pub entry_of : Position × Data → Entry
-entry_of c = (c.0, content_of c.1)
+abbrev pub cell_entry_of : Position × Data → CellEntry
+cell_entry_of c = (c.0, content_of c.1)
 
 -- a number at a position, likewise
-abbrev pub numeric_entry : Position × Numeric → Entry
+abbrev pub numeric_entry : Position × Numeric → CellEntry
 numeric_entry c = (c.0, numeric_content c.1)
 
 -- a value by its content

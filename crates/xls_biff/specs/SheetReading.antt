@@ -17,19 +17,19 @@ use Rattle.xls_biff.specs.declared.sheet_record.SheetRecord.TheVariants as varia
 
 -- what it gives under what is in force, by the table of a sheet
 abbrev pub stands_for : CellContext → read.SheetRecord → SheetRecord
-stands_for force variant.Other = empty_record
-stands_for force (variant.Number c) = cell_record (number_entry force.classes force.is_1904 c)
-stands_for force (variant.Rk c) = cell_record (rk_entry force.classes force.is_1904 c)
-stands_for force (variant.MulRk body count) =
-    cells_record (map (rk_cell force.classes force.is_1904 body.now) (range_with_len 0 count))
-stands_for force (variant.BoolErr position value) = cell_record (bes_entry (position, value))
-stands_for force (variant.Label position string) = cell_record (label_entry force.page force.version (position, string.now))
-stands_for force (variant.LabelSst position index) = shared_record (shared_entry force.strings (position, index))
-stands_for force (variant.String string) = string_record (characters_in (string_at force.page force.version string.now))
-stands_for force (variant.Formula f) =
-    let parts = formula_parts force.classes force.is_1904 f in formula_record parts.0 parts.1 parts.2
-stands_for force (variant.MergeCells body count) = regions_record (map (region_at body.now) (range_with_len 0 count))
-stands_for force (variant.Dimensions d) = empty_record
+stands_for settings variant.Other = empty_record
+stands_for settings (variant.Number c) = cell_record (number_entry settings.classes settings.is_1904 c)
+stands_for settings (variant.Rk c) = cell_record (rk_entry settings.classes settings.is_1904 c)
+stands_for settings (variant.MulRk body count) =
+    cells_record (map (rk_cell settings.classes settings.is_1904 body.now) (range_with_len 0 count))
+stands_for settings (variant.BoolErr position value) = cell_record (bes_entry (position, value))
+stands_for settings (variant.Label position string) = cell_record (label_entry settings.page settings.version (position, string.now))
+stands_for settings (variant.LabelSst position index) = shared_record (shared_entry settings.strings (position, index))
+stands_for settings (variant.String string) = string_record (characters_in (string_at settings.page settings.version string.now))
+stands_for settings (variant.Formula f) =
+    let parts = formula_parts settings.classes settings.is_1904 f in formula_record parts.0 parts.1 parts.2
+stands_for settings (variant.MergeCells body count) = regions_record (map (region_at body.now) (range_with_len 0 count))
+stands_for settings (variant.Dimensions d) = empty_record
 
 -- of a record of this type and body: a MulRk and a MergeCells have the body, with all of its items, and
 -- no other record has their types

@@ -10,7 +10,7 @@ use Rattle.xls_record.specs.declared.version.Biff.{Biff}
 use Rattle.xls_record.specs.declared.error.XlsError.{XlsError}
 use Rattle.xls_record.specs.Reading.{gives}
 use Rattle.xls_strings.specs.Strings.{string_at}
-use Rattle.xls_biff.specs.Cells.{Entry, Position}
+use Rattle.xls_biff.specs.Cells.{CellEntry, Position}
 use Rattle.xls_biff.specs.Records.BoolErr.{bool_err_at}
 use Rattle.xls_biff.specs.Records.Dimensions.{dimensions_at}
 use Rattle.xls_biff.specs.Records.Formula.{formula_at}
@@ -34,9 +34,9 @@ pub data SheetRecord : Type 0 where
   -- nothing: Dimensions, and each type that isn't named here
   empty_record : SheetRecord
   -- cells: Number, RK, MulRk, BoolErr, Label, RString
-  cells_record : (cs : List Entry) → SheetRecord
+  cells_record : (cs : List CellEntry) → SheetRecord
   -- a cell of a text of the table: LabelSst, none where its index is outside
-  shared_record : (c : Option Entry) → SheetRecord
+  shared_record : (c : Option CellEntry) → SheetRecord
   -- the text of the Formula before it: String
   string_record : (cs : List ℕ) → SheetRecord
   -- a position, a value, if the record has one, and tokens: Formula
@@ -45,60 +45,60 @@ pub data SheetRecord : Type 0 where
   regions_record : (rs : List Dimensions) → SheetRecord
 
 -- how the records of a type read
-pub data Line : Type 0 where
+pub data TableLine : Type 0 where
   -- they give nothing, whatever their bodies
-  other_line : Line
+  other_line : TableLine
   -- they give nothing, and may have a fault
-  bounds_line : (read : CellContext → List ℕ → Result Dimensions XlsError) → Line
+  bounds_line : (read : CellContext → List ℕ → Result Dimensions XlsError) → TableLine
   -- a cell each
-  cell_line : (read : CellContext → List ℕ → Result Entry XlsError) → Line
-  cells_line : (read : CellContext → List ℕ → Result (List Entry) XlsError) → Line
-  shared_line : (read : CellContext → List ℕ → Result (Option Entry) XlsError) → Line
-  string_line : (read : CellContext → List ℕ → Result (List ℕ) XlsError) → Line
-  formula_line : (read : CellContext → List ℕ → Result (Position × Option Content × List ℕ) XlsError) → Line
-  regions_line : (read : CellContext → List ℕ → Result (List Dimensions) XlsError) → Line
+  cell_line : (read : CellContext → List ℕ → Result CellEntry XlsError) → TableLine
+  cells_line : (read : CellContext → List ℕ → Result (List CellEntry) XlsError) → TableLine
+  shared_line : (read : CellContext → List ℕ → Result (Option CellEntry) XlsError) → TableLine
+  string_line : (read : CellContext → List ℕ → Result (List ℕ) XlsError) → TableLine
+  formula_line : (read : CellContext → List ℕ → Result (Position × Option Content × List ℕ) XlsError) → TableLine
+  regions_line : (read : CellContext → List ℕ → Result (List Dimensions) XlsError) → TableLine
 
 -- one cell
-abbrev pub cell_record : Entry → SheetRecord
+abbrev pub cell_record : CellEntry → SheetRecord
 cell_record c = cells_record (c ∷ [])
 
 -- what a record of a line gives, or its first fault
-abbrev pub given_on : Line → CellContext → List ℕ → Result SheetRecord XlsError
-given_on other_line force body = Ok empty_record
-given_on (bounds_line read) force body = gives (λ d. empty_record) (read force body)
-given_on (cell_line read) force body = gives cell_record (read force body)
-given_on (cells_line read) force body = gives cells_record (read force body)
-given_on (shared_line read) force body = gives shared_record (read force body)
-given_on (string_line read) force body = gives string_record (read force body)
-given_on (formula_line read) force body = gives (λ f. formula_record f.0 f.1 f.2) (read force body)
-given_on (regions_line read) force body = gives regions_record (read force body)
+abbrev pub read_on_line : TableLine → CellContext → List ℕ → Result SheetRecord XlsError
+read_on_line other_line settings body = Ok empty_record
+read_on_line (bounds_line read) settings body = gives (λ d. empty_record) (read settings body)
+read_on_line (cell_line read) settings body = gives cell_record (read settings body)
+read_on_line (cells_line read) settings body = gives cells_record (read settings body)
+read_on_line (shared_line read) settings body = gives shared_record (read settings body)
+read_on_line (string_line read) settings body = gives string_record (read settings body)
+read_on_line (formula_line read) settings body = gives (λ f. formula_record f.0 f.1 f.2) (read settings body)
+read_on_line (regions_line read) settings body = gives regions_record (read settings body)
 
-abbrev pub label_line : Line
-label_line = cell_line (λ force body. label_at force.page force.version body)
+abbrev pub label_line : TableLine
+label_line = cell_line (λ settings body. label_at settings.page settings.version body)
 
 -- one line a type
-abbrev pub sheet_table : List (ℕ × Line)
+abbrev pub sheet_table : List (ℕ × TableLine)
 sheet_table =
-    (types.NUMBER, cell_line (λ force body. number_at force.classes force.is_1904 body))
-    ∷ (types.DIMENSIONS, bounds_line (λ force body. dimensions_at body))
+    (types.NUMBER, cell_line (λ settings body. number_at settings.classes settings.is_1904 body))
+    ∷ (types.DIMENSIONS, bounds_line (λ settings body. dimensions_at body))
     ∷ (types.LABEL, label_line)
     ∷ (types.R_STRING, label_line)
-    ∷ (types.BOOL_ERR, cell_line (λ force body. bool_err_at body))
-    ∷ (types.STRING, string_line (λ force body. string_at force.page force.version body))
-    ∷ (types.RK, cell_line (λ force body. rk_at force.classes force.is_1904 body))
-    ∷ (types.LABEL_SST, shared_line (λ force body. label_sst_at force.strings body))
-    ∷ (types.MUL_RK, cells_line (λ force body. mul_rk_at force.classes force.is_1904 body))
-    ∷ (types.MERGE_CELLS, regions_line (λ force body. merges_at body))
-    ∷ (types.FORMULA, formula_line (λ force body. formula_at force.classes force.is_1904 body))
+    ∷ (types.BOOL_ERR, cell_line (λ settings body. bool_err_at body))
+    ∷ (types.STRING, string_line (λ settings body. string_at settings.page settings.version body))
+    ∷ (types.RK, cell_line (λ settings body. rk_at settings.classes settings.is_1904 body))
+    ∷ (types.LABEL_SST, shared_line (λ settings body. label_sst_at settings.strings body))
+    ∷ (types.MUL_RK, cells_line (λ settings body. mul_rk_at settings.classes settings.is_1904 body))
+    ∷ (types.MERGE_CELLS, regions_line (λ settings body. merges_at body))
+    ∷ (types.FORMULA, formula_line (λ settings body. formula_at settings.classes settings.is_1904 body))
     ∷ []
 
 -- the line of a type
-abbrev pub line_of : List (ℕ × Line) → ℕ → Line
+abbrev pub line_of : List (ℕ × TableLine) → ℕ → TableLine
 line_of [] typ = other_line
 line_of (line ∷ lines) typ = if typ == line.0 then line.1 else line_of lines typ
 
 abbrev pub sheet_record_at : CellContext → ℕ → List ℕ → Result SheetRecord XlsError
-sheet_record_at force typ body = given_on (line_of sheet_table typ) force body
+sheet_record_at settings typ body = read_on_line (line_of sheet_table typ) settings body
 
 -- how many cells a record weighs; a Formula and a LabelSst count as one even where they give none
 abbrev pub weight_of : SheetRecord → ℕ

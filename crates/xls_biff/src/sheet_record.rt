@@ -88,7 +88,7 @@ impl SheetRecord<'_> {
     /// Takes no memory.
     #[inline(always)]
     pub fn weight(&self) -> u64
-        ensures { (force : CellContext) → result ≡ weight_of (stands_for force self.now) }
+        ensures { (settings : CellContext) → result ≡ weight_of (stands_for settings self.now) }
     {
         match self {
             SheetRecord::MulRk { count, .. } => *count as u64,
@@ -100,7 +100,7 @@ impl SheetRecord<'_> {
     /// Where a Formula stands, and `None` for every other record. Takes no memory.
     #[inline(always)]
     pub fn formula_position(&self) -> Option<(u32, u32)>
-        ensures { (force : CellContext) → result ≡ formula_position (stands_for force self.now) }
+        ensures { (settings : CellContext) → result ≡ formula_position (stands_for settings self.now) }
     {
         match self {
             SheetRecord::Formula(formula) => Some(formula.position),
@@ -114,8 +114,8 @@ impl SheetRecord<'_> {
 /// errors of its value. Takes no memory.
 #[inline(always)]
 pub fn read_sheet_record<'a>(r: &Record<'a>, biff: Biff) -> Result<SheetRecord<'a>, XlsError>
-    ensures exact { (force : CellContext) → force.version ≡ biff →
-        Exactly (stands_for force) result (sheet_record_at force r.now.typ r.now.body.now) }
+    ensures exact { (settings : CellContext) → settings.version ≡ biff →
+        Exactly (stands_for settings) result (sheet_record_at settings r.now.typ r.now.body.now) }
     ensures items { IfOk result (HasItems r.now.typ r.now.body.now) }
 {
     match r.typ {
@@ -153,8 +153,8 @@ pub fn read_sheet_record<'a>(r: &Record<'a>, biff: Biff) -> Result<SheetRecord<'
 /// The first fault of a sheet's record, as `read_sheet_record` finds it. Takes no memory.
 #[inline(always)]
 pub fn check_sheet_record(r: &Record<'_>, biff: Biff) -> Result<(), XlsError>
-    ensures { (force : CellContext) → force.version ≡ biff →
-        Exactly (λ u. u) result (fault_in (sheet_record_at force r.now.typ r.now.body.now)) }
+    ensures { (settings : CellContext) → settings.version ≡ biff →
+        Exactly (λ u. u) result (fault_in (sheet_record_at settings r.now.typ r.now.body.now)) }
 {
     read_sheet_record(r, biff)?;
     Ok(())
@@ -174,8 +174,8 @@ fn weight_by_type(typ: u16) -> u64
 /// Label, RString, BoolErr, String, RK, LabelSst or Formula, and none for every other record and for a
 /// MulRk with a fault. Takes no memory.
 pub fn sheet_record_weight(r: &Record<'_>) -> u64
-    ensures table { (force : CellContext) (g : table.SheetRecord) →
-        sheet_record_at force r.now.typ r.now.body.now ≡ Ok g → result ≡ weight_of g }
+    ensures table { (settings : CellContext) (g : table.SheetRecord) →
+        sheet_record_at settings r.now.typ r.now.body.now ≡ Ok g → result ≡ weight_of g }
 
     // Whatever the body; a MulRk has its cells, or none where it has a fault.
     ensures typed { r.now.typ ≢ types.MUL_RK → result ≡ weight_of_type r.now.typ }

@@ -1,5 +1,5 @@
 pub mod OpenLemmas
 pub mod TakeLemmas
 pub mod NamedLemmas
-pub mod ShownLemmas
+pub mod DisplayedLemmas
 pub mod WorksheetLemmas

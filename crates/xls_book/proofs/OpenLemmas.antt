@@ -5,8 +5,8 @@ use Rattle.std.specs.List.{AllByRecursion, AllZip}
 use Rattle.std.proofs.lemmas.List.{length-map}
 use Rattle.xls_record.specs.declared.error.XlsError.{XlsError}
 use Rattle.xls_record.specs.declared.error.XlsError.TheVariants as errors
-use Rattle.xls_meaning.specs.InForce.{InForce, SheetRecords, in_force_of, sheets_of}
-use Rattle.xls_meaning.specs.Reading.{IsReading, IsShown, SheetView}
+use Rattle.xls_meaning.specs.Settings.{Settings, SheetRecords, settings_of, sheets_of}
+use Rattle.xls_meaning.specs.Reading.{IsReading, IsDisplayed, SheetView}
 use Rattle.std.specs.Io.KnownBytes.{Consumes, IsAtEnd}
 use Rattle.xls_source.specs.Bounded.{ReadCause}
 use Rattle.xls_open.specs.Opening.{IsOfOpening, IsOpened, OpenCause, Opens}
@@ -18,17 +18,17 @@ use Rattle.xls_book.specs.Steps.{OpensBytes}
 
 -- ---- what a view shows
 
-module _ (s : InForce) (all : List SheetRecords) where
-  shown_many : (vs : List SheetView) (qs : List SheetRecords) → AllZip (IsShown s all) vs qs → length vs ≡ length qs
-  shown_many [] [] a = refl
-  shown_many [] (q ∷ qs) a = absurd a
-  shown_many (v ∷ vs) [] a = absurd a
-  shown_many (v ∷ vs) (q ∷ qs) a = ap suc (shown_many vs qs a.1)
+module _ (s : Settings) (all : List SheetRecords) where
+  displayed_many : (vs : List SheetView) (qs : List SheetRecords) → AllZip (IsDisplayed s all) vs qs → length vs ≡ length qs
+  displayed_many [] [] a = refl
+  displayed_many [] (q ∷ qs) a = absurd a
+  displayed_many (v ∷ vs) [] a = absurd a
+  displayed_many (v ∷ vs) (q ∷ qs) a = ap suc (displayed_many vs qs a.1)
 
-  shown_ordered : (vs : List SheetView) (qs : List SheetRecords) → AllZip (IsShown s all) vs qs → AllByRecursion IsOrdered vs
-  shown_ordered [] qs a = tt
-  shown_ordered (v ∷ vs) [] a = absurd a
-  shown_ordered (v ∷ vs) (q ∷ qs) a = ((a.0.ascending, a.0.formulas_ascending), shown_ordered vs qs a.1)
+  displayed_ordered : (vs : List SheetView) (qs : List SheetRecords) → AllZip (IsDisplayed s all) vs qs → AllByRecursion IsOrdered vs
+  displayed_ordered [] qs a = tt
+  displayed_ordered (v ∷ vs) [] a = absurd a
+  displayed_ordered (v ∷ vs) (q ∷ qs) a = ((a.0.ascending, a.0.formulas_ascending), displayed_ordered vs qs a.1)
 
 module _ (options : XlsOptions) (bytes : List ℕ) (v : Viewed) (is : IsViewed options bytes v) where
   reading : IsReading (rules_of options) is.entries v.book
@@ -38,14 +38,14 @@ module _ (options : XlsOptions) (bytes : List ℕ) (v : Viewed) (is : IsViewed o
   pub as_many : length v.book.contents ≡ length v.book.sheets
   as_many =
       let qs = sheets_of (rules_of options) is.entries in
-      shown_many (in_force_of (rules_of options) is.entries) qs v.book.contents qs reading.contents
+      displayed_many (settings_of (rules_of options) is.entries) qs v.book.contents qs reading.contents
       ∙ sym (length-map qs (λ (q : SheetRecords). q.0)) ∙ ap length (sym reading.sheets)
 
   -- in order
   pub all_ordered : AllByRecursion IsOrdered v.book.contents
   all_ordered =
       let qs = sheets_of (rules_of options) is.entries in
-      shown_ordered (in_force_of (rules_of options) is.entries) qs v.book.contents qs reading.contents
+      displayed_ordered (settings_of (rules_of options) is.entries) qs v.book.contents qs reading.contents
 
 -- ---- what opening answers
 
@@ -87,13 +87,13 @@ open_named options bytes (Ok book) o = tt
 open_named options bytes (Err e) o = view_named options bytes e o
 
 -- what was taken of a source: at most one byte more than the limit
-abbrev Front : XlsOptions → Option (List ℕ) → Option (List ℕ) → Type 0
-Front options left after = (taken : List ℕ) × (length taken ≤ options.max_bytes + 1) × Consumes left after taken
+abbrev Prefix : XlsOptions → Option (List ℕ) → Option (List ℕ) → Type 0
+Prefix options left after = (taken : List ℕ) × (length taken ≤ options.max_bytes + 1) × Consumes left after taken
 
 -- the read was refused
 pub refused_open : (options : XlsOptions) (left after : Option (List ℕ)) (before now : ℕ) (e : XlsError) → ReadCause options.max_bytes left before now e
-    → Front options left after → before ≤ now → Opens options left after before now (Err e)
-refused_open options left after before now e c front count =
+    → Prefix options left after → before ≤ now → Opens options left after before now (Err e)
+refused_open options left after before now e c prefix count =
     let cause = read_cause options left before now e c in
     record {
       ok = tt;
@@ -101,7 +101,7 @@ refused_open options left after before now e c front count =
       cause = cause;
       named = read_named options.max_bytes left before now e c;
       complete = λ quiet. complete {B = Workbook} options left before now (Err e) cause quiet;
-      front = front;
+      prefix = prefix;
       count = count;
       faultless = tt;
     }
@@ -109,18 +109,18 @@ refused_open options left after before now e c front count =
 -- all was read, and these are the bytes
 pub bytes_open : (options : XlsOptions) (bytes : List ℕ) (left after : Option (List ℕ)) (before now : ℕ) (r : Result Workbook XlsError)
     → IfSome left (λ all. all ≡ bytes) → length bytes ≤ options.max_bytes → OpensBytes options bytes r → IsAtEnd after
-    → Front options left after → before ≤ now → now ≡ before → Opens options left after before now r
-bytes_open options bytes left after before now (Ok book) same within o end front count faultless = record {
+    → Prefix options left after → before ≤ now → now ≡ before → Opens options left after before now r
+bytes_open options bytes left after before now (Ok book) same within o end prefix count faultless = record {
   ok = open_ok options bytes left (Ok book) same within o;
   end = end;
   cause = tt;
   named = tt;
   complete = λ quiet. complete {B = Workbook} options left before now (Ok book) tt quiet;
-  front = front;
+  prefix = prefix;
   count = count;
   faultless = faultless;
 }
-bytes_open options bytes left after before now (Err e) same within o end front count faultless =
+bytes_open options bytes left after before now (Err e) same within o end prefix count faultless =
     let cause = open_cause options bytes left before now (Err e) same within o in
     record {
       ok = tt;
@@ -128,7 +128,7 @@ bytes_open options bytes left after before now (Err e) same within o end front c
       cause = cause;
       named = open_named options bytes (Err e) o;
       complete = λ quiet. complete {B = Workbook} options left before now (Err e) cause quiet;
-      front = front;
+      prefix = prefix;
       count = count;
       faultless = tt;
     }

@@ -78,15 +78,15 @@ listed_chars (c ∷ bs) b h = elim h [ inl e ↦ inl (ap chars e) | inr l ↦ in
 
 module _ (eq : Equal) (blank : Blank) (named : List ℕ → Option SheetView) where
   pub record Listing (entries : List Placed) (done : List Worksheet) (rest : List Placed) : Type 0 where
-    pub front : List Placed
-    pub whole : entries ≡ front ++ rest
-    pub names : map name_bytes done ≡ map key_bytes front
+    pub prefix : List Placed
+    pub whole : entries ≡ prefix ++ rest
+    pub names : map name_bytes done ≡ map key_bytes prefix
     pub each : AllByRecursion (IsWorksheet eq blank named) done
 
   pub listing_nothing : (entries : List Placed) (done : List Worksheet) → done ≡ [] → Listing entries done entries
   listing_nothing entries done e =
       subst (λ (d : List Worksheet). Listing entries d entries) (sym e) (record {
-        front = [];
+        prefix = [];
         whole = refl;
         names = refl;
         each = tt;
@@ -103,24 +103,24 @@ module _ (eq : Equal) (blank : Blank) (named : List ℕ → Option SheetView) wh
       → Listing entries new rest
   listing_more entries done new e rest w view l puts same found box =
       subst (λ (d : List Worksheet). Listing entries d rest) (sym puts) (record {
-        front = l.front ++ e ∷ [];
-        whole = l.whole ∙ sym (append_assoc l.front (e ∷ []) rest);
+        prefix = l.prefix ++ e ∷ [];
+        whole = l.whole ∙ sym (append_assoc l.prefix (e ∷ []) rest);
         names = map-append name_bytes done (w ∷ [])
             ∙ ap (λ (x : List (List ℕ)). x ++ string_bytes w.0 ∷ []) l.names
-            ∙ ap (λ (x : List ℕ). map key_bytes l.front ++ x ∷ []) same
-            ∙ sym (map-append key_bytes l.front (e ∷ []));
+            ∙ ap (λ (x : List ℕ). map key_bytes l.prefix ++ x ∷ []) same
+            ∙ sym (map-append key_bytes l.prefix (e ∷ []));
         each = all_push done w l.each (view, ap (λ (x : List ℕ). named (chars x)) same ∙ found, box);
       })
 
 -- what holds of all entries holds of the next one
-pub entry_holds : (P : Placed → Type 0) (entries front : List Placed) (e : Placed) (rest : List Placed)
-    → entries ≡ front ++ e ∷ rest → All P entries → P e
-entry_holds P entries front e rest w a =
-    subst P (ap (λ (x : List Placed). get_or x (length front) e) w ∙ get_or_at front e rest e (length front) refl)
-    (a (length front) e (within (ap (λ (x : List Placed). length x) w)))
+pub entry_holds : (P : Placed → Type 0) (entries prefix : List Placed) (e : Placed) (rest : List Placed)
+    → entries ≡ prefix ++ e ∷ rest → All P entries → P e
+entry_holds P entries prefix e rest w a =
+    subst P (ap (λ (x : List Placed). get_or x (length prefix) e) w ∙ get_or_at prefix e rest e (length prefix) refl)
+    (a (length prefix) e (within (ap (λ (x : List Placed). length x) w)))
   where
-    within : length entries ≡ length (front ++ e ∷ rest) → length front < length entries
-    within h = omega (arith, h, length-append front (e ∷ rest))
+    within : length entries ≡ length (prefix ++ e ∷ rest) → length prefix < length entries
+    within h = omega (arith, h, length-append prefix (e ∷ rest))
 
 pub not_past : (i n : ℕ) → i < n → false ≡ nat_lt i n → ⊥
 not_past i n l e = grind arith
@@ -174,7 +174,7 @@ module _ (sheets : List Sheet) (contents : List SheetView) (index : BTreeMap (St
       → IsStrictlySortedBy (λ (x y : String Global). slice_cmp nat_cmp (string_bytes x) (string_bytes y)) (map (λ (e : Placed). e.0) index.entries)
       → AreWorksheets eq blank of_name (map sheet_content sheets) list
   listing_end eq blank list rest e l sorted =
-      let all : index.entries ≡ l.front = l.whole ∙ ap (λ (x : List Placed). l.front ++ x) e ∙ append-nil l.front in
+      let all : index.entries ≡ l.prefix = l.whole ∙ ap (λ (x : List Placed). l.prefix ++ x) e ∙ append-nil l.prefix in
       let names : map name_bytes list ≡ map key_bytes index.entries = l.names ∙ ap (map key_bytes) (sym all) in
       record {
         ordered = subst (IsStrictlySortedBy (slice_cmp nat_cmp)) (sym names) (sorted_bytes index.entries sorted);

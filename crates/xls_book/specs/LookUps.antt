@@ -21,7 +21,7 @@ use Rattle.xls_data.specs.declared.values.Data.{Data}
 use Rattle.xls_range.specs.Grid.{Grid, no_cells, start_of, end_of, cell_at, IsOfCorners, Shows}
 use Rattle.xls_range.specs.Sparse.{IsDense}
 use Rattle.xls_range.specs.Positions.{Position}
-use Rattle.xls_biff.specs.Cells.{Entry}
+use Rattle.xls_biff.specs.Cells.{CellEntry}
 use Rattle.xls_record.specs.declared.error.XlsError.{XlsError}
 use Rattle.xls_record.specs.declared.error.XlsError.TheVariants as errors
 use Rattle.xls_meaning.specs.Reading.{SheetView}
@@ -47,14 +47,14 @@ pub record IsBoxOf {T X : Type 0} (seen : Position × T → X) (eq : T → T →
   pub dense : IsDense eq blank cells box
 
 -- of values, by their contents
-abbrev pub IsBox : Equal → Blank → List Entry → Grid Data → Type 0
+abbrev pub IsBox : Equal → Blank → List CellEntry → Grid Data → Type 0
 IsBox eq blank entries box = IsBoxOf cell_content eq blank entries box
 
 -- the range is the box from this row to its end, with the same columns; it has no cells where the box
 -- has none or ends before the row
 pub record IsCut (eq : Equal) (blank : Blank) (row : ℕ) (box range : Grid Data) : Type 0 where
   pub empty : end_of box ≡ None → range ≡ no_cells
-  pub behind : (end : Position) → end_of box ≡ Some end → end.0 < row → range ≡ no_cells
+  pub following : (end : Position) → end_of box ≡ Some end → end.0 < row → range ≡ no_cells
   pub corners : (start end : Position) → start_of box ≡ Some start → end_of box ≡ Some end
       → row ≤ end.0 → IsOfCorners (row, start.1) end range
   pub shows : (end : Position) → end_of box ≡ Some end → row ≤ end.0
@@ -65,8 +65,8 @@ IsUnder eq blank FirstNonEmptyRow box range = range ≡ box
 IsUnder eq blank (Row row) box range = IsCut eq blank row box range
 
 -- the range of cells of these contents under a header row
-abbrev pub IsRange : Equal → Blank → HeaderRow → List Entry → Grid Data → Type 0
-IsRange eq blank header entries range =
+abbrev pub IsRangeOf : Equal → Blank → HeaderRow → List CellEntry → Grid Data → Type 0
+IsRangeOf eq blank header entries range =
     (box : Grid Data) × IsBox eq blank entries box × IsUnder eq blank header box range
 
 -- ---- formulas
@@ -106,8 +106,8 @@ pub record AreWorksheets (eq : Equal) (blank : Blank) (named : List ℕ → Opti
 -- ---- names
 
 -- the names of the sheets in order
-abbrev pub names_in : Workbook → List (List ℕ)
-names_in book = map (λ (s : SheetContent). s.name) book.sheets
+abbrev pub sheet_names_in : Workbook → List (List ℕ)
+sheet_names_in book = map (λ (s : SheetContent). s.name) book.sheets
 
 -- ---- refusals
 
@@ -132,9 +132,9 @@ GivesMerges view regions = ⊥
 -- ---- steps of the iterators
 
 -- a call of next with these cells left
-abbrev pub ValueSteps : List Entry → Option (ℕ × ℕ × Bor Data) → List Entry → Type 0
+abbrev pub ValueSteps : List CellEntry → Option (ℕ × ℕ × Bor Data) → List CellEntry → Type 0
 ValueSteps before None after = (before ≡ []) × (after ≡ [])
-ValueSteps before (Some v) after = before ≡ cells.entry_of ((v.0, v.1), v.2.now) ∷ after
+ValueSteps before (Some v) after = before ≡ cells.cell_entry_of ((v.0, v.1), v.2.now) ∷ after
 
 -- a call of next with these formulas left
 abbrev pub FormulaSteps : List FormulaEntry → Option (ℕ × ℕ × Bor (List ℕ)) → List FormulaEntry → Type 0

@@ -5,29 +5,29 @@ use Rattle.std.specs.Str.{chars}
 use Rattle.std.specs.Global.{Global}
 use Rattle.std.specs.Borrow.{Bor}
 use Rattle.xls_range.specs.Positions.{Position}
-use Rattle.xls_meaning.specs.SheetTable.{shown_formulas}
+use Rattle.xls_meaning.specs.SheetTable.{nonempty_formulas}
 use Rattle.xls_record.specs.declared.error.XlsError.{XlsError}
 use Rattle.xls_open.specs.declared.options.XlsOptions.{XlsOptions}
 use Rattle.xls_open.specs.Workbook.{Workbook, view_of, formula_content}
 use Rattle.xls_view.specs.Viewing.{Viewed, IsViewed, ViewCause}
 
 -- a list of formulas that is empty or begins with one that is shown
-abbrev pub BeginsShown : List (Position × String Global) → Type 0
-BeginsShown [] = Unit {0}
-BeginsShown (f ∷ fs) = string_bytes f.1 ≡ [] → ⊥
+abbrev pub BeginsDisplayed : List (Position × String Global) → Type 0
+BeginsDisplayed [] = Unit {0}
+BeginsDisplayed (f ∷ fs) = string_bytes f.1 ≡ [] → ⊥
 
 -- the same without those at the start that aren't shown
-pub record IsFromShown (all rest : List (Position × String Global)) : Type 0 where
-  pub same : shown_formulas (map formula_content rest) ≡ shown_formulas (map formula_content all)
-  pub begins : BeginsShown rest
+pub record IsFromDisplayed (all rest : List (Position × String Global)) : Type 0 where
+  pub same : nonempty_formulas (map formula_content rest) ≡ nonempty_formulas (map formula_content all)
+  pub begins : BeginsDisplayed rest
 
 -- the first that is shown, and those after it
-abbrev pub FirstShown : List (Position × String Global)
+abbrev pub FirstDisplayed : List (Position × String Global)
     → Option (ℕ × ℕ × Bor (List ℕ) × Bor (List (Position × String Global))) → Type 0
-FirstShown all None = shown_formulas (map formula_content all) ≡ []
-FirstShown all (Some f) =
-    shown_formulas (map formula_content all)
-    ≡ ((f.0, f.1), chars f.2.now) ∷ shown_formulas (map formula_content f.3.now)
+FirstDisplayed all None = nonempty_formulas (map formula_content all) ≡ []
+FirstDisplayed all (Some f) =
+    nonempty_formulas (map formula_content all)
+    ≡ ((f.0, f.1), chars f.2.now) ∷ nonempty_formulas (map formula_content f.3.now)
 
 -- bytes that are opened: the workbook of a view of them under these options, or why there is no view
 abbrev pub OpensBytes : XlsOptions → List ℕ → Result Workbook XlsError → Type 0

@@ -1,9 +1,9 @@
 //! The content of the sheets of a view, collected from its cursors.
 
 ghost use Rattle.std.specs.Prelude.{◌≡◌, IfOk, length, map};
-ghost use Rattle.xls_biff.specs.Cells.{Entry};
+ghost use Rattle.xls_biff.specs.Cells.{CellEntry};
 ghost use Rattle.xls_cursors.specs.Formulas.{text_entry};
-ghost use Rattle.xls_cursors.specs.Shown.{content_of};
+ghost use Rattle.xls_cursors.specs.Displayed.{sheet_view_of};
 ghost use Rattle.xls_open.specs.Workbook.{cell_content, formula_content};
 
 use std::alloc::{AllocError, Global};
@@ -74,7 +74,7 @@ fn merges_of(alloc: Global, merges: Merges<'_>) -> Result<Vec<Dimensions>, Alloc
 
 /// What a sheet shows.
 fn content_of(alloc: Global, sheet: &ViewSheet<'_>) -> Result<Content, AllocError>
-    ensures { IfOk result (λ content. content ≡ content_of sheet.now) }
+    ensures { IfOk result (λ content. content ≡ sheet_view_of sheet.now) }
 {
     let cells = sheet.cells()?;
     let cells = cells_of(alloc, cells.iter())?;

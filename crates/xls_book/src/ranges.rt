@@ -5,7 +5,7 @@ ghost use Rattle.std.specs.List.{AllByRecursion};
 ghost use Rattle.std.specs.String.{string_bytes};
 ghost use Rattle.xls_data.specs.Sheets.{sheet_content};
 ghost use Rattle.xls_data.specs.Data.{is_nothing};
-ghost use Rattle.xls_book.specs.LookUps.{AreWorksheets, IsBox, IsCut, IsRange, IsTextBox, Worksheet, is_empty_text};
+ghost use Rattle.xls_book.specs.LookUps.{AreWorksheets, IsBox, IsCut, IsRangeOf, IsTextBox, Worksheet, is_empty_text};
 ghost use Rattle.xls_open.specs.Workbook.{IsOrdered};
 ghost use Rattle.xls_meaning.specs.Reading.{last_named, paired};
 ghost use Rattle.xls_view.specs.Index.{IsIndex};
@@ -52,7 +52,7 @@ pub(crate) fn range_of(
     header: HeaderRow,
 ) -> Result<Range<Data>, AllocError>
     requires { IsOrdered content.now }
-    ensures { IfOk result (λ range. IsRange ⟦<Data as PartialEq>⟧.eq is_nothing header content.now.cells range) }
+    ensures { IfOk result (λ range. IsRangeOf ⟦<Data as PartialEq>⟧.eq is_nothing header content.now.cells range) }
 {
     let whole = box_of(alloc, content)?;
     match header {

@@ -9,8 +9,8 @@ ghost use Rattle.xls_data.specs.declared.regions.HeaderRow.TheVariants.{FirstNon
 ghost use Rattle.xls_strings.specs.Texts.{text_of};
 ghost use Rattle.xls_record.specs.declared.error.XlsError.TheVariants.{Memory};
 ghost use Rattle.xls_meaning.specs.Reading.{SheetView};
-ghost use Rattle.xls_open.specs.Workbook.{Workbook, told_of, view_named};
-ghost use Rattle.xls_book.specs.LookUps.{AreWorksheets, IsRange, IsTextBox, NameCause, is_empty_text, names_in, under_header};
+ghost use Rattle.xls_open.specs.Workbook.{Workbook, name_texts, view_named};
+ghost use Rattle.xls_book.specs.LookUps.{AreWorksheets, IsRangeOf, IsTextBox, NameCause, is_empty_text, sheet_names_in, under_header};
 ghost use Rattle.xls_open.specs.Opening.{Opens, default_options};
 
 use crate::ranges::{range_of, text_box_of};
@@ -52,7 +52,7 @@ pub trait Reader: Sized {
     /// What is told of the whole workbook. Takes no memory.
     fn metadata(&self) -> &Metadata
         ensures sheets { map sheet_content result.now.sheets.items ≡ (shows self.now).sheets }
-        ensures names { map told_of result.now.names.items ≡ (shows self.now).names };
+        ensures names { map name_texts result.now.names.items ≡ (shows self.now).names };
 
     /// Name, kind and visibility of each sheet, in workbook order. Takes no memory.
     fn sheets_metadata(&self) -> &[Sheet]
@@ -60,11 +60,11 @@ pub trait Reader: Sized {
 
     /// The defined names and their texts, in workbook order. Takes no memory.
     fn defined_names(&self) -> &[(String, String)]
-        ensures { map told_of result.now ≡ (shows self.now).names };
+        ensures { map name_texts result.now ≡ (shows self.now).names };
 
     /// The names of the sheets, in workbook order.
     fn sheet_names(&self, alloc: Global) -> Result<Vec<String>, Self::Error>
-        ensures names { IfOk result (λ names. map text_of names.items ≡ names_in (shows self.now)) }
+        ensures names { IfOk result (λ names. map text_of names.items ≡ sheet_names_in (shows self.now)) }
         ensures refused { IfErr result runs_out };
 
     /// The range of the last sheet of a name, from the header row on: the smallest box with its cells,
@@ -72,7 +72,7 @@ pub trait Reader: Sized {
     fn worksheet_range(&self, alloc: Global, name: &str) -> Result<Range<Data>, Self::Error>
         ensures range { IfOk result (λ range. (view : SheetView)
             × (view_named (shows self.now) (chars name.now) ≡ Some view)
-            × IsRange ⟦<Data as PartialEq>⟧.eq is_nothing (shows self.now).options.header_row view.cells range) }
+            × IsRangeOf ⟦<Data as PartialEq>⟧.eq is_nothing (shows self.now).options.header_row view.cells range) }
         ensures refused { IfErr result (refuses (view_named (shows self.now) (chars name.now)) name.now) };
 
     /// Each name once, in the order of its bytes, with the smallest box of the cells of its last sheet;
@@ -99,7 +99,7 @@ pub trait Reader: Sized {
     ) -> Option<Result<Range<Data>, Self::Error>>
         ensures { MatchOption result (length (shows self.now).contents ≤ n) (λ answer.
             (view : SheetView) × (slice_get (shows self.now).contents n ≡ Some view)
-            × IfOk answer (IsRange ⟦<Data as PartialEq>⟧.eq is_nothing (shows self.now).options.header_row view.cells)
+            × IfOk answer (IsRangeOf ⟦<Data as PartialEq>⟧.eq is_nothing (shows self.now).options.header_row view.cells)
             × IfErr answer runs_out) };
 }
 
@@ -147,7 +147,7 @@ impl Reader for Xls {
     }
 
     fn metadata(&self) -> &Metadata {
-        self.told()
+        self.reported()
     }
 
     fn sheets_metadata(&self) -> &[Sheet] {

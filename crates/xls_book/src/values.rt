@@ -12,10 +12,10 @@ pub struct Values<'a> {
 
 impl<'a> Model for Values<'a> {
     ghost use Rattle.std.specs.Prelude.{List, map};
-    ghost use Rattle.xls_biff.specs.Cells.{Entry};
+    ghost use Rattle.xls_biff.specs.Cells.{CellEntry};
     ghost use Rattle.xls_open.specs.Workbook.{cell_content};
 
-    ghost Value = { List Entry };
+    ghost Value = { List CellEntry };
 
     ghost view = { λ v. map cell_content v.cells.now };
 }

@@ -7,13 +7,13 @@ ghost use Rattle.std.specs.Str.{chars};
 ghost use Rattle.xls_data.specs.Data.{is_nothing};
 ghost use Rattle.xls_data.specs.Sheets.{SheetContent, sheet_content};
 ghost use Rattle.xls_range.specs.Positions.{IsAscending};
-ghost use Rattle.xls_biff.specs.Cells.{Entry};
+ghost use Rattle.xls_biff.specs.Cells.{CellEntry};
 ghost use Rattle.xls_props.specs.Properties.{IsProperties};
 ghost use Rattle.xls_open.specs.Opening.{Opens};
 ghost use Rattle.xls_meaning.specs.Reading.{SheetView};
 ghost use Rattle.xls_book.specs.LookUps.{AreWorksheets, GivesMerges, NameCause, out_of_range, under_header};
-ghost use Rattle.xls_open.specs.Workbook.{IsOrdered, told_of, view_named};
-ghost use Rattle.xls_meaning.specs.SheetTable.{shown_formulas};
+ghost use Rattle.xls_open.specs.Workbook.{IsOrdered, name_texts, view_named};
+ghost use Rattle.xls_meaning.specs.SheetTable.{nonempty_formulas};
 ghost use Rattle.xls_book.specs.Steps.{OpensBytes};
 ghost use Rattle.xls_source.specs.Bounded.{AnswersAtEnd};
 
@@ -58,7 +58,7 @@ pub struct Xls {
 impl Model for Xls {
     ghost use Rattle.std.specs.Prelude.{◌≡◌, length, map};
     ghost use Rattle.xls_data.specs.Sheets.{sheet_content};
-    ghost use Rattle.xls_open.specs.Workbook.{Workbook, told_of, IsOrdered};
+    ghost use Rattle.xls_open.specs.Workbook.{Workbook, name_texts, IsOrdered};
     ghost use Rattle.std.specs.List.{AllByRecursion};
     ghost use Rattle.xls_view.specs.Index.{IsIndex};
 
@@ -67,7 +67,7 @@ impl Model for Xls {
     ghost view = { λ b. record {
       options = b.options;
       sheets = map sheet_content b.metadata.sheets.items;
-      names = map told_of b.metadata.names.items;
+      names = map name_texts b.metadata.names.items;
       contents = b.contents.items;
       is_1904 = b.is_1904;
       classes = b.classes.items;
@@ -173,7 +173,7 @@ impl Xls {
     /// Takes no memory.
     pub fn values_named(&self, name: &str) -> Option<Values<'_>>
         ensures found { result ≡ option_map (λ (v : SheetView). v.cells) (view_named self.now (chars name.now)) }
-        ensures ordered { IfSome result (λ cells. IsAscending (map (λ (c : Entry). c.0) cells)) }
+        ensures ordered { IfSome result (λ cells. IsAscending (map (λ (c : CellEntry). c.0) cells)) }
     {
         match self.content_named(name) {
             Some(content) => Some(Values::new(&content.cells)),
@@ -185,7 +185,7 @@ impl Xls {
     /// its name. A formula that is refused has a text that says why. `None` where no sheet has the
     /// index. Takes no memory.
     pub fn formulas_at(&self, n: usize) -> Option<Formulas<'_>>
-        ensures { result ≡ option_map (λ (v : SheetView). shown_formulas v.formulas) (slice_get self.now.contents n) }
+        ensures { result ≡ option_map (λ (v : SheetView). nonempty_formulas v.formulas) (slice_get self.now.contents n) }
     {
         match self.content_at(n) {
             Some(content) => Some(Formulas::new(&content.formulas)),
@@ -332,15 +332,15 @@ impl Xls {
 
     /// The defined names in order.
     pub(crate) fn names(&self) -> &[(String, String)]
-        ensures { map told_of result.now ≡ self.now.names }
+        ensures { map name_texts result.now ≡ self.now.names }
     {
         &self.metadata.names
     }
 
     /// What is told of the whole workbook.
-    pub(crate) fn told(&self) -> &Metadata
+    pub(crate) fn reported(&self) -> &Metadata
         ensures sheets { map sheet_content result.now.sheets.items ≡ self.now.sheets }
-        ensures names { map told_of result.now.names.items ≡ self.now.names }
+        ensures names { map name_texts result.now.names.items ≡ self.now.names }
     {
         &self.metadata
     }

@@ -4,7 +4,7 @@ use Rattle.std.proofs.lemmas.List.{drop-set, take_all}
 use Rattle.std.proofs.lemmas.Bool.{cases_lt, cases_eq, cases_order}
 use Rattle.std.proofs.Math.Nat.{pow-suc, mul-le-mul_right}
 use Rattle.std.specs.Str.{IsAscii}
-use Rattle.xls_bytes.specs.Columns.{IsWord, word_value, IsColumnName, word_of, column_name, IsEarlier, HasOneName, NamesDiffer, NamesInOrder, SevenLettersDo}
+use Rattle.xls_bytes.specs.Columns.{IsWord, word_value, IsColumnName, word_of, column_name, IsEarlier, HasOneName, ColumnNamesDiffer, NamesInOrder, SevenLettersDo}
 
 -- the value of as many letters A
 unfoldable pub least : ℕ → ℕ
@@ -139,24 +139,24 @@ unfolding word_of
 word_of_value zero value h = (tt, omega arith)
 word_of_value (suc more) zero h = (tt, refl)
 word_of_value (suc more) (suc rest) h =
-    let front = word_of_value more (rest / 26) (omega arith) in
+    let prefix = word_of_value more (rest / 26) (omega arith) in
     let letter : (65 ≤ 65 + rest % 26) × (65 + rest % 26 ≤ 90) = (omega arith, omega arith) in (
-      IsWord-append (word_of more (rest / 26)) (65 + rest % 26) front.0 letter,
-      rw (word_value-append (word_of more (rest / 26)) (65 + rest % 26), front.1) (omega arith),
+      IsWord-append (word_of more (rest / 26)) (65 + rest % 26) prefix.0 letter,
+      rw (word_value-append (word_of more (rest / 26)) (65 + rest % 26), prefix.1) (omega arith),
     )
 
 IsColumnName-column_name : (c : ℕ) → IsColumnName c (column_name c)
 unfolding column_name
 IsColumnName-column_name c =
-    let made = word_of_value (c + 1) (c + 1) (omega arith) in
-    record { letters = made.0; value = made.1 }
+    let built = word_of_value (c + 1) (c + 1) (omega arith) in
+    record { letters = built.0; value = built.1 }
 
 pub has_one_name : (c : ℕ) → HasOneName c
 has_one_name c =
     let is = IsColumnName-column_name c in
     (is, λ word other. same_word word (column_name c) other.letters is.letters (other.value ∙ sym is.value))
 
-pub names_differ : NamesDiffer
+pub names_differ : ColumnNamesDiffer
 names_differ c d e =
     let left = IsColumnName-column_name c in
     let right = IsColumnName-column_name d in

@@ -71,9 +71,9 @@ pub stretch : (text plain escape others after : List ℕ) (at : ℕ) → at < le
     → escape ≡ escaped_char (get_or text at 0) → plain ≡ take at text → others ≡ drop at text
     → after ≡ drop 1 others
     → flat_map escaped_char text ≡ plain ++ (escape ++ flat_map escaped_char after)
-stretch text plain escape others after at l same is front back rest =
+stretch text plain escape others after at l same is prefix back rest =
     at_byte text at l
-    ∙ rw (same, is, front, rest, back, drop-drop 1 at text) refl
+    ∙ rw (same, is, prefix, rest, back, drop-drop 1 at text) refl
 
 -- after a stretch the first byte is a character
 pub after_one : (text others : List ℕ) (at : ℕ) → IsUtf8 text → at < length text

@@ -41,8 +41,8 @@ HasOneName column = IsColumnName column (column_name column)
     × ((word : List ℕ) → IsColumnName column word → word ≡ column_name column)
 
 -- different columns have different names
-abbrev pub NamesDiffer : Type 0
-NamesDiffer = (c d : ℕ) → column_name c ≡ column_name d → c ≡ d
+abbrev pub ColumnNamesDiffer : Type 0
+ColumnNamesDiffer = (c d : ℕ) → column_name c ≡ column_name d → c ≡ d
 
 -- a smaller column's name is shorter, or as long and earlier by its letters
 abbrev pub NamesInOrder : Type 0

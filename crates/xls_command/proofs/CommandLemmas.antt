@@ -12,9 +12,9 @@ use Rattle.xls_open.specs.Opening.{IsOpened, default_options, default_rules}
 use Rattle.xls_source.specs.Bounded.{ReadCause}
 use Rattle.xls_lines.specs.SinkState.{SinkState, TakesEach}
 use Rattle.xls_report.specs.Report.{fault_line}
-use Rattle.xls_command.specs.Outputs.{IsOutput, IsRefusal, MayWrite, ReadsNothing, EndsBy, Spec, reading, accepting_sound, spec_of, IsNameLine, HasSheet, HasCanonical}
+use Rattle.xls_command.specs.Outputs.{IsOutput, IsRefusalText, MayWrite, ReadsNothing, EndsBy, Spec, reading, accepting_sound, spec_of, IsNameLine, HasSheet, HasCanonical}
 use Rattle.xls_report.specs.Texts.{IsFirstLine, IsUnremadeLine}
-use Rattle.xls_report.specs.Endings.{IsFault, EndsWithError, EndsWithEither}
+use Rattle.xls_report.specs.Endings.{IsStreamFault, EndsWithError, EndsWithEither}
 use Rattle.xls_command.specs.Endings.{Ends}
 use Rattle.xls_command.specs.declared.command.Command.{Command}
 use Rattle.xls_command.specs.declared.command.Command.TheVariants.{Dump, Sheets, Props, Check, Refs, Remake, Csv, Generate}
@@ -32,7 +32,7 @@ pub record IsReading (c : Spec) : Type 0 where
   pub done : (left : Option (List ℕ)) (text : List ℕ) → IfSome left (λ bytes. length bytes ≤ default_options.max_bytes)
       → c.output left text → c.ends_well left 0
   pub refused : (left : Option (List ℕ)) (text : List ℕ) → c.refusal left text → c.ends_well left 1
-  pub given_up : (left : Option (List ℕ)) → c.ends_well left 5
+  pub left_out : (left : Option (List ℕ)) → c.ends_well left 5
   pub too_long : (left : Option (List ℕ)) → IfSome left (λ bytes. default_options.max_bytes < length bytes)
       → c.refusal left (fault_line (errors.TooLarge default_options.max_bytes))
 
@@ -68,7 +68,7 @@ module _ (IsText : Option (List ℕ) → List ℕ → Type 0) (IsLine : List ℕ
     unseen_refusal = λ text. tt;
     done = reading_done accepted;
     refused = reading_refused refused;
-    given_up = λ left. (inr (inr refl), λ e. absurd (omega arith), λ e. absurd (omega arith));
+    left_out = λ left. (inr (inr refl), λ e. absurd (omega arith), λ e. absurd (omega arith));
     too_long = reading_long long;
   }
 
@@ -134,20 +134,20 @@ module _ (c : Command) (command : IsReading (spec_of c)) (left left' : Option (L
   output_left bytes text all end =
       of_left (λ l. IsOutput c l text) left left' bytes all end (command.unseen_output bytes text)
 
-  refusal_left : (bytes text : List ℕ) → Consumes left left' bytes → IsAtEnd left' → IsRefusal c (Some bytes) text → IsRefusal c left text
+  refusal_left : (bytes text : List ℕ) → Consumes left left' bytes → IsAtEnd left' → IsRefusalText c (Some bytes) text → IsRefusalText c left text
   refusal_left bytes text all end =
-      of_left (λ l. IsRefusal c l text) left left' bytes all end (λ _. command.unseen_refusal text)
+      of_left (λ l. IsRefusalText c l text) left left' bytes all end (λ _. command.unseen_refusal text)
 
   pub ends-of_bytes : (bytes : List ℕ) → Consumes left left' bytes → IsAtEnd left' → length bytes ≤ default_options.max_bytes
-      → EndsWithEither (IsOutput c (Some bytes)) (IsRefusal c (Some bytes)) before after r → Ends c left before after r
+      → EndsWithEither (IsOutput c (Some bytes)) (IsRefusalText c (Some bytes)) before after r → Ends c left before after r
   ends-of_bytes bytes all end le =
       let within = Consumes-whole left left' bytes (λ b. length b ≤ default_options.max_bytes) all end le in
-      ends-either c left before after r (command.given_up left)
+      ends-either c left before after r (command.left_out left)
       (λ text is. let o = output_left bytes text all end is in (command.done left text within o, o))
       (λ text is. let l = refusal_left bytes text all end is in (command.refused left text l, l))
 
   pub steady-of_bytes : (bytes : List ℕ) → Consumes left left' bytes → IsAtEnd left'
-      → EndsWithEither (IsOutput c (Some bytes)) (IsRefusal c (Some bytes)) before after r
+      → EndsWithEither (IsOutput c (Some bytes)) (IsRefusalText c (Some bytes)) before after r
       → TakesEach before (MayWrite c left) → after.faults ≡ before.faults
   steady-of_bytes bytes all end =
       steady-either c left before after r
@@ -157,7 +157,7 @@ module _ (c : Command) (command : IsReading (spec_of c)) (left left' : Option (L
 
 -- by the line of too many bytes
 line_of_cause : (c : Spec) → IsReading c → (left : Option (List ℕ)) (f f' : ℕ) (e : XlsError)
-    → ReadCause default_options.max_bytes left f f' e → IsFault e → c.refusal left (fault_line e)
+    → ReadCause default_options.max_bytes left f f' e → IsStreamFault e → c.refusal left (fault_line e)
 line_of_cause c command left f f' errors.Io cause fault = absurd (fault.0 refl)
 line_of_cause c command left f f' errors.Memory cause fault = absurd (fault.1 refl)
 line_of_cause c command left f f' (errors.TooLarge n) cause fault =
@@ -168,7 +168,7 @@ module _ (c : Command) (command : IsReading (spec_of c)) (left : Option (List �
   pub ends-of_cause : ReadCause default_options.max_bytes left f f' e → EndsWithError e before after r → Ends c left before after r
   ends-of_cause cause =
       let line = line_of_cause (spec_of c) command left f f' e cause in
-      ends-error c left before after r e (command.given_up left) (λ fault. command.refused left (fault_line e) (line fault)) line
+      ends-error c left before after r e (command.left_out left) (λ fault. command.refused left (fault_line e) (line fault)) line
 
   pub steady-of_cause : ReadCause default_options.max_bytes left f f' e → EndsWithError e before after r
       → TakesEach before (MayWrite c left) → after.faults ≡ before.faults

@@ -4,8 +4,8 @@ use Rattle.xls_record.specs.declared.error.XlsError.{XlsError}
 use Rattle.xls_lines.specs.SinkState.{SinkState, TakesEach}
 use Rattle.xls_lines.specs.Gathering.{Stops, Wrote}
 use Rattle.xls_report.specs.Report.{fault_line}
-use Rattle.xls_command.specs.Outputs.{IsOutput, IsRefusal, MayWrite, EndsWell}
-use Rattle.xls_report.specs.Endings.{IsFault, EndsWithError, EndsWithEither}
+use Rattle.xls_command.specs.Outputs.{IsOutput, IsRefusalText, MayWrite, EndsWell}
+use Rattle.xls_report.specs.Endings.{IsStreamFault, EndsWithError, EndsWithEither}
 use Rattle.xls_command.specs.Endings.{Ends}
 use Rattle.xls_command.specs.declared.command.Command.{Command}
 use Rattle.xls_report.specs.declared.ending.Ending.{Ending}
@@ -25,7 +25,7 @@ ends-stopped c left {before} {after} {text} Memory well may p = (well, inr (text
 -- a text of one of two kinds was written, or a prefix of it
 pub ends-either : (c : Command) (left : Option (List ℕ)) (before after : SinkState) (r : Result Ending Stop) {IsDone IsRefused : List ℕ → Type 0}
     → EndsWell c left 5 → ((text : List ℕ) → IsDone text → EndsWell c left 0 × IsOutput c left text)
-    → ((text : List ℕ) → IsRefused text → EndsWell c left 1 × IsRefusal c left text)
+    → ((text : List ℕ) → IsRefused text → EndsWell c left 1 × IsRefusalText c left text)
     → EndsWithEither IsDone IsRefused before after r → Ends c left before after r
 ends-either c left before after (Ok Done) up output line p =
     let o = output p.0 p.1 in (o.0, (p.0, o.1, p.2.appends))
@@ -40,7 +40,7 @@ ends-either c left before after (Err e) up output line (inr (text, inr refused, 
 
 -- an error of reading or opening, where a fault of the bytes is refused
 pub ends-error : (c : Command) (left : Option (List ℕ)) (before after : SinkState) (r : Result Ending Stop) (e : XlsError)
-    → EndsWell c left 5 → (IsFault e → EndsWell c left 1) → (IsFault e → IsRefusal c left (fault_line e))
+    → EndsWell c left 5 → (IsStreamFault e → EndsWell c left 1) → (IsStreamFault e → IsRefusalText c left (fault_line e))
     → EndsWithError e before after r → Ends c left before after r
 ends-error c left before after (Ok Done) e up refused line p = absurd p
 ends-error c left before after (Ok Refused) e up refused line p =
@@ -61,7 +61,7 @@ pub steady-wrote : (c : Command) (left : Option (List ℕ)) {before after : Sink
 steady-wrote c left {before} {after} {text} may p takes = p.steady takes.0 (takes.2 text may) takes.1
 
 pub steady-either : (c : Command) (left : Option (List ℕ)) (before after : SinkState) (r : Result Ending Stop) {IsDone IsRefused : List ℕ → Type 0}
-    → ((text : List ℕ) → IsDone text → IsOutput c left text) → ((text : List ℕ) → IsRefused text → IsRefusal c left text)
+    → ((text : List ℕ) → IsDone text → IsOutput c left text) → ((text : List ℕ) → IsRefused text → IsRefusalText c left text)
     → EndsWithEither IsDone IsRefused before after r → TakesEach before (MayWrite c left) → after.faults ≡ before.faults
 steady-either c left before after (Ok Done) output line p takes = steady-wrote c left (inl (output p.0 p.1)) p.2 takes
 steady-either c left before after (Ok Refused) output line p takes = steady-wrote c left (inr (line p.0 p.1)) p.2 takes
@@ -70,7 +70,7 @@ steady-either c left before after (Err e) output line (inr (text, inl done, p)) 
 steady-either c left before after (Err e) output line (inr (text, inr refused, p)) takes = steady-stopped c left (inr (line text refused)) p takes
 
 pub steady-error : (c : Command) (left : Option (List ℕ)) (before after : SinkState) (r : Result Ending Stop) (e : XlsError)
-    → (IsFault e → IsRefusal c left (fault_line e)) → EndsWithError e before after r
+    → (IsStreamFault e → IsRefusalText c left (fault_line e)) → EndsWithError e before after r
     → TakesEach before (MayWrite c left) → after.faults ≡ before.faults
 steady-error c left before after (Ok Done) e line p takes = absurd p
 steady-error c left before after (Ok Refused) e line p takes = steady-wrote c left (inr (line p.0)) p.1 takes

@@ -3,7 +3,7 @@ use Rattle.std.specs.Prelude.{◌≡◌, ℕ, ℤ, ◌-◌, ◌*◌, ◌/◌, le
 use Rattle.xls_data.specs.Data.{is_nothing}
 use Rattle.xls_data.specs.declared.values.Data.{Data}
 use Rattle.xls_range.specs.Grid.{Grid}
-use Rattle.xls_sample_stream.specs.Made.{used_in, contents_in, sum_of_ints}
+use Rattle.xls_sample_stream.specs.Sample.{used_in, contents_in, sum_of_ints}
 use Rattle.xls_command.specs.declared.summary.Summary.{Summary}
 
 -- how many cells are used, and the sum of their whole numbers
@@ -12,7 +12,7 @@ pub record Measures (range : Grid Data) (counted : ℕ × ℤ) : Type 0 where
   pub sum : counted.1 ≡ sum_of_ints (contents_in is_nothing range)
 
 -- of a made stream of so many rows
-pub record IsSummary (n : ℕ) (s : Summary) : Type 0 where
+pub record IsCountSummary (n : ℕ) (s : Summary) : Type 0 where
   pub rows : s.rows ≡ n
   pub cells : s.cells ≡ 2 * n
   pub sum : s.sum ≡ n * (n - 1) / 2

@@ -14,7 +14,7 @@ use Rattle.xls_report.specs.declared.ending.Ending.{Ending}
 use Rattle.xls_report.specs.declared.ending.Ending.TheVariants.{Done, Refused}
 use Rattle.xls_lines.specs.declared.stop.Stop.{Stop}
 use Rattle.xls_lines.specs.declared.stop.Stop.TheVariants.{Read, Write, Memory}
-use Rattle.xls_command.specs.Outputs.{IsOutput, IsRefusal, MayWrite, HasRead, EndsWell, ReadsNothing}
+use Rattle.xls_command.specs.Outputs.{IsOutput, IsRefusalText, MayWrite, HasRead, EndsWell, ReadsNothing}
 use Rattle.xls_command.specs.declared.command.Command.{Command}
 
 -- a count of faults did not rise, and is below its last value
@@ -34,7 +34,7 @@ abbrev pub Ends : Command → Option (List ℕ) → SinkState → SinkState → 
 Ends c left before after (Ok Done) =
     EndsWell c left 0 × Writes (IsOutput c left) before.written after.written
 Ends c left before after (Ok Refused) =
-    EndsWell c left 1 × Writes (IsRefusal c left) before.written after.written
+    EndsWell c left 1 × Writes (IsRefusalText c left) before.written after.written
 Ends c left before after (Err Read) = Keeps before.written after.written
 Ends c left before after (Err Write) =
     Rose before.faults after.faults × WritesPart (MayWrite c left) before.written after.written

@@ -5,7 +5,7 @@ use Rattle.std.specs.Io.KnownBytes.{IsAtEnd}
 use Rattle.xls_record.specs.declared.error.XlsError.TheVariants.{TooLarge}
 use Rattle.xls_open.specs.Workbook.{Workbook, view_named, view_of}
 use Rattle.xls_meaning.specs.Reading.{BookView}
-use Rattle.xls_stream.specs.Listing.{Entry, Carries}
+use Rattle.xls_stream.specs.Listing.{ListEntry, Carries}
 use Rattle.xls_lay.specs.Writing.{canonical_bytes}
 use Rattle.xls_report.specs.Texts.{IsPropertyText, IsFirstLine, IsRefsText, IsRemadeText, IsUnremadeLine, IsCsvOf, IsMissingOf}
 use Rattle.xls_meaning.specs.Faults.{IsSound}
@@ -54,10 +54,10 @@ accepting_sound IsText = accepting (IsSound default_rules) IsFirstLine IsText
 
 -- a command that reads nothing and has one text
 abbrev pub making : List ℕ → Spec
-making made = record {
+making sample = record {
   reads_nothing = Unit {0};
   has_read = λ before after. after ≡ before;
-  output = λ left text. text ≡ made;
+  output = λ left text. text ≡ sample;
   refusal = λ left text. ⊥;
   ends_well = λ left status. (status ≡ 0) ⊎ (status ≡ 5);
 }
@@ -106,7 +106,7 @@ HasSheet name bytes = (book : Workbook) × IsOpened default_options book bytes
 -- no place of the bytes has a fault, and the canonical bytes of their list have offsets of 32 bits
 abbrev pub HasCanonical : List ℕ → Type 0
 HasCanonical bytes = IsSound default_rules bytes
-    × (list : List Entry) × Carries bytes list × (length (canonical_bytes list) < 2 ^ 32)
+    × (list : List ListEntry) × Carries bytes list × (length (canonical_bytes list) < 2 ^ 32)
 
 -- ---- the commands
 
@@ -126,12 +126,12 @@ abbrev pub IsOutput : Command → Option (List ℕ) → List ℕ → Type 0
 IsOutput c left text = (spec_of c).output left text
 
 -- the line of a command whose input is refused
-abbrev pub IsRefusal : Command → Option (List ℕ) → List ℕ → Type 0
-IsRefusal c left text = (spec_of c).refusal left text
+abbrev pub IsRefusalText : Command → Option (List ℕ) → List ℕ → Type 0
+IsRefusalText c left text = (spec_of c).refusal left text
 
 -- either of them
 abbrev pub MayWrite : Command → Option (List ℕ) → List ℕ → Type 0
-MayWrite c left text = IsOutput c left text ⊎ IsRefusal c left text
+MayWrite c left text = IsOutput c left text ⊎ IsRefusalText c left text
 
 -- a command that is done has read all of the source, or leaves it as it was where it reads nothing
 abbrev pub HasRead : Command → Option (List ℕ) → Option (List ℕ) → Type 0

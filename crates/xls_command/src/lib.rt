@@ -3,7 +3,7 @@
 
 mod command;
 mod laws;
-mod made;
+mod sample;
 mod perform;
 mod runs;
 mod summary;
@@ -11,6 +11,6 @@ mod words;
 
 pub use command::Command;
 pub use laws::remade_dumps;
-pub use made::generate_stream;
+pub use sample::generate_stream;
 pub use runs::run;
 pub use words::words_in;

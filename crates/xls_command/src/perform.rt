@@ -4,7 +4,7 @@ ghost use Rattle.std.specs.Prelude.{◌≡◌, ◌≤◌, ◌↔◌, IsTrue, len
 ghost use Rattle.xls_open.specs.Opening.{default_options};
 ghost use Rattle.xls_command.specs.Endings.{Ends, IsViewRefusal, OpensTo, Reads};
 ghost use Rattle.xls_report.specs.Endings.{EndsWithEither, EndsWithError};
-ghost use Rattle.xls_command.specs.Outputs.{IsOutput, IsRefusal, MayWrite, ReadsNothing};
+ghost use Rattle.xls_command.specs.Outputs.{IsOutput, IsRefusalText, MayWrite, ReadsNothing};
 ghost use Rattle.xls_lines.specs.SinkState.{TakesEach};
 ghost use Rattle.xls_command.specs.Words.{IsPossible, max_rows};
 ghost use Rattle.xls_command.specs.declared.command.Command.TheVariants.{Dump, Sheets, Props, Check, Csv, Generate};
@@ -41,7 +41,7 @@ fn view_of<'a>(alloc: Global, bytes: &'a [u8]) -> Result<View<'a>, XlsError>
 /// Writes the dump of the bytes' workbook, or the first fault of the bytes.
 fn write_dump<K: Sink>(alloc: Global, sink: &mut K, bytes: &[u8]) -> Result<Ending, Stop>
     requires within { length bytes.now ≤ default_options.max_bytes }
-    ensures { EndsWithEither (IsOutput Dump (Some bytes.now)) (IsRefusal Dump (Some bytes.now))
+    ensures { EndsWithEither (IsOutput Dump (Some bytes.now)) (IsRefusalText Dump (Some bytes.now))
         (K.state sink.old) (K.state sink.new) result }
 {
     match view_of(alloc, bytes) {
@@ -56,7 +56,7 @@ fn write_dump<K: Sink>(alloc: Global, sink: &mut K, bytes: &[u8]) -> Result<Endi
 /// Writes the lines of the sheets of the bytes' workbook alone, or the first fault of the bytes.
 fn write_sheet_lines<K: Sink>(alloc: Global, sink: &mut K, bytes: &[u8]) -> Result<Ending, Stop>
     requires within { length bytes.now ≤ default_options.max_bytes }
-    ensures { EndsWithEither (IsOutput Sheets (Some bytes.now)) (IsRefusal Sheets (Some bytes.now))
+    ensures { EndsWithEither (IsOutput Sheets (Some bytes.now)) (IsRefusalText Sheets (Some bytes.now))
         (K.state sink.old) (K.state sink.new) result }
 {
     match view_of(alloc, bytes) {
@@ -71,7 +71,7 @@ fn write_sheet_lines<K: Sink>(alloc: Global, sink: &mut K, bytes: &[u8]) -> Resu
 /// Writes the properties that the bytes hold, as both property streams.
 fn write_properties_of<K: Sink>(alloc: Global, sink: &mut K, bytes: &[u8]) -> Result<Ending, Stop>
     requires within { length bytes.now ≤ default_options.max_bytes }
-    ensures { EndsWithEither (IsOutput Props (Some bytes.now)) (IsRefusal Props (Some bytes.now))
+    ensures { EndsWithEither (IsOutput Props (Some bytes.now)) (IsRefusalText Props (Some bytes.now))
         (K.state sink.old) (K.state sink.new) result }
 {
     let properties = workbook_properties_of(alloc, Some(bytes), Some(bytes))?;
@@ -82,7 +82,7 @@ fn write_properties_of<K: Sink>(alloc: Global, sink: &mut K, bytes: &[u8]) -> Re
 /// Writes that the bytes have no fault, or which is the first. Nothing is kept but the bytes.
 fn write_check<K: Sink>(alloc: Global, sink: &mut K, bytes: &[u8]) -> Result<Ending, Stop>
     requires within { length bytes.now ≤ default_options.max_bytes }
-    ensures { EndsWithEither (IsOutput Check (Some bytes.now)) (IsRefusal Check (Some bytes.now))
+    ensures { EndsWithEither (IsOutput Check (Some bytes.now)) (IsRefusalText Check (Some bytes.now))
         (K.state sink.old) (K.state sink.new) result }
 {
     match check_stream(bytes, None, MAX_CELLS) {
@@ -106,7 +106,7 @@ fn write_named<K: Sink>(
     name: &str,
 ) -> Result<Ending, Stop>
     requires within { length bytes.now ≤ default_options.max_bytes }
-    ensures { EndsWithEither (IsOutput (Csv name.entry) (Some bytes.now)) (IsRefusal (Csv name.entry) (Some bytes.now))
+    ensures { EndsWithEither (IsOutput (Csv name.entry) (Some bytes.now)) (IsRefusalText (Csv name.entry) (Some bytes.now))
         (K.state sink.old) (K.state sink.new) result }
 {
     match view_of(alloc, bytes) {
@@ -119,7 +119,7 @@ fn write_named<K: Sink>(
 fn generate<K: Sink>(alloc: Global, rows: u32, sink: &mut K) -> Result<Ending, Stop>
     requires least { 1 ≤ rows }
     requires most { rows ≤ max_rows }
-    ensures { EndsWithEither (IsOutput (Generate rows) None) (IsRefusal (Generate rows) None)
+    ensures { EndsWithEither (IsOutput (Generate rows) None) (IsRefusalText (Generate rows) None)
         (K.state sink.old) (K.state sink.new) result }
 {
     let summary = summary_of(alloc, rows)?;
@@ -136,7 +136,7 @@ fn write<K: Sink>(
 ) -> Result<Ending, Stop>
     requires possible { IsPossible command }
     requires within { length bytes ≤ default_options.max_bytes }
-    ensures { EndsWithEither (IsOutput command.entry (Some bytes)) (IsRefusal command.entry (Some bytes))
+    ensures { EndsWithEither (IsOutput command.entry (Some bytes)) (IsRefusalText command.entry (Some bytes))
         (K.state sink.old) (K.state sink.new) result }
 {
     match command {

@@ -7,7 +7,7 @@ ghost use Rattle.xls_source.specs.Causes.{Rose};
 ghost use Rattle.xls_lines.specs.Written.{Writes, WritesPart};
 ghost use Rattle.xls_command.specs.Endings.{IsQuiet};
 ghost use Rattle.xls_command.specs.Words.{IsCommand, OfCommand};
-ghost use Rattle.xls_command.specs.Outputs.{EndsWell, HasRead, IsOutput, IsRefusal, MayWrite, ReadsNothing};
+ghost use Rattle.xls_command.specs.Outputs.{EndsWell, HasRead, IsOutput, IsRefusalText, MayWrite, ReadsNothing};
 ghost use Rattle.xls_lines.specs.SinkState.{TakesEach};
 ghost use Rattle.xls_command.specs.declared.command.Command.{Command};
 
@@ -31,7 +31,7 @@ pub fn run<S: Source, K: Sink>(alloc: Global, words: &[String], source: &mut S, 
 
     // 1: the line of the first fault was written.
     ensures refused { result ≡ 1 → OfCommand words.now (λ c.
-        Writes (IsRefusal c (S.left source.old)) (K.state sink.old).written (K.state sink.new).written) }
+        Writes (IsRefusalText c (S.left source.old)) (K.state sink.old).written (K.state sink.new).written) }
 
     // 2: exactly where the words are no command's; nothing was read or written.
     ensures words { (result ≡ 2) ↔ ((c : Command) → IsCommand (map string_bytes words.now) c → ⊥) }

@@ -2,13 +2,13 @@
 
 ghost use Rattle.std.specs.Prelude.{◌≡◌, ◌≤◌, IfOk};
 ghost use Rattle.xls_data.specs.Data.{content_of, is_nothing};
-ghost use Rattle.xls_sample_stream.specs.Made.{IsMadeRange, int_of};
+ghost use Rattle.xls_sample_stream.specs.Sample.{IsSampleRange, int_of};
 ghost use Rattle.xls_lines.specs.Gathering.{Delivers};
 ghost use Rattle.xls_command.specs.Summary.{counts_text};
 ghost use Rattle.xls_command.specs.Words.{max_rows};
-ghost use Rattle.xls_command.specs.Counting.{IsSummary, Measures};
+ghost use Rattle.xls_command.specs.Counting.{IsCountSummary, Measures};
 
-use crate::made::made_bytes;
+use crate::sample::sample_bytes;
 use std::alloc::{AllocError, Global};
 use xls_book::{Reader, SteadySource, Xls};
 use xls_data::{CellType, Data};
@@ -50,9 +50,9 @@ fn measured(range: &Range<Data>) -> (u64, i128)
 
 /// What the range of a made stream holds.
 fn summary_in(range: &Range<Data>, rows: u32) -> Summary
-    requires made { IsMadeRange is_nothing rows range.now }
+    requires sample { IsSampleRange is_nothing rows range.now }
     requires most { rows ≤ max_rows }
-    ensures { IsSummary rows result }
+    ensures { IsCountSummary rows result }
 {
     let (cells, sum) = measured(range);
     Summary {
@@ -66,9 +66,9 @@ fn summary_in(range: &Range<Data>, rows: u32) -> Summary
 pub fn summary_of(alloc: Global, rows: u32) -> Result<Summary, AllocError>
     requires least { 1 ≤ rows }
     requires most { rows ≤ max_rows }
-    ensures { IfOk result (IsSummary rows) }
+    ensures { IfOk result (IsCountSummary rows) }
 {
-    let mut source = SteadySource::new(made_bytes(alloc, rows)?);
+    let mut source = SteadySource::new(sample_bytes(alloc, rows)?);
     // A made stream has no fault, and a steady source doesn't fail: only memory may run out.
     let Ok(book) = Xls::new(alloc, &mut source) else {
         return Err(AllocError);

@@ -14,8 +14,8 @@ use Rattle.xls_sectors.specs.Streams.{Space, next_in, sector_at, part_of, gather
 use Rattle.xls_sectors.specs.Tables.{sectors_of}
 use Rattle.xls_directory.specs.Items.{onward}
 use Rattle.xls_directory.specs.Directory.{Listing}
-use Rattle.xls_compound.specs.Compound.{Compound, Holds, mini_sectors, space_of, size_of}
-use Rattle.xls_compound.specs.Layout.{IsLinked, StandsIn, LiesIn, Fills, Named, IsLaid, IsLayout, IsFound}
+use Rattle.xls_compound.specs.Compound.{Compound, HoldsCompound, mini_sectors, space_of, size_of}
+use Rattle.xls_compound.specs.Layout.{IsLinked, StandsIn, LiesIn, Fills, NamedStream, IsLaid, IsLayout, IsFound}
 
 -- a sector's entry is what follows it
 next-entry : (space : Space) (sector then : ℕ) → sector < SPECIAL → slice_get space.entries sector ≡ Some then
@@ -102,7 +102,7 @@ module _ (sectors mini : Space) (listing : Listing) where
   abbrev whole : Compound
   whole = record { sectors = sectors; mini = mini; listing = listing }
 
-  one_found : (stream : Named) → IsLaid sectors mini listing stream → IsFound whole stream
+  one_found : (stream : NamedStream) → IsLaid sectors mini listing stream → IsFound whole stream
   one_found stream h =
       let size : size_of h.item ≡ h.item.size = ap (λ (b : Bool). cond b h.item.size 0) h.kind in
       let lies : LiesIn (space_of whole (size_of h.item)) h.item.start stream.bytes =
@@ -114,12 +114,12 @@ module _ (sectors mini : Space) (listing : Listing) where
         lies-of (space_of whole (size_of h.item)) h.item.start (size_of h.item) stream.bytes (sym h.size ∙ sym size) lies,
       )
 
-  pub all_found : (streams : List Named) → AllByRecursion (IsLaid sectors mini listing) streams → AllByRecursion (IsFound whole) streams
+  pub all_found : (streams : List NamedStream) → AllByRecursion (IsLaid sectors mini listing) streams → AllByRecursion (IsFound whole) streams
   all_found [] h = h
   all_found (stream ∷ streams) h = (one_found stream h.0, all_found streams h.1)
 
-pub laid_held : (file : List ℕ) (streams : List Named) → IsLayout file streams
-    → (compound : Compound) × Holds file compound × AllByRecursion (IsFound compound) streams
+pub laid_held : (file : List ℕ) (streams : List NamedStream) → IsLayout file streams
+    → (compound : Compound) × HoldsCompound file compound × AllByRecursion (IsFound compound) streams
 laid_held file streams h = (
   whole (sectors_of h.opened) (mini_sectors (u32s_of h.mini_fat) h.mini_stream) h.listing,
   record {

@@ -4,9 +4,9 @@ use Rattle.xls_bytes.specs.Numbers.{u32s_of}
 use Rattle.xls_sectors.specs.declared.error.SectorFault.{SectorFault}
 use Rattle.xls_sectors.specs.Laws.{OneAnswer, StreamsHaveOneAnswer, WholeChainsHaveOneAnswer, FilesHaveOneAnswer}
 use Rattle.xls_sectors.specs.Streams.{Space}
-use Rattle.xls_sectors.specs.Tables.{Opened, Opens, sectors_of}
+use Rattle.xls_sectors.specs.Tables.{Opened, OpensSectors, sectors_of}
 use Rattle.xls_directory.specs.Directory.{Listing, IsDirectory}
-use Rattle.xls_compound.specs.Compound.{Compound, Holds, DirectoryBytes, MiniFatBytes, MiniStream, mini_sectors, is_wide}
+use Rattle.xls_compound.specs.Compound.{Compound, HoldsCompound, DirectoryBytes, MiniFatBytes, MiniStream, mini_sectors, is_wide}
 
 -- one value where there is one answer
 one_ok : {X : Type 0} (Answers : Result X SectorFault → Type 0) (x y : X) → OneAnswer Answers → Answers (Ok x) → Answers (Ok y) → x ≡ y
@@ -17,9 +17,9 @@ compound sectors mini listing = record { sectors = sectors; mini = mini; listing
 
 pub one_held : FilesHaveOneAnswer → WholeChainsHaveOneAnswer → StreamsHaveOneAnswer
     → ((is_wide : Bool) (bytes : List ℕ) (l m : Listing) → IsDirectory is_wide bytes l → IsDirectory is_wide bytes m → l ≡ m)
-    → (file : List ℕ) (c d : Compound) → Holds file c → Holds file d → c ≡ d
+    → (file : List ℕ) (c d : Compound) → HoldsCompound file c → HoldsCompound file d → c ≡ d
 one_held files chains streams listings file c d h k =
-    let opened : h.opened ≡ k.opened = one_ok (Opens file) h.opened k.opened (files file) h.is_opened k.is_opened in
+    let opened : h.opened ≡ k.opened = one_ok (OpensSectors file) h.opened k.opened (files file) h.is_opened k.is_opened in
     let directory : h.directory ≡ k.directory = one_ok (DirectoryBytes k.opened) h.directory k.directory
     (chains (sectors_of k.opened) k.opened.header.first_directory)
     (subst (λ (o : Opened). DirectoryBytes o (Ok h.directory)) opened h.is_directory) k.is_directory in

@@ -6,12 +6,12 @@ use Rattle.std.specs.Char.Utf16.{utf16_chars}
 use Rattle.xls_bytes.specs.Numbers.{u32s_of}
 use Rattle.xls_sectors.specs.Header.{header_of, header_fields}
 use Rattle.xls_sectors.specs.Streams.{gathered, WholeChain}
-use Rattle.xls_sectors.specs.Tables.{Opened, Opens, fat_numbers, sectors_of}
-use Rattle.xls_directory.specs.Entries.{Entry, entries_of, entry_of}
+use Rattle.xls_sectors.specs.Tables.{Opened, OpensSectors, fat_numbers, sectors_of}
+use Rattle.xls_directory.specs.Entries.{DirectoryEntry, entries_of, directory_entry_of}
 use Rattle.xls_directory.specs.Tree.{empty, node}
-use Rattle.xls_directory.specs.Items.{Item}
+use Rattle.xls_directory.specs.Items.{DirectoryItem}
 use Rattle.xls_directory.specs.Directory.{Listing, IsDirectory}
-use Rattle.xls_compound.specs.Compound.{Compound, Holds, mini_sectors, ItemBytes}
+use Rattle.xls_compound.specs.Compound.{Compound, HoldsCompound, mini_sectors, ItemBytes}
 
 -- a number of 32 bits, the lowest byte first
 abbrev four : ℕ → List ℕ
@@ -60,7 +60,7 @@ opened = record {
   fat = 0xFFFFFFFC ∷ 0xFFFFFFFD ∷ 0xFFFFFFFE ∷ 0xFFFFFFFE ∷ 0xFFFFFFFE ∷ 6 ∷ 7 ∷ 8 ∷ 9 ∷ 10 ∷ 11 ∷ 12 ∷ 0xFFFFFFFE ∷ [];
 }
 
-pub opened_is : Opens file (Ok opened)
+pub opened_is : OpensSectors file (Ok opened)
 unfolding header_of header_fields fat_numbers
 opened_is = (Ok (1 ∷ []), inl (0 ∷ [], (0xFFFFFFFE, record { path = (refl, (0xFFFFFFFE, refl, refl)); stop = refl }, refl)), refl)
 
@@ -68,14 +68,14 @@ pub directory_is : WholeChain (sectors_of opened) 2 (Ok directory)
 unfolding gathered
 directory_is = inl (2 ∷ [], (0xFFFFFFFE, record { path = (refl, (0xFFFFFFFE, refl, refl)); stop = refl }, refl))
 
-abbrev item : ℕ → ℕ → ℕ → Item
+abbrev item : ℕ → ℕ → ℕ → DirectoryItem
 item letter start size = record { name = letter ∷ []; is_stream = true; parent = None; start = start; size = size }
 
 abbrev listing : Listing
 listing = record { mini_start = 4; mini_size = 64; items = item 0x4C 5 4096 ∷ item 0x73 0 3 ∷ [] }
 
-abbrev field_entry : ℕ → ℕ → ℕ → ℕ → ℕ → ℕ → ℕ → Entry
-field_entry letter kind left right child start size = entry_of false (entry letter kind left right child start size)
+abbrev field_entry : ℕ → ℕ → ℕ → ℕ → ℕ → ℕ → ℕ → DirectoryEntry
+field_entry letter kind left right child start size = directory_entry_of false (entry letter kind left right child start size)
 
 pub listing_is : IsDirectory false directory listing
 unfolding entries_of utf16_chars lib.Utf8.encode
@@ -99,7 +99,7 @@ compound = record {
   listing = listing;
 }
 
-pub held : Holds file compound
+pub held : HoldsCompound file compound
 unfolding gathered
 held = record {
   opened = opened;
@@ -151,7 +151,7 @@ opened_4 = record {
   fat = 0xFFFFFFFD ∷ 0xFFFFFFFE ∷ 0xFFFFFFFE ∷ [];
 }
 
-pub opened_is_4 : Opens (header_4 ++ area_4) (Ok opened_4)
+pub opened_is_4 : OpensSectors (header_4 ++ area_4) (Ok opened_4)
 unfolding header_of header_fields fat_numbers
 opened_is_4 = (Ok (0 ∷ []), inl ([], (0xFFFFFFFE, record { path = refl; stop = refl }, refl)), refl)
 
@@ -162,7 +162,7 @@ compound_4 = record {
   listing = record { mini_start = 0xFFFFFFFE; mini_size = 0; items = item 0x4C 2 4096 ∷ [] };
 }
 
-pub held_4 : Holds (header_4 ++ area_4) compound_4
+pub held_4 : HoldsCompound (header_4 ++ area_4) compound_4
 unfolding gathered entries_of utf16_chars lib.Utf8.encode
 held_4 = record {
   opened = opened_4;
@@ -171,9 +171,9 @@ held_4 = record {
   directory = directory_4;
   is_directory = inl (1 ∷ [], (0xFFFFFFFE, record { path = (refl, (0xFFFFFFFE, refl, refl)); stop = refl }, refl));
   is_listing = record {
-    root = entry_of true (entry 0x52 5 0xFFFFFFFF 0xFFFFFFFF 1 0xFFFFFFFE 0);
+    root = directory_entry_of true (entry 0x52 5 0xFFFFFFFF 0xFFFFFFFF 1 0xFFFFFFFE 0);
     is_root = refl;
-    tree = node 1 (entry_of true (entry 0x4C 2 0xFFFFFFFF 0xFFFFFFFF 0xFFFFFFFF 2 4096)) empty empty empty;
+    tree = node 1 (directory_entry_of true (entry 0x4C 2 0xFFFFFFFF 0xFFFFFFFF 0xFFFFFFFF 2 4096)) empty empty empty;
     is_tree = (refl, omega arith, refl, refl, refl, refl);
     start = refl;
     size = refl;

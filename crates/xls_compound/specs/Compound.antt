@@ -8,9 +8,9 @@ use Rattle.xls_sectors.specs.declared.error.Table.TheVariants as tables
 use Rattle.xls_sectors.specs.declared.header.Header.{Header}
 use Rattle.xls_sectors.specs.Streams.{Space, next_in, IsAdjacent, Stream, WholeChain}
 use Rattle.xls_sectors.specs.Chains.{Stops}
-use Rattle.xls_sectors.specs.Tables.{Opened, Opens, sectors_of}
-use Rattle.xls_directory.specs.Items.{Item}
-use Rattle.xls_directory.specs.Directory.{Listing, IsDirectory, IsFault}
+use Rattle.xls_sectors.specs.Tables.{Opened, OpensSectors, sectors_of}
+use Rattle.xls_directory.specs.Items.{DirectoryItem}
+use Rattle.xls_directory.specs.Directory.{Listing, IsDirectory, IsDirectoryFault}
 use Rattle.xls_compound.specs.declared.error.CompoundError.{CompoundError}
 use Rattle.xls_compound.specs.declared.error.CompoundError.TheVariants as errors
 
@@ -54,9 +54,9 @@ abbrev pub MiniStream : Opened → Listing → Result (List ℕ) SectorFault →
 MiniStream opened listing = Stream (sectors_of opened) listing.mini_start listing.mini_size
 
 -- the header and the FAT, the directory, the mini FAT and the mini stream
-pub record Holds (file : List ℕ) (compound : Compound) : Type 0 where
+pub record HoldsCompound (file : List ℕ) (compound : Compound) : Type 0 where
   pub opened : Opened
-  pub is_opened : Opens file (Ok opened)
+  pub is_opened : OpensSectors file (Ok opened)
   pub sectors : compound.sectors ≡ sectors_of opened
   pub directory : List ℕ
   pub is_directory : DirectoryBytes opened (Ok directory)
@@ -69,7 +69,7 @@ pub record Holds (file : List ℕ) (compound : Compound) : Type 0 where
 
 -- what is read before the mini FAT
 pub record HoldsListing (file : List ℕ) (opened : Opened) (listing : Listing) : Type 0 where
-  pub is_opened : Opens file (Ok opened)
+  pub is_opened : OpensSectors file (Ok opened)
   pub directory : List ℕ
   pub is_directory : DirectoryBytes opened (Ok directory)
   pub is_listing : IsDirectory (is_wide opened.header) directory listing
@@ -79,12 +79,12 @@ pub record HoldsListing (file : List ℕ) (opened : Opened) (listing : Listing) 
 -- ran out
 abbrev pub Refuses : List ℕ → CompoundError → Type 0
 Refuses file errors.Memory = Unit {0}
-Refuses file (errors.Tables fault) = Opens file (Err fault)
+Refuses file (errors.Tables fault) = OpensSectors file (Err fault)
 Refuses file (errors.DirectoryChain fault) =
-    (opened : Opened) × Opens file (Ok opened) × DirectoryBytes opened (Err fault)
+    (opened : Opened) × OpensSectors file (Ok opened) × DirectoryBytes opened (Err fault)
 Refuses file (errors.Directory fault) =
-    (opened : Opened) × (directory : List ℕ) × Opens file (Ok opened) × DirectoryBytes opened (Ok directory)
-    × IsFault (is_wide opened.header) directory fault
+    (opened : Opened) × (directory : List ℕ) × OpensSectors file (Ok opened) × DirectoryBytes opened (Ok directory)
+    × IsDirectoryFault (is_wide opened.header) directory fault
 Refuses file (errors.MiniFat fault) =
     (opened : Opened) × (listing : Listing) × HoldsListing file opened listing × MiniFatBytes opened (Err fault)
 Refuses file (errors.MiniStream fault) =
@@ -99,22 +99,22 @@ abbrev pub space_of : Compound → ℕ → Space
 space_of compound size = if nat_lt size CUTOFF then compound.mini else compound.sectors
 
 -- a storage has no bytes
-abbrev pub size_of : Item → ℕ
+abbrev pub size_of : DirectoryItem → ℕ
 size_of item = if item.is_stream then item.size else 0
 
 -- the bytes of an item, so many as its size says, or the first fault of its chain
-abbrev pub ItemBytes : Compound → Item → Result (List ℕ) SectorFault → Type 0
+abbrev pub ItemBytes : Compound → DirectoryItem → Result (List ℕ) SectorFault → Type 0
 ItemBytes compound item = Stream (space_of compound (size_of item)) item.start (size_of item)
 
 -- the sectors that an item's bytes need follow one another
-pub record LiesAdjacent (compound : Compound) (item : Item) : Type 0 where
+pub record LiesAdjacent (compound : Compound) (item : DirectoryItem) : Type 0 where
   pub sectors : List ℕ
   pub after : ℕ
   pub stops : Stops (next_in (space_of compound (size_of item))) item.start sectors after
   pub adjacent : IsAdjacent (space_of compound (size_of item)) (size_of item) sectors
 
 -- why an item's bytes are refused, with its name
-abbrev pub RefusesItem : Compound → Item → CompoundError → Type 0
+abbrev pub RefusesItem : Compound → DirectoryItem → CompoundError → Type 0
 RefusesItem compound item errors.Memory = Unit {0}
 RefusesItem compound item (errors.Stream name fault) =
     (string_bytes name ≡ item.name) × ItemBytes compound item (Err fault)

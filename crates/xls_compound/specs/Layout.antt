@@ -5,10 +5,10 @@ use Rattle.std.specs.List.{position, AllByRecursion}
 use Rattle.xls_bytes.specs.Numbers.{u32s_of}
 use Rattle.xls_sectors.specs.Header.{SPECIAL, END_OF_CHAIN}
 use Rattle.xls_sectors.specs.Streams.{Space, sector_at, chain_size}
-use Rattle.xls_sectors.specs.Tables.{Opened, Opens, sectors_of}
-use Rattle.xls_directory.specs.Items.{Item, is_child, find_from}
+use Rattle.xls_sectors.specs.Tables.{Opened, OpensSectors, sectors_of}
+use Rattle.xls_directory.specs.Items.{DirectoryItem, is_child, find_from}
 use Rattle.xls_directory.specs.Directory.{Listing, IsDirectory}
-use Rattle.xls_compound.specs.Compound.{Compound, Holds, is_wide, mini_sectors, space_of, ItemBytes}
+use Rattle.xls_compound.specs.Compound.{Compound, HoldsCompound, is_wide, mini_sectors, space_of, ItemBytes}
 
 -- the table leads from a number over these sectors to FFFFFFFE
 abbrev pub IsLinked : Space → ℕ → List ℕ → Type 0
@@ -37,15 +37,15 @@ pub record Fills (space : Space) (first : ℕ) (bytes : List ℕ) : Type 0 where
   pub all : length bytes ≡ chain_size space sectors
 
 -- a stream in the root
-pub record Named : Type 0 where
+pub record NamedStream : Type 0 where
   -- in UTF-8
   pub name : List ℕ
   pub bytes : List ℕ
 
 -- a directory lists a stream in the root, the first of its name, and its bytes lie in a chain
-pub record IsLaid (sectors mini : Space) (listing : Listing) (stream : Named) : Type 0 where
+pub record IsLaid (sectors mini : Space) (listing : Listing) (stream : NamedStream) : Type 0 where
   pub place : ℕ
-  pub item : Item
+  pub item : DirectoryItem
   pub is_first : position (is_child None stream.name) listing.items ≡ Some place
   pub is_item : slice_get listing.items place ≡ Some item
   pub kind : item.is_stream ≡ true
@@ -54,9 +54,9 @@ pub record IsLaid (sectors mini : Space) (listing : Listing) (stream : Named) : 
 
 -- a file in which these streams are laid out: its header and FAT; its directory, its mini FAT and its
 -- mini stream in chains of sectors; and each stream
-pub record IsLayout (file : List ℕ) (streams : List Named) : Type 0 where
+pub record IsLayout (file : List ℕ) (streams : List NamedStream) : Type 0 where
   pub opened : Opened
-  pub is_opened : Opens file (Ok opened)
+  pub is_opened : OpensSectors file (Ok opened)
   pub directory : List ℕ
   pub directory_fills : Fills (sectors_of opened) opened.header.first_directory directory
   pub listing : Listing
@@ -69,12 +69,12 @@ pub record IsLayout (file : List ℕ) (streams : List Named) : Type 0 where
   pub streams_laid : AllByRecursion (IsLaid (sectors_of opened) (mini_sectors (u32s_of mini_fat) mini_stream) listing) streams
 
 -- the stream is found by its name, and has its bytes
-abbrev pub IsFound : Compound → Named → Type 0
-IsFound compound stream = (place : ℕ) × (item : Item)
+abbrev pub IsFound : Compound → NamedStream → Type 0
+IsFound compound stream = (place : ℕ) × (item : DirectoryItem)
     × (find_from compound.listing.items None (stream.name ∷ []) ≡ Some place)
     × (slice_get compound.listing.items place ≡ Some item) × ItemBytes compound item (Ok stream.bytes)
 
 -- a file that is laid out is opened, and each stream found is the one that was laid
 abbrev pub LaidIsFound : Type 0
-LaidIsFound = (file : List ℕ) (streams : List Named) → IsLayout file streams
-    → (compound : Compound) × Holds file compound × AllByRecursion (IsFound compound) streams
+LaidIsFound = (file : List ℕ) (streams : List NamedStream) → IsLayout file streams
+    → (compound : Compound) × HoldsCompound file compound × AllByRecursion (IsFound compound) streams

@@ -5,11 +5,11 @@ ghost use Rattle.std.specs.Cow.{cow_slice_items, IsBorrowedSlice};
 ghost use Rattle.std.specs.Option.{option_map};
 ghost use Rattle.xls_bytes.specs.Numbers.{u32s_of};
 ghost use Rattle.xls_directory.specs.Items as items;
-ghost use Rattle.xls_directory.specs.Items.{Item};
+ghost use Rattle.xls_directory.specs.Items.{DirectoryItem};
 ghost use Rattle.xls_directory.specs.Directory.{Listing, IsDirectory};
 ghost use Rattle.xls_compound.specs.declared.error.CompoundError.TheVariants.{Memory};
-ghost use Rattle.xls_sectors.specs.Tables.{Opens};
-ghost use Rattle.xls_compound.specs.Compound.{Holds, HoldsListing, Refuses, is_wide, DirectoryBytes, MiniFatBytes, MiniStream, space_of, size_of, ItemBytes, LiesAdjacent, RefusesItem};
+ghost use Rattle.xls_sectors.specs.Tables.{OpensSectors};
+ghost use Rattle.xls_compound.specs.Compound.{HoldsCompound, HoldsListing, Refuses, is_wide, DirectoryBytes, MiniFatBytes, MiniStream, space_of, size_of, ItemBytes, LiesAdjacent, RefusesItem};
 ghost use Rattle.xls_compound.specs.Entries.{entry_at, entries_from, IsItem};
 
 use crate::entry::{Entries, Entry};
@@ -53,7 +53,7 @@ impl<'a> Model for Compound<'a> {
 
 // The header and the FAT of a file.
 fn open_tables(alloc: Global, file: &[u8]) -> Result<Sectors<'_>, CompoundError>
-    ensures ok { IfOk result (λ sectors. Opens file.now (Ok sectors)) }
+    ensures ok { IfOk result (λ sectors. OpensSectors file.now (Ok sectors)) }
     ensures err { IfErr result (Refuses file.now) }
 {
     match Sectors::open(alloc, file) {
@@ -65,9 +65,9 @@ fn open_tables(alloc: Global, file: &[u8]) -> Result<Sectors<'_>, CompoundError>
 
 // What the directory of a file lists.
 fn read_directory(alloc: Global, sectors: &Sectors<'_>) -> Result<Directory, CompoundError>
-    ensures ok { IfOk result (λ listing. (file : List ℕ) → Opens file (Ok sectors.now)
+    ensures ok { IfOk result (λ listing. (file : List ℕ) → OpensSectors file (Ok sectors.now)
         → HoldsListing file sectors.now listing) }
-    ensures err { IfErr result (λ e. (file : List ℕ) → Opens file (Ok sectors.now) → Refuses file e) }
+    ensures err { IfErr result (λ e. (file : List ℕ) → OpensSectors file (Ok sectors.now) → Refuses file e) }
 {
     let header = sectors.header();
     let bytes = match sectors.chain(alloc, header.first_directory) {
@@ -132,7 +132,7 @@ impl<'a> Compound<'a> {
     /// the mini FAT's chain, of the mini stream's. The memory is that of the FAT, of what is listed, of
     /// the mini FAT, and of a mini stream whose sectors don't follow one another.
     pub fn open(alloc: Global, file: &'a [u8]) -> Result<Compound<'a>, CompoundError>
-        ensures ok { IfOk result (Holds file.now) }
+        ensures ok { IfOk result (HoldsCompound file.now) }
         ensures err { IfErr result (Refuses file.now) }
     {
         let sectors = open_tables(alloc, file)?;
@@ -201,14 +201,14 @@ impl<'a> Compound<'a> {
         alloc: Global,
         entry: &Entry<'_>,
     ) -> Result<CowSlice<'_, u8>, CompoundError>
-        ensures ok { IfOk result (λ bytes. (item : Item) → IsItem entry.now item
+        ensures ok { IfOk result (λ bytes. (item : DirectoryItem) → IsItem entry.now item
             → ItemBytes self.now item (Ok (cow_slice_items bytes))) }
-        ensures whole { IfOk result (λ bytes. (item : Item) → IsItem entry.now item
+        ensures whole { IfOk result (λ bytes. (item : DirectoryItem) → IsItem entry.now item
             → length (cow_slice_items bytes) ≡ size_of item) }
-        ensures err { IfErr result (λ e. (item : Item) → IsItem entry.now item → RefusesItem self.now item e) }
+        ensures err { IfErr result (λ e. (item : DirectoryItem) → IsItem entry.now item → RefusesItem self.now item e) }
 
         // Nothing is copied where the sectors follow one another.
-        ensures borrowed { (item : Item) → IsItem entry.now item → LiesAdjacent self.now item → IfOk result IsBorrowedSlice }
+        ensures borrowed { (item : DirectoryItem) → IsItem entry.now item → LiesAdjacent self.now item → IfOk result IsBorrowedSlice }
     {
         let size = if entry.is_stream() { entry.size() } else { 0 };
         let bytes = if size < CUTOFF {

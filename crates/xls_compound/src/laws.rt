@@ -1,7 +1,7 @@
 //! Laws of the definitions.
 
 ghost use Rattle.std.specs.Prelude.{◌≡◌, ℕ, List};
-ghost use Rattle.xls_compound.specs.Compound.{Compound, Holds};
+ghost use Rattle.xls_compound.specs.Compound.{Compound, HoldsCompound};
 ghost use Rattle.xls_compound.specs.Layout.{LaidIsFound};
 
 use xls_directory::one_listing;
@@ -9,7 +9,7 @@ use xls_sectors::one_answer;
 
 /// A file holds at most one compound.
 pub fn one_compound()
-    ensures { (file : List ℕ) (c d : Compound) → Holds file c → Holds file d → c ≡ d }
+    ensures { (file : List ℕ) (c d : Compound) → HoldsCompound file c → HoldsCompound file d → c ≡ d }
 {
     one_answer();
     one_listing();

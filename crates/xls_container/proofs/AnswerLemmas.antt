@@ -5,17 +5,17 @@ use Rattle.xls_bytes.specs.Numbers.{u32s_of}
 use Rattle.xls_sectors.specs.declared.error.SectorFault.{SectorFault}
 use Rattle.xls_sectors.specs.Errors as sectors
 use Rattle.xls_sectors.specs.Laws.{StreamsHaveOneAnswer, WholeChainsHaveOneAnswer, FilesHaveOneAnswer}
-use Rattle.xls_sectors.specs.Tables.{Opened, Opens as OpensTables, sectors_of}
+use Rattle.xls_sectors.specs.Tables.{Opened, OpensContainer as OpensTables, sectors_of}
 use Rattle.xls_directory.specs.declared.fault.DirectoryFault.{DirectoryFault}
-use Rattle.xls_directory.specs.Items.{Item, workbook}
-use Rattle.xls_directory.specs.Directory.{Listing, IsDirectory, IsFault}
-use Rattle.xls_compound.specs.Compound.{Compound, Holds, Refuses, ItemBytes, RefusesItem, DirectoryBytes, MiniFatBytes, MiniStream, mini_sectors, is_wide, space_of, size_of}
+use Rattle.xls_directory.specs.Items.{DirectoryItem, workbook}
+use Rattle.xls_directory.specs.Directory.{Listing, IsDirectory, IsDirectoryFault}
+use Rattle.xls_compound.specs.Compound.{Compound, HoldsCompound, Refuses, ItemBytes, RefusesItem, DirectoryBytes, MiniFatBytes, MiniStream, mini_sectors, is_wide, space_of, size_of}
 use Rattle.xls_compound.specs.declared.error.CompoundError.{CompoundError}
 use Rattle.xls_compound.specs.declared.error.CompoundError.TheVariants as errors
 use Rattle.xls_container.specs.declared.fault.FileFault.{FileFault}
 use Rattle.xls_container.specs.declared.fault.FileFault.TheVariants as faults
 use Rattle.xls_container.specs.Kinds.{is_compound, is_bare, kind_of}
-use Rattle.xls_container.specs.Files.{Container, compound_file, bare_stream, Opens, IsWorkbookItem, HasWorkbook, WorkbookBytes, RefusesToOpen, RefusesWorkbook, RefusesFile}
+use Rattle.xls_container.specs.Files.{Container, compound_file, bare_stream, OpensContainer, IsWorkbookItem, HasWorkbook, WorkbookBytes, RefusesToOpen, RefusesWorkbook, RefusesFile}
 use Rattle.xls_container.specs.Laws.{HasOneAnswer}
 use Rattle.xls_container.specs.Texts.{fault_text}
 use Rattle.xls_container.proofs.StepLemmas.{IsUnique, Seen, Then, seen_once, once_then}
@@ -37,7 +37,7 @@ Chain opened = Seen (λ bytes. bytes) (λ fault. damage (errors.DirectoryChain f
 
 abbrev Lists : Bool → List ℕ → Result Listing DirectoryFault → Type 0
 Lists is_wide bytes (Ok listing) = IsDirectory is_wide bytes listing
-Lists is_wide bytes (Err fault) = IsFault is_wide bytes fault
+Lists is_wide bytes (Err fault) = IsDirectoryFault is_wide bytes fault
 
 abbrev Directory : Opened → List ℕ → Result Listing Text → Type 0
 Directory opened bytes = Seen (λ listing. listing) (λ fault. damage (errors.Directory fault)) (Lists (is_wide opened.header) bytes)
@@ -68,15 +68,15 @@ AfterTables opened = Then (Chain opened) (AfterChain opened)
 abbrev Whole : List ℕ → Result Compound Text → Type 0
 Whole file = Then (Tables file) AfterTables
 
-abbrev Found : Compound → Result Item Text → Type 0
+abbrev Found : Compound → Result DirectoryItem Text → Type 0
 Found compound (Ok item) = IsWorkbookItem compound item
 Found compound (Err text) = (workbook compound.listing.items ≡ None) × (text ≡ fault_text faults.NoWorkbook)
 
-abbrev stream_damage : Item → SectorFault → Text
+abbrev stream_damage : DirectoryItem → SectorFault → Text
 stream_damage item fault =
     codes "a damaged compound file: " ++ (codes "Stream " ++ (item.name ++ (codes ": " ++ sectors.fault_text fault)))
 
-abbrev Bytes : Compound → Item → Result (List ℕ) Text → Type 0
+abbrev Bytes : Compound → DirectoryItem → Result (List ℕ) Text → Type 0
 Bytes compound item = Seen (λ bytes. bytes) (stream_damage item) (ItemBytes compound item)
 
 abbrev Workbook : Compound → Result (List ℕ) Text → Type 0
@@ -94,10 +94,10 @@ abbrev pub OneListing : Type 0
 OneListing = (is_wide : Bool) (bytes : List ℕ) (l m : Listing) → IsDirectory is_wide bytes l → IsDirectory is_wide bytes m → l ≡ m
 
 abbrev pub OneFault : Type 0
-OneFault = (is_wide : Bool) (bytes : List ℕ) (e f : DirectoryFault) → IsFault is_wide bytes e → IsFault is_wide bytes f → e ≡ f
+OneFault = (is_wide : Bool) (bytes : List ℕ) (e f : DirectoryFault) → IsDirectoryFault is_wide bytes e → IsDirectoryFault is_wide bytes f → e ≡ f
 
 abbrev pub NeverBoth : Type 0
-NeverBoth = (is_wide : Bool) (bytes : List ℕ) (l : Listing) (e : DirectoryFault) → IsDirectory is_wide bytes l → IsFault is_wide bytes e → ⊥
+NeverBoth = (is_wide : Bool) (bytes : List ℕ) (l : Listing) (e : DirectoryFault) → IsDirectory is_wide bytes l → IsDirectoryFault is_wide bytes e → ⊥
 
 found_once : (compound : Compound) → IsUnique (Found compound)
 found_once compound (Ok item) (Ok other) h k = ap (λ x. Ok x) (one_item compound item other h k)
@@ -142,7 +142,7 @@ module _ (files : FilesHaveOneAnswer) (chains : WholeChainsHaveOneAnswer) (strea
   whole_once : (file : List ℕ) → IsUnique (Whole file)
   whole_once file = once_then (Tables file) AfterTables (tables_once file) after_tables_once
 
-  bytes_once : (compound : Compound) (item : Item) → IsUnique (Bytes compound item)
+  bytes_once : (compound : Compound) (item : DirectoryItem) → IsUnique (Bytes compound item)
   bytes_once compound item =
       seen_once _ _ (ItemBytes compound item) (streams (space_of compound (size_of item)) item.start (size_of item)).same
 
@@ -156,9 +156,9 @@ module _ (files : FilesHaveOneAnswer) (chains : WholeChainsHaveOneAnswer) (strea
 
 -- ---- what the definitions say is such an answer
 
-whole_ok : (file : List ℕ) (c : Compound) → Holds file c → Whole file (Ok c)
+whole_ok : (file : List ℕ) (c : Compound) → HoldsCompound file c → Whole file (Ok c)
 whole_ok file c h =
-    let made : c ≡ compound_of h.opened c.listing h.mini_fat h.mini_stream =
+    let built : c ≡ compound_of h.opened c.listing h.mini_fat h.mini_stream =
     ap (λ s. record { sectors = s; mini = c.mini; listing = c.listing }) h.sectors
     ∙ ap (λ s. record { sectors = sectors_of h.opened; mini = s; listing = c.listing }) h.mini in
     inr (
@@ -173,7 +173,7 @@ whole_ok file c h =
           inr (
             h.mini_fat,
             inl (h.mini_fat, h.is_mini_fat, refl),
-            inl (h.mini_stream, h.is_mini_stream, ap (λ x. Ok x) made),
+            inl (h.mini_stream, h.is_mini_stream, ap (λ x. Ok x) built),
           ),
         ),
       ),
@@ -212,7 +212,7 @@ not_both : {x : Bool} → x ≡ true → x ≡ false → ⊥
 not_both is isnt = absurd (let e : true ≡ false = sym is ∙ isnt in cc e)
 
 answers_ok : (compound bare : Bool) (file bytes : List ℕ) → is_compound file ≡ compound → is_bare file ≡ bare
-    → (container : Container) → Opens file container → HasWorkbook container bytes → Answers compound bare file (Ok bytes)
+    → (container : Container) → OpensContainer file container → HasWorkbook container bytes → Answers compound bare file (Ok bytes)
 answers_ok true bare file bytes is isnt (compound_file c) (same, holds) (item, found, h) =
     inr (c, whole_ok file c holds, inr (item, found, inl (bytes, h, refl)))
 answers_ok false bare file bytes is isnt (compound_file c) (same, holds) h = absurd (not_both same is)
@@ -220,12 +220,12 @@ answers_ok true bare file bytes is isnt (bare_stream stream) (same, starts, e) h
 answers_ok false false file bytes is isnt (bare_stream stream) (same, starts, e) h = absurd (not_both starts isnt)
 answers_ok false true file bytes is isnt (bare_stream stream) (same, starts, e) h = ap (λ x. Ok x) (h ∙ e)
 
-stream_text : (item : Item) (name : _) (fault : SectorFault) → string_bytes name ≡ item.name
+stream_text : (item : DirectoryItem) (name : _) (fault : SectorFault) → string_bytes name ≡ item.name
     → damage (errors.Stream name fault) ≡ stream_damage item fault
 stream_text item name fault named =
     ap (λ x. codes "a damaged compound file: " ++ (codes "Stream " ++ (x ++ (codes ": " ++ sectors.fault_text fault)))) named
 
-workbook_err : (c : Compound) (item : Item) → IsWorkbookItem c item → (error : CompoundError) → error ≢ errors.Memory
+workbook_err : (c : Compound) (item : DirectoryItem) → IsWorkbookItem c item → (error : CompoundError) → error ≢ errors.Memory
     → RefusesItem c item error → Workbook c (Err (damage error))
 workbook_err c item found errors.Memory some h = absurd (some refl)
 workbook_err c item found (errors.Stream name fault) some (named, h) =
@@ -241,15 +241,15 @@ to_open : (compound bare : Bool) (file : List ℕ) → is_compound file ≡ comp
 to_open true bare file is isnt (faults.Kind kind) some (other, another, h) = absurd (not_both is other)
 to_open false true file is isnt (faults.Kind kind) some (other, another, h) = absurd (not_both isnt another)
 to_open false false file is isnt (faults.Kind kind) some (other, another, h) = ap (λ x. Err (fault_text (faults.Kind x))) h
-to_open true bare file is isnt (faults.Compound error) some (same, told, h) = inl (_, whole_err file error told h, refl)
-to_open false bare file is isnt (faults.Compound error) some (same, told, h) = absurd (not_both same is)
+to_open true bare file is isnt (faults.Compound error) some (same, reported, h) = inl (_, whole_err file error reported h, refl)
+to_open false bare file is isnt (faults.Compound error) some (same, reported, h) = absurd (not_both same is)
 to_open compound bare file is isnt faults.NoWorkbook some h = absurd h
 to_open compound bare file is isnt faults.Memory some h = absurd (some refl)
 
 in_compound : (c : Compound) (fault : FileFault) → fault ≢ faults.Memory → RefusesWorkbook (compound_file c) fault
     → Workbook c (Err (fault_text fault))
 in_compound c faults.NoWorkbook some h = inl (_, (h, refl), refl)
-in_compound c (faults.Compound error) some (item, found, told, h) = workbook_err c item found error told h
+in_compound c (faults.Compound error) some (item, found, reported, h) = workbook_err c item found error reported h
 in_compound c faults.Memory some h = absurd (some refl)
 in_compound c (faults.Kind kind) some h = absurd h
 
@@ -260,7 +260,7 @@ in_bare stream (faults.Compound error) some h = h
 in_bare stream faults.NoWorkbook some h = h
 
 opened_err : (compound bare : Bool) (file : List ℕ) → is_compound file ≡ compound → is_bare file ≡ bare
-    → (fault : FileFault) → fault ≢ faults.Memory → (container : Container) → Opens file container
+    → (fault : FileFault) → fault ≢ faults.Memory → (container : Container) → OpensContainer file container
     → RefusesWorkbook container fault → Answers compound bare file (Err (fault_text fault))
 opened_err true bare file is isnt fault some (compound_file c) (same, holds) h =
     inr (c, whole_ok file c holds, in_compound c fault some h)

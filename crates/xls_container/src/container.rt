@@ -5,7 +5,7 @@ ghost use Rattle.std.specs.Cow.{cow_slice_items, IsBorrowedSlice};
 ghost use Rattle.std.specs.Option.{option_map};
 ghost use Rattle.xls_container.specs.Kinds.{is_compound};
 ghost use Rattle.xls_container.specs.Contents.{container_of};
-ghost use Rattle.xls_container.specs.Files.{compound_file, Opens, RefusesToOpen, compound_in, HasWorkbook, RefusesWorkbook, LiesTogether};
+ghost use Rattle.xls_container.specs.Files.{compound_file, OpensContainer, RefusesToOpen, compound_in, HasWorkbook, RefusesWorkbook, LiesTogether};
 
 use crate::fault::FileFault;
 use crate::kind::{is_bare, is_compound, kind_of};
@@ -40,7 +40,7 @@ impl<'a> Model for Container<'a> {
 // Opens a compound file.
 fn open_compound(alloc: Global, file: &[u8]) -> Result<Content<'_>, FileFault>
     requires { is_compound file.now ≡ true }
-    ensures ok { IfOk result (λ content. Opens file.now (container_of content)) }
+    ensures ok { IfOk result (λ content. OpensContainer file.now (container_of content)) }
     ensures err { IfErr result (RefusesToOpen file.now) }
 {
     Ok(Content::CompoundFile(Compound::open(alloc, file)?))
@@ -48,7 +48,7 @@ fn open_compound(alloc: Global, file: &[u8]) -> Result<Content<'_>, FileFault>
 
 // What a file holds.
 fn content_of(alloc: Global, file: &[u8]) -> Result<Content<'_>, FileFault>
-    ensures ok { IfOk result (λ content. Opens file.now (container_of content)) }
+    ensures ok { IfOk result (λ content. OpensContainer file.now (container_of content)) }
     ensures err { IfErr result (RefusesToOpen file.now) }
 {
     if is_compound(file) {
@@ -77,7 +77,7 @@ impl<'a> Container<'a> {
     /// where it begins with a BOF 0809; every other file is refused with its kind (`Kind`), and a damaged
     /// compound file with its first fault (`Compound`). A workbook's stream takes no memory.
     pub fn open(alloc: Global, file: &'a [u8]) -> Result<Container<'a>, FileFault>
-        ensures ok { IfOk result (Opens file.now) }
+        ensures ok { IfOk result (OpensContainer file.now) }
         ensures err { IfErr result (RefusesToOpen file.now) }
     {
         let content = content_of(alloc, file)?;

@@ -15,7 +15,7 @@ use Rattle.xls_dates.specs.declared.dates.ExcelDateTimeType.TheVariants as kind
 use Rattle.xls_dates.specs.declared.numbers.Number.{Number}
 use Rattle.xls_dates.specs.declared.numbers.Number.TheVariants.{Bits, Whole, Hundredths, BitsOver100}
 use Rattle.xls_csv.specs.Dates.{Ymd, date_text, day_of, digit, serial_date}
-use Rattle.xls_csv.specs.Fields.{field, shown_date}
+use Rattle.xls_csv.specs.Fields.{field, displayed_date}
 
 -- no byte of a text calls for quotes
 abbrev pub IsBare : List ℕ → Type 0
@@ -134,12 +134,12 @@ bare_date d =
     (two_digits d.0 (45 ∷ month) (bare-cons 45 month (omega arith)
     (two_digits d.1 (45 ∷ day) (bare-cons 45 day (omega arith) (two_digits d.2 [] refl))))))
 
-bare_shown : (d : DateParts) (day : Option ℕ) → IsBare (shown_date d day)
-bare_shown d (Some day) = bare_date (serial_date d.is_1904 day)
-bare_shown d None = bare_number d.number
+bare_displayed : (d : DateParts) (day : Option ℕ) → IsBare (displayed_date d day)
+bare_displayed d (Some day) = bare_date (serial_date d.is_1904 day)
+bare_displayed d None = bare_number d.number
 
-bare_moment : (d : DateParts) → IsBare (shown_date d (day_of d))
-bare_moment d = bare_shown d (day_of d)
+bare_moment : (d : DateParts) → IsBare (displayed_date d (day_of d))
+bare_moment d = bare_displayed d (day_of d)
 
 -- ---- values
 

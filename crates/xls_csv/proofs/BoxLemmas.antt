@@ -16,10 +16,10 @@ use Rattle.xls_range.specs.Grid.{Grid, IsRange, IsIn, IsCopyOf, Shows, cell_at}
 use Rattle.xls_range.specs.Lists.{rows_of}
 use Rattle.xls_range.specs.Sparse.{last_at, IsLeast, IsGreatest, AreCorners, IsDense}
 use Rattle.xls_range.proofs.CellLemmas.{cell_at-IsIn}
-use Rattle.xls_biff.specs.Cells.{Entry, Position, entry_of}
+use Rattle.xls_biff.specs.Cells.{CellEntry, Position, cell_entry_of}
 use Rattle.xls_csv.specs.Text.{contents_of}
 use Rattle.xls_range.specs.Bounds.{least, greatest, rows_at, columns_at}
-use Rattle.xls_csv.specs.Dense.{value_at, box_of, dense}
+use Rattle.xls_csv.specs.Dense.{dense_value, box_of, dense}
 
 -- ---- corners
 
@@ -97,30 +97,30 @@ is_greatest read x xs =
     }
 
 -- a cell of a sheet
-abbrev Given : Type 0
-Given = Position × Data
+abbrev DataCell : Type 0
+DataCell = Position × Data
 
-rows_same : (cs : List Given) → rows_at (map entry_of cs) ≡ map (λ (c : Given). c.0.0) cs
+rows_same : (cs : List DataCell) → rows_at (map cell_entry_of cs) ≡ map (λ (c : DataCell). c.0.0) cs
 rows_same [] = refl
 rows_same (c ∷ cs) = ap (λ l. c.0.0 ∷ l) (rows_same cs)
 
-columns_same : (cs : List Given) → columns_at (map entry_of cs) ≡ map (λ (c : Given). c.0.1) cs
+columns_same : (cs : List DataCell) → columns_at (map cell_entry_of cs) ≡ map (λ (c : DataCell). c.0.1) cs
 columns_same [] = refl
 columns_same (c ∷ cs) = ap (λ l. c.0.1 ∷ l) (columns_same cs)
 
-corners : (c : Given) (cs : List Given)
-    → AreCorners (c ∷ cs) (least c.0.0 (rows_at (map entry_of cs)), least c.0.1 (columns_at (map entry_of cs)))
-    (greatest c.0.0 (rows_at (map entry_of cs)), greatest c.0.1 (columns_at (map entry_of cs)))
+corners : (c : DataCell) (cs : List DataCell)
+    → AreCorners (c ∷ cs) (least c.0.0 (rows_at (map cell_entry_of cs)), least c.0.1 (columns_at (map cell_entry_of cs)))
+    (greatest c.0.0 (rows_at (map cell_entry_of cs)), greatest c.0.1 (columns_at (map cell_entry_of cs)))
 corners c cs = rw (rows_same cs, columns_same cs) (record {
-  top = is_least (λ (x : Given). x.0.0) c cs;
-  left = is_least (λ (x : Given). x.0.1) c cs;
-  bottom = is_greatest (λ (x : Given). x.0.0) c cs;
-  right = is_greatest (λ (x : Given). x.0.1) c cs;
+  top = is_least (λ (x : DataCell). x.0.0) c cs;
+  left = is_least (λ (x : DataCell). x.0.1) c cs;
+  bottom = is_greatest (λ (x : DataCell). x.0.0) c cs;
+  right = is_greatest (λ (x : DataCell). x.0.1) c cs;
 })
 
 -- ---- values
 
-last_content : (cs : List Given) (p : Position) → last_at (map entry_of cs) p ≡ option_map content_of (last_at cs p)
+last_content : (cs : List DataCell) (p : Position) → last_at (map cell_entry_of cs) p ≡ option_map content_of (last_at cs p)
 last_content [] p = refl
 last_content (c ∷ cs) p =
     rw (last_content cs p) (chosen (last_at cs p) ((c.0.0 == p.0) && (c.0.1 == p.1)))
@@ -142,32 +142,32 @@ rows_joined (suc n) width xs e =
     let left : length (drop width xs) ≡ n * width = omega (arith, e, length-drop width xs) in
     ap (λ (l : List Content). take width xs ++ l) (rows_joined n width (drop width xs) left) ∙ take-append-drop width xs
 
-row_shown : (xs : List Content) (cells : List Entry) (left width i row : ℕ) → i * width + width ≤ length xs
-    → ((j : ℕ) → j < width → get_or xs (i * width + j) nothing ≡ value_at cells row (left + j))
-    → take width (drop (i * width) xs) ≡ map (value_at cells row) (range_with_len left width)
-row_shown xs cells left width i row near h =
+row_displayed : (xs : List Content) (cells : List CellEntry) (left width i row : ℕ) → i * width + width ≤ length xs
+    → ((j : ℕ) → j < width → get_or xs (i * width + j) nothing ≡ dense_value cells row (left + j))
+    → take width (drop (i * width) xs) ≡ map (dense_value cells row) (range_with_len left width)
+row_displayed xs cells left width i row near h =
     let size : length (take width (drop (i * width) xs)) ≡ width =
     omega (arith, length-take width (drop (i * width) xs), length-drop (i * width) xs) in
-    let other : length (map (value_at cells row) (range_with_len left width)) ≡ width =
-    length-map-range_with_len (value_at cells row) left width in
+    let other : length (map (dense_value cells row) (range_with_len left width)) ≡ width =
+    length-map-range_with_len (dense_value cells row) left width in
     ext_get_or nothing _ _ (size ∙ sym other) (λ j l.
     let within : j < width = omega (arith, size, l) in
     get_or-take width (drop (i * width) xs) j nothing within ∙ get_or-drop (i * width) xs j nothing
-    ∙ h j within ∙ sym (get_or-map-range_with_len (value_at cells row) left width j (left + j) nothing within refl))
+    ∙ h j within ∙ sym (get_or-map-range_with_len (dense_value cells row) left width j (left + j) nothing within refl))
 
-rows_shown : (xs : List Content) (cells : List Entry) (top left width n i : ℕ) → (i + n) * width ≤ length xs
-    → ((k j : ℕ) → k < i + n → j < width → get_or xs (k * width + j) nothing ≡ value_at cells (top + k) (left + j))
+rows_displayed : (xs : List Content) (cells : List CellEntry) (top left width n i : ℕ) → (i + n) * width ≤ length xs
+    → ((k j : ℕ) → k < i + n → j < width → get_or xs (k * width + j) nothing ≡ dense_value cells (top + k) (left + j))
     → rows_of n width (drop (i * width) xs)
-    ≡ map (λ r. map (value_at cells r) (range_with_len left width)) (range_with_len (top + i) n)
-rows_shown xs cells top left width zero i near h = refl
-rows_shown xs cells top left width (suc n) i near h =
+    ≡ map (λ r. map (dense_value cells r) (range_with_len left width)) (range_with_len (top + i) n)
+rows_displayed xs cells top left width zero i near h = refl
+rows_displayed xs cells top left width (suc n) i near h =
     let split : (i + suc n) * width ≡ i * width + width + n * width = omega arith in
-    let first = row_shown xs cells left width i (top + i) (omega (arith, near, split)) (λ j l. h i j (omega arith) l) in
+    let first = row_displayed xs cells left width i (top + i) (omega (arith, near, split)) (λ j l. h i j (omega arith) l) in
     let next : i * width + width ≡ (i + 1) * width = omega arith in
     let count : i + suc n ≡ i + 1 + n = omega arith in
-    let others = rows_shown xs cells top left width n (i + 1) (rw count at near) (λ k j l m. h k j (omega (arith, l, count)) m) in
+    let others = rows_displayed xs cells top left width n (i + 1) (rw count at near) (λ k j l m. h k j (omega (arith, l, count)) m) in
     let place : top + (i + 1) ≡ top + i + 1 = omega arith in
-    rw (first, drop-drop width (i * width) xs, next) (ap (λ l. map (value_at cells (top + i)) (range_with_len left width) ∷ l) (rw place at others))
+    rw (first, drop-drop width (i * width) xs, next) (ap (λ l. map (dense_value cells (top + i)) (range_with_len left width) ∷ l) (rw place at others))
 
 -- ---- the box
 
@@ -192,11 +192,11 @@ by_last eq same None y h = blank y h
 by_last eq same (Some x) y h = sym (same x y h)
 
 -- what stands in a row and a column, counted from the start
-cell_shown : (eq : Data → Data → Bool) → TellsContents eq → (cells : List Given) (g : Grid Data) → IsRange g
+cell_displayed : (eq : Data → Data → Bool) → TellsContents eq → (cells : List DataCell) (g : Grid Data) → IsRange g
     → Shows eq is_nothing (λ row column. last_at cells (row, column)) g
     → (k j : ℕ) → k < g.height → j < g.width
-    → get_or (map content_of g.cells) (k * g.width + j) nothing ≡ value_at (map entry_of cells) (g.top + k) (g.left + j)
-cell_shown eq same cells g is shows k j l m =
+    → get_or (map content_of g.cells) (k * g.width + j) nothing ≡ dense_value (map cell_entry_of cells) (g.top + k) (g.left + j)
+cell_displayed eq same cells g is shows k j l m =
     let y = get_or g.cells (k * g.width + j) variant.Empty in
     let near : k * g.width + j < length g.cells = omega (arith, is.count, mul-add-lt k g.width j g.height l m) in
     let inside : IsIn g (g.top + k) (g.left + j) = record { low = omega arith; high = omega arith; left = omega arith; right = omega arith } in
@@ -204,16 +204,16 @@ cell_shown eq same cells g is shows k j l m =
     let column : g.left + j - g.left ≡ j = omega arith in
     let here : cell_at g (g.top + k) (g.left + j) ≡ Some y =
     rw (row, column) at (cell_at-IsIn g (g.top + k) (g.left + j) variant.Empty is.count inside) in
-    let copy = shows.shown (g.top + k) (g.left + j) y here in
+    let copy = shows.displayed (g.top + k) (g.left + j) y here in
     get_or-map content_of g.cells (k * g.width + j) variant.Empty nothing near
     ∙ by_last eq same (last_at cells (g.top + k, g.left + j)) y copy
     ∙ ap (λ o. unwrap_or o nothing) (sym (last_content cells (g.top + k, g.left + j)))
 
-pub dense_box : (eq : Data → Data → Bool) → TellsContents eq → (cells : List Given) (g : Grid Data) → IsRange g
-    → IsDense eq is_nothing cells g → contents_of g ≡ dense (map entry_of cells)
+pub dense_box : (eq : Data → Data → Bool) → TellsContents eq → (cells : List DataCell) (g : Grid Data) → IsRange g
+    → IsDense eq is_nothing cells g → contents_of g ≡ dense (map cell_entry_of cells)
 dense_box eq same [] g is h = let e = h.empty refl in rw e refl
 dense_box eq same (c ∷ cs) g is h =
-    let entries = map entry_of (c ∷ cs) in
+    let entries = map cell_entry_of (c ∷ cs) in
     let box = box_of entries in
     let at = h.corners _ _ (corners c cs) in
     let top : g.top ≡ box.top = at.top in
@@ -225,9 +225,9 @@ dense_box eq same (c ∷ cs) g is h =
     let none : 0 * g.width ≡ 0 = omega arith in
     let start : g.top + 0 ≡ g.top = omega arith in
     let all : 0 + g.height ≡ g.height = omega arith in
-    let rows : rows_of g.height g.width xs ≡ map (λ r. map (value_at entries r) (range_with_len g.left g.width)) (range_with_len g.top g.height) =
-    rw (none, start) at (rows_shown xs entries g.top g.left g.width g.height 0 (omega (arith, count, all))
-    (λ k j l m. cell_shown eq same (c ∷ cs) g is h.shows k j (omega (arith, l)) m)) in
-    let joined : xs ≡ flat_map (λ (r : List Content). r) (map (λ r. map (value_at entries r) (range_with_len g.left g.width)) (range_with_len g.top g.height)) =
+    let rows : rows_of g.height g.width xs ≡ map (λ r. map (dense_value entries r) (range_with_len g.left g.width)) (range_with_len g.top g.height) =
+    rw (none, start) at (rows_displayed xs entries g.top g.left g.width g.height 0 (omega (arith, count, all))
+    (λ k j l m. cell_displayed eq same (c ∷ cs) g is h.shows k j (omega (arith, l)) m)) in
+    let joined : xs ≡ flat_map (λ (r : List Content). r) (map (λ r. map (dense_value entries r) (range_with_len g.left g.width)) (range_with_len g.top g.height)) =
     sym (rows_joined g.height g.width xs count) ∙ ap (flat_map (λ (r : List Content). r)) rows in
     rw (joined, top, left, height, width) refl

@@ -147,8 +147,8 @@ from_1900 day b last leap early late (inl l) r =
     rw (other, before) (date_is 1899 12 31 day b civil_31 (omega (arith, counts.0)) (early l))
 from_1900 day b last leap early late (inr l) (inl r) =
     let other : (day == 60) ≡ false = grind arith in
-    let behind : nat_lt day 60 ≡ false = grind arith in
-    rw (other, behind) (date_is 1899 12 30 day b civil_30 (omega (arith, counts.1)) (late r last))
+    let following : nat_lt day 60 ≡ false = grind arith in
+    rw (other, following) (date_is 1899 12 30 day b civil_30 (omega (arith, counts.1)) (late r last))
 from_1900 day b last leap early late (inr l) (inr r) =
     let here : day ≡ 60 = omega arith in
     rw here (leap here)

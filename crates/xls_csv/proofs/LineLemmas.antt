@@ -4,10 +4,10 @@ use Rattle.std.specs.Prelude.{◌==◌, if◌then◌else◌}
 use Rattle.std.proofs.lemmas.List.{append-nil, length-append}
 use Rattle.std.proofs.Math.ListN.{drop_of_length-le}
 use Rattle.csv.specs.Writing.{default_writer, escaped, field_text, fields_text, is_blank, next_sep, row_body, row_text}
-use Rattle.xls_biff.specs.Cells.{Entry}
+use Rattle.xls_biff.specs.Cells.{CellEntry}
 use Rattle.xls_csv.specs.Fields.{field}
-use Rattle.xls_csv.specs.Steps.{placed, row_end}
-use Rattle.xls_csv.specs.Walk.{take_at, row_along, left_along}
+use Rattle.xls_csv.specs.Steps.{field_placed, row_end}
+use Rattle.xls_csv.specs.Walk.{take_at, row_over, left_over}
 
 -- ---- bytes between quotes
 
@@ -90,8 +90,8 @@ not_first : (i : ℕ) → (i + 1 == 0) ≡ false
 not_first i = grind arith
 
 -- no column is left
-pub fields_end : (line whole : List ℕ) (row column width i : ℕ) (cells : List Entry) → width ≤ i
-    → line ++ rest_text (i == 0) (map field (row_along row (column + i) (width - i) cells)) ≡ whole → line ≡ whole
+pub fields_end : (line whole : List ℕ) (row column width i : ℕ) (cells : List CellEntry) → width ≤ i
+    → line ++ rest_text (i == 0) (map field (row_over row (column + i) (width - i) cells)) ≡ whole → line ≡ whole
 unfolding fields_text
 fields_end line whole row column width i cells l h =
     let none : width - i ≡ 0 = omega arith in
@@ -102,24 +102,24 @@ fields_end line whole row column width i cells l h =
     by_test false h = sym (append-nil line) ∙ h
 
 -- the first of the columns that are left, and those after it
-pub row_more : (line whole : List ℕ) (row column width i : ℕ) (cells : List Entry) → i < width
-    → line ++ rest_text (i == 0) (map field (row_along row (column + i) (width - i) cells)) ≡ whole
-    → (line ++ placed i (take_at row (column + i) cells).0)
-    ++ rest_text (i + 1 == 0) (map field (row_along row (column + (i + 1)) (width - (i + 1)) (take_at row (column + i) cells).1)) ≡ whole
+pub row_more : (line whole : List ℕ) (row column width i : ℕ) (cells : List CellEntry) → i < width
+    → line ++ rest_text (i == 0) (map field (row_over row (column + i) (width - i) cells)) ≡ whole
+    → (line ++ field_placed i (take_at row (column + i) cells).0)
+    ++ rest_text (i + 1 == 0) (map field (row_over row (column + (i + 1)) (width - (i + 1)) (take_at row (column + i) cells).1)) ≡ whole
 row_more line whole row column width i cells l h =
     let e : width - i ≡ suc (width - (i + 1)) = omega arith in
     let place : column + (i + 1) ≡ column + i + 1 = omega arith in
     let first = field (take_at row (column + i) cells).0 in
-    let others = map field (row_along row (column + i + 1) (width - (i + 1)) (take_at row (column + i) cells).1) in
+    let others = map field (row_over row (column + i + 1) (width - (i + 1)) (take_at row (column + i) cells).1) in
     rw (not_first i, place)
     (append_assoc line (next_sep default_writer i ++ field_text default_writer first) (fields_text default_writer others)
     ∙ ap (λ (t : List ℕ). line ++ t)
     (append_assoc (next_sep default_writer i) (field_text default_writer first) (fields_text default_writer others)
     ∙ sym (rest_next i first others)) ∙ rw e at h)
 
-pub left_more : (whole : List Entry) (row column width i : ℕ) (cells : List Entry) → i < width
-    → left_along row (column + i) (width - i) cells ≡ whole
-    → left_along row (column + (i + 1)) (width - (i + 1)) (take_at row (column + i) cells).1 ≡ whole
+pub left_more : (whole : List CellEntry) (row column width i : ℕ) (cells : List CellEntry) → i < width
+    → left_over row (column + i) (width - i) cells ≡ whole
+    → left_over row (column + (i + 1)) (width - (i + 1)) (take_at row (column + i) cells).1 ≡ whole
 left_more whole row column width i cells l h =
     let e : width - i ≡ suc (width - (i + 1)) = omega arith in
     let place : column + (i + 1) ≡ column + i + 1 = omega arith in

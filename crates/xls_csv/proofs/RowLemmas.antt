@@ -2,32 +2,32 @@
 use Rattle.std.proofs.Common.{◌≡◌, ℕ, ◌+◌, ◌-◌, ◌<◌, ◌≤◌, Bool, true, List, [], ◌++◌, length, map, length-append, arith, refl, ap, ◌∙◌}
 use Rattle.std.specs.Prelude.{◌==◌, ◌&&◌}
 use Rattle.csv.specs.Writing.{default_writer, row_body}
-use Rattle.xls_biff.specs.Cells.{Entry}
-use Rattle.xls_lines.specs.Gathering.{Gathers, Stops}
+use Rattle.xls_biff.specs.Cells.{CellEntry}
+use Rattle.xls_lines.specs.Gathering.{GathersText, Stops}
 use Rattle.xls_lines.specs.SinkState.{SinkState}
 use Rattle.xls_lines.specs.declared.stop.Stop.{Stop}
 use Rattle.xls_lines.proofs.GatherLemmas.{gathers-as, gathers-nothing, gathers-then, stops-as, stops-more, stops-then}
 use Rattle.xls_csv.specs.Dense.{box_of}
 use Rattle.xls_csv.specs.Fields.{field}
-use Rattle.xls_csv.specs.Steps.{placed}
-use Rattle.xls_csv.specs.Walk.{left_along, row_along, rows_along, take_at, walk}
+use Rattle.xls_csv.specs.Steps.{field_placed}
+use Rattle.xls_csv.specs.Walk.{left_over, row_over, rows_over, take_at, walk_rows}
 use Rattle.xls_csv.specs.declared.extent.Extent.{Extent}
 use Rattle.xls_csv.proofs.LineLemmas.{fields_end, left_more, rest_text, row_more}
 
 -- the bytes of a row's fields
-abbrev pub body : ℕ → ℕ → ℕ → List Entry → List ℕ
-body row left width cells = row_body default_writer (map field (row_along row left width cells))
+abbrev pub body : ℕ → ℕ → ℕ → List CellEntry → List ℕ
+body row left width cells = row_body default_writer (map field (row_over row left width cells))
 
 -- with these cells left at a place, the fields before it are gathered
-pub record FieldsSoFar (row left width : ℕ) (all : List Entry) (a : SinkState) (g : List ℕ) (place : ℕ) (is_bare : Bool)
-    (cells : List Entry) (b : SinkState) (h : List ℕ) : Type 0 where
+pub record FieldsSoFar (row left width : ℕ) (all : List CellEntry) (a : SinkState) (g : List ℕ) (place : ℕ) (is_bare : Bool)
+    (cells : List CellEntry) (b : SinkState) (h : List ℕ) : Type 0 where
   pub text : List ℕ
-  pub whole : text ++ rest_text (place == 0) (map field (row_along row (left + place) (width - place) cells)) ≡ body row left width all
-  pub rest : left_along row (left + place) (width - place) cells ≡ left_along row left width all
+  pub whole : text ++ rest_text (place == 0) (map field (row_over row (left + place) (width - place) cells)) ≡ body row left width all
+  pub rest : left_over row (left + place) (width - place) cells ≡ left_over row left width all
   pub bare : is_bare ≡ (length text == 0)
-  pub gathers : Gathers a g b h text
+  pub gathers : GathersText a g b h text
 
-pub fields_first : (row left width : ℕ) (all : List Entry) (a : SinkState) (g : List ℕ)
+pub fields_first : (row left width : ℕ) (all : List CellEntry) (a : SinkState) (g : List ℕ)
     → FieldsSoFar row left width all a g 0 true all a g
 fields_first row left width all a g =
     let here : left + 0 ≡ left = omega arith in
@@ -47,15 +47,15 @@ both_none xs ys a b e f = rw (e, f, length-append xs ys) (sums (length xs) (leng
     sums : (m n : ℕ) → ((m == 0) && (n == 0)) ≡ (m + n == 0)
     sums m n = grind arith
 
-pub fields_more : {row left width place : ℕ} {all cells cells' : List Entry} {a b c : SinkState} {g h k : List ℕ}
+pub fields_more : {row left width place : ℕ} {all cells cells' : List CellEntry} {a b c : SinkState} {g h k : List ℕ}
     {is_bare none now : Bool} → place < width
     → FieldsSoFar row left width all a g place is_bare cells b h
-    → Gathers b h c k (placed place (take_at row (left + place) cells).0)
-    → none ≡ (length (placed place (take_at row (left + place) cells).0) == 0)
+    → GathersText b h c k (field_placed place (take_at row (left + place) cells).0)
+    → none ≡ (length (field_placed place (take_at row (left + place) cells).0) == 0)
     → cells' ≡ (take_at row (left + place) cells).1 → now ≡ (is_bare && none)
     → FieldsSoFar row left width all a g (place + 1) now cells' c k
 fields_more {row} {left} {width} {place} {all} {cells} {cells'} {a} {b} {c} {g} {h} {k} {is_bare} {none} l so gathers none_is left_is now_is =
-    let next = placed place (take_at row (left + place) cells).0 in
+    let next = field_placed place (take_at row (left + place) cells).0 in
     record {
       text = so.text ++ next;
       whole = rw left_is (row_more so.text _ row left width place cells l so.whole);
@@ -65,38 +65,38 @@ fields_more {row} {left} {width} {place} {all} {cells} {cells'} {a} {b} {c} {g} 
     }
 
 -- all fields are gathered
-pub row_whole : {row left width place : ℕ} {all cells : List Entry} {a b : SinkState} {g h : List ℕ} {is_bare : Bool}
+pub row_whole : {row left width place : ℕ} {all cells : List CellEntry} {a b : SinkState} {g h : List ℕ} {is_bare : Bool}
     → width ≤ place → (so : FieldsSoFar row left width all a g place is_bare cells b h)
     → so.text ≡ body row left width all
 row_whole {row} {left} {width} {place} {all} {cells} l so = fields_end so.text _ row left width place cells l so.whole
 
-pub row_gathered : {row left width place : ℕ} {all cells : List Entry} {a b : SinkState} {g h : List ℕ} {is_bare : Bool}
+pub row_gathered : {row left width place : ℕ} {all cells : List CellEntry} {a b : SinkState} {g h : List ℕ} {is_bare : Bool}
     → width ≤ place → FieldsSoFar row left width all a g place is_bare cells b h
-    → Gathers a g b h (body row left width all)
+    → GathersText a g b h (body row left width all)
 row_gathered l so = gathers-as so.gathers (row_whole l so)
 
-pub row_bare : {row left width place : ℕ} {all cells : List Entry} {a b : SinkState} {g h : List ℕ} {is_bare : Bool}
+pub row_bare : {row left width place : ℕ} {all cells : List CellEntry} {a b : SinkState} {g h : List ℕ} {is_bare : Bool}
     → width ≤ place → FieldsSoFar row left width all a g place is_bare cells b h
     → is_bare ≡ (length (body row left width all) == 0)
 row_bare l so = so.bare ∙ ap (λ (t : List ℕ). length t == 0) (row_whole l so)
 
-pub row_left : {row left width place : ℕ} {all cells : List Entry} {a b : SinkState} {g h : List ℕ} {is_bare : Bool}
+pub row_left : {row left width place : ℕ} {all cells : List CellEntry} {a b : SinkState} {g h : List ℕ} {is_bare : Bool}
     → width ≤ place → FieldsSoFar row left width all a g place is_bare cells b h
-    → cells ≡ left_along row left width all
+    → cells ≡ left_over row left width all
 row_left {row} {left} {width} {place} {all} {cells} l so =
     let none : width - place ≡ 0 = omega arith in
     rw none at so.rest
 
 -- it was given up at a field
-pub fields_stop : {row left width place : ℕ} {all cells : List Entry} {a b c : SinkState} {g h : List ℕ} {is_bare : Bool} {e : Stop}
+pub fields_stop : {row left width place : ℕ} {all cells : List CellEntry} {a b c : SinkState} {g h : List ℕ} {is_bare : Bool} {e : Stop}
     → place < width → FieldsSoFar row left width all a g place is_bare cells b h
-    → Stops b h c (placed place (take_at row (left + place) cells).0) e
+    → Stops b h c (field_placed place (take_at row (left + place) cells).0) e
     → Stops a g c (body row left width all) e
 fields_stop {row} {left} {width} {place} {all} {cells} l so stops =
-    let others = rest_text (place + 1 == 0) (map field (row_along row (left + (place + 1)) (width - (place + 1)) (take_at row (left + place) cells).1)) in
+    let others = rest_text (place + 1 == 0) (map field (row_over row (left + (place + 1)) (width - (place + 1)) (take_at row (left + place) cells).1)) in
     stops-as (stops-more others (stops-then so.gathers stops)) (row_more so.text _ row left width place cells l so.whole)
 
 -- the rows that are put are those of the cells
-pub walked : (cells seen ahead : List Entry) {extent : Extent} → seen ≡ cells → ahead ≡ seen → extent ≡ box_of cells
-    → rows_along extent.height extent.top extent.left extent.width ahead ≡ walk cells
+pub walked : (cells seen ahead : List CellEntry) {extent : Extent} → seen ≡ cells → ahead ≡ seen → extent ≡ box_of cells
+    → rows_over extent.height extent.top extent.left extent.width ahead ≡ walk_rows cells
 walked cells seen ahead {extent} e f is = rw (f, is, e) refl

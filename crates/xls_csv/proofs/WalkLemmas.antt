@@ -6,12 +6,12 @@ use Rattle.std.specs.List.{AllByRecursion, range_with_len}
 use Rattle.xls_range.proofs.PutLemmas.{before_trans}
 use Rattle.xls_range.specs.Sparse.{last_at, Precedes, IsAscending}
 use Rattle.xls_data.specs.Content.{Content, nothing}
-use Rattle.xls_biff.specs.Cells.{Entry}
+use Rattle.xls_biff.specs.Cells.{CellEntry}
 use Rattle.xls_csv.specs.Text.{rows_csv}
 use Rattle.xls_csv.proofs.DenseLemmas.{rows_of_dense}
-use Rattle.xls_csv.specs.Walk.{take_at, row_along, left_along, rows_along}
+use Rattle.xls_csv.specs.Walk.{take_at, row_over, left_over, rows_over}
 use Rattle.xls_range.specs.Bounds.{least, greatest, rows_at, columns_at}
-use Rattle.xls_csv.specs.Dense.{value_at}
+use Rattle.xls_csv.specs.Dense.{dense_value}
 use Rattle.xls_csv.specs.Laws.{JoinsToCsv, WalksDense, positions_of}
 
 -- ---- where the cells that are left stand
@@ -21,11 +21,11 @@ abbrev pub IsFrom : ℕ → ℕ → ℕ → ℕ → Type 0
 IsFrom row column r c = (row < r) ⊎ ((row ≡ r) × (column ≤ c))
 
 -- the cell stands there, in a column from the first on and before the end
-abbrev pub Stands : ℕ → ℕ → ℕ → ℕ → Entry → Type 0
+abbrev pub Stands : ℕ → ℕ → ℕ → ℕ → CellEntry → Type 0
 Stands left end row column e = IsFrom row column e.0.0 e.0.1 × (left ≤ e.0.1) × (e.0.1 < end)
 
 -- the cells that are left of all cells at a row and a column
-pub record AtPlace (all : List Entry) (left end row column : ℕ) (rest : List Entry) : Type 0 where
+pub record AtPlace (all : List CellEntry) (left end row column : ℕ) (rest : List CellEntry) : Type 0 where
   pub ascending : IsAscending (positions_of rest)
   pub stand : AllByRecursion (Stands left end row column) rest
   pub same : (r c : ℕ) → IsFrom row column r c → last_at rest (r, c) ≡ last_at all (r, c)
@@ -51,19 +51,19 @@ other row column r c h = grind arith
 passed : (row column r c : ℕ) → IsFrom row (column + 1) r c → ((row == r) && (column == c)) ≡ false
 passed row column r c h = grind arith
 
-none_after : (row column : ℕ) (xs : List Entry) → AllByRecursion (Precedes (row, column)) (positions_of xs)
+none_after : (row column : ℕ) (xs : List CellEntry) → AllByRecursion (Precedes (row, column)) (positions_of xs)
     → last_at xs (row, column) ≡ None
 none_after row column [] h = refl
 none_after row column (x ∷ xs) h =
     rw (none_after row column xs h.1, other row column x.0.0 x.0.1 h.0) refl
 
-moved : (left end row column : ℕ) (xs : List Entry) → AllByRecursion (Precedes (row, column)) (positions_of xs)
+moved : (left end row column : ℕ) (xs : List CellEntry) → AllByRecursion (Precedes (row, column)) (positions_of xs)
     → AllByRecursion (Stands left end row column) xs → AllByRecursion (Stands left end row (column + 1)) xs
 moved left end row column [] h s = tt
 moved left end row column (x ∷ xs) h s =
     ((from_next row column x.0.0 x.0.1 h.0, s.0.1, s.0.2), moved left end row column xs h.1 s.1)
 
-all_after : (row column : ℕ) (x : Entry) (xs : List Entry) → Precedes (row, column) x.0
+all_after : (row column : ℕ) (x : CellEntry) (xs : List CellEntry) → Precedes (row, column) x.0
     → AllByRecursion (Precedes x.0) (positions_of xs) → AllByRecursion (Precedes (row, column)) (positions_of xs)
 all_after row column x [] h s = tt
 all_after row column x (y ∷ ys) h s =
@@ -75,19 +75,19 @@ option_or-none (Some x) = refl
 
 -- ---- one step
 
-abbrev Steps : List Entry → ℕ → ℕ → ℕ → ℕ → List Entry → Type 0
+abbrev Steps : List CellEntry → ℕ → ℕ → ℕ → ℕ → List CellEntry → Type 0
 Steps all left end row column rest =
-    ((take_at row column rest).0 ≡ value_at all row column)
+    ((take_at row column rest).0 ≡ dense_value all row column)
     × AtPlace all left end row (column + 1) (take_at row column rest).1
 
-step_by : (all : List Entry) (left end row column : ℕ) (x : Entry) (xs : List Entry)
+step_by : (all : List CellEntry) (left end row column : ℕ) (x : CellEntry) (xs : List CellEntry)
     → AtPlace all left end row column (x ∷ xs) → (b : Bool) → ((x.0.0 == row) && (x.0.1 == column)) ≡ b
     → Steps all left end row column (x ∷ xs)
 step_by all left end row column x xs h true t =
     let here : (x.0.0 ≡ row) × (x.0.1 ≡ column) = grind arith in
     let after : AllByRecursion (Precedes (row, column)) (positions_of xs) = rw (sym here.0, sym here.1) h.ascending.0 in
     let found : last_at (x ∷ xs) (row, column) ≡ Some x.1 = rw (none_after row column xs after, t) refl in
-    let value : x.1 ≡ value_at all row column =
+    let value : x.1 ≡ dense_value all row column =
     ap (λ o. unwrap_or o nothing) (sym found ∙ h.same row column (inr (refl, omega arith))) in
     rw t (
       value,
@@ -104,7 +104,7 @@ step_by all left end row column x xs h false t =
     let first : Precedes (row, column) x.0 = after_from row column x.0.0 x.0.1 h.stand.0.0 t in
     let after : AllByRecursion (Precedes (row, column)) (positions_of (x ∷ xs)) =
     (first, all_after row column x xs first h.ascending.0) in
-    let value : nothing ≡ value_at all row column =
+    let value : nothing ≡ dense_value all row column =
     ap (λ o. unwrap_or o nothing) (sym (none_after row column (x ∷ xs) after) ∙ h.same row column (inr (refl, omega arith))) in
     rw t (
       value,
@@ -115,7 +115,7 @@ step_by all left end row column x xs h false t =
       },
     )
 
-step : (all : List Entry) (left end row column : ℕ) (rest : List Entry)
+step : (all : List CellEntry) (left end row column : ℕ) (rest : List CellEntry)
     → AtPlace all left end row column rest → Steps all left end row column rest
 step all left end row column [] h = (
   ap (λ o. unwrap_or o nothing) (h.same row column (inr (refl, omega arith))),
@@ -125,10 +125,10 @@ step all left end row column (x ∷ xs) h = step_by all left end row column x xs
 
 -- ---- a row
 
-row_is : (all : List Entry) (left end row column n : ℕ) (rest : List Entry)
+row_is : (all : List CellEntry) (left end row column n : ℕ) (rest : List CellEntry)
     → AtPlace all left end row column rest
-    → (row_along row column n rest ≡ map (value_at all row) (range_with_len column n))
-    × AtPlace all left end row (column + n) (left_along row column n rest)
+    → (row_over row column n rest ≡ map (dense_value all row) (range_with_len column n))
+    × AtPlace all left end row (column + n) (left_over row column n rest)
 row_is all left end row column zero rest h =
     let e : column + 0 ≡ column = omega arith in
     (refl, rw e h)
@@ -145,37 +145,37 @@ from_row left end row r c h l m = grind arith
 below_row : (left end row r c : ℕ) → IsFrom (row + 1) left r c → IsFrom row end r c
 below_row left end row r c h = grind arith
 
-next_row : (left end row : ℕ) (xs : List Entry) → AllByRecursion (Stands left end row end) xs
+next_row : (left end row : ℕ) (xs : List CellEntry) → AllByRecursion (Stands left end row end) xs
     → AllByRecursion (Stands left end (row + 1) left) xs
 next_row left end row [] s = tt
 next_row left end row (x ∷ xs) s =
     ((from_row left end row x.0.0 x.0.1 s.0.0 s.0.1 s.0.2, s.0.1, s.0.2), next_row left end row xs s.1)
 
-rows_are : (all : List Entry) (left width n row : ℕ) (rest : List Entry)
+rows_are : (all : List CellEntry) (left width n row : ℕ) (rest : List CellEntry)
     → AtPlace all left (left + width) row left rest
-    → rows_along n row left width rest
-    ≡ map (λ r. map (value_at all r) (range_with_len left width)) (range_with_len row n)
+    → rows_over n row left width rest
+    ≡ map (λ r. map (dense_value all r) (range_with_len left width)) (range_with_len row n)
 rows_are all left width zero row rest h = refl
 rows_are all left width (suc n) row rest h =
     let one = row_is all left (left + width) row left width rest h in
-    let next : AtPlace all left (left + width) (row + 1) left (left_along row left width rest) = record {
+    let next : AtPlace all left (left + width) (row + 1) left (left_over row left width rest) = record {
       ascending = one.1.ascending;
-      stand = next_row left (left + width) row (left_along row left width rest) one.1.stand;
+      stand = next_row left (left + width) row (left_over row left width rest) one.1.stand;
       same = λ r c from. one.1.same r c (below_row left (left + width) row r c from);
     } in
-    rw (one.0, rows_are all left width n (row + 1) (left_along row left width rest) next) refl
+    rw (one.0, rows_are all left width n (row + 1) (left_over row left width rest) next) refl
 
 -- the first of so many rows, and those after it
-pub rows_next : (n others row left width : ℕ) (cells : List Entry) → n ≡ suc others
-    → rows_along n row left width cells
-    ≡ row_along row left width cells ∷ rows_along others (row + 1) left width (left_along row left width cells)
+pub rows_next : (n others row left width : ℕ) (cells : List CellEntry) → n ≡ suc others
+    → rows_over n row left width cells
+    ≡ row_over row left width cells ∷ rows_over others (row + 1) left width (left_over row left width cells)
 rows_next n others row left width cells e = rw e refl
 
 -- the row that comes after so many, and those after it
-pub rows_from : (height top left width i : ℕ) (cells : List Entry) → i < height
-    → rows_along (height - i) (top + i) left width cells
-    ≡ row_along (top + i) left width cells
-    ∷ rows_along (height - (i + 1)) (top + (i + 1)) left width (left_along (top + i) left width cells)
+pub rows_from : (height top left width i : ℕ) (cells : List CellEntry) → i < height
+    → rows_over (height - i) (top + i) left width cells
+    ≡ row_over (top + i) left width cells
+    ∷ rows_over (height - (i + 1)) (top + (i + 1)) left width (left_over (top + i) left width cells)
 rows_from height top left width i cells l =
     let more : height - i ≡ suc (height - (i + 1)) = omega arith in
     let next : top + (i + 1) ≡ top + i + 1 = omega arith in
@@ -183,7 +183,7 @@ rows_from height top left width i cells l =
 
 -- ---- all rows
 
-stand_all : (n m k top left end : ℕ) (cs : List Entry) → top ≤ least n (rows_at cs)
+stand_all : (n m k top left end : ℕ) (cs : List CellEntry) → top ≤ least n (rows_at cs)
     → left ≤ least m (columns_at cs) → greatest k (columns_at cs) < end
     → AllByRecursion (Stands left end top left) cs
 stand_all n m k top left end [] t l g = tt

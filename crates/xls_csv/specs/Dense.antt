@@ -6,7 +6,7 @@ use Rattle.xls_data.specs.declared.regions.Dimensions.{Dimensions}
 use Rattle.xls_range.specs.Grid.{Grid}
 use Rattle.xls_range.specs.Sparse.{last_at}
 use Rattle.xls_range.specs.Bounds.{bounds_of}
-use Rattle.xls_biff.specs.Cells.{Entry}
+use Rattle.xls_biff.specs.Cells.{CellEntry}
 use Rattle.xls_csv.specs.Text.{csv_text}
 use Rattle.xls_csv.specs.declared.extent.Extent.{Extent}
 
@@ -29,27 +29,27 @@ box_in None = no_box
 box_in (Some bounds) = box_between bounds.start bounds.end
 
 -- the smallest box that holds all of these cells
-abbrev pub box_of : List Entry → Extent
+abbrev pub box_of : List CellEntry → Extent
 box_of cells = box_in (bounds_of cells)
 
 -- the value that was given to a position last, and nothing where none was
-abbrev pub value_at : List Entry → ℕ → ℕ → Content
-value_at cells row column = unwrap_or (last_at cells (row, column)) nothing
+abbrev pub dense_value : List CellEntry → ℕ → ℕ → Content
+dense_value cells row column = unwrap_or (last_at cells (row, column)) nothing
 
 -- the values of a box, row by row
-abbrev pub row_in : List Entry → Extent → ℕ → List Content
-row_in cells box row = map (value_at cells row) (range_with_len box.left box.width)
+abbrev pub row_in : List CellEntry → Extent → ℕ → List Content
+row_in cells box row = map (dense_value cells row) (range_with_len box.left box.width)
 
-abbrev pub rows_in : List Entry → Extent → List (List Content)
+abbrev pub rows_in : List CellEntry → Extent → List (List Content)
 rows_in cells box = map (row_in cells box) (range_with_len box.top box.height)
 
 -- the rows of the dense box
-abbrev pub dense_rows : List Entry → List (List Content)
+abbrev pub dense_rows : List CellEntry → List (List Content)
 dense_rows cells = rows_in cells (box_of cells)
 
 -- the dense box: the smallest one that holds all cells, with the value that was given last for each
 -- position, and nothing elsewhere
-abbrev pub dense : List Entry → Grid Content
+abbrev pub dense : List CellEntry → Grid Content
 dense cells =
     record {
       top = (box_of cells).top;
@@ -60,5 +60,5 @@ dense cells =
     }
 
 -- the CSV of a sheet with these cells
-abbrev pub sheet_csv : List Entry → List ℕ
+abbrev pub sheet_csv : List CellEntry → List ℕ
 sheet_csv cells = csv_text (dense cells)

@@ -10,9 +10,9 @@ use Rattle.xls_dates.specs.Numbers.{number_text}
 use Rattle.xls_csv.specs.Dates.{day_of, serial_date, date_text}
 
 -- a date that has a serial day is shown as its date, and any other one as its number
-abbrev pub shown_date : DateParts → Option ℕ → List ℕ
-shown_date d (Some day) = date_text (serial_date d.is_1904 day)
-shown_date d None = number_text d.number
+abbrev pub displayed_date : DateParts → Option ℕ → List ℕ
+displayed_date d (Some day) = date_text (serial_date d.is_1904 day)
+displayed_date d None = number_text d.number
 
 -- the field of a value: its printed text, but for a date that has a serial day
 abbrev pub field : Content → List ℕ
@@ -20,7 +20,7 @@ field (int n) = signed_decimal n
 field (float n) = number_text n
 field (text cs) = encode_utf8_all cs
 field (truth b) = bool_text b
-field (date d) = shown_date d (day_of d)
+field (date d) = displayed_date d (day_of d)
 field (iso_date cs) = encode_utf8_all cs
 field (iso_duration cs) = encode_utf8_all cs
 field (failure e) = error_text e

@@ -1,7 +1,7 @@
 //! The cells of a sheet, with a look at the next one.
 
 ghost use Rattle.std.specs.Prelude.{◌≡◌};
-ghost use Rattle.xls_csv.specs.Walk.{Takes};
+ghost use Rattle.xls_csv.specs.Walk.{TakesValue};
 
 use std::marker::Model;
 use xls_view::{CellValue, Cells, SheetCell};
@@ -16,11 +16,11 @@ pub struct Ahead<'c> {
 
 impl<'c> Model for Ahead<'c> {
     ghost use Rattle.std.specs.Prelude.{List};
-    ghost use Rattle.xls_biff.specs.Cells.{Entry};
+    ghost use Rattle.xls_biff.specs.Cells.{CellEntry};
     ghost use Rattle.xls_csv.specs.Walk.{cells_ahead};
     ghost use Rattle.xls_csv.specs.Steps.{IsEnded};
 
-    ghost Value = { List Entry };
+    ghost Value = { List CellEntry };
 
     ghost view = { λ a. cells_ahead a.next a.others };
 
@@ -41,7 +41,7 @@ impl<'c> Ahead<'c> {
     /// The value of the next cell, if that stands at this position; then the cell is taken.
     #[inline(always)]
     pub fn take_at(&mut self, row: u64, column: u64) -> Option<CellValue<'c>>
-        ensures { Takes self.old row column result self.new }
+        ensures { TakesValue self.old row column result self.new }
     {
         let cell = match self.next {
             Some(cell) if u64::from(cell.row) == row && u64::from(cell.column) == column => cell,

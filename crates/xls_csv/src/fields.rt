@@ -7,7 +7,7 @@ ghost use Rattle.xls_data.specs.Data.{content_of};
 ghost use Rattle.xls_data.specs.Refs.{ref_content_of, ref_text};
 ghost use Rattle.xls_csv.specs.Dates.{date_text, last_day_in, serial_date};
 ghost use Rattle.xls_csv.specs.Fields.{field};
-ghost use Rattle.xls_csv.specs.Steps.{IsShownDay};
+ghost use Rattle.xls_csv.specs.Steps.{IsDisplayedDay};
 
 use crate::dates::{day_of, day_text};
 use std::alloc::{AllocError, Global};
@@ -32,8 +32,8 @@ fn lent(value: &Data) -> DataRef<'_>
 }
 
 /// The serial day of a value that is shown as a date, and whether days count from 1904.
-fn shown_day(value: &DataRef<'_>) -> Option<(u64, bool)>
-    ensures { IsShownDay value.now result }
+fn displayed_day(value: &DataRef<'_>) -> Option<(u64, bool)>
+    ensures { IsDisplayedDay value.now result }
 {
     match value {
         DataRef::DateTime(date) => Some((day_of(*date)?, date.has_1904_epoch())),
@@ -76,7 +76,7 @@ pub(crate) fn push_value(value: &Data, text: &mut String) -> Result<(), AllocErr
     ensures { OnOk result (string_bytes text.new ≡ string_bytes text.old ++ field (content_of value.now)) }
 {
     let value = lent(value);
-    match shown_day(&value) {
+    match displayed_day(&value) {
         Some((day, is_1904)) => push_day(day, is_1904, text),
         None => push_printed(&value, text),
     }

@@ -3,10 +3,10 @@
 ghost use Rattle.std.specs.Prelude.{◌≡◌, ◌++◌, ◌==◌, [], length, encode_utf8_all, IfOk, OnOk};
 ghost use Rattle.csv.specs.Writing.{default_writer, field_text, next_sep};
 ghost use Rattle.xls_lines.specs.Gathering.{Puts};
-ghost use Rattle.xls_cursors.specs.Values.{text_in, value_content};
+ghost use Rattle.xls_cursors.specs.Values.{value_text, lent_content};
 ghost use Rattle.xls_csv.specs.Fields.{field};
 ghost use Rattle.xls_csv.specs.Walk.{value_in};
-ghost use Rattle.xls_csv.specs.Steps.{placed, row_end};
+ghost use Rattle.xls_csv.specs.Steps.{field_placed, row_end};
 
 use crate::line::{push_error, push_text, push_truth};
 use crate::numbers::push_number;
@@ -84,7 +84,7 @@ impl Gathered {
     #[inline(never)]
     fn push_encoded(&mut self, value: CellValue<'_>) -> Result<(), AllocError>
         ensures { OnOk result (self.new
-            ≡ self.old ++ field_text default_writer (encode_utf8_all (text_in (value_content value.entry)))) }
+            ≡ self.old ++ field_text default_writer (encode_utf8_all (value_text (lent_content value.entry)))) }
     {
         match self.text.text_of(&value) {
             Ok(text) => push_text(&mut self.bytes, text),
@@ -95,7 +95,7 @@ impl Gathered {
     /// Appends the field of a cell's value.
     #[inline(always)]
     fn push_value(&mut self, value: CellValue<'_>) -> Result<(), AllocError>
-        ensures { OnOk result (self.new ≡ self.old ++ field_text default_writer (field (value_content value.entry))) }
+        ensures { OnOk result (self.new ≡ self.old ++ field_text default_writer (field (lent_content value.entry))) }
     {
         match value {
             CellValue::Number(number) => push_number(&mut self.bytes, number),
@@ -109,7 +109,7 @@ impl Gathered {
 
     /// Appends the field of a value, an empty one where there is none.
     #[inline(always)]
-    fn push_shown(&mut self, value: Option<CellValue<'_>>) -> Result<(), AllocError>
+    fn push_displayed(&mut self, value: Option<CellValue<'_>>) -> Result<(), AllocError>
         ensures { OnOk result (self.new ≡ self.old ++ field_text default_writer (field (value_in value.entry))) }
     {
         match value {
@@ -125,12 +125,12 @@ impl Gathered {
         place: u64,
         value: Option<CellValue<'_>>,
     ) -> Result<bool, AllocError>
-        ensures field { OnOk result (self.new ≡ self.old ++ placed place (value_in value.entry)) }
-        ensures bare { IfOk result (λ is_bare. is_bare ≡ (length (placed place (value_in value.entry)) == 0)) }
+        ensures field { OnOk result (self.new ≡ self.old ++ field_placed place (value_in value.entry)) }
+        ensures bare { IfOk result (λ is_bare. is_bare ≡ (length (field_placed place (value_in value.entry)) == 0)) }
     {
         let before = self.bytes.len();
         self.separate(place)?;
-        self.push_shown(value)?;
+        self.push_displayed(value)?;
         Ok(self.bytes.len() == before)
     }
 

@@ -4,7 +4,7 @@ ghost use Rattle.std.specs.Prelude.{◌≡◌, ◌++◌, ◌+◌, ◌≤◌, len
 ghost use Rattle.csv.specs.Writing.{default_writer, field_text};
 ghost use Rattle.xls_data.specs.Numeric.{numeric_content};
 ghost use Rattle.xls_csv.specs.Dates as dates;
-ghost use Rattle.xls_csv.specs.Fields.{field, shown_date};
+ghost use Rattle.xls_csv.specs.Fields.{field, displayed_date};
 
 use crate::dates::{day_of, day_text};
 use std::alloc::AllocError;
@@ -14,7 +14,7 @@ use xls_lines::Short;
 /// Puts the field of a date before a text: its day, if it is shown as one, or its number.
 fn put_date(text: &mut Short, date: ExcelDateTime)
     requires { length text.old + 24 ≤ 96 }
-    ensures puts { text.new ≡ shown_date date (dates.day_of date) ++ text.old }
+    ensures puts { text.new ≡ displayed_date date (dates.day_of date) ++ text.old }
     ensures room { length text.new ≤ length text.old + 24 }
 {
     match day_of(date) {

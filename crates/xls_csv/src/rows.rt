@@ -2,14 +2,14 @@
 
 ghost use Rattle.std.specs.Prelude.{◌≡◌, ◌≤◌, ◌^◌, ◌+◌, ◌==◌, length, map, IfOk, OnOk};
 ghost use Rattle.csv.specs.Writing.{default_writer, row_body};
-ghost use Rattle.xls_biff.specs.Cells.{Entry};
+ghost use Rattle.xls_biff.specs.Cells.{CellEntry};
 ghost use Rattle.xls_range.specs.Positions.{IsAscending};
 ghost use Rattle.xls_lines.specs.Gathering.{Delivers, Puts};
 ghost use Rattle.xls_csv.specs.Dense.{sheet_csv};
 ghost use Rattle.xls_csv.specs.Fields.{field};
-ghost use Rattle.xls_csv.specs.Steps.{placed};
+ghost use Rattle.xls_csv.specs.Steps.{field_placed};
 ghost use Rattle.xls_csv.specs.Text.{row_csv, rows_csv};
-ghost use Rattle.xls_csv.specs.Walk.{left_along, row_along, rows_along, take_at, walk};
+ghost use Rattle.xls_csv.specs.Walk.{left_over, row_over, rows_over, take_at, walk_rows};
 
 use crate::ahead::Ahead;
 use crate::extent::{Extent, extent_of};
@@ -30,8 +30,8 @@ fn put_field<K: Sink>(
 ) -> Result<bool, Stop>
     requires { left + place ≤ 2 ^ 32 }
     ensures puts { Puts (K.state sink.old) gathered.old (K.state sink.new) gathered.new
-        (placed place (take_at row (left + place) cells.old).0) result }
-    ensures bare { IfOk result (λ is_bare. is_bare ≡ (length (placed place (take_at row (left + place) cells.old).0) == 0)) }
+        (field_placed place (take_at row (left + place) cells.old).0) result }
+    ensures bare { IfOk result (λ is_bare. is_bare ≡ (length (field_placed place (take_at row (left + place) cells.old).0) == 0)) }
     ensures cells { OnOk result (cells.new ≡ (take_at row (left + place) cells.old).1) }
 {
     gathered.pass(sink)?;
@@ -50,10 +50,10 @@ fn put_fields<K: Sink>(
 ) -> Result<bool, Stop>
     requires { left + width ≤ 2 ^ 32 }
     ensures puts { Puts (K.state sink.old) gathered.old (K.state sink.new) gathered.new
-        (row_body default_writer (map field (row_along row left width cells.old))) result }
+        (row_body default_writer (map field (row_over row left width cells.old))) result }
     ensures bare { IfOk result (λ is_bare. is_bare
-        ≡ (length (row_body default_writer (map field (row_along row left width cells.old))) == 0)) }
-    ensures cells { OnOk result (cells.new ≡ left_along row left width cells.old) }
+        ≡ (length (row_body default_writer (map field (row_over row left width cells.old))) == 0)) }
+    ensures cells { OnOk result (cells.new ≡ left_over row left width cells.old) }
 {
     let mut is_bare = true;
     for place in 0..width {
@@ -74,8 +74,8 @@ fn put_row<K: Sink>(
 ) -> Result<(), Stop>
     requires { left + width ≤ 2 ^ 32 }
     ensures puts { Puts (K.state sink.old) gathered.old (K.state sink.new) gathered.new
-        (row_csv (row_along row left width cells.old)) result }
-    ensures cells { OnOk result (cells.new ≡ left_along row left width cells.old) }
+        (row_csv (row_over row left width cells.old)) result }
+    ensures cells { OnOk result (cells.new ≡ left_over row left width cells.old) }
 {
     let is_bare = put_fields(gathered, sink, cells, row, left, width)?;
     gathered.push_end(is_bare)?;
@@ -92,7 +92,7 @@ fn put_rows<K: Sink>(
     requires rows { extent.top + extent.height ≤ 2 ^ 32 }
     requires columns { extent.left + extent.width ≤ 2 ^ 32 }
     ensures { Puts (K.state sink.old) gathered.old (K.state sink.new) gathered.new
-        (rows_csv (rows_along extent.height extent.top extent.left extent.width cells.entry)) result }
+        (rows_csv (rows_over extent.height extent.top extent.left extent.width cells.entry)) result }
 {
     for i in 0..extent.height {
         put_row(
@@ -109,7 +109,7 @@ fn put_rows<K: Sink>(
 
 /// Writes the rows of these cells.
 fn write_walk<K: Sink>(alloc: Global, sink: &mut K, cells: &SheetCells<'_>) -> Result<(), Stop>
-    ensures { Delivers (K.state sink.old) (K.state sink.new) (rows_csv (walk cells.now)) result }
+    ensures { Delivers (K.state sink.old) (K.state sink.new) (rows_csv (walk_rows cells.now)) result }
 {
     let mut gathered = Gathered::new(alloc);
     let extent = extent_of(cells);
@@ -123,8 +123,8 @@ fn write_walk<K: Sink>(alloc: Global, sink: &mut K, cells: &SheetCells<'_>) -> R
 /// most 64 KiB and one field are gathered; neither the box nor a row is ever made. Only a write that fails,
 /// or running out of memory, stops it.
 pub fn write_rows<K: Sink>(alloc: Global, sink: &mut K, cells: &SheetCells<'_>) -> Result<(), Stop>
-    ensures walk { Delivers (K.state sink.old) (K.state sink.new) (rows_csv (walk cells.now)) result }
-    ensures dense { IsAscending (map (λ (c : Entry). c.0) cells.now)
+    ensures walk_rows { Delivers (K.state sink.old) (K.state sink.new) (rows_csv (walk_rows cells.now)) result }
+    ensures dense { IsAscending (map (λ (c : CellEntry). c.0) cells.now)
         → Delivers (K.state sink.old) (K.state sink.new) (sheet_csv cells.now) result }
 {
     write_walk(alloc, sink, cells)

@@ -21,7 +21,7 @@ below a b c d f g h = by_row (nat_lt a c) refl
 
 -- after one more position
 pub ends_with : (a : Ascent) (ps : List Position) (p : Position) → p.1 < 2 ^ 32 → a.last ≡ number_of p → EndsIn a.last (ps ++ p ∷ [])
-ends_with a ps p f e = record { front = ps; position = p; whole = refl; number = e; column = f }
+ends_with a ps p f e = record { prefix = ps; position = p; whole = refl; number = e; column = f }
 
 pub ascends_with : (a : Ascent) (ps : List Position) (p : Position) → p.1 < 2 ^ 32 → IsAscent a ps → a.falls ≡ 0
     → (a.count ≡ 0) ⊎ (a.last < number_of p) → IsAscending (ps ++ p ∷ [])
@@ -36,7 +36,7 @@ ascends_with a ps p f h t follows = by_count (a.count == 0) refl
         let lower : a.last < number_of p = elim follows [ inl z ↦ absurd (grind arith) | inr l ↦ l ] in
         let number = ends.number in
         subst (λ (l : List Position). IsAscending (l ++ p ∷ [])) (sym ends.whole)
-        (ascends_more ends.front ends.position p (subst IsAscending ends.whole (h.order t))
+        (ascends_more ends.prefix ends.position p (subst IsAscending ends.whole (h.order t))
         (below ends.position.0 ends.position.1 p.0 p.1 ends.column f (omega (arith, number, lower))))
 
 -- the box, widened

@@ -6,32 +6,32 @@ use Rattle.xls_stream.specs.Stream.{Group}
 use Rattle.xls_stream.specs.Walks.{IsBytes}
 use Rattle.xls_stream.specs.Listing.{Kept, kept_group}
 use Rattle.xls_record.specs.declared.error.XlsError.{XlsError}
-use Rattle.xls_biff.specs.Cells.{Entry, Position}
+use Rattle.xls_biff.specs.Cells.{CellEntry, Position}
 use Rattle.xls_biff.specs.Outer.{Keeps, Over, CutShort}
 use Rattle.xls_biff.specs.SheetTable.{SheetRecord, formula_position, position_in}
-use Rattle.xls_meaning.specs.InForce.{InForce}
-use Rattle.xls_meaning.specs.SheetTable.{adds, given_at, kept_line}
-use Rattle.xls_meaning.specs.Reading.{given_by}
+use Rattle.xls_meaning.specs.Settings.{Settings}
+use Rattle.xls_meaning.specs.SheetTable.{adds, yield_at, kept_line}
+use Rattle.xls_meaning.specs.Reading.{yield_of}
 use Rattle.xls_record.specs.Reading.{gives}
 use Rattle.xls_open.proofs.PartLemmas.{keeps_bytes}
 use Rattle.xls_data.specs.declared.regions.Dimensions.{Dimensions}
 use Rattle.xls_meaning.specs.Order.{somes}
 use Rattle.xls_meaning.proofs.OrderLemmas.{somes-append}
-use Rattle.xls_cursors.specs.Formulas.{Formula, formula_of, formulas_of}
-use Rattle.xls_cursors.specs.Contents.{IsReadable, cells_from, kept_in, moved, regions_at, regions_of}
-use Rattle.xls_cursors.specs.Walking.{IsSound, Left}
+use Rattle.xls_cursors.specs.Formulas.{Formula, formula_of, formulas_kept}
+use Rattle.xls_cursors.specs.Contents.{IsReadable, cells_after, kept_in, moved, regions_at, regions_of}
+use Rattle.xls_cursors.specs.Walking.{IsSoundPart, Left}
 use Rattle.xls_cursors.proofs.WalkLemmas.{kept_next, kept_over, kept_cut, kept_nothing}
 
 -- ---- one more record
 
-module _ (s : InForce) (before : Left) (g : Group) (after : Left) (sound : IsSound s before) (k : Keeps before.0 before.1 g after.0 after.1) where
+module _ (s : Settings) (before : Left) (g : Group) (after : Left) (sound : IsSoundPart s before) (k : Keeps before.0 before.1 g after.0 after.1) where
   left_is : kept_in before.0 before.1 ≡ kept_group g ∷ kept_in after.0 after.1
   left_is = kept_next before.0 before.1 g after.0 after.1 sound.0 k
 
   both : AllByRecursion (IsReadable s.cells) (kept_group g ∷ kept_in after.0 after.1)
   both = subst (AllByRecursion (IsReadable s.cells)) left_is sound.1
 
-  pub sound_next : IsSound s after
+  pub sound_next : IsSoundPart s after
   sound_next = (keeps_bytes before.0 before.1 g after.0 after.1 k sound.0, both.1)
 
   -- the line of the record
@@ -39,38 +39,38 @@ module _ (s : InForce) (before : Left) (g : Group) (after : Left) (sound : IsSou
   line_next = both.0
 
   record_gives : (at : Position) (line : SheetRecord) → kept_line s.cells (kept_group g) ≡ Ok line
-      → (given_by (given_at s at (kept_group g))).cells ≡ (adds s.formulas at line).cells
-  record_gives at line e = ap (λ (r : Result SheetRecord XlsError). (given_by (gives (adds s.formulas at) r)).cells) e
+      → (yield_of (yield_at s at (kept_group g))).cells ≡ (adds s.formulas at line).cells
+  record_gives at line e = ap (λ (r : Result SheetRecord XlsError). (yield_of (gives (adds s.formulas at) r)).cells) e
 
   -- what the code found in it, and where it went on
-  pub cells_next : (at behind : Position) (cells : List Entry)
+  pub cells_next : (at following : Position) (cells : List CellEntry)
       → ((line : SheetRecord) → kept_line s.cells (kept_group g) ≡ Ok line → cells ≡ (adds s.formulas at line).cells)
-      → ((line : SheetRecord) → kept_line s.cells (kept_group g) ≡ Ok line → behind ≡ unwrap_or (formula_position line) at)
-      → cells_from s at (kept_in before.0 before.1) ≡ cells ++ cells_from s behind (kept_in after.0 after.1)
-  cells_next at behind cells gives_it moves =
+      → ((line : SheetRecord) → kept_line s.cells (kept_group g) ≡ Ok line → following ≡ unwrap_or (formula_position line) at)
+      → cells_after s at (kept_in before.0 before.1) ≡ cells ++ cells_after s following (kept_in after.0 after.1)
+  cells_next at following cells gives_it moves =
       let line = line_next.0 in
       let is = line_next.1 in
-      ap (cells_from s at) left_is
-      ∙ ap (λ (l : List Entry). l ++ cells_from s (moved s.cells at (kept_group g)) (kept_in after.0 after.1)) (record_gives at line is ∙ sym (gives_it line is))
-      ∙ ap (λ (p : Position). cells ++ cells_from s p (kept_in after.0 after.1))
+      ap (cells_after s at) left_is
+      ∙ ap (λ (l : List CellEntry). l ++ cells_after s (moved s.cells at (kept_group g)) (kept_in after.0 after.1)) (record_gives at line is ∙ sym (gives_it line is))
+      ∙ ap (λ (p : Position). cells ++ cells_after s p (kept_in after.0 after.1))
       (ap (λ (r : Result SheetRecord XlsError). unwrap_or (position_in r) at) is ∙ sym (moves line is))
 
 -- ---- the end
 
 -- the bytes that are left have no more records
-pub over_sound : (s : InForce) (before : Left) → IsSound s before → Over before.0 before.1 → kept_in before.0 before.1 ≡ []
+pub over_sound : (s : Settings) (before : Left) → IsSoundPart s before → Over before.0 before.1 → kept_in before.0 before.1 ≡ []
 over_sound s before sound o = kept_over before.0 before.1 sound.0 o
 
-pub cut_sound : (s : InForce) (before : Left) (e : XlsError) → IsSound s before → CutShort before.0 before.1 e → kept_in before.0 before.1 ≡ []
+pub cut_sound : (s : Settings) (before : Left) (e : XlsError) → IsSoundPart s before → CutShort before.0 before.1 e → kept_in before.0 before.1 ≡ []
 cut_sound s before e sound c = kept_cut before.0 before.1 e sound.0 c
 
-pub nothing_left : (s : InForce) (after : Left) → after.0 ≡ [] → (kept_in after.0 after.1 ≡ []) × IsSound s after
+pub nothing_left : (s : Settings) (after : Left) → after.0 ≡ [] → (kept_in after.0 after.1 ≡ []) × IsSoundPart s after
 nothing_left s after e =
     let none : kept_in after.0 after.1 ≡ [] = ap (λ (x : List ℕ). kept_in x after.1) e ∙ kept_nothing after.1 in
     (none, (subst IsBytes (sym e) (λ i. omega arith), subst (AllByRecursion (IsReadable s.cells)) (sym none) tt))
 
-pub no_cells : (s : InForce) (before : Left) (at : Position) → kept_in before.0 before.1 ≡ [] → cells_from s at (kept_in before.0 before.1) ≡ []
-no_cells s before at e = ap (cells_from s at) e
+pub no_cells : (s : Settings) (before : Left) (at : Position) → kept_in before.0 before.1 ≡ [] → cells_after s at (kept_in before.0 before.1) ≡ []
+no_cells s before at e = ap (cells_after s at) e
 
 -- ---- the cells of a run
 
@@ -95,11 +95,11 @@ take_next (z ∷ xs) ys (suc i) x e h =
 
 pub formulas_next : (before : Left) (g : Group) (after : Left) → IsBytes before.0 → Keeps before.0 before.1 g after.0 after.1
     → (o : Option Formula) → o ≡ formula_of (kept_group g)
-    → formulas_of (kept_in before.0 before.1) ≡ somes (o ∷ []) ++ formulas_of (kept_in after.0 after.1)
+    → formulas_kept (kept_in before.0 before.1) ≡ somes (o ∷ []) ++ formulas_kept (kept_in after.0 after.1)
 formulas_next before g after fits k o e =
-    ap formulas_of (kept_next before.0 before.1 g after.0 after.1 fits k)
+    ap formulas_kept (kept_next before.0 before.1 g after.0 after.1 fits k)
     ∙ somes-append (formula_of (kept_group g) ∷ []) (map formula_of (kept_in after.0 after.1))
-    ∙ ap (λ (p : Option Formula). somes (p ∷ []) ++ formulas_of (kept_in after.0 after.1)) (sym e)
+    ∙ ap (λ (p : Option Formula). somes (p ∷ []) ++ formulas_kept (kept_in after.0 after.1)) (sym e)
 
 pub regions_next : (before : Left) (g : Group) (after : Left) → IsBytes before.0 → Keeps before.0 before.1 g after.0 after.1
     → (rs : List Dimensions) → rs ≡ regions_at (kept_group g)

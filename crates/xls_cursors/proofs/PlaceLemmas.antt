@@ -12,24 +12,24 @@ use Rattle.xls_stream.specs.declared.part.Part.{Part}
 use Rattle.xls_stream.specs.declared.types.TheConstants as types
 use Rattle.xls_stream.proofs.Ends.{has_groups, one_groups}
 use Rattle.xls_stream.proofs.Runs.{Run-whole}
-use Rattle.xls_stream.proofs.Shapes.{run_bytes}
+use Rattle.xls_stream.proofs.Outlines.{run_bytes}
 use Rattle.xls_data.specs.Content.{Content, nothing, text}
 use Rattle.xls_range.specs.Positions.{Position, Precedes, IsAscending, last_at, cell_position}
 use Rattle.xls_record.specs.declared.error.XlsError.{XlsError}
-use Rattle.xls_record.specs.Reading.{gives, listed, fault_in}
-use Rattle.xls_biff.specs.Cells.{Entry}
+use Rattle.xls_record.specs.Reading.{gives, results_listed, fault_in}
+use Rattle.xls_biff.specs.Cells.{CellEntry}
 use Rattle.xls_biff.specs.Outer.{Keeps}
 use Rattle.xls_biff.specs.Records.Rk.{first_column, mul_rk_at, mul_rk_count, rk_cell}
 use Rattle.xls_biff.specs.SheetTable.{SheetRecord, empty_record, cells_record, shared_record, string_record, formula_record, regions_record}
 use Rattle.xls_formula.specs.Context.{Context}
-use Rattle.xls_meaning.specs.InForce.{InForce}
-use Rattle.xls_meaning.specs.SheetTable.{Given, adds, given_at, kept_line, listed_cell}
-use Rattle.xls_meaning.specs.Reading.{given_by}
+use Rattle.xls_meaning.specs.Settings.{Settings}
+use Rattle.xls_meaning.specs.SheetTable.{Yield, adds, yield_at, kept_line, listed_cell}
+use Rattle.xls_meaning.specs.Reading.{yield_of}
 use Rattle.xls_meaning.specs.Order.{somes}
 use Rattle.xls_cursors.specs.Contents.{settled}
 use Rattle.xls_cursors.specs.Formulas.{Formula, formula_of}
 use Rattle.xls_cursors.specs.Groups.{groups_in}
-use Rattle.xls_cursors.specs.Values.{value_content}
+use Rattle.xls_cursors.specs.Values.{lent_content}
 use Rattle.xls_cursors.specs.declared.value.CellValue.{CellValue}
 use Rattle.xls_cursors.specs.Placed.{Place, cell_in, cell_number, cell_placed, first_kept, formula_placed, record_at, tokens_in}
 use Rattle.xls_cursors.specs.Placing.{value_or_blank}
@@ -41,20 +41,20 @@ use Rattle.xls_cursors.proofs.WalkLemmas.{are_groups, drop_bytes}
 through : (a b c d e f : ℕ) → Precedes (a, b) (c, d) → Precedes (c, d) (e, f) → Precedes (a, b) (e, f)
 through a b c d e f h k = grind arith
 
-all_last : (P : Position → Type 0) (front : List Position) (q : Position) → AllByRecursion P (front ++ q ∷ []) → P q
+all_last : (P : Position → Type 0) (prefix : List Position) (q : Position) → AllByRecursion P (prefix ++ q ∷ []) → P q
 all_last P [] q a = a.0
-all_last P (x ∷ front) q a = all_last P front q a.1
+all_last P (x ∷ prefix) q a = all_last P prefix q a.1
 
 all_more : (P : Position → Type 0) (ps : List Position) (q : Position) → AllByRecursion P ps → P q → AllByRecursion P (ps ++ q ∷ [])
 all_more P [] q a h = (h, tt)
 all_more P (p ∷ ps) q a h = (a.0, all_more P ps q a.1 h)
 
-pub ascends_more : (front : List Position) (last p : Position) → IsAscending (front ++ last ∷ []) → Precedes last p
-    → IsAscending ((front ++ last ∷ []) ++ p ∷ [])
+pub ascends_more : (prefix : List Position) (last p : Position) → IsAscending (prefix ++ last ∷ []) → Precedes last p
+    → IsAscending ((prefix ++ last ∷ []) ++ p ∷ [])
 ascends_more [] last p a h = ((h, tt), (tt, tt))
-ascends_more (x ∷ front) last p a h =
-    let far = through x.0 x.1 last.0 last.1 p.0 p.1 (all_last (Precedes x) front last a.0) h in
-    (all_more (Precedes x) (front ++ last ∷ []) p a.0 far, ascends_more front last p a.1 h)
+ascends_more (x ∷ prefix) last p a h =
+    let far = through x.0 x.1 last.0 last.1 p.0 p.1 (all_last (Precedes x) prefix last a.0) h in
+    (all_more (Precedes x) (prefix ++ last ∷ []) p a.0 far, ascends_more prefix last p a.1 h)
 
 -- one more of what is gone through
 pub seen_more : {X : Type 0} (at : X → Position) (all done : List X) (x : X) (left : List X) (before : List X) → done ++ before ≡ all → before ≡ x ∷ left
@@ -88,38 +88,38 @@ first_none bytes fits e =
 
 -- ---- tails of a part
 
-pub drop_front : (front rest : List ℕ) → drop (length (front ++ rest) - length rest) (front ++ rest) ≡ rest
-drop_front front rest =
-    let n : length (front ++ rest) - length rest ≡ length front = omega (arith, length-append front rest) in
-    rw n (by_front front)
+pub drop_prefix : (prefix rest : List ℕ) → drop (length (prefix ++ rest) - length rest) (prefix ++ rest) ≡ rest
+drop_prefix prefix rest =
+    let n : length (prefix ++ rest) - length rest ≡ length prefix = omega (arith, length-append prefix rest) in
+    rw n (by_prefix prefix)
   where
-    by_front : (f : List ℕ) → drop (length f) (f ++ rest) ≡ rest
-    by_front [] = refl
-    by_front (x ∷ f) = by_front f
+    by_prefix : (f : List ℕ) → drop (length f) (f ++ rest) ≡ rest
+    by_prefix [] = refl
+    by_prefix (x ∷ f) = by_prefix f
 
 -- a record that begins a tail of the part stands at its offset
-pub tail_record : (part front start : List ℕ) (g : Group) (rest : List ℕ) → IsBytes start → part ≡ front ++ start → Begins start g rest
+pub tail_record : (part prefix start : List ℕ) (g : Group) (rest : List ℕ) → IsBytes start → part ≡ prefix ++ start → Begins start g rest
     → record_at part (length part - length start) ≡ kept_group g
-tail_record part front start g rest fits e b =
+tail_record part prefix start g rest fits e b =
     ap (λ (x : List ℕ). first_kept (groups_in (drop (length x - length start) x)).0) e
-    ∙ ap (λ (x : List ℕ). first_kept (groups_in x).0) (drop_front front start)
+    ∙ ap (λ (x : List ℕ). first_kept (groups_in x).0) (drop_prefix prefix start)
     ∙ first_begun start g rest fits b
 
 pub tail_bytes : (before skipped start : List ℕ) → IsBytes before → before ≡ skipped ++ start → IsBytes start
-tail_bytes before skipped start fits e = subst IsBytes (drop_front skipped start) (drop_bytes (skipped ++ start) (length (skipped ++ start) - length start) (subst IsBytes e fits))
+tail_bytes before skipped start fits e = subst IsBytes (drop_prefix skipped start) (drop_bytes (skipped ++ start) (length (skipped ++ start) - length start) (subst IsBytes e fits))
 
-pub tail_tail : (part front before skipped start : List ℕ) → part ≡ front ++ before → before ≡ skipped ++ start → part ≡ (front ++ skipped) ++ start
-tail_tail part front before skipped start e f = e ∙ ap (λ (x : List ℕ). front ++ x) f ∙ sym (append_assoc front skipped start)
+pub tail_tail : (part prefix before skipped start : List ℕ) → part ≡ prefix ++ before → before ≡ skipped ++ start → part ≡ (prefix ++ skipped) ++ start
+tail_tail part prefix before skipped start e f = e ∙ ap (λ (x : List ℕ). prefix ++ x) f ∙ sym (append_assoc prefix skipped start)
 
-pub tail_short : (part front start : List ℕ) → part ≡ front ++ start → length start ≤ length part
-tail_short part front start e = rw e (omega (arith, length-append front start))
+pub tail_short : (part prefix start : List ℕ) → part ≡ prefix ++ start → length start ≤ length part
+tail_short part prefix start e = rw e (omega (arith, length-append prefix start))
 
 -- what a step leaves is a tail
-pub tail_after : (part front before : List ℕ) (was : ℕ) (g : Group) (after : List ℕ) (now : ℕ) → part ≡ front ++ before → Keeps before was g after now
-    → (behind : List ℕ) × (part ≡ behind ++ after)
-tail_after part front before was g after now e k =
+pub tail_after : (part prefix before : List ℕ) (was : ℕ) (g : Group) (after : List ℕ) (now : ℕ) → part ≡ prefix ++ before → Keeps before was g after now
+    → (following : List ℕ) × (part ≡ following ++ after)
+tail_after part prefix before was g after now e k =
     let bytes = flat_map group_bytes (k.groups ++ g ∷ []) in
-    (front ++ bytes, tail_tail part front before bytes after e (Run-whole before (k.groups ++ g ∷ []) after k.run))
+    (prefix ++ bytes, tail_tail part prefix before bytes after e (Run-whole before (k.groups ++ g ∷ []) after k.run))
 
 -- ---- formulas at their places
 
@@ -134,8 +134,8 @@ formulas_placed part at k e = by_formula (formula_of k) refl
 -- ---- cells at their places
 
 -- the cells of a MulRk
-pub run_is : {X : Type 0} (f : ℕ → X) (r : Result ℕ XlsError) (n : ℕ) (cells : List X) → r ≡ Ok n → listed f r ≡ Ok cells → cells ≡ map f (range_with_len 0 n)
-run_is f r n cells e h = let l : listed f (Ok n) ≡ Ok cells = rw e at h in cc
+pub run_is : {X : Type 0} (f : ℕ → X) (r : Result ℕ XlsError) (n : ℕ) (cells : List X) → r ≡ Ok n → results_listed f r ≡ Ok cells → cells ≡ map f (range_with_len 0 n)
+run_is f r n cells e h = let l : results_listed f (Ok n) ≡ Ok cells = rw e at h in cc
 
 pub get_run : {X : Type 0} (f : ℕ → X) (a n i : ℕ) → i < n → slice_get (map f (range_with_len a n)) i ≡ Some (f (a + i))
 get_run f a zero i l = absurd (omega arith)
@@ -159,31 +159,31 @@ map_both : {X Y Z : Type 0} (f : X → Y) (g : Y → Z) (xs : List X) → map g 
 map_both f g [] = refl
 map_both {X} {Y} {Z} f g (x ∷ xs) = ap (λ (l : List Z). g (f x) ∷ l) (map_both f g xs)
 
-abbrev pub place_of : ℕ → Entry → Place
+abbrev pub place_of : ℕ → CellEntry → Place
 place_of at c = (c.0, at)
 
 -- the places of the cells of a MulRk
-pub run_places : (f : ℕ → Entry) (at n : ℕ) (cells : List Entry) → cells ≡ map f (range_with_len 0 n)
+pub run_places : (f : ℕ → CellEntry) (at n : ℕ) (cells : List CellEntry) → cells ≡ map f (range_with_len 0 n)
     → map (place_of at) cells ≡ map (λ (i : ℕ). place_of at (f i)) (range_with_len 0 n)
 run_places f at n cells e = ap (map (place_of at)) e ∙ map_both f (place_of at) (range_with_len 0 n)
 
 -- ---- the value of a cell of a record
 
-abbrev pub value_of : Option Entry → Content
-value_of o = unwrap_or (option_map (λ (c : Entry). c.1) o) nothing
+abbrev pub value_of : Option CellEntry → Content
+value_of o = unwrap_or (option_map (λ (c : CellEntry). c.1) o) nothing
 
-same_value : (p : Position) (o : Option Entry) → value_of o ≡ (unwrap_or o (p, nothing)).1
+same_value : (p : Position) (o : Option CellEntry) → value_of o ≡ (unwrap_or o (p, nothing)).1
 same_value p None = refl
 same_value p (Some c) = refl
 
-pub no_record : (s : InForce) (p : Position) (k : Kept) → k ≡ record { typ = 0; body = [] } → cell_in s p k ≡ nothing
+pub no_record : (s : Settings) (p : Position) (k : Kept) → k ≡ record { typ = 0; body = [] } → cell_in s p k ≡ nothing
 no_record s p k e = rw e refl
 
-pub faulty_record : (s : InForce) (p : Position) (k : Kept) (e : XlsError) → fault_in (kept_line s.cells k) ≡ Err e → cell_in s p k ≡ nothing
+pub faulty_record : (s : Settings) (p : Position) (k : Kept) (e : XlsError) → fault_in (kept_line s.cells k) ≡ Err e → cell_in s p k ≡ nothing
 faulty_record s p k e h = by_line (kept_line s.cells k) h
   where
     by_line : (r : Result SheetRecord XlsError) → fault_in r ≡ Err e
-        → (unwrap_or (slice_get (given_by (gives (adds s.formulas p) r)).cells (cell_number p k)) (p, nothing)).1 ≡ nothing
+        → (unwrap_or (slice_get (yield_of (gives (adds s.formulas p) r)).cells (cell_number p k)) (p, nothing)).1 ≡ nothing
     by_line (Ok g) f = absurd cc
     by_line (Err x) f = refl
 
@@ -192,58 +192,58 @@ sound_record (Ok g) f = (g, refl)
 sound_record (Err x) f = absurd cc
 
 -- of a MulRk
-pub value_run : (s : InForce) (p : Position) (n : ℕ) (o : Option Content) (g : SheetRecord) (r : Result (List Entry) XlsError) → gives cells_record r ≡ Ok g
-    → ((cells : List Entry) → r ≡ Ok cells → o ≡ option_map (λ (c : Entry). c.1) (slice_get cells n))
-    → unwrap_or o nothing ≡ (unwrap_or (slice_get (given_by (gives (adds s.formulas p) (gives cells_record r))).cells n) (p, nothing)).1
+pub value_run : (s : Settings) (p : Position) (n : ℕ) (o : Option Content) (g : SheetRecord) (r : Result (List CellEntry) XlsError) → gives cells_record r ≡ Ok g
+    → ((cells : List CellEntry) → r ≡ Ok cells → o ≡ option_map (λ (c : CellEntry). c.1) (slice_get cells n))
+    → unwrap_or o nothing ≡ (unwrap_or (slice_get (yield_of (gives (adds s.formulas p) (gives cells_record r))).cells n) (p, nothing)).1
 value_run s p n o g (Ok cells) h k = ap (λ (x : Option Content). unwrap_or x nothing) (k cells refl) ∙ same_value p (slice_get cells n)
 value_run s p n o g (Err e) h k = absurd cc
 
 -- of a record with one cell
-pub value_one : (s : InForce) (p : Position) (found : Option Entry) (g : SheetRecord) (r : Result SheetRecord XlsError) → r ≡ Ok g
+pub value_one : (s : Settings) (p : Position) (found : Option CellEntry) (g : SheetRecord) (r : Result SheetRecord XlsError) → r ≡ Ok g
     → listed_cell found ≡ (adds s.formulas p g).cells
-    → value_of found ≡ (unwrap_or (slice_get (given_by (gives (adds s.formulas p) r)).cells 0) (p, nothing)).1
+    → value_of found ≡ (unwrap_or (slice_get (yield_of (gives (adds s.formulas p) r)).cells 0) (p, nothing)).1
 value_one s p found g r e h =
     rw (e, sym h) (by_found found)
   where
-    by_found : (o : Option Entry) → value_of o ≡ (unwrap_or (slice_get (listed_cell o) 0) (p, nothing)).1
+    by_found : (o : Option CellEntry) → value_of o ≡ (unwrap_or (slice_get (listed_cell o) 0) (p, nothing)).1
     by_found None = refl
     by_found (Some c) = refl
 
 -- ---- the places of a record's cells
 
 -- a cell that a record gives is read at its position again
-same_adds : (s : InForce) (at : Position) (g : SheetRecord) (c : Entry) → (adds s.formulas at g).cells ≡ c ∷ [] → (adds s.formulas c.0 g).cells ≡ c ∷ []
+same_adds : (s : Settings) (at : Position) (g : SheetRecord) (c : CellEntry) → (adds s.formulas at g).cells ≡ c ∷ [] → (adds s.formulas c.0 g).cells ≡ c ∷ []
 same_adds s at empty_record c h = absurd cc
 same_adds s at (cells_record cs) c h = h
 same_adds s at (shared_record o) c h = h
 same_adds s at (string_record cs) c h =
-    let same : ◌≡◌ {A = Entry} (at, text cs) c = cc in
-    let one : Position → List Entry = λ p. (p, text cs) ∷ [] in
-    ap one (ap (λ (x : Entry). x.0) (sym same)) ∙ h
+    let same : ◌≡◌ {A = CellEntry} (at, text cs) c = cc in
+    let one : Position → List CellEntry = λ p. (p, text cs) ∷ [] in
+    ap one (ap (λ (x : CellEntry). x.0) (sym same)) ∙ h
 same_adds s at (formula_record p value tokens) c h = h
 same_adds s at (regions_record rs) c h = absurd cc
 
-one_of : (o : Option Entry) (c : Entry) → o ≡ Some c → listed_cell o ≡ c ∷ []
+one_of : (o : Option CellEntry) (c : CellEntry) → o ≡ Some c → listed_cell o ≡ c ∷ []
 one_of o c e = ap listed_cell e
 
 -- a record with one cell
-pub place_one : (s : InForce) (part : List ℕ) (at : ℕ) (last : Position) (k : Kept) (g : SheetRecord) (c : Entry) → record_at part at ≡ k
+pub place_one : (s : Settings) (part : List ℕ) (at : ℕ) (last : Position) (k : Kept) (g : SheetRecord) (c : CellEntry) → record_at part at ≡ k
     → (k.typ == types.MUL_RK) ≡ false → kept_line s.cells k ≡ Ok g → c ∷ [] ≡ (adds s.formulas last g).cells
     → cell_placed s part (c.0, at) ≡ c
 place_one s part at last k g c here typ line one =
-    let again : given_by (given_at s c.0 k) ≡ adds s.formulas c.0 g = ap (λ (r : Result SheetRecord XlsError). given_by (gives (adds s.formulas c.0) r)) line in
-    let cells : (given_by (given_at s c.0 k)).cells ≡ c ∷ [] = ap (λ (x : Given). x.cells) again ∙ same_adds s last g c (sym one) in
+    let again : yield_of (yield_at s c.0 k) ≡ adds s.formulas c.0 g = ap (λ (r : Result SheetRecord XlsError). yield_of (gives (adds s.formulas c.0) r)) line in
+    let cells : (yield_of (yield_at s c.0 k)).cells ≡ c ∷ [] = ap (λ (x : Yield). x.cells) again ∙ same_adds s last g c (sym one) in
     let n : cell_number c.0 k ≡ 0 = ap (λ (b : Bool). if b then c.0.1 - first_column k.body else 0) typ in
     let value : cell_in s c.0 k ≡ c.1 =
-    ap (λ (xs : List Entry). (unwrap_or (slice_get xs (cell_number c.0 k)) (c.0, nothing)).1) cells
+    ap (λ (xs : List CellEntry). (unwrap_or (slice_get xs (cell_number c.0 k)) (c.0, nothing)).1) cells
     ∙ ap (λ (m : ℕ). (unwrap_or (slice_get (c ∷ []) m) (c.0, nothing)).1) n in
     ap (λ (j : Kept). placed c.0 (cell_in s c.0 j)) here ∙ ap (placed c.0) value
   where
-    placed : Position → Content → Entry
+    placed : Position → Content → CellEntry
     placed p v = (p, v)
 
 -- the cells of a MulRk
-pub run_each : (s : InForce) (part : List ℕ) (at : ℕ) (k : Kept) (a n count : ℕ) → record_at part at ≡ k → k.typ ≡ types.MUL_RK
+pub run_each : (s : Settings) (part : List ℕ) (at : ℕ) (k : Kept) (a n count : ℕ) → record_at part at ≡ k → k.typ ≡ types.MUL_RK
     → mul_rk_at s.cells.classes s.cells.is_1904 k.body ≡ Ok (map (rk_cell s.cells.classes s.cells.is_1904 k.body) (range_with_len 0 count)) → a + n ≡ count
     → map (cell_placed s part) (map (place_of at) (map (rk_cell s.cells.classes s.cells.is_1904 k.body) (range_with_len a n)))
     ≡ map (rk_cell s.cells.classes s.cells.is_1904 k.body) (range_with_len a n)
@@ -256,60 +256,60 @@ run_each s part at k a (suc n) count here typ read len =
     let over : first_column k.body + a - first_column k.body ≡ a = omega arith in
     let number : cell_number p k ≡ a = ap (λ (b : Bool). if b then p.1 - first_column k.body else 0) t ∙ over in
     let line : kept_line s.cells k ≡ Ok (cells_record (map f (range_with_len 0 count))) = rw typ (ap (gives cells_record) read) in
-    let cells : (given_by (given_at s p k)).cells ≡ map f (range_with_len 0 count) =
-    ap (λ (r : Result SheetRecord XlsError). (given_by (gives (adds s.formulas p) r)).cells) line in
+    let cells : (yield_of (yield_at s p k)).cells ≡ map f (range_with_len 0 count) =
+    ap (λ (r : Result SheetRecord XlsError). (yield_of (gives (adds s.formulas p) r)).cells) line in
     let zero_add : 0 + a ≡ a = omega arith in
     let value : cell_in s p k ≡ (f a).1 =
-    ap (λ (xs : List Entry). (unwrap_or (slice_get xs (cell_number p k)) (p, nothing)).1) cells
+    ap (λ (xs : List CellEntry). (unwrap_or (slice_get xs (cell_number p k)) (p, nothing)).1) cells
     ∙ ap (λ (m : ℕ). (unwrap_or (slice_get (map f (range_with_len 0 count)) m) (p, nothing)).1) number
-    ∙ ap (λ (o : Option Entry). (unwrap_or o (p, nothing)).1) (get_run f 0 count a (omega (arith, len)))
+    ∙ ap (λ (o : Option CellEntry). (unwrap_or o (p, nothing)).1) (get_run f 0 count a (omega (arith, len)))
     ∙ ap (λ (i : ℕ). (f i).1) zero_add in
     ap (λ (j : Kept). placed p (cell_in s p j) ∷ map (cell_placed s part) (map (place_of at) (map f (range_with_len (a + 1) n)))) here
     ∙ ap (λ (v : Content). placed p v ∷ map (cell_placed s part) (map (place_of at) (map f (range_with_len (a + 1) n)))) value
-    ∙ ap (λ (l : List Entry). f a ∷ l) others
+    ∙ ap (λ (l : List CellEntry). f a ∷ l) others
   where
-    placed : Position → Content → Entry
+    placed : Position → Content → CellEntry
     placed p v = (p, v)
 
 -- ---- the places of any record
 
 -- the cells of a MulRk without a fault, at their places
-pub run_placed : (s : InForce) (part : List ℕ) (at : ℕ) (last : Position) (k : Kept) (g : SheetRecord) → record_at part at ≡ k → k.typ ≡ types.MUL_RK
+pub run_placed : (s : Settings) (part : List ℕ) (at : ℕ) (last : Position) (k : Kept) (g : SheetRecord) → record_at part at ≡ k → k.typ ≡ types.MUL_RK
     → gives cells_record (mul_rk_at s.cells.classes s.cells.is_1904 k.body) ≡ Ok g
     → map (cell_placed s part) (map (place_of at) (adds s.formulas last g).cells) ≡ (adds s.formulas last g).cells
 run_placed s part at last k g here typ line = by_count (mul_rk_count k.body) refl line
   where
-    by_count : (r : Result ℕ XlsError) → mul_rk_count k.body ≡ r → gives cells_record (listed (rk_cell s.cells.classes s.cells.is_1904 k.body) r) ≡ Ok g
+    by_count : (r : Result ℕ XlsError) → mul_rk_count k.body ≡ r → gives cells_record (results_listed (rk_cell s.cells.classes s.cells.is_1904 k.body) r) ≡ Ok g
         → map (cell_placed s part) (map (place_of at) (adds s.formulas last g).cells) ≡ (adds s.formulas last g).cells
     by_count (Err e) c h = absurd cc
     by_count (Ok count) c h =
         let f = rk_cell s.cells.classes s.cells.is_1904 k.body in
         let same : cells_record (map f (range_with_len 0 count)) ≡ g = cc in
         subst (λ (x : SheetRecord). map (cell_placed s part) (map (place_of at) (adds s.formulas last x).cells) ≡ (adds s.formulas last x).cells) same
-        (run_each s part at k 0 count count here typ (ap (listed f) c) (omega arith))
+        (run_each s part at k 0 count count here typ (ap (results_listed f) c) (omega arith))
 
 -- what was put
 pub on_ok : {E P Q : Type 0} (r : Result (Unit {0}) E) → (P → Q) → OnOk r P → OnOk r Q
 on_ok (Ok u) f h = f h
 on_ok (Err e) f h = tt
 
-pub put_all : (s : InForce) (part : List ℕ) (old new more : List Place) (cells : List Entry) → new ≡ old ++ more → map (cell_placed s part) more ≡ cells
+pub put_all : (s : Settings) (part : List ℕ) (old new more : List Place) (cells : List CellEntry) → new ≡ old ++ more → map (cell_placed s part) more ≡ cells
     → map (cell_placed s part) new ≡ map (cell_placed s part) old ++ cells
 put_all s part old new more cells e h =
-    ap (map (cell_placed s part)) e ∙ map-append (cell_placed s part) old more ∙ ap (λ (l : List Entry). map (cell_placed s part) old ++ l) h
+    ap (map (cell_placed s part)) e ∙ map-append (cell_placed s part) old more ∙ ap (λ (l : List CellEntry). map (cell_placed s part) old ++ l) h
 
 pub same_ok : (a b : SheetRecord) → ◌≡◌ {A = Result SheetRecord XlsError} (Ok a) (Ok b) → a ≡ b
 same_ok a b e = cc
 
 -- what the places of a MulRk's cells are, by its line
-pub run_pushed : (P : List Entry → Type 0) (context : Context) (at : Position) (g : SheetRecord) (r : Result (List Entry) XlsError) → gives cells_record r ≡ Ok g
-    → ((cells : List Entry) → r ≡ Ok cells → P cells) → P ((adds context at g).cells)
+pub run_pushed : (P : List CellEntry → Type 0) (context : Context) (at : Position) (g : SheetRecord) (r : Result (List CellEntry) XlsError) → gives cells_record r ≡ Ok g
+    → ((cells : List CellEntry) → r ≡ Ok cells → P cells) → P ((adds context at g).cells)
 run_pushed P context at g (Ok cells) h k =
     let same : cells_record cells ≡ g = cc in subst (λ (x : SheetRecord). P ((adds context at x).cells)) same (k cells refl)
 run_pushed P context at g (Err e) h k = absurd cc
 
 -- a value by its content
-pub or_blank : (o : Option CellValue) → value_or_blank o ≡ unwrap_or (option_map value_content o) nothing
+pub or_blank : (o : Option CellValue) → value_or_blank o ≡ unwrap_or (option_map lent_content o) nothing
 or_blank None = refl
 or_blank (Some v) = refl
 

@@ -13,13 +13,13 @@ use Rattle.xls_record.specs.declared.error.XlsError.TheVariants.{Len}
 use Rattle.xls_record.specs.Reading.{◌>>=◌, ◌>>◌, at_least, gives}
 use Rattle.xls_record.proofs.ReadingLemmas.{gives-ok}
 use Rattle.xls_strings.specs.Strings.{string_at}
-use Rattle.xls_biff.specs.Cells.{Entry, Position, class_at, position_at}
+use Rattle.xls_biff.specs.Cells.{CellEntry, Position, class_at, position_at}
 use Rattle.xls_biff.specs.Records.BoolErr.{bes_content, bool_err_at}
 use Rattle.xls_biff.specs.Records.Label.{label_at}
 use Rattle.xls_biff.specs.Records.Number.{number_at}
 use Rattle.xls_biff.specs.Records.Rk.{rk_at, rk_content}
 use Rattle.xls_biff.specs.SheetTable.{CellContext, SheetRecord, cell_record, cells_record, sheet_record_at}
-use Rattle.xls_cursors.specs.Surveying.{IsPlain}
+use Rattle.xls_cursors.specs.Surveying.{IsPlainCell}
 
 -- a body without a fault is so long, and what follows has none
 begins : {X : Type 0} (n : ℕ) (part : Part) (body : List ℕ) (rest : Result X XlsError) (x : X) → (at_least n part body >> rest) ≡ Ok x
@@ -34,19 +34,19 @@ begins {X} n part body rest x h = by_test (nat_lt (length body) n) refl
     by_test false t = (long t, rw t at h)
 
 -- the cell stands where the body begins
-abbrev Stands : List ℕ → Entry → Type 0
+abbrev Stands : List ℕ → CellEntry → Type 0
 Stands body e = (4 ≤ length body) × (position_at body ≡ e.0)
 
-one_value : {X : Type 0} (f : X → Content) (body : List ℕ) (r : Result X XlsError) (e : Entry)
+one_value : {X : Type 0} (f : X → Content) (body : List ℕ) (r : Result X XlsError) (e : CellEntry)
     → (r >>= (λ v. Ok (position_at body, f v))) ≡ Ok e → position_at body ≡ e.0
 one_value f body (Ok v) e h =
-    let same : (position_at body, f v) ≡ e = cc in ap (λ (x : Entry). x.0) same
+    let same : (position_at body, f v) ≡ e = cc in ap (λ (x : CellEntry). x.0) same
 one_value f body (Err x) e h = absurd cc
 
-stands : {X : Type 0} (n : ℕ) (part : Part) (body : List ℕ) (f : X → Content) (r : Result X XlsError) (e : Entry) → 4 ≤ n
+stands : {X : Type 0} (n : ℕ) (part : Part) (body : List ℕ) (f : X → Content) (r : Result X XlsError) (e : CellEntry) → 4 ≤ n
     → (at_least n part body >> (r >>= (λ v. Ok (position_at body, f v)))) ≡ Ok e → Stands body e
 stands {X} n part body f r e l h =
-    let rest : Result Entry XlsError = r >>= (λ v. Ok (position_at body, f v)) in
+    let rest : Result CellEntry XlsError = r >>= (λ v. Ok (position_at body, f v)) in
     let b = begins n part body rest e h in
     let long = b.0 in
     (omega (arith, l, long), one_value f body r e b.1)
@@ -54,10 +54,10 @@ stands {X} n part body f r e l h =
 -- its line gives one cell, which stands there
 abbrev Line : ℕ → List ℕ → Type 0
 Line typ body = (s : CellContext) (g : SheetRecord) → sheet_record_at s typ body ≡ Ok g
-    → (e : Entry) × Stands body e × (g ≡ cells_record (e ∷ []))
+    → (e : CellEntry) × Stands body e × (g ≡ cells_record (e ∷ []))
 
-by_reader : (body : List ℕ) (g : SheetRecord) (r : Result Entry XlsError) → ((e : Entry) → r ≡ Ok e → Stands body e)
-    → gives cell_record r ≡ Ok g → (e : Entry) × Stands body e × (g ≡ cells_record (e ∷ []))
+by_reader : (body : List ℕ) (g : SheetRecord) (r : Result CellEntry XlsError) → ((e : CellEntry) → r ≡ Ok e → Stands body e)
+    → gives cell_record r ≡ Ok g → (e : CellEntry) × Stands body e × (g ≡ cells_record (e ∷ []))
 by_reader body g r k h = let x = gives-ok cell_record r g h in (x.0, k x.0 x.1, sym x.2)
 
 number_line : (body : List ℕ) → Line types.NUMBER body
@@ -81,7 +81,7 @@ r_string_line body s g h = by_reader body g (label_at s.page s.version body) (λ
     stands 6 parts.Label body text (string_at s.page s.version (drop 6 body)) e (omega arith) f) h
 
 by_line : (typ : ℕ) (body : List ℕ) → Line typ body → (typ ≡ types.MERGE_CELLS → ⊥) → (place : Option Position)
-    → (4 ≤ length body → place ≡ Some (position_at body)) → IfSome place (IsPlain (record { typ = typ; body = body }))
+    → (4 ≤ length body → place ≡ Some (position_at body)) → IfSome place (IsPlainCell (record { typ = typ; body = body }))
 by_line typ body line apart None is = tt
 by_line typ body line apart (Some p) is = record {
   one = λ s g h.
@@ -93,17 +93,17 @@ by_line typ body line apart (Some p) is = record {
 }
 
 module _ (typ : ℕ) (body : List ℕ) (place : Option Position) (is : 4 ≤ length body → place ≡ Some (position_at body)) where
-  pub plain_number : typ ≡ types.NUMBER → IfSome place (IsPlain (record { typ = typ; body = body }))
+  pub plain_number : typ ≡ types.NUMBER → IfSome place (IsPlainCell (record { typ = typ; body = body }))
   plain_number e = rw e (by_line types.NUMBER body (number_line body) (λ m. absurd (omega (arith, m))) place is)
 
-  pub plain_rk : typ ≡ types.RK → IfSome place (IsPlain (record { typ = typ; body = body }))
+  pub plain_rk : typ ≡ types.RK → IfSome place (IsPlainCell (record { typ = typ; body = body }))
   plain_rk e = rw e (by_line types.RK body (rk_line body) (λ m. absurd (omega (arith, m))) place is)
 
-  pub plain_bool_err : typ ≡ types.BOOL_ERR → IfSome place (IsPlain (record { typ = typ; body = body }))
+  pub plain_bool_err : typ ≡ types.BOOL_ERR → IfSome place (IsPlainCell (record { typ = typ; body = body }))
   plain_bool_err e = rw e (by_line types.BOOL_ERR body (bool_err_line body) (λ m. absurd (omega (arith, m))) place is)
 
-  pub plain_label : typ ≡ types.LABEL → IfSome place (IsPlain (record { typ = typ; body = body }))
+  pub plain_label : typ ≡ types.LABEL → IfSome place (IsPlainCell (record { typ = typ; body = body }))
   plain_label e = rw e (by_line types.LABEL body (label_line body) (λ m. absurd (omega (arith, m))) place is)
 
-  pub plain_r_string : typ ≡ types.R_STRING → IfSome place (IsPlain (record { typ = typ; body = body }))
+  pub plain_r_string : typ ≡ types.R_STRING → IfSome place (IsPlainCell (record { typ = typ; body = body }))
   plain_r_string e = rw e (by_line types.R_STRING body (r_string_line body) (λ m. absurd (omega (arith, m))) place is)

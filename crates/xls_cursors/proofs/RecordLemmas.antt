@@ -3,7 +3,7 @@ use Rattle.std.proofs.Common.{◌≡◌, ◌≢◌, ℕ, List, [], ◌∷◌, re
 use Rattle.std.specs.Option.{option_map}
 use Rattle.xls_stream.specs.declared.types.TheConstants as types
 use Rattle.xls_record.specs.declared.error.XlsError.{XlsError}
-use Rattle.xls_biff.specs.Cells.{Entry}
+use Rattle.xls_biff.specs.Cells.{CellEntry}
 use Rattle.xls_biff.specs.SheetReading.{HasItems}
 use Rattle.xls_biff.specs.SheetTable.{SheetRecord}
 use Rattle.xls_biff.specs.declared.sheet_record.SheetRecord as read
@@ -32,11 +32,11 @@ no_run typ body _ h apart = refl
 -- ---- the first cell of a record
 
 -- one cell, or none, and none after it
-pub only_cell : (found : Option SheetCell) (cells after : List Entry) → listed_cell (option_map cell_entry found) ≡ cells → after ≡ []
+pub only_cell : (found : Option SheetCell) (cells after : List CellEntry) → listed_cell (option_map cell_entry found) ≡ cells → after ≡ []
     → CellSteps cells found after
 only_cell None cells after e f = (sym e, f)
-only_cell (Some c) cells after e f = sym e ∙ ap (λ (l : List Entry). cell_entry c ∷ l) (sym f)
+only_cell (Some c) cells after e f = sym e ∙ ap (λ (l : List CellEntry). cell_entry c ∷ l) (sym f)
 
 -- the first of a run, and those after it
-pub run_steps : (cells run : List Entry) (found : Option SheetCell) (after : List Entry) → cells ≡ run → CellSteps run found after → CellSteps cells found after
+pub run_steps : (cells run : List CellEntry) (found : Option SheetCell) (after : List CellEntry) → cells ≡ run → CellSteps run found after → CellSteps cells found after
 run_steps cells run found after e h = rw e h

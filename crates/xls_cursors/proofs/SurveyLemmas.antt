@@ -7,13 +7,13 @@ use Rattle.xls_stream.specs.declared.types.TheConstants as types
 use Rattle.xls_data.specs.Content.{Content}
 use Rattle.xls_data.specs.declared.regions.Dimensions.{Dimensions}
 use Rattle.xls_range.specs.Bounds.{bounds_of}
-use Rattle.xls_biff.specs.Cells.{Entry, Position}
+use Rattle.xls_biff.specs.Cells.{CellEntry, Position}
 use Rattle.xls_biff.specs.SheetTable.{CellContext, SheetRecord, empty_record, cells_record, shared_record, string_record, formula_record, regions_record, formula_position}
 use Rattle.xls_meaning.specs.SheetTable.{kept_line}
 use Rattle.xls_meaning.specs.Order.{somes}
-use Rattle.xls_meaning.specs.InForce.{InForce}
-use Rattle.xls_cursors.specs.Contents.{cells_from, regions_at, regions_of}
-use Rattle.xls_cursors.specs.Formulas.{Formula, formula_given, formulas_of}
+use Rattle.xls_meaning.specs.Settings.{Settings}
+use Rattle.xls_cursors.specs.Contents.{cells_after, regions_at, regions_of}
+use Rattle.xls_cursors.specs.Formulas.{Formula, formula_from, formulas_kept}
 use Rattle.xls_cursors.specs.Placing.{IsAscent}
 use Rattle.xls_cursors.specs.declared.ascent.Ascent.{Ascent}
 use Rattle.xls_cursors.proofs.TableLemmas.{formulas_by_the_table}
@@ -24,20 +24,20 @@ use Rattle.xls_cursors.proofs.BoundsLemmas.{bounds_last}
 
 -- ---- what was found
 
-pub found_none : (found : FoundCells) (cells more : List Entry) → more ≡ [] → IsFound found cells → IsFound found (cells ++ more)
+pub found_none : (found : FoundCells) (cells more : List CellEntry) → more ≡ [] → IsFound found cells → IsFound found (cells ++ more)
 found_none found cells more e h = rw (e, append-nil cells) h
 
-pub found_one : (found : FoundCells) (cells more : List Entry) (p : Position) (v : Content) → more ≡ (p, v) ∷ []
+pub found_one : (found : FoundCells) (cells more : List CellEntry) (p : Position) (v : Content) → more ≡ (p, v) ∷ []
     → IsFound found (cells ++ (p, v) ∷ []) → IsFound found (cells ++ more)
 found_one found cells more p v e h = rw e h
 
-pub found_with : (found : FoundCells) (cells : List Entry) (p : Position) (v : Content) (b : Option Dimensions)
-    → IsAscent found.ascent (map (λ (c : Entry). c.0) cells ++ p ∷ []) → box_found found ≡ Some (widened b p) → b ≡ bounds_of cells
+pub found_with : (found : FoundCells) (cells : List CellEntry) (p : Position) (v : Content) (b : Option Dimensions)
+    → IsAscent found.ascent (map (λ (c : CellEntry). c.0) cells ++ p ∷ []) → box_found found ≡ Some (widened b p) → b ≡ bounds_of cells
     → 0 < found.ascent.count → IsFound found (cells ++ (p, v) ∷ [])
 found_with found cells p v b a w e some =
     record {
       unbounded = λ z. absurd (omega (arith, z, some));
-      ascent = subst (IsAscent found.ascent) (sym (map-append (λ (c : Entry). c.0) cells ((p, v) ∷ []))) a;
+      ascent = subst (IsAscent found.ascent) (sym (map-append (λ (c : CellEntry). c.0) cells ((p, v) ∷ []))) a;
       bounds = w ∙ ap (λ (x : Option Dimensions). Some (widened x p)) e ∙ sym (bounds_last cells (p, v));
     }
 
@@ -47,30 +47,30 @@ pub no_more : {X : Type 0} (at : X → Position) (xs : List X) → map at xs ≡
 no_more at [] e = refl
 no_more at (x ∷ xs) e = absurd cc
 
-pub at_position : (cells : List Entry) (p : Position) (c : Entry) → p ≡ c.0 → c ∷ [] ≡ cells → IsCellAt (Some p) cells
+pub at_position : (cells : List CellEntry) (p : Position) (c : CellEntry) → p ≡ c.0 → c ∷ [] ≡ cells → IsCellAt (Some p) cells
 at_position cells p c e h = rw e (c.1, sym h)
 
 -- ---- formulas
 
 -- that of a record by its line
-listed_by : (s : CellContext) (k : Kept) (g : SheetRecord) → kept_line s k ≡ Ok g → formula_listed k ≡ somes (formula_given (Ok g) ∷ [])
+listed_by : (s : CellContext) (k : Kept) (g : SheetRecord) → kept_line s k ≡ Ok g → formula_listed k ≡ somes (formula_from (Ok g) ∷ [])
 listed_by s k g h =
-    ap (λ (o : Option Formula). somes (o ∷ [])) (formulas_by_the_table s k ∙ ap formula_given h)
+    ap (λ (o : Option Formula). somes (o ∷ [])) (formulas_by_the_table s k ∙ ap formula_from h)
 
-place_given : (g : SheetRecord) → map (λ (f : Formula). f.0) (somes (formula_given (Ok g) ∷ [])) ≡ somes (formula_position g ∷ [])
-place_given empty_record = refl
-place_given (cells_record cs) = refl
-place_given (shared_record c) = refl
-place_given (string_record cs) = refl
-place_given (formula_record p value tokens) = refl
-place_given (regions_record rs) = refl
+place_from : (g : SheetRecord) → map (λ (f : Formula). f.0) (somes (formula_from (Ok g) ∷ [])) ≡ somes (formula_position g ∷ [])
+place_from empty_record = refl
+place_from (cells_record cs) = refl
+place_from (shared_record c) = refl
+place_from (string_record cs) = refl
+place_from (formula_record p value tokens) = refl
+place_from (regions_record rs) = refl
 
 all_places : (s : CellContext) (k : Kept) (g : SheetRecord) (formulas : List Formula) → kept_line s k ≡ Ok g
     → map (λ (f : Formula). f.0) (formulas ++ formula_listed k) ≡ map (λ (f : Formula). f.0) formulas ++ somes (formula_position g ∷ [])
 all_places s k g formulas h =
     map-append (λ (f : Formula). f.0) formulas (formula_listed k)
     ∙ ap (λ (fs : List Formula). map (λ (f : Formula). f.0) formulas ++ map (λ (f : Formula). f.0) fs) (listed_by s k g h)
-    ∙ ap (λ (ps : List Position). map (λ (f : Formula). f.0) formulas ++ ps) (place_given g)
+    ∙ ap (λ (ps : List Position). map (λ (f : Formula). f.0) formulas ++ ps) (place_from g)
 
 pub formula_found : (s : CellContext) (k : Kept) (g : SheetRecord) (found : Ascent) (formulas : List Formula) (p : Position) → Some p ≡ formula_position g
     → kept_line s k ≡ Ok g → IsAscent found (map (λ (f : Formula). f.0) formulas ++ p ∷ [])
@@ -103,12 +103,12 @@ more_done {X} done here left before all e f = append_assoc done here left ∙ ap
 all_done : {X : Type 0} (done left all : List X) → done ++ left ≡ all → left ≡ [] → done ≡ all
 all_done {X} done left all e f = sym (append-nil done) ∙ ap (λ (l : List X). done ++ l) (sym f) ∙ e
 
-pub survey_done : (survey : Survey) (s : InForce) (last : Position) (ks : List Kept) (es all : List Entry) (fs all_fs : List Formula) (rs all_rs : List Dimensions)
-    → IsSurvey survey es fs rs → es ++ cells_from s last ks ≡ all → fs ++ formulas_of ks ≡ all_fs → rs ++ regions_of ks ≡ all_rs → ks ≡ []
+pub survey_done : (survey : Survey) (s : Settings) (last : Position) (ks : List Kept) (es all : List CellEntry) (fs all_fs : List Formula) (rs all_rs : List Dimensions)
+    → IsSurvey survey es fs rs → es ++ cells_after s last ks ≡ all → fs ++ formulas_kept ks ≡ all_fs → rs ++ regions_of ks ≡ all_rs → ks ≡ []
     → IsSurvey survey all all_fs all_rs
 survey_done survey s last ks es all fs all_fs rs all_rs h e f g none =
     rw (
-      sym (all_done es (cells_from s last ks) all e (ap (cells_from s last) none)),
-      sym (all_done fs (formulas_of ks) all_fs f (ap formulas_of none)),
+      sym (all_done es (cells_after s last ks) all e (ap (cells_after s last) none)),
+      sym (all_done fs (formulas_kept ks) all_fs f (ap formulas_kept none)),
       sym (all_done rs (regions_of ks) all_rs g (ap regions_of none)),
     ) h

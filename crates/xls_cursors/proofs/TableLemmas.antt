@@ -14,7 +14,7 @@ use Rattle.xls_biff.specs.Records.Formula.{formula_value_at, formula_at, special
 use Rattle.xls_biff.specs.Records.MergeCells.{merges_at}
 use Rattle.xls_biff.specs.SheetTable.{CellContext, SheetRecord, formula_record, regions_record, sheet_record_at}
 use Rattle.xls_biff.proofs.TableLemmas.{each_kind}
-use Rattle.xls_cursors.specs.Formulas.{formula_in, formula_of, formula_given}
+use Rattle.xls_cursors.specs.Formulas.{formula_in, formula_of, formula_from}
 use Rattle.xls_cursors.specs.Contents.{regions_in, regions_at}
 use Rattle.xls_data.specs.declared.regions.Dimensions.{Dimensions}
 
@@ -43,46 +43,46 @@ same_formula classes is_1904 body = long (at_least 20 parts.Formula body)
 
 -- ---- the table
 
-in_given : (r : Result (Position × Option Content × List ℕ) XlsError) → formula_in r ≡ formula_given (gives (λ f. formula_record f.0 f.1 f.2) r)
-in_given (Ok f) = refl
-in_given (Err e) = refl
+in_input : (r : Result (Position × Option Content × List ℕ) XlsError) → formula_in r ≡ formula_from (gives (λ f. formula_record f.0 f.1 f.2) r)
+in_input (Ok f) = refl
+in_input (Err e) = refl
 
 -- a record of another type is no formula
-other : (s : CellContext) (typ : ℕ) (body : List ℕ) → (typ == types.FORMULA) ≡ false → formula_given (sheet_record_at s typ body) ≡ None
+other : (s : CellContext) (typ : ℕ) (body : List ℕ) → (typ == types.FORMULA) ≡ false → formula_from (sheet_record_at s typ body) ≡ None
 other s typ body f =
-    each_kind (λ r. formula_given r ≡ None) (λ e. refl) refl (λ cs. refl) (λ c. refl) (λ cs. refl) typ
+    each_kind (λ r. formula_from r ≡ None) (λ e. refl) refl (λ cs. refl) (λ c. refl) (λ cs. refl) typ
     (λ is at value tokens. absurd (let same : (types.FORMULA == types.FORMULA) ≡ false = rw is at f in cc)) (λ is rs. refl) s body
 
 by_type : (s : CellContext) (typ : ℕ) (body : List ℕ) (t : Bool) → (typ == 6) ≡ t
-    → (if t then formula_in (formula_at [] false body) else None) ≡ formula_given (sheet_record_at s typ body)
+    → (if t then formula_in (formula_at [] false body) else None) ≡ formula_from (sheet_record_at s typ body)
 by_type s typ body true e =
     let six : typ ≡ 6 = grind arith in
-    rw six (same_formula s.classes s.is_1904 body ∙ in_given (formula_at s.classes s.is_1904 body))
+    rw six (same_formula s.classes s.is_1904 body ∙ in_input (formula_at s.classes s.is_1904 body))
 by_type s typ body false e = sym (other s typ body e)
 
-pub formulas_by_the_table : (s : CellContext) (k : Kept) → formula_of k ≡ formula_given (sheet_record_at s k.typ k.body)
+pub formulas_by_the_table : (s : CellContext) (k : Kept) → formula_of k ≡ formula_from (sheet_record_at s k.typ k.body)
 formulas_by_the_table s k = by_type s k.typ k.body (k.typ == 6) refl
 
 -- ---- regions
 
-abbrev pub regions_given : Result SheetRecord XlsError → List Dimensions
-regions_given (Ok (regions_record rs)) = rs
-regions_given line = []
+abbrev pub regions_from : Result SheetRecord XlsError → List Dimensions
+regions_from (Ok (regions_record rs)) = rs
+regions_from line = []
 
-in_regions : (r : Result (List Dimensions) XlsError) → regions_in r ≡ regions_given (gives regions_record r)
+in_regions : (r : Result (List Dimensions) XlsError) → regions_in r ≡ regions_from (gives regions_record r)
 in_regions (Ok rs) = refl
 in_regions (Err e) = refl
 
 -- a record of another type has no region
-no_merge : (s : CellContext) (typ : ℕ) (body : List ℕ) → (typ == types.MERGE_CELLS) ≡ false → regions_given (sheet_record_at s typ body) ≡ []
+no_merge : (s : CellContext) (typ : ℕ) (body : List ℕ) → (typ == types.MERGE_CELLS) ≡ false → regions_from (sheet_record_at s typ body) ≡ []
 no_merge s typ body f =
-    each_kind (λ r. regions_given r ≡ []) (λ e. refl) refl (λ cs. refl) (λ c. refl) (λ cs. refl) typ (λ is at value tokens. refl)
+    each_kind (λ r. regions_from r ≡ []) (λ e. refl) refl (λ cs. refl) (λ c. refl) (λ cs. refl) typ (λ is at value tokens. refl)
     (λ is rs. absurd (let same : (types.MERGE_CELLS == types.MERGE_CELLS) ≡ false = rw is at f in cc)) s body
 
 by_merge : (s : CellContext) (typ : ℕ) (body : List ℕ) (t : Bool) → (typ == 229) ≡ t
-    → (if t then regions_in (merges_at body) else []) ≡ regions_given (sheet_record_at s typ body)
+    → (if t then regions_in (merges_at body) else []) ≡ regions_from (sheet_record_at s typ body)
 by_merge s typ body true e = let is : typ ≡ 229 = grind arith in rw is (in_regions (merges_at body))
 by_merge s typ body false e = sym (no_merge s typ body e)
 
-pub regions_by_the_table : (s : CellContext) (k : Kept) → regions_at k ≡ regions_given (sheet_record_at s k.typ k.body)
+pub regions_by_the_table : (s : CellContext) (k : Kept) → regions_at k ≡ regions_from (sheet_record_at s k.typ k.body)
 regions_by_the_table s k = by_merge s k.typ k.body (k.typ == 229) refl

@@ -7,10 +7,10 @@ use Rattle.xls_record.specs.declared.error.XlsError.{XlsError}
 use Rattle.xls_record.specs.declared.error.XlsError.TheVariants as errors
 use Rattle.xls_record.specs.Reading.{Fails}
 use Rattle.xls_biff.specs.Cells.{characters_in}
-use Rattle.xls_cursors.specs.Values.{text_in}
+use Rattle.xls_cursors.specs.Values.{value_text}
 
 -- a number is no text
-pub no_text : (n : Numeric) → text_in (numeric_content n) ≡ []
+pub no_text : (n : Numeric) → value_text (numeric_content n) ≡ []
 no_text (Int n) = refl
 no_text (Float n) = refl
 no_text (DateTime n epoch) = refl

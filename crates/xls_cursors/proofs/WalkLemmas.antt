@@ -6,7 +6,7 @@ use Rattle.xls_stream.specs.Counting.{From, found_from, Found}
 use Rattle.xls_stream.specs.Listing.{Kept, kept_group, kept_of, IsPart, IsSheetPart}
 use Rattle.xls_stream.specs.declared.part.Part.{Part}
 use Rattle.xls_stream.proofs.Ends.{has_groups, one_groups}
-use Rattle.xls_stream.proofs.Shapes.{has_from, same_parts}
+use Rattle.xls_stream.proofs.Outlines.{has_from, same_parts}
 use Rattle.xls_record.specs.declared.error.XlsError.{XlsError}
 use Rattle.xls_biff.specs.Outer.{Keeps, Over, CutShort}
 use Rattle.xls_open.specs.Bytes.{are_bytes}
@@ -39,10 +39,10 @@ kept_is bytes depth groups cut fits f =
 pub kept_next : (before : List ℕ) (was : ℕ) (g : Group) (after : List ℕ) (now : ℕ) → IsBytes before → Keeps before was g after now
     → kept_in before was ≡ kept_group g ∷ kept_in after now
 kept_next before was g after now fits k =
-    let behind = keeps_bytes before was g after now k fits in
-    let more = has_from (found_from now) after behind in
+    let following = keeps_bytes before was g after now k fits in
+    let more = has_from (found_from now) after following in
     kept_is before was (g ∷ more.0) more.1 fits (keeps_from before was g after now more.0 more.1 k more.2)
-    ∙ ap (λ (ks : List Kept). kept_group g ∷ ks) (sym (kept_is after now more.0 more.1 behind more.2))
+    ∙ ap (λ (ks : List Kept). kept_group g ∷ ks) (sym (kept_is after now more.0 more.1 following more.2))
 
 pub kept_over : (before : List ℕ) (was : ℕ) → IsBytes before → Over before was → kept_in before was ≡ []
 kept_over before was fits o = kept_is before was [] None fits (over_from before was fits o)

@@ -6,16 +6,16 @@ use Rattle.xls_stream.specs.Listing.{Kept, kept_of}
 use Rattle.xls_stream.specs.declared.types.TheConstants as types
 use Rattle.xls_data.specs.declared.regions.Dimensions.{Dimensions}
 use Rattle.xls_range.specs.Positions.{Position}
-use Rattle.xls_biff.specs.Cells.{Entry}
+use Rattle.xls_biff.specs.Cells.{CellEntry}
 use Rattle.xls_biff.specs.Records.MergeCells.{merges_at}
 use Rattle.xls_record.specs.declared.error.XlsError.{XlsError}
 use Rattle.xls_biff.specs.SheetTable.{CellContext, SheetRecord, position_in}
-use Rattle.xls_meaning.specs.InForce.{InForce}
-use Rattle.xls_meaning.specs.SheetTable.{given_at, kept_line}
-use Rattle.xls_meaning.specs.Reading.{SheetView, given_by}
-use Rattle.xls_cursors.specs.Formulas.{Formula, formulas_of, text_entry}
+use Rattle.xls_meaning.specs.Settings.{Settings}
+use Rattle.xls_meaning.specs.SheetTable.{yield_at, kept_line}
+use Rattle.xls_meaning.specs.Reading.{SheetView, yield_of}
+use Rattle.xls_cursors.specs.Formulas.{Formula, formulas_kept, text_entry}
 use Rattle.xls_cursors.specs.Groups.{groups_in}
-use Rattle.xls_cursors.specs.Shown.{ShownSheet}
+use Rattle.xls_cursors.specs.Displayed.{DisplayedSheet}
 
 -- ---- records
 
@@ -34,9 +34,9 @@ abbrev pub moved : CellContext → Position → Kept → Position
 moved s at k = unwrap_or (position_in (kept_line s k)) at
 
 -- the cells of these records, where the last Formula before them stands here
-abbrev pub cells_from : InForce → Position → List Kept → List Entry
-cells_from s at [] = []
-cells_from s at (k ∷ ks) = (given_by (given_at s at k)).cells ++ cells_from s (moved s.cells at k) ks
+abbrev pub cells_after : Settings → Position → List Kept → List CellEntry
+cells_after s at [] = []
+cells_after s at (k ∷ ks) = (yield_of (yield_at s at k)).cells ++ cells_after s (moved s.cells at k) ks
 
 abbrev pub regions_in : Result (List Dimensions) XlsError → List Dimensions
 regions_in (Ok rs) = rs
@@ -74,23 +74,23 @@ kept_at bytes offset = kept_in (drop offset bytes) 0
 
 -- what the formulas of the part at an offset are
 abbrev pub formulas_at : List ℕ → ℕ → List Formula
-formulas_at bytes offset = settled (formulas_of (kept_at bytes offset))
+formulas_at bytes offset = settled (formulas_kept (kept_at bytes offset))
 
 -- what a sheet of these kept records shows
-abbrev pub content_by : InForce → List Kept → SheetView
+abbrev pub content_by : Settings → List Kept → SheetView
 content_by s kept =
     record {
-      cells = settled (cells_from s (0, 0) kept);
-      formulas = map (text_entry s.formulas) (settled (formulas_of kept));
+      cells = settled (cells_after s (0, 0) kept);
+      formulas = map (text_entry s.formulas) (settled (formulas_kept kept));
       merges = regions_of kept;
     }
 
 -- likewise with the formulas by their tokens
-abbrev pub shows : InForce → List Kept → ShownSheet
+abbrev pub shows : Settings → List Kept → DisplayedSheet
 shows s kept =
     record {
-      cells = settled (cells_from s (0, 0) kept);
-      formulas = settled (formulas_of kept);
+      cells = settled (cells_after s (0, 0) kept);
+      formulas = settled (formulas_kept kept);
       merges = regions_of kept;
       context = s.formulas;
     }

@@ -10,7 +10,7 @@ use Rattle.xls_biff.specs.SheetTable.{SheetRecord, formula_record}
 use Rattle.xls_formula.specs.Context.{Context}
 use Rattle.xls_formula.specs.Fold.{formula_text}
 use Rattle.xls_meaning.specs.Order.{somes}
-use Rattle.xls_meaning.specs.SheetTable.{FormulaEntry, shown_formula}
+use Rattle.xls_meaning.specs.SheetTable.{FormulaEntry, displayed_formula}
 
 -- where a formula stands, and its tokens
 abbrev pub Formula : Type 0
@@ -25,19 +25,19 @@ abbrev pub formula_of : Kept → Option Formula
 formula_of k = if k.typ == types.FORMULA then formula_in (formula_at [] false k.body) else None
 
 -- likewise by its line of a sheet's table
-abbrev pub formula_given : Result SheetRecord XlsError → Option Formula
-formula_given (Ok (formula_record at value tokens)) = Some (at, tokens)
-formula_given line = None
+abbrev pub formula_from : Result SheetRecord XlsError → Option Formula
+formula_from (Ok (formula_record at value tokens)) = Some (at, tokens)
+formula_from line = None
 
 -- those of a sheet's records in order
-abbrev pub formulas_of : List Kept → List Formula
-formulas_of kept = somes (map formula_of kept)
+abbrev pub formulas_kept : List Kept → List Formula
+formulas_kept kept = somes (map formula_of kept)
 
 -- by row, then column, and of these formulas at each position the last one alone
-pub record AreLast (given formulas : List Formula) : Type 0 where
+pub record AreLast (input formulas : List Formula) : Type 0 where
   pub ascending : IsAscending (map (λ (f : Formula). f.0) formulas)
-  pub last : (p : Position) → last_at formulas p ≡ last_at given p
+  pub last : (p : Position) → last_at formulas p ≡ last_at input p
 
 -- its text, or why it is refused, at its position
 abbrev pub text_entry : Context → Formula → FormulaEntry
-text_entry context f = (f.0, shown_formula f.0 (formula_text context f.1))
+text_entry context f = (f.0, displayed_formula f.0 (formula_text context f.1))

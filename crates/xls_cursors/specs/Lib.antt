@@ -1,5 +1,5 @@
 pub mod Formulas
-pub mod Shown
+pub mod Displayed
 pub mod Walking
 pub mod Values
 pub mod Groups

@@ -1,18 +1,18 @@
 -- The cells and formulas of a part whose records don't ascend, by their positions and by where their records are.
 use Rattle.std.specs.Prelude.{ℕ, List, [], ◌∷◌, ◌-◌, ◌==◌, if◌then◌else◌, drop, map, slice_get, unwrap_or, Option, Some, None}
 use Rattle.xls_range.specs.Positions.{Position}
-use Rattle.xls_meaning.specs.InForce.{InForce}
+use Rattle.xls_meaning.specs.Settings.{Settings}
 use Rattle.xls_stream.specs.Stream.{Group}
 use Rattle.xls_stream.specs.Listing.{Kept, kept_group}
 use Rattle.xls_stream.specs.declared.types.TheConstants as types
 use Rattle.xls_data.specs.Content.{Content, nothing}
-use Rattle.xls_biff.specs.Cells.{Entry}
+use Rattle.xls_biff.specs.Cells.{CellEntry}
 use Rattle.xls_biff.specs.Records.Rk.{first_column}
-use Rattle.xls_meaning.specs.SheetTable.{given_at}
-use Rattle.xls_meaning.specs.Reading.{given_by}
+use Rattle.xls_meaning.specs.SheetTable.{yield_at}
+use Rattle.xls_meaning.specs.Reading.{yield_of}
 use Rattle.xls_cursors.specs.Groups.{groups_in}
-use Rattle.xls_cursors.specs.Contents.{cells_from, kept_in}
-use Rattle.xls_cursors.specs.Formulas.{Formula, formula_of, formulas_of}
+use Rattle.xls_cursors.specs.Contents.{cells_after, kept_in}
+use Rattle.xls_cursors.specs.Formulas.{Formula, formula_of, formulas_kept}
 
 -- ---- the record at an offset
 
@@ -34,30 +34,30 @@ abbrev pub cell_number : Position → Kept → ℕ
 cell_number p k = if k.typ == types.MUL_RK then p.1 - first_column k.body else 0
 
 -- the value of a cell by its position and its record
-abbrev pub cell_in : InForce → Position → Kept → Content
-cell_in s p k = (unwrap_or (slice_get (given_by (given_at s p k)).cells (cell_number p k)) (p, nothing)).1
+abbrev pub cell_in : Settings → Position → Kept → Content
+cell_in s p k = (unwrap_or (slice_get (yield_of (yield_at s p k)).cells (cell_number p k)) (p, nothing)).1
 
-abbrev pub value_at : InForce → List ℕ → Position → ℕ → Content
+abbrev pub value_at : Settings → List ℕ → Position → ℕ → Content
 value_at s part p at = cell_in s p (record_at part at)
 
-abbrev pub cell_placed : InForce → List ℕ → Place → Entry
+abbrev pub cell_placed : Settings → List ℕ → Place → CellEntry
 cell_placed s part c = (c.0, value_at s part c.0 c.1)
 
 abbrev pub tokens_in : Option Formula → List ℕ
 tokens_in None = []
 tokens_in (Some f) = f.1
 
-abbrev pub tokens_at : List ℕ → Position → ℕ → List ℕ
-tokens_at part p at = tokens_in (formula_of (record_at part at))
+abbrev pub placed_tokens : List ℕ → Position → ℕ → List ℕ
+placed_tokens part p at = tokens_in (formula_of (record_at part at))
 
 abbrev pub formula_placed : List ℕ → Place → Formula
-formula_placed part c = (c.0, tokens_at part c.0 c.1)
+formula_placed part c = (c.0, placed_tokens part c.0 c.1)
 
 -- what a part has: as it stands, or by its places in order
-abbrev pub cells_held : InForce → List ℕ → Option (List Place) → List Entry
-cells_held s part None = cells_from s (0, 0) (kept_in part 0)
+abbrev pub cells_held : Settings → List ℕ → Option (List Place) → List CellEntry
+cells_held s part None = cells_after s (0, 0) (kept_in part 0)
 cells_held s part (Some places) = map (cell_placed s part) places
 
 abbrev pub formulas_held : List ℕ → Option (List Place) → List Formula
-formulas_held part None = formulas_of (kept_in part 0)
+formulas_held part None = formulas_kept (kept_in part 0)
 formulas_held part (Some places) = map (formula_placed part) places

@@ -6,7 +6,7 @@ use Rattle.xls_stream.specs.Listing.{Kept, kept_group}
 use Rattle.xls_data.specs.Content.{Content, nothing}
 use Rattle.xls_record.specs.declared.record.Record.{Record}
 use Rattle.xls_biff.specs.Walking.{group_of}
-use Rattle.xls_cursors.specs.Values.{value_content}
+use Rattle.xls_cursors.specs.Values.{lent_content}
 use Rattle.xls_cursors.specs.declared.value.CellValue.{CellValue}
 
 -- ---- positions in order
@@ -17,9 +17,9 @@ number_of p = p.0 * 2 ^ 32 + p.1
 
 -- the last of them has this number
 pub record EndsIn (last : ℕ) (ps : List Position) : Type 0 where
-  pub front : List Position
+  pub prefix : List Position
   pub position : Position
-  pub whole : ps ≡ front ++ position ∷ []
+  pub whole : ps ≡ prefix ++ position ∷ []
   pub number : last ≡ number_of position
   pub column : position.1 < 2 ^ 32
 
@@ -38,4 +38,4 @@ found_kept (Some r) = kept_group (group_of r)
 -- a value, or the blank where there is none
 abbrev pub value_or_blank : Option CellValue → Content
 value_or_blank None = nothing
-value_or_blank (Some v) = value_content v
+value_or_blank (Some v) = lent_content v

@@ -5,7 +5,7 @@ use Rattle.xls_range.specs.Bounds.{bounds_of}
 use Rattle.xls_data.specs.Content.{Content}
 use Rattle.xls_data.specs.declared.regions.Dimensions.{Dimensions}
 use Rattle.xls_stream.specs.Listing.{Kept}
-use Rattle.xls_biff.specs.Cells.{Entry}
+use Rattle.xls_biff.specs.Cells.{CellEntry}
 use Rattle.xls_meaning.specs.Order.{somes}
 use Rattle.xls_stream.specs.declared.types.TheConstants as types
 use Rattle.xls_biff.specs.SheetTable.{CellContext, SheetRecord, cells_record}
@@ -21,12 +21,12 @@ widened None p = record { start = p; end = p }
 widened (Some d) p = record { start = (min p.0 d.start.0, min p.1 d.start.1); end = (max p.0 d.end.0, max p.1 d.end.1) }
 
 -- one cell at this position, or none
-abbrev pub IsCellAt : Option Position → List Entry → Type 0
+abbrev pub IsCellAt : Option Position → List CellEntry → Type 0
 IsCellAt None cells = cells ≡ []
 IsCellAt (Some p) cells = (v : Content) × (cells ≡ (p, v) ∷ [])
 
 -- a record has one cell, which stands here, no formula and no region
-pub record IsPlain (k : Kept) (p : Position) : Type 0 where
+pub record IsPlainCell (k : Kept) (p : Position) : Type 0 where
   pub one : (s : CellContext) (g : SheetRecord) → kept_line s k ≡ Ok g → (v : Content) × (g ≡ cells_record ((p, v) ∷ []))
   pub apart : k.typ ≡ types.MERGE_CELLS → ⊥
 
@@ -48,13 +48,13 @@ pub record IsUnbounded (f : FoundCells) : Type 0 where
   pub right : f.right ≡ 0
 
 -- what was found of these cells
-pub record IsFound (found : FoundCells) (cells : List Entry) : Type 0 where
-  pub ascent : IsAscent found.ascent (map (λ (c : Entry). c.0) cells)
+pub record IsFound (found : FoundCells) (cells : List CellEntry) : Type 0 where
+  pub ascent : IsAscent found.ascent (map (λ (c : CellEntry). c.0) cells)
   pub bounds : box_found found ≡ bounds_of cells
   pub unbounded : found.ascent.count ≡ 0 → IsUnbounded found
 
 -- what was found of these cells, formulas and regions
-pub record IsSurvey (survey : Survey) (es : List Entry) (fs : List Formula) (rs : List Dimensions) : Type 0 where
+pub record IsSurvey (survey : Survey) (es : List CellEntry) (fs : List Formula) (rs : List Dimensions) : Type 0 where
   pub cells : IsFound survey.cells es
   pub formulas : IsAscent survey.formulas (map (λ (f : Formula). f.0) fs)
   pub merges : survey.merges ≡ 0 → rs ≡ []

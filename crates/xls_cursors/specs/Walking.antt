@@ -3,14 +3,14 @@ use Rattle.std.specs.Prelude.{◌≡◌, ℕ, List, [], ◌∷◌, ◌++◌, Opt
 use Rattle.std.specs.List.{AllByRecursion}
 use Rattle.xls_stream.specs.Walks.{IsBytes}
 use Rattle.xls_data.specs.declared.regions.Dimensions.{Dimensions}
-use Rattle.xls_biff.specs.Cells.{Entry}
+use Rattle.xls_biff.specs.Cells.{CellEntry}
 use Rattle.xls_biff.specs.SheetReading.{HasItems}
 use Rattle.xls_biff.specs.declared.sheet_record.SheetRecord.{SheetRecord}
 use Rattle.xls_biff.specs.declared.sheet_record.SheetRecord.TheVariants as variant
 use Rattle.xls_formula.specs.Context.{Context}
-use Rattle.xls_meaning.specs.InForce.{InForce}
+use Rattle.xls_meaning.specs.Settings.{Settings}
 use Rattle.xls_cursors.specs.Contents.{IsReadable, kept_in, regions_of}
-use Rattle.xls_cursors.specs.Formulas.{Formula, formulas_of}
+use Rattle.xls_cursors.specs.Formulas.{Formula, formulas_kept}
 use Rattle.xls_cursors.specs.Values.{cell_entry}
 use Rattle.xls_cursors.specs.declared.value.SheetCell.{SheetCell}
 use Rattle.xls_cursors.specs.declared.value.FormulaCell.{FormulaCell}
@@ -18,25 +18,25 @@ use Rattle.xls_cursors.specs.declared.value.FormulaCell.{FormulaCell}
 -- ---- what a call of next gives
 
 -- a call of next with these left gives the first of them and leaves the others
-abbrev pub Gives : {C E : Type 0} → (C → E) → List E → Option C → List E → Type 0
-Gives seen before None after = (before ≡ []) × (after ≡ [])
-Gives seen before (Some c) after = before ≡ seen c ∷ after
+abbrev pub LendsNext : {C E : Type 0} → (C → E) → List E → Option C → List E → Type 0
+LendsNext seen before None after = (before ≡ []) × (after ≡ [])
+LendsNext seen before (Some c) after = before ≡ seen c ∷ after
 
-abbrev pub CellSteps : List Entry → Option SheetCell → List Entry → Type 0
-CellSteps = Gives cell_entry
+abbrev pub CellSteps : List CellEntry → Option SheetCell → List CellEntry → Type 0
+CellSteps = LendsNext cell_entry
 
 -- a formula by its position and its tokens
 abbrev pub formula_seen : FormulaCell → Formula
 formula_seen f = ((f.row, f.column), f.rgce.now)
 
-abbrev pub FormulaSteps : List Formula → Option FormulaCell → List Formula → Type 0
-FormulaSteps = Gives formula_seen
+abbrev pub LendsFormula : List Formula → Option FormulaCell → List Formula → Type 0
+LendsFormula = LendsNext formula_seen
 
 abbrev pub MergeSteps : List Dimensions → Option Dimensions → List Dimensions → Type 0
-MergeSteps = Gives (λ d. d)
+MergeSteps = LendsNext (λ d. d)
 
 -- the formulas that are left, and what they may name
-pub record Named : Type 0 where
+pub record NamedContext : Type 0 where
   pub context : Context
   pub left : List Formula
 
@@ -47,13 +47,13 @@ abbrev pub Left : Type 0
 Left = List ℕ × ℕ
 
 -- each kept record that is left has no fault
-abbrev pub IsSound : InForce → Left → Type 0
-IsSound s left = IsBytes left.0 × AllByRecursion (IsReadable s.cells) (kept_in left.0 left.1)
+abbrev pub IsSoundPart : Settings → Left → Type 0
+IsSoundPart s left = IsBytes left.0 × AllByRecursion (IsReadable s.cells) (kept_in left.0 left.1)
 
 -- the first formula of the records that are left
 abbrev pub PassesFormula : Left → Option FormulaCell → Left → Type 0
 PassesFormula before found after =
-    Gives formula_seen (formulas_of (kept_in before.0 before.1)) found (formulas_of (kept_in after.0 after.1))
+    LendsNext formula_seen (formulas_kept (kept_in before.0 before.1)) found (formulas_kept (kept_in after.0 after.1))
 
 -- the first regions of the records that are left
 abbrev pub PassesRegions : Left → Option (Dimensions × List Dimensions) → Left → Type 0
@@ -70,5 +70,5 @@ run_of (variant.MulRk body count) = Some (body.now, count)
 run_of _ = None
 
 -- it was read from some record
-abbrev pub IsRead : SheetRecord → Type 0
-IsRead x = (typ : ℕ) × (body : List ℕ) × HasItems typ body x
+abbrev pub IsReadRecord : SheetRecord → Type 0
+IsReadRecord x = (typ : ℕ) × (body : List ℕ) × HasItems typ body x

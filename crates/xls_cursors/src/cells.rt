@@ -1,13 +1,13 @@
 //! The cells of a sheet.
 
 ghost use Rattle.std.specs.Prelude.{◌≡◌, IfOk, map};
-ghost use Rattle.xls_biff.specs.Cells.{Entry};
+ghost use Rattle.xls_biff.specs.Cells.{CellEntry};
 ghost use Rattle.xls_range.specs.Bounds.{bounds_of};
 ghost use Rattle.xls_range.specs.Positions.{IsAscending};
-ghost use Rattle.xls_cursors.specs.Contents.{cells_from, kept_in, settled};
+ghost use Rattle.xls_cursors.specs.Contents.{cells_after, kept_in, settled};
 ghost use Rattle.xls_cursors.specs.Placed.{cell_placed, cells_held};
 ghost use Rattle.xls_cursors.specs.Surveying.{IsFound};
-ghost use Rattle.xls_cursors.specs.Walking.{IsSound};
+ghost use Rattle.xls_cursors.specs.Walking.{IsSoundPart};
 
 use crate::places::{next_place, placed_cell, push_cells};
 use crate::survey::FoundCells;
@@ -17,19 +17,19 @@ use std::alloc::{AllocError, Global};
 use std::marker::Model;
 use xls_biff::{PlacedRecords, formula_position};
 use xls_data::Dimensions;
-use xls_open::InForce;
-use xls_range::{Given, Settled, Unsettled};
+use xls_open::Settings;
+use xls_range::{Numbered, Settled, Unsettled};
 
 /// Where the cells of a part stand. So many are expected.
 fn places_of(
     alloc: Global,
     part: &[u8],
-    force: &InForce<'_>,
+    settings: &Settings<'_>,
     count: usize,
 ) -> Result<Unsettled<usize>, AllocError>
-    requires { IsSound force.now (part.now, 0) }
-    ensures { IfOk result (λ places. map (cell_placed force.now part.now) places
-        ≡ cells_from force.now (0, 0) (kept_in part.now 0)) }
+    requires { IsSoundPart settings.now (part.now, 0) }
+    ensures { IfOk result (λ places. map (cell_placed settings.now part.now) places
+        ≡ cells_after settings.now (0, 0) (kept_in part.now 0)) }
 {
     let mut places = Unsettled::with_room(alloc, count)?;
     let mut last = (0, 0);
@@ -39,7 +39,7 @@ fn places_of(
             Err(_) => return Ok(places),
         };
         let at = part.len() - start.len();
-        push_cells(&mut places, &record, last, at, force)?;
+        push_cells(&mut places, &record, last, at, settings)?;
         last = formula_position(&record).unwrap_or(last);
     }
     Ok(places)
@@ -49,14 +49,14 @@ fn places_of(
 fn in_order(
     alloc: Global,
     part: &[u8],
-    force: &InForce<'_>,
+    settings: &Settings<'_>,
     count: usize,
 ) -> Result<Settled<usize>, AllocError>
-    requires { IsSound force.now (part.now, 0) }
-    ensures { IfOk result (λ places. map (cell_placed force.now part.now) places
-        ≡ settled (cells_from force.now (0, 0) (kept_in part.now 0))) }
+    requires { IsSoundPart settings.now (part.now, 0) }
+    ensures { IfOk result (λ places. map (cell_placed settings.now part.now) places
+        ≡ settled (cells_after settings.now (0, 0) (kept_in part.now 0))) }
 {
-    let places = places_of(alloc, part, force, count)?;
+    let places = places_of(alloc, part, settings, count)?;
     Ok(places.settled())
 }
 
@@ -64,17 +64,17 @@ fn in_order(
 fn order_of(
     alloc: Global,
     part: &[u8],
-    force: &InForce<'_>,
+    settings: &Settings<'_>,
     found: FoundCells,
 ) -> Result<Option<Settled<usize>>, AllocError>
-    requires sound { IsSound force.now (part.now, 0) }
-    requires found { IsFound found (cells_from force.now (0, 0) (kept_in part.now 0)) }
-    ensures { IfOk result (λ o. cells_held force.now part.now o ≡ settled (cells_from force.now (0, 0) (kept_in part.now 0))) }
+    requires sound { IsSoundPart settings.now (part.now, 0) }
+    requires found { IsFound found (cells_after settings.now (0, 0) (kept_in part.now 0)) }
+    ensures { IfOk result (λ o. cells_held settings.now part.now o ≡ settled (cells_after settings.now (0, 0) (kept_in part.now 0))) }
 {
     if found.ascends() {
         return Ok(None);
     }
-    let sorted = in_order(alloc, part, force, found.count())?;
+    let sorted = in_order(alloc, part, settings, found.count())?;
     Ok(Some(sorted))
 }
 
@@ -82,7 +82,7 @@ fn order_of(
 /// of them.
 #[derive(Drop)]
 pub struct SheetCells<'v> {
-    force: InForce<'v>,
+    settings: Settings<'v>,
     part: &'v [u8],
     /// Where the cells stand, in order, where the records don't ascend.
     sorted: Option<Settled<usize>>,
@@ -92,16 +92,16 @@ pub struct SheetCells<'v> {
 
 impl<'v> Model for SheetCells<'v> {
     ghost use Rattle.std.specs.Prelude.{◌≡◌, List};
-    ghost use Rattle.xls_biff.specs.Cells.{Entry};
+    ghost use Rattle.xls_biff.specs.Cells.{CellEntry};
     ghost use Rattle.xls_range.specs.Bounds.{bounds_of};
     ghost use Rattle.xls_cursors.specs.Placed.{cells_held};
-    ghost use Rattle.xls_cursors.specs.Walking.{IsSound};
+    ghost use Rattle.xls_cursors.specs.Walking.{IsSoundPart};
 
-    ghost Value = { List Entry };
+    ghost Value = { List CellEntry };
 
-    ghost view = { λ c. cells_held c.force c.part.now c.sorted };
+    ghost view = { λ c. cells_held c.settings c.part.now c.sorted };
 
-    ghost invariant = { λ c. IsSound c.force (c.part.now, 0) × (c.bounds ≡ bounds_of (cells_held c.force c.part.now c.sorted)) };
+    ghost invariant = { λ c. IsSoundPart c.settings (c.part.now, 0) × (c.bounds ≡ bounds_of (cells_held c.settings c.part.now c.sorted)) };
 }
 
 impl<'v> SheetCells<'v> {
@@ -109,18 +109,18 @@ impl<'v> SheetCells<'v> {
     /// don't ascend.
     pub(crate) fn new(
         alloc: Global,
-        force: InForce<'v>,
+        settings: Settings<'v>,
         part: &'v [u8],
         found: FoundCells,
     ) -> Result<SheetCells<'v>, AllocError>
-        requires sound { IsSound force (part.now, 0) }
-        requires found { IsFound found (cells_from force (0, 0) (kept_in part.now 0)) }
-        ensures settled { IfOk result (λ cells. cells ≡ settled (cells_from force.entry (0, 0) (kept_in part.now 0))) }
-        ensures ordered { IfOk result (λ cells. IsAscending (map (λ (c : Entry). c.0) cells)) }
+        requires sound { IsSoundPart settings (part.now, 0) }
+        requires found { IsFound found (cells_after settings (0, 0) (kept_in part.now 0)) }
+        ensures settled { IfOk result (λ cells. cells ≡ settled (cells_after settings.entry (0, 0) (kept_in part.now 0))) }
+        ensures ordered { IfOk result (λ cells. IsAscending (map (λ (c : CellEntry). c.0) cells)) }
     {
-        let sorted = order_of(alloc, part, &force, found)?;
+        let sorted = order_of(alloc, part, &settings, found)?;
         Ok(SheetCells {
-            force,
+            settings,
             part,
             sorted,
             bounds: found.bounds(),
@@ -141,14 +141,14 @@ impl<'v> SheetCells<'v> {
     {
         match &self.sorted {
             None => Cells::new(
-                CellWalk::new(&self.force, self.part),
-                &self.force,
+                CellWalk::new(&self.settings, self.part),
+                &self.settings,
                 self.part,
                 &[],
             ),
             Some(places) => Cells::new(
-                CellWalk::none(&self.force),
-                &self.force,
+                CellWalk::none(&self.settings),
+                &self.settings,
                 self.part,
                 places.as_slice(),
             ),
@@ -161,22 +161,22 @@ impl<'v> SheetCells<'v> {
 pub struct Cells<'c> {
     /// The cells of the records that are left, where these ascend.
     walk: CellWalk<'c>,
-    force: &'c InForce<'c>,
+    settings: &'c Settings<'c>,
     part: &'c [u8],
     /// Else the places that are left.
-    places: &'c [Given<usize>],
+    places: &'c [Numbered<usize>],
 }
 
 impl<'c> Model for Cells<'c> {
     ghost use Rattle.std.specs.Prelude.{◌++◌, List, map};
-    ghost use Rattle.xls_biff.specs.Cells.{Entry};
+    ghost use Rattle.xls_biff.specs.Cells.{CellEntry};
     ghost use Rattle.xls_stream.specs.Walks.{IsBytes};
-    ghost use Rattle.xls_range.specs.Positions.{given_entry};
+    ghost use Rattle.xls_range.specs.Positions.{numbered_entry};
     ghost use Rattle.xls_cursors.specs.Placed.{cell_placed};
 
-    ghost Value = { List Entry };
+    ghost Value = { List CellEntry };
 
-    ghost view = { λ c. c.walk ++ map (cell_placed c.force.now c.part.now) (map given_entry c.places.now) };
+    ghost view = { λ c. c.walk ++ map (cell_placed c.settings.now c.part.now) (map numbered_entry c.places.now) };
 
     ghost invariant = { λ c. IsBytes c.part.now };
 }
@@ -198,29 +198,29 @@ impl<'c> Iterator for Cells<'c> {
             return Some(cell);
         }
         let (position, at) = next_place(&mut self.places)?;
-        Some(placed_cell(self.part, position, at, self.force))
+        Some(placed_cell(self.part, position, at, self.settings))
     }
 }
 
 impl<'c> Cells<'c> {
     ghost use Rattle.std.specs.Prelude.{◌≡◌, ◌++◌, map};
     ghost use Rattle.xls_stream.specs.Walks.{IsBytes};
-    ghost use Rattle.xls_range.specs.Positions.{given_entry};
+    ghost use Rattle.xls_range.specs.Positions.{numbered_entry};
     ghost use Rattle.xls_cursors.specs.Placed.{cell_placed};
 
     /// These cells, and those at some places of a part.
     fn new(
         walk: CellWalk<'c>,
-        force: &'c InForce<'c>,
+        settings: &'c Settings<'c>,
         part: &'c [u8],
-        places: &'c [Given<usize>],
+        places: &'c [Numbered<usize>],
     ) -> Cells<'c>
         requires { IsBytes part.now }
-        ensures { result ≡ walk.entry ++ map (cell_placed force.now part.now) (map given_entry places.now) }
+        ensures { result ≡ walk.entry ++ map (cell_placed settings.now part.now) (map numbered_entry places.now) }
     {
         Cells {
             walk,
-            force,
+            settings,
             part,
             places,
         }
@@ -232,7 +232,7 @@ impl<'c> Cells<'c> {
     {
         Cells {
             walk: self.walk.again(),
-            force: self.force,
+            settings: self.settings,
             part: self.part,
             places: self.places,
         }

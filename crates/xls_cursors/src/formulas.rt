@@ -6,7 +6,7 @@ ghost use Rattle.xls_meaning.specs.Order.{somes};
 ghost use Rattle.xls_cursors.specs.Placed.{formula_placed, formulas_held};
 ghost use Rattle.xls_cursors.specs.Placing.{IsAscent};
 ghost use Rattle.std.specs.Str.{chars};
-ghost use Rattle.xls_cursors.specs.Formulas.{Formula, formula_of, formulas_of, text_entry};
+ghost use Rattle.xls_cursors.specs.Formulas.{Formula, formula_of, formulas_kept, text_entry};
 ghost use Rattle.xls_cursors.specs.Contents.{kept_in, settled};
 ghost use Rattle.xls_biff.specs.Walking.{group_of};
 ghost use Rattle.xls_stream.specs.Listing.{kept_group};
@@ -20,15 +20,15 @@ use std::alloc::{AllocError, Global};
 use std::marker::Model;
 use xls_biff::{PlacedRecords, Record, SheetRecords, read_formula};
 use xls_data::Cell;
-use xls_open::{FormulaBuffer, InForce};
-use xls_range::{Given, Settled, Unsettled};
+use xls_open::{FormulaBuffer, Settings};
+use xls_range::{Numbered, Settled, Unsettled};
 use xls_stream::types::FORMULA;
 
 /// The formulas of a sheet, by row, then column, of those of one position the last. Contracts see the list
 /// of them, each by its tokens, and what they may name.
 #[derive(Drop)]
 pub struct SheetFormulas<'v> {
-    force: InForce<'v>,
+    settings: Settings<'v>,
     part: &'v [u8],
     /// Where the formulas stand, in order, where the records don't ascend.
     sorted: Option<Settled<usize>>,
@@ -37,18 +37,18 @@ pub struct SheetFormulas<'v> {
 impl<'v> Model for SheetFormulas<'v> {
     ghost use Rattle.xls_stream.specs.Walks.{IsBytes};
     ghost use Rattle.xls_cursors.specs.Placed.{formulas_held};
-    ghost use Rattle.xls_cursors.specs.Walking.{Named};
+    ghost use Rattle.xls_cursors.specs.Walking.{NamedContext};
 
-    ghost Value = { Named };
+    ghost Value = { NamedContext };
 
-    ghost view = { λ f. record { context = f.force.formulas; left = formulas_held f.part.now f.sorted } };
+    ghost view = { λ f. record { context = f.settings.formulas; left = formulas_held f.part.now f.sorted } };
 
     ghost invariant = { λ f. IsBytes f.part.now };
 }
 
 /// Where the formulas of a part stand. So many are expected.
 fn places_of(alloc: Global, part: &[u8], count: usize) -> Result<Unsettled<usize>, AllocError>
-    ensures { IfOk result (λ places. map (formula_placed part.now) places ≡ formulas_of (kept_in part.now 0)) }
+    ensures { IfOk result (λ places. map (formula_placed part.now) places ≡ formulas_kept (kept_in part.now 0)) }
 {
     let mut places = Unsettled::with_room(alloc, count)?;
     for item in PlacedRecords::new(part) {
@@ -63,7 +63,7 @@ fn places_of(alloc: Global, part: &[u8], count: usize) -> Result<Unsettled<usize
 
 /// Likewise by position, of those of one position the last.
 fn in_order(alloc: Global, part: &[u8], count: usize) -> Result<Settled<usize>, AllocError>
-    ensures { IfOk result (λ places. map (formula_placed part.now) places ≡ settled (formulas_of (kept_in part.now 0))) }
+    ensures { IfOk result (λ places. map (formula_placed part.now) places ≡ settled (formulas_kept (kept_in part.now 0))) }
 {
     let places = places_of(alloc, part, count)?;
     Ok(places.settled())
@@ -71,8 +71,8 @@ fn in_order(alloc: Global, part: &[u8], count: usize) -> Result<Settled<usize>, 
 
 /// Where the formulas of a part stand in order, where they don't ascend.
 fn order_of(alloc: Global, part: &[u8], found: Ascent) -> Result<Option<Settled<usize>>, AllocError>
-    requires { IsAscent found (map (λ (f : Formula). f.0) (formulas_of (kept_in part.now 0))) }
-    ensures { IfOk result (λ o. formulas_held part.now o ≡ settled (formulas_of (kept_in part.now 0))) }
+    requires { IsAscent found (map (λ (f : Formula). f.0) (formulas_kept (kept_in part.now 0))) }
+    ensures { IfOk result (λ o. formulas_held part.now o ≡ settled (formulas_kept (kept_in part.now 0))) }
 {
     if found.is_strict() {
         return Ok(None);
@@ -83,8 +83,8 @@ fn order_of(alloc: Global, part: &[u8], found: Ascent) -> Result<Option<Settled<
 
 /// A part with the same formulas: no bytes where it has none.
 fn part_with<'v>(part: &'v [u8], found: Ascent) -> &'v [u8]
-    requires { IsAscent found (map (λ (f : Formula). f.0) (formulas_of (kept_in part.now 0))) }
-    ensures { formulas_of (kept_in result.now 0) ≡ formulas_of (kept_in part.now 0) }
+    requires { IsAscent found (map (λ (f : Formula). f.0) (formulas_kept (kept_in part.now 0))) }
+    ensures { formulas_kept (kept_in result.now 0) ≡ formulas_kept (kept_in part.now 0) }
 {
     if found.is_empty() {
         return &[];
@@ -96,20 +96,20 @@ impl<'v> SheetFormulas<'v> {
     /// The formulas of a part, of which this was found. Takes memory only where they don't ascend.
     pub(crate) fn new(
         alloc: Global,
-        force: InForce<'v>,
+        settings: Settings<'v>,
         part: &'v [u8],
         found: Ascent,
     ) -> Result<SheetFormulas<'v>, AllocError>
-        requires { IsAscent found (map (λ (f : Formula). f.0) (formulas_of (kept_in part.now 0))) }
+        requires { IsAscent found (map (λ (f : Formula). f.0) (formulas_kept (kept_in part.now 0))) }
         ensures { IfOk result (λ formulas. formulas ≡ record {
-          context = force.entry.formulas;
-          left = settled (formulas_of (kept_in part.now 0));
+          context = settings.entry.formulas;
+          left = settled (formulas_kept (kept_in part.now 0));
         }) }
     {
         let part = part_with(part, found);
         let sorted = order_of(alloc, part, found)?;
         Ok(SheetFormulas {
-            force,
+            settings,
             part,
             sorted,
         })
@@ -135,7 +135,7 @@ impl<'v> SheetFormulas<'v> {
         ensures { IfOk result (λ text. ((formula.entry.row, formula.entry.column), chars text.now)
             ≡ text_entry self.now.context (formula_seen formula.entry)) }
     {
-        buffer.text_of(formula.rgce, (formula.row, formula.column), &self.force)
+        buffer.text_of(formula.rgce, (formula.row, formula.column), &self.settings)
     }
 }
 
@@ -149,11 +149,11 @@ impl<'c> Model for FormulaWalk<'c> {
     ghost use Rattle.std.specs.Prelude.{List};
     ghost use Rattle.xls_stream.specs.Walks.{IsBytes};
     ghost use Rattle.xls_cursors.specs.Contents.{kept_in};
-    ghost use Rattle.xls_cursors.specs.Formulas.{Formula, formulas_of};
+    ghost use Rattle.xls_cursors.specs.Formulas.{Formula, formulas_kept};
 
     ghost Value = { List Formula };
 
-    ghost view = { λ f. formulas_of (kept_in f.records.0 f.records.1) };
+    ghost view = { λ f. formulas_kept (kept_in f.records.0 f.records.1) };
 
     ghost invariant = { λ f. IsBytes f.records.0 };
 }
@@ -210,11 +210,11 @@ fn next_formula<'c>(records: &mut SheetRecords<'c>) -> Option<FormulaCell<'c>>
 impl<'c> Iterator for FormulaWalk<'c> {
     ghost use Rattle.std.specs.Prelude.{length};
     ghost use Rattle.std.specs.Iterator.{at_most};
-    ghost use Rattle.xls_cursors.specs.Walking.{FormulaSteps};
+    ghost use Rattle.xls_cursors.specs.Walking.{LendsFormula};
 
     type Item = FormulaCell<'c>;
 
-    ghost next_gives = { FormulaSteps };
+    ghost next_gives = { LendsFormula };
 
     ghost remaining = { λ formulas. at_most (length formulas) };
 
@@ -226,11 +226,11 @@ impl<'c> Iterator for FormulaWalk<'c> {
 impl<'c> FormulaWalk<'c> {
     ghost use Rattle.std.specs.Prelude.{◌≡◌, []};
     ghost use Rattle.xls_cursors.specs.Contents.{kept_in};
-    ghost use Rattle.xls_cursors.specs.Formulas.{formulas_of};
+    ghost use Rattle.xls_cursors.specs.Formulas.{formulas_kept};
 
     /// The formulas of a part.
     fn new(part: &'c [u8]) -> FormulaWalk<'c>
-        ensures { result ≡ formulas_of (kept_in part.now 0) }
+        ensures { result ≡ formulas_kept (kept_in part.now 0) }
     {
         FormulaWalk {
             records: SheetRecords::new(part),
@@ -264,19 +264,19 @@ pub struct FormulaCells<'c> {
     walk: FormulaWalk<'c>,
     part: &'c [u8],
     /// Else the places that are left.
-    places: &'c [Given<usize>],
+    places: &'c [Numbered<usize>],
 }
 
 impl<'c> Model for FormulaCells<'c> {
     ghost use Rattle.std.specs.Prelude.{◌++◌, List, map};
     ghost use Rattle.xls_stream.specs.Walks.{IsBytes};
     ghost use Rattle.xls_cursors.specs.Formulas.{Formula};
-    ghost use Rattle.xls_range.specs.Positions.{given_entry};
+    ghost use Rattle.xls_range.specs.Positions.{numbered_entry};
     ghost use Rattle.xls_cursors.specs.Placed.{formula_placed};
 
     ghost Value = { List Formula };
 
-    ghost view = { λ f. f.walk ++ map (formula_placed f.part.now) (map given_entry f.places.now) };
+    ghost view = { λ f. f.walk ++ map (formula_placed f.part.now) (map numbered_entry f.places.now) };
 
     ghost invariant = { λ f. IsBytes f.part.now };
 }
@@ -284,11 +284,11 @@ impl<'c> Model for FormulaCells<'c> {
 impl<'c> Iterator for FormulaCells<'c> {
     ghost use Rattle.std.specs.Prelude.{length};
     ghost use Rattle.std.specs.Iterator.{at_most};
-    ghost use Rattle.xls_cursors.specs.Walking.{FormulaSteps};
+    ghost use Rattle.xls_cursors.specs.Walking.{LendsFormula};
 
     type Item = FormulaCell<'c>;
 
-    ghost next_gives = { FormulaSteps };
+    ghost next_gives = { LendsFormula };
 
     ghost remaining = { λ formulas. at_most (length formulas) };
 
@@ -304,13 +304,13 @@ impl<'c> Iterator for FormulaCells<'c> {
 impl<'c> FormulaCells<'c> {
     ghost use Rattle.std.specs.Prelude.{◌≡◌, ◌++◌, map};
     ghost use Rattle.xls_stream.specs.Walks.{IsBytes};
-    ghost use Rattle.xls_range.specs.Positions.{given_entry};
+    ghost use Rattle.xls_range.specs.Positions.{numbered_entry};
     ghost use Rattle.xls_cursors.specs.Placed.{formula_placed};
 
     /// These formulas, and those at some places of a part.
-    fn new(walk: FormulaWalk<'c>, part: &'c [u8], places: &'c [Given<usize>]) -> FormulaCells<'c>
+    fn new(walk: FormulaWalk<'c>, part: &'c [u8], places: &'c [Numbered<usize>]) -> FormulaCells<'c>
         requires { IsBytes part.now }
-        ensures { result ≡ walk.entry ++ map (formula_placed part.now) (map given_entry places.now) }
+        ensures { result ≡ walk.entry ++ map (formula_placed part.now) (map numbered_entry places.now) }
     {
         FormulaCells { walk, part, places }
     }

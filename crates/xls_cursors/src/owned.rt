@@ -3,7 +3,7 @@
 ghost use Rattle.std.specs.Prelude.{◌≡◌, IfOk};
 ghost use Rattle.xls_strings.specs.Texts.{text_of};
 ghost use Rattle.xls_data.specs.Data.{content_of};
-ghost use Rattle.xls_cursors.specs.Values.{encoded_text, value_content};
+ghost use Rattle.xls_cursors.specs.Values.{encoded_text, lent_content};
 
 use crate::value::{CellValue, EncodedText};
 use std::alloc::{AllocError, Global};
@@ -26,7 +26,7 @@ impl<'c> EncodedText<'c> {
 impl<'c> CellValue<'c> {
     /// The value with a text of its own. Only running out of memory refuses.
     pub fn to_data(self, alloc: Global) -> Result<Data, AllocError>
-        ensures { IfOk result (λ d. content_of d ≡ value_content self.entry) }
+        ensures { IfOk result (λ d. content_of d ≡ lent_content self.entry) }
     {
         match self {
             CellValue::Number(number) => Ok(number.into_data()),

@@ -8,15 +8,15 @@ ghost use Rattle.xls_biff.specs.Walking.{group_of};
 ghost use Rattle.xls_stream.specs.Listing.{kept_group};
 ghost use Rattle.xls_meaning.specs.SheetTable.{adds, kept_line};
 ghost use Rattle.xls_biff.specs.Records.Rk.{first_column, mul_rk_at};
-ghost use Rattle.xls_biff.specs.Cells.{Entry};
-ghost use Rattle.xls_range.specs.Positions.{given_entry};
+ghost use Rattle.xls_biff.specs.Cells.{CellEntry};
+ghost use Rattle.xls_range.specs.Positions.{numbered_entry};
 ghost use Rattle.xls_cursors.specs.Placed.{cell_in, cell_placed, first_kept, formula_placed, record_at, value_at, Place};
 ghost use Rattle.xls_cursors.specs.Placing.{found_kept, value_or_blank};
-ghost use Rattle.xls_cursors.specs.Walking.{Gives};
+ghost use Rattle.xls_cursors.specs.Walking.{LendsNext};
 ghost use Rattle.xls_stream.specs.Walks.{IsBytes};
 ghost use Rattle.xls_cursors.specs.Groups.{groups_in};
 ghost use Rattle.xls_cursors.specs.Walking.{formula_seen};
-ghost use Rattle.xls_cursors.specs.Values.{cell_entry, value_content};
+ghost use Rattle.xls_cursors.specs.Values.{cell_entry, lent_content};
 
 use crate::formulas::formula_of;
 use crate::record::cell_of;
@@ -25,8 +25,8 @@ use std::alloc::AllocError;
 use xls_biff::{Record, RecordIter, check_sheet_record, count_mul_rk, read_mul_rk};
 use xls_bytes::read_u16;
 use xls_data::Cell;
-use xls_open::InForce;
-use xls_range::{Given, Unsettled};
+use xls_open::Settings;
+use xls_range::{Numbered, Unsettled};
 use xls_stream::types::MUL_RK;
 
 /// The first of these records, if there is one.
@@ -69,14 +69,14 @@ fn first_column(body: &[u8]) -> u32
     ensures column { result ≡ first_column body.now }
     ensures small { result < 2 ^ 16 }
 {
-    let (_, behind) = body.split_at(2);
-    u32::from(read_u16(behind))
+    let (_, following) = body.split_at(2);
+    u32::from(read_u16(following))
 }
 
 /// The value of the cell at a column of a MulRk record without a fault.
-fn value_in_run<'c>(body: &'c [u8], column: u32, force: &InForce<'c>) -> Option<CellValue<'c>>
-    ensures { (cells : List Entry) → mul_rk_at force.now.cells.classes force.now.cells.is_1904 body.now ≡ Ok cells
-        → option_map value_content result ≡ option_map (λ (c : Entry). c.1) (slice_get cells (column - first_column body.now)) }
+fn value_in_run<'c>(body: &'c [u8], column: u32, settings: &Settings<'c>) -> Option<CellValue<'c>>
+    ensures { (cells : List CellEntry) → mul_rk_at settings.now.cells.classes settings.now.cells.is_1904 body.now ≡ Ok cells
+        → option_map lent_content result ≡ option_map (λ (c : CellEntry). c.1) (slice_get cells (column - first_column body.now)) }
 {
     let count = match count_mul_rk(body) {
         Ok(count) => count,
@@ -86,19 +86,19 @@ fn value_in_run<'c>(body: &'c [u8], column: u32, force: &InForce<'c>) -> Option<
     if nth >= count {
         return None;
     }
-    let (_, value) = read_mul_rk(body, nth, force.classes, force.is_1904);
+    let (_, value) = read_mul_rk(body, nth, settings.classes, settings.is_1904);
     Some(CellValue::Number(value))
 }
 
 /// The value of the cell of a record without a fault at a position, if the record has it.
-fn value_in<'c>(r: &Record<'c>, position: (u32, u32), force: &InForce<'c>) -> Option<CellValue<'c>>
-    ensures { (g : SheetRecord) → kept_line force.now.cells (kept_group (group_of r.now)) ≡ Ok g
-        → value_or_blank result ≡ cell_in force.now position (kept_group (group_of r.now)) }
+fn value_in<'c>(r: &Record<'c>, position: (u32, u32), settings: &Settings<'c>) -> Option<CellValue<'c>>
+    ensures { (g : SheetRecord) → kept_line settings.now.cells (kept_group (group_of r.now)) ≡ Ok g
+        → value_or_blank result ≡ cell_in settings.now position (kept_group (group_of r.now)) }
 {
     if r.typ == MUL_RK {
-        return value_in_run(r.body, position.1, force);
+        return value_in_run(r.body, position.1, settings);
     }
-    match cell_of(r, position, force) {
+    match cell_of(r, position, settings) {
         Some(cell) => Some(cell.value),
         None => None,
     }
@@ -109,16 +109,16 @@ fn placed_value<'c>(
     part: &'c [u8],
     position: (u32, u32),
     at: usize,
-    force: &InForce<'c>,
+    settings: &Settings<'c>,
 ) -> Option<CellValue<'c>>
-    ensures { value_or_blank result ≡ value_at force.now part.now position at }
+    ensures { value_or_blank result ≡ value_at settings.now part.now position at }
 {
     let record = match record_at(part, at) {
         Some(record) => record,
         None => return None,
     };
-    match check_sheet_record(&record, force.version) {
-        Ok(()) => value_in(&record, position, force),
+    match check_sheet_record(&record, settings.version) {
+        Ok(()) => value_in(&record, position, settings),
         Err(_) => None,
     }
 }
@@ -128,11 +128,11 @@ pub(crate) fn placed_cell<'c>(
     part: &'c [u8],
     position: (u32, u32),
     at: usize,
-    force: &InForce<'c>,
+    settings: &Settings<'c>,
 ) -> SheetCell<'c>
-    ensures { cell_entry result ≡ cell_placed force.now part.now (position, at) }
+    ensures { cell_entry result ≡ cell_placed settings.now part.now (position, at) }
 {
-    let value = match placed_value(part, position, at, force) {
+    let value = match placed_value(part, position, at, settings) {
         Some(value) => value,
         None => CellValue::Empty,
     };
@@ -140,8 +140,8 @@ pub(crate) fn placed_cell<'c>(
 }
 
 /// The next of some places.
-pub(crate) fn next_place(places: &mut &[Given<usize>]) -> Option<((u32, u32), usize)>
-    ensures { Gives (λ (c : Place). c) (map given_entry places.old.now) result (map given_entry places.new.now) }
+pub(crate) fn next_place(places: &mut &[Numbered<usize>]) -> Option<((u32, u32), usize)>
+    ensures { LendsNext (λ (c : Place). c) (map numbered_entry places.old.now) result (map numbered_entry places.new.now) }
 {
     if places.is_empty() {
         return None;
@@ -194,10 +194,10 @@ fn push_run(
     places: &mut Unsettled<usize>,
     body: &[u8],
     at: usize,
-    force: &InForce<'_>,
+    settings: &Settings<'_>,
 ) -> Result<(), AllocError>
-    ensures { (cells : List Entry) → mul_rk_at force.now.cells.classes force.now.cells.is_1904 body.now ≡ Ok cells
-        → OnOk result (places.new ≡ places.old ++ map (λ (c : Entry). (c.0, at)) cells) }
+    ensures { (cells : List CellEntry) → mul_rk_at settings.now.cells.classes settings.now.cells.is_1904 body.now ≡ Ok cells
+        → OnOk result (places.new ≡ places.old ++ map (λ (c : CellEntry). (c.0, at)) cells) }
 {
     let count = match count_mul_rk(body) {
         Ok(count) => count,
@@ -216,17 +216,17 @@ pub(crate) fn push_cells(
     r: &Record<'_>,
     last: (u32, u32),
     at: usize,
-    force: &InForce<'_>,
+    settings: &Settings<'_>,
 ) -> Result<(), AllocError>
-    ensures { (g : SheetRecord) (part : List ℕ) → kept_line force.now.cells (kept_group (group_of r.now)) ≡ Ok g
+    ensures { (g : SheetRecord) (part : List ℕ) → kept_line settings.now.cells (kept_group (group_of r.now)) ≡ Ok g
         → record_at part at ≡ kept_group (group_of r.now)
-        → OnOk result (map (cell_placed force.now part) places.new
-        ≡ map (cell_placed force.now part) places.old ++ (adds force.now.formulas last g).cells) }
+        → OnOk result (map (cell_placed settings.now part) places.new
+        ≡ map (cell_placed settings.now part) places.old ++ (adds settings.now.formulas last g).cells) }
 {
     if r.typ == MUL_RK {
-        return push_run(places, r.body, at, force);
+        return push_run(places, r.body, at, settings);
     }
-    match cell_of(r, last, force) {
+    match cell_of(r, last, settings) {
         Some(cell) => push_place(places, position_of(cell), at),
         None => Ok(()),
     }

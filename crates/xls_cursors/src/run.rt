@@ -22,10 +22,10 @@ pub(crate) struct Run<'c> {
 impl<'c> Model for Run<'c> {
     ghost use Rattle.std.specs.Prelude.{◌≤◌, ◌<◌, ◌+◌, ◌-◌, ◌*◌, ◌^◌, ℕ, List, map, length};
     ghost use Rattle.std.specs.List.{range_with_len};
-    ghost use Rattle.xls_biff.specs.Cells.{Entry};
+    ghost use Rattle.xls_biff.specs.Cells.{CellEntry};
     ghost use Rattle.xls_biff.specs.Records.Rk.{rk_cell};
 
-    ghost Value = { List Entry };
+    ghost Value = { List CellEntry };
 
     ghost view = { λ r. map (rk_cell r.classes.now r.is_1904 r.body.now) (range_with_len r.next (r.count - r.next)) };
 

@@ -1,11 +1,11 @@
 //! A sheet of a view.
 
 ghost use Rattle.std.specs.Prelude.{◌≡◌, IfOk, map};
-ghost use Rattle.xls_biff.specs.Cells.{Entry};
+ghost use Rattle.xls_biff.specs.Cells.{CellEntry};
 ghost use Rattle.xls_range.specs.Bounds.{bounds_of};
 ghost use Rattle.xls_range.specs.Positions.{IsAscending};
 ghost use Rattle.xls_cursors.specs.Contents.{kept_in, shows};
-ghost use Rattle.xls_cursors.specs.Walking.{IsSound};
+ghost use Rattle.xls_cursors.specs.Walking.{IsSoundPart};
 
 use crate::cells::SheetCells;
 use crate::formulas::SheetFormulas;
@@ -14,44 +14,44 @@ use crate::survey::{Survey, survey_of};
 use std::alloc::{AllocError, Global};
 use std::marker::Model;
 use xls_data::Dimensions;
-use xls_open::InForce;
+use xls_open::Settings;
 
 /// A sheet of a view. One walk over the positions of its records has found whether its cells and its formulas
 /// stand in order, so that what it shows is walked where it stands. Contracts see what it shows.
 #[derive(Drop)]
 pub struct ViewSheet<'v> {
     alloc: Global,
-    force: InForce<'v>,
+    settings: Settings<'v>,
     part: &'v [u8],
     survey: Survey,
 }
 
 impl<'v> Model for ViewSheet<'v> {
-    ghost use Rattle.xls_cursors.specs.Contents.{cells_from, kept_in, regions_of, shows};
-    ghost use Rattle.xls_cursors.specs.Formulas.{formulas_of};
+    ghost use Rattle.xls_cursors.specs.Contents.{cells_after, kept_in, regions_of, shows};
+    ghost use Rattle.xls_cursors.specs.Formulas.{formulas_kept};
     ghost use Rattle.xls_cursors.specs.Surveying.{IsSurvey};
-    ghost use Rattle.xls_cursors.specs.Shown.{ShownSheet};
-    ghost use Rattle.xls_cursors.specs.Walking.{IsSound};
+    ghost use Rattle.xls_cursors.specs.Displayed.{DisplayedSheet};
+    ghost use Rattle.xls_cursors.specs.Walking.{IsSoundPart};
 
-    ghost Value = { ShownSheet };
+    ghost Value = { DisplayedSheet };
 
-    ghost view = { λ s. shows s.force (kept_in s.part.now 0) };
+    ghost view = { λ s. shows s.settings (kept_in s.part.now 0) };
 
-    ghost invariant = { λ s. IsSound s.force (s.part.now, 0)
-        × IsSurvey s.survey (cells_from s.force (0, 0) (kept_in s.part.now 0))
-        (formulas_of (kept_in s.part.now 0)) (regions_of (kept_in s.part.now 0)) };
+    ghost invariant = { λ s. IsSoundPart s.settings (s.part.now, 0)
+        × IsSurvey s.survey (cells_after s.settings (0, 0) (kept_in s.part.now 0))
+        (formulas_kept (kept_in s.part.now 0)) (regions_of (kept_in s.part.now 0)) };
 }
 
 impl<'v> ViewSheet<'v> {
     /// The sheet of a part whose records have no fault.
-    pub fn new(alloc: Global, force: InForce<'v>, part: &'v [u8]) -> ViewSheet<'v>
-        requires { IsSound force (part.now, 0) }
-        ensures { result ≡ shows force.entry (kept_in part.entry.now 0) }
+    pub fn new(alloc: Global, settings: Settings<'v>, part: &'v [u8]) -> ViewSheet<'v>
+        requires { IsSoundPart settings (part.now, 0) }
+        ensures { result ≡ shows settings.entry (kept_in part.entry.now 0) }
     {
-        let survey = survey_of(part, &force);
+        let survey = survey_of(part, &settings);
         ViewSheet {
             alloc,
-            force,
+            settings,
             part,
             survey,
         }
@@ -69,11 +69,11 @@ impl<'v> ViewSheet<'v> {
     /// one refusal.
     pub fn cells(&self) -> Result<SheetCells<'v>, AllocError>
         ensures cells { IfOk result (λ cells. cells ≡ self.now.cells) }
-        ensures ordered { IfOk result (λ cells. IsAscending (map (λ (c : Entry). c.0) cells)) }
+        ensures ordered { IfOk result (λ cells. IsAscending (map (λ (c : CellEntry). c.0) cells)) }
     {
         SheetCells::new(
             self.alloc,
-            self.force.again(),
+            self.settings.again(),
             self.part,
             self.survey.cells(),
         )
@@ -86,7 +86,7 @@ impl<'v> ViewSheet<'v> {
     {
         SheetFormulas::new(
             self.alloc,
-            self.force.again(),
+            self.settings.again(),
             self.part,
             self.survey.formulas(),
         )

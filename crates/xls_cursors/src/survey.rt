@@ -6,7 +6,7 @@ ghost use Rattle.std.specs.Option.{option_map};
 ghost use Rattle.xls_data.specs.Content.{Content};
 ghost use Rattle.xls_data.specs.declared.regions.Dimensions.{Dimensions};
 ghost use Rattle.xls_stream.specs.Listing.{Kept, kept_group};
-ghost use Rattle.xls_biff.specs.Cells.{Entry};
+ghost use Rattle.xls_biff.specs.Cells.{CellEntry};
 ghost use Rattle.xls_biff.specs.Records.LabelSst.{shared_entry};
 ghost use Rattle.xls_biff.specs.Records.Rk.{rk_cell};
 ghost use Rattle.xls_biff.specs.SheetReading.{HasItems, stands_for};
@@ -14,11 +14,11 @@ ghost use Rattle.xls_biff.specs.SheetTable.{CellContext};
 ghost use Rattle.xls_biff.specs.SheetTable as table;
 ghost use Rattle.xls_biff.specs.Walking.{group_of};
 ghost use Rattle.xls_meaning.specs.SheetTable.{adds, kept_line};
-ghost use Rattle.xls_cursors.specs.Contents.{cells_from, kept_in, regions_at, regions_of};
-ghost use Rattle.xls_cursors.specs.Formulas.{Formula, formulas_of};
+ghost use Rattle.xls_cursors.specs.Contents.{cells_after, kept_in, regions_at, regions_of};
+ghost use Rattle.xls_cursors.specs.Formulas.{Formula, formulas_kept};
 ghost use Rattle.xls_cursors.specs.Placing.{IsAscent};
-ghost use Rattle.xls_cursors.specs.Surveying.{IsCellAt, IsFound, IsPlain, IsSurvey, box_found, formula_listed};
-ghost use Rattle.xls_cursors.specs.Walking.{IsRead, IsSound, run_of};
+ghost use Rattle.xls_cursors.specs.Surveying.{IsCellAt, IsFound, IsPlainCell, IsSurvey, box_found, formula_listed};
+ghost use Rattle.xls_cursors.specs.Walking.{IsReadRecord, IsSoundPart, run_of};
 
 use crate::ascent::Ascent;
 use crate::places::run_position;
@@ -28,7 +28,7 @@ use xls_biff::{
     Record, SheetRecord, SheetRecords, cell_position, formula_position, read_sheet_record,
 };
 use xls_data::Dimensions;
-use xls_open::InForce;
+use xls_open::Settings;
 use xls_stream::types::{BOOL_ERR, LABEL, NUMBER, R_STRING, RK};
 
 /// Whether the cells so far ascend strictly by position, and the smallest box that holds them.
@@ -83,7 +83,7 @@ impl FoundCells {
     /// After a cell at a position.
     #[inline(always)]
     fn with(self, position: (u32, u32)) -> FoundCells
-        ensures { (cells : List Entry) (v : Content) → IsFound self cells → IsFound result (cells ++ (position, v) ∷ []) }
+        ensures { (cells : List CellEntry) (v : Content) → IsFound self cells → IsFound result (cells ++ (position, v) ∷ []) }
     {
         let (row, column) = position;
         FoundCells {
@@ -97,11 +97,11 @@ impl FoundCells {
 
     /// After the cells of a MulRk record's body, which are so many.
     #[inline]
-    fn with_run(self, body: &[u8], count: usize, force: &InForce<'_>) -> FoundCells
+    fn with_run(self, body: &[u8], count: usize, settings: &Settings<'_>) -> FoundCells
         requires sized { length body.now ≡ 6 + 6 * count }
         requires few { count ≤ 2 ^ 16 }
-        ensures { (cells : List Entry) → IsFound self cells
-            → IsFound result (cells ++ map (rk_cell force.now.cells.classes force.now.cells.is_1904 body.now) (range_with_len 0 count)) }
+        ensures { (cells : List CellEntry) → IsFound self cells
+            → IsFound result (cells ++ map (rk_cell settings.now.cells.classes settings.now.cells.is_1904 body.now) (range_with_len 0 count)) }
     {
         let mut found = self;
         for i in 0..count {
@@ -116,16 +116,16 @@ impl FoundCells {
         self,
         read: &SheetRecord<'_>,
         last: (u32, u32),
-        force: &InForce<'_>,
+        settings: &Settings<'_>,
     ) -> FoundCells
-        requires { IsRead read.now }
-        ensures { (cells : List Entry) → IsFound self cells
-            → IsFound result (cells ++ (adds force.now.formulas last (stands_for force.now.cells read.now)).cells) }
+        requires { IsReadRecord read.now }
+        ensures { (cells : List CellEntry) → IsFound self cells
+            → IsFound result (cells ++ (adds settings.now.formulas last (stands_for settings.now.cells read.now)).cells) }
     {
         if let Some((body, count)) = run_of(read) {
-            return self.with_run(body, count, force);
+            return self.with_run(body, count, settings);
         }
-        match place_of(read, last, force) {
+        match place_of(read, last, settings) {
             Some(position) => self.with(position),
             None => self,
         }
@@ -134,21 +134,21 @@ impl FoundCells {
 
 /// Where the cell of a LabelSst record stands, if the table has its text.
 #[inline(always)]
-fn shared_place(position: (u32, u32), index: u32, force: &InForce<'_>) -> Option<(u32, u32)>
-    ensures { result ≡ option_map (λ (c : Entry). c.0) (shared_entry force.now.cells.strings (position, index)) }
+fn shared_place(position: (u32, u32), index: u32, settings: &Settings<'_>) -> Option<(u32, u32)>
+    ensures { result ≡ option_map (λ (c : CellEntry). c.0) (shared_entry settings.now.cells.strings (position, index)) }
 {
-    match force.strings.get(index as usize) {
+    match settings.strings.get(index as usize) {
         Some(_) => Some(position),
         None => None,
     }
 }
 
 /// Where the cell of a record stands that isn't a MulRk, whatever the record.
-fn other_place(read: &SheetRecord<'_>, last: (u32, u32), force: &InForce<'_>) -> Option<(u32, u32)>
+fn other_place(read: &SheetRecord<'_>, last: (u32, u32), settings: &Settings<'_>) -> Option<(u32, u32)>
     ensures { run_of read.now ≡ None
-        → IsCellAt result (adds force.now.formulas last (stands_for force.now.cells read.now)).cells }
+        → IsCellAt result (adds settings.now.formulas last (stands_for settings.now.cells read.now)).cells }
 {
-    match single_cell(read, last, force) {
+    match single_cell(read, last, settings) {
         Some(cell) => Some(position_of(cell)),
         None => None,
     }
@@ -157,17 +157,17 @@ fn other_place(read: &SheetRecord<'_>, last: (u32, u32), force: &InForce<'_>) ->
 /// Where the cell of a record that isn't a MulRk stands, if it has one, where the last Formula before it
 /// stands here.
 #[inline(always)]
-fn place_of(read: &SheetRecord<'_>, last: (u32, u32), force: &InForce<'_>) -> Option<(u32, u32)>
+fn place_of(read: &SheetRecord<'_>, last: (u32, u32), settings: &Settings<'_>) -> Option<(u32, u32)>
     ensures { run_of read.now ≡ None
-        → IsCellAt result (adds force.now.formulas last (stands_for force.now.cells read.now)).cells }
+        → IsCellAt result (adds settings.now.formulas last (stands_for settings.now.cells read.now)).cells }
 {
     match read {
         SheetRecord::Number(cell) => Some(cell.position),
         SheetRecord::Rk(cell) => Some(cell.position),
         SheetRecord::BoolErr { position, .. } => Some(*position),
         SheetRecord::Label { position, .. } => Some(*position),
-        SheetRecord::LabelSst { position, index } => shared_place(*position, *index, force),
-        _ => other_place(read, last, force),
+        SheetRecord::LabelSst { position, index } => shared_place(*position, *index, settings),
+        _ => other_place(read, last, settings),
     }
 }
 
@@ -228,7 +228,7 @@ impl Survey {
 /// needn't be read for that.
 #[inline(always)]
 fn first_place(r: &Record<'_>) -> Option<(u32, u32)>
-    ensures { IfSome result (IsPlain (kept_group (group_of r.now))) }
+    ensures { IfSome result (IsPlainCell (kept_group (group_of r.now))) }
 {
     match r.typ {
         NUMBER => cell_position(r.body),
@@ -249,34 +249,34 @@ fn pass(
     merges: usize,
     r: &Record<'_>,
     last: (u32, u32),
-    force: &InForce<'_>,
+    settings: &Settings<'_>,
 ) -> (FoundCells, usize)
-    ensures { (es : List Entry) (fs : List Formula) (rs : List Dimensions) (g : table.SheetRecord)
-        → kept_line force.now.cells (kept_group (group_of r.now)) ≡ Ok g
+    ensures { (es : List CellEntry) (fs : List Formula) (rs : List Dimensions) (g : table.SheetRecord)
+        → kept_line settings.now.cells (kept_group (group_of r.now)) ≡ Ok g
         → IsSurvey (record { cells = cells; formulas = formulas.old; merges = merges }) es fs rs
         → IsSurvey (record { cells = result.0; formulas = formulas.new; merges = result.1 })
-        (es ++ (adds force.now.formulas last g).cells)
+        (es ++ (adds settings.now.formulas last g).cells)
         (fs ++ formula_listed (kept_group (group_of r.now))) (rs ++ regions_at (kept_group (group_of r.now))) }
 {
     if let Some(position) = first_place(r) {
         return (cells.with(position), merges);
     }
-    let read = match read_sheet_record(r, force.version) {
+    let read = match read_sheet_record(r, settings.version) {
         Ok(read) => read,
         Err(_) => return (cells, merges),
     };
     add_formula(formulas, &read);
     (
-        cells.with_record(&read, last, force),
+        cells.with_record(&read, last, settings),
         merges_with(merges, &read),
     )
 }
 
 /// What is found of the records of a part. Takes no memory.
-pub(crate) fn survey_of(part: &[u8], force: &InForce<'_>) -> Survey
-    requires { IsSound force.now (part.now, 0) }
-    ensures { IsSurvey result (cells_from force.now (0, 0) (kept_in part.now 0))
-        (formulas_of (kept_in part.now 0)) (regions_of (kept_in part.now 0)) }
+pub(crate) fn survey_of(part: &[u8], settings: &Settings<'_>) -> Survey
+    requires { IsSoundPart settings.now (part.now, 0) }
+    ensures { IsSurvey result (cells_after settings.now (0, 0) (kept_in part.now 0))
+        (formulas_kept (kept_in part.now 0)) (regions_of (kept_in part.now 0)) }
 {
     let mut cells = FoundCells::none();
     let mut formulas = Ascent::new();
@@ -293,7 +293,7 @@ pub(crate) fn survey_of(part: &[u8], force: &InForce<'_>) -> Survey
                 };
             }
         };
-        let (found, regions) = pass(cells, &mut formulas, merges, &record, last, force);
+        let (found, regions) = pass(cells, &mut formulas, merges, &record, last, settings);
         cells = found;
         merges = regions;
         last = formula_position(&record).unwrap_or(last);

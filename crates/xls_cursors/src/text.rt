@@ -4,7 +4,7 @@ ghost use Rattle.std.specs.Prelude.{◌≡◌, ◌++◌, IfOk, OnOk, encode_utf8
 ghost use Rattle.std.specs.String.{string_bytes};
 ghost use Rattle.std.specs.Str.{chars};
 ghost use Rattle.xls_data.specs.Refs.{ref_content_of};
-ghost use Rattle.xls_cursors.specs.Values.{encoded_text, text_in, value_content};
+ghost use Rattle.xls_cursors.specs.Values.{encoded_text, value_text, lent_content};
 
 use crate::value::{CellValue, EncodedText};
 use std::alloc::{AllocError, Global};
@@ -53,7 +53,7 @@ impl TextBuffer {
     /// this buffer. Only running out of memory refuses.
     #[inline(always)]
     pub fn text_of<'b>(&'b mut self, value: &CellValue<'b>) -> Result<&'b str, AllocError>
-        ensures { IfOk result (λ s. chars s.now ≡ text_in (value_content value.now)) }
+        ensures { IfOk result (λ s. chars s.now ≡ value_text (lent_content value.now)) }
     {
         match value {
             CellValue::Shared(text) => Ok(*text),
@@ -69,7 +69,7 @@ impl TextBuffer {
     /// memory refuses.
     #[inline(always)]
     pub fn value_of<'b>(&'b mut self, value: CellValue<'b>) -> Result<DataRef<'b>, AllocError>
-        ensures { IfOk result (λ d. ref_content_of d ≡ value_content value.entry) }
+        ensures { IfOk result (λ d. ref_content_of d ≡ lent_content value.entry) }
     {
         match value {
             CellValue::Number(number) => Ok(number.into_ref()),

@@ -3,7 +3,7 @@
 ghost use Rattle.std.specs.Prelude.{◌≡◌};
 ghost use Rattle.xls_biff.specs.Cells.{numeric_entry};
 ghost use Rattle.xls_biff.specs.Records.BoolErr.{bes_entry};
-ghost use Rattle.xls_cursors.specs.Values.{cell_entry, value_content};
+ghost use Rattle.xls_cursors.specs.Values.{cell_entry, lent_content};
 
 use xls_biff::{Bes, Biff};
 use xls_data::{CellErrorType, Numeric};
@@ -54,7 +54,7 @@ pub struct FormulaCell<'v> {
 /// The cell at a position.
 #[inline(always)]
 pub(crate) fn cell_at<'v>(position: (u32, u32), value: CellValue<'v>) -> SheetCell<'v>
-    ensures { cell_entry result ≡ (position, value_content value.entry) }
+    ensures { cell_entry result ≡ (position, lent_content value.entry) }
 {
     let (row, column) = position;
     SheetCell { row, column, value }

@@ -1,21 +1,21 @@
 //! The cells of a sheet part in the order of its records.
 
 ghost use Rattle.std.specs.Prelude.{◌≡◌, ◌++◌, []};
-ghost use Rattle.xls_cursors.specs.Contents.{cells_from, kept_in};
-ghost use Rattle.xls_cursors.specs.Walking.{CellSteps, IsSound};
+ghost use Rattle.xls_cursors.specs.Contents.{cells_after, kept_in};
+ghost use Rattle.xls_cursors.specs.Walking.{CellSteps, IsSoundPart};
 
 use crate::record::first_cell;
 use crate::run::Run;
 use crate::value::SheetCell;
 use std::marker::Model;
 use xls_biff::{SheetRecords, formula_position};
-use xls_open::InForce;
+use xls_open::Settings;
 
 /// The cells of a part that are left, in the order of its records, none of which has a fault. Contracts see
 /// the list of them.
 #[derive(Drop)]
 pub(crate) struct CellWalk<'c> {
-    force: &'c InForce<'c>,
+    settings: &'c Settings<'c>,
     records: SheetRecords<'c>,
     /// Where the last Formula stands.
     at: (u32, u32),
@@ -25,15 +25,15 @@ pub(crate) struct CellWalk<'c> {
 
 impl<'c> Model for CellWalk<'c> {
     ghost use Rattle.std.specs.Prelude.{◌++◌, List};
-    ghost use Rattle.xls_biff.specs.Cells.{Entry};
-    ghost use Rattle.xls_cursors.specs.Contents.{cells_from, kept_in};
-    ghost use Rattle.xls_cursors.specs.Walking.{IsSound};
+    ghost use Rattle.xls_biff.specs.Cells.{CellEntry};
+    ghost use Rattle.xls_cursors.specs.Contents.{cells_after, kept_in};
+    ghost use Rattle.xls_cursors.specs.Walking.{IsSoundPart};
 
-    ghost Value = { List Entry };
+    ghost Value = { List CellEntry };
 
-    ghost view = { λ w. w.run ++ cells_from w.force.now w.at (kept_in w.records.0 w.records.1) };
+    ghost view = { λ w. w.run ++ cells_after w.settings.now w.at (kept_in w.records.0 w.records.1) };
 
-    ghost invariant = { λ w. IsSound w.force.now w.records };
+    ghost invariant = { λ w. IsSoundPart w.settings.now w.records };
 }
 
 /// The first cell of the records that are left, where the last Formula before them stands here; those after
@@ -43,13 +43,13 @@ fn next_cell<'c>(
     records: &mut SheetRecords<'c>,
     at: &mut (u32, u32),
     run: &mut Run<'c>,
-    force: &InForce<'c>,
+    settings: &Settings<'c>,
 ) -> Option<SheetCell<'c>>
-    requires sound { IsSound force.now records.old }
+    requires sound { IsSoundPart settings.now records.old }
     requires none { run.old ≡ [] }
-    ensures sound { IsSound force.now records.new }
-    ensures passes { CellSteps (cells_from force.now at.old (kept_in records.old.0 records.old.1)) result
-        (run.new ++ cells_from force.now at.new (kept_in records.new.0 records.new.1)) }
+    ensures sound { IsSoundPart settings.now records.new }
+    ensures passes { CellSteps (cells_after settings.now at.old (kept_in records.old.0 records.old.1)) result
+        (run.new ++ cells_after settings.now at.new (kept_in records.new.0 records.new.1)) }
 {
     while let Some(item) = records.next() {
         let record = match item {
@@ -58,7 +58,7 @@ fn next_cell<'c>(
         };
         let last = *at;
         *at = formula_position(&record).unwrap_or(last);
-        if let Some(cell) = first_cell(&record, last, run, force) {
+        if let Some(cell) = first_cell(&record, last, run, settings) {
             return Some(cell);
         }
     }
@@ -67,12 +67,12 @@ fn next_cell<'c>(
 
 impl<'c> CellWalk<'c> {
     /// The cells of a part.
-    pub(crate) fn new(force: &'c InForce<'c>, part: &'c [u8]) -> CellWalk<'c>
-        requires { IsSound force.now (part.now, 0) }
-        ensures { result ≡ cells_from force.entry.now (0, 0) (kept_in part.entry.now 0) }
+    pub(crate) fn new(settings: &'c Settings<'c>, part: &'c [u8]) -> CellWalk<'c>
+        requires { IsSoundPart settings.now (part.now, 0) }
+        ensures { result ≡ cells_after settings.entry.now (0, 0) (kept_in part.entry.now 0) }
     {
         CellWalk {
-            force,
+            settings,
             records: SheetRecords::new(part),
             at: (0, 0),
             run: Run::none(),
@@ -81,11 +81,11 @@ impl<'c> CellWalk<'c> {
 
     /// No cells.
     #[tactic(auto, using(crate::proofs::WalkLemmas::kept_nothing))]
-    pub(crate) fn none(force: &'c InForce<'c>) -> CellWalk<'c>
+    pub(crate) fn none(settings: &'c Settings<'c>) -> CellWalk<'c>
         ensures { result ≡ [] }
     {
         CellWalk {
-            force,
+            settings,
             records: SheetRecords::new(&[]),
             at: (0, 0),
             run: Run::none(),
@@ -97,7 +97,7 @@ impl<'c> CellWalk<'c> {
         ensures { result ≡ self.now }
     {
         CellWalk {
-            force: self.force,
+            settings: self.settings,
             records: self.records.again(),
             at: self.at,
             run: self.run.again(),
@@ -121,6 +121,6 @@ impl<'c> Iterator for CellWalk<'c> {
         if let Some(cell) = self.run.next() {
             return Some(cell);
         }
-        next_cell(&mut self.records, &mut self.at, &mut self.run, self.force)
+        next_cell(&mut self.records, &mut self.at, &mut self.run, self.settings)
     }
 }

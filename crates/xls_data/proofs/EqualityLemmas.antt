@@ -79,8 +79,8 @@ error_decides a b = (λ e. absurd (true≢false (sym e)), apart error_place _ _ 
 
 pub same_parts : (a b : DateParts) → (a.number ≡ b.number) × (a.kind ≡ b.kind) × (a.is_1904 ≡ b.is_1904) → a ≡ b
 same_parts a b h =
-    let made : Number → ExcelDateTimeType → Bool → DateParts = λ n k e. record { number = n; kind = k; is_1904 = e } in
-    ap (λ n. made n a.kind a.is_1904) h.0 ∙ ap (λ k. made b.number k a.is_1904) h.1 ∙ ap (λ e. made b.number b.kind e) h.2
+    let built : Number → ExcelDateTimeType → Bool → DateParts = λ n k e. record { number = n; kind = k; is_1904 = e } in
+    ap (λ n. built n a.kind a.is_1904) h.0 ∙ ap (λ k. built b.number k a.is_1904) h.1 ∙ ap (λ e. built b.number b.kind e) h.2
 
 pub parts_decides : (a b : DateParts) → Decides (date_impl.ghosts.eq a b) (a ≡ b)
 parts_decides a b =
@@ -151,8 +151,8 @@ visible_decides a b = (λ e. absurd (true≢false (sym e)), λ e. cc)
 
 same_sheet : (a b : Sheet) → (string_bytes a.name ≡ string_bytes b.name) × (a.typ ≡ b.typ) × (a.visible ≡ b.visible) → sheet_content a ≡ sheet_content b
 same_sheet a b h =
-    let made : List ℕ → SheetType → SheetVisible → SheetContent = λ n t v. record { name = chars n; typ = t; visible = v } in
-    ap (λ n. made n a.typ a.visible) h.0 ∙ ap (λ t. made (string_bytes b.name) t a.visible) h.1 ∙ ap (λ v. made (string_bytes b.name) b.typ v) h.2
+    let built : List ℕ → SheetType → SheetVisible → SheetContent = λ n t v. record { name = chars n; typ = t; visible = v } in
+    ap (λ n. built n a.typ a.visible) h.0 ∙ ap (λ t. built (string_bytes b.name) t a.visible) h.1 ∙ ap (λ v. built (string_bytes b.name) b.typ v) h.2
 
 pub sheet_decides : (a b : Sheet) → Decides (sheet_impl.ghosts.eq a b) (sheet_content a ≡ sheet_content b)
 sheet_decides a b =

@@ -26,9 +26,9 @@ truth_in (truth b) = Some b
 truth_in _ = None
 
 -- a text
-abbrev pub text_in : Content → Option (List ℕ)
-text_in (text cs) = Some cs
-text_in _ = None
+abbrev pub text_content : Content → Option (List ℕ)
+text_content (text cs) = Some cs
+text_content _ = None
 
 -- a date or a duration
 abbrev pub date_in : Content → Option DateParts

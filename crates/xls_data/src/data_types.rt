@@ -5,7 +5,7 @@ ghost use Rattle.std.specs.Option.{option_map, option_copied};
 ghost use Rattle.std.specs.String.{string_bytes};
 ghost use Rattle.std.specs.Str.{chars};
 ghost use Rattle.xls_data.specs.Content.{Content, int, text, truth, nothing};
-ghost use Rattle.xls_data.specs.Kinds.{int_in, float_in, truth_in, text_in, date_in, iso_date_in, iso_duration_in, failure_in, printed_scalar, IsWholeOf};
+ghost use Rattle.xls_data.specs.Kinds.{int_in, float_in, truth_in, text_content, date_in, iso_date_in, iso_duration_in, failure_in, printed_scalar, IsWholeOf};
 ghost use Rattle.xls_data.specs.Data.{content_of};
 ghost use Rattle.xls_data.specs.Refs.{ref_content_of};
 
@@ -36,7 +36,7 @@ pub trait DataType {
 
     /// The text, if it is one.
     fn get_string(&self) -> Option<&str>
-        ensures { option_map (λ s. chars s.now) result ≡ text_in (contains self.now) };
+        ensures { option_map (λ s. chars s.now) result ≡ text_content (contains self.now) };
 
     /// The date or duration, if it is one.
     fn get_datetime(&self) -> Option<ExcelDateTime>
@@ -77,7 +77,7 @@ pub trait DataType {
 
     /// Whether it is a text.
     fn is_string(&self) -> bool
-        ensures { result ≡ is_some (text_in (contains self.now)) }
+        ensures { result ≡ is_some (text_content (contains self.now)) }
     {
         self.get_string().is_some()
     }

@@ -21,18 +21,18 @@ same_quote : (c : ℕ) → (to_ascii_lowercase c ∈ codes "\"") ≡ (c ∈ code
 same_quote c = grind arith
 
 -- a `;` that is neither escaped nor quoted ends the plain characters as the text's end does
-plain_from-section : (front rest : List ℕ) (escaped quoted : Bool) (before : ℕ) → ends_plain escaped quoted front ≡ true
-    → plain_from escaped quoted before (map to_ascii_lowercase (front ++ 59 ∷ rest)) ≡ plain_from escaped quoted before (map to_ascii_lowercase front)
+plain_from-section : (prefix rest : List ℕ) (escaped quoted : Bool) (before : ℕ) → ends_plain escaped quoted prefix ≡ true
+    → plain_from escaped quoted before (map to_ascii_lowercase (prefix ++ 59 ∷ rest)) ≡ plain_from escaped quoted before (map to_ascii_lowercase prefix)
 plain_from-section [] rest false false before plain = refl
 plain_from-section [] rest true quoted before plain = cc
 plain_from-section [] rest false true before plain = cc
-plain_from-section (c ∷ front) rest escaped quoted before plain =
-    let again : (e q : Bool) → ends_plain e q front ≡ true → plain_from e q (to_ascii_lowercase c) (map to_ascii_lowercase (front ++ 59 ∷ rest)) ≡ plain_from e q (to_ascii_lowercase c) (map to_ascii_lowercase front)
-    = λ e q. plain_from-section front rest e q (to_ascii_lowercase c) in
+plain_from-section (c ∷ prefix) rest escaped quoted before plain =
+    let again : (e q : Bool) → ends_plain e q prefix ≡ true → plain_from e q (to_ascii_lowercase c) (map to_ascii_lowercase (prefix ++ 59 ∷ rest)) ≡ plain_from e q (to_ascii_lowercase c) (map to_ascii_lowercase prefix)
+    = λ e q. plain_from-section prefix rest e q (to_ascii_lowercase c) in
     rw (same_escape c, same_quote c) (by_test escaped _ _ _ _ _ _ plain (again false quoted)
     (λ h. by_test (c ∈ codes "_\\*") _ _ _ _ _ _ h (again true quoted)
     (λ k. by_test (c ∈ codes "\"") _ _ _ _ _ _ k (again false (not quoted))
-    (λ l. unescaped quoted (to_ascii_lowercase c ∈ codes ";") (before, to_ascii_lowercase c) (λ q. plain_from false q (to_ascii_lowercase c) (map to_ascii_lowercase (front ++ 59 ∷ rest))) (λ q. plain_from false q (to_ascii_lowercase c) (map to_ascii_lowercase front)) (again false quoted l)))))
+    (λ l. unescaped quoted (to_ascii_lowercase c ∈ codes ";") (before, to_ascii_lowercase c) (λ q. plain_from false q (to_ascii_lowercase c) (map to_ascii_lowercase (prefix ++ 59 ∷ rest))) (λ q. plain_from false q (to_ascii_lowercase c) (map to_ascii_lowercase prefix)) (again false quoted l)))))
 
-pub class_of-section : (front rest : List ℕ) → ends_plain false false front ≡ true → class_of (front ++ 59 ∷ rest) ≡ class_of front
-class_of-section front rest plain = ap (λ xs. class_by false (outside_from 0 false xs)) (plain_from-section front rest false false 32 plain)
+pub class_of-section : (prefix rest : List ℕ) → ends_plain false false prefix ≡ true → class_of (prefix ++ 59 ∷ rest) ≡ class_of prefix
+class_of-section prefix rest plain = ap (λ xs. class_by false (outside_from 0 false xs)) (plain_from-section prefix rest false false 32 plain)

@@ -11,7 +11,7 @@ use Rattle.xls_dates.specs.declared.formats.CellFormat.TheVariants.{Other}
 -- the class of the characters left is that of the first and the others
 pub class_left-first : (bs rest : List ℕ) (c : ℕ) → IsUtf8 bs → bs ≡ encode_utf8 c ++ rest → (w : Walk)
     → class_left w (map to_ascii_lowercase (chars bs)) ≡ class_left w (to_ascii_lowercase c ∷ map to_ascii_lowercase (chars rest))
-class_left-first bs rest c text front w = ap (λ cs. class_left w (map to_ascii_lowercase cs)) (chars_past_char bs rest c text front)
+class_left-first bs rest c text prefix w = ap (λ cs. class_left w (map to_ascii_lowercase cs)) (chars_past_char bs rest c text prefix)
 
 pub shorter : (bs rest : List ℕ) (c : ℕ) → bs ≡ encode_utf8 c ++ rest → length rest + 1 ≤ length bs
 shorter bs rest c e =

@@ -14,7 +14,7 @@ class_left w cs =
 
 -- a step over a character leaves the class to the others, with at most one bracket more open, or
 -- knows it
-abbrev pub Leads : Walk → ℕ → Step → Type 0
-Leads w c (Next v) =
+abbrev pub StepLeads : Walk → ℕ → Step → Type 0
+StepLeads w c (Next v) =
     ((cs : List ℕ) → class_left w (c ∷ cs) ≡ class_left v cs) × (v.depth ≤ w.depth + 1)
-Leads w c (Done class) = (cs : List ℕ) → class_left w (c ∷ cs) ≡ class
+StepLeads w c (Done class) = (cs : List ℕ) → class_left w (c ∷ cs) ≡ class

@@ -3,7 +3,7 @@
 ghost use Rattle.std.specs.Prelude.{◌≡◌, ◌<◌, ◌+◌, ◌^◌, codes, false, if◌then◌else◌};
 ghost use Rattle.std.specs.Str.{chars};
 ghost use Rattle.xls_dates.specs.Classes.{◌∈◌, duration_after, class_of};
-ghost use Rattle.xls_dates.specs.Walk.{Leads};
+ghost use Rattle.xls_dates.specs.Walk.{StepLeads};
 
 use crate::CellFormat;
 
@@ -55,7 +55,7 @@ fn plain_step(w: Walk, c: char) -> Step
     requires quoted { w.quoted ≡ false }
     requires escapes { c ∈ codes "_\\*\"" ≡ false }
     requires room { w.depth + 1 < 2 ^ 64 }
-    ensures { Leads w c result }
+    ensures { StepLeads w c result }
 {
     if c == ';' {
         return Step::Done(CellFormat::Other);
@@ -91,7 +91,7 @@ fn plain_step(w: Walk, c: char) -> Step
 // A character in lower case.
 fn next_step(w: Walk, c: char) -> Step
     requires { w.depth + 1 < 2 ^ 64 }
-    ensures { Leads w c result }
+    ensures { StepLeads w c result }
 {
     if w.escaped || escapes(c) {
         return Step::Next(Walk {

@@ -8,8 +8,8 @@ ghost use Rattle.xls_dates.specs.Classes.{class_of, ends_plain};
 /// The class of a format depends only on the text before the first `;` that is neither escaped nor
 /// inside quotes.
 pub fn class_of_first_section()
-    ensures { (front rest : List ℕ) → ends_plain false false front ≡ true
-        → class_of (front ++ 59 ∷ rest) ≡ class_of front }
+    ensures { (prefix rest : List ℕ) → ends_plain false false prefix ≡ true
+        → class_of (prefix ++ 59 ∷ rest) ≡ class_of prefix }
 {}
 
 /// The class of a number's decimal text is that of the number.

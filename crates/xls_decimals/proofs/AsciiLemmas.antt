@@ -9,7 +9,7 @@ use Rattle.std.proofs.lemmas.Str.Ascii.{IsAscii-nil, IsAscii-cons}
 use Rattle.std.proofs.lemmas.Bool.Decides.{nat_tests}
 use Rattle.xls_dates.specs.Numbers.{sixteen_digits, hundredths_text, decimals_text, minus_if_negative}
 use Rattle.xls_decimals.specs.Fractions.{day}
-use Rattle.xls_decimals.specs.Decimals.{bits_text}
+use Rattle.xls_decimals.specs.Decimals.{decimal_of_bits}
 use Rattle.xls_decimals.specs.Texts.{digit, two_digits, fraction_text, minutes_text, clock_text, date_text, time_after_day, sign_of, duration_text, IsMoment, Ymd}
 
 -- a text that isn't empty under a test
@@ -127,13 +127,13 @@ sixteen_ascii n =
     IsAscii-append (replicate (16 - length (digits 16 false n)) 48) (digits 16 false n)
     (zeros_ascii (16 - length (digits 16 false n))) (onto_ascii 64 n [] IsAscii-nil)
 
-pub bits_ascii : (bits : ℕ) → IsAscii (bits_text bits)
+pub bits_ascii : (bits : ℕ) → IsAscii (decimal_of_bits bits)
 bits_ascii bits =
     sign_ascii 48 (120 ∷ sixteen_digits bits) (omega arith) (sign_ascii 120 (sixteen_digits bits) (omega arith)
     (sixteen_ascii bits))
 
-pub bits_over_100_ascii : (bits : ℕ) → IsAscii (bits_text bits ++ codes "/100")
+pub bits_over_100_ascii : (bits : ℕ) → IsAscii (decimal_of_bits bits ++ codes "/100")
 bits_over_100_ascii bits =
-    IsAscii-append (bits_text bits) (47 ∷ 49 ∷ 48 ∷ 48 ∷ []) (bits_ascii bits)
+    IsAscii-append (decimal_of_bits bits) (47 ∷ 49 ∷ 48 ∷ 48 ∷ []) (bits_ascii bits)
     (sign_ascii 47 (49 ∷ 48 ∷ 48 ∷ []) (omega arith) (sign_ascii 49 (48 ∷ 48 ∷ []) (omega arith) (sign_ascii 48
     (48 ∷ []) (omega arith) (sign_ascii 48 [] (omega arith) IsAscii-nil))))

@@ -7,7 +7,7 @@ use Rattle.std.proofs.lemmas.Bool.{cases_lt}
 use Rattle.std.proofs.lemmas.Str.{IsCharBoundary-after_ascii}
 use Rattle.std.proofs.lemmas.List.{get_or-drop, get_or-take, take_all, take_more}
 use Rattle.xls_decimals.specs.Formulas.{hex_digit_of, with_digit, Piece, Quoted, Unclosed, Word, Symbol, piece_bytes, IsPiece, IsPieceText, IsFormula, IsBitsOrWord, is_quote, is_word_byte, bits_of_word, hex_value_after, EndsWord}
-use Rattle.xls_decimals.specs.Added.{Adds}
+use Rattle.xls_decimals.specs.Added.{AddsText}
 use Rattle.xls_decimals.specs.Pieces.{HasPiece}
 
 -- what isn't a digit stays so
@@ -149,16 +149,16 @@ formula_end = record { pieces = []; whole = refl; cut = tt; written = refl }
 
 -- a piece more
 pub pieces_more : (rest piece after : List ℕ) (n : ℕ) → HasPiece rest n → piece ≡ take n rest → after ≡ drop n rest
-    → (formula old mid new : List ℕ) → Adds (λ added. (text : List ℕ) → IsFormula rest text
+    → (formula old mid new : List ℕ) → AddsText (λ added. (text : List ℕ) → IsFormula rest text
     → IsFormula formula (added ++ text)) old mid
-    → Adds (IsBitsOrWord piece) mid new
-    → Adds (λ added. (text : List ℕ) → IsFormula after text → IsFormula formula (added ++ text)) old new
-pieces_more rest piece after n p front back formula old mid new a b = (
+    → AddsText (IsBitsOrWord piece) mid new
+    → AddsText (λ added. (text : List ℕ) → IsFormula after text → IsFormula formula (added ++ text)) old new
+pieces_more rest piece after n p prefix back formula old mid new a b = (
   a.0 ++ b.0,
   λ text f.
-      let whole : piece ++ after ≡ rest = rw (front, back) (take-append-drop n rest) in
+      let whole : piece ++ after ≡ rest = rw (prefix, back) (take-append-drop n rest) in
       let is_piece = subst (IsPiece p.piece) (sym back) p.is_piece in
-      let more = formula_more piece after b.0 text p.piece is_piece (p.bytes ∙ sym front) b.1 f in
+      let more = formula_more piece after b.0 text p.piece is_piece (p.bytes ∙ sym prefix) b.1 f in
       rw append_assoc (a.1 (b.0 ++ text) (subst (λ x. IsFormula x (b.0 ++ text)) whole more)),
   b.2 ∙ ap (λ x. x ++ b.0) a.2 ∙ append_assoc old a.0 b.0,
 )
@@ -169,7 +169,7 @@ no_bytes (b ∷ bs) e = absurd (omega (arith, e))
 
 -- at the end of the text all was added
 pub pieces_end : (rest formula old new : List ℕ) → rest ≡ []
-    → Adds (λ added. (text : List ℕ) → IsFormula rest text → IsFormula formula (added ++ text)) old new
-    → Adds (IsFormula formula) old new
+    → AddsText (λ added. (text : List ℕ) → IsFormula rest text → IsFormula formula (added ++ text)) old new
+    → AddsText (IsFormula formula) old new
 pieces_end rest formula old new e a =
     (a.0, subst (IsFormula formula) (append-nil a.0) (a.1 [] (rw e formula_end)), a.2)

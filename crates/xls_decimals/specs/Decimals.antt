@@ -26,12 +26,12 @@ abbrev pub short_whole_of : ℕ → Option ℤ
 short_whole_of bits = first_of (whole_of bits) (large_whole_of bits)
 
 -- infinities and what is no number by their bits
-abbrev pub bits_text : ℕ → List ℕ
-bits_text bits = codes "0x" ++ sixteen_digits bits
+abbrev pub decimal_of_bits : ℕ → List ℕ
+decimal_of_bits bits = codes "0x" ++ sixteen_digits bits
 
 abbrev pub whole_or_bits_text : Option ℤ → ℕ → Option (List ℕ)
 whole_or_bits_text (Some n) bits = Some (signed_decimal n)
-whole_or_bits_text None bits = if exponent_of bits == 2047 then Some (bits_text bits) else None
+whole_or_bits_text None bits = if exponent_of bits == 2047 then Some (decimal_of_bits bits) else None
 
 -- the doubles with one text: negative zero, whole numbers below 10 ^ 16 in size, infinities and
 -- what is no number
@@ -61,7 +61,7 @@ IsDoubleOver100 bits text =
     MatchBool (bits == 2 ^ 63) (text ≡ codes "-0") (MatchOption (whole_of bits)
     (MatchBool (float_is_finite (over_100 bits))
     (IsDouble (to_bits binary64 (over_100 bits)) text)
-    (text ≡ bits_text bits ++ codes "/100"))
+    (text ≡ decimal_of_bits bits ++ codes "/100"))
     (λ n. text ≡ hundredths_text n))
 
 -- the decimal text of a number

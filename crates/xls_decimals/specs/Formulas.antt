@@ -84,14 +84,14 @@ abbrev pub IsPieceText : Piece → List ℕ → Type 0
 IsPieceText (Word word) text = IsBitsOrWord word text
 IsPieceText other text = text ≡ piece_bytes other
 
-abbrev pub AreTexts : List Piece → List ℕ → Type 0
-AreTexts [] text = text ≡ []
-AreTexts (piece ∷ pieces) text =
-    (first : List ℕ) × (others : List ℕ) × IsPieceText piece first × AreTexts pieces others × (text ≡ first ++ others)
+abbrev pub ArePieceTexts : List Piece → List ℕ → Type 0
+ArePieceTexts [] text = text ≡ []
+ArePieceTexts (piece ∷ pieces) text =
+    (first : List ℕ) × (others : List ℕ) × IsPieceText piece first × ArePieceTexts pieces others × (text ≡ first ++ others)
 
 -- the text of a formula with its doubles in decimal
 pub record IsFormula (formula text : List ℕ) : Type 0 where
   pub pieces : List Piece
   pub whole : formula ≡ bytes_of pieces
   pub cut : ArePieces pieces
-  pub written : AreTexts pieces text
+  pub written : ArePieceTexts pieces text

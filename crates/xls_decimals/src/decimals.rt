@@ -6,8 +6,8 @@ ghost use Rattle.std.specs.Fmt.{signed_decimal};
 ghost use Rattle.std.specs.String.{string_bytes};
 ghost use Rattle.xls_bytes.specs.Doubles.{exponent_of};
 ghost use Rattle.xls_dates.specs.Numbers.{hundredths_text};
-ghost use Rattle.xls_decimals.specs.Added.{Adds};
-ghost use Rattle.xls_decimals.specs.Decimals.{large_whole_of, short_whole_of, bits_text, over_100, IsDouble, IsDoubleOver100, IsDecimal};
+ghost use Rattle.xls_decimals.specs.Added.{AddsText};
+ghost use Rattle.xls_decimals.specs.Decimals.{large_whole_of, short_whole_of, decimal_of_bits, over_100, IsDouble, IsDoubleOver100, IsDecimal};
 
 use crate::short_texts::{hexadecimal, hundredths, push_ascii};
 use std::alloc::AllocError;
@@ -81,7 +81,7 @@ fn push_hundredths(n: i64, buf: &mut String) -> Result<(), AllocError>
 
 // Appends the bits of a double that is infinite or no number.
 fn push_bits(bits: u64, buf: &mut String) -> Result<(), AllocError>
-    ensures ok { OnOk result (string_bytes buf.new ≡ string_bytes buf.old ++ bits_text bits) }
+    ensures ok { OnOk result (string_bytes buf.new ≡ string_bytes buf.old ++ decimal_of_bits bits) }
     ensures err { OnErr result (string_bytes buf.new ≡ string_bytes buf.old) }
 {
     push_ascii(hexadecimal(bits, b"").as_slice(), buf)
@@ -90,7 +90,7 @@ fn push_bits(bits: u64, buf: &mut String) -> Result<(), AllocError>
 // Appends the bits of such a double over 100.
 fn push_bits_over_100(bits: u64, buf: &mut String) -> Result<(), AllocError>
     ensures ok { OnOk result (string_bytes buf.new
-        ≡ string_bytes buf.old ++ (bits_text bits ++ codes "/100")) }
+        ≡ string_bytes buf.old ++ (decimal_of_bits bits ++ codes "/100")) }
     ensures err { OnErr result (string_bytes buf.new ≡ string_bytes buf.old) }
 {
     push_ascii(hexadecimal(bits, b"/100").as_slice(), buf)
@@ -101,7 +101,7 @@ fn push_bits_over_100(bits: u64, buf: &mut String) -> Result<(), AllocError>
 /// exponent below 10^-5 and from 10^16 on (`1e16`); infinities and what is no number by their bits,
 /// `0x7ff0000000000000`. Only running out of memory refuses, and then the text is as it was.
 pub fn push_double(bits: u64, buf: &mut String) -> Result<(), AllocError>
-    ensures ok { OnOk result (Adds (IsDouble bits) (string_bytes buf.old) (string_bytes buf.new)) }
+    ensures ok { OnOk result (AddsText (IsDouble bits) (string_bytes buf.old) (string_bytes buf.new)) }
     ensures err { OnErr result (string_bytes buf.new ≡ string_bytes buf.old) }
 {
     if bits == SIGN {
@@ -134,7 +134,7 @@ fn quotient_bits(bits: u64) -> Option<u64>
 
 // Appends the double with these bits over 100.
 fn push_double_over_100(bits: u64, buf: &mut String) -> Result<(), AllocError>
-    ensures ok { OnOk result (Adds (IsDoubleOver100 bits) (string_bytes buf.old) (string_bytes buf.new)) }
+    ensures ok { OnOk result (AddsText (IsDoubleOver100 bits) (string_bytes buf.old) (string_bytes buf.new)) }
     ensures err { OnErr result (string_bytes buf.new ≡ string_bytes buf.old) }
 {
     if bits == SIGN {
@@ -154,7 +154,7 @@ fn push_double_over_100(bits: u64, buf: &mut String) -> Result<(), AllocError>
 /// number, else divided as IEEE 754 divides. Only running out of memory refuses, and then the text
 /// is as it was.
 pub fn push_decimal(number: Number, buf: &mut String) -> Result<(), AllocError>
-    ensures ok { OnOk result (Adds (IsDecimal number) (string_bytes buf.old) (string_bytes buf.new)) }
+    ensures ok { OnOk result (AddsText (IsDecimal number) (string_bytes buf.old) (string_bytes buf.new)) }
     ensures err { OnErr result (string_bytes buf.new ≡ string_bytes buf.old) }
 {
     match number {

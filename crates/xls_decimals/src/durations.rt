@@ -2,7 +2,7 @@
 
 ghost use Rattle.std.specs.Prelude.{◌≡◌, ◌<◌, ◌^◌, OnOk, OnErr};
 ghost use Rattle.std.specs.String.{string_bytes};
-ghost use Rattle.xls_decimals.specs.Added.{Adds};
+ghost use Rattle.xls_decimals.specs.Added.{AddsText};
 ghost use Rattle.xls_decimals.specs.Texts.{duration_text};
 ghost use Rattle.xls_decimals.specs.Moments.{IsDuration};
 
@@ -31,7 +31,7 @@ fn duration_text(is_negative: bool, ms: u64) -> Short
 /// even. From 2,958,466 days on a number stays a number, as `push_decimal` writes it. Only running
 /// out of memory refuses, and then the text is as it was.
 pub fn push_duration(number: Number, buf: &mut String) -> Result<(), AllocError>
-    ensures ok { OnOk result (Adds (IsDuration number) (string_bytes buf.old) (string_bytes buf.new)) }
+    ensures ok { OnOk result (AddsText (IsDuration number) (string_bytes buf.old) (string_bytes buf.new)) }
     ensures err { OnErr result (string_bytes buf.new ≡ string_bytes buf.old) }
 {
     match days_of(number) {

@@ -3,7 +3,7 @@
 ghost use Rattle.std.specs.Prelude.{◌≡◌, ◌≢◌, ◌<◌, ◌≤◌, ◌++◌, ◌∷◌, ℕ, Some, [], IsTrue, IsFalse, MatchOption, IfSome, length, get_or, IsUtf8, OnOk, OnErr};
 ghost use Rattle.std.specs.String.{string_bytes};
 ghost use Rattle.std.specs.Str.{IsCharBoundary};
-ghost use Rattle.xls_decimals.specs.Added.{Adds};
+ghost use Rattle.xls_decimals.specs.Added.{AddsText};
 ghost use Rattle.xls_decimals.specs.Formulas.{is_quote, is_between, is_word_byte, hex_digit_of, hex_value_after, bits_of_word, IsFormula, IsBitsOrWord};
 ghost use Rattle.xls_decimals.specs.Pieces.{HasPiece};
 
@@ -122,7 +122,7 @@ fn piece_len(text: &[u8]) -> usize
 
 // Appends a piece, a double by its bits in decimal.
 fn push_piece(piece: &str, buf: &mut String) -> Result<(), AllocError>
-    ensures ok { OnOk result (Adds (IsBitsOrWord piece.now) (string_bytes buf.old) (string_bytes buf.new)) }
+    ensures ok { OnOk result (AddsText (IsBitsOrWord piece.now) (string_bytes buf.old) (string_bytes buf.new)) }
     ensures err { OnErr result (string_bytes buf.new ≡ string_bytes buf.old) }
 {
     match bits_of_word(piece.as_bytes()) {
@@ -133,8 +133,8 @@ fn push_piece(piece: &str, buf: &mut String) -> Result<(), AllocError>
 
 // As `push_formula`, but an error may leave a part of the text.
 fn append_formula(formula: &str, buf: &mut String) -> Result<(), AllocError>
-    ensures ok { OnOk result (Adds (IsFormula formula.now) (string_bytes buf.old) (string_bytes buf.new)) }
-    ensures grown { Adds (λ _. Unit {0}) (string_bytes buf.old) (string_bytes buf.new) }
+    ensures ok { OnOk result (AddsText (IsFormula formula.now) (string_bytes buf.old) (string_bytes buf.new)) }
+    ensures grown { AddsText (λ _. Unit {0}) (string_bytes buf.old) (string_bytes buf.new) }
 {
     let mut rest = formula;
     'pieces: while !rest.is_empty() {
@@ -149,7 +149,7 @@ fn append_formula(formula: &str, buf: &mut String) -> Result<(), AllocError>
 /// stands in no quotes becomes what `push_double` writes, `1.5`; everything else stays. Only
 /// running out of memory refuses, and then the text is as it was.
 pub fn push_formula(formula: &str, buf: &mut String) -> Result<(), AllocError>
-    ensures ok { OnOk result (Adds (IsFormula formula.now) (string_bytes buf.old) (string_bytes buf.new)) }
+    ensures ok { OnOk result (AddsText (IsFormula formula.now) (string_bytes buf.old) (string_bytes buf.new)) }
     ensures err { OnErr result (string_bytes buf.new ≡ string_bytes buf.old) }
 {
     let before = buf.len();

@@ -2,7 +2,7 @@
 
 ghost use Rattle.std.specs.Prelude.{◌≡◌, ◌/◌, ◌≤◌, OnOk, OnErr};
 ghost use Rattle.std.specs.String.{string_bytes};
-ghost use Rattle.xls_decimals.specs.Added.{Adds};
+ghost use Rattle.xls_decimals.specs.Added.{AddsText};
 ghost use Rattle.xls_decimals.specs.Fractions.{day};
 ghost use Rattle.xls_decimals.specs.Texts.{IsMoment};
 ghost use Rattle.xls_decimals.specs.Moments.{IsDate, IsDateOrDuration, last_day_in, moment_of};
@@ -59,7 +59,7 @@ fn moment_text(ms: u64, is_1904: bool) -> Short
 /// number, as `push_decimal` writes it. Only running out of memory refuses, and then the text is as
 /// it was.
 pub fn push_date(number: Number, is_1904: bool, buf: &mut String) -> Result<(), AllocError>
-    ensures ok { OnOk result (Adds (IsDate is_1904 number) (string_bytes buf.old) (string_bytes buf.new)) }
+    ensures ok { OnOk result (AddsText (IsDate is_1904 number) (string_bytes buf.old) (string_bytes buf.new)) }
     ensures err { OnErr result (string_bytes buf.new ≡ string_bytes buf.old) }
 {
     match moment_of(number, is_1904) {
@@ -71,7 +71,7 @@ pub fn push_date(number: Number, is_1904: bool, buf: &mut String) -> Result<(), 
 /// Appends a date or a duration by its kind, as `push_date` and `push_duration` do. Only running
 /// out of memory refuses, and then the text is as it was.
 pub fn push_date_or_duration(value: ExcelDateTime, buf: &mut String) -> Result<(), AllocError>
-    ensures ok { OnOk result (Adds (IsDateOrDuration value) (string_bytes buf.old) (string_bytes buf.new)) }
+    ensures ok { OnOk result (AddsText (IsDateOrDuration value) (string_bytes buf.old) (string_bytes buf.new)) }
     ensures err { OnErr result (string_bytes buf.new ≡ string_bytes buf.old) }
 {
     if value.is_duration() {

@@ -4,7 +4,7 @@ ghost use Rattle.std.specs.Prelude.{◌≡◌, ◌++◌, ◌∷◌, ◌+◌, ◌
 ghost use Rattle.std.specs.String.{string_bytes};
 ghost use Rattle.std.specs.Str.{IsAscii};
 ghost use Rattle.xls_dates.specs.Numbers.{decimals_text, hundredths_text};
-ghost use Rattle.xls_decimals.specs.Decimals.{bits_text};
+ghost use Rattle.xls_decimals.specs.Decimals.{decimal_of_bits};
 ghost use Rattle.xls_decimals.specs.Texts.{digit, two_digits, fraction_text, minutes_text, clock_text, date_text};
 
 use std::alloc::AllocError;
@@ -126,7 +126,7 @@ pub(crate) fn hundredths(n: i64) -> Short
 // The bits of a double in hexadecimal, before an end of at most four bytes.
 pub(crate) fn hexadecimal(bits: u64, end: &[u8]) -> Short
     requires { length end.now ≤ 4 }
-    ensures { result ≡ bits_text bits ++ end.now }
+    ensures { result ≡ decimal_of_bits bits ++ end.now }
 {
     let mut text = Short::new();
     text.put_word(end);

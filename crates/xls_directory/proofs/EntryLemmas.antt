@@ -4,18 +4,18 @@ use Rattle.std.specs.List.{slice_get}
 use Rattle.std.proofs.lemmas.List.FromFn.{get_or-map-range_with_len, length-map-range_with_len}
 use Rattle.std.proofs.lemmas.Option.{slice_get_past, slice_get-get_or}
 use Rattle.std.proofs.lemmas.Grind.{common_steps}
-use Rattle.xls_directory.specs.Entries.{entry_of, entries_of}
+use Rattle.xls_directory.specs.Entries.{directory_entry_of, entries_of}
 
 pub length-entries_of : (is_wide : Bool) (bytes : List ℕ) → length (entries_of is_wide bytes) ≡ length bytes / 128
 unfolding entries_of
-length-entries_of is_wide bytes = length-map-range_with_len (λ i. entry_of is_wide (drop (128 * i) bytes)) 0 (length bytes / 128)
+length-entries_of is_wide bytes = length-map-range_with_len (λ i. directory_entry_of is_wide (drop (128 * i) bytes)) 0 (length bytes / 128)
 
 -- an entry is the bytes at its number
 pub entry_within : (is_wide : Bool) (bytes : List ℕ) (number : ℕ) → number < length bytes / 128
-    → slice_get (entries_of is_wide bytes) number ≡ Some (entry_of is_wide (drop (128 * number) bytes))
+    → slice_get (entries_of is_wide bytes) number ≡ Some (directory_entry_of is_wide (drop (128 * number) bytes))
 unfolding entries_of
 entry_within is_wide bytes number h =
-    let f = λ (i : ℕ). entry_of is_wide (drop (128 * i) bytes) in
+    let f = λ (i : ℕ). directory_entry_of is_wide (drop (128 * i) bytes) in
     let within : number < length (entries_of is_wide bytes) = omega (arith, length-entries_of is_wide bytes) in
     slice_get-get_or (entries_of is_wide bytes) number (f 0) within
     ∙ ap (λ e. Some e) (get_or-map-range_with_len f 0 (length bytes / 128) number number (f 0) h (omega arith))

@@ -6,13 +6,13 @@ use Rattle.std.specs.Str.{chars}
 use Rattle.ucd_case.proofs.Computing.{ucd_case}
 use Rattle.xls_directory.specs.Names.{is_same_name}
 use Rattle.xls_directory.specs.declared.fault.DirectoryFault.TheVariants as faults
-use Rattle.xls_directory.specs.Entries.{Entry, entry_of, entries_of, none, is_storage, is_stream, is_root, is_name_size, name_of, child_of}
-use Rattle.xls_directory.specs.Tree.{Tree, empty, node, entry_at, met_after}
-use Rattle.xls_directory.specs.Items.{Item, item_of, items_from, find_from, workbook}
+use Rattle.xls_directory.specs.Entries.{DirectoryEntry, directory_entry_of, entries_of, none, is_storage, is_stream, is_root, is_name_size, name_of, child_of}
+use Rattle.xls_directory.specs.Tree.{Tree, empty, node, tree_entry_at, met_after}
+use Rattle.xls_directory.specs.Items.{DirectoryItem, item_of, items_from, find_from, workbook}
 use Rattle.xls_directory.specs.Directory.{root_in}
 
 -- an entry of the bytes 00 to 7F (2.6.1): each field at its offset, the lowest byte first
-pub fields_of_32 : entry_of false (range_with_len 0 128) ≡ record {
+pub fields_of_32 : directory_entry_of false (range_with_len 0 128) ≡ record {
   name = range_with_len 0 64;
   name_size = 0x4140;
   kind = 0x42;
@@ -24,7 +24,7 @@ pub fields_of_32 : entry_of false (range_with_len 0 128) ≡ record {
 }
 fields_of_32 = refl
 
-pub fields_of_64 : entry_of true (range_with_len 0 128) ≡ record {
+pub fields_of_64 : directory_entry_of true (range_with_len 0 128) ≡ record {
   name = range_with_len 0 64;
   name_size = 0x4140;
   kind = 0x42;
@@ -37,7 +37,7 @@ pub fields_of_64 : entry_of true (range_with_len 0 128) ≡ record {
 fields_of_64 = refl
 
 -- an entry of a kind, with what it leads to
-abbrev entry : ℕ → ℕ → ℕ → ℕ → Entry
+abbrev entry : ℕ → ℕ → ℕ → ℕ → DirectoryEntry
 entry kind left right child = record {
   name = 0x41 ∷ 0x00 ∷ 0x00 ∷ 0x00 ∷ [];
   name_size = 4;
@@ -81,7 +81,7 @@ unfolding entries_of
 two_entries = refl
 
 -- an entry below the root, met before, not there, of another type or with another size of its name
-pub checks : map (entry_at (entry 0x05 0 0 1 ∷ entry 0x01 0 0 2 ∷ entry 0x05 0 0 0 ∷ entry 0x00 0 0 0 ∷ record (entry 0x02 0 0 0) { name_size = 66 } ∷ []) (0 ∷ []))
+pub checks : map (tree_entry_at (entry 0x05 0 0 1 ∷ entry 0x01 0 0 2 ∷ entry 0x05 0 0 0 ∷ entry 0x00 0 0 0 ∷ record (entry 0x02 0 0 0) { name_size = 66 } ∷ []) (0 ∷ []))
     (range_with_len 0 6)
     ≡ Err (faults.Twice 0) ∷ Ok (entry 0x01 0 0 2) ∷ Err (faults.Kind 2 0x05) ∷ Err (faults.Kind 3 0x00) ∷ Err (faults.NameSize 4 66) ∷ Err (faults.Missing 5) ∷ []
 checks = refl
@@ -92,7 +92,7 @@ pub no_root : map root_in ([] ∷ (entry 0x01 0 0 0 ∷ []) ∷ (entry 0x05 1 2 
 no_root = refl
 
 -- an entry b with a on its left, which holds d, and with c on its right: the left first, then the entry, its children, the right
-module _ (a b c d : Entry) where
+module _ (a b c d : DirectoryEntry) where
   abbrev sample : Tree
   sample = node 1 b (node 2 a empty (node 4 d empty empty empty) empty) empty (node 3 c empty empty empty)
 
@@ -107,7 +107,7 @@ pub item_fields : item_of (Some 3) (entry 0x02 0 0 0) ≡ record { name = codes 
 unfolding utf16_chars lib.Utf8.encode
 item_fields = refl
 
-abbrev item : List ℕ → Bool → Option ℕ → Item
+abbrev item : List ℕ → Bool → Option ℕ → DirectoryItem
 item name is_stream parent = record { name = name; is_stream = is_stream; parent = parent; start = 0; size = 0 }
 
 -- names are the same whatever their case, and no others
@@ -122,7 +122,7 @@ pub same_letters : map (λ (pair : List ℕ × List ℕ). is_same_name pair.0 pa
 unfolding chars ucd_case
 same_letters = refl
 
-abbrev listed : List Item
+abbrev listed : List DirectoryItem
 listed = item (codes "Book") true (Some 1) ∷ item (codes "a") false None ∷ item (codes "BOOK") true None ∷ item (codes "b") false (Some 1) ∷ item (codes "c") true (Some 3) ∷ []
 
 -- what is held by the root, and below it, and what isn't there

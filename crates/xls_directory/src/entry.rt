@@ -3,7 +3,7 @@
 ghost use Rattle.std.specs.Prelude.{◌≡◌, ◌≤◌, ◌+◌, length, take, drop, true, IsTrue, IfOk};
 ghost use Rattle.std.specs.List.{slice_get};
 ghost use Rattle.std.specs.String.{string_bytes};
-ghost use Rattle.xls_directory.specs.Entries.{entry_of, entries_of, field, name_of, child_of, is_storage, is_stream, is_root, is_name_size};
+ghost use Rattle.xls_directory.specs.Entries.{directory_entry_of, entries_of, field, name_of, child_of, is_storage, is_stream, is_root, is_name_size};
 
 use std::alloc::{AllocError, Global};
 use std::marker::Model;
@@ -34,7 +34,7 @@ impl<'a> Model for Entry<'a> {
     ghost use Rattle.std.specs.Prelude.{◌≡◌, length};
     ghost use Rattle.xls_directory.specs.Entries as specs;
 
-    ghost Value = { specs.Entry };
+    ghost Value = { specs.DirectoryEntry };
 
     ghost view = { λ e. record {
       name = e.name.now;
@@ -61,7 +61,7 @@ fn u32_at(bytes: &[u8], offset: usize) -> u32
 // The size: of 64 bits where sectors have 4,096 bytes, else of 32.
 fn size_at(bytes: &[u8], is_wide: bool) -> u64
     requires { 128 ≤ length bytes.now }
-    ensures { result ≡ (entry_of is_wide bytes.now).size }
+    ensures { result ≡ (directory_entry_of is_wide bytes.now).size }
 {
     if is_wide {
         read_u64(bytes.split_at(120).1)
@@ -74,9 +74,9 @@ impl<'a> Entry<'a> {
     // The entry that the bytes begin with.
     fn of(bytes: &'a [u8], is_wide: bool) -> Entry<'a>
         requires { 128 ≤ length bytes.now }
-        ensures { result ≡ entry_of is_wide bytes.now }
+        ensures { result ≡ directory_entry_of is_wide bytes.now }
     {
-        Entry {
+        DirectoryEntry {
             name: bytes.split_at(64).0,
             name_size: read_u16(bytes.split_at(64).1),
             kind: bytes[66],
@@ -145,9 +145,9 @@ pub(crate) struct Entries<'a> {
 
 impl<'a> Model for Entries<'a> {
     ghost use Rattle.std.specs.Prelude.{List};
-    ghost use Rattle.xls_directory.specs.Entries.{Entry, entries_of};
+    ghost use Rattle.xls_directory.specs.Entries.{DirectoryEntry, entries_of};
 
-    ghost Value = { List Entry };
+    ghost Value = { List DirectoryEntry };
 
     ghost view = { λ e. entries_of e.is_wide e.bytes.now };
 }

@@ -3,8 +3,8 @@
 ghost use Rattle.std.specs.Prelude.{◌≡◌, ◌<◌, ◌+◌, ℕ, List, [], ◌∷◌, length, slice_set, slice_index_or, false, true, Ok, Err, IfOk, IfErr, OnOk, MatchOption, MatchResult};
 ghost use Rattle.xls_directory.specs.declared.tasks.Task.TheVariants as tasks;
 ghost use Rattle.xls_directory.specs.declared.fault.DirectoryError.TheVariants.{Memory};
-ghost use Rattle.xls_directory.specs.Tree.{entry_at, checked};
-ghost use Rattle.xls_directory.specs.Steps.{State, before, after_meeting, with_item, at_first, ListsTree, RefusesTree, AreMarks, GoesOn, Refuses, left_to_do};
+ghost use Rattle.xls_directory.specs.Tree.{tree_entry_at, checked};
+ghost use Rattle.xls_directory.specs.Steps.{State, before, after_meeting, with_item, at_first, ListsTree, RefusesTree, AreMarks, GoesOn, RefusesStep, left_to_do};
 
 use crate::entry::{Entries, Entry, NONE};
 use crate::fault::{DirectoryError, DirectoryFault};
@@ -58,7 +58,7 @@ fn check(number: u32, entry: &Entry<'_>) -> Result<(), DirectoryFault>
 fn unmet<'a>(entries: &Entries<'a>, met: &[bool], number: u32) -> Result<Entry<'a>, DirectoryFault>
     requires { length met.now ≡ length entries.now }
     ensures exact { (numbers : List ℕ) → AreMarks met.now numbers
-        → result ≡ entry_at entries.now numbers number }
+        → result ≡ tree_entry_at entries.now numbers number }
     ensures is_there { OnOk result (number < length met.now) }
     ensures is_new { OnOk result (slice_index_or met.now number false ≡ false) }
 {
@@ -77,7 +77,7 @@ impl<'a> Walk<'a> {
     fn meet(&mut self, entries: &Entries<'a>, number: u32) -> Result<Entry<'a>, DirectoryFault>
         requires { length self.old.met ≡ length entries.now }
         ensures exact { (met : List ℕ) → AreMarks self.old.met met
-            → result ≡ entry_at entries.now met number }
+            → result ≡ tree_entry_at entries.now met number }
         ensures is_there { OnOk result (number < length self.old.met) }
         ensures is_new { OnOk result (slice_index_or self.old.met number false ≡ false) }
         ensures ok { OnOk result (self.new ≡ after_meeting number self.old) }
@@ -121,7 +121,7 @@ impl<'a> Walk<'a> {
     ) -> Result<(), DirectoryError>
         requires { length self.old.met ≡ length entries.now }
         ensures ok { OnOk result (GoesOn entries.now (before (tasks.Tree number parent) self.old) self.new) }
-        ensures err { IfErr result (Refuses entries.now (before (tasks.Tree number parent) self.old)) }
+        ensures err { IfErr result (RefusesStep entries.now (before (tasks.Tree number parent) self.old)) }
         ensures size { length self.new.met ≡ length self.old.met }
         ensures nearer { OnOk result (left_to_do self.new < left_to_do self.old + 1) }
     {
@@ -181,7 +181,7 @@ impl<'a> Walk<'a> {
     ) -> Result<(), DirectoryError>
         requires { length self.old.met ≡ length entries.now }
         ensures ok { OnOk result (GoesOn entries.now (before task.entry self.old) self.new) }
-        ensures err { IfErr result (Refuses entries.now (before task.entry self.old)) }
+        ensures err { IfErr result (RefusesStep entries.now (before task.entry self.old)) }
         ensures size { length self.new.met ≡ length self.old.met }
         ensures nearer { OnOk result (left_to_do self.new < left_to_do (before task.entry self.old)) }
     {

@@ -4,12 +4,12 @@ use Rattle.std.specs.List.{flat_map}
 use Rattle.std.specs.Prelude.{OnOk}
 use Rattle.std.proofs.lemmas.List.{take_all}
 use Rattle.std.specs.Result.{IsErrAnd}
-use Rattle.xls_decimals.specs.Added.{Adds}
+use Rattle.xls_decimals.specs.Added.{AddsText}
 use Rattle.xls_lines.specs.SinkState.{SinkState}
 use Rattle.xls_lines.specs.Gathering.{Puts}
 use Rattle.xls_lines.specs.declared.stop.Stop.{Stop}
 use Rattle.xls_lines.specs.declared.stop.Stop.TheVariants.{Memory}
-use Rattle.xls_readable.specs.Items.{Named, named_of, text, count}
+use Rattle.xls_readable.specs.Items.{NamedItem, named_of, text, count}
 use Rattle.xls_readable.specs.declared.items.Member.{Member}
 use Rattle.xls_documents.specs.Lines.{Line}
 use Rattle.xls_pieces.specs.Each.{DeliversEach, GathersEach, PutsEach}
@@ -17,7 +17,7 @@ use Rattle.xls_pieces.proofs.EachLemmas.{each-memory, each-one, each-one-stopped
 
 -- the text of an item was appended, and then what was gathered was passed on
 pub puts-one : {A X : Type 0} (P : A → List ℕ → Type 0) (x : A) (a : SinkState) (g h : List ℕ) (b : SinkState) (k : List ℕ) (r : Result X Stop)
-    → Adds (P x) g h → Puts a h b k [] r → PutsEach P (x ∷ []) a g b k r
+    → AddsText (P x) g h → Puts a h b k [] r → PutsEach P (x ∷ []) a g b k r
 puts-one P x a g h b k (Ok _) added p = each-one P x added p
 puts-one P x a g h b k (Err _) added p = each-one-stopped P x added p
 
@@ -49,25 +49,25 @@ abbrev line_of : List ℕ → List Member → List Line
 line_of word members = (word, map named_of members) ∷ []
 
 -- three fields, and two
-pub three_fields : (word : List ℕ) (a b c : Member) {x y z : Named} → named_of a ≡ x → named_of b ≡ y → named_of c ≡ z
+pub three_fields : (word : List ℕ) (a b c : Member) {x y z : NamedItem} → named_of a ≡ x → named_of b ≡ y → named_of c ≡ z
     → line_of word (a ∷ b ∷ c ∷ []) ≡ ((word, x ∷ y ∷ z ∷ []) ∷ [])
 three_fields word a b c {x} {y} {z} p q r =
-    ap (λ (n : Named). (word, n ∷ named_of b ∷ named_of c ∷ []) ∷ []) p
-    ∙ ap (λ (n : Named). (word, x ∷ n ∷ named_of c ∷ []) ∷ []) q
-    ∙ ap (λ (n : Named). (word, x ∷ y ∷ n ∷ []) ∷ []) r
+    ap (λ (n : NamedItem). (word, n ∷ named_of b ∷ named_of c ∷ []) ∷ []) p
+    ∙ ap (λ (n : NamedItem). (word, x ∷ n ∷ named_of c ∷ []) ∷ []) q
+    ∙ ap (λ (n : NamedItem). (word, x ∷ y ∷ n ∷ []) ∷ []) r
 
-pub two_fields : (a b : Member) {x y : Named} → named_of a ≡ x → named_of b ≡ y → map named_of (a ∷ b ∷ []) ≡ (x ∷ y ∷ [])
-two_fields a b {x} {y} p q = ap (λ (n : Named). n ∷ named_of b ∷ []) p ∙ ap (λ (n : Named). x ∷ n ∷ []) q
+pub two_fields : (a b : Member) {x y : NamedItem} → named_of a ≡ x → named_of b ≡ y → map named_of (a ∷ b ∷ []) ≡ (x ∷ y ∷ [])
+two_fields a b {x} {y} p q = ap (λ (n : NamedItem). n ∷ named_of b ∷ []) p ∙ ap (λ (n : NamedItem). x ∷ n ∷ []) q
 
 -- a text under a name, and a count
-abbrev text_under : List ℕ → List ℕ → Named
+abbrev text_under : List ℕ → List ℕ → NamedItem
 text_under name s = (name, text s)
 
-abbrev count_under : List ℕ → ℕ → Named
+abbrev count_under : List ℕ → ℕ → NamedItem
 count_under name n = (name, count n)
 
-pub shown : (name : List ℕ) {s t : List ℕ} → s ≡ t → text_under name s ≡ text_under name t
-shown name e = ap (text_under name) e
+pub displayed : (name : List ℕ) {s t : List ℕ} → s ≡ t → text_under name s ≡ text_under name t
+displayed name e = ap (text_under name) e
 
 pub counted : (name : List ℕ) {m n : ℕ} → m ≡ n → count_under name m ≡ count_under name n
 counted name e = ap (count_under name) e

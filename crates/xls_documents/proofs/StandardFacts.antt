@@ -1,6 +1,6 @@
 -- Known values, so that a wrong rule in the specs does not check.
 use Rattle.std.proofs.Common.{◌≡◌, ℕ, List, [], ◌∷◌, map, codes, true, false, refl}
-use Rattle.xls_readable.specs.Items.{Named, text, count}
+use Rattle.xls_readable.specs.Items.{NamedItem, text, count}
 use Rattle.xls_readable.specs.Lines.{text_members}
 use Rattle.xls_readable.specs.declared.properties.Property.TheVariants as property
 use Rattle.xls_vba.specs.Modules.{Mod}
@@ -15,7 +15,7 @@ use Rattle.xls_documents.specs.Texts.{fault_text}
 use Rattle.xls_documents.specs.declared.fault.ProjectFault.TheVariants as faults
 use Rattle.xls_container.specs.declared.fault.FileFault.TheVariants as files
 
-abbrev line : List ℕ → List Named → Line
+abbrev line : List ℕ → List NamedItem → Line
 line word members = (word, members)
 
 pub author : property_line property.LastModifiedBy (codes "Ada") ≡ line (codes "last_modified_by") (text_members (codes "Ada"))
@@ -35,11 +35,11 @@ project = record {
   modules = sheet 100 ∷ sheet 200 ∷ [];
 }
 
-pub told : lines_by project (codes "Sheet1" ∷ codes "Sheet2" ∷ []) ≡
+pub reported : lines_by project (codes "Sheet1" ∷ codes "Sheet2" ∷ []) ≡
     line (codes "reference") ((codes "name", text (codes "stdole")) ∷ (codes "description", text (codes "OLE Automation"))
     ∷ (codes "path", text (codes "stdole2.tlb")) ∷ [])
     ∷ line (codes "module") ((codes "name", text (codes "Sheet1")) ∷ (codes "stream", text (codes "Sheet1")) ∷ (codes "offset", count 200) ∷ []) ∷ []
-told = refl
+reported = refl
 
 pub paths : map path_text ([] ∷ (codes "Workbook" ∷ []) ∷ (codes "_VBA_PROJECT_CUR" ∷ codes "VBA" ∷ codes "dir" ∷ []) ∷ [])
     ≡ [] ∷ codes "Workbook" ∷ codes "_VBA_PROJECT_CUR/VBA/dir" ∷ []

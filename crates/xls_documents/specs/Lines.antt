@@ -3,7 +3,7 @@ use Rattle.std.specs.Prelude.{ℕ, List, Result}
 use Rattle.std.specs.String.{string_bytes}
 use Rattle.xls_lines.specs.SinkState.{SinkState}
 use Rattle.xls_lines.specs.declared.stop.Stop.{Stop}
-use Rattle.xls_readable.specs.Items.{Named}
+use Rattle.xls_readable.specs.Items.{NamedItem}
 use Rattle.xls_readable.specs.Lines.{IsLine}
 use Rattle.xls_readable.specs.declared.forms.Form.{Form}
 use Rattle.xls_pieces.specs.Each.{PutsEach}
@@ -11,7 +11,7 @@ use Rattle.xls_pieces.specs.declared.pieces.Pieces.{Pieces}
 
 -- a word, and fields by their names
 abbrev pub Line : Type 0
-Line = List ℕ × List Named
+Line = List ℕ × List NamedItem
 
 -- the text of a line in a form
 abbrev pub IsLineText : Form → Line → List ℕ → Type 0

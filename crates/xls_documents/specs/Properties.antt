@@ -47,5 +47,5 @@ property_lines p = known_lines p ++ flat_map custom_lines p.custom_properties.en
 -- ---- for the contracts of one step
 
 -- the lines of a property that is lent
-abbrev pub shown_field : Property × Bor (Option (String Global)) → List Line
-shown_field field = field_lines field.0 field.1.now
+abbrev pub displayed_field : Property × Bor (Option (String Global)) → List Line
+displayed_field field = field_lines field.0 field.1.now

@@ -3,7 +3,7 @@
 ghost use Rattle.std.specs.Prelude.{◌≡◌, ◌∷◌, [], ℕ, map, IfOk, IfErr, MatchOption};
 ghost use Rattle.std.specs.Cow.{cow_slice_items};
 ghost use Rattle.xls_compound.specs.Entries.{entry_at};
-ghost use Rattle.xls_documents.specs.MacroDirectory.{are_directory_names, is_directory_path, TestsAs, IsFirstDirectory, HasNoDirectory, DirectoryBytes, IsProjectOf, HasProject, IsProjectFrom, RefusesDirectory, RefusesProjectFrom, RefusesProjectOf, RefusesProject};
+ghost use Rattle.xls_documents.specs.MacroDirectory.{are_directory_names, is_directory_path, TestsAs, IsFirstDirectory, HasNoDirectory, MacroDirectoryBytes, IsProjectOf, HasProject, IsProjectFrom, RefusesDirectory, RefusesProjectFrom, RefusesProjectOf, RefusesProject};
 
 use crate::fault::ProjectFault;
 use std::alloc::{AllocError, Global};
@@ -70,7 +70,7 @@ fn directory_bytes<'c>(
     compound: &'c Compound<'_>,
 ) -> Result<Option<CowSlice<'c, u8>>, ProjectFault>
     ensures ok { IfOk result (λ found. MatchOption found (HasNoDirectory compound.now.listing)
-        (λ bytes. DirectoryBytes compound.now (cow_slice_items bytes))) }
+        (λ bytes. MacroDirectoryBytes compound.now (cow_slice_items bytes))) }
     ensures err { IfErr result (RefusesDirectory compound.now) }
 {
     let Some(entry) = directory_entry(alloc, compound)? else {

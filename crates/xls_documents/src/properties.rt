@@ -5,7 +5,7 @@ ghost use Rattle.std.specs.BTreeMap.{IsOrdered};
 ghost use Rattle.std.specs.List.{flat_map};
 ghost use Rattle.std.specs.String.{string_bytes, string_cmp};
 ghost use Rattle.xls_documents.specs.Lines.{IsLineText, PutsLines};
-ghost use Rattle.xls_documents.specs.Properties.{property_line, custom_lines, shown_field, known_lines, property_lines};
+ghost use Rattle.xls_documents.specs.Properties.{property_line, custom_lines, displayed_field, known_lines, property_lines};
 ghost use Rattle.xls_pieces.specs.Each.{DeliversEach};
 
 use std::alloc::Global;
@@ -37,7 +37,7 @@ fn put_property<K: Sink>(
     sink: &mut K,
     field: (Property, &Option<String>),
 ) -> Result<(), Stop>
-    ensures { PutsLines form (shown_field field.entry)
+    ensures { PutsLines form (displayed_field field.entry)
         (K.state sink.old) pieces.old (K.state sink.new) pieces.new result }
 {
     match field.1 {
@@ -53,7 +53,7 @@ fn put_fields<K: Sink>(
     sink: &mut K,
     fields: &[(Property, &Option<String>)],
 ) -> Result<(), Stop>
-    ensures { PutsLines form (flat_map shown_field fields.now)
+    ensures { PutsLines form (flat_map displayed_field fields.now)
         (K.state sink.old) pieces.old (K.state sink.new) pieces.new result }
 {
     for field in fields {

@@ -12,14 +12,14 @@ pub enum Reason {
     /// Memory ran out.
     Memory,
     /// What the system says.
-    Told(String),
+    Reported(String),
 }
 
 impl fmt::Display for Reason {
     fn fmt<W: fmt::Write>(&self, f: &mut fmt::Formatter<W>) -> fmt::Result {
         match self {
             Reason::Memory => f.write_str("out of memory"),
-            Reason::Told(text) => write!(f, "{text}"),
+            Reason::Reported(text) => write!(f, "{text}"),
         }
     }
 }

@@ -8,7 +8,7 @@ use std::alloc::{AllocError, Global};
 #[derive(Drop)]
 enum Item {
     /// As it was given: what stands there isn't known yet.
-    Given(String),
+    Unseen(String),
     File(String),
     Folder(String),
     /// A name in this folder that isn't UTF-8.
@@ -46,7 +46,7 @@ impl Queue {
     /// Puts a file or folder before those that are left.
     pub fn give(&mut self, path: &str) -> Result<(), AllocError> {
         let path = String::from_str(self.alloc, path)?;
-        self.left.push(Item::Given(path))?;
+        self.left.push(Item::Unseen(path))?;
         Ok(())
     }
 
@@ -91,7 +91,7 @@ impl Queue {
     }
 
     /// Takes what was given.
-    fn take_given<H: Host>(
+    fn take_named<H: Host>(
         &mut self,
         host: &mut H,
         path: String,
@@ -107,7 +107,7 @@ impl Queue {
     /// Takes an item: it comes next, or what stands in it does.
     fn take<H: Host>(&mut self, host: &mut H, item: Item) -> Result<Option<Next>, AllocError> {
         match item {
-            Item::Given(path) => self.take_given(host, path),
+            Item::Unseen(path) => self.take_named(host, path),
             Item::File(path) => Ok(Some(Next::File(path))),
             Item::Folder(path) => self.take_folder(host, path),
             Item::Unnamed(folder) => Ok(Some(Next::Unnamed(folder))),

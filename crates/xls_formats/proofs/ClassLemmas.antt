@@ -8,7 +8,7 @@ use Rattle.std.proofs.lemmas.Option.{slice_get-map}
 use Rattle.std.proofs.lemmas.Bool.Decides.{eqb_tells}
 use Rattle.xls_bytes.specs.Numbers.{le}
 use Rattle.xls_text.specs.declared.encoding.XlsEncoding.{XlsEncoding}
-use Rattle.xls_stream.specs.Listing.{is_among, Entry, plain_entry, table_entry, sheet_entry, Item, plain_item, table_item, sheet_item, entry_of}
+use Rattle.xls_stream.specs.Listing.{is_among, ListEntry, plain_entry, table_entry, sheet_entry, Item, plain_item, table_item, sheet_item, entry_of}
 use Rattle.xls_dates.specs.Builtin.{class_of_code}
 use Rattle.xls_data.specs.Sheets.{SheetContent}
 use Rattle.xls_dates.specs.Classes.{class_of}
@@ -28,63 +28,63 @@ use Rattle.xls_biff.specs.Records.FilePass.{file_pass_at}
 use Rattle.xls_biff.specs.Records.Format.{format_at, format_text_at, is_format_id}
 use Rattle.xls_biff.specs.Records.Xf.{xf_at}
 use Rattle.xls_formula.specs.Defined.{lbl_at}
-use Rattle.xls_meaning.specs.Order.{along, somes}
-use Rattle.xls_meaning.specs.GlobalsTable.{Named, GlobalsRecord, version_record, other_record, page_record, date_record, xf_record, references_record, name_record, sheet_record, unless_forced, unless_refused, plain_record_at, Line, format_given, xf_given}
-use Rattle.xls_meaning.specs.InForce.{page_in, version_in, line_in, formats_in, last_class, class_in, identifiers_in}
+use Rattle.xls_meaning.specs.Order.{map_with_earlier, somes}
+use Rattle.xls_meaning.specs.GlobalsTable.{NamedPlace, GlobalsRecord, version_record, other_record, page_record, date_record, xf_record, references_record, name_record, sheet_record, unless_forced, unless_refused, plain_record_at, GlobalsLine, format_from, xf_from}
+use Rattle.xls_meaning.specs.Settings.{page_in, version_in, line_in, formats_in, last_class, class_in, identifiers_in}
 use Rattle.xls_meaning.specs.Rules.{Rules}
 use Rattle.xls_formats.specs.Uncounted.{xf_identifier_at, uncounted_in, xf_identifier_in, uncounted_ids, is_touched}
 use Rattle.xls_formats.specs.Laws.{TouchedAreBuiltIn}
 
 -- ---- lines of the table
 
-choice : (P : Line → Type 0) (t : Bool) (a b : Line) → P a → P b → P (if t then a else b)
+choice : (P : GlobalsLine → Type 0) (t : Bool) (a b : GlobalsLine) → P a → P b → P (if t then a else b)
 choice P true a b h k = h
 choice P false a b h k = k
 
-skip : (P : Line → Type 0) (t : Bool) (a b : Line) → t ≡ false → P b → P (if t then a else b)
+skip : (P : GlobalsLine → Type 0) (t : Bool) (a b : GlobalsLine) → t ≡ false → P b → P (if t then a else b)
 skip P true a b e k = absurd cc
 skip P false a b e k = k
 
 -- what holds of each record that a plain one can be, where it holds of what a Format and an XF give
-module _ (P : Line → Type 0) (fails : (e : XlsError) → P (Err e)) (other : P (Ok other_record))
+module _ (P : GlobalsLine → Type 0) (fails : (e : XlsError) → P (Err e)) (other : P (Ok other_record))
     (version : (b : Bof) → P (Ok (version_record b.biff))) (page : (q : XlsEncoding) → P (Ok (page_record q)))
     (date : (b : Bool) → P (Ok (date_record b))) (references : (rs : List ℤ) → P (Ok (references_record rs)))
-    (name : (n : Named) → P (Ok (name_record n))) where
-  made : {X : Type 0} (g : X → GlobalsRecord) → ((x : X) → P (Ok (g x))) → (r : Result X XlsError) → P (gives g r)
-  made g h (Ok x) = h x
-  made g h (Err e) = fails e
+    (name : (n : NamedPlace) → P (Ok (name_record n))) where
+  built : {X : Type 0} (g : X → GlobalsRecord) → ((x : X) → P (Ok (g x))) → (r : Result X XlsError) → P (gives g r)
+  built g h (Ok x) = h x
+  built g h (Err e) = fails e
 
   unforced : (o : Option ℕ) (r : Result XlsEncoding XlsError) → P (unless_forced o (gives page_record r))
-  unforced None r = made page_record page r
+  unforced None r = built page_record page r
   unforced (Some n) r = other
 
   plain_line : (forced : Option ℕ) (p : XlsEncoding) (v : Biff) (typ : ℕ) (body : List ℕ) → P (unless_refused (format_at p v body))
-      → ((b : Line) → P b → P (if typ == 224 then gives xf_record (xf_at body) else b)) → P (plain_record_at forced p v typ body)
+      → ((b : GlobalsLine) → P b → P (if typ == 224 then gives xf_record (xf_at body) else b)) → P (plain_record_at forced p v typ body)
   plain_line forced p v typ body format xf =
-      choice P (typ == 2057) _ _ (made (λ (b : Bof). version_record b.biff) version (bof_at body))
-      (choice P (typ == 47) _ _ (made (λ (u : Unit {0}). other_record) (λ u. other) (file_pass_at body))
+      choice P (typ == 2057) _ _ (built (λ (b : Bof). version_record b.biff) version (bof_at body))
+      (choice P (typ == 47) _ _ (built (λ (u : Unit {0}). other_record) (λ u. other) (file_pass_at body))
       (choice P (typ == 66) _ _ (unforced forced (code_page_at body))
-      (choice P (typ == 34) _ _ (made date_record date (date_mode_at body))
+      (choice P (typ == 34) _ _ (built date_record date (date_mode_at body))
       (choice P (typ == 1054) _ _ format
       (xf _
-      (choice P (typ == 23) _ _ (made references_record references (refs_at v body))
-      (choice P (typ == 24) _ _ (made name_record name (lbl_at p v body)) other)))))))
+      (choice P (typ == 23) _ _ (built references_record references (refs_at v body))
+      (choice P (typ == 24) _ _ (built name_record name (lbl_at p v body)) other)))))))
 
 -- ---- XFs
 
-abbrev NoXf : Line → Type 0
-NoXf line = xf_given line ≡ None
+abbrev NoXf : GlobalsLine → Type 0
+NoXf line = xf_from line ≡ None
 
 no_xf : (r : Result (ℕ × CellFormat) XlsError) → NoXf (unless_refused r)
 no_xf (Ok f) = refl
 no_xf (Err e) = refl
 
-own_xf : (r : Result ℕ XlsError) → xf_given (gives xf_record r) ≡ result_ok r
+own_xf : (r : Result ℕ XlsError) → xf_from (gives xf_record r) ≡ result_ok r
 own_xf (Ok n) = refl
 own_xf (Err e) = refl
 
 xf_plain : (forced : Option ℕ) (p : XlsEncoding) (v : Biff) (typ : ℕ) (body : List ℕ)
-    → xf_given (plain_record_at forced p v typ body) ≡ xf_identifier_at typ body
+    → xf_from (plain_record_at forced p v typ body) ≡ xf_identifier_at typ body
 xf_plain forced p v typ body =
     elim (eqb_tells typ 224) [
       | inl e ↦ rw e.1 (own_xf (xf_at body))
@@ -98,7 +98,7 @@ no_xf_sheet : (r : Result SheetContent XlsError) → NoXf (gives sheet_record r)
 no_xf_sheet (Ok s) = refl
 no_xf_sheet (Err e) = refl
 
-xf_line : (rules : Rules) (before : List Entry) (i : Item) → xf_given (line_in rules before (entry_of i)) ≡ xf_identifier_in i
+xf_line : (rules : Rules) (before : List ListEntry) (i : Item) → xf_from (line_in rules before (entry_of i)) ≡ xf_identifier_in i
 xf_line rules before (plain_item typ body) = xf_plain rules.force_codepage (page_in rules before) (version_in rules before) typ body
 xf_line rules before (table_item body shared) = refl
 xf_line rules before (sheet_item body kept cut) =
@@ -108,20 +108,20 @@ somes_cons : {X : Type 0} (o : Option X) (os : List (Option X)) → somes (o ∷
 somes_cons None os = refl
 somes_cons (Some x) os = refl
 
-xfs_from : (rules : Rules) (before : List Entry) (items : List Item)
-    → somes (map xf_given (along (line_in rules) before (map entry_of items))) ≡ filter_map xf_identifier_in items
+xfs_from : (rules : Rules) (before : List ListEntry) (items : List Item)
+    → somes (map xf_from (map_with_earlier (line_in rules) before (map entry_of items))) ≡ filter_map xf_identifier_in items
 xfs_from rules before [] = refl
 xfs_from rules before (i ∷ is) =
     let after = before ++ entry_of i ∷ [] in
-    somes_cons (xf_given (line_in rules before (entry_of i))) (map xf_given (along (line_in rules) after (map entry_of is)))
-    ∙ ap (cons_option (xf_given (line_in rules before (entry_of i)))) (xfs_from rules after is)
+    somes_cons (xf_from (line_in rules before (entry_of i))) (map xf_from (map_with_earlier (line_in rules) after (map entry_of is)))
+    ∙ ap (cons_option (xf_from (line_in rules before (entry_of i)))) (xfs_from rules after is)
     ∙ ap (λ (o : Option ℕ). cons_option o (filter_map xf_identifier_in is)) (xf_line rules before i)
 
 -- ---- Formats
 
 -- a Format is given under an identifier that counts
-abbrev Counts : Line → Type 0
-Counts line = (f : ℕ × CellFormat) → format_given line ≡ Some f → is_format_id f.0 ≡ true
+abbrev Counts : GlobalsLine → Type 0
+Counts line = (f : ℕ × CellFormat) → format_from line ≡ Some f → is_format_id f.0 ≡ true
 
 abbrev gate : Bool → ℕ → Result (Unit {0}) XlsError
 gate b n = if b then Ok tt else Err (InvalidFormat n)
@@ -144,8 +144,8 @@ format_counts p v body (Ok q) h = λ f g.
 no_format : (o : Option (ℕ × CellFormat)) → o ≡ None → (f : ℕ × CellFormat) → o ≡ Some f → is_format_id f.0 ≡ true
 no_format o e f h = absurd cc
 
-none_counts : {X : Type 0} (g : X → GlobalsRecord) → ((x : X) → format_given (Ok (g x)) ≡ None) → (r : Result X XlsError) → Counts (gives g r)
-none_counts g h (Ok x) = no_format (format_given (Ok (g x))) (h x)
+none_counts : {X : Type 0} (g : X → GlobalsRecord) → ((x : X) → format_from (Ok (g x)) ≡ None) → (r : Result X XlsError) → Counts (gives g r)
+none_counts g h (Ok x) = no_format (format_from (Ok (g x))) (h x)
 none_counts g h (Err e) = no_format None refl
 
 plain_counts : (forced : Option ℕ) (p : XlsEncoding) (v : Biff) (typ : ℕ) (body : List ℕ) → Counts (plain_record_at forced p v typ body)
@@ -155,7 +155,7 @@ plain_counts forced p v typ body =
     (format_counts p v body (format_at p v body) refl)
     (λ b k. choice Counts (typ == 224) (gives xf_record (xf_at body)) b (none_counts xf_record (λ n. refl) (xf_at body)) k)
 
-line_counts : (rules : Rules) (before : List Entry) (e : Entry) → Counts (line_in rules before e)
+line_counts : (rules : Rules) (before : List ListEntry) (e : ListEntry) → Counts (line_in rules before e)
 line_counts rules before (plain_entry typ body) = plain_counts rules.force_codepage (page_in rules before) (version_in rules before) typ body
 line_counts rules before (table_entry strings) = no_format None refl
 line_counts rules before (sheet_entry state kind name kept) =
@@ -173,12 +173,12 @@ class_step (Some f) os ifmt n k h =
           ∙ ap (λ (t : Bool). if t then Some f.1 else None) d.0
     ]
 
-no_class : (rules : Rules) (before es : List Entry) (ifmt : ℕ) → is_format_id ifmt ≡ false
-    → last_class (somes (map format_given (along (line_in rules) before es))) ifmt ≡ None
+no_class : (rules : Rules) (before es : List ListEntry) (ifmt : ℕ) → is_format_id ifmt ≡ false
+    → last_class (somes (map format_from (map_with_earlier (line_in rules) before es))) ifmt ≡ None
 no_class rules before [] ifmt n = refl
 no_class rules before (e ∷ es) ifmt n =
     let after = before ++ e ∷ [] in
-    class_step (format_given (line_in rules before e)) (map format_given (along (line_in rules) after es)) ifmt n (line_counts rules before e)
+    class_step (format_from (line_in rules before e)) (map format_from (map_with_earlier (line_in rules) after es)) ifmt n (line_counts rules before e)
     (no_class rules after es ifmt n)
 
 -- ---- touched XFs

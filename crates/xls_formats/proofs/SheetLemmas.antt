@@ -44,16 +44,16 @@ ixfes_push ks k =
     flat_map-append (λ (j : Kept). ixfes_at j.typ j.body) ks (k ∷ [])
     ∙ ap (λ (l : List ℕ). ixfes_of ks ++ l) (append-nil (ixfes_at k.typ k.body))
 
-pub part_more : (part rest after : List ℕ) (depth behind : ℕ) (touched : List Bool) (had more now : ℕ) (g : Group) → CountedPart part rest depth touched had
-    → Keeps rest depth g after behind → more ≡ count_by (is_touched touched) (ixfes_at g.typ g.body) → now ≡ min (had + more) (2 ^ 64 - 1)
-    → CountedPart part after behind touched now
-part_more part rest after depth behind touched had more now g p k is sum = record {
+pub part_more : (part rest after : List ℕ) (depth following : ℕ) (touched : List Bool) (had more now : ℕ) (g : Group) → CountedPart part rest depth touched had
+    → Keeps rest depth g after following → more ≡ count_by (is_touched touched) (ixfes_at g.typ g.body) → now ≡ min (had + more) (2 ^ 64 - 1)
+    → CountedPart part after following touched now
+part_more part rest after depth following touched had more now g p k is sum = record {
   groups = p.groups ++ g ∷ [];
   joins = λ others cut f.
       subst (λ (x : List Group). From (found_from 0) part x cut) (sym (append_assoc p.groups (g ∷ []) others))
-      (p.joins (g ∷ others) cut (keeps_from rest depth g after behind others cut k f));
+      (p.joins (g ∷ others) cut (keeps_from rest depth g after following others cut k f));
   part_fits = p.part_fits;
-  fits = keeps_bytes rest depth g after behind k p.fits;
+  fits = keeps_bytes rest depth g after following k p.fits;
   counted = sum ∙ touched_push touched (ixfes_of (kept_of p.groups)) (ixfes_at g.typ g.body) had more p.counted is
       ∙ ap (touched_count touched) (sym (ixfes_push (kept_of p.groups) (kept_group g)) ∙ ap ixfes_of (sym (kept_push p.groups g)));
 }

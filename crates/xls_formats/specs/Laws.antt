@@ -2,7 +2,7 @@
 use Rattle.std.specs.Prelude.{◌≡◌, ℕ, List, true, map, slice_get, Some}
 use Rattle.xls_stream.specs.Listing.{Item, entry_of}
 use Rattle.xls_dates.specs.Builtin.{class_of_code}
-use Rattle.xls_meaning.specs.InForce.{identifiers_in, classes_in}
+use Rattle.xls_meaning.specs.Settings.{identifiers_in, classes_in}
 use Rattle.xls_meaning.specs.Rules.{Rules}
 use Rattle.xls_formats.specs.Uncounted.{touched_xfs, is_touched}
 

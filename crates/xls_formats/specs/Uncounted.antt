@@ -7,7 +7,7 @@ use Rattle.xls_bytes.specs.Numbers.{le}
 use Rattle.xls_stream.specs.Listing.{is_among, Kept, Item, plain_item, table_item, sheet_item, Holds}
 use Rattle.xls_stream.specs.declared.part.Part.{Part}
 use Rattle.xls_stream.specs.declared.types.TheConstants as types
-use Rattle.xls_record.specs.Reading.{listed}
+use Rattle.xls_record.specs.Reading.{results_listed}
 use Rattle.xls_biff.specs.Records.Format.{is_format_id}
 use Rattle.xls_biff.specs.Records.Rk.{mul_rk_count}
 use Rattle.xls_biff.specs.Records.Xf.{xf_at}
@@ -55,7 +55,7 @@ mul_rk_ixfe body i = le (take 2 (drop (4 + 6 * i) body))
 
 -- those of all of its cells
 abbrev pub mul_rk_ixfes : List ℕ → List ℕ
-mul_rk_ixfes body = unwrap_or (result_ok (listed (mul_rk_ixfe body) (mul_rk_count body))) []
+mul_rk_ixfes body = unwrap_or (result_ok (results_listed (mul_rk_ixfe body) (mul_rk_count body))) []
 
 -- the types of the records of one cell
 abbrev pub cell_types : List ℕ

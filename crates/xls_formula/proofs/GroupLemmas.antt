@@ -92,14 +92,14 @@ join_down leaves t below start mark g =
 after_parts : (init : List (List ℕ)) (word mark : List ℕ) (s : ℕ) (below : List ℕ) → s ≤ length init →
     operands_down (init ++ (word ++ mark) ∷ []) (s ∷ below) ≡ with_suffix mark (operands_down (init ++ word ∷ []) (s ∷ below))
 after_parts init word mark s below le =
-    let front : List (List ℕ) = drop s init in
+    let prefix : List (List ℕ) = drop s init in
     ap (λ (x : List (List ℕ)). concat x ∷ operands_down (take s (init ++ (word ++ mark) ∷ [])) below) (drop-append-le s init ((word ++ mark) ∷ []) le)
-    ∙ (ap (λ (x : List (List ℕ)). concat (front ++ (word ++ mark) ∷ []) ∷ operands_down x below) (take-append-le s init ((word ++ mark) ∷ []) le ∙ sym (take-append-le s init (word ∷ []) le))
+    ∙ (ap (λ (x : List (List ℕ)). concat (prefix ++ (word ++ mark) ∷ []) ∷ operands_down x below) (take-append-le s init ((word ++ mark) ∷ []) le ∙ sym (take-append-le s init (word ∷ []) le))
     ∙ (ap (λ (x : List ℕ). x ∷ operands_down (take s (init ++ word ∷ [])) below)
-    (concat-append front ((word ++ mark) ∷ [])
-    ∙ (ap (λ (x : List ℕ). concat front ++ x) (append-nil (word ++ mark))
-    ∙ (sym (append_assoc (concat front) word mark)
-    ∙ ap (λ (x : List ℕ). x ++ mark) (ap (λ (x : List ℕ). concat front ++ x) (sym (append-nil word)) ∙ sym (concat-append front (word ∷ []))))))
+    (concat-append prefix ((word ++ mark) ∷ [])
+    ∙ (ap (λ (x : List ℕ). concat prefix ++ x) (append-nil (word ++ mark))
+    ∙ (sym (append_assoc (concat prefix) word mark)
+    ∙ ap (λ (x : List ℕ). x ++ mark) (ap (λ (x : List ℕ). concat prefix ++ x) (sym (append-nil word)) ∙ sym (concat-append prefix (word ∷ []))))))
     ∙ ap (λ (x : List (List ℕ)). (concat x ++ mark) ∷ operands_down (take s (init ++ word ∷ [])) below) (sym (drop-append-le s init (word ∷ []) le))))
 
 split_last : (leaves : List (List ℕ)) (last : ℕ) → last + 1 ≡ length leaves → leaves ≡ take last leaves ++ get_or leaves last [] ∷ []

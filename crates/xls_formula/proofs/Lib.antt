@@ -1,4 +1,4 @@
-pub mod FrontLemmas
+pub mod PrefixLemmas
 pub mod LeafLemmas
 pub mod GroupLemmas
 pub mod OperandLemmas

@@ -9,10 +9,10 @@ use Rattle.xls_record.specs.Reading.{◌>>=◌, gives, Fails}
 use Rattle.xls_formula.specs.Context.{Context}
 use Rattle.xls_formula.specs.Tree.{Tree, Trees, wrap, pair, no_trees, tree, render, render_each, separated}
 use Rattle.xls_formula.specs.Effects.{Effect, pushes, wraps, pairs, calls, spaces, keeps}
-use Rattle.xls_formula.specs.Fold.{Folded, grow, gather, on_one, on_two, space_before, walk, fold_tokens, tokens_at, one_tree, fold, rendered}
+use Rattle.xls_formula.specs.Fold.{Folded, grow, gather, on_one, on_two, space_before, walk_tokens, fold_tokens, tokens_at, one_tree, fold, rendered}
 use Rattle.xls_formula.specs.buffer.Pieces.{Texts, with_prefix, with_suffix, with_join}
 use Rattle.xls_formula.specs.buffer.Put.{Put, needs, put, with_joins, with_call, with_wrap, one_text}
-use Rattle.xls_formula.proofs.WalkLemmas.{fails_then, fails_along, walk_along}
+use Rattle.xls_formula.proofs.WalkLemmas.{fails_then, fails_over, walk_over}
 
 -- the operands by their texts
 abbrev pub mapped : Folded → Put
@@ -85,25 +85,25 @@ one_put (Ok []) = refl
 one_put (Ok (t ∷ [])) = refl
 one_put (Ok (t ∷ u ∷ us)) = ap (λ n. Err (errors.InvalidFormula (suc (suc n)))) (sym (length-map us render))
 
-after_length : (context : Context) (r : Result (List ℕ) XlsError) → rendered (◌>>=◌ r (λ tokens. ◌>>=◌ (fold_tokens context tokens) one_tree)) ≡ ◌>>=◌ r (λ tokens. ◌>>=◌ (walk context put tokens 0 []) one_text)
+after_length : (context : Context) (r : Result (List ℕ) XlsError) → rendered (◌>>=◌ r (λ tokens. ◌>>=◌ (fold_tokens context tokens) one_tree)) ≡ ◌>>=◌ r (λ tokens. ◌>>=◌ (walk_tokens context put tokens 0 []) one_text)
 after_length context (Err e) = refl
 after_length context (Ok tokens) =
-    one_put (fold_tokens context tokens) ∙ ap (λ (p : Put). ◌>>=◌ p one_text) (walk_along context (map render) grow put grow_put tokens 0 [])
+    one_put (fold_tokens context tokens) ∙ ap (λ (p : Put). ◌>>=◌ p one_text) (walk_over context (map render) grow put grow_put tokens 0 [])
 
-pub fold_text : (context : Context) (rgce : List ℕ) → rendered (fold context rgce) ≡ ◌>>=◌ (tokens_at rgce) (λ tokens. ◌>>=◌ (walk context put tokens 0 []) one_text)
+pub fold_text : (context : Context) (rgce : List ℕ) → rendered (fold context rgce) ≡ ◌>>=◌ (tokens_at rgce) (λ tokens. ◌>>=◌ (walk_tokens context put tokens 0 []) one_text)
 fold_text context rgce = after_length context (tokens_at rgce)
 
 -- the tokens were read, and left these texts
-pub read_whole : (context : Context) (rgce tokens : List ℕ) (none after : Texts) → tokens_at rgce ≡ Ok tokens → none ≡ [] → walk context put tokens 0 none ≡ Ok after → rendered (fold context rgce) ≡ one_text after
+pub read_whole : (context : Context) (rgce tokens : List ℕ) (none after : Texts) → tokens_at rgce ≡ Ok tokens → none ≡ [] → walk_tokens context put tokens 0 none ≡ Ok after → rendered (fold context rgce) ≡ one_text after
 read_whole context rgce tokens none after t e p =
     fold_text context rgce
-    ∙ (ap (λ (r : Result (List ℕ) XlsError). ◌>>=◌ r (λ x. ◌>>=◌ (walk context put x 0 []) one_text)) t
-    ∙ ap (λ (q : Put). ◌>>=◌ q one_text) (ap (walk context put tokens 0) (sym e) ∙ p))
+    ∙ (ap (λ (r : Result (List ℕ) XlsError). ◌>>=◌ r (λ x. ◌>>=◌ (walk_tokens context put x 0 []) one_text)) t
+    ∙ ap (λ (q : Put). ◌>>=◌ q one_text) (ap (walk_tokens context put tokens 0) (sym e) ∙ p))
 
-pub refused : (context : Context) (rgce tokens : List ℕ) (none : Texts) (e : XlsError) → tokens_at rgce ≡ Ok tokens → none ≡ [] → Fails e (walk context put tokens 0 none) → Fails e (rendered (fold context rgce))
+pub refused : (context : Context) (rgce tokens : List ℕ) (none : Texts) (e : XlsError) → tokens_at rgce ≡ Ok tokens → none ≡ [] → Fails e (walk_tokens context put tokens 0 none) → Fails e (rendered (fold context rgce))
 refused context rgce tokens none e t z f =
-    fails_along e (rendered (fold context rgce)) (◌>>=◌ (walk context put tokens 0 none) one_text)
+    fails_over e (rendered (fold context rgce)) (◌>>=◌ (walk_tokens context put tokens 0 none) one_text)
     (fold_text context rgce
-    ∙ (ap (λ (r : Result (List ℕ) XlsError). ◌>>=◌ r (λ x. ◌>>=◌ (walk context put x 0 []) one_text)) t
-    ∙ ap (λ (x : Texts). ◌>>=◌ (walk context put tokens 0 x) one_text) (sym z)))
-    (fails_then e (walk context put tokens 0 none) one_text f)
+    ∙ (ap (λ (r : Result (List ℕ) XlsError). ◌>>=◌ r (λ x. ◌>>=◌ (walk_tokens context put x 0 []) one_text)) t
+    ∙ ap (λ (x : Texts). ◌>>=◌ (walk_tokens context put tokens 0 x) one_text) (sym z)))
+    (fails_then e (walk_tokens context put tokens 0 none) one_text f)

@@ -80,21 +80,21 @@ early = record {
   functions = [];
 }
 
-abbrev early_front : List ℕ
-early_front = 9 ∷ 8 ∷ 7 ∷ 6 ∷ 5 ∷ 4 ∷ 3 ∷ 2 ∷ 1 ∷ 0 ∷ 1 ∷ 0 ∷ 0xEE ∷ 0xEE ∷ []
+abbrev early_prefix : List ℕ
+early_prefix = 9 ∷ 8 ∷ 7 ∷ 6 ∷ 5 ∷ 4 ∷ 3 ∷ 2 ∷ 1 ∷ 0 ∷ 1 ∷ 0 ∷ 0xEE ∷ 0xEE ∷ []
 
-known_early_cell : formula_text early (18 ∷ 0 ∷ 0x3A ∷ early_front ++ (1 ∷ 0x40 ∷ 2 ∷ [])) ≡ Ok (codes "B!C$2")
+known_early_cell : formula_text early (18 ∷ 0 ∷ 0x3A ∷ early_prefix ++ (1 ∷ 0x40 ∷ 2 ∷ [])) ≡ Ok (codes "B!C$2")
 unfolding digits column_name word_of
 known_early_cell = refl
 
-known_early_sheet_area : formula_text early (21 ∷ 0 ∷ 0x3B ∷ early_front ++ (1 ∷ 0x40 ∷ 9 ∷ 0xC0 ∷ 2 ∷ 4 ∷ [])) ≡ Ok (codes "B!$C$2:$E$10")
+known_early_sheet_area : formula_text early (21 ∷ 0 ∷ 0x3B ∷ early_prefix ++ (1 ∷ 0x40 ∷ 9 ∷ 0xC0 ∷ 2 ∷ 4 ∷ [])) ≡ Ok (codes "B!$C$2:$E$10")
 unfolding digits column_name word_of
 known_early_sheet_area = refl
 
-known_early_ref_err : formula_text early (18 ∷ 0 ∷ 0x3C ∷ early_front ++ replicate 3 0) ≡ Ok (codes "B!#REF!")
+known_early_ref_err : formula_text early (18 ∷ 0 ∷ 0x3C ∷ early_prefix ++ replicate 3 0) ≡ Ok (codes "B!#REF!")
 known_early_ref_err = refl
 
-known_early_area_err : formula_text early (21 ∷ 0 ∷ 0x3D ∷ early_front ++ replicate 6 0) ≡ Ok (codes "B!#REF!")
+known_early_area_err : formula_text early (21 ∷ 0 ∷ 0x3D ∷ early_prefix ++ replicate 6 0) ≡ Ok (codes "B!#REF!")
 known_early_area_err = refl
 
 -- strings of both layouts, whole and cut
@@ -220,11 +220,11 @@ unfolding digits column_name word_of
 known_lbl = refl
 
 -- before BIFF8: a cell and an area, both with `$`, and cells that are gone, of which the index is enough
-known_early_defined : defined_at Biff5 (0x3A ∷ early_front ++ (1 ∷ 0xC0 ∷ 2 ∷ [])) ≡ Ok (Some 1, codes "$C$2")
+known_early_defined : defined_at Biff5 (0x3A ∷ early_prefix ++ (1 ∷ 0xC0 ∷ 2 ∷ [])) ≡ Ok (Some 1, codes "$C$2")
 unfolding digits column_name word_of
 known_early_defined = refl
 
-known_early_defined_area : defined_at Biff5 (0x3B ∷ early_front ++ (1 ∷ 0xC0 ∷ 9 ∷ 0x40 ∷ 2 ∷ 4 ∷ [])) ≡ Ok (Some 1, codes "$C$2:$E$10")
+known_early_defined_area : defined_at Biff5 (0x3B ∷ early_prefix ++ (1 ∷ 0xC0 ∷ 9 ∷ 0x40 ∷ 2 ∷ 4 ∷ [])) ≡ Ok (Some 1, codes "$C$2:$E$10")
 unfolding digits column_name word_of
 known_early_defined_area = refl
 
@@ -238,7 +238,7 @@ known_early_gone_cut : defined_at Biff5 (0x3D ∷ 9 ∷ 8 ∷ 7 ∷ 6 ∷ 5 ∷ 
 known_early_gone_cut = refl
 
 -- a name without a flags byte: as many bytes from byte 14 as byte 3 says, and the tokens at the end
-known_early_lbl : lbl_at Windows1252 Biff5 ((0 ∷ 0 ∷ 0 ∷ 5 ∷ 18 ∷ replicate 9 0) ++ (codes "Total" ++ (0x3A ∷ early_front ++ (1 ∷ 0xC0 ∷ 2 ∷ [])))) ≡ Ok (codes "Total", (Some 1, codes "$C$2"))
+known_early_lbl : lbl_at Windows1252 Biff5 ((0 ∷ 0 ∷ 0 ∷ 5 ∷ 18 ∷ replicate 9 0) ++ (codes "Total" ++ (0x3A ∷ early_prefix ++ (1 ∷ 0xC0 ∷ 2 ∷ [])))) ≡ Ok (codes "Total", (Some 1, codes "$C$2"))
 unfolding digits column_name word_of
 known_early_lbl = refl
 

@@ -118,5 +118,5 @@ located_of x = (x.0, text_of x.1)
 abbrev pub named_of : String Global × (Option ℕ × String Global) → List ℕ × Located
 named_of x = (text_of x.0, located_of x.1)
 
-abbrev pub parts_of : Lbl → NameUnits × Place
-parts_of lbl = ((lbl.high_byte, lbl.count, lbl.name.now), lbl.place)
+abbrev pub name_parts_of : Lbl → NameUnits × Place
+name_parts_of lbl = ((lbl.high_byte, lbl.count, lbl.name.now), lbl.place)

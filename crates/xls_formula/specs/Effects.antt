@@ -7,7 +7,7 @@ use Rattle.xls_text.specs.Pages.{string_text}
 use Rattle.xls_dates.specs.Numbers.{bits_text}
 use Rattle.xls_record.specs.declared.error.XlsError.{XlsError}
 use Rattle.xls_record.specs.declared.error.XlsError.TheVariants as errors
-use Rattle.xls_formula.specs.Words.{operator_text, err_text, bool_text, space_mark}
+use Rattle.xls_formula.specs.Words.{operator_text, err_text, bool_word, space_mark}
 use Rattle.xls_formula.specs.Functions.{Function}
 use Rattle.xls_formula.specs.Context.{Context, sheet_text, name_text}
 use Rattle.xls_ptg.specs.declared.tokens.Ptg.{Ptg}
@@ -63,7 +63,7 @@ effect context (ptg.AttrSpace is_return count) = Ok (spaces (replicate count (sp
 effect context (ptg.AttrSpaceSemi is_return count) =
     Ok (spaces (replicate count (space_mark is_return)))
 effect context (ptg.Err error) = Ok (pushes (word (err_text error)))
-effect context (ptg.Bool truth) = Ok (pushes (word (bool_text truth)))
+effect context (ptg.Bool truth) = Ok (pushes (word (bool_word truth)))
 effect context (ptg.Int n) = Ok (pushes (word (decimal n)))
 effect context (ptg.Num bits) = Ok (pushes (word (bits_text bits)))
 effect context ptg.Array = Ok (pushes (word (codes "{PtgArray}")))

@@ -48,17 +48,17 @@ grow keeps ts = Ok ts
 
 -- what is left where each token in turn changes it by its effect; so many bytes belong to the last
 -- token still
-abbrev pub walk : {X : Type 0} → Context → (Effect → X → Result X XlsError) → List ℕ → ℕ → X → Result X XlsError
-walk context change [] more x = Ok x
-walk context change (b ∷ bytes) (suc more) x = walk context change bytes more x
-walk context change (b ∷ bytes) zero x = do
+abbrev pub walk_tokens : {X : Type 0} → Context → (Effect → X → Result X XlsError) → List ℕ → ℕ → X → Result X XlsError
+walk_tokens context change [] more x = Ok x
+walk_tokens context change (b ∷ bytes) (suc more) x = walk_tokens context change bytes more x
+walk_tokens context change (b ∷ bytes) zero x = do
   e ← effect_at context (b ∷ bytes)
   y ← change e.0 x
-  walk context change bytes e.1 y
+  walk_tokens context change bytes e.1 y
 
 -- the operands after all tokens
 abbrev pub fold_tokens : Context → List ℕ → Folded
-fold_tokens context tokens = walk context grow tokens 0 []
+fold_tokens context tokens = walk_tokens context grow tokens 0 []
 
 abbrev pub one_tree : List Tree → Result Tree XlsError
 one_tree [] = Err (errors.InvalidFormula 0)

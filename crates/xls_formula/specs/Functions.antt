@@ -13,10 +13,10 @@ abbrev pub function_of : FunctionEntry → Function
 function_of entry = (text_of entry.name, entry.argc)
 
 -- names and counts, side by side
-abbrev pub paired : List (Bor (List ℕ)) → List ℕ → List Function
-paired [] counts = []
-paired (name ∷ names) [] = []
-paired (name ∷ names) (count ∷ counts) = (chars name.now, count) ∷ paired names counts
+abbrev pub functions_paired : List (Bor (List ℕ)) → List ℕ → List Function
+functions_paired [] counts = []
+functions_paired (name ∷ names) [] = []
+functions_paired (name ∷ names) (count ∷ counts) = (chars name.now, count) ∷ functions_paired names counts
 
 -- the functions whose names are shipped
 abbrev pub shipped : List Function

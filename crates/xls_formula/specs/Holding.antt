@@ -16,8 +16,8 @@ use Rattle.xls_formula.specs.Tree.{Tree, word, ref, area}
 use Rattle.xls_formula.specs.Words.{err_text, space_mark}
 
 -- what a formula may name
-abbrev pub context_of : Scope → Context
-context_of scope =
+abbrev pub scope_context : Scope → Context
+scope_context scope =
     record {
       sheets = scope.sheets.now;
       names = scope.names.now;

@@ -30,9 +30,9 @@ abbrev pub err_text : CellErrorType → List ℕ
 err_text failures.GettingData = codes "#GETTING_DATA"
 err_text error = error_text error
 
-abbrev pub bool_text : Bool → List ℕ
-bool_text true = codes "TRUE"
-bool_text false = codes "FALSE"
+abbrev pub bool_word : Bool → List ℕ
+bool_word true = codes "TRUE"
+bool_word false = codes "FALSE"
 
 -- a return or a space
 abbrev pub space_mark : Bool → ℕ

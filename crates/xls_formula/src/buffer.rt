@@ -7,12 +7,12 @@ ghost use Rattle.std.specs.Str.{chars};
 ghost use Rattle.xls_record.specs.Reading.{Gives};
 ghost use Rattle.xls_formula.specs.Holding.{tree_of};
 ghost use Rattle.xls_formula.specs.Tree.{render};
-ghost use Rattle.xls_formula.specs.buffer.Fronts.{IsChain};
+ghost use Rattle.xls_formula.specs.buffer.Prefixes.{IsChain};
 ghost use Rattle.xls_formula.specs.buffer.Leaves.{AreChained, AreWhole, IsMarked, leaf_texts};
 ghost use Rattle.xls_formula.specs.buffer.Pieces.{with_join, with_prefix, with_suffix};
 ghost use Rattle.xls_formula.specs.buffer.Put.{one_text};
 
-use crate::fronts::Fronts;
+use crate::prefixes::Prefixes;
 use crate::words::{Word, push_word};
 use std::alloc::{AllocError, Global};
 use std::marker::Model;
@@ -21,7 +21,7 @@ use xls_biff::XlsError;
 /// A leaf of a formula: so many bytes of the text, and the newest piece of what was put before it.
 #[derive(Drop)]
 struct Leaf {
-    front: Option<usize>,
+    prefix: Option<usize>,
     len: usize,
 }
 
@@ -34,7 +34,7 @@ pub(crate) struct Operands {
     text: String,
     leaves: Vec<Leaf>,
     /// What was put before leaves.
-    fronts: Fronts,
+    prefixes: Prefixes,
     /// The first leaf of each operand.
     starts: Vec<usize>,
 }
@@ -47,18 +47,18 @@ impl Model for Operands {
 
     ghost use Rattle.xls_formula.specs.buffer.Leaves.{AreOperands, texts_of};
 
-    ghost view = { λ b. texts_of b.fronts (string_bytes b.text) b.leaves.items b.starts.items };
+    ghost view = { λ b. texts_of b.prefixes (string_bytes b.text) b.leaves.items b.starts.items };
 
-    ghost invariant = { λ b. AreOperands b.fronts (string_bytes b.text) b.leaves.items b.starts.items };
+    ghost invariant = { λ b. AreOperands b.prefixes (string_bytes b.text) b.leaves.items b.starts.items };
 }
 
 /// Puts a mark before a leaf.
-fn put_at(fronts: &mut Fronts, leaf: &mut Leaf, mark: &str) -> Result<(), AllocError>
-    requires { IsChain (length fronts.old) leaf.old.front }
-    ensures ok { OnOk result (IsMarked fronts.old fronts.new leaf.old leaf.new mark.now) }
-    ensures err { OnErr result ((fronts.new ≡ fronts.old) × (leaf.new ≡ leaf.old)) }
+fn put_at(prefixes: &mut Prefixes, leaf: &mut Leaf, mark: &str) -> Result<(), AllocError>
+    requires { IsChain (length prefixes.old) leaf.old.prefix }
+    ensures ok { OnOk result (IsMarked prefixes.old prefixes.new leaf.old leaf.new mark.now) }
+    ensures err { OnErr result ((prefixes.new ≡ prefixes.old) × (leaf.new ≡ leaf.old)) }
 {
-    leaf.front = Some(fronts.push(mark.as_bytes(), leaf.front)?);
+    leaf.prefix = Some(prefixes.push(mark.as_bytes(), leaf.prefix)?);
     Ok(())
 }
 
@@ -66,18 +66,18 @@ fn put_at(fronts: &mut Fronts, leaf: &mut Leaf, mark: &str) -> Result<(), AllocE
 fn join_leaves(
     out: &mut Vec<u8>,
     text: &[u8],
-    fronts: &Fronts,
+    prefixes: &Prefixes,
     leaves: &[Leaf],
 ) -> Result<(), AllocError>
     requires whole { AreWhole text.now leaves.now }
-    requires chained { AreChained (length fronts.now) leaves.now }
-    ensures { OnOk result (out.new.items ≡ concat (leaf_texts fronts.now text.now leaves.now)) }
+    requires chained { AreChained (length prefixes.now) leaves.now }
+    ensures { OnOk result (out.new.items ≡ concat (leaf_texts prefixes.now text.now leaves.now)) }
 {
     out.clear();
-    out.reserve(text.len().saturating_add(fronts.size()))?;
+    out.reserve(text.len().saturating_add(prefixes.size()))?;
     let mut rest = text;
     'leaves: for leaf in leaves {
-        fronts.write(leaf.front, out)?;
+        prefixes.write(leaf.prefix, out)?;
         let (body, after) = rest.split_at(leaf.len);
         out.extend_from_slice(body)?;
         rest = after;
@@ -94,7 +94,7 @@ impl Operands {
             alloc,
             text: String::new(alloc),
             leaves: Vec::new(alloc),
-            fronts: Fronts::new(alloc),
+            prefixes: Prefixes::new(alloc),
             starts: Vec::new(alloc),
         }
     }
@@ -105,7 +105,7 @@ impl Operands {
     {
         self.text.clear();
         self.leaves.clear();
-        self.fronts.clear();
+        self.prefixes.clear();
         self.starts.clear();
     }
 
@@ -122,7 +122,7 @@ impl Operands {
     {
         self.starts.push(self.leaves.len())?;
         let leaf = Leaf {
-            front: None,
+            prefix: None,
             len: 0,
         };
         match self.leaves.push(leaf) {
@@ -147,7 +147,7 @@ impl Operands {
         ensures { OnOk result (self.new ≡ with_prefix (chars mark.now) self.old) }
     {
         match self.starts.last() {
-            Some(start) => put_at(&mut self.fronts, &mut self.leaves[*start], mark),
+            Some(start) => put_at(&mut self.prefixes, &mut self.leaves[*start], mark),
             None => Ok(()),
         }
     }
@@ -177,7 +177,7 @@ impl Operands {
         ensures { OnOk result (self.new ≡ with_join (chars mark.now) self.old) }
     {
         match self.starts.pop() {
-            Some(start) => put_at(&mut self.fronts, &mut self.leaves[start], mark),
+            Some(start) => put_at(&mut self.prefixes, &mut self.leaves[start], mark),
             None => Ok(()),
         }
     }
@@ -193,7 +193,7 @@ impl Operands {
                 stack_size: self.starts.len(),
             });
         }
-        join_leaves(out, self.text.as_bytes(), &self.fronts, &self.leaves)?;
+        join_leaves(out, self.text.as_bytes(), &self.prefixes, &self.leaves)?;
         Ok(())
     }
 }

@@ -4,7 +4,7 @@ ghost use Rattle.std.specs.Prelude.{◌≡◌, ◌≤◌, length, IfOk, codes, i
 ghost use Rattle.xls_text.specs.declared.encoding.XlsEncoding.{XlsEncoding};
 ghost use Rattle.xls_record.specs.Reading.{fault_in, Exactly, Gives};
 ghost use Rattle.xls_strings.specs.Texts.{text_of};
-ghost use Rattle.xls_formula.specs.Defined.{area3d_place, defined_at, err3d_place, lbl_at, lbl_parts, located_of, name_tokens, name_units, named_of, parts_of, place_at, place_by, place_sheet, place_text, ref3d_place};
+ghost use Rattle.xls_formula.specs.Defined.{area3d_place, defined_at, err3d_place, lbl_at, lbl_parts, located_of, name_tokens, name_units, named_of, name_parts_of, place_at, place_by, place_sheet, place_text, ref3d_place};
 ghost use Rattle.xls_ptg.specs.Corners.{pinned};
 ghost use Rattle.xls_formula.specs.Tree.{area_text, corner_text};
 
@@ -221,7 +221,7 @@ fn split_tokens(body: &[u8]) -> Result<&[u8], XlsError>
 }
 
 fn split_lbl(body: &[u8], biff: Biff) -> Result<Lbl<'_>, XlsError>
-    ensures { Exactly parts_of result (lbl_parts biff body.now) }
+    ensures { Exactly name_parts_of result (lbl_parts biff body.now) }
 {
     if body.len() < 14 {
         return Err(short(14, body.len(), Part::Lbl));

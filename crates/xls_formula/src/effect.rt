@@ -5,7 +5,7 @@ ghost use Rattle.std.specs.Str.{chars};
 ghost use Rattle.xls_record.specs.Reading.{Exactly};
 ghost use Rattle.xls_ptg.specs.Readings.{ptg_of};
 ghost use Rattle.xls_formula.specs.Effects.{effect, effect_at, function_at};
-ghost use Rattle.xls_formula.specs.Holding.{as_held, context_of, effect_of};
+ghost use Rattle.xls_formula.specs.Holding.{as_held, scope_context, effect_of};
 
 use crate::scope::{Scope, defined_name, sheet_name};
 use crate::words::{Word, bool_text, operator_text};
@@ -31,7 +31,7 @@ pub enum Effect<'a> {
 
 /// The function of an index: its name and the count of its operands.
 fn function_at<'a>(scope: Scope<'a>, iftab: u16) -> Result<(&'a str, u8), XlsError>
-    ensures { Exactly (λ f. (chars f.0.now, f.1)) result (function_at (context_of scope.entry) iftab) }
+    ensures { Exactly (λ f. (chars f.0.now, f.1)) result (function_at (scope_context scope.entry) iftab) }
 {
     match scope.functions.get(usize::from(iftab)) {
         Some(function) => Ok(function),
@@ -42,7 +42,7 @@ fn function_at<'a>(scope: Scope<'a>, iftab: u16) -> Result<(&'a str, u8), XlsErr
 /// What a token does. `IfTab` for a function outside the table.
 #[tactic(auto, unfolding(std::specs::Prelude::chars))]
 fn ptg_effect<'a>(scope: Scope<'a>, ptg: Ptg<&'a [u8]>) -> Result<Effect<'a>, XlsError>
-    ensures { Exactly effect_of result (effect (context_of scope.entry) (ptg_of ptg.entry)) }
+    ensures { Exactly effect_of result (effect (scope_context scope.entry) (ptg_of ptg.entry)) }
 {
     match ptg {
         Ptg::Exp => Ok(Effect::Pushes(Word::Plain(""))),
@@ -131,7 +131,7 @@ fn ptg_effect<'a>(scope: Scope<'a>, ptg: Ptg<&'a [u8]>) -> Result<Effect<'a>, Xl
 /// the table; the operands are not looked at. Takes no memory.
 pub fn read_effect<'a>(bytes: &'a [u8], scope: Scope<'a>) -> Result<(Effect<'a>, usize), XlsError>
     requires { 0 < length bytes.now }
-    ensures exact { Exactly as_held result (effect_at (context_of scope.entry) bytes.now) }
+    ensures exact { Exactly as_held result (effect_at (scope_context scope.entry) bytes.now) }
     ensures within { IfOk result (λ x. x.1 < length bytes.now) }
 {
     let (ptg, more) = read_ptg(bytes, scope.biff)?;

@@ -33,7 +33,7 @@ impl Model for FunctionTable {
 }
 
 impl FunctionTable {
-    ghost use Rattle.xls_formula.specs.Functions.{paired, shipped};
+    ghost use Rattle.xls_formula.specs.Functions.{functions_paired, shipped};
 
     /// No functions. Takes no memory.
     pub fn new(alloc: Global) -> FunctionTable
@@ -48,7 +48,7 @@ impl FunctionTable {
     /// Adds functions under the next indexes.
     fn push_all(&mut self, names: &[&str], counts: &[u8]) -> Result<(), AllocError>
         requires { length names.now ≡ length counts.now }
-        ensures { OnOk result (self.new ≡ self.old ++ paired names.now counts.now) }
+        ensures { OnOk result (self.new ≡ self.old ++ functions_paired names.now counts.now) }
     {
         'names: for i in 0..names.len() {
             self.push(names[i], counts[i])?;

@@ -4,7 +4,7 @@
 mod buffer;
 mod defined;
 mod effect;
-mod fronts;
+mod prefixes;
 mod ftab;
 mod functions;
 mod names;

@@ -4,8 +4,8 @@ ghost use Rattle.std.specs.Prelude.{◌≡◌, [], IfOk, IsUtf8};
 ghost use Rattle.std.specs.Str.{chars};
 ghost use Rattle.xls_record.specs.Reading.{Exactly, Gives};
 ghost use Rattle.xls_strings.specs.Texts.{text_of};
-ghost use Rattle.xls_formula.specs.Fold.{formula_text, tokens_at, walk};
-ghost use Rattle.xls_formula.specs.Holding.{context_of};
+ghost use Rattle.xls_formula.specs.Fold.{formula_text, tokens_at, walk_tokens};
+ghost use Rattle.xls_formula.specs.Holding.{scope_context};
 ghost use Rattle.xls_formula.specs.buffer.Put.{put};
 ghost use Rattle.xls_formula.specs.buffer.Steps.{Leaves};
 
@@ -40,7 +40,7 @@ pub fn tokens_of(rgce: &[u8]) -> Result<&[u8], XlsError>
 }
 
 fn put_tokens(texts: &mut Operands, scope: Scope<'_>, tokens: &[u8]) -> Result<(), XlsError>
-    ensures { Leaves result texts.new (walk (context_of scope.entry) put tokens.now 0 texts.old) }
+    ensures { Leaves result texts.new (walk_tokens (scope_context scope.entry) put tokens.now 0 texts.old) }
 {
     let mut rest = tokens;
     'tokens: while !rest.is_empty() {
@@ -60,7 +60,7 @@ fn write_formula(
     rgce: &[u8],
     scope: Scope<'_>,
 ) -> Result<(), XlsError>
-    ensures text { Gives (λ u. chars out.new.items) result (formula_text (context_of scope.entry) rgce.now) }
+    ensures text { Gives (λ u. chars out.new.items) result (formula_text (scope_context scope.entry) rgce.now) }
     ensures utf8 { IfOk result (λ u. IsUtf8 out.new.items) }
 {
     let tokens = tokens_of(rgce)?;
@@ -70,7 +70,7 @@ fn write_formula(
 }
 
 fn text_in_scope(alloc: Global, rgce: &[u8], scope: Scope<'_>) -> Result<String, XlsError>
-    ensures { Gives text_of result (formula_text (context_of scope.entry) rgce.now) }
+    ensures { Gives text_of result (formula_text (scope_context scope.entry) rgce.now) }
 {
     let mut texts = Operands::new(alloc);
     let mut out = Vec::new(alloc);
@@ -109,7 +109,7 @@ impl FormulaTexts {
 
     /// Makes the text of a formula as by `parse_formula`, in place of the one before.
     pub fn read(&mut self, rgce: &[u8], scope: Scope<'_>) -> Result<(), XlsError>
-        ensures { Gives (λ u. self.new) result (formula_text (context_of scope.entry) rgce.now) }
+        ensures { Gives (λ u. self.new) result (formula_text (scope_context scope.entry) rgce.now) }
     {
         match write_formula(&mut self.texts, &mut self.text, rgce, scope) {
             Ok(()) => Ok(()),

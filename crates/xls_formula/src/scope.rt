@@ -3,7 +3,7 @@
 ghost use Rattle.std.specs.Prelude.{◌≡◌, slice_get};
 ghost use Rattle.std.specs.Str.{chars};
 ghost use Rattle.xls_formula.specs.Context.{name_text, numbered_sheet, sheet_text};
-ghost use Rattle.xls_formula.specs.Holding.{context_of};
+ghost use Rattle.xls_formula.specs.Holding.{scope_context};
 
 use crate::functions::FunctionTable;
 use crate::names::Names;
@@ -38,7 +38,7 @@ pub fn sheet_of_reference<'a>(sheets: &'a Strings, refs: &Refs, index: usize) ->
 
 /// The same of an index in a token.
 pub(crate) fn sheet_name<'a>(scope: Scope<'a>, index: u16) -> &'a str
-    ensures { chars result.now ≡ sheet_text (context_of scope.entry) index }
+    ensures { chars result.now ≡ sheet_text (scope_context scope.entry) index }
 {
     sheet_of_reference(scope.sheets, scope.refs, usize::from(index))
 }
@@ -46,7 +46,7 @@ pub(crate) fn sheet_name<'a>(scope: Scope<'a>, index: u16) -> &'a str
 /// The name of an index, which counts from 1, and `#REF!` where none has it.
 #[tactic(auto, unfolding(std::specs::Prelude::chars))]
 pub(crate) fn defined_name<'a>(scope: Scope<'a>, index: u32) -> &'a str
-    ensures { chars result.now ≡ name_text (context_of scope.entry) index }
+    ensures { chars result.now ≡ name_text (scope_context scope.entry) index }
 {
     if index == 0 {
         return "#REF!";

@@ -11,7 +11,7 @@ ghost use Rattle.xls_formula.specs.Effects.{str_text};
 ghost use Rattle.xls_formula.specs.Holding.{lent_text, tree_of};
 ghost use Rattle.xls_formula.specs.Tree.{area_text, corner_text, dollar, on_sheet, render};
 ghost use Rattle.xls_data.specs.Errors.{error_text};
-ghost use Rattle.xls_formula.specs.Words.{bool_text, err_text, operator_text, space_mark};
+ghost use Rattle.xls_formula.specs.Words.{bool_word, err_text, operator_text, space_mark};
 
 use std::alloc::AllocError;
 use std::str::from_utf8;
@@ -80,7 +80,7 @@ pub(crate) fn operator_text(operator: Operator) -> &'static str
 /// A truth value.
 #[tactic(auto, unfolding(std::specs::Prelude::chars))]
 pub(crate) fn bool_text(truth: bool) -> &'static str
-    ensures { chars result.now ≡ bool_text truth }
+    ensures { chars result.now ≡ bool_word truth }
 {
     if truth { "TRUE" } else { "FALSE" }
 }

@@ -8,8 +8,8 @@ use Rattle.std.specs.Borrow.{Bor}
 use Rattle.xls_formula.specs.Functions.{Function}
 
 -- a name and a count as the code has them
-abbrev pub function_of : Bor (List ℕ) × ℕ → Function
-function_of entry = (chars entry.0.now, entry.1)
+abbrev pub table_function : Bor (List ℕ) × ℕ → Function
+table_function entry = (chars entry.0.now, entry.1)
 
 -- the functions from index 72 to 380
 abbrev pub from_index_72 : List Function

@@ -2,7 +2,7 @@
 
 ghost use Rattle.std.specs.Prelude.{◌≡◌, ◌++◌, map, IfOk, OnOk, OnErr};
 ghost use Rattle.xls_formula.specs.Functions.{shipped};
-ghost use Rattle.xls_functions.specs.Table.{function_of, from_index_72};
+ghost use Rattle.xls_functions.specs.Table.{table_function, from_index_72};
 
 use crate::table::FUNCTIONS;
 use std::alloc::{AllocError, Global};
@@ -10,7 +10,7 @@ use xls_formula::FunctionTable;
 
 /// Pushes these functions in their order.
 fn push_all(table: &mut FunctionTable, functions: &[(&str, u8)]) -> Result<(), AllocError>
-    ensures { OnOk result (table.new ≡ table.old ++ map function_of functions.now) }
+    ensures { OnOk result (table.new ≡ table.old ++ map table_function functions.now) }
 {
     for (name, count) in functions {
         table.push(name, *count)?;

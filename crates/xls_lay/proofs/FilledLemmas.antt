@@ -7,7 +7,7 @@ use Rattle.xls_layouts.specs.LaidStrings.{marks_of_string}
 use Rattle.xls_layouts.specs.Canonical.{passes, fill_from, unit_size, used_after, canonical_string, is_narrow}
 use Rattle.xls_lay.specs.Writing.{saturated}
 use Rattle.xls_lay.specs.Cutting.{marks_size}
-use Rattle.xls_lay.specs.Filling.{IsFilled, Fills, Takes}
+use Rattle.xls_lay.specs.Filling.{IsFilled, Fills, TakesMarks}
 use Rattle.xls_lay.specs.declared.fill.Fill.{Fill}
 use Rattle.xls_lay.proofs.FillLemmas.{fill-append, size-append, saturated-add}
 use Rattle.xls_lay.proofs.CutLemmas.{unit_marks, units_marks, marks_next, fill_unit, size_unit, next_is, head_marks, fill_head, size_head, string_marks}
@@ -27,7 +27,7 @@ pub fills_same : (a : Fill) → a.size < 2 ^ 64 → IsFilled a → Fills a [] a
 fills_same a small room = record { used = refl; size = omega arith; room = room }
 
 -- a unit
-pub fills_unit : (a b : Fill) (wide : Bool) (u : ℕ) → Takes a 1 (unit_size wide) b → Fills a (unit_marks wide a.used u) b
+pub fills_unit : (a b : Fill) (wide : Bool) (u : ℕ) → TakesMarks a 1 (unit_size wide) b → Fills a (unit_marks wide a.used u) b
 fills_unit a b wide u h = record {
   used = h.used ∙ sym (fill_unit wide a.used u);
   size = h.size ∙ ap (λ (n : ℕ). saturated (a.size + n)) (sym (size_unit wide a.used u));
@@ -35,7 +35,7 @@ fills_unit a b wide u h = record {
 }
 
 -- a head
-pub fills_head : (a b : Fill) (wide : Bool) (count : ℕ) → Takes a 0 3 b → Fills a (head_marks (passes a.used 3) wide count) b
+pub fills_head : (a b : Fill) (wide : Bool) (count : ℕ) → TakesMarks a 0 3 b → Fills a (head_marks (passes a.used 3) wide count) b
 fills_head a b wide count h = record {
   used = h.used ∙ sym (fill_head (passes a.used 3) wide a.used count);
   size = h.size ∙ ap (λ (n : ℕ). saturated (a.size + n)) (sym (size_head (passes a.used 3) wide count));
@@ -54,7 +54,7 @@ pub adding_none : (old : Fill) (wide : Bool) (units : List ℕ) → old.size < 2
 adding_none old wide units small room = record { ms = []; added = fills_same old small room; whole = refl }
 
 pub adding_more : (old now new : Fill) (wide : Bool) (units : List ℕ) (i : ℕ) → i < length units
-    → Adding old now wide units i → Takes now 1 (unit_size wide) new → Adding old new wide units (i + 1)
+    → Adding old now wide units i → TakesMarks now 1 (unit_size wide) new → Adding old new wide units (i + 1)
 adding_more old now new wide units i lt h t =
     let u = get_or units i 0 in
     let um = unit_marks wide now.used u in
@@ -79,7 +79,7 @@ adding_all old now wide units i le h =
 
 -- ---- a string
 
-pub fills_string : (old middle new : Fill) (us : List ℕ) (narrow : Bool) → narrow ≡ is_narrow us → Takes old 0 3 middle
+pub fills_string : (old middle new : Fill) (us : List ℕ) (narrow : Bool) → narrow ≡ is_narrow us → TakesMarks old 0 3 middle
     → Fills middle (units_marks (not narrow) middle.used us) new → Fills old (marks_of_string (canonical_string old.used us)) new
 fills_string old middle new us narrow e t f =
     let head = head_marks (passes old.used 3) (not (is_narrow us)) (length us) in

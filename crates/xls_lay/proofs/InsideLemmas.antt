@@ -3,9 +3,9 @@ use Rattle.std.proofs.Common.{◌≡◌, ℕ, suc, ◌+◌, ◌*◌, ◌<◌, �
 use Rattle.std.specs.List.{flat_map}
 use Rattle.std.proofs.Math.Seq.{drop-cons, take-length}
 use Rattle.std.proofs.lemmas.List.{append-nil, drop_all, length-append, length-take-le, length-drop, take-append-le, drop-append-le}
-use Rattle.xls_stream.specs.Stream.{enc}
+use Rattle.xls_stream.specs.Stream.{record_bytes}
 use Rattle.xls_stream.specs.Listing.{Kept}
-use Rattle.xls_lines.specs.Gathering.{Gathers, Stops}
+use Rattle.xls_lines.specs.Gathering.{GathersText, Stops}
 use Rattle.xls_lines.specs.SinkState.{SinkState}
 use Rattle.xls_lines.specs.declared.stop.Stop.{Stop}
 use Rattle.xls_lines.proofs.GatherLemmas.{gathers-as, gathers-nothing, gathers-then, stops-as, stops-more, stops-then}
@@ -49,7 +49,7 @@ records_size (h ∷ hs) bytes e =
     let body = length-take-le h.size bytes le in
     let rest : sizes_sum hs ≡ length (drop h.size bytes) = omega (arith, e, left) in
     let others = records_size hs (drop h.size bytes) rest in
-    let both = length-append (enc h.typ (take h.size bytes)) (flat_map kept_bytes (records_of hs (drop h.size bytes))) in
+    let both = length-append (record_bytes h.typ (take h.size bytes)) (flat_map kept_bytes (records_of hs (drop h.size bytes))) in
     omega (arith, le, left, body, others, both)
 
 -- some records are written, and the others are still to come
@@ -74,7 +74,7 @@ module _ (old out : List ℕ) (heads : List RecordHead) (bytes rest : List ℕ) 
       omega (arith, e)
 
   pub kept_more : (new : List ℕ) (h : RecordHead) → i < length heads → get_or heads i h ≡ h → PutsKept old out heads bytes rest i
-      → new ≡ out ++ enc h.typ (take h.size rest) → PutsKept old new heads bytes (drop h.size rest) (i + 1)
+      → new ≡ out ++ record_bytes h.typ (take h.size rest) → PutsKept old new heads bytes (drop h.size rest) (i + 1)
   kept_more new h lt here p e =
       let sizes = rw (next_head h lt here) at p.sizes in
       let le : h.size ≤ length rest = omega (arith, sizes) in
@@ -82,7 +82,7 @@ module _ (old out : List ℕ) (heads : List RecordHead) (bytes rest : List ℕ) 
       record {
         whole =
             ap (λ (x : List ℕ). x ++ others) e
-            ∙ append_assoc out (enc h.typ (take h.size rest)) others
+            ∙ append_assoc out (record_bytes h.typ (take h.size rest)) others
             ∙ ap (λ (hs : List RecordHead). out ++ flat_map kept_bytes (records_of hs rest)) (sym (next_head h lt here))
             ∙ p.whole;
         sizes = omega (arith, sizes, length-drop h.size rest);
@@ -97,7 +97,7 @@ module _ (old out : List ℕ) (heads : List RecordHead) (bytes rest : List ℕ) 
 -- some records are put, and the others are still to come
 pub record KeptOn (a : SinkState) (g : List ℕ) (b : SinkState) (h : List ℕ) (heads : List RecordHead) (bytes rest : List ℕ) (i : ℕ) : Type 0 where
   pub text : List ℕ
-  pub gathers : Gathers a g b h text
+  pub gathers : GathersText a g b h text
   pub put : PutsKept [] text heads bytes rest i
 
 pub kept_on_none : (a : SinkState) (g : List ℕ) (heads : List RecordHead) (bytes : List ℕ) → sizes_sum heads ≡ length bytes
@@ -108,20 +108,20 @@ module _ {a b : SinkState} {g k : List ℕ} (heads : List RecordHead) (bytes res
   pub kept_on_within : h.size ≤ length rest
   kept_on_within = kept_within [] so.text heads bytes rest i h lt here so.put
 
-  pub kept_on_more : {c : SinkState} {m : List ℕ} → Gathers b k c m (enc h.typ (take h.size rest)) → KeptOn a g c m heads bytes (drop h.size rest) (i + 1)
+  pub kept_on_more : {c : SinkState} {m : List ℕ} → GathersText b k c m (record_bytes h.typ (take h.size rest)) → KeptOn a g c m heads bytes (drop h.size rest) (i + 1)
   kept_on_more more = record {
-    text = so.text ++ enc h.typ (take h.size rest);
+    text = so.text ++ record_bytes h.typ (take h.size rest);
     gathers = gathers-then so.gathers more;
-    put = kept_more [] so.text heads bytes rest i (so.text ++ enc h.typ (take h.size rest)) h lt here so.put refl;
+    put = kept_more [] so.text heads bytes rest i (so.text ++ record_bytes h.typ (take h.size rest)) h lt here so.put refl;
   }
 
-  pub kept_on_stop : {c : SinkState} {e : Stop} → Stops b k c (enc h.typ (take h.size rest)) e → Stops a g c (flat_map kept_bytes (records_of heads bytes)) e
+  pub kept_on_stop : {c : SinkState} {e : Stop} → Stops b k c (record_bytes h.typ (take h.size rest)) e → Stops a g c (flat_map kept_bytes (records_of heads bytes)) e
   kept_on_stop stops =
-      let next = kept_more [] so.text heads bytes rest i (so.text ++ enc h.typ (take h.size rest)) h lt here so.put refl in
+      let next = kept_more [] so.text heads bytes rest i (so.text ++ record_bytes h.typ (take h.size rest)) h lt here so.put refl in
       stops-as (stops-more (flat_map kept_bytes (records_of (drop (i + 1) heads) (drop h.size rest))) (stops-then so.gathers stops)) next.whole
 
 pub kept_on_all : {a b : SinkState} {g k : List ℕ} (heads : List RecordHead) (bytes rest : List ℕ) (i : ℕ) → length heads ≤ i
-    → KeptOn a g b k heads bytes rest i → Gathers a g b k (flat_map kept_bytes (records_of heads bytes))
+    → KeptOn a g b k heads bytes rest i → GathersText a g b k (flat_map kept_bytes (records_of heads bytes))
 kept_on_all heads bytes rest i le so = gathers-as so.gathers (kept_all [] so.text heads bytes rest i le so.put)
 
 -- ---- strings

@@ -1,6 +1,6 @@
 -- Canonical bytes carry their list, and are equal where the lists are.
 use Rattle.std.proofs.Common.{◌≡◌, ◌↔◌, ℕ, ◌^◌, ◌<◌, ◌≤◌, List, length, Option, Some, Result, ap, subst, sym, ◌∙◌}
-use Rattle.xls_stream.specs.Listing.{Entry, Carries}
+use Rattle.xls_stream.specs.Listing.{ListEntry, Carries}
 use Rattle.xls_stream.specs.Walks.{IsBytes}
 use Rattle.xls_stream.proofs.HoldingLemmas.{one_list}
 use Rattle.xls_record.specs.declared.error.XlsError.{XlsError}
@@ -17,42 +17,42 @@ use Rattle.xls_open.specs.Opening.{IsOpened, Opens}
 use Rattle.xls_open.specs.Laws.{OpensAs}
 use Rattle.xls_open.proofs.LaidLemmas.{laid_opens, laid_sound}
 
-pub canonical_carries : (list : List Entry) → Fits list → length (lay (canonical list)) < 2 ^ 32
+pub canonical_carries : (list : List ListEntry) → Fits list → length (lay (canonical list)) < 2 ^ 32
     → Carries (lay (canonical list)) list
 canonical_carries list h fits =
     let laid = canonical_layout list h fits in
-    subst (λ (x : List Entry). Carries (lay (canonical list)) x) laid.1 (laid_stream (canonical list) laid.0)
+    subst (λ (x : List ListEntry). Carries (lay (canonical list)) x) laid.1 (laid_stream (canonical list) laid.0)
 
 -- and no other
-pub carried_alone : (list other : List Entry) → Fits list → length (lay (canonical list)) < 2 ^ 32
+pub carried_alone : (list other : List ListEntry) → Fits list → length (lay (canonical list)) < 2 ^ 32
     → Carries (lay (canonical list)) other → other ≡ list
 carried_alone list other h fits c =
     let laid = canonical_layout list h fits in
     laid_alone (canonical list) laid.0 other c ∙ laid.1
 
-pub same_lists : (list other : List Entry) → Fits list → Fits other
+pub same_lists : (list other : List ListEntry) → Fits list → Fits other
     → length (lay (canonical list)) < 2 ^ 32 → length (lay (canonical other)) < 2 ^ 32
     → (list ≡ other) ↔ (lay (canonical list) ≡ lay (canonical other))
 same_lists list other h k f g = (
-  λ e. ap (λ (x : List Entry). lay (canonical x)) e,
+  λ e. ap (λ (x : List ListEntry). lay (canonical x)) e,
   λ e. carried_alone other list k g (subst (λ (x : List ℕ). Carries x list) e (canonical_carries list h f)),
 )
 
-pub written_again : (list other : List Entry) → Fits list → length (lay (canonical list)) < 2 ^ 32
+pub written_again : (list other : List ListEntry) → Fits list → length (lay (canonical list)) < 2 ^ 32
     → Carries (lay (canonical list)) other → lay (canonical other) ≡ lay (canonical list)
-written_again list other h fits c = ap (λ (x : List Entry). lay (canonical x)) (carried_alone list other h fits c)
+written_again list other h fits c = ap (λ (x : List ListEntry). lay (canonical x)) (carried_alone list other h fits c)
 
-pub canonical_opens : (options : XlsOptions) (list : List Entry) → Fits list → IsFull (rules_of options) list
+pub canonical_opens : (options : XlsOptions) (list : List ListEntry) → Fits list → IsFull (rules_of options) list
     → length (lay (canonical list)) < 2 ^ 32 → length (lay (canonical list)) ≤ options.max_bytes
     → (after : Option (List ℕ)) (before now : ℕ) (result : Result Workbook XlsError)
     → Opens options (Some (lay (canonical list))) after before now result
     → OpensAs options list after before now result
 canonical_opens options list h full fits within after before now result opens =
     let laid = canonical_layout list h fits in
-    subst (λ (x : List Entry). OpensAs options x after before now result) laid.1
+    subst (λ (x : List ListEntry). OpensAs options x after before now result) laid.1
     (laid_opens options (canonical list) laid.0 (subst (IsFull (rules_of options)) (sym laid.1) full) within after before now result opens)
 
-pub opens_again : (options : XlsOptions) (book : Workbook) (bytes : List ℕ) (list : List Entry)
+pub opens_again : (options : XlsOptions) (book : Workbook) (bytes : List ℕ) (list : List ListEntry)
     → IsBytes bytes → Carries bytes list → Fits list
     → length (lay (canonical list)) < 2 ^ 32 → length (lay (canonical list)) ≤ options.max_bytes
     → IsOpened options book bytes → IsOpened options book (lay (canonical list))
@@ -68,5 +68,5 @@ opens_again options book bytes list are carries h fits within opened =
       carries = canonical_carries list h fits;
       kept = opened.kept;
       every = λ others c.
-          subst (λ (x : List Entry). IsReading rules x (view_of book)) (sym (carried_alone list others h fits c)) (opened.every list carries);
+          subst (λ (x : List ListEntry). IsReading rules x (view_of book)) (sym (carried_alone list others h fits c)) (opened.every list carries);
     }

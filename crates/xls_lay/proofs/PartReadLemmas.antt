@@ -4,23 +4,23 @@ use Rattle.std.proofs.lemmas.List.{append-nil, map-append}
 use Rattle.xls_stream.specs.Stream.{Group, Run, IsBody}
 use Rattle.xls_stream.specs.Counting.{From, found_from}
 use Rattle.xls_stream.specs.Walks.{IsBytes}
-use Rattle.xls_stream.specs.Listing.{Kept, kept_group, kept_of, Entry, sheet_entry, IsPart}
+use Rattle.xls_stream.specs.Listing.{Kept, kept_group, kept_of, ListEntry, sheet_entry, IsPart}
 use Rattle.xls_stream.specs.declared.part.Part.{Part}
 use Rattle.xls_stream.proofs.HoldingLemmas.{one_part}
 use Rattle.xls_record.specs.declared.error.XlsError.{XlsError}
 use Rattle.xls_biff.specs.Outer.{Keeps, Over, CutShort}
 use Rattle.xls_open.proofs.PartLemmas.{part_from, keeps_from, over_from, cut_from, keeps_bytes}
 use Rattle.xls_lay.specs.Pushing.{EndsInSheet, AddsKept}
-use Rattle.xls_lay.proofs.PushLemmas.{same_front, same_last}
+use Rattle.xls_lay.proofs.PushLemmas.{same_prefix, same_last}
 
 -- the sheet that a list ends in has these records more
-abbrev pub Grown : List Entry → List Kept → List Entry → Type 0
+abbrev pub Grown : List ListEntry → List Kept → List ListEntry → Type 0
 Grown old more new =
-    (front : List Entry) (state kind : ℕ) (name : List ℕ) (kept : List Kept)
-    → old ≡ front ++ sheet_entry state kind name kept ∷ [] → new ≡ front ++ sheet_entry state kind name (kept ++ more) ∷ []
+    (prefix : List ListEntry) (state kind : ℕ) (name : List ℕ) (kept : List Kept)
+    → old ≡ prefix ++ sheet_entry state kind name kept ∷ [] → new ≡ prefix ++ sheet_entry state kind name (kept ++ more) ∷ []
 
 -- the sheet has the records so far, and these bytes are left
-pub record PartSoFar (old now : List Entry) (part rest : List ℕ) (depth : ℕ) : Type 0 where
+pub record PartSoFar (old now : List ListEntry) (part rest : List ℕ) (depth : ℕ) : Type 0 where
   pub groups : List Group
   pub joins : (more : List Group) (cut : Option Part) → From (found_from depth) rest more cut
       → From (found_from 0) part (groups ++ more) cut
@@ -29,24 +29,24 @@ pub record PartSoFar (old now : List Entry) (part rest : List ℕ) (depth : ℕ)
   pub ends : EndsInSheet now
   pub grown : Grown old (kept_of groups) now
 
-pub part_none : (old : List Entry) (part : List ℕ) → EndsInSheet old → IsBytes part → PartSoFar old old part part 0
+pub part_none : (old : List ListEntry) (part : List ℕ) → EndsInSheet old → IsBytes part → PartSoFar old old part part 0
 part_none old part s fits = record {
   groups = [];
   joins = λ more cut f. f;
   part_fits = fits;
   fits = fits;
   ends = s;
-  grown = λ front state kind name kept e. e ∙ ap (λ (ks : List Kept). front ++ sheet_entry state kind name ks ∷ []) (sym (append-nil kept));
+  grown = λ prefix state kind name kept e. e ∙ ap (λ (ks : List Kept). prefix ++ sheet_entry state kind name ks ∷ []) (sym (append-nil kept));
 }
 
-grown_more : (old now new : List Entry) (groups : List Group) (g : Group) → Grown old (kept_of groups) now → AddsKept now new g.typ g.body
+grown_more : (old now new : List ListEntry) (groups : List Group) (g : Group) → Grown old (kept_of groups) now → AddsKept now new g.typ g.body
     → Grown old (kept_of (groups ++ g ∷ [])) new
-grown_more old now new groups g h a = λ front state kind name kept e.
-    let same : a.front ++ sheet_entry a.state a.kind a.name a.kept ∷ [] ≡ front ++ sheet_entry state kind name (kept ++ kept_of groups) ∷ [] =
-    sym a.before ∙ h front state kind name kept e in
-    let f : a.front ≡ front = same_front a.front front (sheet_entry a.state a.kind a.name a.kept) (sheet_entry state kind name (kept ++ kept_of groups)) same in
+grown_more old now new groups g h a = λ prefix state kind name kept e.
+    let same : a.prefix ++ sheet_entry a.state a.kind a.name a.kept ∷ [] ≡ prefix ++ sheet_entry state kind name (kept ++ kept_of groups) ∷ [] =
+    sym a.before ∙ h prefix state kind name kept e in
+    let f : a.prefix ≡ prefix = same_prefix a.prefix prefix (sheet_entry a.state a.kind a.name a.kept) (sheet_entry state kind name (kept ++ kept_of groups)) same in
     let s : sheet_entry a.state a.kind a.name a.kept ≡ sheet_entry state kind name (kept ++ kept_of groups) =
-    same_last a.front front (sheet_entry a.state a.kind a.name a.kept) (sheet_entry state kind name (kept ++ kept_of groups)) same in
+    same_last a.prefix prefix (sheet_entry a.state a.kind a.name a.kept) (sheet_entry state kind name (kept ++ kept_of groups)) same in
     let state_is : a.state ≡ state = cc in
     let kind_is : a.kind ≡ kind = cc in
     let name_is : a.name ≡ name = cc in
@@ -56,14 +56,14 @@ grown_more old now new groups g h a = λ front state kind name kept e.
     ap (λ (x : List Kept). x ++ one ∷ []) kept_is ∙ append_assoc kept (kept_of groups) (one ∷ [])
     ∙ ap (λ (x : List Kept). kept ++ x) (sym (map-append kept_group groups (g ∷ []))) in
     a.after
-    ∙ ap (λ (x : List Entry). x ++ sheet_entry a.state a.kind a.name (a.kept ++ one ∷ []) ∷ []) f
-    ∙ ap (λ (x : ℕ). front ++ sheet_entry x a.kind a.name (a.kept ++ one ∷ []) ∷ []) state_is
-    ∙ ap (λ (x : ℕ). front ++ sheet_entry state x a.name (a.kept ++ one ∷ []) ∷ []) kind_is
-    ∙ ap (λ (x : List ℕ). front ++ sheet_entry state kind x (a.kept ++ one ∷ []) ∷ []) name_is
-    ∙ ap (λ (x : List Kept). front ++ sheet_entry state kind name x ∷ []) all
+    ∙ ap (λ (x : List ListEntry). x ++ sheet_entry a.state a.kind a.name (a.kept ++ one ∷ []) ∷ []) f
+    ∙ ap (λ (x : ℕ). prefix ++ sheet_entry x a.kind a.name (a.kept ++ one ∷ []) ∷ []) state_is
+    ∙ ap (λ (x : ℕ). prefix ++ sheet_entry state x a.name (a.kept ++ one ∷ []) ∷ []) kind_is
+    ∙ ap (λ (x : List ℕ). prefix ++ sheet_entry state kind x (a.kept ++ one ∷ []) ∷ []) name_is
+    ∙ ap (λ (x : List Kept). prefix ++ sheet_entry state kind name x ∷ []) all
 
-module _ (old now : List Entry) (part rest : List ℕ) (depth : ℕ) (p : PartSoFar old now part rest depth) where
-  pub part_more : (after : List ℕ) (deeper : ℕ) (g : Group) (new : List Entry) → Keeps rest depth g after deeper → AddsKept now new g.typ g.body
+module _ (old now : List ListEntry) (part rest : List ℕ) (depth : ℕ) (p : PartSoFar old now part rest depth) where
+  pub part_more : (after : List ℕ) (deeper : ℕ) (g : Group) (new : List ListEntry) → Keeps rest depth g after deeper → AddsKept now new g.typ g.body
       → PartSoFar old new part after deeper
   part_more after deeper g new k a = record {
     groups = p.groups ++ g ∷ [];
@@ -72,7 +72,7 @@ module _ (old now : List Entry) (part rest : List ℕ) (depth : ℕ) (p : PartSo
         (p.joins (g ∷ more) cut (keeps_from rest depth g after deeper more cut k f));
     part_fits = p.part_fits;
     fits = keeps_bytes rest depth g after deeper k p.fits;
-    ends = record { front = a.front; state = a.state; kind = a.kind; name = a.name; kept = a.kept ++ record { typ = g.typ; body = g.body } ∷ []; whole = a.after };
+    ends = record { prefix = a.prefix; state = a.state; kind = a.kind; name = a.name; kept = a.kept ++ record { typ = g.typ; body = g.body } ∷ []; whole = a.after };
     grown = grown_more old now new p.groups g p.grown a;
   }
 

@@ -1,6 +1,6 @@
 -- Bytes that are appended, and passed on.
 use Rattle.std.proofs.Common.{◌≡◌, ℕ, List, [], ◌++◌, Result, Ok, Err}
-use Rattle.xls_lines.specs.Gathering.{Gathers, Puts}
+use Rattle.xls_lines.specs.Gathering.{GathersText, Puts}
 use Rattle.xls_lines.specs.SinkState.{SinkState}
 use Rattle.xls_lines.specs.declared.stop.Stop.{Stop}
 use Rattle.xls_lines.proofs.GatherLemmas.{gathers-added, gathers-after, gathers-then, stops-after, stops-then}
@@ -13,6 +13,6 @@ added_passed a g h text b k (Err d) e p = stops-after (gathers-added a g h text 
 
 -- a text was put, and then another one was put, or not
 pub put_after : {X : Type 0} {a b : SinkState} {g h xs : List ℕ} (c : SinkState) (k ys : List ℕ) (r : Result X Stop)
-    → Gathers a g b h xs → Puts b h c k ys r → Puts a g c k (xs ++ ys) r
+    → GathersText a g b h xs → Puts b h c k ys r → Puts a g c k (xs ++ ys) r
 put_after c k ys (Ok x) p q = gathers-then p q
 put_after c k ys (Err d) p q = stops-then p q

@@ -2,7 +2,7 @@
 use Rattle.std.proofs.Common.{◌≡◌, ℕ, suc, ◌+◌, ◌<◌, ◌≤◌, ◌^◌, Bool, true, false, List, [], ◌∷◌, ◌++◌, length, map, drop, get_or, Some, None, refl, sym, ap, subst, ◌∙◌, append_assoc, arith, Result, Ok, Err}
 use Rattle.std.specs.Prelude.{not}
 use Rattle.std.specs.Result.{IsErrAnd}
-use Rattle.xls_lines.specs.Gathering.{Gathers, Stops}
+use Rattle.xls_lines.specs.Gathering.{GathersText, Stops}
 use Rattle.xls_lines.specs.Gathering as gathering
 use Rattle.xls_lines.specs.SinkState.{SinkState}
 use Rattle.xls_lines.specs.declared.stop.Stop.{Stop}
@@ -10,13 +10,13 @@ use Rattle.xls_lines.specs.declared.stop.Stop.TheVariants.{Memory}
 use Rattle.xls_lines.proofs.GatherLemmas.{gathers-added, gathers-after, gathers-nothing, gathers-then, stops-after, stops-as, stops-memory-now, stops-more, stops-then}
 use Rattle.std.specs.List.{flat_map, AllByRecursion}
 use Rattle.std.proofs.lemmas.List.{append-nil, drop_all, length-append}
-use Rattle.xls_stream.specs.Stream.{enc}
-use Rattle.xls_stream.specs.StringTable.{Mark, front_of}
+use Rattle.xls_stream.specs.Stream.{record_bytes}
+use Rattle.xls_stream.specs.StringTable.{Mark, prefix_of}
 use Rattle.xls_layouts.specs.LaidStrings.{put, wide_bit, unit_bytes, marks_of_break, marks_of_steps, pieces_of, marks_of_string, FitsWidth}
 use Rattle.xls_layouts.specs.Canonical.{passes, cut_if, fill_from, unit_size, used_after, canonical_string, is_narrow, IsUnit}
 use Rattle.xls_layouts.proofs.CanonicalTableLemmas.{fit_width}
 use Rattle.xls_lay.specs.Cutting.{rest_bytes}
-use Rattle.xls_lay.specs.Putting.{Moves, Puts, PutsOn, PutsOrStops, StopsOn, cut_marks}
+use Rattle.xls_lay.specs.Putting.{Moves, PutsMarks, PutsOn, PutsOrStops, StopsOn, cut_marks}
 use Rattle.xls_lay.specs.declared.table.TableWriter.{TableWriter}
 use Rattle.xls_lay.proofs.FillLemmas.{fill-append, below, not_below}
 use Rattle.xls_lay.proofs.CutLemmas.{unit_marks, units_marks, marks_next, fill_unit, next_is, head_marks, fill_head, string_marks}
@@ -30,10 +30,10 @@ moves_both typ typ' typ'' a b c ms ns xs ys h k = record {
   used = k.used ∙ ap (λ (n : ℕ). fill_from n ns) h.used ∙ sym (fill-append (length a) ms ns);
 }
 
-pub puts_same : (p : TableWriter) → Puts p [] p
+pub puts_same : (p : TableWriter) → PutsMarks p [] p
 puts_same p = record { bytes = []; done = sym (append-nil p.done.items); moves = record { whole = λ more. refl; used = refl } }
 
-pub puts_both : (a b c : TableWriter) (ms ns : List Mark) → Puts a ms b → Puts b ns c → Puts a (ms ++ ns) c
+pub puts_both : (a b c : TableWriter) (ms ns : List Mark) → PutsMarks a ms b → PutsMarks b ns c → PutsMarks a (ms ++ ns) c
 puts_both a b c ms ns h k = record {
   bytes = h.bytes ++ k.bytes;
   done = k.done ∙ ap (λ (x : List ℕ). x ++ k.bytes) h.done ∙ append_assoc a.done.items h.bytes k.bytes;
@@ -53,7 +53,7 @@ on_both a b c ms ns h k = record {
 }
 
 -- marks were put, and then what was done was passed on
-pub on_passed : {s t : SinkState} (a b c : TableWriter) (ms : List Mark) → Puts a ms b → Gathers s b.done.items t c.done.items []
+pub on_passed : {s t : SinkState} (a b c : TableWriter) (ms : List Mark) → PutsMarks a ms b → GathersText s b.done.items t c.done.items []
     → c.typ ≡ b.typ → c.body.items ≡ b.body.items → PutsOn s a ms t c
 on_passed {s} {t} a b c ms h passed typ body = record {
   bytes = h.bytes;
@@ -61,7 +61,7 @@ on_passed {s} {t} a b c ms h passed typ body = record {
   moves = rw (typ, body) h.moves;
 }
 
-pub on_unpassed : {s t : SinkState} {e : Stop} (a b : TableWriter) (ms : List Mark) → Puts a ms b → Stops s b.done.items t [] e
+pub on_unpassed : {s t : SinkState} {e : Stop} (a b : TableWriter) (ms : List Mark) → PutsMarks a ms b → Stops s b.done.items t [] e
     → StopsOn s a ms t e
 on_unpassed {s} {t} {e} a b ms h stops = λ more.
     stops-as (stops-more (rest_bytes b.typ b.body.items more) (stops-after (gathers-added s a.done.items b.done.items h.bytes h.done) stops))
@@ -90,16 +90,16 @@ on_stop s a ms t b {e} (Err d) is p = subst (StopsOn s a ms t) (sym is) p
 
 -- marks were put, and then what was done was passed on, or not
 pub on_pass : {X : Type 0} (s : SinkState) (a b : TableWriter) (ms : List Mark) (t : SinkState) (c : TableWriter) (r : Result X Stop)
-    → Puts a ms b → gathering.Puts s b.done.items t c.done.items [] r → c.typ ≡ b.typ → c.body.items ≡ b.body.items
+    → PutsMarks a ms b → gathering.Puts s b.done.items t c.done.items [] r → c.typ ≡ b.typ → c.body.items ≡ b.body.items
     → PutsOrStops s a ms t c r
 on_pass s a b ms t c (Ok x) h p typ body = on_passed a b c ms h p typ body
 on_pass s a b ms t c (Err d) h p typ body = on_unpassed a b ms h p
 
 -- ---- bytes, and a mark
 
-fronts : (bs : List ℕ) (more : List Mark) → front_of (map Some bs ++ more) ≡ bs ++ front_of more
-fronts [] more = refl
-fronts (b ∷ bs) more = ap (λ (x : List ℕ). b ∷ x) (fronts bs more)
+prefixes : (bs : List ℕ) (more : List Mark) → prefix_of (map Some bs ++ more) ≡ bs ++ prefix_of more
+prefixes [] more = refl
+prefixes (b ∷ bs) more = ap (λ (x : List ℕ). b ∷ x) (prefixes bs more)
 
 others : (bs : List ℕ) (more : List Mark) → pieces_of (map Some bs ++ more) ≡ pieces_of more
 others [] more = refl
@@ -110,7 +110,7 @@ fill-bytes used [] = omega arith
 fill-bytes used (b ∷ bs) = fill-bytes (suc used) bs ∙ omega arith
 
 pub puts_bytes : (a b : TableWriter) (bytes : List ℕ) → b.done.items ≡ a.done.items → b.typ ≡ a.typ
-    → b.body.items ≡ a.body.items ++ bytes → Puts a (map Some bytes) b
+    → b.body.items ≡ a.body.items ++ bytes → PutsMarks a (map Some bytes) b
 puts_bytes a b bytes d t e = record {
   bytes = [];
   done = d ∙ sym (append-nil a.done.items);
@@ -118,23 +118,23 @@ puts_bytes a b bytes d t e = record {
     whole = λ more.
         ap (λ (n : ℕ). rest_bytes n b.body.items more) t
         ∙ ap (λ (x : List ℕ). rest_bytes a.typ x more) e
-        ∙ ap (λ (x : List ℕ). enc a.typ x ++ flat_map (enc 60) (pieces_of more)) (append_assoc a.body.items bytes (front_of more))
-        ∙ ap (λ (x : List ℕ). enc a.typ (a.body.items ++ x) ++ flat_map (enc 60) (pieces_of more)) (sym (fronts bytes more))
-        ∙ ap (λ (x : List (List ℕ)). enc a.typ (a.body.items ++ front_of (map Some bytes ++ more)) ++ flat_map (enc 60) x) (sym (others bytes more));
+        ∙ ap (λ (x : List ℕ). record_bytes a.typ x ++ flat_map (record_bytes 60) (pieces_of more)) (append_assoc a.body.items bytes (prefix_of more))
+        ∙ ap (λ (x : List ℕ). record_bytes a.typ (a.body.items ++ x) ++ flat_map (record_bytes 60) (pieces_of more)) (sym (prefixes bytes more))
+        ∙ ap (λ (x : List (List ℕ)). record_bytes a.typ (a.body.items ++ prefix_of (map Some bytes ++ more)) ++ flat_map (record_bytes 60) x) (sym (others bytes more));
     used = ap length e ∙ length-append a.body.items bytes ∙ sym (fill-bytes (length a.body.items) bytes);
   };
 }
 
-pub puts_mark : (a b : TableWriter) → b.done.items ≡ a.done.items ++ enc a.typ a.body.items → b.typ ≡ 60
-    → b.body.items ≡ [] → Puts a (None ∷ []) b
+pub puts_mark : (a b : TableWriter) → b.done.items ≡ a.done.items ++ record_bytes a.typ a.body.items → b.typ ≡ 60
+    → b.body.items ≡ [] → PutsMarks a (None ∷ []) b
 puts_mark a b d t e = record {
-  bytes = enc a.typ a.body.items;
+  bytes = record_bytes a.typ a.body.items;
   done = d;
   moves = record {
     whole = λ more.
-        ap (λ (n : ℕ). enc a.typ a.body.items ++ rest_bytes n b.body.items more) t
-        ∙ ap (λ (x : List ℕ). enc a.typ a.body.items ++ rest_bytes 60 x more) e
-        ∙ ap (λ (x : List ℕ). enc a.typ x ++ rest_bytes 60 [] more) (sym (append-nil a.body.items));
+        ap (λ (n : ℕ). record_bytes a.typ a.body.items ++ rest_bytes n b.body.items more) t
+        ∙ ap (λ (x : List ℕ). record_bytes a.typ a.body.items ++ rest_bytes 60 x more) e
+        ∙ ap (λ (x : List ℕ). record_bytes a.typ x ++ rest_bytes 60 [] more) (sym (append-nil a.body.items));
     used = ap length e;
   };
 }
@@ -143,7 +143,7 @@ puts_mark a b d t e = record {
 
 pub record PutUnits (old now : TableWriter) (wide : Bool) (units : List ℕ) (i : ℕ) : Type 0 where
   pub ms : List Mark
-  pub puts : Puts old ms now
+  pub puts : PutsMarks old ms now
   pub whole : ms ++ units_marks wide (length now.body.items) (drop i units) ≡ units_marks wide (length old.body.items) units
   pub fit : AllByRecursion (FitsWidth wide) (drop i units)
 
@@ -156,7 +156,7 @@ module _ (old now : TableWriter) (wide : Bool) (units : List ℕ) (i : ℕ) (h :
   units_fit lt = (rw (next_is units i lt) at h.fit).0
 
   pub units_more : (new : TableWriter) → i < length units
-      → Puts now (unit_marks wide (length now.body.items) (get_or units i 0)) new → PutUnits old new wide units (i + 1)
+      → PutsMarks now (unit_marks wide (length now.body.items) (get_or units i 0)) new → PutUnits old new wide units (i + 1)
   units_more new lt p =
       let used = length now.body.items in
       let u = get_or units i 0 in
@@ -174,28 +174,28 @@ module _ (old now : TableWriter) (wide : Bool) (units : List ℕ) (i : ℕ) (h :
         fit = (rw (next_is units i lt) at h.fit).1;
       }
 
-  pub units_all : length units ≤ i → Puts old (units_marks wide (length old.body.items) units) now
+  pub units_all : length units ≤ i → PutsMarks old (units_marks wide (length old.body.items) units) now
   units_all le =
       let all : h.ms ≡ units_marks wide (length old.body.items) units =
       sym (append-nil h.ms) ∙ ap (λ (x : List ℕ). h.ms ++ units_marks wide (length now.body.items) x) (sym (drop_all i units le)) ∙ h.whole in
-      subst (λ (x : List Mark). Puts old x now) all h.puts
+      subst (λ (x : List Mark). PutsMarks old x now) all h.puts
 
 -- ---- a string
 
 pub puts_string : (old middle new : TableWriter) (us : List ℕ) (narrow : Bool) → narrow ≡ is_narrow us
-    → Puts old (head_marks (passes (length old.body.items) 3) (not narrow) (length us)) middle
-    → Puts middle (units_marks (not narrow) (length middle.body.items) us) new
-    → Puts old (marks_of_string (canonical_string (length old.body.items) us)) new
+    → PutsMarks old (head_marks (passes (length old.body.items) 3) (not narrow) (length us)) middle
+    → PutsMarks middle (units_marks (not narrow) (length middle.body.items) us) new
+    → PutsMarks old (marks_of_string (canonical_string (length old.body.items) us)) new
 puts_string old middle new us narrow e t f =
     let used = length old.body.items in
     let wide = not (is_narrow us) in
     let head = head_marks (passes used 3) wide (length us) in
-    let h : Puts old head middle = subst (λ (b : Bool). Puts old (head_marks (passes used 3) (not b) (length us)) middle) e t in
+    let h : PutsMarks old head middle = subst (λ (b : Bool). PutsMarks old (head_marks (passes used 3) (not b) (length us)) middle) e t in
     let units = units_marks wide (used_after (passes used 3) 0 used 3) us in
-    let g : Puts middle units new =
-    subst (λ (n : ℕ). Puts middle (units_marks wide n us) new) (h.moves.used ∙ fill_head (passes used 3) wide used (length us))
-    (subst (λ (b : Bool). Puts middle (units_marks (not b) (length middle.body.items) us) new) e f) in
-    subst (λ (x : List Mark). Puts old x new) (sym (string_marks used us)) (puts_both old middle new head units h g)
+    let g : PutsMarks middle units new =
+    subst (λ (n : ℕ). PutsMarks middle (units_marks wide n us) new) (h.moves.used ∙ fill_head (passes used 3) wide used (length us))
+    (subst (λ (b : Bool). PutsMarks middle (units_marks (not b) (length middle.body.items) us) new) e f) in
+    subst (λ (x : List Mark). PutsMarks old x new) (sym (string_marks used us)) (puts_both old middle new head units h g)
 
 -- ---- cuts
 
@@ -206,20 +206,20 @@ within_passes used more h = not_below 8224 (used + more) h
 pub beyond_passes : (used more : ℕ) → 8224 < used + more → passes used more ≡ true
 beyond_passes used more h = below 8224 (used + more) h
 
-pub head_uncut : (a : TableWriter) → length a.body.items + 3 ≤ 8224 → Puts a (marks_of_break (passes (length a.body.items) 3)) a
-head_uncut a h = subst (λ (p : Bool). Puts a (marks_of_break p) a) (sym (within_passes (length a.body.items) 3 h)) (puts_same a)
+pub head_uncut : (a : TableWriter) → length a.body.items + 3 ≤ 8224 → PutsMarks a (marks_of_break (passes (length a.body.items) 3)) a
+head_uncut a h = subst (λ (p : Bool). PutsMarks a (marks_of_break p) a) (sym (within_passes (length a.body.items) 3 h)) (puts_same a)
 
-pub head_cut : (a b : TableWriter) → 8224 < length a.body.items + 3 → Puts a (None ∷ []) b → Puts a (marks_of_break (passes (length a.body.items) 3)) b
-head_cut a b h p = subst (λ (q : Bool). Puts a (marks_of_break q) b) (sym (beyond_passes (length a.body.items) 3 h)) p
+pub head_cut : (a b : TableWriter) → 8224 < length a.body.items + 3 → PutsMarks a (None ∷ []) b → PutsMarks a (marks_of_break (passes (length a.body.items) 3)) b
+head_cut a b h p = subst (λ (q : Bool). PutsMarks a (marks_of_break q) b) (sym (beyond_passes (length a.body.items) 3 h)) p
 
-pub unit_uncut : (a : TableWriter) (wide : Bool) → length a.body.items + unit_size wide ≤ 8224 → Puts a (cut_marks wide (length a.body.items)) a
+pub unit_uncut : (a : TableWriter) (wide : Bool) → length a.body.items + unit_size wide ≤ 8224 → PutsMarks a (cut_marks wide (length a.body.items)) a
 unit_uncut a wide h =
-    subst (λ (p : Bool). Puts a (marks_of_steps wide (cut_if p wide [])) a) (sym (within_passes (length a.body.items) (unit_size wide) h)) (puts_same a)
+    subst (λ (p : Bool). PutsMarks a (marks_of_steps wide (cut_if p wide [])) a) (sym (within_passes (length a.body.items) (unit_size wide) h)) (puts_same a)
 
-pub unit_cut : (a b c : TableWriter) (wide : Bool) → 8224 < length a.body.items + unit_size wide → Puts a (None ∷ []) b
-    → Puts b (Some (wide_bit wide) ∷ []) c → Puts a (cut_marks wide (length a.body.items)) c
+pub unit_cut : (a b c : TableWriter) (wide : Bool) → 8224 < length a.body.items + unit_size wide → PutsMarks a (None ∷ []) b
+    → PutsMarks b (Some (wide_bit wide) ∷ []) c → PutsMarks a (cut_marks wide (length a.body.items)) c
 unit_cut a b c wide h p q =
-    subst (λ (x : Bool). Puts a (marks_of_steps wide (cut_if x wide [])) c) (sym (beyond_passes (length a.body.items) (unit_size wide) h))
+    subst (λ (x : Bool). PutsMarks a (marks_of_steps wide (cut_if x wide [])) c) (sym (beyond_passes (length a.body.items) (unit_size wide) h))
     (puts_both a b c (None ∷ []) (Some (wide_bit wide) ∷ []) p q)
 
 cut_then : (p wide : Bool) (u : ℕ) → marks_of_steps wide (cut_if p wide []) ++ map Some (unit_bytes wide u) ≡ marks_of_steps wide (cut_if p wide (put u ∷ []))

@@ -2,10 +2,10 @@
 use Rattle.std.proofs.Common.{◌≡◌, ◌≢◌, ℕ, ◌+◌, ◌*◌, ◌<◌, ◌≤◌, ◌^◌, true, false, List, [], ◌∷◌, ◌++◌, length, drop, Ok, Err, Result, refl, sym, ap, subst, ◌∙◌, arith}
 use Rattle.std.specs.Prelude.{nat_lt}
 use Rattle.std.proofs.lemmas.List.{length-append, length-drop}
-use Rattle.xls_stream.specs.Stream.{Group, enc, continues, group_bytes}
+use Rattle.xls_stream.specs.Stream.{Group, record_bytes, continues, group_bytes}
 use Rattle.xls_stream.specs.Walks.{IsBytes}
 use Rattle.xls_stream.specs.StringTable.{Mark, Missing, marked, weight, next_at, Strings, Table}
-use Rattle.xls_stream.specs.Listing.{Entry, table_entry, IsShared, table_of}
+use Rattle.xls_stream.specs.Listing.{ListEntry, table_entry, IsShared, table_of}
 use Rattle.xls_stream.proofs.TableReadings.{one_reading}
 use Rattle.xls_record.specs.declared.error.XlsError.{XlsError}
 use Rattle.xls_record.specs.declared.error.XlsError.TheVariants as errors
@@ -15,12 +15,12 @@ use Rattle.xls_strings.proofs.SstLemmas.{Strings-push, next_lighter}
 use Rattle.xls_record.proofs.PieceLemmas.{weight-pieces}
 use Rattle.xls_strings.proofs.MarkLemmas.{weight-marked}
 use Rattle.xls_lay.specs.Pushing.{EndsInTable, last_count, AddsString}
-use Rattle.xls_lay.proofs.PushLemmas.{count_last, same_last, same_front}
+use Rattle.xls_lay.proofs.PushLemmas.{count_last, same_last, same_prefix}
 use Rattle.xls_lay.proofs.FillLemmas.{not_below}
 use Rattle.xls_lay.proofs.UnitLemmas.{AreSmall, marked_small, string_short}
 
 -- the table that the list ends in has the strings so far, and these marks are left
-pub record ReadSoFar (old now : List Entry) (start rest : List Mark) : Type 0 where
+pub record ReadSoFar (old now : List ListEntry) (start rest : List Mark) : Type 0 where
   pub strings : List (List ℕ)
   pub run : Strings start strings rest
   pub list : now ≡ old ++ table_entry strings ∷ []
@@ -44,12 +44,12 @@ marks_there g strings e h f =
 
 pub marks_weight : (g : Group) → weight (marked (drop 8 g.body) g.tail) ≤ length (group_bytes g)
 marks_weight g =
-    omega (arith, weight-marked (drop 8 g.body) g.tail, weight-pieces g.tail, length-drop 8 g.body, length-append (enc g.typ g.body) (continues g.tail))
+    omega (arith, weight-marked (drop 8 g.body) g.tail, weight-pieces g.tail, length-drop 8 g.body, length-append (record_bytes g.typ g.body) (continues g.tail))
 
 -- ---- steps
 
-pub read_none : (old : List Entry) (g : Group) (ms : List Mark) → sst_marks g.body g.tail ≡ Ok ms → IsBytes (group_bytes g)
-    → (now : List Entry) → now ≡ old ++ table_entry [] ∷ [] → ReadSoFar old now ms ms
+pub read_none : (old : List ListEntry) (g : Group) (ms : List Mark) → sst_marks g.body g.tail ≡ Ok ms → IsBytes (group_bytes g)
+    → (now : List ListEntry) → now ≡ old ++ table_entry [] ∷ [] → ReadSoFar old now ms ms
 read_none old g ms e fits now n = record {
   strings = [];
   run = refl;
@@ -58,9 +58,9 @@ read_none old g ms e fits now n = record {
   small = subst (λ (x : List Mark). AreSmall x) (sym (marks_long g ms e)) (marked_small g 8 fits);
 }
 
-module _ (old now : List Entry) (start rest : List Mark) (r : ReadSoFar old now start rest) where
+module _ (old now : List ListEntry) (start rest : List Mark) (r : ReadSoFar old now start rest) where
   pub read_ends : EndsInTable now
-  read_ends = record { front = old; strings = r.strings; whole = r.list }
+  read_ends = record { prefix = old; strings = r.strings; whole = r.list }
 
   count_now : last_count now ≡ length r.strings
   count_now = ap last_count r.list ∙ count_last old (table_entry r.strings)
@@ -72,18 +72,18 @@ module _ (old now : List Entry) (start rest : List Mark) (r : ReadSoFar old now 
   pub read_size : (units : List ℕ) (after : List Mark) → next_at rest ≡ Ok (units, after) → length units < 2 ^ 16
   read_size units after e = (string_short rest after units r.small e).0
 
-  pub read_more : (units : List ℕ) (after : List Mark) (new : List Entry) → next_at rest ≡ Ok (units, after) → AddsString now new units
+  pub read_more : (units : List ℕ) (after : List Mark) (new : List ListEntry) → next_at rest ≡ Ok (units, after) → AddsString now new units
       → ReadSoFar old new start after
   read_more units after new e a =
-      let same : a.front ++ table_entry a.strings ∷ [] ≡ old ++ table_entry r.strings ∷ [] = sym a.before ∙ r.list in
-      let front : a.front ≡ old = same_front a.front old (table_entry a.strings) (table_entry r.strings) same in
-      let last : table_entry a.strings ≡ table_entry r.strings = same_last a.front old (table_entry a.strings) (table_entry r.strings) same in
+      let same : a.prefix ++ table_entry a.strings ∷ [] ≡ old ++ table_entry r.strings ∷ [] = sym a.before ∙ r.list in
+      let prefix : a.prefix ≡ old = same_prefix a.prefix old (table_entry a.strings) (table_entry r.strings) same in
+      let last : table_entry a.strings ≡ table_entry r.strings = same_last a.prefix old (table_entry a.strings) (table_entry r.strings) same in
       let strings : a.strings ≡ r.strings = cc in
       record {
         strings = r.strings ++ units ∷ [];
         run = Strings-push start r.strings units rest after r.run e;
         list =
-            a.after ∙ ap (λ (x : List Entry). x ++ table_entry (a.strings ++ units ∷ []) ∷ []) front
+            a.after ∙ ap (λ (x : List ListEntry). x ++ table_entry (a.strings ++ units ∷ []) ∷ []) prefix
             ∙ ap (λ (x : List (List ℕ)). old ++ table_entry (x ++ units ∷ []) ∷ []) strings;
         few = omega (arith, r.few, next_lighter rest after units e, length-append r.strings (units ∷ []));
         small = (string_short rest after units r.small e).1;

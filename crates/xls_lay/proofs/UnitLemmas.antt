@@ -3,7 +3,7 @@ use Rattle.std.proofs.Common.{◌≡◌, ℕ, ◌<◌, ◌^◌, Bool, List, [], 
 use Rattle.std.specs.List.{flat_map, AllByRecursion}
 use Rattle.std.proofs.lemmas.List.{take-append-drop}
 use Rattle.xls_bytes.specs.Numbers.{le}
-use Rattle.xls_stream.specs.Stream.{Group, enc, continues, group_bytes}
+use Rattle.xls_stream.specs.Stream.{Group, record_bytes, continues, group_bytes}
 use Rattle.xls_stream.specs.Walks.{IsBytes}
 use Rattle.xls_stream.specs.StringTable.{Mark, marked, marked_piece, next_at}
 use Rattle.xls_layouts.specs.TableGrammar.{UnitStep, one_byte, two_bytes, flags_byte, units_in, marks_of_units, AreUnits, Str, IsElement}
@@ -43,14 +43,14 @@ bytes_split (x ∷ xs) ys h = let s = bytes_split xs ys h.1 in ((h.0, s.0), s.1)
 pieces_small : (bodies : List (List ℕ)) → AreBytes (continues bodies) → AreSmall (flat_map marked_piece bodies)
 pieces_small [] h = tt
 pieces_small (c ∷ cs) h =
-    let s = bytes_split (enc 60 c) (continues cs) h in
+    let s = bytes_split (record_bytes 60 c) (continues cs) h in
     small_join (marked_piece c) (flat_map marked_piece cs) (tt, bytes_small c s.0.1.1.1.1) (pieces_small cs s.1)
 
 -- those of a record's body without its first bytes, and of what is attached to it
 pub marked_small : (g : Group) (n : ℕ) → IsBytes (group_bytes g) → AreSmall (marked (drop n g.body) g.tail)
 marked_small g n fits =
     let all : AreBytes (group_bytes g) = are_bytes (group_bytes g) fits in
-    let s = bytes_split (enc g.typ g.body) (continues g.tail) all in
+    let s = bytes_split (record_bytes g.typ g.body) (continues g.tail) all in
     let body : AreBytes (take n g.body ++ drop n g.body) = subst (λ (x : List ℕ). AreBytes x) (sym (take-append-drop n g.body)) s.0.1.1.1.1 in
     small_join (map Some (drop n g.body)) (flat_map marked_piece g.tail)
     (bytes_small (drop n g.body) (bytes_split (take n g.body) (drop n g.body) body).1) (pieces_small g.tail s.1)
@@ -75,9 +75,9 @@ str_short ms after units small s =
     let all = subst (λ (x : List Mark). AreSmall x) s.whole small in
     let head = small_split (map Some (s.count ++ s.flags ∷ rest)) (marks_of_units s.steps ++ (s.tail ++ after)) all in
     let count = two_small s.count s.count_len (bytes_split s.count (s.flags ∷ rest) (small_bytes (s.count ++ s.flags ∷ rest) head.0)).0 in
-    let behind = small_split s.tail after (small_split (marks_of_units s.steps) (s.tail ++ after) head.1).1 in (
+    let following = small_split s.tail after (small_split (marks_of_units s.steps) (s.tail ++ after) head.1).1 in (
       omega (arith, count, ap length s.units_are, units_count (le s.count) _ s.steps s.are_units),
-      behind.1,
+      following.1,
     )
 
 -- a string that is read, and what stands after it

@@ -3,9 +3,9 @@ use Rattle.std.proofs.Common.{◌≡◌, ℕ, suc, ◌+◌, List, [], ◌∷◌,
 use Rattle.std.specs.List.{flat_map}
 use Rattle.std.proofs.Math.Seq.{take-append_seam}
 use Rattle.std.proofs.lemmas.List.{append-nil, length-append}
-use Rattle.xls_stream.specs.Stream.{enc, group_bytes}
+use Rattle.xls_stream.specs.Stream.{record_bytes, group_bytes}
 use Rattle.xls_stream.specs.Substreams.{groups_of}
-use Rattle.xls_stream.specs.Listing.{Kept, Entry, plain_entry, table_entry, sheet_entry}
+use Rattle.xls_stream.specs.Listing.{Kept, ListEntry, plain_entry, table_entry, sheet_entry}
 use Rattle.xls_stream.specs.declared.types.TheConstants as types
 use Rattle.xls_layouts.specs.Layout.{LaidPart, eof_group, bytes_of_part, bytes_of_globals, sheet_body, offset_in}
 use Rattle.xls_layouts.specs.Canonical.{bare_group, canonical_records, canonical_part, canonical_parts, canonical_items, canonical}
@@ -15,20 +15,20 @@ use Rattle.xls_lay.proofs.SizeLemmas.{sum_by, globals_sum, same_length}
 
 -- ---- parts
 
-bare : (typ : ℕ) (body : List ℕ) → group_bytes (bare_group typ body) ≡ enc typ body
-bare typ body = append-nil (enc typ body)
+bare : (typ : ℕ) (body : List ℕ) → group_bytes (bare_group typ body) ≡ record_bytes typ body
+bare typ body = append-nil (record_bytes typ body)
 
 records : (kept : List Kept) → flat_map group_bytes (groups_of (canonical_records kept) ++ eof_group ∷ []) ≡ flat_map kept_bytes kept ++ eof_bytes
 records [] = refl
 records (k ∷ kept) =
     ap (λ (x : List ℕ). x ++ flat_map group_bytes (groups_of (canonical_records kept) ++ eof_group ∷ [])) (bare k.typ k.body)
-    ∙ ap (λ (x : List ℕ). enc k.typ k.body ++ x) (records kept)
-    ∙ sym (append_assoc (enc k.typ k.body) (flat_map kept_bytes kept) eof_bytes)
+    ∙ ap (λ (x : List ℕ). record_bytes k.typ k.body ++ x) (records kept)
+    ∙ sym (append_assoc (record_bytes k.typ k.body) (flat_map kept_bytes kept) eof_bytes)
 
 part : (kept : List Kept) → bytes_of_part (canonical_part kept) ≡ part_of kept
 part kept = ap (λ (x : List ℕ). bof_bytes ++ x) (records kept)
 
-parts : (list : List Entry) → flat_map bytes_of_part (canonical_parts list) ≡ parts_from list
+parts : (list : List ListEntry) → flat_map bytes_of_part (canonical_parts list) ≡ parts_from list
 parts [] = refl
 parts (plain_entry typ body ∷ list) = parts list
 parts (table_entry strings ∷ list) = parts list
@@ -39,32 +39,32 @@ parts (sheet_entry state kind name kept ∷ list) =
 -- ---- the globals
 
 -- the sheets of a list, from this number on, have the offsets that follow from this one
-abbrev pub Offsets : (ℕ → ℕ) → ℕ → ℕ → List Entry → Type 0
+abbrev pub Offsets : (ℕ → ℕ) → ℕ → ℕ → List ListEntry → Type 0
 Offsets f n offset [] = Unit {0}
 Offsets f n offset (plain_entry typ body ∷ list) = Offsets f n offset list
 Offsets f n offset (table_entry strings ∷ list) = Offsets f n offset list
 Offsets f n offset (sheet_entry state kind name kept ∷ list) =
     (f n ≡ offset) × Offsets f (suc n) (offset + length (part_of kept)) list
 
-nothing_more : (offset : ℕ) (list : List Entry) → globals_from offset list ≡ globals_from (offset + 0) list
+nothing_more : (offset : ℕ) (list : List ListEntry) → globals_from offset list ≡ globals_from (offset + 0) list
 nothing_more offset list = let e : offset ≡ offset + 0 = omega arith in ap (λ (k : ℕ). globals_from k list) e
 
-globals : (f : ℕ → ℕ) (n offset : ℕ) (list : List Entry) → Offsets f n offset list
+globals : (f : ℕ → ℕ) (n offset : ℕ) (list : List ListEntry) → Offsets f n offset list
     → bytes_of_globals f (canonical_items n list) ≡ globals_from offset list
 globals f n offset [] h = refl
 globals f n offset (plain_entry typ body ∷ list) h =
     ap (λ (x : List ℕ). x ++ bytes_of_globals f (canonical_items n list)) (bare typ body)
-    ∙ ap (λ (x : List ℕ). enc typ body ++ x) (globals f n offset list h ∙ nothing_more offset list)
+    ∙ ap (λ (x : List ℕ). record_bytes typ body ++ x) (globals f n offset list h ∙ nothing_more offset list)
 globals f n offset (table_entry strings ∷ list) h =
     ap (λ (x : List ℕ). table_bytes strings ++ x) (globals f n offset list h ∙ nothing_more offset list)
 globals f n offset (sheet_entry state kind name kept ∷ list) h =
     let next = offset + length (part_of kept) in
     ap (λ (x : List ℕ). x ++ bytes_of_globals f (canonical_items (suc n) list)) (bare types.BOUND_SHEET_8 (sheet_body (f n) state kind name))
-    ∙ ap (λ (k : ℕ). enc types.BOUND_SHEET_8 (sheet_body k state kind name) ++ bytes_of_globals f (canonical_items (suc n) list)) h.0
-    ∙ ap (λ (x : List ℕ). enc types.BOUND_SHEET_8 (sheet_body offset state kind name) ++ x) (globals f (suc n) next list h.1)
+    ∙ ap (λ (k : ℕ). record_bytes types.BOUND_SHEET_8 (sheet_body k state kind name) ++ bytes_of_globals f (canonical_items (suc n) list)) h.0
+    ∙ ap (λ (x : List ℕ). record_bytes types.BOUND_SHEET_8 (sheet_body offset state kind name) ++ x) (globals f (suc n) next list h.1)
 
 -- whatever the offsets are, the globals have so many bytes
-globals_length : (f : ℕ → ℕ) (n : ℕ) (list : List Entry) → length (bytes_of_globals f (canonical_items n list)) ≡ 4 + sum_by globals_size list
+globals_length : (f : ℕ → ℕ) (n : ℕ) (list : List ListEntry) → length (bytes_of_globals f (canonical_items n list)) ≡ 4 + sum_by globals_size list
 globals_length f n [] = refl
 globals_length f n (plain_entry typ body ∷ list) =
     let rest = bytes_of_globals f (canonical_items n list) in
@@ -91,7 +91,7 @@ flat-push (b ∷ before) p =
 abbrev from : ℕ → List LaidPart → ℕ → ℕ
 from base parts k = base + length (flat_map bytes_of_part (take k parts))
 
-offsets : (base : ℕ) (list : List Entry) (before : List LaidPart)
+offsets : (base : ℕ) (list : List ListEntry) (before : List LaidPart)
     → Offsets (from base (before ++ canonical_parts list)) (length before) (base + length (flat_map bytes_of_part before)) list
 offsets base [] before = tt
 offsets base (plain_entry typ body ∷ list) before = offsets base list before
@@ -109,7 +109,7 @@ offsets base (sheet_entry state kind name kept ∷ list) before =
 
 -- ---- a whole list
 
-pub whole : (list : List Entry) → canonical_bytes list ≡ globals_from (length (globals_from 0 list)) list ++ parts_from list
+pub whole : (list : List ListEntry) → canonical_bytes list ≡ globals_from (length (globals_from 0 list)) list ++ parts_from list
 whole list =
     let d = canonical list in
     let base = length (bytes_of_globals (λ k. 0) d.globals) in
@@ -119,7 +119,7 @@ whole list =
     ∙ ap (λ (x : List ℕ). globals_from (length (globals_from 0 list)) list ++ x) (parts list)
 
 -- how many they are
-pub whole_length : (list : List Entry) → length (canonical_bytes list) ≡ length (globals_from 0 list) + length (parts_from list)
+pub whole_length : (list : List ListEntry) → length (canonical_bytes list) ≡ length (globals_from 0 list) + length (parts_from list)
 whole_length list =
     let n = length (globals_from 0 list) in
     omega (arith, ap length (whole list), length-append (globals_from n list) (parts_from list), globals_sum n list, globals_sum 0 list)

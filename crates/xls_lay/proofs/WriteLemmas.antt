@@ -9,7 +9,7 @@ use Rattle.xls_layouts.specs.LaidStrings.{le32, marks_of_strings}
 use Rattle.xls_layouts.specs.Canonical.{canonical_strings, counts_of}
 use Rattle.xls_lay.specs.Writing.{saturated, canonical_bytes, canonical_size}
 use Rattle.xls_lay.specs.Cutting.{eof_bytes, part_bytes, part_size, entry_bytes, table_bytes, rest_bytes, globals_from, parts_from}
-use Rattle.xls_lines.specs.Gathering.{Gathers, Puts, Stops}
+use Rattle.xls_lines.specs.Gathering.{GathersText, Puts, Stops}
 use Rattle.xls_lines.specs.SinkState.{SinkState}
 use Rattle.xls_lines.specs.declared.stop.Stop.{Stop}
 use Rattle.xls_lines.specs.declared.stop.Stop.TheVariants.{Memory}
@@ -97,7 +97,7 @@ module _ (old out : List ℕ) (entries : List Entry) (i : ℕ) (p : PutParts old
 -- the globals up to an entry, whose part begins at this offset
 pub record GlobalsOn (a : SinkState) (g : List ℕ) (b : SinkState) (h : List ℕ) (first offset : ℕ) (entries : List Entry) (i : ℕ) : Type 0 where
   pub text : List ℕ
-  pub gathers : Gathers a g b h text
+  pub gathers : GathersText a g b h text
   pub put : PutGlobals [] text first offset entries i
 
 pub globals_on_none : (a : SinkState) (g : List ℕ) (first : ℕ) (entries : List Entry) → Counted (entries_in entries)
@@ -115,7 +115,7 @@ module _ {a b : SinkState} {g h : List ℕ} (first offset : ℕ) (entries : List
   on_size e lt here = globals_size_fits [] so.text first offset entries i so.put e lt here
 
   pub globals_on_more : {c : SinkState} {k : List ℕ} (e : Entry) (next : ℕ) → i < length entries → get_or entries i e ≡ e
-      → Gathers b h c k (entry_bytes offset (entry_in e)) → next ≡ offset + part_size (entry_in e)
+      → GathersText b h c k (entry_bytes offset (entry_in e)) → next ≡ offset + part_size (entry_in e)
       → GlobalsOn a g c k first next entries (i + 1)
   globals_on_more e next lt here more n = record {
     text = so.text ++ entry_bytes offset (entry_in e);
@@ -129,8 +129,8 @@ module _ {a b : SinkState} {g h : List ℕ} (first offset : ℕ) (entries : List
       let next = globals_more [] so.text first offset entries i so.put e (so.text ++ entry_bytes offset (entry_in e)) (offset + part_size (entry_in e)) lt here refl refl in
       stops-as (stops-more (globals_from (offset + part_size (entry_in e)) (entries_in (drop (i + 1) entries))) (stops-then so.gathers stops)) next.whole
 
-  globals_on_all : {c : SinkState} {k : List ℕ} → length entries ≤ i → Gathers b h c k eof_bytes
-      → Gathers a g c k (globals_from first (entries_in entries))
+  globals_on_all : {c : SinkState} {k : List ℕ} → length entries ≤ i → GathersText b h c k eof_bytes
+      → GathersText a g c k (globals_from first (entries_in entries))
   globals_on_all le more =
       gathers-as (gathers-then so.gathers more) (globals_all [] so.text first offset entries i so.put (so.text ++ eof_bytes) le refl)
 
@@ -147,7 +147,7 @@ module _ {a b : SinkState} {g h : List ℕ} (first offset : ℕ) (entries : List
 -- the parts up to an entry
 pub record PartsOn (a : SinkState) (g : List ℕ) (b : SinkState) (h : List ℕ) (entries : List Entry) (i : ℕ) : Type 0 where
   pub text : List ℕ
-  pub gathers : Gathers a g b h text
+  pub gathers : GathersText a g b h text
   pub put : PutParts [] text entries i
 
 pub parts_on_none : (a : SinkState) (g : List ℕ) (entries : List Entry) → PartsOn a g a g entries 0
@@ -155,7 +155,7 @@ parts_on_none a g entries = record { text = []; gathers = gathers-nothing a g; p
 
 module _ {a b : SinkState} {g h : List ℕ} (entries : List Entry) (i : ℕ) (so : PartsOn a g b h entries i) where
   pub parts_on_more : {c : SinkState} {k : List ℕ} (e : Entry) → i < length entries → get_or entries i e ≡ e
-      → Gathers b h c k (part_bytes (entry_in e)) → PartsOn a g c k entries (i + 1)
+      → GathersText b h c k (part_bytes (entry_in e)) → PartsOn a g c k entries (i + 1)
   parts_on_more e lt here more = record {
     text = so.text ++ part_bytes (entry_in e);
     gathers = gathers-then so.gathers more;
@@ -168,14 +168,14 @@ module _ {a b : SinkState} {g h : List ℕ} (entries : List Entry) (i : ℕ) (so
       let next = parts_more [] so.text entries i so.put e (so.text ++ part_bytes (entry_in e)) lt here refl in
       stops-as (stops-more (parts_from (entries_in (drop (i + 1) entries))) (stops-then so.gathers stops)) next.whole
 
-  pub parts_on_all : length entries ≤ i → Gathers a g b h (parts_from (entries_in entries))
+  pub parts_on_all : length entries ≤ i → GathersText a g b h (parts_from (entries_in entries))
   parts_on_all le = gathers-as so.gathers (parts_all [] so.text entries i so.put le)
 
 -- ---- a string table
 
 module _ (s : SinkState) (out : List ℕ) (strings : List (List ℕ)) (count : ℕ) (a : TableWriter) (n : count ≡ length strings) (d : a.done.items ≡ out) (t : a.typ ≡ types.SST) (body : a.body.items ≡ le32 count ++ le32 count) where
-  front : a.body.items ≡ counts_of strings
-  front = body ∙ ap (λ (k : ℕ). le32 k ++ le32 k) n
+  prefix : a.body.items ≡ counts_of strings
+  prefix = body ∙ ap (λ (k : ℕ). le32 k ++ le32 k) n
 
   abbrev marks : List Mark
   marks = marks_of_strings (canonical_strings (length a.body.items) strings)
@@ -185,12 +185,12 @@ module _ (s : SinkState) (out : List ℕ) (strings : List (List ℕ)) (count : �
   table_is =
       ap (λ (x : List Mark). rest_bytes a.typ a.body.items x) (append-nil marks)
       ∙ ap (λ (k : ℕ). rest_bytes k a.body.items marks) t
-      ∙ ap (λ (x : List ℕ). rest_bytes types.SST x (marks_of_strings (canonical_strings (length x) strings))) front
+      ∙ ap (λ (x : List ℕ). rest_bytes types.SST x (marks_of_strings (canonical_strings (length x) strings))) prefix
 
   pub table_put : {u : SinkState} {b : TableWriter} {new : List ℕ} → PutsOn s a marks u b
-      → new ≡ b.done.items ++ rest_bytes b.typ b.body.items [] → Gathers s out u new (table_bytes strings)
+      → new ≡ b.done.items ++ rest_bytes b.typ b.body.items [] → GathersText s out u new (table_bytes strings)
   table_put {u} {b} {new} p e =
-      subst (λ (l : List ℕ). Gathers s l u new (table_bytes strings)) d
+      subst (λ (l : List ℕ). GathersText s l u new (table_bytes strings)) d
       (gathers-as (gathers-then p.gathers (gathers-added u b.done.items new (rest_bytes b.typ b.body.items []) e)) (p.moves.whole [] ∙ table_is))
 
   pub table_unfinished : {u : SinkState} {b : TableWriter} → PutsOn s a marks u b → Stops s out u (table_bytes strings) Memory
@@ -204,7 +204,7 @@ module _ (s : SinkState) (out : List ℕ) (strings : List (List ℕ)) (count : �
 
 -- ---- the whole
 
-module _ (list : List listing.Entry) (globals parts found : ℕ) (g : globals ≡ saturated (length (globals_from 0 list))) (p : parts ≡ saturated (length (parts_from list))) (f : found ≡ saturated (globals + parts)) where
+module _ (list : List listing.ListEntry) (globals parts found : ℕ) (g : globals ≡ saturated (length (globals_from 0 list))) (p : parts ≡ saturated (length (parts_from list))) (f : found ≡ saturated (globals + parts)) where
   size : length (canonical_bytes list) ≡ length (globals_from 0 list) + length (parts_from list)
   size = whole_length list
 
@@ -227,7 +227,7 @@ module _ (list : List listing.Entry) (globals parts found : ℕ) (g : globals �
       (same, omega (arith, ap length same, not_long h))
 
 -- the same, where the canonical bytes are known to be below 2^32
-module _ (list : List listing.Entry) (globals : ℕ) (g : globals ≡ saturated (length (globals_from 0 list))) (short : length (canonical_bytes list) < 2 ^ 32) where
+module _ (list : List listing.ListEntry) (globals : ℕ) (g : globals ≡ saturated (length (globals_from 0 list))) (short : length (canonical_bytes list) < 2 ^ 32) where
   first_part : globals ≡ length (globals_from 0 list)
   first_part = omega (arith, g, short, whole_length list)
 

@@ -5,12 +5,12 @@ use Rattle.xls_stream.specs.Listing as listing
 use Rattle.xls_lay.specs.declared.entry.Entry.{Entry}
 use Rattle.xls_lay.specs.declared.entry.Entry.TheVariants.{Plain, Table, Sheet}
 
-abbrev pub entry_in : Entry → listing.Entry
+abbrev pub entry_in : Entry → listing.ListEntry
 entry_in (Plain typ body) = plain_entry typ body.items
 entry_in (Table strings) = table_entry strings
 entry_in (Sheet state kind name kept) = sheet_entry state kind name.items kept
 
-abbrev pub entries_in : List Entry → List listing.Entry
+abbrev pub entries_in : List Entry → List listing.ListEntry
 entries_in entries = map entry_in entries
 
 -- a sheet has one record more after those that it had; another entry stays
@@ -24,12 +24,12 @@ abbrev pub StringPushed : Entry → List ℕ → Entry → Type 0
 StringPushed (Table strings) units new = new ≡ Table (strings ++ units ∷ [])
 StringPushed old units new = new ≡ old
 
-abbrev pub is_sheet : listing.Entry → Bool
+abbrev pub is_sheet : listing.ListEntry → Bool
 is_sheet (plain_entry typ body) = false
 is_sheet (table_entry strings) = false
 is_sheet (sheet_entry state kind name kept) = true
 
-abbrev pub is_table : listing.Entry → Bool
+abbrev pub is_table : listing.ListEntry → Bool
 is_table (plain_entry typ body) = false
 is_table (table_entry strings) = true
 is_table (sheet_entry state kind name kept) = false

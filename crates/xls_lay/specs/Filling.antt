@@ -18,11 +18,11 @@ pub record Fills (old : Fill) (ms : List Mark) (new : Fill) : Type 0 where
 
 -- the bytes of a head or unit, in the same piece or in a new one that begins with so many
 abbrev pub size_after : Bool → ℕ → ℕ → ℕ
-size_after true front more = 4 + front + more
-size_after false front more = more
+size_after true prefix more = 4 + prefix + more
+size_after false prefix more = more
 
 -- after a head or unit of so many bytes
-pub record Takes (old : Fill) (front more : ℕ) (new : Fill) : Type 0 where
-  pub used : new.used ≡ used_after (passes old.used more) front old.used more
-  pub size : new.size ≡ saturated (old.size + size_after (passes old.used more) front more)
+pub record TakesMarks (old : Fill) (prefix more : ℕ) (new : Fill) : Type 0 where
+  pub used : new.used ≡ used_after (passes old.used more) prefix old.used more
+  pub size : new.size ≡ saturated (old.size + size_after (passes old.used more) prefix more)
   pub room : IsFilled new

@@ -1,7 +1,7 @@
 -- For the proofs: a string table that is being written.
 use Rattle.std.specs.Prelude.{◌≡◌, ℕ, ◌≤◌, List, [], ◌++◌, length, Bool, Result, MatchResult}
 use Rattle.xls_stream.specs.StringTable.{Mark}
-use Rattle.xls_lines.specs.Gathering.{Gathers, Stops}
+use Rattle.xls_lines.specs.Gathering.{GathersText, Stops}
 use Rattle.xls_lines.specs.SinkState.{SinkState}
 use Rattle.xls_lines.specs.declared.stop.Stop.{Stop}
 use Rattle.xls_layouts.specs.LaidStrings.{marks_of_steps}
@@ -15,7 +15,7 @@ pub record Moves (typ : ℕ) (body : List ℕ) (ms : List Mark) (done : List ℕ
   pub used : length body' ≡ fill_from (length body) ms
 
 -- these marks were put
-pub record Puts (old : TableWriter) (ms : List Mark) (new : TableWriter) : Type 0 where
+pub record PutsMarks (old : TableWriter) (ms : List Mark) (new : TableWriter) : Type 0 where
   pub bytes : List ℕ
   pub done : new.done.items ≡ old.done.items ++ bytes
   pub moves : Moves old.typ old.body.items ms bytes new.typ new.body.items
@@ -23,7 +23,7 @@ pub record Puts (old : TableWriter) (ms : List Mark) (new : TableWriter) : Type 
 -- likewise, and of what was done some was written
 pub record PutsOn (before : SinkState) (old : TableWriter) (ms : List Mark) (after : SinkState) (new : TableWriter) : Type 0 where
   pub bytes : List ℕ
-  pub gathers : Gathers before old.done.items after new.done.items bytes
+  pub gathers : GathersText before old.done.items after new.done.items bytes
   pub moves : Moves old.typ old.body.items ms bytes new.typ new.body.items
 
 -- or a prefix of the table was written, whatever marks were still to come, and then it was given up
@@ -41,5 +41,5 @@ abbrev pub cut_marks : Bool → ℕ → List Mark
 cut_marks wide used = marks_of_steps wide (cut_if (passes used (unit_size wide)) wide [])
 
 -- the current body isn't larger than 8,224 bytes
-abbrev pub HasRoom : TableWriter → Type 0
-HasRoom p = length p.body.items ≤ 8224
+abbrev pub WriterHasRoom : TableWriter → Type 0
+WriterHasRoom p = length p.body.items ≤ 8224

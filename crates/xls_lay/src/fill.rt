@@ -3,7 +3,7 @@
 ghost use Rattle.std.specs.Prelude.{◌≡◌, ◌+◌, ◌≤◌};
 ghost use Rattle.xls_layouts.specs.LaidStrings.{marks_of_steps, marks_of_string};
 ghost use Rattle.xls_layouts.specs.Canonical.{unit_size, canonical_steps, canonical_string, is_narrow};
-ghost use Rattle.xls_lay.specs.Filling.{IsFilled, Fills, Takes};
+ghost use Rattle.xls_lay.specs.Filling.{IsFilled, Fills, TakesMarks};
 
 /// How many bytes a record body or piece has at most.
 pub(crate) const FULL: usize = 8224;
@@ -44,14 +44,14 @@ impl Fill {
 
     /// Adds so many bytes that aren't parted, to a new piece that begins with so many where they would take this
     /// one past its size.
-    fn add(&mut self, front: usize, more: usize)
+    fn add(&mut self, prefix: usize, more: usize)
         requires room { IsFilled self.old }
-        requires short { front + more ≤ 8224 }
-        ensures { Takes self.old front more self.new }
+        requires short { prefix + more ≤ 8224 }
+        ensures { TakesMarks self.old prefix more self.new }
     {
         if self.used + more > FULL {
-            self.size = self.size.saturating_add(4 + front as u64);
-            self.used = front;
+            self.size = self.size.saturating_add(4 + prefix as u64);
+            self.used = prefix;
         }
         self.size = self.size.saturating_add(more as u64);
         self.used += more;

@@ -2,7 +2,7 @@
 
 ghost use Rattle.std.specs.Prelude.{◌≡◌, ◌<◌, ◌≤◌, ◌^◌, ◌++◌, ◌∷◌, [], drop, length, take, OnOk, OnErr};
 ghost use Rattle.std.specs.List.{flat_map};
-ghost use Rattle.xls_stream.specs.Stream.{enc};
+ghost use Rattle.xls_stream.specs.Stream.{record_bytes};
 ghost use Rattle.xls_lines.specs.Gathering as gathering;
 ghost use Rattle.xls_lay.specs.Writing.{saturated};
 ghost use Rattle.xls_lay.specs.Cutting.{kept_bytes};
@@ -29,7 +29,7 @@ fn put_first<K: Sink>(
 ) -> Result<(), Stop>
     requires { head.now.size ≤ length bytes.now }
     ensures { gathering.Puts (K.state sink.old) out.old.items (K.state sink.new) out.new.items
-        (enc head.now.typ (take head.now.size bytes.now)) result }
+        (record_bytes head.now.typ (take head.now.size bytes.now)) result }
 {
     put_record(out, sink, head.typ, bytes.split_at(head.size as usize).0)
 }

@@ -26,7 +26,7 @@ impl Model for Logical {
     ghost use Rattle.xls_lay.specs.Counted.{Counted};
     ghost use Rattle.xls_lay.specs.Entries.{entries_in};
 
-    ghost Value = { List listing.Entry };
+    ghost Value = { List listing.ListEntry };
 
     ghost view = { λ l. entries_in l.entries.items };
 

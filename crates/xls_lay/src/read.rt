@@ -3,13 +3,13 @@
 ghost use Rattle.std.specs.Prelude.{◌≡◌, ◌↔◌, IsTrue, ℕ, List, ◌<◌, ◌≤◌, ◌^◌, length, drop, slice_index, None, true, false};
 ghost use Rattle.xls_stream.specs.Stream.{group_bytes};
 ghost use Rattle.xls_stream.specs.Walks.{IsBytes};
-ghost use Rattle.xls_stream.specs.Listing.{Kept, Item, IsItem, IsWhole, entry_of, is_globals_type, IsShared, table_of};
+ghost use Rattle.xls_stream.specs.Listing.{Kept, Item, IsItem, IsWholeItem, entry_of, is_globals_type, IsShared, table_of};
 ghost use Rattle.xls_stream.specs.Listing.{IsPart, IsSheetPart, offset_at, table_entry, sheet_entry};
 ghost use Rattle.xls_layouts.specs.Layout.{IsPlainType};
 ghost use Rattle.xls_biff.specs.Walking.{group_of};
 ghost use Rattle.xls_lay.specs.Reading.{ReadsList};
 ghost use Rattle.xls_lay.specs.Pushing.{EndsInSheet};
-ghost use Rattle.xls_lay.specs.Taking.{Takes, TakesNothing, TakesPart};
+ghost use Rattle.xls_lay.specs.Taking.{TakesEntry, TakesNothing, TakesPart};
 
 use crate::logical::Logical;
 use std::alloc::Global;
@@ -38,7 +38,7 @@ fn take_table(alloc: Global, list: &mut Logical, r: &Record<'_>) -> Result<(), X
     requires small { length (group_bytes (group_of r.now)) < 2 ^ 32 }
     requires bytes { IsBytes (group_bytes (group_of r.now)) }
     ensures { (strings : List (List ℕ)) → IsShared (group_of r.now) (table_of strings)
-        → Takes list.old (table_entry strings) result list.new }
+        → TakesEntry list.old (table_entry strings) result list.new }
 {
     list.push_table()?;
     let mut reader = SstReader::new(r)?;
@@ -66,7 +66,7 @@ fn take_sheet(list: &mut Logical, stream: &[u8], body: &[u8]) -> Result<(), XlsE
     requires short { length body.now < 2 ^ 16 }
     requires inside { offset_at body.now ≤ length stream.now }
     ensures { (kept : List Kept) → IsSheetPart stream.now (offset_at body.now) kept None
-        → Takes list.old (sheet_entry (slice_index body.now 4) (slice_index body.now 5) (drop 6 body.now) kept) result list.new }
+        → TakesEntry list.old (sheet_entry (slice_index body.now 4) (slice_index body.now 5) (drop 6 body.now) kept) result list.new }
 {
     let (_, name) = body.split_at(6);
     list.push_sheet(body[4], body[5], name)?;
@@ -85,9 +85,9 @@ fn take_record(
     requires bytes { IsBytes (group_bytes (group_of r.now)) }
     requires fits { length r.now.body.now < 2 ^ 16 }
     requires whole { is_globals_type (group_of r.now) ≡ true
-        → (i : Item) × IsItem stream.now (group_of r.now) i × IsWhole i }
+        → (i : Item) × IsItem stream.now (group_of r.now) i × IsWholeItem i }
     ensures entry { is_globals_type (group_of r.now) ≡ true
-        → (i : Item) → IsItem stream.now (group_of r.now) i → IsWhole i → Takes list.old (entry_of i) result list.new }
+        → (i : Item) → IsItem stream.now (group_of r.now) i → IsWholeItem i → TakesEntry list.old (entry_of i) result list.new }
     ensures other { is_globals_type (group_of r.now) ≡ false → TakesNothing list.old result list.new }
 {
     if is_plain_type(r.typ) {

@@ -7,7 +7,7 @@ ghost use Rattle.xls_lay.specs.Writing.{saturated};
 ghost use Rattle.xls_lay.specs.Cutting.{marks_size};
 ghost use Rattle.xls_lay.specs.Filling.{IsFilled, Fills};
 ghost use Rattle.xls_lay.specs.Inside.{parts_of, total};
-ghost use Rattle.xls_lay.specs.Putting.{PutsOrStops, HasRoom};
+ghost use Rattle.xls_lay.specs.Putting.{PutsOrStops, WriterHasRoom};
 
 use crate::fill::Fill;
 use crate::table::TableWriter;
@@ -37,11 +37,11 @@ fn put_strings<K: Sink>(
     sink: &mut K,
 ) -> Result<(), Stop>
     requires sizes { total sizes.now ≡ length units.now }
-    requires room { HasRoom writer.old }
+    requires room { WriterHasRoom writer.old }
     ensures puts { PutsOrStops (K.state sink.old) writer.old
         (marks_of_strings (canonical_strings (length writer.old.body.items) (parts_of sizes.now units.now)))
         (K.state sink.new) writer.new result }
-    ensures room { OnOk result (HasRoom writer.new) }
+    ensures room { OnOk result (WriterHasRoom writer.new) }
 {
     let mut rest = units;
     for size in sizes {
@@ -112,11 +112,11 @@ impl UnitLists {
 
     /// Puts the strings one after the other.
     pub(crate) fn put<K: Sink>(&self, writer: &mut TableWriter, sink: &mut K) -> Result<(), Stop>
-        requires { HasRoom writer.old }
+        requires { WriterHasRoom writer.old }
         ensures puts { PutsOrStops (K.state sink.old) writer.old
             (marks_of_strings (canonical_strings (length writer.old.body.items) self.now))
             (K.state sink.new) writer.new result }
-        ensures room { OnOk result (HasRoom writer.new) }
+        ensures room { OnOk result (WriterHasRoom writer.new) }
     {
         put_strings(&self.sizes, &self.units, writer, sink)
     }

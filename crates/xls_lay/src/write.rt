@@ -1,14 +1,14 @@
 //! The canonical stream of a list.
 
 ghost use Rattle.std.specs.Prelude.{◌≡◌, ◌+◌, ◌<◌, ◌^◌, ◌++◌, length, IfOk, OnOk};
-ghost use Rattle.xls_stream.specs.Stream.{enc};
+ghost use Rattle.xls_stream.specs.Stream.{record_bytes};
 ghost use Rattle.xls_stream.specs.declared.types.TheConstants as types;
 ghost use Rattle.xls_layouts.specs.LaidStrings.{le32};
 ghost use Rattle.xls_layouts.specs.Layout.{sheet_body};
 ghost use Rattle.xls_layouts.specs.Canonical.{Fits};
 ghost use Rattle.xls_lines.specs.Gathering.{Delivers, Puts};
 ghost use Rattle.xls_lay.specs.Counted.{CountedEntry, Counted};
-ghost use Rattle.xls_lay.specs.Writing.{Writes, canonical_bytes};
+ghost use Rattle.xls_lay.specs.Writing.{WritesList, canonical_bytes};
 ghost use Rattle.xls_lay.specs.Entries.{entry_in, entries_in};
 ghost use Rattle.xls_lay.specs.Cutting.{part_of, part_bytes, table_bytes, entry_bytes, globals_from, parts_from};
 
@@ -43,7 +43,7 @@ pub(crate) fn push_u32(out: &mut Vec<u8>, n: u32) -> Result<(), AllocError>
 /// Appends a record without Continue records.
 pub(crate) fn push_record(out: &mut Vec<u8>, typ: u16, body: &[u8]) -> Result<(), AllocError>
     requires { length body.now < 2 ^ 16 }
-    ensures { OnOk result (out.new.items ≡ out.old.items ++ enc typ body.now) }
+    ensures { OnOk result (out.new.items ≡ out.old.items ++ record_bytes typ body.now) }
 {
     let size = body.len();
     let head = [
@@ -64,7 +64,7 @@ pub(crate) fn put_record<K: Sink>(
     body: &[u8],
 ) -> Result<(), Stop>
     requires { length body.now < 2 ^ 16 }
-    ensures { Puts (K.state sink.old) out.old.items (K.state sink.new) out.new.items (enc typ body.now) result }
+    ensures { Puts (K.state sink.old) out.old.items (K.state sink.new) out.new.items (record_bytes typ body.now) result }
 {
     push_record(out, typ, body)?;
     pass(out, sink)
@@ -79,7 +79,7 @@ fn push_sheet(
     name: &[u8],
 ) -> Result<(), AllocError>
     requires { 6 + length name.now < 2 ^ 16 }
-    ensures { OnOk result (out.new.items ≡ out.old.items ++ enc types.BOUND_SHEET_8 (sheet_body offset state kind name.now)) }
+    ensures { OnOk result (out.new.items ≡ out.old.items ++ record_bytes types.BOUND_SHEET_8 (sheet_body offset state kind name.now)) }
 {
     let size = 6 + name.len();
     out.extend_from_slice(&[0x85, 0x00, (size % 256) as u8, (size / 256) as u8])?;
@@ -99,7 +99,7 @@ fn put_sheet<K: Sink>(
 ) -> Result<(), Stop>
     requires { 6 + length name.now < 2 ^ 16 }
     ensures { Puts (K.state sink.old) out.old.items (K.state sink.new) out.new.items
-        (enc types.BOUND_SHEET_8 (sheet_body offset state kind name.now)) result }
+        (record_bytes types.BOUND_SHEET_8 (sheet_body offset state kind name.now)) result }
 {
     push_sheet(out, offset, state, kind, name)?;
     pass(out, sink)
@@ -249,7 +249,7 @@ fn put_all(
 /// The canonical stream of a list. `TooLong` exactly where it would have 2^32 bytes or more; else only
 /// running out of memory.
 pub fn write_workbook(alloc: Global, list: &Logical) -> Result<StreamBytes, LayError>
-    ensures writes { Writes list.now result }
+    ensures writes { WritesList list.now result }
     ensures fits { Fits list.now }
 {
     let entries = list.entries();

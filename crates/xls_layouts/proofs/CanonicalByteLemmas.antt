@@ -3,18 +3,18 @@ use Rattle.std.proofs.Common.{◌≡◌, ◌+◌, ℕ, zero, suc, ◌^◌, ◌<�
 use Rattle.std.specs.List.{flat_map, AllByRecursion}
 use Rattle.std.proofs.lemmas.List.{length-append}
 use Rattle.xls_bytes.specs.Numbers.{le16}
-use Rattle.xls_stream.specs.Stream.{enc, Group, group_bytes, continues, IsBody}
+use Rattle.xls_stream.specs.Stream.{record_bytes, Group, group_bytes, continues, IsBody}
 use Rattle.xls_stream.specs.Walks.{IsBytes}
 use Rattle.xls_stream.specs.Substreams.{groups_of}
-use Rattle.xls_stream.specs.StringTable.{Mark, front_of}
-use Rattle.xls_stream.specs.Listing.{Kept, Entry, plain_entry, table_entry, sheet_entry}
+use Rattle.xls_stream.specs.StringTable.{Mark, prefix_of}
+use Rattle.xls_stream.specs.Listing.{Kept, ListEntry, plain_entry, table_entry, sheet_entry}
 use Rattle.xls_stream.specs.declared.types.TheConstants as types
-use Rattle.xls_layouts.specs.LaidStrings.{le32, bytes_in, LaidString, Step, put, cut, marks_of_steps, AreSteps, units_of, head_bytes, marks_of_break, marks_of_string, IsLaidString, marks_of_strings, pieces_of, table_group}
+use Rattle.xls_layouts.specs.LaidStrings.{le32, bytes_in, LaidString, Step, put, cut, marks_of_steps, AreSteps, laid_units, head_bytes, marks_of_break, marks_of_string, IsLaidString, marks_of_strings, pieces_of, table_group}
 use Rattle.xls_layouts.specs.Layout.{eof_group, bytes_of_globals, bytes_of_part, sheet_body, lay, offset_in}
 use Rattle.xls_layouts.specs.Canonical.{canonical_string, canonical_strings, bare_group, canonical_records, sheet_bof, canonical_part, canonical_parts, counts_of, canonical_items, canonical, fill_from, AreBytes, FitsKept, FitsString, Fits}
 use Rattle.xls_layouts.proofs.TypeLemmas.{globals_below, sheet_below}
 use Rattle.xls_layouts.proofs.LaidStreamLemmas.{offset_within}
-use Rattle.xls_layouts.proofs.CanonicalTableLemmas.{laid_canonical, canonical_front, canonical_pieces}
+use Rattle.xls_layouts.proofs.CanonicalTableLemmas.{laid_canonical, canonical_prefix, canonical_pieces}
 
 -- so is the one at each place
 pub each_byte : (bytes : List ℕ) → AreBytes bytes → IsBytes bytes
@@ -35,17 +35,17 @@ bytes_le32 n h = (omega arith, (omega arith, (omega arith, (omega arith, tt))))
 
 -- ---- records
 
-pub bytes_record : (typ : ℕ) (body : List ℕ) → typ < 65536 → length body < 65536 → AreBytes body → AreBytes (enc typ body)
+pub bytes_record : (typ : ℕ) (body : List ℕ) → typ < 65536 → length body < 65536 → AreBytes body → AreBytes (record_bytes typ body)
 bytes_record typ body t l b =
     both_bytes (le16 typ) (le16 (length body) ++ body) (bytes_le16 typ t)
     (both_bytes (le16 (length body)) body (bytes_le16 (length body) l) b)
 
 bytes_continues : (bodies : List (List ℕ)) → AllByRecursion IsBody bodies → AllByRecursion AreBytes bodies → AreBytes (continues bodies)
 bytes_continues [] h b = tt
-bytes_continues (c ∷ cs) h b = both_bytes (enc 60 c) (continues cs) (bytes_record 60 c (lit< tt) h.0 b.0) (bytes_continues cs h.1 b.1)
+bytes_continues (c ∷ cs) h b = both_bytes (record_bytes 60 c) (continues cs) (bytes_record 60 c (lit< tt) h.0 b.0) (bytes_continues cs h.1 b.1)
 
 bytes_group : (g : Group) → g.typ < 65536 → IsBody g.body → AreBytes g.body → AllByRecursion IsBody g.tail → AllByRecursion AreBytes g.tail → AreBytes (group_bytes g)
-bytes_group g t l b h c = both_bytes (enc g.typ g.body) (continues g.tail) (bytes_record g.typ g.body t l b) (bytes_continues g.tail h c)
+bytes_group g t l b h c = both_bytes (record_bytes g.typ g.body) (continues g.tail) (bytes_record g.typ g.body t l b) (bytes_continues g.tail h c)
 
 bytes_bare : (typ : ℕ) (body : List ℕ) → typ < 65536 → IsBody body → AreBytes body → AreBytes (group_bytes (bare_group typ body))
 bytes_bare typ body t l b = bytes_group (bare_group typ body) t l b tt tt
@@ -85,10 +85,10 @@ head_is false count h = (omega arith, (omega arith, (lit< tt, tt)))
 string_bytes : (used : ℕ) (us : List ℕ) → IsLaidString (canonical_string used us) → AreMarkBytes (marks_of_string (canonical_string used us))
 string_bytes used us h =
     let s = canonical_string used us in
-    both_marks (marks_of_break s.begins_piece) (map Some (head_bytes s.wide (length (units_of s)) None None) ++ (marks_of_steps s.wide s.steps ++ []))
+    both_marks (marks_of_break s.begins_piece) (map Some (head_bytes s.wide (length (laid_units s)) None None) ++ (marks_of_steps s.wide s.steps ++ []))
     (break_bytes s.begins_piece)
-    (both_marks (map Some (head_bytes s.wide (length (units_of s)) None None)) (marks_of_steps s.wide s.steps ++ [])
-    (head_is s.wide (length (units_of s)) h.count)
+    (both_marks (map Some (head_bytes s.wide (length (laid_units s)) None None)) (marks_of_steps s.wide s.steps ++ [])
+    (head_is s.wide (length (laid_units s)) h.count)
     (both_marks (marks_of_steps s.wide s.steps) [] (steps_bytes s.wide s.steps h.steps) tt))
 
 strings_bytes : (used : ℕ) (strings : List (List ℕ)) → AllByRecursion IsLaidString (canonical_strings used strings) → AreMarkBytes (marks_of_strings (canonical_strings used strings))
@@ -98,14 +98,14 @@ strings_bytes used (us ∷ strings) h =
     both_marks (marks_of_string (canonical_string used us)) (marks_of_strings (canonical_strings next strings))
     (string_bytes used us h.0) (strings_bytes next strings h.1)
 
-front_bytes : (ms : List Mark) → AreMarkBytes ms → AreBytes (front_of ms)
-front_bytes [] h = tt
-front_bytes (None ∷ ms) h = tt
-front_bytes (Some b ∷ ms) h = (h.0, front_bytes ms h.1)
+prefix_bytes : (ms : List Mark) → AreMarkBytes ms → AreBytes (prefix_of ms)
+prefix_bytes [] h = tt
+prefix_bytes (None ∷ ms) h = tt
+prefix_bytes (Some b ∷ ms) h = (h.0, prefix_bytes ms h.1)
 
 piece_bytes : (ms : List Mark) → AreMarkBytes ms → AllByRecursion AreBytes (pieces_of ms)
 piece_bytes [] h = tt
-piece_bytes (None ∷ ms) h = (front_bytes ms h.1, piece_bytes ms h.1)
+piece_bytes (None ∷ ms) h = (prefix_bytes ms h.1, piece_bytes ms h.1)
 piece_bytes (Some b ∷ ms) h = piece_bytes ms h.1
 
 pub short_fit : (bodies : List (List ℕ)) → AllByRecursion (λ body. length body ≤ 8224) bodies → AllByRecursion IsBody bodies
@@ -133,25 +133,25 @@ many_bytes used (us ∷ strings) =
     let next = fill_from used (marks_of_string s) in
     omega (arith, some_in s, bytes_in-append (marks_of_string s) (marks_of_strings (canonical_strings next strings)), many_bytes next strings)
 
-bytes_stand : (ms : List Mark) → bytes_in ms ≤ length (front_of ms) + length (continues (pieces_of ms))
+bytes_stand : (ms : List Mark) → bytes_in ms ≤ length (prefix_of ms) + length (continues (pieces_of ms))
 bytes_stand [] = omega arith
-bytes_stand (None ∷ ms) = omega (arith, bytes_stand ms, length-append (front_of ms) (continues (pieces_of ms)))
+bytes_stand (None ∷ ms) = omega (arith, bytes_stand ms, length-append (prefix_of ms) (continues (pieces_of ms)))
 bytes_stand (Some b ∷ ms) = omega (arith, bytes_stand ms)
 
 few_strings : (strings : List (List ℕ)) → length strings ≤ length (group_bytes (table_group (counts_of strings) (marks_of_strings (canonical_strings 8 strings))))
 few_strings strings =
     let ms = marks_of_strings (canonical_strings 8 strings) in
-    omega (arith, many_bytes 8 strings, bytes_stand ms, length-append (counts_of strings) (front_of ms), length-append (counts_of strings ++ front_of ms) (continues (pieces_of ms)))
+    omega (arith, many_bytes 8 strings, bytes_stand ms, length-append (counts_of strings) (prefix_of ms), length-append (counts_of strings ++ prefix_of ms) (continues (pieces_of ms)))
 
 table_bytes : (strings : List (List ℕ)) → length strings < 2 ^ 32 → AllByRecursion FitsString strings
     → AreBytes (group_bytes (table_group (counts_of strings) (marks_of_strings (canonical_strings 8 strings))))
 table_bytes strings few h =
     let ms = marks_of_strings (canonical_strings 8 strings) in
     let b = strings_bytes 8 strings (laid_canonical 8 strings h) in
-    let front = canonical_front strings in
+    let prefix = canonical_prefix strings in
     bytes_group (table_group (counts_of strings) ms) (lit< tt) (omega arith)
-    (both_bytes (counts_of strings) (front_of ms)
-    (both_bytes (le32 (length strings)) (le32 (length strings)) (bytes_le32 (length strings) few) (bytes_le32 (length strings) few)) (front_bytes ms b))
+    (both_bytes (counts_of strings) (prefix_of ms)
+    (both_bytes (le32 (length strings)) (le32 (length strings)) (bytes_le32 (length strings) few) (bytes_le32 (length strings) few)) (prefix_bytes ms b))
     (short_fit (pieces_of ms) (canonical_pieces strings)) (piece_bytes ms b)
 
 -- ---- parts
@@ -168,7 +168,7 @@ part_bytes kept h =
     both_bytes (group_bytes sheet_bof) (flat_map group_bytes (groups_of (canonical_records kept) ++ eof_group ∷ []))
     (bytes_bare types.BOF (0x00 ∷ 0x06 ∷ 0x10 ∷ 0x00 ∷ []) (lit< tt) (lit< tt) (lit< tt, (lit< tt, (lit< tt, (lit< tt, tt))))) (records_bytes kept h)
 
-parts_bytes : (list : List Entry) → Fits list → AreBytes (flat_map bytes_of_part (canonical_parts list))
+parts_bytes : (list : List ListEntry) → Fits list → AreBytes (flat_map bytes_of_part (canonical_parts list))
 parts_bytes [] h = tt
 parts_bytes (plain_entry typ body ∷ list) h = parts_bytes list h.1
 parts_bytes (table_entry strings ∷ list) h = parts_bytes list h.1
@@ -181,7 +181,7 @@ parts_bytes (sheet_entry state kind name kept ∷ list) h =
 sheet_bytes : (offset state kind : ℕ) (name : List ℕ) → offset < 4294967296 → state < 256 → kind < 256 → AreBytes name → AreBytes (sheet_body offset state kind name)
 sheet_bytes offset state kind name o s k n = both_bytes (le32 offset) (state ∷ kind ∷ name) (bytes_le32 offset o) (s, (k, n))
 
-globals_bytes : (offset : ℕ → ℕ) → ((k : ℕ) → offset k < 4294967296) → (n : ℕ) (list : List Entry) → Fits list
+globals_bytes : (offset : ℕ → ℕ) → ((k : ℕ) → offset k < 4294967296) → (n : ℕ) (list : List ListEntry) → Fits list
     → length (bytes_of_globals offset (canonical_items n list)) < 2 ^ 32 → AreBytes (bytes_of_globals offset (canonical_items n list))
 globals_bytes offset small n [] h few = bytes_bare types.EOF [] (lit< tt) (lit< tt) tt
 globals_bytes offset small n (plain_entry typ body ∷ list) h few =
@@ -202,7 +202,7 @@ globals_bytes offset small n (sheet_entry state kind name kept ∷ list) h few =
     both_bytes first others
     (bytes_bare types.BOUND_SHEET_8 body (lit< tt) (omega arith) (sheet_bytes (offset n) state kind name (small n) f.state_is f.kind_is f.name_is)) (globals_bytes offset small (suc n) list h.1 (omega (arith, few, length-append first others)))
 
-pub canonical_bytes : (list : List Entry) → Fits list → length (lay (canonical list)) < 2 ^ 32 → IsBytes (lay (canonical list))
+pub canonical_bytes : (list : List ListEntry) → Fits list → length (lay (canonical list)) < 2 ^ 32 → IsBytes (lay (canonical list))
 canonical_bytes list h fits =
     let d = canonical list in
     each_byte (lay d) (both_bytes (bytes_of_globals (offset_in d) d.globals) (flat_map bytes_of_part d.parts)

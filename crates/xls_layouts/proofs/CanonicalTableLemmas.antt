@@ -4,7 +4,7 @@ use Rattle.std.specs.Prelude.{nat_lt, not, ◌&&◌}
 use Rattle.std.specs.List.{AllByRecursion}
 use Rattle.std.proofs.lemmas.Bool.{ltb-true, ltb-false}
 use Rattle.std.proofs.lemmas.List.{append-nil}
-use Rattle.xls_stream.specs.StringTable.{Mark, front_of}
+use Rattle.xls_stream.specs.StringTable.{Mark, prefix_of}
 use Rattle.xls_layouts.specs.LaidStrings.{Step, put, marks_of_steps, units_of_steps, FitsWidth, AreSteps, marks_of_break, marks_of_string, IsLaidString, marks_of_strings, lists_of, pieces_of}
 use Rattle.xls_layouts.specs.Canonical.{passes, fill_from, unit_size, cut_if, used_after, canonical_steps, is_narrow, canonical_string, canonical_strings, IsUnit, FitsString}
 
@@ -58,7 +58,7 @@ laid_one used us h =
       runs = lit< tt;
       extension = lit< tt;
       cut_well = tt;
-      all_behind = refl;
+      all_after = refl;
     }
 
 pub laid_canonical : (used : ℕ) (strings : List (List ℕ)) → AllByRecursion FitsString strings → AllByRecursion IsLaidString (canonical_strings used strings)
@@ -82,9 +82,9 @@ fill_within used [] h = h
 fill_within used (None ∷ ms) h = fill_within 0 ms h.1
 fill_within used (Some x ∷ ms) h = fill_within (suc used) ms h
 
-after_fits : (p : Bool) (front used more : ℕ) → front + more ≤ 8224 → passes used more ≡ p → used_after p front used more ≤ 8224
-after_fits true front used more h e = h
-after_fits false front used more h e = ltb-false 8224 (used + more) e
+after_fits : (p : Bool) (prefix used more : ℕ) → prefix + more ≤ 8224 → passes used more ≡ p → used_after p prefix used more ≤ 8224
+after_fits true prefix used more h e = h
+after_fits false prefix used more h e = ltb-false 8224 (used + more) e
 
 units_over : (p wide : Bool) (used u : ℕ) (steps : List Step) → used ≤ 8224 → Within (used_after p 1 used (unit_size wide)) (marks_of_steps wide steps) → Within used (marks_of_steps wide (cut_if p wide (put u ∷ steps)))
 units_over true true used u steps h w = (h, w)
@@ -125,18 +125,18 @@ strings_within used (us ∷ strings) h =
 abbrev IsShort : List ℕ → Type 0
 IsShort body = length body ≤ 8224
 
-front_short : (used : ℕ) (ms : List Mark) → Within used ms → used + length (front_of ms) ≤ 8224
-front_short used [] h = omega arith
-front_short used (None ∷ ms) h = let x = h.0 in omega arith
-front_short used (Some b ∷ ms) h = omega (arith, front_short (suc used) ms h)
+prefix_short : (used : ℕ) (ms : List Mark) → Within used ms → used + length (prefix_of ms) ≤ 8224
+prefix_short used [] h = omega arith
+prefix_short used (None ∷ ms) h = let x = h.0 in omega arith
+prefix_short used (Some b ∷ ms) h = omega (arith, prefix_short (suc used) ms h)
 
 pieces_short : (used : ℕ) (ms : List Mark) → Within used ms → AllByRecursion IsShort (pieces_of ms)
 pieces_short used [] h = tt
-pieces_short used (None ∷ ms) h = (omega (arith, front_short 0 ms h.1), pieces_short 0 ms h.1)
+pieces_short used (None ∷ ms) h = (omega (arith, prefix_short 0 ms h.1), pieces_short 0 ms h.1)
 pieces_short used (Some b ∷ ms) h = pieces_short (suc used) ms h
 
-pub canonical_front : (strings : List (List ℕ)) → 8 + length (front_of (marks_of_strings (canonical_strings 8 strings))) ≤ 8224
-canonical_front strings = front_short 8 (marks_of_strings (canonical_strings 8 strings)) (strings_within 8 strings (lit< tt))
+pub canonical_prefix : (strings : List (List ℕ)) → 8 + length (prefix_of (marks_of_strings (canonical_strings 8 strings))) ≤ 8224
+canonical_prefix strings = prefix_short 8 (marks_of_strings (canonical_strings 8 strings)) (strings_within 8 strings (lit< tt))
 
 pub canonical_pieces : (strings : List (List ℕ)) → AllByRecursion IsShort (pieces_of (marks_of_strings (canonical_strings 8 strings)))
 canonical_pieces strings = pieces_short 8 (marks_of_strings (canonical_strings 8 strings)) (strings_within 8 strings (lit< tt))

@@ -20,13 +20,13 @@ group typ body tail = record { typ = typ; body = body; tail = tail }
 
 -- the part of no sheet
 abbrev empty_part : LaidPart
-empty_part = record { front = []; bof = bare_group 0x0809 []; items = none }
+empty_part = record { prefix = []; bof = bare_group 0x0809 []; items = none }
 
 -- two records before the BOF, of which one has two Continues; a Number with a Continue; a chart that holds
 -- a Number and a substream of its own; a record that isn't read, and a Formula
 abbrev shared_part : LaidPart
 shared_part = record {
-  front = group 0x0208 (0x01 ∷ []) ((0x02 ∷ []) ∷ [] ∷ []) ∷ bare_group 0x000C [] ∷ [];
+  prefix = group 0x0208 (0x01 ∷ []) ((0x02 ∷ []) ∷ [] ∷ []) ∷ bare_group 0x000C [] ∷ [];
   bof = group 0x0809 (0x00 ∷ 0x06 ∷ 0x10 ∷ 0x00 ∷ []) ([] ∷ []);
   items = plain (group 0x0203 (0x03 ∷ []) ((0x04 ∷ []) ∷ []))
       (nested (group 0x0809 [] ((0x05 ∷ []) ∷ []))
@@ -36,32 +36,32 @@ shared_part = record {
 }
 
 abbrev last_part : LaidPart
-last_part = record { front = []; bof = bare_group 0x0809 []; items = plain (bare_group 0x00E5 (0x00 ∷ 0x00 ∷ [])) none }
+last_part = record { prefix = []; bof = bare_group 0x0809 []; items = plain (bare_group 0x00E5 (0x00 ∷ 0x00 ∷ [])) none }
 
 -- ---- the string table
 
 -- wide, narrow and wide again; cut inside its two runs, between them and the extension, and inside that
-abbrev cut_behind : LaidString
-cut_behind = record {
+abbrev cut_after : LaidString
+cut_after = record {
   begins_piece = false;
   wide = true;
   runs = Some 2;
   extension = Some 3;
   steps = put 0x20AC ∷ cut false ∷ put 0xFF ∷ cut true ∷ put 0xD83D ∷ [];
-  behind = Some 0x11 ∷ Some 0x12 ∷ Some 0x13 ∷ None ∷ Some 0x14 ∷ Some 0x15 ∷ Some 0x16 ∷ Some 0x17 ∷ Some 0x18 ∷ None ∷ Some 0x19 ∷ None ∷ Some 0x1A ∷ Some 0x1B ∷ [];
+  following = Some 0x11 ∷ Some 0x12 ∷ Some 0x13 ∷ None ∷ Some 0x14 ∷ Some 0x15 ∷ Some 0x16 ∷ Some 0x17 ∷ Some 0x18 ∷ None ∷ Some 0x19 ∷ None ∷ Some 0x1A ∷ Some 0x1B ∷ [];
 }
 
 -- a piece begins with it, and one holds a flags byte alone
 abbrev begins : LaidString
-begins = record { begins_piece = true; wide = false; runs = None; extension = None; steps = put 0x41 ∷ cut true ∷ cut false ∷ put 0x42 ∷ []; behind = [] }
+begins = record { begins_piece = true; wide = false; runs = None; extension = None; steps = put 0x41 ∷ cut true ∷ cut false ∷ put 0x42 ∷ []; following = [] }
 
 -- no units, runs or extension bytes, though it says how many
 abbrev empty : LaidString
-empty = record { begins_piece = false; wide = true; runs = Some 0; extension = Some 0; steps = []; behind = [] }
+empty = record { begins_piece = false; wide = true; runs = Some 0; extension = Some 0; steps = []; following = [] }
 
 -- cut before its first unit, and before the first byte of its extension
 abbrev cut_before : LaidString
-cut_before = record { begins_piece = true; wide = false; runs = None; extension = Some 1; steps = cut true ∷ put 0x20AC ∷ []; behind = None ∷ Some 0x1C ∷ [] }
+cut_before = record { begins_piece = true; wide = false; runs = None; extension = Some 1; steps = cut true ∷ put 0x20AC ∷ []; following = None ∷ Some 0x1C ∷ [] }
 
 -- ---- the layout
 
@@ -70,7 +70,7 @@ free = record {
   globals = a_plain (group 0x0809 (0x00 ∷ 0x06 ∷ 0x05 ∷ 0x00 ∷ []) ((0x21 ∷ []) ∷ []))
       ∷ a_loose (group 0x0031 [] ([] ∷ (0x22 ∷ []) ∷ []))
       ∷ a_sheet 0x00 0x00 (0x01 ∷ 0x00 ∷ 0x41 ∷ []) ((0x23 ∷ []) ∷ []) 1
-      ∷ a_table (replicate 8 0x24) (cut_behind ∷ begins ∷ empty ∷ cut_before ∷ [])
+      ∷ a_table (replicate 8 0x24) (cut_after ∷ begins ∷ empty ∷ cut_before ∷ [])
       ∷ a_sheet 0x02 0x02 (0x01 ∷ 0x00 ∷ 0x42 ∷ []) [] 2
       ∷ a_plain (group 0x0022 (0x01 ∷ 0x00 ∷ []) ((0x25 ∷ []) ∷ []))
       ∷ a_sheet 0x01 0x06 [] [] 1 ∷ [];
@@ -141,7 +141,7 @@ bare : (typ : ℕ) (body : List ℕ) → typ < 2 ^ 16 → typ ≢ 0x3C → IsBod
 bare typ body t c b = laid typ body [] t c b tt
 
 empty_laid : IsLaidPart empty_part
-empty_laid = record { groups = (bare 0x0809 [] (lit< tt) (λ e. omega arith) (lit< tt), tt); front = tt; is_bof = refl; items = tt }
+empty_laid = record { groups = (bare 0x0809 [] (lit< tt) (λ e. omega arith) (lit< tt), tt); prefix = tt; is_bof = refl; items = tt }
 
 shared_laid : IsLaidPart shared_part
 shared_laid = record {
@@ -176,7 +176,7 @@ shared_laid = record {
       ),
     ),
   );
-  front = (((λ e. omega arith, λ e. omega arith), refl), (((λ e. omega arith, λ e. omega arith), refl), tt));
+  prefix = (((λ e. omega arith, λ e. omega arith), refl), (((λ e. omega arith, λ e. omega arith), refl), tt));
   is_bof = refl;
   items = (
     (λ e. omega arith, λ e. omega arith),
@@ -192,21 +192,21 @@ shared_laid = record {
 last_laid : IsLaidPart last_part
 last_laid = record {
   groups = (bare _ _ (lit< tt) (λ e. omega arith) (lit< tt), (bare _ _ (lit< tt) (λ e. omega arith) (lit< tt), tt));
-  front = tt;
+  prefix = tt;
   is_bof = refl;
   items = ((λ e. omega arith, λ e. omega arith), tt);
 }
 
-table_laid : IsLaidTable (replicate 8 0x24) (cut_behind ∷ begins ∷ empty ∷ cut_before ∷ [])
+table_laid : IsLaidTable (replicate 8 0x24) (cut_after ∷ begins ∷ empty ∷ cut_before ∷ [])
 table_laid = record {
   eight = refl;
   are_laid = (
-    record { count = lit< tt; steps = (lit< tt, (lit< tt, (lit< tt, (lit< tt, (lit< tt, tt))))); runs = lit< tt; extension = lit< tt; cut_well = (tt, (tt, (tt, tt))); all_behind = refl },
+    record { count = lit< tt; steps = (lit< tt, (lit< tt, (lit< tt, (lit< tt, (lit< tt, tt))))); runs = lit< tt; extension = lit< tt; cut_well = (tt, (tt, (tt, tt))); all_after = refl },
     (
-      record { count = lit< tt; steps = (lit< tt, (lit< tt, (lit< tt, (lit< tt, tt)))); runs = lit< tt; extension = lit< tt; cut_well = tt; all_behind = refl },
+      record { count = lit< tt; steps = (lit< tt, (lit< tt, (lit< tt, (lit< tt, tt)))); runs = lit< tt; extension = lit< tt; cut_well = tt; all_after = refl },
       (
-        record { count = lit< tt; steps = tt; runs = lit< tt; extension = lit< tt; cut_well = tt; all_behind = refl },
-        (record { count = lit< tt; steps = (lit< tt, (lit< tt, tt)); runs = lit< tt; extension = lit< tt; cut_well = (tt, tt); all_behind = refl }, tt),
+        record { count = lit< tt; steps = tt; runs = lit< tt; extension = lit< tt; cut_well = tt; all_after = refl },
+        (record { count = lit< tt; steps = (lit< tt, (lit< tt, tt)); runs = lit< tt; extension = lit< tt; cut_well = (tt, tt); all_after = refl }, tt),
       ),
     ),
   );
@@ -259,12 +259,12 @@ all_there (suc n) b = ap suc (all_there n b)
 
 -- a string of up to FFFF units and runs and 7FFFFFFF extension bytes
 pub longest : (units runs extension : ℕ) → units < 0x10000 → runs < 0x10000 → extension < 0x80000000
-    → IsLaidString (record { begins_piece = true; wide = false; runs = Some runs; extension = Some extension; steps = map put (replicate units 0x61); behind = map Some (replicate (4 * runs + extension) 0x00) })
+    → IsLaidString (record { begins_piece = true; wide = false; runs = Some runs; extension = Some extension; steps = map put (replicate units 0x61); following = map Some (replicate (4 * runs + extension) 0x00) })
 longest units runs extension u r e = record {
   count = rw (many units 0x61) u;
   steps = narrow units 0x61 (lit< tt);
   runs = r;
   extension = e;
   cut_well = uncut (4 * runs + extension) 0x00;
-  all_behind = all_there (4 * runs + extension) 0x00;
+  all_after = all_there (4 * runs + extension) 0x00;
 }

@@ -4,8 +4,8 @@ use Rattle.std.specs.Prelude.{nat_lt, ◌↔◌}
 use Rattle.std.proofs.lemmas.Bool.{ltb-true, ltb-false}
 use Rattle.std.proofs.lemmas.List.{drop_at, length-map}
 use Rattle.xls_bytes.specs.Numbers.{le}
-use Rattle.xls_stream.specs.StringTable.{Mark, Missing, short_head, is_wide, front_of, with_unit, units_at, tail_at, has_runs, has_extension, head_len, runs_at, extension_at, behind_at, head_at, with_tail, with_units, with_head, str_at, next_at, Table}
-use Rattle.xls_layouts.specs.TableGrammar.{UnitStep, one_byte, two_bytes, flags_byte, marks_of_units, units_in, AreUnits, IsTail, Str, StartsNoByte, IsElement, IsTable}
+use Rattle.xls_stream.specs.StringTable.{Mark, Missing, short_head, is_wide, prefix_of, with_unit, units_at, tail_at, has_runs, has_extension, head_len, runs_at, extension_at, after_at, head_at, with_tail, with_units, with_head, str_at, next_at, Table}
+use Rattle.xls_layouts.specs.TableGrammar.{UnitStep, one_byte, two_bytes, flags_byte, marks_of_units, units_in, AreUnits, IsTail, Str, StartsNoByte, IsElement, IsStringTable}
 
 -- ---- units
 
@@ -50,9 +50,9 @@ pub record AreRead (n : ℕ) (wide : Bool) (ms : List Mark) (us : List ℕ) (res
 same_some : (x y : List ℕ × List Mark) → ◌≡◌ {A = Option (List ℕ × List Mark)} (Some x) (Some y) → x ≡ y
 same_some x y e = cc
 
-unit_given : (u : ℕ) (r : Option (List ℕ × List Mark)) (us : List ℕ) (rest : List Mark) → with_unit u r ≡ Some (us, rest) → (vs : List ℕ) × (r ≡ Some (vs, rest)) × (us ≡ u ∷ vs)
-unit_given u None us rest e = absurd cc
-unit_given u (Some x) us rest e =
+unit_from : (u : ℕ) (r : Option (List ℕ × List Mark)) (us : List ℕ) (rest : List Mark) → with_unit u r ≡ Some (us, rest) → (vs : List ℕ) × (r ≡ Some (vs, rest)) × (us ≡ u ∷ vs)
+unit_from u None us rest e = absurd cc
+unit_from u (Some x) us rest e =
     let p = same_some (u ∷ x.0, x.1) (us, rest) e in
     (x.0, ap (λ (r : List Mark). Some (x.0, r)) (ap (λ (q : List ℕ × List Mark). q.1) p), sym (ap (λ (q : List ℕ × List Mark). q.0) p))
 
@@ -94,12 +94,12 @@ units_split (suc n) false (None ∷ None ∷ ms) us rest e = absurd cc
 units_split (suc n) true (None ∷ Some flags ∷ ms) us rest e = are_in_piece n flags true ms us rest (units_split (suc n) (is_wide flags) ms us rest e)
 units_split (suc n) false (None ∷ Some flags ∷ ms) us rest e = are_in_piece n flags false ms us rest (units_split (suc n) (is_wide flags) ms us rest e)
 units_split (suc n) false (Some b ∷ ms) us rest e =
-    let g = unit_given b (units_at n false ms) us rest e in
+    let g = unit_from b (units_at n false ms) us rest e in
     are_more n b ms us g.0 rest g.2 (units_split n false ms g.0 rest g.1)
 units_split (suc n) true (Some b ∷ []) us rest e = absurd cc
 units_split (suc n) true (Some b ∷ None ∷ ms) us rest e = absurd cc
 units_split (suc n) true (Some b ∷ Some c ∷ ms) us rest e =
-    let g = unit_given (b + 256 * c) (units_at n true ms) us rest e in
+    let g = unit_from (b + 256 * c) (units_at n true ms) us rest e in
     are_more_wide n b c ms us g.0 rest g.2 (units_split n true ms g.0 rest g.1)
 
 -- ---- tails
@@ -131,17 +131,17 @@ below : (m n : ℕ) → m < n → nat_lt m n ≡ true
 below m n h = grind arith
 
 -- the parts of a head
-pub record HeadParts (front : List ℕ) (flags : ℕ) : Type 0 where
+pub record HeadParts (prefix : List ℕ) (flags : ℕ) : Type 0 where
   pub count : List ℕ
   pub runs : List ℕ
   pub extension : List ℕ
-  pub whole : take (head_len flags) front ≡ count ++ flags ∷ (runs ++ extension)
+  pub whole : take (head_len flags) prefix ≡ count ++ flags ∷ (runs ++ extension)
   pub count_len : length count ≡ 2
   pub runs_len : length runs ≡ cond (has_runs flags) 2 0
   pub extension_len : length extension ≡ cond (has_extension flags) 4 0
-  pub count_is : le (take 2 front) ≡ le count
-  pub runs_is : runs_at front ≡ le runs
-  pub extension_is : extension_at front ≡ le extension
+  pub count_is : le (take 2 prefix) ≡ le count
+  pub runs_is : runs_at prefix ≡ le runs
+  pub extension_is : extension_at prefix ≡ le extension
 
 parts_by : (x y f : ℕ) (rest : List ℕ) (a b : Bool) → has_runs f ≡ a → has_extension f ≡ b → cond b (cond a 5 3 + 4) (cond a 5 3) ≤ 3 + length rest → HeadParts (x ∷ y ∷ f ∷ rest) f
 parts_by x y f rest false false ea eb long = record {
@@ -206,7 +206,7 @@ parts_by x y f (r ∷ s ∷ c ∷ d ∷ e ∷ g ∷ rest) true true ea eb long =
 }
 
 -- the bytes at the start of marks
-bytes_split : (n : ℕ) (ms : List Mark) → n ≤ length (front_of ms) → ms ≡ map Some (take n (front_of ms)) ++ drop n ms
+bytes_split : (n : ℕ) (ms : List Mark) → n ≤ length (prefix_of ms) → ms ≡ map Some (take n (prefix_of ms)) ++ drop n ms
 bytes_split zero ms h = refl
 bytes_split (suc n) [] h = absurd (omega arith)
 bytes_split (suc n) (None ∷ ms) h = absurd (omega arith)
@@ -231,64 +231,64 @@ four_of (c ∷ d ∷ e ∷ []) h = absurd (omega arith)
 four_of (c ∷ d ∷ e ∷ g ∷ []) h = (c, d, e, g, refl)
 four_of (c ∷ d ∷ e ∷ g ∷ i ∷ xs) h = absurd (omega arith)
 
-head_three : (x y f : ℕ) (front : List ℕ) → has_runs f ≡ false → has_extension f ≡ false
-    → head_at (x ∷ y ∷ f ∷ front) ≡ Ok (record { len = 3; count = le (x ∷ y ∷ []); wide = is_wide f; behind = Some 0 })
-head_three x y f front a b =
-    let n = suc (suc (suc (length front))) in
+head_three : (x y f : ℕ) (prefix : List ℕ) → has_runs f ≡ false → has_extension f ≡ false
+    → head_at (x ∷ y ∷ f ∷ prefix) ≡ Ok (record { len = 3; count = le (x ∷ y ∷ []); wide = is_wide f; following = Some 0 })
+head_three x y f prefix a b =
+    let n = suc (suc (suc (length prefix))) in
     rw (a, b, not_below n 3 (omega arith)) refl
 
-head_five : (x y f r s : ℕ) (front : List ℕ) → has_runs f ≡ true → has_extension f ≡ false
-    → head_at (x ∷ y ∷ f ∷ r ∷ s ∷ front) ≡ Ok (record { len = 5; count = le (x ∷ y ∷ []); wide = is_wide f; behind = Some (4 * le (r ∷ s ∷ []) + 0) })
-head_five x y f r s front a b =
-    let n = suc (suc (suc (suc (suc (length front))))) in
+head_five : (x y f r s : ℕ) (prefix : List ℕ) → has_runs f ≡ true → has_extension f ≡ false
+    → head_at (x ∷ y ∷ f ∷ r ∷ s ∷ prefix) ≡ Ok (record { len = 5; count = le (x ∷ y ∷ []); wide = is_wide f; following = Some (4 * le (r ∷ s ∷ []) + 0) })
+head_five x y f r s prefix a b =
+    let n = suc (suc (suc (suc (suc (length prefix))))) in
     rw (a, b, not_below n 3 (omega arith), not_below n 5 (omega arith)) refl
 
-head_seven : (x y f c d e g : ℕ) (front : List ℕ) → has_runs f ≡ false → has_extension f ≡ true → le (c ∷ d ∷ e ∷ g ∷ []) < 2 ^ 31
-    → head_at (x ∷ y ∷ f ∷ c ∷ d ∷ e ∷ g ∷ front) ≡ Ok (record { len = 7; count = le (x ∷ y ∷ []); wide = is_wide f; behind = Some (0 + le (c ∷ d ∷ e ∷ g ∷ [])) })
-head_seven x y f c d e g front a b small =
-    let n = suc (suc (suc (suc (suc (suc (suc (length front))))))) in
+head_seven : (x y f c d e g : ℕ) (prefix : List ℕ) → has_runs f ≡ false → has_extension f ≡ true → le (c ∷ d ∷ e ∷ g ∷ []) < 2 ^ 31
+    → head_at (x ∷ y ∷ f ∷ c ∷ d ∷ e ∷ g ∷ prefix) ≡ Ok (record { len = 7; count = le (x ∷ y ∷ []); wide = is_wide f; following = Some (0 + le (c ∷ d ∷ e ∷ g ∷ [])) })
+head_seven x y f c d e g prefix a b small =
+    let n = suc (suc (suc (suc (suc (suc (suc (length prefix))))))) in
     rw (a, b, not_below n 3 (omega arith), not_below n 7 (omega arith), below (le (c ∷ d ∷ e ∷ g ∷ [])) 2147483648 small) refl
 
-head_nine : (x y f r s c d e g : ℕ) (front : List ℕ) → has_runs f ≡ true → has_extension f ≡ true → le (c ∷ d ∷ e ∷ g ∷ []) < 2 ^ 31
-    → head_at (x ∷ y ∷ f ∷ r ∷ s ∷ c ∷ d ∷ e ∷ g ∷ front) ≡ Ok (record { len = 9; count = le (x ∷ y ∷ []); wide = is_wide f; behind = Some (4 * le (r ∷ s ∷ []) + le (c ∷ d ∷ e ∷ g ∷ [])) })
-head_nine x y f r s c d e g front a b small =
-    let n = suc (suc (suc (suc (suc (suc (suc (suc (suc (length front))))))))) in
+head_nine : (x y f r s c d e g : ℕ) (prefix : List ℕ) → has_runs f ≡ true → has_extension f ≡ true → le (c ∷ d ∷ e ∷ g ∷ []) < 2 ^ 31
+    → head_at (x ∷ y ∷ f ∷ r ∷ s ∷ c ∷ d ∷ e ∷ g ∷ prefix) ≡ Ok (record { len = 9; count = le (x ∷ y ∷ []); wide = is_wide f; following = Some (4 * le (r ∷ s ∷ []) + le (c ∷ d ∷ e ∷ g ∷ [])) })
+head_nine x y f r s c d e g prefix a b small =
+    let n = suc (suc (suc (suc (suc (suc (suc (suc (suc (length prefix))))))))) in
     rw (a, b, not_below n 3 (omega arith), not_below n 9 (omega arith), below (le (c ∷ d ∷ e ∷ g ∷ [])) 2147483648 small) refl
 
-head_by : (x y f : ℕ) (runs extension front : List ℕ) (a b : Bool) → has_runs f ≡ a → has_extension f ≡ b → length runs ≡ cond a 2 0 → length extension ≡ cond b 4 0 → le extension < 2 ^ 31
-    → head_at (x ∷ y ∷ f ∷ ((runs ++ extension) ++ front)) ≡ Ok (record { len = suc (suc (suc (length (runs ++ extension)))); count = le (x ∷ y ∷ []); wide = is_wide f; behind = Some (4 * le runs + le extension) })
-head_by x y f runs extension front false false ea eb la lb small =
+head_by : (x y f : ℕ) (runs extension prefix : List ℕ) (a b : Bool) → has_runs f ≡ a → has_extension f ≡ b → length runs ≡ cond a 2 0 → length extension ≡ cond b 4 0 → le extension < 2 ^ 31
+    → head_at (x ∷ y ∷ f ∷ ((runs ++ extension) ++ prefix)) ≡ Ok (record { len = suc (suc (suc (length (runs ++ extension)))); count = le (x ∷ y ∷ []); wide = is_wide f; following = Some (4 * le runs + le extension) })
+head_by x y f runs extension prefix false false ea eb la lb small =
     let r = nil_of runs la in
     let t = nil_of extension lb in
-    rw (r, t) (head_three x y f front ea eb)
-head_by x y f runs extension front true false ea eb la lb small =
+    rw (r, t) (head_three x y f prefix ea eb)
+head_by x y f runs extension prefix true false ea eb la lb small =
     let r = two_of runs la in
     let t = nil_of extension lb in
-    rw (r.2, t) (head_five x y f r.0 r.1 front ea eb)
-head_by x y f runs extension front false true ea eb la lb small =
+    rw (r.2, t) (head_five x y f r.0 r.1 prefix ea eb)
+head_by x y f runs extension prefix false true ea eb la lb small =
     let r = nil_of runs la in
     let t = four_of extension lb in
     let u = t.4 in
     let less : le (t.0 ∷ t.1 ∷ t.2 ∷ t.3 ∷ []) < 2 ^ 31 = rw u at small in
-    rw (r, u) (head_seven x y f t.0 t.1 t.2 t.3 front ea eb less)
-head_by x y f runs extension front true true ea eb la lb small =
+    rw (r, u) (head_seven x y f t.0 t.1 t.2 t.3 prefix ea eb less)
+head_by x y f runs extension prefix true true ea eb la lb small =
     let r = two_of runs la in
     let t = four_of extension lb in
     let u = t.4 in
     let less : le (t.0 ∷ t.1 ∷ t.2 ∷ t.3 ∷ []) < 2 ^ 31 = rw u at small in
-    rw (r.2, u) (head_nine x y f r.0 r.1 t.0 t.1 t.2 t.3 front ea eb less)
+    rw (r.2, u) (head_nine x y f r.0 r.1 t.0 t.1 t.2 t.3 prefix ea eb less)
 
-head_read : (count : List ℕ) (f : ℕ) (runs extension front : List ℕ) → length count ≡ 2 → length runs ≡ cond (has_runs f) 2 0 → length extension ≡ cond (has_extension f) 4 0 → le extension < 2 ^ 31
-    → head_at ((count ++ f ∷ (runs ++ extension)) ++ front) ≡ Ok (record { len = length (count ++ f ∷ (runs ++ extension)); count = le count; wide = is_wide f; behind = Some (4 * le runs + le extension) })
-head_read count f runs extension front lc la lb small =
+head_read : (count : List ℕ) (f : ℕ) (runs extension prefix : List ℕ) → length count ≡ 2 → length runs ≡ cond (has_runs f) 2 0 → length extension ≡ cond (has_extension f) 4 0 → le extension < 2 ^ 31
+    → head_at ((count ++ f ∷ (runs ++ extension)) ++ prefix) ≡ Ok (record { len = length (count ++ f ∷ (runs ++ extension)); count = le count; wide = is_wide f; following = Some (4 * le runs + le extension) })
+head_read count f runs extension prefix lc la lb small =
     let c = two_of count lc in
-    rw c.2 (head_by c.0 c.1 f runs extension front (has_runs f) (has_extension f) refl refl la lb small)
+    rw c.2 (head_by c.0 c.1 f runs extension prefix (has_runs f) (has_extension f) refl refl la lb small)
 
 -- ---- Str
 
-front_over : (bs : List ℕ) (ms : List Mark) → front_of (map Some bs ++ ms) ≡ bs ++ front_of ms
-front_over [] ms = refl
-front_over (b ∷ bs) ms = ap (λ (x : List ℕ). b ∷ x) (front_over bs ms)
+prefix_over : (bs : List ℕ) (ms : List Mark) → prefix_of (map Some bs ++ ms) ≡ bs ++ prefix_of ms
+prefix_over [] ms = refl
+prefix_over (b ∷ bs) ms = ap (λ (x : List ℕ). b ∷ x) (prefix_over bs ms)
 
 -- what is Str is read as a string
 str_read : (ms : List Mark) (units : List ℕ) (after : List Mark) → Str ms units after → str_at ms ≡ Ok (units, after)
@@ -299,8 +299,8 @@ str_read ms units after h =
     let size = 4 * le h.runs + le h.extension in
     let n = le h.count in
     let w = is_wide h.flags in
-    let first : head_at (front_of all) ≡ Ok (record { len = length bytes; count = n; wide = w; behind = Some size }) =
-    ap head_at (front_over bytes more) ∙ head_read h.count h.flags h.runs h.extension (front_of more) h.count_len h.runs_len h.extension_len h.not_negative in
+    let first : head_at (prefix_of all) ≡ Ok (record { len = length bytes; count = n; wide = w; following = Some size }) =
+    ap head_at (prefix_over bytes more) ∙ head_read h.count h.flags h.runs h.extension (prefix_of more) h.count_len h.runs_len h.extension_len h.not_negative in
     let left : drop (length bytes) all ≡ more = drop_at (map Some bytes) more (length bytes) (length-map bytes Some) in
     let us : units_at n w more ≡ Some (units_in h.steps, h.tail ++ after) = units_read n w h.steps (h.tail ++ after) h.are_units in
     let end : tail_at size (h.tail ++ after) ≡ Some after = tail_read size h.tail after h.is_tail in
@@ -313,9 +313,9 @@ str_read ms units after h =
 
 -- ---- what is read as a string is Str
 
-tail_given : (us : List ℕ) (r : Option (List Mark)) (units : List ℕ) (after : List Mark) → with_tail us r ≡ Ok (units, after) → (us ≡ units) × (r ≡ Some after)
-tail_given us None units after e = absurd cc
-tail_given us (Some ms) units after e =
+tail_from : (us : List ℕ) (r : Option (List Mark)) (units : List ℕ) (after : List Mark) → with_tail us r ≡ Ok (units, after) → (us ≡ units) × (r ≡ Some after)
+tail_from us None units after e = absurd cc
+tail_from us (Some ms) units after e =
     let p = same_ok (us, ms) (units, after) e in
     (ap (λ (q : List ℕ × List Mark). q.0) p, ap (λ (q : List ℕ × List Mark). Some q.1) p)
   where
@@ -323,66 +323,66 @@ tail_given us (Some ms) units after e =
     same_ok x y e = cc
 
 -- the length of the tail is there, and so are the units and the tail
-pub record AfterHead (behind : Option ℕ) (n : ℕ) (wide : Bool) (ms : List Mark) (units : List ℕ) (after : List Mark) : Type 0 where
+pub record AfterHead (following : Option ℕ) (n : ℕ) (wide : Bool) (ms : List Mark) (units : List ℕ) (after : List Mark) : Type 0 where
   pub size : ℕ
-  pub size_is : behind ≡ Some size
+  pub size_is : following ≡ Some size
   pub middle : List Mark
   pub units_are : units_at n wide ms ≡ Some (units, middle)
   pub tail_is : tail_at size middle ≡ Some after
 
-after_by : (behind : Option ℕ) (n : ℕ) (wide : Bool) (ms : List Mark) (r : Option (List ℕ × List Mark)) (units : List ℕ) (after : List Mark) → units_at n wide ms ≡ r → with_units behind r ≡ Ok (units, after) → AfterHead behind n wide ms units after
-after_by behind n wide ms None units after e h = absurd cc
+after_by : (following : Option ℕ) (n : ℕ) (wide : Bool) (ms : List Mark) (r : Option (List ℕ × List Mark)) (units : List ℕ) (after : List Mark) → units_at n wide ms ≡ r → with_units following r ≡ Ok (units, after) → AfterHead following n wide ms units after
+after_by following n wide ms None units after e h = absurd cc
 after_by None n wide ms (Some x) units after e h = absurd cc
 after_by (Some k) n wide ms (Some x) units after e h =
-    let t = tail_given x.0 (tail_at k x.1) units after h in
+    let t = tail_from x.0 (tail_at k x.1) units after h in
     record { size = k; size_is = refl; middle = x.1; units_are = e ∙ ap (λ (us : List ℕ). Some (us, x.1)) t.0; tail_is = t.1 }
 
 -- the head is whole, and this stands after it
 pub record HeadRead (ms : List Mark) (units : List ℕ) (after : List Mark) : Type 0 where
-  pub long : 3 ≤ length (front_of ms)
-  pub whole : head_len (slice_index (front_of ms) 2) ≤ length (front_of ms)
-  pub behind : AfterHead (behind_at (front_of ms)) (le (take 2 (front_of ms))) (is_wide (slice_index (front_of ms) 2)) (drop (head_len (slice_index (front_of ms) 2)) ms) units after
+  pub long : 3 ≤ length (prefix_of ms)
+  pub whole : head_len (slice_index (prefix_of ms) 2) ≤ length (prefix_of ms)
+  pub following : AfterHead (after_at (prefix_of ms)) (le (take 2 (prefix_of ms))) (is_wide (slice_index (prefix_of ms) 2)) (drop (head_len (slice_index (prefix_of ms) 2)) ms) units after
 
-head_given : (ms : List Mark) (a b : Bool) (units : List ℕ) (after : List Mark)
-    → nat_lt (length (front_of ms)) 3 ≡ a → nat_lt (length (front_of ms)) (head_len (slice_index (front_of ms) 2)) ≡ b
-    → with_head ms (cond a (Err (short_head 3 (length (front_of ms)))) (cond b (Err (short_head (head_len (slice_index (front_of ms) 2)) (length (front_of ms)))) (Ok (record { len = head_len (slice_index (front_of ms) 2); count = le (take 2 (front_of ms)); wide = is_wide (slice_index (front_of ms) 2); behind = behind_at (front_of ms) })))) ≡ Ok (units, after)
+head_from : (ms : List Mark) (a b : Bool) (units : List ℕ) (after : List Mark)
+    → nat_lt (length (prefix_of ms)) 3 ≡ a → nat_lt (length (prefix_of ms)) (head_len (slice_index (prefix_of ms) 2)) ≡ b
+    → with_head ms (cond a (Err (short_head 3 (length (prefix_of ms)))) (cond b (Err (short_head (head_len (slice_index (prefix_of ms) 2)) (length (prefix_of ms)))) (Ok (record { len = head_len (slice_index (prefix_of ms) 2); count = le (take 2 (prefix_of ms)); wide = is_wide (slice_index (prefix_of ms) 2); following = after_at (prefix_of ms) })))) ≡ Ok (units, after)
     → HeadRead ms units after
-head_given ms true b units after ea eb h = absurd cc
-head_given ms false true units after ea eb h = absurd cc
-head_given ms false false units after ea eb h =
-    let front = front_of ms in
-    let flags = slice_index front 2 in
+head_from ms true b units after ea eb h = absurd cc
+head_from ms false true units after ea eb h = absurd cc
+head_from ms false false units after ea eb h =
+    let prefix = prefix_of ms in
+    let flags = slice_index prefix 2 in
     record {
-      long = ltb-false (length front) 3 ea;
-      whole = ltb-false (length front) (head_len flags) eb;
-      behind = after_by (behind_at front) (le (take 2 front)) (is_wide flags) (drop (head_len flags) ms) (units_at (le (take 2 front)) (is_wide flags) (drop (head_len flags) ms)) units after refl h;
+      long = ltb-false (length prefix) 3 ea;
+      whole = ltb-false (length prefix) (head_len flags) eb;
+      following = after_by (after_at prefix) (le (take 2 prefix)) (is_wide flags) (drop (head_len flags) ms) (units_at (le (take 2 prefix)) (is_wide flags) (drop (head_len flags) ms)) units after refl h;
     }
 
-size_given : (front : List ℕ) (x r k : ℕ) (b : Bool) → extension_at front ≡ x → runs_at front ≡ r → nat_lt (extension_at front) 2147483648 ≡ b → behind_at front ≡ Some k → (x < 2 ^ 31) × (k ≡ 4 * r + x)
-size_given front x r k true ex er eb h =
-    let s : x < 2147483648 = subst (λ (n : ℕ). n < 2147483648) ex (ltb-true (extension_at front) 2147483648 eb) in
-    let g : ◌≡◌ {A = Option ℕ} (Some (4 * runs_at front + extension_at front)) (Some k) = rw eb at h in
-    let e : 4 * runs_at front + extension_at front ≡ k = cc in
-    (s, sym e ∙ ap (λ (n : ℕ). 4 * n + extension_at front) er ∙ ap (λ (n : ℕ). 4 * r + n) ex)
-size_given front x r k false ex er eb h =
+size_from : (prefix : List ℕ) (x r k : ℕ) (b : Bool) → extension_at prefix ≡ x → runs_at prefix ≡ r → nat_lt (extension_at prefix) 2147483648 ≡ b → after_at prefix ≡ Some k → (x < 2 ^ 31) × (k ≡ 4 * r + x)
+size_from prefix x r k true ex er eb h =
+    let s : x < 2147483648 = subst (λ (n : ℕ). n < 2147483648) ex (ltb-true (extension_at prefix) 2147483648 eb) in
+    let g : ◌≡◌ {A = Option ℕ} (Some (4 * runs_at prefix + extension_at prefix)) (Some k) = rw eb at h in
+    let e : 4 * runs_at prefix + extension_at prefix ≡ k = cc in
+    (s, sym e ∙ ap (λ (n : ℕ). 4 * n + extension_at prefix) er ∙ ap (λ (n : ℕ). 4 * r + n) ex)
+size_from prefix x r k false ex er eb h =
     let g : ◌≡◌ {A = Option ℕ} None (Some k) = rw eb at h in
     absurd cc
 
-parts_of : (front : List ℕ) → 3 ≤ length front → head_len (slice_index front 2) ≤ length front → HeadParts front (slice_index front 2)
+parts_of : (prefix : List ℕ) → 3 ≤ length prefix → head_len (slice_index prefix 2) ≤ length prefix → HeadParts prefix (slice_index prefix 2)
 parts_of [] long whole = absurd (omega arith)
 parts_of (x ∷ []) long whole = absurd (omega arith)
 parts_of (x ∷ y ∷ []) long whole = absurd (omega arith)
 parts_of (x ∷ y ∷ f ∷ rest) long whole = parts_by x y f rest (has_runs f) (has_extension f) refl refl (omega (arith, whole))
 
-str_given : (ms : List Mark) (units : List ℕ) (after : List Mark) → str_at ms ≡ Ok (units, after) → Str ms units after
-str_given ms units after e =
-    let front = front_of ms in
-    let flags = slice_index front 2 in
-    let h = head_given ms (nat_lt (length front) 3) (nat_lt (length front) (head_len flags)) units after refl refl e in
-    let p = parts_of front h.long h.whole in
-    let b = h.behind in
-    let size = size_given front (le p.extension) (le p.runs) b.size (nat_lt (extension_at front) 2147483648) p.extension_is p.runs_is refl b.size_is in
-    let us = units_split (le (take 2 front)) (is_wide flags) (drop (head_len flags) ms) units b.middle b.units_are in
+str_from : (ms : List Mark) (units : List ℕ) (after : List Mark) → str_at ms ≡ Ok (units, after) → Str ms units after
+str_from ms units after e =
+    let prefix = prefix_of ms in
+    let flags = slice_index prefix 2 in
+    let h = head_from ms (nat_lt (length prefix) 3) (nat_lt (length prefix) (head_len flags)) units after refl refl e in
+    let p = parts_of prefix h.long h.whole in
+    let b = h.following in
+    let size = size_from prefix (le p.extension) (le p.runs) b.size (nat_lt (extension_at prefix) 2147483648) p.extension_is p.runs_is refl b.size_is in
+    let us = units_split (le (take 2 prefix)) (is_wide flags) (drop (head_len flags) ms) units b.middle b.units_are in
     let t = tail_split b.size b.middle after b.tail_is in
     record {
       count = p.count;
@@ -438,31 +438,31 @@ element_read ms units after h = elim h [
 same_pair : (x y : List ℕ × List Mark) → ◌≡◌ {A = Result (List ℕ × List Mark) Missing} (Ok x) (Ok y) → x ≡ y
 same_pair x y e = cc
 
-empty_given : (ms : List Mark) (units : List ℕ) (after : List Mark) → StartsNoByte ms → ◌≡◌ {A = Result (List ℕ × List Mark) Missing} (Ok ([], ms)) (Ok (units, after)) → IsElement (None ∷ ms) units after
-empty_given ms units after n e =
+empty_from : (ms : List Mark) (units : List ℕ) (after : List Mark) → StartsNoByte ms → ◌≡◌ {A = Result (List ℕ × List Mark) Missing} (Ok ([], ms)) (Ok (units, after)) → IsElement (None ∷ ms) units after
+empty_from ms units after n e =
     let p = same_pair ([], ms) (units, after) e in
     let a : ms ≡ after = ap (λ (q : List ℕ × List Mark). q.1) p in
     inr (inr (ap (λ (x : List Mark). None ∷ x) a, sym (ap (λ (q : List ℕ × List Mark). q.0) p), subst StartsNoByte a n))
 
-element_given : (ms : List Mark) (units : List ℕ) (after : List Mark) → next_at ms ≡ Ok (units, after) → IsElement ms units after
-element_given [] units after e = inl (str_given [] units after e)
-element_given (None ∷ []) units after e = empty_given [] units after tt e
-element_given (None ∷ None ∷ ms) units after e = empty_given (None ∷ ms) units after tt e
-element_given (None ∷ Some b ∷ ms) units after e = inr (inl (Some b ∷ ms, refl, str_given (Some b ∷ ms) units after e))
-element_given (Some b ∷ ms) units after e = inl (str_given (Some b ∷ ms) units after e)
+element_from : (ms : List Mark) (units : List ℕ) (after : List Mark) → next_at ms ≡ Ok (units, after) → IsElement ms units after
+element_from [] units after e = inl (str_from [] units after e)
+element_from (None ∷ []) units after e = empty_from [] units after tt e
+element_from (None ∷ None ∷ ms) units after e = empty_from (None ∷ ms) units after tt e
+element_from (None ∷ Some b ∷ ms) units after e = inr (inl (Some b ∷ ms, refl, str_from (Some b ∷ ms) units after e))
+element_from (Some b ∷ ms) units after e = inl (str_from (Some b ∷ ms) units after e)
 
 pub same_elements : (ms : List Mark) (units : List ℕ) (after : List Mark) → (next_at ms ≡ Ok (units, after)) ↔ IsElement ms units after
-same_elements ms units after = (element_given ms units after, element_read ms units after)
+same_elements ms units after = (element_from ms units after, element_read ms units after)
 
 -- ---- tables
 
-table_given : (ms : List Mark) (strings : List (List ℕ)) → Table ms strings → IsTable ms strings
-table_given ms [] h = h
-table_given ms (s ∷ strings) h = (h.0, element_given ms s h.0 h.1, table_given h.0 strings h.2)
+table_from : (ms : List Mark) (strings : List (List ℕ)) → Table ms strings → IsStringTable ms strings
+table_from ms [] h = h
+table_from ms (s ∷ strings) h = (h.0, element_from ms s h.0 h.1, table_from h.0 strings h.2)
 
-table_read : (ms : List Mark) (strings : List (List ℕ)) → IsTable ms strings → Table ms strings
+table_read : (ms : List Mark) (strings : List (List ℕ)) → IsStringTable ms strings → Table ms strings
 table_read ms [] h = h
 table_read ms (s ∷ strings) h = (h.0, element_read ms s h.0 h.1, table_read h.0 strings h.2)
 
-pub same_tables : (ms : List Mark) (strings : List (List ℕ)) → Table ms strings ↔ IsTable ms strings
-same_tables ms strings = (table_given ms strings, table_read ms strings)
+pub same_tables : (ms : List Mark) (strings : List (List ℕ)) → Table ms strings ↔ IsStringTable ms strings
+same_tables ms strings = (table_from ms strings, table_read ms strings)

@@ -1,12 +1,12 @@
 -- The list of a valid layout fits.
 use Rattle.std.proofs.Common.{◌≡◌, ℕ, zero, suc, ◌<◌, Bool, true, false, List, [], ◌∷◌, ◌++◌, length, refl, arith}
 use Rattle.std.specs.List.{flat_map, AllByRecursion}
-use Rattle.xls_stream.specs.Stream.{enc, Group, group_bytes, continues}
+use Rattle.xls_stream.specs.Stream.{record_bytes, Group, group_bytes, continues}
 use Rattle.xls_stream.specs.Walks.{IsBytes}
 use Rattle.xls_stream.specs.Substreams.{Items, none, plain, nested, groups_of, outer_of, is_sheet_type, kept_groups}
 use Rattle.xls_stream.specs.Listing.{kept_of}
 use Rattle.xls_layouts.specs.LaidStrings.{le32, Step, put, cut, units_of_steps, AreSteps, LaidString, IsLaidString, lists_of}
-use Rattle.xls_layouts.specs.Layout.{eof_group, LaidPart, part_at, open_part, bytes_of_part, kept_in, LaidItem, a_loose, a_plain, a_sheet, a_table, sheet_body, group_of_item, bytes_of_globals, Layout, offset_in, lay, entries_of_item, list_of, IsLaidGroup, IsLaidPart, IsLaidItem, IsLayout}
+use Rattle.xls_layouts.specs.Layout.{eof_group, LaidPart, part_at, open_part, bytes_of_part, kept_of_part, LaidItem, a_loose, a_plain, a_sheet, a_table, sheet_body, group_of_item, bytes_of_globals, Layout, offset_in, lay, entries_of_item, list_of, IsLaidGroup, IsLaidPart, IsLaidItem, IsLayout}
 use Rattle.xls_layouts.specs.Canonical.{AreBytes, IsUnit, FitsBody, FitsKept, FitsString, Fits}
 use Rattle.xls_layouts.proofs.LaidStreamLemmas.{all_at}
 
@@ -25,7 +25,7 @@ right_bytes [] ys h = h
 right_bytes (x ∷ xs) ys h = right_bytes xs ys h.1
 
 body_bytes : (g : Group) → AreBytes (group_bytes g) → AreBytes g.body
-body_bytes g h = (left_bytes (enc g.typ g.body) (continues g.tail) h).1.1.1.1
+body_bytes g h = (left_bytes (record_bytes g.typ g.body) (continues g.tail) h).1.1.1.1
 
 -- ---- parts
 
@@ -61,10 +61,10 @@ kept_fit : (gs : List Group) → AllByRecursion HasBytes gs → AllByRecursion F
 kept_fit [] h = tt
 kept_fit (g ∷ gs) h = kept_more g gs (is_sheet_type g) refl h.0 (kept_fit gs h.1)
 
-part_fits : (p : LaidPart) → IsLaidPart p → AreBytes (bytes_of_part p) → AllByRecursion FitsKept (kept_in p)
+part_fits : (p : LaidPart) → IsLaidPart p → AreBytes (bytes_of_part p) → AllByRecursion FitsKept (kept_of_part p)
 part_fits p h b =
     let all = groups_bytes (open_part p) (eof_group ∷ []) h.groups b in
-    kept_fit (outer_of p.items) (outer_bytes p.items (all_right p.front (p.bof ∷ groups_of p.items) all).1)
+    kept_fit (outer_of p.items) (outer_bytes p.items (all_right p.prefix (p.bof ∷ groups_of p.items) all).1)
 
 part_bytes_at : (ps : List LaidPart) (k : ℕ) → AreBytes (flat_map bytes_of_part ps) → k < length ps → AreBytes (bytes_of_part (part_at ps k))
 part_bytes_at [] k b lt = absurd (omega arith)
@@ -117,7 +117,7 @@ items_fit d ps pb (a_table first strings ∷ items) h b =
 
 pub laid_fits : (d : Layout) → IsLayout d → Fits (list_of d)
 laid_fits d h =
-    let front = bytes_of_globals (offset_in d) d.globals in
-    let behind = flat_map bytes_of_part d.parts in
+    let prefix = bytes_of_globals (offset_in d) d.globals in
+    let following = flat_map bytes_of_part d.parts in
     let all = all_bytes (lay d) h.bytes in
-    items_fit d h.parts (right_bytes front behind all) d.globals h.globals (left_bytes front behind all)
+    items_fit d h.parts (right_bytes prefix following all) d.globals h.globals (left_bytes prefix following all)

@@ -2,7 +2,7 @@
 use Rattle.std.proofs.Common.{◌≡◌, ◌≢◌, ℕ, ◌/◌, ◌%◌, ◌^◌, ◌<◌, ◌≤◌, List, [], ◌∷◌, ◌++◌, length, refl, subst, append_assoc, arith, lit<}
 use Rattle.std.specs.List.{flat_map, AllByRecursion}
 use Rattle.std.proofs.lemmas.List.{length-append}
-use Rattle.xls_stream.specs.Stream.{Group, group_bytes, enc, continues, StartsContinue, HasRoom, Run}
+use Rattle.xls_stream.specs.Stream.{Group, group_bytes, record_bytes, continues, StartsContinue, HasRoom, Run}
 use Rattle.xls_layouts.specs.Layout.{eof_group, IsLaidGroup}
 
 abbrev pub bytes_of : List Group → List ℕ
@@ -10,7 +10,7 @@ bytes_of gs = flat_map group_bytes gs
 
 has_room : (cs : List (List ℕ)) (after : List ℕ) → 4 ≤ length after → HasRoom cs after
 has_room [] after h = tt
-has_room (c ∷ cs) after h = (omega (arith, length-append (c ++ continues cs) after, length-append c (continues cs), length-append (enc 60 c ++ continues cs) after), has_room cs after h)
+has_room (c ∷ cs) after h = (omega (arith, length-append (c ++ continues cs) after, length-append c (continues cs), length-append (record_bytes 60 c ++ continues cs) after), has_room cs after h)
 
 pub group_starts : (g : Group) (rest : List ℕ) → g.typ < 2 ^ 16 → g.typ ≢ 60 → ¬ StartsContinue (group_bytes g ++ rest)
 group_starts g rest f n s =

@@ -7,12 +7,12 @@ use Rattle.std.proofs.lemmas.List.{length-append, take-append-drop}
 use Rattle.xls_bytes.specs.Numbers.{le}
 use Rattle.xls_stream.specs.Stream.{group_bytes, IsBody}
 use Rattle.xls_stream.specs.Substreams.{IsNotEof}
-use Rattle.xls_stream.specs.Listing.{Entry, plain_entry, table_entry, sheet_entry, Item, plain_item, table_item, sheet_item, table_of, IsItem, IsPart, IsSheetPart, globals_types, is_globals_type, entry_of, IsWhole, Holds, Carries, offset_at}
-use Rattle.xls_stream.specs.StringTable.{front_of}
+use Rattle.xls_stream.specs.Listing.{ListEntry, plain_entry, table_entry, sheet_entry, Item, plain_item, table_item, sheet_item, table_of, IsItem, IsPart, IsSheetPart, globals_types, is_globals_type, entry_of, IsWholeItem, Holds, Carries, offset_at}
+use Rattle.xls_stream.specs.StringTable.{prefix_of}
 use Rattle.xls_stream.specs.declared.types.TheConstants as types
 use Rattle.xls_stream.proofs.HoldingLemmas.{one_list}
 use Rattle.xls_layouts.specs.LaidStrings.{le32, marks_of_strings, lists_of}
-use Rattle.xls_layouts.specs.Layout.{eof_group, LaidPart, no_part, part_at, bytes_of_part, kept_in, LaidItem, a_loose, a_plain, a_sheet, a_table, sheet_body, group_of_item, bytes_of_globals, Layout, offset_in, lay, entries_of_item, list_of, IsLaidGroup, IsLaidPart, IsLaidItem, IsLayout}
+use Rattle.xls_layouts.specs.Layout.{eof_group, LaidPart, no_part, part_at, bytes_of_part, kept_of_part, LaidItem, a_loose, a_plain, a_sheet, a_table, sheet_body, group_of_item, bytes_of_globals, Layout, offset_in, lay, entries_of_item, list_of, IsLaidGroup, IsLaidPart, IsLaidItem, IsLayout}
 use Rattle.xls_layouts.proofs.TypeLemmas.{among_apart}
 use Rattle.xls_layouts.proofs.LaidTableLemmas.{laid_sst, laid_eight}
 use Rattle.xls_layouts.proofs.LaidGroupLemmas.{run_laid}
@@ -51,19 +51,19 @@ drop_both g x y n e = rw e (drop-append-add g (x ++ y) (length x) ∙ drop-appen
 
 from_offset : (d : Layout) (k : ℕ) → k < length d.parts → drop (offset_in d k) (lay d) ≡ bytes_of_part (part_at d.parts k) ++ flat_map bytes_of_part (drop (suc k) d.parts)
 from_offset d k lt =
-    let front = bytes_of_globals (offset_in d) d.globals in
+    let prefix = bytes_of_globals (offset_in d) d.globals in
     let before = flat_map bytes_of_part (take k d.parts) in
     let after = flat_map bytes_of_part (drop k d.parts) in
-    ap (λ (x : List ℕ). drop (offset_in d k) (front ++ x)) (parts_split d.parts k)
-    ∙ drop_both front before after (length (bytes_of_globals (λ k. 0) d.globals)) (same_sizes (λ k. 0) (offset_in d) d.globals)
+    ap (λ (x : List ℕ). drop (offset_in d k) (prefix ++ x)) (parts_split d.parts k)
+    ∙ drop_both prefix before after (length (bytes_of_globals (λ k. 0) d.globals)) (same_sizes (λ k. 0) (offset_in d) d.globals)
     ∙ ap (flat_map bytes_of_part) (drop-cons d.parts k no_part lt)
 
 pub offset_within : (d : Layout) (k : ℕ) → offset_in d k ≤ length (lay d)
 offset_within d k =
-    let front = bytes_of_globals (offset_in d) d.globals in
+    let prefix = bytes_of_globals (offset_in d) d.globals in
     let before = flat_map bytes_of_part (take k d.parts) in
     let after = flat_map bytes_of_part (drop k d.parts) in
-    omega (arith, same_sizes (λ k. 0) (offset_in d) d.globals, ap length (parts_split d.parts k), length-append before after, length-append front (flat_map bytes_of_part d.parts))
+    omega (arith, same_sizes (λ k. 0) (offset_in d) d.globals, ap length (parts_split d.parts k), length-append before after, length-append prefix (flat_map bytes_of_part d.parts))
 
 le-le32 : (n : ℕ) → n < 2 ^ 32 → le (le32 n) ≡ n
 le-le32 n h = omega arith
@@ -96,12 +96,12 @@ abbrev pub item_read : Layout → LaidItem → List Item
 item_read d (a_loose g) = []
 item_read d (a_plain g) = plain_item g.typ g.body ∷ []
 item_read d (a_sheet state kind name tail part) =
-    sheet_item (sheet_body (offset_in d part) state kind name) (kept_in (part_at d.parts part)) None ∷ []
+    sheet_item (sheet_body (offset_in d part) state kind name) (kept_of_part (part_at d.parts part)) None ∷ []
 item_read d (a_table first strings) =
-    table_item (first ++ front_of (marks_of_strings strings)) (table_of (lists_of strings)) ∷ []
+    table_item (first ++ prefix_of (marks_of_strings strings)) (table_of (lists_of strings)) ∷ []
 
 sheet_stands : (d : Layout) (state kind : ℕ) (name : List ℕ) (part : ℕ) → AllByRecursion IsLaidPart d.parts → part < length d.parts → offset_in d part < 2 ^ 32
-    → IsSheetPart (lay d) (offset_at (sheet_body (offset_in d part) state kind name)) (kept_in (part_at d.parts part)) None
+    → IsSheetPart (lay d) (offset_at (sheet_body (offset_in d part) state kind name)) (kept_of_part (part_at d.parts part)) None
 sheet_stands d state kind name part ps lt fits =
     let p = part_at d.parts part in
     let more = drop (suc part) d.parts in
@@ -110,7 +110,7 @@ sheet_stands d state kind name part ps lt fits =
     let here : drop (le (le32 (offset_in d part))) (lay d) ≡ bytes_of_part p ++ flat_map bytes_of_part more = ap (λ (k : ℕ). drop k (lay d)) n ∙ from_offset d part lt in
     inl (
       subst (λ (k : ℕ). k ≤ length (lay d)) (sym n) within,
-      subst (λ (x : List ℕ). IsPart x (kept_in p) None) (sym here) (laid_part p more (all_at d.parts part ps lt) (all_drop d.parts (suc part) ps)),
+      subst (λ (x : List ℕ). IsPart x (kept_of_part p) None) (sym here) (laid_part p more (all_at d.parts part ps lt) (all_drop d.parts (suc part) ps)),
     )
 
 items_are : (d : Layout) → AllByRecursion IsLaidPart d.parts → (items : List LaidItem) → AllByRecursion (IsLaidItem d) items
@@ -126,7 +126,7 @@ items_are d l (a_sheet state kind name tail part ∷ items) h =
 items_are d l (a_table first strings ∷ items) h =
     ((refl, refl, (laid_eight first strings h.0, laid_sst first strings h.0)), items_are d l items h.1)
 
-items_whole : (d : Layout) (items : List LaidItem) → AllByRecursion IsWhole (flat_map (item_read d) items)
+items_whole : (d : Layout) (items : List LaidItem) → AllByRecursion IsWholeItem (flat_map (item_read d) items)
 items_whole d [] = tt
 items_whole d (a_loose g ∷ items) = items_whole d items
 items_whole d (a_plain g ∷ items) = (tt, items_whole d items)
@@ -136,10 +136,10 @@ items_whole d (a_table first strings ∷ items) = (tt, items_whole d items)
 items_entries : (d : Layout) (items : List LaidItem) → flat_map (entries_of_item d.parts) items ≡ map entry_of (flat_map (item_read d) items)
 items_entries d [] = refl
 items_entries d (a_loose g ∷ items) = items_entries d items
-items_entries d (a_plain g ∷ items) = ap (λ (es : List Entry). plain_entry g.typ g.body ∷ es) (items_entries d items)
+items_entries d (a_plain g ∷ items) = ap (λ (es : List ListEntry). plain_entry g.typ g.body ∷ es) (items_entries d items)
 items_entries d (a_sheet state kind name tail part ∷ items) =
-    ap (λ (es : List Entry). sheet_entry state kind name (kept_in (part_at d.parts part)) ∷ es) (items_entries d items)
-items_entries d (a_table first strings ∷ items) = ap (λ (es : List Entry). table_entry (lists_of strings) ∷ es) (items_entries d items)
+    ap (λ (es : List ListEntry). sheet_entry state kind name (kept_of_part (part_at d.parts part)) ∷ es) (items_entries d items)
+items_entries d (a_table first strings ∷ items) = ap (λ (es : List ListEntry). table_entry (lists_of strings) ∷ es) (items_entries d items)
 
 -- what the bytes hold, also where numbers are no bytes
 pub laid_holds : (d : Layout) → AllByRecursion (IsLaidItem d) d.globals → AllByRecursion IsLaidPart d.parts
@@ -169,5 +169,5 @@ carries_laid d is ps = record {
 pub laid_stream : (d : Layout) → IsLayout d → Carries (lay d) (list_of d)
 laid_stream d h = carries_laid d h.globals h.parts
 
-pub laid_alone : (d : Layout) → IsLayout d → (entries : List Entry) → Carries (lay d) entries → entries ≡ list_of d
+pub laid_alone : (d : Layout) → IsLayout d → (entries : List ListEntry) → Carries (lay d) entries → entries ≡ list_of d
 laid_alone d h entries c = one_list (lay d) h.bytes entries (list_of d) c (laid_stream d h)

@@ -38,7 +38,7 @@ data_items =
     (none))))))))))
 
 abbrev data_part : LaidPart
-data_part = record { front = []; bof = part_bof; items = data_items }
+data_part = record { prefix = []; bof = part_bof; items = data_items }
 
 abbrev log_items : Items
 log_items =
@@ -48,7 +48,7 @@ log_items =
     (none)))
 
 abbrev log_part : LaidPart
-log_part = record { front = []; bof = part_bof; items = log_items }
+log_part = record { prefix = []; bof = part_bof; items = log_items }
 
 abbrev old_items : Items
 old_items =
@@ -56,7 +56,7 @@ old_items =
     (none)
 
 abbrev old_part : LaidPart
-old_part = record { front = []; bof = part_bof; items = old_items }
+old_part = record { prefix = []; bof = part_bof; items = old_items }
 
 -- ---- the string table
 
@@ -65,19 +65,19 @@ puts us = map put us
 
 -- a string of one-byte units in one piece
 abbrev narrow_string : List ℕ → LaidString
-narrow_string us = record { begins_piece = false; wide = false; runs = None; extension = None; steps = puts us; behind = [] }
+narrow_string us = record { begins_piece = false; wide = false; runs = None; extension = None; steps = puts us; following = [] }
 
 -- `Café €`, cut before the last unit, which is wide
 abbrev cut_string : LaidString
-cut_string = record { begins_piece = false; wide = false; runs = None; extension = None; steps = puts (0x43 ∷ 0x61 ∷ 0x66 ∷ 0xE9 ∷ 0x20 ∷ []) ++ cut true ∷ put 0x20AC ∷ []; behind = [] }
+cut_string = record { begins_piece = false; wide = false; runs = None; extension = None; steps = puts (0x43 ∷ 0x61 ∷ 0x66 ∷ 0xE9 ∷ 0x20 ∷ []) ++ cut true ∷ put 0x20AC ∷ []; following = [] }
 
 -- and in wide units
 abbrev wide_string : LaidString
-wide_string = record { begins_piece = false; wide = true; runs = None; extension = None; steps = puts (0x43 ∷ 0x61 ∷ 0x66 ∷ 0xE9 ∷ 0x20 ∷ 0x20AC ∷ []); behind = [] }
+wide_string = record { begins_piece = false; wide = true; runs = None; extension = None; steps = puts (0x43 ∷ 0x61 ∷ 0x66 ∷ 0xE9 ∷ 0x20 ∷ 0x20AC ∷ []); following = [] }
 
 -- `Sum` with one run
 abbrev run_string : LaidString
-run_string = record { begins_piece = false; wide = false; runs = Some 1; extension = None; steps = puts (codes "Sum"); behind = Some 0 ∷ Some 0 ∷ Some 5 ∷ Some 0 ∷ [] }
+run_string = record { begins_piece = false; wide = false; runs = Some 1; extension = None; steps = puts (codes "Sum"); following = Some 0 ∷ Some 0 ∷ Some 5 ∷ Some 0 ∷ [] }
 
 abbrev table_with : LaidString → LaidItem
 table_with s = a_table (3 ∷ 0 ∷ 0 ∷ 0 ∷ 3 ∷ 0 ∷ 0 ∷ 0 ∷ []) (narrow_string (codes "Item") ∷ s ∷ run_string ∷ [])
@@ -208,7 +208,7 @@ bof_laid = group_laid _ _ (lit< tt) (λ e. omega arith) (lit< tt)
 log_laid : IsLaidPart log_part
 log_laid = record {
   groups = (bof_laid, (group_laid _ _ (lit< tt) (λ e. omega arith) (lit< tt), (group_laid _ _ (lit< tt) (λ e. omega arith) (lit< tt), (group_laid _ _ (lit< tt) (λ e. omega arith) (lit< tt), tt))));
-  front = tt;
+  prefix = tt;
   is_bof = refl;
   items = ((λ e. omega arith, λ e. omega arith), ((λ e. omega arith, λ e. omega arith), ((λ e. omega arith, λ e. omega arith), tt)));
 }
@@ -216,7 +216,7 @@ log_laid = record {
 old_laid : IsLaidPart old_part
 old_laid = record {
   groups = (bof_laid, (group_laid _ _ (lit< tt) (λ e. omega arith) (lit< tt), tt));
-  front = tt;
+  prefix = tt;
   is_bof = refl;
   items = ((λ e. omega arith, λ e. omega arith), tt);
 }
@@ -224,22 +224,22 @@ old_laid = record {
 data_laid : IsLaidPart data_part
 data_laid = record {
   groups = (bof_laid, (group_laid _ _ (lit< tt) (λ e. omega arith) (lit< tt), (group_laid _ _ (lit< tt) (λ e. omega arith) (lit< tt), (group_laid _ _ (lit< tt) (λ e. omega arith) (lit< tt), (group_laid _ _ (lit< tt) (λ e. omega arith) (lit< tt), (group_laid _ _ (lit< tt) (λ e. omega arith) (lit< tt), (group_laid _ _ (lit< tt) (λ e. omega arith) (lit< tt), (group_laid _ _ (lit< tt) (λ e. omega arith) (lit< tt), (group_laid _ _ (lit< tt) (λ e. omega arith) (lit< tt), (group_laid _ _ (lit< tt) (λ e. omega arith) (lit< tt), (group_laid _ _ (lit< tt) (λ e. omega arith) (lit< tt), tt)))))))))));
-  front = tt;
+  prefix = tt;
   is_bof = refl;
   items = ((λ e. omega arith, λ e. omega arith), ((λ e. omega arith, λ e. omega arith), ((λ e. omega arith, λ e. omega arith), ((λ e. omega arith, λ e. omega arith), ((λ e. omega arith, λ e. omega arith), ((λ e. omega arith, λ e. omega arith), ((λ e. omega arith, λ e. omega arith), ((λ e. omega arith, λ e. omega arith), ((λ e. omega arith, λ e. omega arith), ((λ e. omega arith, λ e. omega arith), tt))))))))));
 }
 
 item_string : IsLaidString (narrow_string (codes "Item"))
-item_string = record { count = lit< tt; steps = (lit< tt, (lit< tt, (lit< tt, (lit< tt, tt)))); runs = lit< tt; extension = lit< tt; cut_well = tt; all_behind = refl }
+item_string = record { count = lit< tt; steps = (lit< tt, (lit< tt, (lit< tt, (lit< tt, tt)))); runs = lit< tt; extension = lit< tt; cut_well = tt; all_after = refl }
 
 cut_laid : IsLaidString cut_string
-cut_laid = record { count = lit< tt; steps = (lit< tt, (lit< tt, (lit< tt, (lit< tt, (lit< tt, (lit< tt, (lit< tt, tt))))))); runs = lit< tt; extension = lit< tt; cut_well = tt; all_behind = refl }
+cut_laid = record { count = lit< tt; steps = (lit< tt, (lit< tt, (lit< tt, (lit< tt, (lit< tt, (lit< tt, (lit< tt, tt))))))); runs = lit< tt; extension = lit< tt; cut_well = tt; all_after = refl }
 
 wide_laid : IsLaidString wide_string
-wide_laid = record { count = lit< tt; steps = (lit< tt, (lit< tt, (lit< tt, (lit< tt, (lit< tt, (lit< tt, tt)))))); runs = lit< tt; extension = lit< tt; cut_well = tt; all_behind = refl }
+wide_laid = record { count = lit< tt; steps = (lit< tt, (lit< tt, (lit< tt, (lit< tt, (lit< tt, (lit< tt, tt)))))); runs = lit< tt; extension = lit< tt; cut_well = tt; all_after = refl }
 
 run_laid : IsLaidString run_string
-run_laid = record { count = lit< tt; steps = (lit< tt, (lit< tt, (lit< tt, tt))); runs = lit< tt; extension = lit< tt; cut_well = tt; all_behind = refl }
+run_laid = record { count = lit< tt; steps = (lit< tt, (lit< tt, (lit< tt, tt))); runs = lit< tt; extension = lit< tt; cut_well = tt; all_after = refl }
 
 pub sample_valid : IsLayout sample
 unfolding all_small

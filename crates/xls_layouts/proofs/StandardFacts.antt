@@ -3,13 +3,13 @@ use Rattle.std.proofs.Common.{◌≡◌, ℕ, true, false, List, [], ◌∷◌, 
 use Rattle.std.specs.Prelude.{replicate}
 use Rattle.std.specs.List.{filter}
 use Rattle.xls_bytes.specs.Numbers.{le16}
-use Rattle.xls_stream.specs.Stream.{enc, group_bytes, Begins}
+use Rattle.xls_stream.specs.Stream.{record_bytes, group_bytes, Begins}
 use Rattle.xls_stream.specs.Substreams.{none, plain, nested, kept_groups}
-use Rattle.xls_stream.specs.StringTable.{front_of, marked, short_head, no_units, no_tail, units_at, tail_at, next_at, Table}
+use Rattle.xls_stream.specs.StringTable.{prefix_of, marked, short_head, no_units, no_tail, units_at, tail_at, next_at, Table}
 use Rattle.xls_stream.specs.Listing.{plain_entry, sheet_entry, is_globals_type}
 use Rattle.xls_layouts.specs.TableGrammar.{one_byte, two_bytes, flags_byte, Str}
 use Rattle.xls_layouts.specs.LaidStrings.{le32, put, cut, AreSteps, IsCutWell, marks_of_steps, marks_of_string, marks_of_strings, pieces_of}
-use Rattle.xls_layouts.specs.Layout.{LaidPart, lay, eof_group, bytes_of_part, kept_in}
+use Rattle.xls_layouts.specs.Layout.{LaidPart, lay, eof_group, bytes_of_part, kept_of_part}
 use Rattle.xls_layouts.specs.Canonical.{bare_group, canonical, canonical_strings}
 
 -- ---- canonical layouts
@@ -26,7 +26,7 @@ one_cell = refl
 
 -- the bytes after the first eight, and in the pieces, of one string of so many letters a
 pub sizes : ℕ → ℕ × List ℕ
-sizes n = let ms = marks_of_strings (canonical_strings 8 (replicate n 0x61 ∷ [])) in (length (front_of ms), map length (pieces_of ms))
+sizes n = let ms = marks_of_strings (canonical_strings 8 (replicate n 0x61 ∷ [])) in (length (prefix_of ms), map length (pieces_of ms))
 
 -- 9,000 letters fill a body of 8,224 bytes, and 788 bytes of a piece: its flags byte and 787 letters
 pub long_string : sizes 9000 ≡ (8216, 788 ∷ [])
@@ -41,7 +41,7 @@ full_body = refl
 -- ---- string tables
 
 -- a pair of surrogates cut in two, wide before the cut and after it, with one extension byte
-pub cut_pair : marks_of_string (record { begins_piece = false; wide = true; runs = None; extension = Some 1; steps = put 0xD83D ∷ cut true ∷ put 0xDE00 ∷ []; behind = Some 7 ∷ [] })
+pub cut_pair : marks_of_string (record { begins_piece = false; wide = true; runs = None; extension = Some 1; steps = put 0xD83D ∷ cut true ∷ put 0xDE00 ∷ []; following = Some 7 ∷ [] })
     ≡ Some 2 ∷ Some 0 ∷ Some 0x05 ∷ Some 1 ∷ Some 0 ∷ Some 0 ∷ Some 0 ∷ Some 0x3D ∷ Some 0xD8 ∷ None ∷ Some 0x01 ∷ Some 0x00 ∷ Some 0xDE ∷ Some 7 ∷ []
 cut_pair = refl
 
@@ -140,7 +140,7 @@ pub loose_format : filter is_globals_type (bare_group 0x041E [] ∷ bare_group 0
 loose_format = refl
 
 -- a part that begins with a Continue: the EOF before the part takes it
-pub continue_first : Begins (group_bytes eof_group ++ (enc 0x003C (1 ∷ []) ++ group_bytes eof_group)) (record { typ = 0x000A; body = []; tail = (1 ∷ []) ∷ [] }) (group_bytes eof_group)
+pub continue_first : Begins (group_bytes eof_group ++ (record_bytes 0x003C (1 ∷ []) ++ group_bytes eof_group)) (record { typ = 0x000A; body = []; tail = (1 ∷ []) ∷ [] }) (group_bytes eof_group)
 continue_first = record {
   whole = refl;
   fits = record { typ = lit< tt; body = lit< tt; tail = (lit< tt, tt) };
@@ -161,13 +161,13 @@ thirty_two_bits = refl
 -- record and a Formula
 abbrev chart_part : LaidPart
 chart_part = record {
-  front = bare_group 0x0208 [] ∷ [];
+  prefix = bare_group 0x0208 [] ∷ [];
   bof = bare_group 0x0809 [];
   items = plain (record { typ = 0x0203; body = 1 ∷ []; tail = (9 ∷ []) ∷ [] }) (nested (bare_group 0x0809 []) (plain (bare_group 0x0203 (2 ∷ [])) none) (bare_group 0x000A []) (plain (bare_group 0x0208 []) (plain (bare_group 0x0006 (3 ∷ [])) none)));
 }
 
 -- the Number and the Formula are its sheet's, without the Continue
-pub chart_kept : kept_in chart_part ≡ record { typ = 0x0203; body = 1 ∷ [] } ∷ record { typ = 0x0006; body = 3 ∷ [] } ∷ []
+pub chart_kept : kept_of_part chart_part ≡ record { typ = 0x0203; body = 1 ∷ [] } ∷ record { typ = 0x0006; body = 3 ∷ [] } ∷ []
 chart_kept = refl
 
 pub chart_bytes : bytes_of_part chart_part

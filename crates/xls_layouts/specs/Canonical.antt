@@ -4,7 +4,7 @@ use Rattle.std.specs.List.{AllByRecursion}
 use Rattle.xls_stream.specs.Stream.{Group, IsBody}
 use Rattle.xls_stream.specs.Substreams.{Items, none, plain, is_among, sheet_types}
 use Rattle.xls_stream.specs.StringTable.{Mark}
-use Rattle.xls_stream.specs.Listing.{Kept, Entry, plain_entry, table_entry, sheet_entry}
+use Rattle.xls_stream.specs.Listing.{Kept, ListEntry, plain_entry, table_entry, sheet_entry}
 use Rattle.xls_stream.specs.declared.types.TheConstants as types
 use Rattle.xls_layouts.specs.LaidStrings.{le32, Step, put, cut, LaidString, marks_of_string}
 use Rattle.xls_layouts.specs.Layout.{LaidPart, LaidItem, a_plain, a_sheet, a_table, Layout, IsPlainType}
@@ -32,8 +32,8 @@ cut_if false wide steps = steps
 -- what is used after a head or unit of so many bytes, in a new piece that begins with so many, or in
 -- the same one
 abbrev pub used_after : Bool → ℕ → ℕ → ℕ → ℕ
-used_after true front used more = front + more
-used_after false front used more = used + more
+used_after true prefix used more = prefix + more
+used_after false prefix used more = used + more
 
 -- a cut stands exactly before a unit that would pass; the flags byte of its piece counts
 abbrev pub canonical_steps : Bool → ℕ → List ℕ → List Step
@@ -55,7 +55,7 @@ canonical_string used us = record {
   runs = None;
   extension = None;
   steps = canonical_steps (not (is_narrow us)) (used_after (passes used 3) 0 used 3) us;
-  behind = [];
+  following = [];
 }
 
 abbrev pub canonical_strings : ℕ → List (List ℕ) → List LaidString
@@ -78,10 +78,10 @@ abbrev pub sheet_bof : Group
 sheet_bof = bare_group types.BOF (0x00 ∷ 0x06 ∷ 0x10 ∷ 0x00 ∷ [])
 
 abbrev pub canonical_part : List Kept → LaidPart
-canonical_part kept = record { front = []; bof = sheet_bof; items = canonical_records kept }
+canonical_part kept = record { prefix = []; bof = sheet_bof; items = canonical_records kept }
 
 -- sheets in order
-abbrev pub canonical_parts : List Entry → List LaidPart
+abbrev pub canonical_parts : List ListEntry → List LaidPart
 canonical_parts [] = []
 canonical_parts (plain_entry typ body ∷ list) = canonical_parts list
 canonical_parts (table_entry strings ∷ list) = canonical_parts list
@@ -92,7 +92,7 @@ abbrev pub counts_of : List (List ℕ) → List ℕ
 counts_of strings = le32 (length strings) ++ le32 (length strings)
 
 -- the items of a list, where so many sheets stand before it
-abbrev pub canonical_items : ℕ → List Entry → List LaidItem
+abbrev pub canonical_items : ℕ → List ListEntry → List LaidItem
 canonical_items n [] = []
 canonical_items n (plain_entry typ body ∷ list) = a_plain (bare_group typ body) ∷ canonical_items n list
 canonical_items n (table_entry strings ∷ list) =
@@ -100,7 +100,7 @@ canonical_items n (table_entry strings ∷ list) =
 canonical_items n (sheet_entry state kind name kept ∷ list) =
     a_sheet state kind name [] n ∷ canonical_items (suc n) list
 
-abbrev pub canonical : List Entry → Layout
+abbrev pub canonical : List ListEntry → Layout
 canonical list = record { globals = canonical_items 0 list; parts = canonical_parts list }
 
 -- ---- lists that fit
@@ -135,12 +135,12 @@ pub record FitsSheet (state kind : ℕ) (name : List ℕ) (kept : List Kept) : T
   pub name_is : AreBytes name
   pub kept_fit : AllByRecursion FitsKept kept
 
-abbrev pub FitsEntry : Entry → Type 0
+abbrev pub FitsEntry : ListEntry → Type 0
 FitsEntry (plain_entry typ body) = IsPlainType typ × FitsBody body
 FitsEntry (table_entry strings) = AllByRecursion FitsString strings
 FitsEntry (sheet_entry state kind name kept) = FitsSheet state kind name kept
 
 -- every body that its records need has a length of 16 bits, and so has every list of units; bytes are
 -- bytes, and units have 16 bits
-abbrev pub Fits : List Entry → Type 0
+abbrev pub Fits : List ListEntry → Type 0
 Fits list = AllByRecursion FitsEntry list

@@ -4,7 +4,7 @@ use Rattle.std.specs.Prelude.{◌≡◌, ℕ, suc, ◌+◌, ◌*◌, ◌/◌, �
 use Rattle.std.specs.List.{flat_map, AllByRecursion}
 use Rattle.xls_bytes.specs.Numbers.{le16}
 use Rattle.xls_stream.specs.Stream.{Group, IsGroup}
-use Rattle.xls_stream.specs.StringTable.{Mark, front_of}
+use Rattle.xls_stream.specs.StringTable.{Mark, prefix_of}
 use Rattle.xls_stream.specs.declared.types.TheConstants as types
 
 -- a number of 32 bits as four bytes
@@ -78,10 +78,10 @@ pub record LaidString : Type 0 where
   pub runs : Option ℕ
   pub extension : Option ℕ
   pub steps : List Step
-  pub behind : List Mark
+  pub following : List Mark
 
-abbrev pub units_of : LaidString → List ℕ
-units_of s = units_of_steps s.steps
+abbrev pub laid_units : LaidString → List ℕ
+laid_units s = units_of_steps s.steps
 
 -- this bit of the flags byte if there is such a number
 abbrev pub bit_of : Option ℕ → ℕ → ℕ
@@ -96,9 +96,9 @@ abbrev pub extension_bytes : Option ℕ → List ℕ
 extension_bytes None = []
 extension_bytes (Some n) = le32 n
 
-abbrev pub number_of : Option ℕ → ℕ
-number_of None = 0
-number_of (Some n) = n
+abbrev pub number_or_zero : Option ℕ → ℕ
+number_or_zero None = 0
+number_or_zero (Some n) = n
 
 -- cch; a flags byte with no bit but 01, 04 and 08; cRun and cbExtRst
 abbrev pub head_bytes : Bool → ℕ → Option ℕ → Option ℕ → List ℕ
@@ -112,16 +112,16 @@ marks_of_break false = []
 abbrev pub marks_of_string : LaidString → List Mark
 marks_of_string s =
     marks_of_break s.begins_piece
-    ++ (map Some (head_bytes s.wide (length (units_of s)) s.runs s.extension) ++ (marks_of_steps s.wide s.steps ++ s.behind))
+    ++ (map Some (head_bytes s.wide (length (laid_units s)) s.runs s.extension) ++ (marks_of_steps s.wide s.steps ++ s.following))
 
 -- at most 65,535 units and as many runs, each of four bytes; at most 2 ^ 31 - 1 extension bytes
 pub record IsLaidString (s : LaidString) : Type 0 where
-  pub count : length (units_of s) < 2 ^ 16
+  pub count : length (laid_units s) < 2 ^ 16
   pub steps : AreSteps s.wide s.steps
-  pub runs : number_of s.runs < 2 ^ 16
-  pub extension : number_of s.extension < 2 ^ 31
-  pub cut_well : IsCutWell s.behind
-  pub all_behind : bytes_in s.behind ≡ 4 * number_of s.runs + number_of s.extension
+  pub runs : number_or_zero s.runs < 2 ^ 16
+  pub extension : number_or_zero s.extension < 2 ^ 31
+  pub cut_well : IsCutWell s.following
+  pub all_after : bytes_in s.following ≡ 4 * number_or_zero s.runs + number_or_zero s.extension
 
 -- ---- a table
 
@@ -129,17 +129,17 @@ abbrev pub marks_of_strings : List LaidString → List Mark
 marks_of_strings strings = flat_map marks_of_string strings
 
 abbrev pub lists_of : List LaidString → List (List ℕ)
-lists_of strings = map units_of strings
+lists_of strings = map laid_units strings
 
 -- the pieces after the first: one for each mark
 abbrev pub pieces_of : List Mark → List (List ℕ)
 pieces_of [] = []
-pieces_of (None ∷ ms) = front_of ms ∷ pieces_of ms
+pieces_of (None ∷ ms) = prefix_of ms ∷ pieces_of ms
 pieces_of (Some b ∷ ms) = pieces_of ms
 
 -- the SST record with its Continue records: eight bytes, and the marked bytes
 abbrev pub table_group : List ℕ → List Mark → Group
-table_group first ms = record { typ = types.SST; body = first ++ front_of ms; tail = pieces_of ms }
+table_group first ms = record { typ = types.SST; body = first ++ prefix_of ms; tail = pieces_of ms }
 
 -- eight bytes, valid strings, and bodies that have a length of 16 bits
 pub record IsLaidTable (first : List ℕ) (strings : List LaidString) : Type 0 where

@@ -4,11 +4,11 @@ use Rattle.std.specs.List.{AllByRecursion}
 use Rattle.std.specs.Char.Utf16.{utf16_lossy_chars}
 use Rattle.xls_stream.specs.Stream.{Group}
 use Rattle.xls_stream.specs.StringTable.{Mark, next_at, Table}
-use Rattle.xls_stream.specs.Listing.{Entry, Carries}
+use Rattle.xls_stream.specs.Listing.{ListEntry, Carries}
 use Rattle.xls_record.specs.declared.error.XlsError.{XlsError}
 use Rattle.xls_record.specs.declared.error.XlsError.TheVariants as errors
 use Rattle.xls_strings.specs.Sst.{ReadsTable, CountsTable, InTable, sst_marks}
-use Rattle.xls_layouts.specs.TableGrammar.{IsElement, IsTable}
+use Rattle.xls_layouts.specs.TableGrammar.{IsElement, IsStringTable}
 use Rattle.xls_layouts.specs.LaidStrings.{LaidString, IsLaidString, marks_of_strings, lists_of, table_group, IsLaidTable}
 use Rattle.xls_layouts.specs.Layout.{Layout, lay, list_of, IsLayout}
 use Rattle.xls_layouts.specs.Canonical.{canonical, Fits}
@@ -22,12 +22,12 @@ SameElements = (ms : List Mark) (units : List ℕ) (after : List Mark)
 
 -- so both tell the same tables
 abbrev pub SameTables : Type 0
-SameTables = (ms : List Mark) (strings : List (List ℕ)) → Table ms strings ↔ IsTable ms strings
+SameTables = (ms : List Mark) (strings : List (List ℕ)) → Table ms strings ↔ IsStringTable ms strings
 
 -- laid strings are a table of their unit lists
 abbrev pub LaidStrings : Type 0
 LaidStrings = (strings : List LaidString) → AllByRecursion IsLaidString strings
-    → IsTable (marks_of_strings strings) (lists_of strings)
+    → IsStringTable (marks_of_strings strings) (lists_of strings)
 
 -- the SST record of a laid table
 abbrev pub laid_group : List ℕ → List LaidString → Group
@@ -61,7 +61,7 @@ LaidStream = (d : Layout) → IsLayout d → Carries (lay d) (list_of d)
 
 -- and no other
 abbrev pub LaidAlone : Type 0
-LaidAlone = (d : Layout) → IsLayout d → (entries : List Entry) → Carries (lay d) entries → entries ≡ list_of d
+LaidAlone = (d : Layout) → IsLayout d → (entries : List ListEntry) → Carries (lay d) entries → entries ≡ list_of d
 
 -- a list that has a valid layout fits
 abbrev pub LaidFits : Type 0
@@ -70,5 +70,5 @@ LaidFits = (d : Layout) → IsLayout d → Fits (list_of d)
 -- the canonical layout of a list that fits, where its bytes have offsets of 32 bits, is a valid layout
 -- of that list
 abbrev pub CanonicalLayout : Type 0
-CanonicalLayout = (list : List Entry) → Fits list → length (lay (canonical list)) < 2 ^ 32
+CanonicalLayout = (list : List ListEntry) → Fits list → length (lay (canonical list)) < 2 ^ 32
     → IsLayout (canonical list) × (list_of (canonical list) ≡ list)

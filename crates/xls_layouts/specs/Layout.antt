@@ -6,7 +6,7 @@ use Rattle.std.specs.List.{flat_map, AllByRecursion}
 use Rattle.xls_stream.specs.Stream.{Group, group_bytes, IsGroup, IsBody}
 use Rattle.xls_stream.specs.Walks.{IsBytes}
 use Rattle.xls_stream.specs.Substreams.{IsBof, IsPlain, Items, none, AreItems, groups_of, outer_of, is_sheet_type, kept_groups, is_among}
-use Rattle.xls_stream.specs.Listing.{Kept, kept_of, Entry, plain_entry, table_entry, sheet_entry, globals_types, is_globals_type, is_plain_type}
+use Rattle.xls_stream.specs.Listing.{Kept, kept_of, ListEntry, plain_entry, table_entry, sheet_entry, globals_types, is_globals_type, is_plain_type}
 use Rattle.xls_stream.specs.declared.types.TheConstants as types
 use Rattle.xls_layouts.specs.LaidStrings.{le32, LaidString, marks_of_strings, lists_of, table_group, IsLaidTable}
 
@@ -19,13 +19,13 @@ eof_group = record { typ = types.EOF; body = []; tail = [] }
 -- loose records; a BOF record; and kept records, loose ones and nested substreams in any order. Each
 -- may have a tail of Continue records
 pub record LaidPart : Type 0 where
-  pub front : List Group
+  pub prefix : List Group
   pub bof : Group
   pub items : Items
 
 -- its groups before its EOF
 abbrev pub open_part : LaidPart → List Group
-open_part p = p.front ++ p.bof ∷ groups_of p.items
+open_part p = p.prefix ++ p.bof ∷ groups_of p.items
 
 abbrev pub groups_of_part : LaidPart → List Group
 groups_of_part p = open_part p ++ eof_group ∷ []
@@ -34,8 +34,8 @@ abbrev pub bytes_of_part : LaidPart → List ℕ
 bytes_of_part p = flat_map group_bytes (groups_of_part p)
 
 -- the kept records of its sheet
-abbrev pub kept_in : LaidPart → List Kept
-kept_in p = kept_of (kept_groups (outer_of p.items))
+abbrev pub kept_of_part : LaidPart → List Kept
+kept_of_part p = kept_of (kept_groups (outer_of p.items))
 
 -- ---- the globals
 
@@ -80,20 +80,20 @@ lay d = bytes_of_globals (offset_in d) d.globals ++ flat_map bytes_of_part d.par
 -- ---- its list
 
 abbrev pub no_part : LaidPart
-no_part = record { front = []; bof = eof_group; items = none }
+no_part = record { prefix = []; bof = eof_group; items = none }
 
 abbrev pub part_at : List LaidPart → ℕ → LaidPart
 part_at parts k = slice_index_or parts k no_part
 
-abbrev pub entries_of_item : List LaidPart → LaidItem → List Entry
+abbrev pub entries_of_item : List LaidPart → LaidItem → List ListEntry
 entries_of_item parts (a_loose g) = []
 entries_of_item parts (a_plain g) = plain_entry g.typ g.body ∷ []
 entries_of_item parts (a_sheet state kind name tail part) =
-    sheet_entry state kind name (kept_in (part_at parts part)) ∷ []
+    sheet_entry state kind name (kept_of_part (part_at parts part)) ∷ []
 entries_of_item parts (a_table first strings) = table_entry (lists_of strings) ∷ []
 
 -- the logical list that is laid out
-abbrev pub list_of : Layout → List Entry
+abbrev pub list_of : Layout → List ListEntry
 list_of d = flat_map (entries_of_item d.parts) d.globals
 
 -- ---- valid layouts
@@ -136,7 +136,7 @@ IsLooseGroup g = IsPlain g × (is_sheet_type g ≡ false)
 
 pub record IsLaidPart (p : LaidPart) : Type 0 where
   pub groups : AllByRecursion IsLaidGroup (open_part p)
-  pub front : AllByRecursion IsLooseGroup p.front
+  pub prefix : AllByRecursion IsLooseGroup p.prefix
   pub is_bof : IsBof p.bof
   pub items : AreItems p.items
 

@@ -86,6 +86,6 @@ IsElement ms units after =
     ⊎ ((ms ≡ None ∷ after) × (units ≡ []) × StartsNoByte after)
 
 -- the marked bytes are Table of these strings
-abbrev pub IsTable : List Mark → List (List ℕ) → Type 0
-IsTable ms [] = ms ≡ []
-IsTable ms (units ∷ strings) = (after : List Mark) × IsElement ms units after × IsTable after strings
+abbrev pub IsStringTable : List Mark → List (List ℕ) → Type 0
+IsStringTable ms [] = ms ≡ []
+IsStringTable ms (units ∷ strings) = (after : List Mark) × IsElement ms units after × IsStringTable after strings

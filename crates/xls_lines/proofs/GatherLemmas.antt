@@ -8,27 +8,27 @@ use Rattle.std.specs.Result.{IsErrAnd}
 use Rattle.std.proofs.KnownBytes.{Appends-trans, Appends-nil}
 use Rattle.xls_lines.specs.SinkState.{SinkState}
 use Rattle.xls_lines.specs.Written.{AppendsPrefix}
-use Rattle.xls_lines.specs.Gathering.{WriteCause, Grows, Gathers, Stops, Puts, Wrote, Delivers}
+use Rattle.xls_lines.specs.Gathering.{WriteCause, GrowsSink, GathersText, Stops, Puts, Wrote, Delivers}
 use Rattle.xls_lines.specs.declared.stop.Stop.{Stop}
 use Rattle.xls_lines.specs.declared.stop.Stop.TheVariants.{Read, Write, Memory}
 
 -- ---- nothing, and a text that is only gathered
 
 pub gathers-added : (w : SinkState) (g h text : List ℕ) → h ≡ g ++ text
-    → Gathers w g w h text
+    → GathersText w g w h text
 gathers-added w g h text e = record {
   grows = ([], sym e, Appends-nil w.written);
   later = omega arith;
   steady = λ n le take. (refl, n, take, (let size : length h ≡ length g + length text = ap length e ∙ length-append g text in omega (arith, size)));
 }
 
-pub gathers-nothing : (w : SinkState) (g : List ℕ) → Gathers w g w g []
+pub gathers-nothing : (w : SinkState) (g : List ℕ) → GathersText w g w g []
 gathers-nothing w g = gathers-added w g g [] (sym (append-nil g))
 
 -- ---- one text after the other
 
-grows-then : (a b c : Option (List ℕ)) (g h k xs ys : List ℕ) → Grows a g b h xs → Grows b h c k ys
-    → Grows a g c k (xs ++ ys)
+grows-then : (a b c : Option (List ℕ)) (g h k xs ys : List ℕ) → GrowsSink a g b h xs → GrowsSink b h c k ys
+    → GrowsSink a g c k (xs ++ ys)
 grows-then a b c g h k xs ys (start, is, p) (more, next, q) = (
   start ++ more,
   sym (append_assoc g xs ys) ∙ ap (λ (l : List ℕ). l ++ ys) is ∙ append_assoc start h ys
@@ -37,7 +37,7 @@ grows-then a b c g h k xs ys (start, is, p) (more, next, q) = (
 )
 
 pub gathers-then : {a b c : SinkState} {g h k xs ys : List ℕ}
-    → Gathers a g b h xs → Gathers b h c k ys → Gathers a g c k (xs ++ ys)
+    → GathersText a g b h xs → GathersText b h c k ys → GathersText a g c k (xs ++ ys)
 gathers-then {a} {b} {c} {g} {h} {k} {xs} {ys} p q = record {
   grows = grows-then a.written b.written c.written g h k xs ys p.grows q.grows;
   later = omega (arith, p.later, q.later);
@@ -48,7 +48,7 @@ gathers-then {a} {b} {c} {g} {h} {k} {xs} {ys} p q = record {
       (second.0 ∙ first.0, second.1, second.2, omega (arith, size, first.3, second.3));
 }
 
-start-then : (a b c : Option (List ℕ)) (g h xs ys : List ℕ) → Grows a g b h xs → AppendsPrefix b c (h ++ ys)
+start-then : (a b c : Option (List ℕ)) (g h xs ys : List ℕ) → GrowsSink a g b h xs → AppendsPrefix b c (h ++ ys)
     → AppendsPrefix a c (g ++ (xs ++ ys))
 start-then a b c g h xs ys (start, is, p) (more, rest, next, q) = (
   start ++ more,
@@ -64,7 +64,7 @@ cause-then f i j Write le cause = omega (arith, cause)
 cause-then f i j Memory le cause = tt
 
 pub stops-then : {a b c : SinkState} {g h xs ys : List ℕ} {e : Stop}
-    → Gathers a g b h xs → Stops b h c ys e → Stops a g c (xs ++ ys) e
+    → GathersText a g b h xs → Stops b h c ys e → Stops a g c (xs ++ ys) e
 stops-then {a} {b} {c} {g} {h} {xs} {ys} {e} p q = record {
   start = start-then a.written b.written c.written g h xs ys p.grows q.start;
   cause = cause-then a.faults b.faults c.faults e p.later q.cause;
@@ -94,7 +94,7 @@ stops-more {a} {b} {g} {xs} {e} ys p = record {
 
 -- out of memory while the next text was made
 pub stops-memory : {a b : SinkState} {g h xs : List ℕ} (ys : List ℕ)
-    → Gathers a g b h xs → Stops a g b (xs ++ ys) Memory
+    → GathersText a g b h xs → Stops a g b (xs ++ ys) Memory
 stops-memory {a} {b} {g} {h} {xs} ys p = record {
   start = start-more a.written b.written g xs ys (p.grows.0, h, p.grows.1, p.grows.2);
   cause = tt;
@@ -105,8 +105,8 @@ stops-memory {a} {b} {g} {h} {xs} ys p = record {
 -- ---- the same text, spelled otherwise
 
 pub gathers-as : {a b : SinkState} {g h xs ys : List ℕ}
-    → Gathers a g b h xs → xs ≡ ys → Gathers a g b h ys
-gathers-as {a} {b} {g} {h} p e = subst (Gathers a g b h) e p
+    → GathersText a g b h xs → xs ≡ ys → GathersText a g b h ys
+gathers-as {a} {b} {g} {h} p e = subst (GathersText a g b h) e p
 
 pub stops-as : {a b : SinkState} {g xs ys : List ℕ} {e : Stop}
     → Stops a g b xs e → xs ≡ ys → Stops a g b ys e
@@ -122,20 +122,20 @@ puts-stop {X} {a} {b} {g} {xs} {e} h (Err d) is p = subst (Stops a g b xs) (sym 
 
 -- a prefix of a text was gathered, and then it was given up
 pub stops-inside : {a b c : SinkState} {g h : List ℕ} {e : Stop} (at : ℕ) (text : List ℕ)
-    → Gathers a g b h (take at text) → Stops b h c [] e → Stops a g c text e
+    → GathersText a g b h (take at text) → Stops b h c [] e → Stops a g c text e
 stops-inside at text p q =
     stops-as (stops-more (drop at text) (stops-then p q))
     (ap (λ (l : List ℕ). l ++ drop at text) (append-nil (take at text)) ∙ take-append-drop at text)
 
 pub memory-inside : {a b : SinkState} {g h : List ℕ} (at : ℕ) (text : List ℕ)
-    → Gathers a g b h (take at text) → Stops a g b text Memory
+    → GathersText a g b h (take at text) → Stops a g b text Memory
 memory-inside at text p = stops-as (stops-memory (drop at text) p) (take-append-drop at text)
 
 -- ---- what was kept apart is kept together
 
 pub joined : {a b : SinkState} {g h xs all : List ℕ} → all ≡ g ++ xs
-    → Gathers a g b h xs → Gathers a all b h []
-joined {a} {b} {g} {h} {xs} {all} e p = subst (λ (l : List ℕ). Gathers a l b h []) (sym e) (record {
+    → GathersText a g b h xs → GathersText a all b h []
+joined {a} {b} {g} {h} {xs} {all} e p = subst (λ (l : List ℕ). GathersText a l b h []) (sym e) (record {
   grows = (p.grows.0, append-nil (g ++ xs) ∙ p.grows.1, p.grows.2);
   later = p.later;
   steady = λ n le take.
@@ -156,18 +156,18 @@ joined-stops {a} {b} {g} {xs} {all} {e} is p = subst (λ (l : List ℕ). Stops a
 -- ---- then no further text
 
 pub gathers-after : {a b c : SinkState} {g h k xs : List ℕ}
-    → Gathers a g b h xs → Gathers b h c k [] → Gathers a g c k xs
+    → GathersText a g b h xs → GathersText b h c k [] → GathersText a g c k xs
 gathers-after p q = gathers-as (gathers-then p q) (append-nil _)
 
 pub stops-after : {a b c : SinkState} {g h xs : List ℕ} {e : Stop}
-    → Gathers a g b h xs → Stops b h c [] e → Stops a g c xs e
+    → GathersText a g b h xs → Stops b h c [] e → Stops a g c xs e
 stops-after p q = stops-as (stops-then p q) (append-nil _)
 
 -- what is kept, spelled otherwise
 pub gathers-to : {a b : SinkState} {g h k xs : List ℕ}
-    → Gathers a g b h xs → h ≡ k → Gathers a g b k xs
+    → GathersText a g b h xs → h ≡ k → GathersText a g b k xs
 gathers-to {a} {b} {g} {h} {k} {xs} p e =
-    subst (λ (l : List ℕ). Gathers a g b l xs) e p
+    subst (λ (l : List ℕ). GathersText a g b l xs) e p
 
 -- ---- out of memory before anything was written
 
@@ -182,7 +182,7 @@ puts-memory w g text h r is = puts-stop h r is (stops-memory-now w g text)
 
 -- an item that was not put whole
 pub stops-item : {X : Type 0} {a b c : SinkState} {g h : List ℕ} {e : Stop} (text : X → List ℕ) (xs : List X) (k : ℕ) (d : X)
-    → k < length xs → Gathers a g b h (flat_map text (take k xs)) → Stops b h c (text (get_or xs k d)) e
+    → k < length xs → GathersText a g b h (flat_map text (take k xs)) → Stops b h c (text (get_or xs k d)) e
     → Stops a g c (flat_map text xs) e
 stops-item text xs k d l p q =
     stops-as (stops-more (flat_map text (drop (k + 1) xs)) (stops-then p q)) (sym (split text xs k d l))
@@ -197,8 +197,8 @@ stops-item text xs k d l p q =
 
 -- one more item
 pub gathers-item : {X : Type 0} {a b c : SinkState} {g h m : List ℕ} (text : X → List ℕ) (xs : List X) (k : ℕ) (d : X)
-    → k < length xs → Gathers a g b h (flat_map text (take k xs)) → Gathers b h c m (text (get_or xs k d))
-    → Gathers a g c m (flat_map text (take (k + 1) xs))
+    → k < length xs → GathersText a g b h (flat_map text (take k xs)) → GathersText b h c m (text (get_or xs k d))
+    → GathersText a g c m (flat_map text (take (k + 1) xs))
 gathers-item text xs k d l p q =
     gathers-as (gathers-then p q)
     (ap (λ (l : List ℕ). flat_map text (take k xs) ++ l) (sym (append-nil (text (get_or xs k d))))
@@ -210,7 +210,7 @@ gathers-item text xs k d l p q =
 pub record PutsSome {X : Type 0} (text : X → List ℕ) (all left : List X) (a : SinkState) (g : List ℕ) (b : SinkState) (h : List ℕ) : Type 0 where
   pub out : List ℕ
   pub whole : out ++ flat_map text left ≡ flat_map text all
-  pub gathers : Gathers a g b h out
+  pub gathers : GathersText a g b h out
 
 pub some-first : {X : Type 0} (text : X → List ℕ) (all left : List X) (a : SinkState) (g : List ℕ) → left ≡ all
     → PutsSome text all left a g a g
@@ -223,7 +223,7 @@ next_whole text all old left x out is e =
     append_assoc out (text x) (flat_map text left) ∙ ap (λ (items : List _). out ++ flat_map text items) (sym e) ∙ is
 
 pub some-next : {X : Type 0} (text : X → List ℕ) {all old left : List X} {x : X} {a b c : SinkState} {g h k : List ℕ}
-    → PutsSome text all old a g b h → old ≡ x ∷ left → Gathers b h c k (text x) → PutsSome text all left a g c k
+    → PutsSome text all old a g b h → old ≡ x ∷ left → GathersText b h c k (text x) → PutsSome text all left a g c k
 some-next text {all} {old} {left} {x} p e q = record {
   out = p.out ++ text x;
   whole = next_whole text all old left x p.out p.whole e;
@@ -237,7 +237,7 @@ some-stopped text {all} {old} {left} {x} p is q =
 
 -- all of them are put
 pub some-all : {X : Type 0} (text : X → List ℕ) {all left : List X} {a b : SinkState} {g h : List ℕ}
-    → PutsSome text all left a g b h → left ≡ [] → Gathers a g b h (flat_map text all)
+    → PutsSome text all left a g b h → left ≡ [] → GathersText a g b h (flat_map text all)
 some-all text p e =
     gathers-as p.gathers (sym (append-nil p.out) ∙ ap (λ (items : List _). p.out ++ flat_map text items) (sym e) ∙ p.whole)
 
@@ -245,7 +245,7 @@ some-all text p e =
 
 -- where nothing was kept before and nothing is kept after, the text was written
 pub wrote : {a b : SinkState} {h text : List ℕ}
-    → Gathers a [] b h text → h ≡ [] → Wrote a b text
+    → GathersText a [] b h text → h ≡ [] → Wrote a b text
 wrote {a} {b} {h} {text} p none = record {
   appends = subst (Appends a.written b.written) (sym (p.grows.1 ∙ ap (λ (l : List ℕ). p.grows.0 ++ l) none ∙ append-nil p.grows.0)) p.grows.2;
   steady = λ n le take. (p.steady n (omega (arith, le)) take).0;
@@ -258,9 +258,9 @@ delivers-stop {X} {a} {b} {text} {e} (Err d) is p = subst (Stops a [] b text) (s
 
 -- where nothing was kept before
 pub gathers-from : {a b : SinkState} {g h xs : List ℕ} → g ≡ []
-    → Gathers a g b h xs → Gathers a [] b h xs
+    → GathersText a g b h xs → GathersText a [] b h xs
 gathers-from {a} {b} {g} {h} {xs} e p =
-    subst (λ (l : List ℕ). Gathers a l b h xs) e p
+    subst (λ (l : List ℕ). GathersText a l b h xs) e p
 
 pub stops-from : {a b : SinkState} {g xs : List ℕ} {e : Stop} → g ≡ []
     → Stops a g b xs e → Stops a [] b xs e

@@ -15,13 +15,13 @@ WriteCause before now Write = Rose before now
 WriteCause before now Memory = Unit {0}
 
 -- what is written, and what is kept after it, grew by the text
-abbrev pub Grows : Option (List ℕ) → List ℕ → Option (List ℕ) → List ℕ → List ℕ → Type 0
-Grows old kept new kept' text =
+abbrev pub GrowsSink : Option (List ℕ) → List ℕ → Option (List ℕ) → List ℕ → List ℕ → Type 0
+GrowsSink old kept new kept' text =
     (start : List ℕ) × (kept ++ text ≡ start ++ kept') × Appends old new start
 
 -- the text was gathered; where the sink takes all, no write failed, and it takes as much less
-pub record Gathers (before : SinkState) (kept : List ℕ) (after : SinkState) (kept' text : List ℕ) : Type 0 where
-  pub grows : Grows before.written kept after.written kept' text
+pub record GathersText (before : SinkState) (kept : List ℕ) (after : SinkState) (kept' text : List ℕ) : Type 0 where
+  pub grows : GrowsSink before.written kept after.written kept' text
   pub later : before.faults ≤ after.faults
   pub steady : (n : ℕ) → length kept + length text ≤ n → before.takes n
       → (after.faults ≡ before.faults) × (m : ℕ) × after.takes m
@@ -37,7 +37,7 @@ pub record Stops (before : SinkState) (kept : List ℕ) (after : SinkState) (tex
 -- either of them
 abbrev pub Puts : {X : Type 0} → SinkState → List ℕ → SinkState → List ℕ → List ℕ → Result X Stop → Type 0
 Puts before kept after kept' text result =
-    MatchResult result (λ _. Gathers before kept after kept' text) (Stops before kept after text)
+    MatchResult result (λ _. GathersText before kept after kept' text) (Stops before kept after text)
 
 -- ---- a whole text
 

@@ -283,13 +283,13 @@ impl Buffer {
         row: u32,
         column: u32,
         kind: &str,
-        shown: Field<'_>,
+        displayed: Field<'_>,
     ) -> Result<(), Stop>
         requires { length kind.now ≤ 5 }
         ensures { Puts (K.state sink.old) self.old (K.state sink.new) self.new
-            (filled_line row column (Some (kind.now, field_text shown.entry))) result }
+            (filled_line row column (Some (kind.now, field_text displayed.entry))) result }
     {
-        let text = printed(shown, &mut self.printed)?;
+        let text = printed(displayed, &mut self.printed)?;
         gather_cell(&mut self.piece, sink, row, column, kind, text.as_bytes())
     }
 
@@ -300,15 +300,15 @@ impl Buffer {
         row: u32,
         column: u32,
         kind: &str,
-        shown: Field<'_>,
+        displayed: Field<'_>,
     ) -> Result<(), Stop>
         requires { length kind.now ≤ 5 }
         ensures { Puts (K.state sink.old) self.old (K.state sink.new) self.new
-            (filled_line row column (Some (kind.now, field_text shown.entry))) result }
+            (filled_line row column (Some (kind.now, field_text displayed.entry))) result }
     {
-        match number_in(shown) {
+        match number_in(displayed) {
             Some(number) => self.put_number_cell(sink, row, column, kind, number),
-            None => self.put_other_cell(sink, row, column, kind, shown),
+            None => self.put_other_cell(sink, row, column, kind, displayed),
         }
     }
 }

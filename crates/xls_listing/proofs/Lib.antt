@@ -1,5 +1,5 @@
 pub mod LineLemmas
-pub mod ShownLemmas
+pub mod DisplayedLemmas
 pub mod RefLemmas
 pub mod CellLemmas
 pub mod StandardFacts

@@ -2,7 +2,7 @@
 use Rattle.std.proofs.Common.{◌≡◌, ℕ, List, [], ◌∷◌, ◌++◌, append_assoc, append-nil, refl, sym, ap, subst, ◌∙◌, Result, Ok, Err}
 use Rattle.std.specs.Prelude.{OnOk}
 use Rattle.std.specs.Result.{IsErrAnd}
-use Rattle.xls_decimals.specs.Added.{Adds}
+use Rattle.xls_decimals.specs.Added.{AddsText}
 use Rattle.xls_lines.specs.SinkState.{SinkState}
 use Rattle.xls_lines.specs.Gathering.{Puts}
 use Rattle.xls_lines.specs.declared.stop.Stop.{Stop}
@@ -14,7 +14,7 @@ use Rattle.xls_pieces.proofs.EachLemmas.{each-as, each-memory, each-none, each-o
 
 -- the text of an item was appended, and then what was gathered was passed on
 pub puts-one : {A X : Type 0} (P : A → List ℕ → Type 0) (x : A) (a : SinkState) (g h : List ℕ) (b : SinkState) (k : List ℕ) (r : Result X Stop)
-    → Adds (P x) g h → Puts a h b k [] r → PutsEach P (x ∷ []) a g b k r
+    → AddsText (P x) g h → Puts a h b k [] r → PutsEach P (x ∷ []) a g b k r
 puts-one P x a g h b k (Ok _) added p = each-one P x added p
 puts-one P x a g h b k (Err _) added p = each-one-stopped P x added p
 

@@ -6,8 +6,8 @@ use Rattle.xls_refs.specs.Cited.{BookCitation}
 use Rattle.xls_refs.specs.Views.{each_cited, sheets_cited}
 use Rattle.xls_refs.proofs.ViewLemmas.{length-sheets_from}
 use Rattle.xls_view.specs.Viewing.{Viewed}
-use Rattle.xls_listing.specs.Listing.{Line, ref_line, shown_at}
-use Rattle.xls_listing.proofs.ShownLemmas.{drop_all}
+use Rattle.xls_listing.specs.Listing.{Line, ref_line, displayed_at}
+use Rattle.xls_listing.proofs.DisplayedLemmas.{drop_all}
 
 map_both : {X Y : Type 0} (line : X → Y) (xs ys : List X) → map line (xs ++ ys) ≡ map line xs ++ map line ys
 map_both line [] ys = refl
@@ -16,7 +16,7 @@ map_both line (x ∷ xs) ys = ap (λ l. line x ∷ l) (map_both line xs ys)
 -- ---- of one formula
 
 cites_from : (line : BookCitation → Line) (xs : List BookCitation) (i : ℕ)
-    → map line (drop i xs) ≡ shown_at (λ x. line x ∷ []) (slice_get xs i) ++ map line (drop (suc i) xs)
+    → map line (drop i xs) ≡ displayed_at (λ x. line x ∷ []) (slice_get xs i) ++ map line (drop (suc i) xs)
 cites_from line [] zero = refl
 cites_from line [] (suc i) = refl
 cites_from line (x ∷ xs) zero = refl
@@ -24,9 +24,9 @@ cites_from line (x ∷ xs) (suc i) = cites_from line xs i
 
 -- those from an index on
 pub cites_step : (line : BookCitation → Line) (xs : List BookCitation) (i : ℕ)
-    → map line (drop i xs) ≡ shown_at (λ x. line x ∷ []) (slice_get xs i) ++ map line (drop (i + 1) xs)
+    → map line (drop i xs) ≡ displayed_at (λ x. line x ∷ []) (slice_get xs i) ++ map line (drop (i + 1) xs)
 cites_step line xs i =
-    cites_from line xs i ∙ ap (λ n. shown_at (λ x. line x ∷ []) (slice_get xs i) ++ map line (drop n xs)) (sym (add-one i))
+    cites_from line xs i ∙ ap (λ n. displayed_at (λ x. line x ∷ []) (slice_get xs i) ++ map line (drop n xs)) (sym (add-one i))
 
 -- ---- of the formulas of a sheet
 
@@ -47,7 +47,7 @@ abbrev pub all_cited_lines : List (List ℕ) → List (List (List BookCitation))
 all_cited_lines names sheets = map (ref_line names) (flat_map each_cited sheets)
 
 sheets_from : (names : List (List ℕ)) (xs : List (List (List BookCitation))) (i : ℕ)
-    → all_cited_lines names (drop i xs) ≡ shown_at (cited_lines names) (slice_get xs i) ++ all_cited_lines names (drop (suc i) xs)
+    → all_cited_lines names (drop i xs) ≡ displayed_at (cited_lines names) (slice_get xs i) ++ all_cited_lines names (drop (suc i) xs)
 sheets_from names [] zero = refl
 sheets_from names [] (suc i) = refl
 sheets_from names (x ∷ xs) zero = map_both (ref_line names) (each_cited x) (flat_map each_cited xs)
@@ -55,10 +55,10 @@ sheets_from names (x ∷ xs) (suc i) = sheets_from names xs i
 
 -- those from an index on
 pub sheets_cited_step : (names : List (List ℕ)) (xs : List (List (List BookCitation))) (i : ℕ)
-    → all_cited_lines names (drop i xs) ≡ shown_at (cited_lines names) (slice_get xs i) ++ all_cited_lines names (drop (i + 1) xs)
+    → all_cited_lines names (drop i xs) ≡ displayed_at (cited_lines names) (slice_get xs i) ++ all_cited_lines names (drop (i + 1) xs)
 sheets_cited_step names xs i =
     sheets_from names xs i
-    ∙ ap (λ n. shown_at (cited_lines names) (slice_get xs i) ++ all_cited_lines names (drop n xs)) (sym (add-one i))
+    ∙ ap (λ n. displayed_at (cited_lines names) (slice_get xs i) ++ all_cited_lines names (drop n xs)) (sym (add-one i))
 
 -- no sheet is left
 pub sheets_cited_end : (v : Viewed) (i : ℕ) → length v.context.sheets ≤ i

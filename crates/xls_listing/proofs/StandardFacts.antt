@@ -10,7 +10,7 @@ use Rattle.xls_data.specs.declared.sheets.SheetVisible.TheVariants.{Visible, Ver
 use Rattle.xls_meaning.specs.Reading.{BookView}
 use Rattle.xls_readable.specs.Items as item
 use Rattle.xls_readable.specs.declared.forms.Form.TheVariants.{Text}
-use Rattle.xls_listing.specs.Listing.{Line, IsShownLine, cell_lines, dump_lines, formula_lines, kind_and_value, ref_lines, sheet_lines}
+use Rattle.xls_listing.specs.Listing.{Line, IsDisplayedLine, cell_lines, dump_lines, formula_lines, kind_and_value, ref_lines, sheet_lines}
 
 -- two sheets, a name, and in the first sheet a cell, a blank, a formula, one without a text, and a merged region
 abbrev book : BookView
@@ -76,7 +76,7 @@ unfolding lib.Utf8.encode
 known_dump = refl
 
 -- the text of a line
-pub known_text : IsShownLine Text first_line (codes "sheet\tA\tworksheet\tvisible\n")
+pub known_text : IsDisplayedLine Text first_line (codes "sheet\tA\tworksheet\tvisible\n")
 unfolding chars lib.Utf8.encode
 known_text = (
   codes "\tA\tworksheet\tvisible",

@@ -6,14 +6,14 @@ use Rattle.xls_data.specs.Content.{Content, int, float, text, truth, date, iso_d
 use Rattle.xls_data.specs.Sheets.{SheetContent}
 use Rattle.xls_data.specs.declared.regions.Dimensions.{Dimensions}
 use Rattle.xls_range.specs.Positions.{Position}
-use Rattle.xls_biff.specs.Cells.{Entry}
+use Rattle.xls_biff.specs.Cells.{CellEntry}
 use Rattle.xls_meaning.specs.Reading.{SheetView, BookView}
-use Rattle.xls_meaning.specs.SheetTable.{FormulaEntry, shown_formulas}
+use Rattle.xls_meaning.specs.SheetTable.{FormulaEntry, nonempty_formulas}
 use Rattle.xls_refs.specs.Cited.{BookCitation, BookCited}
 use Rattle.xls_lines.specs.SinkState.{SinkState}
 use Rattle.xls_lines.specs.declared.stop.Stop.{Stop}
 use Rattle.xls_readable.specs.Items as item
-use Rattle.xls_readable.specs.Items.{Named}
+use Rattle.xls_readable.specs.Items.{NamedItem}
 use Rattle.xls_readable.specs.Lines.{IsLine, dates_members, name_members, sheet_members, cell_members, moment_kind, formula_members, merge_members, ref_members}
 use Rattle.xls_readable.specs.declared.forms.Form.{Form}
 use Rattle.xls_pieces.specs.Each.{PutsEach}
@@ -22,11 +22,11 @@ use Rattle.xls_pieces.specs.declared.pieces.Pieces.{Pieces}
 -- a line by its word and by its fields, each under its name
 pub record Line : Type 0 where
   pub word : List ℕ
-  pub members : List Named
+  pub members : List NamedItem
 
 -- its text in a form
-abbrev pub IsShownLine : Form → Line → List ℕ → Type 0
-IsShownLine form l out = IsLine form l.word l.members out
+abbrev pub IsDisplayedLine : Form → Line → List ℕ → Type 0
+IsDisplayedLine form l out = IsLine form l.word l.members out
 
 -- ---- one line
 
@@ -43,7 +43,7 @@ abbrev pub sheet_line : SheetContent → Line
 sheet_line s = record { word = codes "sheet"; members = sheet_members (encode_utf8_all s.name) s.typ s.visible }
 
 -- the kind of a value, and what is shown of it; a blank has none
-abbrev pub kind_and_value : Content → Option Named
+abbrev pub kind_and_value : Content → Option NamedItem
 kind_and_value (int n) = Some (codes "int", item.int n)
 kind_and_value (float n) = Some (codes "float", item.number n)
 kind_and_value (text cs) = Some (codes "text", item.text (encode_utf8_all cs))
@@ -55,12 +55,12 @@ kind_and_value (failure e) = Some (codes "error", item.failure e)
 kind_and_value nothing = None
 
 -- row, column, kind and value of a cell, if there is a value
-abbrev pub valued_lines : Position → Option Named → List Line
+abbrev pub valued_lines : Position → Option NamedItem → List Line
 valued_lines p None = []
 valued_lines p (Some k) = record { word = codes "cell"; members = cell_members p.0 p.1 k.0 k.1 } ∷ []
 
 -- the line of a cell; a blank has none
-abbrev pub cell_lines : Entry → List Line
+abbrev pub cell_lines : CellEntry → List Line
 cell_lines c = valued_lines c.0 (kind_and_value c.1)
 
 -- row, column and text of a formula
@@ -93,7 +93,7 @@ lines_of_cells v = flat_map cell_lines v.cells
 
 -- those of its formulas whose text isn't empty
 abbrev pub lines_of_formulas : SheetView → List Line
-lines_of_formulas v = map formula_line (shown_formulas v.formulas)
+lines_of_formulas v = map formula_line (nonempty_formulas v.formulas)
 
 -- those of its merged regions
 abbrev pub lines_of_merges : SheetView → List Line
@@ -105,9 +105,9 @@ lines_of_sheet v = lines_of_cells v ++ (lines_of_formulas v ++ lines_of_merges v
 
 -- the line of each sheet, and after it those of what it shows
 abbrev pub each_sheet : (SheetView → List Line) → List SheetContent → List SheetView → List Line
-each_sheet shown [] views = []
-each_sheet shown (s ∷ ss) [] = sheet_line s ∷ each_sheet shown ss []
-each_sheet shown (s ∷ ss) (v ∷ vs) = sheet_line s ∷ shown v ++ each_sheet shown ss vs
+each_sheet displayed [] views = []
+each_sheet displayed (s ∷ ss) [] = sheet_line s ∷ each_sheet displayed ss []
+each_sheet displayed (s ∷ ss) (v ∷ vs) = sheet_line s ∷ displayed v ++ each_sheet displayed ss vs
 
 -- the date system, the defined names, and the sheets in workbook order with all that they show
 abbrev pub dump_lines : BookView → List Line
@@ -131,9 +131,9 @@ ref_lines book = map (ref_line book.names) book.cites
 -- these lines were gathered; or, where it was given up, a prefix of those of the first so many was written
 abbrev pub PutsLines : {X : Type 0} → Form → List Line → SinkState → Pieces → SinkState → Pieces → Result X Stop → Type 0
 PutsLines form lines before pieces after pieces' result =
-    PutsEach (IsShownLine form) lines before (string_bytes pieces.text) after (string_bytes pieces'.text) result
+    PutsEach (IsDisplayedLine form) lines before (string_bytes pieces.text) after (string_bytes pieces'.text) result
 
 -- the lines of what stands at an index, if there is anything
-abbrev pub shown_at : {X : Type 0} → (X → List Line) → Option X → List Line
-shown_at lines None = []
-shown_at lines (Some x) = lines x
+abbrev pub displayed_at : {X : Type 0} → (X → List Line) → Option X → List Line
+displayed_at lines None = []
+displayed_at lines (Some x) = lines x

@@ -4,11 +4,11 @@ ghost use Rattle.std.specs.Prelude.{◌≡◌};
 ghost use Rattle.std.specs.List.{flat_map};
 ghost use Rattle.xls_data.specs.Refs.{ref_content_of};
 ghost use Rattle.xls_cursors.specs.Values.{cell_entry};
-ghost use Rattle.xls_cursors.specs.Shown.{content_of};
+ghost use Rattle.xls_cursors.specs.Displayed.{sheet_view_of};
 ghost use Rattle.xls_readable.specs.Lines.{kind_and_item};
 ghost use Rattle.xls_listing.specs.Listing.{PutsLines, cell_lines, lines_of_cells, valued_lines};
 
-use crate::values::shown_value;
+use crate::values::displayed_value;
 use std::alloc::Global;
 use xls_lines::{Sink, Stop};
 use xls_pieces::Pieces;
@@ -44,7 +44,7 @@ fn put_cell<K: Sink>(
 {
     let SheetCell { row, column, value } = cell;
     let value = text.value_of(value)?;
-    put_value(form, pieces, sink, row, column, &shown_value(&value))
+    put_value(form, pieces, sink, row, column, &displayed_value(&value))
 }
 
 /// Puts the lines of a sheet's cells.
@@ -66,14 +66,14 @@ fn put_cells<K: Sink>(
 }
 
 /// Puts the lines of the cells that a sheet shows.
-pub(crate) fn put_shown_cells<K: Sink>(
+pub(crate) fn put_displayed_cells<K: Sink>(
     alloc: Global,
     form: Form,
     pieces: &mut Pieces,
     sink: &mut K,
     sheet: &ViewSheet<'_>,
 ) -> Result<(), Stop>
-    ensures { PutsLines form (lines_of_cells (content_of sheet.now))
+    ensures { PutsLines form (lines_of_cells (sheet_view_of sheet.now))
         (K.state sink.old) pieces.old (K.state sink.new) pieces.new result }
 {
     let cells = sheet.cells()?;

@@ -3,11 +3,11 @@
 ghost use Rattle.std.specs.Prelude.{◌≡◌, ◌∷◌, [], map, slice_get};
 ghost use Rattle.std.specs.Str.{chars};
 ghost use Rattle.xls_data.specs.Sheets.{sheet_content};
-ghost use Rattle.xls_meaning.specs.SheetTable.{shown_formulas};
+ghost use Rattle.xls_meaning.specs.SheetTable.{nonempty_formulas};
 ghost use Rattle.xls_cursors.specs.Formulas.{text_entry};
-ghost use Rattle.xls_cursors.specs.Shown.{content_of};
+ghost use Rattle.xls_cursors.specs.Displayed.{sheet_view_of};
 ghost use Rattle.xls_cursors.specs.Walking.{formula_seen};
-ghost use Rattle.xls_listing.specs.Listing.{IsShownLine, PutsLines, each_sheet, formula_line, formula_lines, lines_of_formulas, sheet_line, shown_at};
+ghost use Rattle.xls_listing.specs.Listing.{IsDisplayedLine, PutsLines, each_sheet, formula_line, formula_lines, lines_of_formulas, sheet_line, displayed_at};
 ghost use Rattle.xls_pieces.specs.Each.{DeliversEach};
 
 use crate::sheets::put_sheet;
@@ -35,7 +35,7 @@ fn put_formula<K: Sink>(
 }
 
 /// Puts the line of a formula, unless its text is empty.
-fn put_shown_formula<K: Sink>(
+fn put_displayed_formula<K: Sink>(
     form: Form,
     pieces: &mut Pieces,
     sink: &mut K,
@@ -43,7 +43,7 @@ fn put_shown_formula<K: Sink>(
     column: u32,
     text: &str,
 ) -> Result<(), Stop>
-    ensures { PutsLines form (map formula_line (shown_formulas (((row, column), chars text.now) ∷ [])))
+    ensures { PutsLines form (map formula_line (nonempty_formulas (((row, column), chars text.now) ∷ [])))
         (K.state sink.old) pieces.old (K.state sink.new) pieces.new result }
 {
     if text.is_empty() {
@@ -62,11 +62,11 @@ fn put_formula_of<K: Sink>(
     formula: FormulaCell<'_>,
 ) -> Result<(), Stop>
     ensures { PutsLines form
-        (map formula_line (shown_formulas (text_entry formulas.now.context (formula_seen formula.entry) ∷ [])))
+        (map formula_line (nonempty_formulas (text_entry formulas.now.context (formula_seen formula.entry) ∷ [])))
         (K.state sink.old) pieces.old (K.state sink.new) pieces.new result }
 {
     let text = formulas.text_in(texts, formula)?;
-    put_shown_formula(form, pieces, sink, formula.row, formula.column, text)
+    put_displayed_formula(form, pieces, sink, formula.row, formula.column, text)
 }
 
 /// Puts the lines of a sheet's formulas.
@@ -78,7 +78,7 @@ fn put_formulas<K: Sink>(
     formulas: &SheetFormulas<'_>,
 ) -> Result<(), Stop>
     ensures { PutsLines form
-        (map formula_line (shown_formulas (map (text_entry formulas.now.context) formulas.now.left)))
+        (map formula_line (nonempty_formulas (map (text_entry formulas.now.context) formulas.now.left)))
         (K.state sink.old) pieces.old (K.state sink.new) pieces.new result }
 {
     for formula in formulas.iter() {
@@ -88,14 +88,14 @@ fn put_formulas<K: Sink>(
 }
 
 /// Puts the lines of the formulas that a sheet shows.
-pub(crate) fn put_shown_formulas<K: Sink>(
+pub(crate) fn put_displayed_formulas<K: Sink>(
     form: Form,
     pieces: &mut Pieces,
     sink: &mut K,
     texts: &mut FormulaBuffer,
     sheet: &ViewSheet<'_>,
 ) -> Result<(), Stop>
-    ensures { PutsLines form (lines_of_formulas (content_of sheet.now))
+    ensures { PutsLines form (lines_of_formulas (sheet_view_of sheet.now))
         (K.state sink.old) pieces.old (K.state sink.new) pieces.new result }
 {
     let formulas = sheet.formulas()?;
@@ -111,11 +111,11 @@ fn put_formulas_at<K: Sink>(
     view: &View<'_>,
     n: usize,
 ) -> Result<(), Stop>
-    ensures { PutsLines form (shown_at lines_of_formulas (slice_get view.now.book.contents n))
+    ensures { PutsLines form (displayed_at lines_of_formulas (slice_get view.now.book.contents n))
         (K.state sink.old) pieces.old (K.state sink.new) pieces.new result }
 {
     match view.sheet_at(n) {
-        Some(sheet) => put_shown_formulas(form, pieces, sink, texts, &sheet),
+        Some(sheet) => put_displayed_formulas(form, pieces, sink, texts, &sheet),
         None => Ok(()),
     }
 }
@@ -131,7 +131,7 @@ fn put_sheet_formulas<K: Sink>(
     n: usize,
 ) -> Result<(), Stop>
     ensures { PutsLines form
-        (sheet_line (sheet_content sheet.now) ∷ shown_at lines_of_formulas (slice_get view.now.book.contents n))
+        (sheet_line (sheet_content sheet.now) ∷ displayed_at lines_of_formulas (slice_get view.now.book.contents n))
         (K.state sink.old) pieces.old (K.state sink.new) pieces.new result }
 {
     put_sheet(form, pieces, sink, sheet)?;
@@ -164,7 +164,7 @@ pub fn write_formula_list<K: Sink>(
     form: Form,
     view: &View<'_>,
 ) -> Result<(), Stop>
-    ensures { DeliversEach (IsShownLine form) (formula_lines view.now.book)
+    ensures { DeliversEach (IsDisplayedLine form) (formula_lines view.now.book)
         (K.state sink.old) (K.state sink.new) result }
 {
     let mut pieces = Pieces::new(alloc);

@@ -2,13 +2,13 @@
 
 ghost use Rattle.std.specs.Prelude.{◌≡◌, ◌∷◌, [], map, slice_get};
 ghost use Rattle.xls_data.specs.Sheets.{sheet_content};
-ghost use Rattle.xls_open.specs.Workbook.{told_of};
-ghost use Rattle.xls_cursors.specs.Shown.{content_of};
-ghost use Rattle.xls_listing.specs.Listing.{IsShownLine, PutsLines, dates_line, dump_lines, each_sheet, lines_of_sheet, name_line, sheet_line, shown_at};
+ghost use Rattle.xls_open.specs.Workbook.{name_texts};
+ghost use Rattle.xls_cursors.specs.Displayed.{sheet_view_of};
+ghost use Rattle.xls_listing.specs.Listing.{IsDisplayedLine, PutsLines, dates_line, dump_lines, each_sheet, lines_of_sheet, name_line, sheet_line, displayed_at};
 ghost use Rattle.xls_pieces.specs.Each.{DeliversEach};
 
-use crate::cells::put_shown_cells;
-use crate::formulas::put_shown_formulas;
+use crate::cells::put_displayed_cells;
+use crate::formulas::put_displayed_formulas;
 use crate::merges::put_merges;
 use crate::sheets::put_sheet;
 use std::alloc::Global;
@@ -39,7 +39,7 @@ fn put_name<K: Sink>(
     sink: &mut K,
     name: &(String, String),
 ) -> Result<(), Stop>
-    ensures { PutsLines form (name_line (told_of name.now) ∷ [])
+    ensures { PutsLines form (name_line (name_texts name.now) ∷ [])
         (K.state sink.old) pieces.old (K.state sink.new) pieces.new result }
 {
     let (name, text) = name;
@@ -60,7 +60,7 @@ fn put_names<K: Sink>(
     sink: &mut K,
     names: &[(String, String)],
 ) -> Result<(), Stop>
-    ensures { PutsLines form (map (λ n. name_line (told_of n)) names.now)
+    ensures { PutsLines form (map (λ n. name_line (name_texts n)) names.now)
         (K.state sink.old) pieces.old (K.state sink.new) pieces.new result }
 {
     for name in names {
@@ -70,24 +70,24 @@ fn put_names<K: Sink>(
 }
 
 /// Puts the lines of what a sheet shows.
-fn put_shown<K: Sink>(
+fn put_displayed<K: Sink>(
     alloc: Global,
     form: Form,
     pieces: &mut Pieces,
     sink: &mut K,
     sheet: &ViewSheet<'_>,
 ) -> Result<(), Stop>
-    ensures { PutsLines form (lines_of_sheet (content_of sheet.now))
+    ensures { PutsLines form (lines_of_sheet (sheet_view_of sheet.now))
         (K.state sink.old) pieces.old (K.state sink.new) pieces.new result }
 {
-    put_shown_cells(alloc, form, pieces, sink, sheet)?;
+    put_displayed_cells(alloc, form, pieces, sink, sheet)?;
     let mut texts = FormulaBuffer::new(alloc);
-    put_shown_formulas(form, pieces, sink, &mut texts, sheet)?;
+    put_displayed_formulas(form, pieces, sink, &mut texts, sheet)?;
     put_merges(form, pieces, sink, sheet.merges())
 }
 
 /// Puts the lines of what the sheet at an index shows.
-fn put_shown_at<K: Sink>(
+fn put_displayed_at<K: Sink>(
     alloc: Global,
     form: Form,
     pieces: &mut Pieces,
@@ -95,11 +95,11 @@ fn put_shown_at<K: Sink>(
     view: &View<'_>,
     n: usize,
 ) -> Result<(), Stop>
-    ensures { PutsLines form (shown_at lines_of_sheet (slice_get view.now.book.contents n))
+    ensures { PutsLines form (displayed_at lines_of_sheet (slice_get view.now.book.contents n))
         (K.state sink.old) pieces.old (K.state sink.new) pieces.new result }
 {
     match view.sheet_at(n) {
-        Some(sheet) => put_shown(alloc, form, pieces, sink, &sheet),
+        Some(sheet) => put_displayed(alloc, form, pieces, sink, &sheet),
         None => Ok(()),
     }
 }
@@ -115,11 +115,11 @@ fn put_whole_sheet<K: Sink>(
     n: usize,
 ) -> Result<(), Stop>
     ensures { PutsLines form
-        (sheet_line (sheet_content sheet.now) ∷ shown_at lines_of_sheet (slice_get view.now.book.contents n))
+        (sheet_line (sheet_content sheet.now) ∷ displayed_at lines_of_sheet (slice_get view.now.book.contents n))
         (K.state sink.old) pieces.old (K.state sink.new) pieces.new result }
 {
     put_sheet(form, pieces, sink, sheet)?;
-    put_shown_at(alloc, form, pieces, sink, view, n)
+    put_displayed_at(alloc, form, pieces, sink, view, n)
 }
 
 /// Puts the sheets in workbook order, each with what it shows.
@@ -166,7 +166,7 @@ pub fn write_listing<K: Sink>(
     form: Form,
     view: &View<'_>,
 ) -> Result<(), Stop>
-    ensures { DeliversEach (IsShownLine form) (dump_lines view.now.book)
+    ensures { DeliversEach (IsDisplayedLine form) (dump_lines view.now.book)
         (K.state sink.old) (K.state sink.new) result }
 {
     let mut pieces = Pieces::new(alloc);

@@ -4,7 +4,7 @@ ghost use Rattle.std.specs.Prelude.{◌≡◌, ◌∷◌, [], map, slice_get, un
 ghost use Rattle.std.specs.List.{flat_map};
 ghost use Rattle.std.specs.Str.{chars};
 ghost use Rattle.xls_refs.specs.Views.{cited_in, each_cited, lent_citation_of, sheets_cited};
-ghost use Rattle.xls_listing.specs.Listing.{IsShownLine, PutsLines, cited_line, ref_line, ref_lines, shown_at};
+ghost use Rattle.xls_listing.specs.Listing.{IsDisplayedLine, PutsLines, cited_line, ref_line, ref_lines, displayed_at};
 ghost use Rattle.xls_pieces.specs.Each.{DeliversEach};
 
 use std::alloc::Global;
@@ -88,7 +88,7 @@ fn put_cite_at<K: Sink>(
     formula: &CitedFormula<'_>,
     i: usize,
 ) -> Result<(), Stop>
-    ensures { PutsLines form (shown_at (λ c. ref_line names.now c ∷ []) (slice_get formula.now i))
+    ensures { PutsLines form (displayed_at (λ c. ref_line names.now c ∷ []) (slice_get formula.now i))
         (K.state sink.old) pieces.old (K.state sink.new) pieces.new result }
 {
     match formula.get(i) {
@@ -141,7 +141,7 @@ fn put_refs_at<K: Sink>(
     view: &View<'_>,
     sheet: usize,
 ) -> Result<(), Stop>
-    ensures { PutsLines form (shown_at (λ cites. map (ref_line view.now.context.sheets) (each_cited cites)) (slice_get (sheets_cited view.now) sheet))
+    ensures { PutsLines form (displayed_at (λ cites. map (ref_line view.now.context.sheets) (each_cited cites)) (slice_get (sheets_cited view.now) sheet))
         (K.state sink.old) pieces.old (K.state sink.new) pieces.new result }
 {
     match cites_of_sheet(alloc, view, sheet)? {
@@ -175,7 +175,7 @@ pub fn write_ref_list<K: Sink>(
     form: Form,
     view: &View<'_>,
 ) -> Result<(), Stop>
-    ensures { DeliversEach (IsShownLine form) (ref_lines (cited_in view.now))
+    ensures { DeliversEach (IsDisplayedLine form) (ref_lines (cited_in view.now))
         (K.state sink.old) (K.state sink.new) result }
 {
     let mut pieces = Pieces::new(alloc);

@@ -2,7 +2,7 @@
 
 ghost use Rattle.std.specs.Prelude.{◌≡◌, ◌∷◌, [], map};
 ghost use Rattle.xls_data.specs.Sheets.{sheet_content};
-ghost use Rattle.xls_listing.specs.Listing.{IsShownLine, PutsLines, sheet_line, sheet_lines};
+ghost use Rattle.xls_listing.specs.Listing.{IsDisplayedLine, PutsLines, sheet_line, sheet_lines};
 ghost use Rattle.xls_pieces.specs.Each.{DeliversEach};
 
 use std::alloc::Global;
@@ -56,7 +56,7 @@ pub fn write_sheet_list<K: Sink>(
     form: Form,
     view: &View<'_>,
 ) -> Result<(), Stop>
-    ensures { DeliversEach (IsShownLine form) (sheet_lines view.now.book)
+    ensures { DeliversEach (IsDisplayedLine form) (sheet_lines view.now.book)
         (K.state sink.old) (K.state sink.new) result }
 {
     let mut pieces = Pieces::new(alloc);

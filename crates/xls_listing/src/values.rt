@@ -11,21 +11,21 @@ use xls_data::DataRef;
 use xls_readable::Value;
 
 /// A text, by its characters.
-fn shown_text(text: &str) -> Value<'_>
+fn displayed_text(text: &str) -> Value<'_>
     ensures { kind_and_item result ≡ kind_and_value (content.text (chars text.now)) }
 {
     Value::Text(text)
 }
 
 /// The value of a cell, with its text lent.
-pub(crate) fn shown_value<'v>(value: &'v DataRef<'v>) -> Value<'v>
+pub(crate) fn displayed_value<'v>(value: &'v DataRef<'v>) -> Value<'v>
     ensures { kind_and_item result ≡ kind_and_value (ref_content_of value.now) }
 {
     match value {
         DataRef::Int(n) => Value::Int(*n),
         DataRef::Float(n) => Value::Float(*n),
-        DataRef::String(s) => shown_text(s.as_str()),
-        DataRef::SharedString(s) => shown_text(s),
+        DataRef::String(s) => displayed_text(s.as_str()),
+        DataRef::SharedString(s) => displayed_text(s),
         DataRef::Bool(b) => Value::Truth(*b),
         DataRef::DateTime(d) => Value::Moment(*d),
         DataRef::DateTimeIso(s) => Value::IsoDate(s.as_str()),

@@ -1,7 +1,7 @@
 -- Known values of the first fault: for each kind of place, and for each record that has faults, a short
 -- stream.
 use Rattle.std.proofs.Common.{◌≡◌, ℕ, List, [], ◌∷◌, ◌++◌, refl, lit<, lit≤, inr, None, Some, replicate}
-use Rattle.xls_stream.specs.Stream.{enc}
+use Rattle.xls_stream.specs.Stream.{record_bytes}
 use Rattle.xls_stream.specs.Cut.{Cut}
 use Rattle.xls_stream.specs.Listing.{sheet_item, no_table, table_without}
 use Rattle.xls_stream.specs.StringTable.{short_head, no_units, no_tail, units_at, tail_at}
@@ -11,7 +11,7 @@ use Rattle.xls_text.specs.declared.error.CfbError.TheVariants.{CodePageNotFound}
 use Rattle.xls_record.specs.declared.error.XlsError.TheVariants as errors
 use Rattle.xls_meaning.specs.Faults.{FirstFault, outer_fault}
 use Rattle.xls_meaning.specs.Rules.{Rules}
-use Rattle.xls_meaning.proofs.SampleStreams.{bare, eof, in_globals, in_sheet, behind, held, nothing_starts}
+use Rattle.xls_meaning.proofs.SampleStreams.{bare, eof, in_globals, in_sheet, following, held, nothing_starts}
 use Rattle.xls_meaning.proofs.SampleStreams.{plain_fault, table_fault, bound_sheet_fault, sheet_fault}
 
 abbrev rules : Rules
@@ -30,7 +30,7 @@ forced_page = refl
 
 -- the globals are bytes that are cut so
 cut_fault : (bytes : List ℕ) (p : Part) → Cut bytes p → outer_fault rules bytes ≡ None → FirstFault rules bytes (errors.EoStream p)
-cut_fault bytes p c o = behind rules bytes (errors.EoStream p) [] (Some p) o (record {
+cut_fault bytes p c o = following rules bytes (errors.EoStream p) [] (Some p) o (record {
   groups = [];
   globals = record { no_eof = tt; rest = bytes; ends = inr (refl, c) };
   items_are = tt;
@@ -46,8 +46,8 @@ cut_body = cut_fault (0x2F ∷ 0x00 ∷ 0x02 ∷ 0x00 ∷ 0x01 ∷ []) parts.Rec
 abbrev continued : List ℕ
 continued = 0x3C ∷ 0x00 ∷ 0x02 ∷ 0x00 ∷ 0x00 ∷ []
 
-pub cut_continue : FirstFault rules (enc 0x002F (1 ∷ 0 ∷ []) ++ continued) (errors.EoStream parts.ContinueLength)
-cut_continue = cut_fault (enc 0x002F (1 ∷ 0 ∷ []) ++ continued) parts.ContinueLength (
+pub cut_continue : FirstFault rules (record_bytes 0x002F (1 ∷ 0 ∷ []) ++ continued) (errors.EoStream parts.ContinueLength)
+cut_continue = cut_fault (record_bytes 0x002F (1 ∷ 0 ∷ []) ++ continued) parts.ContinueLength (
   bare 0x002F (1 ∷ 0 ∷ []),
   continued,
   record {
@@ -64,7 +64,7 @@ abbrev far_head : List ℕ
 far_head = 18 ∷ 0 ∷ 0 ∷ 0 ∷ 0 ∷ 0 ∷ 1 ∷ 0 ∷ 0x41 ∷ []
 
 pub past_the_end : FirstFault rules (in_globals 0x0085 far_head) (errors.EoStream parts.SheetOffset)
-past_the_end = behind rules (in_globals 0x0085 far_head) (errors.EoStream parts.SheetOffset)
+past_the_end = following rules (in_globals 0x0085 far_head) (errors.EoStream parts.SheetOffset)
     (sheet_item far_head [] (Some parts.SheetOffset) ∷ []) None refl
     (held 0x0085 far_head [] (sheet_item far_head [] (Some parts.SheetOffset)) tt tt refl nothing_starts
     (refl, refl, inr (lit< tt, refl, refl))) refl

@@ -7,6 +7,6 @@ pub mod RegionLemmas
 pub mod SampleStreams
 pub mod FaultFacts
 pub mod StreamFacts
-pub mod InForceFacts
+pub mod SettingsFacts
 pub mod SheetFacts
 pub mod StandardFacts

@@ -87,9 +87,9 @@ module _ {X : Type 0} (d : X) where
         ∙ marked_or (has_name ts name) (pointwise ◌==◌ t.name name) (unwrap_or (last_named all name) d)
 
   -- by name, what the indexes show is what stands at the last sheet
-  pub named_shown : (ts : List SheetContent) (vs : List X) (name : List ℕ) → length vs ≡ length ts
+  pub named_displayed : (ts : List SheetContent) (vs : List X) (name : List ℕ) → length vs ≡ length ts
       → last_named (paired ts (lasts (paired ts vs) ts)) name ≡ last_named (paired ts vs) name
-  named_shown ts vs name e =
+  named_displayed ts vs name e =
       all_marked (paired ts vs) name ts
       ∙ ap (λ (b : Bool). marked b (unwrap_or (last_named (paired ts vs) name) d)) (sym (has_last ts vs name e))
       ∙ sym (is_marked (last_named (paired ts vs) name))

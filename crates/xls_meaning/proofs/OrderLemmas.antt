@@ -4,7 +4,7 @@ use Rattle.std.specs.Prelude.{unwrap_or}
 use Rattle.std.specs.Option.{option_or}
 use Rattle.std.specs.List.{flat_map}
 use Rattle.std.proofs.lemmas.List.{append-nil}
-use Rattle.xls_meaning.specs.Order.{along, first_of, last_of, somes}
+use Rattle.xls_meaning.specs.Order.{map_with_earlier, first_of, last_of, somes}
 
 module _ {E : Type 0} where
   option_or_assoc : (a b c : Option E) → option_or (option_or a b) c ≡ option_or a (option_or b c)
@@ -17,9 +17,9 @@ module _ {E : Type 0} where
   first-append (x ∷ xs) ys =
       ap (option_or x) (first-append xs ys) ∙ sym (option_or_assoc x (first_of xs) (first_of ys))
 
-  pub first_behind : (xs ys : List (Option E)) → first_of xs ≡ None
+  pub first_after : (xs ys : List (Option E)) → first_of xs ≡ None
       → first_of (xs ++ ys) ≡ first_of ys
-  first_behind xs ys h = first-append xs ys ∙ ap (λ (o : Option E). option_or o (first_of ys)) h
+  first_after xs ys h = first-append xs ys ∙ ap (λ (o : Option E). option_or o (first_of ys)) h
 
   pub first_early : (xs ys : List (Option E)) (e : E) → first_of xs ≡ Some e
       → first_of (xs ++ ys) ≡ Some e
@@ -35,7 +35,7 @@ module _ {E : Type 0} where
 
   pub none_append : (xs ys : List (Option E)) → first_of xs ≡ None → first_of ys ≡ None
       → first_of (xs ++ ys) ≡ None
-  none_append xs ys h k = first_behind xs ys h ∙ k
+  none_append xs ys h k = first_after xs ys h ∙ k
 
 pub somes-append : {X : Type 0} (xs ys : List (Option X)) → somes (xs ++ ys) ≡ somes xs ++ somes ys
 somes-append [] ys = refl
@@ -43,32 +43,32 @@ somes-append (None ∷ xs) ys = somes-append xs ys
 somes-append {X} (Some x ∷ xs) ys = ap (λ (l : List X). x ∷ l) (somes-append xs ys)
 
 module _ {X Y : Type 0} (f : List X → X → Y) where
-  pub along-append : (before xs ys : List X) → along f before (xs ++ ys) ≡ along f before xs
-      ++ along f (before ++ xs) ys
-  along-append before [] ys = ap (λ (b : List X). along f b ys) (sym (append-nil before))
-  along-append before (x ∷ xs) ys =
-      ap (λ (l : List Y). f before x ∷ l) (along-append (before ++ x ∷ []) xs ys
-      ∙ ap (λ (b : List X). along f (before ++ x ∷ []) xs
-      ++ along f b ys) (append_assoc before (x ∷ []) xs))
+  pub map_with_earlier-append : (before xs ys : List X) → map_with_earlier f before (xs ++ ys) ≡ map_with_earlier f before xs
+      ++ map_with_earlier f (before ++ xs) ys
+  map_with_earlier-append before [] ys = ap (λ (b : List X). map_with_earlier f b ys) (sym (append-nil before))
+  map_with_earlier-append before (x ∷ xs) ys =
+      ap (λ (l : List Y). f before x ∷ l) (map_with_earlier-append (before ++ x ∷ []) xs ys
+      ∙ ap (λ (b : List X). map_with_earlier f (before ++ x ∷ []) xs
+      ++ map_with_earlier f b ys) (append_assoc before (x ∷ []) xs))
 
-  pub along-push : (xs : List X) (x : X) → along f [] (xs ++ x ∷ []) ≡ along f [] xs ++ f xs x ∷ []
-  along-push xs x = along-append [] xs (x ∷ [])
+  pub map_with_earlier-push : (xs : List X) (x : X) → map_with_earlier f [] (xs ++ x ∷ []) ≡ map_with_earlier f [] xs ++ f xs x ∷ []
+  map_with_earlier-push xs x = map_with_earlier-append [] xs (x ∷ [])
 
 module _ {X E : Type 0} (f : List X → X → Option E) where
   -- the element after those without a fault is the first that has one
   pub first_at : (xs : List X) (x : X) (more : List X) (os : List (Option E)) (e : E)
-      → first_of (along f [] xs) ≡ None → f xs x ≡ Some e
-      → first_of (along f [] (xs ++ x ∷ more) ++ os) ≡ Some e
+      → first_of (map_with_earlier f [] xs) ≡ None → f xs x ≡ Some e
+      → first_of (map_with_earlier f [] (xs ++ x ∷ more) ++ os) ≡ Some e
   first_at xs x more os e h g =
-      first_early (along f [] (xs ++ x ∷ more)) os e
-      (ap first_of (along-append f [] xs (x ∷ more))
-      ∙ first_behind (along f [] xs) (along f xs (x ∷ more)) h
-      ∙ ap (λ (o : Option E). option_or o (first_of (along f (xs ++ x ∷ []) more))) g)
+      first_early (map_with_earlier f [] (xs ++ x ∷ more)) os e
+      (ap first_of (map_with_earlier-append f [] xs (x ∷ more))
+      ∙ first_after (map_with_earlier f [] xs) (map_with_earlier f xs (x ∷ more)) h
+      ∙ ap (λ (o : Option E). option_or o (first_of (map_with_earlier f (xs ++ x ∷ []) more))) g)
 
-  pub none_push : (xs : List X) (x : X) → first_of (along f [] xs) ≡ None → f xs x ≡ None
-      → first_of (along f [] (xs ++ x ∷ [])) ≡ None
+  pub none_push : (xs : List X) (x : X) → first_of (map_with_earlier f [] xs) ≡ None → f xs x ≡ None
+      → first_of (map_with_earlier f [] (xs ++ x ∷ [])) ≡ None
   none_push xs x h g =
-      ap first_of (along-push f xs x) ∙ first_behind (along f [] xs) (f xs x ∷ []) h
+      ap first_of (map_with_earlier-push f xs x) ∙ first_after (map_with_earlier f [] xs) (f xs x ∷ []) h
       ∙ ap (λ (o : Option E). option_or o None) g
 
 module _ {X E : Type 0} (f : X → Option E) where

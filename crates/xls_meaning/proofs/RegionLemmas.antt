@@ -5,10 +5,10 @@ use Rattle.std.specs.Option.{option_or}
 use Rattle.std.specs.List.{AllZip}
 use Rattle.std.specs.Cmp.Lexicographic.{pointwise}
 use Rattle.std.proofs.lemmas.Slice.Eq.{bytes_eq-Decides}
-use Rattle.xls_stream.specs.Listing.{Entry}
+use Rattle.xls_stream.specs.Listing.{ListEntry}
 use Rattle.xls_data.specs.Sheets.{SheetContent}
-use Rattle.xls_meaning.specs.InForce.{InForce, in_force_of, SheetRecords, sheets_of}
-use Rattle.xls_meaning.specs.Reading.{SheetView, BookView, IsContent, IsShown, IsReading, kept_named, last_named, paired, shown_of}
+use Rattle.xls_meaning.specs.Settings.{Settings, settings_of, SheetRecords, sheets_of}
+use Rattle.xls_meaning.specs.Reading.{SheetView, BookView, IsContent, IsDisplayed, IsReading, kept_named, last_named, paired, displayed_of}
 use Rattle.xls_meaning.specs.Rules.{Rules}
 use Rattle.xls_meaning.specs.Held.{no_view}
 use Rattle.xls_meaning.proofs.NamedLemmas.{named_some}
@@ -16,10 +16,10 @@ use Rattle.xls_meaning.proofs.NamedLemmas.{named_some}
 abbrev sheet : SheetRecords → SheetContent
 sheet q = q.0
 
-module _ (s : InForce) (all : List SheetRecords) where
+module _ (s : Settings) (all : List SheetRecords) where
   -- at an index
   content_at : (vs : List SheetView) (qs : List SheetRecords) (n : ℕ) (t : SheetContent) (v : SheetView)
-      → AllZip (IsShown s all) vs qs → slice_get (map sheet qs) n ≡ Some t → slice_get vs n ≡ Some v
+      → AllZip (IsDisplayed s all) vs qs → slice_get (map sheet qs) n ≡ Some t → slice_get vs n ≡ Some v
       → IsContent s (kept_named all t.name) v
   content_at [] qs n t v a at found = absurd cc
   content_at (w ∷ vs) [] n t v a at found = absurd a
@@ -31,7 +31,7 @@ module _ (s : InForce) (all : List SheetRecords) where
 
   -- by name
   last_content : (vs : List SheetView) (qs : List SheetRecords) (name : List ℕ) (last : SheetView)
-      → AllZip (IsShown s all) vs qs → last_named (paired (map sheet qs) vs) name ≡ Some last
+      → AllZip (IsDisplayed s all) vs qs → last_named (paired (map sheet qs) vs) name ≡ Some last
       → IsContent s (kept_named all name) last
   last_content [] [] name last a found = absurd cc
   last_content [] (q ∷ qs) name last a found = absurd a
@@ -43,13 +43,13 @@ module _ (s : InForce) (all : List SheetRecords) where
           → (b : Bool) → pointwise ◌==◌ q.0.name name ≡ b
           → (last_named (paired (map sheet qs) vs) name ≡ Some last → IsContent s (kept_named all name) last)
           → option_or o (if b then Some v else None) ≡ Some last → IsContent s (kept_named all name) last
-      by_cases (Some w) e b t behind h = behind (e ∙ h)
-      by_cases None e true t behind h =
+      by_cases (Some w) e b t following h = following (e ∙ h)
+      by_cases None e true t following h =
           let is : v ≡ last = cc in
           subst (λ (x : List ℕ). IsContent s (kept_named all x) last) ((bytes_eq-Decides q.0.name name).0 t) (subst (IsContent s (kept_named all q.0.name)) is a.0)
-      by_cases None e false t behind h = absurd cc
+      by_cases None e false t following h = absurd cc
 
-  same_length : (vs : List SheetView) (qs : List SheetRecords) → AllZip (IsShown s all) vs qs
+  same_length : (vs : List SheetView) (qs : List SheetRecords) → AllZip (IsDisplayed s all) vs qs
       → length vs ≡ length (map sheet qs)
   same_length [] [] a = refl
   same_length [] (q ∷ qs) a = absurd a
@@ -57,7 +57,7 @@ module _ (s : InForce) (all : List SheetRecords) where
   same_length (v ∷ vs) (q ∷ qs) a = let rest = same_length vs qs a.1 in omega (arith, rest)
 
   by_name : (vs : List SheetView) (qs : List SheetRecords) (n : ℕ) (t : SheetContent) (v : SheetView)
-      → AllZip (IsShown s all) vs qs → slice_get (map sheet qs) n ≡ Some t → slice_get vs n ≡ Some v
+      → AllZip (IsDisplayed s all) vs qs → slice_get (map sheet qs) n ≡ Some t → slice_get vs n ≡ Some v
       → (last : SheetView) × (last_named (paired (map sheet qs) vs) t.name ≡ Some last) × (v.merges ≡ last.merges)
   by_name vs qs n t v a at found =
       let there = named_some no_view (map sheet qs) vs n t (same_length vs qs a) at in (
@@ -67,11 +67,11 @@ module _ (s : InForce) (all : List SheetRecords) where
             ∙ sym (last_content vs qs t.name (unwrap_or (last_named (paired (map sheet qs) vs) t.name) no_view) a there).merges,
       )
 
-pub regions_by_name : (rules : Rules) (entries : List Entry) (book : BookView)
+pub regions_by_name : (rules : Rules) (entries : List ListEntry) (book : BookView)
     → IsReading rules entries book → (n : ℕ) (t : SheetContent) (v : SheetView)
     → slice_get book.sheets n ≡ Some t → slice_get book.contents n ≡ Some v
-    → (last : SheetView) × (shown_of book t.name ≡ Some last) × (v.merges ≡ last.merges)
+    → (last : SheetView) × (displayed_of book t.name ≡ Some last) × (v.merges ≡ last.merges)
 regions_by_name rules entries book r n t v at found =
     let qs = sheets_of rules entries in
-    let found_by = by_name (in_force_of rules entries) qs book.contents qs n t v r.contents (ap (λ (x : List SheetContent). slice_get x n) (sym r.sheets) ∙ at) found in
+    let found_by = by_name (settings_of rules entries) qs book.contents qs n t v r.contents (ap (λ (x : List SheetContent). slice_get x n) (sym r.sheets) ∙ at) found in
     subst (λ (x : List SheetContent). (last : SheetView) × (last_named (paired x book.contents) t.name ≡ Some last) × (v.merges ≡ last.merges)) (sym r.sheets) found_by

@@ -7,7 +7,7 @@ use Rattle.std.specs.Str.{chars}
 use Rattle.std.specs.Option.{option_or}
 use Rattle.xls_bytes.specs.Columns.{word_of, column_name}
 use Rattle.xls_text.specs.declared.encoding.XlsEncoding.TheVariants.{Windows1252}
-use Rattle.xls_stream.specs.Listing.{Kept, Item, plain_item, sheet_item, Entry, sheet_entry}
+use Rattle.xls_stream.specs.Listing.{Kept, Item, plain_item, sheet_item, ListEntry, sheet_entry}
 use Rattle.xls_stream.specs.declared.part.Part.TheVariants as parts
 use Rattle.xls_data.specs.Content.{Content, int, float, text, truth, date, failure}
 use Rattle.xls_dates.specs.declared.numbers.Number.TheVariants.{Bits, Whole}
@@ -21,9 +21,9 @@ use Rattle.xls_record.specs.declared.error.XlsError.TheVariants as errors
 use Rattle.xls_record.specs.declared.version.Biff.TheVariants.{Biff8}
 use Rattle.xls_biff.specs.Records.Rk.{rk_content}
 use Rattle.xls_biff.specs.SheetTable.{CellContext}
-use Rattle.xls_meaning.specs.Order.{along}
-use Rattle.xls_meaning.specs.InForce.{InForce, SheetRecords, in_force_of, sheets_of}
-use Rattle.xls_meaning.specs.Reading.{SheetView, BookView, IsContent, IsReading, kept_named, values_of, formulas_of, merges_of, shown_of}
+use Rattle.xls_meaning.specs.Order.{map_with_earlier}
+use Rattle.xls_meaning.specs.Settings.{Settings, SheetRecords, settings_of, sheets_of}
+use Rattle.xls_meaning.specs.Reading.{SheetView, BookView, IsContent, IsReading, kept_named, values_of, formulas_of, merges_of, displayed_of}
 use Rattle.xls_meaning.specs.Faults.{weight_in, kept_fault, places}
 use Rattle.xls_meaning.specs.Rules.{Rules}
 
@@ -32,8 +32,8 @@ use Rattle.xls_meaning.specs.Rules.{Rules}
 abbrev cells : CellContext
 cells = record { page = Windows1252; version = Biff8; classes = DateTime ∷ Other ∷ []; strings = codes "a" ∷ codes "b" ∷ []; is_1904 = true }
 
-abbrev force : InForce
-force = record {
+abbrev settings : Settings
+settings = record {
   cells = cells;
   formulas = record {
     sheets = codes "A" ∷ [];
@@ -73,8 +73,8 @@ abbrev formula : List ℕ → List ℕ → List ℕ → Kept
 formula at value rgce = kept 0x0006 (at ++ (value ++ (replicate 6 0x00 ++ rgce)))
 
 -- values that a String tells, and true
-abbrev told : List ℕ
-told = replicate 6 0x00 ++ 0xFF ∷ 0xFF ∷ []
+abbrev reported : List ℕ
+reported = replicate 6 0x00 ++ 0xFF ∷ 0xFF ∷ []
 
 abbrev yes : List ℕ
 yes = 0x01 ∷ 0x00 ∷ 0x01 ∷ 0x00 ∷ 0x00 ∷ 0x00 ∷ 0xFF ∷ 0xFF ∷ []
@@ -92,7 +92,7 @@ abbrev first_records : List Kept
 first_records =
     kept 0x0200 (replicate 14 0x00) ∷ kept 0x0207 (0x01 ∷ 0x00 ∷ 0x00 ∷ codes "x")
     ∷ number (cell 0x02 0x01 0x00) three ∷ short_number
-    ∷ formula (cell 0x03 0x01 0x00) told (0x05 ∷ 0x00 ∷ 0x23 ∷ 0x01 ∷ 0x00 ∷ 0x00 ∷ 0x00 ∷ []) ∷ one_region
+    ∷ formula (cell 0x03 0x01 0x00) reported (0x05 ∷ 0x00 ∷ 0x23 ∷ 0x01 ∷ 0x00 ∷ 0x00 ∷ 0x00 ∷ []) ∷ one_region
     ∷ kept 0x0207 (0x02 ∷ 0x00 ∷ 0x00 ∷ codes "ab") ∷ []
 
 -- LabelSst, one of a text that isn't there, a Formula of a cell on a sheet, one without tokens, MulRk, an RK
@@ -108,7 +108,7 @@ last_records =
     ∷ two_regions ∷ kept 0x0208 (replicate 16 0x01) ∷ number (cell 0x02 0x01 0x01) two ∷ []
 
 -- the cells in order, each time that one is given
-pub values : values_of force (first_records ++ last_records)
+pub values : values_of settings (first_records ++ last_records)
     ≡ ((0, 0), text (codes "x")) ∷ ((2, 1), date (record { number = Bits 0x4008_0000_0000_0000; kind = kinds.DateTime; is_1904 = true }))
     ∷ ((3, 1), text (codes "ab")) ∷ ((4, 0), text (codes "b")) ∷ ((5, 1), float (Bits 0x4000_0000_0000_0000)) ∷ ((5, 2), truth true)
     ∷ ((6, 0), int (pos 2)) ∷ ((6, 1), int (pos 1)) ∷ ((7, 0), date (record { number = Whole (pos 1); kind = kinds.DateTime; is_1904 = true }))
@@ -117,14 +117,14 @@ unfolding rk_content digits column_name word_of
 values = refl
 
 -- the texts of the formulas, or in UTF-8 why one has none
-pub formulas : formulas_of force (first_records ++ last_records)
+pub formulas : formulas_of settings (first_records ++ last_records)
     ≡ ((3, 1), codes "N") ∷ ((5, 1), codes "A!C2")
     ∷ ((5, 2), chars (codes "Unrecognised formula for cell (5, 2): Invalid rgce length, expected at least 2, found 0")) ∷ []
 unfolding rk_content digits column_name word_of
 formulas = refl
 
 -- the regions of both records
-pub merges : merges_of force (first_records ++ last_records)
+pub merges : merges_of settings (first_records ++ last_records)
     ≡ record { start = (0, 2); end = (1, 3) } ∷ record { start = (4, 6); end = (5, 6) } ∷ record { start = (7, 9); end = (8, 9) } ∷ []
 unfolding rk_content digits column_name word_of
 merges = refl
@@ -142,7 +142,7 @@ limit max_cells = record { force_codepage = None; max_bytes = 0x1000; max_cells 
 
 -- where two cells are the limit: the third one passes it, and so does each record after it, but one with a
 -- fault of its own has that
-pub passed : along (kept_fault (limit 2) cells) [] (number (cell 0x00 0x00 0x01) one ∷ short_number ∷ one_region ∷ number (cell 0x00 0x00 0x01) one ∷ number (cell 0x00 0x00 0x01) one ∷ one_region ∷ short_number ∷ [])
+pub passed : map_with_earlier (kept_fault (limit 2) cells) [] (number (cell 0x00 0x00 0x01) one ∷ short_number ∷ one_region ∷ number (cell 0x00 0x00 0x01) one ∷ number (cell 0x00 0x00 0x01) one ∷ one_region ∷ short_number ∷ [])
     ≡ None ∷ Some (errors.Len 14 13 parts.Number) ∷ None ∷ None ∷ Some (errors.TooManyCells 2) ∷ Some (errors.TooManyCells 2) ∷ Some (errors.Len 14 13 parts.Number) ∷ []
 passed = refl
 
@@ -182,7 +182,7 @@ pub last_kept : map (kept_named listed) (codes "A" ∷ codes "B" ∷ codes "a" �
 last_kept = refl
 
 -- two sheets `A` and one `B`; in the last `A` one cell is given twice, and its formula too
-abbrev entries : List Entry
+abbrev entries : List ListEntry
 entries =
     sheet_entry 0x00 0x00 (0x01 ∷ 0x00 ∷ 0x41 ∷ []) (number (cell 0x00 0x00 0x00) three ∷ one_region ∷ [])
     ∷ sheet_entry 0x00 0x00 (0x01 ∷ 0x00 ∷ 0x42 ∷ []) (one_region ∷ [])
@@ -212,7 +212,7 @@ second : {X : Type 0} (b : Bool) (x y : X) → option_or None (if b then Some y 
 second true x y = refl
 second false x y = refl
 
-is_a : IsContent (in_force_of (limit 8) entries) (kept_named (sheets_of (limit 8) entries) (codes "A")) view_of_a
+is_a : IsContent (settings_of (limit 8) entries) (kept_named (sheets_of (limit 8) entries) (codes "A")) view_of_a
 unfolding digits
 is_a = record {
   ascending = (tt, tt);
@@ -233,8 +233,8 @@ one_name = record {
 }
 
 -- and so does a look-up by name: here where the contents are told apart
-pub shown : map (shown_of (record book { contents = view_of_a ∷ view_of_b ∷ view_of_b ∷ [] })) (codes "A" ∷ codes "B" ∷ codes "C" ∷ []) ≡ Some view_of_b ∷ Some view_of_b ∷ None ∷ []
-shown = refl
+pub displayed : map (displayed_of (record book { contents = view_of_a ∷ view_of_b ∷ view_of_b ∷ [] })) (codes "A" ∷ codes "B" ∷ codes "C" ∷ []) ≡ Some view_of_b ∷ Some view_of_b ∷ None ∷ []
+displayed = refl
 
 -- ---- what isn't the reading
 

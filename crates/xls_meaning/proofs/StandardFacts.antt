@@ -7,8 +7,8 @@ use Rattle.xls_stream.specs.Listing.{Kept}
 use Rattle.xls_biff.specs.SheetTable.{CellContext}
 use Rattle.xls_record.specs.declared.error.XlsError.TheVariants.{StackLen}
 use Rattle.xls_record.specs.declared.version.Biff.TheVariants.{Biff5, Biff8}
-use Rattle.xls_meaning.specs.InForce.{known_refs, placed_text, told_name}
-use Rattle.xls_meaning.specs.SheetTable.{shown_formulas, refusal_bytes, last_formula}
+use Rattle.xls_meaning.specs.Settings.{known_refs, placed_text, resolved_name}
+use Rattle.xls_meaning.specs.SheetTable.{nonempty_formulas, refusal_bytes, last_formula}
 
 -- why a formula is refused, and where
 pub refused : refusal_bytes (0, 0) StackLen ≡ codes "Unrecognised formula for cell (0, 0): Invalid stack length"
@@ -27,7 +27,7 @@ pub none : known_refs Biff8 2 [] ≡ []
 none = refl
 
 -- a name on a sheet, one whose reference is missing, and one without a reference
-pub placed : told_name (codes "Data" ∷ []) (pos 0 ∷ []) (codes "Total", (Some 0, codes "$B$2")) ≡ (codes "Total", codes "Data!$B$2")
+pub placed : resolved_name (codes "Data" ∷ []) (pos 0 ∷ []) (codes "Total", (Some 0, codes "$B$2")) ≡ (codes "Total", codes "Data!$B$2")
 placed = refl
 
 pub lost : placed_text (codes "Data" ∷ []) (pos 0 ∷ []) (Some 1, codes "$B$2") ≡ codes "#REF!$B$2"
@@ -56,5 +56,5 @@ pub first_place : last_formula plain (number ∷ []) ≡ (0, 0)
 first_place = refl
 
 -- an empty text isn't shown
-pub shown : shown_formulas (((2, 0), []) ∷ ((5, 1), codes "A1") ∷ []) ≡ ((5, 1), codes "A1") ∷ []
-shown = refl
+pub displayed : nonempty_formulas (((2, 0), []) ∷ ((5, 1), codes "A1") ∷ []) ≡ ((5, 1), codes "A1") ∷ []
+displayed = refl

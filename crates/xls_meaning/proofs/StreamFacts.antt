@@ -1,9 +1,9 @@
 -- Known values on a stream of 55 bytes: a sheet `A` with the number 3 in its first cell.
 use Rattle.std.proofs.Common.{◌≡◌, ℕ, suc, zero, false, true, Bool, ◌&&◌, List, [], ◌∷◌, ◌++◌, take, refl, lit<, lit≤, arith, ltb, ltb-true, inl, None, Some, codes}
-use Rattle.xls_stream.specs.Stream.{enc, Run}
+use Rattle.xls_stream.specs.Stream.{record_bytes, Run}
 use Rattle.xls_stream.specs.Walks.{IsBytes}
 use Rattle.xls_stream.specs.Substreams.{IsPlain, GlobalsPart, SheetPart, none, no_more, plain, own_closed, own_open}
-use Rattle.xls_stream.specs.Listing.{Kept, Item, plain_item, sheet_item, Entry, plain_entry, sheet_entry, Holds, Carries}
+use Rattle.xls_stream.specs.Listing.{Kept, Item, plain_item, sheet_item, ListEntry, plain_entry, sheet_entry, Holds, Carries}
 use Rattle.xls_stream.specs.declared.part.Part.TheVariants as parts
 use Rattle.xls_data.specs.Content.{float}
 use Rattle.xls_dates.specs.declared.numbers.Number.TheVariants.{Bits}
@@ -14,7 +14,7 @@ use Rattle.xls_meaning.specs.Reading.{BookView, IsReading}
 use Rattle.xls_meaning.specs.Faults.{FirstFault, IsFull, IsSound}
 use Rattle.xls_meaning.specs.Rules.{Rules}
 use Rattle.xls_meaning.proofs.LawLemmas.{sound_where_full}
-use Rattle.xls_meaning.proofs.SampleStreams.{bare, eof, nothing_starts, begins, behind}
+use Rattle.xls_meaning.proofs.SampleStreams.{bare, eof, nothing_starts, begins, following}
 
 abbrev rules : Rules
 rules = record { force_codepage = None; max_bytes = 55; max_cells = 1; functions = [] }
@@ -36,10 +36,10 @@ number = 0 ∷ 0 ∷ 0 ∷ 0 ∷ 0 ∷ 0 ∷ 0 ∷ 0 ∷ 0 ∷ 0 ∷ 0 ∷ 0 ∷
 
 -- the sheet's part from byte 25 on
 abbrev part : List ℕ
-part = enc 0x0809 sheet_bof ++ (enc 0x0203 number ++ eof)
+part = record_bytes 0x0809 sheet_bof ++ (record_bytes 0x0203 number ++ eof)
 
 abbrev stream : List ℕ
-stream = enc 0x0809 bof ++ (enc 0x0085 bound_sheet ++ (eof ++ part))
+stream = record_bytes 0x0809 bof ++ (record_bytes 0x0085 bound_sheet ++ (eof ++ part))
 
 pub known_stream : stream ≡
     0x09 ∷ 0x08 ∷ 0x04 ∷ 0x00 ∷ 0x00 ∷ 0x06 ∷ 0x05 ∷ 0x00 ∷
@@ -54,7 +54,7 @@ known_stream = refl
 -- ---- what it holds, and the list that it carries
 
 -- the globals before any part that begins with a BOF
-globals_before : (rest : List ℕ) → Run (enc 0x0809 bof ++ (enc 0x0085 bound_sheet ++ (eof ++ (enc 0x0809 sheet_bof ++ rest)))) (bare 0x0809 bof ∷ bare 0x0085 bound_sheet ∷ bare 0x000A [] ∷ []) (enc 0x0809 sheet_bof ++ rest)
+globals_before : (rest : List ℕ) → Run (record_bytes 0x0809 bof ++ (record_bytes 0x0085 bound_sheet ++ (eof ++ (record_bytes 0x0809 sheet_bof ++ rest)))) (bare 0x0809 bof ∷ bare 0x0085 bound_sheet ∷ bare 0x000A [] ∷ []) (record_bytes 0x0809 sheet_bof ++ rest)
 globals_before rest = (
   _,
   begins 0x0809 bof _ tt tt (λ s. let t = s.typ in cc),
@@ -65,10 +65,10 @@ globals_before rest = (
   ),
 )
 
-globals_part : (rest : List ℕ) → GlobalsPart (enc 0x0809 bof ++ (enc 0x0085 bound_sheet ++ (eof ++ (enc 0x0809 sheet_bof ++ rest)))) (bare 0x0809 bof ∷ bare 0x0085 bound_sheet ∷ []) None
+globals_part : (rest : List ℕ) → GlobalsPart (record_bytes 0x0809 bof ++ (record_bytes 0x0085 bound_sheet ++ (eof ++ (record_bytes 0x0809 sheet_bof ++ rest)))) (bare 0x0809 bof ∷ bare 0x0085 bound_sheet ∷ []) None
 globals_part rest = record {
   no_eof = ((λ e. cc), ((λ e. cc), tt));
-  rest = enc 0x0809 sheet_bof ++ rest;
+  rest = record_bytes 0x0809 sheet_bof ++ rest;
   ends = inl (bare 0x000A [], refl, globals_before rest, refl);
 }
 
@@ -78,8 +78,8 @@ number_plain = ((λ e. let u : 0x0203 ≡ 0x0809 = e in omega arith), (λ e. let
 -- BOF, a Number, EOF
 sheet_part : SheetPart part (bare 0x0203 number ∷ []) None
 sheet_part = record {
-  shape = own_closed [] (bare 0x0809 sheet_bof) (plain (bare 0x0203 number) none) (bare 0x000A []);
-  is_shape = (tt, refl, (number_plain, tt), refl);
+  outline = own_closed [] (bare 0x0809 sheet_bof) (plain (bare 0x0203 number) none) (bare 0x000A []);
+  is_outline = (tt, refl, (number_plain, tt), refl);
   rest = [];
   run = (
     _,
@@ -103,11 +103,11 @@ items = plain_item 0x0809 bof ∷ sheet_item bound_sheet (kept ∷ []) None ∷ 
 pub known_holds : Holds stream items None
 known_holds = record {
   groups = bare 0x0809 bof ∷ bare 0x0085 bound_sheet ∷ [];
-  globals = globals_part (enc 0x0203 number ++ eof);
+  globals = globals_part (record_bytes 0x0203 number ++ eof);
   items_are = ((refl, refl, refl), ((refl, refl, inl (lit≤ tt, (_, sheet_part, refl))), tt));
 }
 
-abbrev entries : List Entry
+abbrev entries : List ListEntry
 entries = plain_entry 0x0809 bof ∷ sheet_entry 0 0 (1 ∷ 0 ∷ 0x41 ∷ []) (kept ∷ []) ∷ []
 
 pub known_carries : Carries stream entries
@@ -166,15 +166,15 @@ abbrev short : List ℕ
 short = take 13 number
 
 abbrev short_part : List ℕ
-short_part = enc 0x0809 sheet_bof ++ (enc 0x0203 short ++ eof)
+short_part = record_bytes 0x0809 sheet_bof ++ (record_bytes 0x0203 short ++ eof)
 
 abbrev short_stream : List ℕ
-short_stream = enc 0x0809 bof ++ (enc 0x0085 bound_sheet ++ (eof ++ short_part))
+short_stream = record_bytes 0x0809 bof ++ (record_bytes 0x0085 bound_sheet ++ (eof ++ short_part))
 
 short_is : SheetPart short_part (bare 0x0203 short ∷ []) None
 short_is = record {
-  shape = own_closed [] (bare 0x0809 sheet_bof) (plain (bare 0x0203 short) none) (bare 0x000A []);
-  is_shape = (tt, refl, (number_plain, tt), refl);
+  outline = own_closed [] (bare 0x0809 sheet_bof) (plain (bare 0x0203 short) none) (bare 0x000A []);
+  is_outline = (tt, refl, (number_plain, tt), refl);
   rest = [];
   run = (
     _,
@@ -193,9 +193,9 @@ abbrev short_items : List Item
 short_items = plain_item 0x0809 bof ∷ sheet_item bound_sheet (record { typ = 0x0203; body = short } ∷ []) None ∷ []
 
 pub known_short : FirstFault rules short_stream (errors.Len 14 13 parts.Number)
-known_short = behind rules short_stream (errors.Len 14 13 parts.Number) short_items None refl (record {
+known_short = following rules short_stream (errors.Len 14 13 parts.Number) short_items None refl (record {
   groups = bare 0x0809 bof ∷ bare 0x0085 bound_sheet ∷ [];
-  globals = globals_part (enc 0x0203 short ++ eof);
+  globals = globals_part (record_bytes 0x0203 short ++ eof);
   items_are = ((refl, refl, refl), ((refl, refl, inl (lit≤ tt, (_, short_is, refl))), tt));
 }) refl
 
@@ -206,10 +206,10 @@ cut_end = 0x0A ∷ 0x00 ∷ 0x00 ∷ []
 abbrev cut_stream : List ℕ
 cut_stream = take 54 stream
 
-cut_is : SheetPart (enc 0x0809 sheet_bof ++ (enc 0x0203 number ++ cut_end)) (bare 0x0203 number ∷ []) (Some parts.RecordHeader)
+cut_is : SheetPart (record_bytes 0x0809 sheet_bof ++ (record_bytes 0x0203 number ++ cut_end)) (bare 0x0203 number ∷ []) (Some parts.RecordHeader)
 cut_is = record {
-  shape = own_open [] (bare 0x0809 sheet_bof) (plain (bare 0x0203 number) none) no_more;
-  is_shape = (tt, refl, (number_plain, tt), tt);
+  outline = own_open [] (bare 0x0809 sheet_bof) (plain (bare 0x0203 number) none) no_more;
+  is_outline = (tt, refl, (number_plain, tt), tt);
   rest = cut_end;
   run = (
     _,
@@ -224,8 +224,8 @@ abbrev cut_items : List Item
 cut_items = plain_item 0x0809 bof ∷ sheet_item bound_sheet (kept ∷ []) (Some parts.RecordHeader) ∷ []
 
 pub known_cut : FirstFault rules cut_stream (errors.EoStream parts.RecordHeader)
-known_cut = behind rules cut_stream (errors.EoStream parts.RecordHeader) cut_items None refl (record {
+known_cut = following rules cut_stream (errors.EoStream parts.RecordHeader) cut_items None refl (record {
   groups = bare 0x0809 bof ∷ bare 0x0085 bound_sheet ∷ [];
-  globals = globals_part (enc 0x0203 number ++ cut_end);
+  globals = globals_part (record_bytes 0x0203 number ++ cut_end);
   items_are = ((refl, refl, refl), ((refl, refl, inl (lit≤ tt, (_, cut_is, refl))), tt));
 }) refl

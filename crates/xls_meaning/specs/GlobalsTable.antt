@@ -4,7 +4,7 @@ use Rattle.std.specs.Result.{result_map_both}
 use Rattle.std.specs.Char.Utf16.{utf16_lossy_chars}
 use Rattle.xls_text.specs.Pages.{page_of}
 use Rattle.xls_text.specs.declared.encoding.XlsEncoding.{XlsEncoding}
-use Rattle.xls_stream.specs.Listing.{Shared, no_table, table_of, table_without, Entry, plain_entry, table_entry, sheet_entry, Item, plain_item, table_item, sheet_item}
+use Rattle.xls_stream.specs.Listing.{Shared, no_table, table_of, table_without, ListEntry, plain_entry, table_entry, sheet_entry, Item, plain_item, table_item, sheet_item}
 use Rattle.xls_stream.specs.declared.part.Part.TheVariants as parts
 use Rattle.xls_stream.specs.declared.types.TheConstants as types
 use Rattle.xls_data.specs.Sheets.{SheetContent}
@@ -26,8 +26,8 @@ use Rattle.xls_biff.specs.Records.DateMode.{date_mode_at}
 use Rattle.xls_biff.specs.Records.BoundSheet.{sheet_by, bound_sheet_at}
 
 -- Lbl ([MS-XLS] 2.4.150): the name and what it names
-abbrev pub Named : Type 0
-Named = List ℕ × Located
+abbrev pub NamedPlace : Type 0
+NamedPlace = List ℕ × Located
 
 -- what a record of the globals gives
 pub data GlobalsRecord : Type 0 where
@@ -38,7 +38,7 @@ pub data GlobalsRecord : Type 0 where
   format_record : (ifmt : ℕ) (class : CellFormat) → GlobalsRecord
   xf_record : (ifmt : ℕ) → GlobalsRecord
   references_record : (firsts : List ℤ) → GlobalsRecord
-  name_record : (name : Named) → GlobalsRecord
+  name_record : (name : NamedPlace) → GlobalsRecord
   strings_record : (texts : List (List ℕ)) → GlobalsRecord
   sheet_record : (sheet : SheetContent) → GlobalsRecord
 
@@ -55,10 +55,10 @@ unless_refused (Ok f) = Ok (format_record f.0 f.1)
 unless_refused (Err e) = Ok other_record
 
 -- SST ([MS-XLS] 2.4.265), of a body of so many bytes: the texts of its strings
-abbrev pub texts_of : ℕ → Shared → Result (List (List ℕ)) XlsError
-texts_of len no_table = Err (Len 8 len parts.Sst)
-texts_of len (table_of strings) = Ok (map utf16_lossy_chars strings)
-texts_of len (table_without missing) = Err (error_of missing)
+abbrev pub shared_texts : ℕ → Shared → Result (List (List ℕ)) XlsError
+shared_texts len no_table = Err (Len 8 len parts.Sst)
+shared_texts len (table_of strings) = Ok (map utf16_lossy_chars strings)
+shared_texts len (table_without missing) = Err (error_of missing)
 
 -- ---- the table
 
@@ -80,12 +80,12 @@ plain_record_at forced page version typ body =
 abbrev pub item_record_at : Option ℕ → XlsEncoding → Biff → Item → Result GlobalsRecord XlsError
 item_record_at forced page version (plain_item typ body) = plain_record_at forced page version typ body
 item_record_at forced page version (table_item body shared) =
-    gives strings_record (texts_of (length body) shared)
+    gives strings_record (shared_texts (length body) shared)
 item_record_at forced page version (sheet_item body kept cut) =
     gives (λ (q : ℕ × SheetContent). sheet_record q.1) (bound_sheet_at page version body)
 
 -- an entry of the list that they carry: a string table is whole, and a sheet has no offset
-abbrev pub entry_record_at : Option ℕ → XlsEncoding → Biff → Entry → Result GlobalsRecord XlsError
+abbrev pub entry_record_at : Option ℕ → XlsEncoding → Biff → ListEntry → Result GlobalsRecord XlsError
 entry_record_at forced page version (plain_entry typ body) = plain_record_at forced page version typ body
 entry_record_at forced page version (table_entry strings) =
     Ok (strings_record (map utf16_lossy_chars strings))
@@ -106,41 +106,41 @@ forced_fault (Some n) = fault_of (result_map_both (λ page. page) (λ e. Cfb e) 
 
 -- ---- what it gives, by kind
 
-abbrev pub Line : Type 0
-Line = Result GlobalsRecord XlsError
+abbrev pub GlobalsLine : Type 0
+GlobalsLine = Result GlobalsRecord XlsError
 
-abbrev pub version_given : Line → Option Biff
-version_given (Ok (version_record version)) = Some version
-version_given line = None
+abbrev pub version_from : GlobalsLine → Option Biff
+version_from (Ok (version_record version)) = Some version
+version_from line = None
 
-abbrev pub page_given : Line → Option XlsEncoding
-page_given (Ok (page_record page)) = Some page
-page_given line = None
+abbrev pub page_from : GlobalsLine → Option XlsEncoding
+page_from (Ok (page_record page)) = Some page
+page_from line = None
 
-abbrev pub date_given : Line → Option Bool
-date_given (Ok (date_record is_1904)) = Some is_1904
-date_given line = None
+abbrev pub date_from : GlobalsLine → Option Bool
+date_from (Ok (date_record is_1904)) = Some is_1904
+date_from line = None
 
-abbrev pub format_given : Line → Option (ℕ × CellFormat)
-format_given (Ok (format_record ifmt class)) = Some (ifmt, class)
-format_given line = None
+abbrev pub format_from : GlobalsLine → Option (ℕ × CellFormat)
+format_from (Ok (format_record ifmt class)) = Some (ifmt, class)
+format_from line = None
 
-abbrev pub xf_given : Line → Option ℕ
-xf_given (Ok (xf_record ifmt)) = Some ifmt
-xf_given line = None
+abbrev pub xf_from : GlobalsLine → Option ℕ
+xf_from (Ok (xf_record ifmt)) = Some ifmt
+xf_from line = None
 
-abbrev pub references_given : Line → Option (List ℤ)
-references_given (Ok (references_record firsts)) = Some firsts
-references_given line = None
+abbrev pub references_from : GlobalsLine → Option (List ℤ)
+references_from (Ok (references_record firsts)) = Some firsts
+references_from line = None
 
-abbrev pub name_given : Line → Option Named
-name_given (Ok (name_record name)) = Some name
-name_given line = None
+abbrev pub name_from : GlobalsLine → Option NamedPlace
+name_from (Ok (name_record name)) = Some name
+name_from line = None
 
-abbrev pub strings_given : Line → Option (List (List ℕ))
-strings_given (Ok (strings_record texts)) = Some texts
-strings_given line = None
+abbrev pub strings_from : GlobalsLine → Option (List (List ℕ))
+strings_from (Ok (strings_record texts)) = Some texts
+strings_from line = None
 
-abbrev pub sheet_given : Line → Option SheetContent
-sheet_given (Ok (sheet_record sheet)) = Some sheet
-sheet_given line = None
+abbrev pub sheet_from : GlobalsLine → Option SheetContent
+sheet_from (Ok (sheet_record sheet)) = Some sheet
+sheet_from line = None

@@ -5,8 +5,8 @@ use Rattle.xls_stream.specs.Listing.{offset_at, Kept, Item, plain_item, table_it
 use Rattle.xls_stream.specs.declared.part.Part.{Part}
 use Rattle.xls_data.specs.Sheets.{SheetContent}
 use Rattle.xls_meaning.specs.Reading.{SheetView}
-use Rattle.xls_meaning.specs.Order.{along, somes}
-use Rattle.xls_meaning.specs.GlobalsTable.{sheet_given}
+use Rattle.xls_meaning.specs.Order.{map_with_earlier, somes}
+use Rattle.xls_meaning.specs.GlobalsTable.{sheet_from}
 use Rattle.xls_meaning.specs.Faults.{item_line}
 use Rattle.xls_meaning.specs.Rules.{Rules}
 
@@ -28,10 +28,10 @@ opened_in rules before (sheet_item body kept cut) =
       head = s;
       kept = kept;
       cut = cut;
-    }) (sheet_given (item_line rules before (sheet_item body kept cut)))
+    }) (sheet_from (item_line rules before (sheet_item body kept cut)))
 
 abbrev pub opened_of : Rules → List Item → List OpenedSheet
-opened_of rules items = somes (along (opened_in rules) [] items)
+opened_of rules items = somes (map_with_earlier (opened_in rules) [] items)
 
 -- ---- what a sheet shows
 

@@ -1,10 +1,10 @@
 -- Laws over streams and their faults, and over readings.
 use Rattle.std.specs.Prelude.{◌≡◌, ◌↔◌, ℕ, ◌≤◌, List, Some, length, slice_get}
 use Rattle.xls_stream.specs.Walks.{IsBytes}
-use Rattle.xls_stream.specs.Listing.{Entry, Carries}
+use Rattle.xls_stream.specs.Listing.{ListEntry, Carries}
 use Rattle.xls_data.specs.Sheets.{SheetContent}
 use Rattle.xls_record.specs.declared.error.XlsError.{XlsError}
-use Rattle.xls_meaning.specs.Reading.{SheetView, BookView, IsReading, shown_of}
+use Rattle.xls_meaning.specs.Reading.{SheetView, BookView, IsReading, displayed_of}
 use Rattle.xls_meaning.specs.Faults.{FirstFault, IsSound, IsFull}
 use Rattle.xls_meaning.specs.Rules.{Rules}
 
@@ -18,13 +18,13 @@ abbrev pub SoundWhereFull : Type 0
 SoundWhereFull =
     (rules : Rules) (bytes : List ℕ) → IsBytes bytes
     → IsSound rules bytes
-    ↔ ((length bytes ≤ rules.max_bytes) × (entries : List Entry) × Carries bytes entries
+    ↔ ((length bytes ≤ rules.max_bytes) × (entries : List ListEntry) × Carries bytes entries
     × IsFull rules entries)
 
 -- in a reading, the merged regions at an index are those of the last sheet of its name
 abbrev pub RegionsByName : Type 0
 RegionsByName =
-    (rules : Rules) (entries : List Entry) (book : BookView) → IsReading rules entries book
+    (rules : Rules) (entries : List ListEntry) (book : BookView) → IsReading rules entries book
     → (n : ℕ) (sheet : SheetContent) (view : SheetView)
     → slice_get book.sheets n ≡ Some sheet → slice_get book.contents n ≡ Some view
-    → (last : SheetView) × (shown_of book sheet.name ≡ Some last) × (view.merges ≡ last.merges)
+    → (last : SheetView) × (displayed_of book sheet.name ≡ Some last) × (view.merges ≡ last.merges)

@@ -1,7 +1,7 @@
 pub mod Rules
 pub mod Order
 pub mod GlobalsTable
-pub mod InForce
+pub mod Settings
 pub mod SheetTable
 pub mod Reading
 pub mod Faults

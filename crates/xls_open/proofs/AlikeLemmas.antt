@@ -8,22 +8,22 @@ use Rattle.xls_stream.specs.declared.part.Part.{Part}
 use Rattle.xls_record.specs.declared.error.XlsError.{XlsError}
 use Rattle.xls_record.specs.declared.error.XlsError.TheVariants.{TooManyCells}
 use Rattle.xls_biff.specs.SheetTable.{CellContext}
-use Rattle.xls_meaning.specs.Order.{along, first_of}
+use Rattle.xls_meaning.specs.Order.{map_with_earlier, first_of}
 use Rattle.xls_meaning.specs.GlobalsTable.{forced_fault, fault_of}
 use Rattle.xls_meaning.specs.SheetTable.{kept_line}
-use Rattle.xls_meaning.specs.Faults.{outer_fault, weight_given, weight_in, weight_fault, kept_fault, cut_fault, part_places, sheet_places, globals_places, places, FirstBehind, FirstFault}
+use Rattle.xls_meaning.specs.Faults.{outer_fault, weight_from, weight_in, weight_fault, kept_fault, cut_fault, part_places, sheet_places, globals_places, places, FirstAfter, FirstFault}
 use Rattle.xls_open.specs.Checking.{checked, FirstChecked}
-use Rattle.xls_open.specs.CheckSteps.{force_of}
+use Rattle.xls_open.specs.CheckSteps.{settings_checked}
 use Rattle.xls_meaning.specs.Rules.{Rules}
 use Rattle.xls_meaning.proofs.LawLemmas.{limit_none}
-use Rattle.xls_meaning.specs.InForce.{InForce}
+use Rattle.xls_meaning.specs.Settings.{Settings}
 
-along_same : {X Y : Type 0} (f g : List X → X → Y) → ((before : List X) (x : X) → f before x ≡ g before x)
-    → (xs before : List X) → along f before xs ≡ along g before xs
-along_same f g h [] before = refl
-along_same {Y = Y} f g h (x ∷ xs) before =
-    ap (λ (y : Y). y ∷ along f (before ++ x ∷ []) xs) (h before x)
-    ∙ ap (λ (ys : List Y). g before x ∷ ys) (along_same f g h xs (before ++ x ∷ []))
+earlier_same : {X Y : Type 0} (f g : List X → X → Y) → ((before : List X) (x : X) → f before x ≡ g before x)
+    → (xs before : List X) → map_with_earlier f before xs ≡ map_with_earlier g before xs
+earlier_same f g h [] before = refl
+earlier_same {Y = Y} f g h (x ∷ xs) before =
+    ap (λ (y : Y). y ∷ map_with_earlier f (before ++ x ∷ []) xs) (h before x)
+    ∙ ap (λ (ys : List Y). g before x ∷ ys) (earlier_same f g h xs (before ++ x ∷ []))
 
 module _ (rules : Rules) where
   -- the rules by default, under the same page and bound
@@ -32,12 +32,12 @@ module _ (rules : Rules) where
 
   -- ---- a sheet
 
-  module _ (s t : InForce) (e : s.cells ≡ t.cells) where
+  module _ (s t : Settings) (e : s.cells ≡ t.cells) where
     weight_same : (ks : List Kept) → weight_in s.cells ks ≡ weight_in t.cells ks
     weight_same [] = refl
     weight_same (k ∷ ks) =
-        ap (λ (c : CellContext). weight_given (kept_line c k) + weight_in s.cells ks) e
-        ∙ ap (λ (n : ℕ). weight_given (kept_line t.cells k) + n) (weight_same ks)
+        ap (λ (c : CellContext). weight_from (kept_line c k) + weight_in s.cells ks) e
+        ∙ ap (λ (n : ℕ). weight_from (kept_line t.cells k) + n) (weight_same ks)
 
     kept_same : (before : List Kept) (k : Kept) → kept_fault rules s.cells before k ≡ kept_fault same t.cells before k
     kept_same before k =
@@ -46,7 +46,7 @@ module _ (rules : Rules) where
 
     part_same : (kept : List Kept) (cut : Option Part) → part_places rules s.cells kept cut ≡ part_places same t.cells kept cut
     part_same kept cut =
-        ap (λ (l : List (Option XlsError)). l ++ cut_fault cut ∷ []) (along_same (kept_fault rules s.cells) (kept_fault same t.cells) kept_same kept [])
+        ap (λ (l : List (Option XlsError)). l ++ cut_fault cut ∷ []) (earlier_same (kept_fault rules s.cells) (kept_fault same t.cells) kept_same kept [])
 
     sheet_same : (i : Item) → sheet_places rules s.cells i ≡ sheet_places same t.cells i
     sheet_same (plain_item typ body) = refl
@@ -63,12 +63,12 @@ module _ (rules : Rules) where
 
   pub places_same : (items : List Item) (cut : Option Part) → places rules items cut ≡ places same items cut
   places_same items cut =
-      ap (λ (l : List (Option XlsError)). globals_places rules items cut ++ l) (sheets_same (force_of rules items) (force_of same items) refl items)
+      ap (λ (l : List (Option XlsError)). globals_places rules items cut ++ l) (sheets_same (settings_checked rules items) (settings_checked same items) refl items)
 
-  behind_same : (bytes : List ℕ) (e : XlsError) (o : Option XlsError)
-      → FirstBehind o rules bytes e ↔ FirstBehind o same bytes e
-  behind_same bytes e (Some f) = (λ h. h, λ h. h)
-  behind_same bytes e None = (
+  after_same : (bytes : List ℕ) (e : XlsError) (o : Option XlsError)
+      → FirstAfter o rules bytes e ↔ FirstAfter o same bytes e
+  after_same bytes e (Some f) = (λ h. h, λ h. h)
+  after_same bytes e None = (
     λ h. (h.0, h.1, h.2, ap first_of (sym (places_same h.0 h.1)) ∙ h.3),
     λ h. (h.0, h.1, h.2, ap first_of (places_same h.0 h.1) ∙ h.3),
   )
@@ -82,7 +82,7 @@ pub checked_alike : (rules : Rules) (bytes : List ℕ) → length bytes ≤ rule
     → FirstFault rules bytes e ↔ FirstChecked rules.force_codepage rules.max_cells bytes e
 checked_alike rules bytes h e =
     let outer = outer_within rules bytes h in
-    let both = behind_same rules bytes e (forced_fault rules.force_codepage) in (
-      λ f. both.0 (subst (λ (o : Option XlsError). FirstBehind o rules bytes e) outer f),
-      λ f. subst (λ (o : Option XlsError). FirstBehind o rules bytes e) (sym outer) (both.1 f),
+    let both = after_same rules bytes e (forced_fault rules.force_codepage) in (
+      λ f. both.0 (subst (λ (o : Option XlsError). FirstAfter o rules bytes e) outer f),
+      λ f. subst (λ (o : Option XlsError). FirstAfter o rules bytes e) (sym outer) (both.1 f),
     )

@@ -120,7 +120,7 @@ module _ {T : Type 0} where
               ap (λ (p : Position). (p, x.1)) e ∙ ap (λ (v : T). (y.0, v)) value in
               ap (λ (z : Position × T). z ∷ xs) first
               ∙ ap (λ (zs : List (Position × T)). y ∷ zs) (same_cells xs ys a.1 b.1 (same_tail x y xs ys e a b h)))
-          | inr behind ↦ (let e : Some y.1 ≡ None = sym (first_there y ys b) ∙ sym (h y.0)
-              ∙ none_before y.0 (x ∷ xs) (later y.0 x xs behind a) in absurd cc)
+          | inr following ↦ (let e : Some y.1 ≡ None = sym (first_there y ys b) ∙ sym (h y.0)
+              ∙ none_before y.0 (x ∷ xs) (later y.0 x xs following a) in absurd cc)
         ]
       ]

@@ -11,22 +11,22 @@ use Rattle.xls_stream.proofs.HoldingLemmas.{has_item, one_holds}
 use Rattle.xls_record.specs.declared.error.XlsError.{XlsError}
 use Rattle.xls_record.specs.declared.version.Biff.{Biff}
 use Rattle.xls_biff.specs.Records.BoundSheet.{bound_sheet_at}
-use Rattle.xls_meaning.specs.Order.{along, first_of}
-use Rattle.xls_meaning.specs.InForce.{page_in, version_in}
+use Rattle.xls_meaning.specs.Order.{map_with_earlier, first_of}
+use Rattle.xls_meaning.specs.Settings.{page_in, version_in}
 use Rattle.xls_meaning.specs.GlobalsTable.{forced_fault, fault_of}
-use Rattle.xls_meaning.specs.Faults.{item_fault, sheet_places, globals_places, places, FirstBehind}
+use Rattle.xls_meaning.specs.Faults.{item_fault, sheet_places, globals_places, places, FirstAfter}
 use Rattle.xls_open.specs.Checking.{checked, FirstChecked, Checks}
-use Rattle.xls_open.specs.CheckSteps.{force_of, AreChecked, ChecksPart, ChecksPlaces}
+use Rattle.xls_open.specs.CheckSteps.{settings_checked, AreChecked, ChecksPart, ChecksPlaces}
 use Rattle.xls_open.specs.Globals.{GlobalsFault}
 use Rattle.xls_meaning.specs.Rules.{Rules}
-use Rattle.xls_meaning.proofs.OrderLemmas.{first_behind, first_early, or_none, none_both, none_append, along-append}
+use Rattle.xls_meaning.proofs.OrderLemmas.{first_after, first_early, or_none, none_both, none_append, map_with_earlier-append}
 use Rattle.xls_meaning.proofs.HeldLemmas.{Found, sheet_line, said, is_named}
 use Rattle.xls_open.proofs.CheckWalkLemmas.{Passed, passed_nothing, passed_item, passed_other, holds_at, passed_cut, passed_eof, passed_end}
-use Rattle.xls_meaning.specs.InForce.{InForce}
+use Rattle.xls_meaning.specs.Settings.{Settings}
 
 -- ---- places of the sheets
 
-module _ (rules : Rules) (s : InForce) where
+module _ (rules : Rules) (s : Settings) where
   flat_places : (is js : List Item) → flat_map (sheet_places rules s.cells) (is ++ js)
       ≡ flat_map (sheet_places rules s.cells) is ++ flat_map (sheet_places rules s.cells) js
   flat_places [] js = refl
@@ -38,7 +38,7 @@ module _ (rules : Rules) (s : InForce) where
       → first_of (sheet_places rules s.cells i) ≡ None → first_of (flat_map (sheet_places rules s.cells) (is ++ i ∷ [])) ≡ None
   clean_push is i h k =
       ap first_of (flat_places is (i ∷ []))
-      ∙ first_behind (flat_map (sheet_places rules s.cells) is) (sheet_places rules s.cells i ++ []) h
+      ∙ first_after (flat_map (sheet_places rules s.cells) is) (sheet_places rules s.cells i ++ []) h
       ∙ ap first_of (append-nil (sheet_places rules s.cells i)) ∙ k
 
   fault_at : (is : List Item) (i : Item) (js : List Item) (e : XlsError)
@@ -46,7 +46,7 @@ module _ (rules : Rules) (s : InForce) where
       → first_of (flat_map (sheet_places rules s.cells) (is ++ i ∷ js)) ≡ Some e
   fault_at is i js e h k =
       ap first_of (flat_places is (i ∷ js))
-      ∙ first_behind (flat_map (sheet_places rules s.cells) is) (sheet_places rules s.cells i ++ flat_map (sheet_places rules s.cells) js) h
+      ∙ first_after (flat_map (sheet_places rules s.cells) is) (sheet_places rules s.cells i ++ flat_map (sheet_places rules s.cells) js) h
       ∙ first_early (sheet_places rules s.cells i) (flat_map (sheet_places rules s.cells) js) e k
 
   -- a record that is no BoundSheet8 has no part
@@ -58,39 +58,39 @@ module _ (rules : Rules) (s : InForce) where
 
 -- ---- the sheets so far
 
-pub record SheetsSoFar (rules : Rules) (stream rest : List ℕ) (s : InForce) : Type 0 where
+pub record SheetsSoFar (rules : Rules) (stream rest : List ℕ) (s : Settings) : Type 0 where
   pub items : List Item
   pub passed : Passed stream rest items
   pub clean : first_of (flat_map (sheet_places rules s.cells) items) ≡ None
 
 module _ (rules : Rules) (stream : List ℕ) (version : Biff) (a : AreChecked rules stream version) where
-  abbrev pub force : InForce
-  force = force_of rules a.items
+  abbrev pub settings : Settings
+  settings = settings_checked rules a.items
 
-  pub sheets_nothing : IsBytes stream → SheetsSoFar rules stream stream force
+  pub sheets_nothing : IsBytes stream → SheetsSoFar rules stream stream settings
   sheets_nothing fits = record { items = []; passed = passed_nothing stream fits; clean = refl }
 
   -- all places, by the items that were passed
   all_places : IsBytes stream → (items : List Item) (cut : Option Part) → Holds stream items cut
-      → (o : Option XlsError) → first_of (flat_map (sheet_places rules force.cells) items) ≡ o
+      → (o : Option XlsError) → first_of (flat_map (sheet_places rules settings.cells) items) ≡ o
       → first_of (places rules a.items None) ≡ o
   all_places fits items cut holds o h =
       let same = one_holds stream fits items a.items cut None holds a.holds in
-      first_behind (globals_places rules a.items None) (flat_map (sheet_places rules force.cells) a.items)
-      (none_append (along (item_fault rules) [] a.items) (None ∷ []) a.faultless refl)
-      ∙ ap (λ (x : List Item). first_of (flat_map (sheet_places rules force.cells) x)) (sym same.0) ∙ h
+      first_after (globals_places rules a.items None) (flat_map (sheet_places rules settings.cells) a.items)
+      (none_append (map_with_earlier (item_fault rules) [] a.items) (None ∷ []) a.faultless refl)
+      ∙ ap (λ (x : List Item). first_of (flat_map (sheet_places rules settings.cells) x)) (sym same.0) ∙ h
 
-  module _ (rest after : List ℕ) (g : Group) (c : SheetsSoFar rules stream rest force) (b : Begins rest g after) (n : g.typ ≡ 10 → ⊥) where
-    pub sheets_other : (g.typ ≡ 133 → ⊥) → SheetsSoFar rules stream after force
+  module _ (rest after : List ℕ) (g : Group) (c : SheetsSoFar rules stream rest settings) (b : Begins rest g after) (n : g.typ ≡ 10 → ⊥) where
+    pub sheets_other : (g.typ ≡ 133 → ⊥) → SheetsSoFar rules stream after settings
     sheets_other m = by_type (is_globals_type g) refl
       where
-        by_type : (u : Bool) → is_globals_type g ≡ u → SheetsSoFar rules stream after force
+        by_type : (u : Bool) → is_globals_type g ≡ u → SheetsSoFar rules stream after settings
         by_type true u =
             let i = has_item stream g c.passed.whole in
             record {
               items = c.items ++ i.0 ∷ [];
               passed = passed_item stream rest after c.items g c.passed b n i.0 u i.1;
-              clean = clean_push rules force c.items i.0 c.clean (no_part rules force stream g i.0 i.1 m);
+              clean = clean_push rules settings c.items i.0 c.clean (no_part rules settings stream g i.0 i.1 m);
             }
         by_type false u = record {
           items = c.items;
@@ -120,27 +120,27 @@ module _ (rules : Rules) (stream : List ℕ) (version : Biff) (a : AreChecked ru
               let i = sheet_item body kept cut in
               let held = holds_at stream rest after c.items g c.passed b n i is_type k in
               let same = one_holds stream c.passed.whole (c.items ++ i ∷ held.0) a.items held.1 None held.2 a.holds in
-              let none : first_of (along (item_fault rules) [] (c.items ++ i ∷ held.0)) ≡ None =
-              ap (λ (x : List Item). first_of (along (item_fault rules) [] x)) same.0 ∙ a.faultless in
-              let parts = none_both (along (item_fault rules) [] c.items) (along (item_fault rules) c.items (i ∷ held.0))
-              (ap first_of (sym (along-append (item_fault rules) [] c.items (i ∷ held.0))) ∙ none) in
-              let own = (or_none (item_fault rules c.items i) (first_of (along (item_fault rules) (c.items ++ i ∷ []) held.0)) parts.1).0 in
+              let none : first_of (map_with_earlier (item_fault rules) [] (c.items ++ i ∷ held.0)) ≡ None =
+              ap (λ (x : List Item). first_of (map_with_earlier (item_fault rules) [] x)) same.0 ∙ a.faultless in
+              let parts = none_both (map_with_earlier (item_fault rules) [] c.items) (map_with_earlier (item_fault rules) c.items (i ∷ held.0))
+              (ap first_of (sym (map_with_earlier-append (item_fault rules) [] c.items (i ∷ held.0))) ∙ none) in
+              let own = (or_none (item_fault rules c.items i) (first_of (map_with_earlier (item_fault rules) (c.items ++ i ∷ []) held.0)) parts.1).0 in
               subst (λ (x : List ℕ). 6 ≤ length x) k.1
               (no_fault_long (page_in rules (map entry_of c.items)) (version_in rules (map entry_of c.items)) body (said rules c.items body) refl own)
 
-      pub sheet_clean : (offset : ℕ) → offset ≡ offset_at g.body → ChecksPart (IsSheetPart stream offset) rules force (Ok tt)
-          → SheetsSoFar rules stream after force
+      pub sheet_clean : (offset : ℕ) → offset ≡ offset_at g.body → ChecksPart (IsSheetPart stream offset) rules settings (Ok tt)
+          → SheetsSoFar rules stream after settings
       sheet_clean offset at p =
           let i = sheet_item g.body p.0 p.1 in
           let is : IsItem stream g i = (t, refl, subst (λ (x : ℕ). IsSheetPart stream x p.0 p.1) at p.2) in
           record {
             items = c.items ++ i ∷ [];
             passed = passed_item stream rest after c.items g c.passed b n i is_type is;
-            clean = clean_push rules force c.items i c.clean p.3;
+            clean = clean_push rules settings c.items i c.clean p.3;
           }
 
       pub sheet_refused : (offset : ℕ) (e : XlsError) → offset ≡ offset_at g.body
-          → ChecksPart (IsSheetPart stream offset) rules force (Err e) → ChecksPlaces rules stream (Err e)
+          → ChecksPart (IsSheetPart stream offset) rules settings (Err e) → ChecksPlaces rules stream (Err e)
       sheet_refused offset e at p =
           let i = sheet_item g.body p.0 p.1 in
           let is : IsItem stream g i = (t, refl, subst (λ (x : ℕ). IsSheetPart stream x p.0 p.1) at p.2) in
@@ -148,10 +148,10 @@ module _ (rules : Rules) (stream : List ℕ) (version : Biff) (a : AreChecked ru
             a.items,
             None,
             a.holds,
-            all_places c.passed.whole (c.items ++ i ∷ held.0) held.1 held.2 (Some e) (fault_at rules force c.items i held.0 e c.clean p.3),
+            all_places c.passed.whole (c.items ++ i ∷ held.0) held.1 held.2 (Some e) (fault_at rules settings c.items i held.0 e c.clean p.3),
           )
 
-  module _ (rest : List ℕ) (c : SheetsSoFar rules stream rest force) where
+  module _ (rest : List ℕ) (c : SheetsSoFar rules stream rest settings) where
     -- globals that aren't cut
     pub sheets_uncut : {X : Type 0} (p : Part) → Cut rest p → X
     sheets_uncut p k =
@@ -172,28 +172,28 @@ module _ (rules : Rules) (stream : List ℕ) (version : Biff) (a : AreChecked ru
 module _ (forced : Option ℕ) (max : ℕ) (bytes : List ℕ) where
   -- a forced page that isn't kept
   pub forced_refused : (e : XlsError) → Some e ≡ forced_fault forced → Checks forced max bytes (Err e)
-  forced_refused e h = subst (λ (o : Option XlsError). FirstBehind o (checked forced max) bytes e) h refl
+  forced_refused e h = subst (λ (o : Option XlsError). FirstAfter o (checked forced max) bytes e) h refl
 
   -- under one that is kept
-  behind : forced_fault forced ≡ None → (e : XlsError) → FirstBehind None (checked forced max) bytes e → FirstChecked forced max bytes e
-  behind h e f = subst (λ (o : Option XlsError). FirstBehind o (checked forced max) bytes e) (sym h) f
+  following : forced_fault forced ≡ None → (e : XlsError) → FirstAfter None (checked forced max) bytes e → FirstChecked forced max bytes e
+  following h e f = subst (λ (o : Option XlsError). FirstAfter o (checked forced max) bytes e) (sym h) f
 
   pub globals_refused : forced_fault forced ≡ None → (e : XlsError) → GlobalsFault (checked forced max) bytes e → Checks forced max bytes (Err e)
   globals_refused h e f =
-      behind h e (
+      following h e (
         f.0,
         f.1,
         f.2,
-        first_early (globals_places (checked forced max) f.0 f.1) (flat_map (sheet_places (checked forced max) (force_of (checked forced max) f.0).cells) f.0) e f.3,
+        first_early (globals_places (checked forced max) f.0 f.1) (flat_map (sheet_places (checked forced max) (settings_checked (checked forced max) f.0).cells) f.0) e f.3,
       )
 
   pub places_checked : forced_fault forced ≡ None → IsBytes bytes → (r : Result (Unit {0}) XlsError)
       → ChecksPlaces (checked forced max) bytes r → Checks forced max bytes r
   places_checked h fits (Ok u) p = λ e f.
-      let g : FirstBehind None (checked forced max) bytes e = subst (λ (o : Option XlsError). FirstBehind o (checked forced max) bytes e) h f in
+      let g : FirstAfter None (checked forced max) bytes e = subst (λ (o : Option XlsError). FirstAfter o (checked forced max) bytes e) h f in
       let same = one_holds bytes fits g.0 p.0 g.1 p.1 g.2 p.2 in
       let both : Some e ≡ None =
       sym g.3 ∙ ap (λ (x : List Item). first_of (places (checked forced max) x g.1)) same.0
       ∙ ap (λ (x : Option Part). first_of (places (checked forced max) p.0 x)) same.1 ∙ p.3 in
       cc
-  places_checked h fits (Err e) p = behind h e p
+  places_checked h fits (Err e) p = following h e p

@@ -7,33 +7,33 @@ use Rattle.xls_stream.specs.Counting.{From, found_from}
 use Rattle.xls_stream.specs.Walks.{IsBytes}
 use Rattle.xls_stream.specs.Listing.{Kept, kept_group, kept_of, IsPart}
 use Rattle.xls_stream.specs.declared.part.Part.{Part}
-use Rattle.xls_stream.proofs.Shapes.{has_from}
+use Rattle.xls_stream.proofs.Outlines.{has_from}
 use Rattle.xls_record.specs.declared.error.XlsError.{XlsError}
 use Rattle.xls_record.specs.declared.error.XlsError.TheVariants as errors
 use Rattle.xls_biff.specs.Outer.{Keeps, Over, CutShort}
 use Rattle.xls_biff.specs.SheetTable.{SheetRecord, weight_of}
-use Rattle.xls_meaning.specs.Order.{along, first_of}
+use Rattle.xls_meaning.specs.Order.{map_with_earlier, first_of}
 use Rattle.xls_meaning.specs.GlobalsTable.{fault_of}
 use Rattle.xls_meaning.specs.SheetTable.{kept_line}
-use Rattle.xls_meaning.specs.Faults.{weight_given, weight_in, weight_fault, kept_fault, cut_fault, part_places}
+use Rattle.xls_meaning.specs.Faults.{weight_from, weight_in, weight_fault, kept_fault, cut_fault, part_places}
 use Rattle.xls_open.specs.CheckSteps.{ChecksPart}
 use Rattle.xls_open.specs.Steps.{weight_left}
 use Rattle.xls_meaning.specs.Rules.{Rules}
-use Rattle.xls_meaning.proofs.OrderLemmas.{first_at, none_push, first_behind}
+use Rattle.xls_meaning.proofs.OrderLemmas.{first_at, none_push, first_after}
 use Rattle.xls_open.proofs.PartLemmas.{part_from, keeps_from, over_from, cut_from, keeps_bytes, kept_push, weight_push, has_room, no_room, light, heavy}
-use Rattle.xls_meaning.specs.InForce.{InForce}
+use Rattle.xls_meaning.specs.Settings.{Settings}
 
 -- the records so far have no fault, and there may be so many more cells
-pub record CheckedPart (part rest : List ℕ) (depth : ℕ) (rules : Rules) (s : InForce) (room : ℕ) : Type 0 where
+pub record CheckedPart (part rest : List ℕ) (depth : ℕ) (rules : Rules) (s : Settings) (room : ℕ) : Type 0 where
   pub groups : List Group
   pub joins : (more : List Group) (cut : Option Part) → From (found_from depth) rest more cut
       → From (found_from 0) part (groups ++ more) cut
   pub part_fits : IsBytes part
   pub fits : IsBytes rest
-  pub faultless : first_of (along (kept_fault rules s.cells) [] (kept_of groups)) ≡ None
+  pub faultless : first_of (map_with_earlier (kept_fault rules s.cells) [] (kept_of groups)) ≡ None
   pub weighed : room + weight_in s.cells (kept_of groups) ≡ rules.max_cells
 
-pub part_nothing : (part : List ℕ) (rules : Rules) (s : InForce) → IsBytes part
+pub part_nothing : (part : List ℕ) (rules : Rules) (s : Settings) → IsBytes part
     → CheckedPart part part 0 rules s rules.max_cells
 part_nothing part rules s fits = record {
   groups = [];
@@ -44,7 +44,7 @@ part_nothing part rules s fits = record {
   weighed = omega arith;
 }
 
-module _ (part rest after : List ℕ) (depth now : ℕ) (rules : Rules) (s : InForce) (room : ℕ) (g : Group) (p : CheckedPart part rest depth rules s room) (k : Keeps rest depth g after now) where
+module _ (part rest after : List ℕ) (depth now : ℕ) (rules : Rules) (s : Settings) (room : ℕ) (g : Group) (p : CheckedPart part rest depth rules s room) (k : Keeps rest depth g after now) where
   joined : (more : List Group) (cut : Option Part) → From (found_from now) after more cut
       → From (found_from 0) part (p.groups ++ g ∷ more) cut
   joined more cut f = p.joins (g ∷ more) cut (keeps_from rest depth g after now more cut k f)
@@ -58,12 +58,12 @@ module _ (part rest after : List ℕ) (depth now : ℕ) (rules : Rules) (s : InF
   abbrev line : Result SheetRecord XlsError
   line = kept_line s.cells one
 
-  pub part_more : (left : ℕ) (given : SheetRecord) → line ≡ Ok given
-      → weight_left rules.max_cells room (weight_of given) ≡ Ok left → CheckedPart part after now rules s left
-  part_more left given is weighs =
+  pub part_more : (left : ℕ) (input : SheetRecord) → line ≡ Ok input
+      → weight_left rules.max_cells room (weight_of input) ≡ Ok left → CheckedPart part after now rules s left
+  part_more left input is weighs =
       let new : kept_of (p.groups ++ g ∷ []) ≡ old ++ one ∷ [] = kept_push p.groups g in
-      let fits = has_room rules.max_cells room (weight_of given) left weighs in
-      let weight : weight_given line ≡ weight_of given = ap weight_given is in
+      let fits = has_room rules.max_cells room (weight_of input) left weighs in
+      let weight : weight_from line ≡ weight_of input = ap weight_from is in
       let heavier = weight_push s old one in
       let had = p.weighed in
       let sum : left + weight_in s.cells (old ++ one ∷ []) ≡ rules.max_cells = omega (arith, fits, heavier, had, weight) in
@@ -97,11 +97,11 @@ module _ (part rest after : List ℕ) (depth now : ℕ) (rules : Rules) (s : InF
       record_fault e (ap (λ (r : Result SheetRecord XlsError). option_or (fault_of r) (weight_fault rules s.cells (old ++ one ∷ []))) f)
 
   -- too many cells
-  pub weight_refused : (e : XlsError) (given : SheetRecord) → line ≡ Ok given
-      → weight_left rules.max_cells room (weight_of given) ≡ Err e → ChecksPart (IsPart part) rules s (Err e)
-  weight_refused e given is weighs =
-      let n = no_room rules.max_cells room (weight_of given) e weighs in
-      let weight : weight_given line ≡ weight_of given = ap weight_given is in
+  pub weight_refused : (e : XlsError) (input : SheetRecord) → line ≡ Ok input
+      → weight_left rules.max_cells room (weight_of input) ≡ Err e → ChecksPart (IsPart part) rules s (Err e)
+  weight_refused e input is weighs =
+      let n = no_room rules.max_cells room (weight_of input) e weighs in
+      let weight : weight_from line ≡ weight_of input = ap weight_from is in
       let heavier = weight_push s old one in
       let had = p.weighed in
       let less = n.0 in
@@ -110,7 +110,7 @@ module _ (part rest after : List ℕ) (depth now : ℕ) (rules : Rules) (s : InF
       (ap (λ (r : Result SheetRecord XlsError). option_or (fault_of r) (weight_fault rules s.cells (old ++ one ∷ []))) is
       ∙ heavy rules s (old ++ one ∷ []) over ∙ ap (λ (x : XlsError). Some x) (sym n.1))
 
-module _ (part rest : List ℕ) (depth : ℕ) (rules : Rules) (s : InForce) (room : ℕ) (p : CheckedPart part rest depth rules s room) where
+module _ (part rest : List ℕ) (depth : ℕ) (rules : Rules) (s : Settings) (room : ℕ) (p : CheckedPart part rest depth rules s room) where
   pub part_cut : (e : XlsError) → CutShort rest depth e → ChecksPart (IsPart part) rules s (Err e)
   part_cut e c = (
     kept_of (p.groups ++ []),
@@ -121,7 +121,7 @@ module _ (part rest : List ℕ) (depth : ℕ) (rules : Rules) (s : InForce) (roo
       refl,
     ),
     ap (λ (l : List Group). first_of (part_places rules s.cells (kept_of l) (Some c.part))) (append-nil p.groups)
-        ∙ first_behind (along (kept_fault rules s.cells) [] (kept_of p.groups)) (Some (errors.EoStream c.part) ∷ []) p.faultless
+        ∙ first_after (map_with_earlier (kept_fault rules s.cells) [] (kept_of p.groups)) (Some (errors.EoStream c.part) ∷ []) p.faultless
         ∙ ap (λ (x : XlsError). Some x) (sym c.error),
   )
 
@@ -131,5 +131,5 @@ module _ (part rest : List ℕ) (depth : ℕ) (rules : Rules) (s : InForce) (roo
     None,
     (p.groups ++ [], part_from part (p.groups ++ []) None p.part_fits (p.joins [] None (over_from rest depth p.fits o)), refl),
     ap (λ (l : List Group). first_of (part_places rules s.cells (kept_of l) None)) (append-nil p.groups)
-        ∙ first_behind (along (kept_fault rules s.cells) [] (kept_of p.groups)) (None ∷ []) p.faultless,
+        ∙ first_after (map_with_earlier (kept_fault rules s.cells) [] (kept_of p.groups)) (None ∷ []) p.faultless,
   )

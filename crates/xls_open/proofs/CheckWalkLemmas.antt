@@ -10,7 +10,7 @@ use Rattle.xls_stream.specs.Cut.{Cut}
 use Rattle.xls_stream.specs.Walks.{IsBytes}
 use Rattle.xls_stream.specs.Listing.{is_globals_type, Item, IsItem, Holds}
 use Rattle.xls_stream.specs.declared.part.Part.{Part}
-use Rattle.xls_stream.proofs.Shapes.{run_bytes, has_from}
+use Rattle.xls_stream.proofs.Outlines.{run_bytes, has_from}
 use Rattle.xls_stream.proofs.HoldingLemmas.{has_items}
 use Rattle.xls_open.proofs.WalkLemmas.{globals_from, begins_from, eof_from, end_from, cut_from}
 

@@ -5,7 +5,7 @@ use Rattle.std.specs.Option.{option_or}
 use Rattle.std.proofs.lemmas.List.{take_more}
 use Rattle.xls_dates.specs.Builtin.{class_of_code}
 use Rattle.xls_dates.specs.declared.formats.CellFormat.{CellFormat}
-use Rattle.xls_meaning.specs.InForce.{last_class, class_in}
+use Rattle.xls_meaning.specs.Settings.{last_class, class_in}
 
 -- ---- formats
 

@@ -19,7 +19,7 @@ use Rattle.xls_record.specs.declared.error.XlsError.TheVariants as errors
 use Rattle.xls_record.specs.declared.version.Biff.{Biff}
 use Rattle.xls_record.specs.Reading.{◌>>=◌, ◌>>◌, gives, at_least}
 use Rattle.xls_record.specs.Version.{is_biff8}
-use Rattle.xls_strings.specs.Strings.{short_front, is_bare_zero, string_front, front_text, short_string_at, string_at}
+use Rattle.xls_strings.specs.Strings.{short_prefix, is_bare_zero, string_prefix, prefix_text, short_string_at, string_at}
 use Rattle.xls_strings.specs.Sst.{error_of}
 use Rattle.xls_strings.specs.Uncounted.{size_by, uncounted_size}
 use Rattle.xls_biff.specs.Cells.{cell_error, class_at}
@@ -39,16 +39,16 @@ use Rattle.xls_biff.specs.Records.MergeCells.{merge_count, merges_at}
 use Rattle.xls_biff.specs.Records.Number.{number_at}
 use Rattle.xls_biff.specs.Records.Rk.{rk_at, mul_rk_count, mul_rk_at, first_column, last_column}
 use Rattle.xls_biff.specs.Records.Xf.{xf_at}
-use Rattle.xls_biff.specs.SheetTable.{CellContext, given_on, sheet_table}
+use Rattle.xls_biff.specs.SheetTable.{CellContext, read_on_line, sheet_table}
 use Rattle.xls_biff.specs.SheetTable as biff
 use Rattle.xls_biff.proofs.TableLemmas.{◌&◌, every_type}
 use Rattle.xls_formula.specs.Fields.{word_at, sized_as}
 use Rattle.xls_formula.specs.PtgStr.{no_cch_at}
 use Rattle.xls_formula.specs.References3d.{ixti_size, ref3d_size, area3d_size}
 use Rattle.xls_formula.specs.Defined.{place_at, name_units, name_tokens, lbl_parts, lbl_at}
-use Rattle.xls_meaning.specs.Order.{along, first_of}
-use Rattle.xls_meaning.specs.InForce.{page_in, version_in, cells_of}
-use Rattle.xls_meaning.specs.GlobalsTable.{Line, unless_forced, unless_refused, texts_of, plain_record_at, fault_of, forced_fault}
+use Rattle.xls_meaning.specs.Order.{map_with_earlier, first_of}
+use Rattle.xls_meaning.specs.Settings.{page_in, version_in, cells_of}
+use Rattle.xls_meaning.specs.GlobalsTable.{GlobalsLine, unless_forced, unless_refused, shared_texts, plain_record_at, fault_of, forced_fault}
 use Rattle.xls_meaning.specs.SheetTable.{kept_line}
 use Rattle.xls_open.specs.Opening.{IsOfOpening}
 use Rattle.xls_meaning.specs.Faults.{item_fault, weight_in, weight_fault, kept_fault, cut_fault, part_places, sheet_places, globals_places, places}
@@ -75,11 +75,11 @@ all_append : (os ps : List (Option XlsError)) → AllByRecursion IsClear os
 all_append [] ps a b = b
 all_append (o ∷ os) ps a b = (a.0, all_append os ps a.1 b)
 
-all_along : {X : Type 0} (f : List X → X → Option XlsError)
+all_over : {X : Type 0} (f : List X → X → Option XlsError)
     → ((before : List X) (x : X) → IsClear (f before x)) → (xs before : List X)
-    → AllByRecursion IsClear (along f before xs)
-all_along f h [] before = tt
-all_along f h (x ∷ xs) before = (h before x, all_along f h xs (before ++ x ∷ []))
+    → AllByRecursion IsClear (map_with_earlier f before xs)
+all_over f h [] before = tt
+all_over f h (x ∷ xs) before = (h before x, all_over f h xs (before ++ x ∷ []))
 
 -- ---- what a definition refuses
 
@@ -110,18 +110,18 @@ sized n part body x = next (at_least n part body) _ (least n part body) (λ u. t
 
 -- ---- strings
 
-short_clear : (v : Biff) (bs : List ℕ) → Clear (short_front v bs)
+short_clear : (v : Biff) (bs : List ℕ) → Clear (short_prefix v bs)
 short_clear v bs = when (is_biff8 v) _ _ (sized 2 parts.ShortString bs _) (sized 1 parts.ShortString bs _)
 
-front_clear : (v : Biff) (bs : List ℕ) → Clear (string_front v bs)
-front_clear v bs =
+prefix_clear : (v : Biff) (bs : List ℕ) → Clear (string_prefix v bs)
+prefix_clear v bs =
     when (is_biff8 v) _ _ (when (is_bare_zero bs) _ _ tt (sized 3 parts.Text bs _)) (sized 2 parts.Text bs _)
 
 short_text_clear : (p : XlsEncoding) (v : Biff) (bs : List ℕ) → Clear (short_string_at p v bs)
-short_text_clear p v bs = changed (front_text p) (short_front v bs) (short_clear v bs)
+short_text_clear p v bs = changed (prefix_text p) (short_prefix v bs) (short_clear v bs)
 
 string_clear : (p : XlsEncoding) (v : Biff) (bs : List ℕ) → Clear (string_at p v bs)
-string_clear p v bs = changed (front_text p) (string_front v bs) (front_clear v bs)
+string_clear p v bs = changed (prefix_text p) (string_prefix v bs) (prefix_clear v bs)
 
 -- ---- the globals
 
@@ -176,7 +176,7 @@ lbl_clear p v body =
 
 -- ---- a record of the globals
 
-unless_clear : (forced : Option ℕ) (line : Line) → Clear line → Clear (unless_forced forced line)
+unless_clear : (forced : Option ℕ) (line : GlobalsLine) → Clear line → Clear (unless_forced forced line)
 unless_clear None line h = h
 unless_clear (Some n) line h = tt
 
@@ -201,7 +201,7 @@ missing_clear (short_head e f) = tt
 missing_clear no_units = tt
 missing_clear no_tail = tt
 
-table_clear : (len : ℕ) (s : Shared) → Clear (texts_of len s)
+table_clear : (len : ℕ) (s : Shared) → Clear (shared_texts len s)
 table_clear len no_table = tt
 table_clear len (table_of ss) = tt
 table_clear len (table_without m) = missing_clear m
@@ -225,7 +225,7 @@ sheet_clear p v body =
 item_clear : (rules : Rules) (before : List Item) (i : Item) → IsClear (item_fault rules before i)
 item_clear rules before (plain_item typ body) =
     plain_clear rules.force_codepage (page_in rules (map entry_of before)) (version_in rules (map entry_of before)) typ body
-item_clear rules before (table_item body s) = changed _ (texts_of (length body) s) (table_clear (length body) s)
+item_clear rules before (table_item body s) = changed _ (shared_texts (length body) s) (table_clear (length body) s)
 item_clear rules before (sheet_item body kept cut) =
     let p = page_in rules (map entry_of before) in
     let v = version_in rules (map entry_of before) in
@@ -280,8 +280,8 @@ formula_clear cs b body =
     (when (le (take 2 (drop 6 bs)) == 65535) _ _ (special_clear (slice_index bs 0) (slice_index bs 2)) tt) (λ value. tt))
 
 -- every record of a type is clear
-abbrev AreClear : ℕ → biff.Line → Type 0
-AreClear typ line = (f : CellContext) (b : List ℕ) → Clear (given_on line f b)
+abbrev AreClear : ℕ → biff.TableLine → Type 0
+AreClear typ line = (f : CellContext) (b : List ℕ) → Clear (read_on_line line f b)
 
 line_clear : (f : CellContext) (k : Kept) → Clear (kept_line f k)
 line_clear f k =
@@ -321,7 +321,7 @@ cut_clear (Some p) = tt
 part_clear : (rules : Rules) (s : CellContext) (kept : List Kept) (cut : Option Part)
     → AllByRecursion IsClear (part_places rules s kept cut)
 part_clear rules s kept cut =
-    all_append (along (kept_fault rules s) [] kept) (cut_fault cut ∷ []) (all_along (kept_fault rules s) (kept_clear rules s) kept []) (cut_clear cut, tt)
+    all_append (map_with_earlier (kept_fault rules s) [] kept) (cut_fault cut ∷ []) (all_over (kept_fault rules s) (kept_clear rules s) kept []) (cut_clear cut, tt)
 
 sheets_clear : (rules : Rules) (s : CellContext) (items : List Item)
     → AllByRecursion IsClear (flat_map (sheet_places rules s) items)
@@ -335,7 +335,7 @@ places_clear : (rules : Rules) (items : List Item) (cut : Option Part)
     → AllByRecursion IsClear (places rules items cut)
 places_clear rules items cut =
     all_append (globals_places rules items cut) (flat_map (sheet_places rules (cells_of rules (map entry_of items))) items)
-    (all_append (along (item_fault rules) [] items) (cut_fault cut ∷ []) (all_along (item_fault rules) (item_clear rules) items []) (cut_clear cut, tt))
+    (all_append (map_with_earlier (item_fault rules) [] items) (cut_fault cut ∷ []) (all_over (item_fault rules) (item_clear rules) items []) (cut_clear cut, tt))
     (sheets_clear rules (cells_of rules (map entry_of items)) items)
 
 pub of_stream : (rules : Rules) (bytes : List ℕ) (e : XlsError) → StreamFault rules bytes e

@@ -6,14 +6,14 @@ use Rattle.std.specs.List.{AllZip}
 use Rattle.std.specs.Cmp.Lexicographic.{pointwise}
 use Rattle.xls_stream.specs.Listing.{Kept}
 use Rattle.xls_data.specs.Sheets.{SheetContent}
-use Rattle.xls_meaning.specs.InForce.{InForce, SheetRecords}
-use Rattle.xls_meaning.specs.Reading.{SheetView, IsContent, last_named, kept_named, IsShown}
-use Rattle.xls_open.specs.Workbook.{shown}
+use Rattle.xls_meaning.specs.Settings.{Settings, SheetRecords}
+use Rattle.xls_meaning.specs.Reading.{SheetView, IsContent, last_named, kept_named, IsDisplayed}
+use Rattle.xls_open.specs.Workbook.{views_listed}
 use Rattle.xls_open.specs.Steps.{AreSheets}
 use Rattle.xls_meaning.specs.Reading.{paired}
 use Rattle.xls_meaning.specs.Held.{no_view}
 
-module _ (s : InForce) where
+module _ (s : Settings) where
   -- ---- the last of two
 
   abbrev IsSame : Option SheetView → Option (List Kept) → Type 0
@@ -34,18 +34,18 @@ module _ (s : InForce) where
   by_test true v k h = h
   by_test false v k h = tt
 
-  shown_so : (a : Option SheetView) (c : Option (List Kept)) → IsSame a c
+  displayed_so : (a : Option SheetView) (c : Option (List Kept)) → IsSame a c
       → IsContent s (unwrap_or c []) (unwrap_or a no_view)
-  shown_so None None h = record {
+  displayed_so None None h = record {
     ascending = tt;
     last = λ p. refl;
     formulas_ascending = tt;
     last_formulas = λ p. refl;
     merges = refl;
   }
-  shown_so None (Some k) h = absurd h
-  shown_so (Some v) None h = absurd h
-  shown_so (Some v) (Some k) h = h
+  displayed_so None (Some k) h = absurd h
+  displayed_so (Some v) None h = absurd h
+  displayed_so (Some v) (Some k) h = h
 
   -- ---- the last of a name
 
@@ -85,21 +85,21 @@ module _ (s : InForce) where
   same_length (t ∷ ts) (d ∷ vs) (p ∷ qs) a = omega (arith, same_length ts vs qs a.2)
 
   module _ (all : List SheetContent) (every : List SheetView) (list : List SheetRecords) (whole : AreSheets s all every list) where
-    contents_shown : (ts : List SheetContent) (vs : List SheetView) (qs : List SheetRecords)
-        → AreSheets s ts vs qs → AllZip (IsShown s list) (shown (paired all every) ts) qs
-    contents_shown [] [] [] a = tt
-    contents_shown [] [] (p ∷ qs) a = absurd a
-    contents_shown [] (d ∷ vs) qs a = absurd a
-    contents_shown (t ∷ ts) [] qs a = absurd a
-    contents_shown (t ∷ ts) (d ∷ vs) [] a = absurd a
-    contents_shown (t ∷ ts) (v ∷ vs) (q ∷ qs) a =
+    contents_displayed : (ts : List SheetContent) (vs : List SheetView) (qs : List SheetRecords)
+        → AreSheets s ts vs qs → AllZip (IsDisplayed s list) (views_listed (paired all every) ts) qs
+    contents_displayed [] [] [] a = tt
+    contents_displayed [] [] (p ∷ qs) a = absurd a
+    contents_displayed [] (d ∷ vs) qs a = absurd a
+    contents_displayed (t ∷ ts) [] qs a = absurd a
+    contents_displayed (t ∷ ts) (d ∷ vs) [] a = absurd a
+    contents_displayed (t ∷ ts) (v ∷ vs) (q ∷ qs) a =
         let names : t.name ≡ q.0.name = ap (λ (h : SheetContent). h.name) a.0 in (
           subst (λ (n : List ℕ). IsContent s (kept_named list n) (unwrap_or (last_named (paired all every) t.name) no_view)) names
-              (shown_so (last_named (paired all every) t.name) (last_named list t.name) (same_last t.name all every list whole)),
-          contents_shown ts vs qs a.2,
+              (displayed_so (last_named (paired all every) t.name) (last_named list t.name) (same_last t.name all every list whole)),
+          contents_displayed ts vs qs a.2,
         )
 
   -- each sheet shows the content of the last sheet of its name
-  pub all_shown : (ts : List SheetContent) (vs : List SheetView) (qs : List SheetRecords)
-      → AreSheets s ts vs qs → AllZip (IsShown s qs) (shown (paired ts vs) ts) qs
-  all_shown ts vs qs a = contents_shown ts vs qs a ts vs qs a
+  pub all_displayed : (ts : List SheetContent) (vs : List SheetView) (qs : List SheetRecords)
+      → AreSheets s ts vs qs → AllZip (IsDisplayed s qs) (views_listed (paired ts vs) ts) qs
+  all_displayed ts vs qs a = contents_displayed ts vs qs a ts vs qs a

@@ -19,13 +19,13 @@ use Rattle.xls_biff.specs.Records.ExternSheet.{refs_at}
 use Rattle.xls_biff.specs.Records.Format.{format_at}
 use Rattle.xls_formula.specs.Defined.{lbl_at}
 use Rattle.xls_biff.specs.Records.BoundSheet.{bound_sheet_at}
-use Rattle.xls_meaning.specs.Order.{along, first_of}
+use Rattle.xls_meaning.specs.Order.{map_with_earlier, first_of}
 use Rattle.xls_meaning.specs.GlobalsTable as table
-use Rattle.xls_meaning.specs.GlobalsTable.{Line, fault_of, version_given, unless_refused, other_record, references_record, name_record, strings_record, sheet_record, texts_of, plain_record_at, item_record_at}
+use Rattle.xls_meaning.specs.GlobalsTable.{GlobalsLine, fault_of, version_from, unless_refused, other_record, references_record, name_record, strings_record, sheet_record, shared_texts, plain_record_at, item_record_at}
 use Rattle.xls_meaning.specs.Faults.{item_line, item_fault, cut_fault}
 use Rattle.xls_meaning.specs.Rules.{Rules}
-use Rattle.xls_meaning.proofs.OrderLemmas.{first_at, none_push, first_behind}
-use Rattle.xls_meaning.specs.InForce.{page_in}
+use Rattle.xls_meaning.proofs.OrderLemmas.{first_at, none_push, first_after}
+use Rattle.xls_meaning.specs.Settings.{page_in}
 use Rattle.xls_open.specs.Globals.{State, IsState, AreGlobals, GlobalsFault, ReadsGlobals}
 use Rattle.xls_open.specs.Steps.{first_state, after, body_of}
 use Rattle.xls_open.specs.CheckSteps.{AreChecked}
@@ -33,15 +33,15 @@ use Rattle.xls_open.specs.RecordSteps.{Stands, ReadsLine, IsTaken, version_of, v
 use Rattle.xls_open.specs.declared.globals_record.GlobalsRecord.{GlobalsRecord}
 use Rattle.xls_open.specs.declared.globals_record.GlobalsRecord.TheVariants as read
 use Rattle.xls_open.proofs.CheckWalkLemmas.{Passed, passed_nothing, passed_item, passed_other, holds_at, passed_cut, passed_eof, passed_end}
-use Rattle.xls_open.proofs.StateLemmas.{same_in_force, grown, nothing_given}
-use Rattle.xls_open.proofs.LineLemmas.{not_given}
+use Rattle.xls_open.proofs.StateLemmas.{same_settings_of, grown, nothing_yielded}
+use Rattle.xls_open.proofs.LineLemmas.{not_yielded}
 
 -- ---- a record and its item
 
 -- what the three clauses of its reader say of a record
 pub record IsRecordRead (forced : Option ℕ) (version : Biff) (g : Group) (result : Result GlobalsRecord XlsError) : Type 0 where
   pub plain : is_plain_type g.typ ≡ true → (page : XlsEncoding) → ReadsLine page version g.body (plain_record_at forced page version g.typ g.body) result
-  pub table : g.typ ≡ 252 → (page : XlsEncoding) (shared : Shared) → IsShared g shared → ReadsLine page version g.body (gives strings_record (texts_of (length g.body) shared)) result
+  pub table : g.typ ≡ 252 → (page : XlsEncoding) (shared : Shared) → IsShared g shared → ReadsLine page version g.body (gives strings_record (shared_texts (length g.body) shared)) result
   pub sheet : g.typ ≡ 133 → (page : XlsEncoding) → ReadsLine page version g.body (gives (λ (q : ℕ × SheetContent). sheet_record q.1) (bound_sheet_at page version g.body)) result
 
 -- they speak of the item that the record stands for
@@ -84,7 +84,7 @@ other_line forced page version g t =
 pub record GlobalsSoFar (rules : Rules) (stream rest : List ℕ) (s : State) : Type 0 where
   pub items : List Item
   pub passed : Passed stream rest items
-  pub faultless : first_of (along (item_fault rules) [] items) ≡ None
+  pub faultless : first_of (map_with_earlier (item_fault rules) [] items) ≡ None
   pub state : IsState rules items s
 
 pub globals_nothing : (rules : Rules) (stream : List ℕ) (s : State) → IsBytes stream
@@ -106,12 +106,12 @@ pub record GlobalsNext (rules : Rules) (stream rest : List ℕ) (s : State) (x :
   pub next_is : next ≡ after s body gives
 
 -- a line without a fault
-given_of : (l : Line) → fault_of l ≡ None → (g : table.GlobalsRecord) × (l ≡ Ok g)
-given_of (Ok g) h = (g, refl)
-given_of (Err e) h = absurd cc
+yield_from : (l : GlobalsLine) → fault_of l ≡ None → (g : table.GlobalsRecord) × (l ≡ Ok g)
+yield_from (Ok g) h = (g, refl)
+yield_from (Err e) h = absurd cc
 
 module _ (rules : Rules) (stream rest later : List ℕ) (s : State) (g : Group) (c : GlobalsSoFar rules stream rest s) (b : Begins rest g later) (n : g.typ ≡ 10 → ⊥) where
-  abbrev line_of : Item → Line
+  abbrev line_of : Item → GlobalsLine
   line_of i = item_record_at rules.force_codepage s.page s.version i
 
   pub globals_next : (x : GlobalsRecord) → IsRecordRead rules.force_codepage s.version g (Ok x) → GlobalsNext rules stream later s x
@@ -121,19 +121,19 @@ module _ (rules : Rules) (stream rest later : List ℕ) (s : State) (g : Group) 
       by_type true u =
           let i = has_item stream g c.passed.whole in
           let said = item_read rules.force_codepage s.version s.page stream g i.0 (Ok x) t i.1 in
-          let given = given_of (line_of i.0) said.0 in
-          let line : item_line rules c.items i.0 ≡ Ok given.0 = sym (same_in_force rules c.items s c.state i.0) ∙ given.1 in
+          let input = yield_from (line_of i.0) said.0 in
+          let line : item_line rules c.items i.0 ≡ Ok input.0 = sym (same_settings_of rules c.items s c.state i.0) ∙ input.1 in
           record {
-            next = after s (body_of i.0) given.0;
+            next = after s (body_of i.0) input.0;
             so_far = record {
               items = c.items ++ i.0 ∷ [];
               passed = passed_item stream rest later c.items g c.passed b n i.0 u i.1;
               faultless = none_push (item_fault rules) c.items i.0 c.faultless (ap (fault_of {X = table.GlobalsRecord}) line);
-              state = grown rules c.items s c.state i.0 given.0 line;
+              state = grown rules c.items s c.state i.0 input.0 line;
             };
             body = body_of i.0;
-            gives = given.0;
-            stands = subst (Stands s.page s.version (body_of i.0) x) given.1 said.1;
+            gives = input.0;
+            stands = subst (Stands s.page s.version (body_of i.0) x) input.1 said.1;
             next_is = refl;
           }
       by_type false u =
@@ -159,7 +159,7 @@ module _ (rules : Rules) (stream rest later : List ℕ) (s : State) (g : Group) 
       by_type true u =
           let i = has_item stream g c.passed.whole in
           let line : item_line rules c.items i.0 ≡ Err e =
-          sym (same_in_force rules c.items s c.state i.0) ∙ item_read rules.force_codepage s.version s.page stream g i.0 (Err e) t i.1 in
+          sym (same_settings_of rules c.items s c.state i.0) ∙ item_read rules.force_codepage s.version s.page stream g i.0 (Err e) t i.1 in
           let held = holds_at stream rest later c.items g c.passed b n i.0 u i.1 in (
             c.items ++ i.0 ∷ held.0,
             held.1,
@@ -168,7 +168,7 @@ module _ (rules : Rules) (stream rest later : List ℕ) (s : State) (g : Group) 
           )
       by_type false u =
           let o = other_line rules.force_codepage s.page s.version g u in
-          absurd (let both : ◌≡◌ {A = Line} (Ok other_record) (Err e) = sym o.1 ∙ t.plain o.0 s.page in cc)
+          absurd (let both : ◌≡◌ {A = GlobalsLine} (Ok other_record) (Err e) = sym o.1 ∙ t.plain o.0 s.page in cc)
 
   -- what is kept of it
   pub globals_more : (x : GlobalsRecord) (t : State) → IsRecordRead rules.force_codepage s.version g (Ok x) → IsTaken s x t
@@ -185,7 +185,7 @@ module _ (rules : Rules) (stream rest : List ℕ) (s : State) (c : GlobalsSoFar 
     c.items,
     Some p,
     passed_cut stream rest c.items c.passed p k,
-    first_behind (along (item_fault rules) [] c.items) (Some (errors.EoStream p) ∷ []) c.faultless
+    first_after (map_with_earlier (item_fault rules) [] c.items) (Some (errors.EoStream p) ∷ []) c.faultless
         ∙ ap (λ (x : XlsError). Some x) (sym h),
   )
 
@@ -219,36 +219,36 @@ pub record CheckedSoFar (rules : Rules) (stream rest : List ℕ) (version : Biff
   pub so_far : GlobalsSoFar rules stream rest state
   pub version_is : version ≡ state.version
 
-no_version : {X : Type 0} (f : X → table.GlobalsRecord) → ((x : X) → version_given (Ok (f x)) ≡ None) → (r : Result X XlsError)
-    → version_given (gives f r) ≡ None
-no_version f h r = not_given version_given f h (λ e. refl) r
+no_version : {X : Type 0} (f : X → table.GlobalsRecord) → ((x : X) → version_from (Ok (f x)) ≡ None) → (r : Result X XlsError)
+    → version_from (gives f r) ≡ None
+no_version f h r = not_yielded version_from f h (λ e. refl) r
 
 -- a line gives the version that its record gives
-version_stands : (page : XlsEncoding) (version : Biff) (body : List ℕ) (x : GlobalsRecord) (l : Line) → Stands page version body x l
-    → version_given l ≡ version_of x
-version_stands page version body read.Other l h = ap version_given h
-version_stands page version body (read.Version v) l h = ap version_given h
-version_stands page version body (read.Page p) l h = ap version_given h
-version_stands page version body (read.Date b) l h = ap version_given h
-version_stands page version body (read.Format r) l h = ap version_given h ∙ by_format (format_at page version r.now.body.now)
+version_stands : (page : XlsEncoding) (version : Biff) (body : List ℕ) (x : GlobalsRecord) (l : GlobalsLine) → Stands page version body x l
+    → version_from l ≡ version_of x
+version_stands page version body read.Other l h = ap version_from h
+version_stands page version body (read.Version v) l h = ap version_from h
+version_stands page version body (read.Page p) l h = ap version_from h
+version_stands page version body (read.Date b) l h = ap version_from h
+version_stands page version body (read.Format r) l h = ap version_from h ∙ by_format (format_at page version r.now.body.now)
   where
-    by_format : (f : Result (ℕ × CellFormat) XlsError) → version_given (unless_refused f) ≡ None
+    by_format : (f : Result (ℕ × CellFormat) XlsError) → version_from (unless_refused f) ≡ None
     by_format (Ok f) = refl
     by_format (Err e) = refl
-version_stands page version body (read.Xf n) l h = ap version_given h
+version_stands page version body (read.Xf n) l h = ap version_from h
 version_stands page version body (read.References r) l h =
-    ap version_given h ∙ no_version references_record (λ x. refl) (refs_at version r.now.body.now)
+    ap version_from h ∙ no_version references_record (λ x. refl) (refs_at version r.now.body.now)
 version_stands page version body (read.Name r) l h =
-    ap version_given h ∙ no_version name_record (λ x. refl) (lbl_at page version r.now.body.now)
+    ap version_from h ∙ no_version name_record (λ x. refl) (lbl_at page version r.now.body.now)
 version_stands page version body (read.Table r) l h =
-    ap version_given h.2 ∙ no_version strings_record (λ x. refl) (texts_of (length r.now.body.now) h.0)
+    ap version_from h.2 ∙ no_version strings_record (λ x. refl) (shared_texts (length r.now.body.now) h.0)
 version_stands page version body (read.Sheet r) l h =
-    ap version_given h.1 ∙ no_version (λ (q : ℕ × SheetContent). sheet_record q.1) (λ x. refl) (bound_sheet_at page version r.now.body.now)
+    ap version_from h.1 ∙ no_version (λ (q : ℕ × SheetContent). sheet_record q.1) (λ x. refl) (bound_sheet_at page version r.now.body.now)
 
 pub checked_nothing : (rules : Rules) (stream : List ℕ) → IsBytes stream → CheckedSoFar rules stream stream Biff8
 checked_nothing rules stream fits = record {
   state = first_state (page_in rules []);
-  so_far = globals_nothing rules stream (first_state (page_in rules [])) fits (nothing_given rules (page_in rules []) refl);
+  so_far = globals_nothing rules stream (first_state (page_in rules [])) fits (nothing_yielded rules (page_in rules []) refl);
   version_is = refl;
 }
 

@@ -8,7 +8,7 @@ use Rattle.xls_record.specs.declared.error.XlsError.{XlsError}
 use Rattle.xls_record.specs.declared.error.XlsError.TheVariants as errors
 use Rattle.xls_meaning.specs.GlobalsTable.{forced_fault}
 use Rattle.xls_open.specs.Workbook.{rules_of}
-use Rattle.xls_meaning.specs.Faults.{outer_fault, FirstBehind, FirstFault, IsSound}
+use Rattle.xls_meaning.specs.Faults.{outer_fault, FirstAfter, FirstFault, IsSound}
 use Rattle.xls_source.specs.Causes.{Rose}
 use Rattle.xls_open.specs.Opening.{IsOfOpening, OpenCause}
 use Rattle.xls_source.specs.Bounded.{ReadCause}
@@ -27,7 +27,7 @@ pub limit_first : (rules : Rules) (bytes : List ℕ) → rules.max_bytes < lengt
 limit_first rules bytes past =
     let same : outer_fault rules bytes ≡ Some (errors.TooLarge rules.max_bytes) =
     ap (λ (o : Option XlsError). option_or o (forced_fault rules.force_codepage)) (limit_some rules bytes past) in
-    subst (λ (o : Option XlsError). FirstBehind o rules bytes (errors.TooLarge rules.max_bytes)) (sym same) refl
+    subst (λ (o : Option XlsError). FirstAfter o rules bytes (errors.TooLarge rules.max_bytes)) (sym same) refl
 
 -- a refusal of the read is one of the open
 pub read_cause : (options : XlsOptions) (left : Option (List ℕ)) (before now : ℕ) (e : XlsError)
@@ -56,7 +56,7 @@ read_named limit left before now e c = absurd c
 
 -- ---- bytes that were checked
 
-first_clear : (o : Option XlsError) (rules : Rules) (bytes : List ℕ) (e : XlsError) → IsClear o → FirstBehind o rules bytes e → IsClear (Some e)
+first_clear : (o : Option XlsError) (rules : Rules) (bytes : List ℕ) (e : XlsError) → IsClear o → FirstAfter o rules bytes e → IsClear (Some e)
 first_clear None rules bytes e c h = of_stream rules bytes e h
 first_clear (Some f) rules bytes e c h = subst (λ (x : XlsError). IsClear (Some x)) (sym h) c
 

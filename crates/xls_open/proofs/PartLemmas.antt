@@ -13,21 +13,21 @@ use Rattle.xls_stream.specs.declared.part.Part.{Part}
 use Rattle.xls_stream.proofs.Runs.{Run-append}
 use Rattle.xls_stream.proofs.Founds.{found_nothing}
 use Rattle.xls_stream.proofs.Ends.{has_groups}
-use Rattle.xls_stream.proofs.Shapes.{run_bytes, same_parts}
+use Rattle.xls_stream.proofs.Outlines.{run_bytes, same_parts}
 use Rattle.xls_record.specs.declared.error.XlsError.{XlsError}
 use Rattle.xls_record.specs.declared.error.XlsError.TheVariants as errors
 use Rattle.xls_biff.specs.Outer.{Keeps, Over, CutShort}
 use Rattle.xls_record.specs.Reading.{gives}
 use Rattle.xls_biff.specs.SheetTable.{position_in}
 use Rattle.xls_range.specs.Positions.{Position, IsAscending, last_at, cell_position}
-use Rattle.xls_meaning.specs.Order.{along, last_of}
-use Rattle.xls_meaning.specs.InForce.{InForce}
-use Rattle.xls_meaning.specs.SheetTable.{Given, kept_line, last_formula, given_in}
-use Rattle.xls_meaning.specs.Reading.{given_by, gifts_of}
-use Rattle.xls_meaning.specs.Faults.{weight_given, weight_in, weight_fault}
+use Rattle.xls_meaning.specs.Order.{map_with_earlier, last_of}
+use Rattle.xls_meaning.specs.Settings.{Settings}
+use Rattle.xls_meaning.specs.SheetTable.{Yield, kept_line, last_formula, yield_in}
+use Rattle.xls_meaning.specs.Reading.{yield_of, yields_of}
+use Rattle.xls_meaning.specs.Faults.{weight_from, weight_in, weight_fault}
 use Rattle.xls_open.specs.Steps.{weight_left}
 use Rattle.xls_meaning.specs.Rules.{Rules}
-use Rattle.xls_meaning.proofs.OrderLemmas.{along-push, last-push, unwrap_push, flat_push}
+use Rattle.xls_meaning.proofs.OrderLemmas.{map_with_earlier-push, last-push, unwrap_push, flat_push}
 
 pub part_from : (part : List ℕ) (groups : List Group) (cut : Option Part) → IsBytes part
     → From (found_from 0) part groups cut → SheetPart part groups cut
@@ -93,27 +93,27 @@ pub kept_push : (gs : List Group) (g : Group) → kept_of (gs ++ g ∷ []) ≡ k
 kept_push gs g = map-append kept_group gs (g ∷ [])
 
 -- what is given after one more record
-gifts_push : (s : InForce) (ks : List Kept) (k : Kept)
-    → gifts_of s (ks ++ k ∷ []) ≡ gifts_of s ks ++ given_by (given_in s ks k) ∷ []
-gifts_push s ks k =
-    ap (map given_by) (along-push (given_in s) ks k)
-    ∙ map-append given_by (along (given_in s) [] ks) (given_in s ks k ∷ [])
+yields_push : (s : Settings) (ks : List Kept) (k : Kept)
+    → yields_of s (ks ++ k ∷ []) ≡ yields_of s ks ++ yield_of (yield_in s ks k) ∷ []
+yields_push s ks k =
+    ap (map yield_of) (map_with_earlier-push (yield_in s) ks k)
+    ∙ map-append yield_of (map_with_earlier (yield_in s) [] ks) (yield_in s ks k ∷ [])
 
-gift_push : {X : Type 0} (f : Given → List X) (s : InForce) (ks : List Kept) (k : Kept)
-    → flat_map f (gifts_of s (ks ++ k ∷ [])) ≡ flat_map f (gifts_of s ks) ++ f (given_by (given_in s ks k))
-gift_push f s ks k =
-    ap (flat_map f) (gifts_push s ks k) ∙ flat_push f (gifts_of s ks) (given_by (given_in s ks k))
+yield_push : {X : Type 0} (f : Yield → List X) (s : Settings) (ks : List Kept) (k : Kept)
+    → flat_map f (yields_of s (ks ++ k ∷ [])) ≡ flat_map f (yields_of s ks) ++ f (yield_of (yield_in s ks k))
+yield_push f s ks k =
+    ap (flat_map f) (yields_push s ks k) ∙ flat_push f (yields_of s ks) (yield_of (yield_in s ks k))
 
 -- where the last Formula stands
-pub place_push : (s : InForce) (ks : List Kept) (k : Kept) (at behind : Position) → at ≡ last_formula s.cells ks
-    → behind ≡ unwrap_or (position_in (kept_line s.cells k)) at → behind ≡ last_formula s.cells (ks ++ k ∷ [])
-place_push s ks k at behind had is =
+pub place_push : (s : Settings) (ks : List Kept) (k : Kept) (at following : Position) → at ≡ last_formula s.cells ks
+    → following ≡ unwrap_or (position_in (kept_line s.cells k)) at → following ≡ last_formula s.cells (ks ++ k ∷ [])
+place_push s ks k at following had is =
     let place : Kept → Option Position = λ (j : Kept). position_in (kept_line s.cells j) in
     is ∙ ap (unwrap_or (place k)) had
     ∙ sym (unwrap_push (place k) (last_of (map place ks)) (0, 0))
     ∙ ap (λ (o : Option Position). unwrap_or o (0, 0)) (sym (last-push place ks k))
 
-pub weight_push : (s : InForce) (ks : List Kept) (k : Kept) → weight_in s.cells (ks ++ k ∷ []) ≡ weight_in s.cells ks + weight_given (kept_line s.cells k)
+pub weight_push : (s : Settings) (ks : List Kept) (k : Kept) → weight_in s.cells (ks ++ k ∷ []) ≡ weight_in s.cells ks + weight_from (kept_line s.cells k)
 weight_push s [] k = omega arith
 weight_push s (j ∷ ks) k = let on = weight_push s ks k in omega (arith, on)
 
@@ -139,14 +139,14 @@ no_room limit room weight e h = by_test (nat_lt room weight) refl
     by_test true t = (less t, let f : Err (errors.TooManyCells limit) ≡ Err e = rw t at h in cc)
     by_test false t = absurd (let f : ◌≡◌ {A = Result ℕ XlsError} (Ok (room - weight)) (Err e) = rw t at h in cc)
 
-pub light : (rules : Rules) (s : InForce) (ks : List Kept) → weight_in s.cells ks ≤ rules.max_cells
+pub light : (rules : Rules) (s : Settings) (ks : List Kept) → weight_in s.cells ks ≤ rules.max_cells
     → weight_fault rules s.cells ks ≡ None
 light rules s ks h = let t : nat_lt rules.max_cells (weight_in s.cells ks) ≡ false = test h in rw t refl
   where
     test : weight_in s.cells ks ≤ rules.max_cells → nat_lt rules.max_cells (weight_in s.cells ks) ≡ false
     test l = grind arith
 
-pub heavy : (rules : Rules) (s : InForce) (ks : List Kept) → rules.max_cells < weight_in s.cells ks
+pub heavy : (rules : Rules) (s : Settings) (ks : List Kept) → rules.max_cells < weight_in s.cells ks
     → weight_fault rules s.cells ks ≡ Some (errors.TooManyCells rules.max_cells)
 heavy rules s ks h = let t : nat_lt rules.max_cells (weight_in s.cells ks) ≡ true = test h in rw t refl
   where
@@ -172,10 +172,10 @@ module _ {T X : Type 0} (content : T → X) where
       both None false = refl
 
   -- sorted cells by their contents
-  pub same_last : (found given : List (Position × T)) (p : Position) → last_at found p ≡ last_at given p
-      → last_at (map (λ (c : Position × T). (c.0, content c.1)) found) p ≡ last_at (map (λ (c : Position × T). (c.0, content c.1)) given) p
-  same_last found given p h =
-      by_content found p ∙ ap (option_map content) h ∙ sym (by_content given p)
+  pub same_last : (found input : List (Position × T)) (p : Position) → last_at found p ≡ last_at input p
+      → last_at (map (λ (c : Position × T). (c.0, content c.1)) found) p ≡ last_at (map (λ (c : Position × T). (c.0, content c.1)) input) p
+  same_last found input p h =
+      by_content found p ∙ ap (option_map content) h ∙ sym (by_content input p)
 
   pub positions : (found : List (Position × T))
       → map (λ (c : Position × X). c.0) (map (λ (c : Position × T). (c.0, content c.1)) found) ≡ map cell_position found
@@ -183,6 +183,6 @@ module _ {T X : Type 0} (content : T → X) where
   positions (x ∷ xs) = ap (λ (l : List Position). x.0 ∷ l) (positions xs)
 
 -- two lists of cells, of which one is the other in order
-pub record IsSorted {T : Type 0} (given found : List (Position × T)) : Type 0 where
+pub record IsSorted {T : Type 0} (input found : List (Position × T)) : Type 0 where
   pub ascending : IsAscending (map cell_position found)
-  pub last : (p : Position) → last_at found p ≡ last_at given p
+  pub last : (p : Position) → last_at found p ≡ last_at input p

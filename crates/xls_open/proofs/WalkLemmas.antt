@@ -8,7 +8,7 @@ use Rattle.xls_stream.specs.Cut.{Cut}
 use Rattle.xls_stream.specs.Walks.{IsBytes}
 use Rattle.xls_stream.specs.declared.part.Part.{Part}
 use Rattle.xls_stream.proofs.Ends.{has_groups}
-use Rattle.xls_stream.proofs.Shapes.{run_bytes, same_globals}
+use Rattle.xls_stream.proofs.Outlines.{run_bytes, same_globals}
 use Rattle.xls_open.specs.Steps.{after}
 
 pub globals_from : (bytes : List ℕ) (groups : List Group) (cut : Option Part) → IsBytes bytes

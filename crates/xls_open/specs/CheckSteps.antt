@@ -4,8 +4,8 @@ use Rattle.xls_stream.specs.Listing.{Kept, Item, entry_of, Holds}
 use Rattle.xls_stream.specs.declared.part.Part.{Part}
 use Rattle.xls_record.specs.declared.error.XlsError.{XlsError}
 use Rattle.xls_record.specs.declared.version.Biff.{Biff}
-use Rattle.xls_meaning.specs.Order.{along, first_of}
-use Rattle.xls_meaning.specs.InForce.{version_in, InForce, in_force_of}
+use Rattle.xls_meaning.specs.Order.{map_with_earlier, first_of}
+use Rattle.xls_meaning.specs.Settings.{version_in, Settings, settings_of}
 use Rattle.xls_meaning.specs.GlobalsTable.{fault_of}
 use Rattle.xls_meaning.specs.Faults.{item_fault, part_places, places}
 use Rattle.xls_open.specs.Globals.{GlobalsFault}
@@ -17,8 +17,8 @@ abbrev pub under : CheckRules → Rules
 under r = checked r.force_codepage r.max_cells
 
 -- what is in force at the end of the globals
-abbrev pub force_of : Rules → List Item → InForce
-force_of rules items = in_force_of rules (map entry_of items)
+abbrev pub settings_checked : Rules → List Item → Settings
+settings_checked rules items = settings_of rules (map entry_of items)
 
 -- ---- the globals
 
@@ -26,7 +26,7 @@ force_of rules items = in_force_of rules (map entry_of items)
 pub record AreChecked (rules : Rules) (bytes : List ℕ) (version : Biff) : Type 0 where
   pub items : List Item
   pub holds : Holds bytes items None
-  pub faultless : first_of (along (item_fault rules) [] items) ≡ None
+  pub faultless : first_of (map_with_earlier (item_fault rules) [] items) ≡ None
   pub version_is : version ≡ version_in rules (map entry_of items)
 
 abbrev pub ChecksGlobals : Rules → List ℕ → Result Biff XlsError → Type 0
@@ -36,7 +36,7 @@ ChecksGlobals rules bytes (Err e) = GlobalsFault rules bytes e
 -- ---- the sheets
 
 -- the first fault of a part, or that it has none
-abbrev pub ChecksPart : (List Kept → Option Part → Type 0) → Rules → InForce → Result (Unit {0}) XlsError → Type 0
+abbrev pub ChecksPart : (List Kept → Option Part → Type 0) → Rules → Settings → Result (Unit {0}) XlsError → Type 0
 ChecksPart Stands rules s result =
     (kept : List Kept) × (cut : Option Part) × Stands kept cut
     × (first_of (part_places rules s.cells kept cut) ≡ fault_of result)

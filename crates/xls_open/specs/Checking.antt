@@ -2,7 +2,7 @@
 use Rattle.std.specs.Prelude.{ℕ, List, [], Option, Result, Ok, Err}
 use Rattle.xls_record.specs.declared.error.XlsError.{XlsError}
 use Rattle.xls_meaning.specs.GlobalsTable.{forced_fault}
-use Rattle.xls_meaning.specs.Faults.{FirstBehind}
+use Rattle.xls_meaning.specs.Faults.{FirstAfter}
 use Rattle.xls_meaning.specs.Rules.{Rules}
 
 -- the rules of a check; neither the limit of bytes nor the functions count (`checked_alike`)
@@ -18,7 +18,7 @@ checked forced max =
 -- e is the first fault of the bytes, the byte limit apart
 abbrev pub FirstChecked : Option ℕ → ℕ → List ℕ → XlsError → Type 0
 FirstChecked forced max bytes e =
-    FirstBehind (forced_fault forced) (checked forced max) bytes e
+    FirstAfter (forced_fault forced) (checked forced max) bytes e
 
 -- no place has a fault, the byte limit apart, or this is the first one
 abbrev pub Checks : Option ℕ → ℕ → List ℕ → Result (Unit {0}) XlsError → Type 0

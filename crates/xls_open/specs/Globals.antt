@@ -8,10 +8,10 @@ use Rattle.xls_dates.specs.declared.formats.CellFormat.{CellFormat}
 use Rattle.xls_record.specs.declared.error.XlsError.{XlsError}
 use Rattle.xls_record.specs.declared.error.XlsError.TheVariants as errors
 use Rattle.xls_record.specs.declared.version.Biff.{Biff}
-use Rattle.xls_meaning.specs.Order.{along, first_of}
-use Rattle.xls_meaning.specs.InForce.{page_in, version_in, is_1904_in, formats_in, identifiers_in, texts_in, extern_refs, lbls_in, known_refs, told_name}
-use Rattle.xls_meaning.specs.GlobalsTable.{Named}
-use Rattle.xls_open.specs.Workbook.{told_of}
+use Rattle.xls_meaning.specs.Order.{map_with_earlier, first_of}
+use Rattle.xls_meaning.specs.Settings.{page_in, version_in, is_1904_in, formats_in, identifiers_in, texts_in, extern_refs, lbls_in, known_refs, resolved_name}
+use Rattle.xls_meaning.specs.GlobalsTable.{NamedPlace}
+use Rattle.xls_open.specs.Workbook.{name_texts}
 use Rattle.xls_meaning.specs.Faults.{item_fault, globals_places}
 use Rattle.xls_open.specs.declared.listed.Listed.{Listed}
 use Rattle.xls_open.specs.declared.names.Naming.{Naming}
@@ -34,7 +34,7 @@ pub record State : Type 0 where
   pub identifiers : List ℕ
   pub strings : List (List ℕ)
   pub refs : List ℤ
-  pub names : List Named
+  pub names : List NamedPlace
   pub sheets : Sheets
 
 abbrev pub pair_of : OpenedSheet → ℕ × SheetContent
@@ -59,7 +59,7 @@ pub record IsState (rules : Rules) (items : List Item) (s : State) : Type 0 wher
 pub record AreGlobals (rules : Rules) (bytes : List ℕ) (s : State) : Type 0 where
   pub items : List Item
   pub holds : Holds bytes items None
-  pub faultless : first_of (along (item_fault rules) [] items) ≡ None
+  pub faultless : first_of (map_with_earlier (item_fault rules) [] items) ≡ None
   pub state : IsState rules items s
 
 abbrev pub GlobalsFault : Rules → List ℕ → XlsError → Type 0
@@ -76,8 +76,8 @@ abbrev pub names_listed : Sheets → List (List ℕ)
 names_listed = map (λ (q : ℕ × SheetContent). q.1.name)
 
 -- by a version, sheets, the references of all ExternSheets, and Lbls
-pub record IsNaming (version : Biff) (listed : Sheets) (refs : List ℤ) (lbls : List Named) (n : Naming) : Type 0 where
+pub record IsNaming (version : Biff) (listed : Sheets) (refs : List ℤ) (lbls : List NamedPlace) (n : Naming) : Type 0 where
   pub sheets : n.sheets ≡ names_listed listed
   pub known : n.refs ≡ known_refs version (length listed) refs
-  pub names : n.names ≡ map (told_name (names_listed listed) (known_refs version (length listed) refs)) lbls
-  pub told : map told_of n.told.items ≡ n.names
+  pub names : n.names ≡ map (resolved_name (names_listed listed) (known_refs version (length listed) refs)) lbls
+  pub reported : map name_texts n.reported.items ≡ n.names

@@ -2,15 +2,15 @@
 use Rattle.std.specs.Prelude.{◌≡◌, ◌↔◌, ℕ, ◌≤◌, List, length, Option, None, Some, Result, Ok, Err}
 use Rattle.std.specs.Io.KnownBytes.{IsAtEnd}
 use Rattle.xls_stream.specs.Walks.{IsBytes}
-use Rattle.xls_stream.specs.Listing.{Entry, Carries}
+use Rattle.xls_stream.specs.Listing.{ListEntry, Carries}
 use Rattle.xls_record.specs.declared.error.XlsError.{XlsError}
 use Rattle.xls_record.specs.declared.error.XlsError.TheVariants as errors
 use Rattle.xls_layouts.specs.Layout.{Layout, lay, list_of, IsLayout}
 use Rattle.xls_meaning.specs.Rules.{Rules}
 use Rattle.xls_text.specs.declared.encoding.XlsEncoding.{XlsEncoding}
 use Rattle.xls_record.specs.declared.version.Biff.{Biff}
-use Rattle.xls_meaning.specs.GlobalsTable.{forced_fault, entry_record_at, page_given, version_given}
-use Rattle.xls_meaning.specs.InForce.{said_by}
+use Rattle.xls_meaning.specs.GlobalsTable.{forced_fault, entry_record_at, page_from, version_from}
+use Rattle.xls_meaning.specs.Settings.{said_by}
 use Rattle.xls_meaning.specs.Reading.{IsReading}
 use Rattle.xls_meaning.specs.Faults.{FirstFault, IsSound, IsFull}
 use Rattle.xls_source.specs.Causes.{Rose}
@@ -29,19 +29,19 @@ CheckedAlike =
 -- which page and which version an entry gives hangs on neither that is in force: `said_by` has them
 abbrev pub PagesHangOnNothing : Type 0
 PagesHangOnNothing =
-    (forced : Option ℕ) (page : XlsEncoding) (version : Biff) (e : Entry)
-    → (page_given (entry_record_at forced page version e) ≡ page_given (said_by forced e))
-    × (version_given (entry_record_at forced page version e) ≡ version_given (said_by forced e))
+    (forced : Option ℕ) (page : XlsEncoding) (version : Biff) (e : ListEntry)
+    → (page_from (entry_record_at forced page version e) ≡ page_from (said_by forced e))
+    × (version_from (entry_record_at forced page version e) ≡ version_from (said_by forced e))
 
 -- ---- one list
 
 -- a stream carries at most one list; within the limit it has no fault exactly where the forced page, if
 -- any, is kept and it carries a full list
 pub record HasOneList (rules : Rules) (bytes : List ℕ) : Type 0 where
-  pub one : (entries others : List Entry) → Carries bytes entries → Carries bytes others → entries ≡ others
+  pub one : (entries others : List ListEntry) → Carries bytes entries → Carries bytes others → entries ≡ others
   pub full : length bytes ≤ rules.max_bytes
       → IsSound rules bytes
-      ↔ ((forced_fault rules.force_codepage ≡ None) × (entries : List Entry) × Carries bytes entries
+      ↔ ((forced_fault rules.force_codepage ≡ None) × (entries : List ListEntry) × Carries bytes entries
       × IsFull rules entries)
 
 abbrev pub OneListPerStream : Type 0
@@ -51,7 +51,7 @@ OneListPerStream = (rules : Rules) (bytes : List ℕ) → IsBytes bytes → HasO
 -- formula texts, merged regions, defined names, date system and classes
 abbrev pub SameListSameBook : Type 0
 SameListSameBook =
-    (options : XlsOptions) (bytes others : List ℕ) (entries : List Entry)
+    (options : XlsOptions) (bytes others : List ℕ) (entries : List ListEntry)
     → Carries bytes entries → Carries others entries
     → (book second : Workbook) → IsOpened options book bytes → IsOpened options second others
     → book ≡ second
@@ -64,7 +64,7 @@ LaidSound = (rules : Rules) (d : Layout) → IsLayout d → IsFull rules (list_o
     → length (lay d) ≤ rules.max_bytes → IsSound rules (lay d)
 
 -- the whole reading of the list, with nothing left; or out of memory; or Io by the count
-abbrev pub OpensAs : XlsOptions → List Entry → Option (List ℕ) → ℕ → ℕ → Result Workbook XlsError → Type 0
+abbrev pub OpensAs : XlsOptions → List ListEntry → Option (List ℕ) → ℕ → ℕ → Result Workbook XlsError → Type 0
 OpensAs options entries after before now (Ok book) =
     (book.options ≡ options) × IsReading (rules_of options) entries (view_of book) × IsAtEnd after
 OpensAs options entries after before now (Err errors.Memory) = Unit {0}

@@ -1,7 +1,7 @@
 -- What reading a source and opening its bytes answer.
 use Rattle.std.specs.Prelude.{◌≡◌, ℕ, ◌+◌, ◌≤◌, List, length, Option, None, Result, IfOk, IfErr, OnOk, IfSome}
 use Rattle.std.specs.Io.KnownBytes.{Consumes, IsAtEnd}
-use Rattle.xls_stream.specs.Listing.{Entry, Carries}
+use Rattle.xls_stream.specs.Listing.{ListEntry, Carries}
 use Rattle.xls_record.specs.declared.error.XlsError.{XlsError}
 use Rattle.xls_record.specs.declared.error.XlsError.TheVariants as errors
 use Rattle.xls_data.specs.declared.regions.HeaderRow.TheVariants.{FirstNonEmptyRow}
@@ -50,10 +50,10 @@ IsOfOpening e = Unit {0}
 pub record IsOpened (options : XlsOptions) (book : Workbook) (bytes : List ℕ) : Type 0 where
   pub sound : IsSound (rules_of options) bytes
   pub within : length bytes ≤ options.max_bytes
-  pub entries : List Entry
+  pub entries : List ListEntry
   pub carries : Carries bytes entries
   pub kept : book.options ≡ options
-  pub every : (others : List Entry) → Carries bytes others
+  pub every : (others : List ListEntry) → Carries bytes others
       → IsReading (rules_of options) others (view_of book)
 
 -- of a source that had and has this left, with the count of faults before and after
@@ -65,6 +65,6 @@ pub record Opens (options : XlsOptions) (left after : Option (List ℕ)) (before
   pub named : IfErr result IsOfOpening
   pub complete : (Rose before now → ⊥)
       → IfSome left (λ bytes. IsSound (rules_of options) bytes → IfErr result (λ e. e ≡ errors.Memory))
-  pub front : (taken : List ℕ) × (length taken ≤ options.max_bytes + 1) × Consumes left after taken
+  pub prefix : (taken : List ℕ) × (length taken ≤ options.max_bytes + 1) × Consumes left after taken
   pub count : before ≤ now
   pub faultless : OnOk result (now ≡ before)

@@ -11,7 +11,7 @@ use Rattle.xls_biff.specs.Records.BoundSheet.{bound_sheet_at}
 use Rattle.xls_biff.specs.Records.ExternSheet.{refs_at}
 use Rattle.xls_biff.specs.Records.Format.{format_at}
 use Rattle.xls_formula.specs.Defined.{lbl_at}
-use Rattle.xls_meaning.specs.GlobalsTable.{other_record, version_record, page_record, date_record, xf_record, references_record, name_record, strings_record, sheet_record, unless_refused, texts_of, Line, fault_of}
+use Rattle.xls_meaning.specs.GlobalsTable.{other_record, version_record, page_record, date_record, xf_record, references_record, name_record, strings_record, sheet_record, unless_refused, shared_texts, GlobalsLine, fault_of}
 use Rattle.xls_meaning.specs.GlobalsTable as table
 use Rattle.xls_open.specs.Globals.{State}
 use Rattle.xls_open.specs.Steps.{after}
@@ -19,7 +19,7 @@ use Rattle.xls_open.specs.declared.globals_record.GlobalsRecord.{GlobalsRecord}
 use Rattle.xls_open.specs.declared.globals_record.GlobalsRecord.TheVariants as read
 
 -- a record of this body, read so, is this line of the table, under a page and a version
-abbrev pub Stands : XlsEncoding → Biff → List ℕ → GlobalsRecord → Line → Type 0
+abbrev pub Stands : XlsEncoding → Biff → List ℕ → GlobalsRecord → GlobalsLine → Type 0
 Stands page version body read.Other line = line ≡ Ok other_record
 Stands page version body (read.Version v) line = line ≡ Ok (version_record v)
 Stands page version body (read.Page p) line = line ≡ Ok (page_record p)
@@ -30,19 +30,19 @@ Stands page version body (read.References r) line = line ≡ gives references_re
 Stands page version body (read.Name r) line = line ≡ gives name_record (lbl_at page version r.now.body.now)
 Stands page version body (read.Table r) line =
     (shared : Shared) × IsShared (group_of r.now) shared
-    × (line ≡ gives strings_record (texts_of (length r.now.body.now) shared))
+    × (line ≡ gives strings_record (shared_texts (length r.now.body.now) shared))
 Stands page version body (read.Sheet r) line =
     (body ≡ r.now.body.now)
     × (line ≡ gives (λ (q : ℕ × SheetContent). sheet_record q.1) (bound_sheet_at page version r.now.body.now))
 
 -- what was read of a record is its line, which has no fault; or it is the line's fault
-abbrev pub ReadsLine : XlsEncoding → Biff → List ℕ → Line → Result GlobalsRecord XlsError → Type 0
+abbrev pub ReadsLine : XlsEncoding → Biff → List ℕ → GlobalsLine → Result GlobalsRecord XlsError → Type 0
 ReadsLine page version body line (Ok g) = (fault_of line ≡ None) × Stands page version body g line
 ReadsLine page version body line (Err e) = line ≡ Err e
 
 -- some line that it is has no fault
-abbrev pub IsFaultless : State → GlobalsRecord → Type 0
-IsFaultless s x = (body : List ℕ) × (line : Line) × Stands s.page s.version body x line × (fault_of line ≡ None)
+abbrev pub IsFaultlessRecord : State → GlobalsRecord → Type 0
+IsFaultlessRecord s x = (body : List ℕ) × (line : GlobalsLine) × Stands s.page s.version body x line × (fault_of line ≡ None)
 
 -- the version that it gives, and the version after it
 abbrev pub version_of : GlobalsRecord → Option Biff

@@ -11,11 +11,11 @@ use Rattle.xls_record.specs.declared.error.XlsError.{XlsError}
 use Rattle.xls_record.specs.declared.error.XlsError.TheVariants as errors
 use Rattle.xls_record.specs.declared.version.Biff.TheVariants.{Biff8}
 use Rattle.xls_record.specs.Reading.{gives}
-use Rattle.xls_meaning.specs.Order.{along, first_of}
-use Rattle.xls_meaning.specs.InForce.{InForce, SheetRecords}
-use Rattle.xls_meaning.specs.GlobalsTable.{GlobalsRecord, version_given, page_given, date_given, format_given, xf_given, references_given, name_given, strings_given, sheet_given}
+use Rattle.xls_meaning.specs.Order.{map_with_earlier, first_of}
+use Rattle.xls_meaning.specs.Settings.{Settings, SheetRecords}
+use Rattle.xls_meaning.specs.GlobalsTable.{GlobalsRecord, version_from, page_from, date_from, format_from, xf_from, references_from, name_from, strings_from, sheet_from}
 use Rattle.xls_meaning.specs.Reading.{SheetView, BookView, IsContent, IsReading}
-use Rattle.xls_meaning.specs.Faults.{kept_fault, FirstBehind, IsFull}
+use Rattle.xls_meaning.specs.Faults.{kept_fault, FirstAfter, IsFull}
 use Rattle.xls_meaning.specs.Rules.{Rules}
 use Rattle.xls_open.specs.Globals.{Sheets, State}
 
@@ -57,15 +57,15 @@ placed body sheet = (offset_at body, sheet)
 -- after one more record of this body, by what the table says that it gives
 abbrev pub after : State → List ℕ → GlobalsRecord → State
 after s body g = record {
-  page = unwrap_or (page_given (Ok g)) s.page;
-  version = unwrap_or (version_given (Ok g)) s.version;
-  is_1904 = or_also s.is_1904 (date_given (Ok g));
-  formats = with_one s.formats (format_given (Ok g));
-  identifiers = with_one s.identifiers (xf_given (Ok g));
-  strings = unwrap_or (strings_given (Ok g)) s.strings;
-  refs = with_all s.refs (references_given (Ok g));
-  names = with_one s.names (name_given (Ok g));
-  sheets = with_one s.sheets (option_map (placed body) (sheet_given (Ok g)));
+  page = unwrap_or (page_from (Ok g)) s.page;
+  version = unwrap_or (version_from (Ok g)) s.version;
+  is_1904 = or_also s.is_1904 (date_from (Ok g));
+  formats = with_one s.formats (format_from (Ok g));
+  identifiers = with_one s.identifiers (xf_from (Ok g));
+  strings = unwrap_or (strings_from (Ok g)) s.strings;
+  refs = with_all s.refs (references_from (Ok g));
+  names = with_one s.names (name_from (Ok g));
+  sheets = with_one s.sheets (option_map (placed body) (sheet_from (Ok g)));
 }
 
 abbrev pub body_of : Item → List ℕ
@@ -86,23 +86,23 @@ weight_left limit room weight =
 
 -- the records of a part that isn't cut have no fault, and this is their content
 pub record IsRead (Stands : List Kept → Option Part
-    → Type 0) (rules : Rules) (s : InForce) (view : SheetView) : Type 0 where
+    → Type 0) (rules : Rules) (s : Settings) (view : SheetView) : Type 0 where
   pub kept : List Kept
   pub stands : Stands kept None
-  pub faultless : first_of (along (kept_fault rules s.cells) [] kept) ≡ None
+  pub faultless : first_of (map_with_earlier (kept_fault rules s.cells) [] kept) ≡ None
   pub content : IsContent s kept view
 
 -- ---- the sheets
 
 -- each of these sheets was read so
-abbrev pub AreContents : Rules → InForce → List ℕ → Sheets → List SheetView → Type 0
+abbrev pub AreContents : Rules → Settings → List ℕ → Sheets → List SheetView → Type 0
 AreContents rules s stream [] [] = Unit {0}
 AreContents rules s stream (q ∷ qs) (v ∷ vs) =
     IsRead (IsSheetPart stream q.0) rules s v × AreContents rules s stream qs vs
 AreContents rules s stream qs vs = ⊥
 
 -- these sheets with these contents are those of the list
-abbrev pub AreSheets : InForce → List SheetContent → List SheetView → List SheetRecords → Type 0
+abbrev pub AreSheets : Settings → List SheetContent → List SheetView → List SheetRecords → Type 0
 AreSheets s [] [] [] = Unit {0}
 AreSheets s (t ∷ ts) (v ∷ vs) (q ∷ qs) =
     (t ≡ q.0) × IsContent s q.1 v × AreSheets s ts vs qs
@@ -111,11 +111,11 @@ AreSheets s ts vs qs = ⊥
 -- ---- the workbook of a stream, its byte limit and the forced page apart
 
 pub record IsStreamOpened (rules : Rules) (bytes : List ℕ) (book : BookView) : Type 0 where
-  pub entries : List listing.Entry
+  pub entries : List listing.ListEntry
   pub carries : Carries bytes entries
   pub full : IsFull rules entries
   pub reading : IsReading rules entries book
   pub are_bytes : IsBytes bytes
 
 abbrev pub StreamFault : Rules → List ℕ → XlsError → Type 0
-StreamFault rules bytes e = FirstBehind None rules bytes e
+StreamFault rules bytes e = FirstAfter None rules bytes e

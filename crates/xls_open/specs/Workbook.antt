@@ -6,10 +6,10 @@ use Rattle.xls_data.specs.declared.values.Data.{Data}
 use Rattle.xls_dates.specs.declared.formats.CellFormat.{CellFormat}
 use Rattle.xls_range.specs.Positions.{Position, IsAscending}
 use Rattle.xls_strings.specs.Texts.{text_of}
-use Rattle.xls_biff.specs.Cells.{Entry}
+use Rattle.xls_biff.specs.Cells.{CellEntry}
 use Rattle.xls_biff.specs.Cells as cells
 use Rattle.xls_meaning.specs.Rules.{Rules}
-use Rattle.xls_meaning.specs.Reading.{SheetView, BookView, shown_of, last_named}
+use Rattle.xls_meaning.specs.Reading.{SheetView, BookView, displayed_of, last_named}
 use Rattle.xls_meaning.specs.SheetTable.{FormulaEntry}
 use Rattle.xls_meaning.specs.Held.{no_view}
 use Rattle.xls_open.specs.declared.options.XlsOptions.{XlsOptions}
@@ -50,28 +50,28 @@ view_of book =
     }
 
 -- for each of these sheets the content of the last sheet of its name
-abbrev pub shown : List (SheetContent × SheetView) → List SheetContent → List SheetView
-shown all ss = map (λ (s : SheetContent). unwrap_or (last_named all s.name) no_view) ss
+abbrev pub views_listed : List (SheetContent × SheetView) → List SheetContent → List SheetView
+views_listed all ss = map (λ (s : SheetContent). unwrap_or (last_named all s.name) no_view) ss
 
 -- of the last sheet of a name
 abbrev pub view_named : Workbook → List ℕ → Option SheetView
-view_named book name = shown_of (view_of book) name
+view_named book name = displayed_of (view_of book) name
 
 -- the cells of a sheet stand in order, and its formulas
 abbrev pub IsOrdered : SheetView → Type 0
-IsOrdered v = IsAscending (map (λ (c : Entry). c.0) v.cells)
+IsOrdered v = IsAscending (map (λ (c : CellEntry). c.0) v.cells)
     × IsAscending (map (λ (f : FormulaEntry). f.0) v.formulas)
 
 -- ---- the values of the code
 
 -- a cell by its content
-abbrev pub cell_content : Position × Data → Entry
-cell_content c = cells.entry_of c
+abbrev pub cell_content : Position × Data → CellEntry
+cell_content c = cells.cell_entry_of c
 
 -- a formula's cell by its text
 abbrev pub formula_content : Position × String Global → FormulaEntry
 formula_content c = (c.0, text_of c.1)
 
 -- a name and its text, by their characters
-abbrev pub told_of : String Global × String Global → List ℕ × List ℕ
-told_of n = (text_of n.0, text_of n.1)
+abbrev pub name_texts : String Global × String Global → List ℕ × List ℕ
+name_texts n = (text_of n.0, text_of n.1)

@@ -4,7 +4,7 @@ ghost use Rattle.std.specs.Prelude.{◌≡◌, ◌==◌, ℕ, Some, cond, unwrap
 ghost use Rattle.std.specs.Ordering.{nat_cmp};
 ghost use Rattle.std.specs.BTreeMap.{get};
 ghost use Rattle.xls_dates.specs.Builtin.{class_of_code};
-ghost use Rattle.xls_meaning.specs.InForce.{last_class, class_in};
+ghost use Rattle.xls_meaning.specs.Settings.{last_class, class_in};
 
 use std::alloc::{AllocError, Global};
 use std::collections::BTreeMap;

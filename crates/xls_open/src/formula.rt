@@ -5,9 +5,9 @@ ghost use Rattle.std.specs.Str.{chars};
 ghost use Rattle.std.specs.String.{string_bytes};
 ghost use Rattle.xls_strings.specs.Texts.{text_of};
 ghost use Rattle.xls_formula.specs.Fold.{formula_text};
-ghost use Rattle.xls_meaning.specs.SheetTable.{refusal_bytes, shown_formula};
+ghost use Rattle.xls_meaning.specs.SheetTable.{refusal_bytes, displayed_formula};
 
-use crate::force::InForce;
+use crate::settings::Settings;
 use std::alloc::{AllocError, Global};
 use xls_biff::XlsError;
 use xls_formula::{FormulaTexts, Scope, parse_formula};
@@ -51,18 +51,18 @@ impl FormulaBuffer {
         &mut self,
         rgce: &[u8],
         position: (u32, u32),
-        force: &InForce<'_>,
+        settings: &Settings<'_>,
     ) -> Result<&str, AllocError>
         ensures { IfOk result (λ text. chars text.now
-            ≡ shown_formula position (formula_text force.now.formulas rgce.now)) }
+            ≡ displayed_formula position (formula_text settings.now.formulas rgce.now)) }
     {
         let scope = Scope {
-            sheets: force.sheets,
-            names: force.names,
-            refs: force.refs,
-            encoding: force.page,
-            biff: force.version,
-            functions: force.functions,
+            sheets: settings.sheets,
+            names: settings.names,
+            refs: settings.refs,
+            encoding: settings.page,
+            biff: settings.version,
+            functions: settings.functions,
         };
         match self.texts.read(rgce, scope) {
             Ok(()) => Ok(self.texts.as_str()),

@@ -1,10 +1,10 @@
 //! The globals: what is in force, and the sheets that they list.
 
 ghost use Rattle.std.specs.Prelude.{◌≡◌, [], Ok, IfErr, IfOk, OnOk};
-ghost use Rattle.xls_meaning.specs.InForce.{page_in};
+ghost use Rattle.xls_meaning.specs.Settings.{page_in};
 ghost use Rattle.xls_open.specs.Globals.{ReadsGlobals};
 ghost use Rattle.xls_open.specs.Steps.{first_state};
-ghost use Rattle.xls_open.specs.RecordSteps.{IsFaultless, IsTaken};
+ghost use Rattle.xls_open.specs.RecordSteps.{IsFaultlessRecord, IsTaken};
 ghost use Rattle.xls_open.specs.Workbook.{rules_of};
 
 use crate::globals_record::{GlobalsRecord, read_globals_record};
@@ -107,7 +107,7 @@ impl Globals {
     }
 
     fn take_references(&mut self, alloc: Global, r: &Record<'_>) -> Result<(), AllocError>
-        requires { IsFaultless self.now (GlobalsRecord.References r) }
+        requires { IsFaultlessRecord self.now (GlobalsRecord.References r) }
         ensures { OnOk result (IsTaken self.old (GlobalsRecord.References r.entry) self.new) }
     {
         let refs = read_again(parse_extern_sheet(alloc, r, self.version))?;
@@ -115,7 +115,7 @@ impl Globals {
     }
 
     fn take_name(&mut self, alloc: Global, r: &Record<'_>) -> Result<(), AllocError>
-        requires { IsFaultless self.now (GlobalsRecord.Name r) }
+        requires { IsFaultlessRecord self.now (GlobalsRecord.Name r) }
         ensures { OnOk result (IsTaken self.old (GlobalsRecord.Name r.entry) self.new) }
     {
         let name = read_again(parse_lbl(alloc, r, &self.page, self.version))?;
@@ -124,7 +124,7 @@ impl Globals {
     }
 
     fn take_table(&mut self, alloc: Global, r: &Record<'_>) -> Result<(), AllocError>
-        requires { IsFaultless self.now (GlobalsRecord.Table r) }
+        requires { IsFaultlessRecord self.now (GlobalsRecord.Table r) }
         ensures { OnOk result (IsTaken self.old (GlobalsRecord.Table r.entry) self.new) }
     {
         self.strings = read_again(parse_sst(alloc, r))?;
@@ -132,7 +132,7 @@ impl Globals {
     }
 
     fn take_sheet(&mut self, alloc: Global, r: &Record<'_>) -> Result<(), AllocError>
-        requires { IsFaultless self.now (GlobalsRecord.Sheet r) }
+        requires { IsFaultlessRecord self.now (GlobalsRecord.Sheet r) }
         ensures { OnOk result (IsTaken self.old (GlobalsRecord.Sheet r.entry) self.new) }
     {
         let (offset, sheet) = read_again(parse_sheet_metadata(alloc, r, &self.page, self.version))?;
@@ -142,7 +142,7 @@ impl Globals {
 
     /// Keeps what a record gives.
     fn take(&mut self, alloc: Global, next: GlobalsRecord<'_>) -> Result<(), AllocError>
-        requires { IsFaultless self.now next }
+        requires { IsFaultlessRecord self.now next }
         ensures { OnOk result (IsTaken self.old next.entry self.new) }
     {
         match next {

@@ -8,7 +8,7 @@ ghost use Rattle.xls_data.specs.Sheets.{SheetContent};
 ghost use Rattle.xls_record.specs.Reading.{gives};
 ghost use Rattle.xls_biff.specs.Walking.{group_of};
 ghost use Rattle.xls_biff.specs.Records.BoundSheet.{bound_sheet_at};
-ghost use Rattle.xls_meaning.specs.GlobalsTable.{strings_record, sheet_record, texts_of, plain_record_at};
+ghost use Rattle.xls_meaning.specs.GlobalsTable.{strings_record, sheet_record, shared_texts, plain_record_at};
 ghost use Rattle.xls_open.specs.RecordSteps.{ReadsLine, version_by};
 
 use xls_biff::{
@@ -46,7 +46,7 @@ impl GlobalsRecord<'_> {
         ensures { result ≡ version_by self.now biff }
     {
         match self {
-            GlobalsRecord::Version(given) => *given,
+            GlobalsRecord::Version(input) => *input,
             _ => biff,
         }
     }
@@ -62,7 +62,7 @@ pub(crate) fn read_globals_record<'a>(
     ensures plain { is_plain_type r.now.typ ≡ true → (page : XlsEncoding)
         → ReadsLine page biff r.now.body.now (plain_record_at forced page biff r.now.typ r.now.body.now) result }
     ensures table { r.now.typ ≡ types.SST → (page : XlsEncoding) (shared : Shared) → IsShared (group_of r.now) shared
-        → ReadsLine page biff r.now.body.now (gives strings_record (texts_of (length r.now.body.now) shared)) result }
+        → ReadsLine page biff r.now.body.now (gives strings_record (shared_texts (length r.now.body.now) shared)) result }
     ensures sheet { r.now.typ ≡ types.BOUND_SHEET_8 → (page : XlsEncoding)
         → ReadsLine page biff r.now.body.now (gives (λ (q : ℕ × SheetContent). sheet_record q.1) (bound_sheet_at page biff r.now.body.now)) result }
 {

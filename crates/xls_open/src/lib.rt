@@ -3,7 +3,7 @@
 
 mod check;
 mod classes;
-mod force;
+mod settings;
 mod formula;
 mod globals;
 mod globals_record;
@@ -14,7 +14,7 @@ mod options;
 
 pub use check::{check_sheets_of, check_stream};
 pub use classes::classes_of;
-pub use force::InForce;
+pub use settings::Settings;
 pub use formula::FormulaBuffer;
 pub use globals::{Globals, read_globals};
 pub use laws::{

@@ -5,9 +5,9 @@ ghost use Rattle.std.specs.Str.{chars};
 ghost use Rattle.xls_strings.specs.Texts.{text_of};
 ghost use Rattle.xls_data.specs.Sheets.{SheetContent};
 ghost use Rattle.xls_formula.specs.Defined.{located_of, named_of};
-ghost use Rattle.xls_meaning.specs.InForce.{known_refs, own_refs, placed_text, told_name};
+ghost use Rattle.xls_meaning.specs.Settings.{known_refs, own_refs, placed_text, resolved_name};
 ghost use Rattle.xls_open.specs.Globals.{IsNaming, listed_of};
-ghost use Rattle.xls_open.specs.Workbook.{told_of};
+ghost use Rattle.xls_open.specs.Workbook.{name_texts};
 
 use crate::listed::{Lbl, Listed};
 use std::alloc::{AllocError, Global};
@@ -20,7 +20,7 @@ pub struct Naming {
     pub sheets: Strings,
     pub refs: Refs,
     pub names: Names,
-    pub told: Vec<(String, String)>,
+    pub reported: Vec<(String, String)>,
 }
 
 /// The names of the sheets that the globals list.
@@ -60,7 +60,7 @@ fn known_refs(alloc: Global, version: Biff, count: usize, refs: Refs) -> Result<
 }
 
 /// A text after the name of its sheet and `!`.
-#[tactic(auto, using(crate::proofs::NamingLemmas::behind_mark))]
+#[tactic(auto, using(crate::proofs::NamingLemmas::after_mark))]
 fn on_sheet(alloc: Global, sheet: &str, text: &str) -> Result<String, AllocError>
     ensures { IfOk result (λ s. text_of s ≡ chars sheet.now ++ (codes "!" ++ chars text.now)) }
 {
@@ -91,29 +91,29 @@ fn placed_text(
 }
 
 /// Each name with its text.
-fn told_names(
+fn resolved_names(
     alloc: Global,
     lbls: Vec<Lbl>,
     sheets: &Strings,
     refs: &Refs,
 ) -> Result<Vec<(String, String)>, AllocError>
-    ensures { IfOk result (λ told. map told_of told.items ≡ map (told_name sheets.now refs.now) (map named_of lbls.items)) }
+    ensures { IfOk result (λ reported. map name_texts reported.items ≡ map (resolved_name sheets.now refs.now) (map named_of lbls.items)) }
 {
-    let mut told = Vec::new(alloc);
+    let mut reported = Vec::new(alloc);
     for lbl in lbls {
         let (name, located) = lbl;
         let text = placed_text(alloc, located, sheets, refs)?;
-        told.push((name, text))?;
+        reported.push((name, text))?;
     }
-    Ok(told)
+    Ok(reported)
 }
 
 /// The names as formulas find them.
-fn names_of(alloc: Global, told: &[(String, String)]) -> Result<Names, AllocError>
-    ensures { IfOk result (λ names. names ≡ map told_of told.now) }
+fn names_of(alloc: Global, reported: &[(String, String)]) -> Result<Names, AllocError>
+    ensures { IfOk result (λ names. names ≡ map name_texts reported.now) }
 {
     let mut names = Names::new(alloc);
-    for name in told {
+    for name in reported {
         names.push(name.0.as_str(), name.1.as_str())?;
     }
     Ok(names)
@@ -132,12 +132,12 @@ pub fn naming_of(
 {
     let sheets = sheet_names(alloc, listed)?;
     let refs = known_refs(alloc, version, listed.len(), refs)?;
-    let told = told_names(alloc, lbls, &sheets, &refs)?;
-    let names = names_of(alloc, &told)?;
+    let reported = resolved_names(alloc, lbls, &sheets, &refs)?;
+    let names = names_of(alloc, &reported)?;
     Ok(Naming {
         sheets,
         refs,
         names,
-        told,
+        reported,
     })
 }

@@ -4,7 +4,7 @@ ghost use Rattle.std.specs.Prelude.{◌≡◌, [], IfOk, Some, None, MatchResult
 ghost use Rattle.xls_open.specs.Opening.{default_options};
 ghost use Rattle.xls_open.specs.Workbook.{rules_of};
 ghost use Rattle.xls_meaning.specs.GlobalsTable.{forced_fault};
-ghost use Rattle.xls_meaning.specs.InForce.{page_in};
+ghost use Rattle.xls_meaning.specs.Settings.{page_in};
 
 use std::alloc::{AllocError, Global};
 use xls_biff::XlsError;

@@ -5,7 +5,7 @@ use Rattle.xls_text.specs.declared.encoding.XlsEncoding.{XlsEncoding}
 use Rattle.xls_text.specs.Pages.{decoded}
 use Rattle.xls_ovba.specs.declared.error.OvbaError.{OvbaError}
 use Rattle.xls_ovba.specs.declared.error.OvbaError.TheVariants as errors
-use Rattle.xls_ovba.specs.Container.{Decompresses, IsFault}
+use Rattle.xls_ovba.specs.Container.{Decompresses, IsContainerFault}
 
 -- the text is the source that begins at this offset
 pub record IsSource (stream : List ℕ) (offset : ℕ) (page : XlsEncoding) (text : List ℕ) : Type 0 where
@@ -18,5 +18,5 @@ pub record IsSource (stream : List ℕ) (offset : ℕ) (page : XlsEncoding) (tex
 pub data IsSourceFault (stream : List ℕ) (offset : ℕ) (e : OvbaError) : Type 0 where
   past_end : length stream < offset → e ≡ errors.OffsetPastEnd offset (length stream)
       → IsSourceFault stream offset e
-  in_container : offset ≤ length stream → IsFault (drop offset stream) e
+  in_container : offset ≤ length stream → IsContainerFault (drop offset stream) e
       → IsSourceFault stream offset e

@@ -4,10 +4,10 @@ use Rattle.std.specs.List.{flat_map}
 use Rattle.std.proofs.lemmas.List.{take_more}
 use Rattle.std.proofs.lemmas.Grind.{flat_map-append}
 use Rattle.std.specs.Result.{IsErrAnd}
-use Rattle.xls_decimals.specs.Added.{Adds}
+use Rattle.xls_decimals.specs.Added.{AddsText}
 use Rattle.xls_readable.specs.Values.{Concatenates}
 use Rattle.xls_lines.specs.SinkState.{SinkState}
-use Rattle.xls_lines.specs.Gathering.{Gathers, Stops}
+use Rattle.xls_lines.specs.Gathering.{GathersText, Stops}
 use Rattle.xls_lines.specs.declared.stop.Stop.{Stop}
 use Rattle.xls_lines.specs.declared.stop.Stop.TheVariants.{Memory}
 use Rattle.xls_lines.proofs.GatherLemmas.{gathers-added, gathers-after, gathers-nothing, gathers-then, stops-after, stops-memory-now, stops-then, wrote}
@@ -51,7 +51,7 @@ each-none P a g = record { text = []; texts = refl; gathers = gathers-nothing a 
 
 -- the text of an item was appended, and then what was gathered was passed on
 pub each-one : {A : Type 0} (P : A → List ℕ → Type 0) (x : A) {a b : SinkState} {g h k : List ℕ}
-    → Adds (P x) g h → Gathers a h b k [] → GathersEach P (x ∷ []) a g b k
+    → AddsText (P x) g h → GathersText a h b k [] → GathersEach P (x ∷ []) a g b k
 each-one P x {a} {b} {g} {h} {k} (text, p, is) q = record {
   text = text;
   texts = (text, [], p, refl, sym (append-nil text));
@@ -59,7 +59,7 @@ each-one P x {a} {b} {g} {h} {k} (text, p, is) q = record {
 }
 
 pub each-one-stopped : {A : Type 0} (P : A → List ℕ → Type 0) (x : A) {a b : SinkState} {g h : List ℕ} {e : Stop}
-    → Adds (P x) g h → Stops a h b [] e → StopsEach P (x ∷ []) a g b e
+    → AddsText (P x) g h → Stops a h b [] e → StopsEach P (x ∷ []) a g b e
 each-one-stopped P x {a} {b} {g} {h} (text, p, is) q = record {
   count = 1;
   text = text;
@@ -180,11 +180,11 @@ each-some-all f p e =
 
 -- where nothing was kept before and nothing is kept after, the texts were written
 pub each-wrote : {A : Type 0} {P : A → List ℕ → Type 0} {items : List A} {a b c : SinkState} {g h k : List ℕ} → g ≡ []
-    → GathersEach P items a g b h → Gathers b h c k [] → k ≡ [] → WroteEach P items a c
+    → GathersEach P items a g b h → GathersText b h c k [] → k ≡ [] → WroteEach P items a c
 each-wrote {A} {P} {items} {a} {b} {c} {g} {h} {k} none p last end = record {
   text = p.text;
   texts = p.texts;
-  wrote = wrote (gathers-after (subst (λ (l : List ℕ). Gathers a l b h p.text) none p.gathers) last) end;
+  wrote = wrote (gathers-after (subst (λ (l : List ℕ). GathersText a l b h p.text) none p.gathers) last) end;
 }
 
 pub each-from : {A : Type 0} {P : A → List ℕ → Type 0} {items : List A} {a b : SinkState} {g : List ℕ} {e : Stop} → g ≡ []

@@ -2,14 +2,14 @@
 use Rattle.std.specs.Prelude.{ℕ, List, [], take, Result, MatchResult}
 use Rattle.xls_readable.specs.Values.{Concatenates}
 use Rattle.xls_lines.specs.SinkState.{SinkState}
-use Rattle.xls_lines.specs.Gathering.{Gathers, Stops, Wrote}
+use Rattle.xls_lines.specs.Gathering.{GathersText, Stops, Wrote}
 use Rattle.xls_lines.specs.declared.stop.Stop.{Stop}
 
 -- the texts of all items, one after another, were gathered
 pub record GathersEach {A : Type 0} (IsText : A → List ℕ → Type 0) (items : List A) (before : SinkState) (kept : List ℕ) (after : SinkState) (kept' : List ℕ) : Type 0 where
   pub text : List ℕ
   pub texts : Concatenates IsText items text
-  pub gathers : Gathers before kept after kept' text
+  pub gathers : GathersText before kept after kept' text
 
 -- a prefix of what was kept and of the texts of the first so many items was written, and then it was given up
 pub record StopsEach {A : Type 0} (IsText : A → List ℕ → Type 0) (items : List A) (before : SinkState) (kept : List ℕ) (after : SinkState) (e : Stop) : Type 0 where

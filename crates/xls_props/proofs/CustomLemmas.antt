@@ -9,7 +9,7 @@ use Rattle.std.specs.Prelude.{◌==◌, is_some, nat_lt}
 use Rattle.std.specs.Ordering.{nat_cmp}
 use Rattle.std.specs.BTreeMap.{BTreeMap, get, get_by_text}
 use Rattle.xls_text.specs.declared.encoding.XlsEncoding.{XlsEncoding}
-use Rattle.xls_props.specs.Entries.{Entry, last_of}
+use Rattle.xls_props.specs.Entries.{PropertyEntry, last_of}
 use Rattle.xls_props.specs.Names.{Name, HasNames}
 use Rattle.xls_props.specs.Values.{Value, Shows, ShowsValue, value_at}
 use Rattle.xls_props.specs.Custom.{named, custom_of, customs_of, last_named}
@@ -46,15 +46,15 @@ module _ {X Y Z : Type 0} (ns : List Name) (ps : List (List ℕ × Value)) (map 
   other_left j n other is none = rw (removed j, other) (walked.left j n is none)
 
   -- the entry's name has a value already
-  pub walked_given : (name : List ℕ) (v w : Value) → last_of k ns ≡ Some name → last_named name ps ≡ Some w → IsWalked ns ((name, v) ∷ ps) map left
-  walked_given name v w is given = record {
+  pub walked_from : (name : List ℕ) (v w : Value) → last_of k ns ≡ Some name → last_named name ps ≡ Some w → IsWalked ns ((name, v) ∷ ps) map left
+  walked_from name v w is input = record {
     has = λ q. subst (λ o. Shows o (get_by_text map q)) (sym (same q)) (walked.has q);
     only = only_left;
     left = λ j n listed none. by_test j n listed (sym (same n) ∙ none) (k == j) refl;
   }
     where
       same : (q : List ℕ) → last_named q ((name, v) ∷ ps) ≡ last_named q ps
-      same q = later_stays q name v w (last_named q ps) (λ equal. ap (λ n. last_named n ps) (sym ((bytes_eq-Decides name q).0 equal)) ∙ given) (bytes_eq name q) refl
+      same q = later_stays q name v w (last_named q ps) (λ equal. ap (λ n. last_named n ps) (sym ((bytes_eq-Decides name q).0 equal)) ∙ input) (bytes_eq name q) refl
 
       by_test : (j : ℕ) (n : List ℕ) → last_of j ns ≡ Some n → last_named n ps ≡ None → (t : Bool) → t ≡ (k == j) → option_map string_bytes (get nat_cmp left j) ≡ Some n
       by_test j n listed none false other = other_left j n (sym other) listed none
@@ -103,8 +103,8 @@ module _ {X Y Z : Type 0} (ns : List Name) (ps : List (List ℕ × Value)) (map 
       no_text None name none there = cc
       no_text (Some t) name none there = cc
 
-      by_value : (name : List ℕ) (v : Value) (given : Option Value) → last_of k ns ≡ Some name → last_named name ps ≡ given → IsWalked ns ((name, v) ∷ ps) map left
-      by_value name v (Some w) is given = walked_given name v w is given
+      by_value : (name : List ℕ) (v : Value) (input : Option Value) → last_of k ns ≡ Some name → last_named name ps ≡ input → IsWalked ns ((name, v) ∷ ps) map left
+      by_value name v (Some w) is input = walked_from name v w is input
       by_value name v None is none = let there : option_map string_bytes (get nat_cmp names k) ≡ Some name = walked.left k name is none in
           absurd (no_text (get nat_cmp names k) name gone there)
 
@@ -114,24 +114,24 @@ module _ {X Y Z : Type 0} (ns : List Name) (ps : List (List ℕ × Value)) (map 
       by_name (Some name) (Some v) is = by_value name v (last_named name ps) is refl
 
 -- the property of an entry that isn't 0 or 1
-pub custom_named : (ns : List Name) (page : XlsEncoding) (s : List ℕ) (e : Entry) → nat_lt e.0 2 ≡ false → custom_of ns page s e ≡ named (last_of e.0 ns) (value_at page s e.1)
+pub custom_named : (ns : List Name) (page : XlsEncoding) (s : List ℕ) (e : PropertyEntry) → nat_lt e.0 2 ≡ false → custom_of ns page s e ≡ named (last_of e.0 ns) (value_at page s e.1)
 custom_named ns page s e other = rw other
 
-pub custom_one : (ns : List Name) (page : XlsEncoding) (s : List ℕ) (e : Entry) (name : List ℕ) (v : Value) → nat_lt e.0 2 ≡ false → last_of e.0 ns ≡ Some name → Some v ≡ value_at page s e.1
+pub custom_one : (ns : List Name) (page : XlsEncoding) (s : List ℕ) (e : PropertyEntry) (name : List ℕ) (v : Value) → nat_lt e.0 2 ≡ false → last_of e.0 ns ≡ Some name → Some v ≡ value_at page s e.1
     → custom_of ns page s e ≡ (name, v) ∷ []
 custom_one ns page s e name v other is value = rw (other, is, sym value)
 
 -- what is in the map has a value
-pub is_given : {Z : Type 0} (given : Option Value) (text : Option (String Z)) → Shows given text → is_some text ≡ true → (w : Value) × (given ≡ Some w)
-is_given (Some w) text shows there = (w, refl)
-is_given None None shows there = cc
-is_given None (Some text) shows there = absurd shows
+pub is_said : {Z : Type 0} (input : Option Value) (text : Option (String Z)) → Shows input text → is_some text ≡ true → (w : Value) × (input ≡ Some w)
+is_said (Some w) text shows there = (w, refl)
+is_said None None shows there = cc
+is_said None (Some text) shows there = absurd shows
 
 -- and what isn't has none
-pub is_not_given : {Z : Type 0} (given : Option Value) (text : Option (String Z)) → Shows given text → is_some text ≡ false → given ≡ None
-is_not_given None text shows none = refl
-is_not_given (Some w) None shows none = absurd shows
-is_not_given (Some w) (Some text) shows none = cc
+pub is_not_said : {Z : Type 0} (input : Option Value) (text : Option (String Z)) → Shows input text → is_some text ≡ false → input ≡ None
+is_not_said None text shows none = refl
+is_not_said (Some w) None shows none = absurd shows
+is_not_said (Some w) (Some text) shows none = cc
 
 -- no entry is walked yet
 pub walked_none : {X Y Z : Type 0} (ns : List Name) (map : BTreeMap (String X) (String Y)) (names : BTreeMap ℕ (String Z)) → ((q : List ℕ) → get_by_text map q ≡ None) → HasNames names ns
@@ -143,7 +143,7 @@ walked_none ns map names empty has = record {
 }
 
 -- one entry more from the end
-pub customs_step : (ns : List Name) (page : XlsEncoding) (s : List ℕ) (es : List Entry) (left : ℕ) (e d : Entry) → 0 < left → left ≤ length es → e ≡ get_or es (left - 1) d
+pub customs_step : (ns : List Name) (page : XlsEncoding) (s : List ℕ) (es : List PropertyEntry) (left : ℕ) (e d : PropertyEntry) → 0 < left → left ≤ length es → e ≡ get_or es (left - 1) d
     → customs_of ns page s (drop (left - 1) es) ≡ custom_of ns page s e ++ customs_of ns page s (drop left es)
 customs_step ns page s es left e d some within is =
     let i : left - 1 + 1 ≡ left = omega arith in

@@ -8,18 +8,18 @@ use Rattle.xls_text.specs.declared.encoding.XlsEncoding.{XlsEncoding}
 use Rattle.xls_props.specs.Entries.{last_of}
 use Rattle.xls_props.specs.Names.{Name, name_at, names_from, HasNames}
 
-pub names_more : (front now total : List Name) (page : XlsEncoding) (count i : ℕ) (bytes after : List ℕ) (n : Name) → i < count
-    → name_at page bytes ≡ Some (n, after) → now ≡ front ++ n ∷ []
-    → front ++ names_from (count - i) page bytes ≡ total → now ++ names_from (count - (i + 1)) page after ≡ total
-names_more front now total page count i bytes after n below step grown before =
+pub names_more : (prefix now total : List Name) (page : XlsEncoding) (count i : ℕ) (bytes after : List ℕ) (n : Name) → i < count
+    → name_at page bytes ≡ Some (n, after) → now ≡ prefix ++ n ∷ []
+    → prefix ++ names_from (count - i) page bytes ≡ total → now ++ names_from (count - (i + 1)) page after ≡ total
+names_more prefix now total page count i bytes after n below step grown before =
     let k : count - i ≡ suc (count - (i + 1)) = omega arith in
-    let one : front ++ names_from (count - i) page bytes ≡ front ++ (n ∷ names_from (count - (i + 1)) page after) = rw (k, step) in
+    let one : prefix ++ names_from (count - i) page bytes ≡ prefix ++ (n ∷ names_from (count - (i + 1)) page after) = rw (k, step) in
     rw (grown, append_assoc) (sym one ∙ before)
 
-pub names_end : (front total : List Name) (page : XlsEncoding) (n : ℕ) (bytes : List ℕ) → name_at page bytes ≡ None
-    → front ++ names_from n page bytes ≡ total → front ≡ total
-names_end front total page zero bytes none before = sym (append-nil front) ∙ before
-names_end front total page (suc n) bytes none before = sym (append-nil front) ∙ rw none at before
+pub names_end : (prefix total : List Name) (page : XlsEncoding) (n : ℕ) (bytes : List ℕ) → name_at page bytes ≡ None
+    → prefix ++ names_from n page bytes ≡ total → prefix ≡ total
+names_end prefix total page zero bytes none before = sym (append-nil prefix) ∙ before
+names_end prefix total page (suc n) bytes none before = sym (append-nil prefix) ∙ rw none at before
 
 pub option_or-assoc : {A : Type 0} (x y z : Option A) → option_or (option_or x y) z ≡ option_or x (option_or y z)
 option_or-assoc (Some a) y z = refl

@@ -18,7 +18,7 @@ use Rattle.jiff_core.specs.Calendar.{days_from_civil, day_count, days_of_years, 
 use Rattle.xls_dates.specs.SerialDays.{day_number}
 use Rattle.xls_props.specs.Moments.{IsMoment, clock_text, past_last_day}
 use Rattle.jiff.specs.Words.{epoch_day, date_text}
-use Rattle.xls_props.specs.Sections.{section_of, sized_at, summary_id, document_id, custom_id, names_in}
+use Rattle.xls_props.specs.Sections.{section_of, sized_at, summary_id, document_id, custom_id, section_names}
 use Rattle.xls_props.specs.Properties.{IsSummary, IsDocument, IsProperties}
 
 -- numbers at a place, and past the end
@@ -74,7 +74,7 @@ clocks = refl
 moment : (text : List ℕ) (is : IsMoment 2_034_000_000_000 text)
     → (epoch_day is.date ≡ day_number 1601 1 1 +ℤ pos 2) × (text ≡ date_text is.date ++ codes "T08:30:00Z")
 unfolding digits
-moment text is = (is.counted, is.shown)
+moment text is = (is.counted, is.displayed)
 
 -- the last moment that has a text, and the first that has none
 last_moment : moment_of 2_650_467_743_999_999_999 ≡ Some (Moment 2_650_467_743_999_999_999)
@@ -232,7 +232,7 @@ unfolding lib.Utf8.encode
 narrow_names = refl
 
 -- the dictionary is that of the first entry 0
-first_dictionary : names_in (concat (four 0x38 ∷ four 2 ∷ entry 0x00 0x18 ∷ entry 0x00 0x28
+first_dictionary : section_names (concat (four 0x38 ∷ four 2 ∷ entry 0x00 0x18 ∷ entry 0x00 0x28
     ∷ four 1 ∷ four 2 ∷ four 1 ∷ (0x41 ∷ 0 ∷ 0 ∷ 0 ∷ []) ∷ four 1 ∷ four 2 ∷ four 1 ∷ (0x42 ∷ 0 ∷ 0 ∷ 0 ∷ []) ∷ []))
     ≡ (2, codes "A") ∷ []
 unfolding utf16_chars lib.Utf8.encode

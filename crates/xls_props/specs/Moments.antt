@@ -27,5 +27,5 @@ IsNoMoment n = (n ≡ 0) ⊎ (past_last_day ≤ n)
 pub record IsMoment (n : ℕ) (text : List ℕ) : Type 0 where
   pub date : Date
   pub counted : epoch_day date ≡ day_number 1601 1 1 +ℤ pos (n / 10_000_000 / 86_400)
-  pub shown : text ≡ date_text date
+  pub displayed : text ≡ date_text date
       ++ (codes "T" ++ (clock_text (n / 10_000_000 % 86_400) ++ codes "Z"))

@@ -61,9 +61,9 @@ names_of s None = []
 names_of s (Some at) = names_at (page_in (entries_of s) s) s at
 
 -- the names of the dictionary at the first entry 0
-abbrev pub names_in : List ℕ → List Name
-names_in s = names_of s (first_of 0 (entries_of s))
+abbrev pub section_names : List ℕ → List Name
+section_names s = names_of s (first_of 0 (entries_of s))
 
 -- the custom properties of a section, in order
 abbrev pub customs_in : List ℕ → List (List ℕ × Value)
-customs_in s = customs_of (names_in s) (page_in (entries_of s) s) s (entries_of s)
+customs_in s = customs_of (section_names s) (page_in (entries_of s) s) s (entries_of s)

@@ -23,8 +23,8 @@ pub(crate) fn bytes_at(bytes: &[u8], at: usize, n: usize) -> Option<&[u8]>
     ensures { option_map (λ x. x.now) result ≡ bytes_at bytes.now at n }
 {
     let rest = rest_at(bytes, at, n)?;
-    let (front, _) = rest.split_at(n);
-    Some(front)
+    let (prefix, _) = rest.split_at(n);
+    Some(prefix)
 }
 
 pub(crate) fn u16_at(bytes: &[u8], at: usize) -> Option<u16>

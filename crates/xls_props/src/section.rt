@@ -3,7 +3,7 @@
 ghost use Rattle.std.specs.Prelude.{◌≡◌, ◌<◌, ◌^◌, IfOk};
 ghost use Rattle.std.specs.Option.{option_map};
 ghost use Rattle.std.specs.String.{string_bytes};
-ghost use Rattle.xls_props.specs.Sections.{sized_at, pair_at, section_in, section_of, section_from, field_of, version_of, names_in, customs_in};
+ghost use Rattle.xls_props.specs.Sections.{sized_at, pair_at, section_in, section_of, section_from, field_of, version_of, section_names, customs_in};
 ghost use Rattle.xls_props.specs.Values.{Shows};
 ghost use Rattle.xls_props.specs.Names.{HasNames};
 ghost use Rattle.xls_props.specs.Custom.{HasLast};
@@ -131,7 +131,7 @@ impl<'a> Section<'a> {
 
     // The names of the dictionary at the first entry 0.
     fn names(&self, alloc: Global) -> Result<Names, AllocError>
-        ensures { IfOk result (λ m. HasNames m (names_in self.now)) }
+        ensures { IfOk result (λ m. HasNames m (section_names self.now)) }
     {
         match first_of(0, &self.entries) {
             None => Ok(BTreeMap::new(alloc)),

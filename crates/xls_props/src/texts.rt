@@ -6,7 +6,7 @@ ghost use Rattle.xls_props.specs.Values.{without_nuls};
 
 // How many bytes stand before the NULs at the end.
 fn len_without_nuls(bytes: &[u8]) -> usize
-    ensures front { take result bytes.now ≡ without_nuls bytes.now }
+    ensures prefix { take result bytes.now ≡ without_nuls bytes.now }
     ensures within { result ≤ length bytes.now }
     ensures nul { result < length bytes.now → slice_index bytes.now result ≡ 0 }
 {

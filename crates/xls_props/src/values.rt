@@ -3,8 +3,8 @@
 ghost use Rattle.std.specs.Prelude.{◌≡◌, ◌<◌, ◌^◌, IfOk, IfSome, Option};
 ghost use Rattle.std.specs.Option.{option_map, unwrap_or};
 ghost use Rattle.std.specs.String.{string_bytes};
-ghost use Rattle.xls_props.specs.Values.{Value, Plain, value_unless_empty, bool_text, paged_text, bytes_text, units_text, plain_of_type, moment_at, value_at, Shows, ShowsValue, page_in, page_number, field, version_text, app_version};
-ghost use Rattle.xls_props.specs.Stored.{shown, HasText};
+ghost use Rattle.xls_props.specs.Values.{Value, Plain, value_unless_empty, stored_bool_text, paged_text, bytes_text, units_text, plain_of_type, moment_at, value_at, Shows, ShowsValue, page_in, page_number, field, version_text, app_version};
+ghost use Rattle.xls_props.specs.Stored.{stored_value, StoresText};
 
 use crate::bytes::{bytes_at, i16_at, i32_at, u16_at, u32_at, u64_at};
 use crate::entries::{Entry, first_of, last_of};
@@ -60,7 +60,7 @@ pub(crate) enum Stored<'a> {
 
 fn bytes_at_count(page: XlsEncoding, s: &[u8], at: usize) -> Option<Stored<'_>>
     requires { at < 2 ^ 40 }
-    ensures { option_map shown result ≡ option_map Plain (bytes_text page s.now at) }
+    ensures { option_map stored_value result ≡ option_map Plain (bytes_text page s.now at) }
 {
     let n = u32_at(s, at)?;
     let bytes = bytes_at(s, at + 4, n as usize)?;
@@ -69,7 +69,7 @@ fn bytes_at_count(page: XlsEncoding, s: &[u8], at: usize) -> Option<Stored<'_>>
 
 fn units_at_count(s: &[u8], at: usize) -> Option<Stored<'_>>
     requires { at < 2 ^ 40 }
-    ensures { option_map shown result ≡ option_map Plain (units_text s.now at) }
+    ensures { option_map stored_value result ≡ option_map Plain (units_text s.now at) }
 {
     let n = u32_at(s, at)?;
     let bytes = bytes_at(s, at + 4, 2 * n as usize)?;
@@ -79,8 +79,8 @@ fn units_at_count(s: &[u8], at: usize) -> Option<Stored<'_>>
 // A value of a type, but no moment.
 fn plain_of_type(typ: u16, page: XlsEncoding, s: &[u8], at: usize) -> Option<Stored<'_>>
     requires { at < 2 ^ 40 }
-    ensures shows { option_map shown result ≡ option_map Plain (plain_of_type typ page s.now at) }
-    ensures texts { IfSome result HasText }
+    ensures shows { option_map stored_value result ≡ option_map Plain (plain_of_type typ page s.now at) }
+    ensures texts { IfSome result StoresText }
 {
     match typ {
         VT_I2 => Some(Stored::Short(i16_at(s, at)?)),
@@ -95,8 +95,8 @@ fn plain_of_type(typ: u16, page: XlsEncoding, s: &[u8], at: usize) -> Option<Sto
 }
 
 fn moment_at(s: &[u8], at: usize) -> Option<Stored<'_>>
-    ensures shows { option_map shown result ≡ moment_at s.now at }
-    ensures texts { IfSome result HasText }
+    ensures shows { option_map stored_value result ≡ moment_at s.now at }
+    ensures texts { IfSome result StoresText }
 {
     let n = u64_at(s, at)?;
     if is_no_moment(n) {
@@ -108,8 +108,8 @@ fn moment_at(s: &[u8], at: usize) -> Option<Stored<'_>>
 /// The value of the property whose type stands at a place, in no memory of its own.
 pub(crate) fn stored_at(page: XlsEncoding, s: &[u8], at: usize) -> Option<Stored<'_>>
     requires { at < 2 ^ 32 }
-    ensures shows { option_map shown result ≡ value_at page s.now at }
-    ensures texts { IfSome result HasText }
+    ensures shows { option_map stored_value result ≡ value_at page s.now at }
+    ensures texts { IfSome result StoresText }
 {
     let typ = u16_at(s, at)?;
     if typ == VT_FILETIME {
@@ -127,7 +127,7 @@ fn paged_text(alloc: Global, page: XlsEncoding, bytes: &[u8]) -> Result<String, 
 }
 
 fn bool_text(alloc: Global, n: u16) -> Result<String, AllocError>
-    ensures { IfOk result (λ t. string_bytes t ≡ bool_text n) }
+    ensures { IfOk result (λ t. string_bytes t ≡ stored_bool_text n) }
 {
     if n == 0 {
         String::from_str(alloc, "false")
@@ -138,8 +138,8 @@ fn bool_text(alloc: Global, n: u16) -> Result<String, AllocError>
 
 /// The text that shows a value.
 pub(crate) fn text_of(alloc: Global, value: Stored<'_>) -> Result<String, AllocError>
-    requires { HasText value }
-    ensures { IfOk result (λ t. ShowsValue (shown value.entry) (string_bytes t)) }
+    requires { StoresText value }
+    ensures { IfOk result (λ t. ShowsValue (stored_value value.entry) (string_bytes t)) }
 {
     match value {
         Stored::Short(n) => Ok(format!(in alloc; "{n}")?),

@@ -126,21 +126,21 @@ known_early_area : ptg_at Biff4 (0x25 ∷ 1 ∷ 0xC0 ∷ 9 ∷ 0x80 ∷ 2 ∷ 3 
 known_early_area = refl
 
 -- on a sheet: the index at bytes 10 and 11, the row word at byte 14, the column at byte 16
-abbrev early_front : List ℕ
-early_front = 9 ∷ 8 ∷ 7 ∷ 6 ∷ 5 ∷ 4 ∷ 3 ∷ 2 ∷ 1 ∷ 0 ∷ 5 ∷ 1 ∷ 0xEE ∷ 0xEE ∷ []
+abbrev early_prefix : List ℕ
+early_prefix = 9 ∷ 8 ∷ 7 ∷ 6 ∷ 5 ∷ 4 ∷ 3 ∷ 2 ∷ 1 ∷ 0 ∷ 5 ∷ 1 ∷ 0xEE ∷ 0xEE ∷ []
 
-known_early_ref3d : ptg_at Biff5 (0x3A ∷ early_front ++ (1 ∷ 0x40 ∷ 2 ∷ [])) ≡ Ok (ptg.Ref3d 261 (row_fixed 1 2), 17)
+known_early_ref3d : ptg_at Biff5 (0x3A ∷ early_prefix ++ (1 ∷ 0x40 ∷ 2 ∷ [])) ≡ Ok (ptg.Ref3d 261 (row_fixed 1 2), 17)
 known_early_ref3d = refl
 
 -- likewise an area: two row words from byte 14, then two column bytes
-known_early_area3d : ptg_at Biff5 (0x5B ∷ early_front ++ (1 ∷ 0x40 ∷ 9 ∷ 0xC0 ∷ 2 ∷ 4 ∷ [])) ≡ Ok (ptg.Area3d 261 (fixed 1 2) (fixed 9 4), 20)
+known_early_area3d : ptg_at Biff5 (0x5B ∷ early_prefix ++ (1 ∷ 0x40 ∷ 9 ∷ 0xC0 ∷ 2 ∷ 4 ∷ [])) ≡ Ok (ptg.Area3d 261 (fixed 1 2) (fixed 9 4), 20)
 known_early_area3d = refl
 
-known_early_err3d : ptg_at Biff2 (0x3C ∷ early_front ++ (0 ∷ 0 ∷ 0 ∷ [])) ≡ Ok (ptg.RefErr3d 261, 17)
+known_early_err3d : ptg_at Biff2 (0x3C ∷ early_prefix ++ (0 ∷ 0 ∷ 0 ∷ [])) ≡ Ok (ptg.RefErr3d 261, 17)
 known_early_err3d = refl
 
-known_early_area_err3d : ptg_at Biff5 (0x7D ∷ early_front ++ (0 ∷ 0 ∷ 0 ∷ 0 ∷ 0 ∷ 0 ∷ [])) ≡ Ok (ptg.AreaErr3d 261, 20)
+known_early_area_err3d : ptg_at Biff5 (0x7D ∷ early_prefix ++ (0 ∷ 0 ∷ 0 ∷ 0 ∷ 0 ∷ 0 ∷ [])) ≡ Ok (ptg.AreaErr3d 261, 20)
 known_early_area_err3d = refl
 
-known_early_cut : ptg_at Biff5 (0x3D ∷ early_front ++ (0 ∷ 0 ∷ 0 ∷ [])) ≡ Err (errors.Len 20 17 parts.Ptg)
+known_early_cut : ptg_at Biff5 (0x3D ∷ early_prefix ++ (0 ∷ 0 ∷ 0 ∷ [])) ≡ Err (errors.Len 20 17 parts.Ptg)
 known_early_cut = refl

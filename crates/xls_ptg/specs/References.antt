@@ -11,8 +11,8 @@ use Rattle.xls_ptg.specs.Readings.{Reading}
 abbrev pub ref_size : Biff → ℕ
 ref_size biff = if is_biff8 biff then 4 else 3
 
-abbrev pub ref_at : Biff → List ℕ → Reading
-ref_at biff rest =
+abbrev pub ref_token_at : Biff → List ℕ → Reading
+ref_token_at biff rest =
     if is_biff8 biff
     then sized 4 rest (Ok (ptg.Ref (corner_of (word_at 0 rest) (word_at 2 rest)), 4))
     else sized 3 rest (Ok (ptg.Ref (early_corner_of (word_at 0 rest) (slice_index rest 2)), 3))

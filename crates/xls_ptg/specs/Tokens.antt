@@ -10,11 +10,11 @@ use Rattle.xls_ptg.specs.Operators.{operator_of}
 use Rattle.xls_ptg.specs.Readings.{Reading}
 use Rattle.xls_ptg.specs.Control.{exp_at, elf_at}
 use Rattle.xls_ptg.specs.Constants.{err_at, bool_at, int_at, num_at, array_at}
-use Rattle.xls_ptg.specs.PtgStr.{str_at}
+use Rattle.xls_ptg.specs.PtgStr.{str_token_at}
 use Rattle.xls_ptg.specs.Attributes.{attr_at}
 use Rattle.xls_ptg.specs.FunctionTokens.{func_at, func_var_at}
 use Rattle.xls_ptg.specs.NameTokens.{name_at, name_x_at}
-use Rattle.xls_ptg.specs.References.{ref_at, area_at, ref_err_at, area_err_at}
+use Rattle.xls_ptg.specs.References.{ref_token_at, area_at, ref_err_at, area_err_at}
 use Rattle.xls_ptg.specs.References3d.{ref3d_at, area3d_at, ref_err3d_at, area_err3d_at}
 
 -- basic tokens, below 20
@@ -27,7 +27,7 @@ basic_by biff token rest =
     else if token == 0x14 then Ok (ptg.Percent, 0)
     else if token == 0x15 then Ok (ptg.Paren, 0)
     else if token == 0x16 then Ok (ptg.MissArg, 0)
-    else if token == 0x17 then str_at biff rest
+    else if token == 0x17 then str_token_at biff rest
     else if token == 0x18 then elf_at rest
     else if token == 0x19 then attr_at rest
     else if token == 0x1C then err_at rest
@@ -53,7 +53,7 @@ classed_by biff token rest =
     else if token % 0x20 == 0x01 then func_at rest
     else if token % 0x20 == 0x02 then func_var_at rest
     else if token % 0x20 == 0x03 then name_at biff rest
-    else if token % 0x20 == 0x04 then ref_at biff rest
+    else if token % 0x20 == 0x04 then ref_token_at biff rest
     else if token % 0x20 == 0x05 then area_at biff rest
     else if token % 0x20 == 0x0A then ref_err_at biff rest
     else if token % 0x20 == 0x0B then area_err_at biff rest

@@ -3,7 +3,7 @@
 ghost use Rattle.std.specs.Prelude.{◌≡◌, ◌≤◌, length, IfOk};
 ghost use Rattle.xls_record.specs.Reading.{Exactly};
 ghost use Rattle.xls_ptg.specs.Readings.{as_read};
-ghost use Rattle.xls_ptg.specs.References.{area_at, area_err_at, area_size, early_area_at, ref_at, ref_err_at, ref_size};
+ghost use Rattle.xls_ptg.specs.References.{area_at, area_err_at, area_size, early_area_at, ref_token_at, ref_err_at, ref_size};
 
 use crate::corner::Corner;
 use crate::fields::{is_biff8, short, word_at};
@@ -26,7 +26,7 @@ fn area_size(biff: Biff) -> usize
 
 /// 24 (PtgRef): a row and a column word, or before BIFF8 a row word and a column.
 pub(crate) fn read_ref(rest: &[u8], biff: Biff) -> Result<(Ptg<&[u8]>, usize), XlsError>
-    ensures exact { Exactly as_read result (ref_at biff rest.now) }
+    ensures exact { Exactly as_read result (ref_token_at biff rest.now) }
     ensures within { IfOk result (λ x. x.1 ≤ length rest.now) }
 {
     if is_biff8(biff) {

@@ -2,7 +2,7 @@
 
 ghost use Rattle.std.specs.Prelude.{◌≡◌, ◌≤◌, ◌+◌, length, IfOk};
 ghost use Rattle.xls_record.specs.Reading.{Exactly};
-ghost use Rattle.xls_ptg.specs.PtgStr.{early_str_at, no_cch_at, str_at};
+ghost use Rattle.xls_ptg.specs.PtgStr.{early_str_at, no_cch_at, str_token_at};
 ghost use Rattle.xls_ptg.specs.Readings.{as_read};
 
 use crate::fields::{is_biff8, short};
@@ -44,7 +44,7 @@ fn read_early_str(rest: &[u8], cch: u8) -> Result<(Ptg<&[u8]>, usize), XlsError>
 /// 17 (PtgStr), [MS-XLS] 2.5.198.89: a count byte and a string without a count, or before BIFF8 so
 /// many bytes.
 pub(crate) fn read_str(rest: &[u8], biff: Biff) -> Result<(Ptg<&[u8]>, usize), XlsError>
-    ensures exact { Exactly as_read result (str_at biff rest.now) }
+    ensures exact { Exactly as_read result (str_token_at biff rest.now) }
     ensures within { IfOk result (λ x. x.1 ≤ length rest.now) }
 {
     if rest.len() < 1 {

@@ -54,9 +54,9 @@ Grows-down blank top left h w rows xs ys low count added =
       blanks = λ r c x p q far.
           let below : h ≤ r = elim far [ inl a ↦ a | inr b ↦ absurd (omega arith) ] in
           let high : h * w ≤ r * w = mul-le-mul_right w below in
-          let behind : length xs ≤ r * w + c = omega arith in
+          let following : length xs ≤ r * w + c = omega arith in
           let near : r * w + c - length xs < length added.more = omega (arith, added.blanks.number, mul-add-lt r w c rows p q) in
-          rw (added.is, get_or-append_right xs added.more (length xs) (r * w + c) x refl behind) (added.blanks.all (r * w + c - length xs) x near);
+          rw (added.is, get_or-append_right xs added.more (length xs) (r * w + c) x refl following) (added.blanks.all (r * w + c - length xs) x near);
     }
 
 -- what a push leaves where it succeeded, and where it failed

@@ -54,7 +54,7 @@ pub shows_each_cell : {T : Type 0} (eq : T → T → Bool) (blank : T → Bool) 
 shows_each_cell eq blank old new start end is corners shows r c a b d e =
     let inside : IsIn new r c = record { low = omega (arith, corners.top); high = omega (arith, corners.bottom); left = omega (arith, corners.left); right = omega (arith, corners.right) } in
     let cell = cell_there new r c is.count inside in
-    (cell.0, cell.1, shows.shown r c cell.0 cell.1)
+    (cell.0, cell.1, shows.displayed r c cell.0 cell.1)
 
 cell_at-no_cells : {T : Type 0} (r c : ℕ) → cell_at (no_cells {T = T}) r c ≡ None
 cell_at-no_cells {T} r c = cell_outside (no_cells {T = T}) r c (elim (sides (no_cells {T = T}) r c) [ inl i ↦ absurd (omega (arith, i.1)) | inr o ↦ o ])
@@ -64,4 +64,4 @@ shows_blanks_of_none eq blank new is shows k d p =
     let near : k < new.height * new.width = omega (arith, is.count) in
     let wide = wide_from_index new.height new.width k near in
     let cell = cell_at_index new k near wide ∙ slice_get-get_or new.cells k d p in
-    rw cell_at-no_cells at (shows.shown (new.top + k / new.width) (new.left + k % new.width) (get_or new.cells k d) cell)
+    rw cell_at-no_cells at (shows.displayed (new.top + k / new.width) (new.left + k % new.width) (get_or new.cells k d) cell)

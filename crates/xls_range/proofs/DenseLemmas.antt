@@ -109,9 +109,9 @@ last_at-none [] p all = refl
 last_at-none (x ∷ xs) p all =
     rw (last_at-none xs p (λ k d q. all (suc k) d (omega arith)), at_other x.0 p (all 0 x (omega arith))) refl
 
-last_at-append : {T : Type 0} (front back : List ((ℕ × ℕ) × T)) (x : (ℕ × ℕ) × T) → All (λ y. y.0 ≢ x.0) back → last_at (front ++ x ∷ back) x.0 ≡ Some x.1
+last_at-append : {T : Type 0} (prefix back : List ((ℕ × ℕ) × T)) (x : (ℕ × ℕ) × T) → All (λ y. y.0 ≢ x.0) back → last_at (prefix ++ x ∷ back) x.0 ≡ Some x.1
 last_at-append [] back x none = rw (last_at-none back x.0 none, at_self x.0) refl
-last_at-append (y ∷ front) back x none = rw (last_at-append front back x none) refl
+last_at-append (y ∷ prefix) back x none = rw (last_at-append prefix back x none) refl
 
 split_last : {T : Type 0} (o : Option T) (b : Bool) (u v : T) → option_or o (if b then Some u else None) ≡ Some v → (o ≡ Some v) ⊎ ((b ≡ true) × (u ≡ v))
 split_last (Some x) b u v e = inl e
@@ -180,14 +180,14 @@ last_at-permutation {T} xs ys p distinct order = go (last_at xs p) (last_at ys p
 
 -- ---- the laws
 
-pub last_wins : {T : Type 0} (eq : T → T → Bool) (blank : T → Bool) (front back : List ((ℕ × ℕ) × T)) (x : (ℕ × ℕ) × T) (g : Grid T)
-    → All (λ y. y.0 ≢ x.0) back → IsRange g → IsDense eq blank (front ++ x ∷ back) g → (y : T) × (cell_at g x.0.0 x.0.1 ≡ Some y) × (eq x.1 y ≡ true)
-last_wins {T} eq blank front back x g none is dense =
-    let corners = some_corners (front ++ x ∷ back) (omega (arith, length-append front (x ∷ back))) in
-    let inside = AreCorners-inside (front ++ x ∷ back) corners.0 corners.1 g corners.2 (dense.corners corners.0 corners.1 corners.2) (length front) x (omega (arith, length-append front (x ∷ back))) in
-    let here : IsIn g x.0.0 x.0.1 = rw (get_or-append_seam front x back x) at inside in
+pub last_wins : {T : Type 0} (eq : T → T → Bool) (blank : T → Bool) (prefix back : List ((ℕ × ℕ) × T)) (x : (ℕ × ℕ) × T) (g : Grid T)
+    → All (λ y. y.0 ≢ x.0) back → IsRange g → IsDense eq blank (prefix ++ x ∷ back) g → (y : T) × (cell_at g x.0.0 x.0.1 ≡ Some y) × (eq x.1 y ≡ true)
+last_wins {T} eq blank prefix back x g none is dense =
+    let corners = some_corners (prefix ++ x ∷ back) (omega (arith, length-append prefix (x ∷ back))) in
+    let inside = AreCorners-inside (prefix ++ x ∷ back) corners.0 corners.1 g corners.2 (dense.corners corners.0 corners.1 corners.2) (length prefix) x (omega (arith, length-append prefix (x ∷ back))) in
+    let here : IsIn g x.0.0 x.0.1 = rw (get_or-append_seam prefix x back x) at inside in
     let cell = cell_there g x.0.0 x.0.1 is.count here in
-    (cell.0, cell.1, rw (last_at-append front back x none) at (dense.shows.shown x.0.0 x.0.1 cell.0 cell.1))
+    (cell.0, cell.1, rw (last_at-append prefix back x none) at (dense.shows.displayed x.0.0 x.0.1 cell.0 cell.1))
   where
     some_corners : (xs : List ((ℕ × ℕ) × T)) → 0 < length xs → (start : ℕ × ℕ) × (end : ℕ × ℕ) × AreCorners xs start end
     some_corners [] p = absurd (omega arith)
@@ -210,16 +210,16 @@ AreCorners-permutation xs ys s e order a = record {
   right = record { all = All-permutation (λ x. x.0.1 ≤ e.1) xs ys order a.right.all; some = Any-permutation (λ x. x.0.1 ≡ e.1) xs ys order a.right.some };
 }
 
-same_shown : {T : Type 0} (eq : T → T → Bool) (blank : T → Bool) → IsEquivalence eq → ((x y : T) → blank x ≡ true → blank y ≡ eq x y)
-    → (given others : List ((ℕ × ℕ) × T)) (g h : Grid T) → ((p : ℕ × ℕ) → last_at given p ≡ last_at others p) → IsSameBox g h → IsRange g → IsRange h
-    → IsDense eq blank given g → IsDense eq blank others h → (r c : ℕ) → IsSameCell eq (cell_at g r c) (cell_at h r c)
-same_shown eq blank laws exactly given others g h last same is also a b r c = elim (sides g r c) [
+same_displayed : {T : Type 0} (eq : T → T → Bool) (blank : T → Bool) → IsEquivalence eq → ((x y : T) → blank x ≡ true → blank y ≡ eq x y)
+    → (input others : List ((ℕ × ℕ) × T)) (g h : Grid T) → ((p : ℕ × ℕ) → last_at input p ≡ last_at others p) → IsSameBox g h → IsRange g → IsRange h
+    → IsDense eq blank input g → IsDense eq blank others h → (r c : ℕ) → IsSameCell eq (cell_at g r c) (cell_at h r c)
+same_displayed eq blank laws exactly input others g h last same is also a b r c = elim (sides g r c) [
   | inl i ↦
       let here : IsIn g r c = record { low = i.0; high = i.1; left = i.2; right = i.3 } in
       let there : IsIn h r c = record { low = omega (arith, same.top); high = omega (arith, same.top, same.height); left = omega (arith, same.left); right = omega (arith, same.left, same.width) } in
       let y = cell_there g r c is.count here in
       let z = cell_there h r c also.count there in
-      rw (y.1, z.1) (copies_equal eq blank laws exactly (last_at others (r, c)) y.0 z.0 (rw (last (r, c)) at (a.shows.shown r c y.0 y.1)) (b.shows.shown r c z.0 z.1))
+      rw (y.1, z.1) (copies_equal eq blank laws exactly (last_at others (r, c)) y.0 z.0 (rw (last (r, c)) at (a.shows.displayed r c y.0 y.1)) (b.shows.displayed r c z.0 z.1))
   | inr o ↦
       let beside : (r < h.top) ⊎ ((h.top + h.height ≤ r) ⊎ ((c < h.left) ⊎ (h.left + h.width ≤ c))) = rw (same.top, same.height, same.left, same.width) o in
       rw (cell_outside g r c o, cell_outside h r c beside) tt
@@ -230,8 +230,8 @@ nil_from_length [] e = refl
 nil_from_length (x ∷ xs) e = absurd (omega arith)
 
 pub dense_in_any_order : {T : Type 0} (eq : T → T → Bool) (blank : T → Bool) → IsEquivalence eq → ((x y : T) → blank x ≡ true → blank y ≡ eq x y)
-    → (given others : List ((ℕ × ℕ) × T)) (g h : Grid T) → AllPairs (λ x y. x.0 ≢ y.0) given → IsPermutation given others → IsRange g → IsRange h
-    → IsDense eq blank given g → IsDense eq blank others h → grid_eq eq g h ≡ true
+    → (input others : List ((ℕ × ℕ) × T)) (g h : Grid T) → AllPairs (λ x y. x.0 ≢ y.0) input → IsPermutation input others → IsRange g → IsRange h
+    → IsDense eq blank input g → IsDense eq blank others h → grid_eq eq g h ≡ true
 dense_in_any_order eq blank laws exactly [] others g h distinct order is also a b =
     let none = nil_from_length others (length_permutation [] others order) in
     rw (a.empty refl, b.empty none) ((grid_eq_equiv laws).refl no_cells)
@@ -245,5 +245,5 @@ dense_in_any_order eq blank laws exactly (x ∷ xs) others g h distinct order is
     grid_eq-AreSame eq g h is also (record {
       start = rw (same.top, same.left, same.height) refl;
       end = rw (same.top, same.left, same.height, same.width) refl;
-      cells = same_shown eq blank laws exactly (x ∷ xs) others g h (λ p. last_at-permutation (x ∷ xs) others p distinct order) same is also a b;
+      cells = same_displayed eq blank laws exactly (x ∷ xs) others g h (λ p. last_at-permutation (x ∷ xs) others p distinct order) same is also a b;
     })

@@ -2,15 +2,15 @@
 use Rattle.std.proofs.Common.{◌≡◌, ℕ, ◌+◌, ◌<◌, List, [], ◌∷◌, ◌++◌, map, length, get_or, refl, sym, ap, subst, ◌∙◌, append_assoc, arith, add-one}
 use Rattle.std.specs.List.{AllByRecursion}
 use Rattle.std.proofs.lemmas.List.{append-nil, map-append, length-append}
-use Rattle.xls_range.specs.declared.sorted.Given.{Given}
-use Rattle.xls_range.specs.Positions.{Entry, Precedes, IsAscending, IsNumbered, IsNumberedTo, cell_position, given_entry}
+use Rattle.xls_range.specs.declared.sorted.Numbered.{Numbered}
+use Rattle.xls_range.specs.Positions.{Entry, Precedes, IsAscending, IsNumbered, IsNumberedTo, cell_position, numbered_entry}
 use Rattle.xls_range.proofs.LastLemmas.{weaker}
 use Rattle.xls_range.proofs.PutLemmas.{all_push, before_trans}
 
 module _ {T : Type 0} where
   -- ---- numbers
 
-  numbers_push : (n : ℕ) (xs : List (Given T)) (y : Given T) → IsNumbered xs
+  numbers_push : (n : ℕ) (xs : List (Numbered T)) (y : Numbered T) → IsNumbered xs
       → AllByRecursion (λ x. x.number < n) xs → y.number ≡ n → IsNumbered (xs ++ y ∷ [])
   numbers_push n [] y a b e = (tt, tt)
   numbers_push n (x ∷ xs) y a b e =
@@ -18,12 +18,12 @@ module _ {T : Type 0} where
       (all_push (λ z. x.number < z.number) xs y a.0 (omega arith), numbers_push n xs y a.1 b.1 e)
 
   -- the next number
-  pub number_next : (xs ys : List (Given T)) (y : Given T) → IsNumberedTo (length xs) xs → y.number ≡ length xs
+  pub number_next : (xs ys : List (Numbered T)) (y : Numbered T) → IsNumberedTo (length xs) xs → y.number ≡ length xs
       → ys ≡ xs ++ y ∷ [] → IsNumberedTo (length ys) ys
   number_next xs ys y s n e =
       let len : length ys ≡ length xs + 1 = ap length e ∙ omega (arith, length-append xs (y ∷ [])) in (
-        subst (λ (l : List (Given T)). IsNumbered l) (sym e) (numbers_push (length xs) xs y s.0 s.1 n),
-        subst (λ (l : List (Given T)). AllByRecursion (λ x. x.number < length ys) l) (sym e)
+        subst (λ (l : List (Numbered T)). IsNumbered l) (sym e) (numbers_push (length xs) xs y s.0 s.1 n),
+        subst (λ (l : List (Numbered T)). AllByRecursion (λ x. x.number < length ys) l) (sym e)
             (all_push (λ x. x.number < length ys) xs y (weaker (λ x. x.number < length xs) (λ x. x.number < length ys) (λ x l. omega arith) xs s.1) (omega arith)),
       )
 

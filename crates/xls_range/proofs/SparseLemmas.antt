@@ -7,7 +7,7 @@ use Rattle.std.proofs.lemmas.Bool.{cases_lt}
 use Rattle.std.proofs.lemmas.List.{append_assoc, get_or_default, length-append, take_more}
 use Rattle.std.proofs.lemmas.Nat.{mul-le}
 use Rattle.std.proofs.lemmas.Option.{get_or_from_slice_get, slice_get_within}
-use Rattle.xls_range.specs.Grid.{Grid, no_cells, cell_at, IsCopyOf, Shows, IsIn, IsOfCorners, IsOrdered, IsSameBox, count_between}
+use Rattle.xls_range.specs.Grid.{Grid, no_cells, cell_at, IsCopyOf, Shows, IsIn, IsOfCorners, AreOrderedCorners, IsSameBox, count_between}
 use Rattle.xls_range.specs.Boxes.{IsBlankBox}
 use Rattle.xls_range.specs.Sparse.{last_at, IsLeast, IsGreatest, AreCorners, IsTooLarge, IsDense}
 use Rattle.xls_range.proofs.GrowthLemmas.{there}
@@ -35,24 +35,24 @@ pub Shows-put : {T : Type 0} (eq : T → T → Bool) (blank : T → Bool) (xs : 
     → Shows eq blank (λ row column. last_at xs (row, column)) g
     → Shows eq blank (λ row column. last_at (xs ++ x ∷ []) (row, column)) new
 Shows-put eq blank xs x copy g new same written shows = record {
-  shown = λ r c y is. rw (last_at-snoc xs x (r, c))
-      (copy_chosen eq blank ((x.0.0 == r) && (x.0.1 == c)) x.1 copy y (last_at xs (r, c)) (cell_at g r c) same (sym (written r c) ∙ is) (shows.shown r c y));
+  displayed = λ r c y is. rw (last_at-snoc xs x (r, c))
+      (copy_chosen eq blank ((x.0.0 == r) && (x.0.1 == c)) x.1 copy y (last_at xs (r, c)) (cell_at g r c) same (sym (written r c) ∙ is) (shows.displayed r c y));
 }
 
 -- the step of a loop that writes the cells in order
-pub Shows-more : {T : Type 0} (eq : T → T → Bool) (blank : T → Bool) (given : List ((ℕ × ℕ) × T)) (k : ℕ) (x : (ℕ × ℕ) × T) (copy : T) (g new : Grid T)
-    → k < length given → x ≡ get_or given k x → eq x.1 copy ≡ true
+pub Shows-more : {T : Type 0} (eq : T → T → Bool) (blank : T → Bool) (input : List ((ℕ × ℕ) × T)) (k : ℕ) (x : (ℕ × ℕ) × T) (copy : T) (g new : Grid T)
+    → k < length input → x ≡ get_or input k x → eq x.1 copy ≡ true
     → ((r c : ℕ) → cell_at new r c ≡ (if (x.0.0 == r) && (x.0.1 == c) then Some copy else cell_at g r c))
-    → Shows eq blank (λ row column. last_at (take k given) (row, column)) g
-    → Shows eq blank (λ row column. last_at (take (k + 1) given) (row, column)) new
-Shows-more eq blank given k x copy g new near item same written shows =
-    let more : take (k + 1) given ≡ take k given ++ x ∷ [] = take_more given k x near ∙ ap (λ z. take k given ++ z ∷ []) (sym item) in
-    rw more (Shows-put eq blank (take k given) x copy g new same written shows)
+    → Shows eq blank (λ row column. last_at (take k input) (row, column)) g
+    → Shows eq blank (λ row column. last_at (take (k + 1) input) (row, column)) new
+Shows-more eq blank input k x copy g new near item same written shows =
+    let more : take (k + 1) input ≡ take k input ++ x ∷ [] = take_more input k x near ∙ ap (λ z. take k input ++ z ∷ []) (sym item) in
+    rw more (Shows-put eq blank (take k input) x copy g new same written shows)
 
 -- nothing is given yet, and all is blank
 pub Shows-blank : {T : Type 0} (eq : T → T → Bool) (blank : T → Bool) (g : Grid T) → All (λ x. blank x ≡ true) g.cells → Shows eq blank (λ _ _. None) g
 Shows-blank eq blank g all = record {
-  shown = λ r c y is.
+  displayed = λ r c y is.
       let t = there g r c y is in
       rw (get_or_from_slice_get g.cells _ y y t.read) at (all _ y (slice_get_within g.cells _ y t.read));
 }
@@ -113,33 +113,33 @@ IsGreatestTo-suc read xs k n x near item greatest = record {
 }
 
 -- the corners of the first k positions
-pub record AreCornersTo {T : Type 0} (given : List ((ℕ × ℕ) × T)) (k t l b r : ℕ) : Type 0 where
-  pub top : IsLeastTo (λ x. x.0.0) given k t
-  pub left : IsLeastTo (λ x. x.0.1) given k l
-  pub bottom : IsGreatestTo (λ x. x.0.0) given k b
-  pub right : IsGreatestTo (λ x. x.0.1) given k r
+pub record AreCornersTo {T : Type 0} (input : List ((ℕ × ℕ) × T)) (k t l b r : ℕ) : Type 0 where
+  pub top : IsLeastTo (λ x. x.0.0) input k t
+  pub left : IsLeastTo (λ x. x.0.1) input k l
+  pub bottom : IsGreatestTo (λ x. x.0.0) input k b
+  pub right : IsGreatestTo (λ x. x.0.1) input k r
 
-pub AreCornersTo-zero : {T : Type 0} (given : List ((ℕ × ℕ) × T)) (x : (ℕ × ℕ) × T) → 0 < length given → x ≡ get_or given 0 x
-    → AreCornersTo given 0 x.0.0 x.0.1 x.0.0 x.0.1
-AreCornersTo-zero given x near item = record {
-  top = IsLeastTo-zero _ given x near item;
-  left = IsLeastTo-zero _ given x near item;
-  bottom = IsGreatestTo-zero _ given x near item;
-  right = IsGreatestTo-zero _ given x near item;
+pub AreCornersTo-zero : {T : Type 0} (input : List ((ℕ × ℕ) × T)) (x : (ℕ × ℕ) × T) → 0 < length input → x ≡ get_or input 0 x
+    → AreCornersTo input 0 x.0.0 x.0.1 x.0.0 x.0.1
+AreCornersTo-zero input x near item = record {
+  top = IsLeastTo-zero _ input x near item;
+  left = IsLeastTo-zero _ input x near item;
+  bottom = IsGreatestTo-zero _ input x near item;
+  right = IsGreatestTo-zero _ input x near item;
 }
 
-pub AreCornersTo-suc : {T : Type 0} (given : List ((ℕ × ℕ) × T)) (k top left bottom right : ℕ) (x : (ℕ × ℕ) × T) → k < length given → x ≡ get_or given k x
-    → AreCornersTo given k top left bottom right → AreCornersTo given (k + 1) (min top x.0.0) (min left x.0.1) (max bottom x.0.0) (max right x.0.1)
-AreCornersTo-suc given k top left bottom right x near item to = record {
-  top = IsLeastTo-suc (λ x. x.0.0) given k top x near item to.top;
-  left = IsLeastTo-suc (λ x. x.0.1) given k left x near item to.left;
-  bottom = IsGreatestTo-suc (λ x. x.0.0) given k bottom x near item to.bottom;
-  right = IsGreatestTo-suc (λ x. x.0.1) given k right x near item to.right;
+pub AreCornersTo-suc : {T : Type 0} (input : List ((ℕ × ℕ) × T)) (k top left bottom right : ℕ) (x : (ℕ × ℕ) × T) → k < length input → x ≡ get_or input k x
+    → AreCornersTo input k top left bottom right → AreCornersTo input (k + 1) (min top x.0.0) (min left x.0.1) (max bottom x.0.0) (max right x.0.1)
+AreCornersTo-suc input k top left bottom right x near item to = record {
+  top = IsLeastTo-suc (λ x. x.0.0) input k top x near item to.top;
+  left = IsLeastTo-suc (λ x. x.0.1) input k left x near item to.left;
+  bottom = IsGreatestTo-suc (λ x. x.0.0) input k bottom x near item to.bottom;
+  right = IsGreatestTo-suc (λ x. x.0.1) input k right x near item to.right;
 }
 
-pub AreCorners-all : {T : Type 0} (given : List ((ℕ × ℕ) × T)) (k top left bottom right : ℕ) → length given ≤ k → AreCornersTo given k top left bottom right
-    → AreCorners given (top, left) (bottom, right)
-AreCorners-all given k top left bottom right long to = record {
+pub AreCorners-all : {T : Type 0} (input : List ((ℕ × ℕ) × T)) (k top left bottom right : ℕ) → length input ≤ k → AreCornersTo input k top left bottom right
+    → AreCorners input (top, left) (bottom, right)
+AreCorners-all input k top left bottom right long to = record {
   top = record { all = λ j d p. to.top.all j d (omega arith); some = to.top.some };
   left = record { all = λ j d p. to.left.all j d (omega arith); some = to.left.some };
   bottom = record { all = λ j d p. to.bottom.all j d (omega arith); some = to.bottom.some };
@@ -176,27 +176,27 @@ pub record AreSameCorners (s e s' e' : ℕ × ℕ) : Type 0 where
   pub bottom : e.0 ≡ e'.0
   pub right : e.1 ≡ e'.1
 
-pub AreCorners-unique : {T : Type 0} (given : List ((ℕ × ℕ) × T)) (s e s' e' : ℕ × ℕ) → AreCorners given s e → AreCorners given s' e' → AreSameCorners s e s' e'
-AreCorners-unique given s e s' e' a b = record {
-  top = IsLeast-unique (λ x. x.0.0) given s.0 s'.0 a.top b.top;
-  left = IsLeast-unique (λ x. x.0.1) given s.1 s'.1 a.left b.left;
-  bottom = IsGreatest-unique (λ x. x.0.0) given e.0 e'.0 a.bottom b.bottom;
-  right = IsGreatest-unique (λ x. x.0.1) given e.1 e'.1 a.right b.right;
+pub AreCorners-unique : {T : Type 0} (input : List ((ℕ × ℕ) × T)) (s e s' e' : ℕ × ℕ) → AreCorners input s e → AreCorners input s' e' → AreSameCorners s e s' e'
+AreCorners-unique input s e s' e' a b = record {
+  top = IsLeast-unique (λ x. x.0.0) input s.0 s'.0 a.top b.top;
+  left = IsLeast-unique (λ x. x.0.1) input s.1 s'.1 a.left b.left;
+  bottom = IsGreatest-unique (λ x. x.0.0) input e.0 e'.0 a.bottom b.bottom;
+  right = IsGreatest-unique (λ x. x.0.1) input e.1 e'.1 a.right b.right;
 }
 
-pub AreCorners-ordered : {T : Type 0} (given : List ((ℕ × ℕ) × T)) (s e : ℕ × ℕ) → AreCorners given s e → IsOrdered s e
-AreCorners-ordered given s e a =
-    (least-le-greatest (λ x. x.0.0) given s.0 e.0 a.top a.bottom, least-le-greatest (λ x. x.0.1) given s.1 e.1 a.left a.right)
+pub AreCorners-ordered : {T : Type 0} (input : List ((ℕ × ℕ) × T)) (s e : ℕ × ℕ) → AreCorners input s e → AreOrderedCorners s e
+AreCorners-ordered input s e a =
+    (least-le-greatest (λ x. x.0.0) input s.0 e.0 a.top a.bottom, least-le-greatest (λ x. x.0.1) input s.1 e.1 a.left a.right)
 
 -- the smallest box is too large by its own corners, whichever show it
-pub IsTooLarge-corners : {T : Type 0} (given : List ((ℕ × ℕ) × T)) (s e : ℕ × ℕ) → AreCorners given s e → IsTooLarge given → 2 ^ 64 ≤ count_between s e
-IsTooLarge-corners given s e a large =
-    let same = AreCorners-unique given s e large.0 large.1 a large.2 in
+pub IsTooLarge-corners : {T : Type 0} (input : List ((ℕ × ℕ) × T)) (s e : ℕ × ℕ) → AreCorners input s e → IsTooLarge input → 2 ^ 64 ≤ count_between s e
+IsTooLarge-corners input s e a large =
+    let same = AreCorners-unique input s e large.0 large.1 a large.2 in
     rw (same.top, same.left, same.bottom, same.right) large.3
 
 -- a range with those corners holds the positions
-pub AreCorners-inside : {T : Type 0} (given : List ((ℕ × ℕ) × T)) (s e : ℕ × ℕ) (g : Grid T) → AreCorners given s e → IsOfCorners s e g → All (λ x. IsIn g x.0.0 x.0.1) given
-AreCorners-inside given s e g a corners k d p = record {
+pub AreCorners-inside : {T : Type 0} (input : List ((ℕ × ℕ) × T)) (s e : ℕ × ℕ) (g : Grid T) → AreCorners input s e → IsOfCorners s e g → All (λ x. IsIn g x.0.0 x.0.1) input
+AreCorners-inside input s e g a corners k d p = record {
   low = omega (arith, corners.top, a.top.all k d p);
   high = omega (arith, corners.bottom, a.bottom.all k d p);
   left = omega (arith, corners.left, a.left.all k d p);
@@ -219,12 +219,12 @@ IsDense-nil eq blank = record {
   shows = Shows-blank eq blank no_cells (λ k d p. absurd (omega arith));
 }
 
-pub IsDense-some : {T : Type 0} (eq : T → T → Bool) (blank : T → Bool) (given : List ((ℕ × ℕ) × T)) (s e : ℕ × ℕ) (g : Grid T)
-    → AreCorners given s e → IsOfCorners s e g → Shows eq blank (λ row column. last_at given (row, column)) g → IsDense eq blank given g
-IsDense-some eq blank given s e g a corners shows = record {
-  empty = λ none. absurd (let long : 0 < length given = omega (arith, a.top.some.2) in let short : length given ≡ 0 = ap length none in omega arith);
+pub IsDense-some : {T : Type 0} (eq : T → T → Bool) (blank : T → Bool) (input : List ((ℕ × ℕ) × T)) (s e : ℕ × ℕ) (g : Grid T)
+    → AreCorners input s e → IsOfCorners s e g → Shows eq blank (λ row column. last_at input (row, column)) g → IsDense eq blank input g
+IsDense-some eq blank input s e g a corners shows = record {
+  empty = λ none. absurd (let long : 0 < length input = omega (arith, a.top.some.2) in let short : length input ≡ 0 = ap length none in omega arith);
   corners = λ s' e' b.
-      let same = AreCorners-unique given s e s' e' a b in
+      let same = AreCorners-unique input s e s' e' a b in
       record {
         top = corners.top ∙ same.top;
         left = corners.left ∙ same.left;
@@ -236,29 +236,29 @@ IsDense-some eq blank given s e g a corners shows = record {
 
 -- ---- a blank box
 
-pub IsBlankBox-inside : {T : Type 0} (blank : T → Bool) (given : List ((ℕ × ℕ) × T)) (g : Grid T) → IsBlankBox blank given g → All (λ x. IsIn g x.0.0 x.0.1) given
-IsBlankBox-inside blank given g box = AreCorners-inside given box.start box.end g box.are box.corners
+pub IsBlankBox-inside : {T : Type 0} (blank : T → Bool) (input : List ((ℕ × ℕ) × T)) (g : Grid T) → IsBlankBox blank input g → All (λ x. IsIn g x.0.0 x.0.1) input
+IsBlankBox-inside blank input g box = AreCorners-inside input box.start box.end g box.are box.corners
 
 -- with the cells in it, it is the dense box
-pub IsBlankBox-filled : {T : Type 0} (eq : T → T → Bool) (blank : T → Bool) (given : List ((ℕ × ℕ) × T)) (g h : Grid T)
-    → IsBlankBox blank given g → IsSameBox g h → Shows eq blank (λ row column. last_at given (row, column)) h → IsDense eq blank given h
-IsBlankBox-filled eq blank given g h box same shows =
-    IsDense-some eq blank given box.start box.end h box.are (IsOfCorners-same box.start box.end g h box.corners same) shows
+pub IsBlankBox-filled : {T : Type 0} (eq : T → T → Bool) (blank : T → Bool) (input : List ((ℕ × ℕ) × T)) (g h : Grid T)
+    → IsBlankBox blank input g → IsSameBox g h → Shows eq blank (λ row column. last_at input (row, column)) h → IsDense eq blank input h
+IsBlankBox-filled eq blank input g h box same shows =
+    IsDense-some eq blank input box.start box.end h box.are (IsOfCorners-same box.start box.end g h box.corners same) shows
 
 -- some of the cells are in it, and the others are left
-pub record Holds {T : Type 0} (eq : T → T → Bool) (blank : T → Bool) (given rest : List ((ℕ × ℕ) × T)) (g h : Grid T) : Type 0 where
-  pub front : List ((ℕ × ℕ) × T)
-  pub whole : front ++ rest ≡ given
+pub record Holds {T : Type 0} (eq : T → T → Bool) (blank : T → Bool) (input rest : List ((ℕ × ℕ) × T)) (g h : Grid T) : Type 0 where
+  pub prefix : List ((ℕ × ℕ) × T)
+  pub whole : prefix ++ rest ≡ input
   pub same : IsSameBox g h
-  pub shows : Shows eq blank (λ row column. last_at front (row, column)) h
+  pub shows : Shows eq blank (λ row column. last_at prefix (row, column)) h
 
 -- the next cell's position is inside
-pub Holds-inside : {T : Type 0} (eq : T → T → Bool) (blank : T → Bool) (given rest : List ((ℕ × ℕ) × T)) (x : (ℕ × ℕ) × T) (g h : Grid T)
-    → All (λ y. IsIn g y.0.0 y.0.1) given → Holds eq blank given (x ∷ rest) g h → IsIn h x.0.0 x.0.1
-Holds-inside eq blank given rest x g h all holds =
-    let read : get_or given (length holds.front) x ≡ x = ap (λ xs. get_or xs (length holds.front) x) (sym holds.whole) ∙ get_or-append_seam holds.front x rest x in
-    let near : length holds.front < length given = omega (arith, ap length holds.whole, length-append holds.front (x ∷ rest)) in
-    let is = rw read at (all (length holds.front) x near) in
+pub Holds-inside : {T : Type 0} (eq : T → T → Bool) (blank : T → Bool) (input rest : List ((ℕ × ℕ) × T)) (x : (ℕ × ℕ) × T) (g h : Grid T)
+    → All (λ y. IsIn g y.0.0 y.0.1) input → Holds eq blank input (x ∷ rest) g h → IsIn h x.0.0 x.0.1
+Holds-inside eq blank input rest x g h all holds =
+    let read : get_or input (length holds.prefix) x ≡ x = ap (λ xs. get_or xs (length holds.prefix) x) (sym holds.whole) ∙ get_or-append_seam holds.prefix x rest x in
+    let near : length holds.prefix < length input = omega (arith, ap length holds.whole, length-append holds.prefix (x ∷ rest)) in
+    let is = rw read at (all (length holds.prefix) x near) in
     let same = holds.same in
     record {
       low = omega (arith, is.low, same.top);
@@ -267,22 +267,22 @@ Holds-inside eq blank given rest x g h all holds =
       right = omega (arith, is.right, same.left, same.width);
     }
 
-pub Holds-more : {T : Type 0} (eq : T → T → Bool) (blank : T → Bool) (given rest : List ((ℕ × ℕ) × T)) (x : (ℕ × ℕ) × T) (g h new : Grid T)
+pub Holds-more : {T : Type 0} (eq : T → T → Bool) (blank : T → Bool) (input rest : List ((ℕ × ℕ) × T)) (x : (ℕ × ℕ) × T) (g h new : Grid T)
     → ((y : T) → eq y y ≡ true)
     → ((r c : ℕ) → cell_at new r c ≡ (if (x.0.0 == r) && (x.0.1 == c) then Some x.1 else cell_at h r c)) → IsSameBox h new
-    → Holds eq blank given (x ∷ rest) g h → Holds eq blank given rest g new
-Holds-more eq blank given rest x g h new reflexive written is holds =
+    → Holds eq blank input (x ∷ rest) g h → Holds eq blank input rest g new
+Holds-more eq blank input rest x g h new reflexive written is holds =
     let was = holds.same in
     record {
-      front = holds.front ++ x ∷ [];
-      whole = append_assoc holds.front (x ∷ []) rest ∙ holds.whole;
+      prefix = holds.prefix ++ x ∷ [];
+      whole = append_assoc holds.prefix (x ∷ []) rest ∙ holds.whole;
       same = record { top = is.top ∙ was.top; left = is.left ∙ was.left; height = is.height ∙ was.height; width = is.width ∙ was.width };
-      shows = Shows-put eq blank holds.front x x.1 h new (reflexive x.1) written holds.shows;
+      shows = Shows-put eq blank holds.prefix x x.1 h new (reflexive x.1) written holds.shows;
     }
 
 -- positions below a number of rows and of columns span no more cells than these
-pub IsTooLarge-within : {T : Type 0} (given : List ((ℕ × ℕ) × T)) (rows columns : ℕ) → All (λ x. (x.0.0 < rows) × (x.0.1 < columns)) given → IsTooLarge given → 2 ^ 64 ≤ rows * columns
-IsTooLarge-within given rows columns below large =
+pub IsTooLarge-within : {T : Type 0} (input : List ((ℕ × ℕ) × T)) (rows columns : ℕ) → All (λ x. (x.0.0 < rows) × (x.0.1 < columns)) input → IsTooLarge input → 2 ^ 64 ≤ rows * columns
+IsTooLarge-within input rows columns below large =
     let start = large.0 in
     let end = large.1 in
     let bottom = large.2.bottom.some in

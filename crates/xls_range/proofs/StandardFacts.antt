@@ -43,11 +43,11 @@ pub used_with_their_places : used (λ n. n == 0) (cells_from 0 2 three.cells) �
 used_with_their_places = refl
 
 -- of equal positions the last wins
-pub given_twice : last_at {T = ℕ} (((1, 1), 7) ∷ ((2, 1), 8) ∷ ((1, 1), 9) ∷ []) (1, 1) ≡ Some 9
-given_twice = refl
+pub put_twice : last_at {T = ℕ} (((1, 1), 7) ∷ ((2, 1), 8) ∷ ((1, 1), 9) ∷ []) (1, 1) ≡ Some 9
+put_twice = refl
 
-pub given_never : last_at {T = ℕ} (((1, 1), 7) ∷ ((2, 1), 8) ∷ []) (1, 2) ≡ None
-given_never = refl
+pub put_never : last_at {T = ℕ} (((1, 1), 7) ∷ ((2, 1), 8) ∷ []) (1, 2) ≡ None
+put_never = refl
 
 -- from (0, 0) to (5, 2), grown to (6, 0): seven rows, 21 cells; an empty range, grown to (1, 1): four
 abbrev six_by_three : Grid ℕ

@@ -4,9 +4,9 @@ use Rattle.xls_range.specs.Grid.{Grid, IsOfCorners}
 use Rattle.xls_range.specs.Sparse.{AreCorners}
 
 -- the smallest box that holds the cells, all blank
-pub record IsBlankBox {T : Type 0} (blank : T → Bool) (given : List ((ℕ × ℕ) × T)) (g : Grid T) : Type 0 where
+pub record IsBlankBox {T : Type 0} (blank : T → Bool) (input : List ((ℕ × ℕ) × T)) (g : Grid T) : Type 0 where
   pub start : ℕ × ℕ
   pub end : ℕ × ℕ
-  pub are : AreCorners given start end
+  pub are : AreCorners input start end
   pub corners : IsOfCorners start end g
   pub blanks : All (λ x. blank x ≡ true) g.cells

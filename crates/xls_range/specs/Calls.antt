@@ -8,21 +8,21 @@ pub data Call (A : Type 0) : Type 0 where
   NextBack : Option A → Call A
 
 -- what an answer shows
-abbrev pub shown : {A B : Type 0} → (A → B) → Option A → List B
-shown view None = []
-shown view (Some x) = view x ∷ []
+abbrev pub list_of_option : {A B : Type 0} → (A → B) → Option A → List B
+list_of_option view None = []
+list_of_option view (Some x) = view x ∷ []
 
 -- the items that `next` gave, in order
 abbrev pub from_start : {A B : Type 0} → (A → B) → List (Call A) → List B
 from_start view [] = []
-from_start view (Next answer ∷ calls) = shown view answer ++ from_start view calls
+from_start view (Next answer ∷ calls) = list_of_option view answer ++ from_start view calls
 from_start view (NextBack answer ∷ calls) = from_start view calls
 
 -- the items that `next_back` gave, the last one first
 abbrev pub from_end : {A B : Type 0} → (A → B) → List (Call A) → List B
 from_end view [] = []
 from_end view (Next answer ∷ calls) = from_end view calls
-from_end view (NextBack answer ∷ calls) = from_end view calls ++ shown view answer
+from_end view (NextBack answer ∷ calls) = from_end view calls ++ list_of_option view answer
 
 -- the calls lead from one state to another, where `rest` says which items are left
 abbrev pub Leads : {S A B : Type 0} → (A → B) → (S → List B) → S → List (Call A) → S → Type 0

@@ -86,8 +86,8 @@ pub record AddsBlanks {T : Type 0} (blank : T → Bool) (count : ℕ) (old new :
 abbrev pub IsDisordered : ℕ × ℕ → ℕ × ℕ → Type 0
 IsDisordered start end = (end.0 < start.0) ⊎ (end.1 < start.1)
 
-abbrev pub IsOrdered : ℕ × ℕ → ℕ × ℕ → Type 0
-IsOrdered start end = (start.0 ≤ end.0) × (start.1 ≤ end.1)
+abbrev pub AreOrderedCorners : ℕ × ℕ → ℕ × ℕ → Type 0
+AreOrderedCorners start end = (start.0 ≤ end.0) × (start.1 ≤ end.1)
 
 -- how many cells there are between two corners, both included
 abbrev pub count_between : ℕ × ℕ → ℕ × ℕ → ℕ
@@ -159,14 +159,14 @@ IsCopyOf eq blank value cell = MatchOption value (blank cell ≡ true) (λ x. eq
 -- each cell of the range stands for what the source has at its position
 pub record Shows {T : Type 0} (eq : T → T → Bool) (blank : T → Bool)
     (source : ℕ → ℕ → Option T) (g : Grid T) : Type 0 where
-  pub shown : (r c : ℕ) (y : T) → cell_at g r c ≡ Some y → IsCopyOf eq blank (source r c) y
+  pub displayed : (r c : ℕ) (y : T) → cell_at g r c ≡ Some y → IsCopyOf eq blank (source r c) y
 
 -- the first cells of a box, row by row from a start: each stands for what the source has there
 pub record AreCopies {T : Type 0} (eq : T → T → Bool) (blank : T → Bool)
     (source : ℕ → ℕ → Option T) (start : ℕ × ℕ) (columns count : ℕ) (cells : List T)
     : Type 0 where
   pub number : length cells ≡ count
-  pub shown : (r c : ℕ) (y : T) → c < columns → r * columns + c < count
+  pub displayed : (r c : ℕ) (y : T) → c < columns → r * columns + c < count
       → IsCopyOf eq blank (source (start.0 + r) (start.1 + c))
       (slice_index_or cells (r * columns + c) y)
 

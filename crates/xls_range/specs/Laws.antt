@@ -33,22 +33,22 @@ EqualWhereSame {T} eq =
 -- where any positions are given, the smallest box has its corners
 abbrev pub HasCorners : (T : Type 0) → Type 0
 HasCorners T =
-    (first : (ℕ × ℕ) × T) (given : List ((ℕ × ℕ) × T))
-    → (start : ℕ × ℕ) × (end : ℕ × ℕ) × AreCorners (first ∷ given) start end
+    (first : (ℕ × ℕ) × T) (input : List ((ℕ × ℕ) × T))
+    → (start : ℕ × ℕ) × (end : ℕ × ℕ) × AreCorners (first ∷ input) start end
 
 -- of equal positions the last one wins
 abbrev pub LastWins : {T : Type 0} → (T → T → Bool) → (T → Bool) → Type 0
 LastWins {T} eq blank =
-    (front back : List ((ℕ × ℕ) × T)) (x : (ℕ × ℕ) × T) (g : Grid T)
-    → All (λ y. y.0 ≢ x.0) back → IsRange g → IsDense eq blank (front ++ x ∷ back) g
+    (prefix back : List ((ℕ × ℕ) × T)) (x : (ℕ × ℕ) × T) (g : Grid T)
+    → All (λ y. y.0 ≢ x.0) back → IsRange g → IsDense eq blank (prefix ++ x ∷ back) g
     → (y : T) × (cell_at g x.0.0 x.0.1 ≡ Some y) × (eq x.1 y ≡ true)
 
 -- the dense box of cells with distinct positions does not depend on their order
 abbrev pub DenseInAnyOrder : {T : Type 0} → (T → T → Bool) → (T → Bool) → Type 0
 DenseInAnyOrder {T} eq blank =
-    (given others : List ((ℕ × ℕ) × T)) (g h : Grid T)
-    → AllPairs (λ x y. x.0 ≢ y.0) given → IsPermutation given others
-    → IsRange g → IsRange h → IsDense eq blank given g → IsDense eq blank others h
+    (input others : List ((ℕ × ℕ) × T)) (g h : Grid T)
+    → AllPairs (λ x y. x.0 ≢ y.0) input → IsPermutation input others
+    → IsRange g → IsRange h → IsDense eq blank input g → IsDense eq blank others h
     → grid_eq eq g h ≡ true
 
 -- the rows joined are the values of the cells in order

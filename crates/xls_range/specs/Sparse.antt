@@ -30,21 +30,21 @@ pub record IsGreatest {X : Type 0} (read : X → ℕ) (xs : List X) (n : ℕ) : 
   pub some : Any (λ x. read x ≡ n) xs
 
 -- the corners of the smallest box that holds the positions
-pub record AreCorners {T : Type 0} (given : List ((ℕ × ℕ) × T)) (start end : ℕ × ℕ) : Type 0 where
-  pub top : IsLeast (λ x. x.0.0) given start.0
-  pub left : IsLeast (λ x. x.0.1) given start.1
-  pub bottom : IsGreatest (λ x. x.0.0) given end.0
-  pub right : IsGreatest (λ x. x.0.1) given end.1
+pub record AreCorners {T : Type 0} (input : List ((ℕ × ℕ) × T)) (start end : ℕ × ℕ) : Type 0 where
+  pub top : IsLeast (λ x. x.0.0) input start.0
+  pub left : IsLeast (λ x. x.0.1) input start.1
+  pub bottom : IsGreatest (λ x. x.0.0) input end.0
+  pub right : IsGreatest (λ x. x.0.1) input end.1
 
 -- the smallest box has 2^64 cells or more
 abbrev pub IsTooLarge : {T : Type 0} → List ((ℕ × ℕ) × T) → Type 0
-IsTooLarge given =
-    (start : ℕ × ℕ) × (end : ℕ × ℕ) × AreCorners given start end
+IsTooLarge input =
+    (start : ℕ × ℕ) × (end : ℕ × ℕ) × AreCorners input start end
     × (2 ^ 64 ≤ count_between start end)
 
 -- the range is the dense box of these cells
 pub record IsDense {T : Type 0} (eq : T → T → Bool) (blank : T → Bool)
-    (given : List ((ℕ × ℕ) × T)) (g : Grid T) : Type 0 where
-  pub empty : given ≡ [] → g ≡ no_cells
-  pub corners : (start end : ℕ × ℕ) → AreCorners given start end → IsOfCorners start end g
-  pub shows : Shows eq blank (λ row column. last_at given (row, column)) g
+    (input : List ((ℕ × ℕ) × T)) (g : Grid T) : Type 0 where
+  pub empty : input ≡ [] → g ≡ no_cells
+  pub corners : (start end : ℕ × ℕ) → AreCorners input start end → IsOfCorners start end g
+  pub shows : Shows eq blank (λ row column. last_at input (row, column)) g

@@ -1,7 +1,7 @@
 //! Lists of cells.
 
 ghost use Rattle.std.specs.Prelude.{◌≡◌, ◌+◌, ◌*◌, ◌^◌, ◌<◌, ◌≤◌, ◌↔◌, IfOk, IsErrOf, OnOk, OnErr, option_copied, slice_get};
-ghost use Rattle.xls_range.specs.Grid.{AreBlank, AddsBlanks, IsDisordered, IsOrdered, count_between};
+ghost use Rattle.xls_range.specs.Grid.{AreBlank, AddsBlanks, IsDisordered, AreOrderedCorners, count_between};
 
 use crate::error::RangeError;
 use std::alloc::{AllocError, Global};
@@ -11,7 +11,7 @@ use xls_data::CellType;
 pub fn box_size(start: (u32, u32), end: (u32, u32)) -> Result<(usize, usize), RangeError>
     ensures bounds { IsErrOf result RangeError.Bounds ↔ IsDisordered start end }
     ensures too_large { IsErrOf result RangeError.TooLarge
-        ↔ (IsOrdered start end × (2 ^ 64 ≤ count_between start end)) }
+        ↔ (AreOrderedCorners start end × (2 ^ 64 ≤ count_between start end)) }
     ensures memory { ¬ IsErrOf result RangeError.Memory }
     ensures height { IfOk result (λ size. size.0 + start.0 ≡ end.0 + 1) }
     ensures width { IfOk result (λ size. size.1 + start.1 ≡ end.1 + 1) }

@@ -98,7 +98,7 @@ impl<'a, T> ExactSizeIterator for Rows<'a, T> {
 pub struct Cells<'a, T> {
     cells: &'a [T],
     width: usize,
-    front: usize,
+    prefix: usize,
 }
 
 impl<'a, T> Model for Cells<'a, T> {
@@ -107,10 +107,10 @@ impl<'a, T> Model for Cells<'a, T> {
 
     ghost Value = { List (ℕ × ℕ × T) };
 
-    ghost view = { λ r. cells_from r.front r.width r.cells.now };
+    ghost view = { λ r. cells_from r.prefix r.width r.cells.now };
 
     ghost invariant = { λ r.
-        (r.front + length r.cells.now < 2 ^ 64) × (0 < length r.cells.now → 0 < r.width) };
+        (r.prefix + length r.cells.now < 2 ^ 64) × (0 < length r.cells.now → 0 < r.width) };
 }
 
 impl<'a, T> Cells<'a, T> {
@@ -125,7 +125,7 @@ impl<'a, T> Cells<'a, T> {
         Cells {
             cells,
             width,
-            front: 0,
+            prefix: 0,
         }
     }
 }
@@ -139,9 +139,9 @@ impl<'a, T> Iterator for Cells<'a, T> {
 
     fn next(&mut self) -> Option<(usize, usize, &'a T)> {
         let (first, others) = self.cells.split_first()?;
-        let at = self.front;
+        let at = self.prefix;
         self.cells = others;
-        self.front += 1;
+        self.prefix += 1;
         Some((at / self.width, at % self.width, first))
     }
 
@@ -161,7 +161,7 @@ impl<'a, T> DoubleEndedIterator for Cells<'a, T> {
     #[tactic(auto, using(crate::proofs::RowLemmas::cells_snoc, crate::proofs::RowLemmas::cells_count))]
     fn next_back(&mut self) -> Option<(usize, usize, &'a T)> {
         let (last, others) = self.cells.split_last()?;
-        let at = self.front + others.len();
+        let at = self.prefix + others.len();
         self.cells = others;
         Some((at / self.width, at % self.width, last))
     }

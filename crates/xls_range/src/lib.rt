@@ -13,4 +13,4 @@ mod sparse;
 pub use error::RangeError;
 pub use iters::{Cells, Rows, UsedCells};
 pub use range::Range;
-pub use sorted::{Given, Settled, Unsettled, sorted_cells};
+pub use sorted::{Numbered, Settled, Unsettled, sorted_cells};

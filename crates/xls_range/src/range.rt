@@ -44,7 +44,7 @@ impl<T: CellType> Model for Range<T> {
 impl<T: CellType> Range<T> {
     ghost use Rattle.std.specs.Prelude.{◌≡◌, ◌^◌, ◌≤◌, ◌<◌, ◌*◌, ◌↔◌, true, length, All, IsTrue, IfOk, IsErrOf, option_copied};
     ghost use Rattle.xls_range.specs.Lists.{rows_of, cells_from, used};
-    ghost use Rattle.xls_range.specs.Grid.{no_cells, start_of, end_of, cell_at, relative_at, IsRange, IsOfCorners, IsDisordered, IsOrdered, count_between};
+    ghost use Rattle.xls_range.specs.Grid.{no_cells, start_of, end_of, cell_at, relative_at, IsRange, IsOfCorners, IsDisordered, AreOrderedCorners, count_between};
 
     /// A range without cells. It takes no memory.
     pub fn empty(alloc: Global) -> Range<T>
@@ -64,7 +64,7 @@ impl<T: CellType> Range<T> {
     pub fn new(alloc: Global, start: (u32, u32), end: (u32, u32)) -> Result<Range<T>, RangeError>
         ensures bounds { IsErrOf result RangeError.Bounds ↔ IsDisordered start end }
         ensures too_large { IsErrOf result RangeError.TooLarge
-            ↔ (IsOrdered start end × (2 ^ 64 ≤ count_between start end)) }
+            ↔ (AreOrderedCorners start end × (2 ^ 64 ≤ count_between start end)) }
         ensures range { IfOk result (λ r. IsRange r) }
         ensures corners { IfOk result (λ r. IsOfCorners start end r) }
         ensures blank { IfOk result (λ r. All (λ x. T.blank_test x ≡ true) r.cells) }

@@ -1,7 +1,7 @@
 //! Cells in order of their positions, from cells in order of a stream.
 
 ghost use Rattle.std.specs.Prelude.{◌≡◌, ◌↔◌, ◌≤◌, ◌<◌, ◌+◌, IfOk, IsTrue, map, length, get_or, drop};
-ghost use Rattle.xls_range.specs.Positions.{Position, Precedes, IsAscending, last_at, IsNumbered, IsInOrder, cell_position, given_entry, HasSame, Puts, EndsAt, kept_cells};
+ghost use Rattle.xls_range.specs.Positions.{Position, Precedes, IsAscending, last_at, IsNumbered, IsInOrder, cell_position, numbered_entry, HasSame, PutsEntry, EndsAt, kept_cells};
 
 use std::alloc::{AllocError, Global};
 use std::marker::Model;
@@ -9,7 +9,7 @@ use xls_data::{Cell, CellType};
 
 /// A cell, and its number in the order in which the cells were given.
 #[derive(Drop)]
-pub struct Given<T: CellType> {
+pub struct Numbered<T: CellType> {
     pub cell: Cell<T>,
     pub number: u64,
 }
@@ -35,75 +35,75 @@ fn is_ascending<T: CellType>(cells: &[Cell<T>]) -> bool
 }
 
 /// Sorts cells by row, column and number, where their numbers ascend at first.
-fn sort_given<T: CellType>(given: &mut Vec<Given<T>>)
-    requires { IsNumbered given.old.items }
-    ensures order { IsInOrder given.new.items }
-    ensures same { HasSame (map given_entry given.old.items) given.new.items }
+fn sort_numbered<T: CellType>(input: &mut Vec<Numbered<T>>)
+    requires { IsNumbered input.old.items }
+    ensures order { IsInOrder input.new.items }
+    ensures same { HasSame (map numbered_entry input.old.items) input.new.items }
 {
-    given.sort_unstable_by_key(|each| {
+    input.sort_unstable_by_key(|each| {
         let (row, column) = each.cell.get_position();
         (row, column, each.number)
     });
 }
 
 /// Whether the last of the first cells has the position of a later one.
-fn ends_at<T: CellType>(given: &[Given<T>], kept: usize, i: usize) -> bool
+fn ends_at<T: CellType>(input: &[Numbered<T>], kept: usize, i: usize) -> bool
     requires within { kept ≤ i }
-    requires room { i < length given.now }
+    requires room { i < length input.now }
     ensures some { IsTrue result → 0 < kept }
-    ensures ends { (c : Given T) → IsTrue result ↔ EndsAt (kept_cells kept given.now) (get_or given.now i c).cell.0.0 (get_or given.now i c).cell.0.1 }
+    ensures ends { (c : Numbered T) → IsTrue result ↔ EndsAt (kept_cells kept input.now) (get_or input.now i c).cell.0.0 (get_or input.now i c).cell.0.1 }
 {
-    kept > 0 && given[kept - 1].cell.get_position() == given[i].cell.get_position()
+    kept > 0 && input[kept - 1].cell.get_position() == input[i].cell.get_position()
 }
 
 /// Puts a cell after the first ones, in place of the last of them if that has its position, and answers how
 /// many they are then.
-fn put<T: CellType>(given: &mut Vec<Given<T>>, kept: usize, i: usize) -> usize
+fn put<T: CellType>(input: &mut Vec<Numbered<T>>, kept: usize, i: usize) -> usize
     requires within { kept ≤ i }
-    requires room { i < length given.old.items }
-    ensures puts { (c : Given T) → Puts (kept_cells kept given.old.items) (given_entry (get_or given.old.items i c)) (kept_cells result given.new.items) }
-    ensures rest { drop (i + 1) given.new.items ≡ drop (i + 1) given.old.items }
-    ensures len { length given.new.items ≡ length given.old.items }
+    requires room { i < length input.old.items }
+    ensures puts { (c : Numbered T) → PutsEntry (kept_cells kept input.old.items) (numbered_entry (get_or input.old.items i c)) (kept_cells result input.new.items) }
+    ensures rest { drop (i + 1) input.new.items ≡ drop (i + 1) input.old.items }
+    ensures len { length input.new.items ≡ length input.old.items }
     ensures few { result ≤ i + 1 }
 {
-    if ends_at(given, kept, i) {
-        given.swap(kept - 1, i);
+    if ends_at(input, kept, i) {
+        input.swap(kept - 1, i);
         return kept;
     }
-    given.swap(kept, i);
+    input.swap(kept, i);
     kept + 1
 }
 
 /// Sorts cells by row and column, where their numbers ascend at first; of those of one position the one
 /// with the greatest number stays. Takes no memory.
-fn settle<T: CellType>(given: &mut Vec<Given<T>>)
-    requires { IsNumbered given.old.items }
-    ensures ascending { IsAscending (map cell_position (map given_entry given.new.items)) }
-    ensures last { (p : Position) → last_at (map given_entry given.new.items) p ≡ last_at (map given_entry given.old.items) p }
+fn settle<T: CellType>(input: &mut Vec<Numbered<T>>)
+    requires { IsNumbered input.old.items }
+    ensures ascending { IsAscending (map cell_position (map numbered_entry input.new.items)) }
+    ensures last { (p : Position) → last_at (map numbered_entry input.new.items) p ≡ last_at (map numbered_entry input.old.items) p }
 {
-    sort_given(given);
+    sort_numbered(input);
     let mut kept = 0;
-    for i in 0..given.len() {
-        kept = put(given, kept, i);
+    for i in 0..input.len() {
+        kept = put(input, kept, i);
     }
-    given.truncate(kept);
+    input.truncate(kept);
 }
 
 /// Cells in the order in which they are given, each with its number. Contracts see the list of the cells.
 #[derive(Drop)]
 pub struct Unsettled<T: CellType> {
-    given: Vec<Given<T>>,
+    input: Vec<Numbered<T>>,
 }
 
 impl<T: CellType> Model for Unsettled<T> {
     ghost use Rattle.std.specs.Prelude.{List, length, map};
-    ghost use Rattle.xls_range.specs.Positions.{Entry, IsNumberedTo, given_entry};
+    ghost use Rattle.xls_range.specs.Positions.{Entry, IsNumberedTo, numbered_entry};
 
     ghost Value = { List (Entry T) };
 
-    ghost view = { λ u. map given_entry u.given.items };
+    ghost view = { λ u. map numbered_entry u.input.items };
 
-    ghost invariant = { λ u. IsNumberedTo (length u.given.items) u.given.items };
+    ghost invariant = { λ u. IsNumberedTo (length u.input.items) u.input.items };
 }
 
 impl<T: CellType> Unsettled<T> {
@@ -115,7 +115,7 @@ impl<T: CellType> Unsettled<T> {
         ensures { IfOk result (λ u. u ≡ []) }
     {
         Ok(Unsettled {
-            given: Vec::with_capacity(alloc, count)?,
+            input: Vec::with_capacity(alloc, count)?,
         })
     }
 
@@ -124,8 +124,8 @@ impl<T: CellType> Unsettled<T> {
     pub fn push(&mut self, cell: Cell<T>) -> Result<(), AllocError>
         ensures { OnOk result (self.new ≡ self.old ++ cell ∷ []) }
     {
-        let number = self.given.len() as u64;
-        self.given.push(Given { cell, number })?;
+        let number = self.input.len() as u64;
+        self.input.push(Numbered { cell, number })?;
         Ok(())
     }
 
@@ -135,44 +135,44 @@ impl<T: CellType> Unsettled<T> {
         ensures ascending { IsAscending (map cell_position result) }
         ensures last { (p : Position) → last_at result p ≡ last_at self p }
     {
-        let Unsettled { mut given } = self;
-        settle(&mut given);
-        Settled { given }
+        let Unsettled { mut input } = self;
+        settle(&mut input);
+        Settled { input }
     }
 }
 
 /// Cells in strictly ascending order of their positions. Contracts see the list of them.
 #[derive(Drop)]
 pub struct Settled<T: CellType> {
-    given: Vec<Given<T>>,
+    input: Vec<Numbered<T>>,
 }
 
 impl<T: CellType> Model for Settled<T> {
     ghost use Rattle.std.specs.Prelude.{List, map};
-    ghost use Rattle.xls_range.specs.Positions.{Entry, given_entry};
+    ghost use Rattle.xls_range.specs.Positions.{Entry, numbered_entry};
 
     ghost Value = { List (Entry T) };
 
-    ghost view = { λ s. map given_entry s.given.items };
+    ghost view = { λ s. map numbered_entry s.input.items };
 }
 
 impl<T: CellType> Settled<T> {
     ghost use Rattle.std.specs.Prelude.{◌≡◌, IfOk, map};
-    ghost use Rattle.xls_range.specs.Positions.{given_entry};
+    ghost use Rattle.xls_range.specs.Positions.{numbered_entry};
 
     /// The cells, each with the number that it had before. Takes no memory.
-    pub fn as_slice(&self) -> &[Given<T>]
-        ensures { map given_entry result.now ≡ self.now }
+    pub fn as_slice(&self) -> &[Numbered<T>]
+        ensures { map numbered_entry result.now ≡ self.now }
     {
-        &self.given
+        &self.input
     }
 
     /// The cells alone.
     fn into_cells(self, alloc: Global) -> Result<Vec<Cell<T>>, AllocError>
         ensures { IfOk result (λ v. v.items ≡ self) }
     {
-        let mut cells = Vec::with_capacity(alloc, self.given.len())?;
-        for each in self.given {
+        let mut cells = Vec::with_capacity(alloc, self.input.len())?;
+        for each in self.input {
             cells.push(each.cell)?;
         }
         Ok(cells)
@@ -180,17 +180,17 @@ impl<T: CellType> Settled<T> {
 }
 
 /// The cells, to be settled.
-fn in_given_order<T: CellType>(
+fn in_input_order<T: CellType>(
     alloc: Global,
     cells: Vec<Cell<T>>,
 ) -> Result<Unsettled<T>, AllocError>
     ensures { IfOk result (λ u. u ≡ cells.items) }
 {
-    let mut given = Unsettled::with_room(alloc, cells.len())?;
+    let mut input = Unsettled::with_room(alloc, cells.len())?;
     for cell in cells {
-        given.push(cell)?;
+        input.push(cell)?;
     }
-    Ok(given)
+    Ok(input)
 }
 
 /// The cells in strictly ascending order of their positions, row before column. Of the cells of one
@@ -205,6 +205,6 @@ pub fn sorted_cells<T: CellType>(
     if is_ascending(&cells) {
         return Ok(cells);
     }
-    let given = in_given_order(alloc, cells)?;
-    given.settled().into_cells(alloc)
+    let input = in_input_order(alloc, cells)?;
+    input.settled().into_cells(alloc)
 }

@@ -1,6 +1,6 @@
 -- Texts one after another.
 use Rattle.std.proofs.Common.{◌≡◌, ℕ, ◌+◌, ◌<◌, List, [], ◌∷◌, ◌++◌, length, get_or, take, append_assoc, append-nil, map, ◌≤◌, refl, sym, ap, subst, ◌∙◌}
-use Rattle.xls_decimals.specs.Added.{Adds}
+use Rattle.xls_decimals.specs.Added.{AddsText}
 use Rattle.xls_readable.specs.Values.{Concatenates}
 use Rattle.std.proofs.lemmas.List.{take_more}
 use Rattle.std.proofs.lemmas.List.{take_all}
@@ -14,8 +14,8 @@ snoc P (y ∷ ys) x a b all p =
 -- one more, after those before an index
 pub concatenates_more : {X : Type 0} (P : X → List ℕ → Type 0) (xs : List X) (x : X) (i : ℕ) (old now new : List ℕ)
     → i < length xs → x ≡ get_or xs i x
-    → Adds (Concatenates P (take i xs)) old now → Adds (P x) now new
-    → Adds (Concatenates P (take (i + 1) xs)) old new
+    → AddsText (Concatenates P (take i xs)) old now → AddsText (P x) now new
+    → AddsText (Concatenates P (take (i + 1) xs)) old new
 concatenates_more P xs x i old now new l is so_far here =
     let step : take (i + 1) xs ≡ take i xs ++ x ∷ [] = take_more xs i x l ∙ ap (λ y. take i xs ++ y ∷ []) (sym is) in (
       so_far.0 ++ here.0,
@@ -30,7 +30,7 @@ concatenates_map f P (x ∷ xs) text all = (all.0, all.1, all.2, concatenates_ma
 
 -- all of them, by what they hold
 pub adds_map : {X Y : Type 0} (f : X → Y) (P : Y → List ℕ → Type 0) (xs : List X) (i : ℕ) (old new : List ℕ)
-    → length xs ≤ i → Adds (Concatenates (λ x. P (f x)) (take i xs)) old new
-    → Adds (Concatenates P (map f xs)) old new
+    → length xs ≤ i → AddsText (Concatenates (λ x. P (f x)) (take i xs)) old new
+    → AddsText (Concatenates P (map f xs)) old new
 adds_map f P xs i old new l all =
     (all.0, concatenates_map f P xs all.0 (subst (λ ys. Concatenates (λ x. P (f x)) ys all.0) (take_all i xs l) all.1), all.2)

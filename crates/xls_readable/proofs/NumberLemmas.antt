@@ -18,7 +18,7 @@ use Rattle.xls_bytes.proofs.WholeLemmas.{whole_of_is, unsigned_abs-signed}
 use Rattle.xls_dates.specs.Numbers.{decimals_text, hundredths_text}
 use Rattle.xls_dates.specs.declared.numbers.Number.{Number}
 use Rattle.xls_dates.specs.declared.numbers.Number.TheVariants.{Bits, Whole, Hundredths, BitsOver100}
-use Rattle.xls_decimals.specs.Decimals.{IsDecimal, IsDouble, IsDoubleOver100, IsFraction, bits_text, first_of, large_whole_of, over_100, short_whole_of, whole_or_bits_text}
+use Rattle.xls_decimals.specs.Decimals.{IsDecimal, IsDouble, IsDoubleOver100, IsFraction, decimal_of_bits, first_of, large_whole_of, over_100, short_whole_of, whole_or_bits_text}
 use Rattle.xls_readable.specs.Json.{IsBare}
 use Rattle.xls_readable.specs.Laws.{IsFiniteNumber, NumbersAreBare}
 use Rattle.xls_readable.proofs.QuotientLemmas.{finite_over_100, finite_quotient_bits}
@@ -132,7 +132,7 @@ unfolding after_number
 minus_zero = refl
 
 fraction_number : (test : Bool) (bits : ℕ) (text : List ℕ) → test ≡ false
-    → MatchOption (if test then Some (bits_text bits) else None) (IsFraction bits text) (λ fixed. text ≡ fixed) → IsNumber text
+    → MatchOption (if test then Some (decimal_of_bits bits) else None) (IsFraction bits text) (λ fixed. text ≡ fixed) → IsNumber text
 fraction_number true bits text e h = absurd (true≢false e)
 fraction_number false bits text e h = number_of_layout text h.layout
 
@@ -156,7 +156,7 @@ quotient_number false bits text other e finite h = absurd (false≢true e)
 
 over_number : (test : Bool) (whole : Option ℤ) (bits : ℕ) (text : List ℕ) → exponent_of bits < 2047 → IsShort whole
     → MatchBool test (text ≡ codes "-0") (MatchOption whole
-    (MatchBool (float_is_finite (over_100 bits)) (IsDouble (to_bits binary64 (over_100 bits)) text) (text ≡ bits_text bits ++ codes "/100"))
+    (MatchBool (float_is_finite (over_100 bits)) (IsDouble (to_bits binary64 (over_100 bits)) text) (text ≡ decimal_of_bits bits ++ codes "/100"))
     (λ n. text ≡ hundredths_text n))
     → IsNumber text
 over_number true whole bits text finite short h = subst IsNumber (sym h) minus_zero
@@ -186,7 +186,7 @@ bare_is plain out is (inl h) = h.1
 bare_is plain out is (inr h) = absurd (h.0 is)
 
 pub numbers_bare : NumbersAreBare
-numbers_bare n out finite shown =
-    let is = finite_number n shown.0 finite shown.1 in
-    let same = bare_is shown.0 out is shown.2 in
-    (subst (IsDecimal n) (sym same) shown.1, subst IsNumber (sym same) is)
+numbers_bare n out finite displayed =
+    let is = finite_number n displayed.0 finite displayed.1 in
+    let same = bare_is displayed.0 out is displayed.2 in
+    (subst (IsDecimal n) (sym same) displayed.1, subst IsNumber (sym same) is)

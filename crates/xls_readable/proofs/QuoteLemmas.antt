@@ -14,7 +14,7 @@ use Rattle.xls_bytes.specs.Doubles.{exponent_of, whole_of}
 use Rattle.xls_dates.specs.Numbers.{decimals_text, hundredths_text, minus_if_negative, sixteen_digits}
 use Rattle.xls_dates.specs.declared.numbers.Number.{Number}
 use Rattle.xls_dates.specs.declared.numbers.Number.TheVariants.{Bits, Whole, Hundredths, BitsOver100}
-use Rattle.xls_decimals.specs.Decimals.{IsDecimal, IsDouble, IsFraction, bits_text, over_100, short_whole_of, whole_or_bits_text}
+use Rattle.xls_decimals.specs.Decimals.{IsDecimal, IsDouble, IsFraction, decimal_of_bits, over_100, short_whole_of, whole_or_bits_text}
 use Rattle.xls_readable.specs.Csv.{csv_field, is_marked}
 
 module _ (d : ℕ) (low : d < 0x2D) where
@@ -66,7 +66,7 @@ module _ (d : ℕ) (low : d < 0x2D) where
       let zeros = 16 - length (digits 16 false bits) in
       bare-append (replicate zeros 48) (digits 16 false bits) (bare_zeros zeros) (bare_digits 16 bits)
 
-  bare_bits : (bits : ℕ) → IsBare (bits_text bits)
+  bare_bits : (bits : ℕ) → IsBare (decimal_of_bits bits)
   bare_bits bits =
       let text = sixteen_digits bits in
       bare-cons 48 (120 ∷ text) (omega arith) (bare-cons 120 text (omega arith) (bare_sixteen bits))
@@ -134,8 +134,8 @@ module _ (d : ℕ) (low : d < 0x2D) where
   bare_text fixed text e bare = rw e bare
 
   unless_finite : (t : Bool) (bits : ℕ) (text : List ℕ)
-      → MatchOption (if t then Some (bits_text bits) else None) (IsFraction bits text) (λ fixed. text ≡ fixed) → IsBare text
-  unless_finite true bits text e = bare_text (bits_text bits) text e (bare_bits bits)
+      → MatchOption (if t then Some (decimal_of_bits bits) else None) (IsFraction bits text) (λ fixed. text ≡ fixed) → IsBare text
+  unless_finite true bits text e = bare_text (decimal_of_bits bits) text e (bare_bits bits)
   unless_finite false bits text e = bare_fraction text e.layout
 
   unless_whole : (n : Option ℤ) (bits : ℕ) (text : List ℕ)
@@ -154,12 +154,12 @@ module _ (d : ℕ) (low : d < 0x2D) where
 
   -- the quotient by 100, or the bits of one that isn't finite
   abbrev IsQuotient : Bool → ℕ → List ℕ → Type 0
-  IsQuotient t bits text = MatchBool t (IsDouble (to_bits binary64 (over_100 bits)) text) (text ≡ bits_text bits ++ codes "/100")
+  IsQuotient t bits text = MatchBool t (IsDouble (to_bits binary64 (over_100 bits)) text) (text ≡ decimal_of_bits bits ++ codes "/100")
 
   quotient : (t : Bool) (bits : ℕ) (text : List ℕ) → IsQuotient t bits text → IsBare text
   quotient true bits text e = bare_double (to_bits binary64 (over_100 bits)) text e
   quotient false bits text e =
-      bare_text (bits_text bits ++ codes "/100") text e (bare-append (bits_text bits) (codes "/100") (bare_bits bits) over_hundred)
+      bare_text (decimal_of_bits bits ++ codes "/100") text e (bare-append (decimal_of_bits bits) (codes "/100") (bare_bits bits) over_hundred)
 
   unless_hundredths : (n : Option ℤ) (bits : ℕ) (text : List ℕ)
       → MatchOption n (IsQuotient (float_is_finite (over_100 bits)) bits text) (λ n. text ≡ hundredths_text n) → IsBare text

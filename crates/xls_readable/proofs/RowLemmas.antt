@@ -1,13 +1,13 @@
 -- The fields of values, one after another, are a row.
 use Rattle.std.proofs.Common.{◌≡◌, ℕ, List, [], ◌∷◌, ◌++◌, append_assoc, ap, ◌∙◌, Result, Ok, Err}
 use Rattle.std.specs.Prelude.{OnOk}
-use Rattle.xls_decimals.specs.Added.{Adds}
+use Rattle.xls_decimals.specs.Added.{AddsText}
 use Rattle.xls_readable.specs.declared.values.Value.{Value}
 use Rattle.xls_readable.specs.Values.{Concatenates}
-use Rattle.xls_readable.specs.Csv.{AreTexts, IsField, IsJoined, IsSeparated, csv_field, separated}
+use Rattle.xls_readable.specs.Csv.{AreValueTexts, IsField, IsJoined, IsSeparated, csv_field, separated}
 
 collected : (d : ℕ) (values : List Value) (text : List ℕ) → Concatenates (IsSeparated d) values text
-    → (texts : List (List ℕ)) × AreTexts values texts × (text ≡ separated d texts)
+    → (texts : List (List ℕ)) × AreValueTexts values texts × (text ≡ separated d texts)
 collected d [] text none = ([], tt, none)
 collected d (v ∷ vs) text all =
     let others = collected d vs all.1 all.3 in (
@@ -18,8 +18,8 @@ collected d (v ∷ vs) text all =
 
 -- the first field, and those after it
 pub joined_all : {E : Type 0} (r : Result (Unit {0}) E) (d : ℕ) (whole : List Value) (v : Value) (vs : List Value) (old mid new : List ℕ)
-    → whole ≡ v ∷ vs → Adds (IsField d v) old mid → OnOk r (Adds (Concatenates (IsSeparated d) vs) mid new)
-    → OnOk r (Adds (IsJoined d whole) old new)
+    → whole ≡ v ∷ vs → AddsText (IsField d v) old mid → OnOk r (AddsText (Concatenates (IsSeparated d) vs) mid new)
+    → OnOk r (AddsText (IsJoined d whole) old new)
 joined_all (Err e) d whole v vs old mid new is first more = more
 joined_all (Ok x) d whole v vs old mid new is first more =
     let others = collected d vs more.0 more.1 in

@@ -17,7 +17,7 @@ use Rattle.xls_readable.specs.declared.forms.Form.TheVariants.{Text, Json}
 use Rattle.xls_readable.specs.declared.properties.Property.TheVariants as property
 use Rattle.xls_readable.specs.Values.{truth_text, Concatenates}
 use Rattle.xls_readable.specs.Csv.{is_delimiter, is_marked, csv_field, csv_row}
-use Rattle.xls_readable.specs.Items.{Item, Named, IsItemText, IsTabbed, count, int, number, truth, moment, failure}
+use Rattle.xls_readable.specs.Items.{FieldItem, NamedItem, IsItemText, IsTabbed, count, int, number, truth, moment, failure}
 use Rattle.xls_readable.specs.Json.{IsItemJson, IsMember}
 use Rattle.xls_readable.specs.Lines.{
   IsLine,
@@ -87,7 +87,7 @@ known_moments = refl
 
 -- the names of the fields of each line, in their order: dates, name, sheet, cell, formula, a text (as of
 -- a refusal), custom property
-pub known_members : map (map (λ (m : Named). m.0))
+pub known_members : map (map (λ (m : NamedItem). m.0))
     (dates_members true ∷ name_members [] [] ∷ sheet_members [] types.WorkSheet states.Visible ∷ cell_members 0 0 [] (count 0)
     ∷ formula_members 0 0 [] ∷ text_members [] ∷ custom_members [] [] ∷ [])
     ≡ (codes "year" ∷ [])
@@ -100,11 +100,11 @@ pub known_members : map (map (λ (m : Named). m.0))
     ∷ []
 known_members = refl
 
-pub known_merge : (d : Dimensions) → map (λ (m : Named). m.0) (merge_members d)
+pub known_merge : (d : Dimensions) → map (λ (m : NamedItem). m.0) (merge_members d)
     ≡ codes "first_row" ∷ codes "first_column" ∷ codes "last_row" ∷ codes "last_column" ∷ []
 known_merge d = refl
 
-pub known_ref_names : (d : Dimensions) → map (λ (m : Named). m.0) (ref_members [] (0, 0) [] d)
+pub known_ref_names : (d : Dimensions) → map (λ (m : NamedItem). m.0) (ref_members [] (0, 0) [] d)
     ≡ codes "sheet" ∷ codes "row" ∷ codes "column" ∷ codes "cited_sheet"
     ∷ codes "first_row" ∷ codes "first_column" ∷ codes "last_row" ∷ codes "last_column" ∷ []
 known_ref_names d = refl
@@ -128,43 +128,43 @@ known_kinds n x b d e = refl
 
 -- ---- whole lines, as text and as JSON
 
-abbrev AreShown : (Item → List ℕ → Type 0) → List Named → List (List ℕ) → Type 0
-AreShown P [] [] = Unit {0}
-AreShown P (m ∷ ms) (shown ∷ rest) = P m.1 shown × AreShown P ms rest
-AreShown P ms texts = ⊥
+abbrev AreDisplayed : (FieldItem → List ℕ → Type 0) → List NamedItem → List (List ℕ) → Type 0
+AreDisplayed P [] [] = Unit {0}
+AreDisplayed P (m ∷ ms) (displayed ∷ rest) = P m.1 displayed × AreDisplayed P ms rest
+AreDisplayed P ms texts = ⊥
 
 abbrev tabbed : List (List ℕ) → List ℕ
 tabbed [] = []
-tabbed (shown ∷ rest) = (codes "\t" ++ shown) ++ tabbed rest
+tabbed (displayed ∷ rest) = (codes "\t" ++ displayed) ++ tabbed rest
 
-abbrev members : List Named → List (List ℕ) → List ℕ
+abbrev members : List NamedItem → List (List ℕ) → List ℕ
 members [] texts = []
 members (m ∷ ms) [] = []
-members (m ∷ ms) (shown ∷ rest) = (codes "," ++ (quoted m.0 ++ (codes ":" ++ shown))) ++ members ms rest
+members (m ∷ ms) (displayed ∷ rest) = (codes "," ++ (quoted m.0 ++ (codes ":" ++ displayed))) ++ members ms rest
 
-are_tabbed : (ms : List Named) (texts : List (List ℕ)) → AreShown IsItemText ms texts → Concatenates IsTabbed ms (tabbed texts)
+are_tabbed : (ms : List NamedItem) (texts : List (List ℕ)) → AreDisplayed IsItemText ms texts → Concatenates IsTabbed ms (tabbed texts)
 are_tabbed [] [] h = refl
-are_tabbed (m ∷ ms) (shown ∷ rest) h = (codes "\t" ++ shown, tabbed rest, (shown, h.0, refl), are_tabbed ms rest h.1, refl)
-are_tabbed [] (shown ∷ rest) h = absurd h
+are_tabbed (m ∷ ms) (displayed ∷ rest) h = (codes "\t" ++ displayed, tabbed rest, (displayed, h.0, refl), are_tabbed ms rest h.1, refl)
+are_tabbed [] (displayed ∷ rest) h = absurd h
 are_tabbed (m ∷ ms) [] h = absurd h
 
-are_members : (ms : List Named) (texts : List (List ℕ)) → AreShown IsItemJson ms texts → Concatenates IsMember ms (members ms texts)
+are_members : (ms : List NamedItem) (texts : List (List ℕ)) → AreDisplayed IsItemJson ms texts → Concatenates IsMember ms (members ms texts)
 are_members [] [] h = refl
-are_members (m ∷ ms) (shown ∷ rest) h =
-    (codes "," ++ (quoted m.0 ++ (codes ":" ++ shown)), members ms rest, (shown, h.0, refl), are_members ms rest h.1, refl)
-are_members [] (shown ∷ rest) h = absurd h
+are_members (m ∷ ms) (displayed ∷ rest) h =
+    (codes "," ++ (quoted m.0 ++ (codes ":" ++ displayed)), members ms rest, (displayed, h.0, refl), are_members ms rest h.1, refl)
+are_members [] (displayed ∷ rest) h = absurd h
 are_members (m ∷ ms) [] h = absurd h
 
-text_line : (kind : List ℕ) (ms : List Named) (texts : List (List ℕ)) → AreShown IsItemText ms texts
+text_line : (kind : List ℕ) (ms : List NamedItem) (texts : List (List ℕ)) → AreDisplayed IsItemText ms texts
     → IsLine Text kind ms (kind ++ (tabbed texts ++ codes "\n"))
 text_line kind ms texts h = (tabbed texts, are_tabbed ms texts h, refl)
 
-json_line : (kind : List ℕ) (ms : List Named) (texts : List (List ℕ)) → AreShown IsItemJson ms texts
+json_line : (kind : List ℕ) (ms : List NamedItem) (texts : List (List ℕ)) → AreDisplayed IsItemJson ms texts
     → IsLine Json kind ms (codes "{\"line\":" ++ (quoted kind ++ (members ms texts ++ codes "}\n")))
 json_line kind ms texts h = (members ms texts, are_members ms texts h, refl)
 
 -- a formula in row 3, column 4 of the sheet `A` that cites rows 1 to 5, columns 2 to 6 of a sheet with a tab in its name
-abbrev ref : List Named
+abbrev ref : List NamedItem
 ref = ref_members (codes "A") (3, 4) (codes "B\tC") (record { start = (1, 2); end = (5, 6) })
 
 pub known_ref : IsLine Text (codes "ref") ref (codes "ref\tA\t3\t4\tB\\tC\t1\t2\t5\t6\n")

@@ -21,9 +21,9 @@ pub stretch : (f : ℕ → List ℕ) (text plain escape others after : List ℕ)
     → escape ≡ f (get_or text at 0) → plain ≡ take at text → others ≡ drop at text
     → after ≡ drop 1 others
     → flat_map f text ≡ plain ++ (escape ++ flat_map f after)
-stretch f text plain escape others after at l same is front back rest =
+stretch f text plain escape others after at l same is prefix back rest =
     at_byte f text at l
-    ∙ rw (same, is, front, rest, back, drop-drop 1 at text) refl
+    ∙ rw (same, is, prefix, rest, back, drop-drop 1 at text) refl
 
 -- after a stretch the first byte is a character
 pub after_one : (text others : List ℕ) (at : ℕ) → IsUtf8 text → at < length text

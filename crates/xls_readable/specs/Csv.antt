@@ -60,17 +60,17 @@ IsSeparated delimiter value field =
     (text : List ℕ) × IsFieldText value text × (field ≡ delimiter ∷ csv_field delimiter text)
 
 -- the texts of values, in their order
-abbrev pub AreTexts : List Value → List (List ℕ) → Type 0
-AreTexts [] [] = Unit {0}
-AreTexts (value ∷ values) (text ∷ texts) = IsFieldText value text × AreTexts values texts
-AreTexts values texts = ⊥
+abbrev pub AreValueTexts : List Value → List (List ℕ) → Type 0
+AreValueTexts [] [] = Unit {0}
+AreValueTexts (value ∷ values) (text ∷ texts) = IsFieldText value text × AreValueTexts values texts
+AreValueTexts values texts = ⊥
 
 -- the fields of values, with a delimiter between two
 abbrev pub IsJoined : ℕ → List Value → List ℕ → Type 0
 IsJoined delimiter values text =
-    (texts : List (List ℕ)) × AreTexts values texts × (text ≡ joined delimiter texts)
+    (texts : List (List ℕ)) × AreValueTexts values texts × (text ≡ joined delimiter texts)
 
 -- the row of values
 abbrev pub IsRow : ℕ → List Value → List ℕ → Type 0
 IsRow delimiter values row =
-    (texts : List (List ℕ)) × AreTexts values texts × (row ≡ csv_row delimiter texts)
+    (texts : List (List ℕ)) × AreValueTexts values texts × (row ≡ csv_row delimiter texts)

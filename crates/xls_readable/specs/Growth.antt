@@ -2,5 +2,5 @@
 use Rattle.std.specs.Prelude.{◌≡◌, ℕ, List, ◌++◌}
 
 -- new is old and some bytes at its end
-abbrev pub Grows : List ℕ → List ℕ → Type 0
-Grows old new = (added : List ℕ) × (new ≡ old ++ added)
+abbrev pub GrowsText : List ℕ → List ℕ → Type 0
+GrowsText old new = (added : List ℕ) × (new ≡ old ++ added)

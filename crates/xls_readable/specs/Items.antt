@@ -18,18 +18,18 @@ use Rattle.xls_readable.specs.Values.{Concatenates}
 
 -- what a field holds: a word as it is, a text, a formula's text, a count, a whole number, a number, a
 -- truth value, a date or a duration, an error value
-pub data Item : Type 0 where
-  word : List ℕ → Item
-  text : List ℕ → Item
-  formula : List ℕ → Item
-  count : ℕ → Item
-  int : ℤ → Item
-  number : Number → Item
-  truth : Bool → Item
-  moment : DateParts → Item
-  failure : CellErrorType → Item
+pub data FieldItem : Type 0 where
+  word : List ℕ → FieldItem
+  text : List ℕ → FieldItem
+  formula : List ℕ → FieldItem
+  count : ℕ → FieldItem
+  int : ℤ → FieldItem
+  number : Number → FieldItem
+  truth : Bool → FieldItem
+  moment : DateParts → FieldItem
+  failure : CellErrorType → FieldItem
 
-abbrev pub item_of : Field → Item
+abbrev pub item_of : Field → FieldItem
 item_of (field.Word w) = word w.now
 item_of (field.Text t) = text t.now
 item_of (field.Formula f) = formula f.now
@@ -41,16 +41,16 @@ item_of (field.Moment d) = moment d
 item_of (field.Failure e) = failure e
 
 -- a name and what the field of that name holds
-abbrev pub Named : Type 0
-Named = List ℕ × Item
+abbrev pub NamedItem : Type 0
+NamedItem = List ℕ × FieldItem
 
-abbrev pub named_of : Member → Named
+abbrev pub named_of : Member → NamedItem
 named_of m = (m.name.now, item_of m.field)
 
 -- ---- lines of text
 
 -- the text of a field: texts escaped, numbers in decimal, also those of formulas
-abbrev pub IsItemText : Item → List ℕ → Type 0
+abbrev pub IsItemText : FieldItem → List ℕ → Type 0
 IsItemText (word w) out = out ≡ w
 IsItemText (text t) out = out ≡ escaped_text (chars t)
 IsItemText (formula f) out = (plain : List ℕ) × IsFormula f plain × (out ≡ escaped_text (chars plain))
@@ -62,10 +62,10 @@ IsItemText (moment d) out = IsDateOrDuration d out
 IsItemText (failure e) out = out ≡ error_text e
 
 -- the same after a tab
-abbrev pub IsTabbed : Named → List ℕ → Type 0
-IsTabbed m out = (shown : List ℕ) × IsItemText m.1 shown × (out ≡ codes "\t" ++ shown)
+abbrev pub IsTabbed : NamedItem → List ℕ → Type 0
+IsTabbed m out = (displayed : List ℕ) × IsItemText m.1 displayed × (out ≡ codes "\t" ++ displayed)
 
 -- a word and the fields after it, each after a tab, and a newline
-abbrev pub IsTextLine : List ℕ → List Named → List ℕ → Type 0
+abbrev pub IsTextLine : List ℕ → List NamedItem → List ℕ → Type 0
 IsTextLine kind members out =
     (fields : List ℕ) × Concatenates IsTabbed members fields × (out ≡ kind ++ (fields ++ codes "\n"))

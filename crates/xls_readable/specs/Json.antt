@@ -8,7 +8,7 @@ use Rattle.xls_decimals.specs.Decimals.{IsDecimal}
 use Rattle.xls_decimals.specs.Formulas.{IsFormula}
 use Rattle.xls_decimals.specs.Moments.{IsDateOrDuration}
 use Rattle.xls_readable.specs.Values.{Concatenates}
-use Rattle.xls_readable.specs.Items.{Item, Named, word, text, formula, count, int, number, truth, moment, failure}
+use Rattle.xls_readable.specs.Items.{FieldItem, NamedItem, word, text, formula, count, int, number, truth, moment, failure}
 
 -- a byte of a string that stands for itself
 abbrev pub is_plain : ℕ → Bool
@@ -20,7 +20,7 @@ IsBare plain out = (IsNumber plain × (out ≡ plain)) ⊎ ((IsNumber plain → 
 
 -- a field: numbers as they are, where they are numbers of JSON; truth values; every other one as a
 -- string
-abbrev pub IsItemJson : Item → List ℕ → Type 0
+abbrev pub IsItemJson : FieldItem → List ℕ → Type 0
 IsItemJson (word w) out = out ≡ quoted w
 IsItemJson (text t) out = out ≡ quoted t
 IsItemJson (formula f) out = (plain : List ℕ) × IsFormula f plain × (out ≡ quoted plain)
@@ -32,12 +32,12 @@ IsItemJson (moment d) out = (plain : List ℕ) × IsDateOrDuration d plain × (o
 IsItemJson (failure e) out = out ≡ quoted (error_text e)
 
 -- a member of an object, after a comma
-abbrev pub IsMember : Named → List ℕ → Type 0
+abbrev pub IsMember : NamedItem → List ℕ → Type 0
 IsMember m out =
-    (shown : List ℕ) × IsItemJson m.1 shown × (out ≡ codes "," ++ (quoted m.0 ++ (codes ":" ++ shown)))
+    (displayed : List ℕ) × IsItemJson m.1 displayed × (out ≡ codes "," ++ (quoted m.0 ++ (codes ":" ++ displayed)))
 
 -- an object on a line: the line's word under the name `line`, and its fields under theirs
-abbrev pub IsJsonLine : List ℕ → List Named → List ℕ → Type 0
+abbrev pub IsJsonLine : List ℕ → List NamedItem → List ℕ → Type 0
 IsJsonLine kind members out =
     (fields : List ℕ) × Concatenates IsMember members fields
     × (out ≡ codes "{\"line\":" ++ (quoted kind ++ (fields ++ codes "}\n")))

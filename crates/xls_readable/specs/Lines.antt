@@ -14,10 +14,10 @@ use Rattle.xls_readable.specs.declared.forms.Form.{Form}
 use Rattle.xls_readable.specs.declared.forms.Form.TheVariants.{Text, Json}
 use Rattle.xls_readable.specs.declared.properties.Property.{Property}
 use Rattle.xls_readable.specs.declared.properties.Property.TheVariants as property
-pub use Rattle.xls_readable.specs.Items.{Item, Named, IsTextLine, item_of, word, text, formula, count, int, number, truth, moment, failure}
+pub use Rattle.xls_readable.specs.Items.{FieldItem, NamedItem, IsTextLine, item_of, word, text, formula, count, int, number, truth, moment, failure}
 
 -- a line of a word and fields, as text or as JSON
-abbrev pub IsLine : Form → List ℕ → List Named → List ℕ → Type 0
+abbrev pub IsLine : Form → List ℕ → List NamedItem → List ℕ → Type 0
 IsLine Text kind members out = IsTextLine kind members out
 IsLine Json kind members out = IsJsonLine kind members out
 
@@ -26,16 +26,16 @@ year_text true = codes "1904"
 year_text false = codes "1900"
 
 -- the year that dates count from
-abbrev pub dates_members : Bool → List Named
+abbrev pub dates_members : Bool → List NamedItem
 dates_members is_1904 = (codes "year", word (year_text is_1904)) ∷ []
 
 -- a name, and a text under a label
-abbrev pub two_texts : List ℕ → List ℕ → List ℕ → List Named
-two_texts name label shown = (codes "name", text name) ∷ (label, text shown) ∷ []
+abbrev pub two_texts : List ℕ → List ℕ → List ℕ → List NamedItem
+two_texts name label displayed = (codes "name", text name) ∷ (label, text displayed) ∷ []
 
 -- a defined name and its text
-abbrev pub name_members : List ℕ → List ℕ → List Named
-name_members name shown = two_texts name (codes "text") shown
+abbrev pub name_members : List ℕ → List ℕ → List NamedItem
+name_members name displayed = two_texts name (codes "text") displayed
 
 abbrev pub type_text : SheetType → List ℕ
 type_text types.WorkSheet = codes "worksheet"
@@ -50,14 +50,14 @@ visible_text states.Hidden = codes "hidden"
 visible_text states.VeryHidden = codes "veryhidden"
 
 -- name, kind and visibility of a sheet
-abbrev pub sheet_members : List ℕ → SheetType → SheetVisible → List Named
+abbrev pub sheet_members : List ℕ → SheetType → SheetVisible → List NamedItem
 sheet_members name kind visible =
     (codes "name", text name) ∷ (codes "kind", word (type_text kind)) ∷ (codes "visibility", word (visible_text visible)) ∷ []
 
 -- row, column, kind and value of a cell
-abbrev pub cell_members : ℕ → ℕ → List ℕ → Item → List Named
-cell_members row column kind shown =
-    (codes "row", count row) ∷ (codes "column", count column) ∷ (codes "kind", word kind) ∷ (codes "value", shown) ∷ []
+abbrev pub cell_members : ℕ → ℕ → List ℕ → FieldItem → List NamedItem
+cell_members row column kind displayed =
+    (codes "row", count row) ∷ (codes "column", count column) ∷ (codes "kind", word kind) ∷ (codes "value", displayed) ∷ []
 
 -- a day or a time of day, or a duration
 abbrev pub moment_kind : ExcelDateTimeType → List ℕ
@@ -65,7 +65,7 @@ moment_kind DateTime = codes "date"
 moment_kind TimeDelta = codes "span"
 
 -- the kind of a value, and what is shown of it; a blank has none
-abbrev pub kind_and_item : Value → Option Named
+abbrev pub kind_and_item : Value → Option NamedItem
 kind_and_item (value.Int n) = Some (codes "int", int n)
 kind_and_item (value.Float n) = Some (codes "float", number n)
 kind_and_item (value.Text t) = Some (codes "text", text t.now)
@@ -82,25 +82,25 @@ IsCellLine form row column v out =
     MatchOption (kind_and_item v) (out ≡ []) (λ k. IsLine form (codes "cell") (cell_members row column k.0 k.1) out)
 
 -- row, column and text of a formula
-abbrev pub formula_members : ℕ → ℕ → List ℕ → List Named
-formula_members row column shown =
-    (codes "row", count row) ∷ (codes "column", count column) ∷ (codes "text", formula shown) ∷ []
+abbrev pub formula_members : ℕ → ℕ → List ℕ → List NamedItem
+formula_members row column displayed =
+    (codes "row", count row) ∷ (codes "column", count column) ∷ (codes "text", formula displayed) ∷ []
 
 -- the corners of a merged region
-abbrev pub merge_members : Dimensions → List Named
+abbrev pub merge_members : Dimensions → List NamedItem
 merge_members d =
     (codes "first_row", count d.start.0) ∷ (codes "first_column", count d.start.1)
     ∷ (codes "last_row", count d.end.0) ∷ (codes "last_column", count d.end.1) ∷ []
 
 -- sheet, row and column of a formula, and of the cells that it cites the sheet and the corners
-abbrev pub ref_members : List ℕ → ℕ × ℕ → List ℕ → Dimensions → List Named
+abbrev pub ref_members : List ℕ → ℕ × ℕ → List ℕ → Dimensions → List NamedItem
 ref_members sheet cell cited_sheet cells =
     (codes "sheet", text sheet) ∷ (codes "row", count cell.0) ∷ (codes "column", count cell.1)
     ∷ (codes "cited_sheet", text cited_sheet) ∷ merge_members cells
 
 -- a text, as that of a refusal or of a property
-abbrev pub text_members : List ℕ → List Named
-text_members shown = (codes "text", text shown) ∷ []
+abbrev pub text_members : List ℕ → List NamedItem
+text_members displayed = (codes "text", text displayed) ∷ []
 
 -- the word of a property of the document
 abbrev pub property_word : Property → List ℕ
@@ -123,5 +123,5 @@ property_word property.Version = codes "version"
 property_word property.AppVersion = codes "app_version"
 
 -- name and value of a custom property
-abbrev pub custom_members : List ℕ → List ℕ → List Named
-custom_members name shown = two_texts name (codes "value") shown
+abbrev pub custom_members : List ℕ → List ℕ → List NamedItem
+custom_members name displayed = two_texts name (codes "value") displayed

@@ -4,7 +4,7 @@ ghost use Rattle.std.specs.Prelude.{◌≡◌, ◌∷◌, ◌++◌, ◌<◌, ◌
 ghost use Rattle.std.specs.List.{flat_map, list_any};
 ghost use Rattle.std.specs.String.{string_bytes, string_len};
 ghost use Rattle.xls_bytes.specs.Growth.{IsGrown};
-ghost use Rattle.xls_decimals.specs.Added.{Adds};
+ghost use Rattle.xls_decimals.specs.Added.{AddsText};
 ghost use Rattle.xls_readable.specs.declared.values.Value.TheVariants.{Float, Int};
 ghost use Rattle.xls_readable.specs.Csv.{IsField, csv_field, doubled, doubled_byte, is_delimiter, is_marked, is_special, quoted, row_end};
 
@@ -170,7 +170,7 @@ fn is_below_numbers(delimiter: Delimiter) -> bool
 // Appends the field of a whole number, which calls for no quotes.
 fn push_whole(n: i64, delimiter: Delimiter, buf: &mut String) -> Result<(), AllocError>
     requires { delimiter < 0x2D }
-    ensures ok { OnOk result (Adds (IsField delimiter (Int n)) (string_bytes buf.old) (string_bytes buf.new)) }
+    ensures ok { OnOk result (AddsText (IsField delimiter (Int n)) (string_bytes buf.old) (string_bytes buf.new)) }
     ensures err { OnErr result (string_bytes buf.new ≡ string_bytes buf.old) }
 {
     push_int(n, buf)
@@ -179,7 +179,7 @@ fn push_whole(n: i64, delimiter: Delimiter, buf: &mut String) -> Result<(), Allo
 // Appends the field of a number, which calls for no quotes.
 fn push_number(n: Number, delimiter: Delimiter, buf: &mut String) -> Result<(), AllocError>
     requires { delimiter < 0x2D }
-    ensures ok { OnOk result (Adds (IsField delimiter (Float n)) (string_bytes buf.old) (string_bytes buf.new)) }
+    ensures ok { OnOk result (AddsText (IsField delimiter (Float n)) (string_bytes buf.old) (string_bytes buf.new)) }
     ensures err { OnErr result (string_bytes buf.new ≡ string_bytes buf.old) }
 {
     push_decimal(n, buf)
@@ -192,7 +192,7 @@ fn push_printed(
     room: &mut String,
     buf: &mut String,
 ) -> Result<(), AllocError>
-    ensures ok { OnOk result (Adds (IsField delimiter value.now)
+    ensures ok { OnOk result (AddsText (IsField delimiter value.now)
         (string_bytes buf.old) (string_bytes buf.new)) }
     ensures err { OnErr result (string_bytes buf.new ≡ string_bytes buf.old) }
 {
@@ -210,7 +210,7 @@ pub fn push_field(
     room: &mut String,
     buf: &mut String,
 ) -> Result<(), AllocError>
-    ensures ok { OnOk result (Adds (IsField delimiter value.now)
+    ensures ok { OnOk result (AddsText (IsField delimiter value.now)
         (string_bytes buf.old) (string_bytes buf.new)) }
     ensures err { OnErr result (string_bytes buf.new ≡ string_bytes buf.old) }
 {

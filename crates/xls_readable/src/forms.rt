@@ -2,7 +2,7 @@
 
 ghost use Rattle.std.specs.Prelude.{◌≡◌, map, OnOk, OnErr};
 ghost use Rattle.std.specs.String.{string_bytes};
-ghost use Rattle.xls_decimals.specs.Added.{Adds};
+ghost use Rattle.xls_decimals.specs.Added.{AddsText};
 ghost use Rattle.xls_readable.specs.Items.{named_of};
 ghost use Rattle.xls_readable.specs.Lines.{IsLine};
 
@@ -28,7 +28,7 @@ pub fn push_line(
     room: &mut String,
     buf: &mut String,
 ) -> Result<(), AllocError>
-    ensures ok { OnOk result (Adds (IsLine form word.now (map named_of members.now))
+    ensures ok { OnOk result (AddsText (IsLine form word.now (map named_of members.now))
         (string_bytes buf.old) (string_bytes buf.new)) }
     ensures err { OnErr result (string_bytes buf.new ≡ string_bytes buf.old) }
 {

@@ -3,8 +3,8 @@
 ghost use Rattle.std.specs.Prelude.{◌≡◌, ◌++◌, map, OnOk, OnErr};
 ghost use Rattle.std.specs.Fmt.{decimal};
 ghost use Rattle.std.specs.String.{string_bytes};
-ghost use Rattle.xls_decimals.specs.Added.{Adds};
-ghost use Rattle.xls_readable.specs.Growth.{Grows};
+ghost use Rattle.xls_decimals.specs.Added.{AddsText};
+ghost use Rattle.xls_readable.specs.Growth.{GrowsText};
 ghost use Rattle.xls_readable.specs.Values.{Concatenates};
 ghost use Rattle.xls_readable.specs.Items.{IsItemText, IsTabbed, IsTextLine, formula, item_of, named_of};
 
@@ -55,7 +55,7 @@ pub(crate) fn push_count(n: u64, buf: &mut String) -> Result<(), AllocError>
 
 // Appends the text of a formula, escaped.
 fn push_formula_text(text: &str, room: &mut String, buf: &mut String) -> Result<(), AllocError>
-    ensures ok { OnOk result (Adds (IsItemText (formula text.now))
+    ensures ok { OnOk result (AddsText (IsItemText (formula text.now))
         (string_bytes buf.old) (string_bytes buf.new)) }
     ensures err { OnErr result (string_bytes buf.new ≡ string_bytes buf.old) }
 {
@@ -66,7 +66,7 @@ fn push_formula_text(text: &str, room: &mut String, buf: &mut String) -> Result<
 
 // Appends the text of a field.
 fn push_item(field: &Field<'_>, room: &mut String, buf: &mut String) -> Result<(), AllocError>
-    ensures ok { OnOk result (Adds (IsItemText (item_of field.now))
+    ensures ok { OnOk result (AddsText (IsItemText (item_of field.now))
         (string_bytes buf.old) (string_bytes buf.new)) }
     ensures err { OnErr result (string_bytes buf.new ≡ string_bytes buf.old) }
 {
@@ -86,9 +86,9 @@ fn push_item(field: &Field<'_>, room: &mut String, buf: &mut String) -> Result<(
 
 // Appends the text of a field after a tab.
 fn push_tabbed(member: &Member<'_>, room: &mut String, buf: &mut String) -> Result<(), AllocError>
-    ensures ok { OnOk result (Adds (IsTabbed (named_of member.now))
+    ensures ok { OnOk result (AddsText (IsTabbed (named_of member.now))
         (string_bytes buf.old) (string_bytes buf.new)) }
-    ensures grown { Grows (string_bytes buf.old) (string_bytes buf.new) }
+    ensures grown { GrowsText (string_bytes buf.old) (string_bytes buf.new) }
 {
     buf.push_str("\t")?;
     push_item(&member.field, room, buf)
@@ -100,9 +100,9 @@ fn push_all_tabbed(
     room: &mut String,
     buf: &mut String,
 ) -> Result<(), AllocError>
-    ensures ok { OnOk result (Adds (Concatenates IsTabbed (map named_of members.now))
+    ensures ok { OnOk result (AddsText (Concatenates IsTabbed (map named_of members.now))
         (string_bytes buf.old) (string_bytes buf.new)) }
-    ensures grown { Grows (string_bytes buf.old) (string_bytes buf.new) }
+    ensures grown { GrowsText (string_bytes buf.old) (string_bytes buf.new) }
 {
     for member in members {
         push_tabbed(member, room, buf)?;
@@ -117,9 +117,9 @@ fn append_text_line(
     room: &mut String,
     buf: &mut String,
 ) -> Result<(), AllocError>
-    ensures ok { OnOk result (Adds (IsTextLine word.now (map named_of members.now))
+    ensures ok { OnOk result (AddsText (IsTextLine word.now (map named_of members.now))
         (string_bytes buf.old) (string_bytes buf.new)) }
-    ensures grown { Grows (string_bytes buf.old) (string_bytes buf.new) }
+    ensures grown { GrowsText (string_bytes buf.old) (string_bytes buf.new) }
 {
     buf.push_str(word)?;
     push_all_tabbed(members, room, buf)?;
@@ -135,7 +135,7 @@ pub fn push_text_line(
     room: &mut String,
     buf: &mut String,
 ) -> Result<(), AllocError>
-    ensures ok { OnOk result (Adds (IsTextLine word.now (map named_of members.now))
+    ensures ok { OnOk result (AddsText (IsTextLine word.now (map named_of members.now))
         (string_bytes buf.old) (string_bytes buf.new)) }
     ensures err { OnErr result (string_bytes buf.new ≡ string_bytes buf.old) }
 {

@@ -5,8 +5,8 @@ ghost use Rattle.std.specs.List.{flat_map};
 ghost use Rattle.std.specs.Char.{digit_char};
 ghost use Rattle.std.specs.String.{string_bytes};
 ghost use Rattle.json.specs.Print.{escape_byte, escape_letter, quoted};
-ghost use Rattle.xls_decimals.specs.Added.{Adds};
-ghost use Rattle.xls_readable.specs.Growth.{Grows};
+ghost use Rattle.xls_decimals.specs.Added.{AddsText};
+ghost use Rattle.xls_readable.specs.Growth.{GrowsText};
 ghost use Rattle.xls_readable.specs.Values.{Concatenates};
 ghost use Rattle.xls_readable.specs.Items.{formula, item_of, moment, named_of, number};
 ghost use Rattle.xls_readable.specs.Json.{is_plain, IsBare, IsItemJson, IsMember, IsJsonLine};
@@ -54,7 +54,7 @@ fn hexadecimal_digit(n: u8) -> char
 fn push_letter(letter: u8, buf: &mut String) -> Result<(), AllocError>
     requires { letter < 128 }
     ensures ok { OnOk result (string_bytes buf.new ≡ string_bytes buf.old ++ 92 ∷ letter ∷ []) }
-    ensures grown { Grows (string_bytes buf.old) (string_bytes buf.new) }
+    ensures grown { GrowsText (string_bytes buf.old) (string_bytes buf.new) }
 {
     buf.push_str("\\")?;
     buf.push(char::from(letter))?;
@@ -65,7 +65,7 @@ fn push_letter(letter: u8, buf: &mut String) -> Result<(), AllocError>
 fn push_control(byte: u8, buf: &mut String) -> Result<(), AllocError>
     ensures ok { OnOk result (string_bytes buf.new
         ≡ string_bytes buf.old ++ 92 ∷ 117 ∷ 48 ∷ 48 ∷ digit_char (byte / 16) ∷ digit_char (byte % 16) ∷ []) }
-    ensures grown { Grows (string_bytes buf.old) (string_bytes buf.new) }
+    ensures grown { GrowsText (string_bytes buf.old) (string_bytes buf.new) }
 {
     buf.push_str("\\u00")?;
     buf.push(hexadecimal_digit(byte / 16))?;
@@ -77,7 +77,7 @@ fn push_control(byte: u8, buf: &mut String) -> Result<(), AllocError>
 fn push_escape(byte: u8, buf: &mut String) -> Result<(), AllocError>
     requires { is_plain byte ≡ false }
     ensures ok { OnOk result (string_bytes buf.new ≡ string_bytes buf.old ++ escape_byte byte) }
-    ensures grown { Grows (string_bytes buf.old) (string_bytes buf.new) }
+    ensures grown { GrowsText (string_bytes buf.old) (string_bytes buf.new) }
 {
     let letter = escape_letter(byte);
     if letter != 0 {
@@ -126,7 +126,7 @@ fn first_stretch(text: &str) -> Option<(&str, u8, &str)>
 // Appends what stands between the quotes of a string.
 fn push_escapes(text: &str, buf: &mut String) -> Result<(), AllocError>
     ensures ok { OnOk result (string_bytes buf.new ≡ string_bytes buf.old ++ flat_map escape_byte text.now) }
-    ensures grown { Grows (string_bytes buf.old) (string_bytes buf.new) }
+    ensures grown { GrowsText (string_bytes buf.old) (string_bytes buf.new) }
 {
     let mut rest = text;
     'stretches: while let Some((plain, byte, after)) = first_stretch(rest) {
@@ -141,7 +141,7 @@ fn push_escapes(text: &str, buf: &mut String) -> Result<(), AllocError>
 // Appends a string. An error may leave a part of it.
 fn append_string(text: &str, buf: &mut String) -> Result<(), AllocError>
     ensures ok { OnOk result (string_bytes buf.new ≡ string_bytes buf.old ++ quoted text.now) }
-    ensures grown { Grows (string_bytes buf.old) (string_bytes buf.new) }
+    ensures grown { GrowsText (string_bytes buf.old) (string_bytes buf.new) }
 {
     buf.push_str("\"")?;
     push_escapes(text, buf)?;
@@ -164,7 +164,7 @@ fn push_string(text: &str, buf: &mut String) -> Result<(), AllocError>
 
 // Appends a text that is a number of JSON as it is, and any other as a string.
 fn push_bare_or_string(text: &str, buf: &mut String) -> Result<(), AllocError>
-    ensures ok { OnOk result (Adds (IsBare text.now) (string_bytes buf.old) (string_bytes buf.new)) }
+    ensures ok { OnOk result (AddsText (IsBare text.now) (string_bytes buf.old) (string_bytes buf.new)) }
     ensures err { OnErr result (string_bytes buf.new ≡ string_bytes buf.old) }
 {
     if json::is_number(text) {
@@ -175,7 +175,7 @@ fn push_bare_or_string(text: &str, buf: &mut String) -> Result<(), AllocError>
 
 // Appends a number.
 fn push_number(n: Number, room: &mut String, buf: &mut String) -> Result<(), AllocError>
-    ensures ok { OnOk result (Adds (IsItemJson (number n)) (string_bytes buf.old) (string_bytes buf.new)) }
+    ensures ok { OnOk result (AddsText (IsItemJson (number n)) (string_bytes buf.old) (string_bytes buf.new)) }
     ensures err { OnErr result (string_bytes buf.new ≡ string_bytes buf.old) }
 {
     room.clear();
@@ -185,7 +185,7 @@ fn push_number(n: Number, room: &mut String, buf: &mut String) -> Result<(), All
 
 // Appends the text of a formula.
 fn push_formula_string(text: &str, room: &mut String, buf: &mut String) -> Result<(), AllocError>
-    ensures ok { OnOk result (Adds (IsItemJson (formula text.now))
+    ensures ok { OnOk result (AddsText (IsItemJson (formula text.now))
         (string_bytes buf.old) (string_bytes buf.new)) }
     ensures err { OnErr result (string_bytes buf.new ≡ string_bytes buf.old) }
 {
@@ -196,7 +196,7 @@ fn push_formula_string(text: &str, room: &mut String, buf: &mut String) -> Resul
 
 // Appends a date or a duration.
 fn push_moment(date: ExcelDateTime, room: &mut String, buf: &mut String) -> Result<(), AllocError>
-    ensures ok { OnOk result (Adds (IsItemJson (moment date)) (string_bytes buf.old) (string_bytes buf.new)) }
+    ensures ok { OnOk result (AddsText (IsItemJson (moment date)) (string_bytes buf.old) (string_bytes buf.new)) }
     ensures err { OnErr result (string_bytes buf.new ≡ string_bytes buf.old) }
 {
     room.clear();
@@ -206,7 +206,7 @@ fn push_moment(date: ExcelDateTime, room: &mut String, buf: &mut String) -> Resu
 
 // Appends a field.
 fn push_item(field: &Field<'_>, room: &mut String, buf: &mut String) -> Result<(), AllocError>
-    ensures ok { OnOk result (Adds (IsItemJson (item_of field.now))
+    ensures ok { OnOk result (AddsText (IsItemJson (item_of field.now))
         (string_bytes buf.old) (string_bytes buf.new)) }
     ensures err { OnErr result (string_bytes buf.new ≡ string_bytes buf.old) }
 {
@@ -226,9 +226,9 @@ fn push_item(field: &Field<'_>, room: &mut String, buf: &mut String) -> Result<(
 
 // Appends a member of an object, after a comma.
 fn push_member(member: &Member<'_>, room: &mut String, buf: &mut String) -> Result<(), AllocError>
-    ensures ok { OnOk result (Adds (IsMember (named_of member.now))
+    ensures ok { OnOk result (AddsText (IsMember (named_of member.now))
         (string_bytes buf.old) (string_bytes buf.new)) }
-    ensures grown { Grows (string_bytes buf.old) (string_bytes buf.new) }
+    ensures grown { GrowsText (string_bytes buf.old) (string_bytes buf.new) }
 {
     buf.push_str(",")?;
     push_string(member.name, buf)?;
@@ -242,9 +242,9 @@ fn push_members(
     room: &mut String,
     buf: &mut String,
 ) -> Result<(), AllocError>
-    ensures ok { OnOk result (Adds (Concatenates IsMember (map named_of members.now))
+    ensures ok { OnOk result (AddsText (Concatenates IsMember (map named_of members.now))
         (string_bytes buf.old) (string_bytes buf.new)) }
-    ensures grown { Grows (string_bytes buf.old) (string_bytes buf.new) }
+    ensures grown { GrowsText (string_bytes buf.old) (string_bytes buf.new) }
 {
     for member in members {
         push_member(member, room, buf)?;
@@ -259,9 +259,9 @@ fn append_json_line(
     room: &mut String,
     buf: &mut String,
 ) -> Result<(), AllocError>
-    ensures ok { OnOk result (Adds (IsJsonLine word.now (map named_of members.now))
+    ensures ok { OnOk result (AddsText (IsJsonLine word.now (map named_of members.now))
         (string_bytes buf.old) (string_bytes buf.new)) }
-    ensures grown { Grows (string_bytes buf.old) (string_bytes buf.new) }
+    ensures grown { GrowsText (string_bytes buf.old) (string_bytes buf.new) }
 {
     buf.push_str("{\"line\":")?;
     push_string(word, buf)?;
@@ -279,7 +279,7 @@ pub fn push_json_line(
     room: &mut String,
     buf: &mut String,
 ) -> Result<(), AllocError>
-    ensures ok { OnOk result (Adds (IsJsonLine word.now (map named_of members.now))
+    ensures ok { OnOk result (AddsText (IsJsonLine word.now (map named_of members.now))
         (string_bytes buf.old) (string_bytes buf.new)) }
     ensures err { OnErr result (string_bytes buf.new ≡ string_bytes buf.old) }
 {

@@ -2,7 +2,7 @@
 
 ghost use Rattle.std.specs.Prelude.{◌≡◌, [], option_map, OnOk, OnErr, codes};
 ghost use Rattle.std.specs.String.{string_bytes};
-ghost use Rattle.xls_decimals.specs.Added.{Adds};
+ghost use Rattle.xls_decimals.specs.Added.{AddsText};
 ghost use Rattle.xls_readable.specs.Items.{count, named_of};
 ghost use Rattle.xls_readable.specs.Lines.{IsLine};
 ghost use Rattle.xls_readable.specs.Lines.{IsCellLine, kind_and_item, dates_members, name_members, sheet_members, cell_members, formula_members, merge_members, ref_members, text_members, two_texts, item_of, type_text, visible_text, year_text};
@@ -28,7 +28,7 @@ pub fn push_dates(
     room: &mut String,
     buf: &mut String,
 ) -> Result<(), AllocError>
-    ensures ok { OnOk result (Adds (IsLine form (codes "dates") (dates_members is_1904))
+    ensures ok { OnOk result (AddsText (IsLine form (codes "dates") (dates_members is_1904))
         (string_bytes buf.old) (string_bytes buf.new)) }
     ensures err { OnErr result (string_bytes buf.new ≡ string_bytes buf.old) }
 {
@@ -49,7 +49,7 @@ pub(crate) fn push_two_texts(
     room: &mut String,
     buf: &mut String,
 ) -> Result<(), AllocError>
-    ensures ok { OnOk result (Adds (IsLine form word.now (two_texts name.now label.now text.now))
+    ensures ok { OnOk result (AddsText (IsLine form word.now (two_texts name.now label.now text.now))
         (string_bytes buf.old) (string_bytes buf.new)) }
     ensures err { OnErr result (string_bytes buf.new ≡ string_bytes buf.old) }
 {
@@ -72,7 +72,7 @@ pub(crate) fn push_one_text(
     room: &mut String,
     buf: &mut String,
 ) -> Result<(), AllocError>
-    ensures ok { OnOk result (Adds (IsLine form word.now (text_members text.now))
+    ensures ok { OnOk result (AddsText (IsLine form word.now (text_members text.now))
         (string_bytes buf.old) (string_bytes buf.new)) }
     ensures err { OnErr result (string_bytes buf.new ≡ string_bytes buf.old) }
 {
@@ -91,7 +91,7 @@ pub fn push_name(
     room: &mut String,
     buf: &mut String,
 ) -> Result<(), AllocError>
-    ensures ok { OnOk result (Adds (IsLine form (codes "name") (name_members name.now text.now))
+    ensures ok { OnOk result (AddsText (IsLine form (codes "name") (name_members name.now text.now))
         (string_bytes buf.old) (string_bytes buf.new)) }
     ensures err { OnErr result (string_bytes buf.new ≡ string_bytes buf.old) }
 {
@@ -131,7 +131,7 @@ pub fn push_sheet(
     room: &mut String,
     buf: &mut String,
 ) -> Result<(), AllocError>
-    ensures ok { OnOk result (Adds (IsLine form (codes "sheet") (sheet_members name.now kind visible))
+    ensures ok { OnOk result (AddsText (IsLine form (codes "sheet") (sheet_members name.now kind visible))
         (string_bytes buf.old) (string_bytes buf.new)) }
     ensures err { OnErr result (string_bytes buf.new ≡ string_bytes buf.old) }
 {
@@ -178,7 +178,7 @@ pub fn push_cell(
     room: &mut String,
     buf: &mut String,
 ) -> Result<(), AllocError>
-    ensures ok { OnOk result (Adds (IsCellLine form row column value.now)
+    ensures ok { OnOk result (AddsText (IsCellLine form row column value.now)
         (string_bytes buf.old) (string_bytes buf.new)) }
     ensures err { OnErr result (string_bytes buf.new ≡ string_bytes buf.old) }
 {
@@ -215,7 +215,7 @@ pub fn push_formula_line(
     room: &mut String,
     buf: &mut String,
 ) -> Result<(), AllocError>
-    ensures ok { OnOk result (Adds (IsLine form (codes "formula") (formula_members row column text.now))
+    ensures ok { OnOk result (AddsText (IsLine form (codes "formula") (formula_members row column text.now))
         (string_bytes buf.old) (string_bytes buf.new)) }
     ensures err { OnErr result (string_bytes buf.new ≡ string_bytes buf.old) }
 {
@@ -251,7 +251,7 @@ pub fn push_merge(
     room: &mut String,
     buf: &mut String,
 ) -> Result<(), AllocError>
-    ensures ok { OnOk result (Adds (IsLine form (codes "merge") (merge_members region))
+    ensures ok { OnOk result (AddsText (IsLine form (codes "merge") (merge_members region))
         (string_bytes buf.old) (string_bytes buf.new)) }
     ensures err { OnErr result (string_bytes buf.new ≡ string_bytes buf.old) }
 {
@@ -275,7 +275,7 @@ pub fn push_ref(
     room: &mut String,
     buf: &mut String,
 ) -> Result<(), AllocError>
-    ensures ok { OnOk result (Adds (IsLine form (codes "ref") (ref_members sheet.now cell cited_sheet.now cells))
+    ensures ok { OnOk result (AddsText (IsLine form (codes "ref") (ref_members sheet.now cell cited_sheet.now cells))
         (string_bytes buf.old) (string_bytes buf.new)) }
     ensures err { OnErr result (string_bytes buf.new ≡ string_bytes buf.old) }
 {
@@ -305,7 +305,7 @@ pub fn push_error(
     room: &mut String,
     buf: &mut String,
 ) -> Result<(), AllocError>
-    ensures ok { OnOk result (Adds (IsLine form (codes "error") (text_members text.now))
+    ensures ok { OnOk result (AddsText (IsLine form (codes "error") (text_members text.now))
         (string_bytes buf.old) (string_bytes buf.new)) }
     ensures err { OnErr result (string_bytes buf.new ≡ string_bytes buf.old) }
 {
@@ -314,7 +314,7 @@ pub fn push_error(
 
 /// Appends the line of a stream without a fault, `ok`.
 pub fn push_ok(form: Form, room: &mut String, buf: &mut String) -> Result<(), AllocError>
-    ensures ok { OnOk result (Adds (IsLine form (codes "ok") []) (string_bytes buf.old) (string_bytes buf.new)) }
+    ensures ok { OnOk result (AddsText (IsLine form (codes "ok") []) (string_bytes buf.old) (string_bytes buf.new)) }
     ensures err { OnErr result (string_bytes buf.new ≡ string_bytes buf.old) }
 {
     push_line(form, "ok", &[], room, buf)

@@ -2,7 +2,7 @@
 
 ghost use Rattle.std.specs.Prelude.{◌≡◌, OnOk, OnErr, codes};
 ghost use Rattle.std.specs.String.{string_bytes};
-ghost use Rattle.xls_decimals.specs.Added.{Adds};
+ghost use Rattle.xls_decimals.specs.Added.{AddsText};
 ghost use Rattle.xls_readable.specs.Lines.{IsLine, custom_members, property_word, text_members};
 
 use crate::forms::Form;
@@ -66,7 +66,7 @@ pub fn push_property(
     room: &mut String,
     buf: &mut String,
 ) -> Result<(), AllocError>
-    ensures ok { OnOk result (Adds (IsLine form (property_word property) (text_members text.now))
+    ensures ok { OnOk result (AddsText (IsLine form (property_word property) (text_members text.now))
         (string_bytes buf.old) (string_bytes buf.new)) }
     ensures err { OnErr result (string_bytes buf.new ≡ string_bytes buf.old) }
 {
@@ -81,7 +81,7 @@ pub fn push_custom(
     room: &mut String,
     buf: &mut String,
 ) -> Result<(), AllocError>
-    ensures ok { OnOk result (Adds (IsLine form (codes "custom") (custom_members name.now value.now))
+    ensures ok { OnOk result (AddsText (IsLine form (codes "custom") (custom_members name.now value.now))
         (string_bytes buf.old) (string_bytes buf.new)) }
     ensures err { OnErr result (string_bytes buf.new ≡ string_bytes buf.old) }
 {

@@ -2,8 +2,8 @@
 
 ghost use Rattle.std.specs.Prelude.{◌≡◌, ◌++◌, length, OnOk, OnErr};
 ghost use Rattle.std.specs.String.{string_bytes};
-ghost use Rattle.xls_decimals.specs.Added.{Adds};
-ghost use Rattle.xls_readable.specs.Growth.{Grows};
+ghost use Rattle.xls_decimals.specs.Added.{AddsText};
+ghost use Rattle.xls_readable.specs.Growth.{GrowsText};
 ghost use Rattle.xls_readable.specs.Values.{Concatenates};
 ghost use Rattle.xls_readable.specs.Csv.{IsRow, IsJoined, IsSeparated};
 
@@ -18,9 +18,9 @@ fn push_separated(
     room: &mut String,
     buf: &mut String,
 ) -> Result<(), AllocError>
-    ensures ok { OnOk result (Adds (IsSeparated delimiter value.now)
+    ensures ok { OnOk result (AddsText (IsSeparated delimiter value.now)
         (string_bytes buf.old) (string_bytes buf.new)) }
-    ensures grown { Grows (string_bytes buf.old) (string_bytes buf.new) }
+    ensures grown { GrowsText (string_bytes buf.old) (string_bytes buf.new) }
 {
     push_separator(delimiter, buf)?;
     push_field(value, delimiter, room, buf)
@@ -33,9 +33,9 @@ fn push_others(
     room: &mut String,
     buf: &mut String,
 ) -> Result<(), AllocError>
-    ensures ok { OnOk result (Adds (Concatenates (IsSeparated delimiter) values.now)
+    ensures ok { OnOk result (AddsText (Concatenates (IsSeparated delimiter) values.now)
         (string_bytes buf.old) (string_bytes buf.new)) }
-    ensures grown { Grows (string_bytes buf.old) (string_bytes buf.new) }
+    ensures grown { GrowsText (string_bytes buf.old) (string_bytes buf.new) }
 {
     for value in values {
         push_separated(value, delimiter, room, buf)?;
@@ -50,9 +50,9 @@ fn push_fields(
     room: &mut String,
     buf: &mut String,
 ) -> Result<(), AllocError>
-    ensures ok { OnOk result (Adds (IsJoined delimiter values.now)
+    ensures ok { OnOk result (AddsText (IsJoined delimiter values.now)
         (string_bytes buf.old) (string_bytes buf.new)) }
-    ensures grown { Grows (string_bytes buf.old) (string_bytes buf.new) }
+    ensures grown { GrowsText (string_bytes buf.old) (string_bytes buf.new) }
 {
     match values.split_first() {
         Some((first, others)) => {
@@ -70,8 +70,8 @@ fn append_row(
     room: &mut String,
     buf: &mut String,
 ) -> Result<(), AllocError>
-    ensures ok { OnOk result (Adds (IsRow delimiter values.now) (string_bytes buf.old) (string_bytes buf.new)) }
-    ensures grown { Grows (string_bytes buf.old) (string_bytes buf.new) }
+    ensures ok { OnOk result (AddsText (IsRow delimiter values.now) (string_bytes buf.old) (string_bytes buf.new)) }
+    ensures grown { GrowsText (string_bytes buf.old) (string_bytes buf.new) }
 {
     let start = buf.len();
     push_fields(values, delimiter, room, buf)?;
@@ -86,7 +86,7 @@ pub fn push_row(
     room: &mut String,
     buf: &mut String,
 ) -> Result<(), AllocError>
-    ensures ok { OnOk result (Adds (IsRow delimiter values.now) (string_bytes buf.old) (string_bytes buf.new)) }
+    ensures ok { OnOk result (AddsText (IsRow delimiter values.now) (string_bytes buf.old) (string_bytes buf.new)) }
     ensures err { OnErr result (string_bytes buf.new ≡ string_bytes buf.old) }
 {
     let before = buf.len();

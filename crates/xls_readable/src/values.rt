@@ -4,7 +4,7 @@ ghost use Rattle.std.specs.Prelude.{◌≡◌, ◌++◌, OnOk, OnErr};
 ghost use Rattle.std.specs.String.{string_bytes};
 ghost use Rattle.std.specs.Fmt.{signed_decimal};
 ghost use Rattle.xls_data.specs.Errors.{error_text};
-ghost use Rattle.xls_decimals.specs.Added.{Adds};
+ghost use Rattle.xls_decimals.specs.Added.{AddsText};
 ghost use Rattle.xls_readable.specs.Values.{IsFieldText, IsValueOf, truth_text};
 
 use std::alloc::AllocError;
@@ -87,7 +87,7 @@ pub(crate) fn push_int(n: i64, buf: &mut String) -> Result<(), AllocError>
 
 // Appends the text of a value, without quotes or escapes.
 pub(crate) fn push_value(value: &Value<'_>, buf: &mut String) -> Result<(), AllocError>
-    ensures ok { OnOk result (Adds (IsFieldText value.now) (string_bytes buf.old) (string_bytes buf.new)) }
+    ensures ok { OnOk result (AddsText (IsFieldText value.now) (string_bytes buf.old) (string_bytes buf.new)) }
     ensures err { OnErr result (string_bytes buf.new ≡ string_bytes buf.old) }
 {
     match value {

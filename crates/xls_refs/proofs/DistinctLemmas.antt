@@ -12,8 +12,8 @@ use Rattle.xls_view.proofs.NameLemmas.{same_text}
 use Rattle.std.specs.Option.{option_cmp, option_map, option_eq}
 use Rattle.std.specs.Ordering.{nat_cmp, ordering_then, is_eq}
 use Rattle.std.specs.Str.{chars, IsUtf8}
-use Rattle.xls_meaning.specs.Order.{along, somes}
-use Rattle.xls_meaning.proofs.OrderLemmas.{along-push, somes-append}
+use Rattle.xls_meaning.specs.Order.{map_with_earlier, somes}
+use Rattle.xls_meaning.proofs.OrderLemmas.{map_with_earlier-push, somes-append}
 use Rattle.xls_refs.specs.Citations.{Citation, same_position, same_cells, unless_before, distinct}
 use Rattle.xls_refs.specs.Steps.{Key, by_text, by_position, by_key, key_cite, IsText, SeenSo, IsDistinctSoFar}
 
@@ -76,7 +76,7 @@ seen_more seen new before k so text puts q is =
 
 distinct_push : (before : List Citation) (c : Citation) → distinct (before ++ c ∷ []) ≡ distinct before ++ somes (unless_before before c ∷ [])
 distinct_push before c =
-    ap somes (along-push unless_before before c) ∙ somes-append (along unless_before [] before) (unless_before before c ∷ [])
+    ap somes (map_with_earlier-push unless_before before c) ∙ somes-append (map_with_earlier unless_before [] before) (unless_before before c ∷ [])
 
 -- what is put where the key is new
 abbrev pub if_new : {X : Type 0} → Bool → X → List X

@@ -7,9 +7,9 @@ use Rattle.xls_record.specs.declared.error.XlsError.TheVariants as errors
 use Rattle.xls_record.specs.Reading.{◌>>=◌, gives, Fails}
 use Rattle.xls_formula.specs.Context.{Context}
 use Rattle.xls_formula.specs.Effects.{Effect, pushes, wraps, pairs, calls, spaces, keeps}
-use Rattle.xls_formula.specs.Fold.{Folded, grow, gather, on_one, on_two, space_before, walk, fold_tokens, one_tree}
+use Rattle.xls_formula.specs.Fold.{Folded, grow, gather, on_one, on_two, space_before, walk_tokens, fold_tokens, one_tree}
 use Rattle.xls_formula.specs.Tree.{Tree, Trees, wrap, pair, no_trees, tree}
-use Rattle.xls_formula.proofs.WalkLemmas.{fails_then, fails_along, walk_along}
+use Rattle.xls_formula.proofs.WalkLemmas.{fails_then, fails_over, walk_over}
 use Rattle.xls_refs.specs.Citations.{Citation, leaves, leaves_each}
 use Rattle.xls_refs.specs.Steps.{Tally, joined, with_joined, tally, one_cited, leaves_of}
 
@@ -79,23 +79,23 @@ one_seen (Ok []) = refl
 one_seen (Ok (t ∷ [])) = refl
 one_seen (Ok (t ∷ u ∷ us)) = grind (arith, nat_tests)
 
-pub leaves_by_tally : (context : Context) (tokens : List ℕ) → leaves_of context tokens ≡ walk context tally tokens 0 (0, []) >>= one_cited
+pub leaves_by_tally : (context : Context) (tokens : List ℕ) → leaves_of context tokens ≡ walk_tokens context tally tokens 0 (0, []) >>= one_cited
 leaves_by_tally context tokens =
     one_seen (fold_tokens context tokens)
-    ∙ ap (λ (r : Result Tally XlsError). r >>= one_cited) (walk_along context seen grow tally grow_seen tokens 0 [])
+    ∙ ap (λ (r : Result Tally XlsError). r >>= one_cited) (walk_over context seen grow tally grow_seen tokens 0 [])
 
-pub refused : (context : Context) (tokens : List ℕ) (none : List Citation) (e : XlsError) → none ≡ [] → Fails e (walk context tally tokens 0 (0, none))
+pub refused : (context : Context) (tokens : List ℕ) (none : List Citation) (e : XlsError) → none ≡ [] → Fails e (walk_tokens context tally tokens 0 (0, none))
     → Fails e (leaves_of context tokens)
 refused context tokens none e is f =
-    fails_along e (leaves_of context tokens) (walk context tally tokens 0 (0, none) >>= one_cited)
-    (leaves_by_tally context tokens ∙ ap (λ (cs : List Citation). walk context tally tokens 0 (0, cs) >>= one_cited) (sym is))
-    (fails_then e (walk context tally tokens 0 (0, none)) one_cited f)
+    fails_over e (leaves_of context tokens) (walk_tokens context tally tokens 0 (0, none) >>= one_cited)
+    (leaves_by_tally context tokens ∙ ap (λ (cs : List Citation). walk_tokens context tally tokens 0 (0, cs) >>= one_cited) (sym is))
+    (fails_then e (walk_tokens context tally tokens 0 (0, none)) one_cited f)
 
-pub after_all : (context : Context) (tokens : List ℕ) (none cites : List Citation) (count : ℕ) → none ≡ [] → walk context tally tokens 0 (0, none) ≡ Ok (count, cites)
+pub after_all : (context : Context) (tokens : List ℕ) (none cites : List Citation) (count : ℕ) → none ≡ [] → walk_tokens context tally tokens 0 (0, none) ≡ Ok (count, cites)
     → leaves_of context tokens ≡ one_cited (count, cites)
 after_all context tokens none cites count is all =
     leaves_by_tally context tokens
-    ∙ (ap (λ (cs : List Citation). walk context tally tokens 0 (0, cs) >>= one_cited) (sym is)
+    ∙ (ap (λ (cs : List Citation). walk_tokens context tally tokens 0 (0, cs) >>= one_cited) (sym is)
     ∙ ap (λ (r : Result Tally XlsError). r >>= one_cited) all)
 
 pub one_left : (count : ℕ) (cites : List Citation) → count ≡ 1 → one_cited (count, cites) ≡ Ok cites

@@ -12,7 +12,7 @@ use Rattle.xls_ptg.specs.declared.corner.Corner.{Corner}
 use Rattle.xls_formula.specs.Context.{Context}
 use Rattle.xls_formula.specs.Fold.{fold}
 use Rattle.xls_formula.specs.Tree.{Tree, Trees, word, ref, area, wrap, pair, call, no_trees, tree}
-use Rattle.xls_meaning.specs.Order.{along, somes}
+use Rattle.xls_meaning.specs.Order.{map_with_earlier, somes}
 use Rattle.xls_refs.specs.declared.cite.Cite.{Cite}
 
 -- cells that are cited: the name of their sheet, where the formula tells one, and the first and the
@@ -61,7 +61,7 @@ unless_before before c = if list_any (λ b. same_cells b c) before then None els
 
 -- every later repeat of an equal one left out
 abbrev pub distinct : List Citation → List Citation
-distinct cs = somes (along unless_before [] cs)
+distinct cs = somes (map_with_earlier unless_before [] cs)
 
 -- ---- the cells that a formula cites
 

@@ -4,7 +4,7 @@ use Rattle.xls_stream.specs.Listing.{Kept}
 use Rattle.xls_biff.specs.SheetTable.{CellContext}
 use Rattle.xls_meaning.specs.SheetTable.{kept_line}
 use Rattle.xls_open.specs.declared.options.XlsOptions.{XlsOptions}
-use Rattle.xls_cursors.specs.Formulas.{formula_given, formula_of}
+use Rattle.xls_cursors.specs.Formulas.{formula_from, formula_of}
 use Rattle.xls_view.specs.Viewing.{Viewed, IsViewed}
 use Rattle.xls_refs.specs.Citations.{Citation, same_cells}
 use Rattle.xls_refs.specs.Citing.{IsBookCited}
@@ -12,7 +12,7 @@ use Rattle.xls_refs.specs.Views.{cited_in}
 
 -- a formula is what the table of a sheet's records has as one, whatever its cells are read under
 abbrev pub FormulasByTheTable : Type 0
-FormulasByTheTable = (s : CellContext) (k : Kept) → formula_of k ≡ formula_given (kept_line s k)
+FormulasByTheTable = (s : CellContext) (k : Kept) → formula_of k ≡ formula_from (kept_line s k)
 
 -- repeats are citations that are equal, and no others
 abbrev pub RepeatsAreEqual : Type 0

@@ -13,10 +13,10 @@ use Rattle.xls_refs.specs.declared.cite.CitedCells.{CitedCells}
 
 -- what each formula cites, for each of the sheets of these names, of which the first has this index
 abbrev pub sheets_from : Context → ℕ → List (List ℕ) → List (List Formula) → List (List (List BookCitation))
-sheets_from context index [] shown = []
+sheets_from context index [] displayed = []
 sheets_from context index (name ∷ names) [] = []
-sheets_from context index (name ∷ names) (formulas ∷ shown) =
-    map (cited_by context index name) formulas ∷ sheets_from context (suc index) names shown
+sheets_from context index (name ∷ names) (formulas ∷ displayed) =
+    map (cited_by context index name) formulas ∷ sheets_from context (suc index) names displayed
 
 -- the same of all sheets of a view
 abbrev pub sheets_cited : Viewed → List (List (List BookCitation))

@@ -6,7 +6,7 @@ ghost use Rattle.xls_record.specs.declared.error.XlsError.{XlsError};
 ghost use Rattle.xls_refs.specs.Citations.{citation_of};
 ghost use Rattle.xls_refs.specs.Cited.{book_citation_of, on_own_sheet};
 ghost use Rattle.xls_refs.specs.Citing.{CitingCause, IsBookCited};
-ghost use Rattle.xls_view.specs.Viewing.{IsFault};
+ghost use Rattle.xls_view.specs.Viewing.{IsViewFault};
 ghost use Rattle.xls_refs.specs.Views.{cited_in, cited_of, each_cited, sheets_cited};
 
 use crate::cite::{BookCite, BookCites, Cite, CitedFormula};
@@ -22,7 +22,7 @@ fn on_own_sheet(alloc: Global, name: &str, cite: Cite) -> Result<Cite, AllocErro
 {
     let Cite { sheet, first, last } = cite;
     let sheet = match sheet {
-        Some(told) => told,
+        Some(reported) => reported,
         None => String::from_str(alloc, name)?,
     };
     Ok(Cite {
@@ -130,7 +130,7 @@ pub fn cites_of_book(
     options: &XlsOptions,
 ) -> Result<BookCites, XlsError>
     ensures ok { IfOk result (λ book. IsBookCited options.now bytes.now book) }
-    ensures fault { (e : XlsError) → IsFault options.now bytes.now e → result ≡ Err e }
+    ensures fault { (e : XlsError) → IsViewFault options.now bytes.now e → result ≡ Err e }
     ensures cause { IfErr result (CitingCause options.now bytes.now) }
 {
     let view = View::new(alloc, bytes, options)?;

@@ -1,7 +1,7 @@
 //! The cells that a formula cites.
 
 ghost use Rattle.xls_record.specs.Reading.{Gives};
-ghost use Rattle.xls_formula.specs.Holding.{context_of};
+ghost use Rattle.xls_formula.specs.Holding.{scope_context};
 ghost use Rattle.xls_refs.specs.Citations.{cites_at};
 
 use crate::cite::Cites;
@@ -18,7 +18,7 @@ pub(crate) fn cites_in_scope(
     rgce: &[u8],
     scope: Scope<'_>,
 ) -> Result<Cites, XlsError>
-    ensures { Gives (λ c. c) result (cites_at (context_of scope.entry) rgce.now) }
+    ensures { Gives (λ c. c) result (cites_at (scope_context scope.entry) rgce.now) }
 {
     let cells = cited_cells(alloc, rgce, scope)?;
     let cites = distinct_cites(alloc, &cells)?;

@@ -3,7 +3,7 @@
 ghost use Rattle.std.specs.Prelude.{◌≡◌, IfOk, slice_get};
 ghost use Rattle.std.specs.Str.{chars};
 ghost use Rattle.xls_refs.specs.Citations.{cites_at};
-ghost use Rattle.xls_refs.specs.Cited.{cited_by, unless_refused};
+ghost use Rattle.xls_refs.specs.Cited.{cited_by, citations_unless_refused};
 ghost use Rattle.xls_refs.specs.Views.{sheets_cited};
 ghost use Rattle.xls_view.specs.Naming.{context_in};
 ghost use Rattle.xls_cursors.specs.Walking.{formula_seen};
@@ -21,7 +21,7 @@ fn cites_unless_refused(
     rgce: &[u8],
     naming: ViewNaming<'_>,
 ) -> Result<Cites, AllocError>
-    ensures { IfOk result (λ cites. cites ≡ unless_refused (cites_at (context_in naming.entry) rgce.now)) }
+    ensures { IfOk result (λ cites. cites ≡ citations_unless_refused (cites_at (context_in naming.entry) rgce.now)) }
 {
     let scope = Scope {
         sheets: naming.sheets,

@@ -4,8 +4,8 @@ ghost use Rattle.std.specs.Prelude.{◌≡◌, ◌++◌, ◌∷◌, [], ◌≤�
 ghost use Rattle.std.specs.Option.{option_map};
 ghost use Rattle.xls_record.specs.Reading.{Exactly, Gives};
 ghost use Rattle.xls_ptg.specs.Cites.{position_of};
-ghost use Rattle.xls_formula.specs.Fold.{walk};
-ghost use Rattle.xls_formula.specs.Holding.{context_of, effect_of, tree_of};
+ghost use Rattle.xls_formula.specs.Fold.{walk_tokens};
+ghost use Rattle.xls_formula.specs.Holding.{scope_context, effect_of, tree_of};
 ghost use Rattle.xls_meaning.specs.Order.{somes};
 ghost use Rattle.xls_refs.specs.Citations.{leaves};
 ghost use Rattle.xls_refs.specs.Steps.{joined, key_cite, leaves_at, leaves_of, tally};
@@ -90,7 +90,7 @@ fn tally_all<'a>(
     scope: Scope<'a>,
 ) -> Result<usize, XlsError>
     ensures { Gives (λ n. (n, map key_cite cites.new.items)) result
-        (walk (context_of scope.entry) tally tokens.now 0 (0, map key_cite cites.old.items)) }
+        (walk_tokens (scope_context scope.entry) tally tokens.now 0 (0, map key_cite cites.old.items)) }
 {
     let mut count = 0;
     let mut rest = tokens;
@@ -110,7 +110,7 @@ fn cells_of_tokens<'a>(
     tokens: &'a [u8],
     scope: Scope<'a>,
 ) -> Result<Vec<Cells<'a>>, XlsError>
-    ensures { Gives (λ v. map key_cite v.items) result (leaves_of (context_of scope.entry) tokens.now) }
+    ensures { Gives (λ v. map key_cite v.items) result (leaves_of (scope_context scope.entry) tokens.now) }
 {
     let mut cites = Vec::new(alloc);
     let count = tally_all(&mut cites, tokens, scope)?;
@@ -126,7 +126,7 @@ pub(crate) fn cited_cells<'a>(
     rgce: &'a [u8],
     scope: Scope<'a>,
 ) -> Result<Vec<Cells<'a>>, XlsError>
-    ensures { Gives (λ v. map key_cite v.items) result (leaves_at (context_of scope.entry) rgce.now) }
+    ensures { Gives (λ v. map key_cite v.items) result (leaves_at (scope_context scope.entry) rgce.now) }
 {
     let tokens = tokens_of(rgce)?;
     cells_of_tokens(alloc, tokens, scope)

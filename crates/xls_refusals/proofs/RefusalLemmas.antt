@@ -15,11 +15,11 @@ use Rattle.xls_directory.specs.declared.fault.DirectoryFault.{DirectoryFault}
 use Rattle.xls_directory.specs.declared.fault.DirectoryFault.TheVariants as entries
 use Rattle.xls_container.specs.declared.kind.FileKind.{FileKind}
 use Rattle.xls_container.specs.declared.kind.FileKind.TheVariants as kinds
-use Rattle.xls_refusals.specs.Codes.{chain_number, directory_fault, kind_number, sector_fault, stream_fault, table_number}
-use Rattle.xls_refusals.specs.Faults.{fault_of}
-use Rattle.xls_refusals.specs.Laws.{FitsDirectory, FitsError, FitsRefusal, FitsSector, RefusalsAreTold}
-use Rattle.xls_refusals.specs.Parts.{part_number, part_of}
-use Rattle.xls_refusals.specs.Telling.{chain_of, chain_refusal, entry_of, kind_of, part_fault, refusal_of, sector_of, sentence, sentence_in, stream_error, table_fault, table_of}
+use Rattle.xls_refusals.specs.Codes.{chain_number, directory_fault, file_kind_number, sector_fault, stream_fault, table_number}
+use Rattle.xls_refusals.specs.Faults.{fault_numbered}
+use Rattle.xls_refusals.specs.Laws.{FitsDirectory, FitsError, FitsRefusal, FitsSector, RefusalsAreReported}
+use Rattle.xls_refusals.specs.Parts.{part_number, part_numbered}
+use Rattle.xls_refusals.specs.Telling.{chain_numbered, chain_refusal, directory_fault_numbered, file_kind_numbered, part_fault, refusal_of, sector_of, sentence, sentence_in, stream_error, table_fault, table_of}
 use Rattle.xls_refusals.specs.Texts.{refusal_text}
 use Rattle.xls_refusals.specs.declared.faults.Fault.{Fault}
 use Rattle.xls_refusals.specs.declared.refusal.Chain.{Chain}
@@ -41,7 +41,7 @@ sentence-none f some is = unless f.code _ _ some ∙ ap sentence_in is
 
 -- ---- back from numbers
 
-part-back : (p : Part) → part_of (part_number p) ≡ Some p
+part-back : (p : Part) → part_numbered (part_number p) ≡ Some p
 part-back parts.RecordHeader = refl
 part-back parts.RecordLength = refl
 part-back parts.ContinueLength = refl
@@ -81,7 +81,7 @@ part-back parts.PtgStr = refl
 part-back parts.SpaceKind = refl
 part-back parts.BErr = refl
 
-kind-back : (k : FileKind) → kind_of (kind_number k) ≡ Some k
+kind-back : (k : FileKind) → file_kind_numbered (file_kind_number k) ≡ Some k
 kind-back kinds.Empty = refl
 kind-back kinds.Zip = refl
 kind-back kinds.Html = refl
@@ -94,7 +94,7 @@ kind-back kinds.Excel3 = refl
 kind-back kinds.Excel4 = refl
 kind-back kinds.Other = refl
 
-chain-back : (c : Chain) → chain_of (chain_number c) ≡ Some c
+chain-back : (c : Chain) → chain_numbered (chain_number c) ≡ Some c
 chain-back chains.Tables = refl
 chain-back chains.Directory = refl
 chain-back chains.MiniFat = refl
@@ -157,7 +157,7 @@ sector-back (sectors.Cut table sector expected found) part f =
 sector-back (sectors.FatCut sector expected found) part f =
     ap (λ n. Some (sectors.FatCut n expected found)) (mod-eq_of_lt f)
 
-entry-back : (d : DirectoryFault) → FitsDirectory d → entry_of (directory_fault d) ≡ Some d
+entry-back : (d : DirectoryFault) → FitsDirectory d → directory_fault_numbered (directory_fault d) ≡ Some d
 entry-back entries.NoRoot f = refl
 entry-back (entries.Missing number) f = ap (λ n. Some (entries.Missing n)) (mod-eq_of_lt f)
 entry-back (entries.Twice number) f = ap (λ n. Some (entries.Twice n)) (mod-eq_of_lt f)
@@ -169,65 +169,65 @@ entry-back (entries.NameSize number size) f =
 
 -- ---- by the ranges of codes
 
-stream-told : (e : XlsError) → FitsError e → refusal_of (stream_fault e) ≡ option_map (λ x. refusals.Stream x) (stream_error (stream_fault e))
-stream-told errors.Io f = refl
-stream-told (errors.TooLarge limit) f = refl
-stream-told (errors.TooManyCells limit) f = refl
-stream-told (errors.Cfb (pages.CodePageNotFound page)) f = refl
-stream-told errors.Password f = refl
-stream-told (errors.Len expected found typ) f = refl
-stream-told (errors.Unrecognized typ val) f = refl
-stream-told (errors.EoStream typ) f = refl
-stream-told errors.ContinueRecordTooShort f = refl
-stream-told errors.StackLen f = refl
-stream-told (errors.InvalidFormula stack_size) f = refl
-stream-told (errors.IfTab index) f = refl
-stream-told (errors.Etpg number) f = refl
-stream-told (errors.InvalidFormat ifmt) f = refl
-stream-told errors.Memory f = absurd f
-stream-told (errors.WorksheetNotFound name) f = absurd f
+stream-reported : (e : XlsError) → FitsError e → refusal_of (stream_fault e) ≡ option_map (λ x. refusals.Stream x) (stream_error (stream_fault e))
+stream-reported errors.Io f = refl
+stream-reported (errors.TooLarge limit) f = refl
+stream-reported (errors.TooManyCells limit) f = refl
+stream-reported (errors.Cfb (pages.CodePageNotFound page)) f = refl
+stream-reported errors.Password f = refl
+stream-reported (errors.Len expected found typ) f = refl
+stream-reported (errors.Unrecognized typ val) f = refl
+stream-reported (errors.EoStream typ) f = refl
+stream-reported errors.ContinueRecordTooShort f = refl
+stream-reported errors.StackLen f = refl
+stream-reported (errors.InvalidFormula stack_size) f = refl
+stream-reported (errors.IfTab index) f = refl
+stream-reported (errors.Etpg number) f = refl
+stream-reported (errors.InvalidFormat ifmt) f = refl
+stream-reported errors.Memory f = absurd f
+stream-reported (errors.WorksheetNotFound name) f = absurd f
 
-chain-told : (c : Chain) (s : SectorFault) → refusal_of (fault_of (refusals.Chain c s))
-    ≡ chain_refusal (chain_of (chain_number c)) (sector_of (record (sector_fault s) { part = chain_number c }))
-chain-told c sectors.NotCompound = refl
-chain-told c (sectors.HeaderCut found) = refl
-chain-told c (sectors.SectorShift found) = refl
-chain-told c (sectors.MiniSectorShift found) = refl
-chain-told c (sectors.Loop table first) = refl
-chain-told c (sectors.Leaves table (Some after) number) = refl
-chain-told c (sectors.Leaves table None number) = refl
-chain-told c (sectors.Short table first expected found) = refl
-chain-told c (sectors.Cut table sector expected found) = refl
-chain-told c (sectors.FatCut sector expected found) = refl
+chain-reported : (c : Chain) (s : SectorFault) → refusal_of (fault_numbered (refusals.Chain c s))
+    ≡ chain_refusal (chain_numbered (chain_number c)) (sector_of (record (sector_fault s) { part = chain_number c }))
+chain-reported c sectors.NotCompound = refl
+chain-reported c (sectors.HeaderCut found) = refl
+chain-reported c (sectors.SectorShift found) = refl
+chain-reported c (sectors.MiniSectorShift found) = refl
+chain-reported c (sectors.Loop table first) = refl
+chain-reported c (sectors.Leaves table (Some after) number) = refl
+chain-reported c (sectors.Leaves table None number) = refl
+chain-reported c (sectors.Short table first expected found) = refl
+chain-reported c (sectors.Cut table sector expected found) = refl
+chain-reported c (sectors.FatCut sector expected found) = refl
 
-directory-told : (d : DirectoryFault) → refusal_of (directory_fault d) ≡ option_map (λ x. refusals.Directory x) (entry_of (directory_fault d))
-directory-told entries.NoRoot = refl
-directory-told (entries.Missing number) = refl
-directory-told (entries.Twice number) = refl
-directory-told (entries.Kind number kind) = refl
-directory-told (entries.NameSize number size) = refl
+directory-reported : (d : DirectoryFault) → refusal_of (directory_fault d) ≡ option_map (λ x. refusals.Directory x) (directory_fault_numbered (directory_fault d))
+directory-reported entries.NoRoot = refl
+directory-reported (entries.Missing number) = refl
+directory-reported (entries.Twice number) = refl
+directory-reported (entries.Kind number kind) = refl
+directory-reported (entries.NameSize number size) = refl
 
-refusal-back : (r : Refusal) → FitsRefusal r → refusal_of (fault_of r) ≡ Some r
+refusal-back : (r : Refusal) → FitsRefusal r → refusal_of (fault_numbered r) ≡ Some r
 refusal-back refusals.Memory f = refl
 refusal-back refusals.TooShort f = refl
 refusal-back (refusals.NoSheet index) f = refl
 refusal-back refusals.Obfuscated f = refl
-refusal-back (refusals.Stream e) f = stream-told e f ∙ ap (option_map (λ x. refusals.Stream x)) (error-back e f)
+refusal-back (refusals.Stream e) f = stream-reported e f ∙ ap (option_map (λ x. refusals.Stream x)) (error-back e f)
 refusal-back (refusals.Kind k) f = ap (option_map (λ x. refusals.Kind x)) (kind-back k)
 refusal-back refusals.NoWorkbook f = refl
 refusal-back (refusals.Chain c s) f =
-    chain-told c s
+    chain-reported c s
     ∙ ap (λ x. chain_refusal x (sector_of (record (sector_fault s) { part = chain_number c }))) (chain-back c)
     ∙ ap (chain_refusal (Some c)) (sector-back s (chain_number c) f)
 refusal-back (refusals.Directory d) f =
-    directory-told d ∙ ap (option_map (λ x. refusals.Directory x)) (entry-back d f)
+    directory-reported d ∙ ap (option_map (λ x. refusals.Directory x)) (entry-back d f)
 
 -- no refusal has the code 0
 no-refusal : (f : Fault) → f.code ≡ 0 → refusal_of f ≡ None
 no-refusal f zeros = rw zeros refl
 
-some-code : (r : Refusal) → FitsRefusal r → (fault_of r).code ≡ 0 → ⊥
-some-code r f zeros = let both : None ≡ Some r = sym (no-refusal (fault_of r) zeros) ∙ refusal-back r f in cc
+some-code : (r : Refusal) → FitsRefusal r → (fault_numbered r).code ≡ 0 → ⊥
+some-code r f zeros = let both : None ≡ Some r = sym (no-refusal (fault_numbered r) zeros) ∙ refusal-back r f in cc
 
-pub refusals-are-told : RefusalsAreTold
-refusals-are-told r f = (refusal-back r f, sentence-some (fault_of r) r (some-code r f) (refusal-back r f))
+pub refusals-are-reported : RefusalsAreReported
+refusals-are-reported r f = (refusal-back r f, sentence-some (fault_numbered r) r (some-code r f) (refusal-back r f))

@@ -10,8 +10,8 @@ use Rattle.xls_directory.specs.declared.fault.DirectoryFault.TheVariants as entr
 use Rattle.xls_container.specs.declared.kind.FileKind.TheVariants as kinds
 use Rattle.xls_refusals.specs.Codes as number
 use Rattle.xls_refusals.specs.Codes.{numbers}
-use Rattle.xls_refusals.specs.Faults.{fault_of}
-use Rattle.xls_refusals.specs.Parts.{all_parts, part_number, part_of}
+use Rattle.xls_refusals.specs.Faults.{fault_numbered}
+use Rattle.xls_refusals.specs.Parts.{all_parts, part_number, part_numbered}
 use Rattle.xls_refusals.specs.Telling.{refusal_of, sentence}
 use Rattle.xls_refusals.specs.declared.refusal.Chain.TheVariants as chains
 use Rattle.xls_refusals.specs.declared.refusal.Refusal.{Refusal}
@@ -26,10 +26,10 @@ from_1 =
 pub known_parts : map part_number all_parts ≡ from_1
 known_parts = refl
 
-pub known_places : map part_of from_1 ≡ map (λ p. Some p) all_parts
+pub known_places : map part_numbered from_1 ≡ map (λ p. Some p) all_parts
 known_places = refl
 
-pub known_no_parts : map part_of (0 ∷ 39 ∷ []) ≡ None ∷ None ∷ []
+pub known_no_parts : map part_numbered (0 ∷ 39 ∷ []) ≡ None ∷ None ∷ []
 known_no_parts = refl
 
 pub known_chains : map number.chain_number (chains.Tables ∷ chains.Directory ∷ chains.MiniFat ∷ chains.MiniStream ∷ chains.Workbook ∷ [])
@@ -39,7 +39,7 @@ known_chains = refl
 pub known_tables : map number.table_number (tables.Difat ∷ tables.Fat ∷ tables.MiniFat ∷ []) ≡ 0x01 ∷ 0x02 ∷ 0x03 ∷ []
 known_tables = refl
 
-pub known_files : map number.kind_number (kinds.Empty ∷ kinds.Zip ∷ kinds.Html ∷ kinds.Mhtml ∷ kinds.Sylk ∷ kinds.RichText ∷ kinds.Pdf
+pub known_files : map number.file_kind_number (kinds.Empty ∷ kinds.Zip ∷ kinds.Html ∷ kinds.Mhtml ∷ kinds.Sylk ∷ kinds.RichText ∷ kinds.Pdf
     ∷ kinds.Excel2 ∷ kinds.Excel3 ∷ kinds.Excel4 ∷ kinds.Other ∷ [])
     ≡ 0x01 ∷ 0x02 ∷ 0x03 ∷ 0x04 ∷ 0x05 ∷ 0x06 ∷ 0x07 ∷ 0x08 ∷ 0x09 ∷ 0x0A ∷ 0x0B ∷ []
 known_files = refl
@@ -65,7 +65,7 @@ some_refusals =
     ∷ refusals.Directory (entries.Kind 1 7) ∷ refusals.Directory (entries.NameSize 2 65) ∷ []
 
 -- code, part, table, and three numbers
-pub known_faults : map fault_of some_refusals
+pub known_faults : map fault_numbered some_refusals
     ≡ numbers 0x01 0 0 0 0 0 ∷ numbers 0x02 0 0 0 0 0 ∷ numbers 0x03 0 0 7 0 0 ∷ numbers 0x04 0 0 0 0 0 ∷ numbers 0x10 0 0 5 0 0
     ∷ numbers 0x11 0 0 6 0 0 ∷ numbers 0x12 0 0 932 0 0 ∷ numbers 0x13 0 0 0 0 0 ∷ numbers 0x14 11 0 4 2 0
     ∷ numbers 0x15 12 0 3 0 0 ∷ numbers 0x16 17 0 0 0 0 ∷ numbers 0x17 0 0 0 0 0 ∷ numbers 0x18 0 0 0 0 0
@@ -78,7 +78,7 @@ pub known_faults : map fault_of some_refusals
 known_faults = refl
 
 -- they are found again by these
-pub known_refusals : map (λ r. refusal_of (fault_of r)) some_refusals ≡ map (λ r. Some r) some_refusals
+pub known_refusals : map (λ r. refusal_of (fault_numbered r)) some_refusals ≡ map (λ r. Some r) some_refusals
 known_refusals = refl
 
 pub known_sentences : map sentence (numbers 0 0 0 0 0 0 ∷ numbers 2 0 0 0 0 0 ∷ numbers 3 0 0 7 0 0 ∷ numbers 22 17 0 0 0 0

@@ -90,15 +90,15 @@ directory_fault (entries.Twice number) = numbered 82 number
 directory_fault (entries.Kind number kind) = numbers 83 0 0 number kind 0
 directory_fault (entries.NameSize number size) = numbers 84 0 0 number size 0
 
-abbrev pub kind_number : FileKind → ℕ
-kind_number kinds.Empty = 1
-kind_number kinds.Zip = 2
-kind_number kinds.Html = 3
-kind_number kinds.Mhtml = 4
-kind_number kinds.Sylk = 5
-kind_number kinds.RichText = 6
-kind_number kinds.Pdf = 7
-kind_number kinds.Excel2 = 8
-kind_number kinds.Excel3 = 9
-kind_number kinds.Excel4 = 10
-kind_number kinds.Other = 11
+abbrev pub file_kind_number : FileKind → ℕ
+file_kind_number kinds.Empty = 1
+file_kind_number kinds.Zip = 2
+file_kind_number kinds.Html = 3
+file_kind_number kinds.Mhtml = 4
+file_kind_number kinds.Sylk = 5
+file_kind_number kinds.RichText = 6
+file_kind_number kinds.Pdf = 7
+file_kind_number kinds.Excel2 = 8
+file_kind_number kinds.Excel3 = 9
+file_kind_number kinds.Excel4 = 10
+file_kind_number kinds.Other = 11

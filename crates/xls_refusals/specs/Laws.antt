@@ -7,7 +7,7 @@ use Rattle.xls_sectors.specs.declared.error.SectorFault.{SectorFault}
 use Rattle.xls_sectors.specs.declared.error.SectorFault.TheVariants as sectors
 use Rattle.xls_directory.specs.declared.fault.DirectoryFault.{DirectoryFault}
 use Rattle.xls_directory.specs.declared.fault.DirectoryFault.TheVariants as entries
-use Rattle.xls_refusals.specs.Faults.{fault_of}
+use Rattle.xls_refusals.specs.Faults.{fault_numbered}
 use Rattle.xls_refusals.specs.Telling.{refusal_of, sentence}
 use Rattle.xls_refusals.specs.Texts.{refusal_text}
 use Rattle.xls_refusals.specs.declared.refusal.Refusal.{Refusal}
@@ -49,6 +49,6 @@ FitsRefusal (refusals.Directory fault) = FitsDirectory fault
 FitsRefusal other = Unit {0}
 
 -- the numbers of a refusal tell it, and so its sentence
-abbrev pub RefusalsAreTold : Type 0
-RefusalsAreTold =
-    (r : Refusal) → FitsRefusal r → (refusal_of (fault_of r) ≡ Some r) × (sentence (fault_of r) ≡ refusal_text r)
+abbrev pub RefusalsAreReported : Type 0
+RefusalsAreReported =
+    (r : Refusal) → FitsRefusal r → (refusal_of (fault_numbered r) ≡ Some r) × (sentence (fault_numbered r) ≡ refusal_text r)

@@ -55,5 +55,5 @@ all_parts =
     ∷ parts.BErr ∷ []
 
 -- the part of a number, if there is one
-abbrev pub part_of : ℕ → Option Part
-part_of number = if number == 0 then None else slice_get all_parts (number - 1)
+abbrev pub part_numbered : ℕ → Option Part
+part_numbered number = if number == 0 then None else slice_get all_parts (number - 1)

@@ -13,7 +13,7 @@ use Rattle.xls_directory.specs.declared.fault.DirectoryFault.{DirectoryFault}
 use Rattle.xls_directory.specs.declared.fault.DirectoryFault.TheVariants as entries
 use Rattle.xls_container.specs.declared.kind.FileKind.{FileKind}
 use Rattle.xls_container.specs.declared.kind.FileKind.TheVariants as kinds
-use Rattle.xls_refusals.specs.Parts.{part_of}
+use Rattle.xls_refusals.specs.Parts.{part_numbered}
 use Rattle.xls_refusals.specs.Texts.{refusal_text}
 use Rattle.xls_refusals.specs.declared.refusal.Chain.{Chain}
 use Rattle.xls_refusals.specs.declared.refusal.Chain.TheVariants as chains
@@ -39,7 +39,7 @@ numbered_fault f =
     else if f.code == 26 then Some (errors.IfTab f.first)
     else if f.code == 27 then Some (errors.Etpg (f.first % 2 ^ 8))
     else if f.code == 28 then Some (errors.InvalidFormat (f.first % 2 ^ 16))
-    else part_fault f (part_of f.part)
+    else part_fault f (part_numbered f.part)
 
 abbrev pub stream_error : Fault → Option XlsError
 stream_error f =
@@ -61,8 +61,8 @@ table_of n =
     else if n == 3 then Some tables.MiniFat
     else None
 
-abbrev pub chain_of : ℕ → Option Chain
-chain_of n =
+abbrev pub chain_numbered : ℕ → Option Chain
+chain_numbered n =
     if n == 1 then Some chains.Tables
     else if n == 2 then Some chains.Directory
     else if n == 3 then Some chains.MiniFat
@@ -90,8 +90,8 @@ sector_of f =
     else if f.code == 73 then Some (sectors.FatCut (f.first % 2 ^ 32) f.second f.third)
     else table_fault f (table_of f.table)
 
-abbrev pub entry_of : Fault → Option DirectoryFault
-entry_of f =
+abbrev pub directory_fault_numbered : Fault → Option DirectoryFault
+directory_fault_numbered f =
     if f.code == 80 then Some entries.NoRoot
     else if f.code == 81 then Some (entries.Missing (f.first % 2 ^ 32))
     else if f.code == 82 then Some (entries.Twice (f.first % 2 ^ 32))
@@ -109,8 +109,8 @@ old_kind n =
     else if n == 11 then Some kinds.Other
     else None
 
-abbrev pub kind_of : ℕ → Option FileKind
-kind_of n =
+abbrev pub file_kind_numbered : ℕ → Option FileKind
+file_kind_numbered n =
     if n == 1 then Some kinds.Empty
     else if n == 2 then Some kinds.Zip
     else if n == 3 then Some kinds.Html
@@ -136,7 +136,7 @@ call_refusal f =
 
 abbrev pub file_refusal : Fault → Option Refusal
 file_refusal f =
-    if f.code == 48 then option_map (λ k. refusals.Kind k) (kind_of f.part)
+    if f.code == 48 then option_map (λ k. refusals.Kind k) (file_kind_numbered f.part)
     else if f.code == 49 then Some refusals.NoWorkbook
     else None
 
@@ -146,8 +146,8 @@ refusal_of f =
     if nat_lt f.code 16 then call_refusal f
     else if nat_lt f.code 48 then option_map (λ e. refusals.Stream e) (stream_error f)
     else if nat_lt f.code 64 then file_refusal f
-    else if nat_lt f.code 80 then chain_refusal (chain_of f.part) (sector_of f)
-    else option_map (λ d. refusals.Directory d) (entry_of f)
+    else if nat_lt f.code 80 then chain_refusal (chain_numbered f.part) (sector_of f)
+    else option_map (λ d. refusals.Directory d) (directory_fault_numbered f)
 
 -- ---- sentences
 

@@ -2,8 +2,8 @@
 
 ghost use Rattle.std.specs.Prelude.{◌≡◌, ◌%◌, ◌^◌};
 ghost use Rattle.std.specs.Option.{option_map};
-ghost use Rattle.xls_refusals.specs.Telling.{call_refusal, chain_of, chain_refusal, entry_of};
-ghost use Rattle.xls_refusals.specs.Telling.{file_refusal, kind_of, numbered_fault, old_kind};
+ghost use Rattle.xls_refusals.specs.Telling.{call_refusal, chain_numbered, chain_refusal, directory_fault_numbered};
+ghost use Rattle.xls_refusals.specs.Telling.{file_refusal, file_kind_numbered, numbered_fault, old_kind};
 ghost use Rattle.xls_refusals.specs.Telling.{part_fault, refusal_of, sector_of, stream_error};
 ghost use Rattle.xls_refusals.specs.Telling.{table_fault, table_of};
 ghost use Rattle.xls_record.specs.declared.error.XlsError.TheVariants as errors;
@@ -114,7 +114,7 @@ fn table_of(number: u32) -> Option<Table>
 
 /// The chain of a number.
 fn chain_of(number: u32) -> Option<Chain>
-    ensures { result ≡ chain_of number }
+    ensures { result ≡ chain_numbered number }
 {
     match number {
         1 => Some(Chain::Tables),
@@ -188,7 +188,7 @@ fn sector_of(fault: &Fault) -> Option<SectorFault>
 
 /// The fault of a directory.
 fn entry_of(fault: &Fault) -> Option<DirectoryFault>
-    ensures { result ≡ entry_of fault.now }
+    ensures { result ≡ directory_fault_numbered fault.now }
 {
     let number = low_u32(fault.first);
     match fault.code {
@@ -223,7 +223,7 @@ fn old_kind(number: u32) -> Option<FileKind>
 
 /// What a file is, by its number.
 fn kind_of(number: u32) -> Option<FileKind>
-    ensures { result ≡ kind_of number }
+    ensures { result ≡ file_kind_numbered number }
 {
     match number {
         1 => Some(FileKind::Empty),

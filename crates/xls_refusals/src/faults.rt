@@ -1,9 +1,9 @@
 //! Refusals as numbers, as C lays them out.
 
 ghost use Rattle.std.specs.Prelude.{◌≡◌};
-ghost use Rattle.xls_refusals.specs.Faults.{fault_of};
+ghost use Rattle.xls_refusals.specs.Faults.{fault_numbered};
 ghost use Rattle.xls_refusals.specs.Codes.{chain_number, numbered, numbers, plain, directory_fault};
-ghost use Rattle.xls_refusals.specs.Codes.{kind_number, sector_fault, stream_fault, table_number};
+ghost use Rattle.xls_refusals.specs.Codes.{file_kind_number, sector_fault, stream_fault, table_number};
 
 use crate::parts::part_number;
 use crate::refusal::{Chain, Refusal};
@@ -201,7 +201,7 @@ fn directory_fault(fault: &DirectoryFault) -> Fault
 
 /// The number of what a file is.
 fn kind_number(kind: FileKind) -> u32
-    ensures { result ≡ kind_number kind }
+    ensures { result ≡ file_kind_number kind }
 {
     match kind {
         FileKind::Empty => 1,
@@ -220,7 +220,7 @@ fn kind_number(kind: FileKind) -> u32
 
 /// A refusal as numbers.
 pub fn fault_of(refusal: &Refusal) -> Fault
-    ensures { result ≡ fault_of refusal.now }
+    ensures { result ≡ fault_numbered refusal.now }
 {
     match refusal {
         Refusal::Memory => plain(1),

@@ -10,6 +10,6 @@ mod telling;
 
 pub use decoding::refusal_of;
 pub use faults::{Fault, fault_of, plain};
-pub use laws::refusals_are_told;
+pub use laws::refusals_are_reported;
 pub use refusal::{Chain, Refusal};
 pub use telling::sentence_of;

@@ -1,7 +1,7 @@
 //! The parts of a stream by their numbers.
 
 ghost use Rattle.std.specs.Prelude.{◌≡◌, slice_get};
-ghost use Rattle.xls_refusals.specs.Parts.{part_number, part_of};
+ghost use Rattle.xls_refusals.specs.Parts.{part_number, part_numbered};
 
 use xls_record::Part;
 
@@ -102,7 +102,7 @@ fn part_at(parts: &[Part], place: usize) -> Option<Part>
 
 /// The part of a number, if there is one.
 pub(crate) fn part_of(number: u32) -> Option<Part>
-    ensures { result ≡ part_of number }
+    ensures { result ≡ part_numbered number }
 {
     if number == 0 {
         return None;

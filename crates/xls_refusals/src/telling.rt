@@ -11,7 +11,7 @@ use crate::refusal::Refusal;
 use std::alloc::{AllocError, Global};
 
 /// The sentence of a refusal.
-fn told(alloc: Global, refusal: Refusal) -> Result<String, AllocError>
+fn reported(alloc: Global, refusal: Refusal) -> Result<String, AllocError>
     ensures { IfOk result (λ text. string_bytes text ≡ refusal_text refusal) }
 {
     format!(in alloc; "{refusal}")
@@ -26,7 +26,7 @@ pub fn sentence_of(alloc: Global, fault: &Fault) -> Result<String, AllocError>
         return String::from_str(alloc, "No fault");
     }
     match refusal_of(fault) {
-        Some(refusal) => told(alloc, refusal),
+        Some(refusal) => reported(alloc, refusal),
         None => String::from_str(alloc, "An unknown fault"),
     }
 }

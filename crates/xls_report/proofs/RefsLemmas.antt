@@ -4,7 +4,7 @@ use Rattle.std.specs.Prelude.{slice_get}
 use Rattle.std.specs.List.{flat_map}
 use Rattle.std.proofs.lemmas.Grind.{flat_map-append}
 use Rattle.xls_lines.specs.SinkState.{SinkState}
-use Rattle.xls_lines.specs.Gathering.{Gathers, Stops}
+use Rattle.xls_lines.specs.Gathering.{GathersText, Stops}
 use Rattle.xls_lines.specs.declared.stop.Stop.{Stop}
 use Rattle.xls_lines.specs.declared.stop.Stop.TheVariants.{Memory}
 use Rattle.xls_lines.proofs.GatherLemmas.{PutsSome, gathers-as, gathers-then, stops-as, stops-memory, stops-more, stops-then}
@@ -33,13 +33,13 @@ one_more text xs i =
 
 -- one more is put
 pub gathers-where : {X : Type 0} {a b c : SinkState} {g h k : List ℕ} (text : X → List ℕ) (xs : List X) (i : ℕ)
-    → Gathers a g b h (flat_map text (take i xs)) → Gathers b h c k (lines_where text (slice_get xs i))
-    → Gathers a g c k (flat_map text (take (i + 1) xs))
+    → GathersText a g b h (flat_map text (take i xs)) → GathersText b h c k (lines_where text (slice_get xs i))
+    → GathersText a g c k (flat_map text (take (i + 1) xs))
 gathers-where text xs i p q = gathers-as (gathers-then p q) (one_more text xs i)
 
 -- one that was not put whole
 pub stops-where : {X : Type 0} {a b c : SinkState} {g h : List ℕ} {e : Stop} (text : X → List ℕ) (xs : List X) (i : ℕ)
-    → Gathers a g b h (flat_map text (take i xs)) → Stops b h c (lines_where text (slice_get xs i)) e
+    → GathersText a g b h (flat_map text (take i xs)) → Stops b h c (lines_where text (slice_get xs i)) e
     → Stops a g c (flat_map text xs) e
 stops-where text xs i p q =
     stops-as (stops-more (flat_map text (drop (i + 1) xs)) (stops-as (stops-then p q) (one_more text xs i)))
@@ -76,7 +76,7 @@ refs-by-sheet v =
 
 -- all of them are put
 pub gathers-refs : {a b : SinkState} {g h : List ℕ} (v : Viewed) (i : ℕ) → length v.context.sheets ≤ i
-    → Gathers a g b h (flat_map (sheet_refs v.context.sheets) (take i (sheets_cited v))) → Gathers a g b h (refs_text (cited_in v))
+    → GathersText a g b h (flat_map (sheet_refs v.context.sheets) (take i (sheets_cited v))) → GathersText a g b h (refs_text (cited_in v))
 gathers-refs v i l p =
     let within = length-sheets_from v.context 0 v.context.sheets v.formulas in
     gathers-as p (ap (flat_map (sheet_refs v.context.sheets)) (take_all i (sheets_cited v) (omega (arith, within, l))) ∙ refs-by-sheet v)

@@ -10,7 +10,7 @@ use Rattle.xls_data.specs.Sheets.{SheetContent}
 use Rattle.xls_range.specs.Positions.{Position}
 use Rattle.xls_meaning.specs.Reading.{SheetView}
 use Rattle.xls_meaning.specs.SheetTable.{FormulaEntry}
-use Rattle.xls_open.specs.Workbook.{told_of}
+use Rattle.xls_open.specs.Workbook.{name_texts}
 use Rattle.xls_formula.specs.Context.{Context}
 use Rattle.xls_cursors.specs.Formulas.{Formula, text_entry}
 use Rattle.xls_report.specs.Report.{formula_line, formula_lines, lines_at, view_text, sheet_line, sheets_text, name_line}
@@ -115,13 +115,13 @@ abbrev pub Named : Type 0
 Named = String Global × String Global
 
 -- the lines of the names as the workbook has them
-pub all_names : (names : List Named) (pairs : List (List ℕ × List ℕ)) → map told_of names ≡ pairs
-    → flat_map (λ (n : Named). name_line (told_of n)) names ≡ flat_map name_line pairs
+pub all_names : (names : List Named) (pairs : List (List ℕ × List ℕ)) → map name_texts names ≡ pairs
+    → flat_map (λ (n : Named). name_line (name_texts n)) names ≡ flat_map name_line pairs
 all_names names pairs e = each names ∙ ap (flat_map name_line) e
   where
-    each : (ns : List Named) → flat_map (λ (n : Named). name_line (told_of n)) ns ≡ flat_map name_line (map told_of ns)
+    each : (ns : List Named) → flat_map (λ (n : Named). name_line (name_texts n)) ns ≡ flat_map name_line (map name_texts ns)
     each [] = refl
-    each (n ∷ ns) = ap (λ (l : List ℕ). name_line (told_of n) ++ l) (each ns)
+    each (n ∷ ns) = ap (λ (l : List ℕ). name_line (name_texts n) ++ l) (each ns)
 
 -- ---- formulas
 
@@ -149,10 +149,10 @@ pub formula_none : (p : Position) (text : List ℕ) → text ≡ [] → formula_
 formula_none p [] e = refl
 formula_none p (c ∷ cs) e = absurd cc
 
-pub formula_shown : (p : Position) (text : List ℕ) → (text ≡ [] → ⊥)
+pub formula_displayed : (p : Position) (text : List ℕ) → (text ≡ [] → ⊥)
     → formula_line (p, text) ≡ formula_lines ((p, text) ∷ [])
-formula_shown p [] h = absurd (h refl)
-formula_shown p (c ∷ cs) h = sym (append-nil (formula_line (p, c ∷ cs)))
+formula_displayed p [] h = absurd (h refl)
+formula_displayed p (c ∷ cs) h = sym (append-nil (formula_line (p, c ∷ cs)))
 
 -- no bytes spell no characters, and some bytes spell some
 pub no_characters : (bytes : List ℕ) → true ≡ (length bytes == 0) → chars bytes ≡ []

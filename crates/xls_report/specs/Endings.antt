@@ -18,18 +18,18 @@ IsUntouched before after = Keeps before.written after.written × (after.faults �
 -- ---- a refusal
 
 -- an error that the bytes have
-abbrev pub IsFault : XlsError → Type 0
-IsFault e = (e ≢ errors.Io) × (e ≢ errors.Memory)
+abbrev pub IsStreamFault : XlsError → Type 0
+IsStreamFault e = (e ≢ errors.Io) × (e ≢ errors.Memory)
 
 -- where reading or opening answers an error: its line, if the bytes have it; a read fault and out of
 -- memory write nothing
 abbrev pub EndsWithError : XlsError → SinkState → SinkState → Result Ending Stop → Type 0
 EndsWithError e before after (Ok Done) = ⊥
-EndsWithError e before after (Ok Refused) = IsFault e × Wrote before after (fault_line e)
+EndsWithError e before after (Ok Refused) = IsStreamFault e × Wrote before after (fault_line e)
 EndsWithError e before after (Err Read) = (e ≡ errors.Io) × IsUntouched before after
-EndsWithError e before after (Err Write) = IsFault e × Stops before [] after (fault_line e) Write
+EndsWithError e before after (Err Write) = IsStreamFault e × Stops before [] after (fault_line e) Write
 EndsWithError e before after (Err Memory) =
-    IsUntouched before after ⊎ (IsFault e × Stops before [] after (fault_line e) Memory)
+    IsUntouched before after ⊎ (IsStreamFault e × Stops before [] after (fault_line e) Memory)
 
 -- ---- a text of a kind
 

@@ -13,14 +13,14 @@ use Rattle.xls_data.specs.declared.sheets.SheetType.{SheetType}
 use Rattle.xls_data.specs.declared.sheets.SheetType.TheVariants as types
 use Rattle.xls_data.specs.declared.sheets.SheetVisible.{SheetVisible}
 use Rattle.xls_data.specs.declared.sheets.SheetVisible.TheVariants as states
-use Rattle.xls_biff.specs.Cells.{Entry}
+use Rattle.xls_biff.specs.Cells.{CellEntry}
 use Rattle.xls_record.specs.ErrorText.{error_text}
 use Rattle.xls_lay.specs.ErrorText as lay_errors
 use Rattle.xls_lay.specs.declared.error.LayError.{LayError}
 use Rattle.xls_record.specs.declared.error.XlsError.{XlsError}
 use Rattle.xls_data.specs.declared.regions.Dimensions.{Dimensions}
 use Rattle.xls_meaning.specs.Reading.{SheetView, BookView}
-use Rattle.xls_meaning.specs.SheetTable.{FormulaEntry, shown_formulas}
+use Rattle.xls_meaning.specs.SheetTable.{FormulaEntry, nonempty_formulas}
 use Rattle.xls_lines.specs.Lines.{line, escaped_text, filled_line}
 
 -- ---- cells
@@ -43,7 +43,7 @@ value_fields (failure e) = Some (codes "error", cell_errors.error_text e)
 value_fields nothing = None
 
 -- row, column, kind and printed text of a cell
-abbrev pub cell_line : Entry → List ℕ
+abbrev pub cell_line : CellEntry → List ℕ
 cell_line c = filled_line c.0.0 c.0.1 (value_fields c.1)
 
 -- ---- sheets
@@ -76,7 +76,7 @@ formula_line f = line (codes "formula") (decimal f.0.0 ∷ decimal f.0.1 ∷ esc
 
 -- the lines of the formulas whose text isn't empty
 abbrev pub formula_lines : List FormulaEntry → List ℕ
-formula_lines fs = flat_map formula_line (shown_formulas fs)
+formula_lines fs = flat_map formula_line (nonempty_formulas fs)
 
 -- the lines of a sheet's cells, of its formulas, and of its merged regions
 abbrev pub view_text : SheetView → List ℕ
@@ -88,16 +88,16 @@ abbrev pub cells_at : Option SheetView → List ℕ
 cells_at None = []
 cells_at (Some v) = flat_map cell_line v.cells
 
-abbrev pub formulas_at : Option SheetView → List ℕ
-formulas_at None = []
-formulas_at (Some v) = formula_lines v.formulas
+abbrev pub formula_lines_at : Option SheetView → List ℕ
+formula_lines_at None = []
+formula_lines_at (Some v) = formula_lines v.formulas
 
-abbrev pub merges_at : Option SheetView → List ℕ
-merges_at None = []
-merges_at (Some v) = flat_map merge_line v.merges
+abbrev pub merge_lines_at : Option SheetView → List ℕ
+merge_lines_at None = []
+merge_lines_at (Some v) = flat_map merge_line v.merges
 
 abbrev pub lines_at : Option SheetView → List ℕ
-lines_at o = cells_at o ++ (formulas_at o ++ merges_at o)
+lines_at o = cells_at o ++ (formula_lines_at o ++ merge_lines_at o)
 
 -- the line of each sheet, and after it those of what it shows
 abbrev pub sheets_text : List SheetContent → List SheetView → List ℕ
@@ -131,7 +131,7 @@ sound_line = line (codes "ok") []
 
 -- the line of an error of this text
 abbrev pub error_line : List ℕ → List ℕ
-error_line told = line (codes "error") (told ∷ [])
+error_line reported = line (codes "error") (reported ∷ [])
 
 -- the line of a list whose canonical stream isn't written
 abbrev pub unwritten_line : LayError → List ℕ

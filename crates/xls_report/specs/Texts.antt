@@ -8,12 +8,12 @@ use Rattle.xls_record.specs.declared.error.XlsError.{XlsError}
 use Rattle.xls_record.specs.declared.error.XlsError.TheVariants.{WorksheetNotFound}
 use Rattle.xls_props.specs.Properties.{IsProperties}
 use Rattle.xls_props.specs.declared.properties.WorkbookProperties.{WorkbookProperties}
-use Rattle.xls_meaning.specs.Reading.{SheetView, BookView, shown_of}
+use Rattle.xls_meaning.specs.Reading.{SheetView, BookView, displayed_of}
 use Rattle.xls_csv.specs.Dense.{sheet_csv}
 use Rattle.xls_refs.specs.Cited.{BookCited}
 use Rattle.xls_refs.specs.Citing.{IsBookCited}
 use Rattle.xls_report.specs.Refs.{refs_text}
-use Rattle.xls_stream.specs.Listing.{Entry, Carries}
+use Rattle.xls_stream.specs.Listing.{ListEntry, Carries}
 use Rattle.xls_report.specs.Remaking.{IsWrittenOf, IsUnwrittenOf}
 use Rattle.xls_meaning.specs.Faults.{FirstFault, IsSound}
 use Rattle.xls_open.specs.Opening.{default_options, default_rules}
@@ -42,11 +42,11 @@ IsRefsText bytes text =
     (book : BookCited) × IsBookCited default_options bytes book × (text ≡ refs_text book)
 
 -- no place of the bytes has a fault, and this text is of each list that they carry, of which there is one
-pub record IsOfList (IsOf : List Entry → List ℕ → Type 0) (bytes text : List ℕ) : Type 0 where
+pub record IsOfList (IsOf : List ListEntry → List ℕ → Type 0) (bytes text : List ℕ) : Type 0 where
   pub sound : IsSound default_rules bytes
-  pub list : List Entry
+  pub list : List ListEntry
   pub carries : Carries bytes list
-  pub every : (other : List Entry) → Carries bytes other → IsOf other text
+  pub every : (other : List ListEntry) → Carries bytes other → IsOf other text
 
 -- the canonical bytes of the list that the bytes carry
 abbrev pub IsRemadeText : List ℕ → List ℕ → Type 0
@@ -59,7 +59,7 @@ IsUnremadeLine bytes text = IsFirstLine bytes text ⊎ IsOfList IsUnwrittenOf by
 -- the CSV of the last sheet of this name in what a workbook shows
 abbrev pub IsCsvOf : List ℕ → BookView → List ℕ → Type 0
 IsCsvOf name book text =
-    (view : SheetView) × (shown_of book (chars name) ≡ Some view) × (text ≡ sheet_csv view.cells)
+    (view : SheetView) × (displayed_of book (chars name) ≡ Some view) × (text ≡ sheet_csv view.cells)
 
 -- the line of a name that no sheet has
 abbrev pub IsMissingLine : List ℕ → List ℕ → Type 0
@@ -68,4 +68,4 @@ IsMissingLine name text =
 
 -- the same where no sheet of a workbook has it
 abbrev pub IsMissingOf : List ℕ → BookView → List ℕ → Type 0
-IsMissingOf name book text = (shown_of book (chars name) ≡ None) × IsMissingLine name text
+IsMissingOf name book text = (displayed_of book (chars name) ≡ None) × IsMissingLine name text

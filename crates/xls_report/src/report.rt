@@ -11,10 +11,10 @@ ghost use Rattle.xls_record.specs.declared.error.XlsError.TheVariants.{Memory};
 ghost use Rattle.xls_lines.specs.Gathering.{Delivers, Puts};
 ghost use Rattle.xls_report.specs.Endings.{EndsWithEither};
 ghost use Rattle.xls_lines.specs.Lines.{field_text};
-ghost use Rattle.xls_open.specs.Workbook.{told_of};
+ghost use Rattle.xls_open.specs.Workbook.{name_texts};
 ghost use Rattle.xls_cursors.specs.Formulas.{text_entry};
 ghost use Rattle.xls_cursors.specs.Values.{cell_entry};
-ghost use Rattle.xls_cursors.specs.Shown.{content_of};
+ghost use Rattle.xls_cursors.specs.Displayed.{sheet_view_of};
 ghost use Rattle.xls_cursors.specs.Walking.{formula_seen};
 ghost use Rattle.xls_report.specs.Report.{cell_line, dates_line, epoch_text, fault_line, formula_line, formula_lines, lines_at, merge_line, name_line, report, sheet_line, sheet_report, sheets_text, sound_line, type_text, unwritten_line, value_fields, visible_text};
 
@@ -75,7 +75,7 @@ fn put_value<K: Sink>(
         (cell_line ((row, column), ref_content_of value.now)) result }
 {
     match fields_of(value) {
-        Some((kind, shown)) => buffer.put_cell(sink, row, column, kind, shown),
+        Some((kind, displayed)) => buffer.put_cell(sink, row, column, kind, displayed),
         None => Ok(()),
     }
 }
@@ -164,7 +164,7 @@ fn put_formula<K: Sink>(
 }
 
 /// Puts the line of a formula, unless its text is empty.
-fn put_shown_formula<K: Sink>(
+fn put_displayed_formula<K: Sink>(
     buffer: &mut Buffer,
     sink: &mut K,
     row: u32,
@@ -192,7 +192,7 @@ fn put_formula_of<K: Sink>(
         (formula_lines (text_entry formulas.now.context (formula_seen formula.entry) ∷ [])) result }
 {
     let text = formulas.text_in(texts, formula)?;
-    put_shown_formula(buffer, sink, formula.row, formula.column, text)
+    put_displayed_formula(buffer, sink, formula.row, formula.column, text)
 }
 
 /// Puts the lines of a sheet's formulas.
@@ -240,7 +240,7 @@ fn put_merges<K: Sink>(buffer: &mut Buffer, sink: &mut K, merges: Merges<'_>) ->
 }
 
 /// Puts the lines of the cells that a sheet shows.
-fn put_shown_cells<K: Sink>(
+fn put_displayed_cells<K: Sink>(
     alloc: Global,
     buffer: &mut Buffer,
     sink: &mut K,
@@ -254,31 +254,31 @@ fn put_shown_cells<K: Sink>(
 }
 
 /// Puts the lines of the formulas that a sheet shows.
-fn put_shown_formulas<K: Sink>(
+fn put_displayed_formulas<K: Sink>(
     alloc: Global,
     buffer: &mut Buffer,
     sink: &mut K,
     sheet: &ViewSheet<'_>,
 ) -> Result<(), Stop>
     ensures { Puts (K.state sink.old) buffer.old (K.state sink.new) buffer.new
-        (formula_lines (content_of sheet.now).formulas) result }
+        (formula_lines (sheet_view_of sheet.now).formulas) result }
 {
     let formulas = sheet.formulas()?;
     put_formulas(alloc, buffer, sink, &formulas)
 }
 
 /// Puts the lines of what a sheet shows.
-fn put_shown<K: Sink>(
+fn put_displayed<K: Sink>(
     alloc: Global,
     buffer: &mut Buffer,
     sink: &mut K,
     sheet: &ViewSheet<'_>,
 ) -> Result<(), Stop>
     ensures { Puts (K.state sink.old) buffer.old (K.state sink.new) buffer.new
-        (lines_at (Some (content_of sheet.now))) result }
+        (lines_at (Some (sheet_view_of sheet.now))) result }
 {
-    put_shown_cells(alloc, buffer, sink, sheet)?;
-    put_shown_formulas(alloc, buffer, sink, sheet)?;
+    put_displayed_cells(alloc, buffer, sink, sheet)?;
+    put_displayed_formulas(alloc, buffer, sink, sheet)?;
     put_merges(buffer, sink, sheet.merges())?;
     Ok(())
 }
@@ -295,7 +295,7 @@ fn put_lines_at<K: Sink>(
         (lines_at (slice_get view.now.book.contents n)) result }
 {
     match view.sheet_at(n) {
-        Some(sheet) => put_shown(alloc, buffer, sink, &sheet),
+        Some(sheet) => put_displayed(alloc, buffer, sink, &sheet),
         None => Ok(()),
     }
 }
@@ -352,7 +352,7 @@ fn put_dates<K: Sink>(buffer: &mut Buffer, sink: &mut K, is_1904: bool) -> Resul
 /// Puts the line of a defined name.
 fn put_name<K: Sink>(buffer: &mut Buffer, sink: &mut K, name: &(String, String)) -> Result<(), Stop>
     ensures { Puts (K.state sink.old) buffer.old (K.state sink.new) buffer.new
-        (name_line (told_of name.now)) result }
+        (name_line (name_texts name.now)) result }
 {
     let text = Field::Text(name.1.as_str());
     buffer.put_line(sink, "name", &[Field::Text(name.0.as_str()), text])
@@ -365,7 +365,7 @@ fn put_names<K: Sink>(
     names: &[(String, String)],
 ) -> Result<(), Stop>
     ensures { Puts (K.state sink.old) buffer.old (K.state sink.new) buffer.new
-        (flat_map (λ n. name_line (told_of n)) names.now) result }
+        (flat_map (λ n. name_line (name_texts n)) names.now) result }
 {
     for name in names {
         put_name(buffer, sink, name)?;

@@ -13,7 +13,7 @@ use Rattle.xls_data.specs.Content.{Content, int, float, text, truth, date, iso_d
 use Rattle.xls_data.specs.Kinds.{failure_in}
 use Rattle.xls_data.specs.declared.errors.CellErrorType.{CellErrorType}
 use Rattle.xls_rows.specs.Refusals.{cell_error}
-use Rattle.xls_rows.specs.Readers.{text_in}
+use Rattle.xls_rows.specs.Readers.{text_read}
 use Rattle.xls_rows.specs.Texts.{printed}
 
 -- a text is the bytes of its characters
@@ -33,7 +33,7 @@ printed_is (variant.Error e) = refl
 printed_is variant.Empty = refl
 
 -- only an error cell has no text
-pub text_in_printed : (place : ℕ × ℕ) (c : Content) → failure_in c ≡ None → text_in place c ≡ Ok (printed c)
+pub text_in_printed : (place : ℕ × ℕ) (c : Content) → failure_in c ≡ None → text_read place c ≡ Ok (printed c)
 text_in_printed place (int n) e = refl
 text_in_printed place (float x) e = refl
 text_in_printed place (text cs) e = refl
@@ -44,6 +44,6 @@ text_in_printed place (iso_duration cs) e = refl
 text_in_printed place (failure k) e = absurd (none-some k (sym e))
 text_in_printed place nothing e = refl
 
-pub text_in_failure : (place : ℕ × ℕ) (c : Content) (k : CellErrorType) → failure_in c ≡ Some k → text_in place c ≡ Err (cell_error k place)
+pub text_in_failure : (place : ℕ × ℕ) (c : Content) (k : CellErrorType) → failure_in c ≡ Some k → text_read place c ≡ Err (cell_error k place)
 text_in_failure place (failure j) k e = ap (λ i. Err (cell_error i place)) (same_Some j k e)
 text_in_failure place c k e = absurd (none-some k e)

@@ -5,7 +5,7 @@ use Rattle.xls_data.specs.Content.{Content}
 use Rattle.xls_range.specs.Grid.{Grid}
 use Rattle.xls_range.specs.Lists.{rows_of}
 use Rattle.xls_rows.specs.Refusals.{Refusal}
-use Rattle.xls_rows.specs.Readers.{text_in}
+use Rattle.xls_rows.specs.Readers.{text_read}
 use Rattle.xls_rows.specs.Rows.{Row, row_of, all_read}
 use Rattle.xls_rows.specs.Choices.{Choice, unnamed, every, wanted}
 use Rattle.xls_rows.specs.Columns.{numbers_from, columns_of}
@@ -37,10 +37,10 @@ rows_by headers (Err r) top left others = Err r
 rows_by headers (Ok indexes) top left others = Ok (rows_from headers indexes top left others)
 
 -- the rows after the first one, by its texts as headers, or the refusal of these
-abbrev pub rows_behind : {T : Type 0} → Choice → ℕ → Result (List (List ℕ)) Refusal → ℕ → ℕ
+abbrev pub rows_after : {T : Type 0} → Choice → ℕ → Result (List (List ℕ)) Refusal → ℕ → ℕ
     → List (List T) → Result (List (Row T)) Refusal
-rows_behind choice width (Err r) top left others = Err r
-rows_behind choice width (Ok headers) top left others =
+rows_after choice width (Err r) top left others = Err r
+rows_after choice width (Ok headers) top left others =
     rows_by (Some headers) (columns_by choice width headers) top left others
 
 -- the rows by headers, which the first row has as its printed texts; no rows have no headers
@@ -48,7 +48,7 @@ abbrev pub named_rows : {T : Type 0} → Choice → (T → Content) → ℕ → 
     → Result (List (Row T)) Refusal
 named_rows choice content width top left [] = Ok []
 named_rows choice content width top left (first ∷ others) =
-    rows_behind choice width (all_read (text_in (top, left)) (map content first)) (top + 1) left
+    rows_after choice width (all_read (text_read (top, left)) (map content first)) (top + 1) left
     others
 
 -- whether the columns have no headers

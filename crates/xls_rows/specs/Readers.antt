@@ -13,9 +13,9 @@ other_kind what place (failure e) = cell_error e place
 other_kind what place c = custom (expecting what (kind_name c))
 
 -- whether a cell is empty
-abbrev pub is_nothing : Content → Bool
-is_nothing nothing = true
-is_nothing c = false
+abbrev pub is_empty_cell : Content → Bool
+is_empty_cell nothing = true
+is_empty_cell c = false
 
 -- a whole number is zero, the bits of a double are those of a zero of either sign, a number is zero
 abbrev pub is_zero_whole : ℤ → Bool
@@ -74,9 +74,9 @@ char_in place (text cs) =
 char_in place c = Err (other_kind (codes "char") place c)
 
 -- the printed text
-abbrev pub text_in : ℕ × ℕ → Content → Result (List ℕ) Refusal
-text_in place (failure e) = Err (cell_error e place)
-text_in place c = Ok (printed c)
+abbrev pub text_read : ℕ × ℕ → Content → Result (List ℕ) Refusal
+text_read place (failure e) = Err (cell_error e place)
+text_read place c = Ok (printed c)
 
 -- the bytes of a text; an empty cell has none
 abbrev pub bytes_in : ℕ × ℕ → Content → Result (List ℕ) Refusal

@@ -39,8 +39,8 @@ abbrev pub quoted : List ℕ → List ℕ
 quoted bytes = (codes "'" ++ bytes) ++ codes "'"
 
 -- what a cell that is no whole number of a type is shown as: a text in quotes, a number, or a kind
-abbrev pub shown : Content → List ℕ
-shown (int n) = signed_decimal n
-shown (float x) = number_text x
-shown (text cs) = quoted (encode_utf8_all cs)
-shown c = kind_name c
+abbrev pub display_text : Content → List ℕ
+display_text (int n) = signed_decimal n
+display_text (float x) = number_text x
+display_text (text cs) = quoted (encode_utf8_all cs)
+display_text c = kind_name c

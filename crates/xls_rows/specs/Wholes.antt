@@ -5,7 +5,7 @@ use Rattle.xls_data.specs.Content.{Content, int, float, text, failure}
 use Rattle.xls_dates.specs.Numbers.{number_trunc_checked}
 use Rattle.xls_rows.specs.declared.error.DeError.{DeError}
 use Rattle.xls_rows.specs.Refusals.{Refusal, cell_error, custom, Gives}
-use Rattle.xls_rows.specs.Texts.{expecting, shown}
+use Rattle.xls_rows.specs.Texts.{expecting, display_text}
 
 -- a number of the type
 abbrev pub IsBetween : ℤ → ℤ → ℤ → Type 0
@@ -24,8 +24,8 @@ spelled low bytes =
     else pos (digits_value 10 (without_leading_plus bytes))
 
 -- o is the number of the type that std's parse reads in a text, and None for other texts
-abbrev pub IsParsed : ℤ → ℤ → List ℕ → Option ℤ → Type 0
-IsParsed low high bytes o =
+abbrev pub IsParsedWithin : ℤ → ℤ → List ℕ → Option ℤ → Type 0
+IsParsedWithin low high bytes o =
     SomeIff o (IsSpelled low bytes × IsBetween low high (spelled low bytes)) (spelled low bytes)
 
 -- o is this number, if there is one and it is of the type
@@ -34,16 +34,16 @@ IsOfType low high None o = o ≡ None
 IsOfType low high (Some n) o = SomeIff o (IsBetween low high n) n
 
 -- o is the number of the type that a cell stands for, and None for other cells
-abbrev pub IsWhole : ℤ → ℤ → Content → Option ℤ → Type 0
-IsWhole low high (int n) o = IsOfType low high (Some n) o
-IsWhole low high (float x) o = IsOfType low high (number_trunc_checked x) o
-IsWhole low high (text cs) o = IsParsed low high (encode_utf8_all cs) o
-IsWhole low high c o = o ≡ None
+abbrev pub IsWholeContent : ℤ → ℤ → Content → Option ℤ → Type 0
+IsWholeContent low high (int n) o = IsOfType low high (Some n) o
+IsWholeContent low high (float x) o = IsOfType low high (number_trunc_checked x) o
+IsWholeContent low high (text cs) o = IsParsedWithin low high (encode_utf8_all cs) o
+IsWholeContent low high c o = o ≡ None
 
 -- what a cell is refused for that stands for no number of the type
 abbrev pub not_whole : List ℕ → ℕ × ℕ → Content → Refusal
 not_whole name place (failure e) = cell_error e place
-not_whole name place c = custom (expecting name (shown c))
+not_whole name place c = custom (expecting name (display_text c))
 
 -- the number of the type, or the refusal
 abbrev pub whole_or : List ℕ → ℕ × ℕ → Content → Option ℤ → Result ℤ Refusal
@@ -54,7 +54,7 @@ whole_or name place c None = Err (not_whole name place c)
 pub record ReadsWhole {A : Type 0} (view : A → ℤ) (name : List ℕ) (low high : ℤ) (c : Content)
     (place : ℕ × ℕ) (result : Result A DeError) : Type 0 where
   pub found : Option ℤ
-  pub is : IsWhole low high c found
+  pub is : IsWholeContent low high c found
   pub gives : Gives view result (whole_or name place c found)
 
 -- the same at the unsigned and the signed type of so many bits

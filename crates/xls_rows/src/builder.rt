@@ -4,11 +4,11 @@ ghost use Rattle.std.specs.Prelude.{◌≡◌, ◌+◌, ◌^◌, ◌<◌, ◌≤
 ghost use Rattle.std.specs.String.{string_bytes};
 ghost use Rattle.xls_rows.specs.Choices.{every};
 ghost use Rattle.xls_rows.specs.Columns.{numbers_from};
-ghost use Rattle.xls_rows.specs.Readers.{text_in};
+ghost use Rattle.xls_rows.specs.Readers.{text_read};
 ghost use Rattle.xls_rows.specs.Refusals.{Gives};
 ghost use Rattle.xls_rows.specs.Rows.{all_read};
 ghost use Rattle.xls_rows.specs.Ranges.{choice_of, is_unnamed, columns_by};
-ghost use Rattle.xls_rows.specs.Ranges.{rows_from, rows_behind, rows_read};
+ghost use Rattle.xls_rows.specs.Ranges.{rows_from, rows_after, rows_read};
 
 use crate::columns::{all_columns, columns_with, texts_of};
 use crate::range_rows::RangeDeserializer;
@@ -173,8 +173,8 @@ fn named_rows<'c, T: ReadCell, D>(
     requires first { length first.now ≡ width }
     requires wide { All (λ row. length row ≡ width) rows }
     requires count { start.0 + 1 + length rows ≤ 2 ^ 32 }
-    ensures { Gives (λ rows. rows) result (rows_behind (choice_of choice.entry) width
-        (all_read (text_in start) (map T.content first.now)) (start.0 + 1) start.1 rows.entry) }
+    ensures { Gives (λ rows. rows) result (rows_after (choice_of choice.entry) width
+        (all_read (text_read start) (map T.content first.now)) (start.0 + 1) start.1 rows.entry) }
 {
     let headers = match texts_of(alloc, first, start) {
         Ok(headers) => headers,

@@ -4,7 +4,7 @@ ghost use Rattle.std.specs.Prelude.{◌≡◌, ◌<◌, map, length, All, IfOk, 
 ghost use Rattle.std.specs.String.{string_bytes};
 ghost use Rattle.std.specs.Str.{trim};
 ghost use Rattle.xls_rows.specs.Refusals.{Gives, Refuses, no_header};
-ghost use Rattle.xls_rows.specs.Readers.{text_in};
+ghost use Rattle.xls_rows.specs.Readers.{text_read};
 ghost use Rattle.xls_rows.specs.Rows.{all_read};
 ghost use Rattle.xls_rows.specs.Columns.{numbers_from, column_of, wanted_column, columns_of};
 
@@ -33,7 +33,7 @@ pub(crate) fn texts_of<T: ReadCell>(
     pos: (u32, u32),
 ) -> Result<Vec<String>, DeError>
     ensures value { Gives (λ v. map string_bytes v.items) result
-        (all_read (text_in pos) (map T.content cells.now)) }
+        (all_read (text_read pos) (map T.content cells.now)) }
     ensures len { IfOk result (λ v. length v.items ≡ length cells.now) }
 {
     let mut texts = Vec::new(alloc);

@@ -4,7 +4,7 @@ ghost use Rattle.std.specs.Prelude.{map, Result};
 ghost use Rattle.std.specs.String.{string_bytes};
 ghost use Rattle.xls_data.specs.Content.{Content};
 ghost use Rattle.xls_data.specs.Data.{content_of};
-ghost use Rattle.xls_rows.specs.Readers.{data_in, text_in};
+ghost use Rattle.xls_rows.specs.Readers.{data_in, text_read};
 ghost use Rattle.xls_rows.specs.Rows.{Row, ReadsRow};
 ghost use Rattle.xls_rows.specs.declared.error.DeError.{DeError};
 
@@ -55,7 +55,7 @@ impl FromRow for Vec<Data> {
 
 impl FromRow for Vec<String> {
     ghost answers = { λ T content old result new.
-        ReadsRow (λ v. map string_bytes v.items) text_in content old result new };
+        ReadsRow (λ v. map string_bytes v.items) text_read content old result new };
 
     fn from_row<T: ReadCell>(
         alloc: Global,

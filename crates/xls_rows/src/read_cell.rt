@@ -7,7 +7,7 @@ ghost use Rattle.xls_data.specs.Content.{Content, nothing};
 ghost use Rattle.xls_data.specs.Data.{content_of};
 ghost use Rattle.xls_rows.specs.Refusals.{Gives};
 ghost use Rattle.xls_rows.specs.Wholes.{ReadsSigned, ReadsUnsigned};
-ghost use Rattle.xls_rows.specs.Readers.{is_nothing, bool_in, char_in, text_in, bytes_in, unit_in, enum_name_in, data_in};
+ghost use Rattle.xls_rows.specs.Readers.{is_empty_cell, bool_in, char_in, text_read, bytes_in, unit_in, enum_name_in, data_in};
 
 use crate::DeError;
 use crate::refusals::{unexpected_kind, unexpected_text};
@@ -25,12 +25,12 @@ pub trait ReadCell: CellType {
 
     /// Whether it is empty.
     fn is_empty(&self) -> bool
-        ensures { result ≡ is_nothing (content self.now) };
+        ensures { result ≡ is_empty_cell (content self.now) };
 
     /// The cell, unless it is empty.
     fn read_option(&self) -> Option<&Self>
         ensures { option_copied result
-            ≡ (if is_nothing (content self.now) then None else Some self.now) };
+            ≡ (if is_empty_cell (content self.now) then None else Some self.now) };
 
     /// A number of the type, a number cut toward zero, or a text that is parsed as one.
     fn read_i8(&self, alloc: Global, pos: (u32, u32)) -> Result<i8, DeError>
@@ -75,7 +75,7 @@ pub trait ReadCell: CellType {
 
     /// The printed text.
     fn read_text(&self, alloc: Global, pos: (u32, u32)) -> Result<String, DeError>
-        ensures { Gives string_bytes result (text_in pos (content self.now)) };
+        ensures { Gives string_bytes result (text_read pos (content self.now)) };
 
     /// The bytes of a text; none for an empty cell.
     fn read_bytes(&self, alloc: Global, pos: (u32, u32)) -> Result<Vec<u8>, DeError>

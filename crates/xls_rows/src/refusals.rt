@@ -4,7 +4,7 @@ ghost use Rattle.std.specs.Prelude.{◌≡◌, IfOk};
 ghost use Rattle.std.specs.String.{string_bytes};
 ghost use Rattle.xls_data.specs.Data.{content_of};
 ghost use Rattle.xls_rows.specs.Refusals.{Refuses, custom};
-ghost use Rattle.xls_rows.specs.Texts.{expecting, quoted, kind_name, shown};
+ghost use Rattle.xls_rows.specs.Texts.{expecting, quoted, kind_name, display_text};
 ghost use Rattle.xls_rows.specs.Readers.{other_kind};
 ghost use Rattle.xls_rows.specs.Wholes.{not_whole};
 
@@ -68,8 +68,8 @@ pub(crate) fn unexpected_kind(alloc: Global, what: &str, cell: &Data, pos: (u32,
 
 // What a cell that is no whole number of a type is shown as.
 #[tactic(auto, using(crate::proofs::TextLemmas::text_bytes))]
-fn shown_text(alloc: Global, cell: &Data) -> Result<String, AllocError>
-    ensures { IfOk result (λ t. string_bytes t ≡ shown (content_of cell.now)) }
+fn displayed_text(alloc: Global, cell: &Data) -> Result<String, AllocError>
+    ensures { IfOk result (λ t. string_bytes t ≡ display_text (content_of cell.now)) }
 {
     match cell {
         Data::Int(n) => n.to_string(alloc),
@@ -86,7 +86,7 @@ pub(crate) fn unexpected_number(alloc: Global, name: &str, cell: &Data, pos: (u3
     if let Data::Error(e) = cell {
         return DeError::CellError { err: *e, pos };
     }
-    match shown_text(alloc, cell) {
+    match displayed_text(alloc, cell) {
         Ok(got) => unexpected(alloc, name, got.as_str()),
         Err(_) => DeError::Memory,
     }

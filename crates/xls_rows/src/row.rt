@@ -4,7 +4,7 @@ ghost use Rattle.std.specs.Prelude.{◌≡◌, ◌<◌, ℕ, List, [], ◌∷◌
 ghost use Rattle.std.specs.Option.{option_map};
 ghost use Rattle.xls_rows.specs.HeaderTexts.{header_texts};
 ghost use Rattle.xls_rows.specs.Rows.{header_at};
-ghost use Rattle.xls_rows.specs.Readers.{is_nothing};
+ghost use Rattle.xls_rows.specs.Readers.{is_empty_cell};
 ghost use Rattle.xls_rows.specs.Filled.{IsFirstFilled};
 
 use crate::{DeError, ReadCell};
@@ -133,7 +133,7 @@ impl<'h, 'c, T> RowDeserializer<'h, 'c, T> {
 impl<'h, 'c, T: ReadCell> RowDeserializer<'h, 'c, T> {
     ghost use Rattle.std.specs.Prelude.{◌≡◌, IsTrue, IsNone, ◌↔◌, []};
     ghost use Rattle.std.specs.Option.{option_map};
-    ghost use Rattle.xls_rows.specs.Readers.{is_nothing};
+    ghost use Rattle.xls_rows.specs.Readers.{is_empty_cell};
     ghost use Rattle.xls_rows.specs.Rows.{from_filled, first_header, after_key};
 
     /// The header of the next exposed cell that is not empty, and that cell is kept; `None` where
@@ -141,10 +141,10 @@ impl<'h, 'c, T: ReadCell> RowDeserializer<'h, 'c, T> {
     pub fn next_key(&mut self) -> Option<&'h str>
         requires { IsTrue self.old.named }
         ensures none { IsNone result
-            ↔ (from_filled (λ x. is_nothing (T.content x)) self.old.exposed ≡ []) }
+            ↔ (from_filled (λ x. is_empty_cell (T.content x)) self.old.exposed ≡ []) }
         ensures key { option_map (λ s. s.now) result
-            ≡ first_header (from_filled (λ x. is_nothing (T.content x)) self.old.exposed) }
-        ensures row { self.new ≡ after_key (λ x. is_nothing (T.content x)) self.old }
+            ≡ first_header (from_filled (λ x. is_empty_cell (T.content x)) self.old.exposed) }
+        ensures row { self.new ≡ after_key (λ x. is_empty_cell (T.content x)) self.old }
     {
         match first_filled(self.cells, self.column_indexes) {
             None => {
@@ -200,7 +200,7 @@ fn first_filled<'i, 'c, T: ReadCell>(
 ) -> Option<(usize, &'c T, &'i [usize])>
     requires { All (λ k. k < length cells.now) column_indexes.now }
     ensures filled { (headers : Option (List (List ℕ))) → IsFirstFilled
-        (λ x. is_nothing (T.content x)) headers cells.now column_indexes.now result }
+        (λ x. is_empty_cell (T.content x)) headers cells.now column_indexes.now result }
     ensures within { (n : ℕ) → All (λ k. k < n) column_indexes.now
         → IfSome result (λ p. (p.0 < n) × All (λ k. k < n) p.2.now) }
 {

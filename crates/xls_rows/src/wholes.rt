@@ -2,7 +2,7 @@
 
 ghost use Rattle.std.specs.Prelude.{◌≡◌, ◌^◌, ◌≤ℤ◌, ◌<ℤ◌, ℤ, pos as plus, neg_ℤ, Some, SomeIff, IfOk, int_lt, true, false};
 ghost use Rattle.xls_data.specs.Data.{content_of};
-ghost use Rattle.xls_rows.specs.Wholes.{IsBetween, IsParsed, IsWhole, ReadsWhole};
+ghost use Rattle.xls_rows.specs.Wholes.{IsBetween, IsParsedWithin, IsWholeContent, ReadsWhole};
 
 use crate::DeError;
 use crate::refusals::unexpected_number;
@@ -21,7 +21,7 @@ fn parsed_between(text: &str, low: i128, high: i128) -> Option<i128>
     requires least { neg_ℤ (plus (2 ^ 63)) ≤ℤ low }
     requires greatest { high <ℤ plus (2 ^ 64) }
     requires signed { int_lt low (plus 0) ≡ true → high <ℤ plus (2 ^ 63) }
-    ensures { IsParsed low high text.now result }
+    ensures { IsParsedWithin low high text.now result }
 {
     let n = if low < 0 {
         text.parse::<i64>().ok()? as i128
@@ -37,7 +37,7 @@ fn whole_between(cell: &Data, low: i128, high: i128) -> Option<i128>
     requires least { neg_ℤ (plus (2 ^ 63)) ≤ℤ low }
     requires greatest { high <ℤ plus (2 ^ 64) }
     requires signed { int_lt low (plus 0) ≡ true → high <ℤ plus (2 ^ 63) }
-    ensures { IsWhole low high (content_of cell.now) result }
+    ensures { IsWholeContent low high (content_of cell.now) result }
 {
     match cell {
         Data::Int(n) => number_between(*n as i128, low, high),

@@ -6,16 +6,16 @@ use Rattle.std.specs.Int.{w16, w32, to_le_bytes}
 use Rattle.std.specs.List.{flat_map, range_with_len}
 use Rattle.std.proofs.lemmas.List.{append-nil}
 use Rattle.xls_bytes.specs.Numbers.{le16}
-use Rattle.xls_stream.specs.Stream.{enc}
+use Rattle.xls_stream.specs.Stream.{record_bytes}
 use Rattle.xls_stream.specs.declared.types.TheConstants as types
-use Rattle.xls_sample_stream.specs.Made.{le32, part_body, made_globals, made_row, made_rows, made_stream}
+use Rattle.xls_sample_stream.specs.Sample.{le32, part_body, sample_globals, sample_row, sample_rows, sample_stream}
 
 -- the last number after the others
 range_more : (a n : ℕ) → range_with_len a (suc n) ≡ range_with_len a n ++ (a + n) ∷ []
-range_more a zero = ap (λ (k : ℕ). k ∷ []) (zero_behind a)
+range_more a zero = ap (λ (k : ℕ). k ∷ []) (zero_after a)
   where
-    zero_behind : (a : ℕ) → a ≡ a + 0
-    zero_behind a = omega arith
+    zero_after : (a : ℕ) → a ≡ a + 0
+    zero_after a = omega arith
 range_more a (suc n) =
     ap (λ (ks : List ℕ). a ∷ ks) (range_more (a + 1) n)
     ∙ ap (λ (k : ℕ). a ∷ (range_with_len (a + 1) n ++ k ∷ [])) (next a n)
@@ -24,26 +24,26 @@ range_more a (suc n) =
     next a n = omega arith
 
 -- the rows of the numbers before and the row of the last one
-rows_append : (is : List ℕ) (i : ℕ) → flat_map made_row (is ++ i ∷ []) ≡ flat_map made_row is ++ made_row i
-rows_append [] i = append-nil (made_row i)
-rows_append (j ∷ is) i = ap (λ (x : List ℕ). made_row j ++ x) (rows_append is i)
+rows_append : (is : List ℕ) (i : ℕ) → flat_map sample_row (is ++ i ∷ []) ≡ flat_map sample_row is ++ sample_row i
+rows_append [] i = append-nil (sample_row i)
+rows_append (j ∷ is) i = ap (λ (x : List ℕ). sample_row j ++ x) (rows_append is i)
 
 -- one row more
-pub rows_more : (n : ℕ) → made_rows (n + 1) ≡ made_rows n ++ made_row n
+pub rows_more : (n : ℕ) → sample_rows (n + 1) ≡ sample_rows n ++ sample_row n
 rows_more n =
-    ap (λ (k : ℕ). made_rows k) (add-one n) ∙ ap (flat_map made_row) (range_more 0 n)
-    ∙ rows_append (range_with_len 0 n) (0 + n) ∙ ap (λ (k : ℕ). made_rows n ++ made_row k) (zero_front n)
+    ap (λ (k : ℕ). sample_rows k) (add-one n) ∙ ap (flat_map sample_row) (range_more 0 n)
+    ∙ rows_append (range_with_len 0 n) (0 + n) ∙ ap (λ (k : ℕ). sample_rows n ++ sample_row k) (zero_prefix n)
   where
-    zero_front : (n : ℕ) → 0 + n ≡ n
-    zero_front n = omega arith
+    zero_prefix : (n : ℕ) → 0 + n ≡ n
+    zero_prefix n = omega arith
 
 -- before the rows
-abbrev pub made_front : List ℕ
-made_front = made_globals ++ enc types.BOF part_body
+abbrev pub sample_prefix : List ℕ
+sample_prefix = sample_globals ++ record_bytes types.BOF part_body
 
 -- the front, the rows and an EOF record
-pub stream_parts : (n : ℕ) → made_stream n ≡ made_front ++ (made_rows n ++ enc types.EOF [])
-unfolding made_stream
+pub stream_parts : (n : ℕ) → sample_stream n ≡ sample_prefix ++ (sample_rows n ++ record_bytes types.EOF [])
+unfolding sample_stream
 stream_parts n = refl
 
 -- numbers as std writes them

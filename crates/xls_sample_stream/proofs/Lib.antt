@@ -1,7 +1,7 @@
 pub mod ByteLemmas
 pub mod LayoutLemmas
 pub mod LengthLemmas
-pub mod GivenLemmas
+pub mod YieldLemmas
 pub mod ReadLemmas
 pub mod StandardFacts
 pub mod CornerLemmas

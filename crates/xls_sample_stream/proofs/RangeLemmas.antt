@@ -15,37 +15,37 @@ use Rattle.xls_range.specs.Grid as grid
 use Rattle.xls_range.specs.Sparse.{last_at}
 use Rattle.xls_range.proofs.CellLemmas.{cell_at_index}
 use Rattle.xls_range.specs.Positions.{Position}
-use Rattle.xls_biff.specs.Cells.{Entry}
+use Rattle.xls_biff.specs.Cells.{CellEntry}
 use Rattle.xls_open.specs.Workbook.{cell_content, view_named, Workbook}
 use Rattle.xls_data.specs.declared.regions.HeaderRow.TheVariants.{FirstNonEmptyRow}
 use Rattle.xls_meaning.specs.Reading.{SheetView}
 use Rattle.xls_open.specs.Opening.{default_options, IsOpened}
-use Rattle.xls_book.specs.LookUps.{IsBox, IsRange}
+use Rattle.xls_book.specs.LookUps.{IsBox, IsRangeOf}
 use Rattle.xls_open.specs.declared.options.XlsOptions.{XlsOptions}
-use Rattle.xls_sample_stream.specs.Made.{made_word, row_cells, made_cells, made_view, made_stream, made_contents, used_in, sum_of_ints, IsNatural, IsMadeRange}
+use Rattle.xls_sample_stream.specs.Sample.{sample_word, row_cells, sample_cells, sample_view, sample_stream, sample_contents, used_in, sum_of_ints, IsNatural, IsSampleRange}
 use Rattle.xls_open.proofs.AscendingLemmas.{none_before}
 use Rattle.xls_sample_stream.proofs.ReadLemmas.{rows_after, opens}
 use Rattle.xls_sample_stream.proofs.CornerLemmas.{corners}
-use Rattle.xls_sample_stream.proofs.SumLemmas.{contents_from, contents_length, all_natural, made_sum, used_contents}
+use Rattle.xls_sample_stream.proofs.SumLemmas.{contents_from, contents_length, all_natural, sample_sum, used_contents}
 
 -- ---- the value at each position
 
 -- the cells of rows from one on
-abbrev from : ℕ → ℕ → List Entry
+abbrev from : ℕ → ℕ → List CellEntry
 from a n = flat_map row_cells (range_with_len a n)
 
 -- the content in a column of a row
 abbrev value_in : ℕ → ℕ → Content
 value_in i zero = int (pos i)
-value_in i (suc column) = text (made_word i)
+value_in i (suc column) = text (sample_word i)
 
 -- a number passes the test with itself
 here : (a : ℕ) → (a == a) ≡ true
 here a = grind arith
 
 -- the first row has its values in both columns
-first_row : (a column : ℕ) (rest : List Entry) → column < 2 → last_at rest (a, column) ≡ None
-    → last_at (((a, 0), int (pos a)) ∷ ((a, 1), text (made_word a)) ∷ rest) (a, column) ≡ Some (value_in a column)
+first_row : (a column : ℕ) (rest : List CellEntry) → column < 2 → last_at rest (a, column) ≡ None
+    → last_at (((a, 0), int (pos a)) ∷ ((a, 1), text (sample_word a)) ∷ rest) (a, column) ≡ Some (value_in a column)
 first_row a zero rest h none = let t : (a == a) ≡ true = here a in rw (none, t) refl
 first_row a (suc zero) rest h none = let t : (a == a) ≡ true = here a in rw (none, t) refl
 first_row a (suc (suc column)) rest h none = absurd (omega arith)
@@ -98,10 +98,10 @@ each_content (suc n) a [] l h = absurd (omega arith)
 each_content (suc n) a (y ∷ []) l h = absurd (omega arith)
 each_content (suc n) a (y ∷ z ∷ ys) l h =
     let first : content_of y ≡ int (pos a) = h 0 y refl ∙ ap (λ (k : ℕ). int (pos k)) (zero_more a) in
-    let second : content_of z ≡ text (made_word a) = h 1 z refl ∙ ap (λ (k : ℕ). text (made_word k)) (zero_more a) in
+    let second : content_of z ≡ text (sample_word a) = h 1 z refl ∙ ap (λ (k : ℕ). text (sample_word k)) (zero_more a) in
     ap (λ (c : Content). c ∷ content_of z ∷ map content_of ys) first
     ∙ ap (λ (c : Content). int (pos a) ∷ c ∷ map content_of ys) second
-    ∙ ap (λ (cs : List Content). int (pos a) ∷ text (made_word a) ∷ cs) (each_content n (a + 1) ys (omega arith) later)
+    ∙ ap (λ (cs : List Content). int (pos a) ∷ text (sample_word a) ∷ cs) (each_content n (a + 1) ys (omega arith) later)
   where
     zero_more : (a : ℕ) → a + 0 ≡ a
     zero_more a = omega arith
@@ -119,8 +119,8 @@ within (x ∷ ys) zero y e = omega arith
 within (x ∷ ys) (suc k) y e = omega (arith, within ys k y e)
 
 -- 0 before a number
-zero_front : (n : ℕ) → 0 + n ≡ n
-zero_front n = omega arith
+zero_prefix : (n : ℕ) → 0 + n ≡ n
+zero_prefix n = omega arith
 
 -- a place of so many rows is in one of them
 row_below : (k m : ℕ) → k < suc m * 2 → 0 + k / 2 < 0 + suc m
@@ -130,9 +130,9 @@ row_below k m h = omega arith
 
 -- the cells of the range contain what was made
 pub range_contents : (m : ℕ) (cells : List (Position × Data)) (g : Grid Data) → grid.IsRange g
-    → map cell_content cells ≡ made_cells (suc m) → g.top ≡ 0 → g.left ≡ 0 → g.height ≡ suc m → g.width ≡ 2
+    → map cell_content cells ≡ sample_cells (suc m) → g.top ≡ 0 → g.left ≡ 0 → g.height ≡ suc m → g.width ≡ 2
     → grid.Shows data_impl.ghosts.eq is_nothing (λ row column. last_at cells (row, column)) g
-    → map content_of g.cells ≡ made_contents (suc m)
+    → map content_of g.cells ≡ sample_contents (suc m)
 range_contents m cells g is e top left height width shows =
     each_content (suc m) 0 g.cells count each
   where
@@ -148,20 +148,20 @@ range_contents m cells g is e top left height width shows =
         let row : g.top + k / g.width ≡ 0 + k / 2 =
         ap (λ (t : ℕ). t + k / g.width) top ∙ ap (λ (w : ℕ). 0 + k / w) width in
         let column : g.left + k % g.width ≡ k % 2 =
-        ap (λ (l : ℕ). l + k % g.width) left ∙ ap (λ (w : ℕ). 0 + k % w) width ∙ zero_front (k % 2) in
+        ap (λ (l : ℕ). l + k % g.width) left ∙ ap (λ (w : ℕ). 0 + k % w) width ∙ zero_prefix (k % 2) in
         let at : cell_at g (0 + k / 2) (k % 2) ≡ Some y =
         ap (λ (r : ℕ). cell_at g r (k % 2)) (sym row)
         ∙ ap (λ (c : ℕ). cell_at g (g.top + k / g.width) c) (sym column)
         ∙ cell_at_index g k near (omega arith) ∙ s in
         let value : option_map content_of (last_at cells p) ≡ Some (value_in (0 + k / 2) (k % 2)) =
-        sym (by_content cells p) ∙ ap (λ (cs : List Entry). last_at cs p) e
+        sym (by_content cells p) ∙ ap (λ (cs : List CellEntry). last_at cs p) e
         ∙ last_there 0 (suc m) (0 + k / 2) (k % 2) (omega arith) (row_below k m few) (omega arith) in
-        copy_content (last_at cells p) y (value_in (0 + k / 2) (k % 2)) value (shows.shown (0 + k / 2) (k % 2) y at)
+        copy_content (last_at cells p) y (value_in (0 + k / 2) (k % 2)) value (shows.displayed (0 + k / 2) (k % 2) y at)
 
 -- the box of the cells is the range that was made
-pub made_box : (m : ℕ) (g : Grid Data) → grid.IsRange g
-    → IsBox data_impl.ghosts.eq is_nothing (made_cells (suc m)) g → IsMadeRange is_nothing (suc m) g
-made_box m g is box =
+pub sample_box : (m : ℕ) (g : Grid Data) → grid.IsRange g
+    → IsBox data_impl.ghosts.eq is_nothing (sample_cells (suc m)) g → IsSampleRange is_nothing (suc m) g
+sample_box m g is box =
     let c = box.dense.corners (0, 0) (m, 1) (corners m box.cells box.contents) in
     let top : g.top ≡ 0 = c.top in
     let left : g.left ≡ 0 = c.left in
@@ -180,26 +180,26 @@ made_box m g is box =
       naturals = subst (λ (cs : List Content). AllByRecursion IsNatural cs) (sym used) (all_natural 0 (suc m));
       count = sym (length-map (used_in is_nothing g) (λ (c : ℕ × ℕ × Data). content_of c.2))
           ∙ ap length used ∙ contents_length 0 (suc m);
-      sum = ap sum_of_ints used ∙ made_sum (suc m);
+      sum = ap sum_of_ints used ∙ sample_sum (suc m);
     }
 
 -- so is the range under no header row
-pub made_range : (n : ℕ) → 1 ≤ n → (g : Grid Data) → grid.IsRange g
-    → IsRange data_impl.ghosts.eq is_nothing FirstNonEmptyRow (made_cells n) g → IsMadeRange is_nothing n g
-made_range zero h g is r = absurd (omega arith)
-made_range (suc m) h g is r =
-    made_box m g is (subst (IsBox data_impl.ghosts.eq is_nothing (made_cells (suc m))) (sym r.2) r.1)
+pub sample_range : (n : ℕ) → 1 ≤ n → (g : Grid Data) → grid.IsRange g
+    → IsRangeOf data_impl.ghosts.eq is_nothing FirstNonEmptyRow (sample_cells n) g → IsSampleRange is_nothing n g
+sample_range zero h g is r = absurd (omega arith)
+sample_range (suc m) h g is r =
+    sample_box m g is (subst (IsBox data_impl.ghosts.eq is_nothing (sample_cells (suc m))) (sym r.2) r.1)
 
 -- and the range of what an opened workbook shows
-pub made_shows : (n : ℕ) → 1 ≤ n → n ≤ 65536 → (book : Workbook)
-    → IsOpened default_options book (made_stream n) → (view : SheetView)
+pub sample_shows : (n : ℕ) → 1 ≤ n → n ≤ 65536 → (book : Workbook)
+    → IsOpened default_options book (sample_stream n) → (view : SheetView)
     → view_named book (codes "G") ≡ Some view → (g : Grid Data) → grid.IsRange g
-    → IsRange data_impl.ghosts.eq is_nothing book.options.header_row view.cells g
-    → IsMadeRange is_nothing n g
-made_shows n low high book o view named g is r =
-    let made = opens n high book o in
-    let some : Some view ≡ Some (made_view n) = sym named ∙ made.shown in
-    let same : view ≡ made_view n = cc in
-    let plain : IsRange data_impl.ghosts.eq is_nothing FirstNonEmptyRow view.cells g =
-    subst (λ (options : XlsOptions). IsRange data_impl.ghosts.eq is_nothing options.header_row view.cells g) made.options r in
-    made_range n low g is (subst (λ (v : SheetView). IsRange data_impl.ghosts.eq is_nothing FirstNonEmptyRow v.cells g) same plain)
+    → IsRangeOf data_impl.ghosts.eq is_nothing book.options.header_row view.cells g
+    → IsSampleRange is_nothing n g
+sample_shows n low high book o view named g is r =
+    let sample = opens n high book o in
+    let some : Some view ≡ Some (sample_view n) = sym named ∙ sample.displayed in
+    let same : view ≡ sample_view n = cc in
+    let plain : IsRangeOf data_impl.ghosts.eq is_nothing FirstNonEmptyRow view.cells g =
+    subst (λ (options : XlsOptions). IsRangeOf data_impl.ghosts.eq is_nothing options.header_row view.cells g) sample.options r in
+    sample_range n low g is (subst (λ (v : SheetView). IsRangeOf data_impl.ghosts.eq is_nothing FirstNonEmptyRow v.cells g) same plain)

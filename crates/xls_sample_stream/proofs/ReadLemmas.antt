@@ -7,46 +7,46 @@ use Rattle.xls_stream.specs.Listing.{Kept}
 use Rattle.xls_data.specs.Content.{int, text}
 use Rattle.xls_data.specs.Sheets.{SheetContent}
 use Rattle.xls_range.specs.Sparse.{last_at, Precedes, IsAscending}
-use Rattle.xls_biff.specs.Cells.{Entry}
+use Rattle.xls_biff.specs.Cells.{CellEntry}
 use Rattle.xls_biff.specs.SheetTable.{CellContext, SheetRecord}
 use Rattle.xls_record.specs.Reading.{gives}
 use Rattle.xls_record.specs.declared.error.XlsError.{XlsError}
-use Rattle.xls_meaning.specs.Order.{along}
-use Rattle.xls_meaning.specs.InForce.{sheets_of, cells_of, InForce, in_force_of, classes_in, texts_in, is_1904_in}
-use Rattle.xls_meaning.specs.SheetTable.{FormulaEntry, Given, one_cell, adds, given_in, last_formula}
-use Rattle.xls_meaning.specs.Reading.{SheetView, IsReading, IsContent, IsShown, given_by, gifts_of, values_of, formulas_of, merges_of, last_named, paired}
+use Rattle.xls_meaning.specs.Order.{map_with_earlier}
+use Rattle.xls_meaning.specs.Settings.{sheets_of, cells_of, Settings, settings_of, classes_in, texts_in, is_1904_in}
+use Rattle.xls_meaning.specs.SheetTable.{FormulaEntry, Yield, one_cell, adds, yield_in, last_formula}
+use Rattle.xls_meaning.specs.Reading.{SheetView, IsReading, IsContent, IsDisplayed, yield_of, yields_of, values_of, formulas_of, merges_of, last_named, paired}
 use Rattle.xls_open.specs.Workbook.{Workbook, view_of}
 use Rattle.xls_open.specs.Opening.{default_options, default_rules, IsOpened}
 use Rattle.xls_open.proofs.SameLemmas.{same_view}
-use Rattle.xls_sample_stream.specs.Made.{made_word, made_stream, made_list, kept_row, made_kept, made_strings, row_cells, made_cells, made_head, made_view, IsMade}
+use Rattle.xls_sample_stream.specs.Sample.{sample_word, sample_stream, sample_list, kept_row, sample_kept, sample_strings, row_cells, sample_cells, sample_head, sample_view, IsSample}
 use Rattle.xls_sample_stream.proofs.LayoutLemmas.{carries}
 use Rattle.xls_open.proofs.AscendingLemmas.{same_cells}
-use Rattle.xls_sample_stream.proofs.GivenLemmas.{int_kept, word_kept, int_line, word_line}
+use Rattle.xls_sample_stream.proofs.YieldLemmas.{int_kept, word_kept, int_line, word_line}
 
 -- ---- the globals
 
 -- one sheet, with its records
-sheets : (n : ℕ) → sheets_of default_rules (made_list n) ≡ (made_head, made_kept n) ∷ []
+sheets : (n : ℕ) → sheets_of default_rules (sample_list n) ≡ (sample_head, sample_kept n) ∷ []
 sheets n = refl
 
 -- no class of a format
-classes : (n : ℕ) → classes_in default_rules (made_list n) ≡ []
+classes : (n : ℕ) → classes_in default_rules (sample_list n) ≡ []
 classes n = refl
 
 -- the texts of the shared strings
-strings : (n : ℕ) → texts_in default_rules (made_list n) ≡ made_strings
+strings : (n : ℕ) → texts_in default_rules (sample_list n) ≡ sample_strings
 unfolding utf16_chars
 strings n = refl
 
 -- the date system of 1900
-epoch : (n : ℕ) → is_1904_in default_rules (made_list n) ≡ false
+epoch : (n : ℕ) → is_1904_in default_rules (sample_list n) ≡ false
 epoch n = refl
 
 -- ---- the gifts of the rows
 
 -- what the two records of a row give
-abbrev row_gifts : ℕ → List Given
-row_gifts i = one_cell ((i, 0), int (pos i)) ∷ one_cell ((i, 1), text (made_word i)) ∷ []
+abbrev row_yields : ℕ → List Yield
+row_yields i = one_cell ((i, 0), int (pos i)) ∷ one_cell ((i, 1), text (sample_word i)) ∷ []
 
 -- a number that a row can have
 abbrev pub IsRow : ℕ → Type 0
@@ -60,44 +60,44 @@ rows_below a (suc n) h = (omega arith, rows_below (a + 1) n (omega arith))
 -- cells are read under no class, these strings, and the date system of 1900
 pub record IsSet (c : CellContext) : Type 0 where
   pub classes : c.classes ≡ []
-  pub strings : c.strings ≡ made_strings
+  pub strings : c.strings ≡ sample_strings
   pub epoch : c.is_1904 ≡ false
 
 -- the records of the rows give these, whatever stands before them
-gifts_along : (s : InForce) → IsSet s.cells → (is : List ℕ) (before : List Kept) → AllByRecursion IsRow is
-    → map given_by (along (given_in s) before (flat_map kept_row is)) ≡ flat_map row_gifts is
-gifts_along s f [] before h = refl
-gifts_along s f (i ∷ is) before h =
+yields_over : (s : Settings) → IsSet s.cells → (is : List ℕ) (before : List Kept) → AllByRecursion IsRow is
+    → map yield_of (map_with_earlier (yield_in s) before (flat_map kept_row is)) ≡ flat_map row_yields is
+yields_over s f [] before h = refl
+yields_over s f (i ∷ is) before h =
     let middle = before ++ int_kept i ∷ [] in
     let after = middle ++ word_kept i ∷ [] in
-    let others = map given_by (along (given_in s) after (flat_map kept_row is)) in
-    let added : List Kept → Result SheetRecord XlsError → Given =
-    λ (ks : List Kept) (r : Result SheetRecord XlsError). given_by (gives (adds s.formulas (last_formula s.cells ks)) r) in
-    ap (λ (r : Result SheetRecord XlsError). added before r ∷ given_by (given_in s middle (word_kept i)) ∷ others) (int_line s.cells i h.0 f.classes f.epoch)
+    let others = map yield_of (map_with_earlier (yield_in s) after (flat_map kept_row is)) in
+    let added : List Kept → Result SheetRecord XlsError → Yield =
+    λ (ks : List Kept) (r : Result SheetRecord XlsError). yield_of (gives (adds s.formulas (last_formula s.cells ks)) r) in
+    ap (λ (r : Result SheetRecord XlsError). added before r ∷ yield_of (yield_in s middle (word_kept i)) ∷ others) (int_line s.cells i h.0 f.classes f.epoch)
     ∙ ap (λ (r : Result SheetRecord XlsError). one_cell ((i, 0), int (pos i)) ∷ added middle r ∷ others) (word_line s.cells i f.strings)
-    ∙ ap (λ (gs : List Given). one_cell ((i, 0), int (pos i)) ∷ one_cell ((i, 1), text (made_word i)) ∷ gs) (gifts_along s f is after h.1)
+    ∙ ap (λ (gs : List Yield). one_cell ((i, 0), int (pos i)) ∷ one_cell ((i, 1), text (sample_word i)) ∷ gs) (yields_over s f is after h.1)
 
 -- the cells among the gifts
 rows_cells : (is : List ℕ)
-    → flat_map (λ (g : Given). g.cells) (flat_map row_gifts is) ≡ flat_map row_cells is
+    → flat_map (λ (g : Yield). g.cells) (flat_map row_yields is) ≡ flat_map row_cells is
 rows_cells [] = refl
 rows_cells (i ∷ is) =
-    ap (λ (cs : List Entry). ((i, 0), int (pos i)) ∷ ((i, 1), text (made_word i)) ∷ cs) (rows_cells is)
+    ap (λ (cs : List CellEntry). ((i, 0), int (pos i)) ∷ ((i, 1), text (sample_word i)) ∷ cs) (rows_cells is)
 
 -- no formula
-rows_formulas : (is : List ℕ) → flat_map (λ (g : Given). g.formulas) (flat_map row_gifts is) ≡ []
+rows_formulas : (is : List ℕ) → flat_map (λ (g : Yield). g.formulas) (flat_map row_yields is) ≡ []
 rows_formulas [] = refl
 rows_formulas (i ∷ is) = rows_formulas is
 
 -- no merged region
-rows_regions : (is : List ℕ) → flat_map (λ (g : Given). g.regions) (flat_map row_gifts is) ≡ []
+rows_regions : (is : List ℕ) → flat_map (λ (g : Yield). g.regions) (flat_map row_yields is) ≡ []
 rows_regions [] = refl
 rows_regions (i ∷ is) = rows_regions is
 
 -- ---- the cells are in order
 
 -- where a cell stands
-abbrev at : Entry → ℕ × ℕ
+abbrev at : CellEntry → ℕ × ℕ
 at c = c.0
 
 -- later rows come after a position
@@ -117,25 +117,25 @@ rows_ascend a (suc n) = (
 -- ---- the content
 
 -- those of the list are
-pub is_set : (n : ℕ) → IsSet (cells_of default_rules (made_list n))
+pub is_set : (n : ℕ) → IsSet (cells_of default_rules (sample_list n))
 is_set n = record { classes = classes n; strings = strings n; epoch = epoch n }
 
 -- the content of the sheet is what was made
 content : (n : ℕ) → n ≤ 65536 → (v : SheetView)
-    → IsContent (in_force_of default_rules (made_list n)) (made_kept n) v → v ≡ made_view n
+    → IsContent (settings_of default_rules (sample_list n)) (sample_kept n) v → v ≡ sample_view n
 content n h v c =
-    let s = in_force_of default_rules (made_list n) in
+    let s = settings_of default_rules (sample_list n) in
     let is = range_with_len 0 n in
-    let gifts : gifts_of s (made_kept n) ≡ flat_map row_gifts is =
-    gifts_along s (is_set n) is [] (rows_below 0 n (omega arith)) in
-    let values : values_of s (made_kept n) ≡ made_cells n =
-    ap (flat_map (λ (g : Given). g.cells)) gifts ∙ rows_cells is in
-    let formulas : formulas_of s (made_kept n) ≡ [] =
-    ap (flat_map (λ (g : Given). g.formulas)) gifts ∙ rows_formulas is in
-    let merges : merges_of s (made_kept n) ≡ [] =
-    ap (flat_map (λ (g : Given). g.regions)) gifts ∙ rows_regions is in
-    same_view v (made_view n)
-    (same_cells v.cells (made_cells n) c.ascending (rows_ascend 0 n) (λ p. c.last p ∙ ap (λ (cs : List Entry). last_at cs p) values))
+    let yields : yields_of s (sample_kept n) ≡ flat_map row_yields is =
+    yields_over s (is_set n) is [] (rows_below 0 n (omega arith)) in
+    let values : values_of s (sample_kept n) ≡ sample_cells n =
+    ap (flat_map (λ (g : Yield). g.cells)) yields ∙ rows_cells is in
+    let formulas : formulas_of s (sample_kept n) ≡ [] =
+    ap (flat_map (λ (g : Yield). g.formulas)) yields ∙ rows_formulas is in
+    let merges : merges_of s (sample_kept n) ≡ [] =
+    ap (flat_map (λ (g : Yield). g.regions)) yields ∙ rows_regions is in
+    same_view v (sample_view n)
+    (same_cells v.cells (sample_cells n) c.ascending (rows_ascend 0 n) (λ p. c.last p ∙ ap (λ (cs : List CellEntry). last_at cs p) values))
     (same_cells v.formulas [] c.formulas_ascending tt (λ p. c.last_formulas p ∙ ap (λ (cs : List FormulaEntry). last_at cs p) formulas))
     (c.merges ∙ merges)
 
@@ -143,27 +143,27 @@ content n h v c =
 
 -- it is the one content
 contents : (n : ℕ) → n ≤ 65536 → (views : List SheetView)
-    → AllZip (IsShown (in_force_of default_rules (made_list n)) (sheets_of default_rules (made_list n))) views (sheets_of default_rules (made_list n))
-    → views ≡ made_view n ∷ []
+    → AllZip (IsDisplayed (settings_of default_rules (sample_list n)) (sheets_of default_rules (sample_list n))) views (sheets_of default_rules (sample_list n))
+    → views ≡ sample_view n ∷ []
 contents n h [] a = absurd a
 contents n h (v ∷ []) a = ap (λ (w : SheetView). w ∷ []) (content n h v a.0)
 contents n h (v ∷ w ∷ views) a = absurd a.1
 
 -- each reading is the workbook that was made
 pub reading : (n : ℕ) → n ≤ 65536 → (book : Workbook) → book.options ≡ default_options
-    → IsReading default_rules (made_list n) (view_of book) → IsMade n book
+    → IsReading default_rules (sample_list n) (view_of book) → IsSample n book
 reading n h book kept r =
-    let heads : book.sheets ≡ made_head ∷ [] = r.sheets in
-    let views : book.contents ≡ made_view n ∷ [] = contents n h book.contents r.contents in
+    let heads : book.sheets ≡ sample_head ∷ [] = r.sheets in
+    let views : book.contents ≡ sample_view n ∷ [] = contents n h book.contents r.contents in
     record {
       options = kept;
       sheets = heads;
       contents = views;
-      shown = ap (λ (ss : List SheetContent). last_named (paired ss book.contents) (codes "G")) heads
-          ∙ ap (λ (vs : List SheetView). last_named (paired (made_head ∷ []) vs) (codes "G")) views;
+      displayed = ap (λ (ss : List SheetContent). last_named (paired ss book.contents) (codes "G")) heads
+          ∙ ap (λ (vs : List SheetView). last_named (paired (sample_head ∷ []) vs) (codes "G")) views;
     }
 
 -- and each workbook that is opened
 pub opens : (n : ℕ) → n ≤ 65536 → (book : Workbook)
-    → IsOpened default_options book (made_stream n) → IsMade n book
-opens n h book o = reading n h book o.kept (o.every (made_list n) (carries n))
+    → IsOpened default_options book (sample_stream n) → IsSample n book
+opens n h book o = reading n h book o.kept (o.every (sample_list n) (carries n))

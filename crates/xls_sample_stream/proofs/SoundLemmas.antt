@@ -8,24 +8,24 @@ use Rattle.xls_stream.specs.Listing.{Kept}
 use Rattle.xls_data.specs.Content.{int, text}
 use Rattle.xls_biff.specs.SheetTable.{CellContext, SheetRecord, cells_record, shared_record}
 use Rattle.xls_record.specs.declared.error.XlsError.{XlsError}
-use Rattle.xls_meaning.specs.Order.{along, first_of}
-use Rattle.xls_meaning.specs.InForce.{cells_of}
+use Rattle.xls_meaning.specs.Order.{map_with_earlier, first_of}
+use Rattle.xls_meaning.specs.Settings.{cells_of}
 use Rattle.xls_meaning.specs.GlobalsTable.{fault_of}
 use Rattle.xls_meaning.specs.SheetTable.{kept_line}
-use Rattle.xls_meaning.specs.Faults.{weight_given, weight_in, weight_fault, kept_fault, IsFull, IsSound}
+use Rattle.xls_meaning.specs.Faults.{weight_from, weight_in, weight_fault, kept_fault, IsFull, IsSound}
 use Rattle.xls_open.specs.Opening.{default_rules}
 use Rattle.xls_open.proofs.LaidLemmas.{laid_sound}
-use Rattle.xls_sample_stream.specs.Made.{made_word, kept_row, made_list, made_stream, made_layout}
-use Rattle.xls_sample_stream.proofs.LengthLemmas.{made_length}
+use Rattle.xls_sample_stream.specs.Sample.{sample_word, kept_row, sample_list, sample_stream, sample_layout}
+use Rattle.xls_sample_stream.proofs.LengthLemmas.{sample_length}
 use Rattle.xls_sample_stream.proofs.LayoutLemmas.{laid_so, list_so, valid}
-use Rattle.xls_sample_stream.proofs.GivenLemmas.{int_kept, word_kept, int_line, word_line}
+use Rattle.xls_sample_stream.proofs.YieldLemmas.{int_kept, word_kept, int_line, word_line}
 use Rattle.xls_sample_stream.proofs.ReadLemmas.{IsRow, IsSet, is_set, rows_below}
 
 -- ---- weights
 
 -- the weight of one record more
 weight_more : (s : CellContext) (ks : List Kept) (k : Kept)
-    → weight_in s (ks ++ k ∷ []) ≡ weight_in s ks + weight_given (kept_line s k)
+    → weight_in s (ks ++ k ∷ []) ≡ weight_in s ks + weight_from (kept_line s k)
 weight_more s [] k = omega arith
 weight_more s (j ∷ ks) k = omega (arith, weight_more s ks k)
 
@@ -50,18 +50,18 @@ clear s before k g line small =
 -- no record of the rows has a fault
 rows_clear : (s : CellContext) → IsSet s → (is : List ℕ) (before : List Kept) → AllByRecursion IsRow is
     → weight_in s before + 2 * length is ≤ 33554432
-    → first_of (along (kept_fault default_rules s) before (flat_map kept_row is)) ≡ None
+    → first_of (map_with_earlier (kept_fault default_rules s) before (flat_map kept_row is)) ≡ None
 rows_clear s f [] before h small = refl
 rows_clear s f (i ∷ is) before h small =
     let middle = before ++ int_kept i ∷ [] in
     let after = middle ++ word_kept i ∷ [] in
-    let others = along (kept_fault default_rules s) after (flat_map kept_row is) in
+    let others = map_with_earlier (kept_fault default_rules s) after (flat_map kept_row is) in
     let first : kept_line s (int_kept i) ≡ Ok (cells_record (((i, 0), int (pos i)) ∷ [])) = int_line s i h.0 f.classes f.epoch in
-    let second : kept_line s (word_kept i) ≡ Ok (shared_record (Some ((i, 1), text (made_word i)))) = word_line s i f.strings in
-    let one : weight_in s middle ≡ weight_in s before + weight_given (kept_line s (int_kept i)) = weight_more s before (int_kept i) in
-    let two : weight_in s after ≡ weight_in s middle + weight_given (kept_line s (word_kept i)) = weight_more s middle (word_kept i) in
-    let one_cell : weight_given (kept_line s (int_kept i)) ≡ 1 = ap weight_given first in
-    let one_text : weight_given (kept_line s (word_kept i)) ≡ 1 = ap weight_given second in
+    let second : kept_line s (word_kept i) ≡ Ok (shared_record (Some ((i, 1), text (sample_word i)))) = word_line s i f.strings in
+    let one : weight_in s middle ≡ weight_in s before + weight_from (kept_line s (int_kept i)) = weight_more s before (int_kept i) in
+    let two : weight_in s after ≡ weight_in s middle + weight_from (kept_line s (word_kept i)) = weight_more s middle (word_kept i) in
+    let one_cell : weight_from (kept_line s (int_kept i)) ≡ 1 = ap weight_from first in
+    let one_text : weight_from (kept_line s (word_kept i)) ≡ 1 = ap weight_from second in
     let no_int = clear s before (int_kept i) _ first (omega (arith, one, one_cell)) in
     let no_word = clear s middle (word_kept i) _ second (omega (arith, one, one_cell, two, one_text)) in
     ap (λ (o : Option XlsError). option_or o (option_or (kept_fault default_rules s middle (word_kept i)) (first_of others))) no_int
@@ -71,22 +71,22 @@ rows_clear s f (i ∷ is) before h small =
 -- ---- the list and the stream
 
 -- no entry and no record of the list has one
-full : (n : ℕ) → n ≤ 65536 → IsFull default_rules (made_list n)
+full : (n : ℕ) → n ≤ 65536 → IsFull default_rules (sample_list n)
 full n h =
     let count = length-range_with_len 0 n in
     record {
       forced = refl;
       globals = refl;
-      sheets = (tt, (rows_clear (cells_of default_rules (made_list n)) (is_set n) (range_with_len 0 n) [] (rows_below 0 n (omega arith)) (omega arith), (tt, tt)));
+      sheets = (tt, (rows_clear (cells_of default_rules (sample_list n)) (is_set n) (range_with_len 0 n) [] (rows_below 0 n (omega arith)) (omega arith), (tt, tt)));
     }
 
 -- the stream is within the byte limit
-within : (n : ℕ) → n ≤ 65536 → length (made_stream n) ≤ 268435456
-within n h = let size : length (made_stream n) ≡ 28 * n + 64 = made_length n in omega arith
+within : (n : ℕ) → n ≤ 65536 → length (sample_stream n) ≤ 268435456
+within n h = let size : length (sample_stream n) ≡ 28 * n + 64 = sample_length n in omega arith
 
 -- so no place of the stream has a fault, as of any layout of such a list
-pub sound : (n : ℕ) → n ≤ 65536 → IsSound default_rules (made_stream n)
+pub sound : (n : ℕ) → n ≤ 65536 → IsSound default_rules (sample_stream n)
 sound n h =
     let full_there = subst (IsFull default_rules) (sym (list_so n)) (full n h) in
     let within_there = subst (λ (bytes : List ℕ). length bytes ≤ 268435456) (sym (laid_so n)) (within n h) in
-    subst (IsSound default_rules) (laid_so n) (laid_sound default_rules (made_layout n) (valid n h) full_there within_there)
+    subst (IsSound default_rules) (laid_so n) (laid_sound default_rules (sample_layout n) (valid n h) full_there within_there)

@@ -2,14 +2,14 @@
 use Rattle.std.proofs.Common.{◌≡◌, [], ◌∷◌, ◌++◌, length, refl}
 use Rattle.std.specs.Prelude.{codes, pos}
 use Rattle.xls_data.specs.Content.{int, text}
-use Rattle.xls_sample_stream.specs.Made.{made_word, made_globals, made_row, made_stream, made_cells, made_contents, sum_of_ints}
+use Rattle.xls_sample_stream.specs.Sample.{sample_word, sample_globals, sample_row, sample_stream, sample_cells, sample_contents, sum_of_ints}
 
 -- 52 bytes stand before the sheet's part
-pub globals_length : length made_globals ≡ 52
+pub globals_length : length sample_globals ≡ 52
 globals_length = refl
 
 -- the stream of one row, byte by byte
-pub one_row : made_stream 1 ≡
+pub one_row : sample_stream 1 ≡
     -- BOF of the globals
     0x09 ∷ 0x08 ∷ 0x04 ∷ 0x00 ∷ 0x00 ∷ 0x06 ∷ 0x05 ∷ 0x00 ∷
     -- BoundSheet8: offset 52, and `G`
@@ -28,25 +28,25 @@ pub one_row : made_stream 1 ≡
     0xFD ∷ 0x00 ∷ 0x0A ∷ 0x00 ∷ 0x00 ∷ 0x00 ∷ 0x01 ∷ 0x00 ∷ 0x00 ∷ 0x00 ∷ 0x00 ∷ 0x00 ∷ 0x00 ∷ 0x00 ∷
     -- EOF
     0x0A ∷ 0x00 ∷ 0x00 ∷ 0x00 ∷ []
-unfolding made_stream
+unfolding sample_stream
 one_row = refl
 
 -- the last row that has a number of its own: 4 * 65535 + 2 is 0003FFFE in hexadecimal
-pub last_row : made_row 65535 ≡
+pub last_row : sample_row 65535 ≡
     0x7E ∷ 0x02 ∷ 0x0A ∷ 0x00 ∷ 0xFF ∷ 0xFF ∷ 0x00 ∷ 0x00 ∷ 0x00 ∷ 0x00 ∷ 0xFE ∷ 0xFF ∷ 0x03 ∷ 0x00 ∷
     0xFD ∷ 0x00 ∷ 0x0A ∷ 0x00 ∷ 0xFF ∷ 0xFF ∷ 0x01 ∷ 0x00 ∷ 0x00 ∷ 0x00 ∷ 0x00 ∷ 0x00 ∷ 0x00 ∷ 0x00 ∷ []
 last_row = refl
 
 -- the cells of two rows
-pub two_rows : made_cells 2 ≡
+pub two_rows : sample_cells 2 ≡
     ((0, 0), int (pos 0)) ∷ ((0, 1), text (codes "a")) ∷
     ((1, 0), int (pos 1)) ∷ ((1, 1), text (codes "bb")) ∷ []
 two_rows = refl
 
 -- the words come in turn
-pub words : made_word 2 ++ made_word 3 ≡ codes "ccca"
+pub words : sample_word 2 ++ sample_word 3 ≡ codes "ccca"
 words = refl
 
 -- 0 + 1 + 2 + 3
-pub four_rows : sum_of_ints (made_contents 4) ≡ pos 6
+pub four_rows : sum_of_ints (sample_contents 4) ≡ pos 6
 four_rows = refl

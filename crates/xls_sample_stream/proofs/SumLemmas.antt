@@ -9,12 +9,12 @@ use Rattle.xls_data.specs.Data.{content_of, is_nothing}
 use Rattle.xls_data.specs.declared.values.Data.{Data}
 use Rattle.xls_data.specs.declared.values.Data.TheVariants as variant
 use Rattle.xls_range.specs.Lists.{cells_from, used}
-use Rattle.xls_biff.specs.Cells.{Entry}
-use Rattle.xls_sample_stream.specs.Made.{row_cells, made_contents, int_of, sum_of_ints, IsNatural}
+use Rattle.xls_biff.specs.Cells.{CellEntry}
+use Rattle.xls_sample_stream.specs.Sample.{row_cells, sample_contents, int_of, sum_of_ints, IsNatural}
 
 -- the contents of rows from one on
 abbrev pub contents_from : ℕ → ℕ → List Content
-contents_from a n = map (λ (c : Entry). c.1) (flat_map row_cells (range_with_len a n))
+contents_from a n = map (λ (c : CellEntry). c.1) (flat_map row_cells (range_with_len a n))
 
 -- two for each row
 pub contents_length : (a n : ℕ) → length (contents_from a n) ≡ 2 * n
@@ -29,8 +29,8 @@ total a zero = 0
 total a (suc n) = a + total (a + 1) n
 
 -- 0 before a number
-zero_front : (t : ℕ) → 0 + t ≡ t
-zero_front t = omega arith
+zero_prefix : (t : ℕ) → 0 + t ≡ t
+zero_prefix t = omega arith
 
 -- the sum of the whole numbers among the contents
 sum_total : (a n : ℕ) → sum_of_ints (contents_from a n) ≡ pos (total a n)
@@ -38,7 +38,7 @@ unfolding total
 sum_total a zero = refl
 sum_total a (suc n) =
     ap (λ (s : ℤ). pos a +ℤ (pos 0 +ℤ s)) (sum_total (a + 1) n)
-    ∙ ap (λ (t : ℕ). pos (a + t)) (zero_front (total (a + 1) n))
+    ∙ ap (λ (t : ℕ). pos (a + t)) (zero_prefix (total (a + 1) n))
 
 -- twice the sum, and the count
 twice : (a n : ℕ) → 2 * total a n + n ≡ n * (2 * a + n)
@@ -58,8 +58,8 @@ half (suc n) t h =
     ap (λ (k : ℕ). suc n * k / 2) before ∙ half_of (suc n * n) t (omega arith)
 
 -- the sum of all rows
-pub made_sum : (n : ℕ) → sum_of_ints (made_contents n) ≡ pos (n * (n - 1) / 2)
-made_sum n = sum_total 0 n ∙ ap (λ (t : ℕ). pos t) (sym (half n (total 0 n) (omega (arith, twice 0 n))))
+pub sample_sum : (n : ℕ) → sum_of_ints (sample_contents n) ≡ pos (n * (n - 1) / 2)
+sample_sum n = sum_total 0 n ∙ ap (λ (t : ℕ). pos t) (sym (half n (total 0 n) (omega (arith, twice 0 n))))
 
 -- the product of two counts
 product_small : (a b : ℕ) → a ≤ 65536 → b ≤ 65536 → a * b ≤ 4294967296
@@ -141,8 +141,8 @@ contents_cells index width (y ∷ ys) =
     ap (λ (cs : List Content). content_of y ∷ cs) (contents_cells (index + 1) width ys)
 
 -- so the used cells contain what all cells contain
-pub used_contents : (n width : ℕ) (ys : List Data) → map content_of ys ≡ made_contents n
-    → map (λ (c : ℕ × ℕ × Data). content_of c.2) (used is_nothing (cells_from 0 width ys)) ≡ made_contents n
+pub used_contents : (n width : ℕ) (ys : List Data) → map content_of ys ≡ sample_contents n
+    → map (λ (c : ℕ × ℕ × Data). content_of c.2) (used is_nothing (cells_from 0 width ys)) ≡ sample_contents n
 used_contents n width ys e =
     let there = subst (λ (cs : List Content). AllByRecursion IsThere cs) (sym e) (all_there 0 n) in
     ap (map (λ (c : ℕ × ℕ × Data). content_of c.2)) (used_all 0 width ys there) ∙ contents_cells 0 width ys ∙ e

@@ -5,7 +5,7 @@ mod laws;
 mod words;
 
 pub use laws::{
-    made_bytes, made_carries, made_laid, made_length, made_opens, made_range, made_reading,
-    made_shows, made_sound,
+    sample_bytes, sample_carries, sample_laid, sample_length, sample_opens, sample_range, sample_reading,
+    sample_shows, sample_sound,
 };
 pub use words::word_of;

@@ -8,7 +8,7 @@ use Rattle.xls_sectors.specs.declared.header.Header.{Header}
 use Rattle.xls_sectors.specs.Reading.{◌>>=◌}
 use Rattle.xls_sectors.specs.Chains.{Stops, OfChain}
 use Rattle.xls_sectors.specs.Streams.{Space, next_in, sector_at, part_of, gathered, stream_of, Stream, WholeChain}
-use Rattle.xls_sectors.specs.Tables.{next_difat, area_of, Difat, opened_by, OpensBy, Opens}
+use Rattle.xls_sectors.specs.Tables.{next_difat, area_of, Difat, opened_by, OpensBy, OpensSectors}
 use Rattle.xls_sectors.specs.Laws.{OneAnswer, OneOutcome}
 use Rattle.xls_sectors.proofs.ChainLemmas.{one_outcome}
 
@@ -73,7 +73,7 @@ opens_by_one (Ok header) file =
           p.2 ∙ ap (λ (l : Result (List ℕ) SectorFault). l >>= opened_by header area) (one.same p.0 q.0 p.1 q.1) ∙ sym q.2;
     }
 
-pub opens_one : (file : List ℕ) → OneAnswer (Opens file)
+pub opens_one : (file : List ℕ) → OneAnswer (OpensSectors file)
 opens_one file = opens_by_one (header_of file) file
 
 -- ---- the length of a stream that is answered

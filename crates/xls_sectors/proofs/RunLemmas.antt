@@ -60,11 +60,11 @@ run_gathered space (suc n) first (sector ∷ sectors) run room =
           let rest : gathered space (suc n - space.sector_size) sectors ≡ Ok (take (suc n - space.sector_size) (drop ((first + 1) * space.sector_size) space.area)) =
           run_gathered space (suc n - space.sector_size) (first + 1) sectors parts.1 (rw start (omega arith)) in
           let whole : space.sector_size + (suc n - space.sector_size) ≡ suc n = omega arith in
-          let behind : drop ((first + 1) * space.sector_size) space.area ≡ drop space.sector_size bytes =
+          let following : drop ((first + 1) * space.sector_size) space.area ≡ drop space.sector_size bytes =
           rw start (sym (drop-drop space.sector_size (first * space.sector_size) space.area)) in
           let joined : take space.sector_size bytes ++ take (suc n - space.sector_size) (drop space.sector_size bytes) ≡ take (suc n) bytes =
           sym (take-add space.sector_size (suc n - space.sector_size) bytes) ∙ ap (λ (k : ℕ). take k bytes) whole in
-          rw (least, part_there space space.sector_size first (omega arith) (omega arith), rest, behind) (ap Ok joined)
+          rw (least, part_there space space.sector_size first (omega arith) (omega arith), rest, following) (ap Ok joined)
     ])
 
 pub run_found : (space : Space) (size first : ℕ) (sectors : List ℕ) (found : Option (Bor (List ℕ)))

@@ -29,58 +29,58 @@ full_loops space first number after sectors p more full =
 -- ---- the bytes of sectors
 
 -- bytes before those that are still to come
-abbrev pub with_front : List ℕ → Result (List ℕ) SectorFault → Result (List ℕ) SectorFault
-with_front front read = read >>= λ bytes. Ok (front ++ bytes)
+abbrev pub with_prefix : List ℕ → Result (List ℕ) SectorFault → Result (List ℕ) SectorFault
+with_prefix prefix read = read >>= λ bytes. Ok (prefix ++ bytes)
 
-regroup : (front part : List ℕ) (read : Result (List ℕ) SectorFault)
-    → with_front front (read >>= λ others. Ok (part ++ others)) ≡ with_front (front ++ part) read
-regroup front part (Ok others) = ap Ok (sym (append_assoc front part others))
-regroup front part (Err f) = refl
+regroup : (prefix part : List ℕ) (read : Result (List ℕ) SectorFault)
+    → with_prefix prefix (read >>= λ others. Ok (part ++ others)) ≡ with_prefix (prefix ++ part) read
+regroup prefix part (Ok others) = ap Ok (sym (append_assoc prefix part others))
+regroup prefix part (Err f) = refl
 
-pub gathered_more : (space : Space) (left sector : ℕ) (front part sectors : List ℕ) (total : Result (List ℕ) SectorFault)
+pub gathered_more : (space : Space) (left sector : ℕ) (prefix part sectors : List ℕ) (total : Result (List ℕ) SectorFault)
     → part_of space (min left space.sector_size) sector ≡ Ok part
-    → with_front front (gathered space left (sector ∷ sectors)) ≡ total
-    → with_front (front ++ part) (gathered space (left - space.sector_size) sectors) ≡ total
+    → with_prefix prefix (gathered space left (sector ∷ sectors)) ≡ total
+    → with_prefix (prefix ++ part) (gathered space (left - space.sector_size) sectors) ≡ total
 unfolding gathered
-gathered_more space left sector front part sectors total h so_far =
-    let one : with_front front (gathered space left (sector ∷ sectors)) ≡ with_front (front ++ part) (gathered space (left - space.sector_size) sectors) =
-    rw h (regroup front part (gathered space (left - space.sector_size) sectors)) in
+gathered_more space left sector prefix part sectors total h so_far =
+    let one : with_prefix prefix (gathered space left (sector ∷ sectors)) ≡ with_prefix (prefix ++ part) (gathered space (left - space.sector_size) sectors) =
+    rw h (regroup prefix part (gathered space (left - space.sector_size) sectors)) in
     sym one ∙ so_far
 
-pub gathered_fault : (space : Space) (left sector : ℕ) (front sectors : List ℕ) (fault : SectorFault) (total : Result (List ℕ) SectorFault)
+pub gathered_fault : (space : Space) (left sector : ℕ) (prefix sectors : List ℕ) (fault : SectorFault) (total : Result (List ℕ) SectorFault)
     → part_of space (min left space.sector_size) sector ≡ Err fault
-    → with_front front (gathered space left (sector ∷ sectors)) ≡ total → total ≡ Err fault
+    → with_prefix prefix (gathered space left (sector ∷ sectors)) ≡ total → total ≡ Err fault
 unfolding gathered
-gathered_fault space left sector front sectors fault total h so_far =
-    let one : with_front front (gathered space left (sector ∷ sectors)) ≡ Err fault = rw h refl in
+gathered_fault space left sector prefix sectors fault total h so_far =
+    let one : with_prefix prefix (gathered space left (sector ∷ sectors)) ≡ Err fault = rw h refl in
     sym so_far ∙ one
 
-pub gathered_done : (space : Space) (left : ℕ) (front : List ℕ) (total : Result (List ℕ) SectorFault)
-    → with_front front (gathered space left []) ≡ total → total ≡ Ok front
+pub gathered_done : (space : Space) (left : ℕ) (prefix : List ℕ) (total : Result (List ℕ) SectorFault)
+    → with_prefix prefix (gathered space left []) ≡ total → total ≡ Ok prefix
 unfolding gathered
-gathered_done space left front total so_far = sym so_far ∙ ap Ok (append-nil front)
+gathered_done space left prefix total so_far = sym so_far ∙ ap Ok (append-nil prefix)
 
-pub gathered_begun : (read : Result (List ℕ) SectorFault) → with_front [] read ≡ read
+pub gathered_begun : (read : Result (List ℕ) SectorFault) → with_prefix [] read ≡ read
 gathered_begun (Ok bytes) = refl
 gathered_begun (Err fault) = refl
 
 -- the same for the sector at an index
-module _ (space : Space) (left wanted i : ℕ) (front all : List ℕ) (total : Result (List ℕ) SectorFault) (within : i < length all)
-    (least : wanted ≡ min left space.sector_size) (so_far : with_front front (gathered space left (drop i all)) ≡ total) where
-  here : with_front front (gathered space left (get_or all i 0 ∷ drop (i + 1) all)) ≡ total
-  here = ap (λ (xs : List ℕ). with_front front (gathered space left xs)) (sym (drop_more all i 0 within)) ∙ so_far
+module _ (space : Space) (left wanted i : ℕ) (prefix all : List ℕ) (total : Result (List ℕ) SectorFault) (within : i < length all)
+    (least : wanted ≡ min left space.sector_size) (so_far : with_prefix prefix (gathered space left (drop i all)) ≡ total) where
+  here : with_prefix prefix (gathered space left (get_or all i 0 ∷ drop (i + 1) all)) ≡ total
+  here = ap (λ (xs : List ℕ). with_prefix prefix (gathered space left xs)) (sym (drop_more all i 0 within)) ∙ so_far
 
   pub gathered_step : (part : List ℕ) → part_of space wanted (get_or all i 0) ≡ Ok part
-      → with_front (front ++ part) (gathered space (left - wanted) (drop (i + 1) all)) ≡ total
+      → with_prefix (prefix ++ part) (gathered space (left - wanted) (drop (i + 1) all)) ≡ total
   gathered_step part h =
       let less : left - wanted ≡ left - space.sector_size = omega arith in
       let p : part_of space (min left space.sector_size) (get_or all i 0) ≡ Ok part = ap (λ (n : ℕ). part_of space n (get_or all i 0)) (sym least) ∙ h in
-      rw less (gathered_more space left (get_or all i 0) front part (drop (i + 1) all) total p here)
+      rw less (gathered_more space left (get_or all i 0) prefix part (drop (i + 1) all) total p here)
 
   pub gathered_stop : (fault : SectorFault) → part_of space wanted (get_or all i 0) ≡ Err fault → total ≡ Err fault
   gathered_stop fault h =
       let p : part_of space (min left space.sector_size) (get_or all i 0) ≡ Err fault = ap (λ (n : ℕ). part_of space n (get_or all i 0)) (sym least) ∙ h in
-      gathered_fault space left (get_or all i 0) front (drop (i + 1) all) fault total p here
+      gathered_fault space left (get_or all i 0) prefix (drop (i + 1) all) fault total p here
 
 -- no more bytes are needed
 part_none : (space : Space) (sector : ℕ) → part_of space 0 sector ≡ Ok []

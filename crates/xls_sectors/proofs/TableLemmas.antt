@@ -18,12 +18,12 @@ use Rattle.xls_sectors.specs.declared.header.Header.{Header}
 use Rattle.xls_sectors.specs.Header.{header_of, header_entries}
 use Rattle.xls_sectors.specs.Reading.{◌>>=◌, Fails}
 use Rattle.xls_sectors.specs.Chains.{Path, Loops, last_of}
-use Rattle.xls_sectors.specs.Tables.{bytes_at, next_difat, difat_entries, in_use, listed_in, fat_part, fat_numbers, fat_up_to, area_of, Difat, Opened, opened_by, OpensBy, Opens}
+use Rattle.xls_sectors.specs.Tables.{bytes_at, next_difat, difat_entries, in_use, listed_in, fat_part, fat_numbers, fat_up_to, area_of, Difat, Opened, opened_by, OpensBy, OpensSectors}
 use Rattle.xls_sectors.proofs.ChainLemmas.{Path-push, long_loops}
 
 -- numbers before those that are still to come, up to so many
 abbrev pub with_numbers : ℕ → List ℕ → Result (List ℕ) SectorFault → Result (List ℕ) SectorFault
-with_numbers most front read = read >>= λ numbers. Ok (take most (front ++ numbers))
+with_numbers most prefix read = read >>= λ numbers. Ok (take most (prefix ++ numbers))
 
 -- ---- the DIFAT
 
@@ -69,37 +69,37 @@ take_twice n xs ys =
           take-append-le n (take n xs) ys len ∙ take-take n n xs (omega arith) ∙ sym (take-append-le n xs ys le)
     ]
 
-regroup : (most : ℕ) (front part : List ℕ) (read : Result (List ℕ) SectorFault)
-    → with_numbers most front (read >>= λ others. Ok (part ++ others)) ≡ with_numbers most (take most (front ++ part)) read
-regroup most front part (Ok others) =
-    ap Ok (ap (take most) (sym (append_assoc front part others)) ∙ sym (take_twice most (front ++ part) others))
-regroup most front part (Err f) = refl
+regroup : (most : ℕ) (prefix part : List ℕ) (read : Result (List ℕ) SectorFault)
+    → with_numbers most prefix (read >>= λ others. Ok (part ++ others)) ≡ with_numbers most (take most (prefix ++ part)) read
+regroup most prefix part (Ok others) =
+    ap Ok (ap (take most) (sym (append_assoc prefix part others)) ∙ sym (take_twice most (prefix ++ part) others))
+regroup most prefix part (Err f) = refl
 
-module _ (size most i : ℕ) (area front all : List ℕ) (total : Result (List ℕ) SectorFault) (within : i < length all)
-    (so_far : with_numbers most front (fat_numbers size area (drop i all)) ≡ total) where
-  here : with_numbers most front (fat_numbers size area (get_or all i 0 ∷ drop (i + 1) all)) ≡ total
-  here = ap (λ (xs : List ℕ). with_numbers most front (fat_numbers size area xs)) (sym (drop_more all i 0 within)) ∙ so_far
+module _ (size most i : ℕ) (area prefix all : List ℕ) (total : Result (List ℕ) SectorFault) (within : i < length all)
+    (so_far : with_numbers most prefix (fat_numbers size area (drop i all)) ≡ total) where
+  here : with_numbers most prefix (fat_numbers size area (get_or all i 0 ∷ drop (i + 1) all)) ≡ total
+  here = ap (λ (xs : List ℕ). with_numbers most prefix (fat_numbers size area xs)) (sym (drop_more all i 0 within)) ∙ so_far
 
   pub fat_step : (part : List ℕ) → fat_part size area (get_or all i 0) ≡ Ok part
-      → with_numbers most (take most (front ++ part)) (fat_numbers size area (drop (i + 1) all)) ≡ total
+      → with_numbers most (take most (prefix ++ part)) (fat_numbers size area (drop (i + 1) all)) ≡ total
   unfolding fat_numbers
   fat_step part h =
-      let one : with_numbers most front (fat_numbers size area (get_or all i 0 ∷ drop (i + 1) all))
-      ≡ with_numbers most (take most (front ++ part)) (fat_numbers size area (drop (i + 1) all)) =
-      rw h (regroup most front part (fat_numbers size area (drop (i + 1) all))) in
+      let one : with_numbers most prefix (fat_numbers size area (get_or all i 0 ∷ drop (i + 1) all))
+      ≡ with_numbers most (take most (prefix ++ part)) (fat_numbers size area (drop (i + 1) all)) =
+      rw h (regroup most prefix part (fat_numbers size area (drop (i + 1) all))) in
       sym one ∙ here
 
   pub fat_stop : (fault : SectorFault) → fat_part size area (get_or all i 0) ≡ Err fault → total ≡ Err fault
   unfolding fat_numbers
   fat_stop fault h =
-      let one : with_numbers most front (fat_numbers size area (get_or all i 0 ∷ drop (i + 1) all)) ≡ Err fault = rw h refl in
+      let one : with_numbers most prefix (fat_numbers size area (get_or all i 0 ∷ drop (i + 1) all)) ≡ Err fault = rw h refl in
       sym here ∙ one
 
-pub fat_done : (size most : ℕ) (area front : List ℕ) (total : Result (List ℕ) SectorFault) → length front ≤ most
-    → with_numbers most front (fat_numbers size area []) ≡ total → total ≡ Ok front
+pub fat_done : (size most : ℕ) (area prefix : List ℕ) (total : Result (List ℕ) SectorFault) → length prefix ≤ most
+    → with_numbers most prefix (fat_numbers size area []) ≡ total → total ≡ Ok prefix
 unfolding fat_numbers
-fat_done size most area front total few so_far =
-    let all : take most (front ++ []) ≡ front = rw (append-nil front) (take_all most front few) in
+fat_done size most area prefix total few so_far =
+    let all : take most (prefix ++ []) ≡ prefix = rw (append-nil prefix) (take_all most prefix few) in
     sym so_far ∙ ap Ok all
 
 pub fat_part_cut : (size : ℕ) (area bytes : List ℕ) (sector : ℕ) → bytes ≡ bytes_at size area sector → length bytes < size
@@ -128,7 +128,7 @@ module _ (file area entries : List ℕ) (header : Header) (read : header_of file
   with_fat fat = record { header = header; area = area; fat = fat }
 
   opens : (listed : Result (List ℕ) SectorFault) (result : Result Opened SectorFault) → Lists listed
-      → result ≡ (listed >>= λ l. fat_of l >>= λ fat. Ok (with_fat fat)) → Opens file result
+      → result ≡ (listed >>= λ l. fat_of l >>= λ fat. Ok (with_fat fat)) → OpensSectors file result
   opens listed result l e =
       let Goal : List ℕ → List ℕ → Type 0 = λ xs es. Difat header.sector_size xs es header.first_difat listed in
       let lists : Goal (area_of header file) (header_entries file) =
@@ -138,13 +138,13 @@ module _ (file area entries : List ℕ) (header : Header) (read : header_of file
       let by : OpensBy (Ok header) file result = (listed, lists, answer) in
       subst (λ (r : Result Header SectorFault). OpensBy r file result) (sym read) by
 
-  pub opens_ok : (listed fat : List ℕ) → Lists (Ok listed) → Ok fat ≡ fat_of listed → Opens file (Ok (with_fat fat))
+  pub opens_ok : (listed fat : List ℕ) → Lists (Ok listed) → Ok fat ≡ fat_of listed → OpensSectors file (Ok (with_fat fat))
   opens_ok listed fat l f = opens (Ok listed) (Ok (with_fat fat)) l (ap (λ (r : Result (List ℕ) SectorFault). r >>= λ fat. Ok (with_fat fat)) f)
 
-  pub opens_difat_fails : (e : SectorError) → Fails e Lists → Fails e (Opens file)
+  pub opens_difat_fails : (e : SectorError) → Fails e Lists → Fails e (OpensSectors file)
   opens_difat_fails (errors.Fault f) h = opens (Err f) (Err f) h refl
   opens_difat_fails errors.Memory h = tt
 
-  pub opens_fat_fails : (listed : List ℕ) (e : SectorError) → Lists (Ok listed) → Fails e (λ r. r ≡ fat_of listed) → Fails e (Opens file)
+  pub opens_fat_fails : (listed : List ℕ) (e : SectorError) → Lists (Ok listed) → Fails e (λ r. r ≡ fat_of listed) → Fails e (OpensSectors file)
   opens_fat_fails listed (errors.Fault f) l h = opens (Ok listed) (Err f) l (ap (λ (r : Result (List ℕ) SectorFault). r >>= λ fat. Ok (with_fat fat)) h)
   opens_fat_fails listed errors.Memory l h = tt

@@ -3,7 +3,7 @@ use Rattle.std.specs.Prelude.{◌≡◌, ◌⊎◌, ℕ, ◌≤◌, List, length
 use Rattle.xls_sectors.specs.declared.error.SectorFault.{SectorFault}
 use Rattle.xls_sectors.specs.Chains.{Stops, Loops}
 use Rattle.xls_sectors.specs.Streams.{Space, Stream, WholeChain}
-use Rattle.xls_sectors.specs.Tables.{Opens}
+use Rattle.xls_sectors.specs.Tables.{OpensSectors}
 
 -- exactly one answer
 pub record OneAnswer {X : Type 0} (Answers : Result X SectorFault → Type 0) : Type 0 where
@@ -30,7 +30,7 @@ abbrev pub WholeChainsHaveOneAnswer : Type 0
 WholeChainsHaveOneAnswer = (space : Space) (first : ℕ) → OneAnswer (WholeChain space first)
 
 abbrev pub FilesHaveOneAnswer : Type 0
-FilesHaveOneAnswer = (file : List ℕ) → OneAnswer (Opens file)
+FilesHaveOneAnswer = (file : List ℕ) → OneAnswer (OpensSectors file)
 
 -- a stream that is answered is whole
 abbrev pub AnsweredStreamsAreWhole : Type 0

@@ -104,8 +104,8 @@ OpensBy (Ok header) file result =
     × (result ≡ (listed >>= opened_by header (area_of header file)))
 
 -- a file opened, or its first fault
-abbrev pub Opens : List ℕ → Result Opened SectorFault → Type 0
-Opens file result = OpensBy (header_of file) file result
+abbrev pub OpensSectors : List ℕ → Result Opened SectorFault → Type 0
+OpensSectors file result = OpensBy (header_of file) file result
 
 -- the sectors of an opened file
 abbrev pub sectors_of : Opened → Space

@@ -11,7 +11,7 @@ ghost use Rattle.xls_sectors.specs.Header.{header_entries};
 ghost use Rattle.xls_sectors.specs.Reading.{Gives};
 ghost use Rattle.xls_sectors.specs.Chains.{Stops};
 ghost use Rattle.xls_sectors.specs.Streams.{next_in, Stream, chain_size, IsAdjacent, WholeChain};
-ghost use Rattle.xls_sectors.specs.Tables.{Opened, Opens, Difat, bytes_at, in_use, next_difat, fat_up_to, opened_by, sectors_of};
+ghost use Rattle.xls_sectors.specs.Tables.{Opened, OpensSectors, Difat, bytes_at, in_use, next_difat, fat_up_to, opened_by, sectors_of};
 
 use crate::chains::Chains;
 use crate::error::{SectorError, SectorFault, Table};
@@ -169,7 +169,7 @@ impl<'a> Sectors<'a> {
     /// `MiniSectorShift`; `Loop` or `Leaves` of the DIFAT; `FatCut`. Memory is that of the FAT, which
     /// has at most an entry for each sector of the file, and of the list of its sectors.
     pub fn open(alloc: Global, file: &'a [u8]) -> Result<Sectors<'a>, SectorError>
-        ensures { Gives (λ opened. opened) result (Opens file.now) }
+        ensures { Gives (λ opened. opened) result (OpensSectors file.now) }
     {
         let header = read_header(file)?;
         let size = header.sector_size;

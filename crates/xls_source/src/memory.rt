@@ -9,7 +9,7 @@ use crate::source::{ReadFault, Source};
 use std::marker::Model;
 
 // Copies as many bytes as there are and as there is room for, up to `most`.
-fn copy_front(bytes: &[u8], most: usize, into: &mut [u8]) -> usize
+fn copy_prefix(bytes: &[u8], most: usize, into: &mut [u8]) -> usize
     ensures count { result ≡ min most (min (length into.new) (length bytes.now)) }
     ensures copied { take result into.new ≡ take result bytes.now }
 {
@@ -95,7 +95,7 @@ impl Source for MemorySource {
             self.faults = self.faults.saturating_add(1);
             return Err(ReadFault);
         }
-        let count = copy_front(&self.bytes[self.at..], self.chunk, into);
+        let count = copy_prefix(&self.bytes[self.at..], self.chunk, into);
         self.at += count;
         Ok(count)
     }
@@ -140,7 +140,7 @@ impl Source for SteadySource {
         ensures ok { IsOk result }
         ensures moves { IfOk result (λ n. n ≡ min (length into.new) (length self.old)) }
     {
-        let count = copy_front(&self.bytes[self.at..], usize::MAX, into);
+        let count = copy_prefix(&self.bytes[self.at..], usize::MAX, into);
         self.at += count;
         Ok(count)
     }

@@ -60,7 +60,7 @@ fn read_by_pieces<S: Source>(
     ensures end { IfOk result (λ _. IsAtEnd (S.left source.new)) }
     ensures cause { IfErr result (ReadCause limit (S.left source.old) (S.faults source.old) (S.faults source.new)) }
     ensures ended { IfOk result (λ _. S.ended source.new) }
-    ensures front { (taken : List ℕ) × (length taken ≤ limit + 1)
+    ensures prefix { (taken : List ℕ) × (length taken ≤ limit + 1)
         × Consumes (S.left source.old) (S.left source.new) taken }
     ensures count { S.faults source.old ≤ S.faults source.new }
     ensures faultless { OnOk result (S.faults source.new ≡ S.faults source.old) }
@@ -101,7 +101,7 @@ pub fn read_all<S: Source>(
     ensures cause { IfErr result (ReadCause limit (S.left source.old) (S.faults source.old) (S.faults source.new)) }
 
     // Also after a refusal a prefix was taken, of one byte more than the limit at most.
-    ensures front { (taken : List ℕ) × (length taken ≤ limit + 1)
+    ensures prefix { (taken : List ℕ) × (length taken ≤ limit + 1)
         × Consumes (S.left source.old) (S.left source.new) taken }
     ensures count { S.faults source.old ≤ S.faults source.new }
 

@@ -2,7 +2,7 @@
 use Rattle.std.proofs.Common.{◌≡◌, ℕ, ◌+◌, ◌≤◌, List, [], ◌++◌, length, take, drop, refl, ap, subst, ◌∙◌, append_assoc, arith, inl, inr, Option, Some, None}
 use Rattle.std.proofs.lemmas.List.{length-append}
 use Rattle.xls_bytes.specs.Numbers.{le}
-use Rattle.xls_stream.specs.Stream.{Group, enc, continues, group_bytes, IsGroup}
+use Rattle.xls_stream.specs.Stream.{Group, record_bytes, continues, group_bytes, IsGroup}
 use Rattle.xls_stream.specs.Cut.{Cut}
 use Rattle.xls_stream.specs.Walks.{IsBytes, IsOver, AtEnd, Groups}
 use Rattle.xls_stream.specs.declared.part.Part.{Part}
@@ -14,8 +14,8 @@ use Rattle.xls_stream.proofs.Total.{runs, no_others}
 longer : (bytes : List ℕ) (g : Group) (after : List ℕ) → bytes ≡ group_bytes g ++ after → IsGroup g
     → 4 + le (take 2 (drop 2 bytes)) ≤ length bytes
 longer bytes g after w f =
-    let whole : bytes ≡ enc g.typ g.body ++ (continues g.tail ++ after) =
-    w ∙ append_assoc (enc g.typ g.body) (continues g.tail) after in
+    let whole : bytes ≡ record_bytes g.typ g.body ++ (continues g.tail ++ after) =
+    w ∙ append_assoc (record_bytes g.typ g.body) (continues g.tail) after in
     let size : le (take 2 (drop 2 bytes)) ≡ length g.body =
     ap (λ (x : List ℕ). le (take 2 (drop 2 x))) whole
     ∙ size_is g.typ g.body (continues g.tail ++ after) f.body in

@@ -3,19 +3,19 @@ use Rattle.std.proofs.Common.{◌≡◌, ◌≢◌, ℕ, zero, suc, ◌+◌, ◌
 use Rattle.std.specs.Prelude.{◌==◌}
 use Rattle.xls_stream.specs.Stream.{Group}
 use Rattle.xls_stream.specs.Substreams.{IsBof, IsEof, IsPlain}
-use Rattle.xls_stream.specs.Counting.{bof, eof, other, kind_of, keep, found_from}
+use Rattle.xls_stream.specs.Counting.{bof, eof, other, group_kind, keep, found_from}
 use Rattle.xls_stream.specs.declared.part.Part.{Part}
 
-kind_bof : (g : Group) → IsBof g → kind_of g ≡ bof
+kind_bof : (g : Group) → IsBof g → group_kind g ≡ bof
 kind_bof g h = rw h refl
 
-kind_eof : (g : Group) → IsEof g → kind_of g ≡ eof
+kind_eof : (g : Group) → IsEof g → group_kind g ≡ eof
 kind_eof g h = rw h refl
 
 apart : (m n : ℕ) → m ≢ n → (m == n) ≡ false
 apart m n h = grind arith
 
-kind_other : (g : Group) → IsPlain g → kind_of g ≡ other
+kind_other : (g : Group) → IsPlain g → group_kind g ≡ other
 kind_other g h = rw (apart g.typ 2057 h.0, apart g.typ 10 h.1) refl
 
 pub at_own_bof : (g : Group) (gs : List Group) (cut : Option Part) → IsBof g

@@ -7,10 +7,10 @@ use Rattle.xls_stream.specs.Stream.{Group}
 use Rattle.xls_stream.specs.Walks.{IsBytes}
 use Rattle.xls_stream.specs.declared.part.Part.{Part}
 use Rattle.xls_stream.specs.declared.part.Part.TheVariants.{SheetOffset}
-use Rattle.xls_stream.specs.Listing.{Kept, kept_of, IsPart, IsSheetPart, Shared, no_table, table_of, table_without, IsShared, is_globals_type, is_plain_type, offset_at, Item, plain_item, table_item, sheet_item, IsItem, Holds, Entry, entry_of, Carries}
+use Rattle.xls_stream.specs.Listing.{Kept, kept_of, IsPart, IsSheetPart, Shared, no_table, table_of, table_without, IsShared, is_globals_type, is_plain_type, offset_at, Item, plain_item, table_item, sheet_item, IsItem, Holds, ListEntry, entry_of, Carries}
 use Rattle.xls_stream.specs.StringTable.{OneReading, marked}
-use Rattle.xls_stream.proofs.Shapes.{drop_bytes, one_globals_part}
-use Rattle.xls_stream.proofs.Shapes as shapes
+use Rattle.xls_stream.proofs.Outlines.{drop_bytes, one_globals_part}
+use Rattle.xls_stream.proofs.Outlines as shapes
 use Rattle.xls_stream.proofs.TableReadings.{one_reading}
 
 has_part : (part : List ℕ) → IsBytes part → (kept : List Kept) × (cut : Option Part)
@@ -165,7 +165,7 @@ one_holds bytes fits is js c d a b =
     let same = (one_globals_part bytes fits).same a.groups b.groups c d a.globals b.globals in
     (one_items bytes fits (filter is_globals_type b.groups) is js (subst (λ (x : List Group). AllZip (IsItem bytes) (filter is_globals_type x) is) same.0 a.items_are) b.items_are, same.1)
 
-pub one_list : (bytes : List ℕ) → IsBytes bytes → (l m : List Entry) → Carries bytes l
+pub one_list : (bytes : List ℕ) → IsBytes bytes → (l m : List ListEntry) → Carries bytes l
     → Carries bytes m → l ≡ m
 one_list bytes fits l m a b =
     a.entries_are ∙ ap (map entry_of) (one_holds bytes fits a.items b.items None None a.holds b.holds).0 ∙ sym b.entries_are

@@ -5,7 +5,7 @@ pub mod Unique
 pub mod Total
 pub mod Founds
 pub mod Ends
-pub mod Shapes
+pub mod Outlines
 pub mod HoldingLemmas
 pub mod StringUnits
 pub mod TableReadings

@@ -5,7 +5,7 @@ use Rattle.std.specs.List.{AllByRecursion}
 use Rattle.std.proofs.lemmas.Bool.{eqb-true}
 use Rattle.std.proofs.lemmas.List.{take_at, take_all, drop-take, length-append, length-take, take_rest, nil_from_length}
 use Rattle.xls_bytes.specs.Numbers.{le}
-use Rattle.xls_stream.specs.Stream.{enc, continues, IsBody, IsRecord, AreContinues, bodies_of, Gathers, StartsContinue}
+use Rattle.xls_stream.specs.Stream.{record_bytes, continues, IsBody, IsRecord, AreContinues, bodies_of, Gathers, StartsContinue}
 use Rattle.xls_stream.specs.Cut.{Cut}
 use Rattle.xls_stream.specs.declared.part.Part.{Part}
 use Rattle.xls_stream.specs.declared.part.Part.TheVariants.{RecordHeader, RecordLength, ContinueLength}
@@ -17,7 +17,7 @@ pub record Taken (bytes : List ℕ) : Type 0 where
   pub others : List (List ℕ)
   pub body_fits : IsBody body
   pub others_fit : AllByRecursion IsBody others
-  pub whole : bytes ≡ enc 60 body ++ continues others
+  pub whole : bytes ≡ record_bytes 60 body ++ continues others
 
 taken_by : (bytes : List ℕ) (cs : List (List ℕ)) → AllByRecursion IsBody cs → bytes ≡ continues cs
     → bytes ≢ [] → Taken bytes
@@ -50,19 +50,19 @@ pub rest_continues : (bytes rest : List ℕ) (t : Taken bytes) (n : ℕ) → n �
 rest_continues bytes rest t n e r =
     record { bodies = t.others; fit = t.others_fit; whole = r ∙ rest_taken bytes t n e }
 
-pub bodies_taken : (bytes front rest : List ℕ) (t : Taken bytes) (n : ℕ) → n ≡ length t.body
-    → front ≡ take (4 + n) bytes → rest ≡ drop (4 + n) bytes
-    → bodies_of bytes ≡ take (length front - 4) (drop 4 front) ∷ bodies_of rest
-bodies_taken bytes front rest t n e f r =
+pub bodies_taken : (bytes prefix rest : List ℕ) (t : Taken bytes) (n : ℕ) → n ≡ length t.body
+    → prefix ≡ take (4 + n) bytes → rest ≡ drop (4 + n) bytes
+    → bodies_of bytes ≡ take (length prefix - 4) (drop 4 prefix) ∷ bodies_of rest
+bodies_taken bytes prefix rest t n e f r =
     let all : bodies_of bytes ≡ t.body ∷ t.others =
     rw t.whole (bodies-continues (t.body ∷ t.others) (t.body_fits, t.others_fit)) in
     let others : bodies_of rest ≡ t.others =
     ap bodies_of (r ∙ rest_taken bytes t n e) ∙ bodies-continues t.others t.others_fit in
-    let inner : drop 4 front ≡ t.body = rw (f, drop-take 4 n bytes) (body_taken bytes t n e) in
+    let inner : drop 4 prefix ≡ t.body = rw (f, drop-take 4 n bytes) (body_taken bytes t n e) in
     let room = room_taken bytes t in
-    let front-len : length front ≡ 4 + n = rw f (omega (arith, length-take (4 + n) bytes)) in
-    let body : take (length front - 4) (drop 4 front) ≡ t.body =
-    rw inner (take_all (length front - 4) t.body (omega arith)) in
+    let prefix-len : length prefix ≡ 4 + n = rw f (omega (arith, length-take (4 + n) bytes)) in
+    let body : take (length prefix - 4) (drop 4 prefix) ≡ t.body =
+    rw inner (take_all (length prefix - 4) t.body (omega arith)) in
     rw (all, others, body) refl
 
 bodies-nil : (bytes : List ℕ) → AreContinues bytes → bodies_of bytes ≡ [] → bytes ≡ []
@@ -87,8 +87,8 @@ cuts bytes typ body start after RecordLength g r s ne c = (
   record { typ = typ; body = body; tail = g.bodies },
   after,
   record {
-    whole = r.whole ∙ ap (λ (x : List ℕ). enc typ body ++ x) g.whole
-        ∙ sym (append_assoc (enc typ body) (continues g.bodies) after);
+    whole = r.whole ∙ ap (λ (x : List ℕ). record_bytes typ body ++ x) g.whole
+        ∙ sym (append_assoc (record_bytes typ body) (continues g.bodies) after);
     fits = record { typ = r.typ_fits; body = r.body_fits; tail = g.fit };
     room = g.room;
     begun = s;

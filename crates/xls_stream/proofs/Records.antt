@@ -3,7 +3,7 @@ use Rattle.std.proofs.Common.{◌≡◌, ℕ, zero, suc, ◌+◌, ◌-◌, ◌*�
 use Rattle.std.specs.List.{AllByRecursion}
 use Rattle.std.proofs.lemmas.List.{take_at, drop_at, length-append, length-take, take-append-drop, take-take, drop-drop, drop-take, flat_map_more}
 use Rattle.xls_bytes.specs.Numbers.{le, le16}
-use Rattle.xls_stream.specs.Stream.{enc, continues, IsBody, IsRecord, AreContinues, bodies_within, bodies_of, HasRoom, Gathers, StartsContinue, Begins}
+use Rattle.xls_stream.specs.Stream.{record_bytes, continues, IsBody, IsRecord, AreContinues, bodies_within, bodies_of, HasRoom, Gathers, StartsContinue, Begins}
 
 abbrev pub IsBytes : List ℕ → Type 0
 IsBytes bytes = (i : ℕ) → get_or bytes i 0 < 256
@@ -17,11 +17,11 @@ le16_le a b ha hb =
 pub le_le16 : (n : ℕ) → n < 2 ^ 16 → le (le16 n) ≡ n
 le_le16 n h = omega arith
 
-pub is_record : (bytes front rest : List ℕ) (typ size : ℕ) → IsBytes bytes → typ ≡ le (take 2 bytes)
+pub is_record : (bytes prefix rest : List ℕ) (typ size : ℕ) → IsBytes bytes → typ ≡ le (take 2 bytes)
     → size ≡ le (take 2 (drop 2 bytes)) → 4 ≤ length bytes → 4 + size ≤ length bytes
-    → front ≡ take (4 + size) bytes → rest ≡ drop (4 + size) bytes
-    → IsRecord bytes typ (take (length front - 4) (drop 4 front)) rest
-is_record (a ∷ b ∷ c ∷ d ∷ bs) front rest typ size fits typ-is size-is four room front-is rest-is =
+    → prefix ≡ take (4 + size) bytes → rest ≡ drop (4 + size) bytes
+    → IsRecord bytes typ (take (length prefix - 4) (drop 4 prefix)) rest
+is_record (a ∷ b ∷ c ∷ d ∷ bs) prefix rest typ size fits typ-is size-is four room prefix-is rest-is =
     let fa : a < 256 = fits 0 in
     let fb : b < 256 = fits 1 in
     let fc : c < 256 = fits 2 in
@@ -29,13 +29,13 @@ is_record (a ∷ b ∷ c ∷ d ∷ bs) front rest typ size fits typ-is size-is f
     let typ-sum : typ ≡ a + 256 * (b + 256 * 0) = typ-is in
     let size-sum : size ≡ c + 256 * (d + 256 * 0) = size-is in
     let room' : size ≤ length bs = omega arith in
-    let body = take (length front - 4) (drop 4 front) in
-    let in_front : drop 4 front ≡ take size bs =
-    rw (front-is, drop-take 4 size (a ∷ b ∷ c ∷ d ∷ bs)) refl in
-    let front-len : length front - 4 ≡ size =
-    rw front-is (omega (arith, length-take (4 + size) (a ∷ b ∷ c ∷ d ∷ bs))) in
+    let body = take (length prefix - 4) (drop 4 prefix) in
+    let in_prefix : drop 4 prefix ≡ take size bs =
+    rw (prefix-is, drop-take 4 size (a ∷ b ∷ c ∷ d ∷ bs)) refl in
+    let prefix-len : length prefix - 4 ≡ size =
+    rw prefix-is (omega (arith, length-take (4 + size) (a ∷ b ∷ c ∷ d ∷ bs))) in
     let body-is : body ≡ take size bs =
-    rw (front-len, in_front) (take-take size size bs (omega arith)) in
+    rw (prefix-len, in_prefix) (take-take size size bs (omega arith)) in
     let body-len : length body ≡ size = rw body-is (omega (arith, length-take size bs)) in
     let rest-bs : rest ≡ drop size bs = rest-is ∙ sym (drop-drop size 4 (a ∷ b ∷ c ∷ d ∷ bs)) in
     let parts : bs ≡ body ++ rest = rw (body-is, rest-bs) (sym (take-append-drop size bs)) in
@@ -44,34 +44,34 @@ is_record (a ∷ b ∷ c ∷ d ∷ bs) front rest typ size fits typ-is size-is f
     let s0 : length body % 256 ≡ c = omega arith in
     let s1 : length body / 256 ≡ d = omega arith in
     record { whole = cc; typ_fits = omega arith; body_fits = omega arith }
-is_record (a ∷ b ∷ c ∷ []) front rest typ size fits typ-is size-is four room front-is rest-is =
+is_record (a ∷ b ∷ c ∷ []) prefix rest typ size fits typ-is size-is four room prefix-is rest-is =
     absurd (omega arith)
-is_record (a ∷ b ∷ []) front rest typ size fits typ-is size-is four room front-is rest-is =
+is_record (a ∷ b ∷ []) prefix rest typ size fits typ-is size-is four room prefix-is rest-is =
     absurd (omega arith)
-is_record (a ∷ []) front rest typ size fits typ-is size-is four room front-is rest-is =
+is_record (a ∷ []) prefix rest typ size fits typ-is size-is four room prefix-is rest-is =
     absurd (omega arith)
-is_record [] front rest typ size fits typ-is size-is four room front-is rest-is =
+is_record [] prefix rest typ size fits typ-is size-is four room prefix-is rest-is =
     absurd (omega arith)
 
 -- ---- Continue records
 
 pub continues-push : (cs : List (List ℕ)) (c rest : List ℕ) → continues (cs ++ c ∷ [])
-    ++ rest ≡ continues cs ++ (enc 60 c ++ rest)
+    ++ rest ≡ continues cs ++ (record_bytes 60 c ++ rest)
 continues-push cs c rest =
-    ap (λ (x : List ℕ). x ++ rest) (sym (flat_map_more (enc 60) [] cs c))
-    ∙ append_assoc (continues cs) (enc 60 c) rest
+    ap (λ (x : List ℕ). x ++ rest) (sym (flat_map_more (record_bytes 60) [] cs c))
+    ∙ append_assoc (continues cs) (record_bytes 60 c) rest
 
 -- what stands after a Continue at the start, and its body
-pub after_continue : (c rest : List ℕ) → IsBody c → drop (4 + length c) (enc 60 c ++ rest) ≡ rest
+pub after_continue : (c rest : List ℕ) → IsBody c → drop (4 + length c) (record_bytes 60 c ++ rest) ≡ rest
 after_continue c rest fits =
-    sym (drop-drop (length c) 4 (enc 60 c ++ rest)) ∙ drop_at c rest (length c) refl
+    sym (drop-drop (length c) 4 (record_bytes 60 c ++ rest)) ∙ drop_at c rest (length c) refl
 
 pub size_continue : (c rest : List ℕ) → IsBody c
-    → le (take 2 (drop 2 (enc 60 c ++ rest))) ≡ length c
+    → le (take 2 (drop 2 (record_bytes 60 c ++ rest))) ≡ length c
 size_continue c rest fits = le_le16 (length c) fits
 
 within_step : (n : ℕ) (c rest : List ℕ) → IsBody c
-    → bodies_within (suc n) (enc 60 c ++ rest) ≡ c ∷ bodies_within n rest
+    → bodies_within (suc n) (record_bytes 60 c ++ rest) ≡ c ∷ bodies_within n rest
 unfolding bodies_within
 within_step n c rest fits =
     let size : le (length c % 256 ∷ length c / 256 ∷ []) ≡ length c = le_le16 (length c) fits in
@@ -101,8 +101,8 @@ bodies-are bytes h = rw h.whole (bodies-continues h.bodies h.fit)
 
 -- ---- gathering
 
-HasRoom-push : (cs : List (List ℕ)) (c rest : List ℕ) → 4 < length (enc 60 c ++ rest)
-    → HasRoom cs (enc 60 c ++ rest) → HasRoom (cs ++ c ∷ []) rest
+HasRoom-push : (cs : List (List ℕ)) (c rest : List ℕ) → 4 < length (record_bytes 60 c ++ rest)
+    → HasRoom cs (record_bytes 60 c ++ rest) → HasRoom (cs ++ c ∷ []) rest
 HasRoom-push [] c rest lt room =
     (subst (λ (x : List ℕ). 4 < length x) (sym (continues-push [] c rest)) lt, tt)
 HasRoom-push (d ∷ cs) c rest lt room = (
@@ -133,7 +133,7 @@ pub gathers_more : (start after : List ℕ) (typ : ℕ) (body rest : List ℕ) �
     → StartsContinue after → IsRecord after typ body rest → Gathers start rest
 gathers_more start after typ body rest g s r =
     let t : typ ≡ 60 = typ_continue after typ body rest s r in
-    let whole : after ≡ enc 60 body ++ rest = r.whole ∙ ap (λ (t : ℕ). enc t body ++ rest) t in
+    let whole : after ≡ record_bytes 60 body ++ rest = r.whole ∙ ap (λ (t : ℕ). record_bytes t body ++ rest) t in
     record {
       bodies = g.bodies ++ body ∷ [];
       fit = fit-push g.bodies body g.fit r.body_fits;
@@ -154,8 +154,8 @@ pub begins : (bytes : List ℕ) (typ : ℕ) (body start after : List ℕ) (g : G
     → IsRecord bytes typ body start → ¬ StartsContinue after
     → Begins bytes (record { typ = typ; body = body; tail = g.bodies }) after
 begins bytes typ body start after g r ended = record {
-  whole = r.whole ∙ ap (λ (x : List ℕ). enc typ body ++ x) g.whole
-      ∙ sym (append_assoc (enc typ body) (continues g.bodies) after);
+  whole = r.whole ∙ ap (λ (x : List ℕ). record_bytes typ body ++ x) g.whole
+      ∙ sym (append_assoc (record_bytes typ body) (continues g.bodies) after);
   fits = record { typ = r.typ_fits; body = r.body_fits; tail = g.fit };
   room = g.room;
   ended = ended;

@@ -1,11 +1,11 @@
 -- Known values, so that a wrong rule in the specs does not check.
 use Rattle.std.proofs.Common.{◌≡◌, ℕ, [], ◌∷◌, map, codes, refl, None, lit<, arith}
-use Rattle.xls_stream.specs.Stream.{Group, enc, group_bytes, Begins}
+use Rattle.xls_stream.specs.Stream.{Group, record_bytes, group_bytes, Begins}
 use Rattle.xls_stream.specs.declared.types.TheConstants as types
 use Rattle.xls_stream.specs.declared.part.Part.TheVariants as parts
 use Rattle.xls_stream.specs.PartText.{part_text}
 use Rattle.xls_stream.specs.Listing.{globals_types}
-use Rattle.xls_stream.specs.Substreams.{sheet_types, none, plain, nested, Shape, own_closed, groups_in, outer_in, kept_groups}
+use Rattle.xls_stream.specs.Substreams.{sheet_types, none, plain, nested, Outline, own_closed, groups_of_outline, outer_in, kept_groups}
 use Rattle.xls_stream.specs.Counting.{found_from}
 
 -- the types of records by their numbers in [MS-XLS]: BOF, EOF and Continue
@@ -21,21 +21,21 @@ pub known_sheet : sheet_types ≡ 0x0203 ∷ 0x0200 ∷ 0x0204 ∷ 0x00D6 ∷ 0x
 known_sheet = refl
 
 -- an EOF record is its type and no byte
-pub eof_bytes : enc 10 [] ≡ 10 ∷ 0 ∷ 0 ∷ 0 ∷ []
+pub eof_bytes : record_bytes 10 [] ≡ 10 ∷ 0 ∷ 0 ∷ 0 ∷ []
 eof_bytes = refl
 
 -- type 0203, 14 bytes: the low byte stands first
-pub number_header : enc 515 (1 ∷ 2 ∷ []) ≡ 3 ∷ 2 ∷ 2 ∷ 0 ∷ 1 ∷ 2 ∷ []
+pub number_header : record_bytes 515 (1 ∷ 2 ∷ []) ≡ 3 ∷ 2 ∷ 2 ∷ 0 ∷ 1 ∷ 2 ∷ []
 number_header = refl
 
 abbrev group : ℕ → Group
 group typ = record { typ = typ; body = []; tail = [] }
 
 -- a sheet with a chart between two of its records
-abbrev sheet_with_chart : Shape
+abbrev sheet_with_chart : Outline
 sheet_with_chart = own_closed [] (group 2057) (plain (group 515) (nested (group 2057) (plain (group 516) none) (group 10) (plain (group 638) none))) (group 10)
 
-pub chart_groups : groups_in sheet_with_chart ≡ group 2057 ∷ group 515 ∷ group 2057 ∷ group 516 ∷ group 10 ∷ group 638 ∷ group 10 ∷ []
+pub chart_groups : groups_of_outline sheet_with_chart ≡ group 2057 ∷ group 515 ∷ group 2057 ∷ group 516 ∷ group 10 ∷ group 638 ∷ group 10 ∷ []
 chart_groups = refl
 
 -- the chart's records aren't the sheet's
@@ -43,7 +43,7 @@ pub chart_outer : outer_in sheet_with_chart ≡ group 515 ∷ group 638 ∷ []
 chart_outer = refl
 
 -- counting finds the same
-pub chart_counted : found_from 0 (groups_in sheet_with_chart) None ≡ (group 515 ∷ group 638 ∷ [], None)
+pub chart_counted : found_from 0 (groups_of_outline sheet_with_chart) None ≡ (group 515 ∷ group 638 ∷ [], None)
 unfolding found_from
 chart_counted = refl
 

@@ -1,28 +1,28 @@
 -- Units and bytes over marks, one step after the other.
 use Rattle.std.proofs.Common.{◌≡◌, ℕ, zero, suc, ◌+◌, ◌-◌, ◌*◌, ◌<◌, ◌≤◌, map, Bool, true, false, List, [], ◌∷◌, ◌++◌, length, drop, Option, Some, None, refl, sym, ap, append_assoc, arith}
 use Rattle.std.proofs.lemmas.List.{append-nil}
-use Rattle.xls_stream.specs.StringTable.{Mark, weight, marked, is_wide, with_unit, units_at, tail_at, front_of}
+use Rattle.xls_stream.specs.StringTable.{Mark, weight, marked, is_wide, with_unit, units_at, tail_at, prefix_of}
 
 -- units read before, and what reading on gives
-abbrev pub with_front : List ℕ → Option (List ℕ × List Mark) → Option (List ℕ × List Mark)
-with_front us None = None
-with_front us (Some x) = Some (us ++ x.0, x.1)
+abbrev pub with_prefix : List ℕ → Option (List ℕ × List Mark) → Option (List ℕ × List Mark)
+with_prefix us None = None
+with_prefix us (Some x) = Some (us ++ x.0, x.1)
 
 pub record UnitsSoFar (total : Option (List ℕ × List Mark)) (old now : List ℕ) (left : ℕ) (wide : Bool) (text : List Mark) : Type 0 where
   pub units : List ℕ
   pub items : now ≡ old ++ units
-  pub same : with_front units (units_at left wide text) ≡ total
+  pub same : with_prefix units (units_at left wide text) ≡ total
 
-pub regroup : (us : List ℕ) (u : ℕ) (r : Option (List ℕ × List Mark)) → with_front us (with_unit u r) ≡ with_front (us ++ u ∷ []) r
+pub regroup : (us : List ℕ) (u : ℕ) (r : Option (List ℕ × List Mark)) → with_prefix us (with_unit u r) ≡ with_prefix (us ++ u ∷ []) r
 regroup us u None = refl
 regroup us u (Some x) = ap (λ (v : List ℕ). Some (v, x.1)) (sym (append_assoc us (u ∷ []) x.0))
 
-front_nil : (r : Option (List ℕ × List Mark)) → with_front [] r ≡ r
-front_nil None = refl
-front_nil (Some x) = refl
+prefix_nil : (r : Option (List ℕ × List Mark)) → with_prefix [] r ≡ r
+prefix_nil None = refl
+prefix_nil (Some x) = refl
 
 pub units_none : (old : List ℕ) (left : ℕ) (wide : Bool) (text : List Mark) → UnitsSoFar (units_at left wide text) old old left wide text
-units_none old left wide text = record { units = []; items = sym (append-nil old); same = front_nil (units_at left wide text) }
+units_none old left wide text = record { units = []; items = sym (append-nil old); same = prefix_nil (units_at left wide text) }
 
 pub unit_at_narrow : (n b : ℕ) (ms : List Mark) → units_at (suc n) false (Some b ∷ ms) ≡ with_unit b (units_at n false ms)
 unfolding units_at
@@ -59,10 +59,10 @@ tail_done ms = refl
 
 -- ---- the bytes before the next mark
 
-pub front-marked : (hand : List ℕ) (pieces : List (List ℕ)) → front_of (marked hand pieces) ≡ hand
-front-marked [] [] = refl
-front-marked [] (p ∷ ps) = refl
-front-marked (b ∷ bs) pieces = ap (λ (x : List ℕ). b ∷ x) (front-marked bs pieces)
+pub prefix-marked : (hand : List ℕ) (pieces : List (List ℕ)) → prefix_of (marked hand pieces) ≡ hand
+prefix-marked [] [] = refl
+prefix-marked [] (p ∷ ps) = refl
+prefix-marked (b ∷ bs) pieces = ap (λ (x : List ℕ). b ∷ x) (prefix-marked bs pieces)
 
 pub drop-marked : (k : ℕ) (hand : List ℕ) (pieces : List (List ℕ)) → k ≤ length hand → drop k (marked hand pieces) ≡ marked (drop k hand) pieces
 drop-marked zero hand pieces h = refl

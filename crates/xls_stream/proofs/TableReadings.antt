@@ -2,9 +2,9 @@
 use Rattle.std.proofs.Common.{◌≡◌, ◌≢◌, ℕ, zero, suc, ◌+◌, ◌-◌, ◌≤◌, Bool, true, false, cond, List, [], ◌∷◌, length, drop, take, Option, Some, None, Result, Ok, Err, refl, sym, ap, subst, ◌∙◌, arith, lit≤, slice_index, inl, inr}
 use Rattle.std.specs.Prelude.{nat_lt, ◌⊎◌}
 use Rattle.xls_bytes.specs.Numbers.{le}
-use Rattle.xls_stream.specs.StringTable.{Mark, weight, is_wide, front_of, units_at, tail_at}
+use Rattle.xls_stream.specs.StringTable.{Mark, weight, is_wide, prefix_of, units_at, tail_at}
 use Rattle.xls_stream.proofs.StringUnits.{weight-drop, units_leave, tail_leaves, Leaves, LeavesTail}
-use Rattle.xls_stream.specs.StringTable.{Missing, short_head, Head, has_runs, has_extension, head_len, behind_at, with_tail, tail_of, with_units, with_head, str_at, next_at, Strings, Table, TableFault}
+use Rattle.xls_stream.specs.StringTable.{Missing, short_head, Head, has_runs, has_extension, head_len, after_at, with_tail, tail_of, with_units, with_head, str_at, next_at, Strings, Table, TableFault}
 use Rattle.xls_stream.specs.StringTable.{OneReading}
 
 -- ---- a string takes something
@@ -33,7 +33,7 @@ head_shrinks : (a b : Bool) (e f : Missing) (h : Head) (ms : List Mark) → 3 �
 head_shrinks true b e f h ms le = tt
 head_shrinks false true e f h ms le = tt
 head_shrinks false false e f h ms le =
-    units_shrink h.behind (units_at h.count h.wide (drop h.len ms)) (weight (drop h.len ms)) (weight ms - 3) (units_leave h.count h.wide (drop h.len ms)) (omega (arith, weight-drop h.len ms))
+    units_shrink h.following (units_at h.count h.wide (drop h.len ms)) (weight (drop h.len ms)) (weight ms - 3) (units_leave h.count h.wide (drop h.len ms)) (omega (arith, weight-drop h.len ms))
 
 three : (a b : Bool) → 3 ≤ cond a (cond b 5 3 + 4) (cond b 5 3)
 three true true = lit≤ tt
@@ -43,10 +43,10 @@ three false false = lit≤ tt
 
 str_shrinks : (ms : List Mark) → Shrinks (str_at ms) (weight ms - 3)
 str_shrinks ms =
-    let front = front_of ms in
-    let flags = slice_index front 2 in
-    head_shrinks (nat_lt (length front) 3) (nat_lt (length front) (head_len flags)) (short_head 3 (length front)) (short_head (head_len flags) (length front))
-    (record { len = head_len flags; count = le (take 2 front); wide = is_wide flags; behind = behind_at front }) ms (three (has_extension (slice_index (front_of ms) 2)) (has_runs (slice_index (front_of ms) 2)))
+    let prefix = prefix_of ms in
+    let flags = slice_index prefix 2 in
+    head_shrinks (nat_lt (length prefix) 3) (nat_lt (length prefix) (head_len flags)) (short_head 3 (length prefix)) (short_head (head_len flags) (length prefix))
+    (record { len = head_len flags; count = le (take 2 prefix); wide = is_wide flags; following = after_at prefix }) ms (three (has_extension (slice_index (prefix_of ms) 2)) (has_runs (slice_index (prefix_of ms) 2)))
 
 pub next_shrinks : (ms : List Mark) → Shrinks (next_at ms) (weight ms - 3)
 next_shrinks [] = str_shrinks []

@@ -26,13 +26,13 @@ first_record : (bytes : List ℕ) → IsBytes bytes → 4 ≤ length bytes
     → 4 + le (take 2 (drop 2 bytes)) ≤ length bytes → FirstRecord bytes
 first_record bytes fits four room =
     let size = le (take 2 (drop 2 bytes)) in
-    let front = take (4 + size) bytes in
+    let prefix = take (4 + size) bytes in
     let rest = drop (4 + size) bytes in
     record {
       typ = le (take 2 bytes);
-      body = take (length front - 4) (drop 4 front);
+      body = take (length prefix - 4) (drop 4 prefix);
       rest = rest;
-      is = is_record bytes front rest (le (take 2 bytes)) size fits refl refl four room refl refl;
+      is = is_record bytes prefix rest (le (take 2 bytes)) size fits refl refl four room refl refl;
       fewer = omega (arith, length-drop (4 + size) bytes);
       fits = λ i. rw get_or-drop (fits (4 + size + i));
     }

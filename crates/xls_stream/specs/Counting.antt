@@ -11,8 +11,8 @@ pub data Kind : Type 0 where
   eof : Kind
   other : Kind
 
-abbrev pub kind_of : Group → Kind
-kind_of g = if g.typ == BOF then bof else if g.typ == EOF then eof else other
+abbrev pub group_kind : Group → Kind
+group_kind g = if g.typ == BOF then bof else if g.typ == EOF then eof else other
 
 -- the groups found, and the cut if they end in one
 abbrev pub Found : Type 0
@@ -41,7 +41,7 @@ found_at on g (suc (suc n)) other = on (suc (suc n))
 -- substreams. The groups end in this cut, which no longer counts after the EOF of the part.
 unfoldable pub found_from : ℕ → List Group → Option Part → Found
 found_from n [] cut = ([], cut)
-found_from n (g ∷ gs) cut = found_at (λ k. found_from k gs cut) g n (kind_of g)
+found_from n (g ∷ gs) cut = found_at (λ k. found_from k gs cut) g n (group_kind g)
 
 -- the groups before the first EOF, after which a cut no longer counts
 abbrev pub globals_of : List Group → Option Part → Found

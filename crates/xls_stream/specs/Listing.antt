@@ -90,10 +90,10 @@ pub record Holds (bytes : List ℕ) (items : List Item) (cut : Option Part) : Ty
 
 -- a plain record of the globals; or a string table; or a sheet, by bytes 4 and 5 and the bytes from 6
 -- of its BoundSheet8 ([MS-XLS] 2.4.28), and its kept records
-pub data Entry : Type 0 where
-  plain_entry : (typ : ℕ) (body : List ℕ) → Entry
-  table_entry : (strings : List (List ℕ)) → Entry
-  sheet_entry : (state kind : ℕ) (name : List ℕ) (kept : List Kept) → Entry
+pub data ListEntry : Type 0 where
+  plain_entry : (typ : ℕ) (body : List ℕ) → ListEntry
+  table_entry : (strings : List (List ℕ)) → ListEntry
+  sheet_entry : (state kind : ℕ) (name : List ℕ) (kept : List Kept) → ListEntry
 
 -- the strings of a table that is whole
 abbrev pub strings_in : Shared → List (List ℕ)
@@ -101,7 +101,7 @@ strings_in no_table = []
 strings_in (table_of strings) = strings
 strings_in (table_without missing) = []
 
-abbrev pub entry_of : Item → Entry
+abbrev pub entry_of : Item → ListEntry
 entry_of (plain_item typ body) = plain_entry typ body
 entry_of (table_item body shared) = table_entry (strings_in shared)
 entry_of (sheet_item body kept cut) =
@@ -113,16 +113,16 @@ IsWholeTable (table_of strings) = Unit {0}
 IsWholeTable (table_without missing) = ⊥
 
 -- a table is whole; a sheet's BoundSheet8 is long enough, and its part isn't cut
-abbrev pub IsWhole : Item → Type 0
-IsWhole (plain_item typ body) = Unit {0}
-IsWhole (table_item body shared) = IsWholeTable shared
-IsWhole (sheet_item body kept cut) = (6 ≤ length body) × (cut ≡ None)
+abbrev pub IsWholeItem : Item → Type 0
+IsWholeItem (plain_item typ body) = Unit {0}
+IsWholeItem (table_item body shared) = IsWholeTable shared
+IsWholeItem (sheet_item body kept cut) = (6 ≤ length body) × (cut ≡ None)
 
 -- the stream carries this list
-pub record Carries (bytes : List ℕ) (entries : List Entry) : Type 0 where
+pub record Carries (bytes : List ℕ) (entries : List ListEntry) : Type 0 where
   pub items : List Item
   pub holds : Holds bytes items None
-  pub whole : AllByRecursion IsWhole items
+  pub whole : AllByRecursion IsWholeItem items
   pub entries_are : entries ≡ map entry_of items
 
 -- ---- laws
@@ -139,5 +139,5 @@ OneHolding = (bytes : List ℕ) → IsBytes bytes → (is js : List Item) (c d :
 
 -- a stream carries at most one list
 abbrev pub OneList : Type 0
-OneList = (bytes : List ℕ) → IsBytes bytes → (l m : List Entry) → Carries bytes l → Carries bytes m
+OneList = (bytes : List ℕ) → IsBytes bytes → (l m : List ListEntry) → Carries bytes l → Carries bytes m
     → l ≡ m

@@ -4,12 +4,12 @@ use Rattle.std.specs.List.{flat_map, AllByRecursion}
 use Rattle.xls_bytes.specs.Numbers.{le, le16}
 
 -- a record: its type, the length of its body, and its body
-abbrev pub enc : ℕ → List ℕ → List ℕ
-enc typ body = le16 typ ++ le16 (length body) ++ body
+abbrev pub record_bytes : ℕ → List ℕ → List ℕ
+record_bytes typ body = le16 typ ++ le16 (length body) ++ body
 
 -- the bytes are a record and then the rest
 pub record IsRecord (bytes : List ℕ) (typ : ℕ) (body rest : List ℕ) : Type 0 where
-  pub whole : bytes ≡ enc typ body ++ rest
+  pub whole : bytes ≡ record_bytes typ body ++ rest
   pub typ_fits : typ < 2 ^ 16
   pub body_fits : length body < 2 ^ 16
 
@@ -21,10 +21,10 @@ pub record Group : Type 0 where
 
 -- Continue records with these bodies
 abbrev pub continues : List (List ℕ) → List ℕ
-continues bodies = flat_map (enc 60) bodies
+continues bodies = flat_map (record_bytes 60) bodies
 
 abbrev pub group_bytes : Group → List ℕ
-group_bytes g = enc g.typ g.body ++ continues g.tail
+group_bytes g = record_bytes g.typ g.body ++ continues g.tail
 
 -- a body has a 16-bit length
 abbrev pub IsBody : List ℕ → Type 0

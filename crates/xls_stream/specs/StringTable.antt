@@ -24,13 +24,13 @@ marked_piece body = None ∷ map Some body
 
 -- the bytes at the start, and the attached bodies with a mark before each
 abbrev pub marked : List ℕ → List (List ℕ) → List Mark
-marked front bodies = map Some front ++ flat_map marked_piece bodies
+marked prefix bodies = map Some prefix ++ flat_map marked_piece bodies
 
 -- the bytes before the next mark
-abbrev pub front_of : List Mark → List ℕ
-front_of [] = []
-front_of (None ∷ ms) = []
-front_of (Some b ∷ ms) = b ∷ front_of ms
+abbrev pub prefix_of : List Mark → List ℕ
+prefix_of [] = []
+prefix_of (None ∷ ms) = []
+prefix_of (Some b ∷ ms) = b ∷ prefix_of ms
 
 -- three for a mark and one for a byte: a Continue record has four bytes before its body, and each
 -- string of a table takes three at least
@@ -83,7 +83,7 @@ pub record Head : Type 0 where
   pub len : ℕ
   pub count : ℕ
   pub wide : Bool
-  pub behind : Option ℕ
+  pub following : Option ℕ
 
 -- fRichSt, the flag 08: a 16-bit cRun follows
 abbrev pub has_runs : ℕ → Bool
@@ -101,31 +101,31 @@ head_len flags = if has_extension flags then after_runs flags + 4 else after_run
 
 -- cRun
 abbrev pub runs_at : List ℕ → ℕ
-runs_at front = if has_runs (slice_index front 2) then le (take 2 (drop 3 front)) else 0
+runs_at prefix = if has_runs (slice_index prefix 2) then le (take 2 (drop 3 prefix)) else 0
 
 -- cbExtRst, as an unsigned number
 abbrev pub extension_at : List ℕ → ℕ
-extension_at front =
-    if has_extension (slice_index front 2)
-    then le (take 4 (drop (after_runs (slice_index front 2)) front)) else 0
+extension_at prefix =
+    if has_extension (slice_index prefix 2)
+    then le (take 4 (drop (after_runs (slice_index prefix 2)) prefix)) else 0
 
 -- four bytes for each run, then the extension
-abbrev pub behind_at : List ℕ → Option ℕ
-behind_at front =
-    if nat_lt (extension_at front) 2147483648 then Some (4 * runs_at front + extension_at front)
+abbrev pub after_at : List ℕ → Option ℕ
+after_at prefix =
+    if nat_lt (extension_at prefix) 2147483648 then Some (4 * runs_at prefix + extension_at prefix)
     else None
 
 -- the head of a string, by the bytes before the next mark
 abbrev pub head_at : List ℕ → Result Head Missing
-head_at front =
-    if nat_lt (length front) 3 then Err (short_head 3 (length front))
-    else if nat_lt (length front) (head_len (slice_index front 2))
-    then Err (short_head (head_len (slice_index front 2)) (length front))
+head_at prefix =
+    if nat_lt (length prefix) 3 then Err (short_head 3 (length prefix))
+    else if nat_lt (length prefix) (head_len (slice_index prefix 2))
+    then Err (short_head (head_len (slice_index prefix 2)) (length prefix))
     else Ok (record {
-      len = head_len (slice_index front 2);
-      count = le (take 2 front);
-      wide = is_wide (slice_index front 2);
-      behind = behind_at front;
+      len = head_len (slice_index prefix 2);
+      count = le (take 2 prefix);
+      wide = is_wide (slice_index prefix 2);
+      following = after_at prefix;
     })
 
 abbrev pub with_tail : List ℕ → Option (List Mark) → Result (List ℕ × List Mark) Missing
@@ -137,16 +137,16 @@ tail_of None ms = None
 tail_of (Some n) ms = tail_at n ms
 
 abbrev pub with_units : Option ℕ → Option (List ℕ × List Mark) → Result (List ℕ × List Mark) Missing
-with_units behind None = Err no_units
-with_units behind (Some x) = with_tail x.0 (tail_of behind x.1)
+with_units following None = Err no_units
+with_units following (Some x) = with_tail x.0 (tail_of following x.1)
 
 abbrev pub with_head : List Mark → Result Head Missing → Result (List ℕ × List Mark) Missing
 with_head ms (Err e) = Err e
-with_head ms (Ok h) = with_units h.behind (units_at h.count h.wide (drop h.len ms))
+with_head ms (Ok h) = with_units h.following (units_at h.count h.wide (drop h.len ms))
 
 -- the string at the start and what stands after it, or what isn't there
 abbrev pub str_at : List Mark → Result (List ℕ × List Mark) Missing
-str_at ms = with_head ms (head_at (front_of ms))
+str_at ms = with_head ms (head_at (prefix_of ms))
 
 -- the next string of a table: a piece without a byte is the empty string
 abbrev pub next_at : List Mark → Result (List ℕ × List Mark) Missing

@@ -78,47 +78,47 @@ outer_of (nested bof inner eof others) = outer_of others
 
 -- plain groups; then an EOF, or the end, or a BOF, items and one of an EOF, the end and unclosed
 -- substreams
-pub data Shape : Type 0 where
-  bare_closed : (front : List Group) (eof : Group) → Shape
-  bare_open : (front : List Group) → Shape
-  own_closed : (front : List Group) (bof : Group) (items : Items) (eof : Group) → Shape
-  own_open : (front : List Group) (bof : Group) (items : Items) (deeper : Open) → Shape
+pub data Outline : Type 0 where
+  bare_closed : (prefix : List Group) (eof : Group) → Outline
+  bare_open : (prefix : List Group) → Outline
+  own_closed : (prefix : List Group) (bof : Group) (items : Items) (eof : Group) → Outline
+  own_open : (prefix : List Group) (bof : Group) (items : Items) (deeper : Open) → Outline
 
-abbrev pub IsShape : Shape → Type 0
-IsShape (bare_closed front eof) = AllByRecursion IsPlain front × IsEof eof
-IsShape (bare_open front) = AllByRecursion IsPlain front
-IsShape (own_closed front bof items eof) =
-    AllByRecursion IsPlain front × IsBof bof × AreItems items × IsEof eof
-IsShape (own_open front bof items deeper) =
-    AllByRecursion IsPlain front × IsBof bof × AreItems items × IsOpen deeper
+abbrev pub IsOutline : Outline → Type 0
+IsOutline (bare_closed prefix eof) = AllByRecursion IsPlain prefix × IsEof eof
+IsOutline (bare_open prefix) = AllByRecursion IsPlain prefix
+IsOutline (own_closed prefix bof items eof) =
+    AllByRecursion IsPlain prefix × IsBof bof × AreItems items × IsEof eof
+IsOutline (own_open prefix bof items deeper) =
+    AllByRecursion IsPlain prefix × IsBof bof × AreItems items × IsOpen deeper
 
-abbrev pub groups_in : Shape → List Group
-groups_in (bare_closed front eof) = front ++ eof ∷ []
-groups_in (bare_open front) = front
-groups_in (own_closed front bof items eof) = front ++ bof ∷ (groups_of items ++ eof ∷ [])
-groups_in (own_open front bof items deeper) = front ++ bof ∷ (groups_of items ++ open_groups deeper)
+abbrev pub groups_of_outline : Outline → List Group
+groups_of_outline (bare_closed prefix eof) = prefix ++ eof ∷ []
+groups_of_outline (bare_open prefix) = prefix
+groups_of_outline (own_closed prefix bof items eof) = prefix ++ bof ∷ (groups_of items ++ eof ∷ [])
+groups_of_outline (own_open prefix bof items deeper) = prefix ++ bof ∷ (groups_of items ++ open_groups deeper)
 
-abbrev pub outer_in : Shape → List Group
-outer_in (bare_closed front eof) = front
-outer_in (bare_open front) = front
-outer_in (own_closed front bof items eof) = front ++ outer_of items
-outer_in (own_open front bof items deeper) = front ++ outer_of items
+abbrev pub outer_in : Outline → List Group
+outer_in (bare_closed prefix eof) = prefix
+outer_in (bare_open prefix) = prefix
+outer_in (own_closed prefix bof items eof) = prefix ++ outer_of items
+outer_in (own_open prefix bof items deeper) = prefix ++ outer_of items
 
 -- closed, a part isn't cut, and else it ends with the bytes or in a cut
-abbrev pub EndsSo : Shape → List ℕ → Option Part → Type 0
-EndsSo (bare_closed front eof) rest cut = cut ≡ None
-EndsSo (bare_open front) rest cut = AtEnd rest cut
-EndsSo (own_closed front bof items eof) rest cut = cut ≡ None
-EndsSo (own_open front bof items deeper) rest cut = AtEnd rest cut
+abbrev pub EndsSo : Outline → List ℕ → Option Part → Type 0
+EndsSo (bare_closed prefix eof) rest cut = cut ≡ None
+EndsSo (bare_open prefix) rest cut = AtEnd rest cut
+EndsSo (own_closed prefix bof items eof) rest cut = cut ≡ None
+EndsSo (own_open prefix bof items deeper) rest cut = AtEnd rest cut
 
 -- the bytes begin with a sheet part of these kept groups; whole, or broken by this cut
 pub record SheetPart (bytes : List ℕ) (kept : List Group) (cut : Option Part) : Type 0 where
-  pub shape : Shape
-  pub is_shape : IsShape shape
+  pub outline : Outline
+  pub is_outline : IsOutline outline
   pub rest : List ℕ
-  pub run : Run bytes (groups_in shape) rest
-  pub kept_is : kept ≡ kept_groups (outer_in shape)
-  pub ends : EndsSo shape rest cut
+  pub run : Run bytes (groups_of_outline outline) rest
+  pub kept_is : kept ≡ kept_groups (outer_in outline)
+  pub ends : EndsSo outline rest cut
 
 -- ---- the globals
 

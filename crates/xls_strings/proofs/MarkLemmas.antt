@@ -3,7 +3,7 @@ use Rattle.std.proofs.Common.{◌≡◌, ℕ, suc, ◌+◌, ◌-◌, ◌*◌, �
 use Rattle.std.proofs.lemmas.List.{append-nil, length-append}
 use Rattle.xls_stream.specs.StringTable.{Mark, weight, marked, marked_piece, with_unit, units_at}
 use Rattle.std.specs.List.{flat_map}
-use Rattle.xls_stream.proofs.StringUnits.{weight-bytes, UnitsSoFar, with_front, regroup, unit_at_narrow, unit_at_wide, unit_at_mark}
+use Rattle.xls_stream.proofs.StringUnits.{weight-bytes, UnitsSoFar, with_prefix, regroup, unit_at_narrow, unit_at_wide, unit_at_mark}
 use Rattle.xls_strings.specs.MarkSteps.{IsAtMark, IsPastMark, TakesByte, TakesHigh, TakesWidth}
 
 -- ---- a hand and pieces
@@ -27,14 +27,14 @@ units_more total old now new left u wide text after s some step items =
     record {
       units = s.units ++ u ∷ [];
       items = items ∙ ap (λ (x : List ℕ). x ++ u ∷ []) s.items ∙ append_assoc old s.units (u ∷ []);
-      same = sym (regroup s.units u (units_at (left - 1) wide after)) ∙ ap (with_front s.units) (sym here) ∙ s.same;
+      same = sym (regroup s.units u (units_at (left - 1) wide after)) ∙ ap (with_prefix s.units) (sym here) ∙ s.same;
     }
 
 pub width_more : (total : Option (List ℕ × List Mark)) (old now : List ℕ) (left : ℕ) (wide next : Bool) (text after : List Mark) → UnitsSoFar total old now left wide text → 0 < left → TakesWidth text (Some next) after → UnitsSoFar total old now left next after
 width_more total old now left wide next text after s some w =
     let k : left ≡ suc (left - 1) = omega arith in
     let here : units_at left wide text ≡ units_at left next after = rw (w.1, w.2, k) (unit_at_mark (left - 1) w.0 wide after) in
-    record { units = s.units; items = s.items; same = ap (with_front s.units) (sym here) ∙ s.same }
+    record { units = s.units; items = s.items; same = ap (with_prefix s.units) (sym here) ∙ s.same }
 
 pub unit_step : (n b h : ℕ) (wide : Bool) (text middle after : List Mark) → TakesByte text (Some b) middle → TakesHigh wide middle (Some h) after → units_at (suc n) wide text ≡ with_unit (b + 256 * h) (units_at n wide after)
 unit_step n b h true text middle after t u = rw (t, u) (unit_at_wide n b h after)
@@ -76,12 +76,12 @@ no_width n wide text after a w =
 pub units_fail : (total : Option (List ℕ × List Mark)) (old now : List ℕ) (left : ℕ) (wide : Bool) (text : List Mark) → UnitsSoFar total old now left wide text → 0 < left → units_at (suc (left - 1)) wide text ≡ None → total ≡ None
 units_fail total old now left wide text s some none =
     let k : left ≡ suc (left - 1) = omega arith in
-    sym s.same ∙ ap (with_front s.units) (ap (λ (n : ℕ). units_at n wide text) k ∙ none)
+    sym s.same ∙ ap (with_prefix s.units) (ap (λ (n : ℕ). units_at n wide text) k ∙ none)
 
 pub units_done : (total : Option (List ℕ × List Mark)) (old now : List ℕ) (left : ℕ) (wide : Bool) (text : List Mark) → UnitsSoFar total old now left wide text → left ≡ 0 → (units : List ℕ) × (now ≡ old ++ units) × (total ≡ Some (units, text))
 unfolding units_at
 units_done total old now left wide text s z =
-    (s.units, s.items, sym s.same ∙ ap (λ (n : ℕ). with_front s.units (units_at n wide text)) z ∙ ap (λ (us : List ℕ). Some (us, text)) (append-nil s.units))
+    (s.units, s.items, sym s.same ∙ ap (λ (n : ℕ). with_prefix s.units (units_at n wide text)) z ∙ ap (λ (us : List ℕ). Some (us, text)) (append-nil s.units))
 
 pub ends_here : (ms : List Mark) → IsAtMark ms → IsPastMark ms → ms ≡ []
 ends_here [] a p = refl

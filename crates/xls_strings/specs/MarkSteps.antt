@@ -54,6 +54,6 @@ SkipsUnits count wide before (Ok u) after = (units : List ℕ) × (units_at coun
 SkipsUnits count wide before (Err e) after = (e ≡ errors.EoStream Dbcs) × (units_at count wide before ≡ None)
 
 -- likewise where a negative length has no bytes after it
-abbrev pub SkipsBehind : Option ℕ → List Mark → Result (Unit {0}) XlsError → List Mark → Type 0
-SkipsBehind behind before (Ok u) after = tail_of behind before ≡ Some after
-SkipsBehind behind before (Err e) after = (e ≡ errors.ContinueRecordTooShort) × (tail_of behind before ≡ None)
+abbrev pub SkipsAfter : Option ℕ → List Mark → Result (Unit {0}) XlsError → List Mark → Type 0
+SkipsAfter following before (Ok u) after = tail_of following before ≡ Some after
+SkipsAfter following before (Err e) after = (e ≡ errors.ContinueRecordTooShort) × (tail_of following before ≡ None)

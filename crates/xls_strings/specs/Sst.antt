@@ -2,7 +2,7 @@
 use Rattle.std.specs.Prelude.{◌≡◌, ◌≢◌, ℕ, List, [], ◌++◌, length, map, drop, Option, Some, None, Result, Ok, Err}
 use Rattle.std.specs.Char.Utf16.{utf16_lossy_chars}
 use Rattle.std.specs.Global.{Vec}
-use Rattle.xls_stream.specs.StringTable.{Mark, marked, Missing, short_head, no_units, no_tail, Head as Shape, next_at, Table, TableFault}
+use Rattle.xls_stream.specs.StringTable.{Mark, marked, Missing, short_head, no_units, no_tail, Head as Outline, next_at, Table, TableFault}
 use Rattle.xls_stream.specs.declared.part.Part.TheVariants.{RichString, Dbcs, Sst}
 use Rattle.xls_record.specs.declared.error.XlsError.{XlsError}
 use Rattle.xls_record.specs.declared.error.XlsError.TheVariants as errors
@@ -21,11 +21,11 @@ abbrev pub as_error : {X : Type 0} → Result X Missing → Result X XlsError
 as_error (Ok x) = Ok x
 as_error (Err m) = Err (error_of m)
 
-abbrev pub shape_of : Head → Shape
-shape_of h = record { len = h.len; count = h.count; wide = h.is_wide; behind = h.tail }
+abbrev pub outline_of : Head → Outline
+outline_of h = record { len = h.len; count = h.count; wide = h.is_wide; following = h.tail }
 
-abbrev pub GivesHead : Result Head XlsError → Result Shape Missing → Type 0
-GivesHead (Ok h) read = read ≡ Ok (shape_of h)
+abbrev pub GivesHead : Result Head XlsError → Result Outline Missing → Type 0
+GivesHead (Ok h) read = read ≡ Ok (outline_of h)
 GivesHead (Err e) read = as_error read ≡ Err e
 
 -- units were added, and what is left is what stands after them

@@ -15,12 +15,12 @@ use Rattle.xls_record.specs.Version.{is_biff8}
 -- ---- what stands before a text
 
 -- the count, the flag of the width if there is one, and the bytes of the text
-abbrev pub Front : Type 0
-Front = ℕ × Option Bool × List ℕ
+abbrev pub StringHead : Type 0
+StringHead = ℕ × Option Bool × List ℕ
 
 -- a count byte, in BIFF8 a flags byte
-abbrev pub short_front : Biff → List ℕ → Result Front XlsError
-short_front biff bytes =
+abbrev pub short_prefix : Biff → List ℕ → Result StringHead XlsError
+short_prefix biff bytes =
     if is_biff8 biff
     then (do
       at_least 2 parts.ShortString bytes
@@ -34,8 +34,8 @@ abbrev pub is_bare_zero : List ℕ → Bool
 is_bare_zero bytes = length bytes == 2 && le (take 2 bytes) == 0
 
 -- a count of two bytes, in BIFF8 a flags byte
-abbrev pub string_front : Biff → List ℕ → Result Front XlsError
-string_front biff bytes =
+abbrev pub string_prefix : Biff → List ℕ → Result StringHead XlsError
+string_prefix biff bytes =
     if is_biff8 biff
     then (if is_bare_zero bytes then Ok (0, Some false, [])
     else (do
@@ -48,11 +48,11 @@ string_front biff bytes =
 -- ---- texts, as lists of characters
 
 -- the text after its count
-abbrev pub front_text : XlsEncoding → Front → List ℕ
-front_text page front = string_text page front.1 front.2 front.0
+abbrev pub prefix_text : XlsEncoding → StringHead → List ℕ
+prefix_text page prefix = string_text page prefix.1 prefix.2 prefix.0
 
 abbrev pub short_string_at : XlsEncoding → Biff → List ℕ → Result (List ℕ) XlsError
-short_string_at page biff bytes = gives (front_text page) (short_front biff bytes)
+short_string_at page biff bytes = gives (prefix_text page) (short_prefix biff bytes)
 
 abbrev pub string_at : XlsEncoding → Biff → List ℕ → Result (List ℕ) XlsError
-string_at page biff bytes = gives (front_text page) (string_front biff bytes)
+string_at page biff bytes = gives (prefix_text page) (string_prefix biff bytes)

@@ -24,7 +24,7 @@ impl<'a> Model for Marked<'a> {
 }
 
 impl<'a> Marked<'a> {
-    ghost use Rattle.xls_stream.specs.StringTable.{marked, front_of};
+    ghost use Rattle.xls_stream.specs.StringTable.{marked, prefix_of};
 
     /// The bytes of a body, and the bodies attached to it.
     pub(crate) fn new(body: &'a [u8], pieces: Pieces<'a>) -> Marked<'a>
@@ -54,14 +54,14 @@ impl<'a> Marked<'a> {
 
     /// The bytes before the next mark.
     pub(crate) fn at_hand(&self) -> &'a [u8]
-        ensures { result.now ≡ front_of self.now }
+        ensures { result.now ≡ prefix_of self.now }
     {
         self.hand
     }
 
     /// Goes past so many bytes before the next mark.
     pub(crate) fn skip(&mut self, count: usize)
-        requires { count ≤ length (front_of self.old) }
+        requires { count ≤ length (prefix_of self.old) }
         ensures { self.new ≡ drop count self.old }
     {
         let (_, rest) = self.hand.split_at(count);

@@ -3,7 +3,7 @@
 ghost use Rattle.std.specs.Prelude.{◌≡◌, ◌<◌, ◌^◌, IfOk};
 ghost use Rattle.xls_stream.specs.StringTable.{head_at, next_at, str_at, weight};
 ghost use Rattle.xls_record.specs.Reading.{Exactly};
-ghost use Rattle.xls_strings.specs.MarkSteps.{SkipsBehind};
+ghost use Rattle.xls_strings.specs.MarkSteps.{SkipsAfter};
 ghost use Rattle.xls_strings.specs.Sst.{AddsAt, CountsTable, GivesHead, InTable, ReadsTable, SkipsAt, sst_marks};
 
 use crate::lists::Strings;
@@ -26,11 +26,11 @@ struct Head {
 }
 
 /// The head of a string, XLUnicodeRichExtendedString ([MS-XLS] 2.5.293), by the bytes of its piece.
-fn read_head(front: &[u8]) -> Result<Head, XlsError>
-    ensures { GivesHead result (head_at front.now) }
+fn read_head(prefix: &[u8]) -> Result<Head, XlsError>
+    ensures { GivesHead result (head_at prefix.now) }
 {
-    need(front, 3, Part::RichString)?;
-    let flags = front[2];
+    need(prefix, 3, Part::RichString)?;
+    let flags = prefix[2];
     let has_runs = flags / 8 % 2 == 1;
     let has_extension = flags / 4 % 2 == 1;
     let after_runs = if has_runs { 5 } else { 3 };
@@ -39,10 +39,10 @@ fn read_head(front: &[u8]) -> Result<Head, XlsError>
     } else {
         after_runs
     };
-    need(front, len, Part::RichString)?;
-    let runs = if has_runs { read_u16(&front[3..]) } else { 0 };
+    need(prefix, len, Part::RichString)?;
+    let runs = if has_runs { read_u16(&prefix[3..]) } else { 0 };
     let extension = if has_extension {
-        read_u32(&front[after_runs..])
+        read_u32(&prefix[after_runs..])
     } else {
         0
     };
@@ -53,15 +53,15 @@ fn read_head(front: &[u8]) -> Result<Head, XlsError>
     };
     Ok(Head {
         len,
-        count: read_u16(front),
+        count: read_u16(prefix),
         is_wide: flags % 2 == 1,
         tail,
     })
 }
 
 /// Goes past the bytes after the units.
-fn skip_behind(text: &mut Marked<'_>, tail: Option<u64>) -> Result<(), XlsError>
-    ensures { SkipsBehind tail text.old result text.new }
+fn skip_after(text: &mut Marked<'_>, tail: Option<u64>) -> Result<(), XlsError>
+    ensures { SkipsAfter tail text.old result text.new }
 {
     match tail {
         Some(count) => skip_tail(text, count),
@@ -76,7 +76,7 @@ fn read_string(text: &mut Marked<'_>, units: &mut Vec<u16>) -> Result<(), XlsErr
     let head = read_head(text.at_hand())?;
     text.skip(head.len);
     read_units(text, units, head.count, head.is_wide)?;
-    skip_behind(text, head.tail)
+    skip_after(text, head.tail)
 }
 
 /// Adds the units of the next string; a piece without a byte is the empty string.
@@ -96,7 +96,7 @@ fn skip_string(text: &mut Marked<'_>) -> Result<(), XlsError>
     let head = read_head(text.at_hand())?;
     text.skip(head.len);
     skip_units(text, head.count, head.is_wide)?;
-    skip_behind(text, head.tail)
+    skip_after(text, head.tail)
 }
 
 /// Goes past the next string.

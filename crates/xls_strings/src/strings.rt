@@ -3,7 +3,7 @@
 ghost use Rattle.std.specs.Prelude.{◌≡◌, IfOk};
 ghost use Rattle.xls_text.specs.Pages.{string_text};
 ghost use Rattle.xls_record.specs.Reading.{Exactly, Gives};
-ghost use Rattle.xls_strings.specs.Strings.{short_front, short_string_at, string_at, string_front};
+ghost use Rattle.xls_strings.specs.Strings.{short_prefix, short_string_at, string_at, string_prefix};
 ghost use Rattle.xls_strings.specs.Texts.{text_of};
 
 use std::alloc::{AllocError, Global};
@@ -15,30 +15,30 @@ use xls_text::XlsEncoding;
 /// The count of a short string, ShortXLUnicodeString, the flag of its width if it has one, and the
 /// bytes after them. `Len` where count or flags aren't there. Takes no memory.
 pub fn split_short(r: &[u8], biff: Biff) -> Result<(usize, Option<bool>, &[u8]), XlsError>
-    ensures { Exactly (λ x. (x.0, x.1, x.2.now)) result (short_front biff r.now) }
+    ensures { Exactly (λ x. (x.0, x.1, x.2.now)) result (short_prefix biff r.now) }
 {
     if is_biff8(biff) {
         need(r, 2, Part::ShortString)?;
-        let (front, text) = r.split_at(2);
-        return Ok((usize::from(front[0]), Some(front[1] % 2 == 1), text));
+        let (prefix, text) = r.split_at(2);
+        return Ok((usize::from(prefix[0]), Some(prefix[1] % 2 == 1), text));
     }
     need(r, 1, Part::ShortString)?;
-    let (front, text) = r.split_at(1);
-    Ok((usize::from(front[0]), None, text))
+    let (prefix, text) = r.split_at(1);
+    Ok((usize::from(prefix[0]), None, text))
 }
 
 /// The count of a string, XLUnicodeString, the flag of its width if it has one, and the bytes after
 /// them. `Len` where count or flags aren't there. Takes no memory.
 pub fn split_string(r: &[u8], biff: Biff) -> Result<(usize, Option<bool>, &[u8]), XlsError>
-    ensures { Exactly (λ x. (x.0, x.1, x.2.now)) result (string_front biff r.now) }
+    ensures { Exactly (λ x. (x.0, x.1, x.2.now)) result (string_prefix biff r.now) }
 {
     if is_biff8(biff) {
         if r.len() == 2 && read_u16(r) == 0 {
             return Ok((0, Some(false), &[]));
         }
         need(r, 3, Part::Text)?;
-        let (front, text) = r.split_at(3);
-        return Ok((usize::from(read_u16(r)), Some(front[2] % 2 == 1), text));
+        let (prefix, text) = r.split_at(3);
+        return Ok((usize::from(read_u16(r)), Some(prefix[2] % 2 == 1), text));
     }
     need(r, 2, Part::Text)?;
     let (_, text) = r.split_at(2);

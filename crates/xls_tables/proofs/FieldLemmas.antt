@@ -5,10 +5,10 @@ use Rattle.std.specs.List.{flat_map}
 use Rattle.std.specs.Result.{IsErrAnd}
 use Rattle.std.proofs.lemmas.Grind.{flat_map-append}
 use Rattle.xls_data.specs.Content.{Content}
-use Rattle.xls_biff.specs.Cells.{Entry}
-use Rattle.xls_csv.specs.Walk.{take_at, row_along, left_along}
+use Rattle.xls_biff.specs.Cells.{CellEntry}
+use Rattle.xls_csv.specs.Walk.{take_at, row_over, left_over}
 use Rattle.xls_readable.specs.Csv.{csv_field, joined, separated}
-use Rattle.xls_lines.specs.Gathering.{Gathers, Stops}
+use Rattle.xls_lines.specs.Gathering.{GathersText, Stops}
 use Rattle.xls_lines.specs.SinkState.{SinkState}
 use Rattle.xls_lines.specs.declared.stop.Stop.{Stop}
 use Rattle.xls_lines.proofs.GatherLemmas.{gathers-added, gathers-as, gathers-nothing, gathers-then, stops-as, stops-then}
@@ -50,24 +50,24 @@ both_none xs ys a b e f = rw (e, f, length-append xs ys) (sums (length xs) (leng
 -- ---- up to a place
 
 -- with these cells left at a place, the fields before it are gathered
-pub record FieldsSoFar (d row left width : ℕ) (all : List Entry) (a : SinkState) (g : List ℕ) (place : ℕ) (is_bare : Bool)
-    (cells : List Entry) (b : SinkState) (h : List ℕ) : Type 0 where
-  pub front : List Content
+pub record FieldsSoFar (d row left width : ℕ) (all : List CellEntry) (a : SinkState) (g : List ℕ) (place : ℕ) (is_bare : Bool)
+    (cells : List CellEntry) (b : SinkState) (h : List ℕ) : Type 0 where
+  pub prefix : List Content
   pub texts : List (List ℕ)
-  pub are : AreContentTexts front texts
+  pub are : AreContentTexts prefix texts
   pub count : length texts ≡ place
-  pub whole : front ++ row_along row (left + place) (width - place) cells ≡ row_along row left width all
-  pub rest : left_along row (left + place) (width - place) cells ≡ left_along row left width all
+  pub whole : prefix ++ row_over row (left + place) (width - place) cells ≡ row_over row left width all
+  pub rest : left_over row (left + place) (width - place) cells ≡ left_over row left width all
   pub bare : is_bare ≡ (length (joined d texts) == 0)
-  pub gathers : Gathers a g b h (joined d texts)
+  pub gathers : GathersText a g b h (joined d texts)
 
-pub fields_first : (d row left width : ℕ) (all : List Entry) (a : SinkState) (g : List ℕ)
+pub fields_first : (d row left width : ℕ) (all : List CellEntry) (a : SinkState) (g : List ℕ)
     → FieldsSoFar d row left width all a g 0 true all a g
 fields_first d row left width all a g =
     let here : left + 0 ≡ left = omega arith in
     let all_of : width - 0 ≡ width = omega arith in
     record {
-      front = [];
+      prefix = [];
       texts = [];
       are = tt;
       count = refl;
@@ -77,11 +77,11 @@ fields_first d row left width all a g =
       gathers = gathers-nothing a g;
     }
 
-pub fields_more : {d row left width place : ℕ} {all cells cells' : List Entry} {a b c : SinkState} {g h k text : List ℕ}
+pub fields_more : {d row left width place : ℕ} {all cells cells' : List CellEntry} {a b c : SinkState} {g h k text : List ℕ}
     {is_bare none now : Bool} → place < width
     → FieldsSoFar d row left width all a g place is_bare cells b h
     → IsPlaced d (place == 0) (take_at row (left + place) cells).0 text → none ≡ (length text == 0)
-    → Gathers b h c k text → cells' ≡ (take_at row (left + place) cells).1 → now ≡ (is_bare && none)
+    → GathersText b h c k text → cells' ≡ (take_at row (left + place) cells).1 → now ≡ (is_bare && none)
     → FieldsSoFar d row left width all a g (place + 1) now cells' c k
 fields_more {d} {row} {left} {width} {place} {all} {cells} {cells'} {a} {b} {c} {g} {h} {k} {text} {is_bare} {none} l
     so (field, (bytes, is, e), placed) none_is gathers left_is now_is =
@@ -94,47 +94,47 @@ fields_more {d} {row} {left} {width} {place} {all} {cells} {cells'} {a} {b} {c} 
     let fields : joined d so.texts ++ text ≡ joined d (so.texts ++ bytes ∷ []) =
     ap (λ (t : List ℕ). joined d so.texts ++ t) sep ∙ joined_more d so.texts bytes in
     record {
-      front = so.front ++ taken.0 ∷ [];
+      prefix = so.prefix ++ taken.0 ∷ [];
       texts = so.texts ++ bytes ∷ [];
-      are = texts_more so.front so.texts taken.0 bytes so.are is;
+      are = texts_more so.prefix so.texts taken.0 bytes so.are is;
       count = length-append so.texts (bytes ∷ []) ∙ ap (λ n. n + 1) so.count;
       whole = rw (next, left_is)
-          (append_assoc so.front (taken.0 ∷ []) (row_along row (left + place + 1) (width - (place + 1)) taken.1)
+          (append_assoc so.prefix (taken.0 ∷ []) (row_over row (left + place + 1) (width - (place + 1)) taken.1)
           ∙ (rw more at so.whole));
       rest = rw (next, left_is) (rw more at so.rest);
       bare = now_is ∙ both_none (joined d so.texts) text is_bare none so.bare none_is ∙ ap (λ (t : List ℕ). length t == 0) fields;
       gathers = gathers-as (gathers-then so.gathers gathers) fields;
     }
 
-row_none : (row left width place : ℕ) (cells : List Entry) → width ≤ place
-    → (row_along row (left + place) (width - place) cells ≡ []) × (left_along row (left + place) (width - place) cells ≡ cells)
+row_none : (row left width place : ℕ) (cells : List CellEntry) → width ≤ place
+    → (row_over row (left + place) (width - place) cells ≡ []) × (left_over row (left + place) (width - place) cells ≡ cells)
 row_none row left width place cells l =
     let none : width - place ≡ 0 = omega arith in
     rw none (refl, refl)
 
 -- all fields are gathered
-pub fields_end : {d row left width place : ℕ} {all cells : List Entry} {a b : SinkState} {g h : List ℕ} {is_bare : Bool}
+pub fields_end : {d row left width place : ℕ} {all cells : List CellEntry} {a b : SinkState} {g h : List ℕ} {is_bare : Bool}
     → width ≤ place → FieldsSoFar d row left width all a g place is_bare cells b h
-    → PutsFields d (row_along row left width all) a g b h (Ok is_bare)
+    → PutsFields d (row_over row left width all) a g b h (Ok is_bare)
 fields_end {d} {row} {left} {width} {place} {all} {cells} l so =
     let none = (row_none row left width place cells l).0 in
-    let is : so.front ≡ row_along row left width all =
-    sym (append-nil so.front) ∙ ap (λ (r : List Content). so.front ++ r) (sym none) ∙ so.whole in
+    let is : so.prefix ≡ row_over row left width all =
+    sym (append-nil so.prefix) ∙ ap (λ (r : List Content). so.prefix ++ r) (sym none) ∙ so.whole in
     (joined d so.texts, ((so.texts, subst (λ (r : List Content). AreContentTexts r so.texts) is so.are, refl), so.bare), so.gathers)
 
-pub cells_end : {d row left width place : ℕ} {all cells : List Entry} {a b : SinkState} {g h : List ℕ} {is_bare : Bool}
+pub cells_end : {d row left width place : ℕ} {all cells : List CellEntry} {a b : SinkState} {g h : List ℕ} {is_bare : Bool}
     → width ≤ place → FieldsSoFar d row left width all a g place is_bare cells b h
-    → cells ≡ left_along row left width all
+    → cells ≡ left_over row left width all
 cells_end {d} {row} {left} {width} {place} {all} {cells} l so =
     sym (row_none row left width place cells l).1 ∙ so.rest
 
 -- it was given up before a field
-pub fields_stop : {d row left width place : ℕ} {all cells : List Entry} {a b c : SinkState} {g h text : List ℕ} {is_bare : Bool} {e : Stop}
+pub fields_stop : {d row left width place : ℕ} {all cells : List CellEntry} {a b c : SinkState} {g h text : List ℕ} {is_bare : Bool} {e : Stop}
     → FieldsSoFar d row left width all a g place is_bare cells b h → text ≡ [] → Stops b h c text e
-    → (front : List ℕ) × BeginsRow d (row_along row left width all) front × Stops a g c front e
+    → (prefix : List ℕ) × BeginsRow d (row_over row left width all) prefix × Stops a g c prefix e
 fields_stop {d} {row} {left} {width} {place} {all} {cells} so none stops = (
   joined d so.texts,
-  (so.front, row_along row (left + place) (width - place) cells, sym so.whole, (so.texts, so.are, refl)),
+  (so.prefix, row_over row (left + place) (width - place) cells, sym so.whole, (so.texts, so.are, refl)),
   stops-as (stops-then so.gathers stops) (ap (λ (t : List ℕ). joined d so.texts ++ t) none ∙ append-nil (joined d so.texts)),
 )
 
@@ -150,12 +150,12 @@ puts_stop IsWhole Begins a g b h {e} (Err d) is (text, begins, stops) = (text, b
 -- ---- one field
 
 -- what was gathered was passed on, and then the field was appended
-pub field_put : (d : ℕ) (is_first : Bool) {is_bare : Bool} {taken : Content × List Entry} {content : Content} {rest : List Entry}
-    {a b : SinkState} {g h k : List ℕ} → taken ≡ (content, rest) → Gathers a g b h []
+pub field_put : (d : ℕ) (is_first : Bool) {is_bare : Bool} {taken : Content × List CellEntry} {content : Content} {rest : List CellEntry}
+    {a b : SinkState} {g h k : List ℕ} → taken ≡ (content, rest) → GathersText a g b h []
     → AddsPlaced d is_first content is_bare h k
-    → (text : List ℕ) × (IsPlaced d is_first taken.0 text × (is_bare ≡ (length text == 0))) × Gathers a g b k text
+    → (text : List ℕ) × (IsPlaced d is_first taken.0 text × (is_bare ≡ (length text == 0))) × GathersText a g b k text
 field_put d is_first {is_bare} {taken} {content} {rest} {a} {b} {g} {h} {k} e passed (text, placed, bare, appended) = (
   text,
-  (subst (λ (t : Content × List Entry). IsPlaced d is_first t.0 text) (sym e) placed, bare),
+  (subst (λ (t : Content × List CellEntry). IsPlaced d is_first t.0 text) (sym e) placed, bare),
   gathers-then passed (gathers-added b h k text appended),
 )

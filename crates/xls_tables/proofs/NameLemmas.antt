@@ -10,7 +10,7 @@ use Rattle.std.proofs.lemmas.Fmt.{decimal_by_steps, length-decimal-le}
 use Rattle.std.proofs.lemmas.List.{get_or_default}
 use Rattle.std.proofs.lemmas.List.Elements.{All-append, All-nil}
 use Rattle.std.proofs.lemmas.Str.{chars_past_char, inside_one, length-encode}
-use Rattle.xls_tables.specs.FileNames.{IsSafeByte, IsSafeName, file_name, fitting, is_refused, kept_char, two_digits}
+use Rattle.xls_tables.specs.FileNames.{IsSafeByte, IsSafeName, file_name, fitting, is_refused, kept_char, at_least_two_digits}
 
 -- ---- the characters that fit
 
@@ -88,7 +88,7 @@ decimal_safe : (n : ℕ) → n < 2 ^ 64 → IsSafeName (decimal n)
 decimal_safe n small = decimal_by_steps (λ n ds. IsSafeName ds) (λ n l. all_one (48 + n) (digit_safe n))
     (λ n ds l safe. All-append IsSafeByte ds ((48 + n % 10) ∷ []) safe (all_one (48 + n % 10) (digit_safe (n % 10)))) n small
 
-number_safe : (n : ℕ) → n < 2 ^ 64 → IsSafeName (two_digits n)
+number_safe : (n : ℕ) → n < 2 ^ 64 → IsSafeName (at_least_two_digits n)
 number_safe n small = by_test (nat_lt n 10)
   where
     by_test : (t : Bool) → IsSafeName (if t then 0x30 ∷ decimal n else decimal n)
@@ -98,7 +98,7 @@ number_safe n small = by_test (nat_lt n 10)
 pub name_safe : (n : ℕ) (sheet : List ℕ) → n < 2 ^ 64 → IsSafeName (file_name n sheet)
 name_safe n sheet small =
     let rest = encode_utf8_all (fitting 190 (map kept_char sheet)) in
-    All-append IsSafeByte (two_digits n) (0x2D ∷ rest) (number_safe n small)
+    All-append IsSafeByte (at_least_two_digits n) (0x2D ∷ rest) (number_safe n small)
     (All-append IsSafeByte (0x2D ∷ []) rest (all_one 0x2D refl) (fitting_safe 190 sheet))
 
 -- ---- the length of a name
@@ -116,7 +116,7 @@ fitting_short room (c ∷ cs) = elim (cases_lt room (len_utf8 c)) [
       rw t (omega (arith, size, length-encode c, fitting_short (room - len_utf8 c) cs))
 ]
 
-number_short : (n : ℕ) → n < 2 ^ 64 → length (two_digits n) ≤ 20
+number_short : (n : ℕ) → n < 2 ^ 64 → length (at_least_two_digits n) ≤ 20
 number_short n small = elim (cases_lt n 10) [
   | inl few ↦
       let t : nat_lt n 10 ≡ true = grind arith in
@@ -129,7 +129,7 @@ number_short n small = elim (cases_lt n 10) [
 pub name_short : (n : ℕ) (sheet : List ℕ) → n < 2 ^ 64 → length (file_name n sheet) ≤ 211
 name_short n sheet small =
     let rest = encode_utf8_all (fitting 190 (map kept_char sheet)) in
-    omega (arith, length-append (two_digits n) (0x2D ∷ rest), number_short n small, fitting_short 190 (map kept_char sheet))
+    omega (arith, length-append (at_least_two_digits n) (0x2D ∷ rest), number_short n small, fitting_short 190 (map kept_char sheet))
 
 -- nothing is left to append
 pub ended : (text rest whole : List ℕ) → rest ≡ [] → text ++ rest ≡ whole → text ≡ whole

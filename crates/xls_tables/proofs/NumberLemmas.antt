@@ -5,7 +5,7 @@ use Rattle.std.specs.Fmt.{decimal}
 use Rattle.std.specs.List.{AllByRecursion}
 use Rattle.std.proofs.lemmas.Bool.{cases_lt}
 use Rattle.std.proofs.lemmas.Fmt.{decimal_by_steps, decimal_injective, first_decimal}
-use Rattle.xls_tables.specs.FileNames.{NamesDiffer, fitting, kept_char, two_digits}
+use Rattle.xls_tables.specs.FileNames.{FileNamesDiffer, fitting, kept_char, at_least_two_digits}
 
 -- ---- what stands before the first dash
 
@@ -23,7 +23,7 @@ unfolding AreDigits
 decimal_digits n small = decimal_by_steps (λ n ds. AreDigits ds) (λ n l. (omega arith, tt))
     (λ n ds l p. digits_then ds ((48 + n % 10) ∷ []) p (omega arith, tt)) n small
 
-number_digits : (n : ℕ) → n < 2 ^ 64 → AreDigits (two_digits n)
+number_digits : (n : ℕ) → n < 2 ^ 64 → AreDigits (at_least_two_digits n)
 unfolding AreDigits
 number_digits n small = by_test (nat_lt n 10)
   where
@@ -49,24 +49,24 @@ before_dash (x ∷ xs) (y ∷ ys) us vs p q e =
 
 -- ---- the number of two digits
 
-short : (n : ℕ) → n < 10 → two_digits n ≡ 0x30 ∷ decimal n
+short : (n : ℕ) → n < 10 → at_least_two_digits n ≡ 0x30 ∷ decimal n
 short n l =
     let t : nat_lt n 10 ≡ true = grind arith in
     rw t refl
 
-long : (n : ℕ) → 10 ≤ n → two_digits n ≡ decimal n
+long : (n : ℕ) → 10 ≤ n → at_least_two_digits n ≡ decimal n
 long n l =
     let t : nat_lt n 10 ≡ false = grind arith in
     rw t refl
 
 -- a longer number does not begin with a zero
-unlike : (m n : ℕ) → m < 10 → 10 ≤ n → n < 2 ^ 64 → two_digits m ≡ two_digits n → ⊥
+unlike : (m n : ℕ) → m < 10 → 10 ≤ n → n < 2 ^ 64 → at_least_two_digits m ≡ at_least_two_digits n → ⊥
 unlike m n few many small e =
     let both : 0x30 ∷ decimal m ≡ decimal n = sym (short m few) ∙ e ∙ long n many in
     let zero_first : 0x30 ≡ get_or (decimal n) 0 0 = ap (λ (l : List ℕ). get_or l 0 0) both in
     omega (arith, zero_first, first_decimal n (omega (arith, many)) small)
 
-same_number : (m n : ℕ) → m < 2 ^ 64 → n < 2 ^ 64 → two_digits m ≡ two_digits n → m ≡ n
+same_number : (m n : ℕ) → m < 2 ^ 64 → n < 2 ^ 64 → at_least_two_digits m ≡ at_least_two_digits n → m ≡ n
 same_number m n p q e = elim (cases_lt m 10) [
   | inl few ↦ elim (cases_lt n 10) [
     | inl few_too ↦ decimal_injective m n p q (same_tail 0x30 0x30 (decimal m) (decimal n) (sym (short m few) ∙ e ∙ short n few_too))
@@ -78,8 +78,8 @@ same_number m n p q e = elim (cases_lt m 10) [
   ]
 ]
 
-pub names_differ : NamesDiffer
+pub names_differ : FileNamesDiffer
 names_differ m n one other p q e =
     let first = encode_utf8_all (fitting 190 (map kept_char one)) in
     let second = encode_utf8_all (fitting 190 (map kept_char other)) in
-    same_number m n p q (before_dash (two_digits m) (two_digits n) first second (number_digits m p) (number_digits n q) e)
+    same_number m n p q (before_dash (at_least_two_digits m) (at_least_two_digits n) first second (number_digits m p) (number_digits n q) e)

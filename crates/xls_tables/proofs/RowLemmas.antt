@@ -3,12 +3,12 @@ use Rattle.std.proofs.Common.{◌≡◌, inl, inr, ℕ, suc, ◌+◌, ◌-◌, �
 use Rattle.std.specs.Prelude.{◌==◌}
 use Rattle.std.specs.Result.{IsErrAnd}
 use Rattle.xls_data.specs.Content.{Content}
-use Rattle.xls_biff.specs.Cells.{Entry}
-use Rattle.xls_csv.specs.Walk.{left_along, row_along, rows_along, walk}
+use Rattle.xls_biff.specs.Cells.{CellEntry}
+use Rattle.xls_csv.specs.Walk.{left_over, row_over, rows_over, walk_rows}
 use Rattle.xls_csv.proofs.WalkLemmas.{rows_from}
 use Rattle.xls_readable.specs.Csv.{row_end}
 use Rattle.xls_readable.specs.Values.{Concatenates}
-use Rattle.xls_lines.specs.Gathering.{Gathers, Stops}
+use Rattle.xls_lines.specs.Gathering.{GathersText, Stops}
 use Rattle.xls_lines.specs.SinkState.{SinkState}
 use Rattle.xls_lines.specs.declared.stop.Stop.{Stop}
 use Rattle.xls_lines.specs.declared.stop.Stop.TheVariants.{Memory}
@@ -27,7 +27,7 @@ row_ended d row {text} {is_bare} (texts, are, is) bare =
 
 -- out of memory after all fields
 pub row_stop : (d : ℕ) (row : List Content) {a b : SinkState} {g h text : List ℕ} → IsContentFields d row text
-    → Gathers a g b h text → (front : List ℕ) × BeginsRow d row front × Stops a g b front Memory
+    → GathersText a g b h text → (prefix : List ℕ) × BeginsRow d row prefix × Stops a g b prefix Memory
 row_stop d row {a} {b} {g} {h} {text} fields gathers =
     (text, (row, [], sym (append-nil row), fields), stops-as (stops-memory [] gathers) (append-nil text))
 
@@ -42,9 +42,9 @@ pub begins_all : (d : ℕ) (rows : List (List Content)) (text : List ℕ) → Co
 begins_all d [] text is = is
 begins_all d (row ∷ rows) text (first, others, is, rest, e) = inr (first, others, is, begins_all d rows others rest, e)
 
-begins_after : (d : ℕ) (front rows : List (List Content)) (row : List Content) (body text : List ℕ)
-    → Concatenates (IsContentRow d) front body → BeginsRow d row text
-    → BeginsRows d (front ++ row ∷ rows) (body ++ text)
+begins_after : (d : ℕ) (prefix rows : List (List Content)) (row : List Content) (body text : List ℕ)
+    → Concatenates (IsContentRow d) prefix body → BeginsRow d row text
+    → BeginsRows d (prefix ++ row ∷ rows) (body ++ text)
 begins_after d [] rows row body text none begins = rw none (inl begins)
 begins_after d (x ∷ xs) rows row body text (first, others, is, rest, e) begins = inr (
   first,
@@ -54,9 +54,9 @@ begins_after d (x ∷ xs) rows row body text (first, others, is, rest, e) begins
   ap (λ (t : List ℕ). t ++ text) e ∙ append_assoc first others text,
 )
 
-rows_more_text : (d : ℕ) (front : List (List Content)) (row : List Content) (body text : List ℕ)
-    → Concatenates (IsContentRow d) front body → IsContentRow d row text
-    → Concatenates (IsContentRow d) (front ++ row ∷ []) (body ++ text)
+rows_more_text : (d : ℕ) (prefix : List (List Content)) (row : List Content) (body text : List ℕ)
+    → Concatenates (IsContentRow d) prefix body → IsContentRow d row text
+    → Concatenates (IsContentRow d) (prefix ++ row ∷ []) (body ++ text)
 rows_more_text d [] row body text none is = (text, [], is, refl, ap (λ (t : List ℕ). t ++ text) none ∙ sym (append-nil text))
 rows_more_text d (x ∷ xs) row body text (first, others, here, rest, e) is = (
   first,
@@ -69,61 +69,61 @@ rows_more_text d (x ∷ xs) row body text (first, others, here, rest, e) is = (
 -- ---- up to a row
 
 -- with these cells left at a row, the rows before it are gathered
-pub record RowsSoFar (d height top left width : ℕ) (all : List Entry) (a : SinkState) (g : List ℕ) (i : ℕ)
-    (cells : List Entry) (b : SinkState) (h : List ℕ) : Type 0 where
-  pub front : List (List Content)
+pub record RowsSoFar (d height top left width : ℕ) (all : List CellEntry) (a : SinkState) (g : List ℕ) (i : ℕ)
+    (cells : List CellEntry) (b : SinkState) (h : List ℕ) : Type 0 where
+  pub prefix : List (List Content)
   pub body : List ℕ
-  pub are : Concatenates (IsContentRow d) front body
-  pub whole : front ++ rows_along (height - i) (top + i) left width cells ≡ rows_along height top left width all
-  pub gathers : Gathers a g b h body
+  pub are : Concatenates (IsContentRow d) prefix body
+  pub whole : prefix ++ rows_over (height - i) (top + i) left width cells ≡ rows_over height top left width all
+  pub gathers : GathersText a g b h body
 
-pub rows_first : (d height top left width : ℕ) (all : List Entry) (a : SinkState) (g : List ℕ)
+pub rows_first : (d height top left width : ℕ) (all : List CellEntry) (a : SinkState) (g : List ℕ)
     → RowsSoFar d height top left width all a g 0 all a g
 rows_first d height top left width all a g =
     let here : top + 0 ≡ top = omega arith in
     let all_of : height - 0 ≡ height = omega arith in
-    record { front = []; body = []; are = refl; whole = rw (here, all_of) refl; gathers = gathers-nothing a g }
+    record { prefix = []; body = []; are = refl; whole = rw (here, all_of) refl; gathers = gathers-nothing a g }
 
-pub rows_more : {d height top left width i : ℕ} {all cells cells' : List Entry} {a b c : SinkState} {g h k text : List ℕ}
+pub rows_more : {d height top left width i : ℕ} {all cells cells' : List CellEntry} {a b c : SinkState} {g h k text : List ℕ}
     → i < height → RowsSoFar d height top left width all a g i cells b h
-    → IsContentRow d (row_along (top + i) left width cells) text → Gathers b h c k text
-    → cells' ≡ left_along (top + i) left width cells
+    → IsContentRow d (row_over (top + i) left width cells) text → GathersText b h c k text
+    → cells' ≡ left_over (top + i) left width cells
     → RowsSoFar d height top left width all a g (i + 1) cells' c k
 rows_more {d} {height} {top} {left} {width} {i} {all} {cells} {cells'} {a} {b} {c} {g} {h} {k} {text} l so is gathers rest =
-    let row = row_along (top + i) left width cells in
-    let others = rows_along (height - (i + 1)) (top + (i + 1)) left width (left_along (top + i) left width cells) in
+    let row = row_over (top + i) left width cells in
+    let others = rows_over (height - (i + 1)) (top + (i + 1)) left width (left_over (top + i) left width cells) in
     record {
-      front = so.front ++ row ∷ [];
+      prefix = so.prefix ++ row ∷ [];
       body = so.body ++ text;
-      are = rows_more_text d so.front row so.body text so.are is;
+      are = rows_more_text d so.prefix row so.body text so.are is;
       whole = rw rest
-          (append_assoc so.front (row ∷ []) others
-          ∙ ap (λ (r : List (List Content)). so.front ++ r) (sym (rows_from height top left width i cells l)) ∙ so.whole);
+          (append_assoc so.prefix (row ∷ []) others
+          ∙ ap (λ (r : List (List Content)). so.prefix ++ r) (sym (rows_from height top left width i cells l)) ∙ so.whole);
       gathers = gathers-then so.gathers gathers;
     }
 
-pub rows_end : {d height top left width i : ℕ} {all cells : List Entry} {a b : SinkState} {g h : List ℕ}
+pub rows_end : {d height top left width i : ℕ} {all cells : List CellEntry} {a b : SinkState} {g h : List ℕ}
     → height ≤ i → RowsSoFar d height top left width all a g i cells b h
-    → (text : List ℕ) × Concatenates (IsContentRow d) (rows_along height top left width all) text × Gathers a g b h text
+    → (text : List ℕ) × Concatenates (IsContentRow d) (rows_over height top left width all) text × GathersText a g b h text
 rows_end {d} {height} {top} {left} {width} {i} {all} {cells} l so =
     let none : height - i ≡ 0 = omega arith in
-    let no_rows : rows_along (height - i) (top + i) left width cells ≡ [] = rw none refl in
-    let is : so.front ≡ rows_along height top left width all =
-    sym (append-nil so.front) ∙ ap (λ (r : List (List Content)). so.front ++ r) (sym no_rows) ∙ so.whole in
+    let no_rows : rows_over (height - i) (top + i) left width cells ≡ [] = rw none refl in
+    let is : so.prefix ≡ rows_over height top left width all =
+    sym (append-nil so.prefix) ∙ ap (λ (r : List (List Content)). so.prefix ++ r) (sym no_rows) ∙ so.whole in
     (so.body, subst (λ (r : List (List Content)). Concatenates (IsContentRow d) r so.body) is so.are, so.gathers)
 
-pub rows_stop : {d height top left width i : ℕ} {all cells : List Entry} {a b c : SinkState} {g h : List ℕ} {e : Stop}
+pub rows_stop : {d height top left width i : ℕ} {all cells : List CellEntry} {a b c : SinkState} {g h : List ℕ} {e : Stop}
     → i < height → RowsSoFar d height top left width all a g i cells b h
-    → (text : List ℕ) × BeginsRow d (row_along (top + i) left width cells) text × Stops b h c text e
-    → (text : List ℕ) × BeginsRows d (rows_along height top left width all) text × Stops a g c text e
+    → (text : List ℕ) × BeginsRow d (row_over (top + i) left width cells) text × Stops b h c text e
+    → (text : List ℕ) × BeginsRows d (rows_over height top left width all) text × Stops a g c text e
 rows_stop {d} {height} {top} {left} {width} {i} {all} {cells} l so (text, begins, stops) =
-    let row = row_along (top + i) left width cells in
-    let others = rows_along (height - (i + 1)) (top + (i + 1)) left width (left_along (top + i) left width cells) in
-    let is : so.front ++ row ∷ others ≡ rows_along height top left width all =
-    ap (λ (r : List (List Content)). so.front ++ r) (sym (rows_from height top left width i cells l)) ∙ so.whole in (
+    let row = row_over (top + i) left width cells in
+    let others = rows_over (height - (i + 1)) (top + (i + 1)) left width (left_over (top + i) left width cells) in
+    let is : so.prefix ++ row ∷ others ≡ rows_over height top left width all =
+    ap (λ (r : List (List Content)). so.prefix ++ r) (sym (rows_from height top left width i cells l)) ∙ so.whole in (
       so.body ++ text,
       subst (λ (r : List (List Content)). BeginsRows d r (so.body ++ text)) is
-          (begins_after d so.front others row so.body text so.are begins),
+          (begins_after d so.prefix others row so.body text so.are begins),
       stops-then so.gathers stops,
     )
 
@@ -145,37 +145,37 @@ table_memory d is_marked rows a = record {
 
 -- after the mark
 pub marked : (is_marked : Bool) (a : SinkState) (g h : List ℕ) → g ≡ [] → h ≡ g ++ byte_order_mark is_marked
-    → Gathers a [] a h (byte_order_mark is_marked)
+    → GathersText a [] a h (byte_order_mark is_marked)
 marked is_marked a g h none e = gathers-from none (gathers-added a g h (byte_order_mark is_marked) e)
 
 pub table_stop : (d : ℕ) (is_marked : Bool) (rows : List (List Content)) {a b c : SinkState} {h : List ℕ} {e : Stop}
-    → Gathers a [] b h (byte_order_mark is_marked)
+    → GathersText a [] b h (byte_order_mark is_marked)
     → (text : List ℕ) × BeginsRows d rows text × Stops b h c text e
     → StopsTable d is_marked rows a c e
 table_stop d is_marked rows mark (text, begins, stops) =
     record { text = byte_order_mark is_marked ++ text; part = (text, begins, refl); stops = stops-then mark stops }
 
 pub table_gathered : (d : ℕ) (is_marked : Bool) (rows : List (List Content)) {a b c : SinkState} {h k : List ℕ}
-    → Gathers a [] b h (byte_order_mark is_marked)
-    → (text : List ℕ) × Concatenates (IsContentRow d) rows text × Gathers b h c k text
-    → (text : List ℕ) × IsTable d is_marked rows text × Gathers a [] c k text
+    → GathersText a [] b h (byte_order_mark is_marked)
+    → (text : List ℕ) × Concatenates (IsContentRow d) rows text × GathersText b h c k text
+    → (text : List ℕ) × IsTable d is_marked rows text × GathersText a [] c k text
 table_gathered d is_marked rows mark (text, is, gathers) =
     (byte_order_mark is_marked ++ text, (text, is, refl), gathers-then mark gathers)
 
 -- all was gathered, and then it was given up
 pub table_unfinished : (d : ℕ) (is_marked : Bool) (rows : List (List Content)) {a b c : SinkState} {h : List ℕ} {e : Stop}
-    → (text : List ℕ) × IsTable d is_marked rows text × Gathers a [] b h text → Stops b h c [] e
+    → (text : List ℕ) × IsTable d is_marked rows text × GathersText a [] b h text → Stops b h c [] e
     → StopsTable d is_marked rows a c e
 table_unfinished d is_marked rows (text, (body, is, e), gathers) stops =
     record { text = text; part = (body, begins_all d rows body is, e); stops = stops-after gathers stops }
 
 pub table_finished : (d : ℕ) (is_marked : Bool) (rows : List (List Content)) {a b c : SinkState} {h k : List ℕ}
-    → (text : List ℕ) × IsTable d is_marked rows text × Gathers a [] b h text → Gathers b h c k [] → k ≡ []
+    → (text : List ℕ) × IsTable d is_marked rows text × GathersText a [] b h text → GathersText b h c k [] → k ≡ []
     → WroteTable d is_marked rows a c
 table_finished d is_marked rows (text, is, gathers) last none =
     record { text = text; table = is; wrote = wrote (gathers-after gathers last) none }
 
 -- the rows that are put are those of the cells
-pub walked : (cells seen ahead : List Entry) {extent : Extent} → seen ≡ cells → ahead ≡ seen → extent ≡ box_of cells
-    → rows_along extent.height extent.top extent.left extent.width ahead ≡ walk cells
+pub walked : (cells seen ahead : List CellEntry) {extent : Extent} → seen ≡ cells → ahead ≡ seen → extent ≡ box_of cells
+    → rows_over extent.height extent.top extent.left extent.width ahead ≡ walk_rows cells
 walked cells seen ahead {extent} e f is = rw (f, is, e) refl

@@ -20,13 +20,13 @@ fitting room [] = []
 fitting room (c ∷ cs) = if nat_le (len_utf8 c) room then c ∷ fitting (room - len_utf8 c) cs else []
 
 -- a number in decimal, in two digits at least
-abbrev pub two_digits : ℕ → List ℕ
-two_digits n = if nat_lt n 10 then 0x30 ∷ decimal n else decimal n
+abbrev pub at_least_two_digits : ℕ → List ℕ
+at_least_two_digits n = if nat_lt n 10 then 0x30 ∷ decimal n else decimal n
 
 -- the number, a dash, and what is kept of a sheet's name, in UTF-8
 abbrev pub file_name : ℕ → List ℕ → List ℕ
 file_name number sheet =
-    two_digits number ++ 0x2D ∷ encode_utf8_all (fitting 190 (map kept_char sheet))
+    at_least_two_digits number ++ 0x2D ∷ encode_utf8_all (fitting 190 (map kept_char sheet))
 
 -- no byte of a name is a NUL or a slash
 abbrev pub IsSafeByte : ℕ → Type 0
@@ -36,6 +36,6 @@ abbrev pub IsSafeName : List ℕ → Type 0
 IsSafeName name = All IsSafeByte name
 
 -- names with different numbers differ, whatever the sheets' names are
-abbrev pub NamesDiffer : Type 0
-NamesDiffer =
+abbrev pub FileNamesDiffer : Type 0
+FileNamesDiffer =
     (m n : ℕ) (one other : List ℕ) → m < 2 ^ 64 → n < 2 ^ 64 → file_name m one ≡ file_name n other → m ≡ n

@@ -3,7 +3,7 @@ use Rattle.std.specs.Prelude.{◌≡◌, ℕ, ◌==◌, Bool, true, false, List,
 use Rattle.xls_data.specs.Content.{Content}
 use Rattle.xls_readable.specs.Values.{Concatenates, IsFieldText}
 use Rattle.xls_readable.specs.declared.values.Value.{Value}
-use Rattle.xls_lines.specs.Gathering.{Gathers, Stops}
+use Rattle.xls_lines.specs.Gathering.{GathersText, Stops}
 use Rattle.xls_lines.specs.SinkState.{SinkState}
 use Rattle.xls_lines.specs.declared.stop.Stop.{Stop}
 use Rattle.xls_tables.specs.Rows.{IsContentField, IsContentFields, IsContentRow, IsContentText}
@@ -39,7 +39,7 @@ AddsPlaced delimiter is_first content is_bare old new =
 abbrev pub PutsOrBegins : {X : Type 0} → (X → List ℕ → Type 0) → (List ℕ → Type 0) → SinkState → List ℕ → SinkState → List ℕ
     → Result X Stop → Type 0
 PutsOrBegins IsWhole Begins before kept after kept' (Ok x) =
-    (text : List ℕ) × IsWhole x text × Gathers before kept after kept' text
+    (text : List ℕ) × IsWhole x text × GathersText before kept after kept' text
 PutsOrBegins IsWhole Begins before kept after kept' (Err e) =
     (text : List ℕ) × Begins text × Stops before kept after text e
 

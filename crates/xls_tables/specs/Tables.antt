@@ -17,7 +17,7 @@ byte_order_mark false = []
 -- the first fields of a row, all of them or some
 abbrev pub BeginsRow : ℕ → List Content → List ℕ → Type 0
 BeginsRow delimiter row text =
-    (front others : List Content) × (row ≡ front ++ others) × IsContentFields delimiter front text
+    (prefix others : List Content) × (row ≡ prefix ++ others) × IsContentFields delimiter prefix text
 
 -- the first rows, all of them or some, and the first fields of the next one
 abbrev pub BeginsRows : ℕ → List (List Content) → List ℕ → Type 0

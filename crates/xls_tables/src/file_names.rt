@@ -3,7 +3,7 @@
 ghost use Rattle.std.specs.Prelude.{◌≡◌, ◌++◌, ◌≤◌, length, map, encode_utf8_all, IfOk, OnOk};
 ghost use Rattle.std.specs.Str.{chars};
 ghost use Rattle.std.specs.String.{string_bytes};
-ghost use Rattle.xls_tables.specs.FileNames.{IsSafeName, NamesDiffer, file_name, fitting, is_refused, kept_char, two_digits};
+ghost use Rattle.xls_tables.specs.FileNames.{IsSafeName, FileNamesDiffer, file_name, fitting, is_refused, kept_char, at_least_two_digits};
 
 use std::alloc::{AllocError, Global};
 
@@ -30,7 +30,7 @@ fn kept_char(c: char) -> char
 
 /// Appends a number in decimal, in two digits at least.
 fn push_number(number: usize, text: &mut String) -> Result<(), AllocError>
-    ensures { OnOk result (string_bytes text.new ≡ string_bytes text.old ++ two_digits number) }
+    ensures { OnOk result (string_bytes text.new ≡ string_bytes text.old ++ at_least_two_digits number) }
 {
     if number < 10 {
         text.push('0')?;
@@ -80,5 +80,5 @@ pub fn file_name(alloc: Global, number: usize, sheet: &str) -> Result<String, Al
 
 /// Names with different numbers differ, so that no file of a sheet is written over another.
 pub fn names_differ()
-    ensures { NamesDiffer }
+    ensures { FileNamesDiffer }
 {}

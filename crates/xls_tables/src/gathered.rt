@@ -1,16 +1,16 @@
 //! The rows that are gathered before they are written.
 
 ghost use Rattle.std.specs.Prelude.{◌≡◌, ◌++◌, ◌==◌, [], length, IfOk, OnOk};
-ghost use Rattle.xls_decimals.specs.Added.{Adds};
+ghost use Rattle.xls_decimals.specs.Added.{AddsText};
 ghost use Rattle.xls_lines.specs.Gathering.{Puts};
 ghost use Rattle.xls_readable.specs.Csv.{row_end};
-ghost use Rattle.xls_cursors.specs.Values.{value_content};
+ghost use Rattle.xls_cursors.specs.Values.{lent_content};
 ghost use Rattle.xls_csv.specs.Walk.{value_in};
 ghost use Rattle.xls_tables.specs.Rows.{IsContentField};
 ghost use Rattle.xls_tables.specs.Tables.{byte_order_mark};
 ghost use Rattle.xls_tables.specs.Steps.{AddsPlaced, separator};
 
-use crate::shown::shown_value;
+use crate::displayed::displayed_value;
 use std::alloc::{AllocError, Global};
 use std::marker::Model;
 use xls_lines::{Sink, Stop};
@@ -84,11 +84,11 @@ impl Gathered {
     /// Appends the field of a cell's value.
     #[inline(always)]
     fn push_value(&mut self, delimiter: Delimiter, value: CellValue<'_>) -> Result<(), AllocError>
-        ensures { OnOk result (Adds (IsContentField delimiter (value_content value.entry)) self.old self.new) }
+        ensures { OnOk result (AddsText (IsContentField delimiter (lent_content value.entry)) self.old self.new) }
     {
         match self.texts.value_of(value) {
             Ok(value) => push_field(
-                &shown_value(&value),
+                &displayed_value(&value),
                 delimiter,
                 &mut self.pieces.room,
                 &mut self.pieces.text,
@@ -99,12 +99,12 @@ impl Gathered {
 
     /// Appends the field of a value, an empty one where there is none.
     #[inline(always)]
-    fn push_shown(
+    fn push_displayed(
         &mut self,
         delimiter: Delimiter,
         value: Option<CellValue<'_>>,
     ) -> Result<(), AllocError>
-        ensures { OnOk result (Adds (IsContentField delimiter (value_in value.entry)) self.old self.new) }
+        ensures { OnOk result (AddsText (IsContentField delimiter (value_in value.entry)) self.old self.new) }
     {
         match value {
             Some(value) => self.push_value(delimiter, value),
@@ -124,7 +124,7 @@ impl Gathered {
     {
         let before = self.pieces.text.len();
         self.separate(delimiter, place)?;
-        self.push_shown(delimiter, value)?;
+        self.push_displayed(delimiter, value)?;
         Ok(self.pieces.text.len() == before)
     }
 

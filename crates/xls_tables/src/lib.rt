@@ -3,7 +3,7 @@
 
 mod file_names;
 mod gathered;
-mod shown;
+mod displayed;
 mod table;
 
 pub use file_names::{file_name, names_differ};

@@ -1,10 +1,10 @@
 //! The dense box of a sheet's cells as CSV.
 
 ghost use Rattle.std.specs.Prelude.{◌≡◌, ◌≤◌, ◌^◌, ◌+◌, ◌==◌, ◌++◌, map, OnOk};
-ghost use Rattle.xls_biff.specs.Cells.{Entry};
+ghost use Rattle.xls_biff.specs.Cells.{CellEntry};
 ghost use Rattle.xls_range.specs.Positions.{IsAscending};
 ghost use Rattle.xls_csv.specs.Dense.{dense_rows};
-ghost use Rattle.xls_csv.specs.Walk.{left_along, row_along, rows_along, take_at, walk};
+ghost use Rattle.xls_csv.specs.Walk.{left_over, row_over, rows_over, take_at, walk_rows};
 ghost use Rattle.xls_tables.specs.Steps.{PutsField, PutsFields, PutsRow, PutsRows};
 ghost use Rattle.xls_tables.specs.Tables.{DeliversTable};
 
@@ -47,9 +47,9 @@ fn put_fields<K: Sink>(
     width: u64,
 ) -> Result<bool, Stop>
     requires { left + width ≤ 2 ^ 32 }
-    ensures puts { PutsFields delimiter (row_along row left width cells.old)
+    ensures puts { PutsFields delimiter (row_over row left width cells.old)
         (K.state sink.old) gathered.old (K.state sink.new) gathered.new result }
-    ensures cells { OnOk result (cells.new ≡ left_along row left width cells.old) }
+    ensures cells { OnOk result (cells.new ≡ left_over row left width cells.old) }
 {
     let mut is_bare = true;
     for place in 0..width {
@@ -70,9 +70,9 @@ fn put_row<K: Sink>(
     width: u64,
 ) -> Result<(), Stop>
     requires { left + width ≤ 2 ^ 32 }
-    ensures puts { PutsRow delimiter (row_along row left width cells.old)
+    ensures puts { PutsRow delimiter (row_over row left width cells.old)
         (K.state sink.old) gathered.old (K.state sink.new) gathered.new result }
-    ensures cells { OnOk result (cells.new ≡ left_along row left width cells.old) }
+    ensures cells { OnOk result (cells.new ≡ left_over row left width cells.old) }
 {
     let is_bare = put_fields(gathered, sink, cells, delimiter, row, left, width)?;
     gathered.push_end(is_bare)?;
@@ -89,7 +89,7 @@ fn put_rows<K: Sink>(
 ) -> Result<(), Stop>
     requires rows { extent.top + extent.height ≤ 2 ^ 32 }
     requires columns { extent.left + extent.width ≤ 2 ^ 32 }
-    ensures { PutsRows delimiter (rows_along extent.height extent.top extent.left extent.width cells.entry)
+    ensures { PutsRows delimiter (rows_over extent.height extent.top extent.left extent.width cells.entry)
         (K.state sink.old) gathered.old (K.state sink.new) gathered.new result }
 {
     for i in 0..extent.height {
@@ -114,7 +114,7 @@ fn write_rows<K: Sink>(
     begins_with_mark: bool,
     cells: &SheetCells<'_>,
 ) -> Result<(), Stop>
-    ensures { DeliversTable delimiter begins_with_mark (walk cells.now) (K.state sink.old) (K.state sink.new) result }
+    ensures { DeliversTable delimiter begins_with_mark (walk_rows cells.now) (K.state sink.old) (K.state sink.new) result }
 {
     let mut gathered = Gathered::new(alloc);
     gathered.push_mark(begins_with_mark)?;
@@ -141,8 +141,8 @@ pub fn write_table<K: Sink>(
     begins_with_mark: bool,
     cells: &SheetCells<'_>,
 ) -> Result<(), Stop>
-    ensures walk { DeliversTable delimiter begins_with_mark (walk cells.now) (K.state sink.old) (K.state sink.new) result }
-    ensures dense { IsAscending (map (λ (c : Entry). c.0) cells.now)
+    ensures walk_rows { DeliversTable delimiter begins_with_mark (walk_rows cells.now) (K.state sink.old) (K.state sink.new) result }
+    ensures dense { IsAscending (map (λ (c : CellEntry). c.0) cells.now)
         → DeliversTable delimiter begins_with_mark (dense_rows cells.now) (K.state sink.old) (K.state sink.new) result }
 {
     write_rows(alloc, sink, delimiter, begins_with_mark, cells)

@@ -11,8 +11,8 @@ pub stretch_more : (f : ℕ → ℕ) (old mid new total ascii after rest : List 
     → map f ascii ≡ ascii → encode_utf8_all ascii ≡ ascii → rest ≡ ascii ++ b ∷ after
     → mid ≡ old ++ ascii → new ≡ mid ++ encode_utf8 c → c ≡ f b
     → old ++ encode_utf8_all (map f rest) ≡ total → new ++ encode_utf8_all (map f after) ≡ total
-stretch_more f old mid new total ascii after rest b c same bytes whole front grown is before =
-    rw (grown, front, is, append_assoc, append_assoc)
+stretch_more f old mid new total ascii after rest b c same bytes whole prefix grown is before =
+    rw (grown, prefix, is, append_assoc, append_assoc)
     (rw (whole, map-append, same, encodes-append, bytes) at before)
 
 pub map_same : (bs : List ℕ) → map (byte_character false) bs ≡ bs

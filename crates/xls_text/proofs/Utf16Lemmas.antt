@@ -5,7 +5,7 @@ use Rattle.std.proofs.lemmas.Bool.Decides.{nat_tests}
 use Rattle.std.specs.Option.{unwrap_or}
 use Rattle.std.specs.Char.Utf16.{utf16_lossy_chars, lone_unit_char, surrogate_pair_char, is_high_surrogate, is_low_surrogate}
 use Rattle.xls_text.proofs.UnitLemmas.{units_pair, units_alone, units_not_high, units_not_low, units_none}
-use Rattle.xls_text.specs.Utf16Reading.{IsHigh, IsLow, StartsLow, TakesUnits, ReadsUtf16}
+use Rattle.xls_text.specs.Utf16Reading.{IsHigh, IsLow, StartsLow, TakesCodePoint, ReadsUtf16}
 
 lone_below : (u : ℕ) → u < 0xD800 → unwrap_or (lone_unit_char u) 0xFFFD ≡ u
 lone_below u h = grind (arith, nat_tests)
@@ -38,7 +38,7 @@ not_low_above u h = grind (arith, nat_tests)
 record First (u : ℕ) (us : List ℕ) : Type 0 where
   c : ℕ
   rest : List ℕ
-  takes : TakesUnits (u ∷ us) c rest
+  takes : TakesCodePoint (u ∷ us) c rest
   chars : utf16_lossy_chars (u ∷ us) ≡ c ∷ utf16_lossy_chars rest
   shorter : length rest ≤ length us
 
@@ -47,7 +47,7 @@ first_plain : (u : ℕ) (us : List ℕ) → (u < 0xD800) ⊎ (0xE000 ≤ u) → 
 first_plain u us plain other is = record {
   c = u;
   rest = us;
-  takes = inl (record { plain = plain; char = refl; behind = refl });
+  takes = inl (record { plain = plain; char = refl; following = refl });
   chars = units_not_high u us other ∙ ap (λ c. c ∷ utf16_lossy_chars us) is;
   shorter = omega arith;
 }
@@ -57,7 +57,7 @@ first_lone : (u : ℕ) (us : List ℕ) → 0xD800 ≤ u → u < 0xE000 → (IsHi
 first_lone u us low high alone chars = record {
   c = 0xFFFD;
   rest = us;
-  takes = inr (inr (record { surrogate = (low, high); alone = alone; char = refl; behind = refl }));
+  takes = inr (inr (record { surrogate = (low, high); alone = alone; char = refl; following = refl }));
   chars = chars ∙ ap (λ c. c ∷ utf16_lossy_chars us) (lone_surrogate u low high);
   shorter = omega arith;
 }
@@ -73,7 +73,7 @@ first_high u (v ∷ us) low high =
         | inl within ↦ record {
           c = surrogate_pair_char u v;
           rest = us;
-          takes = inr (inl (record { is_high = (low, high); low = v; is_low = (from, within); char = refl; behind = refl }));
+          takes = inr (inl (record { is_high = (low, high); low = v; is_low = (from, within); char = refl; following = refl }));
           chars = units_pair u v us is (low_test v (from, within));
           shorter = omega arith;
         }
@@ -111,23 +111,23 @@ pair_not_alone : (us rest : List ℕ) (low : ℕ) → us ≡ low ∷ rest → Is
 pair_not_alone us rest low e is = subst StartsLow (sym e) is
 
 -- one character comes first
-takes_one : (us : List ℕ) (c d : ℕ) (xs ys : List ℕ) → TakesUnits us c xs → TakesUnits us d ys → (c ≡ d) × (xs ≡ ys)
+takes_one : (us : List ℕ) (c d : ℕ) (xs ys : List ℕ) → TakesCodePoint us c xs → TakesCodePoint us d ys → (c ≡ d) × (xs ≡ ys)
 takes_one [] c d xs ys a b = absurd a
-takes_one (u ∷ us) c d xs ys (inl a) (inl b) = (a.char ∙ sym b.char, a.behind ∙ sym b.behind)
+takes_one (u ∷ us) c d xs ys (inl a) (inl b) = (a.char ∙ sym b.char, a.following ∙ sym b.following)
 takes_one (u ∷ us) c d xs ys (inl a) (inr (inl b)) = absurd (plain_no_surrogate u a.plain b.is_high.0 (omega (arith, b.is_high.1)))
 takes_one (u ∷ us) c d xs ys (inl a) (inr (inr b)) = absurd (plain_no_surrogate u a.plain b.surrogate.0 b.surrogate.1)
 takes_one (u ∷ us) c d xs ys (inr (inl a)) (inl b) = absurd (plain_no_surrogate u b.plain a.is_high.0 (omega (arith, a.is_high.1)))
 takes_one (u ∷ us) c d xs ys (inr (inl a)) (inr (inl b)) =
-    let both : a.low ∷ xs ≡ b.low ∷ ys = sym a.behind ∙ b.behind in
+    let both : a.low ∷ xs ≡ b.low ∷ ys = sym a.following ∙ b.following in
     let low : a.low ≡ b.low = cc in
     let rest : xs ≡ ys = cc in
     (a.char ∙ rw low (sym b.char), rest)
-takes_one (u ∷ us) c d xs ys (inr (inl a)) (inr (inr b)) = absurd (b.alone a.is_high (pair_not_alone us xs a.low a.behind a.is_low))
+takes_one (u ∷ us) c d xs ys (inr (inl a)) (inr (inr b)) = absurd (b.alone a.is_high (pair_not_alone us xs a.low a.following a.is_low))
 takes_one (u ∷ us) c d xs ys (inr (inr a)) (inl b) = absurd (plain_no_surrogate u b.plain a.surrogate.0 a.surrogate.1)
-takes_one (u ∷ us) c d xs ys (inr (inr a)) (inr (inl b)) = absurd (a.alone b.is_high (pair_not_alone us ys b.low b.behind b.is_low))
-takes_one (u ∷ us) c d xs ys (inr (inr a)) (inr (inr b)) = (a.char ∙ sym b.char, a.behind ∙ sym b.behind)
+takes_one (u ∷ us) c d xs ys (inr (inr a)) (inr (inl b)) = absurd (a.alone b.is_high (pair_not_alone us ys b.low b.following b.is_low))
+takes_one (u ∷ us) c d xs ys (inr (inr a)) (inr (inr b)) = (a.char ∙ sym b.char, a.following ∙ sym b.following)
 
-takes_some : (us : List ℕ) (c : ℕ) (xs : List ℕ) → TakesUnits us c xs → 0 < length us
+takes_some : (us : List ℕ) (c : ℕ) (xs : List ℕ) → TakesCodePoint us c xs → 0 < length us
 takes_some [] c xs a = absurd a
 takes_some (u ∷ us) c xs a = omega arith
 

@@ -6,9 +6,9 @@ use Rattle.std.proofs.lemmas.Str.{encode_same, len_utf8_bounds, length-encode}
 use Rattle.std.specs.Char.{encode_utf8, IsScalar}
 use Rattle.bstr.specs.Utf8.{Decoded, decoded, bad, good, second, continues, lossy_chars, or_replacement}
 use Rattle.bstr.proofs.lemmas.EncodeLemmas.{decoded-encode}
-use Rattle.bstr.proofs.lemmas.PieceLemmas.{by-shape, piece-bounds, lossy_chars-step, lossy_chars-nil, value-2, value-3, value-5, value-8, value-9, value-11, value-12}
+use Rattle.bstr.proofs.lemmas.PieceLemmas.{by-outline, piece-bounds, lossy_chars-step, lossy_chars-nil, value-2, value-3, value-5, value-8, value-9, value-11, value-12}
 use Rattle.bstr.proofs.lemmas.SoundLemmas.{SpellsChar-decoded}
-use Rattle.xls_text.specs.Utf8Reading.{BeginsSome, IsLongestBegun, Takes, ReadsUtf8}
+use Rattle.xls_text.specs.Utf8Reading.{BeginsSome, IsLongestBegun, TakesChar, ReadsUtf8}
 
 encode_utf8_nonempty : (c : ℕ) → 0 < length (encode_utf8 c)
 encode_utf8_nonempty c = let bounds = len_utf8_bounds c in omega (arith, length-encode c)
@@ -30,12 +30,12 @@ decodes : (w rest : List ℕ) (c : ℕ) → IsScalar c → w ≡ encode_utf8 c +
 decodes w rest c is e = ap (λ t. (decoded t).char) e ∙ ap (λ (p : Decoded). p.char) (decoded-encode c rest is)
 
 -- bytes that decode whole begin a sequence, and so does each prefix of them
-begins : (front more : List ℕ) (c n : ℕ) → decoded (front ++ more) ≡ good c n → length (front ++ more) ≡ n → BeginsSome front
-begins front more c n is whole =
-    let char : (decoded (front ++ more)).char ≡ Some c = ap (λ (p : Decoded). p.char) is in
-    let size : (decoded (front ++ more)).size ≡ n = ap (λ (p : Decoded). p.size) is in
-    let spelled = SpellsChar-decoded (front ++ more) c char in
-    let none : drop (decoded (front ++ more)).size (front ++ more) ≡ [] = drop_whole (front ++ more) _ (size ∙ sym whole) in
+begins : (prefix more : List ℕ) (c n : ℕ) → decoded (prefix ++ more) ≡ good c n → length (prefix ++ more) ≡ n → BeginsSome prefix
+begins prefix more c n is whole =
+    let char : (decoded (prefix ++ more)).char ≡ Some c = ap (λ (p : Decoded). p.char) is in
+    let size : (decoded (prefix ++ more)).size ≡ n = ap (λ (p : Decoded). p.size) is in
+    let spelled = SpellsChar-decoded (prefix ++ more) c char in
+    let none : drop (decoded (prefix ++ more)).size (prefix ++ more) ≡ [] = drop_whole (prefix ++ more) _ (size ∙ sym whole) in
     (c, more, spelled.scalar, sym (spelled.bytes ∙ ap (λ t. encode_utf8 c ++ t) none ∙ append-nil _))
   where
     drop_whole : (bs : List ℕ) (k : ℕ) → k ≡ length bs → drop k bs ≡ []
@@ -64,7 +64,7 @@ piece_begun bs none long =
     subst BeginsSome (sym (ap (λ k. take k bs) is ∙ two_cells bs h)) begun in
     let at_three = λ (is : (decoded bs).size ≡ 3) (h : 3 ≤ length bs) (begun : BeginsSome (b ∷ c ∷ d ∷ [])).
     subst BeginsSome (sym (ap (λ k. take k bs) is ∙ three_cells bs h)) begun in
-    by-shape (length bs) b c d e
+    by-outline (length bs) b c d e
     (λ h. let k = size _ h.1 in absurd (omega arith))
     (λ h. let k = size _ h.2 in absurd (omega arith))
     (λ h. let k = size _ h.3 in absurd (omega arith))
@@ -86,7 +86,7 @@ piece_longest bs none m above within begun =
     let more = begun.1 in
     let w = take m bs ++ more in
     let found : (decoded w).char ≡ Some x = decodes w [] x begun.2 (sym begun.3 ∙ sym (append-nil _)) in
-    let front : length (take m bs) ≡ m = length-take-le m bs within in
+    let prefix : length (take m bs) ≡ m = length-take-le m bs within in
     let long : m ≤ length w = omega (arith, length-append (take m bs) more) in
     let same = λ (i : ℕ) (below : i < m). get_or_append_left (take m bs) more 0 i (omega arith) ∙ get_or-take m bs i 0 below in
     let b = slice_index bs 0 in let c = slice_index bs 1 in let d = slice_index bs 2 in let e = slice_index bs 3 in
@@ -94,7 +94,7 @@ piece_longest bs none m above within begun =
     let char = λ (p : Decoded) (is : decoded bs ≡ p). sym (ap (λ (q : Decoded). q.char) is) ∙ none in
     let size = λ (p : Decoded) (is : decoded bs ≡ p). ap (λ (q : Decoded). q.size) is in
     let not_found = λ (n : ℕ) (is : decoded w ≡ bad n). let k = sym (ap (λ (q : Decoded). q.char) is) ∙ found in no_char x k in
-    by-shape (length bs) b c d e
+    by-outline (length bs) b c d e
     (λ h. absurd (omega arith))
     (λ h. let k = char _ h.2 in cc)
     (λ h. let k = size _ h.3 in let s0 = same 0 (omega arith) in not_found 1 (value-2 (length w) wb wc wd we (omega arith, omega arith, omega arith)))
@@ -116,10 +116,10 @@ piece_longest bs none m above within begun =
     no_char y e = cc
 
 -- the first piece is what the rule takes
-pub Takes-decoded : (bs : List ℕ) → 0 < length bs → Takes bs (or_replacement (decoded bs).char) (drop (decoded bs).size bs)
+pub Takes-decoded : (bs : List ℕ) → 0 < length bs → TakesChar bs (or_replacement (decoded bs).char) (drop (decoded bs).size bs)
 Takes-decoded bs some = by_char (decoded bs).char refl
   where
-    by_char : (o : Option ℕ) → (decoded bs).char ≡ o → Takes bs (or_replacement o) (drop (decoded bs).size bs)
+    by_char : (o : Option ℕ) → (decoded bs).char ≡ o → TakesChar bs (or_replacement o) (drop (decoded bs).size bs)
     by_char (Some c) e = let spelled = SpellsChar-decoded bs c e in inl (spelled.scalar, spelled.bytes)
     by_char None e =
         let bounds = piece-bounds bs some in
@@ -159,7 +159,7 @@ longest_one bs m n a b = ⊎_elim
     (cases_lt m n)
 
 -- one character comes first
-takes_one : (bs : List ℕ) (c d : ℕ) (xs ys : List ℕ) → Takes bs c xs → Takes bs d ys → (c ≡ d) × (xs ≡ ys)
+takes_one : (bs : List ℕ) (c d : ℕ) (xs ys : List ℕ) → TakesChar bs c xs → TakesChar bs d ys → (c ≡ d) × (xs ≡ ys)
 takes_one bs c d xs ys a b = ⊎_elim
     (λ p. ⊎_elim
     (λ q. encode_same c d xs ys (sym p.1 ∙ q.1))
@@ -175,7 +175,7 @@ takes_one bs c d xs ys a b = ⊎_elim
     b)
     a
 
-takes_some : (bs : List ℕ) (c : ℕ) (xs : List ℕ) → Takes bs c xs → 0 < length bs
+takes_some : (bs : List ℕ) (c : ℕ) (xs : List ℕ) → TakesChar bs c xs → 0 < length bs
 takes_some bs c xs a = ⊎_elim
     (λ p. let some = encode_utf8_nonempty c in let all = ap length p.1 ∙ length-append (encode_utf8 c) xs in omega arith)
     (λ p. let some = p.2.1.some in let within = p.2.1.within in omega arith)

@@ -19,7 +19,7 @@ StartsLow (unit ∷ units) = IsLow unit
 pub record TakesPlain (unit : ℕ) (units : List ℕ) (c : ℕ) (rest : List ℕ) : Type 0 where
   pub plain : (unit < 0xD800) ⊎ (0xE000 ≤ unit)
   pub char : c ≡ unit
-  pub behind : rest ≡ units
+  pub following : rest ≡ units
 
 -- two units of a pair are one character
 pub record TakesPair (high : ℕ) (units : List ℕ) (c : ℕ) (rest : List ℕ) : Type 0 where
@@ -27,25 +27,25 @@ pub record TakesPair (high : ℕ) (units : List ℕ) (c : ℕ) (rest : List ℕ)
   pub low : ℕ
   pub is_low : IsLow low
   pub char : c ≡ 0x10000 + (high - 0xD800) * 0x400 + (low - 0xDC00)
-  pub behind : units ≡ low ∷ rest
+  pub following : units ≡ low ∷ rest
 
 -- every other surrogate is U+FFFD
 pub record TakesLone (unit : ℕ) (units : List ℕ) (c : ℕ) (rest : List ℕ) : Type 0 where
   pub surrogate : (0xD800 ≤ unit) × (unit < 0xE000)
   pub alone : IsHigh unit → ¬ (StartsLow units)
   pub char : c ≡ 0xFFFD
-  pub behind : rest ≡ units
+  pub following : rest ≡ units
 
 -- the first character, and the units after it
-abbrev pub TakesUnits : List ℕ → ℕ → List ℕ → Type 0
-TakesUnits [] c rest = ⊥
-TakesUnits (unit ∷ units) c rest =
+abbrev pub TakesCodePoint : List ℕ → ℕ → List ℕ → Type 0
+TakesCodePoint [] c rest = ⊥
+TakesCodePoint (unit ∷ units) c rest =
     TakesPlain unit units c rest ⊎ (TakesPair unit units c rest ⊎ TakesLone unit units c rest)
 
 -- the units read as these characters
 abbrev pub ReadsUtf16 : List ℕ → List ℕ → Type 0
 ReadsUtf16 units [] = units ≡ []
-ReadsUtf16 units (c ∷ cs) = (rest : List ℕ) × TakesUnits units c rest × ReadsUtf16 rest cs
+ReadsUtf16 units (c ∷ cs) = (rest : List ℕ) × TakesCodePoint units c rest × ReadsUtf16 rest cs
 
 -- units read so, and as nothing else, as std's lossy UTF-16
 abbrev pub HasOneUtf16Reading : List ℕ → Type 0

@@ -67,17 +67,17 @@ pub(crate) fn first_char(units: &[u16]) -> Option<(char, &[u16])>
 /// How many bytes the text of units takes, so that it is allocated once.
 pub(crate) fn text_size(units: &[u16]) -> usize {
     let mut size: usize = 0;
-    let mut is_behind_high = false;
+    let mut is_after_high = false;
     for unit in units {
         let bytes = match *unit {
             0..0x80 => 1,
             0x80..0x800 => 2,
             // the second half of a pair, which takes four bytes
-            0xDC00..0xE000 if is_behind_high => 1,
+            0xDC00..0xE000 if is_after_high => 1,
             _ => 3,
         };
         size = size.saturating_add(bytes);
-        is_behind_high = is_high(*unit);
+        is_after_high = is_high(*unit);
     }
     size
 }

@@ -5,22 +5,22 @@ use Rattle.xls_answers.specs.declared.failure.Failure.TheVariants.{Stopped}
 use Rattle.xls_documents.specs.declared.fault.ProjectFault.{ProjectFault}
 use Rattle.xls_documents.specs.declared.fault.ProjectFault.TheVariants as faults
 use Rattle.xls_lines.specs.declared.stop.Stop.TheVariants as stop
-use Rattle.xls_files.specs.declared.host.Reason.TheVariants.{Memory, Told}
+use Rattle.xls_files.specs.declared.host.Reason.TheVariants.{Memory, Reported}
 use Rattle.xls_tool.specs.declared.problem.Outcome.{Outcome}
 use Rattle.xls_tool.specs.declared.problem.Outcome.TheVariants as outcome
 use Rattle.xls_tool.specs.declared.problem.Problem.{Problem}
 use Rattle.xls_tool.specs.declared.problem.Problem.TheVariants as problems
 
-abbrev pub status_of : Problem → ℕ
-status_of (problems.Unread Memory) = 5
-status_of (problems.Unread (Told t)) = 10
-status_of problems.Folder = 10
-status_of problems.Irregular = 10
-status_of (problems.Failure f) = failures.status_of f
-status_of (problems.Absent a) = 12
-status_of (problems.Project f) = 11
-status_of (problems.Unwritten path Memory) = 5
-status_of (problems.Unwritten path (Told t)) = 16
+abbrev pub problem_status : Problem → ℕ
+problem_status (problems.Unread Memory) = 5
+problem_status (problems.Unread (Reported t)) = 10
+problem_status problems.Folder = 10
+problem_status problems.Irregular = 10
+problem_status (problems.Failure f) = failures.status_of f
+problem_status (problems.Absent a) = 12
+problem_status (problems.Project f) = 11
+problem_status (problems.Unwritten path Memory) = 5
+problem_status (problems.Unwritten path (Reported t)) = 16
 
 -- the statuses of a file that can't be read, or that gives no workbook
 abbrev pub is_unread : ℕ → Bool
@@ -31,7 +31,7 @@ abbrev pub outcome_for : ℕ → Outcome
 outcome_for n = if n == 1 then outcome.Refused else if is_unread n then outcome.Unread else outcome.Failed
 
 abbrev pub outcome_of : Problem → Outcome
-outcome_of p = outcome_for (status_of p)
+outcome_of p = outcome_for (problem_status p)
 
 -- a fault of the file, and out of memory, are told alike, wherever they were
 abbrev pub problem_of_project : ProjectFault → Problem

@@ -16,10 +16,10 @@ use Rattle.xls_tool.specs.declared.problem.Problem.{Problem}
 use Rattle.xls_tool.specs.declared.problem.Problem.TheVariants as problems
 
 -- the form of the lines of a style
-abbrev pub form_of : Style → Form
-form_of styles.Readable = Text
-form_of styles.Json = Json
-form_of styles.Exact = Text
+abbrev pub style_form : Style → Form
+style_form styles.Readable = Text
+style_form styles.Json = Json
+style_form styles.Exact = Text
 
 -- the dump of a style
 abbrev pub dump_of : Style → Answer
@@ -30,9 +30,9 @@ dump_of styles.Exact = answers.Exact
 -- what is written of the workbook, where a command writes of it
 abbrev pub answer_of : Command → Option Answer
 answer_of (commands.Dump s) = Some (dump_of s)
-answer_of (commands.Sheets s) = Some (answers.Lines listing.Sheets (form_of s))
-answer_of (commands.Formulas s) = Some (answers.Lines listing.Formulas (form_of s))
-answer_of (commands.Refs s) = Some (answers.Lines listing.Refs (form_of s))
+answer_of (commands.Sheets s) = Some (answers.Lines listing.Sheets (style_form s))
+answer_of (commands.Formulas s) = Some (answers.Lines listing.Formulas (style_form s))
+answer_of (commands.Refs s) = Some (answers.Lines listing.Refs (style_form s))
 answer_of commands.Check = Some answers.Check
 answer_of (commands.Csv t) = Some (answers.Sheet t)
 answer_of commands.Remake = Some answers.Remade

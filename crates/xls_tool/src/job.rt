@@ -3,7 +3,7 @@
 ghost use Rattle.std.specs.Prelude.{◌≡◌, IfOk, IfSome};
 ghost use Rattle.xls_words.specs.Requests as requests;
 ghost use Rattle.xls_answers.specs.Answers.{HasNumber};
-ghost use Rattle.xls_tool.specs.Texts.{answer_of, form_of};
+ghost use Rattle.xls_tool.specs.Texts.{answer_of, style_form};
 
 use std::alloc::{AllocError, Global};
 use xls_answers::{Answer, Listing, options_of};
@@ -31,7 +31,7 @@ impl Job<'_> {
 
 /// The form of lines.
 fn form_of(style: Style) -> Form
-    ensures { result ≡ form_of style }
+    ensures { result ≡ style_form style }
 {
     match style {
         Style::Json => Form::Json,
@@ -53,7 +53,7 @@ fn is_exact(command: &Command<'_>) -> bool {
 
 /// What is written of the workbook, where a command writes of it.
 pub(crate) fn answer_of<'w>(command: &Command<'w>) -> Option<Answer<'w>>
-    requires { requests.HasNumber command.now }
+    requires { requests.CommandHasNumber command.now }
     ensures exact { result ≡ answer_of command.now }
     ensures number { IfSome result HasNumber }
 {

@@ -49,7 +49,7 @@ pub(crate) fn do_file<H: Host, K: Sink>(
     job: &Job<'_>,
     path: &str,
 ) -> Result<(), Problem>
-    requires { requests.HasNumber job.now.request.command }
+    requires { requests.CommandHasNumber job.now.request.command }
 {
     let bytes = read(host, path)?;
     match job.request.out {
@@ -62,7 +62,7 @@ pub(crate) fn do_file<H: Host, K: Sink>(
 /// That a name isn't UTF-8.
 fn unnamed(alloc: Global) -> Result<Problem, AllocError> {
     let text = String::from_str(alloc, "the name isn't UTF-8")?;
-    Ok(Problem::Unread(Reason::Told(text)))
+    Ok(Problem::Unread(Reason::Reported(text)))
 }
 
 /// Tells how it went with a file, where nothing is shown.
@@ -88,7 +88,7 @@ fn do_next<H: Host, K: Sink>(
     counts: &mut Counts,
     next: Next,
 ) -> Result<(), Stop>
-    requires { requests.HasNumber job.now.request.command }
+    requires { requests.CommandHasNumber job.now.request.command }
 {
     let (file, result) = match next {
         Next::File(path) => {
@@ -130,7 +130,7 @@ fn do_queue<H: Host, K: Sink>(
     queue: &mut Queue,
     all: Option<u64>,
 ) -> Result<(), Stop>
-    requires { requests.HasNumber job.now.request.command }
+    requires { requests.CommandHasNumber job.now.request.command }
 {
     for _ in 0..u64::MAX {
         let Some(next) = queue.next(host)? else {
@@ -163,7 +163,7 @@ fn count_files<H: Host>(alloc: Global, host: &mut H, paths: &[&str]) -> Result<u
 }
 
 /// How many files there are, where that is shown.
-fn shown_count<H: Host>(
+fn displayed_count<H: Host>(
     alloc: Global,
     host: &mut H,
     paths: &[&str],
@@ -183,10 +183,10 @@ pub(crate) fn do_many<H: Host, K: Sink>(
     job: &Job<'_>,
     paths: &[&str],
 ) -> Result<u8, Stop>
-    requires { requests.HasNumber job.now.request.command }
+    requires { requests.CommandHasNumber job.now.request.command }
     ensures { IfOk result IsStatus }
 {
-    let all = shown_count(alloc, host, paths)?;
+    let all = displayed_count(alloc, host, paths)?;
     let mut queue = queue_of(alloc, paths)?;
     let mut counts = Counts::new();
     do_queue(alloc, host, out, job, &mut counts, &mut queue, all)?;
@@ -205,7 +205,7 @@ fn do_name<H: Host, K: Sink>(
     list: &str,
     name: Name,
 ) -> Result<(), Stop>
-    requires { requests.HasNumber job.now.request.command }
+    requires { requests.CommandHasNumber job.now.request.command }
 {
     match name {
         Name::Text(path) => {
@@ -229,7 +229,7 @@ fn do_names<H: Host, K: Sink>(
     list: &str,
     by_nul: bool,
 ) -> Result<(), Stop>
-    requires { requests.HasNumber job.now.request.command }
+    requires { requests.CommandHasNumber job.now.request.command }
 {
     for _ in 0..u64::MAX {
         match host.next_name(list, by_nul) {
@@ -254,7 +254,7 @@ pub(crate) fn do_list<H: Host, K: Sink>(
     list: &str,
     by_nul: bool,
 ) -> Result<u8, Stop>
-    requires { requests.HasNumber job.now.request.command }
+    requires { requests.CommandHasNumber job.now.request.command }
     ensures { IfOk result IsStatus }
 {
     let mut counts = Counts::new();

@@ -22,7 +22,7 @@ fn do_placed<H: Host, K: Sink>(
     path: &str,
     place: Result<Place, Reason>,
 ) -> Result<(), Problem>
-    requires { requests.HasNumber job.now.request.command }
+    requires { requests.CommandHasNumber job.now.request.command }
 {
     match place {
         Ok(Place::File) => do_file(alloc, host, out, job, path),
@@ -42,7 +42,7 @@ pub(crate) fn do_one<H: Host, K: Sink>(
     path: &str,
     place: Result<Place, Reason>,
 ) -> Result<u8, Stop>
-    requires { requests.HasNumber job.now.request.command }
+    requires { requests.CommandHasNumber job.now.request.command }
     ensures { IfOk result IsStatus }
 {
     match do_placed(alloc, host, out, job, path, place) {

@@ -1,7 +1,7 @@
 //! Why the text of a file isn't written.
 
 ghost use Rattle.std.specs.Prelude.{◌≡◌};
-ghost use Rattle.xls_tool.specs.Problems.{IsStatus, outcome_of, problem_of_project, status_of};
+ghost use Rattle.xls_tool.specs.Problems.{IsStatus, outcome_of, problem_of_project, problem_status};
 ghost use Rattle.xls_answers.specs.Failures.{failure_of_fault};
 ghost use Rattle.xls_tool.specs.declared.problem.Problem.TheVariants as problems;
 ghost use Rattle.xls_answers.specs.declared.failure.Failure.TheVariants.{Stopped};
@@ -60,7 +60,7 @@ pub enum Problem {
 impl Problem {
     /// The exit status that tells it.
     pub fn status(&self) -> u8
-        ensures exact { result ≡ status_of self.now }
+        ensures exact { result ≡ problem_status self.now }
         ensures status { IsStatus result }
     {
         match self {

@@ -10,7 +10,7 @@ use crate::one::do_one;
 use std::alloc::Global;
 use xls_files::{Host, Place, place_of};
 use xls_lines::{Sink, Stop, write_all};
-use xls_words::{Command, Files, Request, SheetChoice, Shown, request_of};
+use xls_words::{Command, Files, Request, SheetChoice, Displayed, request_of};
 
 /// Where there is no folder for the texts, what is wrong with that.
 fn mistake_in(job: &Job<'_>, is_many: bool) -> Option<&'static str> {
@@ -32,7 +32,7 @@ fn do_path<H: Host, K: Sink>(
     job: &Job<'_>,
     path: &str,
 ) -> Result<u8, Stop>
-    requires { requests.HasNumber job.now.request.command }
+    requires { requests.CommandHasNumber job.now.request.command }
     ensures { IfOk result (Ends out.old out.new) }
 {
     let place = place_of(host, path);
@@ -55,7 +55,7 @@ fn do_paths<H: Host, K: Sink>(
     job: &Job<'_>,
     paths: &[&str],
 ) -> Result<u8, Stop>
-    requires { requests.HasNumber job.now.request.command }
+    requires { requests.CommandHasNumber job.now.request.command }
     ensures { IfOk result (Ends out.old out.new) }
 {
     if let [path] = paths {
@@ -77,7 +77,7 @@ fn do_listed<H: Host, K: Sink>(
     list: &str,
     by_nul: bool,
 ) -> Result<u8, Stop>
-    requires { requests.HasNumber job.now.request.command }
+    requires { requests.CommandHasNumber job.now.request.command }
     ensures { IfOk result (Ends out.old out.new) }
 {
     if let Some(mistake) = mistake_in(job, true) {
@@ -94,7 +94,7 @@ fn do_request<H: Host, K: Sink>(
     out: &mut K,
     request: Request<'_>,
 ) -> Result<u8, Stop>
-    requires { requests.HasNumber request.command }
+    requires { requests.CommandHasNumber request.command }
     ensures { IfOk result (Ends out.old out.new) }
 {
     let job = job_of(alloc, request)?;
@@ -105,16 +105,16 @@ fn do_request<H: Host, K: Sink>(
 }
 
 /// Tells a mistake in the words; writes help or the version.
-fn do_shown<H: Host, K: Sink>(host: &mut H, out: &mut K, shown: &Shown) -> Result<u8, Stop>
+fn do_displayed<H: Host, K: Sink>(host: &mut H, out: &mut K, displayed: &Displayed) -> Result<u8, Stop>
     ensures { IfOk result (Ends out.old out.new) }
 {
-    match shown {
-        Shown::Memory => Err(Stop::Memory),
-        Shown::Mistake(text) => {
+    match displayed {
+        Displayed::Memory => Err(Stop::Memory),
+        Displayed::Mistake(text) => {
             host.say(text.as_str());
             Ok(2)
         }
-        Shown::Help(text) => {
+        Displayed::Help(text) => {
             write_all(out, text.as_bytes())?;
             Ok(0)
         }
@@ -146,7 +146,7 @@ pub fn run<H: Host, K: Sink>(alloc: Global, host: &mut H, out: &mut K, words: &[
 {
     let done = match request_of(alloc, words) {
         Ok(request) => do_request(alloc, host, out, request),
-        Err(shown) => do_shown(host, out, &shown),
+        Err(displayed) => do_displayed(host, out, &displayed),
     };
     status_of(host, done)
 }

@@ -49,7 +49,7 @@ fn write_text_file<H: Host>(
     folder: &str,
     bytes: &[u8],
 ) -> Result<(), Problem>
-    requires { requests.HasNumber job.now.request.command }
+    requires { requests.CommandHasNumber job.now.request.command }
 {
     let path = file_path(
         alloc,
@@ -253,7 +253,7 @@ pub(crate) fn write_files<H: Host>(
     file: &str,
     bytes: &[u8],
 ) -> Result<(), Problem>
-    requires { requests.HasNumber job.now.request.command }
+    requires { requests.CommandHasNumber job.now.request.command }
 {
     let folder = folder_of(alloc, out, file)?;
     match &job.request.command {

@@ -102,7 +102,7 @@ pub(crate) fn write_text<K: Sink>(
     job: &Job<'_>,
     file: &[u8],
 ) -> Result<(), Problem>
-    requires { requests.HasNumber job.now.request.command }
+    requires { requests.CommandHasNumber job.now.request.command }
     ensures { OfText (answer_of job.now.request.command) job.now.options file.now
         (K.state sink.old) (K.state sink.new) result }
 {

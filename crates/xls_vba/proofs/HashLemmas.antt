@@ -18,9 +18,9 @@ none_at (c ∷ cs) alone =
     rw (others, test)
 
 -- a # with none after it
-pub parted_around : (before behind : List ℕ) → at_last_hash behind ≡ None → at_last_hash (before ++ 35 ∷ behind) ≡ Some (before, behind)
-parted_around [] behind none = rw none
-parted_around (c ∷ before) behind none = rw (parted_around before behind none)
+pub parted_around : (before following : List ℕ) → at_last_hash following ≡ None → at_last_hash (before ++ 35 ∷ following) ≡ Some (before, following)
+parted_around [] following none = rw none
+parted_around (c ∷ before) following none = rw (parted_around before following none)
 
 -- what `rsplit_once('#')` answers
 pub rsplit_at_hash : (t : List ℕ) (r : Option (Bor (List ℕ) × Bor (List ℕ)))

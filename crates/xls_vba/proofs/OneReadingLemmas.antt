@@ -3,10 +3,10 @@ use Rattle.std.proofs.Common.{◌≡◌, ℕ, List, [], ◌∷◌, Option, Some,
 use Rattle.xls_text.specs.declared.encoding.XlsEncoding.{XlsEncoding}
 use Rattle.xls_vba.specs.declared.error.VbaError.{VbaError}
 use Rattle.xls_vba.specs.Fields.{header_from}
-use Rattle.xls_vba.specs.Items.{Element, item_from, Front, ItemsFault}
+use Rattle.xls_vba.specs.Items.{Element, item_from, ProjectHead, ItemsFault}
 use Rattle.xls_vba.specs.References.{Ref, references_of}
 use Rattle.xls_vba.specs.Modules.{Mod, modules_part}
-use Rattle.xls_vba.specs.Directory.{Project, Refers, IsDirectory, IsFault, in_header, in_items, in_modules}
+use Rattle.xls_vba.specs.Directory.{Project, Refers, IsDirectory, IsProjectFault, in_header, in_items, in_modules}
 
 -- a result is one value, or one error
 ok_same : {A E : Type 0} (r : Result A E) (x y : A) → r ≡ Ok x → r ≡ Ok y → x ≡ y
@@ -49,19 +49,19 @@ stop_or_item v (Err f) d mid h k = ok_or_err v _ _ k h
 module _ (page : XlsEncoding) where
   -- items up to a stop are the only ones
   once : (bytes : List ℕ) (es fs : List Element) (at bt : List ℕ) (o p : Result (List ℕ) VbaError)
-      → Front page bytes es at → item_from page at ≡ stop_of o → Front page bytes fs bt → item_from page bt ≡ stop_of p
+      → ProjectHead page bytes es at → item_from page at ≡ stop_of o → ProjectHead page bytes fs bt → item_from page bt ≡ stop_of p
       → (es ≡ fs) × (o ≡ p)
-  once bytes [] [] at bt o p front stop others end =
-      (refl, stop_same (item_from page at) o p stop (ap (item_from page) (sym front ∙ others) ∙ end))
-  once bytes [] (f ∷ fs) at bt o p front stop others end =
-      absurd (stop_or_item (item_from page bytes) o f others.0 (ap (item_from page) front ∙ stop) others.1)
-  once bytes (e ∷ es) [] at bt o p front stop others end =
-      absurd (stop_or_item (item_from page bytes) p e front.0 (ap (item_from page) others ∙ end) front.1)
-  once bytes (e ∷ es) (f ∷ fs) at bt o p front stop others end =
-      let pairs = ok_same (item_from page bytes) _ _ front.1 others.1 in
+  once bytes [] [] at bt o p prefix stop others end =
+      (refl, stop_same (item_from page at) o p stop (ap (item_from page) (sym prefix ∙ others) ∙ end))
+  once bytes [] (f ∷ fs) at bt o p prefix stop others end =
+      absurd (stop_or_item (item_from page bytes) o f others.0 (ap (item_from page) prefix ∙ stop) others.1)
+  once bytes (e ∷ es) [] at bt o p prefix stop others end =
+      absurd (stop_or_item (item_from page bytes) p e prefix.0 (ap (item_from page) others ∙ end) prefix.1)
+  once bytes (e ∷ es) (f ∷ fs) at bt o p prefix stop others end =
+      let pairs = ok_same (item_from page bytes) _ _ prefix.1 others.1 in
       let heads : e ≡ f = some_same _ _ (ap (λ (x : Step). x.0) pairs) in
-      let mids : others.0 ≡ front.0 = sym (ap (λ (x : Step). x.1) pairs) in
-      let rest = once front.0 es fs at bt o p front.2 stop (subst (λ (mid : List ℕ). Front page mid fs bt) mids others.2) end in
+      let mids : others.0 ≡ prefix.0 = sym (ap (λ (x : Step). x.1) pairs) in
+      let rest = once prefix.0 es fs at bt o p prefix.2 stop (subst (λ (mid : List ℕ). ProjectHead page mid fs bt) mids others.2) end in
       (rw (heads, rest.0), rest.1)
 
   refers_once : (bytes : List ℕ) (rs ts : List Ref) (rest left : List ℕ) → Refers page bytes rs rest → Refers page bytes ts left → (rs ≡ ts) × (rest ≡ left)
@@ -86,8 +86,8 @@ module _ (x y : Head) (same : x ≡ y) where
   moved_modules : (refs others : List Ref) (rest left : List ℕ) → Refers x.0 x.1 refs rest → Refers y.0 y.1 others left
       → modules_part x.0 rest ≡ modules_part y.0 left
   moved_modules refs others rest left h k =
-      let behind = (refers_once y.0 y.1 refs others rest left (moved refs rest h) k).1 in
-      ap (λ (z : Head). modules_part z.0 rest) same ∙ ap (modules_part y.0) behind
+      let following = (refers_once y.0 y.1 refs others rest left (moved refs rest h) k).1 in
+      ap (λ (z : Head). modules_part z.0 rest) same ∙ ap (modules_part y.0) following
 
 module _ (bytes : List ℕ) where
   header_same : (x y : Head) → header_from bytes ≡ Ok x → header_from bytes ≡ Ok y → x ≡ y
@@ -104,7 +104,7 @@ module _ (bytes : List ℕ) where
       ap (λ (z : List Ref). record { references = z; modules = p.modules }) refs
       ∙ ap (λ (z : List Mod). record { references = q.references; modules = z }) modules
 
-  pub project_or_fault : (p : Project) (e : VbaError) → IsDirectory bytes p → IsFault bytes e → ⊥
+  pub project_or_fault : (p : Project) (e : VbaError) → IsDirectory bytes p → IsProjectFault bytes e → ⊥
   project_or_fault p e h (in_header header) = ok_or_err _ _ _ h.header header
   project_or_fault p e h (in_items page items header fault) =
       let x : Head = (h.page, h.items) in
@@ -115,7 +115,7 @@ module _ (bytes : List ℕ) where
       let y : Head = (page, items) in
       ok_or_err _ _ _ h.modules (moved_modules x y (header_same x y h.header header) p.references refs h.rest rest h.refers refers ∙ fault)
 
-  pub one_first_fault : (e f : VbaError) → IsFault bytes e → IsFault bytes f → e ≡ f
+  pub one_first_fault : (e f : VbaError) → IsProjectFault bytes e → IsProjectFault bytes f → e ≡ f
   one_first_fault e f (in_header h) (in_header k) = err_same _ e f h k
   one_first_fault e f (in_header h) (in_items page items k fault) = absurd (ok_or_err _ _ _ k h)
   one_first_fault e f (in_header h) (in_modules page items rest refs k refers fault) = absurd (ok_or_err _ _ _ k h)

@@ -30,13 +30,13 @@ pub record IsDirectory (bytes : List ℕ) (project : Project) : Type 0 where
   pub modules : modules_part page rest ≡ Ok project.modules
 
 -- after whole parts the next field isn't there or differs
-pub data IsFault (bytes : List ℕ) (e : VbaError) : Type 0 where
-  in_header : header_from bytes ≡ Err e → IsFault bytes e
+pub data IsProjectFault (bytes : List ℕ) (e : VbaError) : Type 0 where
+  in_header : header_from bytes ≡ Err e → IsProjectFault bytes e
   in_items : (page : XlsEncoding) (items : List ℕ) → header_from bytes ≡ Ok (page, items)
-      → ItemsFault page items e → IsFault bytes e
+      → ItemsFault page items e → IsProjectFault bytes e
   in_modules : (page : XlsEncoding) (items rest : List ℕ) (refs : List Ref)
       → header_from bytes ≡ Ok (page, items) → Refers page items refs rest
-      → modules_part page rest ≡ Err e → IsFault bytes e
+      → modules_part page rest ≡ Err e → IsProjectFault bytes e
 
 -- a refusal has this cause, unless memory ran out
 abbrev pub FailsIn : VbaError → (VbaError → Type 0) → Type 0

@@ -32,8 +32,8 @@ bytes_from n bytes =
 -- skips the first n bytes
 unfoldable pub skip : ℕ → List ℕ → Result (List ℕ) VbaError
 skip n bytes = do
-  front ← bytes_from n bytes
-  Ok front.1
+  prefix ← bytes_from n bytes
+  Ok prefix.1
 
 -- a number of n bytes
 abbrev pub number_from : ℕ → List ℕ → Result (ℕ × List ℕ) VbaError

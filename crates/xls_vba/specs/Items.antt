@@ -117,17 +117,17 @@ item_from page bytes = do
       else Err (errors.Unknown parts.CheckId id.0)
 
 -- items one after the other, and what follows them
-abbrev pub Front : XlsEncoding → List ℕ → List Element → List ℕ → Type 0
-Front page bytes [] after = bytes ≡ after
-Front page bytes (e ∷ es) after =
-    (mid : List ℕ) × (item_from page bytes ≡ Ok (Some e, mid)) × Front page mid es after
+abbrev pub ProjectHead : XlsEncoding → List ℕ → List Element → List ℕ → Type 0
+ProjectHead page bytes [] after = bytes ≡ after
+ProjectHead page bytes (e ∷ es) after =
+    (mid : List ℕ) × (item_from page bytes ≡ Ok (Some e, mid)) × ProjectHead page mid es after
 
 -- the items up to the end of the references, and what follows it
 abbrev pub Items : XlsEncoding → List ℕ → List Element → List ℕ → Type 0
 Items page bytes es rest =
-    (end : List ℕ) × Front page bytes es end × (item_from page end ≡ Ok (None, rest))
+    (end : List ℕ) × ProjectHead page bytes es end × (item_from page end ≡ Ok (None, rest))
 
 -- whole items, and then the first fault of the next
 abbrev pub ItemsFault : XlsEncoding → List ℕ → VbaError → Type 0
 ItemsFault page bytes e =
-    (es : List Element) × (at : List ℕ) × Front page bytes es at × (item_from page at ≡ Err e)
+    (es : List Element) × (at : List ℕ) × ProjectHead page bytes es at × (item_from page at ≡ Err e)

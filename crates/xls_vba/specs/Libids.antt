@@ -33,12 +33,12 @@ at_last_hash [] = None
 at_last_hash (c ∷ cs) = parts_with c cs (at_last_hash cs)
 
 -- what stands after the #, or all
-abbrev pub behind_or : List ℕ → Option (List ℕ × List ℕ) → List ℕ
-behind_or text None = text
-behind_or text (Some parts) = parts.1
+abbrev pub after_or : List ℕ → Option (List ℕ × List ℕ) → List ℕ
+after_or text None = text
+after_or text (Some parts) = parts.1
 
-abbrev pub behind_last_hash : List ℕ → List ℕ
-behind_last_hash text = behind_or text (at_last_hash text)
+abbrev pub after_last_hash : List ℕ → List ℕ
+after_last_hash text = after_or text (at_last_hash text)
 
 -- an empty libid, and one that ends in ##, change nothing
 abbrev pub says_nothing : List ℕ → Bool
@@ -49,7 +49,7 @@ says_nothing libid =
 -- the description after the last #, and the path before it, back to the # before or the beginning
 abbrev pub parted : Option (List ℕ × List ℕ) → Result (Option Said) VbaError
 parted None = Err errors.LibId
-parted (Some parts) = Ok (Some (behind_last_hash parts.0, parts.1))
+parted (Some parts) = Ok (Some (after_last_hash parts.0, parts.1))
 
 -- what the bytes of a libid say
 abbrev pub libid_of : XlsEncoding → List ℕ → Result (Option Said) VbaError

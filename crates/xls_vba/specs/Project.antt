@@ -17,11 +17,11 @@ last_module name (m ∷ ms) =
     option_or (last_module name ms) (if bytes_eq m.name name then Some m else None)
 
 -- no module has the name, unless memory ran out
-abbrev pub IsRefusal : List ℕ → List Mod → VbaError → Type 0
-IsRefusal name ms errors.Memory = Unit {0}
-IsRefusal name ms (errors.ModuleNotFound n) =
+abbrev pub IsProjectRefusal : List ℕ → List Mod → VbaError → Type 0
+IsProjectRefusal name ms errors.Memory = Unit {0}
+IsProjectRefusal name ms (errors.ModuleNotFound n) =
     (string_bytes n ≡ name) × (last_module name ms ≡ None)
-IsRefusal name ms other = ⊥
+IsProjectRefusal name ms other = ⊥
 
 abbrev pub module_names : List Mod → List (List ℕ)
 module_names = map (λ m. m.name)

@@ -68,4 +68,4 @@ references_of = references_from nameless
 
 -- those that are listed, and those of more items
 abbrev pub all_with : List Ref → Ref → List items.Element → List Ref
-all_with front r more = front ++ references_from r more
+all_with prefix r more = prefix ++ references_from r more

@@ -4,7 +4,7 @@ ghost use Rattle.std.specs.Prelude.{◌≡◌, Some};
 ghost use Rattle.std.specs.Option.{option_map};
 ghost use Rattle.std.specs.String.{string_bytes};
 ghost use Rattle.xls_vba.specs.Fields.{Gives};
-ghost use Rattle.xls_vba.specs.Libids.{at_last_hash, behind_last_hash, says_nothing, libid_of, libid_view, text_of};
+ghost use Rattle.xls_vba.specs.Libids.{at_last_hash, after_last_hash, says_nothing, libid_of, libid_view, text_of};
 
 use crate::error::VbaError;
 use std::alloc::{AllocError, Global};
@@ -23,12 +23,12 @@ fn at_last_hash(text: &str) -> Option<(&str, &str)>
 }
 
 // What stands after the last `#`, or everything.
-fn behind_last_hash(text: &str) -> &str
-    ensures { result.now ≡ behind_last_hash text.now }
+fn after_last_hash(text: &str) -> &str
+    ensures { result.now ≡ after_last_hash text.now }
 {
     match at_last_hash(text) {
         None => text,
-        Some((_, behind)) => behind,
+        Some((_, following)) => following,
     }
 }
 
@@ -48,10 +48,10 @@ pub(crate) fn libid_of(alloc: Global, page: XlsEncoding, libid: &[u8]) -> Result
         return Ok(None);
     }
     let text = page.decode_all(alloc, libid)?;
-    let Some((before, behind)) = at_last_hash(text.as_str()) else {
+    let Some((before, following)) = at_last_hash(text.as_str()) else {
         return Err(VbaError::LibId);
     };
-    let path = String::from_str(alloc, behind_last_hash(before))?;
-    let description = String::from_str(alloc, behind)?;
+    let path = String::from_str(alloc, after_last_hash(before))?;
+    let description = String::from_str(alloc, following)?;
     Ok(Some((path, description)))
 }

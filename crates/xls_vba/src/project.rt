@@ -5,8 +5,8 @@ ghost use Rattle.std.specs.Option.{option_map};
 ghost use Rattle.std.specs.String.{string_bytes};
 ghost use Rattle.xls_vba.specs.References.{reference_views};
 ghost use Rattle.xls_vba.specs.Modules.{module_view, module_views};
-ghost use Rattle.xls_vba.specs.Directory.{Project, IsDirectory, IsFault, FailsIn};
-ghost use Rattle.xls_vba.specs.Project.{last_module, module_names, IsRefusal, AreNames};
+ghost use Rattle.xls_vba.specs.Directory.{Project, IsDirectory, IsProjectFault, FailsIn};
+ghost use Rattle.xls_vba.specs.Project.{last_module, module_names, IsProjectRefusal, AreNames};
 
 use crate::directory::references_in;
 use crate::error::VbaError;
@@ -80,7 +80,7 @@ impl VbaProject {
     /// or `Cfb`; else only where memory runs out. What stands after the modules is not looked at.
     pub fn from_dir(alloc: Global, bytes: &[u8]) -> Result<VbaProject, VbaError>
         ensures { MatchResult result (λ project. IsDirectory bytes.now project)
-            (λ e. FailsIn e (IsFault bytes.now)) }
+            (λ e. FailsIn e (IsProjectFault bytes.now)) }
     {
         let (page, rest) = header_of(bytes)?;
         let (references, rest) = references_in(alloc, page, rest)?;
@@ -114,7 +114,7 @@ impl VbaProject {
     pub fn module(&self, alloc: Global, name: &str) -> Result<Module, VbaError>
         ensures found { IfOk result (λ m.
             last_module name.now self.now.modules ≡ Some (module_view m)) }
-        ensures cause { IfErr result (IsRefusal name.now self.now.modules) }
+        ensures cause { IfErr result (IsProjectRefusal name.now self.now.modules) }
     {
         let Some(module) = last_module(name, &self.modules) else {
             let name = String::from_str(alloc, name)?;

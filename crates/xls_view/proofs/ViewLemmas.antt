@@ -8,20 +8,20 @@ use Rattle.std.specs.Option.{option_or, option_map}
 use Rattle.std.specs.List.{flat_map, AllByRecursion, AllZip}
 use Rattle.std.specs.Cmp.Lexicographic.{pointwise}
 use Rattle.xls_stream.specs.Walks.{IsBytes}
-use Rattle.xls_stream.specs.Listing.{Kept, Item, Entry, Holds, entry_of, IsSheetPart}
+use Rattle.xls_stream.specs.Listing.{Kept, Item, ListEntry, Holds, entry_of, IsSheetPart}
 use Rattle.xls_stream.specs.declared.part.Part.{Part}
 use Rattle.xls_stream.proofs.HoldingLemmas.{one_list}
 use Rattle.xls_data.specs.Sheets.{SheetContent}
 use Rattle.xls_record.specs.declared.error.XlsError.{XlsError}
 use Rattle.xls_record.specs.declared.error.XlsError.TheVariants as errors
 use Rattle.xls_biff.specs.SheetTable.{CellContext}
-use Rattle.xls_meaning.specs.Order.{along, first_of}
+use Rattle.xls_meaning.specs.Order.{map_with_earlier, first_of}
 use Rattle.xls_meaning.specs.GlobalsTable.{forced_fault}
-use Rattle.xls_meaning.specs.InForce.{InForce, SheetRecords, sheets_of, context_of, cells_of, in_force_of}
-use Rattle.xls_meaning.specs.Reading.{SheetView, IsReading, paired, last_named, kept_named, shown_of}
-use Rattle.xls_meaning.specs.Faults.{kept_fault, cut_fault, sheet_places, globals_places, places, FirstBehind}
+use Rattle.xls_meaning.specs.Settings.{Settings, SheetRecords, sheets_of, context_of, cells_of, settings_of}
+use Rattle.xls_meaning.specs.Reading.{SheetView, IsReading, paired, last_named, kept_named, displayed_of}
+use Rattle.xls_meaning.specs.Faults.{kept_fault, cut_fault, sheet_places, globals_places, places, FirstAfter}
 use Rattle.xls_meaning.specs.Held.{OpenedSheet, opened_of, no_view}
-use Rattle.xls_meaning.proofs.NamedLemmas.{named_some, named_shown}
+use Rattle.xls_meaning.proofs.NamedLemmas.{named_some, named_displayed}
 use Rattle.xls_meaning.specs.Rules.{Rules}
 use Rattle.xls_meaning.proofs.OrderLemmas.{none_both, first_early}
 use Rattle.xls_meaning.proofs.HeldLemmas.{IsFine, sheet_view, good, opened_places, after_globals, carries_full}
@@ -35,8 +35,8 @@ use Rattle.xls_open.proofs.AlikeLemmas.{places_same, checked_alike}
 use Rattle.xls_open.proofs.OpenLemmas.{stands, opened_under}
 use Rattle.xls_cursors.specs.Contents.{IsReadable, content_by, formulas_at, kept_at, settled}
 use Rattle.xls_view.specs.Contents.{AreReadable, by_name, viewed}
-use Rattle.xls_cursors.specs.Formulas.{AreLast, Formula, formulas_of}
-use Rattle.xls_view.specs.Viewing.{IsFault, IsViewed, ShowsFormulas, ViewCause, Viewed, formulas_named}
+use Rattle.xls_cursors.specs.Formulas.{AreLast, Formula, formulas_kept}
+use Rattle.xls_view.specs.Viewing.{IsViewFault, IsViewed, ShowsFormulas, ViewCause, Viewed, formulas_named}
 use Rattle.xls_view.specs.Placing.{IsPartOf}
 use Rattle.xls_cursors.proofs.WalkLemmas.{sheet_kept, drop_bytes}
 use Rattle.xls_cursors.proofs.SettledLemmas.{ascending_settled, last_settled}
@@ -58,12 +58,12 @@ named_map {X} {Y} f (q ∷ qs) name =
 
 -- the formulas of some kept records
 abbrev tokens_of : List Kept → List Formula
-tokens_of kept = settled (formulas_of kept)
+tokens_of kept = settled (formulas_kept kept)
 
-tokens_last : (kept : List Kept) → AreLast (formulas_of kept) (tokens_of kept)
+tokens_last : (kept : List Kept) → AreLast (formulas_kept kept) (tokens_of kept)
 tokens_last kept = record {
-  ascending = ascending_settled (formulas_of kept);
-  last = λ p. last_settled (formulas_of kept) p;
+  ascending = ascending_settled (formulas_kept kept);
+  last = λ p. last_settled (formulas_kept kept) p;
 }
 
 named_tokens : (o : Option (List Kept)) → unwrap_or (option_map tokens_of o) [] ≡ tokens_of (unwrap_or o [])
@@ -82,7 +82,7 @@ module _ (bytes : List ℕ) (fits : IsBytes bytes) where
   abbrev Stands : OpenedSheet → Type 0
   Stands o = IsSheetPart bytes o.offset o.kept o.cut
 
-  pub contents_are : (rules : Rules) (s : InForce) (os : List OpenedSheet) → AllByRecursion Stands os → AllByRecursion (IsFine rules s.cells) os
+  pub contents_are : (rules : Rules) (s : Settings) (os : List OpenedSheet) → AllByRecursion Stands os → AllByRecursion (IsFine rules s.cells) os
       → AreContents rules s bytes (map pair_of os) (map (λ (offset : ℕ). content_by s (kept_at bytes offset)) (offsets_of os))
   contents_are rules s [] st fine = tt
   contents_are rules s (o ∷ os) st fine = (
@@ -120,9 +120,9 @@ module _ (bytes : List ℕ) (fits : IsBytes bytes) where
     all_tokens all sheets os e,
   )
 
-  pub tokens_shown : (os : List OpenedSheet) → AllByRecursion Stands os
+  pub tokens_displayed : (os : List OpenedSheet) → AllByRecursion Stands os
       → AllZip (ShowsFormulas (map sheet_view os)) (by_name [] (heads_of os) (map (formulas_at bytes) (offsets_of os))) (map sheet_view os)
-  tokens_shown os st = all_tokens (paired (heads_of os) (map (formulas_at bytes) (offsets_of os))) (map sheet_view os) os (tokens_paired os st)
+  tokens_displayed os st = all_tokens (paired (heads_of os) (map (formulas_at bytes) (offsets_of os))) (map sheet_view os) os (tokens_paired os st)
 
 -- ---- the whole
 
@@ -139,19 +139,19 @@ module _ (options : XlsOptions) (bytes : List ℕ) (fits : IsBytes bytes) where
     functions = [];
   }
 
-  pub one_fault : (e f : XlsError) → IsFault options bytes e → IsFault options bytes f → e ≡ f
+  pub one_fault : (e f : XlsError) → IsViewFault options bytes e → IsViewFault options bytes f → e ≡ f
   one_fault e f a b =
       let within : length bytes ≤ wide.max_bytes = omega arith in
       one_first_fault wide bytes fits e f ((checked_alike wide bytes within e).1 a) ((checked_alike wide bytes within f).1 b)
 
-  fault_cause : (e : XlsError) → IsFault options bytes e → ViewCause options bytes e
+  fault_cause : (e : XlsError) → IsViewFault options bytes e → ViewCause options bytes e
   fault_cause errors.Memory h = tt
   fault_cause e h = h
 
   module _ (forced : forced_fault options.force_codepage ≡ None) where
-    placed_fault : (items : List Item) (cut : Option Part) (e : XlsError) → Holds bytes items cut → first_of (places rules items cut) ≡ Some e → IsFault options bytes e
+    placed_fault : (items : List Item) (cut : Option Part) (e : XlsError) → Holds bytes items cut → first_of (places rules items cut) ≡ Some e → IsViewFault options bytes e
     placed_fault items cut e holds first =
-        subst (λ (o : Option XlsError). FirstBehind o (checked options.force_codepage options.max_cells) bytes e) (sym forced)
+        subst (λ (o : Option XlsError). FirstAfter o (checked options.force_codepage options.max_cells) bytes e) (sym forced)
         (items, cut, holds, ap first_of (sym (places_same rules items cut)) ∙ first)
 
     pub globals_cause : (e : XlsError) → ReadsGlobals rules bytes (Err e) → ViewCause options bytes e
@@ -161,12 +161,12 @@ module _ (options : XlsOptions) (bytes : List ℕ) (fits : IsBytes bytes) where
 
     -- ---- without a fault
 
-    module _ (sound : (e : XlsError) → IsFault options bytes e → ⊥) (t : State) (a : AreGlobals rules bytes t) where
-      abbrev entries : List Entry
+    module _ (sound : (e : XlsError) → IsViewFault options bytes e → ⊥) (t : State) (a : AreGlobals rules bytes t) where
+      abbrev entries : List ListEntry
       entries = map entry_of a.items
 
-      abbrev force : InForce
-      force = in_force_of rules entries
+      abbrev settings : Settings
+      settings = settings_of rules entries
 
       abbrev opened : List OpenedSheet
       opened = opened_of rules a.items
@@ -179,59 +179,59 @@ module _ (options : XlsOptions) (bytes : List ℕ) (fits : IsBytes bytes) where
       cut_none None h = refl
       cut_none (Some p) h = absurd cc
 
-      fine_from : (os : List OpenedSheet) → first_of (flat_map (opened_places rules force.cells) os) ≡ None → AllByRecursion (IsFine rules force.cells) os
+      fine_from : (os : List OpenedSheet) → first_of (flat_map (opened_places rules settings.cells) os) ≡ None → AllByRecursion (IsFine rules settings.cells) os
       fine_from [] h = tt
       fine_from (o ∷ os) h =
-          let both = none_both (opened_places rules force.cells o) (flat_map (opened_places rules force.cells) os) h in
-          let here = none_both (along (kept_fault rules force.cells) [] o.kept) (cut_fault o.cut ∷ []) both.0 in
+          let both = none_both (opened_places rules settings.cells o) (flat_map (opened_places rules settings.cells) os) h in
+          let here = none_both (map_with_earlier (kept_fault rules settings.cells) [] o.kept) (cut_fault o.cut ∷ []) both.0 in
           ((cut_none o.cut here.1, here.0), fine_from os both.1)
 
-      fine : AllByRecursion (IsFine rules force.cells) opened
+      fine : AllByRecursion (IsFine rules settings.cells) opened
       fine = fine_from opened (sym (after_globals rules a.items a.faultless) ∙ no_fault (first_of (places rules a.items None)) refl)
 
       parts : AllByRecursion (λ (o : OpenedSheet). IsSheetPart bytes o.offset o.kept o.cut) opened
       parts = stands rules bytes fits t a
 
       -- the records of all parts can be read
-      pub readable_under : (s : InForce) (offsets : List ℕ) → s ≡ force → offsets ≡ map (λ (q : ℕ × SheetContent). q.0) t.sheets
+      pub readable_under : (s : Settings) (offsets : List ℕ) → s ≡ settings → offsets ≡ map (λ (q : ℕ × SheetContent). q.0) t.sheets
           → AreReadable s.cells bytes offsets
       readable_under s offsets same at =
-          subst (λ (x : InForce). AreReadable x.cells bytes offsets) (sym same)
-          (subst (AreReadable force.cells bytes) (sym (at ∙ ap (map (λ (q : ℕ × SheetContent). q.0)) a.state.sheets)) (all_readable bytes fits rules force.cells opened parts fine))
+          subst (λ (x : Settings). AreReadable x.cells bytes offsets) (sym same)
+          (subst (AreReadable settings.cells bytes) (sym (at ∙ ap (map (λ (q : ℕ × SheetContent). q.0)) a.state.sheets)) (all_readable bytes fits rules settings.cells opened parts fine))
 
-      contents : AreContents rules force bytes t.sheets (map (λ (offset : ℕ). content_by force (kept_at bytes offset)) (offsets_of opened))
-      contents = subst (λ (l : Sheets). AreContents rules force bytes l (map (λ (offset : ℕ). content_by force (kept_at bytes offset)) (offsets_of opened)))
-          (sym a.state.sheets) (contents_are bytes fits rules force opened parts fine)
+      contents : AreContents rules settings bytes t.sheets (map (λ (offset : ℕ). content_by settings (kept_at bytes offset)) (offsets_of opened))
+      contents = subst (λ (l : Sheets). AreContents rules settings bytes l (map (λ (offset : ℕ). content_by settings (kept_at bytes offset)) (offsets_of opened)))
+          (sym a.state.sheets) (contents_are bytes fits rules settings opened parts fine)
 
       -- the view shows the reading of every list
-      pub viewed_under : (s : InForce) (heads : List SheetContent) (offsets : List ℕ) (told : List (List ℕ × List ℕ))
-          → s ≡ force → heads ≡ map (λ (q : ℕ × SheetContent). q.1) t.sheets → offsets ≡ map (λ (q : ℕ × SheetContent). q.0) t.sheets
-          → told ≡ s.formulas.names → IsViewed options bytes (viewed bytes s heads offsets told)
-      viewed_under s heads offsets told same named at told_is =
+      pub viewed_under : (s : Settings) (heads : List SheetContent) (offsets : List ℕ) (reported : List (List ℕ × List ℕ))
+          → s ≡ settings → heads ≡ map (λ (q : ℕ × SheetContent). q.1) t.sheets → offsets ≡ map (λ (q : ℕ × SheetContent). q.0) t.sheets
+          → reported ≡ s.formulas.names → IsViewed options bytes (viewed bytes s heads offsets reported)
+      viewed_under s heads offsets reported same named at reported_is =
           let at_opened : offsets ≡ offsets_of opened = at ∙ ap (map (λ (q : ℕ × SheetContent). q.0)) a.state.sheets in
           let heads_opened : heads ≡ heads_of opened = named ∙ ap (map (λ (q : ℕ × SheetContent). q.1)) a.state.sheets in
           let read : AreContents rules s bytes t.sheets (map (λ (offset : ℕ). content_by s (kept_at bytes offset)) offsets) =
-          subst (λ (x : InForce). AreContents rules x bytes t.sheets (map (λ (offset : ℕ). content_by x (kept_at bytes offset)) offsets)) (sym same)
-          (subst (λ (l : List ℕ). AreContents rules force bytes t.sheets (map (λ (offset : ℕ). content_by force (kept_at bytes offset)) l)) (sym at_opened) contents) in
-          let o = (opened_under rules bytes fits t a s t.sheets heads (map (λ (offset : ℕ). content_by s (kept_at bytes offset)) offsets) s.cells.is_1904 s.cells.classes told same refl named forced read refl refl told_is).0 in
-          let view = viewed bytes s heads offsets told in
-          let g = good rules force.cells a.items [] a.faultless fine in
+          subst (λ (x : Settings). AreContents rules x bytes t.sheets (map (λ (offset : ℕ). content_by x (kept_at bytes offset)) offsets)) (sym same)
+          (subst (λ (l : List ℕ). AreContents rules settings bytes t.sheets (map (λ (offset : ℕ). content_by settings (kept_at bytes offset)) l)) (sym at_opened) contents) in
+          let o = (opened_under rules bytes fits t a s t.sheets heads (map (λ (offset : ℕ). content_by s (kept_at bytes offset)) offsets) s.cells.is_1904 s.cells.classes reported same refl named forced read refl refl reported_is).0 in
+          let view = viewed bytes s heads offsets reported in
+          let g = good rules settings.cells a.items [] a.faultless fine in
           let carried = (carries_full bytes rules a.items forced a.holds a.faultless fine).0 in
           record {
             sound = sound;
             entries = o.entries;
             carries = o.carries;
             full = o.full;
-            every = λ others c. subst (λ (l : List Entry). IsReading rules l view.book) (one_list bytes fits o.entries others o.carries c) o.reading;
+            every = λ others c. subst (λ (l : List ListEntry). IsReading rules l view.book) (one_list bytes fits o.entries others o.carries c) o.reading;
             context = λ others c.
-                ap (λ (x : InForce). x.formulas) same
+                ap (λ (x : Settings). x.formulas) same
                 ∙ ap (context_of rules) (one_list bytes fits entries others carried c);
             formulas = λ others c.
-                subst (λ (l : List Entry). AllZip (ShowsFormulas (sheets_of rules l)) view.formulas (sheets_of rules l)) (one_list bytes fits entries others carried c)
+                subst (λ (l : List ListEntry). AllZip (ShowsFormulas (sheets_of rules l)) view.formulas (sheets_of rules l)) (one_list bytes fits entries others carried c)
                 (subst (λ (qs : List SheetRecords). AllZip (ShowsFormulas qs) view.formulas qs) (sym g.sheets)
                 (subst (λ (hs : List SheetContent). AllZip (ShowsFormulas (map sheet_view opened)) (by_name [] hs (map (formulas_at bytes) offsets)) (map sheet_view opened)) (sym heads_opened)
                 (subst (λ (l : List ℕ). AllZip (ShowsFormulas (map sheet_view opened)) (by_name [] (heads_of opened) (map (formulas_at bytes) l)) (map sheet_view opened)) (sym at_opened)
-                (tokens_shown bytes fits opened parts))));
+                (tokens_displayed bytes fits opened parts))));
           }
 
 -- ---- the part of a sheet
@@ -256,9 +256,9 @@ all_named {X} P (h ∷ hs) (y ∷ xs) name x a e =
     by_cases None f true h k = let same : y ≡ x = cc in subst P same a.0
     by_cases None f false h k = absurd cc
 
-module _ (bytes : List ℕ) (s : InForce) (heads : List SheetContent) (offsets : List ℕ) (told : List (List ℕ × List ℕ)) (many : length offsets ≡ length heads) where
+module _ (bytes : List ℕ) (s : Settings) (heads : List SheetContent) (offsets : List ℕ) (reported : List (List ℕ × List ℕ)) (many : length offsets ≡ length heads) where
   abbrev whole : Viewed
-  whole = viewed bytes s heads offsets told
+  whole = viewed bytes s heads offsets reported
 
   abbrev content_of : ℕ → SheetView
   content_of offset = content_by s (kept_at bytes offset)
@@ -266,31 +266,31 @@ module _ (bytes : List ℕ) (s : InForce) (heads : List SheetContent) (offsets :
   as_many : {X : Type 0} (f : ℕ → X) → length (map f offsets) ≡ length heads
   as_many f = length-map offsets f ∙ many
 
-  shown_named : (name : List ℕ) → shown_of whole.book name ≡ option_map content_of (last_named (paired heads offsets) name)
-  shown_named name =
-      named_shown no_view heads (map content_of offsets) name (as_many content_of)
+  displayed_named : (name : List ℕ) → displayed_of whole.book name ≡ option_map content_of (last_named (paired heads offsets) name)
+  displayed_named name =
+      named_displayed no_view heads (map content_of offsets) name (as_many content_of)
       ∙ ap (λ (l : List (SheetContent × SheetView)). last_named l name) (paired_map content_of heads offsets)
       ∙ named_map content_of (paired heads offsets) name
 
   tokens_named : (name : List ℕ) → formulas_named whole name ≡ option_map (formulas_at bytes) (last_named (paired heads offsets) name)
   tokens_named name =
-      named_shown [] heads (map (formulas_at bytes) offsets) name (as_many (formulas_at bytes))
+      named_displayed [] heads (map (formulas_at bytes) offsets) name (as_many (formulas_at bytes))
       ∙ ap (λ (l : List (SheetContent × List Formula)). last_named l name) (paired_map (formulas_at bytes) heads offsets)
       ∙ named_map (formulas_at bytes) (paired heads offsets) name
 
   pub part_is : (name : List ℕ) (offset : ℕ) (part : Bor (List ℕ)) → IsBytes bytes → AreReadable s.cells bytes offsets
       → Some offset ≡ last_named (paired heads offsets) name → part.now ≡ drop offset bytes
-      → IsPartOf whole (shown_of whole.book name) (formulas_named whole name) (Some part)
+      → IsPartOf whole (displayed_of whole.book name) (formulas_named whole name) (Some part)
   part_is name offset part fits readable found at = (
     rw at (drop_bytes bytes offset fits, all_named (λ (o : ℕ). AllByRecursion (IsReadable s.cells) (kept_at bytes o)) heads offsets name offset readable (sym found)),
-    rw at (shown_named name ∙ ap (option_map content_of) (sym found)),
+    rw at (displayed_named name ∙ ap (option_map content_of) (sym found)),
     rw at (tokens_named name ∙ ap (option_map (formulas_at bytes)) (sym found)),
   )
 
   pub no_part : (name : List ℕ) → None ≡ last_named (paired heads offsets) name
-      → IsPartOf whole (shown_of whole.book name) (formulas_named whole name) None
+      → IsPartOf whole (displayed_of whole.book name) (formulas_named whole name) None
   no_part name found = (
-    shown_named name ∙ ap (option_map content_of) (sym found),
+    displayed_named name ∙ ap (option_map content_of) (sym found),
     tokens_named name ∙ ap (option_map (formulas_at bytes)) (sym found),
   )
 
@@ -302,10 +302,10 @@ module _ (bytes : List ℕ) (s : InForce) (heads : List SheetContent) (offsets :
       slice_get-map (λ (h : SheetContent). unwrap_or (last_named (paired heads xs) h.name) d) heads n
       ∙ ap (option_map (λ (h : SheetContent). unwrap_or (last_named (paired heads xs) h.name) d)) at
       ∙ sym (named_some d heads xs n t len at)
-      ∙ sym (named_shown d heads xs t.name len)
+      ∙ sym (named_displayed d heads xs t.name len)
 
   pub part_at_index : (n : ℕ) (t : SheetContent) (r : Option (Bor (List ℕ))) → slice_get heads n ≡ Some t
-      → IsPartOf whole (shown_of whole.book t.name) (formulas_named whole t.name) r
+      → IsPartOf whole (displayed_of whole.book t.name) (formulas_named whole t.name) r
       → IsPartOf whole (slice_get whole.book.contents n) (slice_get whole.formulas n) r
   part_at_index n t r at h =
       rw (at_index no_view (map content_of offsets) n t (as_many content_of) at, at_index [] (map (formulas_at bytes) offsets) n t (as_many (formulas_at bytes)) at) h

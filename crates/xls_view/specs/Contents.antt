@@ -3,9 +3,9 @@ use Rattle.std.specs.Prelude.{ℕ, List, [], map, unwrap_or}
 use Rattle.std.specs.List.{AllByRecursion}
 use Rattle.xls_data.specs.Sheets.{SheetContent}
 use Rattle.xls_biff.specs.SheetTable.{CellContext}
-use Rattle.xls_meaning.specs.InForce.{InForce}
+use Rattle.xls_meaning.specs.Settings.{Settings}
 use Rattle.xls_meaning.specs.Reading.{last_named, paired}
-use Rattle.xls_open.specs.Workbook.{shown}
+use Rattle.xls_open.specs.Workbook.{views_listed}
 use Rattle.xls_view.specs.Viewing.{Viewed}
 use Rattle.xls_cursors.specs.Contents.{IsReadable, content_by, formulas_at, kept_at}
 
@@ -22,13 +22,13 @@ by_name none sheets xs = map (λ (s : SheetContent). unwrap_or (last_named (pair
 
 -- the view of these bytes, where this is in force, of these sheets whose parts are at these offsets, and of
 -- these defined names
-abbrev pub viewed : List ℕ → InForce → List SheetContent → List ℕ → List (List ℕ × List ℕ) → Viewed
+abbrev pub viewed : List ℕ → Settings → List SheetContent → List ℕ → List (List ℕ × List ℕ) → Viewed
 viewed bytes s sheets offsets names =
     record {
       book = record {
         sheets = sheets;
         names = names;
-        contents = shown (paired sheets (map (λ (offset : ℕ). content_by s (kept_at bytes offset)) offsets)) sheets;
+        contents = views_listed (paired sheets (map (λ (offset : ℕ). content_by s (kept_at bytes offset)) offsets)) sheets;
         is_1904 = s.cells.is_1904;
         classes = s.cells.classes;
       };

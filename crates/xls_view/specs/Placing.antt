@@ -1,21 +1,21 @@
 -- The part of a sheet that a view finds, for the proofs.
 use Rattle.std.specs.Prelude.{◌≡◌, ℕ, List, ◌-◌, Option, Some, None}
 use Rattle.std.specs.Borrow.{Bor}
-use Rattle.xls_meaning.specs.InForce.{InForce}
+use Rattle.xls_meaning.specs.Settings.{Settings}
 use Rattle.xls_meaning.specs.Reading.{SheetView}
 use Rattle.xls_cursors.specs.Contents.{content_by, kept_in, settled}
-use Rattle.xls_cursors.specs.Formulas.{Formula, formulas_of}
+use Rattle.xls_cursors.specs.Formulas.{Formula, formulas_kept}
 use Rattle.xls_view.specs.Viewing.{Viewed}
-use Rattle.xls_cursors.specs.Walking.{IsSound}
+use Rattle.xls_cursors.specs.Walking.{IsSoundPart}
 
 -- what the records of the sheets are read under
-abbrev pub force_of : Viewed → InForce
-force_of v = record { cells = v.cells; formulas = v.context }
+abbrev pub settings_viewed : Viewed → Settings
+settings_viewed v = record { cells = v.cells; formulas = v.context }
 
 -- the part whose content this is, and whose formulas these are; none where there is neither
 abbrev pub IsPartOf : Viewed → Option SheetView → Option (List Formula) → Option (Bor (List ℕ)) → Type 0
 IsPartOf v content formulas None = (content ≡ None) × (formulas ≡ None)
 IsPartOf v content formulas (Some part) =
-    IsSound (force_of v) (part.now, 0)
-    × (content ≡ Some (content_by (force_of v) (kept_in part.now 0)))
-    × (formulas ≡ Some (settled (formulas_of (kept_in part.now 0))))
+    IsSoundPart (settings_viewed v) (part.now, 0)
+    × (content ≡ Some (content_by (settings_viewed v) (kept_in part.now 0)))
+    × (formulas ≡ Some (settled (formulas_kept (kept_in part.now 0))))

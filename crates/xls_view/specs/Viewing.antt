@@ -1,18 +1,18 @@
 -- What a view of a stream shows, and what making one answers.
 use Rattle.std.specs.Prelude.{◌≡◌, ℕ, List, Option}
 use Rattle.std.specs.List.{AllZip}
-use Rattle.xls_stream.specs.Listing.{Entry, Carries}
+use Rattle.xls_stream.specs.Listing.{ListEntry, Carries}
 use Rattle.xls_record.specs.declared.error.XlsError.{XlsError}
 use Rattle.xls_record.specs.declared.error.XlsError.TheVariants as errors
 use Rattle.xls_biff.specs.SheetTable.{CellContext}
 use Rattle.xls_formula.specs.Context.{Context}
-use Rattle.xls_meaning.specs.InForce.{SheetRecords, sheets_of, context_of}
+use Rattle.xls_meaning.specs.Settings.{SheetRecords, sheets_of, context_of}
 use Rattle.xls_meaning.specs.Reading.{BookView, IsReading, kept_named, paired, last_named}
 use Rattle.xls_meaning.specs.Faults.{IsFull}
 use Rattle.xls_open.specs.Checking.{FirstChecked}
 use Rattle.xls_open.specs.Workbook.{rules_of}
 use Rattle.xls_open.specs.declared.options.XlsOptions.{XlsOptions}
-use Rattle.xls_cursors.specs.Formulas.{Formula, AreLast, formulas_of}
+use Rattle.xls_cursors.specs.Formulas.{Formula, AreLast, formulas_kept}
 
 -- what a workbook shows, what is in force for its cells, what its formulas may name, and the formulas that
 -- each index shows, by their tokens
@@ -28,25 +28,25 @@ formulas_named v name = last_named (paired v.book.sheets v.formulas) name
 
 -- each sheet shows the formulas of the last sheet of its name
 abbrev pub ShowsFormulas : List SheetRecords → List Formula → SheetRecords → Type 0
-ShowsFormulas all formulas q = AreLast (formulas_of (kept_named all q.0.name)) formulas
+ShowsFormulas all formulas q = AreLast (formulas_kept (kept_named all q.0.name)) formulas
 
 -- no place of the bytes has a fault, the byte limit apart; they carry a full list, and the view shows
 -- the reading of every list that they carry
 pub record IsViewed (options : XlsOptions) (bytes : List ℕ) (view : Viewed) : Type 0 where
   pub sound : (e : XlsError) → FirstChecked options.force_codepage options.max_cells bytes e → ⊥
-  pub entries : List Entry
+  pub entries : List ListEntry
   pub carries : Carries bytes entries
   pub full : IsFull (rules_of options) entries
-  pub every : (others : List Entry) → Carries bytes others → IsReading (rules_of options) others view.book
-  pub context : (others : List Entry) → Carries bytes others → view.context ≡ context_of (rules_of options) others
-  pub formulas : (others : List Entry) → Carries bytes others
+  pub every : (others : List ListEntry) → Carries bytes others → IsReading (rules_of options) others view.book
+  pub context : (others : List ListEntry) → Carries bytes others → view.context ≡ context_of (rules_of options) others
+  pub formulas : (others : List ListEntry) → Carries bytes others
       → AllZip (ShowsFormulas (sheets_of (rules_of options) others)) view.formulas (sheets_of (rules_of options) others)
 
 -- e is the first fault of the bytes, the byte limit apart
-abbrev pub IsFault : XlsOptions → List ℕ → XlsError → Type 0
-IsFault options bytes e = FirstChecked options.force_codepage options.max_cells bytes e
+abbrev pub IsViewFault : XlsOptions → List ℕ → XlsError → Type 0
+IsViewFault options bytes e = FirstChecked options.force_codepage options.max_cells bytes e
 
 -- why there is no view: out of memory, or else the first fault of the bytes
 abbrev pub ViewCause : XlsOptions → List ℕ → XlsError → Type 0
 ViewCause options bytes errors.Memory = Unit {0}
-ViewCause options bytes e = IsFault options bytes e
+ViewCause options bytes e = IsViewFault options bytes e

@@ -4,16 +4,16 @@ ghost use Rattle.std.specs.Prelude.{◌≡◌, ℕ, Err, IfErr, IfOk, IfSome, Li
 ghost use Rattle.std.specs.Option.{option_map};
 ghost use Rattle.std.specs.Str.{chars};
 ghost use Rattle.xls_data.specs.Sheets.{sheet_content};
-ghost use Rattle.xls_open.specs.Workbook.{rules_of, told_of};
+ghost use Rattle.xls_open.specs.Workbook.{rules_of, name_texts};
 ghost use Rattle.xls_open.specs.Globals.{AreGlobals};
 ghost use Rattle.xls_meaning.specs.GlobalsTable.{forced_fault};
-ghost use Rattle.xls_biff.specs.Cells.{Entry};
+ghost use Rattle.xls_biff.specs.Cells.{CellEntry};
 ghost use Rattle.xls_range.specs.Positions.{IsAscending};
-ghost use Rattle.xls_meaning.specs.Reading.{SheetView, shown_of};
-ghost use Rattle.xls_cursors.specs.Shown.{ShownSheet, content_of};
-ghost use Rattle.xls_view.specs.Viewing.{IsFault, IsViewed, ViewCause, formulas_named};
-ghost use Rattle.xls_cursors.specs.Walking.{Named};
-ghost use Rattle.xls_view.specs.Placing.{IsPartOf, force_of};
+ghost use Rattle.xls_meaning.specs.Reading.{SheetView, displayed_of};
+ghost use Rattle.xls_cursors.specs.Displayed.{DisplayedSheet, sheet_view_of};
+ghost use Rattle.xls_view.specs.Viewing.{IsViewFault, IsViewed, ViewCause, formulas_named};
+ghost use Rattle.xls_cursors.specs.Walking.{NamedContext};
+ghost use Rattle.xls_view.specs.Placing.{IsPartOf, settings_viewed};
 ghost use Rattle.xls_cursors.specs.Formulas.{text_entry};
 ghost use Rattle.xls_view.specs.Index.{IsIndex};
 ghost use Rattle.xls_view.specs.Naming.{context_in};
@@ -31,7 +31,7 @@ use xls_cursors::{Merges, SheetCells, SheetFormulas, ViewSheet, part_at};
 use xls_data::{CellFormat, Sheet};
 use xls_formula::FunctionTable;
 use xls_open::{
-    Globals, InForce, Listed, Naming, XlsOptions, check_sheets_of, check_stream, classes_of,
+    Globals, Settings, Listed, Naming, XlsOptions, check_sheets_of, check_stream, classes_of,
     naming_of, read_globals,
 };
 use xls_text::XlsEncoding;
@@ -62,7 +62,7 @@ impl<'a> Model for View<'a> {
     ghost use Rattle.std.specs.Prelude.{◌≡◌, length, map};
     ghost use Rattle.xls_data.specs.Sheets.{sheet_content};
     ghost use Rattle.xls_stream.specs.Walks.{IsBytes};
-    ghost use Rattle.xls_open.specs.Workbook.{told_of};
+    ghost use Rattle.xls_open.specs.Workbook.{name_texts};
     ghost use Rattle.xls_view.specs.Contents.{AreReadable, viewed};
     ghost use Rattle.xls_view.specs.Index.{IsIndex};
     ghost use Rattle.xls_view.specs.Viewing.{Viewed};
@@ -85,7 +85,7 @@ impl<'a> Model for View<'a> {
         biff = v.version;
         functions = v.functions;
       };
-    }) (map sheet_content v.sheets.items) v.offsets.items (map told_of v.naming.told.items) };
+    }) (map sheet_content v.sheets.items) v.offsets.items (map name_texts v.naming.reported.items) };
 
     ghost invariant = { λ v. IsBytes v.bytes.now × (length v.offsets.items ≡ length v.sheets.items)
         × IsIndex v.index v.sheets.items
@@ -134,7 +134,7 @@ fn view_of<'a>(
     globals: Globals,
     options: &XlsOptions,
 ) -> Result<View<'a>, AllocError>
-    requires sound { (e : XlsError) → IsFault options.now bytes.now e → ⊥ }
+    requires sound { (e : XlsError) → IsViewFault options.now bytes.now e → ⊥ }
     requires forced { forced_fault options.now.force_codepage ≡ None }
     requires globals { AreGlobals (rules_of options.now) bytes.now globals }
     ensures { IfOk result (λ view. IsViewed options.now bytes.entry.now view) }
@@ -177,7 +177,7 @@ impl<'a> View<'a> {
     /// Otherwise only running out of memory refuses.
     pub fn new(alloc: Global, bytes: &'a [u8], options: &XlsOptions) -> Result<View<'a>, XlsError>
         ensures ok { IfOk result (λ view. IsViewed options.now bytes.now view) }
-        ensures fault { (e : XlsError) → IsFault options.now bytes.now e → result ≡ Err e }
+        ensures fault { (e : XlsError) → IsViewFault options.now bytes.now e → result ≡ Err e }
         ensures cause { IfErr result (ViewCause options.now bytes.now) }
     {
         let page = options.first_page()?;
@@ -202,7 +202,7 @@ impl<'a> View<'a> {
     /// What it keeps of the globals, without a copy. Takes no memory.
     pub fn into_parts(self) -> ViewParts
         ensures sheets { map sheet_content result.sheets.items ≡ self.entry.book.sheets }
-        ensures names { map told_of result.names.items ≡ self.entry.book.names }
+        ensures names { map name_texts result.names.items ≡ self.entry.book.names }
         ensures index { IsIndex result.index result.sheets.items }
         ensures date_system { result.is_1904 ≡ self.entry.book.is_1904 }
         ensures classes { result.classes.items ≡ self.entry.book.classes }
@@ -217,7 +217,7 @@ impl<'a> View<'a> {
         } = self;
         ViewParts {
             sheets,
-            names: naming.told,
+            names: naming.reported,
             index,
             is_1904,
             classes,
@@ -233,9 +233,9 @@ impl<'a> View<'a> {
 
     /// The defined names and their texts, in workbook order. Takes no memory.
     pub fn defined_names(&self) -> &[(String, String)]
-        ensures { map told_of result.now ≡ self.now.book.names }
+        ensures { map name_texts result.now ≡ self.now.book.names }
     {
-        &self.naming.told
+        &self.naming.reported
     }
 
     /// Whether dates count from 1904. Takes no memory.
@@ -267,10 +267,10 @@ impl<'a> View<'a> {
     }
 
     /// What the records of the sheets are read under.
-    pub(crate) fn force(&self) -> InForce<'_>
-        ensures { result ≡ force_of self.now }
+    pub(crate) fn settings(&self) -> Settings<'_>
+        ensures { result ≡ settings_viewed self.now }
     {
-        InForce {
+        Settings {
             page: self.page,
             version: self.version,
             classes: &self.classes,
@@ -285,7 +285,7 @@ impl<'a> View<'a> {
 
     /// The bytes from the part of the last sheet of a name on.
     fn part_named(&self, name: &str) -> Option<&[u8]>
-        ensures { IsPartOf self.now (shown_of self.now.book (chars name.now)) (formulas_named self.now (chars name.now)) result }
+        ensures { IsPartOf self.now (displayed_of self.now.book (chars name.now)) (formulas_named self.now (chars name.now)) result }
     {
         match find_named(&self.sheets, &self.offsets, &self.index, name) {
             Some(offset) => Some(part_at(self.bytes, *offset)),
@@ -306,12 +306,12 @@ impl<'a> View<'a> {
     /// The last sheet of a name. `None` exactly where no sheet has the name. Takes no memory; its records are
     /// walked once.
     pub fn sheet_named(&self, name: &str) -> Option<ViewSheet<'_>>
-        ensures content { option_map content_of result ≡ shown_of self.now.book (chars name.now) }
-        ensures formulas { option_map (λ (s : ShownSheet). s.formulas) result ≡ formulas_named self.now (chars name.now) }
+        ensures content { option_map sheet_view_of result ≡ displayed_of self.now.book (chars name.now) }
+        ensures formulas { option_map (λ (s : DisplayedSheet). s.formulas) result ≡ formulas_named self.now (chars name.now) }
         ensures context { IfSome result (λ s. s.context ≡ self.now.context) }
     {
         match self.part_named(name) {
-            Some(part) => Some(ViewSheet::new(self.alloc, self.force(), part)),
+            Some(part) => Some(ViewSheet::new(self.alloc, self.settings(), part)),
             None => None,
         }
     }
@@ -319,12 +319,12 @@ impl<'a> View<'a> {
     /// The last sheet of the name that the sheet at an index has. `None` exactly where no sheet has the index.
     /// Takes no memory; its records are walked once.
     pub fn sheet_at(&self, n: usize) -> Option<ViewSheet<'_>>
-        ensures content { option_map content_of result ≡ slice_get self.now.book.contents n }
-        ensures formulas { option_map (λ (s : ShownSheet). s.formulas) result ≡ slice_get self.now.formulas n }
+        ensures content { option_map sheet_view_of result ≡ slice_get self.now.book.contents n }
+        ensures formulas { option_map (λ (s : DisplayedSheet). s.formulas) result ≡ slice_get self.now.formulas n }
         ensures context { IfSome result (λ s. s.context ≡ self.now.context) }
     {
         match self.part_at(n) {
-            Some(part) => Some(ViewSheet::new(self.alloc, self.force(), part)),
+            Some(part) => Some(ViewSheet::new(self.alloc, self.settings(), part)),
             None => None,
         }
     }
@@ -333,8 +333,8 @@ impl<'a> View<'a> {
     /// of memory refuses.
     pub fn cells_named(&self, name: &str) -> Result<Option<SheetCells<'_>>, AllocError>
         ensures found { IfOk result (λ found. found
-            ≡ option_map (λ (v : SheetView). v.cells) (shown_of self.now.book (chars name.now))) }
-        ensures ordered { IfOk result (λ found. IfSome found (λ cells. IsAscending (map (λ (c : Entry). c.0) cells))) }
+            ≡ option_map (λ (v : SheetView). v.cells) (displayed_of self.now.book (chars name.now))) }
+        ensures ordered { IfOk result (λ found. IfSome found (λ cells. IsAscending (map (λ (c : CellEntry). c.0) cells))) }
     {
         match self.sheet_named(name) {
             Some(sheet) => Ok(Some(sheet.cells()?)),
@@ -347,7 +347,7 @@ impl<'a> View<'a> {
     pub fn cells_at(&self, n: usize) -> Result<Option<SheetCells<'_>>, AllocError>
         ensures found { IfOk result (λ found. found
             ≡ option_map (λ (v : SheetView). v.cells) (slice_get self.now.book.contents n)) }
-        ensures ordered { IfOk result (λ found. IfSome found (λ cells. IsAscending (map (λ (c : Entry). c.0) cells))) }
+        ensures ordered { IfOk result (λ found. IfSome found (λ cells. IsAscending (map (λ (c : CellEntry). c.0) cells))) }
     {
         match self.sheet_at(n) {
             Some(sheet) => Ok(Some(sheet.cells()?)),
@@ -360,8 +360,8 @@ impl<'a> View<'a> {
     pub fn formulas_named(&self, name: &str) -> Result<Option<SheetFormulas<'_>>, AllocError>
         ensures tokens { IfOk result (λ found. found
             ≡ option_map (λ fs. record { context = self.now.context; left = fs }) (formulas_named self.now (chars name.now))) }
-        ensures texts { IfOk result (λ found. option_map (λ (f : Named). map (text_entry f.context) f.left) found
-            ≡ option_map (λ (v : SheetView). v.formulas) (shown_of self.now.book (chars name.now))) }
+        ensures texts { IfOk result (λ found. option_map (λ (f : NamedContext). map (text_entry f.context) f.left) found
+            ≡ option_map (λ (v : SheetView). v.formulas) (displayed_of self.now.book (chars name.now))) }
     {
         match self.sheet_named(name) {
             Some(sheet) => Ok(Some(sheet.formulas()?)),
@@ -374,7 +374,7 @@ impl<'a> View<'a> {
     pub fn formulas_at(&self, n: usize) -> Result<Option<SheetFormulas<'_>>, AllocError>
         ensures tokens { IfOk result (λ found. found
             ≡ option_map (λ fs. record { context = self.now.context; left = fs }) (slice_get self.now.formulas n)) }
-        ensures texts { IfOk result (λ found. option_map (λ (f : Named). map (text_entry f.context) f.left) found
+        ensures texts { IfOk result (λ found. option_map (λ (f : NamedContext). map (text_entry f.context) f.left) found
             ≡ option_map (λ (v : SheetView). v.formulas) (slice_get self.now.book.contents n)) }
     {
         match self.sheet_at(n) {
@@ -386,7 +386,7 @@ impl<'a> View<'a> {
     /// The merged regions of the last sheet of a name, in the order of the stream. `None` exactly where no
     /// sheet has the name. Takes no memory.
     pub fn merges_named(&self, name: &str) -> Option<Merges<'_>>
-        ensures { result ≡ option_map (λ (v : SheetView). v.merges) (shown_of self.now.book (chars name.now)) }
+        ensures { result ≡ option_map (λ (v : SheetView). v.merges) (displayed_of self.now.book (chars name.now)) }
     {
         match self.part_named(name) {
             Some(part) => Some(Merges::new(part)),

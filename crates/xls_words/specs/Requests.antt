@@ -39,18 +39,18 @@ IsNumbered (choices.Named name) = Unit {0}
 IsNumbered (choices.Number n) = 0 < n
 IsNumbered choices.All = Unit {0}
 
-abbrev pub HasNumber : Command → Type 0
-HasNumber (commands.Csv t) = IsNumbered t.choice
-HasNumber (commands.Dump s) = Unit {0}
-HasNumber (commands.Sheets s) = Unit {0}
-HasNumber commands.Check = Unit {0}
-HasNumber (commands.Formulas s) = Unit {0}
-HasNumber (commands.Refs s) = Unit {0}
-HasNumber commands.Props = Unit {0}
-HasNumber commands.Vba = Unit {0}
-HasNumber commands.Remake = Unit {0}
-HasNumber (commands.Stream p) = Unit {0}
-HasNumber commands.Streams = Unit {0}
+abbrev pub CommandHasNumber : Command → Type 0
+CommandHasNumber (commands.Csv t) = IsNumbered t.choice
+CommandHasNumber (commands.Dump s) = Unit {0}
+CommandHasNumber (commands.Sheets s) = Unit {0}
+CommandHasNumber commands.Check = Unit {0}
+CommandHasNumber (commands.Formulas s) = Unit {0}
+CommandHasNumber (commands.Refs s) = Unit {0}
+CommandHasNumber commands.Props = Unit {0}
+CommandHasNumber commands.Vba = Unit {0}
+CommandHasNumber commands.Remake = Unit {0}
+CommandHasNumber (commands.Stream p) = Unit {0}
+CommandHasNumber commands.Streams = Unit {0}
 
 -- the pages that are read
 abbrev pub IsPage : ℕ → Type 0
@@ -106,7 +106,7 @@ AreNamed paths (files.Named names) = map (λ name. name.now) names.items ≡ pat
 AreNamed paths (files.Listed list by_nul) = ⊥
 
 -- a command without options over these files, and nothing else
-pub record IsPlain (word : Word) (paths : List (List ℕ)) (request : Request) : Type 0 where
+pub record IsPlainRequest (word : Word) (paths : List (List ℕ)) (request : Request) : Type 0 where
   pub command : request.command ≡ plain_command word
   pub files : AreNamed paths request.files
   pub json : request.tells_json ≡ false

@@ -4,10 +4,10 @@
 mod parse;
 mod plain;
 mod request;
-mod shown;
+mod displayed;
 mod word;
 
 pub use parse::{VERSION, request_of};
 pub use request::{Command, Files, Request, SheetChoice, Style, Table};
-pub use shown::Shown;
+pub use displayed::Displayed;
 pub use word::Word;

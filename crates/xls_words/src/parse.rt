@@ -2,13 +2,13 @@
 
 ghost use Rattle.std.specs.Prelude.{◌≡◌, ℕ, List, true, IfOk, IfSome, MatchResult, map};
 ghost use Rattle.std.specs.String.{string_bytes};
-ghost use Rattle.xls_words.specs.Requests.{AreWordsOf, HasNumber, IsAsked, IsNumbered, IsPage, IsPlain, are_plain, word_of};
-ghost use Rattle.xls_words.specs.declared.shown.Shown.TheVariants as shown;
+ghost use Rattle.xls_words.specs.Requests.{AreWordsOf, CommandHasNumber, IsAsked, IsNumbered, IsPage, IsPlainRequest, are_plain, word_of};
+ghost use Rattle.xls_words.specs.declared.displayed.Displayed.TheVariants as displayed;
 ghost use Rattle.xls_words.specs.declared.word.Word.{Word};
 
 use crate::plain::{are_plain, plain_request};
 use crate::request::{Command, Files, Request, SheetChoice, Style, Table};
-use crate::shown::{Shown, shown_of};
+use crate::displayed::{Displayed, displayed_of};
 use crate::word::{ALL, Word};
 use clap::error::ErrorKind;
 use clap::{Arg, ArgAction, ArgMatches, Error, value_parser};
@@ -317,7 +317,7 @@ fn command_in<'w>(
     matches: &ArgMatches<'w>,
 ) -> Result<Command<'w>, Error>
     ensures named { IfOk result (λ c. word_of c ≡ word) }
-    ensures numbered { IfOk result (λ c. HasNumber c) }
+    ensures numbered { IfOk result (λ c. CommandHasNumber c) }
 {
     Ok(match word {
         Word::Dump => Command::Dump(style_in(matches)),
@@ -368,7 +368,7 @@ fn page_in(grammar: &mut clap::Command<'_>, matches: &ArgMatches<'_>) -> Result<
 /// What the words after a command's name ask for.
 fn request_in<'w>(alloc: Global, word: Word, words: &'w [String]) -> Result<Request<'w>, Error>
     ensures named { IfOk result (λ r. word_of r.command ≡ word) }
-    ensures numbered { IfOk result (λ r. HasNumber r.command) }
+    ensures numbered { IfOk result (λ r. CommandHasNumber r.command) }
     ensures page { IfOk result (λ r. IfSome r.page IsPage) }
 {
     let mut grammar = grammar_of(alloc, word, word.title(), word.about())?.no_binary_name(true);
@@ -384,44 +384,44 @@ fn request_in<'w>(alloc: Global, word: Word, words: &'w [String]) -> Result<Requ
 }
 
 /// Help, the version, or that there are no words.
-fn help_of(alloc: Global, words: &[String]) -> Shown {
+fn help_of(alloc: Global, words: &[String]) -> Displayed {
     let grammar = match overview(alloc) {
         Ok(grammar) => grammar.no_binary_name(true),
-        Err(_) => return Shown::Memory,
+        Err(_) => return Displayed::Memory,
     };
     match grammar.try_get_matches_from(words) {
-        Ok(_) => Shown::Memory,
-        Err(error) => shown_of(alloc, &error),
+        Ok(_) => Displayed::Memory,
+        Err(error) => displayed_of(alloc, &error),
     }
 }
 
 // What a command's words ask for.
-fn request_for<'w>(alloc: Global, word: Word, words: &'w [String]) -> Result<Request<'w>, Shown>
+fn request_for<'w>(alloc: Global, word: Word, words: &'w [String]) -> Result<Request<'w>, Displayed>
     ensures named { IfOk result (λ r. word_of r.command ≡ word) }
-    ensures numbered { IfOk result (λ r. HasNumber r.command) }
+    ensures numbered { IfOk result (λ r. CommandHasNumber r.command) }
     ensures page { IfOk result (λ r. IfSome r.page IsPage) }
     ensures plain { are_plain word (map string_bytes words.now) ≡ true
-        → MatchResult result (IsPlain word (map string_bytes words.now)) (λ s. s ≡ shown.Memory) }
+        → MatchResult result (IsPlainRequest word (map string_bytes words.now)) (λ s. s ≡ displayed.Memory) }
 {
     if are_plain(word, words) {
         return Ok(plain_request(alloc, word, words)?);
     }
     match request_in(alloc, word, words) {
         Ok(request) => Ok(request),
-        Err(error) => Err(shown_of(alloc, &error)),
+        Err(error) => Err(displayed_of(alloc, &error)),
     }
 }
 
 /// What the words of a command line ask for, which stand behind the program's name. The first may be a command's
 /// name; else the command is `dump`. What is shown in place of that is help or the version, or a mistake.
-pub fn request_of<'w>(alloc: Global, words: &'w [String]) -> Result<Request<'w>, Shown>
+pub fn request_of<'w>(alloc: Global, words: &'w [String]) -> Result<Request<'w>, Displayed>
     ensures named { IfOk result (λ r. IsAsked (map string_bytes words.now) (word_of r.command)) }
-    ensures numbered { IfOk result (λ r. HasNumber r.command) }
+    ensures numbered { IfOk result (λ r. CommandHasNumber r.command) }
     ensures page { IfOk result (λ r. IfSome r.page IsPage) }
 
     // Files alone are read by the command without options, unless memory runs out.
     ensures plain { (word : Word) (paths : List (List ℕ)) → AreWordsOf word paths (map string_bytes words.now)
-        → are_plain word paths ≡ true → MatchResult result (IsPlain word paths) (λ s. s ≡ shown.Memory) }
+        → are_plain word paths ≡ true → MatchResult result (IsPlainRequest word paths) (λ s. s ≡ displayed.Memory) }
 {
     let Some((first, others)) = words.split_first() else {
         return Err(help_of(alloc, words));

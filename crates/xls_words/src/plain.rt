@@ -2,7 +2,7 @@
 
 ghost use Rattle.std.specs.Prelude.{◌≡◌, IfOk, map};
 ghost use Rattle.std.specs.String.{string_bytes};
-ghost use Rattle.xls_words.specs.Requests.{HasNumber, IsPlain, are_plain, is_option, plain_command, takes, word_of};
+ghost use Rattle.xls_words.specs.Requests.{CommandHasNumber, IsPlainRequest, are_plain, is_option, plain_command, takes, word_of};
 
 use crate::request::{Command, Files, Request, SheetChoice, Style, Table};
 use crate::word::Word;
@@ -44,7 +44,7 @@ pub(crate) fn are_plain(word: Word, words: &[String]) -> bool
 fn plain_command<'w>(word: Word) -> Command<'w>
     ensures command { result ≡ plain_command word }
     ensures named { word_of result ≡ word }
-    ensures numbered { HasNumber result }
+    ensures numbered { CommandHasNumber result }
 {
     match word {
         Word::Dump => Command::Dump(Style::Readable),
@@ -83,9 +83,9 @@ pub(crate) fn plain_request<'w>(
     word: Word,
     words: &'w [String],
 ) -> Result<Request<'w>, AllocError>
-    ensures plain { IfOk result (IsPlain word (map string_bytes words.now)) }
+    ensures plain { IfOk result (IsPlainRequest word (map string_bytes words.now)) }
     ensures named { IfOk result (λ r. word_of r.command ≡ word) }
-    ensures numbered { IfOk result (λ r. HasNumber r.command) }
+    ensures numbered { IfOk result (λ r. CommandHasNumber r.command) }
 {
     Ok(Request {
         command: plain_command(word),

@@ -58,56 +58,56 @@ pub(super) static CASES: [Case; 15] = [
         "an empty stream has no sheets",
         Opening::Plain,
         &[],
-        Asked::Told,
+        Asked::Reported,
         "false [] [] []",
     ),
     (
         "a date mode of 0 leaves 1900",
         Opening::Plain,
         &[&G, &UNSET, &E],
-        Asked::Told,
+        Asked::Reported,
         "false [] [] []",
     ),
     (
         "one date mode of 1 sets 1904",
         Opening::Plain,
         &[&G, &SET, &UNSET, &E],
-        Asked::Told,
+        Asked::Reported,
         "true [] [] []",
     ),
     (
         "a format may stand behind its XF",
         Opening::Plain,
         &[&G, &XF_OWN, &XF_BUILT_IN, &YEARS, &E],
-        Asked::Told,
+        Asked::Reported,
         "false [DateTime, DateTime] [] []",
     ),
     (
         "a format that isn't there is another one",
         Opening::Plain,
         &[&G, &XF_OWN, &E],
-        Asked::Told,
+        Asked::Reported,
         "false [Other] [] []",
     ),
     (
         "of two formats of one identifier the last counts",
         Opening::Plain,
         &[&G, &XF_OWN, &YEARS, &DIGITS, &E],
-        Asked::Told,
+        Asked::Reported,
         "false [Other] [] []",
     ),
     (
         "a format without its text is passed over",
         Opening::Plain,
         &[&G, &XF_OWN, &YEARS, &NO_TEXT, &E],
-        Asked::Told,
+        Asked::Reported,
         "false [DateTime] [] []",
     ),
     (
         "of two code pages the last counts for names",
         Opening::Plain,
         &TWO_PAGES,
-        Asked::Told,
+        Asked::Reported,
         "false [] [] [Sheet { name: \"\\u{80}\", typ: WorkSheet, visible: Visible }]",
     ),
     (
@@ -121,7 +121,7 @@ pub(super) static CASES: [Case; 15] = [
         "a forced page counts before both for names",
         Opening::Forced(1252),
         &TWO_PAGES,
-        Asked::Told,
+        Asked::Reported,
         "false [] [] [Sheet { name: \"€\", typ: WorkSheet, visible: Visible }]",
     ),
     (
@@ -135,34 +135,34 @@ pub(super) static CASES: [Case; 15] = [
         "NULs of a sheet's name are dropped",
         Opening::Plain,
         &[&G, &NULS, &E],
-        Asked::Told,
+        Asked::Reported,
         "false [] [] [Sheet { name: \"é\", typ: WorkSheet, visible: Visible }]",
     ),
     (
         "two sheets may have one name",
         Opening::Plain,
         &TWINS,
-        Asked::Told,
+        Asked::Reported,
         "false [] [] [Sheet { name: \"A\", typ: WorkSheet, visible: Visible }, Sheet { name: \"A\", typ: WorkSheet, visible: Visible }]",
     ),
     (
         "a name finds its sheet behind it",
         Opening::Plain,
         &[&G, &NAME_T, &REFERENCE, &A_64, &E, &S, &E],
-        Asked::Told,
+        Asked::Reported,
         "false [] [(\"T\", \"A!$B$2\")] [Sheet { name: \"A\", typ: WorkSheet, visible: Visible }]",
     ),
     (
         "a name has faults of its head",
         Opening::Plain,
         &[&G, &NO_LBL, &E],
-        Asked::Told,
+        Asked::Reported,
         "Len { expected: 14, found: 0, typ: Lbl }",
     ),
 ];
 
 #[test]
-fn tells_what_the_globals_put_in_force(rt: HostRuntime) -> Result<(), Fail> {
+fn tells_what_the_globals_settle(rt: HostRuntime) -> Result<(), Fail> {
     for case in CASES.iter() {
         assert!(rt; is_case(rt.alloc(), case)?, "{}", case.0);
     }
@@ -187,7 +187,7 @@ fn says_where_each_prefix_is_cut(rt: HostRuntime) -> Result<(), Fail> {
     let bytes = joined(alloc, &PLAIN_PARTS)?;
     assert!(rt; bytes.len() == 51);
     for len in 0..=bytes.len() {
-        let is_cut = is_told(
+        let is_cut = is_reported(
             alloc,
             Opening::Plain,
             &[&bytes[..len]],

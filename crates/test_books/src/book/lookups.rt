@@ -31,7 +31,7 @@ pub(super) static CASES: [Case; 24] = [
         "tells names and sheets",
         Opening::Plain,
         &LEDGER,
-        Asked::Told,
+        Asked::Reported,
         "false [] [] [Sheet { name: \"A\", typ: WorkSheet, visible: Visible }]",
     ),
     (

@@ -67,7 +67,7 @@ fn read(alloc: Global, chunk: usize, failing: &[u64], limit: u64) -> Result<Stre
 }
 
 #[test]
-fn a_failing_read_is_told(rt: HostRuntime) {
+fn a_failing_read_is_reported(rt: HostRuntime) {
     for call in 0..4 {
         assert!(rt;
             read(rt.alloc(), 16, &[call], 99).err() == Some(XlsError::Io),

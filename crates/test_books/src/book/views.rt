@@ -30,9 +30,9 @@ fn push_formulas(
     let mut texts = FormulaBuffer::new(alloc);
     for formula in formulas.iter() {
         let (row, column) = (formula.row, formula.column);
-        let told = formulas.text_in(&mut texts, formula)?;
-        if !told.is_empty() {
-            write!(text, "{row},{column}={told} ")?;
+        let reported = formulas.text_in(&mut texts, formula)?;
+        if !reported.is_empty() {
+            write!(text, "{row},{column}={reported} ")?;
         }
     }
     text.push_str("|")
@@ -170,7 +170,7 @@ fn viewed(alloc: Global, opening: Opening, parts: &[&[u8]], way: Way) -> Result<
     Ok(view_text(alloc, &view, way)?)
 }
 
-fn shown(alloc: Global, opening: Opening, parts: &[&[u8]]) -> Result<String, XlsError> {
+fn displayed(alloc: Global, opening: Opening, parts: &[&[u8]]) -> Result<String, XlsError> {
     let book = opened(alloc, opening, parts)?;
     Ok(book_text(alloc, &book)?)
 }
@@ -178,7 +178,7 @@ fn shown(alloc: Global, opening: Opening, parts: &[&[u8]]) -> Result<String, Xls
 // Whether both give the same text, or the same refusal.
 fn is_same(alloc: Global, opening: Opening, parts: &[&[u8]], way: Way) -> bool {
     let viewed = viewed(alloc, opening, parts, way);
-    match (viewed, shown(alloc, opening, parts)) {
+    match (viewed, displayed(alloc, opening, parts)) {
         (Ok(one), Ok(other)) => one.as_str() == other.as_str(),
         (Err(one), Err(other)) => one == other,
         _ => false,

@@ -217,7 +217,7 @@ static ROWS: [(&[&[u8]], Option<u16>, u64, &str); 28] = [
 ];
 
 /// What is told of a fault, or `ok`.
-fn told(alloc: Global, fault: Option<XlsError>) -> Result<String, AllocError> {
+fn reported(alloc: Global, fault: Option<XlsError>) -> Result<String, AllocError> {
     match fault {
         None => String::from_str(alloc, "ok"),
         Some(error) => format!(in alloc; "{error}"),
@@ -240,8 +240,8 @@ fn faults_of(
 }
 
 /// The line that the command writes of what is told.
-fn line_of(alloc: Global, told: &str) -> Result<String, AllocError> {
-    match told {
+fn line_of(alloc: Global, reported: &str) -> Result<String, AllocError> {
+    match reported {
         "ok" => String::from_str(alloc, "ok\n"),
         fault => format!(in alloc; "error\t{fault}\n"),
     }
@@ -256,8 +256,8 @@ fn both_tell(
     wanted: &str,
 ) -> Result<bool, AllocError> {
     let (checked, opened) = faults_of(alloc, bytes, forced, max_cells)?;
-    let is_checked = told(alloc, checked)?.as_str() == wanted;
-    Ok(is_checked && told(alloc, opened)?.as_str() == wanted)
+    let is_checked = reported(alloc, checked)?.as_str() == wanted;
+    Ok(is_checked && reported(alloc, opened)?.as_str() == wanted)
 }
 
 // Whether the command writes this.

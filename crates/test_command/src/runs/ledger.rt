@@ -308,18 +308,18 @@ fn makes_a_stream_without_reading(rt: HostRuntime) -> Result<(), Fail> {
 }
 
 // The part of a sheet of one row: a whole number and a shared string.
-const MADE_INT: [u8; 14] = [0x7E, 0x02, 10, 0, 0, 0, 0, 0, 0, 0, 2, 0, 0, 0];
+const SAMPLE_INT: [u8; 14] = [0x7E, 0x02, 10, 0, 0, 0, 0, 0, 0, 0, 2, 0, 0, 0];
 
-const MADE_WORD: [u8; 14] = [0xFD, 0x00, 10, 0, 0, 0, 1, 0, 0, 0, 0, 0, 0, 0];
+const SAMPLE_WORD: [u8; 14] = [0xFD, 0x00, 10, 0, 0, 0, 1, 0, 0, 0, 0, 0, 0, 0];
 
-static MADE_PART: [&[u8]; 4] = [&SHEET, &MADE_INT, &MADE_WORD, &EOF];
+static SAMPLE_PART: [&[u8]; 4] = [&SHEET, &SAMPLE_INT, &SAMPLE_WORD, &EOF];
 
 #[test]
 fn makes_the_bytes_of_a_row(rt: HostRuntime) -> Result<(), Fail> {
     let stream = generate_stream(rt.alloc(), 1)?;
     let bytes = stream.as_slice();
     assert_eq!(rt; bytes.len(), 92);
-    let part = joined(rt.alloc(), &MADE_PART)?;
+    let part = joined(rt.alloc(), &SAMPLE_PART)?;
     assert_eq!(rt; &bytes[52..], part.as_slice());
     Ok(())
 }
@@ -384,7 +384,7 @@ fn tells_the_defined_names(rt: HostRuntime) -> Result<(), Fail> {
 }
 
 // The formulas of the first two sheets, a bar after each sheet, and the values of the second.
-fn shown(alloc: Global, book: &Xls) -> Result<String, AllocError> {
+fn displayed(alloc: Global, book: &Xls) -> Result<String, AllocError> {
     let mut all = formulas(alloc, book, 0)?;
     write!(all, "|{}|", formulas(alloc, book, 1)?)?;
     all.push_str(values(alloc, book, 1)?.as_str())?;
@@ -404,7 +404,7 @@ fn shows_the_formulas(rt: HostRuntime) -> Result<(), Fail> {
     let alloc = rt.alloc();
     let book = ledger(alloc)?;
     let wanted = "1,1=SUM(A3:B3) |0,0=\"x\"&Data!A2 |0,0=xSum 1,0=#N/A ";
-    assert_eq!(rt; shown(alloc, &book)?.as_str(), wanted);
+    assert_eq!(rt; displayed(alloc, &book)?.as_str(), wanted);
     assert!(rt; has_no_other(&book));
     Ok(())
 }

@@ -1,115 +1,115 @@
 //! Cells as truth values, characters, texts, bytes, nothing, and as whole numbers by a looser rule.
 
-use super::{Given, POS, cell_of, shown, text, wrong_case};
+use super::{Input, POS, cell_of, displayed, text, wrong_case};
 use std::alloc::{AllocError, Global};
 use std::test::Fail;
 use xls_data::{CellErrorType, Data, Number};
 use xls_rows::{DeError, ReadCell, deserialize_as_i64_or_none, deserialize_as_i64_or_string};
 
 // The double with the bits 8000000000000000 is negative zero.
-static VALUES: [(&str, Given, &str); 56] = [
-    ("bool", Given::Truth(true), "true"),
-    ("bool", Given::Truth(false), "false"),
-    ("bool", Given::Text("TRUE"), "true"),
-    ("bool", Given::Text("true"), "true"),
-    ("bool", Given::Text("True"), "true"),
-    ("bool", Given::Text("FALSE"), "false"),
-    ("bool", Given::Text("false"), "false"),
-    ("bool", Given::Text("False"), "false"),
-    ("bool", Given::Text("tRUE"), "Expecting bool, got 'tRUE'"),
-    ("bool", Given::Text("1"), "Expecting bool, got '1'"),
-    ("bool", Given::Nothing, "false"),
-    ("bool", Given::Int(0), "false"),
-    ("bool", Given::Int(-7), "true"),
-    ("bool", Given::Float(Number::Whole(0)), "false"),
-    ("bool", Given::Float(Number::Hundredths(1)), "true"),
-    ("bool", Given::Float(Number::Bits(0)), "false"),
+static VALUES: [(&str, Input, &str); 56] = [
+    ("bool", Input::Truth(true), "true"),
+    ("bool", Input::Truth(false), "false"),
+    ("bool", Input::Text("TRUE"), "true"),
+    ("bool", Input::Text("true"), "true"),
+    ("bool", Input::Text("True"), "true"),
+    ("bool", Input::Text("FALSE"), "false"),
+    ("bool", Input::Text("false"), "false"),
+    ("bool", Input::Text("False"), "false"),
+    ("bool", Input::Text("tRUE"), "Expecting bool, got 'tRUE'"),
+    ("bool", Input::Text("1"), "Expecting bool, got '1'"),
+    ("bool", Input::Nothing, "false"),
+    ("bool", Input::Int(0), "false"),
+    ("bool", Input::Int(-7), "true"),
+    ("bool", Input::Float(Number::Whole(0)), "false"),
+    ("bool", Input::Float(Number::Hundredths(1)), "true"),
+    ("bool", Input::Float(Number::Bits(0)), "false"),
     (
         "bool",
-        Given::Float(Number::Bits(0x8000000000000000)),
+        Input::Float(Number::Bits(0x8000000000000000)),
         "false",
     ),
     (
         "bool",
-        Given::Float(Number::BitsOver100(0x8000000000000000)),
+        Input::Float(Number::BitsOver100(0x8000000000000000)),
         "false",
     ),
-    ("bool", Given::Date(Number::Hundredths(0)), "false"),
-    ("bool", Given::Date(Number::Whole(43831)), "true"),
-    ("bool", Given::IsoDate("2024-01-15"), "true"),
-    ("bool", Given::IsoDuration("PT0S"), "true"),
+    ("bool", Input::Date(Number::Hundredths(0)), "false"),
+    ("bool", Input::Date(Number::Whole(43831)), "true"),
+    ("bool", Input::IsoDate("2024-01-15"), "true"),
+    ("bool", Input::IsoDuration("PT0S"), "true"),
     (
         "bool",
-        Given::Wrong(CellErrorType::Div0),
+        Input::Wrong(CellErrorType::Div0),
         "Cell error at position '(1, 0)': #DIV/0!",
     ),
-    ("char", Given::Text("x"), "x"),
-    ("char", Given::Text(""), "Expecting char, got String"),
-    ("char", Given::Text("ab"), "Expecting char, got String"),
-    ("char", Given::Text("é"), "Expecting char, got String"),
+    ("char", Input::Text("x"), "x"),
+    ("char", Input::Text(""), "Expecting char, got String"),
+    ("char", Input::Text("ab"), "Expecting char, got String"),
+    ("char", Input::Text("é"), "Expecting char, got String"),
     (
         "char",
-        Given::IsoDate("x"),
+        Input::IsoDate("x"),
         "Expecting char, got DateTimeIso",
     ),
-    ("char", Given::Int(7), "Expecting char, got Int"),
+    ("char", Input::Int(7), "Expecting char, got Int"),
     (
         "char",
-        Given::Float(Number::Whole(7)),
+        Input::Float(Number::Whole(7)),
         "Expecting char, got Float",
     ),
-    ("char", Given::Nothing, "Expecting char, got Empty"),
+    ("char", Input::Nothing, "Expecting char, got Empty"),
     (
         "char",
-        Given::Wrong(CellErrorType::NA),
+        Input::Wrong(CellErrorType::NA),
         "Cell error at position '(1, 0)': #N/A",
     ),
-    ("text", Given::Int(-7), "-7"),
-    ("text", Given::Float(Number::Hundredths(-5)), "-0.05"),
-    ("text", Given::Text("Café"), "Café"),
-    ("text", Given::Truth(true), "true"),
-    ("text", Given::Truth(false), "false"),
-    ("text", Given::Date(Number::Whole(43831)), "43831"),
-    ("text", Given::IsoDate("2024-01-15"), "2024-01-15"),
-    ("text", Given::IsoDuration("PT1H"), "PT1H"),
-    ("text", Given::Nothing, ""),
+    ("text", Input::Int(-7), "-7"),
+    ("text", Input::Float(Number::Hundredths(-5)), "-0.05"),
+    ("text", Input::Text("Café"), "Café"),
+    ("text", Input::Truth(true), "true"),
+    ("text", Input::Truth(false), "false"),
+    ("text", Input::Date(Number::Whole(43831)), "43831"),
+    ("text", Input::IsoDate("2024-01-15"), "2024-01-15"),
+    ("text", Input::IsoDuration("PT1H"), "PT1H"),
+    ("text", Input::Nothing, ""),
     (
         "text",
-        Given::Wrong(CellErrorType::GettingData),
+        Input::Wrong(CellErrorType::GettingData),
         "Cell error at position '(1, 0)': #DATA!",
     ),
-    ("enum", Given::Text("Foo"), "Foo"),
-    ("enum", Given::Truth(true), "Expecting enum, got Bool"),
+    ("enum", Input::Text("Foo"), "Foo"),
+    ("enum", Input::Truth(true), "Expecting enum, got Bool"),
     (
         "enum",
-        Given::IsoDuration("Foo"),
+        Input::IsoDuration("Foo"),
         "Expecting enum, got DurationIso",
     ),
-    ("enum", Given::Nothing, "Expecting enum, got Empty"),
+    ("enum", Input::Nothing, "Expecting enum, got Empty"),
     (
         "enum",
-        Given::Wrong(CellErrorType::Ref),
+        Input::Wrong(CellErrorType::Ref),
         "Cell error at position '(1, 0)': #REF!",
     ),
-    ("bytes", Given::Text("ab"), "ab"),
-    ("bytes", Given::Text("é"), "é"),
-    ("bytes", Given::Nothing, ""),
-    ("bytes", Given::Int(7), "Expecting bytes, got Int"),
+    ("bytes", Input::Text("ab"), "ab"),
+    ("bytes", Input::Text("é"), "é"),
+    ("bytes", Input::Nothing, ""),
+    ("bytes", Input::Int(7), "Expecting bytes, got Int"),
     (
         "bytes",
-        Given::Wrong(CellErrorType::Null),
+        Input::Wrong(CellErrorType::Null),
         "Cell error at position '(1, 0)': #NULL!",
     ),
-    ("unit", Given::Nothing, "nothing"),
-    ("unit", Given::Text(""), "Expecting unit, got String"),
+    ("unit", Input::Nothing, "nothing"),
+    ("unit", Input::Text(""), "Expecting unit, got String"),
     (
         "unit",
-        Given::Date(Number::Whole(0)),
+        Input::Date(Number::Whole(0)),
         "Expecting unit, got DateTime",
     ),
     (
         "unit",
-        Given::Wrong(CellErrorType::Value),
+        Input::Wrong(CellErrorType::Value),
         "Cell error at position '(1, 0)': #VALUE!",
     ),
 ];
@@ -121,21 +121,21 @@ fn reads_values(rt: HostRuntime) -> Result<(), Fail> {
 }
 
 // Each cell, and what a copy of it is.
-static COPIES: [(Given, Given); 8] = [
-    (Given::Int(7), Given::Int(7)),
+static COPIES: [(Input, Input); 8] = [
+    (Input::Int(7), Input::Int(7)),
     (
-        Given::Float(Number::Hundredths(150)),
-        Given::Float(Number::Hundredths(150)),
+        Input::Float(Number::Hundredths(150)),
+        Input::Float(Number::Hundredths(150)),
     ),
-    (Given::Text("x"), Given::Text("x")),
-    (Given::Truth(true), Given::Truth(true)),
+    (Input::Text("x"), Input::Text("x")),
+    (Input::Truth(true), Input::Truth(true)),
     (
-        Given::Date(Number::Whole(43831)),
-        Given::Float(Number::Whole(43831)),
+        Input::Date(Number::Whole(43831)),
+        Input::Float(Number::Whole(43831)),
     ),
-    (Given::IsoDate("2024-01-15"), Given::Text("2024-01-15")),
-    (Given::IsoDuration("PT1H"), Given::Text("PT1H")),
-    (Given::Nothing, Given::Nothing),
+    (Input::IsoDate("2024-01-15"), Input::Text("2024-01-15")),
+    (Input::IsoDuration("PT1H"), Input::Text("PT1H")),
+    (Input::Nothing, Input::Nothing),
 ];
 
 fn copy_of<T: ReadCell>(alloc: Global, cell: &T) -> Result<Data, DeError> {
@@ -147,8 +147,8 @@ fn has_copy(alloc: Global, cell: &Data, wanted: &Data) -> Result<bool, DeError> 
     Ok(copy == *wanted)
 }
 
-fn copies_to(alloc: Global, given: &Given, wanted: &Given) -> Result<bool, Fail> {
-    let cell = cell_of(alloc, given)?;
+fn copies_to(alloc: Global, input: &Input, wanted: &Input) -> Result<bool, Fail> {
+    let cell = cell_of(alloc, input)?;
     let wanted = cell_of(alloc, wanted)?;
     Ok(has_copy(alloc, &cell, &wanted)?)
 }
@@ -157,7 +157,7 @@ fn copies_to(alloc: Global, given: &Given, wanted: &Given) -> Result<bool, Fail>
 fn has_no_copy(alloc: Global, cell: &Data, wanted: &str) -> Result<bool, AllocError> {
     match copy_of(alloc, cell) {
         Ok(_) => Ok(false),
-        Err(refusal) => Ok(shown::<u8>(alloc, Err(refusal))?.as_str() == wanted),
+        Err(refusal) => Ok(displayed::<u8>(alloc, Err(refusal))?.as_str() == wanted),
     }
 }
 
@@ -172,8 +172,8 @@ fn is_there<T: ReadCell>(cell: &T) -> bool {
 #[test]
 fn reads_copies(rt: HostRuntime) -> Result<(), Fail> {
     let alloc = rt.alloc();
-    for (given, wanted) in COPIES.iter() {
-        assert!(rt; copies_to(alloc, given, wanted)?);
+    for (input, wanted) in COPIES.iter() {
+        assert!(rt; copies_to(alloc, input, wanted)?);
     }
     let cell = Data::Error(CellErrorType::NA);
     assert!(rt; has_no_copy(alloc, &cell, "Cell error at position '(1, 0)': #N/A")?);
@@ -188,19 +188,19 @@ fn tells_empty_cells(rt: HostRuntime) -> Result<(), Fail> {
     Ok(())
 }
 
-static LOOSE: [(Given, Option<i64>, &str); 11] = [
-    (Given::Int(7), Some(7), "7"),
-    (Given::Float(Number::Hundredths(-199)), Some(-1), "-1.99"),
-    (Given::Truth(true), Some(1), "true"),
-    (Given::Date(Number::Hundredths(150)), Some(1), "1.5"),
-    (Given::Text("-12"), Some(-12), "-12"),
-    (Given::Text("12 kg"), None, "12 kg"),
-    (Given::IsoDate("12"), Some(12), "12"),
-    (Given::IsoDuration("PT1H"), None, "PT1H"),
-    (Given::Nothing, None, ""),
-    (Given::Wrong(CellErrorType::NA), None, "#N/A"),
+static LOOSE: [(Input, Option<i64>, &str); 11] = [
+    (Input::Int(7), Some(7), "7"),
+    (Input::Float(Number::Hundredths(-199)), Some(-1), "-1.99"),
+    (Input::Truth(true), Some(1), "true"),
+    (Input::Date(Number::Hundredths(150)), Some(1), "1.5"),
+    (Input::Text("-12"), Some(-12), "-12"),
+    (Input::Text("12 kg"), None, "12 kg"),
+    (Input::IsoDate("12"), Some(12), "12"),
+    (Input::IsoDuration("PT1H"), None, "PT1H"),
+    (Input::Nothing, None, ""),
+    (Input::Wrong(CellErrorType::NA), None, "#N/A"),
     (
-        Given::Text("9223372036854775808"),
+        Input::Text("9223372036854775808"),
         None,
         "9223372036854775808",
     ),
@@ -229,18 +229,18 @@ fn is_number_or_text(
 
 fn is_taken_for(
     alloc: Global,
-    given: &Given,
+    input: &Input,
     number: Option<i64>,
     printed: &str,
 ) -> Result<bool, AllocError> {
-    let cell = cell_of(alloc, given)?;
+    let cell = cell_of(alloc, input)?;
     Ok(loose(alloc, &cell)? == number && is_number_or_text(alloc, &cell, number, printed)?)
 }
 
 #[test]
 fn takes_cells_for_whole_numbers_or_texts(rt: HostRuntime) -> Result<(), Fail> {
-    for (given, number, printed) in LOOSE.iter() {
-        assert!(rt; is_taken_for(rt.alloc(), given, *number, printed)?);
+    for (input, number, printed) in LOOSE.iter() {
+        assert!(rt; is_taken_for(rt.alloc(), input, *number, printed)?);
     }
     Ok(())
 }

@@ -4,7 +4,7 @@ ghost use Rattle.std.specs.Prelude.{◌≡◌};
 ghost use Rattle.xls_rows.specs.Choices.{unnamed};
 ghost use Rattle.xls_rows.specs.Chosen.{chosen};
 
-use super::{Given, cell_of, shown};
+use super::{Input, cell_of, displayed};
 use std::alloc::{AllocError, Global};
 use std::test::Fail;
 use xls_data::{CellErrorType, Data};
@@ -14,28 +14,28 @@ use xls_rows::{
 };
 
 // Puts cells at their positions.
-fn fill(alloc: Global, range: &mut Range<Data>, cells: &[((u32, u32), Given)]) -> Result<(), Fail> {
-    for (position, given) in cells {
-        range.set_value(*position, cell_of(alloc, given)?)?;
+fn fill(alloc: Global, range: &mut Range<Data>, cells: &[((u32, u32), Input)]) -> Result<(), Fail> {
+    for (position, input) in cells {
+        range.set_value(*position, cell_of(alloc, input)?)?;
     }
     Ok(())
 }
 
 // A row of the headers `a` and `b`, and a row of 300 and #N/A.
-static LEDGER: [((u32, u32), Given); 4] = [
-    ((0, 0), Given::Text("a")),
-    ((0, 1), Given::Text("b")),
-    ((1, 0), Given::Int(300)),
-    ((1, 1), Given::Wrong(CellErrorType::NA)),
+static LEDGER: [((u32, u32), Input); 4] = [
+    ((0, 0), Input::Text("a")),
+    ((0, 1), Input::Text("b")),
+    ((1, 0), Input::Int(300)),
+    ((1, 1), Input::Wrong(CellErrorType::NA)),
 ];
 
 // Below the headers `a` and ` b `, at row 3 and column 2, a row with #N/A and one with 7 and `x`.
-static TABLE: [((u32, u32), Given); 5] = [
-    ((3, 2), Given::Text("a")),
-    ((3, 3), Given::Text(" b ")),
-    ((4, 3), Given::Wrong(CellErrorType::NA)),
-    ((5, 2), Given::Int(7)),
-    ((5, 3), Given::Text("x")),
+static TABLE: [((u32, u32), Input); 5] = [
+    ((3, 2), Input::Text("a")),
+    ((3, 3), Input::Text(" b ")),
+    ((4, 3), Input::Wrong(CellErrorType::NA)),
+    ((5, 2), Input::Int(7)),
+    ((5, 3), Input::Text("x")),
 ];
 
 fn ledger(alloc: Global) -> Result<Range<Data>, Fail> {
@@ -85,7 +85,7 @@ fn rows_of<'c, T: ReadCell, D: FromRow>(
 fn row_text(alloc: Global, row: Result<Vec<String>, DeError>) -> Result<String, AllocError> {
     let texts = match row {
         Ok(texts) => texts,
-        Err(refusal) => return shown::<u8>(alloc, Err(refusal)),
+        Err(refusal) => return displayed::<u8>(alloc, Err(refusal)),
     };
     let mut text = String::new(alloc);
     for cell in &texts {
@@ -133,7 +133,7 @@ fn listing<T: ReadCell>(
 ) -> Result<String, AllocError> {
     match rows {
         Ok(mut rows) => text_of(alloc, &mut rows),
-        Err(refusal) => shown::<u8>(alloc, Err(refusal)),
+        Err(refusal) => displayed::<u8>(alloc, Err(refusal)),
     }
 }
 

@@ -1,6 +1,6 @@
 //! Single rows, cell by cell and by their headers.
 
-use super::{read_as, shown, text};
+use super::{read_as, displayed, text};
 use std::alloc::{AllocError, Global};
 use std::test::Fail;
 use xls_data::{CellErrorType, Data};
@@ -163,7 +163,7 @@ fn is_refused<T: ReadCell>(
     let texts: Result<Vec<String>, DeError> = whole_row(alloc, row);
     match texts {
         Ok(_) => Ok(false),
-        Err(refusal) => Ok(shown::<u8>(alloc, Err(refusal))?.as_str() == wanted),
+        Err(refusal) => Ok(displayed::<u8>(alloc, Err(refusal))?.as_str() == wanted),
     }
 }
 

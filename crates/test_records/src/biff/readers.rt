@@ -66,7 +66,7 @@ fn with_list<T: fmt::Debug + Drop>(
     before: usize,
 ) -> Result<String, AllocError> {
     if list.len() == before {
-        return shown(alloc, answer);
+        return displayed(alloc, answer);
     }
     format!(in alloc; "{answer:?} {list:?}")
 }
@@ -75,49 +75,49 @@ fn with_list<T: fmt::Debug + Drop>(
 /// number and the first two, of a formula the position, the value and the tokens.
 pub fn answer_of(alloc: Global, reader: Reader, body: &[u8]) -> Result<String, AllocError> {
     match reader {
-        Reader::Bof => shown(alloc, parse_bof(&record(BOF, body))),
-        Reader::FilePass => shown(alloc, parse_file_pass(&record(FILE_PASS, body))),
-        Reader::DateMode => shown(alloc, parse_date_mode(&record(DATE_MODE, body))),
-        Reader::CodePage => shown(alloc, parse_code_page(&record(CODE_PAGE, body))),
+        Reader::Bof => displayed(alloc, parse_bof(&record(BOF, body))),
+        Reader::FilePass => displayed(alloc, parse_file_pass(&record(FILE_PASS, body))),
+        Reader::DateMode => displayed(alloc, parse_date_mode(&record(DATE_MODE, body))),
+        Reader::CodePage => displayed(alloc, parse_code_page(&record(CODE_PAGE, body))),
         Reader::ExternSheet(biff) => {
             match parse_extern_sheet(alloc, &record(EXTERN_SHEET, body), biff) {
-                Ok(refs) => shown(alloc, (refs.len(), refs.first(0), refs.first(1))),
+                Ok(refs) => displayed(alloc, (refs.len(), refs.first(0), refs.first(1))),
                 Err(e) => refusal(alloc, e),
             }
         }
-        Reader::Xf => shown(alloc, parse_xf(&record(XF, body))),
+        Reader::Xf => displayed(alloc, parse_xf(&record(XF, body))),
         Reader::Format(page, biff) => {
-            shown(
+            displayed(
                 alloc,
                 parse_format(alloc, &record(FORMAT, body), &page, biff),
             )
         }
         Reader::Sheet(biff) => {
             let r = record(BOUND_SHEET_8, body);
-            shown(alloc, parse_sheet_metadata(alloc, &r, &UTF16, biff))
+            displayed(alloc, parse_sheet_metadata(alloc, &r, &UTF16, biff))
         }
         Reader::SheetCheck(biff) => {
-            shown(
+            displayed(
                 alloc,
                 check_sheet_metadata(&record(BOUND_SHEET_8, body), biff),
             )
         }
-        Reader::Number => shown(alloc, parse_number(body, &[], false)),
-        Reader::Rk(classes) => shown(alloc, parse_rk(body, classes, false)),
+        Reader::Number => displayed(alloc, parse_number(body, &[], false)),
+        Reader::Rk(classes) => displayed(alloc, parse_rk(body, classes, false)),
         Reader::MulRk => {
             let mut cells = Vec::new(alloc);
             let answer = parse_mul_rk(body, &mut cells, &[], false);
             with_list(alloc, answer, cells, 0)
         }
-        Reader::BoolErr => shown(alloc, parse_bool_err(body)),
-        Reader::Label(biff) => shown(alloc, parse_label(alloc, body, &UTF16, biff)),
-        Reader::LabelSst => shown(alloc, parse_label_sst(alloc, body, &three_texts(alloc)?)),
-        Reader::FormulaValue(value) => shown(
+        Reader::BoolErr => displayed(alloc, parse_bool_err(body)),
+        Reader::Label(biff) => displayed(alloc, parse_label(alloc, body, &UTF16, biff)),
+        Reader::LabelSst => displayed(alloc, parse_label_sst(alloc, body, &three_texts(alloc)?)),
+        Reader::FormulaValue(value) => displayed(
             alloc,
             parse_formula_value(alloc, &value, None, false),
         ),
         Reader::Formula => match parse_formula_record(alloc, body, &[], false) {
-            Ok(formula) => shown(alloc, (formula.position, formula.value, formula.rgce)),
+            Ok(formula) => displayed(alloc, (formula.position, formula.value, formula.rgce)),
             Err(e) => refusal(alloc, e),
         },
         Reader::MergeCells => {
@@ -126,10 +126,10 @@ pub fn answer_of(alloc: Global, reader: Reader, body: &[u8]) -> Result<String, A
             let answer = parse_merge_cells(body, &mut regions);
             with_list(alloc, answer, regions, 1)
         }
-        Reader::Dimensions => shown(alloc, parse_dimensions(body)),
-        Reader::Check(typ, biff) => shown(alloc, check_sheet_record(&record(typ, body), biff)),
-        Reader::Weight(typ) => shown(alloc, sheet_record_weight(&record(typ, body))),
-        Reader::Listing(typ) => shown(alloc, record(typ, body)),
+        Reader::Dimensions => displayed(alloc, parse_dimensions(body)),
+        Reader::Check(typ, biff) => displayed(alloc, check_sheet_record(&record(typ, body), biff)),
+        Reader::Weight(typ) => displayed(alloc, sheet_record_weight(&record(typ, body))),
+        Reader::Listing(typ) => displayed(alloc, record(typ, body)),
     }
 }
 

@@ -109,9 +109,9 @@ static STRINGS: [(Call, &[u8], &str); 26] = [
 
 fn answer_of(alloc: Global, call: Call, bytes: &[u8]) -> Result<String, AllocError> {
     match call {
-        Call::Short(page, biff) => shown(alloc, parse_short_string(alloc, bytes, &page, biff)),
-        Call::Text(page, biff) => shown(alloc, parse_string(alloc, bytes, &page, biff)),
-        Call::Size(count) => shown(alloc, size_of_uncounted(bytes, count)),
+        Call::Short(page, biff) => displayed(alloc, parse_short_string(alloc, bytes, &page, biff)),
+        Call::Text(page, biff) => displayed(alloc, parse_string(alloc, bytes, &page, biff)),
+        Call::Size(count) => displayed(alloc, size_of_uncounted(bytes, count)),
     }
 }
 

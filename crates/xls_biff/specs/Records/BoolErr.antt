@@ -5,7 +5,7 @@ use Rattle.xls_data.specs.Content.{Content, truth, failure}
 use Rattle.xls_record.specs.declared.error.XlsError.{XlsError}
 use Rattle.xls_record.specs.declared.error.XlsError.TheVariants.{Unrecognized}
 use Rattle.xls_record.specs.Reading.{◌>>=◌, ◌>>◌, at_least, gives}
-use Rattle.xls_biff.specs.Cells.{Entry, Position, cell_error, position_at, truth_of}
+use Rattle.xls_biff.specs.Cells.{CellEntry, Position, cell_error, position_at, truth_of}
 use Rattle.xls_biff.specs.declared.records.bool_err.Bes.{Bes}
 use Rattle.xls_biff.specs.declared.records.bool_err.Bes.TheVariants as bes
 
@@ -21,10 +21,10 @@ abbrev pub bes_value : Bes → Content
 bes_value (bes.Bool b) = truth b
 bes_value (bes.Error e) = failure e
 
-abbrev pub bes_entry : Position × Bes → Entry
+abbrev pub bes_entry : Position × Bes → CellEntry
 bes_entry c = (c.0, bes_value c.1)
 
-abbrev pub bool_err_at : List ℕ → Result Entry XlsError
+abbrev pub bool_err_at : List ℕ → Result CellEntry XlsError
 bool_err_at body = do
   at_least 8 parts.BoolErr body
   content ← bes_content (slice_index body 6) (slice_index body 7)

@@ -9,16 +9,16 @@ use Rattle.xls_record.specs.declared.error.XlsError.TheVariants.{Len}
 
 -- a first column that passes 255 or the column after the last becomes 0: this project's rule
 abbrev pub first_within : ℕ → ℕ → ℕ
-first_within first behind = if nat_lt 0xFF first || nat_lt behind first then 0 else first
+first_within first following = if nat_lt 0xFF first || nat_lt following first then 0 else first
 
 -- the bounds by the first row, the row after the last, and likewise the columns; without a row or a
 -- column they end where they start
 abbrev pub bounds : ℕ → ℕ → ℕ → ℕ → Dimensions
-bounds row below column behind =
+bounds row below column following =
     record {
-      start = (row, first_within column behind);
-      end = (if nat_lt 0 below && nat_lt 0 behind then (below - 1, behind - 1)
-          else (row, first_within column behind));
+      start = (row, first_within column following);
+      end = (if nat_lt 0 below && nat_lt 0 following then (below - 1, following - 1)
+          else (row, first_within column following));
     }
 
 abbrev pub dimensions_at : List ℕ → Result Dimensions XlsError

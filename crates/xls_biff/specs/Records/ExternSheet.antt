@@ -5,7 +5,7 @@ use Rattle.xls_bytes.specs.Numbers.{le, twos_complement}
 use Rattle.xls_stream.specs.declared.part.Part.TheVariants as parts
 use Rattle.xls_record.specs.declared.version.Biff.{Biff}
 use Rattle.xls_record.specs.declared.error.XlsError.{XlsError}
-use Rattle.xls_record.specs.Reading.{◌>>◌, at_least, listed}
+use Rattle.xls_record.specs.Reading.{◌>>◌, at_least, results_listed}
 use Rattle.xls_record.specs.Version.{is_biff8}
 
 -- the whole structures, at most the count
@@ -19,4 +19,4 @@ abbrev pub ref_at : List ℕ → ℕ → ℤ
 ref_at body i = twos_complement 16 (le (take 2 (drop (4 + 6 * i) body)))
 
 abbrev pub refs_at : Biff → List ℕ → Result (List ℤ) XlsError
-refs_at biff body = if is_biff8 biff then listed (ref_at body) (refs_count body) else Ok []
+refs_at biff body = if is_biff8 biff then results_listed (ref_at body) (refs_count body) else Ok []

@@ -7,13 +7,13 @@ use Rattle.xls_stream.specs.declared.part.Part.TheVariants as parts
 use Rattle.xls_data.specs.Content.{text}
 use Rattle.xls_record.specs.declared.error.XlsError.{XlsError}
 use Rattle.xls_record.specs.Reading.{◌>>◌, at_least}
-use Rattle.xls_biff.specs.Cells.{Entry, Position, position_at}
+use Rattle.xls_biff.specs.Cells.{CellEntry, Position, position_at}
 
 -- the cell of an index at a position
-abbrev pub shared_entry : List (List ℕ) → Position × ℕ → Option Entry
+abbrev pub shared_entry : List (List ℕ) → Position × ℕ → Option CellEntry
 shared_entry strings x = option_map (λ cs. (x.0, text cs)) (slice_get strings x.1)
 
-abbrev pub label_sst_at : List (List ℕ) → List ℕ → Result (Option Entry) XlsError
+abbrev pub label_sst_at : List (List ℕ) → List ℕ → Result (Option CellEntry) XlsError
 label_sst_at strings body = do
   at_least 10 parts.LabelSst body
   Ok (shared_entry strings (position_at body, le (take 4 (drop 6 body))))

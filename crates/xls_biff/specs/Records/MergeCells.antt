@@ -5,7 +5,7 @@ use Rattle.xls_bytes.specs.Numbers.{le}
 use Rattle.xls_stream.specs.declared.part.Part.TheVariants as parts
 use Rattle.xls_data.specs.declared.regions.Dimensions.{Dimensions}
 use Rattle.xls_record.specs.declared.error.XlsError.{XlsError}
-use Rattle.xls_record.specs.Reading.{◌>>◌, at_least, listed}
+use Rattle.xls_record.specs.Reading.{◌>>◌, at_least, results_listed}
 
 abbrev pub merge_count : List ℕ → Result ℕ XlsError
 merge_count body = do
@@ -22,4 +22,4 @@ region_at body i =
     }
 
 abbrev pub merges_at : List ℕ → Result (List Dimensions) XlsError
-merges_at body = listed (region_at body) (merge_count body)
+merges_at body = results_listed (region_at body) (merge_count body)

@@ -8,8 +8,8 @@ use Rattle.xls_dates.specs.declared.numbers.Number.TheVariants.{Bits, Hundredths
 use Rattle.xls_dates.specs.declared.formats.CellFormat.{CellFormat}
 use Rattle.xls_record.specs.declared.error.XlsError.{XlsError}
 use Rattle.xls_record.specs.declared.error.XlsError.TheVariants.{Len}
-use Rattle.xls_record.specs.Reading.{◌>>◌, at_least, listed}
-use Rattle.xls_biff.specs.Cells.{Entry, class_at, position_at}
+use Rattle.xls_record.specs.Reading.{◌>>◌, at_least, results_listed}
+use Rattle.xls_biff.specs.Cells.{CellEntry, class_at, position_at}
 use Rattle.xls_biff.specs.declared.records.rk.RkCell.{RkCell}
 
 -- ---- RK numbers ([MS-XLS] RkNumber)
@@ -46,13 +46,13 @@ rk_content class rk epoch =
     else formatted_number class (Bits (rk_bits rk)) epoch)
 
 -- RK ([MS-XLS] RK): row, column, XF index and an RK number in bytes 6 to 9
-abbrev pub rk_at : List CellFormat → Bool → List ℕ → Result Entry XlsError
+abbrev pub rk_at : List CellFormat → Bool → List ℕ → Result CellEntry XlsError
 rk_at formats is_1904 body = do
   at_least 10 parts.Rk body
   Ok (position_at body, rk_content (class_at formats body) (le (take 4 (drop 6 body))) is_1904)
 
 -- what was read of it, under the classes and the date system
-abbrev pub rk_entry : List CellFormat → Bool → RkCell → Entry
+abbrev pub rk_entry : List CellFormat → Bool → RkCell → CellEntry
 rk_entry formats is_1904 c = (c.position, rk_content (slice_get formats c.xf) c.rk is_1904)
 
 -- ---- MulRk ([MS-XLS] MulRk): row, first column (colFirst), for each cell an XF index and an RK number
@@ -77,11 +77,11 @@ mul_rk_count body = do
       else sized_count (last_column body - first_column body + 1) (length body)
 
 -- the cell of a number, counted from 0
-abbrev pub rk_cell : List CellFormat → Bool → List ℕ → ℕ → Entry
+abbrev pub rk_cell : List CellFormat → Bool → List ℕ → ℕ → CellEntry
 rk_cell formats is_1904 body i = (
   (le (take 2 body), first_column body + i),
   rk_content (slice_get formats (le (take 2 (drop (4 + 6 * i) body)))) (le (take 4 (drop (6 + 6 * i) body))) is_1904,
 )
 
-abbrev pub mul_rk_at : List CellFormat → Bool → List ℕ → Result (List Entry) XlsError
-mul_rk_at formats is_1904 body = listed (rk_cell formats is_1904 body) (mul_rk_count body)
+abbrev pub mul_rk_at : List CellFormat → Bool → List ℕ → Result (List CellEntry) XlsError
+mul_rk_at formats is_1904 body = results_listed (rk_cell formats is_1904 body) (mul_rk_count body)

@@ -1,7 +1,7 @@
 //! BoolErr.
 
 ghost use Rattle.xls_record.specs.Reading.{Exactly};
-ghost use Rattle.xls_biff.specs.Cells.{entry_of};
+ghost use Rattle.xls_biff.specs.Cells.{cell_entry_of};
 ghost use Rattle.xls_biff.specs.Records.BoolErr.{bes_content, bes_entry, bes_value, bool_err_at};
 
 use crate::cells::{error_of_code, position_of};
@@ -47,7 +47,7 @@ pub fn read_bool_err(r: &[u8]) -> Result<((u32, u32), Bes), XlsError>
 /// The cell of a BoolErr record's body, as `read_bool_err` reads it. Takes no memory.
 #[inline]
 pub fn parse_bool_err(r: &[u8]) -> Result<Cell<Data>, XlsError>
-    ensures { Exactly entry_of result (bool_err_at r.now) }
+    ensures { Exactly cell_entry_of result (bool_err_at r.now) }
 {
     let (position, value) = read_bool_err(r)?;
     let value = match value {

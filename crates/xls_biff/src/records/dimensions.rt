@@ -9,17 +9,17 @@ use xls_data::Dimensions;
 use xls_strings::{Part, XlsError};
 
 /// The bounds by the first row, the row after the last, and likewise the columns.
-fn bounds_of(row: u32, below: u32, column: u32, behind: u32) -> Dimensions
-    ensures { result ≡ bounds row below column behind }
+fn bounds_of(row: u32, below: u32, column: u32, following: u32) -> Dimensions
+    ensures { result ≡ bounds row below column following }
 {
-    let first = if column > 255 || behind < column {
+    let first = if column > 255 || following < column {
         0
     } else {
         column
     };
     let start = (row, first);
-    let end = if below > 0 && behind > 0 {
-        (below - 1, behind - 1)
+    let end = if below > 0 && following > 0 {
+        (below - 1, following - 1)
     } else {
         start
     };
@@ -41,8 +41,8 @@ pub fn parse_dimensions(r: &[u8]) -> Result<Dimensions, XlsError>
     }
     if r.len() == 14 || r.len() == 16 {
         let column = u32::from(u16_at(r, 8));
-        let behind = u32::from(u16_at(r, 10));
-        return Ok(bounds_of(u32_at(r, 0), u32_at(r, 4), column, behind));
+        let following = u32::from(u16_at(r, 10));
+        return Ok(bounds_of(u32_at(r, 0), u32_at(r, 4), column, following));
     }
     Err(XlsError::Len {
         expected: 14,

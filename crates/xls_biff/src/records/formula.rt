@@ -162,8 +162,8 @@ pub fn parse_formula_record<'a>(
 /// memory.
 #[inline(always)]
 pub fn formula_position(r: &Record<'_>) -> Option<(u32, u32)>
-    ensures { (force : CellContext) (g : SheetRecord) →
-        sheet_record_at force r.now.typ r.now.body.now ≡ Ok g → result ≡ formula_position g }
+    ensures { (settings : CellContext) (g : SheetRecord) →
+        sheet_record_at settings r.now.typ r.now.body.now ≡ Ok g → result ≡ formula_position g }
 {
     if r.typ != FORMULA {
         return None;

@@ -2,8 +2,8 @@
 
 ghost use Rattle.xls_text.specs.declared.encoding.XlsEncoding.{XlsEncoding};
 ghost use Rattle.xls_record.specs.Reading.{Exactly, Gives};
-ghost use Rattle.xls_biff.specs.Cells.{entry_of};
-ghost use Rattle.xls_biff.specs.Records.Label.{label_at, label_entry, label_front};
+ghost use Rattle.xls_biff.specs.Cells.{cell_entry_of};
+ghost use Rattle.xls_biff.specs.Records.Label.{label_at, label_entry, label_prefix};
 
 use crate::cells::position_of;
 use std::alloc::Global;
@@ -15,7 +15,7 @@ use xls_text::XlsEncoding;
 /// 0, and the bytes of its string, which aren't decoded: those after row, column and XF index. `Len` for
 /// fewer than 6 bytes. Takes no memory.
 pub fn split_label(r: &[u8]) -> Result<((u32, u32), &[u8]), XlsError>
-    ensures { Exactly (λ x. (x.0, x.1.now)) result (label_front r.now) }
+    ensures { Exactly (λ x. (x.0, x.1.now)) result (label_prefix r.now) }
 {
     need(r, 6, Part::Label)?;
     let (_, string) = r.split_at(6);
@@ -30,7 +30,7 @@ pub fn parse_label(
     encoding: &XlsEncoding,
     biff: Biff,
 ) -> Result<Cell<Data>, XlsError>
-    ensures { Gives entry_of result (label_at encoding.now biff r.now) }
+    ensures { Gives cell_entry_of result (label_at encoding.now biff r.now) }
 {
     let (at, string) = split_label(r)?;
     let text = parse_string(alloc, string, encoding, biff)?;

@@ -5,7 +5,7 @@ ghost use Rattle.std.specs.Option.{option_map};
 ghost use Rattle.std.specs.Str.{chars};
 ghost use Rattle.xls_data.specs.Content.{text};
 ghost use Rattle.xls_record.specs.Reading.{Exactly, Gives};
-ghost use Rattle.xls_biff.specs.Cells.{entry_of};
+ghost use Rattle.xls_biff.specs.Cells.{cell_entry_of};
 ghost use Rattle.xls_biff.specs.Records.LabelSst.{label_sst_at, shared_entry};
 
 use crate::cells::position_of;
@@ -47,7 +47,7 @@ pub fn parse_label_sst(
     r: &[u8],
     strings: &Strings,
 ) -> Result<Option<Cell<Data>>, XlsError>
-    ensures { Gives (λ cell. option_map entry_of cell) result (label_sst_at strings.now r.now) }
+    ensures { Gives (λ cell. option_map cell_entry_of cell) result (label_sst_at strings.now r.now) }
 {
     let Some((at, string)) = find_label_sst(r, strings)? else {
         return Ok(None);

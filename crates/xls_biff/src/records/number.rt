@@ -5,7 +5,7 @@ ghost use Rattle.xls_data.specs.Formatted.{formatted_number};
 ghost use Rattle.xls_data.specs.Numeric.{numeric_content};
 ghost use Rattle.xls_dates.specs.declared.formats.CellFormat.{CellFormat};
 ghost use Rattle.xls_record.specs.Reading.{Exactly};
-ghost use Rattle.xls_biff.specs.Cells.{entry_of};
+ghost use Rattle.xls_biff.specs.Cells.{cell_entry_of};
 ghost use Rattle.xls_biff.specs.Records.Number.{number_at, number_entry};
 
 use crate::cells::{class_of, position_of};
@@ -58,7 +58,7 @@ pub fn read_number(r: &[u8]) -> Result<NumberCell, XlsError>
 /// The cell of a Number record's body, as `read_number` reads it. Takes no memory.
 #[inline]
 pub fn parse_number(r: &[u8], formats: &[CellFormat], is_1904: bool) -> Result<Cell<Data>, XlsError>
-    ensures { Exactly entry_of result (number_at formats.now is_1904 r.now) }
+    ensures { Exactly cell_entry_of result (number_at formats.now is_1904 r.now) }
 {
     let cell = read_number(r)?;
     let value = cell.value(formats, is_1904);

@@ -6,7 +6,7 @@ ghost use Rattle.std.specs.Option.{option_copied};
 ghost use Rattle.xls_data.specs.Numeric.{numeric_content};
 ghost use Rattle.xls_dates.specs.declared.formats.CellFormat.{CellFormat};
 ghost use Rattle.xls_record.specs.Reading.{Adds, Appends, Exactly, IsLonger};
-ghost use Rattle.xls_biff.specs.Cells.{Entry, entry_of, numeric_entry};
+ghost use Rattle.xls_biff.specs.Cells.{CellEntry, cell_entry_of, numeric_entry};
 ghost use Rattle.xls_biff.specs.Records.Rk.{hundredths_content, mul_rk_at, mul_rk_count, rk_at, rk_bits, rk_cell, rk_content, rk_entry, rk_whole};
 
 use crate::cells::{class_of, position_of};
@@ -110,7 +110,7 @@ pub fn read_rk(r: &[u8]) -> Result<RkCell, XlsError>
 /// The cell of an RK record's body, as `read_rk` reads it. Takes no memory.
 #[inline]
 pub fn parse_rk(r: &[u8], formats: &[CellFormat], is_1904: bool) -> Result<Cell<Data>, XlsError>
-    ensures { Exactly entry_of result (rk_at formats.now is_1904 r.now) }
+    ensures { Exactly cell_entry_of result (rk_at formats.now is_1904 r.now) }
 {
     let cell = read_rk(r)?;
     let value = cell.value(formats, is_1904);
@@ -172,7 +172,7 @@ pub fn read_mul_rk(
 pub fn cell_of_mul_rk(r: &[u8], i: usize, formats: &[CellFormat], is_1904: bool) -> Cell<Data>
     requires room { 10 + 6 * i ≤ length r.now }
     requires within { i < 2 ^ 16 }
-    ensures { entry_of result ≡ rk_cell formats.now is_1904 r.now i }
+    ensures { cell_entry_of result ≡ rk_cell formats.now is_1904 r.now i }
 {
     let (position, value) = read_mul_rk(r, i, formats, is_1904);
     Cell::new(position, value.into_data())
@@ -188,7 +188,7 @@ fn push_mul_rk(
 ) -> Result<(), AllocError>
     requires sized { length r.now ≡ 6 + 6 * count }
     requires few { count ≤ 2 ^ 16 }
-    ensures ok { OnOk result (Adds entry_of cells.old.items cells.new.items
+    ensures ok { OnOk result (Adds cell_entry_of cells.old.items cells.new.items
         (map (rk_cell formats.now is_1904 r.now) (range_with_len 0 count))) }
     ensures grown { IsLonger cells.old.items cells.new.items }
 {
@@ -207,7 +207,7 @@ pub fn parse_mul_rk(
     formats: &[CellFormat],
     is_1904: bool,
 ) -> Result<(), XlsError>
-    ensures { Appends entry_of cells.old.items result cells.new.items (mul_rk_at formats.now is_1904 r.now) }
+    ensures { Appends cell_entry_of cells.old.items result cells.new.items (mul_rk_at formats.now is_1904 r.now) }
 {
     let count = count_mul_rk(r)?;
     let before = cells.len();
@@ -220,7 +220,7 @@ pub fn parse_mul_rk(
 
 /// How many cells `parse_mul_rk` appends, and 0 where it refuses. Takes no memory.
 pub(crate) fn weight_of_mul_rk(r: &[u8]) -> u64
-    ensures cells { (formats : List CellFormat) (is_1904 : Bool) (cells : List Entry) →
+    ensures cells { (formats : List CellFormat) (is_1904 : Bool) (cells : List CellEntry) →
         mul_rk_at formats is_1904 r.now ≡ Ok cells → result ≡ length cells }
     ensures faulty { IsErr (mul_rk_count r.now) → result ≡ 0 }
 {

@@ -4,7 +4,7 @@ ghost use Rattle.std.specs.Prelude.{◌≡◌};
 ghost use Rattle.xls_record.specs.Reading.{Exactly};
 ghost use Rattle.xls_stream.specs.Listing.{IsPart, IsSheetPart};
 ghost use Rattle.xls_open.specs.Steps.{weight_left};
-ghost use Rattle.xls_meaning.specs.InForce.{InForce};
+ghost use Rattle.xls_meaning.specs.Settings.{Settings};
 ghost use Rattle.xls_open.specs.CheckSteps.{under, AreChecked, ChecksPart, ChecksPlaces};
 
 use crate::check::CheckRules;
@@ -25,7 +25,7 @@ fn room_after(room: u64, weight: u64, max_cells: u64) -> Result<u64, XlsError>
 
 /// The first fault of a part, whatever else than the version is in force.
 fn check_part(part: &[u8], biff: Biff, rules: CheckRules) -> Result<(), XlsError>
-    ensures { (s : InForce) → s.cells.version ≡ biff
+    ensures { (s : Settings) → s.cells.version ≡ biff
         → ChecksPart (IsPart part.now) (under rules) s result }
 {
     let mut room = rules.max_cells;
@@ -39,7 +39,7 @@ fn check_part(part: &[u8], biff: Biff, rules: CheckRules) -> Result<(), XlsError
 
 /// The first fault of the sheet part at an offset of the stream; an offset past its end is one.
 fn check_sheet(stream: &[u8], offset: usize, biff: Biff, rules: CheckRules) -> Result<(), XlsError>
-    ensures { (s : InForce) → s.cells.version ≡ biff
+    ensures { (s : Settings) → s.cells.version ≡ biff
         → ChecksPart (IsSheetPart stream.now offset) (under rules) s result }
 {
     if stream.len() < offset {

@@ -8,7 +8,7 @@ use xls_data::CellType;
 
 impl<T: CellType> Range<T> {
     ghost use Rattle.std.specs.Prelude.{◌≡◌, ◌+◌, ◌*◌, ◌^◌, ◌<◌, ◌≤◌, ◌↔◌, IfOk, IsErrOf};
-    ghost use Rattle.xls_range.specs.Grid.{cell_at, IsRange, IsOfCorners, IsDisordered, IsOrdered, count_between, IsCopyOf, AreCopies, Shows};
+    ghost use Rattle.xls_range.specs.Grid.{cell_at, IsRange, IsOfCorners, IsDisordered, AreOrderedCorners, count_between, IsCopyOf, AreCopies, Shows};
 
     // What stands for a position elsewhere: a copy of its cell, or a blank.
     fn copy_at(&self, alloc: Global, position: (u32, u32)) -> Result<T, AllocError>
@@ -55,7 +55,7 @@ impl<T: CellType> Range<T> {
     ) -> Result<Range<T>, RangeError>
         ensures bounds { IsErrOf result RangeError.Bounds ↔ IsDisordered start end }
         ensures too_large { IsErrOf result RangeError.TooLarge
-            ↔ (IsOrdered start end × (2 ^ 64 ≤ count_between start end)) }
+            ↔ (AreOrderedCorners start end × (2 ^ 64 ≤ count_between start end)) }
         ensures range { IfOk result (λ r. IsRange r) }
         ensures corners { IfOk result (λ r. IsOfCorners start end r) }
         ensures cells { IfOk result (λ r. Shows T.eq T.blank_test (cell_at self.now) r) }

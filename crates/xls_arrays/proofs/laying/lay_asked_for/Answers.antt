@@ -1,8 +1,8 @@
 use Rattle.std.proofs.Common.{[], ◌∷◌}
 use Rattle.std.proofs.lemmas.Result.{on_ok_weaker}
-use Rattle.xls_arrays.specs.Shown.{each_with}
+use Rattle.xls_arrays.specs.Displayed.{each_with}
 use Rattle.xls_arrays.specs.Laying.{LaysOne}
-use Rattle.xls_arrays.proofs.ShownLemmas.{asked-all, asked-bare, asked-one}
+use Rattle.xls_arrays.proofs.DisplayedLemmas.{asked-all, asked-bare, asked-one}
 use Rattle.xls_arrays.proofs.LaidLemmas.{lays-alone}
 use Rattle.xls_arrays.proofs.laying.lay_asked_for.Goals as goal
 

@@ -7,8 +7,8 @@ use Rattle.xls_arrays.proofs.laying.lay_name.Goals as goal
 
 pub returns-clause-ok : goal.returns-clause-ok
 returns-clause-ok c =
-    let told : List ℕ × List ℕ = (chars c.args.name.now, chars c.args.formula.now) in
+    let reported : List ℕ × List ℕ = (chars c.args.name.now, chars c.args.formula.now) in
     on_ok_weaker c.lay_name_item.result
-    (lays-name told c.in_ok-name.ensures.ok c.in_ok-formula.ensures.ok
+    (lays-name reported c.in_ok-name.ensures.ok c.in_ok-formula.ensures.ok
     (sym (encodes c.args.name.now c.utf8.name)) (sym (encodes c.args.formula.now c.utf8.formula)))
     c.lay_name_item.ensures.ok

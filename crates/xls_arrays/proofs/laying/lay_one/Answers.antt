@@ -1,7 +1,7 @@
 use Rattle.std.proofs.Common.{arith, slice_get}
 use Rattle.xls_data.specs.Sheets.{sheet_content}
-use Rattle.xls_arrays.specs.Shown.{content_in}
-use Rattle.xls_arrays.proofs.ShownLemmas.{each-at, mapped}
+use Rattle.xls_arrays.specs.Displayed.{content_in}
+use Rattle.xls_arrays.proofs.DisplayedLemmas.{each-at, mapped}
 use Rattle.xls_arrays.proofs.laying.lay_one.Goals as goal
 
 pub returns-clause-ok : goal.returns-clause-ok

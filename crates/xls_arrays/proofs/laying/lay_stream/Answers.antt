@@ -2,7 +2,7 @@ use Rattle.std.proofs.Common.{refl, subst}
 use Rattle.xls_view.specs.Viewing.{IsViewed}
 use Rattle.xls_open.specs.declared.options.XlsOptions.{XlsOptions}
 use Rattle.xls_arrays.specs.Arrays.{arrays_of, empty}
-use Rattle.xls_arrays.specs.Held.{IsHeld, RefusesStream, Shows}
+use Rattle.xls_arrays.specs.Held.{IsHeld, RefusesStream, ShowsStream}
 use Rattle.xls_arrays.proofs.HeldLemmas.{err-as, misses-refused}
 use Rattle.xls_arrays.proofs.laying.lay_stream.Goals as goal
 
@@ -10,7 +10,7 @@ pub returns-in_err-lay_view-clause-err : goal.returns-in_err-lay_view-clause-err
 returns-in_err-lay_view-clause-err c =
     let stream = c.args.stream.now in
     let view = c.in_ok-view.view in
-    let shows : Shows c.args.options.now stream view =
+    let shows : ShowsStream c.args.options.now stream view =
     record {
       plain = c.in_ok-refuse_bytes.ensures.ok;
       viewed = subst (λ (o : XlsOptions). IsViewed o stream view) c.in_ok-reader.ensures c.in_ok-view.ensures.ok;
@@ -24,7 +24,7 @@ returns-clause-ok c =
     λ h.
     let stream = c.args.stream.now in
     let view = c.in_ok-view.view in
-    let shows : Shows c.args.options.now stream view =
+    let shows : ShowsStream c.args.options.now stream view =
     record {
       plain = c.in_ok-refuse_bytes.ensures.ok;
       viewed = subst (λ (o : XlsOptions). IsViewed o stream view) c.in_ok-reader.ensures c.in_ok-view.ensures.ok;

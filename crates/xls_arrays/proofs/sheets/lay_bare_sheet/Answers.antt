@@ -1,6 +1,6 @@
 use Rattle.std.proofs.lemmas.Result.{on_ok_weaker}
 use Rattle.xls_data.specs.Sheets.{sheet_content}
-use Rattle.xls_arrays.specs.Shown.{no_content}
+use Rattle.xls_arrays.specs.Displayed.{no_content}
 use Rattle.xls_arrays.proofs.LaidLemmas.{lays-none, lays-sheet}
 use Rattle.xls_arrays.proofs.TextLemmas.{encoded-as}
 use Rattle.xls_arrays.proofs.sheets.lay_bare_sheet.Goals as goal

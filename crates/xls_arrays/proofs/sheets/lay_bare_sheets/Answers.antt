@@ -3,7 +3,7 @@ use Rattle.std.proofs.lemmas.List.{length-map}
 use Rattle.xls_data.specs.Sheets.{sheet_content}
 use Rattle.xls_arrays.specs.Arrays.{with_sheet}
 use Rattle.xls_arrays.proofs.LaidLemmas.{partly-all, partly-next}
-use Rattle.xls_arrays.proofs.ShownLemmas.{each-end, each-step, mapped}
+use Rattle.xls_arrays.proofs.DisplayedLemmas.{each-end, each-step, mapped}
 use Rattle.xls_arrays.proofs.sheets.lay_bare_sheets.Goals as goal
 
 pub loop-i-preserved : goal.loop-i-preserved

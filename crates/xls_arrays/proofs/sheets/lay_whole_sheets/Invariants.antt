@@ -1,6 +1,6 @@
 use Rattle.std.proofs.Common.{drop}
 use Rattle.xls_arrays.specs.Arrays.{with_sheet}
-use Rattle.xls_arrays.specs.Shown.{each_with}
+use Rattle.xls_arrays.specs.Displayed.{each_with}
 use Rattle.xls_arrays.proofs.LaidLemmas.{IsPartly}
 use Rattle.xls_arrays.proofs.sheets.lay_whole_sheets.Given as goal
 

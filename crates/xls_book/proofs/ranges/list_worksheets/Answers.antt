@@ -19,7 +19,7 @@ loop-name-preserved-in-Continue-1 c =
     let contents = c.args.contents.now in
     let named = last_named (paired (map sheet_content sheets) contents) in
     let listing = subst (λ rest. Listing data_impl.ghosts.eq is_nothing named c.args.index.now.entries l.list.items rest) c.in-Some.ensures.steps l.invariant.2 in
-    let found = entry_holds (λ (e : String Global × ℕ). get_by_text c.args.index.now (string_bytes e.0) ≡ Some e.1) c.args.index.now.entries listing.front (c.in-Some.name.now, c.in-Some.place.now) c.next.new.self listing.whole c.iter-name-items.ensures.found in
+    let found = entry_holds (λ (e : String Global × ℕ). get_by_text c.args.index.now (string_bytes e.0) ≡ Some e.1) c.args.index.now.entries listing.prefix (c.in-Some.name.now, c.in-Some.place.now) c.next.new.self listing.whole c.iter-name-items.ensures.found in
     let shows = entry_shows sheets contents c.args.index.now c.requires.index c.requires.each (c.in-Some.name.now, c.in-Some.place.now) found in
     let at = c.get.ensures.lookup in
     let view = sym (looked contents c.in-Some.place.now c.get.result at.0 at.1) ∙ ap option_copied c.in-Some-get.is in
@@ -34,7 +34,7 @@ loop-name-preserved c =
     let contents = c.args.contents.now in
     let named = last_named (paired (map sheet_content sheets) contents) in
     let listing = subst (λ rest. Listing data_impl.ghosts.eq is_nothing named c.args.index.now.entries l.list.items rest) c.in-Some.ensures.steps l.invariant.2 in
-    let found = entry_holds (λ (e : String Global × ℕ). get_by_text c.args.index.now (string_bytes e.0) ≡ Some e.1) c.args.index.now.entries listing.front (c.in-Some.name.now, c.in-Some.place.now) c.next.new.self listing.whole c.iter-name-items.ensures.found in
+    let found = entry_holds (λ (e : String Global × ℕ). get_by_text c.args.index.now (string_bytes e.0) ≡ Some e.1) c.args.index.now.entries listing.prefix (c.in-Some.name.now, c.in-Some.place.now) c.next.new.self listing.whole c.iter-name-items.ensures.found in
     let within = place_within sheets (string_bytes c.in-Some.name.now) c.in-Some.place.now (sym (c.requires.index (string_bytes c.in-Some.name.now)) ∙ found) in
     absurd (not_past c.in-Some.place.now (length contents) (omega (arith, within, c.requires.each)) (ap is_some (sym c.in_default.is) ∙ c.get.ensures.lookup.0))
 

@@ -1,14 +1,14 @@
 use Rattle.std.proofs.Common.{ap, inl, sym, Some}
 use Rattle.xls_report.specs.Report.{report}
 use Rattle.xls_report.proofs.EndingLemmas.{either-as, either-stopped}
-use Rattle.xls_command.specs.Outputs.{IsOutput, IsRefusal}
+use Rattle.xls_command.specs.Outputs.{IsOutput, IsRefusalText}
 use Rattle.xls_command.specs.declared.command.Command.TheVariants.{Dump}
 use Rattle.xls_command.proofs.perform.write_dump.Goals as goal
 
 pub returns-in_err-write_report-in-Ok : goal.returns-in_err-write_report-in-Ok
 returns-in_err-write_report-in-Ok g c =
     let opened = c.in-Ok.ensures.opened in
-    either-stopped (IsOutput Dump (Some c.args.bytes.now)) (IsRefusal Dump (Some c.args.bytes.now)) c.from_residual.result c.from_residual.ensures.1
+    either-stopped (IsOutput Dump (Some c.args.bytes.now)) (IsRefusalText Dump (Some c.args.bytes.now)) c.from_residual.result c.from_residual.ensures.1
     (inl (opened.0, opened.1, ap report (sym opened.2))) c.in_err-write_report-in-Ok.ensures
 
 pub returns-in_ok-write_report-in-Ok : goal.returns-in_ok-write_report-in-Ok

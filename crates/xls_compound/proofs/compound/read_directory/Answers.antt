@@ -1,7 +1,7 @@
 use Rattle.std.proofs.Common.{subst}
 use Rattle.xls_sectors.specs.declared.header.Header.{Header}
 use Rattle.xls_directory.specs.declared.fault.DirectoryError.{DirectoryError}
-use Rattle.xls_directory.specs.Directory.{IsDirectory, IsRefusal, IsFault}
+use Rattle.xls_directory.specs.Directory.{IsDirectory, IsRefusal, IsDirectoryFault}
 use Rattle.xls_compound.specs.Compound.{is_wide}
 use Rattle.xls_compound.proofs.ReadLemmas.{directory_is}
 use Rattle.xls_compound.proofs.compound.read_directory.Goals as goal
@@ -16,7 +16,7 @@ returns-in-Err-Fault-read-clause-err c file opens =
       bytes,
       opens,
       chain,
-      subst (λ (h : Header). IsFault (is_wide h) bytes c.in-Err-Fault-read.fault) c.header-header.ensures fault,
+      subst (λ (h : Header). IsDirectoryFault (is_wide h) bytes c.in-Err-Fault-read.fault) c.header-header.ensures fault,
     )
 
 -- it holds the listing

@@ -1,7 +1,7 @@
 use Rattle.std.proofs.Common.{◌+◌, ◌-◌}
 use Rattle.xls_lines.proofs.GatherLemmas.{PutsSome}
 use Rattle.xls_csv.specs.Text.{row_csv}
-use Rattle.xls_csv.specs.Walk.{rows_along}
+use Rattle.xls_csv.specs.Walk.{rows_over}
 use Rattle.xls_csv.proofs.rows.put_rows.Given as goal
 
 -- some rows are put, and the others are still to come
@@ -9,6 +9,6 @@ abbrev pub invariant-loop-i : goal.invariant-loop-i
 invariant-loop-i g l =
     let sink = g.K.Sink in
     let box = l.extent in
-    PutsSome row_csv (rows_along box.height box.top box.left box.width l.fn.cells)
-    (rows_along (box.height - l.i) (box.top + l.i) box.left box.width l.cells)
+    PutsSome row_csv (rows_over box.height box.top box.left box.width l.fn.cells)
+    (rows_over (box.height - l.i) (box.top + l.i) box.left box.width l.cells)
     (sink.state l.fn.sink) l.fn.gathered (sink.state l.sink) l.gathered

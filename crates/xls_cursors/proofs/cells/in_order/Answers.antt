@@ -6,5 +6,5 @@ use Rattle.xls_cursors.proofs.cells.in_order.Goals as goal
 
 pub returns : goal.returns
 returns c =
-    sorted_seen (value_at c.args.force.now c.args.part.now) c.in_ok-places.places c.settled.result c.settled.ensures.ascending c.settled.ensures.last
+    sorted_seen (value_at c.args.settings.now c.args.part.now) c.in_ok-places.places c.settled.result c.settled.ensures.ascending c.settled.ensures.last
     ∙ ap settled c.in_ok-places.ensures

@@ -1,10 +1,10 @@
 use Rattle.std.proofs.Common.{ap, ◌∙◌}
 use Rattle.xls_cursors.specs.Contents.{settled}
-use Rattle.xls_cursors.specs.Placed.{tokens_at}
+use Rattle.xls_cursors.specs.Placed.{placed_tokens}
 use Rattle.xls_cursors.proofs.PlaceLemmas.{sorted_seen}
 use Rattle.xls_cursors.proofs.formulas.in_order.Goals as goal
 
 pub returns : goal.returns
 returns c =
-    sorted_seen (tokens_at c.args.part.now) c.in_ok-places.places c.settled.result c.settled.ensures.ascending c.settled.ensures.last
+    sorted_seen (placed_tokens c.args.part.now) c.in_ok-places.places c.settled.result c.settled.ensures.ascending c.settled.ensures.last
     ∙ ap settled c.in_ok-places.ensures

@@ -1,6 +1,6 @@
 use Rattle.std.proofs.Common.{refl, ◌∙◌, Some, None}
 use Rattle.xls_biff.specs.Walking.{group_of}
-use Rattle.xls_cursors.specs.Formulas.{formulas_of}
+use Rattle.xls_cursors.specs.Formulas.{formulas_kept}
 use Rattle.xls_cursors.specs.Walking.{formula_seen}
 use Rattle.xls_cursors.proofs.ContentLemmas.{formulas_next, none_over, none_cut, none_left, left_bytes}
 use Rattle.xls_cursors.proofs.formulas.next_formula.Goals as goal
@@ -9,7 +9,7 @@ pub returns-in-Err-clause-passes : goal.returns-in-Err-clause-passes
 returns-in-Err-clause-passes c =
     let l = c.loop-item in
     let steps = rw c.in-Err.is at c.in-Some.ensures.steps in
-    (l.invariant.3 ∙ none_cut formulas_of refl l.records c.in-Err.field-0 l.invariant.2 steps.0, none_left formulas_of refl c.next.new.self steps.1)
+    (l.invariant.3 ∙ none_cut formulas_kept refl l.records c.in-Err.field-0 l.invariant.2 steps.0, none_left formulas_kept refl c.next.new.self steps.1)
 
 pub returns-in-Some-formula_of-clause-bytes : goal.returns-in-Some-formula_of-clause-bytes
 returns-in-Some-formula_of-clause-bytes c =
@@ -37,4 +37,4 @@ loop-item-preserved c =
 pub returns-clause-passes : goal.returns-clause-passes
 returns-clause-passes c =
     let l = c.loop-item in
-    (l.invariant.3 ∙ none_over formulas_of refl l.records l.invariant.2 c.in_default.ensures.steps.0, none_left formulas_of refl c.next.new.self c.in_default.ensures.steps.1)
+    (l.invariant.3 ∙ none_over formulas_kept refl l.records l.invariant.2 c.in_default.ensures.steps.0, none_left formulas_kept refl c.next.new.self c.in_default.ensures.steps.1)

@@ -1,7 +1,7 @@
 use Rattle.std.proofs.Common.{◌≡◌}
 use Rattle.xls_stream.specs.Walks.{IsBytes}
 use Rattle.xls_cursors.specs.Contents.{kept_in}
-use Rattle.xls_cursors.specs.Formulas.{formulas_of}
+use Rattle.xls_cursors.specs.Formulas.{formulas_kept}
 use Rattle.xls_cursors.proofs.formulas.next_formula.Given as goal
 
 -- the records that were passed are no formulas
@@ -10,4 +10,4 @@ invariant-loop-item l =
     (goal.iterator-loop-item).can_next l.records ×
     (goal.iterator-loop-item).is_finite l.records ×
     IsBytes l.records.0 ×
-    (formulas_of (kept_in l.fn.records.0 l.fn.records.1) ≡ formulas_of (kept_in l.records.0 l.records.1))
+    (formulas_kept (kept_in l.fn.records.0 l.fn.records.1) ≡ formulas_kept (kept_in l.records.0 l.records.1))

@@ -1,7 +1,7 @@
 use Rattle.std.proofs.Common.{◌≡◌, ◌++◌, ℕ, List, map}
 use Rattle.xls_stream.specs.Walks.{IsBytes}
 use Rattle.xls_cursors.specs.Contents.{kept_in}
-use Rattle.xls_cursors.specs.Formulas.{formulas_of}
+use Rattle.xls_cursors.specs.Formulas.{formulas_kept}
 use Rattle.xls_cursors.specs.Placed.{formula_placed}
 use Rattle.xls_cursors.proofs.formulas.places_of.Given as goal
 
@@ -11,5 +11,5 @@ invariant-loop-item l =
     (goal.iterator-loop-item).can_next l.item-iterator ×
     (goal.iterator-loop-item).is_finite l.item-iterator ×
     IsBytes l.item-iterator.0 ×
-    ((front : List ℕ) × (l.part ≡ front ++ l.item-iterator.0)) ×
-    (formulas_of (kept_in l.part 0) ≡ map (formula_placed l.part) l.places ++ formulas_of (kept_in l.item-iterator.0 l.item-iterator.1))
+    ((prefix : List ℕ) × (l.part ≡ prefix ++ l.item-iterator.0)) ×
+    (formulas_kept (kept_in l.part 0) ≡ map (formula_placed l.part) l.places ++ formulas_kept (kept_in l.item-iterator.0 l.item-iterator.1))

@@ -1,7 +1,7 @@
 use Rattle.std.proofs.Common.{ap, ◌∙◌, sym}
 use Rattle.xls_biff.specs.Walking.{group_of}
 use Rattle.xls_stream.specs.Listing.{kept_group}
-use Rattle.xls_meaning.specs.InForce.{InForce}
+use Rattle.xls_meaning.specs.Settings.{Settings}
 use Rattle.xls_meaning.specs.SheetTable.{kept_line}
 use Rattle.xls_cursors.specs.Placed.{cell_in}
 use Rattle.xls_cursors.proofs.PlaceLemmas.{faulty_record, sound_record}
@@ -10,11 +10,11 @@ use Rattle.xls_cursors.proofs.places.placed_value.Goals.{in-Ok, in-Err}
 
 pub returns : goal.returns
 returns c =
-    let s = c.args.force.now in
+    let s = c.args.settings.now in
     let p = c.args.position in
     let k = kept_group (group_of c.in-Some.record) in
     let there = rw c.in-Some.is at c.record_at.ensures in
-    let version = ap (λ (x : InForce). x.cells.version) (sym c.force.view_is) in
+    let version = ap (λ (x : Settings). x.cells.version) (sym c.settings.view_is) in
     let checked = c.check_sheet_record.ensures s.cells version in
     elim c.match-check_sheet_record.branch [
       | in-Ok w ↦

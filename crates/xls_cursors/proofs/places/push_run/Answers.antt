@@ -26,7 +26,7 @@ loop-i-preserved c =
 pub returns : goal.returns
 returns c = λ cells h.
     let body = c.args.body.now in
-    let s = c.args.force.now.cells in
+    let s = c.args.settings.now.cells in
     let f = rk_cell s.classes s.is_1904 body in
     let count : c.loop-i.i ≡ c.in-Ok.count = omega (arith, c.loop-i.auto.i-end, c.loop-i-test.false) in
     let is = run_is f (mul_rk_count body) c.in-Ok.count cells c.in-Ok.ensures.exact h in

@@ -5,8 +5,8 @@ use Rattle.xls_cursors.proofs.places.value_in.Goals as goal
 
 pub returns-then-r-eq-MUL_RK : goal.returns-then-r-eq-MUL_RK
 returns-then-r-eq-MUL_RK c = λ g h.
-    let s = c.args.force.now.cells in
+    let s = c.args.settings.now.cells in
     let body = c.args.r.now.body.now in
     rw c.if-r-eq-MUL_RK.true
     (or_blank c.value_in_run.result
-    ∙ value_run c.args.force.now c.args.position (c.args.position.1 - first_column body) _ g (mul_rk_at s.classes s.is_1904 body) (rw c.if-r-eq-MUL_RK.true at h) c.value_in_run.ensures)
+    ∙ value_run c.args.settings.now c.args.position (c.args.position.1 - first_column body) _ g (mul_rk_at s.classes s.is_1904 body) (rw c.if-r-eq-MUL_RK.true at h) c.value_in_run.ensures)

@@ -1,6 +1,6 @@
 use Rattle.std.proofs.Common.{sym, ap, ◌∙◌}
 use Rattle.xls_biff.specs.SheetTable.{SheetRecord}
-use Rattle.xls_meaning.specs.InForce.{InForce}
+use Rattle.xls_meaning.specs.Settings.{Settings}
 use Rattle.xls_meaning.specs.SheetTable.{adds}
 use Rattle.xls_cursors.proofs.RecordLemmas.{no_run, not_refused, read_as}
 use Rattle.xls_cursors.proofs.record.cell_of.Goals as goal
@@ -8,9 +8,9 @@ use Rattle.xls_cursors.proofs.record.cell_of.Goals.{in-Ok, in-Err}
 
 pub returns : goal.returns
 returns c = λ g h.
-    let s = c.args.force.now in
+    let s = c.args.settings.now in
     let r = c.args.r.now in
-    let version = ap (λ (x : InForce). x.cells.version) (sym c.force.view_is) in
+    let version = ap (λ (x : Settings). x.cells.version) (sym c.settings.view_is) in
     elim c.match-read_sheet_record.branch [
       | in-Ok w ↦
           rw w.result-is

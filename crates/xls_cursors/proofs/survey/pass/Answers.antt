@@ -2,7 +2,7 @@ use Rattle.std.proofs.Common.{◌++◌, refl, sym, ap, subst}
 use Rattle.xls_stream.specs.Listing.{kept_group}
 use Rattle.xls_biff.specs.SheetTable.{SheetRecord}
 use Rattle.xls_biff.specs.Walking.{group_of}
-use Rattle.xls_meaning.specs.InForce.{InForce}
+use Rattle.xls_meaning.specs.Settings.{Settings}
 use Rattle.xls_meaning.specs.SheetTable.{adds}
 use Rattle.xls_cursors.specs.Surveying.{IsFound}
 use Rattle.xls_cursors.proofs.RecordLemmas.{read_as}
@@ -12,7 +12,7 @@ use Rattle.xls_cursors.proofs.survey.pass.Goals as goal
 -- a record that begins with the position of its one cell
 pub returns-in-Some : goal.returns-in-Some
 returns-in-Some c = λ es fs rs g h found.
-    let s = c.args.force.now in
+    let s = c.args.settings.now in
     let k = kept_group (group_of c.args.r.now) in
     let plain = rw c.in-Some.is at c.first_place.ensures in
     let one = plain.one s.cells g h in
@@ -24,9 +24,9 @@ returns-in-Some c = λ es fs rs g h found.
 
 pub returns : goal.returns
 returns c = λ es fs rs g h found.
-    let s = c.args.force.now in
+    let s = c.args.settings.now in
     let k = kept_group (group_of c.args.r.now) in
-    let version = ap (λ (x : InForce). x.cells.version) (sym c.force.view_is) in
+    let version = ap (λ (x : Settings). x.cells.version) (sym c.settings.view_is) in
     let line = c.in-Ok.ensures.exact s.cells version in
     record {
       cells = subst (λ (x : SheetRecord). IsFound c.with_record.result (es ++ (adds s.formulas c.args.last x).cells)) (read_as _ _ g line h) (c.with_record.ensures es found.cells);

@@ -5,8 +5,8 @@ use Rattle.xls_biff.specs.SheetTable.{SheetRecord}
 use Rattle.xls_biff.specs.Walking.{group_of}
 use Rattle.xls_stream.specs.Listing.{kept_group}
 use Rattle.xls_meaning.specs.SheetTable.{adds}
-use Rattle.xls_cursors.specs.Contents.{cells_from, kept_in, regions_at, regions_of}
-use Rattle.xls_cursors.specs.Formulas.{formula_of, formulas_of}
+use Rattle.xls_cursors.specs.Contents.{cells_after, kept_in, regions_at, regions_of}
+use Rattle.xls_cursors.specs.Formulas.{formula_of, formulas_kept}
 use Rattle.xls_cursors.specs.Surveying.{formula_listed}
 use Rattle.xls_cursors.proofs.ContentLemmas.{cells_next, cut_sound, formulas_next, line_next, over_sound, regions_next, sound_next}
 use Rattle.xls_cursors.proofs.PlaceLemmas.{same_ok}
@@ -21,7 +21,7 @@ loop-item-init c =
 pub returns-in-Err : goal.returns-in-Err
 returns-in-Err c =
     let l = c.loop-item in
-    let s = c.args.force.now in
+    let s = c.args.settings.now in
     let i = l.invariant in
     let steps = rw c.in-Err.is at c.in-Some.ensures.steps in
     survey_done (record { cells = l.cells; formulas = l.formulas; merges = l.merges }) s l.last (kept_in l.item-iterator.0 l.item-iterator.1) i.3 _ i.4 _ i.5 _ i.6 i.7 i.8 i.9
@@ -30,7 +30,7 @@ returns-in-Err c =
 pub loop-item-preserved : goal.loop-item-preserved
 loop-item-preserved c =
     let l = c.loop-item in
-    let s = c.args.force.now in
+    let s = c.args.settings.now in
     let i = l.invariant in
     let steps = rw c.in-Ok.is at c.in-Some.ensures.steps in
     let g = group_of c.in-Ok.record in
@@ -49,15 +49,15 @@ loop-item-preserved c =
       i.4 ++ formula_listed k,
       i.5 ++ regions_at k,
       c.pass-regions.ensures i.3 i.4 i.5 line.0 line.1 i.6,
-      more_done i.3 cells (cells_from s c.unwrap_or-last.result (kept_in after.0 after.1)) _ _ i.7 next,
-      more_done i.4 (formula_listed k) (formulas_of (kept_in after.0 after.1)) _ _ i.8 (formulas_next before g after i.2.0 steps (formula_of k) refl),
+      more_done i.3 cells (cells_after s c.unwrap_or-last.result (kept_in after.0 after.1)) _ _ i.7 next,
+      more_done i.4 (formula_listed k) (formulas_kept (kept_in after.0 after.1)) _ _ i.8 (formulas_next before g after i.2.0 steps (formula_of k) refl),
       more_done i.5 (regions_at k) (regions_of (kept_in after.0 after.1)) _ _ i.9 (regions_next before g after i.2.0 steps (regions_at k) refl),
     )
 
 pub returns : goal.returns
 returns c =
     let l = c.loop-item in
-    let s = c.args.force.now in
+    let s = c.args.settings.now in
     let i = l.invariant in
     survey_done (record { cells = l.cells; formulas = l.formulas; merges = l.merges }) s l.last (kept_in l.item-iterator.0 l.item-iterator.1) i.3 _ i.4 _ i.5 _ i.6 i.7 i.8 i.9
     (over_sound s l.item-iterator i.2 c.in-None.ensures.steps.0)

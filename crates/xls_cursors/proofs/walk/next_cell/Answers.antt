@@ -12,30 +12,30 @@ loop-item-init c = (tt, tt, c.requires.sound, c.requires.none, refl)
 pub returns-in-Err-clause-sound : goal.returns-in-Err-clause-sound
 returns-in-Err-clause-sound c =
     let steps = rw c.in-Err.is at c.in-Some.ensures.steps in
-    (nothing_left c.args.force.now c.next.new.self steps.1).1
+    (nothing_left c.args.settings.now c.next.new.self steps.1).1
 
 pub returns-in-Err-clause-passes : goal.returns-in-Err-clause-passes
 returns-in-Err-clause-passes c =
     let l = c.loop-item in
     let steps = rw c.in-Err.is at c.in-Some.ensures.steps in (
-      l.invariant.4 ∙ no_cells c.args.force.now l.records l.at (cut_sound c.args.force.now l.records c.in-Err.field-0 l.invariant.2 steps.0),
-      rw l.invariant.3 (no_cells c.args.force.now c.next.new.self l.at (nothing_left c.args.force.now c.next.new.self steps.1).0),
+      l.invariant.4 ∙ no_cells c.args.settings.now l.records l.at (cut_sound c.args.settings.now l.records c.in-Err.field-0 l.invariant.2 steps.0),
+      rw l.invariant.3 (no_cells c.args.settings.now c.next.new.self l.at (nothing_left c.args.settings.now c.next.new.self steps.1).0),
     )
 
 pub returns-in-Some-first_cell-clause-sound : goal.returns-in-Some-first_cell-clause-sound
 returns-in-Some-first_cell-clause-sound c =
     let l = c.loop-item in
     let steps = rw c.in-Ok.is at c.in-Some.ensures.steps in
-    sound_next c.args.force.now l.records (group_of c.in-Ok.record) c.next.new.self l.invariant.2 steps
+    sound_next c.args.settings.now l.records (group_of c.in-Ok.record) c.next.new.self l.invariant.2 steps
 
 pub returns-in-Some-first_cell-clause-passes : goal.returns-in-Some-first_cell-clause-passes
 returns-in-Some-first_cell-clause-passes c =
     let l = c.loop-item in
     let steps = rw c.in-Ok.is at c.in-Some.ensures.steps in
     l.invariant.4
-    ∙ cells_next c.args.force.now l.records (group_of c.in-Ok.record) c.next.new.self l.invariant.2 steps l.at c.unwrap_or.result _
+    ∙ cells_next c.args.settings.now l.records (group_of c.in-Ok.record) c.next.new.self l.invariant.2 steps l.at c.unwrap_or.result _
     (λ line is. sym (rw c.in-Some-first_cell.is at c.first_cell.ensures line is))
-    (λ line is. c.unwrap_or.ensures ∙ ap (λ (o : Option Position). unwrap_or o l.at) (c.formula_position.ensures c.args.force.now.cells line is))
+    (λ line is. c.unwrap_or.ensures ∙ ap (λ (o : Option Position). unwrap_or o l.at) (c.formula_position.ensures c.args.settings.now.cells line is))
 
 pub loop-item-preserved : goal.loop-item-preserved
 loop-item-preserved c =
@@ -43,21 +43,21 @@ loop-item-preserved c =
     let steps = rw c.in-Ok.is at c.in-Some.ensures.steps in (
       tt,
       tt,
-      sound_next c.args.force.now l.records (group_of c.in-Ok.record) c.next.new.self l.invariant.2 steps,
-      (rw c.in_default-first_cell.is at c.first_cell.ensures (line_next c.args.force.now l.records (group_of c.in-Ok.record) c.next.new.self l.invariant.2 steps).0 (line_next c.args.force.now l.records (group_of c.in-Ok.record) c.next.new.self l.invariant.2 steps).1).1,
+      sound_next c.args.settings.now l.records (group_of c.in-Ok.record) c.next.new.self l.invariant.2 steps,
+      (rw c.in_default-first_cell.is at c.first_cell.ensures (line_next c.args.settings.now l.records (group_of c.in-Ok.record) c.next.new.self l.invariant.2 steps).0 (line_next c.args.settings.now l.records (group_of c.in-Ok.record) c.next.new.self l.invariant.2 steps).1).1,
       l.invariant.4
-          ∙ cells_next c.args.force.now l.records (group_of c.in-Ok.record) c.next.new.self l.invariant.2 steps l.at c.unwrap_or.result []
+          ∙ cells_next c.args.settings.now l.records (group_of c.in-Ok.record) c.next.new.self l.invariant.2 steps l.at c.unwrap_or.result []
           (λ line is. sym (rw c.in_default-first_cell.is at c.first_cell.ensures line is).0)
-          (λ line is. c.unwrap_or.ensures ∙ ap (λ (o : Option Position). unwrap_or o l.at) (c.formula_position.ensures c.args.force.now.cells line is)),
+          (λ line is. c.unwrap_or.ensures ∙ ap (λ (o : Option Position). unwrap_or o l.at) (c.formula_position.ensures c.args.settings.now.cells line is)),
     )
 
 pub returns-clause-sound : goal.returns-clause-sound
 returns-clause-sound c =
-    (nothing_left c.args.force.now c.next.new.self c.in_default.ensures.steps.1).1
+    (nothing_left c.args.settings.now c.next.new.self c.in_default.ensures.steps.1).1
 
 pub returns-clause-passes : goal.returns-clause-passes
 returns-clause-passes c =
     let l = c.loop-item in (
-      l.invariant.4 ∙ no_cells c.args.force.now l.records l.at (over_sound c.args.force.now l.records l.invariant.2 c.in_default.ensures.steps.0),
-      rw l.invariant.3 (no_cells c.args.force.now c.next.new.self l.at (nothing_left c.args.force.now c.next.new.self c.in_default.ensures.steps.1).0),
+      l.invariant.4 ∙ no_cells c.args.settings.now l.records l.at (over_sound c.args.settings.now l.records l.invariant.2 c.in_default.ensures.steps.0),
+      rw l.invariant.3 (no_cells c.args.settings.now c.next.new.self l.at (nothing_left c.args.settings.now c.next.new.self c.in_default.ensures.steps.1).0),
     )

@@ -1,6 +1,6 @@
 use Rattle.std.proofs.Common.{◌≡◌, []}
-use Rattle.xls_cursors.specs.Contents.{cells_from, kept_in}
-use Rattle.xls_cursors.specs.Walking.{IsSound}
+use Rattle.xls_cursors.specs.Contents.{cells_after, kept_in}
+use Rattle.xls_cursors.specs.Walking.{IsSoundPart}
 use Rattle.xls_cursors.proofs.walk.next_cell.Given as goal
 
 -- the records that were passed have no cells
@@ -8,5 +8,5 @@ abbrev pub invariant-loop-item : goal.invariant-loop-item
 invariant-loop-item l =
     (goal.iterator-loop-item).can_next l.records ×
     (goal.iterator-loop-item).is_finite l.records ×
-    IsSound l.force l.records × (l.run ≡ []) ×
-    (cells_from l.force l.fn.at (kept_in l.fn.records.0 l.fn.records.1) ≡ cells_from l.force l.at (kept_in l.records.0 l.records.1))
+    IsSoundPart l.settings l.records × (l.run ≡ []) ×
+    (cells_after l.settings l.fn.at (kept_in l.fn.records.0 l.fn.records.1) ≡ cells_after l.settings l.at (kept_in l.records.0 l.records.1))

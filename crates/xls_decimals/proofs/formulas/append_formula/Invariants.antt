@@ -2,7 +2,7 @@ use Rattle.std.proofs.Common.{ℕ, List, ◌++◌, length}
 use denote.Text.{Utf8}
 use denote.Shadow.{shadow}
 use Rattle.std.specs.String.{string_bytes}
-use Rattle.xls_decimals.specs.Added.{Adds}
+use Rattle.xls_decimals.specs.Added.{AddsText}
 use Rattle.xls_decimals.specs.Formulas.{IsFormula}
 use Rattle.xls_decimals.proofs.formulas.append_formula.Given as goal
 
@@ -10,7 +10,7 @@ use Rattle.xls_decimals.proofs.formulas.append_formula.Given as goal
 abbrev pub invariant-pieces : goal.invariant-pieces
 invariant-pieces l =
     shadow (Utf8 l.rest)
-    × Adds (λ added. (text : List ℕ) → IsFormula l.rest text → IsFormula l.formula (added ++ text))
+    × AddsText (λ added. (text : List ℕ) → IsFormula l.rest text → IsFormula l.formula (added ++ text))
     (string_bytes l.fn.buf) (string_bytes l.buf)
 
 abbrev pub decreases-pieces : goal.decreases-pieces

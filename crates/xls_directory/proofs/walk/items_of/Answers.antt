@@ -1,6 +1,6 @@
 use Rattle.std.proofs.Common.{rules, ◌≡◌, [], length, replicate, false, true, sym, ◌∙◌, ap, subst, length-set}
 use Rattle.std.proofs.lemmas.List.{length-replicate}
-use Rattle.xls_directory.specs.Steps.{State, at_first, ListsTree, GoesOn, Refuses}
+use Rattle.xls_directory.specs.Steps.{State, at_first, ListsTree, GoesOn, RefusesStep}
 use Rattle.xls_directory.proofs.StepLemmas.{goes_on-refl, goes_on-trans, all_read, refused}
 use Rattle.xls_directory.proofs.walk.items_of.Goals as goal
 
@@ -24,7 +24,7 @@ tasks-preserved c = record {
 pub returns-in_err-do_task-clause-err : goal.returns-in_err-do_task-clause-err
 returns-in_err-do_task-clause-err c =
     let h = refused c.args.entries.now c.args.first c.tasks.walk c.in_err-do_task.field-0.0 c.requires c.tasks.invariant.reads
-    (subst (λ (s : State). Refuses c.args.entries.now s c.in_err-do_task.field-0.0) (sym c.in-Some.ensures) c.in_err-do_task.ensures.err) in
+    (subst (λ (s : State). RefusesStep c.args.entries.now s c.in_err-do_task.field-0.0) (sym c.in-Some.ensures) c.in_err-do_task.ensures.err) in
     search rules
 
 -- no task is left

@@ -3,7 +3,7 @@ use Rattle.std.specs.List.{join_by}
 use Rattle.std.specs.String.{string_bytes}
 use Rattle.xls_documents.specs.Streams.{IsEntryText, path_text}
 use Rattle.xls_documents.proofs.StreamLemmas.{path_joined, stream_added}
-use Rattle.xls_documents.proofs.LineLemmas.{puts-memory, puts-one, shown, two_fields}
+use Rattle.xls_documents.proofs.LineLemmas.{puts-memory, puts-one, displayed, two_fields}
 use Rattle.xls_documents.proofs.streams.put_stream.Goals as goal
 
 pub returns-in_err-path : goal.returns-in_err-path
@@ -25,7 +25,7 @@ returns g c =
     let path : string_bytes c.in_ok-path-2.path ≡ path_text (map (λ x. x.now) names) =
     c.in_ok-path-2.ensures.ok ∙ ap (join_by _ (codes "/")) c.deref.ensures.value ∙ path_joined names in
     let members = two_fields c.count_member.result c.text_member.result c.count_member.ensures
-    (c.text_member.ensures ∙ shown (codes "path") (c.as_str.ensures.value ∙ path)) in
+    (c.text_member.ensures ∙ displayed (codes "path") (c.as_str.ensures.value ∙ path)) in
     let added = stream_added c.args.form c.args.entry.now _ c.size.result (map (λ x. x.now) names) _ _ c.requires c.size.ensures c.in_ok-path.ensures members
     c.in_ok-push_line.ensures.ok in
     puts-one (IsEntryText c.args.form) c.args.entry.now _ _ _ _ _ c.pass.result added c.pass.ensures.puts

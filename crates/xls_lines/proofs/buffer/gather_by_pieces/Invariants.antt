@@ -1,5 +1,5 @@
 use Rattle.std.proofs.Common.{◌-◌, ◌≤◌, length, take}
-use Rattle.xls_lines.specs.Gathering.{Gathers}
+use Rattle.xls_lines.specs.Gathering.{GathersText}
 use Rattle.xls_lines.specs.declared.buffer.TheConstants.{PIECE}
 use Rattle.xls_lines.proofs.buffer.gather_by_pieces.Given as goal
 
@@ -10,7 +10,7 @@ invariant-loop-at g l =
     record {
       within : l.at ≤ length l.text;
       bound : length l.bytes.items ≤ PIECE;
-      gathers : Gathers (sink.state l.fn.sink) l.fn.bytes.items (sink.state l.sink) l.bytes.items (take l.at l.text);
+      gathers : GathersText (sink.state l.fn.sink) l.fn.bytes.items (sink.state l.sink) l.bytes.items (take l.at l.text);
     }
 
 abbrev pub decreases-loop-at : goal.decreases-loop-at

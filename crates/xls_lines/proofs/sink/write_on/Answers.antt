@@ -3,11 +3,11 @@ use Rattle.std.specs.Io.KnownBytes.{Appends, Keeps, WriteAppends}
 use Rattle.std.proofs.KnownBytes.{Keeps-trans}
 use Rattle.xls_lines.proofs.sink.write_on.Goals as goal
 
-kept_appends : (was held now : Option (List ℕ)) (given : List ℕ) → Keeps was held → Appends held now given → Appends was now given
-kept_appends None held now given kept grown = tt
-kept_appends (Some xs) None now given kept grown = absurd kept
-kept_appends (Some xs) (Some ys) None given kept grown = absurd grown
-kept_appends (Some xs) (Some ys) (Some zs) given kept grown = grown ∙ ap (λ bytes. bytes ++ given) kept
+kept_appends : (was held now : Option (List ℕ)) (input : List ℕ) → Keeps was held → Appends held now input → Appends was now input
+kept_appends None held now input kept grown = tt
+kept_appends (Some xs) None now input kept grown = absurd kept
+kept_appends (Some xs) (Some ys) None input kept grown = absurd grown
+kept_appends (Some xs) (Some ys) (Some zs) input kept grown = grown ∙ ap (λ bytes. bytes ++ input) kept
 
 -- a write after what was kept
 kept_writes : {E : Type 0} (was held now : Option (List ℕ)) (r : Result ℕ E) (piece : List ℕ)

@@ -1,14 +1,14 @@
 use Rattle.std.proofs.Common.{◌≡◌, ◌≤◌, length, refl, sym, ap, ◌∙◌, arith}
 use Rattle.std.proofs.lemmas.List.{length-map}
 use Rattle.xls_data.specs.Sheets.{sheet_content}
-use Rattle.xls_listing.specs.Listing.{IsShownLine, lines_of_formulas}
+use Rattle.xls_listing.specs.Listing.{IsDisplayedLine, lines_of_formulas}
 use Rattle.xls_listing.proofs.LineLemmas.{some-all, some-first, some-next, some-stopped}
-use Rattle.xls_listing.proofs.ShownLemmas.{mapped, sheets_end, sheets_step}
+use Rattle.xls_listing.proofs.DisplayedLemmas.{mapped, sheets_end, sheets_step}
 use Rattle.xls_pieces.proofs.EachLemmas.{puts-each-stop}
 use Rattle.xls_listing.proofs.formulas.put_all_formulas.Goals as goal
 
 pub loop-i-init : goal.loop-i-init
-loop-i-init g c = some-first (IsShownLine c.args.form) _ _ _ _ refl
+loop-i-init g c = some-first (IsDisplayedLine c.args.form) _ _ _ _ refl
 
 pub loop-i-preserved : goal.loop-i-preserved
 loop-i-preserved g c =

@@ -1,7 +1,7 @@
 use Rattle.std.proofs.Common.{ap, ◌∙◌}
-use Rattle.xls_listing.specs.Listing.{IsShownLine}
+use Rattle.xls_listing.specs.Listing.{IsDisplayedLine}
 use Rattle.xls_listing.proofs.LineLemmas.{some-all, some-first, some-next, some-stopped}
-use Rattle.xls_listing.proofs.ShownLemmas.{formulas_step, token_lines}
+use Rattle.xls_listing.proofs.DisplayedLemmas.{formulas_step, token_lines}
 use Rattle.xls_pieces.proofs.EachLemmas.{puts-each-stop}
 use Rattle.xls_listing.proofs.formulas.put_formulas.Goals as goal
 
@@ -9,7 +9,7 @@ pub loop-formula-init : goal.loop-formula-init
 loop-formula-init g c = (
   tt,
   tt,
-  some-first (IsShownLine c.args.form) _ _ _ _
+  some-first (IsDisplayedLine c.args.form) _ _ _ _
       (ap (token_lines c.args.formulas.now.context) (c.into_iter-formula-iterator.ensures.into_iter_gives ∙ c.iter-formula-items.ensures)),
 )
 

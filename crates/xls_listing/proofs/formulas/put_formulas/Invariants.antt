@@ -1,7 +1,7 @@
 use Rattle.std.specs.String.{string_bytes}
-use Rattle.xls_listing.specs.Listing.{IsShownLine}
+use Rattle.xls_listing.specs.Listing.{IsDisplayedLine}
 use Rattle.xls_listing.proofs.LineLemmas.{PutsSome}
-use Rattle.xls_listing.proofs.ShownLemmas.{token_lines}
+use Rattle.xls_listing.proofs.DisplayedLemmas.{token_lines}
 use Rattle.xls_listing.proofs.formulas.put_formulas.Given as goal
 
 -- the lines of some formulas are put, and the others are left
@@ -11,5 +11,5 @@ invariant-loop-formula g l =
     let lines = token_lines l.formulas.context in
     (goal.iterator-loop-formula g).can_next l.formula-iterator ×
     (goal.iterator-loop-formula g).is_finite l.formula-iterator ×
-    PutsSome (IsShownLine l.form) (lines l.formulas.left) (lines l.formula-iterator)
+    PutsSome (IsDisplayedLine l.form) (lines l.formulas.left) (lines l.formula-iterator)
     (sink.state l.fn.sink) (string_bytes l.fn.pieces.text) (sink.state l.sink) (string_bytes l.pieces.text)

@@ -1,6 +1,6 @@
 use Rattle.std.proofs.Common.{drop}
 use Rattle.std.specs.String.{string_bytes}
-use Rattle.xls_listing.specs.Listing.{IsShownLine, each_sheet, lines_of_sheet}
+use Rattle.xls_listing.specs.Listing.{IsDisplayedLine, each_sheet, lines_of_sheet}
 use Rattle.xls_listing.proofs.LineLemmas.{PutsSome}
 use Rattle.xls_listing.proofs.listing.put_all_sheets.Given as goal
 
@@ -9,6 +9,6 @@ abbrev pub invariant-loop-i : goal.invariant-loop-i
 invariant-loop-i g l =
     let sink = g.K.Sink in
     let book = l.view.book in
-    PutsSome (IsShownLine l.form) (each_sheet lines_of_sheet book.sheets book.contents)
+    PutsSome (IsDisplayedLine l.form) (each_sheet lines_of_sheet book.sheets book.contents)
     (each_sheet lines_of_sheet (drop l.i book.sheets) (drop l.i book.contents))
     (sink.state l.fn.sink) (string_bytes l.fn.pieces.text) (sink.state l.sink) (string_bytes l.pieces.text)

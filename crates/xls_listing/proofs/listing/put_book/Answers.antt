@@ -1,8 +1,8 @@
 use Rattle.std.proofs.Common.{[], ◌∷◌, ◌++◌, ap, map}
-use Rattle.xls_open.specs.Workbook.{told_of}
-use Rattle.xls_listing.specs.Listing.{IsShownLine, dates_line, each_sheet, lines_of_sheet, name_line}
+use Rattle.xls_open.specs.Workbook.{name_texts}
+use Rattle.xls_listing.specs.Listing.{IsDisplayedLine, dates_line, each_sheet, lines_of_sheet, name_line}
 use Rattle.xls_listing.proofs.LineLemmas.{puts-then}
-use Rattle.xls_listing.proofs.ShownLemmas.{map_again}
+use Rattle.xls_listing.proofs.DisplayedLemmas.{map_again}
 use Rattle.xls_pieces.proofs.EachLemmas.{each-as, each-stops-as, each-stops-more, each-stops-then, each-then, puts-each-stop}
 use Rattle.xls_listing.proofs.listing.put_book.Goals as goal
 
@@ -18,16 +18,16 @@ returns-in_err-put_names g c =
     let a = c.from_residual-in_err-put_names in
     let book = c.args.view.now.book in
     let dates = each-as c.in_ok-put_dates.ensures (ap (λ b. dates_line b ∷ []) c.has_1904_epoch.ensures) in
-    let names = each-stops-as c.in_err-put_names.ensures (map_again name_line told_of _ book.names c.defined_names.ensures) in
+    let names = each-stops-as c.in_err-put_names.ensures (map_again name_line name_texts _ book.names c.defined_names.ensures) in
     puts-each-stop _ a.result a.ensures.1
     (each-stops-then dates (each-stops-more (each_sheet lines_of_sheet book.sheets book.contents) names))
 
 pub returns : goal.returns
 returns g c =
     let book = c.args.view.now.book in
-    let is = IsShownLine c.args.form in
+    let is = IsDisplayedLine c.args.form in
     let sink = g.K.Sink.state c.put_all_sheets.new.sink in
     let dates = each-as c.in_ok-put_dates.ensures (ap (λ b. dates_line b ∷ []) c.has_1904_epoch.ensures) in
-    let names = each-as c.in_ok-put_names.ensures (map_again name_line told_of _ book.names c.defined_names.ensures) in
+    let names = each-as c.in_ok-put_names.ensures (map_again name_line name_texts _ book.names c.defined_names.ensures) in
     puts-then is ((dates_line book.is_1904 ∷ []) ++ map name_line book.names) (each_sheet lines_of_sheet book.sheets book.contents)
     sink _ c.put_all_sheets.result (each-then dates names) c.put_all_sheets.ensures

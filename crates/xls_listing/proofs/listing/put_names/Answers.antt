@@ -1,23 +1,23 @@
 use Rattle.std.proofs.Common.{refl}
-use Rattle.xls_open.specs.Workbook.{told_of}
-use Rattle.xls_listing.specs.Listing.{IsShownLine, name_line}
+use Rattle.xls_open.specs.Workbook.{name_texts}
+use Rattle.xls_listing.specs.Listing.{IsDisplayedLine, name_line}
 use Rattle.xls_listing.proofs.LineLemmas.{some-first, some-next, some-stopped}
-use Rattle.xls_listing.proofs.ShownLemmas.{Told, drop_step}
+use Rattle.xls_listing.proofs.DisplayedLemmas.{Reported, drop_step}
 use Rattle.xls_pieces.proofs.EachLemmas.{puts-each-stop}
 use Rattle.xls_listing.proofs.listing.put_names.Goals as goal
 
 pub loop-name-init : goal.loop-name-init
-loop-name-init g c = some-first (IsShownLine c.args.form) _ _ _ _ refl
+loop-name-init g c = some-first (IsDisplayedLine c.args.form) _ _ _ _ refl
 
 pub loop-name-preserved : goal.loop-name-preserved
 loop-name-preserved g c =
     some-next c.loop-name.invariant
-    (drop_step (λ (n : Told). name_line (told_of n)) c.args.names.now c.loop-name.name-index _ c.loop-name-test.true c.name-item.is)
+    (drop_step (λ (n : Reported). name_line (name_texts n)) c.args.names.now c.loop-name.name-index _ c.loop-name-test.true c.name-item.is)
     c.in_ok-put_name.ensures
 
 pub returns-in_err-put_name : goal.returns-in_err-put_name
 returns-in_err-put_name g c =
     puts-each-stop _ c.from_residual.result c.from_residual.ensures.1
     (some-stopped _ c.loop-name.invariant
-    (drop_step (λ (n : Told). name_line (told_of n)) c.args.names.now c.loop-name.name-index _ c.loop-name-test.true c.name-item.is)
+    (drop_step (λ (n : Reported). name_line (name_texts n)) c.args.names.now c.loop-name.name-index _ c.loop-name-test.true c.name-item.is)
     c.in_err-put_name.ensures)

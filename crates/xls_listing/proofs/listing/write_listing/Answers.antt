@@ -1,4 +1,4 @@
-use Rattle.xls_listing.specs.Listing.{IsShownLine, dump_lines}
+use Rattle.xls_listing.specs.Listing.{IsDisplayedLine, dump_lines}
 use Rattle.xls_listing.proofs.LineLemmas.{delivers}
 use Rattle.xls_pieces.proofs.EachLemmas.{delivers-each-stop, each-from}
 use Rattle.xls_listing.proofs.listing.write_listing.Goals as goal
@@ -9,5 +9,5 @@ returns-in_err-put_book g c =
 
 pub returns : goal.returns
 returns g c =
-    delivers (IsShownLine c.args.form) (dump_lines c.args.view.now.book) (g.K.Sink.state c.finish.new.sink) _ c.finish.result
+    delivers (IsDisplayedLine c.args.form) (dump_lines c.args.view.now.book) (g.K.Sink.state c.finish.new.sink) _ c.finish.result
     c.new-pieces.ensures c.in_ok-put_book.ensures c.finish.ensures.puts c.finish.ensures.none

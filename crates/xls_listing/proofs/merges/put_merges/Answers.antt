@@ -1,12 +1,12 @@
 use Rattle.std.proofs.Common.{ap, map}
-use Rattle.xls_listing.specs.Listing.{IsShownLine, merge_line}
+use Rattle.xls_listing.specs.Listing.{IsDisplayedLine, merge_line}
 use Rattle.xls_listing.proofs.LineLemmas.{some-all, some-first, some-next, some-stopped}
 use Rattle.xls_pieces.proofs.EachLemmas.{puts-each-stop}
 use Rattle.xls_listing.proofs.merges.put_merges.Goals as goal
 
 pub loop-region-init : goal.loop-region-init
 loop-region-init g c =
-    (tt, tt, some-first (IsShownLine c.args.form) _ _ _ _ (ap (map merge_line) c.into_iter-region-iterator.ensures.into_iter_gives))
+    (tt, tt, some-first (IsDisplayedLine c.args.form) _ _ _ _ (ap (map merge_line) c.into_iter-region-iterator.ensures.into_iter_gives))
 
 pub loop-region-preserved : goal.loop-region-preserved
 loop-region-preserved g c =

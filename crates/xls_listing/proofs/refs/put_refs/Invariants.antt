@@ -1,7 +1,7 @@
 use Rattle.std.proofs.Common.{drop}
 use Rattle.std.specs.String.{string_bytes}
 use Rattle.xls_refs.specs.Views.{sheets_cited}
-use Rattle.xls_listing.specs.Listing.{IsShownLine}
+use Rattle.xls_listing.specs.Listing.{IsDisplayedLine}
 use Rattle.xls_listing.proofs.LineLemmas.{PutsSome}
 use Rattle.xls_listing.proofs.RefLemmas.{all_cited_lines}
 use Rattle.xls_listing.proofs.refs.put_refs.Given as goal
@@ -11,5 +11,5 @@ abbrev pub invariant-loop-sheet : goal.invariant-loop-sheet
 invariant-loop-sheet g l =
     let sink = g.K.Sink in
     let lines = all_cited_lines l.view.context.sheets in
-    PutsSome (IsShownLine l.form) (lines (sheets_cited l.view)) (lines (drop l.sheet (sheets_cited l.view)))
+    PutsSome (IsDisplayedLine l.form) (lines (sheets_cited l.view)) (lines (drop l.sheet (sheets_cited l.view)))
     (sink.state l.fn.sink) (string_bytes l.fn.pieces.text) (sink.state l.sink) (string_bytes l.pieces.text)

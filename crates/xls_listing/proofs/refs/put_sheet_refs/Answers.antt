@@ -1,5 +1,5 @@
 use Rattle.std.proofs.Common.{ap, ◌∙◌}
-use Rattle.xls_listing.specs.Listing.{IsShownLine}
+use Rattle.xls_listing.specs.Listing.{IsDisplayedLine}
 use Rattle.xls_listing.proofs.LineLemmas.{some-all, some-first, some-memory, some-next, some-stopped}
 use Rattle.xls_listing.proofs.RefLemmas.{cited_lines, formulas_cited_step}
 use Rattle.xls_pieces.proofs.EachLemmas.{puts-each-stop}
@@ -9,7 +9,7 @@ pub loop-formula-init : goal.loop-formula-init
 loop-formula-init g c = (
   tt,
   tt,
-  some-first (IsShownLine c.args.form) _ _ _ _
+  some-first (IsDisplayedLine c.args.form) _ _ _ _
       (ap (cited_lines c.args.names.now) (c.into_iter-formula-iterator.ensures.into_iter_gives ∙ c.iter-formula-items.ensures)),
 )
 

@@ -1,5 +1,5 @@
 use Rattle.std.specs.String.{string_bytes}
-use Rattle.xls_listing.specs.Listing.{IsShownLine}
+use Rattle.xls_listing.specs.Listing.{IsDisplayedLine}
 use Rattle.xls_listing.proofs.LineLemmas.{PutsSome}
 use Rattle.xls_listing.proofs.RefLemmas.{cited_lines}
 use Rattle.xls_listing.proofs.refs.put_sheet_refs.Given as goal
@@ -10,5 +10,5 @@ invariant-loop-formula g l =
     let sink = g.K.Sink in
     (goal.iterator-loop-formula g).can_next l.formula-iterator ×
     (goal.iterator-loop-formula g).is_finite l.formula-iterator ×
-    PutsSome (IsShownLine l.form) (cited_lines l.names l.fn.cites) (cited_lines l.names l.formula-iterator)
+    PutsSome (IsDisplayedLine l.form) (cited_lines l.names l.fn.cites) (cited_lines l.names l.formula-iterator)
     (sink.state l.fn.sink) (string_bytes l.fn.pieces.text) (sink.state l.sink) (string_bytes l.pieces.text)

@@ -1,5 +1,5 @@
 use Rattle.xls_refs.specs.Views.{cited_in}
-use Rattle.xls_listing.specs.Listing.{IsShownLine, ref_lines}
+use Rattle.xls_listing.specs.Listing.{IsDisplayedLine, ref_lines}
 use Rattle.xls_listing.proofs.LineLemmas.{delivers}
 use Rattle.xls_pieces.proofs.EachLemmas.{delivers-each-stop, each-from}
 use Rattle.xls_listing.proofs.refs.write_ref_list.Goals as goal
@@ -10,5 +10,5 @@ returns-in_err-put_refs g c =
 
 pub returns : goal.returns
 returns g c =
-    delivers (IsShownLine c.args.form) (ref_lines (cited_in c.args.view.now)) (g.K.Sink.state c.finish.new.sink) _ c.finish.result
+    delivers (IsDisplayedLine c.args.form) (ref_lines (cited_in c.args.view.now)) (g.K.Sink.state c.finish.new.sink) _ c.finish.result
     c.new-pieces.ensures c.in_ok-put_refs.ensures c.finish.ensures.puts c.finish.ensures.none

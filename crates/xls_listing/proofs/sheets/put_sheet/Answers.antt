@@ -1,15 +1,15 @@
 use Rattle.std.proofs.Common.{List, ℕ, codes, subst}
 use Rattle.std.specs.String.{string_bytes}
 use Rattle.xls_data.specs.Sheets.{sheet_content}
-use Rattle.xls_decimals.specs.Added.{Adds}
+use Rattle.xls_decimals.specs.Added.{AddsText}
 use Rattle.xls_readable.specs.Lines.{IsLine, sheet_members}
-use Rattle.xls_listing.specs.Listing.{IsShownLine, sheet_line}
+use Rattle.xls_listing.specs.Listing.{IsDisplayedLine, sheet_line}
 use Rattle.xls_listing.proofs.LineLemmas.{puts-memory, puts-one}
-use Rattle.xls_listing.proofs.ShownLemmas.{encoded_of}
+use Rattle.xls_listing.proofs.DisplayedLemmas.{encoded_of}
 use Rattle.xls_listing.proofs.sheets.put_sheet.Goals as goal
 
 pub returns-in_err-push_sheet : goal.returns-in_err-push_sheet
-returns-in_err-push_sheet g c = puts-memory (IsShownLine c.args.form) _ _ _ _ c.from_residual.result c.from_residual.ensures.1
+returns-in_err-push_sheet g c = puts-memory (IsDisplayedLine c.args.form) _ _ _ _ c.from_residual.result c.from_residual.ensures.1
 
 pub returns : goal.returns
 returns g c =
@@ -17,6 +17,6 @@ returns g c =
     let old = string_bytes c.args.pieces.now.text in
     let new = string_bytes c.push_sheet.new.buf in
     let name = encoded_of c.as_str.result.now (string_bytes sheet.name) c.as_str.utf8 c.as_str.ensures.value in
-    puts-one (IsShownLine c.args.form) (sheet_line (sheet_content sheet)) _ _ new _ _ c.pass.result
-    (subst (λ (t : List ℕ). Adds (IsLine c.args.form (codes "sheet") (sheet_members t sheet.typ sheet.visible)) old new) name
+    puts-one (IsDisplayedLine c.args.form) (sheet_line (sheet_content sheet)) _ _ new _ _ c.pass.result
+    (subst (λ (t : List ℕ). AddsText (IsLine c.args.form (codes "sheet") (sheet_members t sheet.typ sheet.visible)) old new) name
     c.in_ok-push_sheet.ensures.ok) c.pass.ensures.puts

@@ -1,7 +1,7 @@
 use Rattle.xls_data.specs.Sheets.{sheet_content}
-use Rattle.xls_listing.specs.Listing.{IsShownLine, sheet_line, sheet_lines}
+use Rattle.xls_listing.specs.Listing.{IsDisplayedLine, sheet_line, sheet_lines}
 use Rattle.xls_listing.proofs.LineLemmas.{delivers}
-use Rattle.xls_listing.proofs.ShownLemmas.{map_again}
+use Rattle.xls_listing.proofs.DisplayedLemmas.{map_again}
 use Rattle.xls_pieces.proofs.EachLemmas.{delivers-each-stop, each-as, each-from, each-stops-as}
 use Rattle.xls_listing.proofs.sheets.write_sheet_list.Goals as goal
 
@@ -12,5 +12,5 @@ returns-in_err-put_sheets g c =
 
 pub returns : goal.returns
 returns g c =
-    delivers (IsShownLine c.args.form) (sheet_lines c.args.view.now.book) (g.K.Sink.state c.finish.new.sink) _ c.finish.result
+    delivers (IsDisplayedLine c.args.form) (sheet_lines c.args.view.now.book) (g.K.Sink.state c.finish.new.sink) _ c.finish.result
     c.new-pieces.ensures (each-as c.in_ok-put_sheets.ensures (map_again sheet_line sheet_content _ _ c.sheets.ensures)) c.finish.ensures.puts c.finish.ensures.none

@@ -1,6 +1,6 @@
 use Rattle.std.specs.Ordering.{nat_cmp}
 use Rattle.std.specs.BTreeMap.{get}
-use Rattle.xls_meaning.specs.InForce.{class_in}
+use Rattle.xls_meaning.specs.Settings.{class_in}
 use Rattle.xls_open.proofs.MapLemmas.{map_next}
 use Rattle.xls_open.proofs.ClassLemmas.{class_found}
 use Rattle.xls_open.proofs.classes.classes_of.Goals as goal

@@ -1,5 +1,5 @@
 use Rattle.std.proofs.Common.{◌≡◌, map, take}
-use Rattle.xls_meaning.specs.InForce.{class_in}
+use Rattle.xls_meaning.specs.Settings.{class_in}
 use Rattle.xls_open.proofs.classes.classes_of.Given as goal
 
 -- the classes of the identifiers so far

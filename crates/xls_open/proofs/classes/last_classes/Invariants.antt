@@ -1,7 +1,7 @@
 use Rattle.std.proofs.Common.{◌≡◌, ℕ, take}
 use Rattle.std.specs.Ordering.{nat_cmp}
 use Rattle.std.specs.BTreeMap.{get}
-use Rattle.xls_meaning.specs.InForce.{last_class}
+use Rattle.xls_meaning.specs.Settings.{last_class}
 use Rattle.xls_open.proofs.classes.last_classes.Given as goal
 
 -- the classes of the formats so far

@@ -1,7 +1,7 @@
 use Rattle.std.proofs.Common.{arith, refl, subst, Ok, Err}
 use Rattle.std.proofs.lemmas.Result.{err_from_is_err_and}
 use Rattle.xls_biff.specs.Walking.{group_of}
-use Rattle.xls_open.proofs.StateLemmas.{nothing_given}
+use Rattle.xls_open.proofs.StateLemmas.{nothing_yielded}
 use Rattle.xls_open.proofs.GlobalsLemmas.{IsRecordRead, globals_nothing, globals_next, globals_more, record_refused, globals_cut, globals_eof, globals_end, reads_fault}
 use Rattle.xls_open.specs.Workbook.{rules_of}
 use Rattle.xls_open.proofs.globals.read_globals.Goals as goal
@@ -14,7 +14,7 @@ loop-record-init c = (
       (globals_nothing (rules_of c.args.options.now) c.args.stream.now _ (λ i. omega (
         arith,
         c.type_inv.stream i,
-      )) (nothing_given (rules_of c.args.options.now) c.args.page c.requires))),
+      )) (nothing_yielded (rules_of c.args.options.now) c.args.page c.requires))),
 )
 
 pub returns-in_err-record : goal.returns-in_err-record

@@ -4,7 +4,7 @@ use Rattle.xls_biff.specs.Walking.{group_of}
 use Rattle.xls_biff.specs.Records.BoundSheet.{bound_sheet_at}
 use Rattle.xls_biff.specs.Records.Format.{format_at}
 use Rattle.xls_formula.specs.Defined.{lbl_at}
-use Rattle.xls_meaning.specs.GlobalsTable.{name_record, strings_record, sheet_record, texts_of}
+use Rattle.xls_meaning.specs.GlobalsTable.{name_record, strings_record, sheet_record, shared_texts}
 use Rattle.xls_open.proofs.RecordLemmas.{fine, refused, format_fine, table_counted}
 use Rattle.xls_open.proofs.globals_record.read_globals_record.Goals as goal
 
@@ -28,11 +28,11 @@ pub returns-in_err-skip_sst-in-252-clause-table : goal.returns-in_err-skip_sst-i
 returns-in_err-skip_sst-in-252-clause-table c = λ typ page shared h.
     let e = c.in_err-skip_sst-in-252.field-0.0 in
     let p = err_from_is_err_and c.from_residual-in_err-skip_sst-in-252.result c.from_residual-in_err-skip_sst-in-252.ensures.1 in
-    rw (p.1, p.2) (refused strings_record (λ t. tt) (texts_of (length c.args.r.now.body.now) shared) e (table_counted (group_of c.args.r.now) shared (Err e) h c.in_err-skip_sst-in-252.ensures))
+    rw (p.1, p.2) (refused strings_record (λ t. tt) (shared_texts (length c.args.r.now.body.now) shared) e (table_counted (group_of c.args.r.now) shared (Err e) h c.in_err-skip_sst-in-252.ensures))
 
 pub returns-in_ok-skip_sst-in-252-clause-table : goal.returns-in_ok-skip_sst-in-252-clause-table
 returns-in_ok-skip_sst-in-252-clause-table c = λ typ page shared h.
-    (fine strings_record (λ t. tt) (texts_of (length c.args.r.now.body.now) shared) tt (table_counted (group_of c.args.r.now) shared (Ok c.in_ok-skip_sst-in-252.field-0) h c.in_ok-skip_sst-in-252.ensures), (shared, h, refl))
+    (fine strings_record (λ t. tt) (shared_texts (length c.args.r.now.body.now) shared) tt (table_counted (group_of c.args.r.now) shared (Ok c.in_ok-skip_sst-in-252.field-0) h c.in_ok-skip_sst-in-252.ensures), (shared, h, refl))
 
 -- a sheet
 pub returns-in_err-check_sheet_metadata-in-133-clause-sheet : goal.returns-in_err-check_sheet_metadata-in-133-clause-sheet

@@ -1,5 +1,5 @@
 use Rattle.std.proofs.Common.{◌≡◌}
-use Rattle.xls_meaning.specs.InForce.{own_refs}
+use Rattle.xls_meaning.specs.Settings.{own_refs}
 use Rattle.xls_open.proofs.names.own_refs.Given as goal
 
 -- the references of the sheets so far

@@ -10,9 +10,9 @@ pub returns : goal.returns
 returns c =
     let days : to_z w32 (c.args.filetime / 10_000_000 / 86_400) ≡ pos (c.args.filetime / 10_000_000 / 86_400) = search rules in
     let counted : epoch_day c.days_after_1601-day.result ≡ day_number 1601 1 1 +ℤ pos (c.args.filetime / 10_000_000 / 86_400) = c.days_after_1601-day.ensures ∙ ap (λ z. day_number 1601 1 1 +ℤ z) days in
-    let shown : string_bytes c.in_ok-text.text ≡ date_text c.days_after_1601-day.result ++ (codes "T" ++ (clock_text (c.args.filetime / 10_000_000 % 86_400) ++ codes "Z")) = search rules in
+    let displayed : string_bytes c.in_ok-text.text ≡ date_text c.days_after_1601-day.result ++ (codes "T" ++ (clock_text (c.args.filetime / 10_000_000 % 86_400) ++ codes "Z")) = search rules in
     record {
       date = c.days_after_1601-day.result;
       counted = counted;
-      shown = shown;
+      displayed = displayed;
     }

@@ -2,9 +2,9 @@ use Rattle.std.proofs.Common.{◌≡◌, ◌≤◌, ◌-◌, get_or, length, ari
 use Rattle.xls_props.proofs.NulLemmas.{nuls_less, nuls_end}
 use Rattle.xls_props.proofs.texts.len_without_nuls.Goals as goal
 
-pub returns-then-bytes-n-ne0-clause-front : goal.returns-then-bytes-n-ne0-clause-front
-returns-then-bytes-n-ne0-clause-front c =
-    nuls_end _ _ c.nuls-test.true c.nuls.invariant.within c.if-bytes-n-ne0.true c.nuls.invariant.front
+pub returns-then-bytes-n-ne0-clause-prefix : goal.returns-then-bytes-n-ne0-clause-prefix
+returns-then-bytes-n-ne0-clause-prefix c =
+    nuls_end _ _ c.nuls-test.true c.nuls.invariant.within c.if-bytes-n-ne0.true c.nuls.invariant.prefix
 
 pub nuls-preserved : goal.nuls-preserved
 nuls-preserved c =
@@ -13,5 +13,5 @@ nuls-preserved c =
     record {
       within = omega arith;
       nul = λ _. nul;
-      front = nuls_less _ _ c.nuls-test.true within nul c.nuls.invariant.front;
+      prefix = nuls_less _ _ c.nuls-test.true within nul c.nuls.invariant.prefix;
     }

@@ -7,7 +7,7 @@ abbrev pub invariant-nuls : goal.invariant-nuls
 invariant-nuls l = record {
   within : l.n ≤ length l.bytes;
   nul : l.n < length l.bytes → get_or l.bytes l.n 0 ≡ 0;
-  front : without_nuls (take l.n l.bytes) ≡ without_nuls l.bytes;
+  prefix : without_nuls (take l.n l.bytes) ≡ without_nuls l.bytes;
 }
 
 abbrev pub decreases-nuls : goal.decreases-nuls

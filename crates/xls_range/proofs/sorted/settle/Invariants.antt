@@ -6,5 +6,5 @@ use Rattle.xls_range.proofs.sorted.settle.Given as goal
 -- the first cells are those so far, and the others are as they were
 abbrev pub invariant-loop-i : goal.invariant-loop-i
 invariant-loop-i g l =
-    SoFar l.initial.given.items (kept_cells l.kept l.given.items) (drop l.i l.given.items)
-    × (l.kept ≤ l.i) × (length l.given.items ≡ length l.initial.given.items)
+    SoFar l.initial.input.items (kept_cells l.kept l.input.items) (drop l.i l.input.items)
+    × (l.kept ≤ l.i) × (length l.input.items ≡ length l.initial.input.items)

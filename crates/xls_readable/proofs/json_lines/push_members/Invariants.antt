@@ -1,6 +1,6 @@
 use Rattle.std.proofs.Common.{take}
 use Rattle.std.specs.String.{string_bytes}
-use Rattle.xls_decimals.specs.Added.{Adds}
+use Rattle.xls_decimals.specs.Added.{AddsText}
 use Rattle.xls_readable.specs.declared.items.Member.{Member}
 use Rattle.xls_readable.specs.Values.{Concatenates}
 use Rattle.xls_readable.specs.Items.{named_of}
@@ -10,4 +10,4 @@ use Rattle.xls_readable.proofs.json_lines.push_members.Given as goal
 -- the members so far are added
 abbrev pub invariant-loop-member : goal.invariant-loop-member
 invariant-loop-member l =
-    Adds (Concatenates (λ (m : Member). IsMember (named_of m)) (take l.member-index l.members)) (string_bytes l.fn.buf) (string_bytes l.buf)
+    AddsText (Concatenates (λ (m : Member). IsMember (named_of m)) (take l.member-index l.members)) (string_bytes l.fn.buf) (string_bytes l.buf)

@@ -1,7 +1,7 @@
 use Rattle.std.proofs.Common.{◌∙◌, sym, ap}
 use Rattle.std.specs.Prelude.{slice_get}
 use Rattle.xls_formula.specs.Context.{Context}
-use Rattle.xls_refs.proofs.ViewLemmas.{found_sheet, no_name_at, none_mapped, nothing_shown_at}
+use Rattle.xls_refs.proofs.ViewLemmas.{found_sheet, no_name_at, none_mapped, nothing_displayed_at}
 use Rattle.xls_refs.proofs.sheet.cites_of_sheet.Goals as goal
 
 pub returns-in-Some-2 : goal.returns-in-Some-2
@@ -14,7 +14,7 @@ returns-in-Some-2 c =
 pub returns-in-None-2 : goal.returns-in-None-2
 returns-in-None-2 c =
     let context = c.args.view.now.context in
-    sym (nothing_shown_at context 0 context.sheets c.args.view.now.formulas c.args.sheet
+    sym (nothing_displayed_at context 0 context.sheets c.args.view.now.formulas c.args.sheet
     (none_mapped _ _ (sym c.in-None-2.is ∙ c.in_ok-formulas-in-Some.ensures.tokens)))
 
 pub returns-in-None : goal.returns-in-None

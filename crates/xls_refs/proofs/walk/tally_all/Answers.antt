@@ -1,7 +1,7 @@
 use Rattle.std.proofs.Common.{◌≡◌, ℕ, List, ◌+◌, drop, length, sym, ◌∙◌, ap, arith, length-drop, map}
 use Rattle.std.proofs.lemmas.List.{drop-drop}
-use Rattle.xls_formula.specs.Fold.{walk}
-use Rattle.xls_formula.specs.Holding.{context_of, effect_of}
+use Rattle.xls_formula.specs.Fold.{walk_tokens}
+use Rattle.xls_formula.specs.Holding.{scope_context, effect_of}
 use Rattle.xls_formula.proofs.WalkLemmas.{walk_one}
 use Rattle.xls_refs.specs.Steps.{key_cite, tally}
 use Rattle.xls_refs.proofs.walk.tally_all.Goals as goal
@@ -18,6 +18,6 @@ tokens-preserved c =
     let some = c.in_ok-effect.ensures.within in (
       omega (arith, size, fewer, within, room, some),
       l.invariant.1
-          ∙ (walk_one (context_of c.args.scope) tally l.rest.now (l.count, map key_cite l.cites.items) (c.in_ok-count.count, map key_cite c.tally.new.cites.items) (effect_of c.in_ok-effect.effect) c.in_ok-effect.more (grind arith) c.in_ok-effect.ensures.exact c.in_ok-count.ensures.exact
-          ∙ ap (λ (x : List ℕ). walk (context_of c.args.scope) tally x 0 (c.in_ok-count.count, map key_cite c.tally.new.cites.items)) (sym left)),
+          ∙ (walk_one (scope_context c.args.scope) tally l.rest.now (l.count, map key_cite l.cites.items) (c.in_ok-count.count, map key_cite c.tally.new.cites.items) (effect_of c.in_ok-effect.effect) c.in_ok-effect.more (grind arith) c.in_ok-effect.ensures.exact c.in_ok-count.ensures.exact
+          ∙ ap (λ (x : List ℕ). walk_tokens (scope_context c.args.scope) tally x 0 (c.in_ok-count.count, map key_cite c.tally.new.cites.items)) (sym left)),
     )

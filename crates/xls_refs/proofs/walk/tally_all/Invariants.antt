@@ -1,6 +1,6 @@
 use Rattle.std.proofs.Common.{◌≡◌, ◌+◌, ◌≤◌, length, map}
-use Rattle.xls_formula.specs.Fold.{walk}
-use Rattle.xls_formula.specs.Holding.{context_of}
+use Rattle.xls_formula.specs.Fold.{walk_tokens}
+use Rattle.xls_formula.specs.Holding.{scope_context}
 use Rattle.xls_refs.specs.Steps.{key_cite, tally}
 use Rattle.xls_refs.proofs.walk.tally_all.Given as goal
 
@@ -8,7 +8,7 @@ use Rattle.xls_refs.proofs.walk.tally_all.Given as goal
 abbrev pub invariant-tokens : goal.invariant-tokens
 invariant-tokens l =
     (l.count + length l.rest ≤ length l.fn.tokens)
-    × (walk (context_of l.scope) tally l.fn.tokens 0 (0, map key_cite l.initial.cites.items) ≡ walk (context_of l.scope) tally l.rest 0 (l.count, map key_cite l.cites.items))
+    × (walk_tokens (scope_context l.scope) tally l.fn.tokens 0 (0, map key_cite l.initial.cites.items) ≡ walk_tokens (scope_context l.scope) tally l.rest 0 (l.count, map key_cite l.cites.items))
 
 abbrev pub decreases-tokens : goal.decreases-tokens
 decreases-tokens l = length l.rest

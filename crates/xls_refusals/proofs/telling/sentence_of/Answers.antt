@@ -4,7 +4,7 @@ use Rattle.xls_refusals.proofs.telling.sentence_of.Goals as goal
 
 pub returns-in-Some : goal.returns-in-Some
 returns-in-Some c =
-    rw (sentence-some c.args.fault.now c.in-Some.refusal c.if-fault-eq0.false (sym c.in-Some.ensures)) c.told.ensures
+    rw (sentence-some c.args.fault.now c.in-Some.refusal c.if-fault-eq0.false (sym c.in-Some.ensures)) c.reported.ensures
 
 pub returns-in-None : goal.returns-in-None
 returns-in-None c =

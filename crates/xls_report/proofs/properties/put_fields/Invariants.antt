@@ -1,6 +1,6 @@
 use Rattle.std.proofs.Common.{take}
 use Rattle.std.specs.List.{flat_map}
-use Rattle.xls_lines.specs.Gathering.{Gathers}
+use Rattle.xls_lines.specs.Gathering.{GathersText}
 use Rattle.xls_report.specs.Properties.{property_text}
 use Rattle.xls_report.proofs.properties.put_fields.Given as goal
 
@@ -8,5 +8,5 @@ use Rattle.xls_report.proofs.properties.put_fields.Given as goal
 abbrev pub invariant-loop-field : goal.invariant-loop-field
 invariant-loop-field g l =
     let sink = g.K.Sink in
-    Gathers (sink.state l.fn.sink) l.fn.buffer (sink.state l.sink) l.buffer
+    GathersText (sink.state l.fn.sink) l.fn.buffer (sink.state l.sink) l.buffer
     (flat_map property_text (take l.field-index l.fields))

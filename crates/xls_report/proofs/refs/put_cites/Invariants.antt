@@ -1,6 +1,6 @@
 use Rattle.std.proofs.Common.{take}
 use Rattle.std.specs.List.{flat_map}
-use Rattle.xls_lines.specs.Gathering.{Gathers}
+use Rattle.xls_lines.specs.Gathering.{GathersText}
 use Rattle.xls_report.specs.Refs.{ref_line}
 use Rattle.xls_report.proofs.refs.put_cites.Given as goal
 
@@ -8,5 +8,5 @@ use Rattle.xls_report.proofs.refs.put_cites.Given as goal
 abbrev pub invariant-loop-i : goal.invariant-loop-i
 invariant-loop-i g l =
     let sink = g.K.Sink in
-    Gathers (sink.state l.fn.sink) l.fn.buffer (sink.state l.sink) l.buffer
+    GathersText (sink.state l.fn.sink) l.fn.buffer (sink.state l.sink) l.buffer
     (flat_map (ref_line l.names) (take l.i l.formula))

@@ -1,5 +1,5 @@
 use Rattle.std.proofs.Common.{ℕ, ◌≤◌, List, length, inl, inr, Result, Ok, Err, arith}
-use Rattle.xls_stream.specs.Listing.{Entry}
+use Rattle.xls_stream.specs.Listing.{ListEntry}
 use Rattle.xls_stream.specs.Walks.{IsBytes}
 use Rattle.xls_stream.proofs.HoldingLemmas.{one_list}
 use Rattle.xls_record.specs.declared.error.XlsError.{XlsError}
@@ -12,7 +12,7 @@ use Rattle.xls_report.proofs.remake.list_of.Goals as goal
 
 -- within the limit
 tells : (bytes : List ℕ) → IsBytes bytes → length bytes ≤ default_options.max_bytes
-    → (r : Result (List Entry) XlsError) → ReadsList bytes r → TellsList bytes r
+    → (r : Result (List ListEntry) XlsError) → ReadsList bytes r → TellsList bytes r
 tells bytes fits le (Ok list) h = record {
   sound = none_checked bytes le h.0;
   carries = h.1;

@@ -1,5 +1,5 @@
 use Rattle.std.proofs.Common.{◌≡◌, ◌≤◌, ◌<◌, ◌^◌, ℕ, List, length, inl, inr, refl, ap, arith}
-use Rattle.xls_stream.specs.Listing.{Entry}
+use Rattle.xls_stream.specs.Listing.{ListEntry}
 use Rattle.xls_lay.specs.Writing.{canonical_bytes, canonical_size}
 use Rattle.xls_lay.specs.declared.error.LayError.TheVariants.{TooLong}
 use Rattle.xls_report.specs.Remaking.{IsUnwrittenOf, IsWrittenOf}
@@ -8,10 +8,10 @@ use Rattle.xls_report.proofs.EndingLemmas.{either-stopped}
 use Rattle.xls_report.proofs.remake.write_list.Goals as goal
 
 -- the length is told where offsets don't reach it
-too_long : (list : List Entry) (found : ℕ) → found ≡ canonical_size list → 2 ^ 32 ≤ found → IsUnwrittenOf list (unwritten_line (TooLong found))
+too_long : (list : List ListEntry) (found : ℕ) → found ≡ canonical_size list → 2 ^ 32 ≤ found → IsUnwrittenOf list (unwritten_line (TooLong found))
 too_long list found e h = (omega (arith, e, h), ap (λ (n : ℕ). unwritten_line (TooLong n)) e)
 
-not_long : (list : List Entry) (found : ℕ) → found ≡ canonical_size list → found < 2 ^ 32 → length (canonical_bytes list) < 2 ^ 32
+not_long : (list : List ListEntry) (found : ℕ) → found ≡ canonical_size list → found < 2 ^ 32 → length (canonical_bytes list) < 2 ^ 32
 not_long list found e h = omega (arith, e, h)
 
 pub write_stream-requires : goal.write_stream-requires

@@ -1,5 +1,5 @@
 use Rattle.std.proofs.Common.{◌≡◌, ℕ, List, inl, inr, refl, subst, Err}
-use Rattle.xls_stream.specs.Listing.{Entry}
+use Rattle.xls_stream.specs.Listing.{ListEntry}
 use Rattle.xls_record.specs.declared.error.XlsError.{XlsError}
 use Rattle.xls_record.specs.declared.error.XlsError.TheVariants as errors
 use Rattle.xls_report.specs.Report.{fault_line}
@@ -9,13 +9,13 @@ use Rattle.xls_report.proofs.EndingLemmas.{either-as}
 use Rattle.xls_report.proofs.remake.write_remake.Goals as goal
 
 -- a text of the one list that bytes carry
-of_list : {IsOf : List Entry → List ℕ → Type 0} (bytes : List ℕ) (list : List Entry) → IsListOf bytes list
+of_list : {IsOf : List ListEntry → List ℕ → Type 0} (bytes : List ℕ) (list : List ListEntry) → IsListOf bytes list
     → (text : List ℕ) → IsOf list text → IsOfList IsOf bytes text
 of_list {IsOf} bytes list h text is = record {
   sound = h.sound;
   list = list;
   carries = h.carries;
-  every = λ other c. subst (λ (l : List Entry). IsOf l text) (h.one other c) is;
+  every = λ other c. subst (λ (l : List ListEntry). IsOf l text) (h.one other c) is;
 }
 
 -- another refusal than out of memory is the first fault

@@ -1,7 +1,7 @@
 use Rattle.std.proofs.Common.{take}
 use Rattle.std.specs.List.{flat_map}
 use Rattle.xls_data.specs.Sheets.{sheet_content}
-use Rattle.xls_lines.specs.Gathering.{Gathers}
+use Rattle.xls_lines.specs.Gathering.{GathersText}
 use Rattle.xls_report.specs.Report.{sheet_line}
 use Rattle.xls_report.proofs.report.put_sheets.Given as goal
 
@@ -9,5 +9,5 @@ use Rattle.xls_report.proofs.report.put_sheets.Given as goal
 abbrev pub invariant-loop-sheet : goal.invariant-loop-sheet
 invariant-loop-sheet g l =
     let sink = g.K.Sink in
-    Gathers (sink.state l.fn.sink) l.fn.buffer (sink.state l.sink) l.buffer
+    GathersText (sink.state l.fn.sink) l.fn.buffer (sink.state l.sink) l.buffer
     (flat_map (λ s. sheet_line (sheet_content s)) (take l.sheet-index l.sheets))

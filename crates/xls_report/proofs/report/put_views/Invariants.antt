@@ -1,5 +1,5 @@
 use Rattle.std.proofs.Common.{take}
-use Rattle.xls_lines.specs.Gathering.{Gathers}
+use Rattle.xls_lines.specs.Gathering.{GathersText}
 use Rattle.xls_report.specs.Report.{sheets_text}
 use Rattle.xls_report.proofs.report.put_views.Given as goal
 
@@ -7,5 +7,5 @@ use Rattle.xls_report.proofs.report.put_views.Given as goal
 abbrev pub invariant-loop-i : goal.invariant-loop-i
 invariant-loop-i g l =
     let sink = g.K.Sink in
-    Gathers (sink.state l.fn.sink) l.fn.buffer (sink.state l.sink) l.buffer
+    GathersText (sink.state l.fn.sink) l.fn.buffer (sink.state l.sink) l.buffer
     (sheets_text (take l.i l.view.book.sheets) (take l.i l.view.book.contents))

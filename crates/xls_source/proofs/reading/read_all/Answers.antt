@@ -15,8 +15,8 @@ returns-clause-ended g c = c.read_by_pieces.ensures.ended
 pub returns-clause-cause : goal.returns-clause-cause
 returns-clause-cause g c = c.read_by_pieces.ensures.cause
 
-pub returns-clause-front : goal.returns-clause-front
-returns-clause-front g c = c.read_by_pieces.ensures.front
+pub returns-clause-prefix : goal.returns-clause-prefix
+returns-clause-prefix g c = c.read_by_pieces.ensures.prefix
 
 pub returns-clause-count : goal.returns-clause-count
 returns-clause-count g c = c.read_by_pieces.ensures.count

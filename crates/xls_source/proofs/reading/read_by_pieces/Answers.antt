@@ -5,63 +5,63 @@ use Rattle.std.proofs.KnownBytes.{Consumes-trans}
 use Rattle.xls_source.proofs.reading.read_by_pieces.Goals as goal
 
 -- memory ran out after a read: what it gave is taken
-pub returns-in_err-extend_from_slice-clause-front :
-    goal.returns-in_err-extend_from_slice-clause-front
-returns-in_err-extend_from_slice-clause-front g c =
+pub returns-in_err-extend_from_slice-clause-prefix :
+    goal.returns-in_err-extend_from_slice-clause-prefix
+returns-in_err-extend_from_slice-clause-prefix g c =
     let had = c.loop-bytes.bytes.items in
-    let given = take c.in_ok-count.count c.read.new.into in
+    let input = take c.in_ok-count.count c.read.new.into in
     let filled = c.read.auto.into in
-    let within : length (had ++ given) ≤ c.args.limit + 1 =
+    let within : length (had ++ input) ≤ c.args.limit + 1 =
     omega (
       arith,
-      length-append had given,
+      length-append had input,
       length-take c.in_ok-count.count c.read.new.into,
       filled,
       length-take (c.min.result + 1) c.loop-bytes.piece,
       c.min.ensures,
       c.len.ensures,
     ) in (
-      had ++ given,
+      had ++ input,
       within,
-      Consumes-trans _ _ _ had given c.loop-bytes.invariant.taken c.in_ok-count.ensures.bytes.0,
+      Consumes-trans _ _ _ had input c.loop-bytes.invariant.taken c.in_ok-count.ensures.bytes.0,
     )
 
 -- the end: nothing more was given
-pub returns-then-is_end-clause-front : goal.returns-then-is_end-clause-front
-returns-then-is_end-clause-front g c =
+pub returns-then-is_end-clause-prefix : goal.returns-then-is_end-clause-prefix
+returns-then-is_end-clause-prefix g c =
     let had = c.loop-bytes.bytes.items in
-    let given = take c.in_ok-count.count c.read.new.into in
-    let within : length (had ++ given) ≤ c.args.limit + 1 =
+    let input = take c.in_ok-count.count c.read.new.into in
+    let within : length (had ++ input) ≤ c.args.limit + 1 =
     omega (
       arith,
-      length-append had given,
+      length-append had input,
       length-take c.in_ok-count.count c.read.new.into,
       c.if-is_end.true,
       c.loop-bytes.invariant.within,
     ) in (
-      had ++ given,
+      had ++ input,
       within,
-      Consumes-trans _ _ _ had given c.loop-bytes.invariant.taken c.in_ok-count.ensures.bytes.0,
+      Consumes-trans _ _ _ had input c.loop-bytes.invariant.taken c.in_ok-count.ensures.bytes.0,
     )
 
 pub returns-then-is_end-clause-within : goal.returns-then-is_end-clause-within
 returns-then-is_end-clause-within g c = omega (arith, c.loop-bytes.invariant.within)
 
 -- a read that gave nothing took nothing
-none_more : (left now : Option (List ℕ)) (had given : List ℕ) (count : ℕ)
+none_more : (left now : Option (List ℕ)) (had input : List ℕ) (count : ℕ)
     → count ≡ 0
-    → Consumes left now (had ++ take count given)
+    → Consumes left now (had ++ take count input)
     → Consumes left now had
-none_more left now had given count none taken =
+none_more left now had input count none taken =
     subst
     (λ bytes. Consumes left now bytes)
-    (ap (λ n. had ++ take n given) none ∙ append-nil had)
+    (ap (λ n. had ++ take n input) none ∙ append-nil had)
     taken
 
 pub returns-then-is_end-clause-all : goal.returns-then-is_end-clause-all
 returns-then-is_end-clause-all g c =
     let had = c.loop-bytes.bytes.items in
-    let given = take c.in_ok-count.count c.read.new.into in
+    let input = take c.in_ok-count.count c.read.new.into in
     none_more
     _
     _
@@ -69,7 +69,7 @@ returns-then-is_end-clause-all g c =
     c.read.new.into
     c.in_ok-count.count
     c.if-is_end.true
-    (Consumes-trans _ _ _ had given c.loop-bytes.invariant.taken c.in_ok-count.ensures.bytes.0)
+    (Consumes-trans _ _ _ had input c.loop-bytes.invariant.taken c.in_ok-count.ensures.bytes.0)
 
 pub returns-then-is_end-clause-end : goal.returns-then-is_end-clause-end
 returns-then-is_end-clause-end g c =
@@ -99,17 +99,17 @@ past_limit : (left now : Option (List ℕ)) (taken : List ℕ) (limit : ℕ)
     → Consumes left now taken
     → limit < length taken
     → IfSome left (λ all. limit < length all)
-past_limit None now taken limit given past = tt
-past_limit (Some all) None taken limit given past = absurd given
-past_limit (Some all) (Some rest) taken limit given past =
-    omega (arith, ap length given, length-append taken rest, past)
+past_limit None now taken limit input past = tt
+past_limit (Some all) None taken limit input past = absurd input
+past_limit (Some all) (Some rest) taken limit input past =
+    omega (arith, ap length input, length-append taken rest, past)
 
 pub returns-then-len-limit-clause-cause : goal.returns-then-len-limit-clause-cause
 returns-then-len-limit-clause-cause g c =
     let had = c.loop-bytes.bytes.items in
-    let given = take c.in_ok-count.count c.read.new.into in
+    let input = take c.in_ok-count.count c.read.new.into in
     let piece = c.read.new.into ++ drop (c.min.result + 1) c.loop-bytes.piece in
-    let past : c.args.limit < length (had ++ given) =
+    let past : c.args.limit < length (had ++ input) =
     omega (
       arith,
       c.if-len-limit.true,
@@ -118,7 +118,7 @@ returns-then-len-limit-clause-cause g c =
       length-append had (take c.in_ok-count.count piece),
       length-take c.in_ok-count.count piece,
       length-append c.read.new.into (drop (c.min.result + 1) c.loop-bytes.piece),
-      length-append had given,
+      length-append had input,
       length-take c.in_ok-count.count c.read.new.into,
       c.in_ok-count.ensures.bound.0,
     ) in (
@@ -126,28 +126,28 @@ returns-then-len-limit-clause-cause g c =
       past_limit
           _
           _
-          (had ++ given)
+          (had ++ input)
           c.args.limit
-          (Consumes-trans _ _ _ had given c.loop-bytes.invariant.taken c.in_ok-count.ensures.bytes.0)
+          (Consumes-trans _ _ _ had input c.loop-bytes.invariant.taken c.in_ok-count.ensures.bytes.0)
           past,
     )
 
-pub returns-then-len-limit-clause-front : goal.returns-then-len-limit-clause-front
-returns-then-len-limit-clause-front g c =
+pub returns-then-len-limit-clause-prefix : goal.returns-then-len-limit-clause-prefix
+returns-then-len-limit-clause-prefix g c =
     let had = c.loop-bytes.bytes.items in
-    let given = take c.in_ok-count.count c.read.new.into in
+    let input = take c.in_ok-count.count c.read.new.into in
     let filled = c.read.auto.into in
-    let within : length (had ++ given) ≤ c.args.limit + 1 =
+    let within : length (had ++ input) ≤ c.args.limit + 1 =
     omega (
       arith,
-      length-append had given,
+      length-append had input,
       length-take c.in_ok-count.count c.read.new.into,
       filled,
       length-take (c.min.result + 1) c.loop-bytes.piece,
       c.min.ensures,
       c.len.ensures,
     ) in (
-      had ++ given,
+      had ++ input,
       within,
-      Consumes-trans _ _ _ had given c.loop-bytes.invariant.taken c.in_ok-count.ensures.bytes.0,
+      Consumes-trans _ _ _ had input c.loop-bytes.invariant.taken c.in_ok-count.ensures.bytes.0,
     )

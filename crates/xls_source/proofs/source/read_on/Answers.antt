@@ -3,11 +3,11 @@ use Rattle.std.specs.Io.KnownBytes.{Consumes, Keeps, ReadConsumes}
 use Rattle.std.proofs.KnownBytes.{Keeps-trans}
 use Rattle.xls_source.proofs.source.read_on.Goals as goal
 
-kept_consumes : (was left now : Option (List ℕ)) (given : List ℕ) → Keeps was left → Consumes left now given → Consumes was now given
-kept_consumes None left now given kept taken = tt
-kept_consumes (Some xs) None now given kept taken = absurd kept
-kept_consumes (Some xs) (Some ys) None given kept taken = absurd taken
-kept_consumes (Some xs) (Some ys) (Some zs) given kept taken = sym kept ∙ taken
+kept_consumes : (was left now : Option (List ℕ)) (input : List ℕ) → Keeps was left → Consumes left now input → Consumes was now input
+kept_consumes None left now input kept taken = tt
+kept_consumes (Some xs) None now input kept taken = absurd kept
+kept_consumes (Some xs) (Some ys) None input kept taken = absurd taken
+kept_consumes (Some xs) (Some ys) (Some zs) input kept taken = sym kept ∙ taken
 
 -- a read of what was kept
 kept_reads : {E : Type 0} (was left now : Option (List ℕ)) (r : Result ℕ E) (buf : List ℕ)

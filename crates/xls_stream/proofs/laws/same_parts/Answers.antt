@@ -1,4 +1,4 @@
-use Rattle.xls_stream.proofs.Shapes as shapes
+use Rattle.xls_stream.proofs.Outlines as shapes
 use Rattle.xls_stream.proofs.laws.same_parts.Goals as goal
 
 pub returns : goal.returns

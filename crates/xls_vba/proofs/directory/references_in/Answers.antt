@@ -1,7 +1,7 @@
 use Rattle.std.proofs.Common.{rules, ◌≡◌, ◌++◌, ◌∷◌, [], Some, None, Ok, ap, ◌∙◌, append_assoc, append-nil}
 use Rattle.xls_vba.specs.Items.{element_of, item_from}
 use Rattle.xls_vba.specs.References.{references_of}
-use Rattle.xls_vba.proofs.DirectoryLemmas.{Front-push}
+use Rattle.xls_vba.proofs.DirectoryLemmas.{Prefix-push}
 use Rattle.xls_vba.proofs.directory.references_in.Goals as goal
 
 pub returns-in_default : goal.returns-in_default
@@ -17,6 +17,6 @@ pub items-preserved : goal.items-preserved
 items-preserved c =
     let step : item_from c.args.page c.items.rest.now ≡ Ok (Some (element_of c.in-Some.item), c.in_ok-item.after.now) = search rules in (
       c.items.invariant.0 ++ element_of c.in-Some.item ∷ [],
-      Front-push c.args.page c.args.bytes.now c.items.rest.now c.in_ok-item.after.now c.items.invariant.0 (element_of c.in-Some.item) c.items.invariant.1 step,
+      Prefix-push c.args.page c.args.bytes.now c.items.rest.now c.in_ok-item.after.now c.items.invariant.0 (element_of c.in-Some.item) c.items.invariant.1 step,
       λ more. rw append_assoc (c.in_ok-listing.ensures more ∙ c.items.invariant.2 (element_of c.in-Some.item ∷ more)),
     )

@@ -3,11 +3,11 @@ use Rattle.std.proofs.lemmas.List.{length-map}
 use Rattle.xls_data.specs.Sheets.{SheetContent, sheet_content}
 use Rattle.xls_data.specs.declared.sheets.Sheet.{Sheet}
 use Rattle.xls_formula.specs.Defined.{named_of}
-use Rattle.xls_meaning.specs.InForce.{class_in}
+use Rattle.xls_meaning.specs.Settings.{class_in}
 use Rattle.xls_open.specs.Globals.{AreGlobals, IsNaming, listed_of}
-use Rattle.xls_open.specs.Workbook.{rules_of, told_of}
+use Rattle.xls_open.specs.Workbook.{rules_of, name_texts}
 use Rattle.xls_open.proofs.NamingLemmas.{context_is}
-use Rattle.xls_open.proofs.OpenLemmas.{force_is}
+use Rattle.xls_open.proofs.OpenLemmas.{settings_are}
 use Rattle.xls_view.specs.Index.{IsIndex}
 use Rattle.xls_view.proofs.ViewLemmas.{readable_under, viewed_under}
 use Rattle.xls_view.proofs.view.view_of.Goals as goal
@@ -31,7 +31,7 @@ invariant_of-result c =
       as_many (map listed_of c.globals.inside.listed.items) c.in_ok-sheets.offsets.items c.in_ok-sheets.sheets.items c.in_ok-sheets.ensures.1 c.in_ok-sheets.ensures.0,
       subst (IsIndex c.in_ok-index.index) c.deref-4.ensures.value c.in_ok-index.ensures,
       readable_under c.args.options.now c.args.bytes.now (λ i. omega (arith, c.type_inv.bytes i)) c.requires.forced c.requires.sound _ a _ c.in_ok-sheets.offsets.items
-          (force_is rules a.items _ c.in_ok-classes.classes.items _ a.state classes context) c.in_ok-sheets.ensures.1,
+          (settings_are rules a.items _ c.in_ok-classes.classes.items _ a.state classes context) c.in_ok-sheets.ensures.1,
     )
 
 pub returns : goal.returns
@@ -44,5 +44,5 @@ returns c =
     ∙ ap (λ fs. map (class_in fs) c.deref-2.result.now) c.deref.ensures.value
     ∙ ap (map (class_in c.globals.inside.formats.items)) c.deref-2.ensures.value in
     rw c.in_ok-functions.ensures
-    (viewed_under c.args.options.now c.args.bytes.now (λ i. omega (arith, c.type_inv.bytes i)) c.requires.forced c.requires.sound _ a _ (map sheet_content c.in_ok-sheets.sheets.items) c.in_ok-sheets.offsets.items (map told_of c.in_ok-naming.naming.told.items)
-    (force_is rules a.items _ c.in_ok-classes.classes.items _ a.state classes context) c.in_ok-sheets.ensures.0 c.in_ok-sheets.ensures.1 c.in_ok-naming.ensures.told)
+    (viewed_under c.args.options.now c.args.bytes.now (λ i. omega (arith, c.type_inv.bytes i)) c.requires.forced c.requires.sound _ a _ (map sheet_content c.in_ok-sheets.sheets.items) c.in_ok-sheets.offsets.items (map name_texts c.in_ok-naming.naming.reported.items)
+    (settings_are rules a.items _ c.in_ok-classes.classes.items _ a.state classes context) c.in_ok-sheets.ensures.0 c.in_ok-sheets.ensures.1 c.in_ok-naming.ensures.reported)

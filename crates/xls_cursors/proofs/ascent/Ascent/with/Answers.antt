@@ -8,7 +8,7 @@ returns-clause-steps c = λ ps h.
     let p = c.args.position in
     record {
       none = λ z. absurd (omega (arith, z, c.saturating_add-count.ensures));
-      some = λ l. record { front = ps; position = p; whole = refl; number = c.number_of-last.ensures.number; column = c.number_of-last.ensures.small };
+      some = λ l. record { prefix = ps; position = p; whole = refl; number = c.number_of-last.ensures.number; column = c.number_of-last.ensures.small };
       order = λ z.
           let before = c.falls_with.ensures z in
           ascends_with c.args.self ps p c.number_of-last.ensures.small h before.0

@@ -1,7 +1,7 @@
 use Rattle.std.proofs.Common.{sym, ap, ◌∙◌}
 use Rattle.xls_range.specs.Bounds.{bounds_of}
-use Rattle.xls_cursors.specs.Contents.{cells_from, kept_in}
-use Rattle.xls_cursors.specs.Shown.{ShownSheet}
+use Rattle.xls_cursors.specs.Contents.{cells_after, kept_in}
+use Rattle.xls_cursors.specs.Displayed.{DisplayedSheet}
 use Rattle.xls_cursors.proofs.BoundsLemmas.{bounds_settled}
 use Rattle.xls_cursors.proofs.sheet.ViewSheet.bounds.Goals as goal
 
@@ -10,5 +10,5 @@ returns c =
     let s = c.self.inside in
     let found = c.self.invariant.1.cells in
     c.bounds.ensures ∙ rw (sym c.cells.ensures) at found.bounds
-    ∙ sym (bounds_settled (cells_from s.force (0, 0) (kept_in s.part.now 0)))
-    ∙ ap (λ (x : ShownSheet). bounds_of x.cells) c.self.view_is
+    ∙ sym (bounds_settled (cells_after s.settings (0, 0) (kept_in s.part.now 0)))
+    ∙ ap (λ (x : DisplayedSheet). bounds_of x.cells) c.self.view_is

@@ -1,6 +1,6 @@
 use Rattle.std.proofs.Common.{sym, ap, ◌∙◌}
 use Rattle.xls_cursors.specs.Contents.{regions_of}
-use Rattle.xls_cursors.specs.Shown.{ShownSheet}
+use Rattle.xls_cursors.specs.Displayed.{DisplayedSheet}
 use Rattle.xls_cursors.proofs.WalkLemmas.{kept_nothing}
 use Rattle.xls_cursors.proofs.sheet.ViewSheet.merges.Goals as goal
 
@@ -8,4 +8,4 @@ use Rattle.xls_cursors.proofs.sheet.ViewSheet.merges.Goals as goal
 pub returns : goal.returns
 returns c =
     let none = c.self.invariant.1.merges (c.has_merges.ensures c.if-has_merges.false) in
-    c.new-2.ensures ∙ ap regions_of (kept_nothing 0) ∙ sym none ∙ ap (λ (x : ShownSheet). x.merges) c.self.view_is
+    c.new-2.ensures ∙ ap regions_of (kept_nothing 0) ∙ sym none ∙ ap (λ (x : DisplayedSheet). x.merges) c.self.view_is

@@ -1,7 +1,7 @@
 use Rattle.std.proofs.Common.{arith, sym}
 use Rattle.std.proofs.lemmas.Result.{err_from_is_err_and}
 use Rattle.xls_biff.specs.Walking.{group_of}
-use Rattle.xls_open.specs.CheckSteps.{under, force_of}
+use Rattle.xls_open.specs.CheckSteps.{under, settings_checked}
 use Rattle.xls_open.proofs.CheckLemmas.{sheets_nothing, sheets_other, sheet_long, sheet_clean, sheet_refused, sheets_uncut, sheets_eof, sheets_end}
 use Rattle.xls_open.proofs.check.sheets.check_sheets.Goals as goal
 
@@ -43,7 +43,7 @@ loop-record-preserved-in-Continue-branch-2 c =
       tt,
       tt,
       λ a. sheet_clean (under c.args.rules) c.args.stream.now c.args.biff a l.record-iterator c.next.new.self (group_of c.in_ok-record.record) (l.invariant.2 a) steps c.if-record-eq-EOF.false c.if-record-eq-BOUND_SHEET_8.true c.read_usize.result c.read_usize.ensures
-          (c.in_ok-check_sheet.ensures (force_of (under c.args.rules) a.items) (sym a.version_is)),
+          (c.in_ok-check_sheet.ensures (settings_checked (under c.args.rules) a.items) (sym a.version_is)),
     )
 
 pub returns-in_err-check_sheet : goal.returns-in_err-check_sheet
@@ -53,7 +53,7 @@ returns-in_err-check_sheet c =
     let p = err_from_is_err_and c.from_residual-in_err-check_sheet.result c.from_residual-in_err-check_sheet.ensures.1 in
     let steps = rw c.in_ok-record.was at c.in-Some.ensures.steps in
     rw (p.1, p.2) (sheet_refused (under c.args.rules) c.args.stream.now c.args.biff a l.record-iterator c.next.new.self (group_of c.in_ok-record.record) (l.invariant.2 a) steps c.if-record-eq-EOF.false c.if-record-eq-BOUND_SHEET_8.true c.read_usize.result c.in_err-check_sheet.field-0.0 c.read_usize.ensures
-    (c.in_err-check_sheet.ensures (force_of (under c.args.rules) a.items) (sym a.version_is)))
+    (c.in_err-check_sheet.ensures (settings_checked (under c.args.rules) a.items) (sym a.version_is)))
 
 pub loop-record-preserved : goal.loop-record-preserved
 loop-record-preserved c =

@@ -9,8 +9,8 @@ returns-in-Err-clause-fits g c rows columns below small e =
 
 pub returns-in-Ok-Some-clause-too_large : goal.returns-in-Ok-Some-clause-too_large
 returns-in-Ok-Some-clause-too_large g c =
-    let given = rw c.as_slice.ensures.value at c.in-Ok-Some.ensures.too_large in
-    (λ e. absurd cc, λ large. absurd (let e = given.1 large in cc))
+    let input = rw c.as_slice.ensures.value at c.in-Ok-Some.ensures.too_large in
+    (λ e. absurd cc, λ large. absurd (let e = input.1 large in cc))
 
 pub returns-in-Ok-None-clause-dense : goal.returns-in-Ok-None-clause-dense
 returns-in-Ok-None-clause-dense g c =

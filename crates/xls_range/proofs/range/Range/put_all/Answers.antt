@@ -5,7 +5,7 @@ use Rattle.xls_range.proofs.range.Range.put_all.Goals as goal
 
 pub loop-cell-init : goal.loop-cell-init
 loop-cell-init g c = record {
-  front = [];
+  prefix = [];
   whole = c.into_iter-cell-iterator.ensures.into_iter_gives.0;
   same = search rules;
   shows = Shows-blank g.T.PartialEq.eq g.T.CellType.blank_test c.args.self.now c.requires.blank;

@@ -3,7 +3,7 @@ use Rattle.xls_range.specs.Lists.{rows_of}
 use Rattle.xls_rows.specs.Ranges.{is_unnamed}
 use Rattle.xls_rows.specs.Chosen.{chosen}
 use Rattle.xls_rows.proofs.ColumnLemmas.{rows_wide}
-use Rattle.xls_rows.proofs.RangeLemmas.{all_behind, named_read}
+use Rattle.xls_rows.proofs.RangeLemmas.{all_after, named_read}
 use Rattle.xls_rows.proofs.builder.RangeDeserializerBuilder.from_range.Goals as goal
 
 pub unnamed_rows-requires-clause-wide : goal.unnamed_rows-requires-clause-wide
@@ -13,7 +13,7 @@ unnamed_rows-requires-clause-wide g c =
 pub named_rows-requires-clause-wide : goal.named_rows-requires-clause-wide
 named_rows-requires-clause-wide g c =
     let all = rows_wide c.args.range.now.height c.args.range.now.width c.args.range.now.cells c.rows-rows.ensures.range.count in
-    rw c.width-width.ensures (all_behind (λ row. length row ≡ c.args.range.now.width) (rows_of c.args.range.now.height c.args.range.now.width c.args.range.now.cells)
+    rw c.width-width.ensures (all_after (λ row. length row ≡ c.args.range.now.width) (rows_of c.args.range.now.height c.args.range.now.width c.args.range.now.cells)
     c.in-Some.first.now c.next.new.self (sym c.rows-rows.ensures.items ∙ c.in-Some.ensures.steps) all)
 
 pub returns-in-Some : goal.returns-in-Some

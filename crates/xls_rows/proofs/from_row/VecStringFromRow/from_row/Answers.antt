@@ -1,8 +1,8 @@
 use Rattle.std.proofs.Common.{String, Vec, Global, ◌≡◌, ◌∙◌, ◌∷◌, ◌++◌, [], ap, refl, drop, map}
 use Rattle.std.specs.String.{string_bytes}
-use Rattle.xls_rows.specs.Readers.{text_in}
+use Rattle.xls_rows.specs.Readers.{text_read}
 use Rattle.xls_rows.specs.Rows.{all_read, contents_of}
-use Rattle.xls_rows.proofs.ReadLemmas.{behind, memory_always, read_on, read_stops, contents_first}
+use Rattle.xls_rows.proofs.ReadLemmas.{following, memory_always, read_on, read_stops, contents_first}
 use Rattle.xls_rows.proofs.from_row.VecStringFromRow.from_row.Goals as goal
 
 pub loop-cell-preserved : goal.loop-cell-preserved
@@ -11,16 +11,16 @@ loop-cell-preserved g c =
     let left = c.loop-cell.rest.exposed in
     let grown : c.push.new.self.items ≡ c.loop-cell.values.items ++ c.in-Ok.value ∷ [] = rw c.if-is_err.ensures.negation at c.push.ensures.items in
     rw (grown, c.next_cell.ensures.row) (
-    read_on (string_bytes {Z = Global}) (text_in c.position-pos.result) c.loop-cell.values.items c.in-Ok.value (content c.in-Some.cell.now) (contents_of content (drop 1 left))
-    (all_read (text_in c.position-pos.result) (contents_of content c.args.row.now.exposed))
-    (c.loop-cell.invariant ∙ ap (λ l. behind (map string_bytes c.loop-cell.values.items) (all_read (text_in c.position-pos.result) l)) (contents_first content left c.in-Some.cell.now c.in-Some.ensures.cell))
+    read_on (string_bytes {Z = Global}) (text_read c.position-pos.result) c.loop-cell.values.items c.in-Ok.value (content c.in-Some.cell.now) (contents_of content (drop 1 left))
+    (all_read (text_read c.position-pos.result) (contents_of content c.args.row.now.exposed))
+    (c.loop-cell.invariant ∙ ap (λ l. following (map string_bytes c.loop-cell.values.items) (all_read (text_read c.position-pos.result) l)) (contents_first content left c.in-Some.cell.now c.in-Some.ensures.cell))
     c.in-Ok.ensures
     )
 
 -- memory ran out: the row is as it was
 pub returns-then-is_err : goal.returns-then-is_err
 returns-then-is_err g c = record {
-  gives = memory_always (λ (v : Vec (String Global) Global). map string_bytes v.items) (all_read (text_in c.args.row.now.place) (contents_of g.T.ReadCell.content c.args.row.now.exposed));
+  gives = memory_always (λ (v : Vec (String Global) Global). map string_bytes v.items) (all_read (text_read c.args.row.now.place) (contents_of g.T.ReadCell.content c.args.row.now.exposed));
   ok = tt;
   err = refl;
 }
@@ -32,9 +32,9 @@ returns-in-Err g c =
     let left = c.loop-cell.rest.exposed in
     record {
       gives = rw (← c.position-pos.ensures) (
-          read_stops (string_bytes {Z = Global}) (λ (v : Vec (String Global) Global). map string_bytes v.items) (text_in c.position-pos.result) (map string_bytes c.loop-cell.values.items) c.in-Err.e
-          (content c.in-Some.cell.now) (contents_of content (drop 1 left)) (all_read (text_in c.position-pos.result) (contents_of content c.args.row.now.exposed))
-          (c.loop-cell.invariant ∙ ap (λ l. behind (map string_bytes c.loop-cell.values.items) (all_read (text_in c.position-pos.result) l)) (contents_first content left c.in-Some.cell.now c.in-Some.ensures.cell))
+          read_stops (string_bytes {Z = Global}) (λ (v : Vec (String Global) Global). map string_bytes v.items) (text_read c.position-pos.result) (map string_bytes c.loop-cell.values.items) c.in-Err.e
+          (content c.in-Some.cell.now) (contents_of content (drop 1 left)) (all_read (text_read c.position-pos.result) (contents_of content c.args.row.now.exposed))
+          (c.loop-cell.invariant ∙ ap (λ l. following (map string_bytes c.loop-cell.values.items) (all_read (text_read c.position-pos.result) l)) (contents_first content left c.in-Some.cell.now c.in-Some.ensures.cell))
           c.in-Err.ensures
           );
       ok = tt;

@@ -2,7 +2,7 @@ use Rattle.std.proofs.Common.{rules, ◌≡◌, ◌++◌, Ok, Err, [], sym, min,
 use Rattle.std.proofs.lemmas.Result.{err_from_is_err_and}
 use Rattle.std.proofs.lemmas.List.{drop_all}
 use Rattle.xls_sectors.specs.Streams.{part_of, gathered}
-use Rattle.xls_sectors.proofs.SpaceLemmas.{with_front, gathered_step, gathered_stop, gathered_done}
+use Rattle.xls_sectors.proofs.SpaceLemmas.{with_prefix, gathered_step, gathered_stop, gathered_done}
 use Rattle.xls_sectors.proofs.chains.Chains.gather.Goals as goal
 
 pub returns-in_err-part : goal.returns-in_err-part
@@ -24,6 +24,6 @@ sectors-preserved c =
 pub returns : goal.returns
 returns c =
     let all = c.args.sectors.now in
-    let done : with_front c.sectors.bytes.items (gathered c.args.self.now c.sectors.left []) ≡ gathered c.args.self.now c.args.size all =
+    let done : with_prefix c.sectors.bytes.items (gathered c.args.self.now c.sectors.left []) ≡ gathered c.args.self.now c.args.size all =
     rw (drop_all c.sectors.sector-index all c.sectors-test.false) at c.sectors.invariant in
     sym (gathered_done c.args.self.now c.sectors.left c.sectors.bytes.items _ done)

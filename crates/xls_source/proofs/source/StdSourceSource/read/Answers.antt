@@ -4,9 +4,9 @@ use Rattle.xls_source.proofs.source.StdSourceSource.read.Goals as goal
 
 pub returns-in-Ok-clause-bytes : goal.returns-in-Ok-clause-bytes
 returns-in-Ok-clause-bytes g c =
-    let given = take c.in-Ok.count c.read_on.new.into in (
+    let input = take c.in-Ok.count c.read_on.new.into in (
       subst
-          (λ s. Consumes (g.R.Read.remaining s.0) (g.R.Read.remaining c.read_on.new.inner) given)
+          (λ s. Consumes (g.R.Read.remaining s.0) (g.R.Read.remaining c.read_on.new.inner) input)
           c.self.view_is
           c.in-Ok.ensures.bytes.0,
       c.in-Ok.ensures.bytes.1,

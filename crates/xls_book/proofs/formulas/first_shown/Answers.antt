@@ -1,8 +1,0 @@
-use Rattle.std.proofs.Common.{rules}
-use Rattle.xls_book.proofs.ShownLemmas.{begun}
-use Rattle.xls_book.proofs.formulas.first_shown.Goals as goal
-
-pub returns : goal.returns
-returns c =
-    begun c.args.cells.now c.from_shown-rest.result.now c.split_at.result.1.now c.index-rest-0.result c.get_position-row.result.0 c.get_position-row.result.1 c.as_str.result.now
-    c.from_shown-rest.ensures.same c.from_shown-rest.ensures.begins (search rules) (search rules) (search rules)
