@@ -1,7 +1,7 @@
 //! Whole files, each fault once, tables that loop, and refused memory. The texts are those that the README's crates state, the
 //! numbers those of the layout in `sample.rt`, and the sums Python's of the same bytes.
 
-use crate::sample::{sample, put};
+use crate::sample::{put, sample};
 use std::alloc::{AllocError, Global};
 use std::test::Fail;
 use xls_compound::{Compound, CompoundError, Entry};

@@ -50,7 +50,10 @@ fn cell_of(alloc: Global, input: &Input) -> Result<Data, AllocError> {
 }
 
 // What was read, or the text of the refusal.
-fn displayed<V: Display + Drop>(alloc: Global, read: Result<V, DeError>) -> Result<String, AllocError> {
+fn displayed<V: Display + Drop>(
+    alloc: Global,
+    read: Result<V, DeError>,
+) -> Result<String, AllocError> {
     match read {
         Ok(value) => value.to_string(alloc),
         Err(DeError::Memory) => Err(AllocError),

@@ -1,4 +1,4 @@
-use crate::answers::{Table, UTF16, answers, refusal, displayed};
+use crate::answers::{Table, UTF16, answers, displayed, refusal};
 use std::alloc::{AllocError, Global};
 use std::process::Abort;
 use std::test::*;
@@ -21,7 +21,12 @@ fn record_of(bytes: &[u8]) -> Result<Record<'_>, XlsError> {
     }
 }
 
-fn push_record(bytes: &mut Vec<u8>, typ: u16, prefix: &[u8], body: &[u8]) -> Result<(), AllocError> {
+fn push_record(
+    bytes: &mut Vec<u8>,
+    typ: u16,
+    prefix: &[u8],
+    body: &[u8],
+) -> Result<(), AllocError> {
     let len = u16::try_from(prefix.len().saturating_add(body.len())).unwrap_or(u16::MAX);
     bytes.extend_from_slice(&typ.to_le_bytes())?;
     bytes.extend_from_slice(&len.to_le_bytes())?;

@@ -41,7 +41,11 @@ fn visibility_number(visible: SheetVisible) -> u32
 }
 
 /// Lays what a sheet shows.
-fn lay_displayed(alloc: Global, rooms: &mut Rooms<'_>, sheet: &ViewSheet<'_>) -> Result<(), AllocError>
+fn lay_displayed(
+    alloc: Global,
+    rooms: &mut Rooms<'_>,
+    sheet: &ViewSheet<'_>,
+) -> Result<(), AllocError>
     ensures same { KeepsRooms rooms.old rooms.new }
     ensures ok { OnOk result (Lays rooms.old rooms.new (λ a. with_content a (sheet_view_of sheet.now))) }
 {

@@ -3,14 +3,14 @@
 
 mod command;
 mod laws;
-mod sample;
 mod perform;
 mod runs;
+mod sample;
 mod summary;
 mod words;
 
 pub use command::Command;
 pub use laws::remade_dumps;
-pub use sample::generate_stream;
 pub use runs::run;
+pub use sample::generate_stream;
 pub use words::words_in;

@@ -91,7 +91,11 @@ fn value_in_run<'c>(body: &'c [u8], column: u32, settings: &Settings<'c>) -> Opt
 }
 
 /// The value of the cell of a record without a fault at a position, if the record has it.
-fn value_in<'c>(r: &Record<'c>, position: (u32, u32), settings: &Settings<'c>) -> Option<CellValue<'c>>
+fn value_in<'c>(
+    r: &Record<'c>,
+    position: (u32, u32),
+    settings: &Settings<'c>,
+) -> Option<CellValue<'c>>
     ensures { (g : SheetRecord) → kept_line settings.now.cells (kept_group (group_of r.now)) ≡ Ok g
         → value_or_blank result ≡ cell_in settings.now position (kept_group (group_of r.now)) }
 {

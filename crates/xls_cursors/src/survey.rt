@@ -144,7 +144,11 @@ fn shared_place(position: (u32, u32), index: u32, settings: &Settings<'_>) -> Op
 }
 
 /// Where the cell of a record stands that isn't a MulRk, whatever the record.
-fn other_place(read: &SheetRecord<'_>, last: (u32, u32), settings: &Settings<'_>) -> Option<(u32, u32)>
+fn other_place(
+    read: &SheetRecord<'_>,
+    last: (u32, u32),
+    settings: &Settings<'_>,
+) -> Option<(u32, u32)>
     ensures { run_of read.now ≡ None
         → IsCellAt result (adds settings.now.formulas last (stands_for settings.now.cells read.now)).cells }
 {

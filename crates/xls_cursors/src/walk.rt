@@ -121,6 +121,11 @@ impl<'c> Iterator for CellWalk<'c> {
         if let Some(cell) = self.run.next() {
             return Some(cell);
         }
-        next_cell(&mut self.records, &mut self.at, &mut self.run, self.settings)
+        next_cell(
+            &mut self.records,
+            &mut self.at,
+            &mut self.run,
+            self.settings,
+        )
     }
 }

@@ -4,11 +4,11 @@
 mod buffer;
 mod defined;
 mod effect;
-mod prefixes;
 mod ftab;
 mod functions;
 mod names;
 mod parse;
+mod prefixes;
 mod put;
 mod scope;
 mod words;

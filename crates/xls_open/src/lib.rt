@@ -3,7 +3,6 @@
 
 mod check;
 mod classes;
-mod settings;
 mod formula;
 mod globals;
 mod globals_record;
@@ -11,10 +10,10 @@ mod laws;
 mod listed;
 mod names;
 mod options;
+mod settings;
 
 pub use check::{check_sheets_of, check_stream};
 pub use classes::classes_of;
-pub use settings::Settings;
 pub use formula::FormulaBuffer;
 pub use globals::{Globals, read_globals};
 pub use laws::{
@@ -24,3 +23,4 @@ pub use laws::{
 pub use listed::{Lbl, Listed};
 pub use names::{Naming, naming_of};
 pub use options::XlsOptions;
+pub use settings::Settings;

@@ -5,7 +5,7 @@ mod laws;
 mod words;
 
 pub use laws::{
-    sample_bytes, sample_carries, sample_laid, sample_length, sample_opens, sample_range, sample_reading,
-    sample_shows, sample_sound,
+    sample_bytes, sample_carries, sample_laid, sample_length, sample_opens, sample_range,
+    sample_reading, sample_shows, sample_sound,
 };
 pub use words::word_of;

@@ -10,7 +10,7 @@ use crate::one::do_one;
 use std::alloc::Global;
 use xls_files::{Host, Place, place_of};
 use xls_lines::{Sink, Stop, write_all};
-use xls_words::{Command, Files, Request, SheetChoice, Displayed, request_of};
+use xls_words::{Command, Displayed, Files, Request, SheetChoice, request_of};
 
 /// Where there is no folder for the texts, what is wrong with that.
 fn mistake_in(job: &Job<'_>, is_many: bool) -> Option<&'static str> {
@@ -105,7 +105,11 @@ fn do_request<H: Host, K: Sink>(
 }
 
 /// Tells a mistake in the words; writes help or the version.
-fn do_displayed<H: Host, K: Sink>(host: &mut H, out: &mut K, displayed: &Displayed) -> Result<u8, Stop>
+fn do_displayed<H: Host, K: Sink>(
+    host: &mut H,
+    out: &mut K,
+    displayed: &Displayed,
+) -> Result<u8, Stop>
     ensures { IfOk result (Ends out.old out.new) }
 {
     match displayed {

@@ -31,7 +31,7 @@ use xls_cursors::{Merges, SheetCells, SheetFormulas, ViewSheet, part_at};
 use xls_data::{CellFormat, Sheet};
 use xls_formula::FunctionTable;
 use xls_open::{
-    Globals, Settings, Listed, Naming, XlsOptions, check_sheets_of, check_stream, classes_of,
+    Globals, Listed, Naming, Settings, XlsOptions, check_sheets_of, check_stream, classes_of,
     naming_of, read_globals,
 };
 use xls_text::XlsEncoding;

@@ -6,9 +6,9 @@ ghost use Rattle.xls_words.specs.Requests.{AreWordsOf, CommandHasNumber, IsAsked
 ghost use Rattle.xls_words.specs.declared.displayed.Displayed.TheVariants as displayed;
 ghost use Rattle.xls_words.specs.declared.word.Word.{Word};
 
+use crate::displayed::{Displayed, displayed_of};
 use crate::plain::{are_plain, plain_request};
 use crate::request::{Command, Files, Request, SheetChoice, Style, Table};
-use crate::displayed::{Displayed, displayed_of};
 use crate::word::{ALL, Word};
 use clap::error::ErrorKind;
 use clap::{Arg, ArgAction, ArgMatches, Error, value_parser};

@@ -1,6 +1,6 @@
 //! Single rows, cell by cell and by their headers.
 
-use super::{read_as, displayed, text};
+use super::{displayed, read_as, text};
 use std::alloc::{AllocError, Global};
 use std::test::Fail;
 use xls_data::{CellErrorType, Data};
