@@ -56,9 +56,9 @@ no_place settings typ body other =
     each_kind (λ r. position_in r ≡ None) (λ e. refl) refl (λ cs. refl) (λ c. refl) (λ cs. refl) typ
     (λ is at value tokens. absurd (let same : (types.FORMULA == types.FORMULA) ≡ false = rw is at other in cc)) (λ is rs. refl) settings body
 
-pub elsewhere : (settings : CellContext) (typ : ℕ) (body : List ℕ) (g : SheetRecord) → (typ == 6) ≡ false
+pub elsewhere : (settings : CellContext) (typ : ℕ) (body : List ℕ) (g : SheetRecord) → (typ == 0x0006) ≡ false
     → sheet_record_at settings typ body ≡ Ok g → None ≡ formula_position g
 elsewhere settings typ body g other h = sym (no_place settings typ body other) ∙ ap position_in h
 
-pub apart : (typ : ℕ) → typ ≢ 6 → (typ == 6) ≡ false
+pub apart : (typ : ℕ) → typ ≢ 6 → (typ == 0x0006) ≡ false
 apart typ other = grind arith

@@ -5,9 +5,9 @@ use Rattle.std.specs.List.{flat_map}
 -- a backslash, a newline, a return and a tab as two characters each: `\\`, `\n`, `\r` and `\t`
 abbrev pub escaped_char : ℕ → List ℕ
 escaped_char c =
-    if c == 92 then codes "\\\\"
-    else if c == 10 then codes "\\n"
-    else if c == 13 then codes "\\r"
+    if c == 0x5C then codes "\\\\"
+    else if c == 0x0A then codes "\\n"
+    else if c == 0x0D then codes "\\r"
     else if c == 9 then codes "\\t"
     else c ∷ []
 

@@ -14,7 +14,7 @@ use Rattle.xls_csv.specs.Walk.{take_at, row_over, left_over}
 pub escaped-cons : (b : ℕ) (bs : List ℕ)
     → escaped default_writer (b ∷ bs) ≡ escaped default_writer (b ∷ []) ++ escaped default_writer bs
 unfolding escaped
-escaped-cons b bs = by_test (b == 34)
+escaped-cons b bs = by_test (b == 0x22)
   where
     by_test : (t : Bool)
         → (if t then 34 ∷ b ∷ escaped default_writer bs else b ∷ escaped default_writer bs)
@@ -26,7 +26,7 @@ pub escaped_quote : escaped default_writer (34 ∷ []) ≡ 34 ∷ 34 ∷ []
 unfolding escaped
 escaped_quote = refl
 
-pub escaped_other : (b : ℕ) → (b == 34) ≡ false → escaped default_writer (b ∷ []) ≡ b ∷ []
+pub escaped_other : (b : ℕ) → (b == 0x22) ≡ false → escaped default_writer (b ∷ []) ≡ b ∷ []
 unfolding escaped
 escaped_other b e = rw e refl
 

@@ -53,7 +53,7 @@ other s typ body f =
     each_kind (λ r. formula_from r ≡ None) (λ e. refl) refl (λ cs. refl) (λ c. refl) (λ cs. refl) typ
     (λ is at value tokens. absurd (let same : (types.FORMULA == types.FORMULA) ≡ false = rw is at f in cc)) (λ is rs. refl) s body
 
-by_type : (s : CellContext) (typ : ℕ) (body : List ℕ) (t : Bool) → (typ == 6) ≡ t
+by_type : (s : CellContext) (typ : ℕ) (body : List ℕ) (t : Bool) → (typ == 0x0006) ≡ t
     → (if t then formula_in (formula_at [] false body) else None) ≡ formula_from (sheet_record_at s typ body)
 by_type s typ body true e =
     let six : typ ≡ 6 = grind arith in
@@ -79,10 +79,10 @@ no_merge s typ body f =
     each_kind (λ r. regions_from r ≡ []) (λ e. refl) refl (λ cs. refl) (λ c. refl) (λ cs. refl) typ (λ is at value tokens. refl)
     (λ is rs. absurd (let same : (types.MERGE_CELLS == types.MERGE_CELLS) ≡ false = rw is at f in cc)) s body
 
-by_merge : (s : CellContext) (typ : ℕ) (body : List ℕ) (t : Bool) → (typ == 229) ≡ t
+by_merge : (s : CellContext) (typ : ℕ) (body : List ℕ) (t : Bool) → (typ == 0x00E5) ≡ t
     → (if t then regions_in (merges_at body) else []) ≡ regions_from (sheet_record_at s typ body)
-by_merge s typ body true e = let is : typ ≡ 229 = grind arith in rw is (in_regions (merges_at body))
+by_merge s typ body true e = let is : typ ≡ 0x00E5 = grind arith in rw is (in_regions (merges_at body))
 by_merge s typ body false e = sym (no_merge s typ body e)
 
 pub regions_by_the_table : (s : CellContext) (k : Kept) → regions_at k ≡ regions_from (sheet_record_at s k.typ k.body)
-regions_by_the_table s k = by_merge s k.typ k.body (k.typ == 229) refl
+regions_by_the_table s k = by_merge s k.typ k.body (k.typ == 0x00E5) refl

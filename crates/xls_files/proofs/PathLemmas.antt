@@ -26,9 +26,9 @@ onto b (part ∷ parts) other all = (All-cons (λ c. c ≢ 47) b part other all.
 
 names_without_slash : (path : List ℕ) → AllByRecursion HasNoSlash (names_in path)
 names_without_slash [] = (All-nil (λ c. c ≢ 47), tt)
-names_without_slash (b ∷ bs) = by_test (b == 47) refl (names_without_slash bs)
+names_without_slash (b ∷ bs) = by_test (b == 0x2F) refl (names_without_slash bs)
   where
-    by_test : (t : Bool) → (b == 47) ≡ t → AllByRecursion HasNoSlash (names_in bs)
+    by_test : (t : Bool) → (b == 0x2F) ≡ t → AllByRecursion HasNoSlash (names_in bs)
         → AllByRecursion HasNoSlash (if t then [] ∷ names_in bs else onto_first b (names_in bs))
     by_test true e all = (All-nil (λ c. c ≢ 47), all)
     by_test false e all = onto b (names_in bs) (grind arith) all

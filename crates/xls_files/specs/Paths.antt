@@ -8,7 +8,7 @@ use Rattle.std.specs.Str.{bytes_eq}
 
 -- the names of a path, which slashes separate
 abbrev pub names_in : List ℕ → List (List ℕ)
-names_in path = slice_split (λ b. b == 47) path
+names_in path = slice_split (λ b. b == 0x2F) path
 
 -- what becomes of a name: an empty one and `.` are left out, and `..` leads nowhere
 abbrev pub kept_name : List ℕ → Option (List ℕ)

@@ -59,16 +59,16 @@ module _ (P : GlobalsLine → Type 0) (fails : (e : XlsError) → P (Err e)) (ot
   unforced (Some n) r = other
 
   plain_line : (forced : Option ℕ) (p : XlsEncoding) (v : Biff) (typ : ℕ) (body : List ℕ) → P (unless_refused (format_at p v body))
-      → ((b : GlobalsLine) → P b → P (if typ == 224 then gives xf_record (xf_at body) else b)) → P (plain_record_at forced p v typ body)
+      → ((b : GlobalsLine) → P b → P (if typ == 0x00E0 then gives xf_record (xf_at body) else b)) → P (plain_record_at forced p v typ body)
   plain_line forced p v typ body format xf =
-      choice P (typ == 2057) _ _ (built (λ (b : Bof). version_record b.biff) version (bof_at body))
-      (choice P (typ == 47) _ _ (built (λ (u : Unit {0}). other_record) (λ u. other) (file_pass_at body))
-      (choice P (typ == 66) _ _ (unforced forced (code_page_at body))
-      (choice P (typ == 34) _ _ (built date_record date (date_mode_at body))
-      (choice P (typ == 1054) _ _ format
+      choice P (typ == 0x0809) _ _ (built (λ (b : Bof). version_record b.biff) version (bof_at body))
+      (choice P (typ == 0x002F) _ _ (built (λ (u : Unit {0}). other_record) (λ u. other) (file_pass_at body))
+      (choice P (typ == 0x0042) _ _ (unforced forced (code_page_at body))
+      (choice P (typ == 0x0022) _ _ (built date_record date (date_mode_at body))
+      (choice P (typ == 0x041E) _ _ format
       (xf _
-      (choice P (typ == 23) _ _ (built references_record references (refs_at v body))
-      (choice P (typ == 24) _ _ (built name_record name (lbl_at p v body)) other)))))))
+      (choice P (typ == 0x0017) _ _ (built references_record references (refs_at v body))
+      (choice P (typ == 0x0018) _ _ (built name_record name (lbl_at p v body)) other)))))))
 
 -- ---- XFs
 
@@ -90,7 +90,7 @@ xf_plain forced p v typ body =
       | inl e ↦ rw e.1 (own_xf (xf_at body))
       | inr d ↦
           plain_line NoXf (λ e. refl) refl (λ b. refl) (λ q. refl) (λ b. refl) (λ rs. refl) (λ n. refl) forced p v typ body (no_xf (format_at p v body))
-          (λ b k. skip NoXf (typ == 224) (gives xf_record (xf_at body)) b d.0 k)
+          (λ b k. skip NoXf (typ == 0x00E0) (gives xf_record (xf_at body)) b d.0 k)
           ∙ ap (λ (t : Bool). if t then result_ok (xf_at body) else None) (sym d.0)
     ]
 
@@ -153,7 +153,7 @@ plain_counts forced p v typ body =
     let none = no_format None refl in
     plain_line Counts (λ e. none) none (λ b. none) (λ q. none) (λ b. none) (λ rs. none) (λ n. none) forced p v typ body
     (format_counts p v body (format_at p v body) refl)
-    (λ b k. choice Counts (typ == 224) (gives xf_record (xf_at body)) b (none_counts xf_record (λ n. refl) (xf_at body)) k)
+    (λ b k. choice Counts (typ == 0x00E0) (gives xf_record (xf_at body)) b (none_counts xf_record (λ n. refl) (xf_at body)) k)
 
 line_counts : (rules : Rules) (before : List ListEntry) (e : ListEntry) → Counts (line_in rules before e)
 line_counts rules before (plain_entry typ body) = plain_counts rules.force_codepage (page_in rules before) (version_in rules before) typ body
@@ -192,7 +192,7 @@ not_id false b c m n h = absurd cc
 uncounted_not : (i : Item) (n : ℕ) → uncounted_in i ≡ Some n → is_format_id n ≡ false
 uncounted_not (plain_item typ body) n h =
     let m = le (take 2 body) in
-    let k = not_id (typ == 1054) (nat_le 2 (length body)) (is_format_id m) m n h in
+    let k = not_id (typ == 0x041E) (nat_le 2 (length body)) (is_format_id m) m n h in
     subst (λ (x : ℕ). is_format_id x ≡ false) k.1 k.0
 uncounted_not (table_item body shared) n h = absurd cc
 uncounted_not (sheet_item body kept cut) n h = absurd cc

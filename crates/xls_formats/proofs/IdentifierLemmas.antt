@@ -73,7 +73,7 @@ pub identifiers_nothing : (stream : List ℕ) (found : Identifiers) → IsBytes 
     → IdentifiersSoFar stream stream found
 identifiers_nothing stream found fits u x = record { items = []; passed = passed_nothing stream fits; uncounted = u; of_xfs = x }
 
-pub identifiers_more : (stream rest after : List ℕ) (had now : Identifiers) (g : Group) → IdentifiersSoFar stream rest had → Begins rest g after → (g.typ ≡ 10 → ⊥)
+pub identifiers_more : (stream rest after : List ℕ) (had now : Identifiers) (g : Group) → IdentifiersSoFar stream rest had → Begins rest g after → (g.typ ≡ 0x000A → ⊥)
     → now.uncounted.items ≡ had.uncounted.items ++ option_to_list (uncounted_at g.typ g.body)
     → now.of_xfs.items ≡ had.of_xfs.items ++ option_to_list (xf_identifier_at g.typ g.body)
     → IdentifiersSoFar stream after now

@@ -90,7 +90,7 @@ no_sheet stream g (table_item body shared) k t = refl
 no_sheet stream g (sheet_item body kept cut) k t = absurd (let f = rw k.0 at t in cc)
 
 pub sheets_more : (stream rest after : List ℕ) (touched : List Bool) (had more now : ℕ) (g : Group) → CountedSheets stream rest touched had
-    → Begins rest g after → (g.typ ≡ 10 → ⊥) → (i : Item) → IsItem stream g i → more ≡ touched_count touched (ixfes_in i)
+    → Begins rest g after → (g.typ ≡ 0x000A → ⊥) → (i : Item) → IsItem stream g i → more ≡ touched_count touched (ixfes_in i)
     → now ≡ min (had + more) (2 ^ 64 - 1) → CountedSheets stream after touched now
 sheets_more stream rest after touched had more now g s b n i k is sum = by_type (is_globals_type g) refl
   where
@@ -127,7 +127,7 @@ module _ (stream : List ℕ) (g : Group) (touched : List Bool) where
   Under cells = (i : Item) × IsItem stream g i × (cells ≡ touched_count touched (ixfes_in i))
 
   -- one that is no BoundSheet8
-  pub under_other : IsBytes stream → (g.typ ≡ 133 → ⊥) → Under 0
+  pub under_other : IsBytes stream → (g.typ ≡ 0x0085 → ⊥) → Under 0
   under_other fits n = let i = has_item stream g fits in at_item i.0 i.1
     where
       at_item : (i : Item) → IsItem stream g i → Under 0
@@ -146,7 +146,7 @@ module _ (stream : List ℕ) (g : Group) (touched : List Bool) where
           let short : nat_lt (length body) 4 ≡ true = rw k.1 (grind arith) in
           (sheet_item body kept cut, k, rw short refl)
 
-  pub under_sheet : g.typ ≡ 133 → 4 ≤ length g.body → (offset cells : ℕ) → offset ≡ offset_at g.body
+  pub under_sheet : g.typ ≡ 0x0085 → 4 ≤ length g.body → (offset cells : ℕ) → offset ≡ offset_at g.body
       → CountsPart (IsSheetPart stream offset) touched cells → Under cells
   under_sheet t l offset cells at p =
       let long : nat_lt (length g.body) 4 ≡ false = grind arith in (

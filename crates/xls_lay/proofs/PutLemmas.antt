@@ -118,14 +118,14 @@ puts_bytes a b bytes d t e = record {
     whole = λ more.
         ap (λ (n : ℕ). rest_bytes n b.body.items more) t
         ∙ ap (λ (x : List ℕ). rest_bytes a.typ x more) e
-        ∙ ap (λ (x : List ℕ). record_bytes a.typ x ++ flat_map (record_bytes 60) (pieces_of more)) (append_assoc a.body.items bytes (prefix_of more))
-        ∙ ap (λ (x : List ℕ). record_bytes a.typ (a.body.items ++ x) ++ flat_map (record_bytes 60) (pieces_of more)) (sym (prefixes bytes more))
-        ∙ ap (λ (x : List (List ℕ)). record_bytes a.typ (a.body.items ++ prefix_of (map Some bytes ++ more)) ++ flat_map (record_bytes 60) x) (sym (others bytes more));
+        ∙ ap (λ (x : List ℕ). record_bytes a.typ x ++ flat_map (record_bytes 0x003C) (pieces_of more)) (append_assoc a.body.items bytes (prefix_of more))
+        ∙ ap (λ (x : List ℕ). record_bytes a.typ (a.body.items ++ x) ++ flat_map (record_bytes 0x003C) (pieces_of more)) (sym (prefixes bytes more))
+        ∙ ap (λ (x : List (List ℕ)). record_bytes a.typ (a.body.items ++ prefix_of (map Some bytes ++ more)) ++ flat_map (record_bytes 0x003C) x) (sym (others bytes more));
     used = ap length e ∙ length-append a.body.items bytes ∙ sym (fill-bytes (length a.body.items) bytes);
   };
 }
 
-pub puts_mark : (a b : TableWriter) → b.done.items ≡ a.done.items ++ record_bytes a.typ a.body.items → b.typ ≡ 60
+pub puts_mark : (a b : TableWriter) → b.done.items ≡ a.done.items ++ record_bytes a.typ a.body.items → b.typ ≡ 0x003C
     → b.body.items ≡ [] → PutsMarks a (None ∷ []) b
 puts_mark a b d t e = record {
   bytes = record_bytes a.typ a.body.items;

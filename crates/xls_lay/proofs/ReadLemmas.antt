@@ -69,7 +69,7 @@ all_split : (xs : List Item) (y : Item) (ys : List Item) → AllByRecursion IsWh
 all_split [] y ys h = h.0
 all_split (x ∷ xs) y ys h = all_split xs y ys h.1
 
-module _ (stream rest after : List ℕ) (list : List ListEntry) (c : (all : List ListEntry) × Carries stream all) (r : Read stream rest list) (g : Group) (b : Begins rest g after) (n : g.typ ≡ 10 → ⊥) where
+module _ (stream rest after : List ℕ) (list : List ListEntry) (c : (all : List ListEntry) × Carries stream all) (r : Read stream rest list) (g : Group) (b : Begins rest g after) (n : g.typ ≡ 0x000A → ⊥) where
   sizes : length (group_bytes g) + length after ≡ length rest
   sizes = let w = b.whole in omega (arith, ap length w, length-append (group_bytes g) after)
 
@@ -140,7 +140,7 @@ module _ (stream rest : List ℕ) (list : List ListEntry) (c : (all : List ListE
         entries_are = r.taken;
       }
 
-  pub read_eof : (g : Group) (after : List ℕ) → Begins rest g after → g.typ ≡ 10 → Carries stream list
+  pub read_eof : (g : Group) (after : List ℕ) → Begins rest g after → g.typ ≡ 0x000A → Carries stream list
   read_eof g after b e = carried (passed_eof stream rest r.items r.passed g after b e)
 
   pub read_end : rest ≡ [] → Carries stream list
@@ -149,7 +149,7 @@ module _ (stream rest : List ℕ) (list : List ListEntry) (c : (all : List ListE
 -- ---- the entry of a BoundSheet8 record
 
 pub sheet_item_taken : (stream : List ℕ) (g : Group) (i : Item) (old new : List ListEntry) (result : Result (Unit {0}) XlsError)
-    → g.typ ≡ 133 → IsItem stream g i → IsWholeItem i
+    → g.typ ≡ 0x0085 → IsItem stream g i → IsWholeItem i
     → ((kept : List Kept) → IsSheetPart stream (offset_at g.body) kept None
     → TakesEntry old (sheet_entry (slice_index g.body 4) (slice_index g.body 5) (drop 6 g.body) kept) result new)
     → TakesEntry old (entry_of i) result new

@@ -38,17 +38,17 @@ parts_sum (e ∷ list) = omega (arith, length-append (part_bytes e) (parts_from 
 pub length-part : (kept : List Kept) → length (part_of kept) ≡ length (flat_map kept_bytes kept) + 12
 length-part kept = omega (arith, length-append (flat_map kept_bytes kept) eof_bytes)
 
-pieces_size : (ms : List Mark) → length (prefix_of ms) + length (flat_map (record_bytes 60) (pieces_of ms)) ≡ marks_size ms
+pieces_size : (ms : List Mark) → length (prefix_of ms) + length (flat_map (record_bytes 0x003C) (pieces_of ms)) ≡ marks_size ms
 pieces_size [] = refl
 pieces_size (None ∷ ms) =
-    omega (arith, length-append (record_bytes 60 (prefix_of ms)) (flat_map (record_bytes 60) (pieces_of ms)), pieces_size ms)
+    omega (arith, length-append (record_bytes 0x003C (prefix_of ms)) (flat_map (record_bytes 0x003C) (pieces_of ms)), pieces_size ms)
 pieces_size (Some b ∷ ms) = omega (arith, pieces_size ms)
 
 pub length-table : (strings : List (List ℕ)) → length (table_bytes strings) ≡ marks_size (marks_of_strings (canonical_strings 8 strings)) + 12
 length-table strings =
     let ms = marks_of_strings (canonical_strings 8 strings) in
-    let tail = flat_map (record_bytes 60) (pieces_of ms) in
-    omega (arith, length-append (record_bytes 252 (counts_of strings ++ prefix_of ms)) tail, length-append (counts_of strings) (prefix_of ms), pieces_size ms)
+    let tail = flat_map (record_bytes 0x003C) (pieces_of ms) in
+    omega (arith, length-append (record_bytes 0x00FC (counts_of strings ++ prefix_of ms)) tail, length-append (counts_of strings) (prefix_of ms), pieces_size ms)
 
 -- ---- saturated sums in a loop
 

@@ -43,7 +43,7 @@ bytes_split (x ∷ xs) ys h = let s = bytes_split xs ys h.1 in ((h.0, s.0), s.1)
 pieces_small : (bodies : List (List ℕ)) → AreBytes (continues bodies) → AreSmall (flat_map marked_piece bodies)
 pieces_small [] h = tt
 pieces_small (c ∷ cs) h =
-    let s = bytes_split (record_bytes 60 c) (continues cs) h in
+    let s = bytes_split (record_bytes 0x003C c) (continues cs) h in
     small_join (marked_piece c) (flat_map marked_piece cs) (tt, bytes_small c s.0.1.1.1.1) (pieces_small cs s.1)
 
 -- those of a record's body without its first bytes, and of what is attached to it

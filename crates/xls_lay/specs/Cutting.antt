@@ -65,7 +65,7 @@ parts_from list = flat_map part_bytes list
 
 -- a record of this type whose body begins with these bytes and goes on with these marks
 abbrev pub rest_bytes : ℕ → List ℕ → List Mark → List ℕ
-rest_bytes typ prefix ms = record_bytes typ (prefix ++ prefix_of ms) ++ flat_map (record_bytes 60) (pieces_of ms)
+rest_bytes typ prefix ms = record_bytes typ (prefix ++ prefix_of ms) ++ flat_map (record_bytes 0x003C) (pieces_of ms)
 
 -- the bytes that these marks add: a mark begins a record with a head of four bytes
 abbrev pub marks_size : List Mark → ℕ

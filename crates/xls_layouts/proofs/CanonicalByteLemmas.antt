@@ -42,7 +42,7 @@ bytes_record typ body t l b =
 
 bytes_continues : (bodies : List (List ℕ)) → AllByRecursion IsBody bodies → AllByRecursion AreBytes bodies → AreBytes (continues bodies)
 bytes_continues [] h b = tt
-bytes_continues (c ∷ cs) h b = both_bytes (record_bytes 60 c) (continues cs) (bytes_record 60 c (lit< tt) h.0 b.0) (bytes_continues cs h.1 b.1)
+bytes_continues (c ∷ cs) h b = both_bytes (record_bytes 0x003C c) (continues cs) (bytes_record 60 c (lit< tt) h.0 b.0) (bytes_continues cs h.1 b.1)
 
 bytes_group : (g : Group) → g.typ < 65536 → IsBody g.body → AreBytes g.body → AllByRecursion IsBody g.tail → AllByRecursion AreBytes g.tail → AreBytes (group_bytes g)
 bytes_group g t l b h c = both_bytes (record_bytes g.typ g.body) (continues g.tail) (bytes_record g.typ g.body t l b) (bytes_continues g.tail h c)

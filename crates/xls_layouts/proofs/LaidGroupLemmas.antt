@@ -10,7 +10,7 @@ bytes_of gs = flat_map group_bytes gs
 
 has_room : (cs : List (List ℕ)) (after : List ℕ) → 4 ≤ length after → HasRoom cs after
 has_room [] after h = tt
-has_room (c ∷ cs) after h = (omega (arith, length-append (c ++ continues cs) after, length-append c (continues cs), length-append (record_bytes 60 c ++ continues cs) after), has_room cs after h)
+has_room (c ∷ cs) after h = (omega (arith, length-append (c ++ continues cs) after, length-append c (continues cs), length-append (record_bytes 0x003C c ++ continues cs) after), has_room cs after h)
 
 pub group_starts : (g : Group) (rest : List ℕ) → g.typ < 2 ^ 16 → g.typ ≢ 60 → ¬ StartsContinue (group_bytes g ++ rest)
 group_starts g rest f n s =

@@ -50,7 +50,7 @@ module _ (rules : Rules) (s : Settings) where
       ∙ first_early (sheet_places rules s.cells i) (flat_map (sheet_places rules s.cells) js) e k
 
   -- a record that is no BoundSheet8 has no part
-  no_part : (bytes : List ℕ) (g : Group) (i : Item) → IsItem bytes g i → (g.typ ≡ 133 → ⊥)
+  no_part : (bytes : List ℕ) (g : Group) (i : Item) → IsItem bytes g i → (g.typ ≡ 0x0085 → ⊥)
       → first_of (sheet_places rules s.cells i) ≡ None
   no_part bytes g (plain_item typ body) k n = refl
   no_part bytes g (table_item body shared) k n = refl
@@ -80,8 +80,8 @@ module _ (rules : Rules) (stream : List ℕ) (version : Biff) (a : AreChecked ru
       (none_append (map_with_earlier (item_fault rules) [] a.items) (None ∷ []) a.faultless refl)
       ∙ ap (λ (x : List Item). first_of (flat_map (sheet_places rules settings.cells) x)) (sym same.0) ∙ h
 
-  module _ (rest after : List ℕ) (g : Group) (c : SheetsSoFar rules stream rest settings) (b : Begins rest g after) (n : g.typ ≡ 10 → ⊥) where
-    pub sheets_other : (g.typ ≡ 133 → ⊥) → SheetsSoFar rules stream after settings
+  module _ (rest after : List ℕ) (g : Group) (c : SheetsSoFar rules stream rest settings) (b : Begins rest g after) (n : g.typ ≡ 0x000A → ⊥) where
+    pub sheets_other : (g.typ ≡ 0x0085 → ⊥) → SheetsSoFar rules stream after settings
     sheets_other m = by_type (is_globals_type g) refl
       where
         by_type : (u : Bool) → is_globals_type g ≡ u → SheetsSoFar rules stream after settings
@@ -98,7 +98,7 @@ module _ (rules : Rules) (stream : List ℕ) (version : Biff) (a : AreChecked ru
           clean = c.clean;
         }
 
-    module _ (t : g.typ ≡ 133) where
+    module _ (t : g.typ ≡ 0x0085) where
       is_type : is_globals_type g ≡ true
       is_type = rw t refl
 
@@ -161,7 +161,7 @@ module _ (rules : Rules) (stream : List ℕ) (version : Biff) (a : AreChecked ru
     sheets_done : Holds stream c.items None → ChecksPlaces rules stream (Ok tt)
     sheets_done h = (a.items, None, a.holds, all_places c.passed.whole c.items None h None c.clean)
 
-    pub sheets_eof : (g : Group) (after : List ℕ) → Begins rest g after → g.typ ≡ 10 → ChecksPlaces rules stream (Ok tt)
+    pub sheets_eof : (g : Group) (after : List ℕ) → Begins rest g after → g.typ ≡ 0x000A → ChecksPlaces rules stream (Ok tt)
     sheets_eof g after b e = sheets_done (passed_eof stream rest c.items c.passed g after b e)
 
     pub sheets_end : rest ≡ [] → ChecksPlaces rules stream (Ok tt)

@@ -54,7 +54,7 @@ passed_nothing stream fits = record {
 
 -- ---- the next record
 
-module _ (stream rest after : List ℕ) (items : List Item) (g : Group) (p : Passed stream rest items) (b : Begins rest g after) (n : g.typ ≡ 10 → ⊥) where
+module _ (stream rest after : List ℕ) (items : List Item) (g : Group) (p : Passed stream rest items) (b : Begins rest g after) (n : g.typ ≡ 0x000A → ⊥) where
   joined : (more : List Group) (cut : Option Part) → From globals_of after more cut
       → From globals_of stream (p.groups ++ g ∷ more) cut
   joined more cut f = p.joins (g ∷ more) cut (begins_from rest g after more cut b (apart g.typ 10 n) f)
@@ -117,7 +117,7 @@ module _ (stream rest : List ℕ) (items : List Item) (p : Passed stream rest it
   pub passed_cut : (part : Part) → Cut rest part → Holds stream items (Some part)
   passed_cut part k = ended (Some part) (cut_from rest part k)
 
-  pub passed_eof : (g : Group) (after : List ℕ) → Begins rest g after → g.typ ≡ 10 → Holds stream items None
+  pub passed_eof : (g : Group) (after : List ℕ) → Begins rest g after → g.typ ≡ 0x000A → Holds stream items None
   passed_eof g after b e = ended None (eof_from rest g after b e p.fits)
 
   pub passed_end : rest ≡ [] → Holds stream items None

@@ -187,14 +187,14 @@ format_clear (Err e) = tt
 plain_clear : (forced : Option ℕ) (p : XlsEncoding) (v : Biff) (typ : ℕ) (body : List ℕ)
     → Clear (plain_record_at forced p v typ body)
 plain_clear forced p v typ body =
-    when (typ == 2057) _ _ (changed _ (bof_at body) (sized 2 parts.Bof body _))
-    (when (typ == 47) _ _ (changed _ (file_pass_at body) (pass_clear body))
-    (when (typ == 66) _ _ (unless_clear forced _ (changed _ (code_page_at body) (page_clear body)))
-    (when (typ == 34) _ _ (changed _ (date_mode_at body) (sized 2 parts.DateMode body _))
-    (when (typ == 1054) _ _ (format_clear (format_at p v body))
-    (when (typ == 224) _ _ (changed _ (xf_at body) (sized 4 parts.Xf body _))
-    (when (typ == 23) _ _ (changed _ (refs_at v body) (refs_clear v body))
-    (when (typ == 24) _ _ (changed _ (lbl_at p v body) (lbl_clear p v body)) tt)))))))
+    when (typ == 0x0809) _ _ (changed _ (bof_at body) (sized 2 parts.Bof body _))
+    (when (typ == 0x002F) _ _ (changed _ (file_pass_at body) (pass_clear body))
+    (when (typ == 0x0042) _ _ (unless_clear forced _ (changed _ (code_page_at body) (page_clear body)))
+    (when (typ == 0x0022) _ _ (changed _ (date_mode_at body) (sized 2 parts.DateMode body _))
+    (when (typ == 0x041E) _ _ (format_clear (format_at p v body))
+    (when (typ == 0x00E0) _ _ (changed _ (xf_at body) (sized 4 parts.Xf body _))
+    (when (typ == 0x0017) _ _ (changed _ (refs_at v body) (refs_clear v body))
+    (when (typ == 0x0018) _ _ (changed _ (lbl_at p v body) (lbl_clear p v body)) tt)))))))
 
 missing_clear : (m : Missing) → IsClear (Some (error_of m))
 missing_clear (short_head e f) = tt

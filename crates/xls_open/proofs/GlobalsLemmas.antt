@@ -41,8 +41,8 @@ use Rattle.xls_open.proofs.LineLemmas.{not_yielded}
 -- what the three clauses of its reader say of a record
 pub record IsRecordRead (forced : Option ℕ) (version : Biff) (g : Group) (result : Result GlobalsRecord XlsError) : Type 0 where
   pub plain : is_plain_type g.typ ≡ true → (page : XlsEncoding) → ReadsLine page version g.body (plain_record_at forced page version g.typ g.body) result
-  pub table : g.typ ≡ 252 → (page : XlsEncoding) (shared : Shared) → IsShared g shared → ReadsLine page version g.body (gives strings_record (shared_texts (length g.body) shared)) result
-  pub sheet : g.typ ≡ 133 → (page : XlsEncoding) → ReadsLine page version g.body (gives (λ (q : ℕ × SheetContent). sheet_record q.1) (bound_sheet_at page version g.body)) result
+  pub table : g.typ ≡ 0x00FC → (page : XlsEncoding) (shared : Shared) → IsShared g shared → ReadsLine page version g.body (gives strings_record (shared_texts (length g.body) shared)) result
+  pub sheet : g.typ ≡ 0x0085 → (page : XlsEncoding) → ReadsLine page version g.body (gives (λ (q : ℕ × SheetContent). sheet_record q.1) (bound_sheet_at page version g.body)) result
 
 -- they speak of the item that the record stands for
 item_read : (forced : Option ℕ) (version : Biff) (page : XlsEncoding) (bytes : List ℕ) (g : Group) (i : Item) (result : Result GlobalsRecord XlsError)
@@ -110,7 +110,7 @@ yield_from : (l : GlobalsLine) → fault_of l ≡ None → (g : table.GlobalsRec
 yield_from (Ok g) h = (g, refl)
 yield_from (Err e) h = absurd cc
 
-module _ (rules : Rules) (stream rest later : List ℕ) (s : State) (g : Group) (c : GlobalsSoFar rules stream rest s) (b : Begins rest g later) (n : g.typ ≡ 10 → ⊥) where
+module _ (rules : Rules) (stream rest later : List ℕ) (s : State) (g : Group) (c : GlobalsSoFar rules stream rest s) (b : Begins rest g later) (n : g.typ ≡ 0x000A → ⊥) where
   abbrev line_of : Item → GlobalsLine
   line_of i = item_record_at rules.force_codepage s.page s.version i
 
@@ -189,7 +189,7 @@ module _ (rules : Rules) (stream rest : List ℕ) (s : State) (c : GlobalsSoFar 
         ∙ ap (λ (x : XlsError). Some x) (sym h),
   )
 
-  pub globals_eof : (g : Group) (later : List ℕ) → Begins rest g later → g.typ ≡ 10 → AreGlobals rules stream s
+  pub globals_eof : (g : Group) (later : List ℕ) → Begins rest g later → g.typ ≡ 0x000A → AreGlobals rules stream s
   globals_eof g later b e = record {
     items = c.items;
     holds = passed_eof stream rest c.items c.passed g later b e;
@@ -253,7 +253,7 @@ checked_nothing rules stream fits = record {
 }
 
 pub checked_more : (rules : Rules) (stream rest later : List ℕ) (version : Biff) (g : Group) (x : GlobalsRecord)
-    → CheckedSoFar rules stream rest version → Begins rest g later → (g.typ ≡ 10 → ⊥)
+    → CheckedSoFar rules stream rest version → Begins rest g later → (g.typ ≡ 0x000A → ⊥)
     → IsRecordRead rules.force_codepage version g (Ok x) → CheckedSoFar rules stream later (version_by x version)
 checked_more rules stream rest later version g x c b n t =
     let m = globals_next rules stream rest later c.state g c.so_far b n x (subst (λ (v : Biff). IsRecordRead rules.force_codepage v g (Ok x)) c.version_is t) in

@@ -88,14 +88,14 @@ not_yielded f g h k (Err e) = k e
 pub no_sheet : (forced : Option ℕ) (p : XlsEncoding) (v : Biff) (typ : ℕ) (body : List ℕ)
     → sheet_from (plain_record_at forced p v typ body) ≡ None
 no_sheet forced p v typ body =
-    choice sheet_from None (typ == 2057) _ _ (none _ (λ b. refl) (bof_at body))
-    (choice sheet_from None (typ == 47) _ _ (none _ (λ u. refl) (file_pass_at body))
-    (choice sheet_from None (typ == 66) _ _ (page forced)
-    (choice sheet_from None (typ == 34) _ _ (none date_record (λ b. refl) (date_mode_at body))
-    (choice sheet_from None (typ == 1054) _ _ (format (format_at p v body))
-    (choice sheet_from None (typ == 224) _ _ (none xf_record (λ n. refl) (xf_at body))
-    (choice sheet_from None (typ == 23) _ _ (none references_record (λ rs. refl) (refs_at v body))
-    (choice sheet_from None (typ == 24) _ _ (none name_record (λ n. refl) (lbl_at p v body)) refl)))))))
+    choice sheet_from None (typ == 0x0809) _ _ (none _ (λ b. refl) (bof_at body))
+    (choice sheet_from None (typ == 0x002F) _ _ (none _ (λ u. refl) (file_pass_at body))
+    (choice sheet_from None (typ == 0x0042) _ _ (page forced)
+    (choice sheet_from None (typ == 0x0022) _ _ (none date_record (λ b. refl) (date_mode_at body))
+    (choice sheet_from None (typ == 0x041E) _ _ (format (format_at p v body))
+    (choice sheet_from None (typ == 0x00E0) _ _ (none xf_record (λ n. refl) (xf_at body))
+    (choice sheet_from None (typ == 0x0017) _ _ (none references_record (λ rs. refl) (refs_at v body))
+    (choice sheet_from None (typ == 0x0018) _ _ (none name_record (λ n. refl) (lbl_at p v body)) refl)))))))
   where
     none : {X : Type 0} (g : X → GlobalsRecord) → ((x : X) → sheet_from (Ok (g x)) ≡ None)
         → (r : Result X XlsError) → sheet_from (gives g r) ≡ None
@@ -127,14 +127,14 @@ module _ {X : Type 0} (f : GlobalsLine → Option X) (fails : (e : XlsError) →
   same_said : (forced : Option ℕ) (p q : XlsEncoding) (v w : Biff) (e : ListEntry)
       → f (entry_record_at forced p v e) ≡ f (entry_record_at forced q w e)
   same_said forced p q v w (plain_entry typ body) =
-      same_choice f (typ == 2057) _ _ _ _ refl
-      (same_choice f (typ == 47) _ _ _ _ refl
-      (same_choice f (typ == 66) _ _ _ _ refl
-      (same_choice f (typ == 34) _ _ _ _ refl
-      (same_choice f (typ == 1054) _ _ _ _ (no_format (format_at p v body) ∙ sym (no_format (format_at q w body)))
-      (same_choice f (typ == 224) _ _ _ _ refl
-      (same_choice f (typ == 23) _ _ _ _ (not_yielded f references_record references fails (refs_at v body) ∙ sym (not_yielded f references_record references fails (refs_at w body)))
-      (same_choice f (typ == 24) _ _ _ _ (not_yielded f name_record name fails (lbl_at p v body) ∙ sym (not_yielded f name_record name fails (lbl_at q w body))) refl)))))))
+      same_choice f (typ == 0x0809) _ _ _ _ refl
+      (same_choice f (typ == 0x002F) _ _ _ _ refl
+      (same_choice f (typ == 0x0042) _ _ _ _ refl
+      (same_choice f (typ == 0x0022) _ _ _ _ refl
+      (same_choice f (typ == 0x041E) _ _ _ _ (no_format (format_at p v body) ∙ sym (no_format (format_at q w body)))
+      (same_choice f (typ == 0x00E0) _ _ _ _ refl
+      (same_choice f (typ == 0x0017) _ _ _ _ (not_yielded f references_record references fails (refs_at v body) ∙ sym (not_yielded f references_record references fails (refs_at w body)))
+      (same_choice f (typ == 0x0018) _ _ _ _ (not_yielded f name_record name fails (lbl_at p v body) ∙ sym (not_yielded f name_record name fails (lbl_at q w body))) refl)))))))
   same_said forced p q v w (table_entry strings) = refl
   same_said forced p q v w (sheet_entry state kind text kept) =
       not_yielded f sheet_record sheet fails (sheet_by p v state kind text)

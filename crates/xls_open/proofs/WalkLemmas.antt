@@ -18,7 +18,7 @@ globals_from bytes groups cut fits f = (same_globals bytes groups cut fits).1 f
 -- ---- steps of the walk
 
 pub begins_from : (rest : List ℕ) (g : Group) (after : List ℕ) (more : List Group) (cut : Option Part)
-    → Begins rest g after → (g.typ == 10) ≡ false → From globals_of after more cut
+    → Begins rest g after → (g.typ == 0x000A) ≡ false → From globals_of after more cut
     → From globals_of rest (g ∷ more) cut
 begins_from rest g after more cut b e f = record {
   all = g ∷ f.all;
@@ -27,11 +27,11 @@ begins_from rest g after more cut b e f = record {
   is = rw e (ap (with_group g) f.is);
 }
 
-closes : (g : Group) (gs : List Group) (cut : Option Part) → g.typ ≡ 10
+closes : (g : Group) (gs : List Group) (cut : Option Part) → g.typ ≡ 0x000A
     → globals_of (g ∷ gs) cut ≡ ([], None)
 closes g gs cut e = rw e refl
 
-pub eof_from : (rest : List ℕ) (g : Group) (after : List ℕ) → Begins rest g after → g.typ ≡ 10
+pub eof_from : (rest : List ℕ) (g : Group) (after : List ℕ) → Begins rest g after → g.typ ≡ 0x000A
     → IsBytes rest → From globals_of rest [] None
 eof_from rest g after b e fits =
     let w = has_groups after (run_bytes rest (g ∷ []) after (after, b, refl) fits) in

@@ -9,12 +9,12 @@ pub escape_byte-plain : (b : ℕ) → is_plain b ≡ true → escape_byte b ≡ 
 unfolding escape_byte
 escape_byte-plain b e = grind (arith, nat_tests)
 
-pub escape_byte-letter : (b : ℕ) → 0 < escape_letter b → escape_byte b ≡ 92 ∷ escape_letter b ∷ []
+pub escape_byte-letter : (b : ℕ) → 0 < escape_letter b → escape_byte b ≡ 0x5C ∷ escape_letter b ∷ []
 unfolding escape_byte
 escape_byte-letter b l = grind (arith, nat_tests)
 
 pub escape_byte-control : (b : ℕ) → escape_letter b ≡ 0 → is_plain b ≡ false
-    → escape_byte b ≡ 92 ∷ 117 ∷ 48 ∷ 48 ∷ digit_char (b / 16) ∷ digit_char (b % 16) ∷ []
+    → escape_byte b ≡ 0x5C ∷ 117 ∷ 48 ∷ 48 ∷ digit_char (b / 16) ∷ digit_char (b % 16) ∷ []
 unfolding escape_byte
 escape_byte-control b e p = grind (arith, nat_tests)
 

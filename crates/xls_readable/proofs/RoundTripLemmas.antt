@@ -54,18 +54,18 @@ module _ (d : ℕ) (a : Apart d) where
   -- a byte that calls for no quotes is no mark of the format
   record Plain (b : ℕ) : Type 0 where
     delimiter : (b == d) ≡ false
-    quote : (b == 34) ≡ false
-    return : (b == 13) ≡ false
-    newline : (b == 10) ≡ false
+    quote : (b == 0x22) ≡ false
+    return : (b == 0x0D) ≡ false
+    newline : (b == 0x0A) ≡ false
 
   plain-byte : (b : ℕ) → is_marked d b ≡ false → Plain b
   plain-byte b e =
       let special : is_special b ≡ false = or-right (b == d) _ e in
       record {
         delimiter = or-left (b == d) _ e;
-        quote = or-left (b == 34) _ special;
-        return = or-left (b == 13) _ (or-right (b == 34) _ special);
-        newline = or-right (b == 13) _ (or-right (b == 34) _ special);
+        quote = or-left (b == 0x22) _ special;
+        return = or-left (b == 0x0D) _ (or-right (b == 0x22) _ special);
+        newline = or-right (b == 0x0D) _ (or-right (b == 0x22) _ special);
       }
 
   -- the bytes of a field with no mark in them
@@ -79,12 +79,12 @@ module _ (d : ℕ) (a : Apart d) where
       ∙ ap (λ (f : List ℕ). next_record (config d) st.InField fields f tail) (append_assoc field (b ∷ []) rest))
 
   -- a byte that is no quote, between quotes
-  quoted-plain : (fields : List (List ℕ)) (field : List ℕ) (b : ℕ) (tail : List ℕ) → (b == 34) ≡ false
+  quoted-plain : (fields : List (List ℕ)) (field : List ℕ) (b : ℕ) (tail : List ℕ) → (b == 0x22) ≡ false
       → next_record (config d) st.InQuoted fields field (b ∷ tail) ≡ next_record (config d) st.InQuoted fields (field ++ (b ∷ [])) tail
   unfolding next_record
   quoted-plain fields field b tail n = rw n refl
 
-  doubled-plain : (b : ℕ) (rest : List ℕ) → (b == 34) ≡ false → doubled (b ∷ rest) ≡ b ∷ doubled rest
+  doubled-plain : (b : ℕ) (rest : List ℕ) → (b == 0x22) ≡ false → doubled (b ∷ rest) ≡ b ∷ doubled rest
   doubled-plain b rest n = rw n refl
 
   -- the bytes of a field between quotes, and the quote that ends them
@@ -93,7 +93,7 @@ module _ (d : ℕ) (a : Apart d) where
       ≡ next_record (config d) st.AfterQuote fields (field ++ x) tail
   unfolding next_record
   quoted-run fields field [] tail = rw (append-nil field) refl
-  quoted-run fields field (b ∷ rest) tail = elim (cases_Bool (b == 34)) [
+  quoted-run fields field (b ∷ rest) tail = elim (cases_Bool (b == 0x22)) [
     | inl is ↦
         subst (λ (z : ℕ). next_record (config d) st.InQuoted fields field (doubled (z ∷ rest) ++ (34 ∷ tail))
         ≡ next_record (config d) st.AfterQuote fields (field ++ (z ∷ rest)) tail) (sym (eqb-true b 34 is))
@@ -106,24 +106,24 @@ module _ (d : ℕ) (a : Apart d) where
   ]
 
   -- a byte that is no quote does the same after a quote, at the start of a field and in one
-  after-quote-same : (fields : List (List ℕ)) (field : List ℕ) (c : ℕ) (tail : List ℕ) → (c == 34) ≡ false
+  after-quote-same : (fields : List (List ℕ)) (field : List ℕ) (c : ℕ) (tail : List ℕ) → (c == 0x22) ≡ false
       → next_record (config d) st.AfterQuote fields field (c ∷ tail) ≡ next_record (config d) st.InField fields field (c ∷ tail)
   unfolding next_record
   after-quote-same fields field c tail n = rw n refl
 
-  start-same : (fields : List (List ℕ)) (field : List ℕ) (c : ℕ) (tail : List ℕ) → (c == 34) ≡ false
+  start-same : (fields : List (List ℕ)) (field : List ℕ) (c : ℕ) (tail : List ℕ) → (c == 0x22) ≡ false
       → next_record (config d) st.StartField fields field (c ∷ tail) ≡ next_record (config d) st.InField fields field (c ∷ tail)
   unfolding next_record
   start-same fields field c tail n = rw n refl
 
   -- a byte that ends no record starts one as it starts a field
-  record-same : (fields : List (List ℕ)) (field : List ℕ) (c : ℕ) (tail : List ℕ) → (c == 13) ≡ false → (c == 10) ≡ false
+  record-same : (fields : List (List ℕ)) (field : List ℕ) (c : ℕ) (tail : List ℕ) → (c == 0x0D) ≡ false → (c == 0x0A) ≡ false
       → next_record (config d) st.StartRecord fields field (c ∷ tail) ≡ next_record (config d) st.StartField fields field (c ∷ tail)
   unfolding next_record
   record-same fields field c tail r n = rw (r, n) refl
 
   -- a field with no mark in it, from its start
-  plain-start : (fields : List (List ℕ)) (x : List ℕ) (c : ℕ) (tail : List ℕ) → (c == 34) ≡ false → list_any (is_marked d) x ≡ false
+  plain-start : (fields : List (List ℕ)) (x : List ℕ) (c : ℕ) (tail : List ℕ) → (c == 0x22) ≡ false → list_any (is_marked d) x ≡ false
       → next_record (config d) st.StartField fields [] (x ++ (c ∷ tail)) ≡ next_record (config d) st.InField fields x (c ∷ tail)
   plain-start fields [] c tail n p = start-same fields [] c tail n
   plain-start fields (b ∷ rest) c tail n p =
@@ -131,7 +131,7 @@ module _ (d : ℕ) (a : Apart d) where
       start-same fields [] b (rest ++ (c ∷ tail)) q.quote ∙ plain-run fields [] (b ∷ rest) (c ∷ tail) p
 
   -- a field with what comes after it, which starts with no quote
-  field-run : (fields : List (List ℕ)) (x : List ℕ) (c : ℕ) (tail : List ℕ) → (c == 34) ≡ false
+  field-run : (fields : List (List ℕ)) (x : List ℕ) (c : ℕ) (tail : List ℕ) → (c == 0x22) ≡ false
       → next_record (config d) st.StartField fields [] (csv_field d x ++ (c ∷ tail))
       ≡ next_record (config d) st.InField fields x (c ∷ tail)
   unfolding next_record
@@ -198,7 +198,7 @@ module _ (d : ℕ) (a : Apart d) where
   first-quoted x c tail needs = rw needs (record-same [] [] 34 _ refl refl)
 
   first-plain : (x : List ℕ) (c : ℕ) (tail : List ℕ) → list_any (is_marked d) x ≡ false
-      → ((length x == 0) ≡ false) ⊎ (((c == 13) ≡ false) × ((c == 10) ≡ false))
+      → ((length x == 0) ≡ false) ⊎ (((c == 0x0D) ≡ false) × ((c == 0x0A) ≡ false))
       → next_record (config d) st.StartRecord [] [] (x ++ (c ∷ tail)) ≡ next_record (config d) st.StartField [] [] (x ++ (c ∷ tail))
   first-plain [] c tail p (inl e) = cc e
   first-plain [] c tail p (inr n) = record-same [] [] c tail n.0 n.1

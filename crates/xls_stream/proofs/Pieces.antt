@@ -17,7 +17,7 @@ pub record Taken (bytes : List ℕ) : Type 0 where
   pub others : List (List ℕ)
   pub body_fits : IsBody body
   pub others_fit : AllByRecursion IsBody others
-  pub whole : bytes ≡ record_bytes 60 body ++ continues others
+  pub whole : bytes ≡ record_bytes 0x003C body ++ continues others
 
 taken_by : (bytes : List ℕ) (cs : List (List ℕ)) → AllByRecursion IsBody cs → bytes ≡ continues cs
     → bytes ≢ [] → Taken bytes

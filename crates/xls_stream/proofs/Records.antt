@@ -56,22 +56,22 @@ is_record [] prefix rest typ size fits typ-is size-is four room prefix-is rest-i
 -- ---- Continue records
 
 pub continues-push : (cs : List (List ℕ)) (c rest : List ℕ) → continues (cs ++ c ∷ [])
-    ++ rest ≡ continues cs ++ (record_bytes 60 c ++ rest)
+    ++ rest ≡ continues cs ++ (record_bytes 0x003C c ++ rest)
 continues-push cs c rest =
-    ap (λ (x : List ℕ). x ++ rest) (sym (flat_map_more (record_bytes 60) [] cs c))
-    ∙ append_assoc (continues cs) (record_bytes 60 c) rest
+    ap (λ (x : List ℕ). x ++ rest) (sym (flat_map_more (record_bytes 0x003C) [] cs c))
+    ∙ append_assoc (continues cs) (record_bytes 0x003C c) rest
 
 -- what stands after a Continue at the start, and its body
-pub after_continue : (c rest : List ℕ) → IsBody c → drop (4 + length c) (record_bytes 60 c ++ rest) ≡ rest
+pub after_continue : (c rest : List ℕ) → IsBody c → drop (4 + length c) (record_bytes 0x003C c ++ rest) ≡ rest
 after_continue c rest fits =
-    sym (drop-drop (length c) 4 (record_bytes 60 c ++ rest)) ∙ drop_at c rest (length c) refl
+    sym (drop-drop (length c) 4 (record_bytes 0x003C c ++ rest)) ∙ drop_at c rest (length c) refl
 
 pub size_continue : (c rest : List ℕ) → IsBody c
-    → le (take 2 (drop 2 (record_bytes 60 c ++ rest))) ≡ length c
+    → le (take 2 (drop 2 (record_bytes 0x003C c ++ rest))) ≡ length c
 size_continue c rest fits = le_le16 (length c) fits
 
 within_step : (n : ℕ) (c rest : List ℕ) → IsBody c
-    → bodies_within (suc n) (record_bytes 60 c ++ rest) ≡ c ∷ bodies_within n rest
+    → bodies_within (suc n) (record_bytes 0x003C c ++ rest) ≡ c ∷ bodies_within n rest
 unfolding bodies_within
 within_step n c rest fits =
     let size : le (length c % 256 ∷ length c / 256 ∷ []) ≡ length c = le_le16 (length c) fits in
@@ -101,8 +101,8 @@ bodies-are bytes h = rw h.whole (bodies-continues h.bodies h.fit)
 
 -- ---- gathering
 
-HasRoom-push : (cs : List (List ℕ)) (c rest : List ℕ) → 4 < length (record_bytes 60 c ++ rest)
-    → HasRoom cs (record_bytes 60 c ++ rest) → HasRoom (cs ++ c ∷ []) rest
+HasRoom-push : (cs : List (List ℕ)) (c rest : List ℕ) → 4 < length (record_bytes 0x003C c ++ rest)
+    → HasRoom cs (record_bytes 0x003C c ++ rest) → HasRoom (cs ++ c ∷ []) rest
 HasRoom-push [] c rest lt room =
     (subst (λ (x : List ℕ). 4 < length x) (sym (continues-push [] c rest)) lt, tt)
 HasRoom-push (d ∷ cs) c rest lt room = (
@@ -120,7 +120,7 @@ gathers_nothing start = record { bodies = []; fit = tt; room = tt; whole = refl 
 
 -- a record that starts as a Continue is one
 pub typ_continue : (bytes : List ℕ) (typ : ℕ) (body rest : List ℕ) → StartsContinue bytes
-    → IsRecord bytes typ body rest → typ ≡ 60
+    → IsRecord bytes typ body rest → typ ≡ 0x003C
 typ_continue bytes typ body rest s r =
     let h : typ % 256 ∷ typ / 256 ∷ [] ≡ 60 ∷ 0 ∷ [] =
     subst (λ (x : List ℕ). take 2 x ≡ 60 ∷ 0 ∷ []) r.whole s.typ in
@@ -132,8 +132,8 @@ typ_continue bytes typ body rest s r =
 pub gathers_more : (start after : List ℕ) (typ : ℕ) (body rest : List ℕ) → Gathers start after
     → StartsContinue after → IsRecord after typ body rest → Gathers start rest
 gathers_more start after typ body rest g s r =
-    let t : typ ≡ 60 = typ_continue after typ body rest s r in
-    let whole : after ≡ record_bytes 60 body ++ rest = r.whole ∙ ap (λ (t : ℕ). record_bytes t body ++ rest) t in
+    let t : typ ≡ 0x003C = typ_continue after typ body rest s r in
+    let whole : after ≡ record_bytes 0x003C body ++ rest = r.whole ∙ ap (λ (t : ℕ). record_bytes t body ++ rest) t in
     record {
       bodies = g.bodies ++ body ∷ [];
       fit = fit-push g.bodies body g.fit r.body_fits;

@@ -21,11 +21,11 @@ pub known_sheet : sheet_types ≡ 0x0203 ∷ 0x0200 ∷ 0x0204 ∷ 0x00D6 ∷ 0x
 known_sheet = refl
 
 -- an EOF record is its type and no byte
-pub eof_bytes : record_bytes 10 [] ≡ 10 ∷ 0 ∷ 0 ∷ 0 ∷ []
+pub eof_bytes : record_bytes 0x000A [] ≡ 10 ∷ 0 ∷ 0 ∷ 0 ∷ []
 eof_bytes = refl
 
 -- type 0203, 14 bytes: the low byte stands first
-pub number_header : record_bytes 515 (1 ∷ 2 ∷ []) ≡ 3 ∷ 2 ∷ 2 ∷ 0 ∷ 1 ∷ 2 ∷ []
+pub number_header : record_bytes 0x0203 (1 ∷ 2 ∷ []) ≡ 3 ∷ 2 ∷ 2 ∷ 0 ∷ 1 ∷ 2 ∷ []
 number_header = refl
 
 abbrev group : ℕ → Group

@@ -35,7 +35,7 @@ same_record t t' x x' y y' ft ft' fx fx' e =
     record { typ = omega arith; body = both.0; rest = both.1 }
 
 -- a Continue at the start, with more than four bytes left
-starts : (c rest after : List ℕ) → after ≡ record_bytes 60 c ++ rest → 4 < length after
+starts : (c rest after : List ℕ) → after ≡ record_bytes 0x003C c ++ rest → 4 < length after
     → StartsContinue after
 starts c rest after e lt = record { room = lt; typ = rw e refl }
 
@@ -46,14 +46,14 @@ same_tails : (cs ds : List (List ℕ)) (r s : List ℕ) → AllByRecursion IsBod
 same_tails [] [] r s fc fd hc hd nr ns e = (refl, e)
 same_tails [] (d ∷ ds) r s fc fd hc hd nr ns e =
     absurd (nr (starts d (continues ds ++ s) r (e
-    ∙ append_assoc (record_bytes 60 d) (continues ds) s) (rw e hd.0)))
+    ∙ append_assoc (record_bytes 0x003C d) (continues ds) s) (rw e hd.0)))
 same_tails (c ∷ cs) [] r s fc fd hc hd nr ns e =
     absurd (ns (starts c (continues cs ++ r) s (sym e
-    ∙ append_assoc (record_bytes 60 c) (continues cs) r) (rw (← e) hc.0)))
+    ∙ append_assoc (record_bytes 0x003C c) (continues cs) r) (rw (← e) hc.0)))
 same_tails (c ∷ cs) (d ∷ ds) r s fc fd hc hd nr ns e =
-    let whole : record_bytes 60 c ++ (continues cs ++ r) ≡ record_bytes 60 d ++ (continues ds ++ s) =
-    sym (append_assoc (record_bytes 60 c) (continues cs) r) ∙ e
-    ∙ append_assoc (record_bytes 60 d) (continues ds) s in
+    let whole : record_bytes 0x003C c ++ (continues cs ++ r) ≡ record_bytes 0x003C d ++ (continues ds ++ s) =
+    sym (append_assoc (record_bytes 0x003C c) (continues cs) r) ∙ e
+    ∙ append_assoc (record_bytes 0x003C d) (continues ds) s in
     let one = same_record 60 60 c d (continues cs ++ r) (continues ds
     ++ s) (lit< tt) (lit< tt) fc.0 fd.0 whole in
     let others = same_tails cs ds r s fc.1 fd.1 hc.1 hd.1 nr ns one.rest in
@@ -117,19 +117,19 @@ tail_cut : (cs ds : List (List ℕ)) (r s : List ℕ) → AllByRecursion IsBody 
     → ¬ StartsContinue s → continues cs ++ r ≡ continues ds ++ s → ⊥
 tail_cut [] [] r s fc fd hc hd sr pr ns e = ns (subst StartsContinue e sr)
 tail_cut [] (d ∷ ds) r s fc fd hc hd sr pr ns e =
-    let whole : r ≡ record_bytes 60 d ++ (continues ds ++ s) =
-    e ∙ append_assoc (record_bytes 60 d) (continues ds) s in
+    let whole : r ≡ record_bytes 0x003C d ++ (continues ds ++ s) =
+    e ∙ append_assoc (record_bytes 0x003C d) (continues ds) s in
     let short = pr.short in
     let size : le (take 2 (drop 2 r)) ≡ length d =
     ap (λ (x : List ℕ). le (take 2 (drop 2 x))) whole ∙ size_is 60 d (continues ds ++ s) fd.0 in
     omega (arith, ap length whole, length-append d (continues ds ++ s))
 tail_cut (c ∷ cs) [] r s fc fd hc hd sr pr ns e =
     ns (starts c (continues cs ++ r) s (sym e
-    ∙ append_assoc (record_bytes 60 c) (continues cs) r) (rw (← e) hc.0))
+    ∙ append_assoc (record_bytes 0x003C c) (continues cs) r) (rw (← e) hc.0))
 tail_cut (c ∷ cs) (d ∷ ds) r s fc fd hc hd sr pr ns e =
-    let whole : record_bytes 60 c ++ (continues cs ++ r) ≡ record_bytes 60 d ++ (continues ds ++ s) =
-    sym (append_assoc (record_bytes 60 c) (continues cs) r) ∙ e
-    ∙ append_assoc (record_bytes 60 d) (continues ds) s in
+    let whole : record_bytes 0x003C c ++ (continues cs ++ r) ≡ record_bytes 0x003C d ++ (continues ds ++ s) =
+    sym (append_assoc (record_bytes 0x003C c) (continues cs) r) ∙ e
+    ∙ append_assoc (record_bytes 0x003C d) (continues ds) s in
     let one = same_record 60 60 c d (continues cs ++ r) (continues ds
     ++ s) (lit< tt) (lit< tt) fc.0 fd.0 whole in
     tail_cut cs ds r s fc.1 fd.1 hc.1 hd.1 sr pr ns one.rest

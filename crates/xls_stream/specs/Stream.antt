@@ -21,7 +21,7 @@ pub record Group : Type 0 where
 
 -- Continue records with these bodies
 abbrev pub continues : List (List ℕ) → List ℕ
-continues bodies = flat_map (record_bytes 60) bodies
+continues bodies = flat_map (record_bytes 0x003C) bodies
 
 abbrev pub group_bytes : Group → List ℕ
 group_bytes g = record_bytes g.typ g.body ++ continues g.tail

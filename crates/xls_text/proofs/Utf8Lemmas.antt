@@ -6,7 +6,7 @@ use Rattle.std.proofs.lemmas.Str.{encode_same, len_utf8_bounds, length-encode}
 use Rattle.std.specs.Char.{encode_utf8, IsScalar}
 use Rattle.bstr.specs.Utf8.{Decoded, decoded, bad, good, second, continues, lossy_chars, or_replacement}
 use Rattle.bstr.proofs.lemmas.EncodeLemmas.{decoded-encode}
-use Rattle.bstr.proofs.lemmas.PieceLemmas.{by-outline, piece-bounds, lossy_chars-step, lossy_chars-nil, value-2, value-3, value-5, value-8, value-9, value-11, value-12}
+use Rattle.bstr.proofs.lemmas.PieceLemmas.{by-shape, piece-bounds, lossy_chars-step, lossy_chars-nil, value-2, value-3, value-5, value-8, value-9, value-11, value-12}
 use Rattle.bstr.proofs.lemmas.SoundLemmas.{SpellsChar-decoded}
 use Rattle.xls_text.specs.Utf8Reading.{BeginsSome, IsLongestBegun, TakesChar, ReadsUtf8}
 
@@ -64,7 +64,7 @@ piece_begun bs none long =
     subst BeginsSome (sym (ap (λ k. take k bs) is ∙ two_cells bs h)) begun in
     let at_three = λ (is : (decoded bs).size ≡ 3) (h : 3 ≤ length bs) (begun : BeginsSome (b ∷ c ∷ d ∷ [])).
     subst BeginsSome (sym (ap (λ k. take k bs) is ∙ three_cells bs h)) begun in
-    by-outline (length bs) b c d e
+    by-shape (length bs) b c d e
     (λ h. let k = size _ h.1 in absurd (omega arith))
     (λ h. let k = size _ h.2 in absurd (omega arith))
     (λ h. let k = size _ h.3 in absurd (omega arith))
@@ -94,7 +94,7 @@ piece_longest bs none m above within begun =
     let char = λ (p : Decoded) (is : decoded bs ≡ p). sym (ap (λ (q : Decoded). q.char) is) ∙ none in
     let size = λ (p : Decoded) (is : decoded bs ≡ p). ap (λ (q : Decoded). q.size) is in
     let not_found = λ (n : ℕ) (is : decoded w ≡ bad n). let k = sym (ap (λ (q : Decoded). q.char) is) ∙ found in no_char x k in
-    by-outline (length bs) b c d e
+    by-shape (length bs) b c d e
     (λ h. absurd (omega arith))
     (λ h. let k = char _ h.2 in cc)
     (λ h. let k = size _ h.3 in let s0 = same 0 (omega arith) in not_found 1 (value-2 (length w) wb wc wd we (omega arith, omega arith, omega arith)))

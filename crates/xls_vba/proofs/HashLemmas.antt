@@ -14,7 +14,7 @@ none_at [] alone = refl
 none_at (c ∷ cs) alone =
     let others = none_at cs (λ i h. alone (suc i) (omega arith)) in
     let other : c ≢ 35 = alone 0 (omega arith) in
-    let test : (c == 35) ≡ false = grind (arith, common_steps) in
+    let test : (c == 0x23) ≡ false = grind (arith, common_steps) in
     rw (others, test)
 
 -- a # with none after it
