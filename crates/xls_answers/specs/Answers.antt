@@ -3,6 +3,7 @@ use Rattle.std.specs.Prelude.{◌≡◌, ◌⊎◌, ℕ, ◌<◌, List, [], leng
 use Rattle.xls_stream.specs.Listing.{ListEntry}
 use Rattle.xls_record.specs.declared.error.XlsError.TheVariants.{TooLarge}
 use Rattle.xls_open.specs.declared.options.XlsOptions.{XlsOptions}
+use Rattle.xls_open.specs.Opening.{default_options}
 use Rattle.xls_view.specs.Viewing.{IsViewFault}
 use Rattle.xls_lay.specs.Reading.{ReadsList, IsFirst}
 use Rattle.xls_lay.specs.Writing.{WritesList}
@@ -33,7 +34,7 @@ OfCheck options bytes before after (Err other) = ⊥
 
 -- how many bytes a stream may have that is written once more
 abbrev pub remade_limit : ℕ
-remade_limit = 268_435_456
+remade_limit = default_options.max_bytes
 
 -- the canonical bytes of the list that the bytes carry, or why not
 abbrev pub OfRemade : List ℕ → SinkState → SinkState → Result (Unit {0}) Failure → Type 0

@@ -8,9 +8,7 @@ use std::alloc::Global;
 use xls_biff::XlsError;
 use xls_lay::{LayError, TOO_LONG, canonical_length, logical_of, write_stream};
 use xls_lines::{Buffer, Sink, Stop};
-
-/// How many bytes a stream may have that is written once more.
-const LIMIT: usize = 268_435_456;
+use xls_open::MAX_BYTES;
 
 /// Writes bytes.
 fn write_bytes<K: Sink>(alloc: Global, sink: &mut K, bytes: &[u8]) -> Result<(), Stop>
@@ -38,10 +36,8 @@ pub(crate) fn write_remade<K: Sink>(
 ) -> Result<(), Failure>
     ensures { OfRemade bytes.now (K.state sink.old) (K.state sink.new) result }
 {
-    if bytes.len() > LIMIT {
-        return Err(Failure::Stream(XlsError::TooLarge {
-            limit: LIMIT as u64,
-        }));
+    if bytes.len() as u64 > MAX_BYTES {
+        return Err(Failure::Stream(XlsError::TooLarge { limit: MAX_BYTES }));
     }
     let list = logical_of(alloc, bytes)?;
     let found = canonical_length(&list);

@@ -33,9 +33,6 @@ pub(crate) const ALL_SHEETS: u32 = 0;
 /// One sheet with its content.
 pub(crate) const ONE_SHEET: u32 = 1;
 
-/// How many bytes a stream may have by default.
-pub(crate) const MAX_BYTES: u64 = 268_435_456;
-
 /// A limit that was given, or, for 0, the one by default.
 pub(crate) fn limit_or(input: u64, default: u64) -> u64
     ensures { result ≡ limit_or input default }

@@ -84,7 +84,7 @@ IsSoundText left text = IfSome left (IsSound default_rules) × (text ≡ sound_l
 
 -- how many bytes a property stream may have
 abbrev pub property_limit : ℕ
-property_limit = 268_435_456
+property_limit = default_options.max_bytes
 
 -- the properties that the bytes hold
 abbrev pub IsPropertyOutput : List ℕ → List ℕ → Type 0

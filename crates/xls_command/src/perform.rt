@@ -15,18 +15,13 @@ use std::alloc::Global;
 use xls_biff::XlsError;
 use xls_book::{Source, StreamBytes, XlsOptions, check_stream, read_all};
 use xls_lines::{Sink, Stop};
+use xls_open::{MAX_BYTES, MAX_CELLS};
 use xls_props::workbook_properties_of;
 use xls_report::{
     Ending, write_csv, write_fault, write_properties, write_refs, write_refusal, write_remake,
     write_report, write_sheets, write_sound,
 };
 use xls_view::View;
-
-/// How many bytes are read, at most.
-const MAX_BYTES: u64 = 268_435_456;
-
-/// How many cells a sheet may have.
-const MAX_CELLS: u64 = 33_554_432;
 
 /// The view of bytes under the options by default.
 fn view_of<'a>(alloc: Global, bytes: &'a [u8]) -> Result<View<'a>, XlsError>

@@ -1,14 +1,14 @@
 -- For the proofs: what marks add to the bytes of a string table.
 use Rattle.std.specs.Prelude.{◌≡◌, ℕ, ◌+◌, ◌≤◌, List, Bool, true, false}
 use Rattle.xls_stream.specs.StringTable.{Mark}
-use Rattle.xls_layouts.specs.Canonical.{passes, fill_from, used_after}
+use Rattle.xls_layouts.specs.Canonical.{passes, record_limit, fill_from, used_after}
 use Rattle.xls_lay.specs.Writing.{saturated}
 use Rattle.xls_lay.specs.Cutting.{marks_size}
 use Rattle.xls_lay.specs.declared.fill.Fill.{Fill}
 
 -- no more is used of a record body or piece than there may be
 abbrev pub IsFilled : Fill → Type 0
-IsFilled fill = fill.used ≤ 8224
+IsFilled fill = fill.used ≤ record_limit
 
 -- after these marks
 pub record Fills (old : Fill) (ms : List Mark) (new : Fill) : Type 0 where

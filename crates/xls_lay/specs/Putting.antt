@@ -5,7 +5,7 @@ use Rattle.xls_lines.specs.Gathering.{GathersText, Stops}
 use Rattle.xls_lines.specs.SinkState.{SinkState}
 use Rattle.xls_lines.specs.declared.stop.Stop.{Stop}
 use Rattle.xls_layouts.specs.LaidStrings.{marks_of_steps}
-use Rattle.xls_layouts.specs.Canonical.{passes, unit_size, cut_if, fill_from}
+use Rattle.xls_layouts.specs.Canonical.{passes, record_limit, unit_size, cut_if, fill_from}
 use Rattle.xls_lay.specs.Cutting.{rest_bytes}
 use Rattle.xls_lay.specs.declared.table.TableWriter.{TableWriter}
 
@@ -42,4 +42,4 @@ cut_marks wide used = marks_of_steps wide (cut_if (passes used (unit_size wide))
 
 -- the current body isn't larger than 8,224 bytes
 abbrev pub WriterHasRoom : TableWriter → Type 0
-WriterHasRoom p = length p.body.items ≤ 8224
+WriterHasRoom p = length p.body.items ≤ record_limit

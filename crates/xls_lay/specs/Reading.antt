@@ -4,11 +4,12 @@ use Rattle.xls_stream.specs.Listing.{ListEntry, Carries}
 use Rattle.xls_record.specs.declared.error.XlsError.{XlsError}
 use Rattle.xls_record.specs.declared.error.XlsError.TheVariants.{Memory}
 use Rattle.xls_open.specs.Checking.{FirstChecked}
+use Rattle.xls_open.specs.Opening.{default_options}
 
 -- e is the first fault of the bytes, under no forced page and the bound of cells by default; their
 -- number has no limit
 abbrev pub IsFirst : List ℕ → XlsError → Type 0
-IsFirst bytes e = FirstChecked None 33_554_432 bytes e
+IsFirst bytes e = FirstChecked None default_options.max_cells bytes e
 
 -- no place has a fault
 abbrev pub IsFaultless : List ℕ → Type 0

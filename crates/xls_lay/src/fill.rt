@@ -2,7 +2,7 @@
 
 ghost use Rattle.std.specs.Prelude.{◌≡◌, ◌+◌, ◌≤◌};
 ghost use Rattle.xls_layouts.specs.LaidStrings.{marks_of_steps, marks_of_string};
-ghost use Rattle.xls_layouts.specs.Canonical.{unit_size, canonical_steps, canonical_string, is_narrow};
+ghost use Rattle.xls_layouts.specs.Canonical.{record_limit, unit_size, canonical_steps, canonical_string, is_narrow};
 ghost use Rattle.xls_lay.specs.Filling.{IsFilled, Fills, TakesMarks};
 
 /// How many bytes a record body or piece has at most.
@@ -46,7 +46,7 @@ impl Fill {
     /// one past its size.
     fn add(&mut self, prefix: usize, more: usize)
         requires room { IsFilled self.old }
-        requires short { prefix + more ≤ 8224 }
+        requires short { prefix + more ≤ record_limit }
         ensures { TakesMarks self.old prefix more self.new }
     {
         if self.used + more > FULL {

@@ -15,13 +15,10 @@ use crate::logical::Logical;
 use std::alloc::Global;
 use xls_biff::{Record, RecordIter, SheetRecords, SstReader, XlsError};
 use xls_bytes::read_usize;
-use xls_open::check_stream;
+use xls_open::{MAX_CELLS, check_stream};
 use xls_stream::types::{
     BOF, BOUND_SHEET_8, CODE_PAGE, DATE_MODE, EOF, EXTERN_SHEET, FILE_PASS, FORMAT, LBL, SST, XF,
 };
-
-/// How many cells the records of one sheet may give.
-const MAX_CELLS: u64 = 33_554_432;
 
 /// Whether records of this type are plain records of the globals.
 fn is_plain_type(typ: u16) -> bool

@@ -4,7 +4,7 @@ ghost use Rattle.std.specs.Prelude.{◌≡◌, ◌+◌, ◌≤◌, ◌<◌, ◌^
 ghost use Rattle.std.specs.List.{AllByRecursion};
 ghost use Rattle.xls_stream.specs.declared.types.TheConstants as types;
 ghost use Rattle.xls_layouts.specs.LaidStrings.{head_bytes, le32, marks_of_break, marks_of_steps, marks_of_string, unit_bytes, FitsWidth};
-ghost use Rattle.xls_layouts.specs.Canonical.{passes, unit_size, canonical_steps, canonical_string};
+ghost use Rattle.xls_layouts.specs.Canonical.{passes, record_limit, unit_size, canonical_steps, canonical_string};
 ghost use Rattle.xls_lay.specs.Cutting.{rest_bytes};
 ghost use Rattle.xls_lay.specs.Putting.{PutsMarks, PutsOrStops, WriterHasRoom, cut_marks};
 
@@ -64,7 +64,7 @@ impl TableWriter {
     fn cut_before_head(&mut self) -> Result<(), AllocError>
         requires { WriterHasRoom self.old }
         ensures puts { OnOk result (PutsMarks self.old (marks_of_break (passes (length self.old.body.items) 3)) self.new) }
-        ensures room { OnOk result (length self.new.body.items + 3 ≤ 8224) }
+        ensures room { OnOk result (length self.new.body.items + 3 ≤ record_limit) }
     {
         if self.body.len() + 3 <= FULL {
             return Ok(());
@@ -76,7 +76,7 @@ impl TableWriter {
     fn cut_before_unit(&mut self, is_wide: bool) -> Result<(), AllocError>
         requires { WriterHasRoom self.old }
         ensures puts { OnOk result (PutsMarks self.old (cut_marks is_wide (length self.old.body.items)) self.new) }
-        ensures room { OnOk result (length self.new.body.items + unit_size is_wide ≤ 8224) }
+        ensures room { OnOk result (length self.new.body.items + unit_size is_wide ≤ record_limit) }
     {
         if self.body.len() + size_of_unit(is_wide) <= FULL {
             return Ok(());

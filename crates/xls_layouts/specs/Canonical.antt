@@ -11,9 +11,13 @@ use Rattle.xls_layouts.specs.Layout.{LaidPart, LaidItem, a_plain, a_sheet, a_tab
 
 -- ---- the cuts of a string table
 
--- so many bytes more would take a record body or piece, of which so many are used, past 8,224 bytes
+-- the data of a record has at most so many bytes ([MS-XLS] 2.1.4)
+abbrev pub record_limit : ℕ
+record_limit = 0x2020
+
+-- so many bytes more would take the data of a record, of which so many are used, past the limit
 abbrev pub passes : ℕ → ℕ → Bool
-passes used more = nat_lt 8224 (used + more)
+passes used more = nat_lt record_limit (used + more)
 
 -- the bytes that are used after the last mark
 abbrev pub fill_from : ℕ → List Mark → ℕ

@@ -22,5 +22,5 @@ pub use laws::{
 };
 pub use listed::{Lbl, Listed};
 pub use names::{Naming, naming_of};
-pub use options::XlsOptions;
+pub use options::{MAX_BYTES, MAX_CELLS, XlsOptions};
 pub use settings::Settings;

@@ -13,6 +13,12 @@ use xls_formula::FunctionTable;
 use xls_source::StreamBytes;
 use xls_text::XlsEncoding;
 
+/// How many bytes a stream may have by default.
+pub const MAX_BYTES: u64 = 268_435_456;
+
+/// How many cells the records of one sheet may give by default.
+pub const MAX_CELLS: u64 = 33_554_432;
+
 /// How a stream is opened, and which rows of a sheet its range has.
 #[derive(Drop)]
 pub struct XlsOptions {
@@ -34,16 +40,16 @@ pub struct XlsOptions {
 }
 
 impl XlsOptions {
-    /// No forced page, the first row that isn't empty, at most 268,435,456 bytes and at most
-    /// 33,554,432 cells in a sheet, the functions whose names are shipped, and no property streams.
+    /// No forced page, the first row that isn't empty, at most [`MAX_BYTES`] bytes and at most
+    /// [`MAX_CELLS`] cells in a sheet, the functions whose names are shipped, and no property streams.
     pub fn defaults(alloc: Global) -> Result<XlsOptions, AllocError>
         ensures { IfOk result (λ options. options ≡ default_options) }
     {
         Ok(XlsOptions {
             force_codepage: None,
             header_row: HeaderRow::FirstNonEmptyRow,
-            max_bytes: 268_435_456,
-            max_cells: 33_554_432,
+            max_bytes: MAX_BYTES,
+            max_cells: MAX_CELLS,
             functions: FunctionTable::shipped(alloc)?,
             summary: None,
             document_summary: None,
