@@ -8,4 +8,4 @@ returns-clause-light c =
     let whole = c.self.invariant in
     let same : c.args.self.now ≡ whole.bodies = sym c.self.view_is ∙ bodies-are c.self.inside.bytes.now whole in
     let size = ap length whole.whole in
-    rw same (omega (arith, weight-pieces whole.bodies, size, c.self.reported.0))
+    rw same (omega (arith, weight-pieces whole.bodies, size, c.self.told.0))
