@@ -19,7 +19,7 @@ kept_name name =
 -- it stands after a slash
 abbrev pub below : Option (List ℕ) → List ℕ
 below None = []
-below (Some name) = 47 ∷ name
+below (Some name) = 0x2F ∷ name
 
 -- what a file is called; `-` is standard input
 abbrev pub file_called : List ℕ → List ℕ
@@ -31,11 +31,11 @@ folder_path out file = out ++ flat_map (λ name. below (kept_name name)) (names_
 
 -- a name that leads neither out of a folder nor to the folder itself
 abbrev pub LeadsDown : List ℕ → Type 0
-LeadsDown name = (name ≢ []) × (name ≢ codes ".") × (name ≢ codes "..") × All (λ b. b ≢ 47) name
+LeadsDown name = (name ≢ []) × (name ≢ codes ".") × (name ≢ codes "..") × All (λ b. b ≢ 0x2F) name
 
 -- a path that such names lead to
 abbrev pub IsInside : List ℕ → List ℕ → Type 0
-IsInside out path = (names : List (List ℕ)) × All LeadsDown names × (path ≡ out ++ flat_map (λ name. 47 ∷ name) names)
+IsInside out path = (names : List (List ℕ)) × All LeadsDown names × (path ≡ out ++ flat_map (λ name. 0x2F ∷ name) names)
 
 -- ---- paths in a folder
 
@@ -45,7 +45,7 @@ file_path folder name ending = folder ++ (codes "/" ++ (name ++ (codes "." ++ en
 
 -- whether a path ends with a slash
 abbrev pub ends_with_slash : List ℕ → Bool
-ends_with_slash path = slice_index path (length path - 1) == 47
+ends_with_slash path = slice_index path (length path - 1) == 0x2F
 
 -- something in a folder
 abbrev pub joined : List ℕ → List ℕ → List ℕ
