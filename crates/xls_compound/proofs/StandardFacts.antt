@@ -4,10 +4,10 @@ use Rattle.std.specs.List.{range_with_len}
 use Rattle.xls_sectors.specs.declared.error.Table.TheVariants as tables
 use Rattle.xls_sectors.specs.declared.header.Header.{Header}
 use Rattle.xls_sectors.specs.Streams.{Space, sector_at}
-use Rattle.xls_directory.specs.Items.{DirectoryItem}
+use Rattle.xls_directory.specs.Items.{Item}
 use Rattle.xls_directory.specs.Directory.{Listing}
 use Rattle.xls_compound.specs.Compound.{Compound, CUTOFF, MINI_SECTOR_SIZE, mini_sectors, is_wide, space_of, size_of}
-use Rattle.xls_compound.specs.Entries.{StreamEntry, entries_from}
+use Rattle.xls_compound.specs.Entries.{Entry, entries_from}
 
 pub cutoff : CUTOFF ≡ 0x00001000
 cutoff = refl
@@ -37,7 +37,7 @@ pub wide : map (λ size. is_wide (header size)) (512 ∷ 4096 ∷ []) ≡ false 
 wide = refl
 
 -- a stream has its size, a storage none
-abbrev item : Bool → DirectoryItem
+abbrev item : Bool → Item
 item is_stream = record { name = []; is_stream = is_stream; parent = None; start = 0; size = 0x1234 }
 
 pub sizes : map (λ is_stream. size_of (item is_stream)) (true ∷ false ∷ []) ≡ 0x1234 ∷ 0 ∷ []
@@ -47,6 +47,6 @@ sizes = refl
 abbrev listing : Listing
 listing = record { mini_start = 0; mini_size = 0; items = item true ∷ item false ∷ [] }
 
-pub all_entries : map (λ (e : StreamEntry). e.place) (entries_from listing 0) ≡ 0 ∷ 1 ∷ []
+pub all_entries : map (λ (e : Entry). e.place) (entries_from listing 0) ≡ 0 ∷ 1 ∷ []
 unfolding entries_from
 all_entries = refl

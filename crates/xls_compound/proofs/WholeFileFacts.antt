@@ -7,9 +7,9 @@ use Rattle.xls_bytes.specs.Numbers.{u32s_of}
 use Rattle.xls_sectors.specs.Header.{header_of, header_fields}
 use Rattle.xls_sectors.specs.Streams.{gathered, WholeChain}
 use Rattle.xls_sectors.specs.Tables.{Opened, OpensSectors, fat_numbers, sectors_of}
-use Rattle.xls_directory.specs.Entries.{DirectoryEntry, entries_of, directory_entry_of}
+use Rattle.xls_directory.specs.Entries.{Entry, entries_of, directory_entry_of}
 use Rattle.xls_directory.specs.Tree.{empty, node}
-use Rattle.xls_directory.specs.Items.{DirectoryItem}
+use Rattle.xls_directory.specs.Items.{Item}
 use Rattle.xls_directory.specs.Directory.{Listing, IsDirectory}
 use Rattle.xls_compound.specs.Compound.{Compound, HoldsCompound, mini_sectors, ItemBytes}
 
@@ -68,13 +68,13 @@ pub directory_is : WholeChain (sectors_of opened) 2 (Ok directory)
 unfolding gathered
 directory_is = inl (2 ∷ [], (0xFFFFFFFE, record { path = (refl, (0xFFFFFFFE, refl, refl)); stop = refl }, refl))
 
-abbrev item : ℕ → ℕ → ℕ → DirectoryItem
+abbrev item : ℕ → ℕ → ℕ → Item
 item letter start size = record { name = letter ∷ []; is_stream = true; parent = None; start = start; size = size }
 
 abbrev listing : Listing
 listing = record { mini_start = 4; mini_size = 64; items = item 0x4C 5 4096 ∷ item 0x73 0 3 ∷ [] }
 
-abbrev field_entry : ℕ → ℕ → ℕ → ℕ → ℕ → ℕ → ℕ → DirectoryEntry
+abbrev field_entry : ℕ → ℕ → ℕ → ℕ → ℕ → ℕ → ℕ → Entry
 field_entry letter kind left right child start size = directory_entry_of false (entry letter kind left right child start size)
 
 pub listing_is : IsDirectory false directory listing

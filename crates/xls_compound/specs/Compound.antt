@@ -9,7 +9,7 @@ use Rattle.xls_sectors.specs.declared.header.Header.{Header}
 use Rattle.xls_sectors.specs.Streams.{Space, next_in, IsAdjacent, Stream, WholeChain}
 use Rattle.xls_sectors.specs.Chains.{Stops}
 use Rattle.xls_sectors.specs.Tables.{Opened, OpensSectors, sectors_of}
-use Rattle.xls_directory.specs.Items.{DirectoryItem}
+use Rattle.xls_directory.specs.Items.{Item}
 use Rattle.xls_directory.specs.Directory.{Listing, IsDirectory, IsDirectoryFault}
 use Rattle.xls_compound.specs.declared.error.CompoundError.{CompoundError}
 use Rattle.xls_compound.specs.declared.error.CompoundError.TheVariants as errors
@@ -99,22 +99,22 @@ abbrev pub space_of : Compound → ℕ → Space
 space_of compound size = if nat_lt size CUTOFF then compound.mini else compound.sectors
 
 -- a storage has no bytes
-abbrev pub size_of : DirectoryItem → ℕ
+abbrev pub size_of : Item → ℕ
 size_of item = if item.is_stream then item.size else 0
 
 -- the bytes of an item, so many as its size says, or the first fault of its chain
-abbrev pub ItemBytes : Compound → DirectoryItem → Result (List ℕ) SectorFault → Type 0
+abbrev pub ItemBytes : Compound → Item → Result (List ℕ) SectorFault → Type 0
 ItemBytes compound item = Stream (space_of compound (size_of item)) item.start (size_of item)
 
 -- the sectors that an item's bytes need follow one another
-pub record LiesAdjacent (compound : Compound) (item : DirectoryItem) : Type 0 where
+pub record LiesAdjacent (compound : Compound) (item : Item) : Type 0 where
   pub sectors : List ℕ
   pub after : ℕ
   pub stops : Stops (next_in (space_of compound (size_of item))) item.start sectors after
   pub adjacent : IsAdjacent (space_of compound (size_of item)) (size_of item) sectors
 
 -- why an item's bytes are refused, with its name
-abbrev pub RefusesItem : Compound → DirectoryItem → CompoundError → Type 0
+abbrev pub RefusesItem : Compound → Item → CompoundError → Type 0
 RefusesItem compound item errors.Memory = Unit {0}
 RefusesItem compound item (errors.Stream name fault) =
     (string_bytes name ≡ item.name) × ItemBytes compound item (Err fault)

@@ -1,22 +1,22 @@
 -- What a compound file lists, by places in its listing.
 use Rattle.std.specs.Prelude.{◌≡◌, ℕ, ◌-◌, List, length, map, Some}
 use Rattle.std.specs.List.{range_with_len, slice_get}
-use Rattle.xls_directory.specs.Items.{DirectoryItem}
+use Rattle.xls_directory.specs.Items.{Item}
 use Rattle.xls_directory.specs.Directory.{Listing}
 
 -- an entry: a place in a listing, and what stands there
-pub record StreamEntry : Type 0 where
+pub record Entry : Type 0 where
   pub listing : Listing
   pub place : ℕ
 
 -- the item at its place
-abbrev pub IsItem : StreamEntry → DirectoryItem → Type 0
+abbrev pub IsItem : Entry → Item → Type 0
 IsItem entry item = slice_get entry.listing.items entry.place ≡ Some item
 
-abbrev pub entry_at : Listing → ℕ → StreamEntry
+abbrev pub entry_at : Listing → ℕ → Entry
 entry_at listing place = record { listing = listing; place = place }
 
 -- the entries from a place on
-unfoldable pub entries_from : Listing → ℕ → List StreamEntry
+unfoldable pub entries_from : Listing → ℕ → List Entry
 entries_from listing place =
     map (entry_at listing) (range_with_len place (length listing.items - place))

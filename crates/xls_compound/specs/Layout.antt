@@ -6,7 +6,7 @@ use Rattle.xls_bytes.specs.Numbers.{u32s_of}
 use Rattle.xls_sectors.specs.Header.{SPECIAL, END_OF_CHAIN}
 use Rattle.xls_sectors.specs.Streams.{Space, sector_at, chain_size}
 use Rattle.xls_sectors.specs.Tables.{Opened, OpensSectors, sectors_of}
-use Rattle.xls_directory.specs.Items.{DirectoryItem, is_child, find_from}
+use Rattle.xls_directory.specs.Items.{Item, is_child, find_from}
 use Rattle.xls_directory.specs.Directory.{Listing, IsDirectory}
 use Rattle.xls_compound.specs.Compound.{Compound, HoldsCompound, is_wide, mini_sectors, space_of, ItemBytes}
 
@@ -45,7 +45,7 @@ pub record NamedStream : Type 0 where
 -- a directory lists a stream in the root, the first of its name, and its bytes lie in a chain
 pub record IsLaid (sectors mini : Space) (listing : Listing) (stream : NamedStream) : Type 0 where
   pub place : ℕ
-  pub item : DirectoryItem
+  pub item : Item
   pub is_first : position (is_child None stream.name) listing.items ≡ Some place
   pub is_item : slice_get listing.items place ≡ Some item
   pub kind : item.is_stream ≡ true
@@ -70,7 +70,7 @@ pub record IsLayout (file : List ℕ) (streams : List NamedStream) : Type 0 wher
 
 -- the stream is found by its name, and has its bytes
 abbrev pub IsFound : Compound → NamedStream → Type 0
-IsFound compound stream = (place : ℕ) × (item : DirectoryItem)
+IsFound compound stream = (place : ℕ) × (item : Item)
     × (find_from compound.listing.items None (stream.name ∷ []) ≡ Some place)
     × (slice_get compound.listing.items place ≡ Some item) × ItemBytes compound item (Ok stream.bytes)
 

@@ -5,7 +5,7 @@ ghost use Rattle.std.specs.Cow.{cow_slice_items, IsBorrowedSlice};
 ghost use Rattle.std.specs.Option.{option_map};
 ghost use Rattle.xls_bytes.specs.Numbers.{u32s_of};
 ghost use Rattle.xls_directory.specs.Items as items;
-ghost use Rattle.xls_directory.specs.Items.{DirectoryItem};
+ghost use Rattle.xls_directory.specs.Items.{Item};
 ghost use Rattle.xls_directory.specs.Directory.{Listing, IsDirectory};
 ghost use Rattle.xls_compound.specs.declared.error.CompoundError.TheVariants.{Memory};
 ghost use Rattle.xls_sectors.specs.Tables.{OpensSectors};
@@ -201,14 +201,14 @@ impl<'a> Compound<'a> {
         alloc: Global,
         entry: &Entry<'_>,
     ) -> Result<CowSlice<'_, u8>, CompoundError>
-        ensures ok { IfOk result (λ bytes. (item : DirectoryItem) → IsItem entry.now item
+        ensures ok { IfOk result (λ bytes. (item : Item) → IsItem entry.now item
             → ItemBytes self.now item (Ok (cow_slice_items bytes))) }
-        ensures whole { IfOk result (λ bytes. (item : DirectoryItem) → IsItem entry.now item
+        ensures whole { IfOk result (λ bytes. (item : Item) → IsItem entry.now item
             → length (cow_slice_items bytes) ≡ size_of item) }
-        ensures err { IfErr result (λ e. (item : DirectoryItem) → IsItem entry.now item → RefusesItem self.now item e) }
+        ensures err { IfErr result (λ e. (item : Item) → IsItem entry.now item → RefusesItem self.now item e) }
 
         // Nothing is copied where the sectors follow one another.
-        ensures borrowed { (item : DirectoryItem) → IsItem entry.now item → LiesAdjacent self.now item → IfOk result IsBorrowedSlice }
+        ensures borrowed { (item : Item) → IsItem entry.now item → LiesAdjacent self.now item → IfOk result IsBorrowedSlice }
     {
         let size = if entry.is_stream() { entry.size() } else { 0 };
         let bytes = if size < CUTOFF {

@@ -2,13 +2,13 @@
 
 ghost use Rattle.std.specs.Prelude.{◌≡◌, ◌<◌, map, length, IfOk, Some};
 ghost use Rattle.std.specs.Iterator.{YieldsFirst, item_count};
-ghost use Rattle.xls_directory.specs.Items.{DirectoryItem, IsPath};
+ghost use Rattle.xls_directory.specs.Items.{Item, IsPath};
 ghost use Rattle.xls_directory.specs.Directory.{Listing};
 ghost use Rattle.xls_compound.specs.Entries.{IsItem, entry_at, entries_from};
 
 use std::alloc::{AllocError, Global};
 use std::marker::Model;
-use xls_directory::{Directory, DirectoryItem};
+use xls_directory::{Directory, Item};
 
 /// A storage or a stream of a compound file. Contracts see its place in what the file lists.
 #[derive(Drop)]
@@ -21,7 +21,7 @@ impl<'c> Model for Entry<'c> {
     ghost use Rattle.std.specs.Prelude.{◌<◌, length};
     ghost use Rattle.xls_compound.specs.Entries as specs;
 
-    ghost Value = { specs.StreamEntry };
+    ghost Value = { specs.Entry };
 
     ghost view = { λ e. record { listing = e.directory.now; place = e.place } };
 
@@ -34,10 +34,10 @@ impl<'c> Entry<'c> {
         requires { place < length directory.now.items }
         ensures { result ≡ entry_at directory.now place }
     {
-        StreamEntry { directory, place }
+        Entry { directory, place }
     }
 
-    pub(crate) fn item(&self) -> &'c DirectoryItem
+    pub(crate) fn item(&self) -> &'c Item
         ensures { IsItem self.now result.now }
     {
         &self.directory.items()[self.place]
@@ -45,28 +45,28 @@ impl<'c> Entry<'c> {
 
     /// Its name, in which a unit of UTF-16 that is half of no pair is U+FFFD.
     pub fn name(&self) -> &'c str
-        ensures { (item : DirectoryItem) → IsItem self.now item → result.now ≡ item.name }
+        ensures { (item : Item) → IsItem self.now item → result.now ≡ item.name }
     {
         self.item().name()
     }
 
     /// A stream, or else a storage.
     pub fn is_stream(&self) -> bool
-        ensures { (item : DirectoryItem) → IsItem self.now item → result ≡ item.is_stream }
+        ensures { (item : Item) → IsItem self.now item → result ≡ item.is_stream }
     {
         self.item().is_stream()
     }
 
     /// How many bytes a stream has.
     pub fn size(&self) -> u64
-        ensures { (item : DirectoryItem) → IsItem self.now item → result ≡ item.size }
+        ensures { (item : Item) → IsItem self.now item → result ≡ item.size }
     {
         self.item().size()
     }
 
     // The number of its first sector, or mini sector.
     pub(crate) fn start(&self) -> u32
-        ensures { (item : DirectoryItem) → IsItem self.now item → result ≡ item.start }
+        ensures { (item : Item) → IsItem self.now item → result ≡ item.start }
     {
         self.item().start()
     }
@@ -90,9 +90,9 @@ pub struct Entries<'c> {
 
 impl<'c> Model for Entries<'c> {
     ghost use Rattle.std.specs.Prelude.{List};
-    ghost use Rattle.xls_compound.specs.Entries.{StreamEntry, entries_from};
+    ghost use Rattle.xls_compound.specs.Entries.{Entry, entries_from};
 
-    ghost Value = { List StreamEntry };
+    ghost Value = { List Entry };
 
     ghost view = { λ e. entries_from e.directory.now e.next };
 }
@@ -106,7 +106,7 @@ impl<'c> Entries<'c> {
 }
 
 impl<'c> Iterator for Entries<'c> {
-    type DirectoryItem = Entry<'c>;
+    type Item = Entry<'c>;
 
     ghost next_gives = { YieldsFirst (λ entries. entries) };
 

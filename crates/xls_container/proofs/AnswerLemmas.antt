@@ -7,7 +7,7 @@ use Rattle.xls_sectors.specs.Errors as sectors
 use Rattle.xls_sectors.specs.Laws.{StreamsHaveOneAnswer, WholeChainsHaveOneAnswer, FilesHaveOneAnswer}
 use Rattle.xls_sectors.specs.Tables.{Opened, OpensContainer as OpensTables, sectors_of}
 use Rattle.xls_directory.specs.declared.fault.DirectoryFault.{DirectoryFault}
-use Rattle.xls_directory.specs.Items.{DirectoryItem, workbook}
+use Rattle.xls_directory.specs.Items.{Item, workbook}
 use Rattle.xls_directory.specs.Directory.{Listing, IsDirectory, IsDirectoryFault}
 use Rattle.xls_compound.specs.Compound.{Compound, HoldsCompound, Refuses, ItemBytes, RefusesItem, DirectoryBytes, MiniFatBytes, MiniStream, mini_sectors, is_wide, space_of, size_of}
 use Rattle.xls_compound.specs.declared.error.CompoundError.{CompoundError}
@@ -68,15 +68,15 @@ AfterTables opened = Then (Chain opened) (AfterChain opened)
 abbrev Whole : List ℕ → Result Compound Text → Type 0
 Whole file = Then (Tables file) AfterTables
 
-abbrev Found : Compound → Result DirectoryItem Text → Type 0
+abbrev Found : Compound → Result Item Text → Type 0
 Found compound (Ok item) = IsWorkbookItem compound item
 Found compound (Err text) = (workbook compound.listing.items ≡ None) × (text ≡ fault_text faults.NoWorkbook)
 
-abbrev stream_damage : DirectoryItem → SectorFault → Text
+abbrev stream_damage : Item → SectorFault → Text
 stream_damage item fault =
     codes "a damaged compound file: " ++ (codes "Stream " ++ (item.name ++ (codes ": " ++ sectors.fault_text fault)))
 
-abbrev Bytes : Compound → DirectoryItem → Result (List ℕ) Text → Type 0
+abbrev Bytes : Compound → Item → Result (List ℕ) Text → Type 0
 Bytes compound item = Seen (λ bytes. bytes) (stream_damage item) (ItemBytes compound item)
 
 abbrev Workbook : Compound → Result (List ℕ) Text → Type 0
@@ -142,7 +142,7 @@ module _ (files : FilesHaveOneAnswer) (chains : WholeChainsHaveOneAnswer) (strea
   whole_once : (file : List ℕ) → IsUnique (Whole file)
   whole_once file = once_then (Tables file) AfterTables (tables_once file) after_tables_once
 
-  bytes_once : (compound : Compound) (item : DirectoryItem) → IsUnique (Bytes compound item)
+  bytes_once : (compound : Compound) (item : Item) → IsUnique (Bytes compound item)
   bytes_once compound item =
       seen_once _ _ (ItemBytes compound item) (streams (space_of compound (size_of item)) item.start (size_of item)).same
 
@@ -220,12 +220,12 @@ answers_ok true bare file bytes is isnt (bare_stream stream) (same, starts, e) h
 answers_ok false false file bytes is isnt (bare_stream stream) (same, starts, e) h = absurd (not_both starts isnt)
 answers_ok false true file bytes is isnt (bare_stream stream) (same, starts, e) h = ap (λ x. Ok x) (h ∙ e)
 
-stream_text : (item : DirectoryItem) (name : _) (fault : SectorFault) → string_bytes name ≡ item.name
+stream_text : (item : Item) (name : _) (fault : SectorFault) → string_bytes name ≡ item.name
     → damage (errors.Stream name fault) ≡ stream_damage item fault
 stream_text item name fault named =
     ap (λ x. codes "a damaged compound file: " ++ (codes "Stream " ++ (x ++ (codes ": " ++ sectors.fault_text fault)))) named
 
-workbook_err : (c : Compound) (item : DirectoryItem) → IsWorkbookItem c item → (error : CompoundError) → error ≢ errors.Memory
+workbook_err : (c : Compound) (item : Item) → IsWorkbookItem c item → (error : CompoundError) → error ≢ errors.Memory
     → RefusesItem c item error → Workbook c (Err (damage error))
 workbook_err c item found errors.Memory some h = absurd (some refl)
 workbook_err c item found (errors.Stream name fault) some (named, h) =

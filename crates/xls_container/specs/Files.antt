@@ -1,7 +1,7 @@
 -- What a file holds: a compound file with the stream of a workbook, or that stream alone.
 use Rattle.std.specs.Prelude.{◌≡◌, ◌≢◌, ◌⊎◌, ℕ, List, Option, Some, None, Ok, true, false}
 use Rattle.std.specs.List.{slice_get}
-use Rattle.xls_directory.specs.Items.{DirectoryItem, workbook}
+use Rattle.xls_directory.specs.Items.{Item, workbook}
 use Rattle.xls_compound.specs.Compound.{Compound, HoldsCompound, Refuses, ItemBytes, LiesAdjacent, RefusesItem}
 use Rattle.xls_compound.specs.declared.error.CompoundError.{CompoundError}
 use Rattle.xls_compound.specs.declared.error.CompoundError.TheVariants as errors
@@ -24,19 +24,19 @@ OpensContainer file (compound_file compound) = (is_compound file ≡ true) × Ho
 OpensContainer file (bare_stream bytes) = (is_compound file ≡ false) × (is_bare file ≡ true) × (bytes ≡ file)
 
 -- the entry of a workbook's stream: `Workbook`, or else `Book`, in the root
-pub record IsWorkbookItem (compound : Compound) (item : DirectoryItem) : Type 0 where
+pub record IsWorkbookItem (compound : Compound) (item : Item) : Type 0 where
   pub place : ℕ
   pub is_found : workbook compound.listing.items ≡ Some place
   pub is_item : slice_get compound.listing.items place ≡ Some item
 
 -- the workbook's bytes in an opened file
 abbrev pub HasWorkbook : Container → List ℕ → Type 0
-HasWorkbook (compound_file compound) bytes = (item : DirectoryItem) × IsWorkbookItem compound item × ItemBytes compound item (Ok bytes)
+HasWorkbook (compound_file compound) bytes = (item : Item) × IsWorkbookItem compound item × ItemBytes compound item (Ok bytes)
 HasWorkbook (bare_stream stream) bytes = bytes ≡ stream
 
 -- the workbook's bytes stand together in the file
 abbrev pub LiesTogether : Container → Type 0
-LiesTogether (compound_file compound) = (item : DirectoryItem) × IsWorkbookItem compound item × LiesAdjacent compound item
+LiesTogether (compound_file compound) = (item : Item) × IsWorkbookItem compound item × LiesAdjacent compound item
 LiesTogether (bare_stream stream) = Unit {0}
 
 -- the workbook's bytes in a file
@@ -64,7 +64,7 @@ RefusesToOpen file faults.Memory = Unit {0}
 abbrev pub RefusesWorkbook : Container → FileFault → Type 0
 RefusesWorkbook (compound_file compound) faults.NoWorkbook = workbook compound.listing.items ≡ None
 RefusesWorkbook (compound_file compound) (faults.Compound error) =
-    (item : DirectoryItem) × IsWorkbookItem compound item × (error ≢ errors.Memory) × RefusesItem compound item error
+    (item : Item) × IsWorkbookItem compound item × (error ≢ errors.Memory) × RefusesItem compound item error
 RefusesWorkbook container faults.Memory = Unit {0}
 RefusesWorkbook container other = ⊥
 

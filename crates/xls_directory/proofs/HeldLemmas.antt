@@ -3,11 +3,11 @@ use Rattle.std.proofs.Common.{◌≡◌, ℕ, ◌+◌, ◌<◌, ◌≤◌, zero,
 use Rattle.std.proofs.lemmas.Option.{same_Some}
 use Rattle.std.specs.List.{slice_get}
 use Rattle.xls_directory.specs.Tree.{Tree, empty, node}
-use Rattle.xls_directory.specs.Items.{DirectoryItem, item_of, items_from, count}
+use Rattle.xls_directory.specs.Items.{Item, item_of, items_from, count}
 use Rattle.xls_directory.specs.Held.{AreHeld}
 
 -- the parent of each item from this place on stands before it
-abbrev HeldFrom : ℕ → List DirectoryItem → Type 0
+abbrev HeldFrom : ℕ → List Item → Type 0
 HeldFrom place [] = Unit {0}
 HeldFrom place (item ∷ items) = ((parent : ℕ) → item.parent ≡ Some parent → parent < place) × HeldFrom (place + 1) items
 
@@ -27,7 +27,7 @@ length-items_from parent place (node number entry left children right) =
       length-append (items_from (Some (place + count left)) (place + count left + 1) children) (items_from parent (place + count left + 1 + count children) right),
     )
 
-held-append : (place later : ℕ) (xs ys : List DirectoryItem) → place + length xs ≡ later → HeldFrom place xs → HeldFrom later ys → HeldFrom place (xs ++ ys)
+held-append : (place later : ℕ) (xs ys : List Item) → place + length xs ≡ later → HeldFrom place xs → HeldFrom later ys → HeldFrom place (xs ++ ys)
 held-append place later [] ys e h k = subst (λ (p : ℕ). HeldFrom p ys) (sym e ∙ add-zero place) k
 held-append place later (x ∷ xs) ys e h k = (h.0, held-append (place + 1) later xs ys (omega arith) h.1 k)
 
@@ -46,11 +46,11 @@ held-items_from parent place (node number entry left children right) h =
           (held-items_from parent (place + count left + 1 + count children) right (before-later parent place _ h (omega arith))),
     )
 
-held-at : (place : ℕ) (items : List DirectoryItem) → HeldFrom place items → (at : ℕ) (item : DirectoryItem) (parent : ℕ)
+held-at : (place : ℕ) (items : List Item) → HeldFrom place items → (at : ℕ) (item : Item) (parent : ℕ)
     → slice_get items at ≡ Some item → item.parent ≡ Some parent → parent < place + at
 held-at place [] h at item parent e f = absurd (cc)
 held-at place (x ∷ xs) h zero item parent e f =
-    let less = h.0 parent (ap (λ (i : DirectoryItem). i.parent) (same_Some _ _ e) ∙ f) in omega arith
+    let less = h.0 parent (ap (λ (i : Item). i.parent) (same_Some _ _ e) ∙ f) in omega arith
 held-at place (x ∷ xs) h (suc at) item parent e f = let less = held-at (place + 1) xs h.1 at item parent e f in omega arith
 
 -- what a tree lists below the root

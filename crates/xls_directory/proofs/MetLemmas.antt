@@ -8,24 +8,24 @@ use Rattle.std.specs.List.{slice_get}
 use Rattle.std.proofs.lemmas.List.{get_or_past, get_or-set_other}
 use Rattle.std.proofs.lemmas.Option.{slice_get_cases}
 use Rattle.xls_directory.specs.declared.fault.DirectoryFault.TheVariants as faults
-use Rattle.xls_directory.specs.Entries.{DirectoryEntry}
+use Rattle.xls_directory.specs.Entries.{Entry}
 use Rattle.xls_directory.specs.Tree.{is_met, tree_entry_at, listed}
 use Rattle.xls_directory.specs.Steps.{AreMarks}
 
 -- an entry that was met before
-pub twice : (entries : List DirectoryEntry) (marks : List Bool) (met : List ℕ) (number : ℕ) → AreMarks marks met
+pub twice : (entries : List Entry) (marks : List Bool) (met : List ℕ) (number : ℕ) → AreMarks marks met
     → get_or marks number false ≡ true → Err (faults.Twice number) ≡ tree_entry_at entries met number
 twice entries marks met number h marked =
     ap (λ (b : Bool). cond b (Err (faults.Twice number)) (listed number (slice_get entries number))) (sym marked ∙ h number)
 
 -- one that wasn't
-pub unmet_entry : (entries : List DirectoryEntry) (marks : List Bool) (met : List ℕ) (number : ℕ) → AreMarks marks met
+pub unmet_entry : (entries : List Entry) (marks : List Bool) (met : List ℕ) (number : ℕ) → AreMarks marks met
     → get_or marks number false ≡ false → listed number (slice_get entries number) ≡ tree_entry_at entries met number
 unmet_entry entries marks met number h unmarked =
     ap (λ (b : Bool). cond b (Err (faults.Twice number)) (listed number (slice_get entries number))) (sym unmarked ∙ h number)
 
 -- one that the directory doesn't have
-pub missing : (entries : List DirectoryEntry) (marks : List Bool) (met : List ℕ) (number : ℕ) → AreMarks marks met
+pub missing : (entries : List Entry) (marks : List Bool) (met : List ℕ) (number : ℕ) → AreMarks marks met
     → length marks ≡ length entries → slice_get entries number ≡ None
     → Err (faults.Missing number) ≡ tree_entry_at entries met number
 missing entries marks met number h same none =
@@ -33,7 +33,7 @@ missing entries marks met number h same none =
       | inl there ↦ absurd (cc (none, there.2))
       | inr past ↦
           let unmarked : get_or marks number false ≡ false = get_or_past marks number false (omega (arith, past.0)) in
-          ap (λ (o : Option DirectoryEntry). listed number o) (sym none) ∙ unmet_entry entries marks met number h unmarked
+          ap (λ (o : Option Entry). listed number o) (sym none) ∙ unmet_entry entries marks met number h unmarked
     ]
 
 -- an entry that is met joins those that were

@@ -6,9 +6,9 @@ use Rattle.std.specs.Str.{chars}
 use Rattle.ucd_case.proofs.Computing.{ucd_case}
 use Rattle.xls_directory.specs.Names.{is_same_name}
 use Rattle.xls_directory.specs.declared.fault.DirectoryFault.TheVariants as faults
-use Rattle.xls_directory.specs.Entries.{DirectoryEntry, directory_entry_of, entries_of, none, is_storage, is_stream, is_root, is_name_size, name_of, child_of}
+use Rattle.xls_directory.specs.Entries.{Entry, directory_entry_of, entries_of, none, is_storage, is_stream, is_root, is_name_size, name_of, child_of}
 use Rattle.xls_directory.specs.Tree.{Tree, empty, node, tree_entry_at, met_after}
-use Rattle.xls_directory.specs.Items.{DirectoryItem, item_of, items_from, find_from, workbook}
+use Rattle.xls_directory.specs.Items.{Item, item_of, items_from, find_from, workbook}
 use Rattle.xls_directory.specs.Directory.{root_in}
 
 -- an entry of the bytes 00 to 7F (2.6.1): each field at its offset, the lowest byte first
@@ -37,7 +37,7 @@ pub fields_of_64 : directory_entry_of true (range_with_len 0 128) ≡ record {
 fields_of_64 = refl
 
 -- an entry of a kind, with what it leads to
-abbrev entry : ℕ → ℕ → ℕ → ℕ → DirectoryEntry
+abbrev entry : ℕ → ℕ → ℕ → ℕ → Entry
 entry kind left right child = record {
   name = 0x41 ∷ 0x00 ∷ 0x00 ∷ 0x00 ∷ [];
   name_size = 4;
@@ -92,7 +92,7 @@ pub no_root : map root_in ([] ∷ (entry 0x01 0 0 0 ∷ []) ∷ (entry 0x05 1 2 
 no_root = refl
 
 -- an entry b with a on its left, which holds d, and with c on its right: the left first, then the entry, its children, the right
-module _ (a b c d : DirectoryEntry) where
+module _ (a b c d : Entry) where
   abbrev sample : Tree
   sample = node 1 b (node 2 a empty (node 4 d empty empty empty) empty) empty (node 3 c empty empty empty)
 
@@ -107,7 +107,7 @@ pub item_fields : item_of (Some 3) (entry 0x02 0 0 0) ≡ record { name = codes 
 unfolding utf16_chars lib.Utf8.encode
 item_fields = refl
 
-abbrev item : List ℕ → Bool → Option ℕ → DirectoryItem
+abbrev item : List ℕ → Bool → Option ℕ → Item
 item name is_stream parent = record { name = name; is_stream = is_stream; parent = parent; start = 0; size = 0 }
 
 -- names are the same whatever their case, and no others
@@ -122,7 +122,7 @@ pub same_letters : map (λ (pair : List ℕ × List ℕ). is_same_name pair.0 pa
 unfolding chars ucd_case
 same_letters = refl
 
-abbrev listed : List DirectoryItem
+abbrev listed : List Item
 listed = item (codes "Book") true (Some 1) ∷ item (codes "a") false None ∷ item (codes "BOOK") true None ∷ item (codes "b") false (Some 1) ∷ item (codes "c") true (Some 3) ∷ []
 
 -- what is held by the root, and below it, and what isn't there

@@ -3,9 +3,9 @@ use Rattle.std.proofs.Common.{replicate, false, ◌≡◌, ◌≢◌, ℕ, ◌+�
 use Rattle.xls_directory.specs.declared.fault.DirectoryFault.{DirectoryFault}
 use Rattle.xls_directory.specs.declared.tasks.Task.{Task}
 use Rattle.xls_directory.specs.declared.tasks.Task.TheVariants as tasks
-use Rattle.xls_directory.specs.Entries.{DirectoryEntry, none, child_of}
+use Rattle.xls_directory.specs.Entries.{Entry, none, child_of}
 use Rattle.xls_directory.specs.Tree.{empty, node, on_left, below, on_right, tree_entry_at}
-use Rattle.xls_directory.specs.Items.{DirectoryItem, item_of, items_from}
+use Rattle.xls_directory.specs.Items.{Item, item_of, items_from}
 use Rattle.xls_directory.specs.Steps.{State, before, after_meeting, with_item, AreMarks, ReadsWhole, ReadsTo, GoesOn, RefusesStep, RefusesTree, ListsTree, at_first}
 use Rattle.std.proofs.Math.ListN.{set}
 use Rattle.std.proofs.lemmas.List.{append-nil, length-replicate}
@@ -14,12 +14,12 @@ use Rattle.xls_directory.specs.declared.fault.DirectoryError.TheVariants as erro
 use Rattle.xls_directory.proofs.MetLemmas.{marks_now, none_marked}
 
 -- at an equal place
-moved : (entries : List DirectoryEntry) (met : List ℕ) (place other : ℕ) (others : List Task) (items : List DirectoryItem)
+moved : (entries : List Entry) (met : List ℕ) (place other : ℕ) (others : List Task) (items : List Item)
     → place ≡ other → ReadsWhole entries met place others items → ReadsWhole entries met other others items
 moved entries met place other others items e h = subst (λ (p : ℕ). ReadsWhole entries met p others items) e h
 
 -- no number, no tree
-pub skipped : (entries : List DirectoryEntry) (number : ℕ) (parent : Option ℕ) (state : State) → number ≡ none
+pub skipped : (entries : List Entry) (number : ℕ) (parent : Option ℕ) (state : State) → number ≡ none
     → GoesOn entries (before (tasks.Tree number parent) state) state
 skipped entries number parent state e met marks = (
   met,
@@ -30,16 +30,16 @@ skipped entries number parent state e met marks = (
   },
 )
 
-module _ (entries : List DirectoryEntry) (number : ℕ) (parent : Option ℕ) (entry : DirectoryEntry) (others : List Task) (met : List ℕ)
+module _ (entries : List Entry) (number : ℕ) (parent : Option ℕ) (entry : Entry) (others : List Task) (met : List ℕ)
     (some : number ≢ none) (ok : tree_entry_at entries met number ≡ Ok entry) where
-  node_whole : (place : ℕ) (items : List DirectoryItem)
+  node_whole : (place : ℕ) (items : List Item)
       → ReadsWhole entries (number ∷ met) place (tasks.Tree entry.left parent ∷ tasks.Rest entry parent ∷ others) items
       → ReadsWhole entries met place (tasks.Tree number parent ∷ others) items
   node_whole place items (left, more, is_left, first, (children, right, rest, is_children, is_right, second, whole)) = (
     node number entry left children right,
     rest,
     (refl, some, ok, is_left, is_children, is_right),
-    first ∙ ap (λ (xs : List DirectoryItem). items_from parent place left ++ xs) second ∙ simp append_assoc,
+    first ∙ ap (λ (xs : List Item). items_from parent place left ++ xs) second ∙ simp append_assoc,
     moved entries _ _ _ others rest (omega arith) whole,
   )
 
@@ -54,7 +54,7 @@ module _ (entries : List DirectoryEntry) (number : ℕ) (parent : Option ℕ) (e
       inr (node number entry left children right, (refl, some, ok, is_left, is_children, is_right), rest)
 
 -- an entry that is met, and what is left of it
-pub visited : (entries : List DirectoryEntry) (number : ℕ) (parent : Option ℕ) (entry : DirectoryEntry) (state : State) → number ≢ none
+pub visited : (entries : List Entry) (number : ℕ) (parent : Option ℕ) (entry : Entry) (state : State) → number ≢ none
     → number < length state.met → ((met : List ℕ) → AreMarks state.met met → tree_entry_at entries met number ≡ Ok entry)
     → GoesOn entries (before (tasks.Tree number parent) state)
     (before (tasks.Tree entry.left parent) (before (tasks.Rest entry parent) (after_meeting number state)))
@@ -67,8 +67,8 @@ visited entries number parent entry state some within ok met marks = (
   },
 )
 
-module _ (entries : List DirectoryEntry) (entry : DirectoryEntry) (parent : Option ℕ) (others : List Task) (met : List ℕ) where
-  rest_whole : (place later : ℕ) (items : List DirectoryItem) → later ≡ place + 1
+module _ (entries : List Entry) (entry : Entry) (parent : Option ℕ) (others : List Task) (met : List ℕ) where
+  rest_whole : (place later : ℕ) (items : List Item) → later ≡ place + 1
       → ReadsWhole entries met later (tasks.Tree (child_of entry) (Some place) ∷ tasks.Tree entry.right parent ∷ others) items
       → ReadsWhole entries met place (tasks.Rest entry parent ∷ others) (item_of parent entry ∷ items)
   rest_whole place later items e h =
@@ -78,7 +78,7 @@ module _ (entries : List DirectoryEntry) (entry : DirectoryEntry) (parent : Opti
         rest,
         is_children,
         is_right,
-        ap (λ (xs : List DirectoryItem). item_of parent entry ∷ xs) (first ∙ ap (λ (xs : List DirectoryItem). items_from (Some place) (place + 1) children ++ xs) second),
+        ap (λ (xs : List Item). item_of parent entry ∷ xs) (first ∙ ap (λ (xs : List Item). items_from (Some place) (place + 1) children ++ xs) second),
         whole,
       )
 
@@ -88,7 +88,7 @@ module _ (entries : List DirectoryEntry) (entry : DirectoryEntry) (parent : Opti
   rest_fault place fault h = h
 
 -- an entry that is listed, and what is left of it
-pub went_on : (entries : List DirectoryEntry) (entry : DirectoryEntry) (parent : Option ℕ) (state : State)
+pub went_on : (entries : List Entry) (entry : Entry) (parent : Option ℕ) (state : State)
     → GoesOn entries (before (tasks.Rest entry parent) state)
     (before (tasks.Tree (child_of entry) (Some (length state.items)))
     (before (tasks.Tree entry.right parent) (with_item (item_of parent entry) state)))
@@ -106,7 +106,7 @@ went_on entries entry parent state met marks = (
 )
 
 -- steps one after the other
-pub goes_on-trans : (entries : List DirectoryEntry) (first then later : State) → GoesOn entries first then → GoesOn entries then later
+pub goes_on-trans : (entries : List Entry) (first then later : State) → GoesOn entries first then → GoesOn entries then later
     → GoesOn entries first later
 goes_on-trans entries first then later a b met marks =
     let one = a met marks in
@@ -122,7 +122,7 @@ goes_on-trans entries first then later a b met marks =
       },
     )
 
-pub goes_on-refl : (entries : List DirectoryEntry) (state : State) → GoesOn entries state state
+pub goes_on-refl : (entries : List Entry) (state : State) → GoesOn entries state state
 goes_on-refl entries state met marks = (met, record { marks = marks; whole = λ more h. (more, h, refl); fault = λ fault h. h })
 
 -- at first the root alone was met
@@ -130,15 +130,15 @@ first_marks : (n : ℕ) → 0 < n → AreMarks (set (replicate n false) 0 true) 
 first_marks n h = marks_now (replicate n false) [] 0 (none_marked n) (omega (arith, length-replicate n false))
 
 -- where no task is left
-pub all_read : (entries : List DirectoryEntry) (number : ℕ) (state : State) → 0 < length entries
+pub all_read : (entries : List Entry) (number : ℕ) (state : State) → 0 < length entries
     → GoesOn entries (at_first number (length entries)) state → state.tasks ≡ [] → ListsTree entries number state.items
 all_read entries number state some h none =
     let (met, on) = h (0 ∷ []) (first_marks (length entries) some) in
     let (all, (tree, more, is_tree, first, last), same) = on.whole [] (subst (λ (ts : List Task). ReadsWhole entries met (length state.items) ts []) (sym none) refl) in
-    (tree, is_tree, sym (append-nil state.items) ∙ sym same ∙ first ∙ ap (λ (xs : List DirectoryItem). items_from None 0 tree ++ xs) last ∙ append-nil _)
+    (tree, is_tree, sym (append-nil state.items) ∙ sym same ∙ first ∙ ap (λ (xs : List Item). items_from None 0 tree ++ xs) last ∙ append-nil _)
 
 -- where the next task refuses
-pub refused : (entries : List DirectoryEntry) (number : ℕ) (state : State) (error : DirectoryError) → 0 < length entries
+pub refused : (entries : List Entry) (number : ℕ) (state : State) (error : DirectoryError) → 0 < length entries
     → GoesOn entries (at_first number (length entries)) state → RefusesStep entries state error → RefusesTree entries number error
 refused entries number state errors.Memory some h r = tt
 refused entries number state (errors.Fault fault) some h r =

@@ -4,24 +4,24 @@ use Rattle.xls_directory.specs.declared.fault.DirectoryFault.{DirectoryFault}
 use Rattle.xls_directory.specs.declared.fault.DirectoryFault.TheVariants as faults
 use Rattle.xls_directory.specs.declared.fault.DirectoryError.{DirectoryError}
 use Rattle.xls_directory.specs.declared.fault.DirectoryError.TheVariants as errors
-use Rattle.xls_directory.specs.Entries.{DirectoryEntry, entries_of, is_root}
+use Rattle.xls_directory.specs.Entries.{Entry, entries_of, is_root}
 use Rattle.xls_directory.specs.Tree.{Tree, IsTree, Way, IsFirst}
-use Rattle.xls_directory.specs.Items.{DirectoryItem, items_from}
+use Rattle.xls_directory.specs.Items.{Item, items_from}
 
 -- what the root lists, and where the mini stream, the root's own stream, begins and how long it is
 pub record Listing : Type 0 where
   pub mini_start : ℕ
   pub mini_size : ℕ
-  pub items : List DirectoryItem
+  pub items : List Item
 
 -- entry 0, which has to be a root
-abbrev pub root_in : List DirectoryEntry → Result DirectoryEntry DirectoryFault
+abbrev pub root_in : List Entry → Result Entry DirectoryFault
 root_in [] = Err faults.NoRoot
 root_in (entry ∷ others) = if is_root entry then Ok entry else Err faults.NoRoot
 
 -- the root, the tree of its children, in which it isn't met again, and what that lists
-pub record ListsEntries (entries : List DirectoryEntry) (listing : Listing) : Type 0 where
-  pub root : DirectoryEntry
+pub record ListsEntries (entries : List Entry) (listing : Listing) : Type 0 where
+  pub root : Entry
   pub is_root : root_in entries ≡ Ok root
   pub tree : Tree
   pub is_tree : IsTree entries (0 ∷ []) root.child tree
@@ -30,9 +30,9 @@ pub record ListsEntries (entries : List DirectoryEntry) (listing : Listing) : Ty
   pub items : listing.items ≡ items_from None 0 tree
 
 -- no root, or the first fault of the tree of its children
-abbrev pub HasFault : List DirectoryEntry → DirectoryFault → Type 0
+abbrev pub HasFault : List Entry → DirectoryFault → Type 0
 HasFault entries fault = (root_in entries ≡ Err fault)
-    ⊎ ((root : DirectoryEntry) × (way : Way) × (root_in entries ≡ Ok root) × IsFirst entries (0 ∷ []) root.child fault way)
+    ⊎ ((root : Entry) × (way : Way) × (root_in entries ≡ Ok root) × IsFirst entries (0 ∷ []) root.child fault way)
 
 abbrev pub IsDirectory : Bool → List ℕ → Listing → Type 0
 IsDirectory is_wide bytes listing = ListsEntries (entries_of is_wide bytes) listing

@@ -3,11 +3,11 @@
 use Rattle.std.specs.Prelude.{◌≡◌, ℕ, ◌+◌, ◌&&◌, List, [], ◌∷◌, ◌++◌, codes, reverse, nat_eq, Bool, Option, Some, None}
 use Rattle.std.specs.List.{slice_get, position}
 use Rattle.std.specs.Option.{option_or, option_eq}
-use Rattle.xls_directory.specs.Entries.{DirectoryEntry, is_stream, name_of}
+use Rattle.xls_directory.specs.Entries.{Entry, is_stream, name_of}
 use Rattle.xls_directory.specs.Tree.{Tree, empty, node}
 use Rattle.xls_directory.specs.Names.{is_same_name}
 
-pub record DirectoryItem : Type 0 where
+pub record Item : Type 0 where
   -- in UTF-8
   pub name : List ℕ
   -- a stream, or else a storage
@@ -17,7 +17,7 @@ pub record DirectoryItem : Type 0 where
   pub start : ℕ
   pub size : ℕ
 
-abbrev pub item_of : Option ℕ → DirectoryEntry → DirectoryItem
+abbrev pub item_of : Option ℕ → Entry → Item
 item_of parent entry = record {
   name = name_of entry;
   is_stream = is_stream entry;
@@ -32,7 +32,7 @@ count empty = 0
 count (node number entry left children right) = count left + 1 + count children + count right
 
 -- the items of a tree, the first of which has this place; they are held by the parent
-abbrev pub items_from : Option ℕ → ℕ → Tree → List DirectoryItem
+abbrev pub items_from : Option ℕ → ℕ → Tree → List Item
 items_from parent place empty = []
 items_from parent place (node number entry left children right) =
     items_from parent place left
@@ -41,7 +41,7 @@ items_from parent place (node number entry left children right) =
     ++ items_from parent (place + count left + 1 + count children) right))
 
 -- held by the parent, and of this name
-abbrev pub is_child : Option ℕ → List ℕ → DirectoryItem → Bool
+abbrev pub is_child : Option ℕ → List ℕ → Item → Bool
 is_child parent name item = option_eq nat_eq item.parent parent && is_same_name item.name name
 
 -- goes on from a place, where there is one
@@ -50,25 +50,25 @@ onward go None = None
 onward go (Some place) = go (Some place)
 
 -- the place of what the names lead to from a parent on: each time the first that is held and has the name
-abbrev pub find_from : List DirectoryItem → Option ℕ → List (List ℕ) → Option ℕ
+abbrev pub find_from : List Item → Option ℕ → List (List ℕ) → Option ℕ
 find_from items parent [] = parent
 find_from items parent (name ∷ path) =
     onward (λ place. find_from items place path) (position (is_child parent name) items)
 
 -- the place of a stream in the root
-abbrev pub stream_named : List DirectoryItem → List ℕ → Option ℕ
+abbrev pub stream_named : List Item → List ℕ → Option ℕ
 stream_named items name = position (λ item. item.is_stream && is_child None name item) items
 
 -- `Workbook` (BIFF8), or else `Book` (BIFF5)
-abbrev pub workbook : List DirectoryItem → Option ℕ
+abbrev pub workbook : List Item → Option ℕ
 workbook items = option_or (stream_named items (codes "Workbook")) (stream_named items (codes "Book"))
 
 -- the names on the way up from a place to the root, its own first
-abbrev pub Climbs : List DirectoryItem → Option ℕ → List (List ℕ) → Type 0
+abbrev pub Climbs : List Item → Option ℕ → List (List ℕ) → Type 0
 Climbs items place [] = place ≡ None
-Climbs items place (name ∷ names) = (at : ℕ) × (item : DirectoryItem) × (place ≡ Some at)
+Climbs items place (name ∷ names) = (at : ℕ) × (item : Item) × (place ≡ Some at)
     × (slice_get items at ≡ Some item) × (name ≡ item.name) × Climbs items item.parent names
 
 -- the names of the storages that hold what stands at a place, the outermost first, and then its own
-abbrev pub IsPath : List DirectoryItem → ℕ → List (List ℕ) → Type 0
+abbrev pub IsPath : List Item → ℕ → List (List ℕ) → Type 0
 IsPath items place path = Climbs items (Some place) (reverse path)

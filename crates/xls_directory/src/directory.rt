@@ -2,12 +2,12 @@
 
 ghost use Rattle.std.specs.Prelude.{◌≡◌, ◌<◌, ℕ, List, map, length, None, Some, codes, IfOk, IfErr, IfSome, OnOk};
 ghost use Rattle.std.specs.List.{position};
-ghost use Rattle.xls_directory.specs.Items.{DirectoryItem, is_child, find_from, stream_named, workbook, IsPath};
+ghost use Rattle.xls_directory.specs.Items.{Item, is_child, find_from, stream_named, workbook, IsPath};
 ghost use Rattle.xls_directory.specs.Directory.{root_in, IsDirectory, IsRefusal};
 
 use crate::entry::{Entries, Entry};
 use crate::fault::{DirectoryError, DirectoryFault};
-use crate::items::DirectoryItem;
+use crate::items::Item;
 use crate::walk::items_of;
 use std::alloc::{AllocError, Global};
 use std::marker::Model;
@@ -17,7 +17,7 @@ use std::marker::Model;
 pub struct Directory {
     mini_start: u32,
     mini_size: u64,
-    items: Vec<DirectoryItem>,
+    items: Vec<Item>,
 }
 
 impl Model for Directory {
@@ -80,7 +80,7 @@ impl Directory {
     }
 
     /// Storages and streams, in the order of the tree.
-    pub fn items(&self) -> &[DirectoryItem]
+    pub fn items(&self) -> &[Item]
         ensures { result.now ≡ self.now.items }
     {
         self.items.as_slice()

@@ -34,7 +34,7 @@ impl<'a> Model for Entry<'a> {
     ghost use Rattle.std.specs.Prelude.{◌≡◌, length};
     ghost use Rattle.xls_directory.specs.Entries as specs;
 
-    ghost Value = { specs.DirectoryEntry };
+    ghost Value = { specs.Entry };
 
     ghost view = { λ e. record {
       name = e.name.now;
@@ -76,7 +76,7 @@ impl<'a> Entry<'a> {
         requires { 128 ≤ length bytes.now }
         ensures { result ≡ directory_entry_of is_wide bytes.now }
     {
-        DirectoryEntry {
+        Entry {
             name: bytes.split_at(64).0,
             name_size: read_u16(bytes.split_at(64).1),
             kind: bytes[66],
@@ -145,9 +145,9 @@ pub(crate) struct Entries<'a> {
 
 impl<'a> Model for Entries<'a> {
     ghost use Rattle.std.specs.Prelude.{List};
-    ghost use Rattle.xls_directory.specs.Entries.{DirectoryEntry, entries_of};
+    ghost use Rattle.xls_directory.specs.Entries.{Entry, entries_of};
 
-    ghost Value = { List DirectoryEntry };
+    ghost Value = { List Entry };
 
     ghost view = { λ e. entries_of e.is_wide e.bytes.now };
 }

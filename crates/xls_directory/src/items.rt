@@ -23,7 +23,7 @@ impl Model for Item {
     ghost use Rattle.std.specs.String.{string_bytes};
     ghost use Rattle.xls_directory.specs.Items as specs;
 
-    ghost Value = { specs.DirectoryItem };
+    ghost Value = { specs.Item };
 
     ghost view = { λ i. record {
       name = string_bytes i.name;

@@ -4,11 +4,11 @@ use Rattle.std.proofs.Math.ListN.{get_or}
 use Rattle.std.proofs.lemmas.Bool.{cases_lt}
 use Rattle.std.proofs.lemmas.Option.{slice_get_cases}
 use Rattle.std.specs.List.{slice_get}
-use Rattle.xls_directory.specs.Items.{DirectoryItem}
+use Rattle.xls_directory.specs.Items.{Item}
 use Rattle.xls_directory.specs.Directory.{Listing}
 use Rattle.xls_compound.proofs.EntryLemmas.{entries_from_more, entries_from_none}
 use Rattle.xls_compound.specs.Compound.{Compound, RefusesItem}
-use Rattle.xls_compound.specs.Entries.{StreamEntry, IsItem, entry_at, entries_from}
+use Rattle.xls_compound.specs.Entries.{Entry, IsItem, entry_at, entries_from}
 use Rattle.xls_compound.specs.declared.error.CompoundError.{CompoundError}
 use Rattle.xls_compound.specs.declared.error.CompoundError.TheVariants as errors
 use Rattle.xls_container.specs.Files.{fault_of}
@@ -23,16 +23,16 @@ use Rattle.xls_documents.specs.MacroDirectory.{TestsAs, IsFirstDirectory, HasNoD
 -- ---- entries one after another
 
 -- the entries before a place were looked at, and none of them is a directory
-pub record LookedAt (listing : Listing) (left : List StreamEntry) : Type 0 where
+pub record LookedAt (listing : Listing) (left : List Entry) : Type 0 where
   pub place : ℕ
   pub rest : left ≡ entries_from listing place
   pub none_before : (k : ℕ) → k < place → TestsAs (entry_at listing k) false
 
-pub looked_first : (listing : Listing) (left : List StreamEntry) → left ≡ entries_from listing 0 → LookedAt listing left
+pub looked_first : (listing : Listing) (left : List Entry) → left ≡ entries_from listing 0 → LookedAt listing left
 looked_first listing left e = record { place = 0; rest = e; none_before = λ k below. absurd (omega (arith, below)) }
 
 -- the next entry
-next_at : (listing : Listing) (place : ℕ) (entry : StreamEntry) (left : List StreamEntry) → entries_from listing place ≡ entry ∷ left
+next_at : (listing : Listing) (place : ℕ) (entry : Entry) (left : List Entry) → entries_from listing place ≡ entry ∷ left
     → (place < length listing.items) × (entry ≡ entry_at listing place) × (left ≡ entries_from listing (place + 1))
 next_at listing place entry left e = cases (cases_lt place (length listing.items)) where
   cases : (place < length listing.items) ⊎ (length listing.items ≤ place)
@@ -49,17 +49,17 @@ below_next listing place before here k below = cases (cases_lt k place) where
   cases (inr least) = let same : place ≡ k = omega arith in subst (λ (n : ℕ). TestsAs (entry_at listing n) false) same here
   cases (inl less) = before k less
 
-pub looked_next : (listing : Listing) (old left : List StreamEntry) (entry : StreamEntry) → LookedAt listing old → old ≡ entry ∷ left → TestsAs entry false
+pub looked_next : (listing : Listing) (old left : List Entry) (entry : Entry) → LookedAt listing old → old ≡ entry ∷ left → TestsAs entry false
     → LookedAt listing left
 looked_next listing old left entry p e isnt =
     let next = next_at listing p.place entry left (sym p.rest ∙ e) in
     record {
       place = p.place + 1;
       rest = next.2;
-      none_before = below_next listing p.place p.none_before (subst (λ (x : StreamEntry). TestsAs x false) next.1 isnt);
+      none_before = below_next listing p.place p.none_before (subst (λ (x : Entry). TestsAs x false) next.1 isnt);
     }
 
-pub looked_found : (listing : Listing) (old left : List StreamEntry) (entry : StreamEntry) → LookedAt listing old → old ≡ entry ∷ left → TestsAs entry true
+pub looked_found : (listing : Listing) (old left : List Entry) (entry : Entry) → LookedAt listing old → old ≡ entry ∷ left → TestsAs entry true
     → (place : ℕ) × (entry ≡ entry_at listing place) × IsFirstDirectory listing place
 looked_found listing old left entry p e is =
     let next = next_at listing p.place entry left (sym p.rest ∙ e) in (
@@ -67,12 +67,12 @@ looked_found listing old left entry p e is =
       next.1,
       record {
         within = next.0;
-        is_directory = subst (λ (x : StreamEntry). TestsAs x true) next.1 is;
+        is_directory = subst (λ (x : Entry). TestsAs x true) next.1 is;
         is_first = p.none_before;
       },
     )
 
-pub looked_all : (listing : Listing) (left : List StreamEntry) → LookedAt listing left → left ≡ [] → HasNoDirectory listing
+pub looked_all : (listing : Listing) (left : List Entry) → LookedAt listing left → left ≡ [] → HasNoDirectory listing
 looked_all listing left p e k within = cases (cases_lt p.place (length listing.items)) where
   cases : (p.place < length listing.items) ⊎ (length listing.items ≤ p.place) → TestsAs (entry_at listing k) false
   cases (inr past) = p.none_before k (omega (arith, past, within))
@@ -81,22 +81,22 @@ looked_all listing left p e k within = cases (cases_lt p.place (length listing.i
 
 -- ---- the item of a directory
 
-item_at : (items : List DirectoryItem) (place : ℕ) → place < length items → (item : DirectoryItem) × (slice_get items place ≡ Some item)
+item_at : (items : List Item) (place : ℕ) → place < length items → (item : Item) × (slice_get items place ≡ Some item)
 item_at items place within = cases (slice_get_cases items place).1 where
-  cases : ((x : DirectoryItem) × (place < length items) × (slice_get items place ≡ Some x) × (get_or items place x ≡ x))
-      ⊎ ((length items ≤ place) × (slice_get items place ≡ None)) → (item : DirectoryItem) × (slice_get items place ≡ Some item)
+  cases : ((x : Item) × (place < length items) × (slice_get items place ≡ Some x) × (get_or items place x ≡ x))
+      ⊎ ((length items ≤ place) × (slice_get items place ≡ None)) → (item : Item) × (slice_get items place ≡ Some item)
   cases (inl (x, inside, is, same)) = (x, is)
   cases (inr (past, none)) = absurd (omega (arith, past, within))
 
-pub directory_item : (compound : Compound) (entry : StreamEntry) (place : ℕ) → entry ≡ entry_at compound.listing place → IsFirstDirectory compound.listing place
-    → (item : DirectoryItem) × IsDirectoryItem compound item × IsItem entry item
+pub directory_item : (compound : Compound) (entry : Entry) (place : ℕ) → entry ≡ entry_at compound.listing place → IsFirstDirectory compound.listing place
+    → (item : Item) × IsDirectoryItem compound item × IsItem entry item
 directory_item compound entry place e first =
     let found = item_at compound.listing.items place first.within in
-    (found.0, (record { place = place; is_first = first; is_item = found.1 }), subst (λ (x : StreamEntry). IsItem x found.0) (sym e) found.1)
+    (found.0, (record { place = place; is_first = first; is_item = found.1 }), subst (λ (x : Entry). IsItem x found.0) (sym e) found.1)
 
 -- ---- refusals
 
-pub directory_refused : (compound : Compound) (item : DirectoryItem) → IsDirectoryItem compound item → (error : CompoundError)
+pub directory_refused : (compound : Compound) (item : Item) → IsDirectoryItem compound item → (error : CompoundError)
     → RefusesItem compound item error → RefusesDirectory compound (of_file (fault_of error))
 directory_refused compound item is errors.Memory h = tt
 directory_refused compound item is (errors.Stream stream fault) h = (item, is, (λ e. cc e), h)

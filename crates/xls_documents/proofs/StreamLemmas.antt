@@ -2,8 +2,8 @@
 use Rattle.std.proofs.Common.{◌≡◌, ℕ, List, [], ◌∷◌, ◌++◌, map, refl, sym, ap, subst, Bool, true, Bor, codes}
 use Rattle.std.specs.List.{flat_map, join_by}
 use Rattle.xls_decimals.specs.Added.{AddsText}
-use Rattle.xls_directory.specs.Items.{DirectoryItem, IsPath}
-use Rattle.xls_compound.specs.Entries.{StreamEntry, IsItem}
+use Rattle.xls_directory.specs.Items.{Item, IsPath}
+use Rattle.xls_compound.specs.Entries.{Entry, IsItem}
 use Rattle.xls_readable.specs.Items.{NamedItem}
 use Rattle.xls_readable.specs.Lines.{IsLine}
 use Rattle.xls_readable.specs.declared.forms.Form.{Form}
@@ -20,8 +20,8 @@ path_joined [] = refl
 path_joined (x ∷ xs) = ap (λ (l : List ℕ). x.now ++ l) (separated (codes "/") xs)
 
 -- a line of the size and the path of a stream was appended
-pub stream_added : (form : Form) (entry : StreamEntry) (members : List NamedItem) (size : ℕ) (path : List (List ℕ)) (old new : List ℕ)
-    → IsStream entry → ((item : DirectoryItem) → IsItem entry item → size ≡ item.size) → IsPath entry.listing.items entry.place path
+pub stream_added : (form : Form) (entry : Entry) (members : List NamedItem) (size : ℕ) (path : List (List ℕ)) (old new : List ℕ)
+    → IsStream entry → ((item : Item) → IsItem entry item → size ≡ item.size) → IsPath entry.listing.items entry.place path
     → members ≡ stream_members size path → AddsText (IsLine form (codes "stream") members) old new → AddsText (IsEntryText form entry) old new
 stream_added form entry members size path old new stream sized path_is are (out, line, added) =
     let reported : IsItemLine form entry true size out = (path, path_is, subst (λ (m : List NamedItem). IsLine form (codes "stream") m out) are line) in (
@@ -32,6 +32,6 @@ stream_added form entry members size path old new stream sized path_is are (out,
     )
 
 -- a list of the entries in it
-pub each_itself : (entries : List StreamEntry) → flat_map (λ entry. entry ∷ []) entries ≡ entries
+pub each_itself : (entries : List Entry) → flat_map (λ entry. entry ∷ []) entries ≡ entries
 each_itself [] = refl
-each_itself (x ∷ xs) = ap (λ (l : List StreamEntry). x ∷ l) (each_itself xs)
+each_itself (x ∷ xs) = ap (λ (l : List Entry). x ∷ l) (each_itself xs)

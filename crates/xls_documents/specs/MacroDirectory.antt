@@ -2,10 +2,10 @@
 use Rattle.std.specs.Prelude.{◌≡◌, ◌≢◌, ◌⊎◌, ◌&&◌, ◌-◌, ◌<◌, ℕ, List, [], ◌∷◌, length, drop, codes, Bool, true, false, Option, Some, None, Ok}
 use Rattle.std.specs.List.{slice_get}
 use Rattle.std.specs.Str.{str_eq_ignore_ascii_case}
-use Rattle.xls_directory.specs.Items.{DirectoryItem, IsPath}
+use Rattle.xls_directory.specs.Items.{Item, IsPath}
 use Rattle.xls_directory.specs.Directory.{Listing}
 use Rattle.xls_compound.specs.Compound.{Compound, ItemBytes, RefusesItem}
-use Rattle.xls_compound.specs.Entries.{StreamEntry, IsItem, entry_at}
+use Rattle.xls_compound.specs.Entries.{Entry, IsItem, entry_at}
 use Rattle.xls_compound.specs.declared.error.CompoundError.TheVariants as errors
 use Rattle.xls_container.specs.Files.{Container, compound_file, bare_stream}
 use Rattle.xls_container.specs.declared.fault.FileFault.{FileFault}
@@ -31,13 +31,13 @@ abbrev pub is_directory_path : List (List ℕ) → Bool
 is_directory_path path = are_directory_names (drop (length path - 2) path)
 
 -- whether a stream is a directory, by its path; a storage is none
-abbrev pub IsDirectoryTest : StreamEntry → Bool → Bool → Type 0
+abbrev pub IsDirectoryTest : Entry → Bool → Bool → Type 0
 IsDirectoryTest entry true answer = (path : List (List ℕ)) × IsPath entry.listing.items entry.place path × (answer ≡ is_directory_path path)
 IsDirectoryTest entry false answer = answer ≡ false
 
 -- whether an entry is a directory, by the item at its place
-abbrev pub TestsAs : StreamEntry → Bool → Type 0
-TestsAs entry answer = (item : DirectoryItem) → IsItem entry item → IsDirectoryTest entry item.is_stream answer
+abbrev pub TestsAs : Entry → Bool → Type 0
+TestsAs entry answer = (item : Item) → IsItem entry item → IsDirectoryTest entry item.is_stream answer
 
 -- the first directory is that of the project
 pub record IsFirstDirectory (listing : Listing) (place : ℕ) : Type 0 where
@@ -48,14 +48,14 @@ pub record IsFirstDirectory (listing : Listing) (place : ℕ) : Type 0 where
 abbrev pub HasNoDirectory : Listing → Type 0
 HasNoDirectory listing = (k : ℕ) → k < length listing.items → TestsAs (entry_at listing k) false
 
-pub record IsDirectoryItem (compound : Compound) (item : DirectoryItem) : Type 0 where
+pub record IsDirectoryItem (compound : Compound) (item : Item) : Type 0 where
   pub place : ℕ
   pub is_first : IsFirstDirectory compound.listing place
   pub is_item : slice_get compound.listing.items place ≡ Some item
 
 -- the bytes of the directory, compressed as they stand in the file
 abbrev pub MacroDirectoryBytes : Compound → List ℕ → Type 0
-MacroDirectoryBytes compound bytes = (item : DirectoryItem) × IsDirectoryItem compound item × ItemBytes compound item (Ok bytes)
+MacroDirectoryBytes compound bytes = (item : Item) × IsDirectoryItem compound item × ItemBytes compound item (Ok bytes)
 
 -- the project that compressed bytes say
 pub record IsProjectFrom (bytes : List ℕ) (project : Project) : Type 0 where
@@ -99,7 +99,7 @@ RefusesProjectFrom bytes (faults.Directory error) =
 abbrev pub RefusesDirectory : Compound → ProjectFault → Type 0
 RefusesDirectory compound faults.Memory = Unit {0}
 RefusesDirectory compound (faults.File (files.Compound error)) =
-    (item : DirectoryItem) × IsDirectoryItem compound item × (error ≢ errors.Memory) × RefusesItem compound item error
+    (item : Item) × IsDirectoryItem compound item × (error ≢ errors.Memory) × RefusesItem compound item error
 RefusesDirectory compound other = ⊥
 
 -- the first of these

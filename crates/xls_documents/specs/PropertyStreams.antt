@@ -1,7 +1,7 @@
 -- The property streams of a file ([MS-OLEPS]).
 use Rattle.std.specs.Prelude.{◌≡◌, ◌≢◌, ◌⊎◌, ℕ, List, [], ◌∷◌, codes, Option, Some, None, Ok, true}
 use Rattle.std.specs.List.{slice_get}
-use Rattle.xls_directory.specs.Items.{DirectoryItem, find_from}
+use Rattle.xls_directory.specs.Items.{Item, find_from}
 use Rattle.xls_compound.specs.Compound.{Compound, ItemBytes, RefusesItem}
 use Rattle.xls_compound.specs.declared.error.CompoundError.TheVariants as errors
 use Rattle.xls_container.specs.Files.{Container, compound_file, bare_stream}
@@ -18,7 +18,7 @@ abbrev pub DOCUMENT : List ℕ
 DOCUMENT = 0x05 ∷ codes "DocumentSummaryInformation"
 
 -- the first of this name in the root is a stream
-pub record IsStreamNamed (compound : Compound) (name : List ℕ) (item : DirectoryItem) : Type 0 where
+pub record IsStreamNamed (compound : Compound) (name : List ℕ) (item : Item) : Type 0 where
   pub place : ℕ
   pub is_found : find_from compound.listing.items None (name ∷ []) ≡ Some place
   pub is_item : slice_get compound.listing.items place ≡ Some item
@@ -26,14 +26,14 @@ pub record IsStreamNamed (compound : Compound) (name : List ℕ) (item : Directo
 
 -- the bytes of the stream of this name, or none where there is no such stream
 abbrev pub HasStream : Compound → List ℕ → Option (List ℕ) → Type 0
-HasStream compound name None = (item : DirectoryItem) → IsStreamNamed compound name item → ⊥
-HasStream compound name (Some bytes) = (item : DirectoryItem) × IsStreamNamed compound name item × ItemBytes compound item (Ok bytes)
+HasStream compound name None = (item : Item) → IsStreamNamed compound name item → ⊥
+HasStream compound name (Some bytes) = (item : Item) × IsStreamNamed compound name item × ItemBytes compound item (Ok bytes)
 
 -- why its bytes are refused: the first fault of its chain; unless memory ran out
 abbrev pub RefusesStream : Compound → List ℕ → FileFault → Type 0
 RefusesStream compound name faults.Memory = Unit {0}
 RefusesStream compound name (faults.Compound error) =
-    (item : DirectoryItem) × IsStreamNamed compound name item × (error ≢ errors.Memory) × RefusesItem compound item error
+    (item : Item) × IsStreamNamed compound name item × (error ≢ errors.Memory) × RefusesItem compound item error
 RefusesStream compound name other = ⊥
 
 -- what is read of the bytes of the two streams: nothing where neither is there

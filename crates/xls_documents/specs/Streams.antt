@@ -2,8 +2,8 @@
 use Rattle.std.specs.Prelude.{◌≡◌, ℕ, List, [], ◌∷◌, codes, Bool, true, false, Result}
 use Rattle.std.specs.List.{join_by}
 use Rattle.std.specs.String.{string_bytes}
-use Rattle.xls_directory.specs.Items.{DirectoryItem, IsPath}
-use Rattle.xls_compound.specs.Entries.{StreamEntry, IsItem}
+use Rattle.xls_directory.specs.Items.{Item, IsPath}
+use Rattle.xls_compound.specs.Entries.{Entry, IsItem}
 use Rattle.xls_lines.specs.SinkState.{SinkState}
 use Rattle.xls_lines.specs.declared.stop.Stop.{Stop}
 use Rattle.xls_pieces.specs.Each.{PutsEach}
@@ -21,21 +21,21 @@ abbrev pub stream_members : ℕ → List (List ℕ) → List NamedItem
 stream_members size path = (codes "size", count size) ∷ (codes "path", text (path_text path)) ∷ []
 
 -- a stream, or else a storage, which has no line
-abbrev pub IsItemLine : Form → StreamEntry → Bool → ℕ → List ℕ → Type 0
+abbrev pub IsItemLine : Form → Entry → Bool → ℕ → List ℕ → Type 0
 IsItemLine form entry true size out = (path : List (List ℕ)) × IsPath entry.listing.items entry.place path
     × IsLine form (codes "stream") (stream_members size path) out
 IsItemLine form entry false size out = out ≡ []
 
 -- the text of an entry, by the item at its place
-abbrev pub IsEntryText : Form → StreamEntry → List ℕ → Type 0
-IsEntryText form entry out = (item : DirectoryItem) → IsItem entry item → IsItemLine form entry item.is_stream item.size out
+abbrev pub IsEntryText : Form → Entry → List ℕ → Type 0
+IsEntryText form entry out = (item : Item) → IsItem entry item → IsItemLine form entry item.is_stream item.size out
 
 -- ---- for the contracts of one step
 
-abbrev pub IsStream : StreamEntry → Type 0
-IsStream entry = (item : DirectoryItem) → IsItem entry item → item.is_stream ≡ true
+abbrev pub IsStream : Entry → Type 0
+IsStream entry = (item : Item) → IsItem entry item → item.is_stream ≡ true
 
 -- the texts of these entries were gathered; or, where it was given up, a prefix of those of the first so many was written
-abbrev pub PutsEntries : {X : Type 0} → Form → List StreamEntry → SinkState → Pieces → SinkState → Pieces → Result X Stop → Type 0
+abbrev pub PutsEntries : {X : Type 0} → Form → List Entry → SinkState → Pieces → SinkState → Pieces → Result X Stop → Type 0
 PutsEntries form entries before pieces after pieces' result =
     PutsEach (IsEntryText form) entries before (string_bytes pieces.text) after (string_bytes pieces'.text) result

@@ -9,7 +9,7 @@ use Rattle.std.specs.Prelude.{◌==◌, is_some, nat_lt}
 use Rattle.std.specs.Ordering.{nat_cmp}
 use Rattle.std.specs.BTreeMap.{BTreeMap, get, get_by_text}
 use Rattle.xls_text.specs.declared.encoding.XlsEncoding.{XlsEncoding}
-use Rattle.xls_props.specs.Entries.{PropertyEntry, last_of}
+use Rattle.xls_props.specs.Entries.{Entry, last_of}
 use Rattle.xls_props.specs.Names.{Name, HasNames}
 use Rattle.xls_props.specs.Values.{Value, Shows, ShowsValue, value_at}
 use Rattle.xls_props.specs.Custom.{named, custom_of, customs_of, last_named}
@@ -114,10 +114,10 @@ module _ {X Y Z : Type 0} (ns : List Name) (ps : List (List ℕ × Value)) (map 
       by_name (Some name) (Some v) is = by_value name v (last_named name ps) is refl
 
 -- the property of an entry that isn't 0 or 1
-pub custom_named : (ns : List Name) (page : XlsEncoding) (s : List ℕ) (e : PropertyEntry) → nat_lt e.0 2 ≡ false → custom_of ns page s e ≡ named (last_of e.0 ns) (value_at page s e.1)
+pub custom_named : (ns : List Name) (page : XlsEncoding) (s : List ℕ) (e : Entry) → nat_lt e.0 2 ≡ false → custom_of ns page s e ≡ named (last_of e.0 ns) (value_at page s e.1)
 custom_named ns page s e other = rw other
 
-pub custom_one : (ns : List Name) (page : XlsEncoding) (s : List ℕ) (e : PropertyEntry) (name : List ℕ) (v : Value) → nat_lt e.0 2 ≡ false → last_of e.0 ns ≡ Some name → Some v ≡ value_at page s e.1
+pub custom_one : (ns : List Name) (page : XlsEncoding) (s : List ℕ) (e : Entry) (name : List ℕ) (v : Value) → nat_lt e.0 2 ≡ false → last_of e.0 ns ≡ Some name → Some v ≡ value_at page s e.1
     → custom_of ns page s e ≡ (name, v) ∷ []
 custom_one ns page s e name v other is value = rw (other, is, sym value)
 
@@ -143,7 +143,7 @@ walked_none ns map names empty has = record {
 }
 
 -- one entry more from the end
-pub customs_step : (ns : List Name) (page : XlsEncoding) (s : List ℕ) (es : List PropertyEntry) (left : ℕ) (e d : PropertyEntry) → 0 < left → left ≤ length es → e ≡ get_or es (left - 1) d
+pub customs_step : (ns : List Name) (page : XlsEncoding) (s : List ℕ) (es : List Entry) (left : ℕ) (e d : Entry) → 0 < left → left ≤ length es → e ≡ get_or es (left - 1) d
     → customs_of ns page s (drop (left - 1) es) ≡ custom_of ns page s e ++ customs_of ns page s (drop left es)
 customs_step ns page s es left e d some within is =
     let i : left - 1 + 1 ≡ left = omega arith in

@@ -5,7 +5,7 @@ use Rattle.std.specs.Str.{bytes_eq}
 use Rattle.std.specs.BTreeMap.{BTreeMap, get_by_text}
 use Rattle.std.specs.declared.string.String.{String}
 use Rattle.xls_text.specs.declared.encoding.XlsEncoding.{XlsEncoding}
-use Rattle.xls_props.specs.Entries.{PropertyEntry, last_of}
+use Rattle.xls_props.specs.Entries.{Entry, last_of}
 use Rattle.xls_props.specs.Names.{Name}
 use Rattle.xls_props.specs.Values.{Value, value_at, Shows}
 
@@ -15,12 +15,12 @@ named (Some name) (Some v) = (name, v) ∷ []
 named name v = []
 
 -- the custom property of an entry: each entry but 0 and 1 is a property
-abbrev pub custom_of : List Name → XlsEncoding → List ℕ → PropertyEntry → List (List ℕ × Value)
+abbrev pub custom_of : List Name → XlsEncoding → List ℕ → Entry → List (List ℕ × Value)
 custom_of names page s e =
     if nat_lt e.0 2 then [] else named (last_of e.0 names) (value_at page s e.1)
 
 -- those of all entries, in order
-abbrev pub customs_of : List Name → XlsEncoding → List ℕ → List PropertyEntry → List (List ℕ × Value)
+abbrev pub customs_of : List Name → XlsEncoding → List ℕ → List Entry → List (List ℕ × Value)
 customs_of names page s [] = []
 customs_of names page s (e ∷ es) = custom_of names page s e ++ customs_of names page s es
 

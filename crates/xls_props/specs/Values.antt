@@ -13,7 +13,7 @@ use Rattle.xls_text.specs.Pages.{decoded, page_of}
 use Rattle.xls_dates.specs.Numbers.{bits_text}
 use Rattle.xls_props.specs.PropertyTypes.{VT_I2, VT_I4, VT_R8, VT_BOOL, VT_UI4, VT_LPSTR, VT_LPWSTR, VT_FILETIME}
 use Rattle.xls_props.specs.Bytes.{bytes_at, u16_at, i16_at, u32_at, i32_at, u64_at}
-use Rattle.xls_props.specs.Entries.{PropertyEntry, first_of, last_of}
+use Rattle.xls_props.specs.Entries.{Entry, first_of, last_of}
 use Rattle.xls_props.specs.Moments.{IsMoment, past_last_day}
 
 -- what follows where a value is there
@@ -38,7 +38,7 @@ pub data Value : Type 0 where
   Moment : ℕ → Value
 
 -- the number 4 bytes after the first entry 1, where its type is VT_I2
-abbrev pub page_number : List PropertyEntry → List ℕ → Option ℕ
+abbrev pub page_number : List Entry → List ℕ → Option ℕ
 page_number es s = first_of 1 es >>= λ at. u16_at s at >>= λ typ.
     if typ == VT_I2 then u16_at s (at + 4) else None
 
@@ -48,7 +48,7 @@ read_page (Ok page) = page
 read_page (Err e) = Utf8
 
 -- the page of a section, 1200 where it names none
-abbrev pub page_in : List PropertyEntry → List ℕ → XlsEncoding
+abbrev pub page_in : List Entry → List ℕ → XlsEncoding
 page_in es s = read_page (page_of (unwrap_or (page_number es s) 1200))
 
 -- a 32-bit length, and bytes in the page
@@ -103,7 +103,7 @@ abbrev pub value_unless_empty : Option Value → Option Value
 value_unless_empty v = v >>= some_text
 
 -- a field: the value of the last entry of its number, which alone decides
-abbrev pub field : ℕ → List ℕ → List PropertyEntry → XlsEncoding → Option Value
+abbrev pub field : ℕ → List ℕ → List Entry → XlsEncoding → Option Value
 field number s es page = last_of number es >>= λ at. value_unless_empty (value_at page s at)
 
 -- zeros before a number, up to four digits
@@ -120,7 +120,7 @@ version_text n =
     decimal (n / 0x10000) ++ (codes "." ++ (zeros_before (n % 0x10000) ++ decimal (n % 0x10000)))
 
 -- the application's version: the first entry 17 alone, none unless it is a number of 32 bits
-abbrev pub app_version : List ℕ → List PropertyEntry → Option (List ℕ)
+abbrev pub app_version : List ℕ → List Entry → Option (List ℕ)
 app_version s es = first_of 0x17 es >>= λ at. u16_at s at >>= λ typ.
     if (typ == VT_I4) || (typ == VT_UI4) then option_map version_text (u32_at s (at + 4)) else None
 

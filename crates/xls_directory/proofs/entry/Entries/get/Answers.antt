@@ -1,6 +1,6 @@
 use Rattle.std.proofs.Common.{◌<◌, ◌/◌, ◌∙◌, List, length, Some, sym, ap, arith}
 use Rattle.std.specs.List.{slice_get}
-use Rattle.xls_directory.specs.Entries.{DirectoryEntry, directory_entry_of}
+use Rattle.xls_directory.specs.Entries.{Entry, directory_entry_of}
 use Rattle.xls_directory.proofs.EntryLemmas.{length-entries_of, entry_within}
 use Rattle.xls_directory.proofs.entry.Entries.get.Goals as goal
 
@@ -15,6 +15,6 @@ pub returns : goal.returns
 returns c =
     let within : c.args.number < length c.self.inside.bytes.now / 128 =
     omega (arith, length-entries_of c.self.inside.is_wide c.self.inside.bytes.now, ap length c.self.view_is) in
-    ap (λ (e : DirectoryEntry). Some e) (c.of.ensures ∙ ap (directory_entry_of c.self.inside.is_wide) c.split_at.ensures.back)
+    ap (λ (e : Entry). Some e) (c.of.ensures ∙ ap (directory_entry_of c.self.inside.is_wide) c.split_at.ensures.back)
     ∙ sym (entry_within c.self.inside.is_wide c.self.inside.bytes.now c.args.number within)
-    ∙ ap (λ (es : List DirectoryEntry). slice_get es c.args.number) c.self.view_is
+    ∙ ap (λ (es : List Entry). slice_get es c.args.number) c.self.view_is

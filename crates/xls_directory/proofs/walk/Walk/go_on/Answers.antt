@@ -1,7 +1,7 @@
 use Rattle.std.proofs.Common.{◌≡◌, ℕ, Some, length, sym, ◌∙◌, ap, subst}
 use Rattle.xls_directory.specs.declared.tasks.Task.TheVariants as tasks
-use Rattle.xls_directory.specs.Entries.{DirectoryEntry, child_of}
-use Rattle.xls_directory.specs.Items.{DirectoryItem, item_of}
+use Rattle.xls_directory.specs.Entries.{Entry, child_of}
+use Rattle.xls_directory.specs.Items.{Item, item_of}
 use Rattle.xls_directory.specs.Steps.{before, with_item, GoesOn}
 use Rattle.xls_directory.proofs.StepLemmas.{went_on}
 use Rattle.xls_directory.proofs.walk.Walk.go_on.Goals as goal
@@ -10,11 +10,11 @@ use Rattle.xls_directory.proofs.walk.Walk.go_on.Goals as goal
 pub returns-clause-ok : goal.returns-clause-ok
 returns-clause-ok c =
     let entry = c.args.entry in
-    let right : c.entry.inside.right ≡ entry.right = ap (λ (e : DirectoryEntry). e.right) c.entry.view_is in
+    let right : c.entry.inside.right ≡ entry.right = ap (λ (e : Entry). e.right) c.entry.view_is in
     let place : c.next_place-place.result ≡ length c.args.self.now.items = c.next_place-place.ensures in
     let item : c.in_ok-of.field-0 ≡ item_of c.args.parent entry = c.in_ok-of.ensures in
     let listed : c.list.new.self ≡ with_item (item_of c.args.parent entry) c.args.self.now =
-    c.in_ok-list.ensures.ok ∙ ap (λ (i : DirectoryItem). with_item i c.args.self.now) item in
+    c.in_ok-list.ensures.ok ∙ ap (λ (i : Item). with_item i c.args.self.now) item in
     let put : c.put.new.self ≡ before (tasks.Tree entry.right c.args.parent) (with_item (item_of c.args.parent entry) c.args.self.now) =
     c.in_ok-put.ensures.ok ∙ ap (λ (n : ℕ). before (tasks.Tree n c.args.parent) c.list.new.self) right
     ∙ ap (before (tasks.Tree entry.right c.args.parent)) listed in

@@ -1,6 +1,6 @@
 use Rattle.std.proofs.Common.{◌≡◌, ℕ, sym, ◌∙◌, ap, subst}
 use Rattle.xls_directory.specs.declared.tasks.Task.TheVariants as tasks
-use Rattle.xls_directory.specs.Entries.{DirectoryEntry}
+use Rattle.xls_directory.specs.Entries.{Entry}
 use Rattle.xls_directory.specs.Steps.{before, after_meeting, GoesOn}
 use Rattle.xls_directory.proofs.StepLemmas.{skipped, visited}
 use Rattle.xls_directory.proofs.walk.Walk.visit.Goals as goal
@@ -14,7 +14,7 @@ returns-then-number-eq-NONE-clause-ok c =
 pub returns-clause-ok : goal.returns-clause-ok
 returns-clause-ok c =
     let entry = c.in_ok-entry.entry in
-    let left : c.entry.inside.left ≡ entry.left = ap (λ (e : DirectoryEntry). e.left) c.entry.view_is in
+    let left : c.entry.inside.left ≡ entry.left = ap (λ (e : Entry). e.left) c.entry.view_is in
     let state : c.put-2.new.self ≡ before (tasks.Tree entry.left c.args.parent) (before (tasks.Rest entry c.args.parent) (after_meeting c.args.number c.args.self.now)) =
     c.in_ok-put-2.ensures.ok ∙ ap (λ (n : ℕ). before (tasks.Tree n c.args.parent) c.put.new.self) left
     ∙ ap (before (tasks.Tree entry.left c.args.parent)) (c.in_ok-put.ensures.ok ∙ ap (before (tasks.Rest entry c.args.parent)) c.in_ok-entry.ensures.ok) in
