@@ -7,7 +7,7 @@ ghost use Rattle.xls_data.specs.Numeric.{numeric_content};
 ghost use Rattle.xls_cursors.specs.Values.{lent_content};
 
 use crate::items::{CellItem, Span};
-use crate::numbers::{bits_of, number_form};
+use crate::numbers::{bits_of, form_of};
 use xls_data::{CellErrorType, Number, Numeric};
 use xls_view::CellValue;
 
