@@ -9,7 +9,7 @@ use Rattle.xls_stream.specs.Substreams.{groups_of}
 use Rattle.xls_stream.specs.StringTable.{Mark, prefix_of}
 use Rattle.xls_stream.specs.Listing.{Kept, ListEntry, plain_entry, table_entry, sheet_entry}
 use Rattle.xls_stream.specs.declared.types.TheConstants as types
-use Rattle.xls_layouts.specs.LaidStrings.{le32, bytes_in, LaidString, Step, put, cut, marks_of_steps, AreSteps, laid_units, head_bytes, marks_of_break, marks_of_string, IsLaidString, marks_of_strings, pieces_of, table_group}
+use Rattle.xls_layouts.specs.LaidStrings.{le32, bytes_in, LaidString, Step, put, cut, marks_of_steps, AreSteps, code_units, head_bytes, marks_of_break, marks_of_string, IsLaidString, marks_of_strings, pieces_of, table_group}
 use Rattle.xls_layouts.specs.Layout.{eof_group, bytes_of_globals, bytes_of_part, sheet_body, lay, offset_in}
 use Rattle.xls_layouts.specs.Canonical.{canonical_string, canonical_strings, bare_group, canonical_records, sheet_bof, canonical_part, canonical_parts, counts_of, canonical_items, canonical, fill_from, AreBytes, FitsKept, FitsString, Fits}
 use Rattle.xls_layouts.proofs.TypeLemmas.{globals_below, sheet_below}
@@ -85,10 +85,10 @@ head_is false count h = (omega arith, (omega arith, (lit< tt, tt)))
 string_bytes : (used : ℕ) (us : List ℕ) → IsLaidString (canonical_string used us) → AreMarkBytes (marks_of_string (canonical_string used us))
 string_bytes used us h =
     let s = canonical_string used us in
-    both_marks (marks_of_break s.begins_piece) (map Some (head_bytes s.wide (length (laid_units s)) None None) ++ (marks_of_steps s.wide s.steps ++ []))
+    both_marks (marks_of_break s.begins_piece) (map Some (head_bytes s.wide (length (code_units s)) None None) ++ (marks_of_steps s.wide s.steps ++ []))
     (break_bytes s.begins_piece)
-    (both_marks (map Some (head_bytes s.wide (length (laid_units s)) None None)) (marks_of_steps s.wide s.steps ++ [])
-    (head_is s.wide (length (laid_units s)) h.count)
+    (both_marks (map Some (head_bytes s.wide (length (code_units s)) None None)) (marks_of_steps s.wide s.steps ++ [])
+    (head_is s.wide (length (code_units s)) h.count)
     (both_marks (marks_of_steps s.wide s.steps) [] (steps_bytes s.wide s.steps h.steps) tt))
 
 strings_bytes : (used : ℕ) (strings : List (List ℕ)) → AllByRecursion IsLaidString (canonical_strings used strings) → AreMarkBytes (marks_of_strings (canonical_strings used strings))

@@ -5,7 +5,7 @@ use Rattle.std.specs.List.{AllByRecursion}
 use Rattle.std.proofs.lemmas.List.{drop_at, length-map, length-append}
 use Rattle.xls_bytes.specs.Numbers.{le, le16}
 use Rattle.xls_stream.specs.StringTable.{Mark, is_wide, prefix_of, marked, with_unit, units_at, tail_at, has_runs, has_extension, head_at, with_tail, with_units, with_head, str_at, next_at, Table}
-use Rattle.xls_layouts.specs.LaidStrings.{le32, Step, put, cut, wide_bit, marks_of_steps, units_of_steps, AreSteps, bytes_in, IsCutWell, number_or_zero, LaidString, laid_units, head_bytes, marks_of_break, marks_of_string, IsLaidString, marks_of_strings, lists_of, pieces_of, IsLaidTable}
+use Rattle.xls_layouts.specs.LaidStrings.{le32, Step, put, cut, wide_bit, marks_of_steps, units_of_steps, AreSteps, bytes_in, IsCutWell, number_or_zero, LaidString, code_units, head_bytes, marks_of_break, marks_of_string, IsLaidString, marks_of_strings, lists_of, pieces_of, IsLaidTable}
 
 over_mark : (n : ℕ) (wide next : Bool) (ms : List Mark) → 0 < n → units_at n wide (None ∷ Some (wide_bit next) ∷ ms) ≡ units_at n next ms
 unfolding units_at
@@ -80,21 +80,21 @@ laid_head true count (Some r) (Some x) prefix hc hr hx = head_nine true 13 r x c
 laid_head false count (Some r) (Some x) prefix hc hr hx = head_nine false 12 r x count prefix refl refl refl hc hr hx
 
 -- a head, units and what is behind them
-str_laid : (s : LaidString) (rest : List Mark) → IsLaidString s → str_at (map Some (head_bytes s.wide (length (laid_units s)) s.runs s.extension) ++ (marks_of_steps s.wide s.steps ++ (s.following ++ rest))) ≡ Ok (laid_units s, rest)
+str_laid : (s : LaidString) (rest : List Mark) → IsLaidString s → str_at (map Some (head_bytes s.wide (length (code_units s)) s.runs s.extension) ++ (marks_of_steps s.wide s.steps ++ (s.following ++ rest))) ≡ Ok (code_units s, rest)
 str_laid s rest h =
-    let bytes = head_bytes s.wide (length (laid_units s)) s.runs s.extension in
+    let bytes = head_bytes s.wide (length (code_units s)) s.runs s.extension in
     let more = marks_of_steps s.wide s.steps ++ (s.following ++ rest) in
     let ms = map Some bytes ++ more in
     let size = 4 * number_or_zero s.runs + number_or_zero s.extension in
-    let first : head_at (prefix_of ms) ≡ Ok (record { len = length bytes; count = length (laid_units s); wide = s.wide; following = Some size }) =
-    ap head_at (prefix_over bytes more) ∙ laid_head s.wide (length (laid_units s)) s.runs s.extension (prefix_of more) h.count h.runs h.extension in
+    let first : head_at (prefix_of ms) ≡ Ok (record { len = length bytes; count = length (code_units s); wide = s.wide; following = Some size }) =
+    ap head_at (prefix_over bytes more) ∙ laid_head s.wide (length (code_units s)) s.runs s.extension (prefix_of more) h.count h.runs h.extension in
     let left : drop (length bytes) ms ≡ more = drop_at (map Some bytes) more (length bytes) (length-map bytes Some) in
-    let us : units_at (length (laid_units s)) s.wide more ≡ Some (laid_units s, s.following ++ rest) = laid_units s.wide s.steps (s.following ++ rest) h.steps in
+    let us : units_at (length (code_units s)) s.wide more ≡ Some (code_units s, s.following ++ rest) = laid_units s.wide s.steps (s.following ++ rest) h.steps in
     let end : tail_at size (s.following ++ rest) ≡ Some rest = subst (λ (n : ℕ). tail_at n (s.following ++ rest) ≡ Some rest) h.all_after (laid_tail s.following rest h.cut_well) in
     ap (with_head ms) first
-    ∙ ap (λ (x : List Mark). with_units (Some size) (units_at (length (laid_units s)) s.wide x)) left
+    ∙ ap (λ (x : List Mark). with_units (Some size) (units_at (length (code_units s)) s.wide x)) left
     ∙ ap (with_units (Some size)) us
-    ∙ ap (with_tail (laid_units s)) end
+    ∙ ap (with_tail (code_units s)) end
 
 at_break : (b : Bool) (x : ℕ) (ms : List Mark) → next_at (marks_of_break b ++ (Some x ∷ ms)) ≡ str_at (Some x ∷ ms)
 at_break true x ms = refl
@@ -103,9 +103,9 @@ at_break false x ms = refl
 regroup : (a b c d e : List Mark) → (a ++ (b ++ (c ++ d))) ++ e ≡ a ++ (b ++ (c ++ (d ++ e)))
 regroup a b c d e = simp append_assoc
 
-pub laid_string : (s : LaidString) (rest : List Mark) → IsLaidString s → next_at (marks_of_string s ++ rest) ≡ Ok (laid_units s, rest)
+pub laid_string : (s : LaidString) (rest : List Mark) → IsLaidString s → next_at (marks_of_string s ++ rest) ≡ Ok (code_units s, rest)
 laid_string s rest h =
-    let bytes = head_bytes s.wide (length (laid_units s)) s.runs s.extension in
+    let bytes = head_bytes s.wide (length (code_units s)) s.runs s.extension in
     ap next_at (regroup (marks_of_break s.begins_piece) (map Some bytes) (marks_of_steps s.wide s.steps) s.following rest)
     ∙ at_break s.begins_piece _ _
     ∙ str_laid s rest h

@@ -10,7 +10,7 @@ use Rattle.xls_record.specs.declared.error.XlsError.{XlsError}
 use Rattle.xls_record.specs.declared.error.XlsError.TheVariants as errors
 use Rattle.xls_strings.specs.Sst.{FailsTable, ReadsTable, CountsTable, InTable, sst_marks}
 use Rattle.xls_layouts.specs.TableGrammar.{IsStringTable}
-use Rattle.xls_layouts.specs.LaidStrings.{LaidString, laid_units, IsLaidString, marks_of_strings, lists_of, pieces_of, IsLaidTable}
+use Rattle.xls_layouts.specs.LaidStrings.{LaidString, code_units, IsLaidString, marks_of_strings, lists_of, pieces_of, IsLaidTable}
 use Rattle.xls_layouts.specs.Laws.{GivesTexts}
 use Rattle.xls_layouts.proofs.LaidTableLemmas.{table_of_laid, laid_sst, laid_eight}
 use Rattle.xls_layouts.proofs.GrammarLemmas.{same_tables}
@@ -35,7 +35,7 @@ texts_by ms strings (Err e) t r = no_fault ms (lists_of strings) e t r
 
 count_by : (ms : List Mark) (strings : List LaidString) (result : Result ℕ XlsError) → Table ms (lists_of strings) → CountsTable ms result → result ≡ Ok (length strings)
 count_by ms strings (Ok n) t r =
-    ap (λ (x : ℕ). Ok x) (r.2 ∙ ap length ((one_reading ms).table r.0 (lists_of strings) r.1 t) ∙ length-map strings laid_units)
+    ap (λ (x : ℕ). Ok x) (r.2 ∙ ap length ((one_reading ms).table r.0 (lists_of strings) r.1 t) ∙ length-map strings code_units)
 count_by ms strings (Err e) t r = absurd (no_fault ms (lists_of strings) e t r)
 
 pub laid_texts : (first : List ℕ) (strings : List LaidString) → IsLaidTable first strings → (result : Result (List (List ℕ)) XlsError)

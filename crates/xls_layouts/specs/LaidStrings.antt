@@ -80,8 +80,8 @@ pub record LaidString : Type 0 where
   pub steps : List Step
   pub following : List Mark
 
-abbrev pub laid_units : LaidString → List ℕ
-laid_units s = units_of_steps s.steps
+abbrev pub code_units : LaidString → List ℕ
+code_units s = units_of_steps s.steps
 
 -- this bit of the flags byte if there is such a number
 abbrev pub bit_of : Option ℕ → ℕ → ℕ
@@ -112,11 +112,11 @@ marks_of_break false = []
 abbrev pub marks_of_string : LaidString → List Mark
 marks_of_string s =
     marks_of_break s.begins_piece
-    ++ (map Some (head_bytes s.wide (length (laid_units s)) s.runs s.extension) ++ (marks_of_steps s.wide s.steps ++ s.following))
+    ++ (map Some (head_bytes s.wide (length (code_units s)) s.runs s.extension) ++ (marks_of_steps s.wide s.steps ++ s.following))
 
 -- at most 65,535 units and as many runs, each of four bytes; at most 2 ^ 31 - 1 extension bytes
 pub record IsLaidString (s : LaidString) : Type 0 where
-  pub count : length (laid_units s) < 2 ^ 16
+  pub count : length (code_units s) < 2 ^ 16
   pub steps : AreSteps s.wide s.steps
   pub runs : number_or_zero s.runs < 2 ^ 16
   pub extension : number_or_zero s.extension < 2 ^ 31
@@ -129,7 +129,7 @@ abbrev pub marks_of_strings : List LaidString → List Mark
 marks_of_strings strings = flat_map marks_of_string strings
 
 abbrev pub lists_of : List LaidString → List (List ℕ)
-lists_of strings = map laid_units strings
+lists_of strings = map code_units strings
 
 -- the pieces after the first: one for each mark
 abbrev pub pieces_of : List Mark → List (List ℕ)
