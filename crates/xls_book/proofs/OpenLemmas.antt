@@ -1,5 +1,5 @@
 -- The workbook of a view, and why there is none.
-use Rattle.std.proofs.Common.{◌≡◌, ℕ, suc, ◌+◌, ◌≤◌, List, [], ◌∷◌, length, refl, sym, ap, subst, ◌∙◌, Option, Some, None, Result, Ok, Err}
+use Rattle.std.proofs.Common.{◌≡◌, ℕ, suc, ◌≤◌, List, [], ◌∷◌, length, refl, sym, ap, subst, ◌∙◌, Option, Some, None, Result, Ok, Err}
 use Rattle.std.specs.Prelude.{IfErr, IfOk, IfSome}
 use Rattle.std.specs.List.{AllByRecursion, AllZip}
 use Rattle.std.proofs.lemmas.List.{length-map}
@@ -7,8 +7,9 @@ use Rattle.xls_record.specs.declared.error.XlsError.{XlsError}
 use Rattle.xls_record.specs.declared.error.XlsError.TheVariants as errors
 use Rattle.xls_meaning.specs.Settings.{Settings, SheetRecords, settings_of, sheets_of}
 use Rattle.xls_meaning.specs.Reading.{IsReading, IsDisplayed, SheetView}
-use Rattle.std.specs.Io.KnownBytes.{Consumes, IsAtEnd}
+use Rattle.std.specs.Io.KnownBytes.{IsAtEnd}
 use Rattle.xls_source.specs.Bounded.{ReadCause}
+use Rattle.xls_source.specs.SourceState.{SourceState, TakesWithin}
 use Rattle.xls_open.specs.Opening.{IsOfOpening, IsOpened, OpenCause, Opens}
 use Rattle.xls_open.specs.Workbook.{IsOrdered, Workbook, rules_of}
 use Rattle.xls_open.specs.declared.options.XlsOptions.{XlsOptions}
@@ -68,66 +69,62 @@ open_ok options bytes None (Ok book) same within o = tt
 open_ok options bytes (Some all) (Ok book) same within o = subst (IsOpened options book) (sym same) (opened options bytes book within o)
 open_ok options bytes left (Err e) same within o = tt
 
-view_cause : (options : XlsOptions) (bytes : List ℕ) (left : Option (List ℕ)) (before now : ℕ) (e : XlsError) → IfSome left (λ all. all ≡ bytes)
-    → length bytes ≤ options.max_bytes → ViewCause options bytes e → OpenCause options left before now e
-view_cause options bytes left before now errors.Memory same within c = tt
-view_cause options bytes left before now e same within c = checked_cause options bytes left before now e same within c
+view_cause : (options : XlsOptions) (bytes : List ℕ) (was now : SourceState) (e : XlsError) → IfSome was.left (λ all. all ≡ bytes)
+    → length bytes ≤ options.max_bytes → ViewCause options bytes e → OpenCause options was now e
+view_cause options bytes was now errors.Memory same within c = tt
+view_cause options bytes was now e same within c = checked_cause options bytes was now e same within c
 
 view_named : (options : XlsOptions) (bytes : List ℕ) (e : XlsError) → ViewCause options bytes e → IsOfOpening e
 view_named options bytes errors.Memory c = tt
 view_named options bytes e c = checked_named options bytes e c
 
-open_cause : (options : XlsOptions) (bytes : List ℕ) (left : Option (List ℕ)) (before now : ℕ) (r : Result Workbook XlsError) → IfSome left (λ all. all ≡ bytes)
-    → length bytes ≤ options.max_bytes → OpensBytes options bytes r → IfErr r (OpenCause options left before now)
-open_cause options bytes left before now (Ok book) same within o = tt
-open_cause options bytes left before now (Err e) same within o = view_cause options bytes left before now e same within o
+open_cause : (options : XlsOptions) (bytes : List ℕ) (was now : SourceState) (r : Result Workbook XlsError) → IfSome was.left (λ all. all ≡ bytes)
+    → length bytes ≤ options.max_bytes → OpensBytes options bytes r → IfErr r (OpenCause options was now)
+open_cause options bytes was now (Ok book) same within o = tt
+open_cause options bytes was now (Err e) same within o = view_cause options bytes was now e same within o
 
 open_named : (options : XlsOptions) (bytes : List ℕ) (r : Result Workbook XlsError) → OpensBytes options bytes r → IfErr r IsOfOpening
 open_named options bytes (Ok book) o = tt
 open_named options bytes (Err e) o = view_named options bytes e o
 
--- what was taken of a source: at most one byte more than the limit
-abbrev Prefix : XlsOptions → Option (List ℕ) → Option (List ℕ) → Type 0
-Prefix options left after = (taken : List ℕ) × (length taken ≤ options.max_bytes + 1) × Consumes left after taken
-
 -- the read was refused
-pub refused_open : (options : XlsOptions) (left after : Option (List ℕ)) (before now : ℕ) (e : XlsError) → ReadCause options.max_bytes left before now e
-    → Prefix options left after → before ≤ now → Opens options left after before now (Err e)
-refused_open options left after before now e c prefix count =
-    let cause = read_cause options left before now e c in
+pub refused_open : (options : XlsOptions) (was now : SourceState) (e : XlsError) → ReadCause options.max_bytes was now e
+    → TakesWithin options.max_bytes was now → was.faults ≤ now.faults → Opens options was now (Err e)
+refused_open options was now e c prefix count =
+    let cause = read_cause options was now e c in
     record {
       ok = tt;
       end = tt;
       cause = cause;
-      named = read_named options.max_bytes left before now e c;
-      complete = λ quiet. complete {B = Workbook} options left before now (Err e) cause quiet;
+      named = read_named options.max_bytes was now e c;
+      complete = λ quiet. complete {B = Workbook} options was now (Err e) cause quiet;
       prefix = prefix;
       count = count;
       faultless = tt;
     }
 
 -- all was read, and these are the bytes
-pub bytes_open : (options : XlsOptions) (bytes : List ℕ) (left after : Option (List ℕ)) (before now : ℕ) (r : Result Workbook XlsError)
-    → IfSome left (λ all. all ≡ bytes) → length bytes ≤ options.max_bytes → OpensBytes options bytes r → IsAtEnd after
-    → Prefix options left after → before ≤ now → now ≡ before → Opens options left after before now r
-bytes_open options bytes left after before now (Ok book) same within o end prefix count faultless = record {
-  ok = open_ok options bytes left (Ok book) same within o;
+pub bytes_open : (options : XlsOptions) (bytes : List ℕ) (was now : SourceState) (r : Result Workbook XlsError)
+    → IfSome was.left (λ all. all ≡ bytes) → length bytes ≤ options.max_bytes → OpensBytes options bytes r → IsAtEnd now.left
+    → TakesWithin options.max_bytes was now → was.faults ≤ now.faults → now.faults ≡ was.faults → Opens options was now r
+bytes_open options bytes was now (Ok book) same within o end prefix count faultless = record {
+  ok = open_ok options bytes was.left (Ok book) same within o;
   end = end;
   cause = tt;
   named = tt;
-  complete = λ quiet. complete {B = Workbook} options left before now (Ok book) tt quiet;
+  complete = λ quiet. complete {B = Workbook} options was now (Ok book) tt quiet;
   prefix = prefix;
   count = count;
   faultless = faultless;
 }
-bytes_open options bytes left after before now (Err e) same within o end prefix count faultless =
-    let cause = open_cause options bytes left before now (Err e) same within o in
+bytes_open options bytes was now (Err e) same within o end prefix count faultless =
+    let cause = open_cause options bytes was now (Err e) same within o in
     record {
       ok = tt;
       end = tt;
       cause = cause;
       named = open_named options bytes (Err e) o;
-      complete = λ quiet. complete {B = Workbook} options left before now (Err e) cause quiet;
+      complete = λ quiet. complete {B = Workbook} options was now (Err e) cause quiet;
       prefix = prefix;
       count = count;
       faultless = tt;

@@ -11,6 +11,7 @@ ghost use Rattle.xls_record.specs.declared.error.XlsError.TheVariants.{Memory};
 ghost use Rattle.xls_meaning.specs.Reading.{SheetView};
 ghost use Rattle.xls_open.specs.Workbook.{Workbook, name_texts, view_named};
 ghost use Rattle.xls_book.specs.LookUps.{AreWorksheets, IsRangeOf, IsTextBox, NameCause, is_empty_text, sheet_names_in, under_header};
+ghost use Rattle.xls_source.specs.SourceState.{SourceState};
 ghost use Rattle.xls_open.specs.Opening.{Opens, default_options};
 
 use crate::ranges::{range_of, text_box_of};
@@ -36,13 +37,12 @@ pub trait Reader: Sized {
     /// That memory ran out.
     ghost runs_out: { Self.Error → Type 0 };
 
-    /// What opening answers of a source that had and has this left, with the count of its faults
-    /// before and after.
-    ghost opens: { Option (List ℕ) → Option (List ℕ) → ℕ → ℕ → Result Self Self.Error → Type 0 };
+    /// What opening answers, by the states of the source before and after it.
+    ghost opens: { SourceState → SourceState → Result Self Self.Error → Type 0 };
 
     /// Reads the source to its end and opens its bytes, with the options by default.
     fn new<S: Source>(alloc: Global, source: &mut S) -> Result<Self, Self::Error>
-        ensures { opens (S.left source.old) (S.left source.new) (S.faults source.old) (S.faults source.new) result };
+        ensures { opens (S.state source.old) (S.state source.new) result };
 
     /// Sets the first row of the ranges. Takes no memory.
     fn with_header_row(&mut self, header_row: HeaderRow) -> &mut Self
@@ -108,7 +108,7 @@ pub fn open_workbook_from_rs<R: Reader, S: Source>(
     alloc: Global,
     source: &mut S,
 ) -> Result<R, R::Error>
-    ensures { R.opens (S.left source.old) (S.left source.new) (S.faults source.old) (S.faults source.new) result }
+    ensures { R.opens (S.state source.old) (S.state source.new) result }
 {
     R::new(alloc, source)
 }

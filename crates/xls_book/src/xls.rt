@@ -149,7 +149,7 @@ impl Xls {
         source: &mut S,
         options: XlsOptions,
     ) -> Result<Xls, XlsError>
-        ensures opens { Opens options (S.left source.old) (S.left source.new) (S.faults source.old) (S.faults source.new) result }
+        ensures opens { Opens options (S.state source.old) (S.state source.new) result }
 
         // Another answer than `Io`, `TooLarge` and `Memory` comes only at the end of the source.
         ensures ended { AnswersAtEnd options.max_bytes (S.ended source.new) result }

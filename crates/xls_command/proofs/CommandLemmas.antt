@@ -10,6 +10,7 @@ use Rattle.xls_open.proofs.SameLemmas.{same_list_same_book}
 use Rattle.xls_meaning.specs.Faults.{IsSound}
 use Rattle.xls_open.specs.Opening.{IsOpened, default_options, default_rules}
 use Rattle.xls_source.specs.Bounded.{ReadCause}
+use Rattle.xls_source.specs.SourceState.{SourceState}
 use Rattle.xls_lines.specs.SinkState.{SinkState, TakesEach}
 use Rattle.xls_report.specs.Report.{fault_line}
 use Rattle.xls_command.specs.Outputs.{IsOutput, IsRefusalText, MayWrite, ReadsNothing, EndsBy, Spec, reading, accepting_sound, spec_of, IsNameLine, HasSheet, HasCanonical}
@@ -156,20 +157,20 @@ module _ (c : Command) (command : IsReading (spec_of c)) (left left' : Option (L
 -- ---- the source was refused
 
 -- by the line of too many bytes
-line_of_cause : (c : Spec) → IsReading c → (left : Option (List ℕ)) (f f' : ℕ) (e : XlsError)
-    → ReadCause default_options.max_bytes left f f' e → IsStreamFault e → c.refusal left (fault_line e)
-line_of_cause c command left f f' errors.Io cause fault = absurd (fault.0 refl)
-line_of_cause c command left f f' errors.Memory cause fault = absurd (fault.1 refl)
-line_of_cause c command left f f' (errors.TooLarge n) cause fault =
-    subst (λ (k : ℕ). c.refusal left (fault_line (errors.TooLarge k))) (sym cause.0) (command.too_long left cause.1)
-line_of_cause c command left f f' e cause fault = absurd cause
+line_of_cause : (c : Spec) → IsReading c → (was now : SourceState) (e : XlsError)
+    → ReadCause default_options.max_bytes was now e → IsStreamFault e → c.refusal was.left (fault_line e)
+line_of_cause c command was now errors.Io cause fault = absurd (fault.0 refl)
+line_of_cause c command was now errors.Memory cause fault = absurd (fault.1 refl)
+line_of_cause c command was now (errors.TooLarge n) cause fault =
+    subst (λ (k : ℕ). c.refusal was.left (fault_line (errors.TooLarge k))) (sym cause.0) (command.too_long was.left cause.1)
+line_of_cause c command was now e cause fault = absurd cause
 
-module _ (c : Command) (command : IsReading (spec_of c)) (left : Option (List ℕ)) (f f' : ℕ) (before after : SinkState) (r : Result Ending Stop) (e : XlsError) where
-  pub ends-of_cause : ReadCause default_options.max_bytes left f f' e → EndsWithError e before after r → Ends c left before after r
+module _ (c : Command) (command : IsReading (spec_of c)) (was now : SourceState) (before after : SinkState) (r : Result Ending Stop) (e : XlsError) where
+  pub ends-of_cause : ReadCause default_options.max_bytes was now e → EndsWithError e before after r → Ends c was.left before after r
   ends-of_cause cause =
-      let line = line_of_cause (spec_of c) command left f f' e cause in
-      ends-error c left before after r e (command.left_out left) (λ fault. command.refused left (fault_line e) (line fault)) line
+      let line = line_of_cause (spec_of c) command was now e cause in
+      ends-error c was.left before after r e (command.left_out was.left) (λ fault. command.refused was.left (fault_line e) (line fault)) line
 
-  pub steady-of_cause : ReadCause default_options.max_bytes left f f' e → EndsWithError e before after r
-      → TakesEach before (MayWrite c left) → after.faults ≡ before.faults
-  steady-of_cause cause = steady-error c left before after r e (line_of_cause (spec_of c) command left f f' e cause)
+  pub steady-of_cause : ReadCause default_options.max_bytes was now e → EndsWithError e before after r
+      → TakesEach before (MayWrite c was.left) → after.faults ≡ before.faults
+  steady-of_cause cause = steady-error c was.left before after r e (line_of_cause (spec_of c) command was now e cause)

@@ -8,6 +8,7 @@ use Rattle.xls_meaning.specs.Faults.{FirstFault}
 use Rattle.xls_open.specs.Workbook.{Workbook, view_of}
 use Rattle.xls_open.specs.Opening.{IsOpened, default_options, default_rules}
 use Rattle.xls_source.specs.Causes.{Rose}
+use Rattle.xls_source.specs.SourceState.{SourceState}
 use Rattle.xls_lines.specs.SinkState.{SinkState}
 use Rattle.xls_lines.specs.Written.{Writes, WritesPart}
 use Rattle.xls_report.specs.declared.ending.Ending.{Ending}
@@ -21,13 +22,13 @@ use Rattle.xls_command.specs.declared.command.Command.{Command}
 abbrev pub IsQuiet : ℕ → ℕ → Type 0
 IsQuiet before now = Rose before now → ⊥
 
--- what a command does to a source that had and has this left, with the counts of its faults
-abbrev pub Reads : Command → Option (List ℕ) → Option (List ℕ) → ℕ → ℕ → Result Ending Stop → Type 0
-Reads c left left' faults faults' (Ok Done) = HasRead c left left' × (faults' ≡ faults)
-Reads c left left' faults faults' (Ok Refused) = Unit {0}
-Reads c left left' faults faults' (Err Read) = (ReadsNothing c → ⊥) × Rose faults faults'
-Reads c left left' faults faults' (Err Write) = Unit {0}
-Reads c left left' faults faults' (Err Memory) = Unit {0}
+-- what a command does to a source, from one state to the next
+abbrev pub Reads : Command → SourceState → SourceState → Result Ending Stop → Type 0
+Reads c was now (Ok Done) = HasRead c was now × (now.faults ≡ was.faults)
+Reads c was now (Ok Refused) = Unit {0}
+Reads c was now (Err Read) = (ReadsNothing c → ⊥) × Rose was.faults now.faults
+Reads c was now (Err Write) = Unit {0}
+Reads c was now (Err Memory) = Unit {0}
 
 -- what a command over a source that had this left does to a sink
 abbrev pub Ends : Command → Option (List ℕ) → SinkState → SinkState → Result Ending Stop → Type 0

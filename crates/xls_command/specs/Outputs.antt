@@ -2,6 +2,7 @@
 use Rattle.std.specs.Prelude.{◌≡◌, ◌≢◌, ◌⊎◌, ℕ, ◌<◌, ◌≤◌, ◌^◌, List, length, Option, None, IfSome}
 use Rattle.std.specs.Str.{chars}
 use Rattle.std.specs.Io.KnownBytes.{IsAtEnd}
+use Rattle.xls_source.specs.SourceState.{SourceState}
 use Rattle.xls_record.specs.declared.error.XlsError.TheVariants.{TooLarge}
 use Rattle.xls_open.specs.Workbook.{Workbook, view_named, view_of}
 use Rattle.xls_meaning.specs.Reading.{BookView}
@@ -21,7 +22,7 @@ use Rattle.xls_command.specs.declared.command.Command.TheVariants.{Dump, Sheets,
 -- and the line where its input is refused; and how it ends where neither source nor sink fails
 pub record Spec : Type 1 where
   pub reads_nothing : Type 0
-  pub has_read : Option (List ℕ) → Option (List ℕ) → Type 0
+  pub has_read : SourceState → SourceState → Type 0
   pub output : Option (List ℕ) → List ℕ → Type 0
   pub refusal : Option (List ℕ) → List ℕ → Type 0
   pub ends_well : Option (List ℕ) → ℕ → Type 0
@@ -38,7 +39,7 @@ abbrev pub reading : (Option (List ℕ) → List ℕ → Type 0) → (List ℕ �
     → (IsAccepted IsRefused : List ℕ → Type 0) → Spec
 reading IsText IsLine IsAccepted IsRefused = record {
   reads_nothing = ⊥;
-  has_read = λ before after. IsAtEnd after;
+  has_read = λ was now. IsAtEnd now.left;
   output = IsText;
   refusal = λ left text. IfSome left (λ bytes. IsLine bytes text);
   ends_well = EndsBy IsAccepted IsRefused;
@@ -56,7 +57,7 @@ accepting_sound IsText = accepting (IsSound default_rules) IsFirstLine IsText
 abbrev pub making : List ℕ → Spec
 making sample = record {
   reads_nothing = Unit {0};
-  has_read = λ before after. after ≡ before;
+  has_read = λ was now. now ≡ was;
   output = λ left text. text ≡ sample;
   refusal = λ left text. ⊥;
   ends_well = λ left status. (status ≡ 0) ⊎ (status ≡ 5);
@@ -134,8 +135,8 @@ abbrev pub MayWrite : Command → Option (List ℕ) → List ℕ → Type 0
 MayWrite c left text = IsOutput c left text ⊎ IsRefusalText c left text
 
 -- a command that is done has read all of the source, or leaves it as it was where it reads nothing
-abbrev pub HasRead : Command → Option (List ℕ) → Option (List ℕ) → Type 0
-HasRead c before after = (spec_of c).has_read before after
+abbrev pub HasRead : Command → SourceState → SourceState → Type 0
+HasRead c was now = (spec_of c).has_read was now
 
 -- how a command ends where neither source nor sink fails
 abbrev pub EndsWell : Command → Option (List ℕ) → ℕ → Type 0

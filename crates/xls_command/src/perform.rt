@@ -178,10 +178,9 @@ pub fn perform<S: Source, K: Sink>(
     sink: &mut K,
 ) -> Result<Ending, Stop>
     requires { IsPossible command }
-    ensures reads { Reads command.entry (S.left source.old) (S.left source.new)
-        (S.faults source.old) (S.faults source.new) result }
-    ensures ends { Ends command.entry (S.left source.old) (K.state sink.old) (K.state sink.new) result }
-    ensures steady { TakesEach (K.state sink.old) (MayWrite command.entry (S.left source.old))
+    ensures reads { Reads command.entry (S.state source.old) (S.state source.new) result }
+    ensures ends { Ends command.entry (S.state source.old).left (K.state sink.old) (K.state sink.new) result }
+    ensures steady { TakesEach (K.state sink.old) (MayWrite command.entry (S.state source.old).left)
         → (K.state sink.new).faults ≡ (K.state sink.old).faults }
     ensures unread { ReadsNothing command.entry → source.new ≡ source.old }
 {

@@ -23,15 +23,15 @@ pub fn run<S: Source, K: Sink>(alloc: Global, words: &[String], source: &mut S, 
     ensures status { result < 6 }
 
     // 0: the command's text was written.
-    ensures done { result ≡ 0 → OfCommand words.now (λ c. HasRead c (S.left source.old) (S.left source.new)
-        × Writes (IsOutput c (S.left source.old)) (K.state sink.old).written (K.state sink.new).written) }
+    ensures done { result ≡ 0 → OfCommand words.now (λ c. HasRead c (S.state source.old) (S.state source.new)
+        × Writes (IsOutput c (S.state source.old).left) (K.state sink.old).written (K.state sink.new).written) }
 
     // 0: no read has failed.
-    ensures faultless { result ≡ 0 → S.faults source.new ≡ S.faults source.old }
+    ensures faultless { result ≡ 0 → (S.state source.new).faults ≡ (S.state source.old).faults }
 
     // 1: the line of the first fault was written.
     ensures refused { result ≡ 1 → OfCommand words.now (λ c.
-        Writes (IsRefusalText c (S.left source.old)) (K.state sink.old).written (K.state sink.new).written) }
+        Writes (IsRefusalText c (S.state source.old).left) (K.state sink.old).written (K.state sink.new).written) }
 
     // 2: exactly where the words are no command's; nothing was read or written.
     ensures words { (result ≡ 2) ↔ ((c : Command) → IsCommand (map string_bytes words.now) c → ⊥) }
@@ -43,21 +43,21 @@ pub fn run<S: Source, K: Sink>(alloc: Global, words: &[String], source: &mut S, 
 
     // 3: the source failed, in a command that reads, and nothing was written.
     ensures reads { result ≡ 3 → OfCommand words.now (λ c. ReadsNothing c → ⊥) }
-    ensures read_fault { result ≡ 3 → Rose (S.faults source.old) (S.faults source.new) }
+    ensures read_fault { result ≡ 3 → Rose (S.state source.old).faults (S.state source.new).faults }
     ensures unwritten { result ≡ 3 → Keeps (K.state sink.old).written (K.state sink.new).written }
 
     // 4: the sink failed. 5: out of memory. A prefix of the text that 0 or 1 writes was written.
     ensures write_fault { result ≡ 4 → Rose (K.state sink.old).faults (K.state sink.new).faults }
     ensures part { 4 ≤ result → OfCommand words.now (λ c.
-        WritesPart (MayWrite c (S.left source.old)) (K.state sink.old).written (K.state sink.new).written) }
+        WritesPart (MayWrite c (S.state source.old).left) (K.state sink.old).written (K.state sink.new).written) }
 
     // Where neither fails, a command ends with its text, its refusal or out of memory.
-    ensures complete { (result ≡ 2 → ⊥) → IsQuiet (S.faults source.old) (S.faults source.new)
+    ensures complete { (result ≡ 2 → ⊥) → IsQuiet (S.state source.old).faults (S.state source.new).faults
         → IsQuiet (K.state sink.old).faults (K.state sink.new).faults
-        → OfCommand words.now (λ c. EndsWell c (S.left source.old) result) }
+        → OfCommand words.now (λ c. EndsWell c (S.state source.old).left result) }
 
     // A sink that takes each text that may be written doesn't fail.
-    ensures steady { TakesEach (K.state sink.old) (λ text. OfCommand words.now (λ c. MayWrite c (S.left source.old) text))
+    ensures steady { TakesEach (K.state sink.old) (λ text. OfCommand words.now (λ c. MayWrite c (S.state source.old).left text))
         → (K.state sink.new).faults ≡ (K.state sink.old).faults }
 {
     let Some(command) = command_of(words) else {

@@ -107,10 +107,7 @@ pub(crate) fn single_cell<'c>(
         SheetRecord::LabelSst { position, index } => shared(*position, *index, settings),
         SheetRecord::String(string) => Some(encoded(at, string, settings)),
         SheetRecord::Formula(read) => formula(read, settings),
-        SheetRecord::MulRk { .. }
-        | SheetRecord::MergeCells { .. }
-        | SheetRecord::Dimensions(_)
-        | SheetRecord::Other => None,
+        _ => None,
     }
 }
 

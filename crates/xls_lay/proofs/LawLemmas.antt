@@ -1,5 +1,5 @@
 -- Canonical bytes carry their list, and are equal where the lists are.
-use Rattle.std.proofs.Common.{◌≡◌, ◌↔◌, ℕ, ◌^◌, ◌<◌, ◌≤◌, List, length, Option, Some, Result, ap, subst, sym, ◌∙◌}
+use Rattle.std.proofs.Common.{◌≡◌, ◌↔◌, ℕ, ◌^◌, ◌<◌, ◌≤◌, List, length, Some, Result, ap, subst, sym, ◌∙◌}
 use Rattle.xls_stream.specs.Listing.{ListEntry, Carries}
 use Rattle.xls_stream.specs.Walks.{IsBytes}
 use Rattle.xls_stream.proofs.HoldingLemmas.{one_list}
@@ -11,6 +11,7 @@ use Rattle.xls_layouts.proofs.CanonicalListLemmas.{canonical_layout}
 use Rattle.xls_meaning.proofs.LawLemmas.{sound_where_full}
 use Rattle.xls_meaning.specs.Faults.{IsFull}
 use Rattle.xls_meaning.specs.Reading.{IsReading}
+use Rattle.xls_source.specs.SourceState.{SourceState}
 use Rattle.xls_open.specs.declared.options.XlsOptions.{XlsOptions}
 use Rattle.xls_open.specs.Workbook.{Workbook, rules_of, view_of}
 use Rattle.xls_open.specs.Opening.{IsOpened, Opens}
@@ -44,13 +45,12 @@ written_again list other h fits c = ap (λ (x : List ListEntry). lay (canonical 
 
 pub canonical_opens : (options : XlsOptions) (list : List ListEntry) → Fits list → IsFull (rules_of options) list
     → length (lay (canonical list)) < 2 ^ 32 → length (lay (canonical list)) ≤ options.max_bytes
-    → (after : Option (List ℕ)) (before now : ℕ) (result : Result Workbook XlsError)
-    → Opens options (Some (lay (canonical list))) after before now result
-    → OpensAs options list after before now result
-canonical_opens options list h full fits within after before now result opens =
+    → (was now : SourceState) → was.left ≡ Some (lay (canonical list)) → (result : Result Workbook XlsError)
+    → Opens options was now result → OpensAs options list was now result
+canonical_opens options list h full fits within was now left result opens =
     let laid = canonical_layout list h fits in
-    subst (λ (x : List ListEntry). OpensAs options x after before now result) laid.1
-    (laid_opens options (canonical list) laid.0 (subst (IsFull (rules_of options)) (sym laid.1) full) within after before now result opens)
+    subst (λ (x : List ListEntry). OpensAs options x was now result) laid.1
+    (laid_opens options (canonical list) laid.0 (subst (IsFull (rules_of options)) (sym laid.1) full) within was now left result opens)
 
 pub opens_again : (options : XlsOptions) (book : Workbook) (bytes : List ℕ) (list : List ListEntry)
     → IsBytes bytes → Carries bytes list → Fits list

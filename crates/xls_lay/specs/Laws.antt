@@ -1,9 +1,10 @@
 -- Laws over canonical bytes.
-use Rattle.std.specs.Prelude.{◌≡◌, ◌↔◌, ℕ, ◌<◌, ◌≤◌, ◌^◌, List, length, Option, Some, Result}
+use Rattle.std.specs.Prelude.{◌≡◌, ◌↔◌, ℕ, ◌<◌, ◌≤◌, ◌^◌, List, length, Some, Result}
 use Rattle.xls_stream.specs.Walks.{IsBytes}
 use Rattle.xls_stream.specs.Listing.{ListEntry, Carries}
 use Rattle.xls_record.specs.declared.error.XlsError.{XlsError}
 use Rattle.xls_meaning.specs.Faults.{IsFull}
+use Rattle.xls_source.specs.SourceState.{SourceState}
 use Rattle.xls_open.specs.declared.options.XlsOptions.{XlsOptions}
 use Rattle.xls_open.specs.Workbook.{Workbook, rules_of}
 use Rattle.xls_open.specs.Opening.{IsOpened, Opens}
@@ -31,9 +32,8 @@ WrittenAgain = (list other : List ListEntry) → Fits list → length (canonical
 abbrev pub CanonicalOpens : Type 0
 CanonicalOpens = (options : XlsOptions) (list : List ListEntry) → Fits list → IsFull (rules_of options) list
     → length (canonical_bytes list) < 2 ^ 32 → length (canonical_bytes list) ≤ options.max_bytes
-    → (after : Option (List ℕ)) (before now : ℕ) (result : Result Workbook XlsError)
-    → Opens options (Some (canonical_bytes list)) after before now result
-    → OpensAs options list after before now result
+    → (was now : SourceState) → was.left ≡ Some (canonical_bytes list) → (result : Result Workbook XlsError)
+    → Opens options was now result → OpensAs options list was now result
 
 -- a workbook that bytes open to is opened from the canonical bytes of their list too
 abbrev pub OpensAgain : Type 0

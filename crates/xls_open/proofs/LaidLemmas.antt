@@ -1,5 +1,6 @@
 -- A stream and its list; layouts of a full list are opened and checked without a fault.
-use Rattle.std.proofs.Common.{◌≡◌, ℕ, ◌≤◌, List, length, Option, Some, Result, Ok, Err, refl, arith}
+use Rattle.std.proofs.Common.{◌≡◌, ℕ, ◌≤◌, List, length, Option, Some, Result, Ok, Err, refl, subst, arith}
+use Rattle.std.specs.Prelude.{IfSome}
 use Rattle.xls_stream.specs.Walks.{IsBytes}
 use Rattle.xls_stream.proofs.HoldingLemmas.{one_list}
 use Rattle.xls_record.specs.declared.error.XlsError.{XlsError}
@@ -7,10 +8,11 @@ use Rattle.xls_record.specs.declared.error.XlsError.TheVariants as errors
 use Rattle.xls_layouts.specs.Layout.{Layout, lay, list_of, IsLayout}
 use Rattle.xls_layouts.proofs.LaidStreamLemmas.{laid_stream}
 use Rattle.xls_meaning.specs.Rules.{Rules}
-use Rattle.xls_meaning.specs.Faults.{IsSound, IsFull}
+use Rattle.xls_meaning.specs.Faults.{FirstFault, IsSound, IsFull}
 use Rattle.xls_meaning.proofs.LawLemmas.{sound_where_full}
 use Rattle.xls_open.specs.Workbook.{Workbook, rules_of}
-use Rattle.xls_open.specs.Opening.{OpenCause, Opens}
+use Rattle.xls_source.specs.SourceState.{SourceState}
+use Rattle.xls_open.specs.Opening.{IsOpened, OpenCause, Opens}
 use Rattle.xls_open.specs.Checking.{Checks}
 use Rattle.xls_open.specs.Laws.{HasOneList, OpensAs}
 use Rattle.xls_open.specs.declared.options.XlsOptions.{XlsOptions}
@@ -35,22 +37,22 @@ laid_sound rules d h full within =
 -- ---- opening
 
 refused_as : (options : XlsOptions) (d : Layout) → IsSound (rules_of options) (lay d)
-    → (after : Option (List ℕ)) (before now : ℕ) (e : XlsError) → OpenCause options (Some (lay d)) before now e
-    → OpensAs options (list_of d) after before now (Err e)
-refused_as options d sound after before now errors.Memory c = tt
-refused_as options d sound after before now errors.Io c = c
-refused_as options d sound after before now e c = sound e c
+    → (was now : SourceState) → was.left ≡ Some (lay d) → (e : XlsError) → OpenCause options was now e
+    → OpensAs options (list_of d) was now (Err e)
+refused_as options d sound was now left errors.Memory c = tt
+refused_as options d sound was now left errors.Io c = c
+refused_as options d sound was now left e c =
+    sound e (subst (λ (l : Option (List ℕ)). IfSome l (λ bytes. FirstFault (rules_of options) bytes e)) left c)
 
 pub laid_opens : (options : XlsOptions) (d : Layout) → IsLayout d → IsFull (rules_of options) (list_of d)
     → length (lay d) ≤ options.max_bytes
-    → (after : Option (List ℕ)) (before now : ℕ) (result : Result Workbook XlsError)
-    → Opens options (Some (lay d)) after before now result
-    → OpensAs options (list_of d) after before now result
-laid_opens options d h full within after before now (Ok book) o =
-    let ok = o.ok in
+    → (was now : SourceState) → was.left ≡ Some (lay d) → (result : Result Workbook XlsError)
+    → Opens options was now result → OpensAs options (list_of d) was now result
+laid_opens options d h full within was now left (Ok book) o =
+    let ok = subst (λ (l : Option (List ℕ)). IfSome l (IsOpened options book)) left o.ok in
     (ok.kept, ok.every (list_of d) (laid_stream d h), o.end)
-laid_opens options d h full within after before now (Err e) o =
-    refused_as options d (laid_sound (rules_of options) d h full within) after before now e o.cause
+laid_opens options d h full within was now left (Err e) o =
+    refused_as options d (laid_sound (rules_of options) d h full within) was now left e o.cause
 
 -- ---- a check
 

@@ -14,6 +14,7 @@ use Rattle.xls_meaning.specs.Settings.{said_by}
 use Rattle.xls_meaning.specs.Reading.{IsReading}
 use Rattle.xls_meaning.specs.Faults.{FirstFault, IsSound, IsFull}
 use Rattle.xls_source.specs.Causes.{Rose}
+use Rattle.xls_source.specs.SourceState.{SourceState}
 use Rattle.xls_open.specs.Workbook.{Workbook, rules_of, view_of}
 use Rattle.xls_open.specs.Opening.{IsOpened, Opens}
 use Rattle.xls_open.specs.Checking.{FirstChecked, Checks}
@@ -64,20 +65,19 @@ LaidSound = (rules : Rules) (d : Layout) → IsLayout d → IsFull rules (list_o
     → length (lay d) ≤ rules.max_bytes → IsSound rules (lay d)
 
 -- the whole reading of the list, with nothing left; or out of memory; or Io by the count
-abbrev pub OpensAs : XlsOptions → List ListEntry → Option (List ℕ) → ℕ → ℕ → Result Workbook XlsError → Type 0
-OpensAs options entries after before now (Ok book) =
-    (book.options ≡ options) × IsReading (rules_of options) entries (view_of book) × IsAtEnd after
-OpensAs options entries after before now (Err errors.Memory) = Unit {0}
-OpensAs options entries after before now (Err errors.Io) = Rose before now
-OpensAs options entries after before now (Err e) = ⊥
+abbrev pub OpensAs : XlsOptions → List ListEntry → SourceState → SourceState → Result Workbook XlsError → Type 0
+OpensAs options entries was now (Ok book) =
+    (book.options ≡ options) × IsReading (rules_of options) entries (view_of book) × IsAtEnd now.left
+OpensAs options entries was now (Err errors.Memory) = Unit {0}
+OpensAs options entries was now (Err errors.Io) = Rose was.faults now.faults
+OpensAs options entries was now (Err e) = ⊥
 
 -- so is what opening answers over a source that has such a layout left
 abbrev pub LaidOpens : Type 0
 LaidOpens = (options : XlsOptions) (d : Layout) → IsLayout d → IsFull (rules_of options) (list_of d)
     → length (lay d) ≤ options.max_bytes
-    → (after : Option (List ℕ)) (before now : ℕ) (result : Result Workbook XlsError)
-    → Opens options (Some (lay d)) after before now result
-    → OpensAs options (list_of d) after before now result
+    → (was now : SourceState) → was.left ≡ Some (lay d) → (result : Result Workbook XlsError)
+    → Opens options was now result → OpensAs options (list_of d) was now result
 
 -- and a check of its bytes, whatever their number, has no refusal
 abbrev pub LaidChecks : Type 0

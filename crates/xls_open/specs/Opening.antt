@@ -1,12 +1,13 @@
 -- What reading a source and opening its bytes answer.
-use Rattle.std.specs.Prelude.{◌≡◌, ℕ, ◌+◌, ◌≤◌, List, length, Option, None, Result, IfOk, IfErr, OnOk, IfSome}
-use Rattle.std.specs.Io.KnownBytes.{Consumes, IsAtEnd}
+use Rattle.std.specs.Prelude.{◌≡◌, ℕ, ◌≤◌, List, length, None, Result, IfOk, IfErr, OnOk, IfSome}
+use Rattle.std.specs.Io.KnownBytes.{IsAtEnd}
 use Rattle.xls_stream.specs.Listing.{ListEntry, Carries}
 use Rattle.xls_record.specs.declared.error.XlsError.{XlsError}
 use Rattle.xls_record.specs.declared.error.XlsError.TheVariants as errors
 use Rattle.xls_data.specs.declared.regions.HeaderRow.TheVariants.{FirstNonEmptyRow}
 use Rattle.xls_formula.specs.Functions.{shipped}
 use Rattle.xls_source.specs.Causes.{Rose}
+use Rattle.xls_source.specs.SourceState.{SourceState, TakesWithin}
 use Rattle.xls_meaning.specs.Rules.{Rules}
 use Rattle.xls_open.specs.Workbook.{Workbook, rules_of, view_of}
 use Rattle.xls_meaning.specs.Reading.{IsReading}
@@ -14,10 +15,10 @@ use Rattle.xls_meaning.specs.Faults.{FirstFault, IsSound}
 use Rattle.xls_open.specs.declared.options.XlsOptions.{XlsOptions}
 
 -- why a stream isn't opened: Io by its count, Memory freely, and else the first fault of the bytes
-abbrev pub OpenCause : XlsOptions → Option (List ℕ) → ℕ → ℕ → XlsError → Type 0
-OpenCause options left before now errors.Io = Rose before now
-OpenCause options left before now errors.Memory = Unit {0}
-OpenCause options left before now e = IfSome left (λ bytes. FirstFault (rules_of options) bytes e)
+abbrev pub OpenCause : XlsOptions → SourceState → SourceState → XlsError → Type 0
+OpenCause options was now errors.Io = Rose was.faults now.faults
+OpenCause options was now errors.Memory = Unit {0}
+OpenCause options was now e = IfSome was.left (λ bytes. FirstFault (rules_of options) bytes e)
 
 -- the options by default
 abbrev pub default_options : XlsOptions
@@ -56,15 +57,14 @@ pub record IsOpened (options : XlsOptions) (book : Workbook) (bytes : List ℕ) 
   pub every : (others : List ListEntry) → Carries bytes others
       → IsReading (rules_of options) others (view_of book)
 
--- of a source that had and has this left, with the count of faults before and after
-pub record Opens (options : XlsOptions) (left after : Option (List ℕ)) (before now : ℕ)
-    (result : Result Workbook XlsError) : Type 0 where
-  pub ok : IfOk result (λ book. IfSome left (IsOpened options book))
-  pub end : IfOk result (λ _. IsAtEnd after)
-  pub cause : IfErr result (OpenCause options left before now)
+-- by the states of the source before and after
+pub record Opens (options : XlsOptions) (was now : SourceState) (result : Result Workbook XlsError) : Type 0 where
+  pub ok : IfOk result (λ book. IfSome was.left (IsOpened options book))
+  pub end : IfOk result (λ _. IsAtEnd now.left)
+  pub cause : IfErr result (OpenCause options was now)
   pub named : IfErr result IsOfOpening
-  pub complete : (Rose before now → ⊥)
-      → IfSome left (λ bytes. IsSound (rules_of options) bytes → IfErr result (λ e. e ≡ errors.Memory))
-  pub prefix : (taken : List ℕ) × (length taken ≤ options.max_bytes + 1) × Consumes left after taken
-  pub count : before ≤ now
-  pub faultless : OnOk result (now ≡ before)
+  pub complete : (Rose was.faults now.faults → ⊥)
+      → IfSome was.left (λ bytes. IsSound (rules_of options) bytes → IfErr result (λ e. e ≡ errors.Memory))
+  pub prefix : TakesWithin options.max_bytes was now
+  pub count : was.faults ≤ now.faults
+  pub faultless : OnOk result (now.faults ≡ was.faults)

@@ -1,16 +1,17 @@
 -- What a bounded read answers.
-use Rattle.std.specs.Prelude.{◌≡◌, ◌⊎◌, ℕ, ◌<◌, List, length, Option, IfSome, Result, MatchResult}
+use Rattle.std.specs.Prelude.{◌≡◌, ◌⊎◌, ℕ, ◌<◌, length, IfSome, Result, MatchResult}
 use Rattle.xls_record.specs.declared.error.XlsError.{XlsError}
 use Rattle.xls_record.specs.declared.error.XlsError.TheVariants as errors
 use Rattle.xls_source.specs.Causes.{Rose}
+use Rattle.xls_source.specs.SourceState.{SourceState}
 
--- why a bounded read is refused, of a source that had this left, with the count of faults before and after
-abbrev pub ReadCause : ℕ → Option (List ℕ) → ℕ → ℕ → XlsError → Type 0
-ReadCause limit left before now errors.Io = Rose before now
-ReadCause limit left before now errors.Memory = Unit {0}
-ReadCause limit left before now (errors.TooLarge n) =
-    (n ≡ limit) × IfSome left (λ bytes. limit < length bytes)
-ReadCause limit left before now e = ⊥
+-- why a bounded read is refused, by the states of the source before and after it
+abbrev pub ReadCause : ℕ → SourceState → SourceState → XlsError → Type 0
+ReadCause limit was now errors.Io = Rose was.faults now.faults
+ReadCause limit was now errors.Memory = Unit {0}
+ReadCause limit was now (errors.TooLarge n) =
+    (n ≡ limit) × IfSome was.left (λ bytes. limit < length bytes)
+ReadCause limit was now e = ⊥
 
 -- a refusal that a bounded read may answer
 abbrev pub IsOfRead : ℕ → XlsError → Type 0

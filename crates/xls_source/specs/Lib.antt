@@ -1,4 +1,5 @@
 pub mod Causes
+pub mod SourceState
 pub mod Bounded
 pub mod Feed
 pub mod Laws

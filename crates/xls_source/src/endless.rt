@@ -33,9 +33,7 @@ impl EndlessSource {
 }
 
 impl Source for EndlessSource {
-    ghost left = { λ _. None };
-
-    ghost faults = { λ _. 0 };
+    ghost state = { λ _. record { left = None; faults = 0 } };
 
     ghost ended = { λ _. ⊥ };
 

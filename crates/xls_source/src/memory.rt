@@ -70,9 +70,7 @@ impl MemorySource {
 }
 
 impl Source for MemorySource {
-    ghost left = { λ s. Some s.bytes };
-
-    ghost faults = { λ s. s.faults };
+    ghost state = { λ s. record { left = Some s.bytes; faults = s.faults } };
 
     ghost ended = { λ s. s.bytes ≡ [] };
 
@@ -127,9 +125,7 @@ impl SteadySource {
 }
 
 impl Source for SteadySource {
-    ghost left = { λ s. Some s };
-
-    ghost faults = { λ _. 0 };
+    ghost state = { λ s. record { left = Some s; faults = 0 } };
 
     ghost ended = { λ s. s ≡ [] };
 

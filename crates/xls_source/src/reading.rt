@@ -1,8 +1,9 @@
 //! The bounded read of a source.
 
-ghost use Rattle.std.specs.Prelude.{◌≡◌, ◌+◌, ◌≤◌, List, ℕ, length, IfOk, IfErr, OnOk};
+ghost use Rattle.std.specs.Prelude.{◌≡◌, ◌≤◌, length, IfOk, IfErr, OnOk};
 ghost use Rattle.std.specs.Io.KnownBytes.{Consumes, IsAtEnd};
 ghost use Rattle.xls_source.specs.Bounded.{ReadCause};
+ghost use Rattle.xls_source.specs.SourceState.{TakesWithin};
 
 use crate::source::Source;
 use std::alloc::{AllocError, Global};
@@ -56,14 +57,13 @@ fn read_by_pieces<S: Source>(
 ) -> Result<StreamBytes, XlsError>
     requires { 1 ≤ length piece.old }
     ensures within { IfOk result (λ bytes. length bytes ≤ limit) }
-    ensures all { IfOk result (Consumes (S.left source.old) (S.left source.new)) }
-    ensures end { IfOk result (λ _. IsAtEnd (S.left source.new)) }
-    ensures cause { IfErr result (ReadCause limit (S.left source.old) (S.faults source.old) (S.faults source.new)) }
+    ensures all { IfOk result (Consumes (S.state source.old).left (S.state source.new).left) }
+    ensures end { IfOk result (λ _. IsAtEnd (S.state source.new).left) }
+    ensures cause { IfErr result (ReadCause limit (S.state source.old) (S.state source.new)) }
     ensures ended { IfOk result (λ _. S.ended source.new) }
-    ensures prefix { (taken : List ℕ) × (length taken ≤ limit + 1)
-        × Consumes (S.left source.old) (S.left source.new) taken }
-    ensures count { S.faults source.old ≤ S.faults source.new }
-    ensures faultless { OnOk result (S.faults source.new ≡ S.faults source.old) }
+    ensures prefix { TakesWithin limit (S.state source.old) (S.state source.new) }
+    ensures count { (S.state source.old).faults ≤ (S.state source.new).faults }
+    ensures faultless { OnOk result ((S.state source.new).faults ≡ (S.state source.old).faults) }
 {
     let mut bytes = Vec::new(alloc);
     loop {
@@ -91,22 +91,21 @@ pub fn read_all<S: Source>(
 ) -> Result<StreamBytes, XlsError>
     // All that the source had left, and nothing is left.
     ensures within { IfOk result (λ bytes. length bytes ≤ limit) }
-    ensures all { IfOk result (Consumes (S.left source.old) (S.left source.new)) }
-    ensures end { IfOk result (λ _. IsAtEnd (S.left source.new)) }
+    ensures all { IfOk result (Consumes (S.state source.old).left (S.state source.new).left) }
+    ensures end { IfOk result (λ _. IsAtEnd (S.state source.new).left) }
 
     // A source without end is refused.
     ensures ended { IfOk result (λ _. S.ended source.new) }
 
     // Each refusal has its cause.
-    ensures cause { IfErr result (ReadCause limit (S.left source.old) (S.faults source.old) (S.faults source.new)) }
+    ensures cause { IfErr result (ReadCause limit (S.state source.old) (S.state source.new)) }
 
     // Also after a refusal a prefix was taken, of one byte more than the limit at most.
-    ensures prefix { (taken : List ℕ) × (length taken ≤ limit + 1)
-        × Consumes (S.left source.old) (S.left source.new) taken }
-    ensures count { S.faults source.old ≤ S.faults source.new }
+    ensures prefix { TakesWithin limit (S.state source.old) (S.state source.new) }
+    ensures count { (S.state source.old).faults ≤ (S.state source.new).faults }
 
     // No read has failed where all is read.
-    ensures faultless { OnOk result (S.faults source.new ≡ S.faults source.old) }
+    ensures faultless { OnOk result ((S.state source.new).faults ≡ (S.state source.old).faults) }
 {
     let mut piece = zeros(alloc, CHUNK)?;
     read_by_pieces(alloc, source, limit, &mut piece)

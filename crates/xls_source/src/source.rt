@@ -1,9 +1,10 @@
 //! Where bytes come from.
 
-ghost use Rattle.std.specs.Prelude.{◌≡◌, ◌<◌, ◌+◌, ◌-◌, ◌^◌, List, Option, ℕ, IfOk, OnOk, OnErr, length, min};
+ghost use Rattle.std.specs.Prelude.{◌≡◌, ◌<◌, ◌+◌, ◌-◌, ◌^◌, IfOk, OnOk, OnErr, length, min};
 ghost use Rattle.std.specs.Io.{ReadsAtMost};
 ghost use Rattle.std.specs.Io.KnownBytes.{ReadConsumes};
 ghost use Rattle.xls_source.specs.Causes.{HasCause};
+ghost use Rattle.xls_source.specs.SourceState.{SourceState};
 
 use std::io::{ErrorKind, Read};
 use std::marker::Model;
@@ -26,11 +27,9 @@ impl From<ReadFault> for XlsError {
 
 /// Bytes that come in pieces.
 pub trait Source {
-    /// The bytes that are still to come, where it tells them.
-    ghost left: { Self → Option (List ℕ) };
-
-    /// How often a read has failed, up to a last value.
-    ghost faults: { Self → ℕ };
+    /// The bytes that are still to come, where it tells them, and how often a read has failed, up to a last
+    /// value.
+    ghost state: { Self → SourceState };
 
     /// That it has come to its end.
     ghost ended: { Self → Type 0 };
@@ -39,8 +38,8 @@ pub trait Source {
     /// moves none only at the end.
     fn read(&mut self, into: &mut [u8]) -> Result<usize, ReadFault>
         ensures bound { ReadsAtMost result into.new }
-        ensures bytes { ReadConsumes (left self.old) (left self.new) result into.new }
-        ensures cause { HasCause (faults self.old) (faults self.new) result }
+        ensures bytes { ReadConsumes (state self.old).left (state self.new).left result into.new }
+        ensures cause { HasCause (state self.old).faults (state self.new).faults result }
         ensures end { IfOk result (λ n. n ≡ 0 → 0 < length into.new → ended self.new) };
 }
 
@@ -87,9 +86,7 @@ impl<R: Read> StdSource<R> {
 }
 
 impl<R: Read> Source for StdSource<R> {
-    ghost left = { λ s. R.remaining s.0 };
-
-    ghost faults = { λ s. s.1 };
+    ghost state = { λ s. record { left = R.remaining s.0; faults = s.1 } };
 
     ghost ended = { λ _. Unit {0} };
 

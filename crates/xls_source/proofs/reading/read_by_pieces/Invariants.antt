@@ -5,11 +5,11 @@ use Rattle.xls_source.proofs.reading.read_by_pieces.Given as goal
 -- the bytes so far are within the limit and were taken, and no read has failed
 abbrev pub invariant-loop-bytes : goal.invariant-loop-bytes
 invariant-loop-bytes g l =
-    let source = g.S.Source in
+    let state = g.S.Source.state in
     record {
       within : vec_len l.bytes ≤ l.limit;
-      taken : Consumes (source.left l.fn.source) (source.left l.source) l.bytes.items;
-      faultless : source.faults l.source ≡ source.faults l.fn.source;
+      taken : Consumes (state l.fn.source).left (state l.source).left l.bytes.items;
+      faultless : (state l.source).faults ≡ (state l.fn.source).faults;
     }
 
 abbrev pub decreases-loop-bytes : goal.decreases-loop-bytes
