@@ -5,7 +5,7 @@ use Rattle.xls_bytes.specs.Numbers.{u32s_of}
 use Rattle.xls_sectors.specs.declared.error.SectorFault.{SectorFault}
 use Rattle.xls_sectors.specs.Errors as sectors
 use Rattle.xls_sectors.specs.Laws.{StreamsHaveOneAnswer, WholeChainsHaveOneAnswer, FilesHaveOneAnswer}
-use Rattle.xls_sectors.specs.Tables.{Opened, OpensContainer as OpensTables, sectors_of}
+use Rattle.xls_sectors.specs.Tables.{Opened, OpensSectors as OpensTables, sectors_of}
 use Rattle.xls_directory.specs.declared.fault.DirectoryFault.{DirectoryFault}
 use Rattle.xls_directory.specs.Items.{Item, workbook}
 use Rattle.xls_directory.specs.Directory.{Listing, IsDirectory, IsDirectoryFault}

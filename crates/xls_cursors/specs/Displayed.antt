@@ -1,7 +1,7 @@
 -- What a sheet shows.
 use Rattle.std.specs.Prelude.{List, map}
 use Rattle.xls_data.specs.declared.regions.Dimensions.{Dimensions}
-use Rattle.xls_biff.specs.Cells.{Entry as Cell}
+use Rattle.xls_biff.specs.Cells.{CellEntry as Cell}
 use Rattle.xls_formula.specs.Context.{Context}
 use Rattle.xls_meaning.specs.Reading.{SheetView}
 use Rattle.xls_cursors.specs.Formulas.{Formula, text_entry}

@@ -12,7 +12,7 @@ ghost use Rattle.xls_biff.specs.SheetReading.{stands_for};
 ghost use Rattle.xls_biff.specs.SheetTable as table;
 ghost use Rattle.xls_biff.specs.Walking.{group_of};
 ghost use Rattle.xls_meaning.specs.SheetTable.{adds, kept_line, listed_cell, listed_value};
-ghost use Rattle.xls_cursors.specs.Values.{cell_entry, value_content as seen_content};
+ghost use Rattle.xls_cursors.specs.Values.{cell_entry, lent_content as seen_content};
 ghost use Rattle.xls_cursors.specs.Walking.{CellSteps, run_of};
 
 use crate::run::Run;
