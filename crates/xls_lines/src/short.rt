@@ -12,6 +12,9 @@ use xls_data::Number;
 /// How long a short text may be.
 const ROOM: usize = 96;
 
+/// How long a text is, at most, that is put before another one in a piece of this size.
+const SMALL: usize = 16;
+
 /// The bits of the double negative zero.
 const NEGATIVE_ZERO: u64 = 1 << 63;
 
@@ -75,6 +78,18 @@ impl Short {
         let start = self.start - word.len();
         self.bytes[start..self.start].copy_from_slice(word);
         self.start = start;
+    }
+
+    /// Puts a small text before the text, in a piece that begins before it where it is shorter.
+    #[inline(always)]
+    pub(crate) fn put_small(&mut self, text: &Short)
+        requires small { length text.now ≤ SMALL }
+        requires room { length self.old + SMALL ≤ ROOM }
+        ensures { self.new ≡ text.now ++ self.old }
+    {
+        let (_, piece) = text.bytes.split_at(ROOM - SMALL);
+        self.bytes[self.start - SMALL..self.start].copy_from_slice(piece);
+        self.start -= ROOM - text.start;
     }
 
     /// Puts a number before the text.
