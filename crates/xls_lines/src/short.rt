@@ -1,6 +1,6 @@
 //! A short text, made from its end to its beginning, as digits are.
 
-ghost use Rattle.std.specs.Prelude.{◌≡◌, ◌∷◌, ◌++◌, ◌+◌, ◌<◌, ◌≤◌, [], codes, false, length};
+ghost use Rattle.std.specs.Prelude.{◌≡◌, ◌∷◌, ◌++◌, ◌+◌, ◌/◌, ◌%◌, ◌<◌, ◌≤◌, [], codes, false, length};
 ghost use Rattle.std.specs.Fmt.{decimal, digit_glyph, signed_decimal};
 ghost use Rattle.xls_dates.specs.Numbers.{bits_text, decimals_text, hundredths_text, number_text, over_100_text, sixteen_digits};
 
@@ -18,12 +18,16 @@ const SMALL: usize = 16;
 /// The bits of the double negative zero.
 const NEGATIVE_ZERO: u64 = 1 << 63;
 
+/// The digits in hexadecimal.
+static HEX_DIGITS: [u8; 16] = *b"0123456789abcdef";
+
 /// A digit in hexadecimal.
+#[inline(always)]
 fn hex_digit(n: u8) -> u8
     requires { n < 16 }
     ensures { result ≡ digit_glyph false n }
 {
-    if n < 10 { b'0' + n } else { b'a' - 10 + n }
+    HEX_DIGITS[usize::from(n)]
 }
 
 /// A text of at most 96 bytes, which grows at its beginning. Contracts see the text.
@@ -114,6 +118,15 @@ impl Short {
         }
     }
 
+    /// Puts a byte in hexadecimal, with two digits, before the text.
+    #[inline(always)]
+    fn put_hex_byte(&mut self, byte: u8)
+        requires { length self.old + 2 ≤ ROOM }
+        ensures { self.new ≡ digit_glyph false (byte / 16) ∷ digit_glyph false (byte % 16) ∷ self.old }
+    {
+        self.put_word(&[hex_digit(byte / 16), hex_digit(byte % 16)]);
+    }
+
     /// Puts a number in hexadecimal, with sixteen digits, before the text.
     pub fn put_hex(&mut self, n: u64)
         requires { length self.old + 16 ≤ ROOM }
@@ -121,9 +134,9 @@ impl Short {
         ensures room { length self.new ≤ length self.old + 16 }
     {
         let mut left = n;
-        for i in 0..16_usize {
-            self.put_byte(hex_digit((left % 16) as u8));
-            left /= 16;
+        for i in 0..8_usize {
+            self.put_hex_byte((left % 256) as u8);
+            left /= 256;
         }
     }
 
