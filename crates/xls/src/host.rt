@@ -4,6 +4,8 @@ use crate::file::OutFile;
 use crate::folder::{list_at, place_at};
 use crate::list::List;
 use crate::reason::reason_of;
+use std::alloc::Global;
+use std::fs::File;
 use std::io::{IsTerminal, Read, Write};
 use std::{fs, io};
 use xls_tool::{Host, Listed, Name, Place, Reason};
@@ -49,6 +51,26 @@ impl<'r> StdHost<'r> {
     }
 }
 
+/// The bytes of a file that has so many of them, read at once; an error where it has fewer.
+fn read_whole(file: &mut File, alloc: Global, size: u64) -> io::Result<Vec<u8>> {
+    let mut bytes = Vec::new(alloc);
+    bytes.resize(usize::try_from(size).unwrap_or(usize::MAX), 0)?;
+    file.read_exact(&mut bytes)?;
+    Ok(bytes)
+}
+
+/// All bytes of a file. They are read at once where it has as many as the system tells.
+fn file_bytes(rt: &HostRuntime, path: &str) -> io::Result<Vec<u8>> {
+    let mut file = File::open(rt, path)?;
+    let size = file.metadata()?.len();
+    let Ok(mut bytes) = read_whole(&mut file, rt.alloc(), size) else {
+        return fs::read(rt, path);
+    };
+    // What stands past the size: a pipe has none, and a file may have grown.
+    file.read_to_end(&mut bytes)?;
+    Ok(bytes)
+}
+
 /// All bytes of standard input.
 fn input(rt: &HostRuntime) -> io::Result<Vec<u8>> {
     let mut bytes = Vec::new(rt.alloc());
@@ -68,7 +90,7 @@ impl<'r> Host for StdHost<'r> {
     }
 
     fn read(&mut self, path: &str) -> Result<Vec<u8>, Reason> {
-        self.reported(fs::read(self.rt, path))
+        self.reported(file_bytes(self.rt, path))
     }
 
     fn read_input(&mut self) -> Result<Vec<u8>, Reason> {

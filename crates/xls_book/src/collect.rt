@@ -34,11 +34,11 @@ impl Model for Content {
     } };
 }
 
-/// Cells with texts of their own.
-fn cells_of(alloc: Global, cells: Cells<'_>) -> Result<Vec<Cell<Data>>, AllocError>
+/// Cells with texts of their own. There is room for so many of them from the start.
+fn cells_of(alloc: Global, cells: Cells<'_>, room: usize) -> Result<Vec<Cell<Data>>, AllocError>
     ensures { IfOk result (λ collected. map cell_content collected.items ≡ cells.entry) }
 {
-    let mut collected = Vec::new(alloc);
+    let mut collected = Vec::with_capacity(alloc, room)?;
     for cell in cells {
         let value = cell.value.to_data(alloc)?;
         collected.push(Cell::new((cell.row, cell.column), value))?;
@@ -77,7 +77,7 @@ fn content_of(alloc: Global, sheet: &ViewSheet<'_>) -> Result<Content, AllocErro
     ensures { IfOk result (λ content. content ≡ sheet_view_of sheet.now) }
 {
     let cells = sheet.cells()?;
-    let cells = cells_of(alloc, cells.iter())?;
+    let cells = cells_of(alloc, cells.iter(), cells.room())?;
     let formulas = sheet.formulas()?;
     let formulas = formulas_of(alloc, &formulas)?;
     let merges = merges_of(alloc, sheet.merges())?;

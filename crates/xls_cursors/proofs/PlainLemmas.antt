@@ -1,6 +1,7 @@
 -- Records that begin with the position of their one cell.
-use Rattle.std.proofs.Common.{◌≡◌, ℕ, ◌≤◌, ◌<◌, List, [], ◌∷◌, length, drop, take, refl, sym, ap, subst, ◌∙◌, arith, Bool, true, false, Option, Some, None, Result, Ok, Err}
+use Rattle.std.proofs.Common.{◌≡◌, ℕ, ◌≤◌, ◌<◌, ◌⊎◌, inl, inr, List, [], ◌∷◌, length, drop, take, refl, sym, ap, subst, ◌∙◌, arith, Bool, true, false, Option, Some, None, Result, Ok, Err}
 use Rattle.std.specs.Prelude.{nat_lt, slice_index, IfSome}
+use Rattle.std.specs.Option.{option_map}
 use Rattle.xls_bytes.specs.Numbers.{le}
 use Rattle.xls_stream.specs.declared.part.Part.{Part}
 use Rattle.xls_stream.specs.declared.part.Part.TheVariants as parts
@@ -16,10 +17,13 @@ use Rattle.xls_strings.specs.Strings.{string_at}
 use Rattle.xls_biff.specs.Cells.{CellEntry, Position, class_at, position_at}
 use Rattle.xls_biff.specs.Records.BoolErr.{bes_content, bool_err_at}
 use Rattle.xls_biff.specs.Records.Label.{label_at}
+use Rattle.xls_biff.specs.Records.LabelSst.{label_sst_at, shared_entry}
 use Rattle.xls_biff.specs.Records.Number.{number_at}
 use Rattle.xls_biff.specs.Records.Rk.{rk_at, rk_content}
-use Rattle.xls_biff.specs.SheetTable.{CellContext, SheetRecord, cell_record, cells_record, sheet_record_at}
-use Rattle.xls_cursors.specs.Surveying.{IsPlainCell}
+use Rattle.xls_biff.specs.SheetTable.{CellContext, SheetRecord, cell_record, cells_record, formula_position, shared_record, sheet_record_at}
+use Rattle.xls_meaning.specs.SheetTable.{adds}
+use Rattle.xls_formula.specs.Context.{Context}
+use Rattle.xls_cursors.specs.Surveying.{IsOneCell, IsPlainCell}
 
 -- a body without a fault is so long, and what follows has none
 begins : {X : Type 0} (n : ℕ) (part : Part) (body : List ℕ) (rest : Result X XlsError) (x : X) → (at_least n part body >> rest) ≡ Ok x
@@ -80,30 +84,63 @@ r_string_line : (body : List ℕ) → Line types.R_STRING body
 r_string_line body s g h = by_reader body g (label_at s.page s.version body) (λ e f.
     stands 6 parts.Label body text (string_at s.page s.version (drop 6 body)) e (omega arith) f) h
 
-by_line : (typ : ℕ) (body : List ℕ) → Line typ body → (typ ≡ types.MERGE_CELLS → ⊥) → (place : Option Position)
-    → (4 ≤ length body → place ≡ Some (position_at body)) → IfSome place (IsPlainCell (record { typ = typ; body = body }))
-by_line typ body line apart None is = tt
-by_line typ body line apart (Some p) is = record {
-  one = λ s g h.
+by_line : (s : CellContext) (typ : ℕ) (body : List ℕ) → Line typ body → (typ ≡ types.MERGE_CELLS → ⊥) → (place : Option Position)
+    → (4 ≤ length body → place ≡ Some (position_at body)) → IfSome place (IsPlainCell s (record { typ = typ; body = body }))
+by_line s typ body line apart None is = tt
+by_line s typ body line apart (Some p) is = record {
+  one = λ g h.
       let l = line s g h in
       let there : Some p ≡ Some (position_at body) = is l.1.0 in
       let here : p ≡ position_at body = cc in
-      (l.0.1, l.2 ∙ ap (λ (q : Position). cells_record ((q, l.0.1) ∷ [])) (sym (here ∙ l.1.1)));
+      (l.0.1, inl (l.2 ∙ ap (λ (q : Position). cells_record ((q, l.0.1) ∷ [])) (sym (here ∙ l.1.1))));
   apart = apart;
 }
 
-module _ (typ : ℕ) (body : List ℕ) (place : Option Position) (is : 4 ≤ length body → place ≡ Some (position_at body)) where
-  pub plain_number : typ ≡ types.NUMBER → IfSome place (IsPlainCell (record { typ = typ; body = body }))
-  plain_number e = rw e (by_line types.NUMBER body (number_line body) (λ m. absurd (omega (arith, m))) place is)
+module _ (s : CellContext) (typ : ℕ) (body : List ℕ) (place : Option Position) (is : 4 ≤ length body → place ≡ Some (position_at body)) where
+  pub plain_number : typ ≡ types.NUMBER → IfSome place (IsPlainCell s (record { typ = typ; body = body }))
+  plain_number e = rw e (by_line s types.NUMBER body (number_line body) (λ m. absurd (omega (arith, m))) place is)
 
-  pub plain_rk : typ ≡ types.RK → IfSome place (IsPlainCell (record { typ = typ; body = body }))
-  plain_rk e = rw e (by_line types.RK body (rk_line body) (λ m. absurd (omega (arith, m))) place is)
+  pub plain_rk : typ ≡ types.RK → IfSome place (IsPlainCell s (record { typ = typ; body = body }))
+  plain_rk e = rw e (by_line s types.RK body (rk_line body) (λ m. absurd (omega (arith, m))) place is)
 
-  pub plain_bool_err : typ ≡ types.BOOL_ERR → IfSome place (IsPlainCell (record { typ = typ; body = body }))
-  plain_bool_err e = rw e (by_line types.BOOL_ERR body (bool_err_line body) (λ m. absurd (omega (arith, m))) place is)
+  pub plain_bool_err : typ ≡ types.BOOL_ERR → IfSome place (IsPlainCell s (record { typ = typ; body = body }))
+  plain_bool_err e = rw e (by_line s types.BOOL_ERR body (bool_err_line body) (λ m. absurd (omega (arith, m))) place is)
 
-  pub plain_label : typ ≡ types.LABEL → IfSome place (IsPlainCell (record { typ = typ; body = body }))
-  plain_label e = rw e (by_line types.LABEL body (label_line body) (λ m. absurd (omega (arith, m))) place is)
+  pub plain_label : typ ≡ types.LABEL → IfSome place (IsPlainCell s (record { typ = typ; body = body }))
+  plain_label e = rw e (by_line s types.LABEL body (label_line body) (λ m. absurd (omega (arith, m))) place is)
 
-  pub plain_r_string : typ ≡ types.R_STRING → IfSome place (IsPlainCell (record { typ = typ; body = body }))
-  plain_r_string e = rw e (by_line types.R_STRING body (r_string_line body) (λ m. absurd (omega (arith, m))) place is)
+  pub plain_r_string : typ ≡ types.R_STRING → IfSome place (IsPlainCell s (record { typ = typ; body = body }))
+  plain_r_string e = rw e (by_line s types.R_STRING body (r_string_line body) (λ m. absurd (omega (arith, m))) place is)
+
+-- ---- a LabelSst
+
+by_entry : (s : CellContext) (body : List ℕ) (place : Option Position) (c : Option CellEntry)
+    → label_sst_at s.strings body ≡ Ok c → place ≡ option_map (λ (e : CellEntry). e.0) c
+    → IfSome place (IsPlainCell s (record { typ = types.LABEL_SST; body = body }))
+by_entry s body None c read is = tt
+by_entry s body (Some p) None read is = absurd cc
+by_entry s body (Some p) (Some e) read is = record {
+  one = λ g h.
+      let line : gives shared_record (label_sst_at s.strings body) ≡ Ok g = h in
+      let same : ◌≡◌ {A = Result SheetRecord XlsError} (Ok (shared_record (Some e))) (Ok g) = rw read at line in
+      let here : p ≡ e.0 = cc in
+      (e.1, inr (rw here cc));
+  apart = λ m. absurd (omega (arith, m));
+}
+
+-- its cell stands where it begins, if the table has its text
+pub plain_label_sst : (s : CellContext) (body : List ℕ) (place : Option Position) (x : Position × ℕ)
+    → label_sst_at s.strings body ≡ Ok (shared_entry s.strings x)
+    → place ≡ option_map (λ (e : CellEntry). e.0) (shared_entry s.strings x)
+    → IfSome place (IsPlainCell s (record { typ = types.LABEL_SST; body = body }))
+plain_label_sst s body place x read is = by_entry s body place (shared_entry s.strings x) read is
+
+-- ---- what one cell adds
+
+pub one_added : (c : Context) (at : Position) (g : SheetRecord) (e : CellEntry) → IsOneCell g e → e ∷ [] ≡ (adds c at g).cells
+one_added c at g e (inl is) = rw is refl
+one_added c at g e (inr is) = rw is refl
+
+pub one_without_formula : (g : SheetRecord) (e : CellEntry) → IsOneCell g e → None ≡ formula_position g
+one_without_formula g e (inl is) = rw is refl
+one_without_formula g e (inr is) = rw is refl

@@ -1,5 +1,5 @@
 -- What a walk over positions finds, for the proofs.
-use Rattle.std.specs.Prelude.{◌≡◌, ◌-◌, ◌^◌, ◌==◌, if◌then◌else◌, min, max, List, [], ◌∷◌, map, Option, Some, None, Ok}
+use Rattle.std.specs.Prelude.{◌≡◌, ◌⊎◌, ◌-◌, ◌^◌, ◌==◌, if◌then◌else◌, min, max, List, [], ◌∷◌, map, Option, Some, None, Ok}
 use Rattle.xls_range.specs.Positions.{Position}
 use Rattle.xls_range.specs.Bounds.{bounds_of}
 use Rattle.xls_data.specs.Content.{Content}
@@ -8,7 +8,7 @@ use Rattle.xls_stream.specs.Listing.{Kept}
 use Rattle.xls_biff.specs.Cells.{CellEntry}
 use Rattle.xls_meaning.specs.Order.{somes}
 use Rattle.xls_stream.specs.declared.types.TheConstants as types
-use Rattle.xls_biff.specs.SheetTable.{CellContext, SheetRecord, cells_record}
+use Rattle.xls_biff.specs.SheetTable.{CellContext, SheetRecord, cells_record, shared_record}
 use Rattle.xls_meaning.specs.SheetTable.{kept_line}
 use Rattle.xls_cursors.specs.Formulas.{Formula, formula_of}
 use Rattle.xls_cursors.specs.Placing.{IsAscent}
@@ -25,9 +25,13 @@ abbrev pub IsCellAt : Option Position → List CellEntry → Type 0
 IsCellAt None cells = cells ≡ []
 IsCellAt (Some p) cells = (v : Content) × (cells ≡ (p, v) ∷ [])
 
--- a record has one cell, which stands here, no formula and no region
-pub record IsPlainCell (k : Kept) (p : Position) : Type 0 where
-  pub one : (s : CellContext) (g : SheetRecord) → kept_line s k ≡ Ok g → (v : Content) × (g ≡ cells_record ((p, v) ∷ []))
+-- what a record gives is this one cell, whose text, if it has one, stands in the record or in the table
+abbrev pub IsOneCell : SheetRecord → CellEntry → Type 0
+IsOneCell g e = (g ≡ cells_record (e ∷ [])) ⊎ (g ≡ shared_record (Some e))
+
+-- where a record has no fault, it has one cell, which stands here, no formula and no region
+pub record IsPlainCell (s : CellContext) (k : Kept) (p : Position) : Type 0 where
+  pub one : (g : SheetRecord) → kept_line s k ≡ Ok g → (v : Content) × IsOneCell g (p, v)
   pub apart : k.typ ≡ types.MERGE_CELLS → ⊥
 
 -- the formula of a record, if it is a Formula

@@ -78,6 +78,14 @@ fn order_of(
     Ok(Some(sorted))
 }
 
+/// How many cells there are, of which this was found: as many as places, where they have places.
+fn count_of(sorted: &Option<Settled<usize>>, found: FoundCells) -> usize {
+    match sorted {
+        Some(places) => places.as_slice().len(),
+        None => found.count(),
+    }
+}
+
 /// The cells of a sheet, by row, then column, of those of one position the last. Contracts see the list
 /// of them.
 #[derive(Drop)]
@@ -86,6 +94,8 @@ pub struct SheetCells<'v> {
     part: &'v [u8],
     /// Where the cells stand, in order, where the records don't ascend.
     sorted: Option<Settled<usize>>,
+    /// How many they are, as far as a `usize` tells.
+    count: usize,
     /// The smallest box that holds them.
     bounds: Option<Dimensions>,
 }
@@ -119,10 +129,12 @@ impl<'v> SheetCells<'v> {
         ensures ordered { IfOk result (λ cells. IsAscending (map (λ (c : CellEntry). c.0) cells)) }
     {
         let sorted = order_of(alloc, part, &settings, found)?;
+        let count = count_of(&sorted, found);
         Ok(SheetCells {
             settings,
             part,
             sorted,
+            count,
             bounds: found.bounds(),
         })
     }
@@ -133,6 +145,11 @@ impl<'v> SheetCells<'v> {
         ensures { result ≡ bounds_of self.now }
     {
         self.bounds
+    }
+
+    /// For how many cells a list of them needs room. No contract rests on it. Takes no memory.
+    pub fn room(&self) -> usize {
+        self.count
     }
 
     /// The cells in order. Takes no memory.

@@ -6,6 +6,7 @@ ghost use Rattle.std.specs.Option.{option_map};
 ghost use Rattle.xls_data.specs.Content.{Content};
 ghost use Rattle.xls_data.specs.declared.regions.Dimensions.{Dimensions};
 ghost use Rattle.xls_stream.specs.Listing.{Kept, kept_group};
+ghost use Rattle.xls_stream.specs.declared.types.TheConstants as types;
 ghost use Rattle.xls_biff.specs.Cells.{CellEntry};
 ghost use Rattle.xls_biff.specs.Records.LabelSst.{shared_entry};
 ghost use Rattle.xls_biff.specs.Records.Rk.{rk_cell};
@@ -25,11 +26,12 @@ use crate::places::run_position;
 use crate::record::{run_of, single_cell};
 use crate::value::position_of;
 use xls_biff::{
-    Record, SheetRecord, SheetRecords, cell_position, formula_position, read_sheet_record,
+    Record, SheetRecord, SheetRecords, cell_position, formula_position, read_label_sst,
+    read_sheet_record,
 };
 use xls_data::Dimensions;
 use xls_open::Settings;
-use xls_stream::types::{BOOL_ERR, LABEL, NUMBER, R_STRING, RK};
+use xls_stream::types::{BOOL_ERR, LABEL, LABEL_SST, NUMBER, R_STRING, RK};
 
 /// Whether the cells so far ascend strictly by position, and the smallest box that holds them.
 #[derive(Clone, Copy)]
@@ -228,17 +230,29 @@ impl Survey {
     }
 }
 
-/// Where the one cell of a record stands that begins with its position, of the types that sheets have most of: these
-/// needn't be read for that.
+/// Where the cell of a LabelSst record's body stands, if the table has its text.
 #[inline(always)]
-fn first_place(r: &Record<'_>) -> Option<(u32, u32)>
-    ensures { IfSome result (IsPlainCell (kept_group (group_of r.now))) }
+fn label_place(body: &[u8], settings: &Settings<'_>) -> Option<(u32, u32)>
+    ensures { IfSome result (IsPlainCell settings.now.cells (record { typ = types.LABEL_SST; body = body.now })) }
+{
+    match read_label_sst(body) {
+        Ok((position, index)) => shared_place(position, index, settings),
+        Err(_) => None,
+    }
+}
+
+/// Where the one cell of a record stands that begins with its position, of the types that sheets have most of: these
+/// needn't be read whole for that.
+#[inline(always)]
+fn first_place(r: &Record<'_>, settings: &Settings<'_>) -> Option<(u32, u32)>
+    ensures { IfSome result (IsPlainCell settings.now.cells (kept_group (group_of r.now))) }
 {
     match r.typ {
         NUMBER => cell_position(r.body),
         RK => cell_position(r.body),
         BOOL_ERR => cell_position(r.body),
         LABEL | R_STRING => cell_position(r.body),
+        LABEL_SST => label_place(r.body, settings),
         _ => None,
     }
 }
@@ -262,7 +276,7 @@ fn pass(
         (es ++ (adds settings.now.formulas last g).cells)
         (fs ++ formula_listed (kept_group (group_of r.now))) (rs ++ regions_at (kept_group (group_of r.now))) }
 {
-    if let Some(position) = first_place(r) {
+    if let Some(position) = first_place(r, settings) {
         return (cells.with(position), merges);
     }
     let read = match read_sheet_record(r, settings.version) {

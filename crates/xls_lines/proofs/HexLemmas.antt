@@ -1,9 +1,30 @@
 -- Sixteen digits in hexadecimal, put before a text one after the other.
-use Rattle.std.proofs.Common.{◌≡◌, ℕ, zero, suc, ◌+◌, ◌-◌, ◌/◌, ◌%◌, ◌^◌, ◌<◌, ◌≤◌, refl, ap, ◌∙◌, arith, false, List, [], ◌∷◌, ◌++◌, length, replicate, inl, inr, ◌==◌}
+use Rattle.std.proofs.Common.{◌≡◌, ℕ, zero, suc, ◌+◌, ◌-◌, ◌*◌, ◌/◌, ◌%◌, ◌^◌, ◌<◌, ◌≤◌, refl, ap, ◌∙◌, arith, Bool, true, false, ◌&&◌, T, eqb, eqb→eq, eq-zero-or-pos, get_or, List, [], ◌∷◌, ◌++◌, length, replicate, inl, inr, ◌==◌}
 use Rattle.std.specs.Fmt.{digit_glyph, digits, digits_onto}
 use Rattle.std.proofs.lemmas.Bool.{cases_lt}
 use Rattle.std.proofs.lemmas.Bool.Decides.{nat_tests}
+use lib.Ieee.Fits.{and_l, and_r}
 use Rattle.xls_dates.specs.Numbers.{sixteen_digits}
+use Rattle.xls_lines.specs.declared.short.TheConstants.{HEX_DIGITS}
+
+-- ---- the table of the digits
+
+abbrev are_digits : ℕ → Bool
+are_digits zero = true
+are_digits (suc n) = eqb (get_or HEX_DIGITS n 0) (digit_glyph false n) && are_digits n
+
+digit_below : (n d : ℕ) → T (are_digits n) → d < n → get_or HEX_DIGITS d 0 ≡ digit_glyph false d
+digit_below zero d t h = absurd (omega arith)
+digit_below (suc n) d t h =
+    elim (eq-zero-or-pos (n - d)) [
+      | inl z ↦ let e : d ≡ n = omega arith in rw e (eqb→eq _ _ (and_l _ (are_digits n) t))
+      | inr g ↦ digit_below n d (and_r _ (are_digits n) t) (omega arith)
+    ]
+
+pub HEX_DIGITS_at : (d : ℕ) → d < 16 → get_or HEX_DIGITS d 0 ≡ digit_glyph false d
+HEX_DIGITS_at d h = digit_below 16 d tt h
+
+-- ---- the digits of a number
 
 -- the last k digits of n before a text
 pub low : ℕ → ℕ → List ℕ → List ℕ
@@ -15,6 +36,23 @@ unfolding low
 low-step i n text p =
     let one : 16 - i ≡ suc (16 - (i + 1)) = omega arith in
     ap (λ k. low k n text) one
+
+-- two of them at once
+pub low-byte : (i n : ℕ) (text : List ℕ) → i < 8
+    → low (16 - 2 * i) n text
+    ≡ low (16 - 2 * (i + 1)) (n / 256) (digit_glyph false (n % 256 / 16) ∷ digit_glyph false (n % 256 % 16) ∷ text)
+low-byte i n text p =
+    let first = low-step (2 * i) n text (omega (arith, p)) in
+    let second = low-step (2 * i + 1) (n / 16) (digit_glyph false (n % 16) ∷ text) (omega (arith, p)) in
+    let count : 16 - (2 * i + 1 + 1) ≡ 16 - 2 * (i + 1) = omega arith in
+    let rest : n / 16 / 16 ≡ n / 256 = omega arith in
+    let high : n / 16 % 16 ≡ n % 256 / 16 = omega arith in
+    let last : n % 16 ≡ n % 256 % 16 = omega arith in
+    first ∙ second
+    ∙ ap (λ k. low k (n / 16 / 16) (digit_glyph false (n / 16 % 16) ∷ digit_glyph false (n % 16) ∷ text)) count
+    ∙ ap (λ m. low (16 - 2 * (i + 1)) m (digit_glyph false (n / 16 % 16) ∷ digit_glyph false (n % 16) ∷ text)) rest
+    ∙ ap (λ d. low (16 - 2 * (i + 1)) (n / 256) (digit_glyph false d ∷ digit_glyph false (n % 16) ∷ text)) high
+    ∙ ap (λ d. low (16 - 2 * (i + 1)) (n / 256) (digit_glyph false (n % 256 / 16) ∷ digit_glyph false d ∷ text)) last
 
 pub low-none : (n : ℕ) (text : List ℕ) → low 0 n text ≡ text
 unfolding low

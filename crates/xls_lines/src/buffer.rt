@@ -9,6 +9,7 @@ ghost use Rattle.xls_lines.specs.Gathering.{Delivers, Puts};
 ghost use Rattle.xls_lines.specs.Lines.{field_text, filled_line, tabbed, tabbed_field};
 
 use crate::field::{Field, printed};
+use crate::head::Head;
 use crate::short::Short;
 use crate::sink::{Sink, write_all};
 use crate::stop::Stop;
@@ -95,7 +96,7 @@ fn number_in(field: Field<'_>) -> Option<Number>
 const SHORT: usize = 42;
 
 /// Puts all of a cell's line that stands before its text: its row, its column and its kind.
-fn put_head(line: &mut Short, row: u32, column: u32, kind: &str)
+fn put_head(head: &mut Head, line: &mut Short, row: u32, column: u32, kind: &str)
     requires kind { length kind.now ≤ 5 }
     requires room { length line.old ≤ SHORT + 1 }
     ensures { line.new ≡ codes "cell" ++ (tabbed (decimal row) ++ (tabbed (decimal column)
@@ -105,14 +106,13 @@ fn put_head(line: &mut Short, row: u32, column: u32, kind: &str)
     line.put_word(kind.as_bytes());
     line.put_byte(b'\t');
     line.put_digits(u64::from(column));
-    line.put_byte(b'\t');
-    line.put_digits(u64::from(row));
-    line.put_word(b"cell\t");
+    head.put(row, line);
 }
 
 /// Gathers the line of a cell: all at once where its text is short.
 fn gather_cell<K: Sink>(
     bytes: &mut Vec<u8>,
+    head: &mut Head,
     sink: &mut K,
     row: u32,
     column: u32,
@@ -126,11 +126,11 @@ fn gather_cell<K: Sink>(
     ensures bound { length bytes.new.items ≤ PIECE }
 {
     if text.len() <= SHORT {
-        return gather_short_cell(bytes, sink, row, column, kind, text);
+        return gather_short_cell(bytes, head, sink, row, column, kind, text);
     }
-    let mut head = Short::new();
-    put_head(&mut head, row, column, kind);
-    gather(bytes, sink, head.as_slice())?;
+    let mut line = Short::new();
+    put_head(head, &mut line, row, column, kind);
+    gather(bytes, sink, line.as_slice())?;
     gather(bytes, sink, text)?;
     gather(bytes, sink, b"\n")?;
     Ok(())
@@ -139,6 +139,7 @@ fn gather_cell<K: Sink>(
 /// Gathers the line of a cell with a short text.
 fn gather_short_cell<K: Sink>(
     bytes: &mut Vec<u8>,
+    head: &mut Head,
     sink: &mut K,
     row: u32,
     column: u32,
@@ -155,7 +156,30 @@ fn gather_short_cell<K: Sink>(
     let mut line = Short::new();
     line.put_byte(b'\n');
     line.put_word(text);
-    put_head(&mut line, row, column, kind);
+    put_head(head, &mut line, row, column, kind);
+    gather(bytes, sink, line.as_slice())
+}
+
+/// Gathers the line of a cell with a number, all at once.
+fn gather_number_cell<K: Sink>(
+    bytes: &mut Vec<u8>,
+    head: &mut Head,
+    sink: &mut K,
+    row: u32,
+    column: u32,
+    kind: &str,
+    number: Number,
+) -> Result<(), Stop>
+    requires kind { length kind.now ≤ 5 }
+    requires old { length bytes.old.items ≤ PIECE }
+    ensures puts { Puts (K.state sink.old) bytes.old.items (K.state sink.new) bytes.new.items
+        (filled_line row column (Some (kind.now, number_text number))) result }
+    ensures bound { length bytes.new.items ≤ PIECE }
+{
+    let mut line = Short::new();
+    line.put_byte(b'\n');
+    line.put_number(number);
+    put_head(head, &mut line, row, column, kind);
     gather(bytes, sink, line.as_slice())
 }
 
@@ -166,6 +190,8 @@ pub struct Buffer {
     piece: Vec<u8>,
     /// The text of the field that is being put, where it has to be printed first.
     printed: String,
+    /// How the line of the last cell began.
+    head: Head,
 }
 
 impl Model for Buffer {
@@ -187,6 +213,7 @@ impl Buffer {
         Buffer {
             piece: Vec::new(alloc),
             printed: String::new(alloc),
+            head: Head::new(0),
         }
     }
 
@@ -256,7 +283,7 @@ impl Buffer {
         Ok(())
     }
 
-    /// Puts the line of a cell with a number, all at once.
+    /// Puts the line of a cell with a number.
     fn put_number_cell<K: Sink>(
         &mut self,
         sink: &mut K,
@@ -269,11 +296,15 @@ impl Buffer {
         ensures { Puts (K.state sink.old) self.old (K.state sink.new) self.new
             (filled_line row column (Some (kind.now, number_text number))) result }
     {
-        let mut line = Short::new();
-        line.put_byte(b'\n');
-        line.put_number(number);
-        put_head(&mut line, row, column, kind);
-        self.put(sink, line.as_slice())
+        gather_number_cell(
+            &mut self.piece,
+            &mut self.head,
+            sink,
+            row,
+            column,
+            kind,
+            number,
+        )
     }
 
     /// Puts the line of a cell with what it prints.
@@ -290,7 +321,15 @@ impl Buffer {
             (filled_line row column (Some (kind.now, field_text displayed.entry))) result }
     {
         let text = printed(displayed, &mut self.printed)?;
-        gather_cell(&mut self.piece, sink, row, column, kind, text.as_bytes())
+        gather_cell(
+            &mut self.piece,
+            &mut self.head,
+            sink,
+            row,
+            column,
+            kind,
+            text.as_bytes(),
+        )
     }
 
     /// Puts the line of a cell: its row, its column, the word for its kind, and what it prints.

@@ -30,10 +30,14 @@ pub enum Field<'a> {
     Fault(&'a XlsError),
 }
 
-/// Whether a byte stands for itself.
+/// Whether a byte stands for itself. Most bytes are above those that don't.
+#[inline(always)]
 fn is_plain(byte: u8) -> bool
     ensures { result ≡ true → escaped_char byte ≡ byte ∷ [] }
 {
+    if byte > b'\\' {
+        return true;
+    }
     !matches!(byte, b'\\' | b'\n' | b'\r' | b'\t')
 }
 

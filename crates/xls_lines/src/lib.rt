@@ -3,6 +3,7 @@
 
 mod buffer;
 mod field;
+mod head;
 mod memory;
 mod short;
 mod sink;

@@ -1,6 +1,6 @@
 //! A short text, made from its end to its beginning, as digits are.
 
-ghost use Rattle.std.specs.Prelude.{◌≡◌, ◌∷◌, ◌++◌, ◌+◌, ◌<◌, ◌≤◌, [], codes, false, length};
+ghost use Rattle.std.specs.Prelude.{◌≡◌, ◌∷◌, ◌++◌, ◌+◌, ◌/◌, ◌%◌, ◌<◌, ◌≤◌, [], codes, false, length};
 ghost use Rattle.std.specs.Fmt.{decimal, digit_glyph, signed_decimal};
 ghost use Rattle.xls_dates.specs.Numbers.{bits_text, decimals_text, hundredths_text, number_text, over_100_text, sixteen_digits};
 
@@ -12,15 +12,22 @@ use xls_data::Number;
 /// How long a short text may be.
 const ROOM: usize = 96;
 
+/// How long a text is, at most, that is put before another one in a piece of this size.
+const SMALL: usize = 16;
+
 /// The bits of the double negative zero.
 const NEGATIVE_ZERO: u64 = 1 << 63;
 
+/// The digits in hexadecimal.
+static HEX_DIGITS: [u8; 16] = *b"0123456789abcdef";
+
 /// A digit in hexadecimal.
+#[inline(always)]
 fn hex_digit(n: u8) -> u8
     requires { n < 16 }
     ensures { result ≡ digit_glyph false n }
 {
-    if n < 10 { b'0' + n } else { b'a' - 10 + n }
+    HEX_DIGITS[usize::from(n)]
 }
 
 /// A text of at most 96 bytes, which grows at its beginning. Contracts see the text.
@@ -77,6 +84,18 @@ impl Short {
         self.start = start;
     }
 
+    /// Puts a small text before the text, in a piece that begins before it where it is shorter.
+    #[inline(always)]
+    pub(crate) fn put_small(&mut self, text: &Short)
+        requires small { length text.now ≤ SMALL }
+        requires room { length self.old + SMALL ≤ ROOM }
+        ensures { self.new ≡ text.now ++ self.old }
+    {
+        let (_, piece) = text.bytes.split_at(ROOM - SMALL);
+        self.bytes[self.start - SMALL..self.start].copy_from_slice(piece);
+        self.start -= ROOM - text.start;
+    }
+
     /// Puts a number before the text.
     pub fn put_digits(&mut self, n: u64)
         requires { length self.old + 20 ≤ ROOM }
@@ -99,6 +118,15 @@ impl Short {
         }
     }
 
+    /// Puts a byte in hexadecimal, with two digits, before the text.
+    #[inline(always)]
+    fn put_hex_byte(&mut self, byte: u8)
+        requires { length self.old + 2 ≤ ROOM }
+        ensures { self.new ≡ digit_glyph false (byte / 16) ∷ digit_glyph false (byte % 16) ∷ self.old }
+    {
+        self.put_word(&[hex_digit(byte / 16), hex_digit(byte % 16)]);
+    }
+
     /// Puts a number in hexadecimal, with sixteen digits, before the text.
     pub fn put_hex(&mut self, n: u64)
         requires { length self.old + 16 ≤ ROOM }
@@ -106,9 +134,9 @@ impl Short {
         ensures room { length self.new ≤ length self.old + 16 }
     {
         let mut left = n;
-        for i in 0..16_usize {
-            self.put_byte(hex_digit((left % 16) as u8));
-            left /= 16;
+        for i in 0..8_usize {
+            self.put_hex_byte((left % 256) as u8);
+            left /= 256;
         }
     }
 

@@ -1,10 +1,12 @@
-use Rattle.std.proofs.Common.{◌++◌, refl, sym, ap, subst}
+use Rattle.std.proofs.Common.{List, ◌++◌, sym, ap, subst}
 use Rattle.xls_stream.specs.Listing.{kept_group}
+use Rattle.xls_biff.specs.Cells.{CellEntry}
 use Rattle.xls_biff.specs.SheetTable.{SheetRecord}
 use Rattle.xls_biff.specs.Walking.{group_of}
 use Rattle.xls_meaning.specs.Settings.{Settings}
 use Rattle.xls_meaning.specs.SheetTable.{adds}
 use Rattle.xls_cursors.specs.Surveying.{IsFound}
+use Rattle.xls_cursors.proofs.PlainLemmas.{one_added, one_without_formula}
 use Rattle.xls_cursors.proofs.RecordLemmas.{read_as}
 use Rattle.xls_cursors.proofs.SurveyLemmas.{formula_not_found, no_regions_yet}
 use Rattle.xls_cursors.proofs.survey.pass.Goals as goal
@@ -15,10 +17,11 @@ returns-in-Some c = λ es fs rs g h found.
     let s = c.args.settings.now in
     let k = kept_group (group_of c.args.r.now) in
     let plain = rw c.in-Some.is at c.first_place.ensures in
-    let one = plain.one s.cells g h in
+    let one = plain.one g h in
+    let e = (c.in-Some.position, one.0) in
     record {
-      cells = rw one.1 (c.with.ensures es one.0 found.cells);
-      formulas = formula_not_found s.cells k g c.args.formulas.now fs (rw one.1 refl) h found.formulas;
+      cells = subst (λ (added : List CellEntry). IsFound c.with.result (es ++ added)) (one_added s.formulas c.args.last g e one.1) (c.with.ensures es one.0 found.cells);
+      formulas = formula_not_found s.cells k g c.args.formulas.now fs (one_without_formula g e one.1) h found.formulas;
       merges = λ e. no_regions_yet k rs (found.merges e) plain.apart;
     }
 
