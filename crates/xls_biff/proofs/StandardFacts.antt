@@ -198,9 +198,15 @@ known_formula = refl
 
 -- ---- the table of a sheet
 
--- its types are those of a sheet's records
-pub known_types : map (λ line. line.0) sheet_table ≡ sheet_types
+-- its types by their numbers in [MS-XLS]: Number, Dimensions, Label, RString, BoolErr, String, RK, LabelSst, MulRk,
+-- MergeCells and Formula
+pub known_types : map (λ line. line.0) sheet_table
+    ≡ 0x0203 ∷ 0x0200 ∷ 0x0204 ∷ 0x00D6 ∷ 0x0205 ∷ 0x0207 ∷ 0x027E ∷ 0x00FD ∷ 0x00BD ∷ 0x00E5 ∷ 0x0006 ∷ []
 known_types = refl
+
+-- they are those of a sheet's records
+pub same_types : map (λ line. line.0) sheet_table ≡ sheet_types
+same_types = refl
 
 -- ---- weights
 

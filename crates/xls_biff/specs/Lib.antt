@@ -3,5 +3,4 @@ pub mod Outer
 pub mod Cells
 pub mod Records
 pub mod SheetTable
-pub mod SheetReading
 pub use Rattle.xls_stream.specs.Stream

@@ -2,8 +2,7 @@
 
 ghost use Rattle.std.specs.Prelude.{◌≡◌, ◌≢◌, Ok, IsErr, IfOk};
 ghost use Rattle.xls_record.specs.Reading.{Exactly, fault_in};
-ghost use Rattle.xls_biff.specs.SheetReading.{HasItems, stands_for};
-ghost use Rattle.xls_biff.specs.SheetTable.{CellContext, sheet_record_at, weight_of, weight_of_type, formula_position};
+ghost use Rattle.xls_biff.specs.SheetTable.{CellContext, sheet_record_at, weight_of, weight_of_type, formula_position, HasItems, stands_for};
 ghost use Rattle.xls_biff.specs.SheetTable as table;
 ghost use Rattle.xls_biff.specs.Records.Rk.{mul_rk_count};
 ghost use Rattle.xls_stream.specs.Substreams.{is_among, sheet_types};

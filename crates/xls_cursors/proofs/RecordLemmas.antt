@@ -4,8 +4,7 @@ use Rattle.std.specs.Option.{option_map}
 use Rattle.xls_stream.specs.declared.types.TheConstants as types
 use Rattle.xls_record.specs.declared.error.XlsError.{XlsError}
 use Rattle.xls_biff.specs.Cells.{CellEntry}
-use Rattle.xls_biff.specs.SheetReading.{HasItems}
-use Rattle.xls_biff.specs.SheetTable.{SheetRecord}
+use Rattle.xls_biff.specs.SheetTable.{SheetRecord, HasItems}
 use Rattle.xls_biff.specs.declared.sheet_record.SheetRecord as read
 use Rattle.xls_biff.specs.declared.sheet_record.SheetRecord.TheVariants as variant
 use Rattle.xls_meaning.specs.SheetTable.{listed_cell}

@@ -4,7 +4,7 @@ use Rattle.std.specs.List.{AllByRecursion}
 use Rattle.xls_stream.specs.Walks.{IsBytes}
 use Rattle.xls_data.specs.declared.regions.Dimensions.{Dimensions}
 use Rattle.xls_biff.specs.Cells.{CellEntry}
-use Rattle.xls_biff.specs.SheetReading.{HasItems}
+use Rattle.xls_biff.specs.SheetTable.{HasItems}
 use Rattle.xls_biff.specs.declared.sheet_record.SheetRecord.{SheetRecord}
 use Rattle.xls_biff.specs.declared.sheet_record.SheetRecord.TheVariants as variant
 use Rattle.xls_formula.specs.Context.{Context}

@@ -8,7 +8,7 @@ ghost use Rattle.xls_biff.specs.Cells.{CellEntry};
 ghost use Rattle.xls_biff.specs.Records.Formula.{value_content};
 ghost use Rattle.xls_biff.specs.Records.Label.{label_entry};
 ghost use Rattle.xls_biff.specs.Records.LabelSst.{shared_entry};
-ghost use Rattle.xls_biff.specs.SheetReading.{stands_for};
+ghost use Rattle.xls_biff.specs.SheetTable.{stands_for};
 ghost use Rattle.xls_biff.specs.SheetTable as table;
 ghost use Rattle.xls_biff.specs.Walking.{group_of};
 ghost use Rattle.xls_meaning.specs.SheetTable.{adds, kept_line, listed_cell, listed_value};

@@ -5,7 +5,7 @@ use Rattle.xls_stream.specs.declared.types.TheConstants as types
 use Rattle.xls_stream.specs.declared.part.Part.TheVariants as parts
 use Rattle.xls_stream.specs.PartText.{part_text}
 use Rattle.xls_stream.specs.Listing.{globals_types}
-use Rattle.xls_stream.specs.Substreams.{sheet_types, none, plain, nested, Outline, own_closed, groups_of_outline, outer_in, kept_groups}
+use Rattle.xls_stream.specs.Substreams.{none, plain, nested, Outline, own_closed, groups_of_outline, outer_in, kept_groups}
 use Rattle.xls_stream.specs.Counting.{found_from}
 
 -- the types of records by their numbers in [MS-XLS]: BOF, EOF and Continue
@@ -15,10 +15,6 @@ known_marks = refl
 -- BOF, FilePass, CodePage, DateMode, Format, XF, Lbl, ExternSheet, SST and BoundSheet8
 pub known_globals : globals_types ≡ 0x0809 ∷ 0x002F ∷ 0x0042 ∷ 0x0022 ∷ 0x041E ∷ 0x00E0 ∷ 0x0018 ∷ 0x0017 ∷ 0x00FC ∷ 0x0085 ∷ []
 known_globals = refl
-
--- Number, Dimensions, Label, RString, BoolErr, String, RK, LabelSst, MulRk, MergeCells and Formula
-pub known_sheet : sheet_types ≡ 0x0203 ∷ 0x0200 ∷ 0x0204 ∷ 0x00D6 ∷ 0x0205 ∷ 0x0207 ∷ 0x027E ∷ 0x00FD ∷ 0x00BD ∷ 0x00E5 ∷ 0x0006 ∷ []
-known_sheet = refl
 
 -- an EOF record is its type and no byte
 pub eof_bytes : record_bytes 0x000A [] ≡ 10 ∷ 0 ∷ 0 ∷ 0 ∷ []

@@ -1,5 +1,5 @@
 use Rattle.std.proofs.Common.{map, sym, ◌∙◌}
-use Rattle.xls_biff.specs.SheetReading.{stands_for}
+use Rattle.xls_biff.specs.SheetTable.{stands_for}
 use Rattle.xls_cursors.specs.Formulas.{Formula}
 use Rattle.xls_cursors.proofs.SurveyLemmas.{formula_found, formula_not_found}
 use Rattle.xls_cursors.proofs.survey.add_formula.Goals as goal

@@ -1,6 +1,6 @@
 use Rattle.std.proofs.Common.{arith}
 use Rattle.std.proofs.lemmas.Result.{err_from_is_err_and}
-use Rattle.xls_biff.specs.SheetReading.{stands_for}
+use Rattle.xls_biff.specs.SheetTable.{stands_for}
 use Rattle.xls_biff.specs.Walking.{group_of}
 use Rattle.xls_open.specs.CheckSteps.{under}
 use Rattle.xls_open.proofs.CheckPartLemmas.{part_nothing, part_more, record_refused, weight_refused, part_cut, part_end}
