@@ -2,7 +2,6 @@
 
 ghost use Rattle.std.specs.Prelude.{◌≡◌, ◌+◌, ◌≤◌, ℕ, List, [], Some, None, IfErr, IfOk, OnOk, IfSome, MatchOption, length, map, slice_get};
 ghost use Rattle.std.specs.Option.{option_copied, option_map};
-ghost use Rattle.std.specs.Io.KnownBytes.{Consumes, IsAtEnd};
 ghost use Rattle.std.specs.Str.{chars};
 ghost use Rattle.xls_data.specs.Data.{is_nothing};
 ghost use Rattle.xls_data.specs.Sheets.{SheetContent, sheet_content};

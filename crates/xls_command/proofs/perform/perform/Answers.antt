@@ -14,9 +14,11 @@ returns-in-Ok-clause-steady g c =
 -- the source was refused
 pub returns-in-Err-clause-ends : goal.returns-in-Err-clause-ends
 returns-in-Err-clause-ends g c =
-    ends-of_cause c.args.command (reads_source c.args.command c.if-reads_nothing.ensures) (g.S.Source.state c.args.source.now) _ _ _ c.refuse.result c.in-Err.error c.in-Err.ensures.cause c.refuse.ensures
+    let state = g.S.Source.state in
+    ends-of_cause c.args.command (reads_source c.args.command c.if-reads_nothing.ensures) (state c.args.source.now) (state c.read_all.new.source) _ _ c.refuse.result c.in-Err.error c.in-Err.ensures.cause c.refuse.ensures
 
 pub returns-in-Err-clause-steady : goal.returns-in-Err-clause-steady
 returns-in-Err-clause-steady g c =
+    let source = g.S.Source.state in
     let state = g.K.Sink.state in
-    steady-of_cause c.args.command (reads_source c.args.command c.if-reads_nothing.ensures) (g.S.Source.state c.args.source.now) _ (state c.args.sink.now) (state c.refuse.new.sink) c.refuse.result c.in-Err.error c.in-Err.ensures.cause c.refuse.ensures
+    steady-of_cause c.args.command (reads_source c.args.command c.if-reads_nothing.ensures) (source c.args.source.now) (source c.read_all.new.source) (state c.args.sink.now) (state c.refuse.new.sink) c.refuse.result c.in-Err.error c.in-Err.ensures.cause c.refuse.ensures
