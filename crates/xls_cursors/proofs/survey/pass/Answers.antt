@@ -18,10 +18,10 @@ returns-in-Some c = λ es fs rs g h found.
     let k = kept_group (group_of c.args.r.now) in
     let plain = rw c.in-Some.is at c.first_place.ensures in
     let one = plain.one g h in
-    let e = (c.in-Some.position, one.0) in
+    let cell : CellEntry = (c.in-Some.position, one.0) in
     record {
-      cells = subst (λ (added : List CellEntry). IsFound c.with.result (es ++ added)) (one_added s.formulas c.args.last g e one.1) (c.with.ensures es one.0 found.cells);
-      formulas = formula_not_found s.cells k g c.args.formulas.now fs (one_without_formula g e one.1) h found.formulas;
+      cells = subst (λ (added : List CellEntry). IsFound c.with.result (es ++ added)) (one_added s.formulas c.args.last g cell one.1) (c.with.ensures es one.0 found.cells);
+      formulas = formula_not_found s.cells k g c.args.formulas.now fs (one_without_formula g cell one.1) h found.formulas;
       merges = λ e. no_regions_yet k rs (found.merges e) plain.apart;
     }
 
