@@ -11,7 +11,7 @@ use Rattle.xls_layouts.specs.Canonical.{canonical_strings, counts_of}
 use Rattle.xls_lay.specs.Writing.{saturated}
 use Rattle.xls_lay.specs.Cutting.{kept_bytes, eof_bytes, part_of, part_bytes, part_size, table_bytes, entry_bytes, globals_size, globals_from, parts_from, marks_size}
 use Rattle.xls_lay.specs.Entries.{entry_in, entries_in}
-use Rattle.xls_lay.specs.declared.entry.Entry.{ListEntry as Inner}
+use Rattle.xls_lay.specs.declared.entry.Entry.{Entry as Inner}
 
 -- ---- sums
 
