@@ -42,7 +42,7 @@ fn next_outer<'a>(
     None
 }
 
-/// The records of a sheet part outside nested substreams whose type is one of a sheet's eleven, in
+/// The records of a sheet part outside nested substreams whose type is one of a sheet's, in
 /// order, then at most one error, which is `EoStream`, and `None` for good. Takes no memory.
 ///
 /// The part's EOF ends it. Nested substreams, from BOF to EOF, are passed over, and so are records of

@@ -77,7 +77,7 @@ impl Logical {
         Ok(())
     }
 
-    /// Appends a record to the sheet that the list ends in: one of the eleven types of a sheet's records, with
+    /// Appends a record to the sheet that the list ends in: one of the types of a sheet's records, with
     /// a body of at most 65,535 bytes. Refuses only when memory runs out, and then the list is as it was.
     pub fn push_kept(&mut self, typ: u16, body: &[u8]) -> Result<(), AllocError>
         requires sheet { EndsInSheet self.old }

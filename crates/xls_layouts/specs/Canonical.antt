@@ -122,7 +122,7 @@ IsUnit u = u < 2 ^ 16
 abbrev pub FitsBody : List ℕ → Type 0
 FitsBody body = IsBody body × AreBytes body
 
--- a record of one of the eleven types
+-- a record of one of a sheet's types
 pub record FitsKept (k : Kept) : Type 0 where
   pub is_kept : is_among k.typ sheet_types ≡ true
   pub fits : FitsBody k.body

@@ -130,7 +130,7 @@ IsLaidItem d (a_plain g) = IsPlainItem g
 IsLaidItem d (a_sheet state kind name tail part) = IsSheetItem d name tail part
 IsLaidItem d (a_table first strings) = IsLaidTable first strings
 
--- in a sheet part: neither BOF nor EOF, and of a type that isn't one of the eleven of a sheet's records
+-- in a sheet part: neither BOF nor EOF, and of a type that isn't one of a sheet's records
 abbrev pub IsLooseGroup : Group → Type 0
 IsLooseGroup g = IsPlain g × (is_sheet_type g ≡ false)
 

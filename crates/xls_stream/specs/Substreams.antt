@@ -24,16 +24,14 @@ abbrev pub is_among : ℕ → List ℕ → Bool
 is_among typ [] = false
 is_among typ (t ∷ ts) = typ == t || is_among typ ts
 
--- the eleven types of a sheet's records
+-- the types of a sheet's records
 abbrev pub sheet_types : List ℕ
-sheet_types =
-    types.NUMBER ∷ types.DIMENSIONS ∷ types.LABEL ∷ types.R_STRING ∷ types.BOOL_ERR ∷ types.STRING
-    ∷ types.RK ∷ types.LABEL_SST ∷ types.MUL_RK ∷ types.MERGE_CELLS ∷ types.FORMULA ∷ []
+sheet_types = types.SHEET_TYPES
 
 abbrev pub is_sheet_type : Group → Bool
 is_sheet_type g = is_among g.typ sheet_types
 
--- those of these groups whose type is one of the eleven
+-- those of these groups whose type is one of a sheet's
 abbrev pub kept_groups : List Group → List Group
 kept_groups gs = filter is_sheet_type gs
 

@@ -45,3 +45,18 @@ pub const MUL_RK: u16 = 0x00BD;
 pub const MERGE_CELLS: u16 = 0x00E5;
 
 pub const FORMULA: u16 = 0x0006;
+
+/// The types of a sheet's records.
+pub const SHEET_TYPES: [u16; 11] = [
+    NUMBER,
+    DIMENSIONS,
+    LABEL,
+    R_STRING,
+    BOOL_ERR,
+    STRING,
+    RK,
+    LABEL_SST,
+    MUL_RK,
+    MERGE_CELLS,
+    FORMULA,
+];
