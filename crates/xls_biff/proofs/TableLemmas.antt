@@ -12,7 +12,7 @@ use Rattle.xls_data.specs.Content.{Content}
 use Rattle.xls_data.specs.declared.regions.Dimensions.{Dimensions}
 use Rattle.xls_biff.specs.Cells.{CellEntry, Position}
 use Rattle.xls_biff.specs.Records.Rk.{mul_rk_at}
-use Rattle.xls_biff.specs.SheetTable.{CellContext, SheetRecord, TableLine, empty_record, cell_record, cells_record, shared_record, string_record, formula_record, regions_record, other_line, bounds_line, cell_line, cells_line, shared_line, string_line, formula_line, regions_line, read_on_line, line_of, sheet_table, sheet_record_at, weight_of, weight_of_type, other_weights}
+use Rattle.xls_biff.specs.SheetTable.{CellContext, SheetRecord, TableLine, empty_record, cell_record, cells_record, shared_record, string_record, formula_record, regions_record, other_line, empty_line, cell_line, cells_line, shared_line, string_line, formula_line, regions_line, read_on_line, line_of, sheet_table, sheet_record_at, weight_of, weight_of_type, other_weights}
 
 infixr 4 ◌&◌
 -- what a line has, and what those after it have
@@ -54,7 +54,7 @@ module _ (Q : Result SheetRecord XlsError → Type 0) (fault : (e : XlsError) �
       → (typ ≡ types.MERGE_CELLS → (rs : List Dimensions) → Q (Ok (regions_record rs)))
       → (settings : CellContext) (body : List ℕ) → Q (read_on_line line settings body)
   on_line typ other_line own formula regions settings body = empty
-  on_line typ (bounds_line read) own formula regions settings body = kind (λ d. empty_record) (read settings body) (λ d. empty)
+  on_line typ (empty_line read) own formula regions settings body = kind (λ u. empty_record) (read settings body) (λ u. empty)
   on_line typ (cell_line read) own formula regions settings body = kind cell_record (read settings body) (λ c. cells (c ∷ []))
   on_line typ (cells_line read) own formula regions settings body = kind cells_record (read settings body) cells
   on_line typ (shared_line read) own formula regions settings body = kind shared_record (read settings body) shared
@@ -74,7 +74,7 @@ module _ (Q : Result SheetRecord XlsError → Type 0) (fault : (e : XlsError) �
 -- every record of a line that isn't a MulRk's weighs so much
 abbrev weight_on : TableLine → ℕ
 weight_on other_line = 0
-weight_on (bounds_line read) = 0
+weight_on (empty_line read) = 0
 weight_on (cells_line read) = 0
 weight_on (regions_line read) = 0
 weight_on _ = 1
@@ -100,7 +100,7 @@ each_weight typ = every_type Weighs sheet_table typ (unlisted typ) (search rules
 weight_by : (typ : ℕ) (line : TableLine) → Weighs typ line → typ ≢ types.MUL_RK → (settings : CellContext) (body : List ℕ) (g : SheetRecord)
     → read_on_line line settings body ≡ Ok g → weight_of_type typ ≡ weight_of g
 weight_by typ other_line w apart settings body g e = w ∙ let same : empty_record ≡ g = cc in ap weight_of same
-weight_by typ (bounds_line read) w apart settings body g e = w ∙ weighs (λ d. empty_record) (read settings body) 0 (λ d. refl) g e
+weight_by typ (empty_line read) w apart settings body g e = w ∙ weighs (λ u. empty_record) (read settings body) 0 (λ u. refl) g e
 weight_by typ (cell_line read) w apart settings body g e = w ∙ weighs cell_record (read settings body) 1 (λ c. refl) g e
 weight_by typ (cells_line read) w apart settings body g e = absurd (apart w)
 weight_by typ (shared_line read) w apart settings body g e = w ∙ weighs shared_record (read settings body) 1 (λ c. refl) g e

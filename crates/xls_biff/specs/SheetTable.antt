@@ -52,7 +52,7 @@ pub data TableLine : Type 0 where
   -- they give nothing, whatever their bodies
   other_line : TableLine
   -- they give nothing, and may have a fault
-  bounds_line : (read : CellContext → List ℕ → Result Dimensions XlsError) → TableLine
+  empty_line : (read : CellContext → List ℕ → Result Unit XlsError) → TableLine
   -- a cell each
   cell_line : (read : CellContext → List ℕ → Result CellEntry XlsError) → TableLine
   cells_line : (read : CellContext → List ℕ → Result (List CellEntry) XlsError) → TableLine
@@ -68,7 +68,7 @@ cell_record c = cells_record (c ∷ [])
 -- what a record of a line gives, or its first fault
 abbrev pub read_on_line : TableLine → CellContext → List ℕ → Result SheetRecord XlsError
 read_on_line other_line settings body = Ok empty_record
-read_on_line (bounds_line read) settings body = gives (λ d. empty_record) (read settings body)
+read_on_line (empty_line read) settings body = gives (λ u. empty_record) (read settings body)
 read_on_line (cell_line read) settings body = gives cell_record (read settings body)
 read_on_line (cells_line read) settings body = gives cells_record (read settings body)
 read_on_line (shared_line read) settings body = gives shared_record (read settings body)
@@ -83,7 +83,7 @@ label_line = cell_line (λ settings body. label_at settings.page settings.versio
 abbrev pub sheet_table : List (ℕ × TableLine)
 sheet_table =
     (types.NUMBER, cell_line (λ settings body. number_at settings.classes settings.is_1904 body))
-    ∷ (types.DIMENSIONS, bounds_line (λ settings body. dimensions_at body))
+    ∷ (types.DIMENSIONS, empty_line (λ settings body. gives (λ d. tt) (dimensions_at body)))
     ∷ (types.LABEL, label_line)
     ∷ (types.R_STRING, label_line)
     ∷ (types.BOOL_ERR, cell_line (λ settings body. bool_err_at body))
