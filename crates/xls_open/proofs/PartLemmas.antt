@@ -17,7 +17,6 @@ use Rattle.xls_stream.proofs.Outlines.{run_bytes, same_parts}
 use Rattle.xls_record.specs.declared.error.XlsError.{XlsError}
 use Rattle.xls_record.specs.declared.error.XlsError.TheVariants as errors
 use Rattle.xls_biff.specs.Outer.{Keeps, Over, CutShort}
-use Rattle.xls_record.specs.Reading.{gives}
 use Rattle.xls_biff.specs.SheetTable.{position_in}
 use Rattle.xls_range.specs.Positions.{Position, IsAscending, last_at, cell_position}
 use Rattle.xls_meaning.specs.Order.{map_with_earlier, last_of}

@@ -1,5 +1,5 @@
 -- What reading the globals of a stream answers, and what formulas may name.
-use Rattle.std.specs.Prelude.{◌≡◌, ℕ, ℤ, List, [], ◌-◌, Bool, length, map, Option, Some, None, Result, Ok, Err}
+use Rattle.std.specs.Prelude.{◌≡◌, ℕ, ℤ, List, [], Bool, length, map, Option, Some, None, Result, Ok, Err}
 use Rattle.xls_text.specs.declared.encoding.XlsEncoding.{XlsEncoding}
 use Rattle.xls_stream.specs.Listing.{Item, entry_of, Holds}
 use Rattle.xls_stream.specs.declared.part.Part.{Part}

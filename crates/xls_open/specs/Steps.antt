@@ -10,7 +10,6 @@ use Rattle.xls_data.specs.Sheets.{SheetContent}
 use Rattle.xls_record.specs.declared.error.XlsError.{XlsError}
 use Rattle.xls_record.specs.declared.error.XlsError.TheVariants as errors
 use Rattle.xls_record.specs.declared.version.Biff.TheVariants.{Biff8}
-use Rattle.xls_record.specs.Reading.{gives}
 use Rattle.xls_meaning.specs.Order.{map_with_earlier, first_of}
 use Rattle.xls_meaning.specs.Settings.{Settings, SheetRecords}
 use Rattle.xls_meaning.specs.GlobalsTable.{GlobalsRecord, version_from, page_from, date_from, format_from, xf_from, references_from, name_from, strings_from, sheet_from}
