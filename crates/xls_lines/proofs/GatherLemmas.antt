@@ -8,7 +8,7 @@ use Rattle.std.specs.Result.{IsErrAnd}
 use Rattle.std.proofs.KnownBytes.{Appends-trans, Appends-nil}
 use Rattle.xls_lines.specs.SinkState.{SinkState}
 use Rattle.xls_lines.specs.Written.{AppendsPrefix}
-use Rattle.xls_lines.specs.Gathering.{WriteCause, GrowsSink, GathersText, Stops, Puts, Wrote, Delivers}
+use Rattle.xls_lines.specs.Gathering.{WriteCause, GrowsSink, GathersText, Stops, PutsText, Wrote, Delivers}
 use Rattle.xls_lines.specs.declared.stop.Stop.{Stop}
 use Rattle.xls_lines.specs.declared.stop.Stop.TheVariants.{Read, Write, Memory}
 
@@ -116,7 +116,7 @@ stops-as {a} {b} {g} {xs} {ys} {e} p is =
 -- ---- at an error
 
 pub puts-stop : {X : Type 0} {a b : SinkState} {g xs : List ℕ} {e : Stop} (h : List ℕ) (r : Result X Stop)
-    → IsErrAnd r (λ d. d ≡ e) → Stops a g b xs e → Puts a g b h xs r
+    → IsErrAnd r (λ d. d ≡ e) → Stops a g b xs e → PutsText a g b h xs r
 puts-stop h (Ok x) none p = absurd none
 puts-stop {X} {a} {b} {g} {xs} {e} h (Err d) is p = subst (Stops a g b xs) (sym is) p
 
@@ -175,7 +175,7 @@ pub stops-memory-now : (w : SinkState) (g text : List ℕ) → Stops w g w text 
 stops-memory-now w g text = stops-memory text (gathers-nothing w g)
 
 pub puts-memory : {X : Type 0} (w : SinkState) (g text : List ℕ) (h : List ℕ) (r : Result X Stop)
-    → IsErrAnd r (λ d. d ≡ Memory) → Puts w g w h text r
+    → IsErrAnd r (λ d. d ≡ Memory) → PutsText w g w h text r
 puts-memory w g text h r is = puts-stop h r is (stops-memory-now w g text)
 
 -- ---- lists whose items are put one after the other
@@ -206,40 +206,11 @@ gathers-item text xs k d l p q =
 
 -- ---- items that an iterator gives
 
--- the texts of some items are put, and with those of the items left they are the whole
-pub record PutsSome {X : Type 0} (text : X → List ℕ) (all left : List X) (a : SinkState) (g : List ℕ) (b : SinkState) (h : List ℕ) : Type 0 where
-  pub out : List ℕ
-  pub whole : out ++ flat_map text left ≡ flat_map text all
-  pub gathers : GathersText a g b h out
-
-pub some-first : {X : Type 0} (text : X → List ℕ) (all left : List X) (a : SinkState) (g : List ℕ) → left ≡ all
-    → PutsSome text all left a g a g
-some-first text all left a g e = record { out = []; whole = ap (flat_map text) e; gathers = gathers-nothing a g }
-
-next_whole : {X : Type 0} (text : X → List ℕ) (all old left : List X) (x : X) (out : List ℕ)
+pub next_whole : {X : Type 0} (text : X → List ℕ) (all old left : List X) (x : X) (out : List ℕ)
     → out ++ flat_map text old ≡ flat_map text all → old ≡ x ∷ left
     → (out ++ text x) ++ flat_map text left ≡ flat_map text all
 next_whole text all old left x out is e =
     append_assoc out (text x) (flat_map text left) ∙ ap (λ (items : List _). out ++ flat_map text items) (sym e) ∙ is
-
-pub some-next : {X : Type 0} (text : X → List ℕ) {all old left : List X} {x : X} {a b c : SinkState} {g h k : List ℕ}
-    → PutsSome text all old a g b h → old ≡ x ∷ left → GathersText b h c k (text x) → PutsSome text all left a g c k
-some-next text {all} {old} {left} {x} p e q = record {
-  out = p.out ++ text x;
-  whole = next_whole text all old left x p.out p.whole e;
-  gathers = gathers-then p.gathers q;
-}
-
-pub some-stopped : {X : Type 0} (text : X → List ℕ) {all old left : List X} {x : X} {a b c : SinkState} {g h : List ℕ} {e : Stop}
-    → PutsSome text all old a g b h → old ≡ x ∷ left → Stops b h c (text x) e → Stops a g c (flat_map text all) e
-some-stopped text {all} {old} {left} {x} p is q =
-    stops-as (stops-more (flat_map text left) (stops-then p.gathers q)) (next_whole text all old left x p.out p.whole is)
-
--- all of them are put
-pub some-all : {X : Type 0} (text : X → List ℕ) {all left : List X} {a b : SinkState} {g h : List ℕ}
-    → PutsSome text all left a g b h → left ≡ [] → GathersText a g b h (flat_map text all)
-some-all text p e =
-    gathers-as p.gathers (sym (append-nil p.out) ∙ ap (λ (items : List _). p.out ++ flat_map text items) (sym e) ∙ p.whole)
 
 -- ---- a whole text
 
@@ -267,5 +238,5 @@ pub stops-from : {a b : SinkState} {g xs : List ℕ} {e : Stop} → g ≡ []
 stops-from {a} {b} {g} {xs} {e} is p = subst (λ (l : List ℕ). Stops a l b xs e) is p
 
 pub puts-as : {X : Type 0} (a : SinkState) (g : List ℕ) (b : SinkState) (h : List ℕ) {xs ys : List ℕ} (r : Result X Stop)
-    → xs ≡ ys → Puts a g b h xs r → Puts a g b h ys r
-puts-as a g b h r e p = subst (λ (text : List ℕ). Puts a g b h text r) e p
+    → xs ≡ ys → PutsText a g b h xs r → PutsText a g b h ys r
+puts-as a g b h r e p = subst (λ (text : List ℕ). PutsText a g b h text r) e p

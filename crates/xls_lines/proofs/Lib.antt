@@ -3,3 +3,4 @@ pub mod GatherLemmas
 pub mod ShortLemmas
 pub mod StandardFacts
 pub mod HexLemmas
+pub mod OutputLemmas
