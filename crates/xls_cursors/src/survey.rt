@@ -256,37 +256,54 @@ fn first_place(r: &Record<'_>, settings: &Settings<'_>) -> Option<(u32, u32)>
     }
 }
 
-/// After a record without a fault, where the last Formula before it stands here: what was found of the cells, and how
-/// many MergeCells records there are. What was found of the formulas, which are rarer, stays in memory, so that the
-/// cells pass in registers.
+/// What was found so far but for the formulas, which are rarer and stay in memory, so that this passes in registers:
+/// of the cells, and how many MergeCells records there are.
+#[derive(Clone, Copy)]
+struct Passed {
+    cells: FoundCells,
+    merges: usize,
+}
+
+/// After a record without a fault, where the last Formula before it stands here.
 #[inline(always)]
 fn pass(
-    cells: FoundCells,
+    passed: Passed,
     formulas: &mut Ascent,
-    merges: usize,
     r: &Record<'_>,
     last: (u32, u32),
     settings: &Settings<'_>,
-) -> (FoundCells, usize)
+) -> Passed
     ensures { (es : List CellEntry) (fs : List Formula) (rs : List Dimensions) (g : table.SheetRecord)
         → kept_line settings.now.cells (kept_group (group_of r.now)) ≡ Ok g
-        → IsSurvey (record { cells = cells; formulas = formulas.old; merges = merges }) es fs rs
-        → IsSurvey (record { cells = result.0; formulas = formulas.new; merges = result.1 })
+        → IsSurvey (record { cells = passed.cells; formulas = formulas.old; merges = passed.merges }) es fs rs
+        → IsSurvey (record { cells = result.cells; formulas = formulas.new; merges = result.merges })
         (es ++ (adds settings.now.formulas last g).cells)
         (fs ++ formula_listed (kept_group (group_of r.now))) (rs ++ regions_at (kept_group (group_of r.now))) }
 {
+    let Passed { cells, merges } = passed;
     if let Some(position) = first_place(r, settings) {
-        return (cells.with(position), merges);
+        let cells = cells.with(position);
+        return Passed { cells, merges };
     }
     let read = match read_sheet_record(r, settings.version) {
         Ok(read) => read,
-        Err(_) => return (cells, merges),
+        Err(_) => return passed,
     };
     add_formula(formulas, &read);
-    (
-        cells.with_record(&read, last, settings),
-        merges_with(merges, &read),
-    )
+    let cells = cells.with_record(&read, last, settings);
+    let merges = merges_with(merges, &read);
+    Passed { cells, merges }
+}
+
+fn surveyed(passed: Passed, formulas: Ascent) -> Survey
+    ensures { result ≡ record { cells = passed.cells; formulas = formulas; merges = passed.merges } }
+{
+    let Passed { cells, merges } = passed;
+    Survey {
+        cells,
+        formulas,
+        merges,
+    }
 }
 
 /// What is found of the records of a part. Takes no memory.
@@ -295,29 +312,17 @@ pub(crate) fn survey_of(part: &[u8], settings: &Settings<'_>) -> Survey
     ensures { IsSurvey result (cells_after settings.now (0, 0) (kept_in part.now 0))
         (formulas_kept (kept_in part.now 0)) (regions_of (kept_in part.now 0)) }
 {
-    let mut cells = FoundCells::none();
+    let cells = FoundCells::none();
+    let mut passed = Passed { cells, merges: 0 };
     let mut formulas = Ascent::new();
-    let mut merges = 0;
     let mut last = (0, 0);
     for item in SheetRecords::new(part) {
         let record = match item {
             Ok(record) => record,
-            Err(_) => {
-                return Survey {
-                    cells,
-                    formulas,
-                    merges,
-                };
-            }
+            Err(_) => return surveyed(passed, formulas),
         };
-        let (found, regions) = pass(cells, &mut formulas, merges, &record, last, settings);
-        cells = found;
-        merges = regions;
+        passed = pass(passed, &mut formulas, &record, last, settings);
         last = formula_position(&record).unwrap_or(last);
     }
-    Survey {
-        cells,
-        formulas,
-        merges,
-    }
+    surveyed(passed, formulas)
 }

@@ -20,7 +20,7 @@ returns-in-Some c = λ es fs rs g h found.
     let one = plain.one g h in
     let cell : CellEntry = (c.in-Some.position, one.0) in
     record {
-      cells = subst (λ (added : List CellEntry). IsFound c.with.result (es ++ added)) (one_added s.formulas c.args.last g cell one.1) (c.with.ensures es one.0 found.cells);
+      cells = subst (λ (added : List CellEntry). IsFound c.with-cells.result (es ++ added)) (one_added s.formulas c.args.last g cell one.1) (c.with-cells.ensures es one.0 found.cells);
       formulas = formula_not_found s.cells k g c.args.formulas.now fs (one_without_formula g cell one.1) h found.formulas;
       merges = λ e. no_regions_yet k rs (found.merges e) plain.apart;
     }
@@ -32,7 +32,7 @@ returns c = λ es fs rs g h found.
     let version = ap (λ (x : Settings). x.cells.version) (sym c.settings.view_is) in
     let line = c.in-Ok.ensures.exact s.cells version in
     record {
-      cells = subst (λ (x : SheetRecord). IsFound c.with_record.result (es ++ (adds s.formulas c.args.last x).cells)) (read_as _ _ g line h) (c.with_record.ensures es found.cells);
+      cells = subst (λ (x : SheetRecord). IsFound c.with_record-cells.result (es ++ (adds s.formulas c.args.last x).cells)) (read_as _ _ g line h) (c.with_record-cells.ensures es found.cells);
       formulas = c.add_formula.ensures s.cells k fs line found.formulas;
-      merges = c.merges_with.ensures k rs c.in-Ok.ensures.items found.merges;
+      merges = c.merges_with-merges.ensures k rs c.in-Ok.ensures.items found.merges;
     }

@@ -24,8 +24,8 @@ returns-in-Err c =
     let s = c.args.settings.now in
     let i = l.invariant in
     let steps = rw c.in-Err.is at c.in-Some.ensures.steps in
-    survey_done (record { cells = l.cells; formulas = l.formulas; merges = l.merges }) s l.last (kept_in l.item-iterator.0 l.item-iterator.1) i.3 _ i.4 _ i.5 _ i.6 i.7 i.8 i.9
-    (cut_sound s l.item-iterator c.in-Err.field-0 i.2 steps.0)
+    rw c.surveyed.ensures (survey_done (record { cells = l.passed.cells; formulas = l.formulas; merges = l.passed.merges }) s l.last (kept_in l.item-iterator.0 l.item-iterator.1) i.3 _ i.4 _ i.5 _ i.6 i.7 i.8 i.9
+    (cut_sound s l.item-iterator c.in-Err.field-0 i.2 steps.0))
 
 pub loop-item-preserved : goal.loop-item-preserved
 loop-item-preserved c =
@@ -48,7 +48,7 @@ loop-item-preserved c =
       i.3 ++ cells,
       i.4 ++ formula_listed k,
       i.5 ++ regions_at k,
-      c.pass-regions.ensures i.3 i.4 i.5 line.0 line.1 i.6,
+      c.pass-passed.ensures i.3 i.4 i.5 line.0 line.1 i.6,
       more_done i.3 cells (cells_after s c.unwrap_or-last.result (kept_in after.0 after.1)) _ _ i.7 next,
       more_done i.4 (formula_listed k) (formulas_kept (kept_in after.0 after.1)) _ _ i.8 (formulas_next before g after i.2.0 steps (formula_of k) refl),
       more_done i.5 (regions_at k) (regions_of (kept_in after.0 after.1)) _ _ i.9 (regions_next before g after i.2.0 steps (regions_at k) refl),
@@ -59,5 +59,5 @@ returns c =
     let l = c.loop-item in
     let s = c.args.settings.now in
     let i = l.invariant in
-    survey_done (record { cells = l.cells; formulas = l.formulas; merges = l.merges }) s l.last (kept_in l.item-iterator.0 l.item-iterator.1) i.3 _ i.4 _ i.5 _ i.6 i.7 i.8 i.9
-    (over_sound s l.item-iterator i.2 c.in-None.ensures.steps.0)
+    rw c.surveyed-2.ensures (survey_done (record { cells = l.passed.cells; formulas = l.formulas; merges = l.passed.merges }) s l.last (kept_in l.item-iterator.0 l.item-iterator.1) i.3 _ i.4 _ i.5 _ i.6 i.7 i.8 i.9
+    (over_sound s l.item-iterator i.2 c.in-None.ensures.steps.0))

@@ -13,7 +13,7 @@ invariant-loop-item l =
     (goal.iterator-loop-item).can_next l.item-iterator ×
     (goal.iterator-loop-item).is_finite l.item-iterator ×
     IsSoundPart l.settings l.item-iterator ×
-    (es : List CellEntry) × (fs : List Formula) × (rs : List Dimensions) × IsSurvey (record { cells = l.cells; formulas = l.formulas; merges = l.merges }) es fs rs ×
+    (es : List CellEntry) × (fs : List Formula) × (rs : List Dimensions) × IsSurvey (record { cells = l.passed.cells; formulas = l.formulas; merges = l.passed.merges }) es fs rs ×
     (es ++ cells_after l.settings l.last (kept_in l.item-iterator.0 l.item-iterator.1) ≡ cells_after l.settings (0, 0) (kept_in l.part 0)) ×
     (fs ++ formulas_kept (kept_in l.item-iterator.0 l.item-iterator.1) ≡ formulas_kept (kept_in l.part 0)) ×
     (rs ++ regions_of (kept_in l.item-iterator.0 l.item-iterator.1) ≡ regions_of (kept_in l.part 0))
