@@ -1,18 +1,12 @@
 -- Bytes that are appended, and passed on.
 use Rattle.std.proofs.Common.{◌≡◌, ℕ, List, [], ◌++◌, Result, Ok, Err}
-use Rattle.xls_lines.specs.Output.{Output, Gathers, Puts}
+use Rattle.xls_lines.specs.Output.{Output, Puts}
 use Rattle.xls_lines.specs.SinkState.{SinkState}
 use Rattle.xls_lines.specs.declared.stop.Stop.{Stop}
-use Rattle.xls_lines.proofs.OutputLemmas.{gathers-added, gathers-after, gathers-then, stops-after, stops-then}
+use Rattle.xls_lines.proofs.OutputLemmas.{gathers-added, gathers-after, stops-after}
 
 -- bytes were appended, and then what was gathered was passed on, or not
 pub added_passed : {X : Type 0} (w : SinkState) (n : ℕ) (g h text : List ℕ) (b : Output) (r : Result X Stop)
     → h ≡ g ++ text → Puts (record { sink = w; kept = h; lender = n }) b [] r → Puts (record { sink = w; kept = g; lender = n }) b text r
 added_passed w n g h text b (Ok x) e p = gathers-after (gathers-added g h text e) p
 added_passed w n g h text b (Err d) e p = stops-after (gathers-added g h text e) p
-
--- a text was put, and then another one was put, or not
-pub put_after : {X : Type 0} {a b : Output} {xs : List ℕ} (c : Output) (ys : List ℕ) (r : Result X Stop)
-    → Gathers a b xs → Puts b c ys r → Puts a c (xs ++ ys) r
-put_after c ys (Ok x) p q = gathers-then p q
-put_after c ys (Err d) p q = stops-then p q
