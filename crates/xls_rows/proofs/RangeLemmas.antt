@@ -1,7 +1,7 @@
 -- The rows of a range, one after another.
 use Rattle.std.proofs.Common.{◌≡◌, ℕ, suc, ◌+◌, ◌≤◌, List, [], ◌∷◌, refl, ap, arith, map, length}
 use Rattle.std.specs.Prelude.{All, Option, false}
-use Rattle.std.proofs.lemmas.List.Elements.{All-tail}
+use Rattle.std.proofs.lemmas.List.Elements.{All-head, All-tail}
 use Rattle.xls_data.specs.Content.{Content}
 use Rattle.xls_range.specs.Grid.{Grid}
 use Rattle.xls_range.specs.Lists.{rows_of}
@@ -14,6 +14,10 @@ use Rattle.xls_rows.specs.Ranges.{rows_from, rows_read, rows_after, is_unnamed}
 pub rows_from_count : {T : Type 0} (headers : Option (List (List ℕ))) (indexes : List ℕ) (top left : ℕ) (rows : List (List T)) → length (rows_from headers indexes top left rows) ≡ length rows
 rows_from_count headers indexes top left [] = refl
 rows_from_count headers indexes top left (cells ∷ rows) = ap (λ n. suc n) (rows_from_count headers indexes (top + 1) left rows)
+
+-- the first
+pub first_of_all : {X : Type 0} (P : X → Type 0) (xs : List X) (x : X) (others : List X) → xs ≡ x ∷ others → All P xs → P x
+first_of_all P xs x others e a = let b = rw e at a in All-head P x others b
 
 -- the others after the first
 pub all_after : {X : Type 0} (P : X → Type 0) (xs : List X) (x : X) (others : List X) → xs ≡ x ∷ others → All P xs → All P others

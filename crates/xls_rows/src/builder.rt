@@ -87,7 +87,7 @@ impl<'h> RangeDeserializerBuilder<'h> {
         }
         match rows.next() {
             None => Ok(RangeDeserializer::new(Vec::new(alloc), None, rows, 0, 0)),
-            Some(first) => named_rows(alloc, self.headers, first, rows, width, (top, left)),
+            Some(first) => named_rows(alloc, self.headers, first, rows, (top, left)),
         }
     }
 }
@@ -167,20 +167,18 @@ fn named_rows<'c, T: ReadCell, D>(
     choice: Headers<'_>,
     first: &[T],
     rows: Rows<'c, T>,
-    width: usize,
     start: (u32, u32),
 ) -> Result<RangeDeserializer<'c, T, D>, DeError>
-    requires first { length first.now ≡ width }
-    requires wide { All (λ row. length row ≡ width) rows }
+    requires wide { All (λ row. length row ≡ length first.now) rows }
     requires count { start.0 + 1 + length rows ≤ 2 ^ 32 }
-    ensures { Gives (λ rows. rows) result (rows_after (choice_of choice.entry) width
+    ensures { Gives (λ rows. rows) result (rows_after (choice_of choice.entry) (length first.now)
         (all_read (text_read start) (map T.content first.now)) (start.0 + 1) start.1 rows.entry) }
 {
     let headers = match texts_of(alloc, first, start) {
         Ok(headers) => headers,
         Err(e) => return Err(e),
     };
-    match chosen_columns(alloc, choice, width, headers.as_slice()) {
+    match chosen_columns(alloc, choice, first.len(), headers.as_slice()) {
         Ok(indexes) => Ok(RangeDeserializer::new(
             indexes,
             Some(headers),

@@ -12,7 +12,7 @@ ghost use Rattle.xls_rows.specs.Readers.{is_empty_cell, bool_in, char_in, text_r
 use crate::DeError;
 use crate::refusals::{unexpected_kind, unexpected_text};
 use crate::values::{is_zero_number, only_char, truth_named};
-use crate::wholes::whole_of;
+use crate::wholes::{IntegerType, whole_of};
 use std::alloc::Global;
 use xls_data::{CellType, Data, DataType};
 
@@ -109,56 +109,56 @@ impl ReadCell for Data {
     }
 
     fn read_i8(&self, alloc: Global, pos: (u32, u32)) -> Result<i8, DeError> {
-        match whole_of(alloc, "i8", i8::MIN as i128, i8::MAX as i128, self, pos) {
+        match whole_of(alloc, IntegerType::I8, self, pos) {
             Ok(n) => Ok(n as i8),
             Err(e) => Err(e),
         }
     }
 
     fn read_i16(&self, alloc: Global, pos: (u32, u32)) -> Result<i16, DeError> {
-        match whole_of(alloc, "i16", i16::MIN as i128, i16::MAX as i128, self, pos) {
+        match whole_of(alloc, IntegerType::I16, self, pos) {
             Ok(n) => Ok(n as i16),
             Err(e) => Err(e),
         }
     }
 
     fn read_i32(&self, alloc: Global, pos: (u32, u32)) -> Result<i32, DeError> {
-        match whole_of(alloc, "i32", i32::MIN as i128, i32::MAX as i128, self, pos) {
+        match whole_of(alloc, IntegerType::I32, self, pos) {
             Ok(n) => Ok(n as i32),
             Err(e) => Err(e),
         }
     }
 
     fn read_i64(&self, alloc: Global, pos: (u32, u32)) -> Result<i64, DeError> {
-        match whole_of(alloc, "i64", i64::MIN as i128, i64::MAX as i128, self, pos) {
+        match whole_of(alloc, IntegerType::I64, self, pos) {
             Ok(n) => Ok(n as i64),
             Err(e) => Err(e),
         }
     }
 
     fn read_u8(&self, alloc: Global, pos: (u32, u32)) -> Result<u8, DeError> {
-        match whole_of(alloc, "u8", u8::MIN as i128, u8::MAX as i128, self, pos) {
+        match whole_of(alloc, IntegerType::U8, self, pos) {
             Ok(n) => Ok(n as u8),
             Err(e) => Err(e),
         }
     }
 
     fn read_u16(&self, alloc: Global, pos: (u32, u32)) -> Result<u16, DeError> {
-        match whole_of(alloc, "u16", u16::MIN as i128, u16::MAX as i128, self, pos) {
+        match whole_of(alloc, IntegerType::U16, self, pos) {
             Ok(n) => Ok(n as u16),
             Err(e) => Err(e),
         }
     }
 
     fn read_u32(&self, alloc: Global, pos: (u32, u32)) -> Result<u32, DeError> {
-        match whole_of(alloc, "u32", u32::MIN as i128, u32::MAX as i128, self, pos) {
+        match whole_of(alloc, IntegerType::U32, self, pos) {
             Ok(n) => Ok(n as u32),
             Err(e) => Err(e),
         }
     }
 
     fn read_u64(&self, alloc: Global, pos: (u32, u32)) -> Result<u64, DeError> {
-        match whole_of(alloc, "u64", u64::MIN as i128, u64::MAX as i128, self, pos) {
+        match whole_of(alloc, IntegerType::U64, self, pos) {
             Ok(n) => Ok(n as u64),
             Err(e) => Err(e),
         }

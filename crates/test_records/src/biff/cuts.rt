@@ -30,12 +30,39 @@ const NARROW: [&[u8]; 3] = [b"t12tt", b"t12thththth", b"t12te"];
 /// The same for units of two bytes.
 const WIDE: [&[u8]; 3] = [b"t12thth", b"t12thththth", b"t12the"];
 
-/// Letters, and whether units have two bytes before the cut and after it.
-static CUTS: [(&str, &[&[u8]], bool, bool); 4] = [
-    ("units of one byte", &NARROW, false, false),
-    ("units that become wide", &NARROW, false, true),
-    ("units of two bytes", &WIDE, true, true),
-    ("units that become narrow", &WIDE, true, false),
+/// Whether units have two bytes before a cut and after it, and what each cut gives.
+struct Widths {
+    name: &'static str,
+    before: bool,
+    after: bool,
+    letters: &'static [&'static [u8]],
+}
+
+static WIDTHS: [Widths; 4] = [
+    Widths {
+        name: "units of one byte",
+        before: false,
+        after: false,
+        letters: &NARROW,
+    },
+    Widths {
+        name: "units that become wide",
+        before: false,
+        after: true,
+        letters: &NARROW,
+    },
+    Widths {
+        name: "units of two bytes",
+        before: true,
+        after: true,
+        letters: &WIDE,
+    },
+    Widths {
+        name: "units that become narrow",
+        before: true,
+        after: false,
+        letters: &WIDE,
+    },
 ];
 
 /// A table that is written into two pieces, so many bytes into the first one.
@@ -116,21 +143,15 @@ fn answer_by(letter: u8, steps: &'static str) -> Table {
 }
 
 /// Cuts the table at each byte.
-fn cuts(
-    rt: &impl Abort,
-    alloc: Global,
-    word: &str,
-    letters: &[&[u8]],
-    before: bool,
-    after: bool,
-) -> Result<(), Fail> {
+fn cuts(rt: &impl Abort, alloc: Global, widths: &Widths) -> Result<(), Fail> {
     let mut at: usize = 0;
-    for (row, steps) in letters.iter().zip(STEPS.iter()) {
+    for (row, steps) in widths.letters.iter().zip(STEPS.iter()) {
         for letter in *row {
             let wanted = answer_by(*letter, *steps);
             assert!(rt;
-                cut_answers(alloc, at, before, after, wanted)?,
-                "{word}, cut at {at}"
+                cut_answers(alloc, at, widths.before, widths.after, wanted)?,
+                "{}, cut at {at}",
+                widths.name
             );
             at = at.saturating_add(1);
         }
@@ -140,8 +161,8 @@ fn cuts(
 
 #[test]
 fn cuts_three_strings_at_each_byte(rt: HostRuntime) -> Result<(), Fail> {
-    for (word, letters, before, after) in CUTS.iter() {
-        cuts(&rt, rt.alloc(), word, letters, *before, *after)?;
+    for widths in WIDTHS.iter() {
+        cuts(&rt, rt.alloc(), widths)?;
     }
     Ok(())
 }
