@@ -45,6 +45,7 @@ fn put_cite<K: Sink>(
         (pieces_output K.state out.old) (pieces_output K.state out.new) result }
 {
     let name = name_of(names, cite.sheet);
+    let sheet = sheet_of(cite);
     let cells = Dimensions {
         start: cite.first,
         end: cite.last,
@@ -54,7 +55,7 @@ fn put_cite<K: Sink>(
         form,
         name,
         (cite.row, cite.col),
-        sheet_of(cite),
+        sheet,
         cells,
         &mut pieces.room,
         &mut pieces.text,

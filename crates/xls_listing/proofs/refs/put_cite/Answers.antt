@@ -14,7 +14,7 @@ pub returns : goal.returns
 returns g c =
     let cite = c.args.cite in
     let name = encoded c.name_of-name.result.now c.name_of-name.utf8 ∙ ap encode_utf8_all c.name_of-name.ensures in
-    let sheet = encoded_of c.sheet_of.result.now cite.on.now c.sheet_of.utf8 c.sheet_of.ensures in
+    let sheet = encoded_of c.sheet_of-sheet.result.now cite.on.now c.sheet_of-sheet.utf8 c.sheet_of-sheet.ensures in
     let new = string_bytes c.push_ref.new.buf in
     puts-one (IsDisplayedLine c.args.form) (ref_line c.args.names.now (lent_citation_of cite)) _ _ _ new _ c.pass.result
     (cited_added c.args.form _ _ _ (chars cite.on.now) (cite.row, cite.col) (area cite.first cite.last) _ new name sheet
