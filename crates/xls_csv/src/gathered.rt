@@ -1,8 +1,8 @@
 //! The rows that are gathered before they are written.
 
-ghost use Rattle.std.specs.Prelude.{◌≡◌, ◌++◌, ◌==◌, [], length, encode_utf8_all, IfOk, OnOk};
+ghost use Rattle.std.specs.Prelude.{◌≡◌, ◌≤◌, ◌++◌, ◌==◌, ◌↔◌, [], length, encode_utf8_all, IsTrue, IfOk, OnOk};
 ghost use Rattle.csv.specs.Writing.{default_writer, field_text, next_sep};
-ghost use Rattle.xls_lines.specs.Gathering.{Puts};
+ghost use Rattle.xls_lines.specs.Output.{Puts, output};
 ghost use Rattle.xls_cursors.specs.Values.{value_text, lent_content};
 ghost use Rattle.xls_csv.specs.Fields.{field};
 ghost use Rattle.xls_csv.specs.Walk.{value_in};
@@ -12,7 +12,7 @@ use crate::line::{push_error, push_text, push_truth};
 use crate::numbers::push_number;
 use std::alloc::{AllocError, Global};
 use std::marker::Model;
-use xls_lines::{Sink, Stop, write_all};
+use xls_lines::{Sink, Stop, Writer, write_all};
 use xls_view::{CellValue, TextBuffer};
 
 /// From so many bytes on, what is gathered is written.
@@ -47,26 +47,12 @@ impl Gathered {
         }
     }
 
-    /// Writes all that is gathered.
-    #[inline(never)]
-    pub(crate) fn finish<K: Sink>(&mut self, sink: &mut K) -> Result<(), Stop>
-        ensures puts { Puts (K.state sink.old) self.old (K.state sink.new) self.new [] result }
-        ensures none { OnOk result (self.new ≡ []) }
-    {
-        write_all(sink, &self.bytes)?;
-        self.bytes.clear();
-        Ok(())
-    }
-
-    /// Writes what is gathered, where it is 64 KiB or more.
+    /// Whether there is a piece to write.
     #[inline(always)]
-    pub(crate) fn pass<K: Sink>(&mut self, sink: &mut K) -> Result<(), Stop>
-        ensures { Puts (K.state sink.old) self.old (K.state sink.new) self.new [] result }
+    fn is_full(&self) -> bool
+        ensures { IsTrue result ↔ (PIECE ≤ length self.now) }
     {
-        if self.bytes.len() < PIECE {
-            return Ok(());
-        }
-        self.finish(sink)
+        self.bytes.len() >= PIECE
     }
 
     /// Appends what stands before the field at a place of a row: a comma, but at the first.
@@ -143,4 +129,27 @@ impl Gathered {
         }
         self.bytes.extend_from_slice(b"\n")
     }
+}
+
+/// Writes all that is gathered.
+#[inline(never)]
+pub(crate) fn finish<K: Sink>(out: &mut Writer<'_, K, Gathered>) -> Result<(), Stop>
+    ensures puts { Puts (output K.state out.old) (output K.state out.new) [] result }
+    ensures none { OnOk result (out.new.buffer.now ≡ []) }
+{
+    let gathered = &mut *out.buffer;
+    write_all(out.sink, &gathered.bytes)?;
+    gathered.bytes.clear();
+    Ok(())
+}
+
+/// Writes what is gathered, where it is 64 KiB or more.
+#[inline(always)]
+pub(crate) fn pass<K: Sink>(out: &mut Writer<'_, K, Gathered>) -> Result<(), Stop>
+    ensures { Puts (output K.state out.old) (output K.state out.new) [] result }
+{
+    if out.buffer.is_full() {
+        return finish(out);
+    }
+    Ok(())
 }

@@ -15,7 +15,7 @@ mod rows;
 
 pub use ahead::Ahead;
 pub use export::export_csv;
-pub use extent::{Extent, extent_of};
+pub use extent::{BoxRow, Extent, extent_of};
 pub use fields::field_text;
 pub use laws::{dense_boxes, printed_fields, rows_of_sheet};
 pub use rows::write_rows;

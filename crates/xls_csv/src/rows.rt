@@ -4,7 +4,8 @@ ghost use Rattle.std.specs.Prelude.{◌≡◌, ◌≤◌, ◌^◌, ◌+◌, ◌=
 ghost use Rattle.csv.specs.Writing.{default_writer, row_body};
 ghost use Rattle.xls_biff.specs.Cells.{CellEntry};
 ghost use Rattle.xls_range.specs.Positions.{IsAscending};
-ghost use Rattle.xls_lines.specs.Gathering.{Delivers, Puts};
+ghost use Rattle.xls_lines.specs.Gathering.{Delivers};
+ghost use Rattle.xls_lines.specs.Output.{Puts, output};
 ghost use Rattle.xls_csv.specs.Dense.{sheet_csv};
 ghost use Rattle.xls_csv.specs.Fields.{field};
 ghost use Rattle.xls_csv.specs.Steps.{field_placed};
@@ -12,52 +13,50 @@ ghost use Rattle.xls_csv.specs.Text.{row_csv, rows_csv};
 ghost use Rattle.xls_csv.specs.Walk.{left_over, row_over, rows_over, take_at, walk_rows};
 
 use crate::ahead::Ahead;
-use crate::extent::{Extent, extent_of};
-use crate::gathered::Gathered;
+use crate::extent::{BoxRow, Extent, extent_of};
+use crate::gathered::{Gathered, finish, pass};
 use std::alloc::Global;
-use xls_lines::{Sink, Stop};
+use xls_lines::{Sink, Stop, Writer};
 use xls_view::SheetCells;
 
-/// Puts the field at a position of a row that begins at a column, and tells whether that is no byte.
+/// Puts the field at a place of a row, and tells whether that is no byte.
 #[inline(always)]
 fn put_field<K: Sink>(
-    gathered: &mut Gathered,
-    sink: &mut K,
+    out: &mut Writer<'_, K, Gathered>,
     cells: &mut Ahead<'_>,
-    row: u64,
-    left: u64,
+    row: BoxRow,
     place: u64,
 ) -> Result<bool, Stop>
-    requires { left + place ≤ 2 ^ 32 }
-    ensures puts { Puts (K.state sink.old) gathered.old (K.state sink.new) gathered.new
-        (field_placed place (take_at row (left + place) cells.old).0) result }
-    ensures bare { IfOk result (λ is_bare. is_bare ≡ (length (field_placed place (take_at row (left + place) cells.old).0) == 0)) }
-    ensures cells { OnOk result (cells.new ≡ (take_at row (left + place) cells.old).1) }
+    requires { row.left + place ≤ 2 ^ 32 }
+    ensures puts { Puts (output K.state out.old) (output K.state out.new)
+        (field_placed place (take_at row.number (row.left + place) cells.old).0) result }
+    ensures bare { IfOk result (λ is_bare. is_bare
+        ≡ (length (field_placed place (take_at row.number (row.left + place) cells.old).0) == 0)) }
+    ensures cells { OnOk result (cells.new ≡ (take_at row.number (row.left + place) cells.old).1) }
 {
-    gathered.pass(sink)?;
-    let is_bare = gathered.push_field(place, cells.take_at(row, left + place))?;
+    pass(out)?;
+    let is_bare = out
+        .buffer
+        .push_field(place, cells.take_at(row.number, row.left + place))?;
     Ok(is_bare)
 }
 
-/// Puts the fields of a row, for so many columns from one on, and tells whether they are no byte.
+/// Puts the fields of a row, and tells whether they are no byte.
 fn put_fields<K: Sink>(
-    gathered: &mut Gathered,
-    sink: &mut K,
+    out: &mut Writer<'_, K, Gathered>,
     cells: &mut Ahead<'_>,
-    row: u64,
-    left: u64,
-    width: u64,
+    row: BoxRow,
 ) -> Result<bool, Stop>
-    requires { left + width ≤ 2 ^ 32 }
-    ensures puts { Puts (K.state sink.old) gathered.old (K.state sink.new) gathered.new
-        (row_body default_writer (map field (row_over row left width cells.old))) result }
+    requires { row.left + row.width ≤ 2 ^ 32 }
+    ensures puts { Puts (output K.state out.old) (output K.state out.new)
+        (row_body default_writer (map field (row_over row.number row.left row.width cells.old))) result }
     ensures bare { IfOk result (λ is_bare. is_bare
-        ≡ (length (row_body default_writer (map field (row_over row left width cells.old))) == 0)) }
-    ensures cells { OnOk result (cells.new ≡ left_over row left width cells.old) }
+        ≡ (length (row_body default_writer (map field (row_over row.number row.left row.width cells.old))) == 0)) }
+    ensures cells { OnOk result (cells.new ≡ left_over row.number row.left row.width cells.old) }
 {
     let mut is_bare = true;
-    for place in 0..width {
-        let adds_none = put_field(gathered, sink, cells, row, left, place)?;
+    for place in 0..row.width {
+        let adds_none = put_field(out, cells, row, place)?;
         is_bare = is_bare && adds_none;
     }
     Ok(is_bare)
@@ -65,44 +64,38 @@ fn put_fields<K: Sink>(
 
 /// Puts a row.
 fn put_row<K: Sink>(
-    gathered: &mut Gathered,
-    sink: &mut K,
+    out: &mut Writer<'_, K, Gathered>,
     cells: &mut Ahead<'_>,
-    row: u64,
-    left: u64,
-    width: u64,
+    row: BoxRow,
 ) -> Result<(), Stop>
-    requires { left + width ≤ 2 ^ 32 }
-    ensures puts { Puts (K.state sink.old) gathered.old (K.state sink.new) gathered.new
-        (row_csv (row_over row left width cells.old)) result }
-    ensures cells { OnOk result (cells.new ≡ left_over row left width cells.old) }
+    requires { row.left + row.width ≤ 2 ^ 32 }
+    ensures puts { Puts (output K.state out.old) (output K.state out.new)
+        (row_csv (row_over row.number row.left row.width cells.old)) result }
+    ensures cells { OnOk result (cells.new ≡ left_over row.number row.left row.width cells.old) }
 {
-    let is_bare = put_fields(gathered, sink, cells, row, left, width)?;
-    gathered.push_end(is_bare)?;
+    let is_bare = put_fields(out, cells, row)?;
+    out.buffer.push_end(is_bare)?;
     Ok(())
 }
 
 /// Puts all rows of a box.
 fn put_rows<K: Sink>(
-    gathered: &mut Gathered,
-    sink: &mut K,
+    out: &mut Writer<'_, K, Gathered>,
     mut cells: Ahead<'_>,
     extent: Extent,
 ) -> Result<(), Stop>
     requires rows { extent.top + extent.height ≤ 2 ^ 32 }
     requires columns { extent.left + extent.width ≤ 2 ^ 32 }
-    ensures { Puts (K.state sink.old) gathered.old (K.state sink.new) gathered.new
+    ensures { Puts (output K.state out.old) (output K.state out.new)
         (rows_csv (rows_over extent.height extent.top extent.left extent.width cells.entry)) result }
 {
     for i in 0..extent.height {
-        put_row(
-            gathered,
-            sink,
-            &mut cells,
-            extent.top + i,
-            extent.left,
-            extent.width,
-        )?;
+        let row = BoxRow {
+            number: extent.top + i,
+            left: extent.left,
+            width: extent.width,
+        };
+        put_row(out, &mut cells, row)?;
     }
     Ok(())
 }
@@ -112,9 +105,10 @@ fn write_walk<K: Sink>(alloc: Global, sink: &mut K, cells: &SheetCells<'_>) -> R
     ensures { Delivers (K.state sink.old) (K.state sink.new) (rows_csv (walk_rows cells.now)) result }
 {
     let mut gathered = Gathered::new(alloc);
+    let mut out = Writer::new(&mut gathered, sink);
     let extent = extent_of(cells);
-    put_rows(&mut gathered, sink, Ahead::new(cells.iter()), extent)?;
-    gathered.finish(sink)?;
+    put_rows(&mut out, Ahead::new(cells.iter()), extent)?;
+    finish(&mut out)?;
     Ok(())
 }
 

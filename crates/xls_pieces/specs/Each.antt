@@ -1,28 +1,38 @@
--- What becomes of texts, each of an item, that are gathered one after another before they are written.
+-- What becomes of texts, each of an item, that are put into a writer one after another.
 use Rattle.std.specs.Prelude.{ℕ, List, [], take, Result, MatchResult}
+use Rattle.std.specs.String.{string_bytes}
 use Rattle.xls_readable.specs.Values.{Concatenates}
 use Rattle.xls_lines.specs.SinkState.{SinkState}
-use Rattle.xls_lines.specs.Gathering.{GathersText, Stops, Wrote}
+use Rattle.xls_lines.specs.Gathering.{Stops, Wrote}
+use Rattle.xls_lines.specs.Output.{Output, Gathers, GivesUp}
 use Rattle.xls_lines.specs.declared.stop.Stop.{Stop}
+use Rattle.xls_lines.specs.declared.writer.Writer.{Writer}
+use Rattle.xls_pieces.specs.declared.pieces.Pieces.{Pieces}
+
+-- the state of a sink, the text that is kept for it, and the name of the reference by which it was lent
+abbrev pub pieces_output : {K : Type 0} → (K → SinkState) → Writer K Pieces → Output
+pieces_output state out =
+    record { sink = state out.sink.now; kept = string_bytes out.buffer.now.text; lender = out.sink.ghost_name }
 
 -- the texts of all items, one after another, were gathered
-pub record GathersEach {A : Type 0} (IsText : A → List ℕ → Type 0) (items : List A) (before : SinkState) (kept : List ℕ) (after : SinkState) (kept' : List ℕ) : Type 0 where
+pub record GathersEach {A : Type 0} (IsText : A → List ℕ → Type 0) (items : List A) (before after : Output) : Type 0 where
   pub text : List ℕ
   pub texts : Concatenates IsText items text
-  pub gathers : GathersText before kept after kept' text
+  pub gathers : Gathers before after text
 
 -- a prefix of what was kept and of the texts of the first so many items was written, and then it was given up
-pub record StopsEach {A : Type 0} (IsText : A → List ℕ → Type 0) (items : List A) (before : SinkState) (kept : List ℕ) (after : SinkState) (e : Stop) : Type 0 where
+pub record GivesUpEach {A : Type 0} (IsText : A → List ℕ → Type 0) (items : List A) (before after : Output) (e : Stop) : Type 0 where
   pub count : ℕ
   pub text : List ℕ
   pub texts : Concatenates IsText (take count items) text
-  pub stops : Stops before kept after text e
+  pub stops : GivesUp before after text e
 
 -- either of them
-abbrev pub PutsEach : {A X : Type 0} → (A → List ℕ → Type 0) → List A → SinkState → List ℕ → SinkState → List ℕ
-    → Result X Stop → Type 0
-PutsEach IsText items before kept after kept' result =
-    MatchResult result (λ _. GathersEach IsText items before kept after kept') (StopsEach IsText items before kept after)
+abbrev pub PutsEach : {A X : Type 0} → (A → List ℕ → Type 0) → List A → Output → Output → Result X Stop → Type 0
+PutsEach IsText items before after result =
+    MatchResult result (λ _. GathersEach IsText items before after) (GivesUpEach IsText items before after)
+
+-- ---- whole texts
 
 -- the texts of all items were written
 pub record WroteEach {A : Type 0} (IsText : A → List ℕ → Type 0) (items : List A) (before after : SinkState) : Type 0 where
@@ -30,7 +40,14 @@ pub record WroteEach {A : Type 0} (IsText : A → List ℕ → Type 0) (items : 
   pub texts : Concatenates IsText items text
   pub wrote : Wrote before after text
 
--- the same, or a prefix of those of the first so many
+-- a prefix of the texts of the first so many items was written, and then it was given up
+pub record StopsEach {A : Type 0} (IsText : A → List ℕ → Type 0) (items : List A) (before after : SinkState) (e : Stop) : Type 0 where
+  pub count : ℕ
+  pub text : List ℕ
+  pub texts : Concatenates IsText (take count items) text
+  pub stops : Stops before [] after text e
+
+-- either of them
 abbrev pub DeliversEach : {A X : Type 0} → (A → List ℕ → Type 0) → List A → SinkState → SinkState → Result X Stop → Type 0
 DeliversEach IsText items before after result =
-    MatchResult result (λ _. WroteEach IsText items before after) (StopsEach IsText items before [] after)
+    MatchResult result (λ _. WroteEach IsText items before after) (StopsEach IsText items before after)

@@ -3,4 +3,4 @@
 
 mod pieces;
 
-pub use pieces::Pieces;
+pub use pieces::{Pieces, finish, pass};

@@ -2,10 +2,11 @@
 
 ghost use Rattle.std.specs.Prelude.{◌≡◌, ◌<◌, [], OnOk, length};
 ghost use Rattle.std.specs.String.{string_bytes};
-ghost use Rattle.xls_lines.specs.Gathering.{Puts};
+ghost use Rattle.xls_lines.specs.Output.{Puts};
+ghost use Rattle.xls_pieces.specs.Each.{pieces_output};
 
 use std::alloc::Global;
-use xls_lines::{Sink, Stop, write_all};
+use xls_lines::{Sink, Stop, Writer, write_all};
 
 /// From so many bytes on the text is written.
 const PIECE: usize = 65_536;
@@ -28,29 +29,28 @@ impl Pieces {
             room: String::new(alloc),
         }
     }
+}
 
-    /// Writes all that is gathered.
-    pub fn finish<K: Sink>(&mut self, sink: &mut K) -> Result<(), Stop>
-        ensures puts { Puts (K.state sink.old) (string_bytes self.old.text) (K.state sink.new) (string_bytes self.new.text)
-            [] result }
-        ensures none { OnOk result (string_bytes self.new.text ≡ []) }
-    {
-        write_all(sink, self.text.as_bytes())?;
-        self.text.clear();
-        Ok(())
+/// Writes all that is gathered.
+pub fn finish<K: Sink>(out: &mut Writer<'_, K, Pieces>) -> Result<(), Stop>
+    ensures puts { Puts (pieces_output K.state out.old) (pieces_output K.state out.new) [] result }
+    ensures none { OnOk result (string_bytes out.new.buffer.now.text ≡ []) }
+{
+    let buffer = &mut *out.buffer;
+    write_all(out.sink, buffer.text.as_bytes())?;
+    buffer.text.clear();
+    Ok(())
+}
+
+/// Writes what is gathered, where it is 64 KiB or more.
+pub fn pass<K: Sink>(out: &mut Writer<'_, K, Pieces>) -> Result<(), Stop>
+    ensures puts { Puts (pieces_output K.state out.old) (pieces_output K.state out.new) [] result }
+
+    // Less than a piece is kept.
+    ensures small { OnOk result (length (string_bytes out.new.buffer.now.text) < PIECE) }
+{
+    if out.buffer.text.len() < PIECE {
+        return Ok(());
     }
-
-    /// Writes what is gathered, where it is 64 KiB or more.
-    pub fn pass<K: Sink>(&mut self, sink: &mut K) -> Result<(), Stop>
-        ensures puts { Puts (K.state sink.old) (string_bytes self.old.text) (K.state sink.new) (string_bytes self.new.text)
-            [] result }
-
-        // Less than a piece is kept.
-        ensures small { OnOk result (length (string_bytes self.new.text) < PIECE) }
-    {
-        if self.text.len() < PIECE {
-            return Ok(());
-        }
-        self.finish(sink)
-    }
+    finish(out)
 }

@@ -1,16 +1,16 @@
 use Rattle.std.proofs.Common.{◌≡◌, ◌∙◌}
 use Rattle.std.specs.Prelude.{◌&&◌}
-use Rattle.xls_lines.proofs.GatherLemmas.{puts-stop}
+use Rattle.xls_lines.proofs.OutputLemmas.{puts-stop}
 use Rattle.xls_csv.proofs.RowLemmas.{fields_first, fields_more, fields_stop, row_bare, row_gathered, row_left}
 use Rattle.xls_csv.proofs.rows.put_fields.Goals.{then-is_bare, else-is_bare}
 use Rattle.xls_csv.proofs.rows.put_fields.Goals as goal
 
 pub loop-place-init : goal.loop-place-init
-loop-place-init g c = fields_first _ _ _ _ _ _
+loop-place-init g c = fields_first _ _ _ _ _
 
 pub returns-in_err-adds_none-clause-puts : goal.returns-in_err-adds_none-clause-puts
 returns-in_err-adds_none-clause-puts g c =
-    puts-stop _ c.from_residual.result c.from_residual.ensures.1 (fields_stop c.loop-place-test.true c.loop-place.invariant c.in_err-adds_none.ensures.puts)
+    puts-stop c.from_residual.result c.from_residual.ensures.1 (fields_stop c.loop-place-test.true c.loop-place.invariant c.in_err-adds_none.ensures.puts)
 
 pub loop-place-preserved : goal.loop-place-preserved
 loop-place-preserved g c =

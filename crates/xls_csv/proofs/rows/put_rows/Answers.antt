@@ -1,5 +1,5 @@
 use Rattle.std.proofs.Common.{◌≡◌, ◌+◌, ◌-◌, arith, refl}
-use Rattle.xls_lines.proofs.GatherLemmas.{puts-stop, some-all, some-first, some-next, some-stopped}
+use Rattle.xls_lines.proofs.OutputLemmas.{puts-stop, some-all, some-first, some-next, some-stopped}
 use Rattle.xls_csv.specs.Text.{row_csv}
 use Rattle.xls_csv.proofs.WalkLemmas.{rows_from}
 use Rattle.xls_csv.proofs.rows.put_rows.Goals as goal
@@ -9,12 +9,12 @@ loop-i-init g c =
     let box = c.args.extent in
     let none : box.height - 0 ≡ box.height = omega arith in
     let here : box.top + 0 ≡ box.top = omega arith in
-    some-first row_csv _ _ _ _ (rw (none, here) refl)
+    some-first row_csv _ _ _ (rw (none, here) refl)
 
 pub returns-in_err-put_row : goal.returns-in_err-put_row
 returns-in_err-put_row g c =
     let box = c.args.extent in
-    puts-stop _ c.from_residual.result c.from_residual.ensures.1
+    puts-stop c.from_residual.result c.from_residual.ensures.1
     (some-stopped row_csv c.loop-i.invariant (rows_from box.height box.top box.left box.width c.loop-i.i c.loop-i.cells c.loop-i-test.true)
     c.in_err-put_row.ensures.puts)
 
