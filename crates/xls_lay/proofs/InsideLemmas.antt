@@ -5,10 +5,9 @@ use Rattle.std.proofs.Math.Seq.{drop-cons, take-length}
 use Rattle.std.proofs.lemmas.List.{append-nil, drop_all, length-append, length-take-le, length-drop, take-append-le, drop-append-le}
 use Rattle.xls_stream.specs.Stream.{record_bytes}
 use Rattle.xls_stream.specs.Listing.{Kept}
-use Rattle.xls_lines.specs.Gathering.{GathersText, Stops}
-use Rattle.xls_lines.specs.SinkState.{SinkState}
+use Rattle.xls_lines.specs.Output.{Output, Gathers, GivesUp}
 use Rattle.xls_lines.specs.declared.stop.Stop.{Stop}
-use Rattle.xls_lines.proofs.GatherLemmas.{gathers-as, gathers-nothing, gathers-then, stops-as, stops-more, stops-then}
+use Rattle.xls_lines.proofs.OutputLemmas.{gathers-as, gathers-nothing, gathers-then, stops-as, stops-more, stops-then}
 use Rattle.xls_lay.specs.Inside.{total, parts_of, sizes_sum, records_of}
 use Rattle.xls_lay.specs.Cutting.{kept_bytes}
 use Rattle.xls_lay.specs.declared.kept.RecordHead.{RecordHead}
@@ -95,33 +94,33 @@ module _ (old out : List ℕ) (heads : List RecordHead) (bytes rest : List ℕ) 
       ∙ p.whole
 
 -- some records are put, and the others are still to come
-pub record KeptOn (a : SinkState) (g : List ℕ) (b : SinkState) (h : List ℕ) (heads : List RecordHead) (bytes rest : List ℕ) (i : ℕ) : Type 0 where
+pub record KeptOn (a b : Output) (heads : List RecordHead) (bytes rest : List ℕ) (i : ℕ) : Type 0 where
   pub text : List ℕ
-  pub gathers : GathersText a g b h text
+  pub gathers : Gathers a b text
   pub put : PutsKept [] text heads bytes rest i
 
-pub kept_on_none : (a : SinkState) (g : List ℕ) (heads : List RecordHead) (bytes : List ℕ) → sizes_sum heads ≡ length bytes
-    → KeptOn a g a g heads bytes bytes 0
-kept_on_none a g heads bytes e = record { text = []; gathers = gathers-nothing a g; put = kept_none [] heads bytes e }
+pub kept_on_none : (a : Output) (heads : List RecordHead) (bytes : List ℕ) → sizes_sum heads ≡ length bytes
+    → KeptOn a a heads bytes bytes 0
+kept_on_none a heads bytes e = record { text = []; gathers = gathers-nothing a; put = kept_none [] heads bytes e }
 
-module _ {a b : SinkState} {g k : List ℕ} (heads : List RecordHead) (bytes rest : List ℕ) (i : ℕ) (so : KeptOn a g b k heads bytes rest i) (h : RecordHead) (lt : i < length heads) (here : get_or heads i h ≡ h) where
+module _ {a b : Output} (heads : List RecordHead) (bytes rest : List ℕ) (i : ℕ) (so : KeptOn a b heads bytes rest i) (h : RecordHead) (lt : i < length heads) (here : get_or heads i h ≡ h) where
   pub kept_on_within : h.size ≤ length rest
   kept_on_within = kept_within [] so.text heads bytes rest i h lt here so.put
 
-  pub kept_on_more : {c : SinkState} {m : List ℕ} → GathersText b k c m (record_bytes h.typ (take h.size rest)) → KeptOn a g c m heads bytes (drop h.size rest) (i + 1)
+  pub kept_on_more : {c : Output} → Gathers b c (record_bytes h.typ (take h.size rest)) → KeptOn a c heads bytes (drop h.size rest) (i + 1)
   kept_on_more more = record {
     text = so.text ++ record_bytes h.typ (take h.size rest);
     gathers = gathers-then so.gathers more;
     put = kept_more [] so.text heads bytes rest i (so.text ++ record_bytes h.typ (take h.size rest)) h lt here so.put refl;
   }
 
-  pub kept_on_stop : {c : SinkState} {e : Stop} → Stops b k c (record_bytes h.typ (take h.size rest)) e → Stops a g c (flat_map kept_bytes (records_of heads bytes)) e
+  pub kept_on_stop : {c : Output} {e : Stop} → GivesUp b c (record_bytes h.typ (take h.size rest)) e → GivesUp a c (flat_map kept_bytes (records_of heads bytes)) e
   kept_on_stop stops =
       let next = kept_more [] so.text heads bytes rest i (so.text ++ record_bytes h.typ (take h.size rest)) h lt here so.put refl in
       stops-as (stops-more (flat_map kept_bytes (records_of (drop (i + 1) heads) (drop h.size rest))) (stops-then so.gathers stops)) next.whole
 
-pub kept_on_all : {a b : SinkState} {g k : List ℕ} (heads : List RecordHead) (bytes rest : List ℕ) (i : ℕ) → length heads ≤ i
-    → KeptOn a g b k heads bytes rest i → GathersText a g b k (flat_map kept_bytes (records_of heads bytes))
+pub kept_on_all : {a b : Output} (heads : List RecordHead) (bytes rest : List ℕ) (i : ℕ) → length heads ≤ i
+    → KeptOn a b heads bytes rest i → Gathers a b (flat_map kept_bytes (records_of heads bytes))
 kept_on_all heads bytes rest i le so = gathers-as so.gathers (kept_all [] so.text heads bytes rest i le so.put)
 
 -- ---- strings

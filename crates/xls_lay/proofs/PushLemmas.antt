@@ -1,9 +1,8 @@
 -- The last entry of a list, as it is kept, and how it grows.
-use Rattle.std.proofs.Common.{◌≡◌, ◌↔◌, ℕ, zero, suc, ◌+◌, ◌<◌, ◌≤◌, ◌^◌, true, false, List, [], ◌∷◌, ◌++◌, length, get_or, refl, sym, ap, subst, ◌∙◌, arith}
+use Rattle.std.proofs.Common.{◌≡◌, ◌↔◌, ℕ, zero, suc, ◌+◌, ◌<◌, ◌≤◌, ◌^◌, false, List, [], ◌∷◌, ◌++◌, length, get_or, refl, sym, ap, subst, ◌∙◌, arith}
 use Rattle.std.specs.Prelude.{set, Bool, IsTrue}
 use Rattle.std.specs.List.{AllByRecursion}
 use Rattle.std.proofs.lemmas.List.{map-append, length-append}
-use Rattle.xls_stream.specs.Substreams.{is_among}
 use Rattle.xls_layouts.specs.Layout.{IsPlainType}
 use Rattle.xls_stream.specs.Listing.{Kept, plain_entry, table_entry, sheet_entry}
 use Rattle.xls_stream.specs.Listing as listing

@@ -6,7 +6,7 @@ use Rattle.xls_layouts.specs.LaidStrings.{marks_of_string, marks_of_strings}
 use Rattle.xls_layouts.specs.Canonical.{fill_from, canonical_string, canonical_strings}
 use Rattle.xls_lay.specs.Inside.{total, parts_of}
 use Rattle.xls_lay.specs.Filling.{IsFilled, Fills}
-use Rattle.xls_lines.specs.SinkState.{SinkState}
+use Rattle.xls_lines.specs.Output.{Output}
 use Rattle.xls_lines.specs.declared.stop.Stop.{Stop}
 use Rattle.xls_lay.specs.Putting.{PutsOn, StopsOn}
 use Rattle.xls_lay.specs.declared.fill.Fill.{Fill}
@@ -92,12 +92,12 @@ module _ (old now : Fill) (sizes units rest : List ℕ) (i : ℕ) (h : Counted o
 
 -- ---- strings that are put
 
-pub record PutStrings (before : SinkState) (old : TableWriter) (after : SinkState) (now : TableWriter) (sizes units rest : List ℕ) (i : ℕ) : Type 0 where
+pub record PutStrings (before : Output) (old : TableWriter) (after : Output) (now : TableWriter) (sizes units rest : List ℕ) (i : ℕ) : Type 0 where
   pub ms : List Mark
   pub puts : PutsOn before old ms after now
   pub walked : Walked (length old.body.items) (length now.body.items) sizes units rest i ms
 
-pub strings_none : (s : SinkState) (old : TableWriter) (sizes units : List ℕ) → total sizes ≡ length units
+pub strings_none : (s : Output) (old : TableWriter) (sizes units : List ℕ) → total sizes ≡ length units
     → PutStrings s old s old sizes units units 0
 strings_none s old sizes units e = record {
   ms = [];
@@ -105,14 +105,14 @@ strings_none s old sizes units e = record {
   walked = walked_none (length old.body.items) sizes units e;
 }
 
-module _ (s : SinkState) (old : TableWriter) (t : SinkState) (now : TableWriter) (sizes units rest : List ℕ) (i : ℕ) (h : PutStrings s old t now sizes units rest i) where
+module _ (s : Output) (old : TableWriter) (t : Output) (now : TableWriter) (sizes units rest : List ℕ) (i : ℕ) (h : PutStrings s old t now sizes units rest i) where
   pub strings_within : i < length sizes → get_or sizes i 0 ≤ length rest
   strings_within lt = walked_within (length old.body.items) (length now.body.items) sizes units rest i h.ms h.walked lt
 
   abbrev next : List Mark
   next = marks_of_string (canonical_string (length now.body.items) (take (get_or sizes i 0) rest))
 
-  pub strings_more : (u : SinkState) (new : TableWriter) → i < length sizes → PutsOn t now next u new
+  pub strings_more : (u : Output) (new : TableWriter) → i < length sizes → PutsOn t now next u new
       → PutStrings s old u new sizes units (drop (get_or sizes i 0) rest) (i + 1)
   strings_more u new lt f = record {
     ms = h.ms ++ next;
@@ -121,7 +121,7 @@ module _ (s : SinkState) (old : TableWriter) (t : SinkState) (now : TableWriter)
   }
 
   -- the next string wasn't put
-  pub strings_stop : (u : SinkState) (e : Stop) → i < length sizes → StopsOn t now next u e
+  pub strings_stop : (u : Output) (e : Stop) → i < length sizes → StopsOn t now next u e
       → StopsOn s old (strings_marks (length old.body.items) (parts_of sizes units)) u e
   strings_stop u e lt stops =
       let w = walked_more (length old.body.items) (length now.body.items) sizes units rest i h.ms h.walked (fill_from (length now.body.items) next) lt refl in

@@ -1,19 +1,18 @@
 -- The canonical bytes of a list that are written entry by entry.
-use Rattle.std.proofs.Common.{◌≡◌, ℕ, ◌+◌, ◌<◌, ◌≤◌, ◌^◌, List, [], ◌++◌, length, drop, get_or, refl, sym, ap, subst, ◌∙◌, append_assoc, arith, Result, Ok, Err}
+use Rattle.std.proofs.Common.{◌≡◌, ℕ, ◌+◌, ◌<◌, ◌≤◌, ◌^◌, List, [], ◌++◌, length, drop, get_or, refl, sym, ap, ◌∙◌, append_assoc, arith, Result, Ok, Err}
 use Rattle.std.proofs.lemmas.List.{append-nil, drop_all, length-append}
 use Rattle.xls_lay.specs.Counted.{Counted, CountedEntry}
 use Rattle.xls_stream.specs.Listing as listing
+use Rattle.xls_stream.specs.Stream.{record_bytes}
 use Rattle.xls_stream.specs.StringTable.{Mark}
 use Rattle.xls_stream.specs.declared.types.TheConstants as types
 use Rattle.xls_layouts.specs.LaidStrings.{le32, marks_of_strings}
 use Rattle.xls_layouts.specs.Canonical.{canonical_strings, counts_of}
 use Rattle.xls_lay.specs.Writing.{saturated, canonical_bytes, canonical_size}
 use Rattle.xls_lay.specs.Cutting.{eof_bytes, part_bytes, part_size, entry_bytes, table_bytes, rest_bytes, globals_from, parts_from}
-use Rattle.xls_lines.specs.Gathering.{GathersText, Puts, Stops}
-use Rattle.xls_lines.specs.SinkState.{SinkState}
+use Rattle.xls_lines.specs.Output.{Output, Gathers, GivesUp, Puts}
 use Rattle.xls_lines.specs.declared.stop.Stop.{Stop}
-use Rattle.xls_lines.specs.declared.stop.Stop.TheVariants.{Memory}
-use Rattle.xls_lines.proofs.GatherLemmas.{gathers-added, gathers-as, gathers-nothing, gathers-then, stops-as, stops-memory, stops-more, stops-then}
+use Rattle.xls_lines.proofs.OutputLemmas.{gathers-as, gathers-nothing, gathers-then, stops-as, stops-more, stops-then}
 use Rattle.xls_lay.specs.Putting.{PutsOn, StopsOn}
 use Rattle.xls_lay.specs.declared.table.TableWriter.{TableWriter}
 use Rattle.xls_lay.proofs.WholeLemmas.{whole, whole_length}
@@ -95,16 +94,16 @@ module _ (old out : List ℕ) (entries : List Entry) (i : ℕ) (p : PutParts old
 -- ---- gathered and written
 
 -- the globals up to an entry, whose part begins at this offset
-pub record GlobalsOn (a : SinkState) (g : List ℕ) (b : SinkState) (h : List ℕ) (first offset : ℕ) (entries : List Entry) (i : ℕ) : Type 0 where
+pub record GlobalsOn (a b : Output) (first offset : ℕ) (entries : List Entry) (i : ℕ) : Type 0 where
   pub text : List ℕ
-  pub gathers : GathersText a g b h text
+  pub gathers : Gathers a b text
   pub put : PutGlobals [] text first offset entries i
 
-pub globals_on_none : (a : SinkState) (g : List ℕ) (first : ℕ) (entries : List Entry) → Counted (entries_in entries)
-    → first + length (parts_from (entries_in entries)) < 2 ^ 32 → GlobalsOn a g a g first first entries 0
-globals_on_none a g first entries f s = record { text = []; gathers = gathers-nothing a g; put = globals_none [] first entries f s }
+pub globals_on_none : (a : Output) (first : ℕ) (entries : List Entry) → Counted (entries_in entries)
+    → first + length (parts_from (entries_in entries)) < 2 ^ 32 → GlobalsOn a a first first entries 0
+globals_on_none a first entries f s = record { text = []; gathers = gathers-nothing a; put = globals_none [] first entries f s }
 
-module _ {a b : SinkState} {g h : List ℕ} (first offset : ℕ) (entries : List Entry) (i : ℕ) (so : GlobalsOn a g b h first offset entries i) where
+module _ {a b : Output} (first offset : ℕ) (entries : List Entry) (i : ℕ) (so : GlobalsOn a b first offset entries i) where
   pub on_fits : (e : Entry) → i < length entries → get_or entries i e ≡ e → CountedEntry (entry_in e)
   on_fits e lt here = globals_fit [] so.text first offset entries i so.put e lt here
 
@@ -114,66 +113,70 @@ module _ {a b : SinkState} {g h : List ℕ} (first offset : ℕ) (entries : List
   pub on_size : (e : Entry) → i < length entries → get_or entries i e ≡ e → offset + part_size (entry_in e) < 2 ^ 32
   on_size e lt here = globals_size_fits [] so.text first offset entries i so.put e lt here
 
-  pub globals_on_more : {c : SinkState} {k : List ℕ} (e : Entry) (next : ℕ) → i < length entries → get_or entries i e ≡ e
-      → GathersText b h c k (entry_bytes offset (entry_in e)) → next ≡ offset + part_size (entry_in e)
-      → GlobalsOn a g c k first next entries (i + 1)
+  pub globals_on_more : {c : Output} (e : Entry) (next : ℕ) → i < length entries → get_or entries i e ≡ e
+      → Gathers b c (entry_bytes offset (entry_in e)) → next ≡ offset + part_size (entry_in e)
+      → GlobalsOn a c first next entries (i + 1)
   globals_on_more e next lt here more n = record {
     text = so.text ++ entry_bytes offset (entry_in e);
     gathers = gathers-then so.gathers more;
     put = globals_more [] so.text first offset entries i so.put e (so.text ++ entry_bytes offset (entry_in e)) next lt here refl n;
   }
 
-  pub globals_on_stop : {c : SinkState} {x : Stop} (e : Entry) → i < length entries → get_or entries i e ≡ e
-      → Stops b h c (entry_bytes offset (entry_in e)) x → Stops a g c (globals_from first (entries_in entries)) x
+  pub globals_on_stop : {c : Output} {x : Stop} (e : Entry) → i < length entries → get_or entries i e ≡ e
+      → GivesUp b c (entry_bytes offset (entry_in e)) x → GivesUp a c (globals_from first (entries_in entries)) x
   globals_on_stop e lt here stops =
       let next = globals_more [] so.text first offset entries i so.put e (so.text ++ entry_bytes offset (entry_in e)) (offset + part_size (entry_in e)) lt here refl refl in
       stops-as (stops-more (globals_from (offset + part_size (entry_in e)) (entries_in (drop (i + 1) entries))) (stops-then so.gathers stops)) next.whole
 
-  globals_on_all : {c : SinkState} {k : List ℕ} → length entries ≤ i → GathersText b h c k eof_bytes
-      → GathersText a g c k (globals_from first (entries_in entries))
+  globals_on_all : {c : Output} → length entries ≤ i → Gathers b c eof_bytes
+      → Gathers a c (globals_from first (entries_in entries))
   globals_on_all le more =
       gathers-as (gathers-then so.gathers more) (globals_all [] so.text first offset entries i so.put (so.text ++ eof_bytes) le refl)
 
-  globals_on_end : {c : SinkState} {x : Stop} → length entries ≤ i → Stops b h c eof_bytes x
-      → Stops a g c (globals_from first (entries_in entries)) x
+  globals_on_end : {c : Output} {x : Stop} → length entries ≤ i → GivesUp b c eof_bytes x
+      → GivesUp a c (globals_from first (entries_in entries)) x
   globals_on_end le stops =
       stops-as (stops-then so.gathers stops) (globals_all [] so.text first offset entries i so.put (so.text ++ eof_bytes) le refl)
 
-  pub globals_on_eof : {X : Type 0} (c : SinkState) (k : List ℕ) (r : Result X Stop) → length entries ≤ i → Puts b h c k eof_bytes r
-      → Puts a g c k (globals_from first (entries_in entries)) r
-  globals_on_eof c k (Ok x) le more = globals_on_all le more
-  globals_on_eof c k (Err e) le stops = globals_on_end le stops
+  pub globals_on_eof : {X : Type 0} (c : Output) (r : Result X Stop) → length entries ≤ i → Puts b c eof_bytes r
+      → Puts a c (globals_from first (entries_in entries)) r
+  globals_on_eof c (Ok x) le more = globals_on_all le more
+  globals_on_eof c (Err e) le stops = globals_on_end le stops
 
 -- the parts up to an entry
-pub record PartsOn (a : SinkState) (g : List ℕ) (b : SinkState) (h : List ℕ) (entries : List Entry) (i : ℕ) : Type 0 where
+pub record PartsOn (a b : Output) (entries : List Entry) (i : ℕ) : Type 0 where
   pub text : List ℕ
-  pub gathers : GathersText a g b h text
+  pub gathers : Gathers a b text
   pub put : PutParts [] text entries i
 
-pub parts_on_none : (a : SinkState) (g : List ℕ) (entries : List Entry) → PartsOn a g a g entries 0
-parts_on_none a g entries = record { text = []; gathers = gathers-nothing a g; put = parts_none [] entries }
+pub parts_on_none : (a : Output) (entries : List Entry) → PartsOn a a entries 0
+parts_on_none a entries = record { text = []; gathers = gathers-nothing a; put = parts_none [] entries }
 
-module _ {a b : SinkState} {g h : List ℕ} (entries : List Entry) (i : ℕ) (so : PartsOn a g b h entries i) where
-  pub parts_on_more : {c : SinkState} {k : List ℕ} (e : Entry) → i < length entries → get_or entries i e ≡ e
-      → GathersText b h c k (part_bytes (entry_in e)) → PartsOn a g c k entries (i + 1)
+module _ {a b : Output} (entries : List Entry) (i : ℕ) (so : PartsOn a b entries i) where
+  pub parts_on_more : {c : Output} (e : Entry) → i < length entries → get_or entries i e ≡ e
+      → Gathers b c (part_bytes (entry_in e)) → PartsOn a c entries (i + 1)
   parts_on_more e lt here more = record {
     text = so.text ++ part_bytes (entry_in e);
     gathers = gathers-then so.gathers more;
     put = parts_more [] so.text entries i so.put e (so.text ++ part_bytes (entry_in e)) lt here refl;
   }
 
-  pub parts_on_stop : {c : SinkState} {x : Stop} (e : Entry) → i < length entries → get_or entries i e ≡ e
-      → Stops b h c (part_bytes (entry_in e)) x → Stops a g c (parts_from (entries_in entries)) x
+  pub parts_on_stop : {c : Output} {x : Stop} (e : Entry) → i < length entries → get_or entries i e ≡ e
+      → GivesUp b c (part_bytes (entry_in e)) x → GivesUp a c (parts_from (entries_in entries)) x
   parts_on_stop e lt here stops =
       let next = parts_more [] so.text entries i so.put e (so.text ++ part_bytes (entry_in e)) lt here refl in
       stops-as (stops-more (parts_from (entries_in (drop (i + 1) entries))) (stops-then so.gathers stops)) next.whole
 
-  pub parts_on_all : length entries ≤ i → GathersText a g b h (parts_from (entries_in entries))
+  pub parts_on_all : length entries ≤ i → Gathers a b (parts_from (entries_in entries))
   parts_on_all le = gathers-as so.gathers (parts_all [] so.text entries i so.put le)
 
 -- ---- a string table
 
-module _ (s : SinkState) (out : List ℕ) (strings : List (List ℕ)) (count : ℕ) (a : TableWriter) (n : count ≡ length strings) (d : a.done.items ≡ out) (t : a.typ ≡ types.SST) (body : a.body.items ≡ le32 count ++ le32 count) where
+-- a record without further marks
+rest_none : (typ : ℕ) (body : List ℕ) → rest_bytes typ body [] ≡ record_bytes typ body
+rest_none typ body = append-nil (record_bytes typ (body ++ [])) ∙ ap (record_bytes typ) (append-nil body)
+
+module _ (s : Output) (strings : List (List ℕ)) (count : ℕ) (a : TableWriter) (n : count ≡ length strings) (t : a.typ ≡ types.SST) (body : a.body.items ≡ le32 count ++ le32 count) where
   prefix : a.body.items ≡ counts_of strings
   prefix = body ∙ ap (λ (k : ℕ). le32 k ++ le32 k) n
 
@@ -187,20 +190,19 @@ module _ (s : SinkState) (out : List ℕ) (strings : List (List ℕ)) (count : �
       ∙ ap (λ (k : ℕ). rest_bytes k a.body.items marks) t
       ∙ ap (λ (x : List ℕ). rest_bytes types.SST x (marks_of_strings (canonical_strings (length x) strings))) prefix
 
-  pub table_put : {u : SinkState} {b : TableWriter} {new : List ℕ} → PutsOn s a marks u b
-      → new ≡ b.done.items ++ rest_bytes b.typ b.body.items [] → GathersText s out u new (table_bytes strings)
-  table_put {u} {b} {new} p e =
-      subst (λ (l : List ℕ). GathersText s l u new (table_bytes strings)) d
-      (gathers-as (gathers-then p.gathers (gathers-added u b.done.items new (rest_bytes b.typ b.body.items []) e)) (p.moves.whole [] ∙ table_is))
+  pub table_stop : {u : Output} {e : Stop} → StopsOn s a marks u e → GivesUp s u (table_bytes strings) e
+  table_stop stops = stops-as (stops []) table_is
 
-  pub table_unfinished : {u : SinkState} {b : TableWriter} → PutsOn s a marks u b → Stops s out u (table_bytes strings) Memory
-  table_unfinished {u} {b} p =
-      subst (λ (l : List ℕ). Stops s l u (table_bytes strings) Memory) d
-      (stops-as (stops-memory (rest_bytes b.typ b.body.items []) p.gathers) (p.moves.whole [] ∙ table_is))
+  module _ {u : Output} (b : TableWriter) (p : PutsOn s a marks u b) where
+    -- its last record
+    last_is : p.bytes ++ record_bytes b.typ b.body.items ≡ table_bytes strings
+    last_is = ap (λ (x : List ℕ). p.bytes ++ x) (sym (rest_none b.typ b.body.items)) ∙ p.moves.whole [] ∙ table_is
 
-  pub table_stop : {u : SinkState} {e : Stop} → StopsOn s a marks u e → Stops s out u (table_bytes strings) e
-  table_stop {u} {e} stops =
-      subst (λ (l : List ℕ). Stops s l u (table_bytes strings) e) d (stops-as (stops []) table_is)
+    pub table_put : {v : Output} → Gathers u v (record_bytes b.typ b.body.items) → Gathers s v (table_bytes strings)
+    table_put q = gathers-as (gathers-then p.gathers q) last_is
+
+    pub table_unfinished : {v : Output} {e : Stop} → GivesUp u v (record_bytes b.typ b.body.items) e → GivesUp s v (table_bytes strings) e
+    table_unfinished q = stops-as (stops-then p.gathers q) last_is
 
 -- ---- the whole
 

@@ -1,5 +1,5 @@
 -- What a list that is put together meets besides: its tables can be counted in their records.
-use Rattle.std.specs.Prelude.{ℕ, ◌<◌, ◌^◌, List, length}
+use Rattle.std.specs.Prelude.{◌<◌, ◌^◌, List, length}
 use Rattle.std.specs.List.{AllByRecursion}
 use Rattle.xls_stream.specs.Listing.{ListEntry, plain_entry, table_entry, sheet_entry}
 use Rattle.xls_layouts.specs.Canonical.{FitsEntry}

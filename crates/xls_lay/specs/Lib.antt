@@ -9,4 +9,5 @@ pub mod Entries
 pub mod Cutting
 pub mod Filling
 pub mod Putting
+pub mod BytesOutput
 pub mod Taking

@@ -3,7 +3,8 @@
 ghost use Rattle.std.specs.Prelude.{◌≡◌, ◌<◌, ◌≤◌, ◌^◌, ◌++◌, ◌∷◌, [], drop, length, take, OnOk, OnErr};
 ghost use Rattle.std.specs.List.{flat_map};
 ghost use Rattle.xls_stream.specs.Stream.{record_bytes};
-ghost use Rattle.xls_lines.specs.Gathering as gathering;
+ghost use Rattle.xls_lines.specs.Output.{Puts};
+ghost use Rattle.xls_lay.specs.BytesOutput.{bytes_output};
 ghost use Rattle.xls_lay.specs.Writing.{saturated};
 ghost use Rattle.xls_lay.specs.Cutting.{kept_bytes};
 ghost use Rattle.xls_lay.specs.Inside.{records_of, sizes_sum};
@@ -11,7 +12,7 @@ ghost use Rattle.xls_lay.specs.Inside.{records_of, sizes_sum};
 use crate::write::put_record;
 use std::alloc::{AllocError, Global};
 use std::marker::Model;
-use xls_lines::{Sink, Stop};
+use xls_lines::{Sink, Stop, Writer};
 
 /// The type of a record and the size of its body.
 #[derive(Clone, Copy)]
@@ -24,14 +25,13 @@ pub(crate) struct RecordHead {
 fn put_first<K: Sink>(
     head: &RecordHead,
     bytes: &[u8],
-    out: &mut Vec<u8>,
-    sink: &mut K,
+    out: &mut Writer<'_, K, Vec<u8>>,
 ) -> Result<(), Stop>
     requires { head.now.size ≤ length bytes.now }
-    ensures { gathering.Puts (K.state sink.old) out.old.items (K.state sink.new) out.new.items
+    ensures { Puts (bytes_output K.state out.old) (bytes_output K.state out.new)
         (record_bytes head.now.typ (take head.now.size bytes.now)) result }
 {
-    put_record(out, sink, head.typ, bytes.split_at(head.size as usize).0)
+    put_record(out, head.typ, bytes.split_at(head.size as usize).0)
 }
 
 /// The bytes after the body of a head.
@@ -46,16 +46,15 @@ fn after_first<'b>(head: &RecordHead, bytes: &'b [u8]) -> &'b [u8]
 fn put_records<K: Sink>(
     heads: &[RecordHead],
     bytes: &[u8],
-    out: &mut Vec<u8>,
-    sink: &mut K,
+    out: &mut Writer<'_, K, Vec<u8>>,
 ) -> Result<(), Stop>
     requires { sizes_sum heads.now ≡ length bytes.now }
-    ensures { gathering.Puts (K.state sink.old) out.old.items (K.state sink.new) out.new.items
+    ensures { Puts (bytes_output K.state out.old) (bytes_output K.state out.new)
         (flat_map kept_bytes (records_of heads.now bytes.now)) result }
 {
     let mut rest = bytes;
     for head in heads {
-        put_first(head, rest, out, sink)?;
+        put_first(head, rest, out)?;
         rest = after_first(head, rest);
     }
     Ok(())
@@ -120,10 +119,10 @@ impl KeptRecords {
     }
 
     /// Puts the bytes of the records, as they stand in a stream.
-    pub(crate) fn put<K: Sink>(&self, out: &mut Vec<u8>, sink: &mut K) -> Result<(), Stop>
-        ensures { gathering.Puts (K.state sink.old) out.old.items (K.state sink.new) out.new.items
+    pub(crate) fn put<K: Sink>(&self, out: &mut Writer<'_, K, Vec<u8>>) -> Result<(), Stop>
+        ensures { Puts (bytes_output K.state out.old) (bytes_output K.state out.new)
             (flat_map kept_bytes self.now) result }
     {
-        put_records(&self.heads, &self.bytes, out, sink)
+        put_records(&self.heads, &self.bytes, out)
     }
 }

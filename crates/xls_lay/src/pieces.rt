@@ -1,29 +1,30 @@
 //! Bytes that are gathered, and written in large pieces.
 
 ghost use Rattle.std.specs.Prelude.{◌≡◌, [], OnOk};
-ghost use Rattle.xls_lines.specs.Gathering.{Puts};
+ghost use Rattle.xls_lines.specs.Output.{Puts};
+ghost use Rattle.xls_lay.specs.BytesOutput.{bytes_output};
 
-use xls_lines::{Sink, Stop, write_all};
+use xls_lines::{Sink, Stop, Writer, write_all};
 
 /// From so many bytes on, what is gathered is written.
 const PIECE: usize = 65_536;
 
 /// Writes all that is gathered.
-pub(crate) fn finish<K: Sink>(out: &mut Vec<u8>, sink: &mut K) -> Result<(), Stop>
-    ensures puts { Puts (K.state sink.old) out.old.items (K.state sink.new) out.new.items [] result }
-    ensures none { OnOk result (out.new.items ≡ []) }
+pub(crate) fn finish<K: Sink>(out: &mut Writer<'_, K, Vec<u8>>) -> Result<(), Stop>
+    ensures puts { Puts (bytes_output K.state out.old) (bytes_output K.state out.new) [] result }
+    ensures none { OnOk result (out.new.buffer.now.items ≡ []) }
 {
-    write_all(sink, out)?;
-    out.clear();
+    write_all(out.sink, out.buffer)?;
+    out.buffer.clear();
     Ok(())
 }
 
 /// Writes what is gathered, where it is 64 KiB or more.
-pub(crate) fn pass<K: Sink>(out: &mut Vec<u8>, sink: &mut K) -> Result<(), Stop>
-    ensures { Puts (K.state sink.old) out.old.items (K.state sink.new) out.new.items [] result }
+pub(crate) fn pass<K: Sink>(out: &mut Writer<'_, K, Vec<u8>>) -> Result<(), Stop>
+    ensures { Puts (bytes_output K.state out.old) (bytes_output K.state out.new) [] result }
 {
-    if out.len() < PIECE {
+    if out.buffer.len() < PIECE {
         return Ok(());
     }
-    finish(out, sink)
+    finish(out)
 }

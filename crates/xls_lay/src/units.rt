@@ -7,13 +7,14 @@ ghost use Rattle.xls_lay.specs.Writing.{saturated};
 ghost use Rattle.xls_lay.specs.Cutting.{marks_size};
 ghost use Rattle.xls_lay.specs.Filling.{IsFilled, Fills};
 ghost use Rattle.xls_lay.specs.Inside.{parts_of, total};
-ghost use Rattle.xls_lay.specs.Putting.{PutsOrStops, WriterHasRoom};
+ghost use Rattle.xls_lay.specs.BytesOutput.{bytes_output};
+ghost use Rattle.xls_lay.specs.Putting.{PutsOrStops, TableHasRoom};
 
 use crate::fill::Fill;
 use crate::table::TableWriter;
 use std::alloc::{AllocError, Global};
 use std::marker::Model;
-use xls_lines::{Sink, Stop};
+use xls_lines::{Sink, Stop, Writer};
 
 /// Adds the strings of these sizes, whose units stand one after the other.
 fn fill_strings(sizes: &[u16], units: &[u16], fill: &mut Fill)
@@ -33,20 +34,20 @@ fn fill_strings(sizes: &[u16], units: &[u16], fill: &mut Fill)
 fn put_strings<K: Sink>(
     sizes: &[u16],
     units: &[u16],
-    writer: &mut TableWriter,
-    sink: &mut K,
+    table: &mut TableWriter,
+    out: &mut Writer<'_, K, Vec<u8>>,
 ) -> Result<(), Stop>
     requires sizes { total sizes.now ≡ length units.now }
-    requires room { WriterHasRoom writer.old }
-    ensures puts { PutsOrStops (K.state sink.old) writer.old
-        (marks_of_strings (canonical_strings (length writer.old.body.items) (parts_of sizes.now units.now)))
-        (K.state sink.new) writer.new result }
-    ensures room { OnOk result (WriterHasRoom writer.new) }
+    requires room { TableHasRoom table.old }
+    ensures puts { PutsOrStops (bytes_output K.state out.old) table.old
+        (marks_of_strings (canonical_strings (length table.old.body.items) (parts_of sizes.now units.now)))
+        (bytes_output K.state out.new) table.new result }
+    ensures room { OnOk result (TableHasRoom table.new) }
 {
     let mut rest = units;
     for size in sizes {
         let (string, others) = rest.split_at(*size as usize);
-        writer.pass_string(sink, string)?;
+        table.pass_string(out, string)?;
         rest = others;
     }
     Ok(())
@@ -111,13 +112,17 @@ impl UnitLists {
     }
 
     /// Puts the strings one after the other.
-    pub(crate) fn put<K: Sink>(&self, writer: &mut TableWriter, sink: &mut K) -> Result<(), Stop>
-        requires { WriterHasRoom writer.old }
-        ensures puts { PutsOrStops (K.state sink.old) writer.old
-            (marks_of_strings (canonical_strings (length writer.old.body.items) self.now))
-            (K.state sink.new) writer.new result }
-        ensures room { OnOk result (WriterHasRoom writer.new) }
+    pub(crate) fn put<K: Sink>(
+        &self,
+        table: &mut TableWriter,
+        out: &mut Writer<'_, K, Vec<u8>>,
+    ) -> Result<(), Stop>
+        requires { TableHasRoom table.old }
+        ensures puts { PutsOrStops (bytes_output K.state out.old) table.old
+            (marks_of_strings (canonical_strings (length table.old.body.items) self.now))
+            (bytes_output K.state out.new) table.new result }
+        ensures room { OnOk result (TableHasRoom table.new) }
     {
-        put_strings(&self.sizes, &self.units, writer, sink)
+        put_strings(&self.sizes, &self.units, table, out)
     }
 }

@@ -6,7 +6,9 @@ ghost use Rattle.xls_stream.specs.declared.types.TheConstants as types;
 ghost use Rattle.xls_layouts.specs.LaidStrings.{le32};
 ghost use Rattle.xls_layouts.specs.Layout.{sheet_body};
 ghost use Rattle.xls_layouts.specs.Canonical.{Fits};
-ghost use Rattle.xls_lines.specs.Gathering.{Delivers, Puts};
+ghost use Rattle.xls_lines.specs.Gathering.{Delivers};
+ghost use Rattle.xls_lines.specs.Output.{Puts};
+ghost use Rattle.xls_lay.specs.BytesOutput.{bytes_output};
 ghost use Rattle.xls_lay.specs.Counted.{CountedEntry, Counted};
 ghost use Rattle.xls_lay.specs.Writing.{WritesList, canonical_bytes};
 ghost use Rattle.xls_lay.specs.Entries.{entry_in, entries_in};
@@ -22,8 +24,7 @@ use crate::table::TableWriter;
 use crate::units::UnitLists;
 use crate::whole::Whole;
 use std::alloc::{AllocError, Global};
-use std::mem;
-use xls_lines::{Sink, Stop};
+use xls_lines::{Sink, Stop, Writer};
 use xls_source::StreamBytes;
 use xls_stream::types::{BOF, EOF};
 
@@ -58,16 +59,15 @@ pub(crate) fn push_record(out: &mut Vec<u8>, typ: u16, body: &[u8]) -> Result<()
 
 /// Puts a record without Continue records.
 pub(crate) fn put_record<K: Sink>(
-    out: &mut Vec<u8>,
-    sink: &mut K,
+    out: &mut Writer<'_, K, Vec<u8>>,
     typ: u16,
     body: &[u8],
 ) -> Result<(), Stop>
     requires { length body.now < 2 ^ 16 }
-    ensures { Puts (K.state sink.old) out.old.items (K.state sink.new) out.new.items (record_bytes typ body.now) result }
+    ensures { Puts (bytes_output K.state out.old) (bytes_output K.state out.new) (record_bytes typ body.now) result }
 {
-    push_record(out, typ, body)?;
-    pass(out, sink)
+    push_record(out.buffer, typ, body)?;
+    pass(out)
 }
 
 /// Appends the BoundSheet8 record of a sheet, whose part begins at this offset.
@@ -90,110 +90,105 @@ fn push_sheet(
 
 /// Puts it.
 fn put_sheet<K: Sink>(
-    out: &mut Vec<u8>,
-    sink: &mut K,
+    out: &mut Writer<'_, K, Vec<u8>>,
     offset: u32,
     state: u8,
     kind: u8,
     name: &[u8],
 ) -> Result<(), Stop>
     requires { 6 + length name.now < 2 ^ 16 }
-    ensures { Puts (K.state sink.old) out.old.items (K.state sink.new) out.new.items
+    ensures { Puts (bytes_output K.state out.old) (bytes_output K.state out.new)
         (record_bytes types.BOUND_SHEET_8 (sheet_body offset state kind name.now)) result }
 {
-    push_sheet(out, offset, state, kind, name)?;
-    pass(out, sink)
+    push_sheet(out.buffer, offset, state, kind, name)?;
+    pass(out)
 }
 
 /// Puts the SST record of a table, with its Continue records.
 fn put_table<K: Sink>(
     alloc: Global,
-    out: &mut Vec<u8>,
-    sink: &mut K,
+    out: &mut Writer<'_, K, Vec<u8>>,
     strings: &UnitLists,
 ) -> Result<(), Stop>
     requires { length strings.now < 2 ^ 32 }
-    ensures { Puts (K.state sink.old) out.old.items (K.state sink.new) out.new.items (table_bytes strings.now) result }
+    ensures { Puts (bytes_output K.state out.old) (bytes_output K.state out.new) (table_bytes strings.now) result }
 {
-    let done = mem::replace(out, Vec::new(alloc));
-    let mut writer = TableWriter::new(alloc, done, strings.len() as u32)?;
-    strings.put(&mut writer, sink)?;
-    *out = writer.finish()?;
+    let mut table = TableWriter::new(alloc, strings.len() as u32)?;
+    strings.put(&mut table, out)?;
+    table.finish(out)?;
     Ok(())
 }
 
 /// Puts an entry of the globals; its part begins at this offset, if it is a sheet.
 fn put_entry<K: Sink>(
     alloc: Global,
-    out: &mut Vec<u8>,
-    sink: &mut K,
+    out: &mut Writer<'_, K, Vec<u8>>,
     offset: u32,
     entry: &Entry,
 ) -> Result<(), Stop>
     requires { CountedEntry (entry_in entry.now) }
-    ensures { Puts (K.state sink.old) out.old.items (K.state sink.new) out.new.items
+    ensures { Puts (bytes_output K.state out.old) (bytes_output K.state out.new)
         (entry_bytes offset (entry_in entry.now)) result }
 {
     match entry {
-        Entry::Plain { typ, body } => put_record(out, sink, *typ, body),
+        Entry::Plain { typ, body } => put_record(out, *typ, body),
         Entry::Sheet {
             state,
             kind,
             name,
             ..
-        } => put_sheet(out, sink, offset, *state, *kind, name),
-        Entry::Table { strings } => put_table(alloc, out, sink, strings),
+        } => put_sheet(out, offset, *state, *kind, name),
+        Entry::Table { strings } => put_table(alloc, out, strings),
     }
 }
 
 /// Puts the globals, with their EOF; the first part begins at this offset.
 fn put_globals<K: Sink>(
     alloc: Global,
-    out: &mut Vec<u8>,
-    sink: &mut K,
+    out: &mut Writer<'_, K, Vec<u8>>,
     mut offset: u64,
     entries: &[Entry],
 ) -> Result<(), Stop>
     requires fits { Counted (entries_in entries.now) }
     requires short { offset + length (parts_from (entries_in entries.now)) < 2 ^ 32 }
-    ensures { Puts (K.state sink.old) out.old.items (K.state sink.new) out.new.items
+    ensures { Puts (bytes_output K.state out.old) (bytes_output K.state out.new)
         (globals_from offset (entries_in entries.now)) result }
 {
     for entry in entries {
-        put_entry(alloc, out, sink, offset as u32, entry)?;
+        put_entry(alloc, out, offset as u32, entry)?;
         offset += part_size(entry);
     }
-    put_record(out, sink, EOF, &[])
+    put_record(out, EOF, &[])
 }
 
 /// Puts the part of a sheet.
-fn put_sheet_part<K: Sink>(out: &mut Vec<u8>, sink: &mut K, kept: &KeptRecords) -> Result<(), Stop>
-    ensures { Puts (K.state sink.old) out.old.items (K.state sink.new) out.new.items (part_of kept.now) result }
+fn put_sheet_part<K: Sink>(out: &mut Writer<'_, K, Vec<u8>>, kept: &KeptRecords) -> Result<(), Stop>
+    ensures { Puts (bytes_output K.state out.old) (bytes_output K.state out.new) (part_of kept.now) result }
 {
-    put_record(out, sink, BOF, &[0x00, 0x06, 0x10, 0x00])?;
-    kept.put(out, sink)?;
-    put_record(out, sink, EOF, &[])?;
+    put_record(out, BOF, &[0x00, 0x06, 0x10, 0x00])?;
+    kept.put(out)?;
+    put_record(out, EOF, &[])?;
     Ok(())
 }
 
 /// Puts the part of an entry, if it is a sheet.
-fn put_part<K: Sink>(out: &mut Vec<u8>, sink: &mut K, entry: &Entry) -> Result<(), Stop>
-    ensures { Puts (K.state sink.old) out.old.items (K.state sink.new) out.new.items
+fn put_part<K: Sink>(out: &mut Writer<'_, K, Vec<u8>>, entry: &Entry) -> Result<(), Stop>
+    ensures { Puts (bytes_output K.state out.old) (bytes_output K.state out.new)
         (part_bytes (entry_in entry.now)) result }
 {
     match entry {
-        Entry::Sheet { kept, .. } => put_sheet_part(out, sink, kept),
+        Entry::Sheet { kept, .. } => put_sheet_part(out, kept),
         _ => Ok(()),
     }
 }
 
 /// Puts the parts of the sheets in order.
-fn put_parts<K: Sink>(out: &mut Vec<u8>, sink: &mut K, entries: &[Entry]) -> Result<(), Stop>
-    ensures { Puts (K.state sink.old) out.old.items (K.state sink.new) out.new.items
+fn put_parts<K: Sink>(out: &mut Writer<'_, K, Vec<u8>>, entries: &[Entry]) -> Result<(), Stop>
+    ensures { Puts (bytes_output K.state out.old) (bytes_output K.state out.new)
         (parts_from (entries_in entries.now)) result }
 {
     for entry in entries {
-        put_part(out, sink, entry)?;
+        put_part(out, entry)?;
     }
     Ok(())
 }
@@ -210,10 +205,11 @@ fn write_entries<K: Sink>(
     ensures { Delivers (K.state sink.old) (K.state sink.new)
         (globals_from offset (entries_in entries.now) ++ parts_from (entries_in entries.now)) result }
 {
-    let mut out = Vec::new(alloc);
-    put_globals(alloc, &mut out, sink, offset, entries)?;
-    put_parts(&mut out, sink, entries)?;
-    finish(&mut out, sink)?;
+    let mut gathered = Vec::new(alloc);
+    let mut out = Writer::new(&mut gathered, sink);
+    put_globals(alloc, &mut out, offset, entries)?;
+    put_parts(&mut out, entries)?;
+    finish(&mut out)?;
     Ok(())
 }
 

@@ -1,7 +1,8 @@
+use Rattle.xls_lay.specs.BytesOutput.{bytes_output}
 use Rattle.xls_lay.proofs.WriteLemmas.{PartsOn}
 use Rattle.xls_lay.proofs.write.put_parts.Given as goal
 
 abbrev pub invariant-loop-entry : goal.invariant-loop-entry
 invariant-loop-entry g l =
-    let sink = g.K.Sink in
-    PartsOn (sink.state l.fn.sink) l.fn.out.items (sink.state l.sink) l.out.items l.entries l.entry-index
+    let output = bytes_output g.K.Sink.state in
+    PartsOn (output l.fn.out) (output l.out) l.entries l.entry-index

@@ -1,4 +1,4 @@
-use Rattle.std.proofs.Common.{◌≡◌, ◌<◌, ◌^◌, ◌∙◌, ap, length, List, ℕ, subst, sym}
+use Rattle.std.proofs.Common.{◌<◌, ◌^◌, ◌∙◌, ap, length, List, ℕ, subst}
 use Rattle.xls_lines.specs.Gathering.{Delivers}
 use Rattle.xls_lay.specs.Entries.{entries_in}
 use Rattle.xls_lay.specs.Writing.{canonical_bytes}

@@ -7,4 +7,4 @@ put_units-requires-clause-width c =
 
 pub returns-clause-puts : goal.returns-clause-puts
 returns-clause-puts c =
-    puts_string c.args.self.now c.put_head.new.self c.put_units.new.self c.args.units.now c.is_all_narrow-is_wide.result c.is_all_narrow-is_wide.ensures c.in_ok-put_head.ensures.puts c.in_ok-put_units.ensures.puts
+    puts_string c.args.done.now.items c.put_head.new.done.items c.put_units.new.done.items c.args.self.now c.put_head.new.self c.put_units.new.self c.args.units.now c.is_all_narrow-is_wide.result c.is_all_narrow-is_wide.ensures c.in_ok-put_head.ensures.puts c.in_ok-put_units.ensures.puts
