@@ -13,6 +13,6 @@ entries-preserved c =
       within = omega arith;
       walked = λ ns names.
           let more = customs_step ns c.args.page c.args.s.now c.args.entries.now c.entries.left (get_or c.args.entries.now (c.entries.left - 1) (0, 0)) (0, 0) some within refl in
-          subst (λ (ps : List (List ℕ × Value)). IsWalked ns ps c.put_entry.new.map c.put_entry.new.names) (sym more)
+          subst (λ (ps : List (List ℕ × Value)). IsWalked ns ps c.put_entry.new.self.found c.put_entry.new.self.names) (sym more)
           (c.in_ok-put_entry.ensures ns (customs_of ns c.args.page c.args.s.now (drop c.entries.left c.args.entries.now)) (c.entries.invariant.walked ns names));
     }

@@ -8,7 +8,7 @@ use Rattle.xls_props.proofs.custom.customs_of.Given as goal
 abbrev pub invariant-entries : goal.invariant-entries
 invariant-entries l = record {
   within : l.left ≤ length l.entries;
-  walked : (ns : List Name) → HasNames l.fn.names ns → IsWalked ns (customs_of ns l.page l.s (drop l.left l.entries)) l.map l.names;
+  walked : (ns : List Name) → HasNames l.fn.names ns → IsWalked ns (customs_of ns l.page l.s (drop l.left l.entries)) l.walk.found l.walk.names;
 }
 
 abbrev pub decreases-entries : goal.decreases-entries
