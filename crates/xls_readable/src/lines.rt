@@ -3,9 +3,9 @@
 ghost use Rattle.std.specs.Prelude.{◌≡◌, [], option_map, OnOk, OnErr, codes};
 ghost use Rattle.std.specs.String.{string_bytes};
 ghost use Rattle.xls_decimals.specs.Added.{AddsText};
-ghost use Rattle.xls_readable.specs.Items.{count, named_of};
+ghost use Rattle.xls_readable.specs.Items.{count, named_of, text};
 ghost use Rattle.xls_readable.specs.Lines.{IsLine};
-ghost use Rattle.xls_readable.specs.Lines.{IsCellLine, kind_and_item, dates_members, name_members, sheet_members, cell_members, formula_members, merge_members, ref_members, text_members, two_texts, item_of, type_text, visible_text, year_text};
+ghost use Rattle.xls_readable.specs.Lines.{IsCellLine, kind_and_item, dates_members, name_members, sheet_members, cell_members, formula_members, merge_members, ref_members, text_members, item_of, type_text, visible_text, year_text};
 
 use crate::forms::{Form, push_line};
 use crate::items::{Field, Member};
@@ -39,29 +39,14 @@ pub fn push_dates(
     push_line(form, "dates", &[year], room, buf)
 }
 
-// Appends the line of a name and of a text under a label.
-pub(crate) fn push_two_texts(
-    form: Form,
-    word: &str,
-    name: &str,
-    label: &str,
-    text: &str,
-    room: &mut String,
-    buf: &mut String,
-) -> Result<(), AllocError>
-    ensures ok { OnOk result (AddsText (IsLine form word.now (two_texts name.now label.now text.now))
-        (string_bytes buf.old) (string_bytes buf.new)) }
-    ensures err { OnErr result (string_bytes buf.new ≡ string_bytes buf.old) }
+// A text under a name.
+pub(crate) fn text_member<'a>(name: &'a str, shown: &'a str) -> Member<'a>
+    ensures { named_of result ≡ (name.now, text shown.now) }
 {
-    let name = Member {
-        name: "name",
-        field: Field::Text(name),
-    };
-    let text = Member {
-        name: label,
-        field: Field::Text(text),
-    };
-    push_line(form, word, &[name, text], room, buf)
+    Member {
+        name,
+        field: Field::Text(shown),
+    }
 }
 
 // Appends the line of a text.
@@ -76,11 +61,7 @@ pub(crate) fn push_one_text(
         (string_bytes buf.old) (string_bytes buf.new)) }
     ensures err { OnErr result (string_bytes buf.new ≡ string_bytes buf.old) }
 {
-    let text = Member {
-        name: "text",
-        field: Field::Text(text),
-    };
-    push_line(form, word, &[text], room, buf)
+    push_line(form, word, &[text_member("text", text)], room, buf)
 }
 
 /// Appends the line of a defined name and its text, `name`.
@@ -95,7 +76,8 @@ pub fn push_name(
         (string_bytes buf.old) (string_bytes buf.new)) }
     ensures err { OnErr result (string_bytes buf.new ≡ string_bytes buf.old) }
 {
-    push_two_texts(form, "name", name, "text", text, room, buf)
+    let members = [text_member("name", name), text_member("text", text)];
+    push_line(form, "name", &members, room, buf)
 }
 
 // The word of a sheet's kind.
@@ -135,10 +117,7 @@ pub fn push_sheet(
         (string_bytes buf.old) (string_bytes buf.new)) }
     ensures err { OnErr result (string_bytes buf.new ≡ string_bytes buf.old) }
 {
-    let name = Member {
-        name: "name",
-        field: Field::Text(name),
-    };
+    let name = text_member("name", name);
     let kind = Member {
         name: "kind",
         field: Field::Word(type_word(kind)),
@@ -280,16 +259,10 @@ pub fn push_ref(
     ensures err { OnErr result (string_bytes buf.new ≡ string_bytes buf.old) }
 {
     let members = [
-        Member {
-            name: "sheet",
-            field: Field::Text(sheet),
-        },
+        text_member("sheet", sheet),
         count_member("row", cell.0),
         count_member("column", cell.1),
-        Member {
-            name: "cited_sheet",
-            field: Field::Text(cited_sheet),
-        },
+        text_member("cited_sheet", cited_sheet),
         count_member("first_row", cells.start.0),
         count_member("first_column", cells.start.1),
         count_member("last_row", cells.end.0),

@@ -5,8 +5,8 @@ ghost use Rattle.std.specs.String.{string_bytes};
 ghost use Rattle.xls_decimals.specs.Added.{AddsText};
 ghost use Rattle.xls_readable.specs.Lines.{IsLine, custom_members, property_word, text_members};
 
-use crate::forms::Form;
-use crate::lines::{push_one_text, push_two_texts};
+use crate::forms::{Form, push_line};
+use crate::lines::{push_one_text, text_member};
 use std::alloc::AllocError;
 
 /// A property of the document that has a name of its own.
@@ -85,5 +85,6 @@ pub fn push_custom(
         (string_bytes buf.old) (string_bytes buf.new)) }
     ensures err { OnErr result (string_bytes buf.new ≡ string_bytes buf.old) }
 {
-    push_two_texts(form, "custom", name, "value", value, room, buf)
+    let members = [text_member("name", name), text_member("value", value)];
+    push_line(form, "custom", &members, room, buf)
 }

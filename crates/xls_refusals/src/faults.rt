@@ -2,7 +2,7 @@
 
 ghost use Rattle.std.specs.Prelude.{◌≡◌};
 ghost use Rattle.xls_refusals.specs.Faults.{fault_numbered};
-ghost use Rattle.xls_refusals.specs.Codes.{chain_number, numbered, numbers, plain, directory_fault};
+ghost use Rattle.xls_refusals.specs.Codes.{chain_number, numbered, plain, directory_fault};
 ghost use Rattle.xls_refusals.specs.Codes.{file_kind_number, sector_fault, stream_fault, table_number};
 
 use crate::parts::part_number;
@@ -30,33 +30,29 @@ pub struct Fault {
     pub third: u64,
 }
 
-/// Nothing but these numbers.
-fn numbers(code: u32, part: u32, table: u32, first: u64, second: u64, third: u64) -> Fault
-    ensures { result ≡ numbers code part table first second third }
-{
-    Fault {
-        code,
-        part,
-        table,
-        reserved: 0,
-        first,
-        second,
-        third,
-    }
-}
-
 /// A code alone; 0 where what was asked for is done.
 pub fn plain(code: u32) -> Fault
     ensures { result ≡ plain code }
 {
-    numbers(code, 0, 0, 0, 0, 0)
+    Fault {
+        code,
+        part: 0,
+        table: 0,
+        reserved: 0,
+        first: 0,
+        second: 0,
+        third: 0,
+    }
 }
 
 /// A code and a number.
 fn numbered(code: u32, first: u64) -> Fault
     ensures { result ≡ numbered code first }
 {
-    numbers(code, 0, 0, first, 0, 0)
+    Fault {
+        first,
+        ..plain(code)
+    }
 }
 
 /// The first fault of a stream.
@@ -74,9 +70,21 @@ fn stream_fault(error: &XlsError) -> Fault
             expected,
             found,
             typ,
-        } => numbers(20, part_number(*typ), 0, *expected as u64, *found as u64, 0),
-        XlsError::Unrecognized { typ, val } => numbers(21, part_number(*typ), 0, *val as u64, 0, 0),
-        XlsError::EoStream(typ) => numbers(22, part_number(*typ), 0, 0, 0, 0),
+        } => Fault {
+            part: part_number(*typ),
+            first: *expected as u64,
+            second: *found as u64,
+            ..plain(20)
+        },
+        XlsError::Unrecognized { typ, val } => Fault {
+            part: part_number(*typ),
+            first: *val as u64,
+            ..plain(21)
+        },
+        XlsError::EoStream(typ) => Fault {
+            part: part_number(*typ),
+            ..plain(22)
+        },
         XlsError::ContinueRecordTooShort => plain(23),
         XlsError::StackLen => plain(24),
         XlsError::InvalidFormula { stack_size } => numbered(25, *stack_size as u64),
@@ -120,62 +128,64 @@ fn sector_fault(fault: &SectorFault) -> Fault
         SectorFault::HeaderCut { found } => numbered(65, *found as u64),
         SectorFault::SectorShift { found } => numbered(66, *found as u64),
         SectorFault::MiniSectorShift { found } => numbered(67, *found as u64),
-        SectorFault::Loop { table, first } => numbers(
-            68,
-            0,
-            table_number(*table),
-            *first as u64,
-            0,
-            0,
-        ),
+        SectorFault::Loop { table, first } => Fault {
+            table: table_number(*table),
+            first: *first as u64,
+            ..plain(68)
+        },
         SectorFault::Leaves {
             table,
             after: Some(after),
             number,
-        } => numbers(
-            69,
-            0,
-            table_number(*table),
-            *after as u64,
-            *number as u64,
-            0,
-        ),
+        } => Fault {
+            table: table_number(*table),
+            first: *after as u64,
+            second: *number as u64,
+            ..plain(69)
+        },
         SectorFault::Leaves {
             table,
             after: None,
             number,
-        } => numbers(70, 0, table_number(*table), 0, *number as u64, 0),
+        } => Fault {
+            table: table_number(*table),
+            second: *number as u64,
+            ..plain(70)
+        },
         SectorFault::Short {
             table,
             first,
             expected,
             found,
-        } => numbers(
-            71,
-            0,
-            table_number(*table),
-            *first as u64,
-            *expected,
-            *found,
-        ),
+        } => Fault {
+            table: table_number(*table),
+            first: *first as u64,
+            second: *expected,
+            third: *found,
+            ..plain(71)
+        },
         SectorFault::Cut {
             table,
             sector,
             expected,
             found,
-        } => numbers(
-            72,
-            0,
-            table_number(*table),
-            *sector as u64,
-            *expected as u64,
-            *found as u64,
-        ),
+        } => Fault {
+            table: table_number(*table),
+            first: *sector as u64,
+            second: *expected as u64,
+            third: *found as u64,
+            ..plain(72)
+        },
         SectorFault::FatCut {
             sector,
             expected,
             found,
-        } => numbers(73, 0, 0, *sector as u64, *expected as u64, *found as u64),
+        } => Fault {
+            first: *sector as u64,
+            second: *expected as u64,
+            third: *found as u64,
+            ..plain(73)
+        },
     }
 }
 
@@ -187,15 +197,16 @@ fn directory_fault(fault: &DirectoryFault) -> Fault
         DirectoryFault::NoRoot => plain(80),
         DirectoryFault::Missing { number } => numbered(81, *number as u64),
         DirectoryFault::Twice { number } => numbered(82, *number as u64),
-        DirectoryFault::Kind { number, kind } => numbers(83, 0, 0, *number as u64, *kind as u64, 0),
-        DirectoryFault::NameSize { number, size } => numbers(
-            84,
-            0,
-            0,
-            *number as u64,
-            *size as u64,
-            0,
-        ),
+        DirectoryFault::Kind { number, kind } => Fault {
+            first: *number as u64,
+            second: *kind as u64,
+            ..plain(83)
+        },
+        DirectoryFault::NameSize { number, size } => Fault {
+            first: *number as u64,
+            second: *size as u64,
+            ..plain(84)
+        },
     }
 }
 
@@ -228,7 +239,10 @@ pub fn fault_of(refusal: &Refusal) -> Fault
         Refusal::NoSheet(index) => numbered(3, *index),
         Refusal::Obfuscated => plain(4),
         Refusal::Stream(error) => stream_fault(error),
-        Refusal::Kind(kind) => numbers(48, kind_number(*kind), 0, 0, 0, 0),
+        Refusal::Kind(kind) => Fault {
+            part: kind_number(*kind),
+            ..plain(48)
+        },
         Refusal::NoWorkbook => plain(49),
         Refusal::Chain(chain, fault) => Fault {
             part: chain_number(*chain),
