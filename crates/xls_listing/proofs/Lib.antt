@@ -2,4 +2,5 @@ pub mod LineLemmas
 pub mod DisplayedLemmas
 pub mod RefLemmas
 pub mod CellLemmas
+pub mod SheetLemmas
 pub mod StandardFacts
