@@ -11,7 +11,8 @@ use Rattle.xls_readable.specs.Lines.{IsLine, cell_members}
 use Rattle.xls_readable.specs.declared.forms.Form.{Form}
 use Rattle.xls_pieces.specs.Each.{PutsEach}
 use Rattle.xls_listing.specs.Listing.{IsDisplayedLine, valued_lines}
-use Rattle.xls_listing.proofs.LineLemmas.{puts-one, puts-pass}
+use Rattle.xls_pieces.proofs.EachLemmas.{puts-one}
+use Rattle.xls_listing.proofs.LineLemmas.{puts-pass}
 
 -- the line of a value was appended, or of a blank nothing, and then what was gathered was passed on
 pub puts-cell : {X : Type 0} (form : Form) (p : Position) (value : Option NamedItem) (w : SinkState) (n : ℕ) (g h : List ℕ) (b : Output) (r : Result X Stop)

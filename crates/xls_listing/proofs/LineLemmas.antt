@@ -9,15 +9,6 @@ use Rattle.xls_lines.specs.declared.stop.Stop.TheVariants.{Memory}
 use Rattle.xls_pieces.specs.Each.{GathersEach, GivesUpEach, PutsEach}
 use Rattle.xls_pieces.proofs.EachLemmas.{each-as, each-memory, each-none, each-one, each-one-stopped, each-stops-as, each-stops-more, each-stops-then, each-then, puts-each-stop}
 
--- ---- no item, and one
-
--- the text of an item was appended, and then what was gathered was passed on
-pub puts-one : {A X : Type 0} (P : A → List ℕ → Type 0) (x : A) (w : SinkState) (n : ℕ) (g h : List ℕ) (b : Output) (r : Result X Stop)
-    → AddsText (P x) g h → Puts (record { sink = w; kept = h; lender = n }) b [] r
-    → PutsEach P (x ∷ []) (record { sink = w; kept = g; lender = n }) b r
-puts-one P x w n g h b (Ok _) added p = each-one P x added p
-puts-one P x w n g h b (Err _) added p = each-one-stopped P x added p
-
 -- nothing was appended
 pub puts-pass : {A X : Type 0} (P : A → List ℕ → Type 0) (w : SinkState) (n : ℕ) (g h : List ℕ) (b : Output) (r : Result X Stop)
     → h ≡ g → Puts (record { sink = w; kept = h; lender = n }) b [] r
@@ -28,26 +19,6 @@ puts-pass P w n g h b (Ok _) same p =
 puts-pass P w n g h b (Err e) same p =
     subst (λ (l : List ℕ). GivesUpEach P [] (record { sink = w; kept = l; lender = n }) b e) same
     (record { count = 0; text = []; texts = refl; stops = p })
-
--- ---- at an error
-
--- memory ran out before anything was appended
-pub puts-memory : {A X : Type 0} (P : A → List ℕ → Type 0) (items : List A) (w : SinkState) (n : ℕ) (g h : List ℕ) (r : Result X Stop)
-    → IsErrAnd r (λ d. d ≡ Memory)
-    → PutsEach P items (record { sink = w; kept = g; lender = n }) (record { sink = w; kept = h; lender = n }) r
-puts-memory P items w n g h r is = puts-each-stop r is (each-memory P items)
-
--- ---- then a call that may stop
-
-pub puts-then : {A X : Type 0} (P : A → List ℕ → Type 0) (xs ys : List A) {a b : Output} (c : Output) (r : Result X Stop)
-    → GathersEach P xs a b → PutsEach P ys b c r → PutsEach P (xs ++ ys) a c r
-puts-then P xs ys c (Ok _) p q = each-then p q
-puts-then P xs ys c (Err _) p q = each-stops-then p q
-
--- the same items, spelled otherwise
-pub puts-as : {A X : Type 0} (P : A → List ℕ → Type 0) {xs ys : List A} (a b : Output) (r : Result X Stop)
-    → xs ≡ ys → PutsEach P xs a b r → PutsEach P ys a b r
-puts-as P a b r e p = subst (λ (l : List _). PutsEach P l a b r) e p
 
 -- ---- items one after another in a loop
 

@@ -117,6 +117,32 @@ pub puts-each-stop : {A X : Type 0} {P : A → List ℕ → Type 0} {items : Lis
 puts-each-stop (Ok x) none p = absurd none
 puts-each-stop {A} {X} {P} {items} {a} {b} (Err d) is p = subst (GivesUpEach P items a b) (sym is) p
 
+-- ---- what a call put
+
+-- the text of an item was appended, and then what was gathered was passed on
+pub puts-one : {A X : Type 0} (P : A → List ℕ → Type 0) (x : A) (w : SinkState) (n : ℕ) (g h : List ℕ) (b : Output) (r : Result X Stop)
+    → AddsText (P x) g h → Puts (record { sink = w; kept = h; lender = n }) b [] r
+    → PutsEach P (x ∷ []) (record { sink = w; kept = g; lender = n }) b r
+puts-one P x w n g h b (Ok _) added p = each-one P x added p
+puts-one P x w n g h b (Err _) added p = each-one-stopped P x added p
+
+-- memory ran out before anything was appended
+pub puts-memory : {A X : Type 0} (P : A → List ℕ → Type 0) (items : List A) (w : SinkState) (n : ℕ) (g h : List ℕ) (r : Result X Stop)
+    → IsErrAnd r (λ d. d ≡ Memory)
+    → PutsEach P items (record { sink = w; kept = g; lender = n }) (record { sink = w; kept = h; lender = n }) r
+puts-memory P items w n g h r is = puts-each-stop r is (each-memory P items)
+
+-- some items after others
+pub puts-then : {A X : Type 0} (P : A → List ℕ → Type 0) (xs ys : List A) {a b : Output} (c : Output) (r : Result X Stop)
+    → GathersEach P xs a b → PutsEach P ys b c r → PutsEach P (xs ++ ys) a c r
+puts-then P xs ys c (Ok _) p q = each-then p q
+puts-then P xs ys c (Err _) p q = each-stops-then p q
+
+-- the same items, spelled otherwise
+pub puts-as : {A X : Type 0} (P : A → List ℕ → Type 0) {xs ys : List A} (a b : Output) (r : Result X Stop)
+    → xs ≡ ys → PutsEach P xs a b r → PutsEach P ys a b r
+puts-as P a b r e p = subst (λ (l : List _). PutsEach P l a b r) e p
+
 -- ---- the items of the things in a list, by their index
 
 split : {A X : Type 0} (f : X → List A) (xs : List X) (k : ℕ) (d : X) → k < length xs

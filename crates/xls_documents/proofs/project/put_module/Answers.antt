@@ -1,6 +1,7 @@
 use Rattle.std.proofs.Common.{codes, ◌∙◌}
 use Rattle.xls_documents.specs.Lines.{IsLineText}
-use Rattle.xls_documents.proofs.LineLemmas.{counted, puts-as, displayed, three_fields}
+use Rattle.xls_pieces.proofs.EachLemmas.{puts-as}
+use Rattle.xls_documents.proofs.LineLemmas.{counted, displayed, three_fields}
 use Rattle.xls_documents.proofs.project.put_module.Goals as goal
 
 pub returns : goal.returns

@@ -1,6 +1,7 @@
 use Rattle.std.proofs.Common.{codes, ◌∙◌}
 use Rattle.xls_documents.specs.Lines.{IsLineText}
-use Rattle.xls_documents.proofs.LineLemmas.{puts-as, displayed, three_fields}
+use Rattle.xls_pieces.proofs.EachLemmas.{puts-as}
+use Rattle.xls_documents.proofs.LineLemmas.{displayed, three_fields}
 use Rattle.xls_documents.proofs.project.put_reference.Goals as goal
 
 pub returns : goal.returns

@@ -2,7 +2,7 @@ use Rattle.std.proofs.Common.{ap, ◌∙◌}
 use Rattle.std.specs.List.{flat_map}
 use Rattle.xls_pieces.specs.Each.{pieces_output}
 use Rattle.xls_listing.specs.Listing.{IsDisplayedLine, cell_lines}
-use Rattle.xls_listing.proofs.LineLemmas.{puts-as, puts-memory}
+use Rattle.xls_pieces.proofs.EachLemmas.{puts-as, puts-memory}
 use Rattle.xls_listing.proofs.cells.put_displayed_cells.Goals as goal
 
 pub returns-in_err-cells : goal.returns-in_err-cells

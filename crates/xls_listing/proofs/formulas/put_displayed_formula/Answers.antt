@@ -1,9 +1,8 @@
 use Rattle.std.proofs.Common.{sym, ◌∙◌}
 use Rattle.xls_pieces.specs.Each.{pieces_output}
 use Rattle.xls_listing.specs.Listing.{IsDisplayedLine}
-use Rattle.xls_listing.proofs.LineLemmas.{puts-as}
 use Rattle.xls_listing.proofs.DisplayedLemmas.{formula_none, formula_displayed, no_characters, some_characters}
-use Rattle.xls_pieces.proofs.EachLemmas.{each-as, each-none}
+use Rattle.xls_pieces.proofs.EachLemmas.{each-as, each-none, puts-as}
 use Rattle.xls_listing.proofs.formulas.put_displayed_formula.Goals as goal
 
 pub returns-then-is_empty : goal.returns-then-is_empty

@@ -4,7 +4,7 @@ use Rattle.xls_cursors.specs.Formulas.{text_entry}
 use Rattle.xls_cursors.specs.Walking.{NamedContext}
 use Rattle.xls_pieces.specs.Each.{pieces_output}
 use Rattle.xls_listing.specs.Listing.{IsDisplayedLine, formula_line}
-use Rattle.xls_listing.proofs.LineLemmas.{puts-as, puts-memory}
+use Rattle.xls_pieces.proofs.EachLemmas.{puts-as, puts-memory}
 use Rattle.xls_listing.proofs.formulas.put_displayed_formulas.Goals as goal
 
 pub returns-in_err-formulas : goal.returns-in_err-formulas

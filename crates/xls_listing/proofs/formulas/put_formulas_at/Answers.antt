@@ -3,8 +3,7 @@ use Rattle.std.specs.Option.{option_map}
 use Rattle.xls_cursors.specs.Displayed.{sheet_view_of}
 use Rattle.xls_pieces.specs.Each.{pieces_output}
 use Rattle.xls_listing.specs.Listing.{IsDisplayedLine, lines_of_formulas, displayed_at}
-use Rattle.xls_listing.proofs.LineLemmas.{puts-as}
-use Rattle.xls_pieces.proofs.EachLemmas.{each-as, each-none}
+use Rattle.xls_pieces.proofs.EachLemmas.{each-as, each-none, puts-as}
 use Rattle.xls_listing.proofs.formulas.put_formulas_at.Goals as goal
 
 pub returns-in-Some : goal.returns-in-Some

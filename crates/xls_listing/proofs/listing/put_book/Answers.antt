@@ -2,9 +2,8 @@ use Rattle.std.proofs.Common.{[], ◌∷◌, ◌++◌, ap, map}
 use Rattle.xls_open.specs.Workbook.{name_texts}
 use Rattle.xls_pieces.specs.Each.{pieces_output}
 use Rattle.xls_listing.specs.Listing.{IsDisplayedLine, dates_line, each_sheet, lines_of_sheet, name_line}
-use Rattle.xls_listing.proofs.LineLemmas.{puts-then}
 use Rattle.xls_listing.proofs.DisplayedLemmas.{map_again}
-use Rattle.xls_pieces.proofs.EachLemmas.{each-as, each-stops-as, each-stops-more, each-stops-then, each-then, puts-each-stop}
+use Rattle.xls_pieces.proofs.EachLemmas.{each-as, each-stops-as, each-stops-more, each-stops-then, each-then, puts-each-stop, puts-then}
 use Rattle.xls_listing.proofs.listing.put_book.Goals as goal
 
 pub returns-in_err-put_dates : goal.returns-in_err-put_dates

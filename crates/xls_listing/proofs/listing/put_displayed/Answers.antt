@@ -2,8 +2,7 @@ use Rattle.std.proofs.Common.{◌++◌, append_assoc, ap, map}
 use Rattle.xls_cursors.specs.Displayed.{sheet_view_of}
 use Rattle.xls_pieces.specs.Each.{pieces_output}
 use Rattle.xls_listing.specs.Listing.{IsDisplayedLine, lines_of_cells, lines_of_formulas, lines_of_merges, merge_line}
-use Rattle.xls_listing.proofs.LineLemmas.{puts-as, puts-then}
-use Rattle.xls_pieces.proofs.EachLemmas.{each-stops-more, each-stops-then, each-then, puts-each-stop}
+use Rattle.xls_pieces.proofs.EachLemmas.{each-stops-more, each-stops-then, each-then, puts-as, puts-each-stop, puts-then}
 use Rattle.xls_listing.proofs.listing.put_displayed.Goals as goal
 
 pub returns-in_err-put_displayed_cells : goal.returns-in_err-put_displayed_cells

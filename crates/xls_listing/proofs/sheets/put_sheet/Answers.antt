@@ -4,7 +4,7 @@ use Rattle.xls_data.specs.Sheets.{sheet_content}
 use Rattle.xls_decimals.specs.Added.{AddsText}
 use Rattle.xls_readable.specs.Lines.{IsLine, sheet_members}
 use Rattle.xls_listing.specs.Listing.{IsDisplayedLine, sheet_line}
-use Rattle.xls_listing.proofs.LineLemmas.{puts-memory, puts-one}
+use Rattle.xls_pieces.proofs.EachLemmas.{puts-memory, puts-one}
 use Rattle.xls_listing.proofs.DisplayedLemmas.{encoded_of}
 use Rattle.xls_listing.proofs.sheets.put_sheet.Goals as goal
 
