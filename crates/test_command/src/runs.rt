@@ -101,6 +101,9 @@ struct Case {
     write_fails: Option<u64>,
 }
 
+// Room for the text of each run.
+const ROOM: usize = 999;
+
 // A run in which nothing fails.
 fn quiet(words: &'static [&'static str], parts: &'static [&'static [u8]]) -> Case {
     Case {
@@ -108,7 +111,7 @@ fn quiet(words: &'static [&'static str], parts: &'static [&'static [u8]]) -> Cas
         parts,
         chunk: 64,
         read_fails: None,
-        room: 999,
+        room: ROOM,
         write_chunk: 64,
         write_fails: None,
     }
@@ -316,25 +319,24 @@ fn each_failing_read_ends_with_3(rt: HostRuntime) -> Result<(), Fail> {
     Ok(())
 }
 
-// The write of each byte fails once, and once the room ends before it. Where no byte is left, nothing
-// fails, though each write is short.
+// The write of each byte of a case's text fails once, and once the room ends before it. Where no byte
+// is left, nothing fails, though each write is short.
 fn fail_each_write(
     rt: &impl Abort,
     alloc: Global,
-    words: &'static [&'static str],
-    parts: &'static [&'static [u8]],
+    mut case: Case,
     whole: u8,
     text: &[u8],
 ) -> Result<(), Fail> {
     for len in 0..text.len() + 1 {
         let status = if len < text.len() { 4 } else { whole };
-        let mut case = quiet(words, parts);
+        case.room = ROOM;
         case.write_chunk = 1;
         case.write_fails = Some(len as u64);
         check(rt, alloc, &case, status, &text[..len])?;
+        case.room = len;
         case.write_chunk = 64;
         case.write_fails = None;
-        case.room = len;
         check(rt, alloc, &case, status, &text[..len])?;
     }
     Ok(())
@@ -343,7 +345,8 @@ fn fail_each_write(
 #[test]
 fn each_failing_write_leaves_the_prefix(rt: HostRuntime) -> Result<(), Fail> {
     for (words, parts, status, text) in COMMANDS.iter() {
-        fail_each_write(&rt, rt.alloc(), words, parts, *status, text.as_bytes())?;
+        let case = quiet(words, parts);
+        fail_each_write(&rt, rt.alloc(), case, *status, text.as_bytes())?;
     }
     Ok(())
 }

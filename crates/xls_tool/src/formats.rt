@@ -1,5 +1,6 @@
 //! Number formats of a workbook's own that don't count.
 
+use crate::file::ReadFile;
 use crate::job::Job;
 use crate::problem::Problem;
 use crate::say::say_of;
@@ -19,20 +20,19 @@ pub(crate) fn tell_formats<H: Host>(
     alloc: Global,
     host: &mut H,
     job: &Job<'_>,
-    path: &str,
-    file: &[u8],
+    file: &ReadFile<'_>,
 ) -> Result<(), Problem> {
     if !writes_values(&job.request.command) {
         return Ok(());
     }
-    let container = Container::open(alloc, file)?;
+    let container = Container::open(alloc, file.bytes)?;
     let stream = container.workbook(alloc)?;
     if let Some(found) = uncounted_formats(alloc, stream.as_slice())? {
         let text = format!(in alloc;
             "formats of its own that don't count: {}; cells that have one: {}",
             found.formats, found.cells
         )?;
-        say_of(alloc, host, path, text.as_str())?;
+        say_of(alloc, host, file.path, text.as_str())?;
     }
     Ok(())
 }

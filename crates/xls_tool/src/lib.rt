@@ -2,6 +2,7 @@
 //! one file or many, where texts go, and the exit status.
 #![tactic(auto)]
 
+mod file;
 mod formats;
 mod job;
 mod many;

@@ -4,11 +4,12 @@ ghost use Rattle.std.specs.Prelude.{IfOk, None};
 ghost use Rattle.xls_tool.specs.Problems.{IsStatus};
 ghost use Rattle.xls_words.specs.Requests as requests;
 
+use crate::file::{ReadFile, read};
 use crate::formats::tell_formats;
 use crate::job::Job;
 use crate::problem::Problem;
 use crate::sheets::write_files;
-use crate::tell::{Counts, counts_line, tell, write_counts};
+use crate::tell::Report;
 use crate::work::write_text;
 use std::alloc::{AllocError, Global};
 use xls_files::{Host, Name, Next, Queue, Reason};
@@ -28,19 +29,6 @@ impl Sink for Nowhere {
     }
 }
 
-/// The bytes of a file, or of standard input.
-fn read<H: Host>(host: &mut H, path: &str) -> Result<Vec<u8>, Problem> {
-    let bytes = if path == "-" {
-        host.read_input()
-    } else {
-        host.read(path)
-    };
-    match bytes {
-        Ok(bytes) => Ok(bytes),
-        Err(reason) => Err(Problem::Unread(reason)),
-    }
-}
-
 /// Does the work of a file: its text goes to the sink, or into files below the folder, if there is one.
 pub(crate) fn do_file<H: Host, K: Sink>(
     alloc: Global,
@@ -52,11 +40,15 @@ pub(crate) fn do_file<H: Host, K: Sink>(
     requires { requests.CommandHasNumber job.now.request.command }
 {
     let bytes = read(host, path)?;
+    let file = ReadFile {
+        path,
+        bytes: bytes.as_slice(),
+    };
     match job.request.out {
-        Some(out) => write_files(alloc, host, job, out, path, bytes.as_slice())?,
-        None => write_text(alloc, sink, job, bytes.as_slice())?,
+        Some(out) => write_files(alloc, host, job, out, &file)?,
+        None => write_text(alloc, sink, job, file.bytes)?,
     }
-    tell_formats(alloc, host, job, path, bytes.as_slice())
+    tell_formats(alloc, host, job, &file)
 }
 
 /// That a name isn't UTF-8.
@@ -66,26 +58,23 @@ fn unnamed(alloc: Global) -> Result<Problem, AllocError> {
 }
 
 /// Tells how it went with a file, where nothing is shown.
-fn report<H: Host, K: Sink>(
+fn tell<H: Host, K: Sink>(
     alloc: Global,
     host: &mut H,
-    out: &mut K,
-    job: &Job<'_>,
-    counts: &mut Counts,
+    report: &mut Report<'_, K>,
     file: &str,
     done: &Result<(), Problem>,
 ) -> Result<(), Stop> {
     host.show("");
-    tell(alloc, out, job.form(), counts, file, done)
+    report.tell(alloc, file, done)
 }
 
 /// Does the work of what comes next, and tells how it went.
 fn do_next<H: Host, K: Sink>(
     alloc: Global,
     host: &mut H,
-    out: &mut K,
+    report: &mut Report<'_, K>,
     job: &Job<'_>,
-    counts: &mut Counts,
     next: Next,
 ) -> Result<(), Stop>
     requires { requests.CommandHasNumber job.now.request.command }
@@ -99,36 +88,30 @@ fn do_next<H: Host, K: Sink>(
         Next::Unread(path, reason) => (path, Err(Problem::Unread(reason))),
         Next::Unnamed(folder) => (folder, Err(unnamed(alloc)?)),
     };
-    report(alloc, host, out, job, counts, file.as_str(), &result)
+    tell(alloc, host, report, file.as_str(), &result)
 }
 
 /// Shows how far the work is, where that is seen.
-fn show<H: Host>(
+fn show<H: Host, K: Sink>(
     alloc: Global,
     host: &mut H,
-    done: u64,
-    all: Option<u64>,
+    report: &Report<'_, K>,
 ) -> Result<(), AllocError> {
     if !host.shows() {
         return Ok(());
     }
-    let progress = match all {
-        Some(all) => format!(in alloc; "{done} of {all}")?,
-        None => format!(in alloc; "{done}")?,
-    };
+    let progress = report.progress(alloc)?;
     host.show(progress.as_str());
     Ok(())
 }
 
-/// Does the work of all files of a queue. `all` is how many files there are, where that is known.
+/// Does the work of all files of a queue.
 fn do_queue<H: Host, K: Sink>(
     alloc: Global,
     host: &mut H,
-    out: &mut K,
+    report: &mut Report<'_, K>,
     job: &Job<'_>,
-    counts: &mut Counts,
     queue: &mut Queue,
-    all: Option<u64>,
 ) -> Result<(), Stop>
     requires { requests.CommandHasNumber job.now.request.command }
 {
@@ -136,8 +119,8 @@ fn do_queue<H: Host, K: Sink>(
         let Some(next) = queue.next(host)? else {
             return Ok(());
         };
-        do_next(alloc, host, out, job, counts, next)?;
-        show(alloc, host, counts.all(), all)?;
+        do_next(alloc, host, report, job, next)?;
+        show(alloc, host, report)?;
     }
     Ok(())
 }
@@ -188,56 +171,56 @@ pub(crate) fn do_many<H: Host, K: Sink>(
 {
     let all = displayed_count(alloc, host, paths)?;
     let mut queue = queue_of(alloc, paths)?;
-    let mut counts = Counts::new();
-    do_queue(alloc, host, out, job, &mut counts, &mut queue, all)?;
+    let mut report = Report::new(out, job.form(), all);
+    do_queue(alloc, host, &mut report, job, &mut queue)?;
     host.show("");
-    write_counts(alloc, out, job.form(), &counts)?;
-    Ok(counts.status())
+    report.write_last_line(alloc)?;
+    Ok(report.status())
 }
 
-/// Does the work of the files of a list's name.
+/// A list of the names of files: a file of this path, or standard input where that is `-`.
+#[derive(Drop)]
+pub(crate) struct NameList<'l> {
+    pub path: &'l str,
+    /// Whether a NUL ends each name, in place of a newline.
+    pub by_nul: bool,
+}
+
+/// Does the work of the files of a path.
 fn do_name<H: Host, K: Sink>(
     alloc: Global,
     host: &mut H,
-    out: &mut K,
+    report: &mut Report<'_, K>,
     job: &Job<'_>,
-    counts: &mut Counts,
-    list: &str,
-    name: Name,
+    path: &str,
 ) -> Result<(), Stop>
     requires { requests.CommandHasNumber job.now.request.command }
 {
-    match name {
-        Name::Text(path) => {
-            let mut queue = queue_of(alloc, &[path.as_str()])?;
-            do_queue(alloc, host, out, job, counts, &mut queue, None)
-        }
-        Name::Unnamed => {
-            let result = Err(unnamed(alloc)?);
-            report(alloc, host, out, job, counts, list, &result)
-        }
-    }
+    let mut queue = queue_of(alloc, &[path])?;
+    do_queue(alloc, host, report, job, &mut queue)
 }
 
 /// Does the work of all files whose names stand in a list, each before the next name is read.
 fn do_names<H: Host, K: Sink>(
     alloc: Global,
     host: &mut H,
-    out: &mut K,
+    report: &mut Report<'_, K>,
     job: &Job<'_>,
-    counts: &mut Counts,
-    list: &str,
-    by_nul: bool,
+    list: NameList<'_>,
 ) -> Result<(), Stop>
     requires { requests.CommandHasNumber job.now.request.command }
 {
     for _ in 0..u64::MAX {
-        match host.next_name(list, by_nul) {
-            Ok(Some(name)) => do_name(alloc, host, out, job, counts, list, name)?,
+        match host.next_name(list.path, list.by_nul) {
+            Ok(Some(Name::Text(path))) => do_name(alloc, host, report, job, path.as_str())?,
+            Ok(Some(Name::Unnamed)) => {
+                let result = Err(unnamed(alloc)?);
+                tell(alloc, host, report, list.path, &result)?;
+            }
             Ok(None) => return Ok(()),
             Err(reason) => {
                 let result = Err(Problem::Unread(reason));
-                return report(alloc, host, out, job, counts, list, &result);
+                return tell(alloc, host, report, list.path, &result);
             }
         }
     }
@@ -251,15 +234,14 @@ pub(crate) fn do_list<H: Host, K: Sink>(
     host: &mut H,
     out: &mut K,
     job: &Job<'_>,
-    list: &str,
-    by_nul: bool,
+    list: NameList<'_>,
 ) -> Result<u8, Stop>
     requires { requests.CommandHasNumber job.now.request.command }
     ensures { IfOk result IsStatus }
 {
-    let mut counts = Counts::new();
-    do_names(alloc, host, out, job, &mut counts, list, by_nul)?;
-    let line = counts_line(alloc, job.form(), &counts)?;
+    let mut report = Report::new(out, job.form(), None);
+    do_names(alloc, host, &mut report, job, list)?;
+    let line = report.last_line(alloc)?;
     host.say(line.trim_end());
-    Ok(counts.status())
+    Ok(report.status())
 }

@@ -13,19 +13,25 @@ use xls_answers::Failure;
 use xls_files::{Host, Place, Reason};
 use xls_lines::{Sink, Stop};
 
+/// A path, and what stands there.
+#[derive(Drop)]
+pub(crate) struct Placed<'p> {
+    pub path: &'p str,
+    pub place: Result<Place, Reason>,
+}
+
 /// Does the work of what stands at a path, if that is a file.
 fn do_placed<H: Host, K: Sink>(
     alloc: Global,
     host: &mut H,
     out: &mut K,
     job: &Job<'_>,
-    path: &str,
-    place: Result<Place, Reason>,
+    placed: Placed<'_>,
 ) -> Result<(), Problem>
     requires { requests.CommandHasNumber job.now.request.command }
 {
-    match place {
-        Ok(Place::File) => do_file(alloc, host, out, job, path),
+    match placed.place {
+        Ok(Place::File) => do_file(alloc, host, out, job, placed.path),
         Ok(Place::Folder) => Err(Problem::Folder),
         Ok(Place::Other) => Err(Problem::Irregular),
         Err(reason) => Err(Problem::Unread(reason)),
@@ -39,13 +45,13 @@ pub(crate) fn do_one<H: Host, K: Sink>(
     host: &mut H,
     out: &mut K,
     job: &Job<'_>,
-    path: &str,
-    place: Result<Place, Reason>,
+    placed: Placed<'_>,
 ) -> Result<u8, Stop>
     requires { requests.CommandHasNumber job.now.request.command }
     ensures { IfOk result IsStatus }
 {
-    match do_placed(alloc, host, out, job, path, place) {
+    let path = placed.path;
+    match do_placed(alloc, host, out, job, placed) {
         Ok(()) => Ok(0),
         Err(Problem::Failure(Failure::Stopped(Stop::Write))) => Err(Stop::Write),
         Err(problem) => {

@@ -5,8 +5,8 @@ ghost use Rattle.xls_tool.specs.Problems.{Ends, IsStatus};
 ghost use Rattle.xls_words.specs.Requests as requests;
 
 use crate::job::{Job, job_of, takes_many};
-use crate::many::{do_list, do_many};
-use crate::one::do_one;
+use crate::many::{NameList, do_list, do_many};
+use crate::one::{Placed, do_one};
 use std::alloc::Global;
 use xls_files::{Host, Place, place_of};
 use xls_lines::{Sink, Stop, write_all};
@@ -44,7 +44,7 @@ fn do_path<H: Host, K: Sink>(
     if is_many {
         return do_many(alloc, host, out, job, &[path]);
     }
-    do_one(alloc, host, out, job, path, place)
+    do_one(alloc, host, out, job, Placed { path, place })
 }
 
 /// Does the work of files and folders.
@@ -74,8 +74,7 @@ fn do_listed<H: Host, K: Sink>(
     host: &mut H,
     out: &mut K,
     job: &Job<'_>,
-    list: &str,
-    by_nul: bool,
+    list: NameList<'_>,
 ) -> Result<u8, Stop>
     requires { requests.CommandHasNumber job.now.request.command }
     ensures { IfOk result (Ends out.old out.new) }
@@ -84,7 +83,7 @@ fn do_listed<H: Host, K: Sink>(
         host.say(mistake);
         return Ok(2);
     }
-    do_list(alloc, host, out, job, list, by_nul)
+    do_list(alloc, host, out, job, list)
 }
 
 /// Does what is asked for.
@@ -100,7 +99,13 @@ fn do_request<H: Host, K: Sink>(
     let job = job_of(alloc, request)?;
     match &job.request.files {
         Files::Named(paths) => do_paths(alloc, host, out, &job, paths.as_slice()),
-        Files::Listed { list, by_nul } => do_listed(alloc, host, out, &job, list, *by_nul),
+        Files::Listed { list, by_nul } => {
+            let list = NameList {
+                path: list,
+                by_nul: *by_nul,
+            };
+            do_listed(alloc, host, out, &job, list)
+        }
     }
 }
 

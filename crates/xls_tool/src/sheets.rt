@@ -2,6 +2,7 @@
 
 ghost use Rattle.xls_words.specs.Requests as requests;
 
+use crate::file::ReadFile;
 use crate::job::{Job, ending_of};
 use crate::problem::Problem;
 use crate::say::say_of;
@@ -73,32 +74,44 @@ fn number_of(index: usize) -> Option<u32> {
     }
 }
 
-/// Writes a sheet of a workbook into a file of its own.
+/// The files that the sheets of a workbook are written into.
+#[derive(Drop)]
+struct SheetFiles<'f, 'w> {
+    job: &'f Job<'w>,
+    /// Which sheets, and how their cells are written.
+    table: &'f Table<'w>,
+    /// Where the files are.
+    folder: &'f str,
+    /// The path of the workbook's file, by which it is told of.
+    book: &'f str,
+}
+
+/// Writes the sheet of an index into a file of its own.
 fn write_sheet_file<H: Host>(
     alloc: Global,
     host: &mut H,
-    job: &Job<'_>,
-    table: &Table<'_>,
+    files: &SheetFiles<'_, '_>,
     view: &View<'_>,
-    folder: &str,
     index: usize,
-    sheet: &Sheet,
 ) -> Result<(), Problem> {
+    let Some(sheet) = view.sheets().get(index) else {
+        return Err(Problem::Failure(Failure::Missing(Missing::Worksheet)));
+    };
     let number = match number_of(index) {
         Some(number) if number > 0 => number,
         _ => return Err(Problem::Failure(Failure::Missing(Missing::Worksheet))),
     };
     let name = file_name(alloc, number as usize, sheet.name.as_str())?;
-    let path = file_path(alloc, folder, name.as_str(), "csv")?;
-    let mut file = match create(host, path.as_str(), job.request.writes_over) {
+    let path = file_path(alloc, files.folder, name.as_str(), "csv")?;
+    let mut file = match create(host, path.as_str(), files.job.request.writes_over) {
         Ok(file) => file,
         Err(reason) => return Err(Problem::Unwritten(path, reason)),
     };
     let table = Table {
         choice: SheetChoice::Number(number),
-        delimiter: table.delimiter,
-        begins_with_mark: table.begins_with_mark,
-        style: table.style,
+        delimiter: files.table.delimiter,
+        begins_with_mark: files.table.begins_with_mark,
+        style: files.table.style,
     };
     let done = match write_sheet(alloc, &mut file, &table, view) {
         Ok(()) => Ok(()),
@@ -131,18 +144,15 @@ fn is_table(sheet: &Sheet) -> bool {
 fn write_all_sheets<H: Host>(
     alloc: Global,
     host: &mut H,
-    job: &Job<'_>,
-    table: &Table<'_>,
+    files: &SheetFiles<'_, '_>,
     view: &View<'_>,
-    folder: &str,
-    file: &str,
 ) -> Result<(), Problem> {
     let sheets = view.sheets();
     for index in 0..sheets.len() {
         let sheet = &sheets[index];
         if is_table(sheet) {
-            write_sheet_file(alloc, host, job, table, view, folder, index, sheet)?;
-            tell_hidden(alloc, host, file, sheet)?;
+            write_sheet_file(alloc, host, files, view, index)?;
+            tell_hidden(alloc, host, files.book, sheet)?;
         }
     }
     Ok(())
@@ -191,18 +201,13 @@ fn missing(alloc: Global, choice: &SheetChoice<'_>) -> Result<Problem, Problem> 
 fn write_one_sheet<H: Host>(
     alloc: Global,
     host: &mut H,
-    job: &Job<'_>,
-    table: &Table<'_>,
+    files: &SheetFiles<'_, '_>,
     view: &View<'_>,
-    folder: &str,
 ) -> Result<(), Problem> {
     let sheets = view.sheets();
-    let Some(index) = index_of(sheets, &table.choice) else {
-        return Err(missing(alloc, &table.choice)?);
-    };
-    match sheets.get(index) {
-        Some(sheet) => write_sheet_file(alloc, host, job, table, view, folder, index, sheet),
-        None => Err(missing(alloc, &table.choice)?),
+    match index_of(sheets, &files.table.choice) {
+        Some(index) if index < sheets.len() => write_sheet_file(alloc, host, files, view, index),
+        _ => Err(missing(alloc, &files.table.choice)?),
     }
 }
 
@@ -210,30 +215,24 @@ fn write_one_sheet<H: Host>(
 fn write_tables<H: Host>(
     alloc: Global,
     host: &mut H,
-    job: &Job<'_>,
-    table: &Table<'_>,
-    folder: &str,
-    file: &str,
-    bytes: &[u8],
+    files: &SheetFiles<'_, '_>,
+    stream: &[u8],
 ) -> Result<(), Problem> {
-    let view = match View::new(alloc, bytes, &job.options) {
+    let view = match View::new(alloc, stream, &files.job.options) {
         Ok(view) => view,
         Err(error) => return Err(Problem::from(Failure::from(error))),
     };
-    if table.choice == SheetChoice::All {
-        return write_all_sheets(alloc, host, job, table, &view, folder, file);
+    if files.table.choice == SheetChoice::All {
+        return write_all_sheets(alloc, host, files, &view);
     }
-    write_one_sheet(alloc, host, job, table, &view, folder)
+    write_one_sheet(alloc, host, files, &view)
 }
 
 /// Writes the sheets of a file's workbook into files.
 fn write_table_files<H: Host>(
     alloc: Global,
     host: &mut H,
-    job: &Job<'_>,
-    table: &Table<'_>,
-    folder: &str,
-    file: &str,
+    files: &SheetFiles<'_, '_>,
     bytes: &[u8],
 ) -> Result<(), Problem> {
     let container = Container::open(alloc, bytes)?;
@@ -241,7 +240,7 @@ fn write_table_files<H: Host>(
     if is_obfuscated(stream.as_slice()) {
         return Err(Problem::Failure(Failure::Obfuscated));
     }
-    write_tables(alloc, host, job, table, folder, file, stream.as_slice())
+    write_tables(alloc, host, files, stream.as_slice())
 }
 
 /// Writes the texts of a file's bytes into files below a folder.
@@ -250,16 +249,21 @@ pub(crate) fn write_files<H: Host>(
     host: &mut H,
     job: &Job<'_>,
     out: &str,
-    file: &str,
-    bytes: &[u8],
+    file: &ReadFile<'_>,
 ) -> Result<(), Problem>
     requires { requests.CommandHasNumber job.now.request.command }
 {
-    let folder = folder_of(alloc, out, file)?;
+    let folder = folder_of(alloc, out, file.path)?;
     match &job.request.command {
         Command::Csv(table) => {
-            write_table_files(alloc, host, job, table, folder.as_str(), file, bytes)
+            let files = SheetFiles {
+                job,
+                table,
+                folder: folder.as_str(),
+                book: file.path,
+            };
+            write_table_files(alloc, host, &files, file.bytes)
         }
-        _ => write_text_file(alloc, host, job, folder.as_str(), bytes),
+        _ => write_text_file(alloc, host, job, folder.as_str(), file.bytes),
     }
 }

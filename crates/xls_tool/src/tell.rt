@@ -11,7 +11,7 @@ use xls_readable::{Field, Form, Member, push_line};
 
 /// How many files went how, and the greatest exit status of theirs. Contracts see the status.
 #[derive(Drop)]
-pub(crate) struct Counts {
+struct Counts {
     ok: u64,
     refused: u64,
     unread: u64,
@@ -42,7 +42,7 @@ fn word_of(outcome: Outcome) -> &'static str {
 
 impl Counts {
     /// No file.
-    pub(crate) fn new() -> Counts
+    fn new() -> Counts
         ensures { result ≡ 0 }
     {
         Counts {
@@ -71,7 +71,7 @@ impl Counts {
     }
 
     /// The greatest exit status.
-    pub(crate) fn status(&self) -> u8
+    fn status(&self) -> u8
         ensures exact { result ≡ self.now }
         ensures status { IsStatus result }
     {
@@ -79,7 +79,7 @@ impl Counts {
     }
 
     /// How many files there were.
-    pub(crate) fn all(&self) -> u64 {
+    fn all(&self) -> u64 {
         self.ok
             .saturating_add(self.refused)
             .saturating_add(self.unread)
@@ -116,70 +116,6 @@ fn line_of(
     Ok(line)
 }
 
-/// Writes a line of these fields.
-fn write_line<K: Sink>(
-    alloc: Global,
-    sink: &mut K,
-    form: Form,
-    word: &str,
-    members: &[Member<'_>],
-) -> Result<(), Stop> {
-    let line = line_of(alloc, form, word, members)?;
-    write_all(sink, line.as_bytes())?;
-    Ok(())
-}
-
-/// Tells that the text of a file is written.
-fn tell_ok<K: Sink>(alloc: Global, out: &mut K, form: Form, file: &str) -> Result<(), Stop> {
-    write_line(alloc, out, form, "ok", &[text("file", file)])
-}
-
-/// Tells why the text of a file isn't written.
-fn tell_why<K: Sink>(
-    alloc: Global,
-    out: &mut K,
-    form: Form,
-    outcome: Outcome,
-    file: &str,
-    why: &str,
-) -> Result<(), Stop> {
-    let members = [text("file", file), text("why", why)];
-    write_line(alloc, out, form, word_of(outcome), &members)
-}
-
-/// Tells the problem of a file.
-fn tell_problem<K: Sink>(
-    alloc: Global,
-    out: &mut K,
-    form: Form,
-    file: &str,
-    problem: &Problem,
-) -> Result<(), Stop> {
-    let why = format!(in alloc; "{problem}")?;
-    tell_why(alloc, out, form, problem.outcome(), file, why.as_str())
-}
-
-/// Tells how it went with a file, and counts it.
-pub(crate) fn tell<K: Sink>(
-    alloc: Global,
-    out: &mut K,
-    form: Form,
-    counts: &mut Counts,
-    file: &str,
-    done: &Result<(), Problem>,
-) -> Result<(), Stop> {
-    match done {
-        Ok(()) => {
-            counts.count(Outcome::Ok, 0);
-            tell_ok(alloc, out, form, file)
-        }
-        Err(problem) => {
-            counts.count(problem.outcome(), problem.status());
-            tell_problem(alloc, out, form, file, problem)
-        }
-    }
-}
-
 /// The counts as a line of JSON.
 fn counts_json(alloc: Global, counts: &Counts) -> Result<String, AllocError> {
     let members = [
@@ -205,25 +141,115 @@ fn counts_text(alloc: Global, counts: &Counts) -> Result<String, AllocError> {
 }
 
 /// The last line: how many files there were, and how it went with them.
-pub(crate) fn counts_line(
-    alloc: Global,
-    form: Form,
-    counts: &Counts,
-) -> Result<String, AllocError> {
+fn counts_line(alloc: Global, form: Form, counts: &Counts) -> Result<String, AllocError> {
     match form {
         Form::Json => counts_json(alloc, counts),
         Form::Text => counts_text(alloc, counts),
     }
 }
 
-/// Writes the last line.
-pub(crate) fn write_counts<K: Sink>(
-    alloc: Global,
-    sink: &mut K,
+/// What is told of many files.
+#[derive(Drop)]
+pub(crate) struct Report<'r, K> {
+    /// Where it is written, and in which form.
+    out: &'r mut K,
     form: Form,
-    counts: &Counts,
-) -> Result<(), Stop> {
-    let line = counts_line(alloc, form, counts)?;
-    write_all(sink, line.as_bytes())?;
-    Ok(())
+    /// How many files there are, where that is known.
+    all: Option<u64>,
+    /// Of the files that were told of.
+    counts: Counts,
+}
+
+impl<'r, K: Sink> Report<'r, K> {
+    /// No file was told of.
+    pub(crate) fn new(out: &'r mut K, form: Form, all: Option<u64>) -> Report<'r, K> {
+        Report {
+            out,
+            form,
+            all,
+            counts: Counts::new(),
+        }
+    }
+
+    /// Writes a line of these fields.
+    fn write_line(
+        &mut self,
+        alloc: Global,
+        word: &str,
+        members: &[Member<'_>],
+    ) -> Result<(), Stop> {
+        let line = line_of(alloc, self.form, word, members)?;
+        write_all(self.out, line.as_bytes())?;
+        Ok(())
+    }
+
+    /// Tells that the text of a file is written.
+    fn tell_ok(&mut self, alloc: Global, file: &str) -> Result<(), Stop> {
+        self.write_line(alloc, "ok", &[text("file", file)])
+    }
+
+    /// Tells why the text of a file isn't written.
+    fn tell_why(
+        &mut self,
+        alloc: Global,
+        outcome: Outcome,
+        file: &str,
+        why: &str,
+    ) -> Result<(), Stop> {
+        let members = [text("file", file), text("why", why)];
+        self.write_line(alloc, word_of(outcome), &members)
+    }
+
+    /// Tells the problem of a file.
+    fn tell_problem(&mut self, alloc: Global, file: &str, problem: &Problem) -> Result<(), Stop> {
+        let why = format!(in alloc; "{problem}")?;
+        self.tell_why(alloc, problem.outcome(), file, why.as_str())
+    }
+
+    /// Tells how it went with a file, and counts it.
+    pub(crate) fn tell(
+        &mut self,
+        alloc: Global,
+        file: &str,
+        done: &Result<(), Problem>,
+    ) -> Result<(), Stop> {
+        match done {
+            Ok(()) => {
+                self.counts.count(Outcome::Ok, 0);
+                self.tell_ok(alloc, file)
+            }
+            Err(problem) => {
+                self.counts.count(problem.outcome(), problem.status());
+                self.tell_problem(alloc, file, problem)
+            }
+        }
+    }
+
+    /// How many files were told of, and of how many, where that is known.
+    pub(crate) fn progress(&self, alloc: Global) -> Result<String, AllocError> {
+        let done = self.counts.all();
+        match self.all {
+            Some(all) => format!(in alloc; "{done} of {all}"),
+            None => format!(in alloc; "{done}"),
+        }
+    }
+
+    /// The last line: how many files there were, and how it went with them.
+    pub(crate) fn last_line(&self, alloc: Global) -> Result<String, AllocError> {
+        counts_line(alloc, self.form, &self.counts)
+    }
+
+    /// Writes the last line.
+    pub(crate) fn write_last_line(&mut self, alloc: Global) -> Result<(), Stop> {
+        let line = self.last_line(alloc)?;
+        write_all(self.out, line.as_bytes())?;
+        Ok(())
+    }
+
+    /// The greatest exit status of the files.
+    pub(crate) fn status(&self) -> u8
+        ensures { IsStatus result }
+    {
+        self.counts.status()
+    }
 }

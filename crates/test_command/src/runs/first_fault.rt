@@ -32,39 +32,45 @@ const SHORT_DATE_MODE: [u8; 5] = [0x22, 0, 1, 0, 1];
 
 const SHORT_XF: [u8; 4] = [0xE0, 0, 0, 0];
 
+// The page that is forced on a stream, and the most cells of a sheet.
+struct Options {
+    force_codepage: Option<u16>,
+    max_cells: u64,
+}
+
 const CELLS: u64 = 33_554_432;
 
-// A stream by its records, a forced page and a bound of cells, and what is told of it.
-static ROWS: [(&[&[u8]], Option<u16>, u64, &str); 28] = [
+const DEFAULTS: Options = Options {
+    force_codepage: None,
+    max_cells: CELLS,
+};
+
+// A stream by its records, the options that it is read with, and what is told of it.
+static ROWS: [(&[&[u8]], Options, &str); 28] = [
     (
         &[&GLOBALS, &A_SHEET, &EOF, &SHEET, &ONE, &EOF],
-        None,
-        CELLS,
+        DEFAULTS,
         "ok",
     ),
-    (&NO_SHEET, None, CELLS, "End of stream 'sheet offset'"),
+    (&NO_SHEET, DEFAULTS, "End of stream 'sheet offset'"),
     (
         &[&GLOBALS, &A_FAR, &EOF],
-        None,
-        CELLS,
+        DEFAULTS,
         "End of stream 'sheet offset'",
     ),
     (
         &[&GLOBALS, &[0x85, 0, 5, 0, 0, 0, 0, 0, 0], &EOF],
-        None,
-        CELLS,
+        DEFAULTS,
         "Invalid BoundSheet8 length, expected at least 6, found 5",
     ),
     (
         &[&GLOBALS, &A_STATE, &EOF],
-        None,
-        CELLS,
+        DEFAULTS,
         "Unrecognized BoundSheet8:hsState: 0x3",
     ),
     (
         &[&GLOBALS, &[0x2F, 0, 0, 0], &EOF],
-        None,
-        CELLS,
+        DEFAULTS,
         "Invalid FilePass length, expected at least 2, found 0",
     ),
     (
@@ -73,8 +79,7 @@ static ROWS: [(&[&[u8]], Option<u16>, u64, &str); 28] = [
             &[0x18, 0, 13, 0, 0, 0, 0, 0, 0, 0, 0, 0, 0, 0, 0, 0, 0],
             &EOF,
         ],
-        None,
-        CELLS,
+        DEFAULTS,
         "Invalid Lbl length, expected at least 14, found 13",
     ),
     (
@@ -86,8 +91,7 @@ static ROWS: [(&[&[u8]], Option<u16>, u64, &str); 28] = [
             &[0xE5, 0, 2, 0, 0xFF, 0xFF],
             &EOF,
         ],
-        None,
-        CELLS,
+        DEFAULTS,
         "Invalid merge cells length, expected at least 524282, found 2",
     ),
     (
@@ -101,46 +105,54 @@ static ROWS: [(&[&[u8]], Option<u16>, u64, &str); 28] = [
             ],
             &EOF,
         ],
-        None,
-        CELLS,
+        DEFAULTS,
         "Invalid Formula length, expected at least 20, found 19",
     ),
     (
         &[&GLOBALS, &EOF, &[0x3C, 0, 5, 0, 0]],
-        None,
-        CELLS,
+        DEFAULTS,
         "End of stream 'continue record length'",
     ),
     // The last four bytes aren't attached, and the walk has ended.
-    (&[&GLOBALS, &EOF, &[0x3C, 0, 5, 0]], None, CELLS, "ok"),
+    (&[&GLOBALS, &EOF, &[0x3C, 0, 5, 0]], DEFAULTS, "ok"),
     (
         &[&GLOBALS, &A_SHEET, &EOF, &SHEET, &ONE, &TWO, &EOF],
-        None,
-        2,
+        Options {
+            force_codepage: None,
+            max_cells: 2,
+        },
         "ok",
     ),
     (
         &[&GLOBALS, &A_SHEET, &EOF, &SHEET, &ONE, &TWO, &EOF],
-        None,
-        1,
+        Options {
+            force_codepage: None,
+            max_cells: 1,
+        },
         "Sheet with more than 1 cells",
     ),
     (
         &[&GLOBALS, &A_SHEET, &EOF, &SHEET, &ONE, &TWO, &EOF],
-        None,
-        0,
+        Options {
+            force_codepage: None,
+            max_cells: 0,
+        },
         "Sheet with more than 0 cells",
     ),
     (
         &[&GLOBALS, &A_SHEET, &EOF, &SHEET, &THREE_CELLS, &EOF],
-        None,
-        2,
+        Options {
+            force_codepage: None,
+            max_cells: 2,
+        },
         "Sheet with more than 2 cells",
     ),
     (
         &[&GLOBALS, &A_SHEET, &EOF, &SHEET, &REVERSED, &EOF],
-        None,
-        0,
+        Options {
+            force_codepage: None,
+            max_cells: 0,
+        },
         "Invalid rk length, expected at least 65536, found 12",
     ),
     // Each sheet is counted by itself, and a nested cell isn't.
@@ -148,57 +160,68 @@ static ROWS: [(&[&[u8]], Option<u16>, u64, &str); 28] = [
         &[
             &GLOBALS, &A_38, &A_64, &EOF, &SHEET, &ONE, &EOF, &SHEET, &TWO, &EOF,
         ],
-        None,
-        1,
+        Options {
+            force_codepage: None,
+            max_cells: 1,
+        },
         "ok",
     ),
     (
         &[
             &GLOBALS, &A_SHEET, &EOF, &SHEET, &SHEET, &ONE, &EOF, &TWO, &EOF,
         ],
-        None,
-        1,
+        Options {
+            force_codepage: None,
+            max_cells: 1,
+        },
         "ok",
     ),
-    (&PAGE, None, CELLS, "Cfb error: Codepage 1B5 not found"),
-    (&PAGE, Some(1252), CELLS, "ok"),
+    (&PAGE, DEFAULTS, "Cfb error: Codepage 1B5 not found"),
+    (
+        &PAGE,
+        Options {
+            force_codepage: Some(1252),
+            max_cells: CELLS,
+        },
+        "ok",
+    ),
     (
         &[&GLOBALS, &EOF],
-        Some(437),
-        CELLS,
+        Options {
+            force_codepage: Some(437),
+            max_cells: CELLS,
+        },
         "Cfb error: Codepage 1B5 not found",
     ),
     // Under a forced page a short CodePage isn't read; 28591 is kept.
     (
         &[&GLOBALS, &[0x42, 0, 1, 0, 1], &EOF],
-        Some(1252),
-        CELLS,
+        Options {
+            force_codepage: Some(1252),
+            max_cells: CELLS,
+        },
         "ok",
     ),
     (
         &[&GLOBALS, &[0x42, 0, 2, 0, 0xAF, 0x6F], &EOF],
-        None,
-        CELLS,
+        DEFAULTS,
         "ok",
     ),
     (
         &[&GLOBALS, &[0x2F, 0, 2, 0, 1, 0], &EOF],
-        None,
-        CELLS,
+        DEFAULTS,
         "Workbook is password protected",
     ),
-    (&[&GLOBALS, &[0x2F, 0, 2, 0, 0, 0], &EOF], None, CELLS, "ok"),
+    (&[&GLOBALS, &[0x2F, 0, 2, 0, 0, 0], &EOF], DEFAULTS, "ok"),
     // Of two short records the first is told.
     (
         &[&GLOBALS, &SHORT_DATE_MODE, &SHORT_XF, &EOF],
-        None,
-        CELLS,
+        DEFAULTS,
         "Invalid DateMode length, expected at least 2, found 1",
     ),
     (
         &[&GLOBALS, &SHORT_XF, &SHORT_DATE_MODE, &EOF],
-        None,
-        CELLS,
+        DEFAULTS,
         "Invalid xf length, expected at least 4, found 0",
     ),
     (
@@ -210,8 +233,7 @@ static ROWS: [(&[&[u8]], Option<u16>, u64, &str); 28] = [
             &[3, 2, 13, 0, 0, 0, 0, 0, 0, 0, 0, 0, 0, 0, 0, 0, 8],
             &EOF,
         ],
-        None,
-        CELLS,
+        DEFAULTS,
         "Invalid number length, expected at least 14, found 13",
     ),
 ];
@@ -224,19 +246,19 @@ fn reported(alloc: Global, fault: Option<XlsError>) -> Result<String, AllocError
     }
 }
 
-/// The first fault under a page and a bound, by the check and by opening.
+/// The first fault by the check and by opening, with the same options.
 fn faults_of(
     alloc: Global,
     bytes: &[u8],
-    forced: Option<u16>,
-    max_cells: u64,
+    options: &Options,
 ) -> Result<(Option<XlsError>, Option<XlsError>), AllocError> {
-    let mut options = XlsOptions::defaults(alloc)?;
-    options.force_codepage = forced;
-    options.max_cells = max_cells;
+    let checked = check_stream(bytes, options.force_codepage, options.max_cells).err();
+    let mut opening = XlsOptions::defaults(alloc)?;
+    opening.force_codepage = options.force_codepage;
+    opening.max_cells = options.max_cells;
     let mut source = SteadySource::new(bytes.to_vec(alloc)?);
-    let opened = Xls::new_with_options(alloc, &mut source, options).err();
-    Ok((check_stream(bytes, forced, max_cells).err(), opened))
+    let opened = Xls::new_with_options(alloc, &mut source, opening).err();
+    Ok((checked, opened))
 }
 
 /// The line that the command writes of what is told.
@@ -251,11 +273,10 @@ fn line_of(alloc: Global, reported: &str) -> Result<String, AllocError> {
 fn both_tell(
     alloc: Global,
     bytes: &[u8],
-    forced: Option<u16>,
-    max_cells: u64,
+    options: &Options,
     wanted: &str,
 ) -> Result<bool, AllocError> {
-    let (checked, opened) = faults_of(alloc, bytes, forced, max_cells)?;
+    let (checked, opened) = faults_of(alloc, bytes, options)?;
     let is_checked = reported(alloc, checked)?.as_str() == wanted;
     Ok(is_checked && reported(alloc, opened)?.as_str() == wanted)
 }
@@ -274,16 +295,12 @@ fn tell(
     rt: &impl Abort,
     alloc: Global,
     parts: &'static [&'static [u8]],
-    forced: Option<u16>,
-    max_cells: u64,
+    options: &Options,
     wanted: &str,
 ) -> Result<(), Fail> {
     let bytes = joined(alloc, parts)?;
-    assert!(rt;
-        both_tell(alloc, &bytes, forced, max_cells, wanted)?,
-        "{wanted}"
-    );
-    if forced == None && max_cells == CELLS {
+    assert!(rt; both_tell(alloc, &bytes, options, wanted)?, "{wanted}");
+    if options.force_codepage == None && options.max_cells == CELLS {
         assert!(rt; writes_line(alloc, parts, wanted)?, "{wanted}");
     }
     Ok(())
@@ -291,8 +308,8 @@ fn tell(
 
 #[test]
 fn a_check_and_an_opening_tell_the_same_first_fault(rt: HostRuntime) -> Result<(), Fail> {
-    for (parts, forced, max_cells, wanted) in ROWS.iter() {
-        tell(&rt, rt.alloc(), parts, *forced, *max_cells, wanted)?;
+    for (parts, options, wanted) in ROWS.iter() {
+        tell(&rt, rt.alloc(), parts, options, wanted)?;
     }
     Ok(())
 }

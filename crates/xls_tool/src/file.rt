@@ -1,0 +1,25 @@
+//! Files that are read.
+
+use crate::problem::Problem;
+use xls_files::Host;
+
+/// A file that was read.
+#[derive(Drop)]
+pub(crate) struct ReadFile<'f> {
+    /// By which it is told of.
+    pub path: &'f str,
+    pub bytes: &'f [u8],
+}
+
+/// The bytes of a file, or of standard input.
+pub(crate) fn read<H: Host>(host: &mut H, path: &str) -> Result<Vec<u8>, Problem> {
+    let bytes = if path == "-" {
+        host.read_input()
+    } else {
+        host.read(path)
+    };
+    match bytes {
+        Ok(bytes) => Ok(bytes),
+        Err(reason) => Err(Problem::Unread(reason)),
+    }
+}
