@@ -1,13 +1,11 @@
 -- Lines that are put one after another.
-use Rattle.std.proofs.Common.{◌≡◌, ℕ, List, [], ◌∷◌, ◌++◌, append_assoc, append-nil, refl, sym, ap, subst, ◌∙◌, Result, Ok, Err}
-use Rattle.std.specs.Result.{IsErrAnd}
-use Rattle.xls_decimals.specs.Added.{AddsText}
+use Rattle.std.proofs.Common.{◌≡◌, ℕ, List, [], ◌++◌, append_assoc, append-nil, refl, sym, ap, subst, ◌∙◌, Result, Ok, Err}
 use Rattle.xls_lines.specs.SinkState.{SinkState}
 use Rattle.xls_lines.specs.Output.{Output, Puts}
 use Rattle.xls_lines.specs.declared.stop.Stop.{Stop}
 use Rattle.xls_lines.specs.declared.stop.Stop.TheVariants.{Memory}
 use Rattle.xls_pieces.specs.Each.{GathersEach, GivesUpEach, PutsEach}
-use Rattle.xls_pieces.proofs.EachLemmas.{each-as, each-memory, each-none, each-one, each-one-stopped, each-stops-as, each-stops-more, each-stops-then, each-then, puts-each-stop}
+use Rattle.xls_pieces.proofs.EachLemmas.{each-as, each-memory, each-none, each-stops-as, each-stops-more, each-stops-then, each-then}
 
 -- nothing was appended
 pub puts-pass : {A X : Type 0} (P : A → List ℕ → Type 0) (w : SinkState) (n : ℕ) (g h : List ℕ) (b : Output) (r : Result X Stop)
