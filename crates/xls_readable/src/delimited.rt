@@ -5,14 +5,16 @@ ghost use Rattle.std.specs.List.{flat_map, list_any};
 ghost use Rattle.std.specs.String.{string_bytes, string_len};
 ghost use Rattle.xls_bytes.specs.Growth.{IsGrown};
 ghost use Rattle.xls_decimals.specs.Added.{AddsText};
-ghost use Rattle.xls_readable.specs.declared.values.Value.TheVariants.{Float, Int};
+ghost use Rattle.xls_readable.specs.declared.values.Value.TheVariants.{Float, Int, Moment};
+ghost use Rattle.xls_data.specs.Errors.{error_text};
+ghost use Rattle.xls_readable.specs.Values.{truth_text};
 ghost use Rattle.xls_readable.specs.Csv.{IsField, csv_field, doubled, doubled_byte, is_delimiter, is_marked, is_special, quoted, row_end};
 
-use crate::values::{Value, failure_text, push_int, push_value, truth_text};
+use crate::values::{Value, failure_text, push_int, truth_text};
 use std::alloc::AllocError;
 use std::marker::Model;
-use xls_data::Number;
-use xls_decimals::push_decimal;
+use xls_data::{CellErrorType, ExcelDateTime, Number};
+use xls_decimals::{push_date_or_duration, push_decimal};
 
 /// A byte that separates the fields of a row: ASCII, and no quote, newline or return. Contracts see
 /// the byte.
@@ -61,7 +63,7 @@ impl Delimiter {
 }
 
 // Whether a byte puts its field into quotes. Most bytes are above them all.
-#[inline]
+#[inline(always)]
 fn is_marked(delimiter: Delimiter, byte: u8) -> bool
     ensures { result ≡ is_marked delimiter byte }
 {
@@ -148,8 +150,8 @@ fn push_quoted(text: &str, buf: &mut String) -> Result<(), AllocError>
     done
 }
 
-// Appends the field of a text.
-fn push_text(text: &str, delimiter: Delimiter, buf: &mut String) -> Result<(), AllocError>
+/// Appends the field of a text. Only running out of memory refuses, and then `buf` is as it was.
+pub fn push_text_field(text: &str, delimiter: Delimiter, buf: &mut String) -> Result<(), AllocError>
     ensures ok { OnOk result (string_bytes buf.new ≡ string_bytes buf.old ++ csv_field delimiter text.now) }
     ensures err { OnErr result (string_bytes buf.new ≡ string_bytes buf.old) }
 {
@@ -160,7 +162,7 @@ fn push_text(text: &str, delimiter: Delimiter, buf: &mut String) -> Result<(), A
 }
 
 // Whether a delimiter is below all bytes of numbers, as a comma and a tab are.
-#[inline]
+#[inline(always)]
 fn is_below_numbers(delimiter: Delimiter) -> bool
     ensures { IsTrue result ↔ (delimiter < 0x2D) }
 {
@@ -185,20 +187,83 @@ fn push_number(n: Number, delimiter: Delimiter, buf: &mut String) -> Result<(), 
     push_decimal(n, buf)
 }
 
-// Appends the field of a value that is printed into `room` first.
-fn push_printed(
-    value: &Value<'_>,
+/// Appends the field of a whole number, printed into `room` first where the delimiter may stand in it. Only
+/// running out of memory refuses, and then `buf` is as it was.
+#[inline(always)]
+pub fn push_int_field(
+    n: i64,
     delimiter: Delimiter,
     room: &mut String,
     buf: &mut String,
 ) -> Result<(), AllocError>
-    ensures ok { OnOk result (AddsText (IsField delimiter value.now)
-        (string_bytes buf.old) (string_bytes buf.new)) }
+    ensures ok { OnOk result (AddsText (IsField delimiter (Int n)) (string_bytes buf.old) (string_bytes buf.new)) }
+    ensures err { OnErr result (string_bytes buf.new ≡ string_bytes buf.old) }
+{
+    if is_below_numbers(delimiter) {
+        return push_whole(n, delimiter, buf);
+    }
+    room.clear();
+    push_int(n, room)?;
+    push_text_field(room.as_str(), delimiter, buf)
+}
+
+/// Appends the field of a number, likewise.
+#[inline(always)]
+pub fn push_number_field(
+    n: Number,
+    delimiter: Delimiter,
+    room: &mut String,
+    buf: &mut String,
+) -> Result<(), AllocError>
+    ensures ok { OnOk result (AddsText (IsField delimiter (Float n)) (string_bytes buf.old) (string_bytes buf.new)) }
+    ensures err { OnErr result (string_bytes buf.new ≡ string_bytes buf.old) }
+{
+    if is_below_numbers(delimiter) {
+        return push_number(n, delimiter, buf);
+    }
+    room.clear();
+    push_decimal(n, room)?;
+    push_text_field(room.as_str(), delimiter, buf)
+}
+
+/// Appends the field of a date or a duration, which is printed into `room` first. Only running out of memory
+/// refuses, and then `buf` is as it was.
+pub fn push_moment_field(
+    moment: ExcelDateTime,
+    delimiter: Delimiter,
+    room: &mut String,
+    buf: &mut String,
+) -> Result<(), AllocError>
+    ensures ok { OnOk result (AddsText (IsField delimiter (Moment moment)) (string_bytes buf.old) (string_bytes buf.new)) }
     ensures err { OnErr result (string_bytes buf.new ≡ string_bytes buf.old) }
 {
     room.clear();
-    push_value(value, room)?;
-    push_text(room.as_str(), delimiter, buf)
+    push_date_or_duration(moment, room)?;
+    push_text_field(room.as_str(), delimiter, buf)
+}
+
+/// Appends the field of a truth value. Only running out of memory refuses, and then `buf` is as it was.
+pub fn push_truth_field(
+    truth: bool,
+    delimiter: Delimiter,
+    buf: &mut String,
+) -> Result<(), AllocError>
+    ensures ok { OnOk result (string_bytes buf.new ≡ string_bytes buf.old ++ csv_field delimiter (truth_text truth)) }
+    ensures err { OnErr result (string_bytes buf.new ≡ string_bytes buf.old) }
+{
+    push_text_field(truth_text(truth), delimiter, buf)
+}
+
+/// Appends the field of an error value. Only running out of memory refuses, and then `buf` is as it was.
+pub fn push_failure_field(
+    failure: CellErrorType,
+    delimiter: Delimiter,
+    buf: &mut String,
+) -> Result<(), AllocError>
+    ensures ok { OnOk result (string_bytes buf.new ≡ string_bytes buf.old ++ csv_field delimiter (error_text failure)) }
+    ensures err { OnErr result (string_bytes buf.new ≡ string_bytes buf.old) }
+{
+    push_text_field(failure_text(failure), delimiter, buf)
 }
 
 /// Appends the field of a value: its text as people read it, in quotes where it holds the delimiter, a
@@ -215,17 +280,21 @@ pub fn push_field(
     ensures err { OnErr result (string_bytes buf.new ≡ string_bytes buf.old) }
 {
     match value {
-        Value::Text(text) => push_text(text, delimiter, buf),
-        Value::Truth(truth) => push_text(truth_text(*truth), delimiter, buf),
-        Value::Failure(failure) => push_text(failure_text(*failure), delimiter, buf),
-        Value::Int(n) if is_below_numbers(delimiter) => push_whole(*n, delimiter, buf),
-        Value::Float(n) if is_below_numbers(delimiter) => push_number(*n, delimiter, buf),
-        _ => push_printed(value, delimiter, room, buf),
+        Value::Int(n) => push_int_field(*n, delimiter, room, buf),
+        Value::Float(n) => push_number_field(*n, delimiter, room, buf),
+        Value::Text(text) | Value::IsoDate(text) | Value::IsoDuration(text) => {
+            push_text_field(text, delimiter, buf)
+        }
+        Value::Truth(truth) => push_truth_field(*truth, delimiter, buf),
+        Value::Moment(moment) => push_moment_field(*moment, delimiter, room, buf),
+        Value::Failure(failure) => push_failure_field(*failure, delimiter, buf),
+        Value::Empty => Ok(()),
     }
 }
 
 /// Appends the delimiter, which stands between two fields. Only running out of memory refuses, and
 /// then `buf` is as it was.
+#[inline(always)]
 pub fn push_separator(delimiter: Delimiter, buf: &mut String) -> Result<(), AllocError>
     ensures ok { OnOk result (string_bytes buf.new ≡ string_bytes buf.old ++ delimiter ∷ []) }
     ensures err { OnErr result (string_bytes buf.new ≡ string_bytes buf.old) }

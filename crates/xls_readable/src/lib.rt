@@ -12,7 +12,10 @@ mod properties;
 mod rows;
 mod values;
 
-pub use delimited::{Delimiter, end_row, push_field, push_separator};
+pub use delimited::{
+    Delimiter, end_row, push_failure_field, push_field, push_int_field, push_moment_field,
+    push_number_field, push_separator, push_text_field, push_truth_field,
+};
 pub use forms::{Form, push_line};
 pub use items::{Field, Member, push_text_line};
 pub use json_lines::push_json_line;

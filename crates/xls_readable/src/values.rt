@@ -4,12 +4,10 @@ ghost use Rattle.std.specs.Prelude.{◌≡◌, ◌++◌, OnOk, OnErr};
 ghost use Rattle.std.specs.String.{string_bytes};
 ghost use Rattle.std.specs.Fmt.{signed_decimal};
 ghost use Rattle.xls_data.specs.Errors.{error_text};
-ghost use Rattle.xls_decimals.specs.Added.{AddsText};
-ghost use Rattle.xls_readable.specs.Values.{IsFieldText, IsValueOf, truth_text};
+ghost use Rattle.xls_readable.specs.Values.{IsValueOf, truth_text};
 
 use std::alloc::AllocError;
 use xls_data::{CellErrorType, Data, ExcelDateTime, Number};
-use xls_decimals::{push_date_or_duration, push_decimal};
 
 /// The value of a cell, with its text lent.
 #[derive(Drop)]
@@ -83,20 +81,4 @@ pub(crate) fn push_int(n: i64, buf: &mut String) -> Result<(), AllocError>
 {
     let mut digits = itoa::Buffer::new();
     buf.push_str(digits.format(n))
-}
-
-// Appends the text of a value, without quotes or escapes.
-pub(crate) fn push_value(value: &Value<'_>, buf: &mut String) -> Result<(), AllocError>
-    ensures ok { OnOk result (AddsText (IsFieldText value.now) (string_bytes buf.old) (string_bytes buf.new)) }
-    ensures err { OnErr result (string_bytes buf.new ≡ string_bytes buf.old) }
-{
-    match value {
-        Value::Int(n) => push_int(*n, buf),
-        Value::Float(n) => push_decimal(*n, buf),
-        Value::Text(text) | Value::IsoDate(text) | Value::IsoDuration(text) => buf.push_str(text),
-        Value::Truth(truth) => buf.push_str(truth_text(*truth)),
-        Value::Moment(moment) => push_date_or_duration(*moment, buf),
-        Value::Failure(failure) => buf.push_str(failure_text(*failure)),
-        Value::Empty => Ok(()),
-    }
 }

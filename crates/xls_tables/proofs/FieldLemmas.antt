@@ -1,20 +1,30 @@
 -- The fields of a row, one after another.
-use Rattle.std.proofs.Common.{◌≡◌, ℕ, suc, ◌+◌, ◌-◌, ◌<◌, ◌≤◌, Bool, true, false, List, [], ◌∷◌, ◌++◌, length, Result, Ok, Err, append_assoc, append-nil, length-append, arith, refl, sym, ap, subst, ◌∙◌}
+use Rattle.std.proofs.Common.{◌≡◌, ℕ, suc, ◌+◌, ◌-◌, ◌<◌, ◌≤◌, Bool, true, false, List, [], ◌∷◌, ◌++◌, length, encode_utf8_all, Result, Ok, Err, OnOk, append_assoc, append-nil, length-append, arith, refl, sym, ap, subst, ◌∙◌}
 use Rattle.std.specs.Prelude.{◌==◌, ◌&&◌}
 use Rattle.std.specs.List.{flat_map}
 use Rattle.std.specs.Result.{IsErrAnd}
 use Rattle.std.proofs.lemmas.Grind.{flat_map-append}
+use Rattle.xls_data.specs.Content as content
 use Rattle.xls_data.specs.Content.{Content}
+use Rattle.xls_decimals.specs.Added.{AddsText}
 use Rattle.xls_biff.specs.Cells.{CellEntry}
 use Rattle.xls_csv.specs.Walk.{take_at, row_over, left_over}
 use Rattle.xls_readable.specs.Csv.{csv_field, joined, separated}
-use Rattle.xls_lines.specs.Gathering.{GathersText, Stops}
 use Rattle.xls_lines.specs.SinkState.{SinkState}
+use Rattle.xls_lines.specs.Output.{Gathers, GivesUp, Output}
 use Rattle.xls_lines.specs.declared.stop.Stop.{Stop}
-use Rattle.xls_lines.proofs.GatherLemmas.{gathers-added, gathers-as, gathers-nothing, gathers-then, stops-as, stops-then}
-use Rattle.xls_tables.specs.Rows.{AreContentTexts, IsContentText}
+use Rattle.xls_lines.proofs.OutputLemmas.{gathers-added, gathers-as, gathers-nothing, gathers-then, stops-as, stops-then}
+use Rattle.xls_tables.specs.Rows.{AreContentTexts, IsContentField, IsContentText}
 use Rattle.xls_tables.specs.Tables.{BeginsRow}
 use Rattle.xls_tables.specs.Steps.{AddsPlaced, IsPlaced, PutsFields, PutsOrBegins, separator}
+
+-- ---- one field
+
+-- the field of a text was appended
+pub text_added : {X E : Type 0} (d : ℕ) (cs bytes old new : List ℕ) (r : Result X E) → bytes ≡ encode_utf8_all cs
+    → OnOk r (new ≡ old ++ csv_field d bytes) → OnOk r (AddsText (IsContentField d (content.text cs)) old new)
+text_added d cs bytes old new (Ok x) e p = (csv_field d bytes, (bytes, e, refl), p)
+text_added d cs bytes old new (Err x) e p = tt
 
 -- ---- one more field
 
@@ -50,8 +60,8 @@ both_none xs ys a b e f = rw (e, f, length-append xs ys) (sums (length xs) (leng
 -- ---- up to a place
 
 -- with these cells left at a place, the fields before it are gathered
-pub record FieldsSoFar (d row left width : ℕ) (all : List CellEntry) (a : SinkState) (g : List ℕ) (place : ℕ) (is_bare : Bool)
-    (cells : List CellEntry) (b : SinkState) (h : List ℕ) : Type 0 where
+pub record FieldsSoFar (d row left width : ℕ) (all : List CellEntry) (a : Output) (place : ℕ) (is_bare : Bool)
+    (cells : List CellEntry) (b : Output) : Type 0 where
   pub prefix : List Content
   pub texts : List (List ℕ)
   pub are : AreContentTexts prefix texts
@@ -59,11 +69,10 @@ pub record FieldsSoFar (d row left width : ℕ) (all : List CellEntry) (a : Sink
   pub whole : prefix ++ row_over row (left + place) (width - place) cells ≡ row_over row left width all
   pub rest : left_over row (left + place) (width - place) cells ≡ left_over row left width all
   pub bare : is_bare ≡ (length (joined d texts) == 0)
-  pub gathers : GathersText a g b h (joined d texts)
+  pub gathers : Gathers a b (joined d texts)
 
-pub fields_first : (d row left width : ℕ) (all : List CellEntry) (a : SinkState) (g : List ℕ)
-    → FieldsSoFar d row left width all a g 0 true all a g
-fields_first d row left width all a g =
+pub fields_first : (d row left width : ℕ) (all : List CellEntry) (a : Output) → FieldsSoFar d row left width all a 0 true all a
+fields_first d row left width all a =
     let here : left + 0 ≡ left = omega arith in
     let all_of : width - 0 ≡ width = omega arith in
     record {
@@ -74,16 +83,16 @@ fields_first d row left width all a g =
       whole = rw (here, all_of) refl;
       rest = rw (here, all_of) refl;
       bare = refl;
-      gathers = gathers-nothing a g;
+      gathers = gathers-nothing a;
     }
 
-pub fields_more : {d row left width place : ℕ} {all cells cells' : List CellEntry} {a b c : SinkState} {g h k text : List ℕ}
+pub fields_more : {d row left width place : ℕ} {all cells cells' : List CellEntry} {a b c : Output} {text : List ℕ}
     {is_bare none now : Bool} → place < width
-    → FieldsSoFar d row left width all a g place is_bare cells b h
+    → FieldsSoFar d row left width all a place is_bare cells b
     → IsPlaced d (place == 0) (take_at row (left + place) cells).0 text → none ≡ (length text == 0)
-    → GathersText b h c k text → cells' ≡ (take_at row (left + place) cells).1 → now ≡ (is_bare && none)
-    → FieldsSoFar d row left width all a g (place + 1) now cells' c k
-fields_more {d} {row} {left} {width} {place} {all} {cells} {cells'} {a} {b} {c} {g} {h} {k} {text} {is_bare} {none} l
+    → Gathers b c text → cells' ≡ (take_at row (left + place) cells).1 → now ≡ (is_bare && none)
+    → FieldsSoFar d row left width all a (place + 1) now cells' c
+fields_more {d} {row} {left} {width} {place} {all} {cells} {cells'} {a} {b} {c} {text} {is_bare} {none} l
     so (field, (bytes, is, e), placed) none_is gathers left_is now_is =
     let more : width - place ≡ suc (width - (place + 1)) = omega arith in
     let next : left + (place + 1) ≡ left + place + 1 = omega arith in
@@ -113,25 +122,25 @@ row_none row left width place cells l =
     rw none (refl, refl)
 
 -- all fields are gathered
-pub fields_end : {d row left width place : ℕ} {all cells : List CellEntry} {a b : SinkState} {g h : List ℕ} {is_bare : Bool}
-    → width ≤ place → FieldsSoFar d row left width all a g place is_bare cells b h
-    → PutsFields d (row_over row left width all) a g b h (Ok is_bare)
+pub fields_end : {d row left width place : ℕ} {all cells : List CellEntry} {a b : Output} {is_bare : Bool}
+    → width ≤ place → FieldsSoFar d row left width all a place is_bare cells b
+    → PutsFields d (row_over row left width all) a b (Ok is_bare)
 fields_end {d} {row} {left} {width} {place} {all} {cells} l so =
     let none = (row_none row left width place cells l).0 in
     let is : so.prefix ≡ row_over row left width all =
     sym (append-nil so.prefix) ∙ ap (λ (r : List Content). so.prefix ++ r) (sym none) ∙ so.whole in
     (joined d so.texts, ((so.texts, subst (λ (r : List Content). AreContentTexts r so.texts) is so.are, refl), so.bare), so.gathers)
 
-pub cells_end : {d row left width place : ℕ} {all cells : List CellEntry} {a b : SinkState} {g h : List ℕ} {is_bare : Bool}
-    → width ≤ place → FieldsSoFar d row left width all a g place is_bare cells b h
+pub cells_end : {d row left width place : ℕ} {all cells : List CellEntry} {a b : Output} {is_bare : Bool}
+    → width ≤ place → FieldsSoFar d row left width all a place is_bare cells b
     → cells ≡ left_over row left width all
 cells_end {d} {row} {left} {width} {place} {all} {cells} l so =
     sym (row_none row left width place cells l).1 ∙ so.rest
 
 -- it was given up before a field
-pub fields_stop : {d row left width place : ℕ} {all cells : List CellEntry} {a b c : SinkState} {g h text : List ℕ} {is_bare : Bool} {e : Stop}
-    → FieldsSoFar d row left width all a g place is_bare cells b h → text ≡ [] → Stops b h c text e
-    → (prefix : List ℕ) × BeginsRow d (row_over row left width all) prefix × Stops a g c prefix e
+pub fields_stop : {d row left width place : ℕ} {all cells : List CellEntry} {a b c : Output} {text : List ℕ} {is_bare : Bool} {e : Stop}
+    → FieldsSoFar d row left width all a place is_bare cells b → text ≡ [] → GivesUp b c text e
+    → (prefix : List ℕ) × BeginsRow d (row_over row left width all) prefix × GivesUp a c prefix e
 fields_stop {d} {row} {left} {width} {place} {all} {cells} so none stops = (
   joined d so.texts,
   (so.prefix, row_over row (left + place) (width - place) cells, sym so.whole, (so.texts, so.are, refl)),
@@ -141,21 +150,23 @@ fields_stop {d} {row} {left} {width} {place} {all} {cells} so none stops = (
 -- ---- at an error
 
 pub puts_stop : {X : Type 0} (IsWhole : X → List ℕ → Type 0) (Begins : List ℕ → Type 0)
-    (a : SinkState) (g : List ℕ) (b : SinkState) (h : List ℕ) {e : Stop} (r : Result X Stop) → IsErrAnd r (λ d. d ≡ e)
-    → (text : List ℕ) × Begins text × Stops a g b text e
-    → PutsOrBegins IsWhole Begins a g b h r
-puts_stop IsWhole Begins a g b h (Ok x) none p = absurd none
-puts_stop IsWhole Begins a g b h {e} (Err d) is (text, begins, stops) = (text, begins, subst (λ f. Stops a g b text f) (sym is) stops)
+    (a b : Output) {e : Stop} (r : Result X Stop) → IsErrAnd r (λ d. d ≡ e)
+    → (text : List ℕ) × Begins text × GivesUp a b text e
+    → PutsOrBegins IsWhole Begins a b r
+puts_stop IsWhole Begins a b (Ok x) none p = absurd none
+puts_stop IsWhole Begins a b {e} (Err d) is (text, begins, stops) = (text, begins, subst (λ f. GivesUp a b text f) (sym is) stops)
 
--- ---- one field
+-- ---- a field in its place
 
 -- what was gathered was passed on, and then the field was appended
 pub field_put : (d : ℕ) (is_first : Bool) {is_bare : Bool} {taken : Content × List CellEntry} {content : Content} {rest : List CellEntry}
-    {a b : SinkState} {g h k : List ℕ} → taken ≡ (content, rest) → GathersText a g b h []
+    {a : Output} {w : SinkState} {n : ℕ} {h k : List ℕ} → taken ≡ (content, rest)
+    → Gathers a (record { sink = w; kept = h; lender = n }) []
     → AddsPlaced d is_first content is_bare h k
-    → (text : List ℕ) × (IsPlaced d is_first taken.0 text × (is_bare ≡ (length text == 0))) × GathersText a g b k text
-field_put d is_first {is_bare} {taken} {content} {rest} {a} {b} {g} {h} {k} e passed (text, placed, bare, appended) = (
+    → (text : List ℕ) × (IsPlaced d is_first taken.0 text × (is_bare ≡ (length text == 0)))
+    × Gathers a (record { sink = w; kept = k; lender = n }) text
+field_put d is_first {is_bare} {taken} {content} {rest} {a} {w} {n} {h} {k} e passed (text, placed, bare, appended) = (
   text,
   (subst (λ (t : Content × List CellEntry). IsPlaced d is_first t.0 text) (sym e) placed, bare),
-  gathers-then passed (gathers-added b h k text appended),
+  gathers-then passed (gathers-added h k text appended),
 )

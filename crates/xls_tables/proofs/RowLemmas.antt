@@ -1,5 +1,5 @@
 -- Rows, one after another.
-use Rattle.std.proofs.Common.{◌≡◌, inl, inr, ℕ, suc, ◌+◌, ◌-◌, ◌<◌, ◌≤◌, Bool, List, [], ◌∷◌, ◌++◌, length, Result, Ok, Err, append_assoc, append-nil, arith, refl, sym, ap, subst, ◌∙◌}
+use Rattle.std.proofs.Common.{◌≡◌, inl, inr, ℕ, ◌+◌, ◌-◌, ◌<◌, ◌≤◌, Bool, List, [], ◌∷◌, ◌++◌, length, Result, Ok, Err, append_assoc, append-nil, arith, refl, sym, ap, subst, ◌∙◌}
 use Rattle.std.specs.Prelude.{◌==◌}
 use Rattle.std.specs.Result.{IsErrAnd}
 use Rattle.xls_data.specs.Content.{Content}
@@ -8,11 +8,12 @@ use Rattle.xls_csv.specs.Walk.{left_over, row_over, rows_over, walk_rows}
 use Rattle.xls_csv.proofs.WalkLemmas.{rows_from}
 use Rattle.xls_readable.specs.Csv.{row_end}
 use Rattle.xls_readable.specs.Values.{Concatenates}
-use Rattle.xls_lines.specs.Gathering.{GathersText, Stops}
 use Rattle.xls_lines.specs.SinkState.{SinkState}
+use Rattle.xls_lines.specs.Output.{Gathers, GivesUp, Output}
 use Rattle.xls_lines.specs.declared.stop.Stop.{Stop}
 use Rattle.xls_lines.specs.declared.stop.Stop.TheVariants.{Memory}
-use Rattle.xls_lines.proofs.GatherLemmas.{gathers-added, gathers-after, gathers-from, gathers-nothing, gathers-then, stops-after, stops-as, stops-memory, stops-memory-now, stops-then, wrote}
+use Rattle.xls_lines.proofs.GatherLemmas.{stops-from, stops-memory-now}
+use Rattle.xls_lines.proofs.OutputLemmas.{gathers-after, gathers-nothing, gathers-then, stops-after, stops-as, stops-memory, stops-then, wrote}
 use Rattle.xls_tables.specs.Rows.{IsContentFields, IsContentRow}
 use Rattle.xls_csv.specs.Dense.{box_of}
 use Rattle.xls_csv.specs.declared.extent.Extent.{Extent}
@@ -26,9 +27,10 @@ row_ended d row {text} {is_bare} (texts, are, is) bare =
     (texts, are, ap (λ (b : Bool). text ++ row_end b) bare ∙ ap (λ (t : List ℕ). t ++ row_end (length t == 0)) is)
 
 -- out of memory after all fields
-pub row_stop : (d : ℕ) (row : List Content) {a b : SinkState} {g h text : List ℕ} → IsContentFields d row text
-    → GathersText a g b h text → (prefix : List ℕ) × BeginsRow d row prefix × Stops a g b prefix Memory
-row_stop d row {a} {b} {g} {h} {text} fields gathers =
+pub row_stop : (d : ℕ) (row : List Content) {a : Output} {w : SinkState} {n : ℕ} {g h text : List ℕ} → IsContentFields d row text
+    → Gathers a (record { sink = w; kept = g; lender = n }) text
+    → (prefix : List ℕ) × BeginsRow d row prefix × GivesUp a (record { sink = w; kept = h; lender = n }) prefix Memory
+row_stop d row {a} {w} {n} {g} {h} {text} fields gathers =
     (text, (row, [], sym (append-nil row), fields), stops-as (stops-memory [] gathers) (append-nil text))
 
 -- ---- a part of some rows
@@ -69,27 +71,27 @@ rows_more_text d (x ∷ xs) row body text (first, others, here, rest, e) is = (
 -- ---- up to a row
 
 -- with these cells left at a row, the rows before it are gathered
-pub record RowsSoFar (d height top left width : ℕ) (all : List CellEntry) (a : SinkState) (g : List ℕ) (i : ℕ)
-    (cells : List CellEntry) (b : SinkState) (h : List ℕ) : Type 0 where
+pub record RowsSoFar (d height top left width : ℕ) (all : List CellEntry) (a : Output) (i : ℕ)
+    (cells : List CellEntry) (b : Output) : Type 0 where
   pub prefix : List (List Content)
   pub body : List ℕ
   pub are : Concatenates (IsContentRow d) prefix body
   pub whole : prefix ++ rows_over (height - i) (top + i) left width cells ≡ rows_over height top left width all
-  pub gathers : GathersText a g b h body
+  pub gathers : Gathers a b body
 
-pub rows_first : (d height top left width : ℕ) (all : List CellEntry) (a : SinkState) (g : List ℕ)
-    → RowsSoFar d height top left width all a g 0 all a g
-rows_first d height top left width all a g =
+pub rows_first : (d height top left width : ℕ) (all : List CellEntry) (a : Output)
+    → RowsSoFar d height top left width all a 0 all a
+rows_first d height top left width all a =
     let here : top + 0 ≡ top = omega arith in
     let all_of : height - 0 ≡ height = omega arith in
-    record { prefix = []; body = []; are = refl; whole = rw (here, all_of) refl; gathers = gathers-nothing a g }
+    record { prefix = []; body = []; are = refl; whole = rw (here, all_of) refl; gathers = gathers-nothing a }
 
-pub rows_more : {d height top left width i : ℕ} {all cells cells' : List CellEntry} {a b c : SinkState} {g h k text : List ℕ}
-    → i < height → RowsSoFar d height top left width all a g i cells b h
-    → IsContentRow d (row_over (top + i) left width cells) text → GathersText b h c k text
+pub rows_more : {d height top left width i : ℕ} {all cells cells' : List CellEntry} {a b c : Output} {text : List ℕ}
+    → i < height → RowsSoFar d height top left width all a i cells b
+    → IsContentRow d (row_over (top + i) left width cells) text → Gathers b c text
     → cells' ≡ left_over (top + i) left width cells
-    → RowsSoFar d height top left width all a g (i + 1) cells' c k
-rows_more {d} {height} {top} {left} {width} {i} {all} {cells} {cells'} {a} {b} {c} {g} {h} {k} {text} l so is gathers rest =
+    → RowsSoFar d height top left width all a (i + 1) cells' c
+rows_more {d} {height} {top} {left} {width} {i} {all} {cells} {cells'} {a} {b} {c} {text} l so is gathers rest =
     let row = row_over (top + i) left width cells in
     let others = rows_over (height - (i + 1)) (top + (i + 1)) left width (left_over (top + i) left width cells) in
     record {
@@ -102,9 +104,9 @@ rows_more {d} {height} {top} {left} {width} {i} {all} {cells} {cells'} {a} {b} {
       gathers = gathers-then so.gathers gathers;
     }
 
-pub rows_end : {d height top left width i : ℕ} {all cells : List CellEntry} {a b : SinkState} {g h : List ℕ}
-    → height ≤ i → RowsSoFar d height top left width all a g i cells b h
-    → (text : List ℕ) × Concatenates (IsContentRow d) (rows_over height top left width all) text × GathersText a g b h text
+pub rows_end : {d height top left width i : ℕ} {all cells : List CellEntry} {a b : Output}
+    → height ≤ i → RowsSoFar d height top left width all a i cells b
+    → (text : List ℕ) × Concatenates (IsContentRow d) (rows_over height top left width all) text × Gathers a b text
 rows_end {d} {height} {top} {left} {width} {i} {all} {cells} l so =
     let none : height - i ≡ 0 = omega arith in
     let no_rows : rows_over (height - i) (top + i) left width cells ≡ [] = rw none refl in
@@ -112,10 +114,10 @@ rows_end {d} {height} {top} {left} {width} {i} {all} {cells} l so =
     sym (append-nil so.prefix) ∙ ap (λ (r : List (List Content)). so.prefix ++ r) (sym no_rows) ∙ so.whole in
     (so.body, subst (λ (r : List (List Content)). Concatenates (IsContentRow d) r so.body) is so.are, so.gathers)
 
-pub rows_stop : {d height top left width i : ℕ} {all cells : List CellEntry} {a b c : SinkState} {g h : List ℕ} {e : Stop}
-    → i < height → RowsSoFar d height top left width all a g i cells b h
-    → (text : List ℕ) × BeginsRow d (row_over (top + i) left width cells) text × Stops b h c text e
-    → (text : List ℕ) × BeginsRows d (rows_over height top left width all) text × Stops a g c text e
+pub rows_stop : {d height top left width i : ℕ} {all cells : List CellEntry} {a b c : Output} {e : Stop}
+    → i < height → RowsSoFar d height top left width all a i cells b
+    → (text : List ℕ) × BeginsRow d (row_over (top + i) left width cells) text × GivesUp b c text e
+    → (text : List ℕ) × BeginsRows d (rows_over height top left width all) text × GivesUp a c text e
 rows_stop {d} {height} {top} {left} {width} {i} {all} {cells} l so (text, begins, stops) =
     let row = row_over (top + i) left width cells in
     let others = rows_over (height - (i + 1)) (top + (i + 1)) left width (left_over (top + i) left width cells) in
@@ -144,36 +146,43 @@ table_memory d is_marked rows a = record {
 }
 
 -- after the mark
-pub marked : (is_marked : Bool) (a : SinkState) (g h : List ℕ) → g ≡ [] → h ≡ g ++ byte_order_mark is_marked
-    → GathersText a [] a h (byte_order_mark is_marked)
-marked is_marked a g h none e = gathers-from none (gathers-added a g h (byte_order_mark is_marked) e)
+pub table_stop : (d : ℕ) (is_marked : Bool) (rows : List (List Content)) {a b c : Output} {e : Stop} → a.kept ≡ []
+    → Gathers a b (byte_order_mark is_marked) → (text : List ℕ) × BeginsRows d rows text × GivesUp b c text e
+    → StopsTable d is_marked rows a.sink c.sink e
+table_stop d is_marked rows none mark (text, begins, stops) = record {
+  text = byte_order_mark is_marked ++ text;
+  part = (text, begins, refl);
+  stops = stops-from none (stops-then mark stops).stops;
+}
 
-pub table_stop : (d : ℕ) (is_marked : Bool) (rows : List (List Content)) {a b c : SinkState} {h : List ℕ} {e : Stop}
-    → GathersText a [] b h (byte_order_mark is_marked)
-    → (text : List ℕ) × BeginsRows d rows text × Stops b h c text e
-    → StopsTable d is_marked rows a c e
-table_stop d is_marked rows mark (text, begins, stops) =
-    record { text = byte_order_mark is_marked ++ text; part = (text, begins, refl); stops = stops-then mark stops }
-
-pub table_gathered : (d : ℕ) (is_marked : Bool) (rows : List (List Content)) {a b c : SinkState} {h k : List ℕ}
-    → GathersText a [] b h (byte_order_mark is_marked)
-    → (text : List ℕ) × Concatenates (IsContentRow d) rows text × GathersText b h c k text
-    → (text : List ℕ) × IsTable d is_marked rows text × GathersText a [] c k text
+pub table_gathered : (d : ℕ) (is_marked : Bool) (rows : List (List Content)) {a b c : Output}
+    → Gathers a b (byte_order_mark is_marked)
+    → (text : List ℕ) × Concatenates (IsContentRow d) rows text × Gathers b c text
+    → (text : List ℕ) × IsTable d is_marked rows text × Gathers a c text
 table_gathered d is_marked rows mark (text, is, gathers) =
     (byte_order_mark is_marked ++ text, (text, is, refl), gathers-then mark gathers)
 
 -- all was gathered, and then it was given up
-pub table_unfinished : (d : ℕ) (is_marked : Bool) (rows : List (List Content)) {a b c : SinkState} {h : List ℕ} {e : Stop}
-    → (text : List ℕ) × IsTable d is_marked rows text × GathersText a [] b h text → Stops b h c [] e
-    → StopsTable d is_marked rows a c e
-table_unfinished d is_marked rows (text, (body, is, e), gathers) stops =
-    record { text = text; part = (body, begins_all d rows body is, e); stops = stops-after gathers stops }
+pub table_unfinished : (d : ℕ) (is_marked : Bool) (rows : List (List Content)) {a b c : Output} {e : Stop} → a.kept ≡ []
+    → (text : List ℕ) × IsTable d is_marked rows text × Gathers a b text → GivesUp b c [] e
+    → StopsTable d is_marked rows a.sink c.sink e
+table_unfinished d is_marked rows none (text, (body, is, e), gathers) stops = record {
+  text = text;
+  part = (body, begins_all d rows body is, e);
+  stops = stops-from none (stops-after gathers stops).stops;
+}
 
-pub table_finished : (d : ℕ) (is_marked : Bool) (rows : List (List Content)) {a b c : SinkState} {h k : List ℕ}
-    → (text : List ℕ) × IsTable d is_marked rows text × GathersText a [] b h text → GathersText b h c k [] → k ≡ []
-    → WroteTable d is_marked rows a c
-table_finished d is_marked rows (text, is, gathers) last none =
-    record { text = text; table = is; wrote = wrote (gathers-after gathers last) none }
+pub table_finished : (d : ℕ) (is_marked : Bool) (rows : List (List Content)) {a b c : Output} → a.kept ≡ []
+    → (text : List ℕ) × IsTable d is_marked rows text × Gathers a b text → Gathers b c [] → c.kept ≡ []
+    → WroteTable d is_marked rows a.sink c.sink
+table_finished d is_marked rows none (text, is, gathers) last none' =
+    record { text = text; table = is; wrote = wrote none (gathers-after gathers last) none' }
+
+-- what is so of the sink of a writer is so of the one that was lent to it
+pub lent_back : {K : Type 0} (P : SinkState → SinkState → Type 0) (state : K → SinkState) {x x' y y' : K}
+    → x' ≡ x → y' ≡ y → P (state x') (state y') → P (state x) (state y)
+lent_back P state {x} {x'} {y} {y'} e e' p =
+    subst (λ (k : _). P (state k) (state y)) e (subst (λ (k : _). P (state x') (state k)) e' p)
 
 -- the rows that are put are those of the cells
 pub walked : (cells seen ahead : List CellEntry) {extent : Extent} → seen ≡ cells → ahead ≡ seen → extent ≡ box_of cells

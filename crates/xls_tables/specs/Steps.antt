@@ -1,19 +1,11 @@
 -- Words of private calls, for the proofs.
 use Rattle.std.specs.Prelude.{◌≡◌, ℕ, ◌==◌, Bool, true, false, List, [], ◌∷◌, ◌++◌, length, Result, Ok, Err}
 use Rattle.xls_data.specs.Content.{Content}
-use Rattle.xls_readable.specs.Values.{Concatenates, IsFieldText}
-use Rattle.xls_readable.specs.declared.values.Value.{Value}
-use Rattle.xls_lines.specs.Gathering.{GathersText, Stops}
-use Rattle.xls_lines.specs.SinkState.{SinkState}
+use Rattle.xls_readable.specs.Values.{Concatenates}
+use Rattle.xls_lines.specs.Output.{Gathers, GivesUp, Output}
 use Rattle.xls_lines.specs.declared.stop.Stop.{Stop}
-use Rattle.xls_tables.specs.Rows.{IsContentField, IsContentFields, IsContentRow, IsContentText}
+use Rattle.xls_tables.specs.Rows.{IsContentField, IsContentFields, IsContentRow}
 use Rattle.xls_tables.specs.Tables.{BeginsRow, BeginsRows}
-
--- ---- values
-
--- each text of the value is one of the content
-abbrev pub ShowsContent : Content → Value → Type 0
-ShowsContent content value = (text : List ℕ) → IsFieldText value text → IsContentText content text
 
 -- ---- fields in their places
 
@@ -36,27 +28,24 @@ AddsPlaced delimiter is_first content is_bare old new =
 
 -- a text of the first kind was gathered; or a prefix of what was kept and of one of the second kind was
 -- written, and then it was given up
-abbrev pub PutsOrBegins : {X : Type 0} → (X → List ℕ → Type 0) → (List ℕ → Type 0) → SinkState → List ℕ → SinkState → List ℕ
-    → Result X Stop → Type 0
-PutsOrBegins IsWhole Begins before kept after kept' (Ok x) =
-    (text : List ℕ) × IsWhole x text × GathersText before kept after kept' text
-PutsOrBegins IsWhole Begins before kept after kept' (Err e) =
-    (text : List ℕ) × Begins text × Stops before kept after text e
+abbrev pub PutsOrBegins : {X : Type 0} → (X → List ℕ → Type 0) → (List ℕ → Type 0) → Output → Output → Result X Stop → Type 0
+PutsOrBegins IsWhole Begins before after (Ok x) = (text : List ℕ) × IsWhole x text × Gathers before after text
+PutsOrBegins IsWhole Begins before after (Err e) = (text : List ℕ) × Begins text × GivesUp before after text e
 
 -- a field, and whether it is no byte
-abbrev pub PutsField : ℕ → Bool → Content → SinkState → List ℕ → SinkState → List ℕ → Result Bool Stop → Type 0
+abbrev pub PutsField : ℕ → Bool → Content → Output → Output → Result Bool Stop → Type 0
 PutsField delimiter is_first content =
     PutsOrBegins (λ is_bare text. IsPlaced delimiter is_first content text × (is_bare ≡ (length text == 0)))
     (λ text. text ≡ [])
 
 -- the fields of a row, and whether they are no byte
-abbrev pub PutsFields : ℕ → List Content → SinkState → List ℕ → SinkState → List ℕ → Result Bool Stop → Type 0
+abbrev pub PutsFields : ℕ → List Content → Output → Output → Result Bool Stop → Type 0
 PutsFields delimiter row =
     PutsOrBegins (λ is_bare text. IsContentFields delimiter row text × (is_bare ≡ (length text == 0)))
     (BeginsRow delimiter row)
 
-abbrev pub PutsRow : {X : Type 0} → ℕ → List Content → SinkState → List ℕ → SinkState → List ℕ → Result X Stop → Type 0
+abbrev pub PutsRow : {X : Type 0} → ℕ → List Content → Output → Output → Result X Stop → Type 0
 PutsRow delimiter row = PutsOrBegins (λ _. IsContentRow delimiter row) (BeginsRow delimiter row)
 
-abbrev pub PutsRows : {X : Type 0} → ℕ → List (List Content) → SinkState → List ℕ → SinkState → List ℕ → Result X Stop → Type 0
+abbrev pub PutsRows : {X : Type 0} → ℕ → List (List Content) → Output → Output → Result X Stop → Type 0
 PutsRows delimiter rows = PutsOrBegins (λ _. Concatenates (IsContentRow delimiter) rows) (BeginsRows delimiter rows)

@@ -1,28 +1,38 @@
 //! The rows that are gathered before they are written.
 
-ghost use Rattle.std.specs.Prelude.{◌≡◌, ◌++◌, ◌==◌, [], length, IfOk, OnOk};
+ghost use Rattle.std.specs.Prelude.{◌≡◌, ◌≤◌, ◌++◌, ◌==◌, ◌↔◌, [], length, IsTrue, IfOk, OnOk};
+ghost use Rattle.std.specs.Str.{chars};
+ghost use Rattle.xls_data.specs.Content.{text};
+ghost use Rattle.xls_data.specs.Numeric.{numeric_content};
 ghost use Rattle.xls_decimals.specs.Added.{AddsText};
-ghost use Rattle.xls_lines.specs.Gathering.{Puts};
+ghost use Rattle.xls_lines.specs.Output.{Puts, output};
 ghost use Rattle.xls_readable.specs.Csv.{row_end};
-ghost use Rattle.xls_cursors.specs.Values.{lent_content};
+ghost use Rattle.xls_cursors.specs.Values.{lent_content, value_text};
 ghost use Rattle.xls_csv.specs.Walk.{value_in};
 ghost use Rattle.xls_tables.specs.Rows.{IsContentField};
 ghost use Rattle.xls_tables.specs.Tables.{byte_order_mark};
 ghost use Rattle.xls_tables.specs.Steps.{AddsPlaced, separator};
 
-use crate::displayed::displayed_value;
 use std::alloc::{AllocError, Global};
 use std::marker::Model;
-use xls_lines::{Sink, Stop};
-use xls_pieces::Pieces;
-use xls_readable::{Delimiter, push_field, push_separator};
+use xls_data::{ExcelDateTime, ExcelDateTimeType, Numeric};
+use xls_lines::{Sink, Stop, Writer, write_all};
+use xls_readable::{
+    Delimiter, push_failure_field, push_int_field, push_moment_field, push_number_field,
+    push_separator, push_text_field, push_truth_field,
+};
 use xls_view::{CellValue, TextBuffer};
 
-/// The text that is gathered, and memory for the text of one cell. Contracts see what is gathered.
+/// From so many bytes on, what is gathered is written.
+const PIECE: usize = 65_536;
+
+/// The text that is gathered, and memory for what has to be printed or decoded first. Contracts see what is
+/// gathered.
 #[derive(Drop)]
 pub(crate) struct Gathered {
-    pieces: Pieces,
-    texts: TextBuffer,
+    text: String,
+    room: String,
+    decoded: TextBuffer,
 }
 
 impl Model for Gathered {
@@ -31,7 +41,7 @@ impl Model for Gathered {
 
     ghost Value = { List ℕ };
 
-    ghost view = { λ g. string_bytes g.pieces.text };
+    ghost view = { λ g. string_bytes g.text };
 }
 
 impl Gathered {
@@ -39,25 +49,18 @@ impl Gathered {
         ensures { result ≡ [] }
     {
         Gathered {
-            pieces: Pieces::new(alloc),
-            texts: TextBuffer::new(alloc),
+            text: String::new(alloc),
+            room: String::new(alloc),
+            decoded: TextBuffer::new(alloc),
         }
     }
 
-    /// Writes what is gathered, where it is 64 KiB or more.
+    /// Whether there is a piece to write.
     #[inline(always)]
-    pub(crate) fn pass<K: Sink>(&mut self, sink: &mut K) -> Result<(), Stop>
-        ensures { Puts (K.state sink.old) self.old (K.state sink.new) self.new [] result }
+    fn is_full(&self) -> bool
+        ensures { IsTrue result ↔ (PIECE ≤ length self.now) }
     {
-        self.pieces.pass(sink)
-    }
-
-    /// Writes all that is gathered.
-    pub(crate) fn finish<K: Sink>(&mut self, sink: &mut K) -> Result<(), Stop>
-        ensures puts { Puts (K.state sink.old) self.old (K.state sink.new) self.new [] result }
-        ensures none { OnOk result (self.new ≡ []) }
-    {
-        self.pieces.finish(sink)
+        self.text.len() >= PIECE
     }
 
     /// Appends the byte order mark, where it is asked for.
@@ -65,7 +68,7 @@ impl Gathered {
         ensures { OnOk result (self.new ≡ self.old ++ byte_order_mark is_marked) }
     {
         if is_marked {
-            return self.pieces.text.push_str("\u{FEFF}");
+            return self.text.push_str("\u{FEFF}");
         }
         Ok(())
     }
@@ -76,9 +79,49 @@ impl Gathered {
         ensures { OnOk result (self.new ≡ self.old ++ separator delimiter (place == 0)) }
     {
         if place > 0 {
-            return push_separator(delimiter, &mut self.pieces.text);
+            return push_separator(delimiter, &mut self.text);
         }
         Ok(())
+    }
+
+    /// Appends the field of a number, a date or a duration.
+    #[inline(always)]
+    fn push_number(&mut self, delimiter: Delimiter, number: Numeric) -> Result<(), AllocError>
+        ensures { OnOk result (AddsText (IsContentField delimiter (numeric_content number)) self.old self.new) }
+    {
+        let room = &mut self.room;
+        let buf = &mut self.text;
+        match number {
+            Numeric::Int(n) => push_int_field(n, delimiter, room, buf),
+            Numeric::Float(n) => push_number_field(n, delimiter, room, buf),
+            Numeric::DateTime(n, is_1904) => {
+                let date = ExcelDateTime::new(n, ExcelDateTimeType::DateTime, is_1904);
+                push_moment_field(date, delimiter, room, buf)
+            }
+            Numeric::TimeDelta(n, is_1904) => {
+                let duration = ExcelDateTime::new(n, ExcelDateTimeType::TimeDelta, is_1904);
+                push_moment_field(duration, delimiter, room, buf)
+            }
+        }
+    }
+
+    /// Appends the field of a text.
+    #[inline(always)]
+    fn push_text(&mut self, delimiter: Delimiter, displayed: &str) -> Result<(), AllocError>
+        ensures { OnOk result (AddsText (IsContentField delimiter (text (chars displayed.now))) self.old self.new) }
+    {
+        push_text_field(displayed, delimiter, &mut self.text)
+    }
+
+    /// Appends the field of a text that stands in a record.
+    #[inline(never)]
+    fn push_encoded(&mut self, delimiter: Delimiter, value: CellValue<'_>) -> Result<(), AllocError>
+        ensures { OnOk result (AddsText (IsContentField delimiter (text (value_text (lent_content value.entry)))) self.old self.new) }
+    {
+        match self.decoded.text_of(&value) {
+            Ok(displayed) => push_text_field(displayed, delimiter, &mut self.text),
+            Err(error) => Err(error),
+        }
     }
 
     /// Appends the field of a cell's value.
@@ -86,14 +129,13 @@ impl Gathered {
     fn push_value(&mut self, delimiter: Delimiter, value: CellValue<'_>) -> Result<(), AllocError>
         ensures { OnOk result (AddsText (IsContentField delimiter (lent_content value.entry)) self.old self.new) }
     {
-        match self.texts.value_of(value) {
-            Ok(value) => push_field(
-                &displayed_value(&value),
-                delimiter,
-                &mut self.pieces.room,
-                &mut self.pieces.text,
-            ),
-            Err(error) => Err(error),
+        match value {
+            CellValue::Number(number) => self.push_number(delimiter, number),
+            CellValue::Shared(displayed) => self.push_text(delimiter, displayed),
+            CellValue::Encoded(_) => self.push_encoded(delimiter, value),
+            CellValue::Bool(truth) => push_truth_field(truth, delimiter, &mut self.text),
+            CellValue::Error(failure) => push_failure_field(failure, delimiter, &mut self.text),
+            CellValue::Empty => Ok(()),
         }
     }
 
@@ -122,10 +164,10 @@ impl Gathered {
     ) -> Result<bool, AllocError>
         ensures { IfOk result (λ is_bare. AddsPlaced delimiter (place == 0) (value_in value.entry) is_bare self.old self.new) }
     {
-        let before = self.pieces.text.len();
+        let before = self.text.len();
         self.separate(delimiter, place)?;
         self.push_displayed(delimiter, value)?;
-        Ok(self.pieces.text.len() == before)
+        Ok(self.text.len() == before)
     }
 
     /// Appends the end of a row. A row without a byte has two quotes before it.
@@ -133,8 +175,31 @@ impl Gathered {
         ensures { OnOk result (self.new ≡ self.old ++ row_end is_bare) }
     {
         if is_bare {
-            return self.pieces.text.push_str("\"\"\n");
+            return self.text.push_str("\"\"\n");
         }
-        self.pieces.text.push_str("\n")
+        self.text.push_str("\n")
     }
+}
+
+/// Writes all that is gathered.
+#[inline(never)]
+pub(crate) fn finish<K: Sink>(out: &mut Writer<'_, K, Gathered>) -> Result<(), Stop>
+    ensures puts { Puts (output K.state out.old) (output K.state out.new) [] result }
+    ensures none { OnOk result (out.new.buffer.now ≡ []) }
+{
+    let gathered = &mut *out.buffer;
+    write_all(out.sink, gathered.text.as_bytes())?;
+    gathered.text.clear();
+    Ok(())
+}
+
+/// Writes what is gathered, where it is 64 KiB or more.
+#[inline(always)]
+pub(crate) fn pass<K: Sink>(out: &mut Writer<'_, K, Gathered>) -> Result<(), Stop>
+    ensures { Puts (output K.state out.old) (output K.state out.new) [] result }
+{
+    if out.buffer.is_full() {
+        return finish(out);
+    }
+    Ok(())
 }

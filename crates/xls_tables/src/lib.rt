@@ -1,7 +1,6 @@
 //! The cells of a sheet as CSV that people read, row by row, and the names of files for sheets.
 #![tactic(auto)]
 
-mod displayed;
 mod file_names;
 mod gathered;
 mod table;

@@ -4,56 +4,53 @@ ghost use Rattle.std.specs.Prelude.{◌≡◌, ◌≤◌, ◌^◌, ◌+◌, ◌=
 ghost use Rattle.xls_biff.specs.Cells.{CellEntry};
 ghost use Rattle.xls_range.specs.Positions.{IsAscending};
 ghost use Rattle.xls_csv.specs.Dense.{dense_rows};
+ghost use Rattle.xls_lines.specs.Output.{output};
 ghost use Rattle.xls_csv.specs.Walk.{left_over, row_over, rows_over, take_at, walk_rows};
 ghost use Rattle.xls_tables.specs.Steps.{PutsField, PutsFields, PutsRow, PutsRows};
 ghost use Rattle.xls_tables.specs.Tables.{DeliversTable};
 
-use crate::gathered::Gathered;
+use crate::gathered::{Gathered, finish, pass};
 use std::alloc::Global;
-use xls_csv::{Ahead, Extent, extent_of};
-use xls_lines::{Sink, Stop};
+use xls_csv::{Ahead, BoxRow, Extent, extent_of};
+use xls_lines::{Sink, Stop, Writer};
 use xls_readable::Delimiter;
 use xls_view::SheetCells;
 
-/// Puts the field at a position of a row that begins at a column, and tells whether that is no byte.
+/// Puts the field at a place of a row, and tells whether that is no byte.
 #[inline(always)]
 fn put_field<K: Sink>(
-    gathered: &mut Gathered,
-    sink: &mut K,
+    out: &mut Writer<'_, K, Gathered>,
     cells: &mut Ahead<'_>,
     delimiter: Delimiter,
-    row: u64,
-    left: u64,
+    row: BoxRow,
     place: u64,
 ) -> Result<bool, Stop>
-    requires { left + place ≤ 2 ^ 32 }
-    ensures puts { PutsField delimiter (place == 0) (take_at row (left + place) cells.old).0
-        (K.state sink.old) gathered.old (K.state sink.new) gathered.new result }
-    ensures cells { OnOk result (cells.new ≡ (take_at row (left + place) cells.old).1) }
+    requires { row.left + place ≤ 2 ^ 32 }
+    ensures puts { PutsField delimiter (place == 0) (take_at row.number (row.left + place) cells.old).0
+        (output K.state out.old) (output K.state out.new) result }
+    ensures cells { OnOk result (cells.new ≡ (take_at row.number (row.left + place) cells.old).1) }
 {
-    gathered.pass(sink)?;
-    let is_bare = gathered.push_field(delimiter, place, cells.take_at(row, left + place))?;
+    pass(out)?;
+    let value = cells.take_at(row.number, row.left + place);
+    let is_bare = out.buffer.push_field(delimiter, place, value)?;
     Ok(is_bare)
 }
 
-/// Puts the fields of a row, for so many columns from one on, and tells whether they are no byte.
+/// Puts the fields of a row, and tells whether they are no byte.
 fn put_fields<K: Sink>(
-    gathered: &mut Gathered,
-    sink: &mut K,
+    out: &mut Writer<'_, K, Gathered>,
     cells: &mut Ahead<'_>,
     delimiter: Delimiter,
-    row: u64,
-    left: u64,
-    width: u64,
+    row: BoxRow,
 ) -> Result<bool, Stop>
-    requires { left + width ≤ 2 ^ 32 }
-    ensures puts { PutsFields delimiter (row_over row left width cells.old)
-        (K.state sink.old) gathered.old (K.state sink.new) gathered.new result }
-    ensures cells { OnOk result (cells.new ≡ left_over row left width cells.old) }
+    requires { row.left + row.width ≤ 2 ^ 32 }
+    ensures puts { PutsFields delimiter (row_over row.number row.left row.width cells.old)
+        (output K.state out.old) (output K.state out.new) result }
+    ensures cells { OnOk result (cells.new ≡ left_over row.number row.left row.width cells.old) }
 {
     let mut is_bare = true;
-    for place in 0..width {
-        let adds_none = put_field(gathered, sink, cells, delimiter, row, left, place)?;
+    for place in 0..row.width {
+        let adds_none = put_field(out, cells, delimiter, row, place)?;
         is_bare = is_bare && adds_none;
     }
     Ok(is_bare)
@@ -61,28 +58,24 @@ fn put_fields<K: Sink>(
 
 /// Puts a row.
 fn put_row<K: Sink>(
-    gathered: &mut Gathered,
-    sink: &mut K,
+    out: &mut Writer<'_, K, Gathered>,
     cells: &mut Ahead<'_>,
     delimiter: Delimiter,
-    row: u64,
-    left: u64,
-    width: u64,
+    row: BoxRow,
 ) -> Result<(), Stop>
-    requires { left + width ≤ 2 ^ 32 }
-    ensures puts { PutsRow delimiter (row_over row left width cells.old)
-        (K.state sink.old) gathered.old (K.state sink.new) gathered.new result }
-    ensures cells { OnOk result (cells.new ≡ left_over row left width cells.old) }
+    requires { row.left + row.width ≤ 2 ^ 32 }
+    ensures puts { PutsRow delimiter (row_over row.number row.left row.width cells.old)
+        (output K.state out.old) (output K.state out.new) result }
+    ensures cells { OnOk result (cells.new ≡ left_over row.number row.left row.width cells.old) }
 {
-    let is_bare = put_fields(gathered, sink, cells, delimiter, row, left, width)?;
-    gathered.push_end(is_bare)?;
+    let is_bare = put_fields(out, cells, delimiter, row)?;
+    out.buffer.push_end(is_bare)?;
     Ok(())
 }
 
 /// Puts all rows of a box.
 fn put_rows<K: Sink>(
-    gathered: &mut Gathered,
-    sink: &mut K,
+    out: &mut Writer<'_, K, Gathered>,
     mut cells: Ahead<'_>,
     delimiter: Delimiter,
     extent: Extent,
@@ -90,18 +83,15 @@ fn put_rows<K: Sink>(
     requires rows { extent.top + extent.height ≤ 2 ^ 32 }
     requires columns { extent.left + extent.width ≤ 2 ^ 32 }
     ensures { PutsRows delimiter (rows_over extent.height extent.top extent.left extent.width cells.entry)
-        (K.state sink.old) gathered.old (K.state sink.new) gathered.new result }
+        (output K.state out.old) (output K.state out.new) result }
 {
     for i in 0..extent.height {
-        put_row(
-            gathered,
-            sink,
-            &mut cells,
-            delimiter,
-            extent.top + i,
-            extent.left,
-            extent.width,
-        )?;
+        let row = BoxRow {
+            number: extent.top + i,
+            left: extent.left,
+            width: extent.width,
+        };
+        put_row(out, &mut cells, delimiter, row)?;
     }
     Ok(())
 }
@@ -117,16 +107,11 @@ fn write_rows<K: Sink>(
     ensures { DeliversTable delimiter begins_with_mark (walk_rows cells.now) (K.state sink.old) (K.state sink.new) result }
 {
     let mut gathered = Gathered::new(alloc);
-    gathered.push_mark(begins_with_mark)?;
+    let mut out = Writer::new(&mut gathered, sink);
+    out.buffer.push_mark(begins_with_mark)?;
     let extent = extent_of(cells);
-    put_rows(
-        &mut gathered,
-        sink,
-        Ahead::new(cells.iter()),
-        delimiter,
-        extent,
-    )?;
-    gathered.finish(sink)?;
+    put_rows(&mut out, Ahead::new(cells.iter()), delimiter, extent)?;
+    finish(&mut out)?;
     Ok(())
 }
 

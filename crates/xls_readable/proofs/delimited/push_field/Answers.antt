@@ -6,4 +6,4 @@ use Rattle.xls_readable.proofs.delimited.push_field.Goals as goal
 pub returns-in-Int-clause-ok : goal.returns-in-Int-clause-ok
 returns-in-Int-clause-ok c =
     let fits : SFits w64 c.in-Int.n = search rules in
-    rw c.in-Int.is (rw (to_z-of_z w64 c.in-Int.n fits) at c.push_whole.ensures.ok)
+    rw c.in-Int.is (rw (to_z-of_z w64 c.in-Int.n fits) at c.push_int_field.ensures.ok)

@@ -5,12 +5,12 @@ use Rattle.xls_tables.proofs.table.put_fields.Goals.{then-is_bare, else-is_bare}
 use Rattle.xls_tables.proofs.table.put_fields.Goals as goal
 
 pub loop-place-init : goal.loop-place-init
-loop-place-init g c = fields_first _ _ _ _ _ _ _
+loop-place-init g c = fields_first _ _ _ _ _ _
 
 pub returns-in_err-adds_none-clause-puts : goal.returns-in_err-adds_none-clause-puts
 returns-in_err-adds_none-clause-puts g c =
     let puts = c.in_err-adds_none.ensures.puts in
-    puts_stop _ _ _ _ _ _ c.from_residual.result c.from_residual.ensures.1 (fields_stop c.loop-place.invariant puts.1 puts.2)
+    puts_stop _ _ _ _ c.from_residual.result c.from_residual.ensures.1 (fields_stop c.loop-place.invariant puts.1 puts.2)
 
 pub loop-place-preserved : goal.loop-place-preserved
 loop-place-preserved g c =
