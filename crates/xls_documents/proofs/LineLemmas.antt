@@ -1,47 +1,42 @@
--- Lines that are gathered one after another.
+-- Lines that are put into a writer one after another.
 use Rattle.std.proofs.Common.{◌≡◌, ℕ, List, [], ◌∷◌, ◌++◌, ◌≤◌, length, take, map, refl, ap, ◌∙◌, subst, Result, Ok, Err, Bor}
 use Rattle.std.specs.List.{flat_map}
-use Rattle.std.specs.Prelude.{OnOk}
 use Rattle.std.proofs.lemmas.List.{take_all}
 use Rattle.std.specs.Result.{IsErrAnd}
 use Rattle.xls_decimals.specs.Added.{AddsText}
 use Rattle.xls_lines.specs.SinkState.{SinkState}
-use Rattle.xls_lines.specs.Gathering.{Puts}
+use Rattle.xls_lines.specs.Output.{Output, Puts}
 use Rattle.xls_lines.specs.declared.stop.Stop.{Stop}
 use Rattle.xls_lines.specs.declared.stop.Stop.TheVariants.{Memory}
 use Rattle.xls_readable.specs.Items.{NamedItem, named_of, text, count}
 use Rattle.xls_readable.specs.declared.items.Member.{Member}
 use Rattle.xls_documents.specs.Lines.{Line}
-use Rattle.xls_pieces.specs.Each.{DeliversEach, GathersEach, PutsEach}
-use Rattle.xls_pieces.proofs.EachLemmas.{each-memory, each-one, each-one-stopped, each-stops-then, each-then, each-unwritten, each-wrote, puts-each-stop}
+use Rattle.xls_pieces.specs.Each.{GathersEach, PutsEach}
+use Rattle.xls_pieces.proofs.EachLemmas.{each-memory, each-one, each-one-stopped, each-stops-then, each-then, puts-each-stop}
 
 -- the text of an item was appended, and then what was gathered was passed on
-pub puts-one : {A X : Type 0} (P : A → List ℕ → Type 0) (x : A) (a : SinkState) (g h : List ℕ) (b : SinkState) (k : List ℕ) (r : Result X Stop)
-    → AddsText (P x) g h → Puts a h b k [] r → PutsEach P (x ∷ []) a g b k r
-puts-one P x a g h b k (Ok _) added p = each-one P x added p
-puts-one P x a g h b k (Err _) added p = each-one-stopped P x added p
+pub puts-one : {A X : Type 0} (P : A → List ℕ → Type 0) (x : A) (w : SinkState) (n : ℕ) (g h : List ℕ) (b : Output) (r : Result X Stop)
+    → AddsText (P x) g h → Puts (record { sink = w; kept = h; lender = n }) b [] r
+    → PutsEach P (x ∷ []) (record { sink = w; kept = g; lender = n }) b r
+puts-one P x w n g h b (Ok _) added p = each-one P x added p
+puts-one P x w n g h b (Err _) added p = each-one-stopped P x added p
 
 -- memory ran out before anything was appended
-pub puts-memory : {A X : Type 0} (P : A → List ℕ → Type 0) (items : List A) (w : SinkState) (g h : List ℕ) (r : Result X Stop)
-    → IsErrAnd r (λ d. d ≡ Memory) → PutsEach P items w g w h r
-puts-memory P items w g h r is = puts-each-stop h r is (each-memory P items w g)
+pub puts-memory : {A X : Type 0} (P : A → List ℕ → Type 0) (items : List A) (w : SinkState) (n : ℕ) (g h : List ℕ) (r : Result X Stop)
+    → IsErrAnd r (λ d. d ≡ Memory)
+    → PutsEach P items (record { sink = w; kept = g; lender = n }) (record { sink = w; kept = h; lender = n }) r
+puts-memory P items w n g h r is = puts-each-stop r is (each-memory P items)
 
 -- some items after others
-pub puts-then : {A X : Type 0} (P : A → List ℕ → Type 0) (xs ys : List A) {a b : SinkState} {g h : List ℕ} (c : SinkState) (k : List ℕ) (r : Result X Stop)
-    → GathersEach P xs a g b h → PutsEach P ys b h c k r → PutsEach P (xs ++ ys) a g c k r
-puts-then P xs ys c k (Ok _) p q = each-then p q
-puts-then P xs ys c k (Err _) p q = each-stops-then p q
+pub puts-then : {A X : Type 0} (P : A → List ℕ → Type 0) (xs ys : List A) {a b : Output} (c : Output) (r : Result X Stop)
+    → GathersEach P xs a b → PutsEach P ys b c r → PutsEach P (xs ++ ys) a c r
+puts-then P xs ys c (Ok _) p q = each-then p q
+puts-then P xs ys c (Err _) p q = each-stops-then p q
 
 -- the same items, spelled otherwise
-pub puts-as : {A X : Type 0} (P : A → List ℕ → Type 0) {xs ys : List A} (a : SinkState) (g : List ℕ) (b : SinkState) (h : List ℕ) (r : Result X Stop)
-    → xs ≡ ys → PutsEach P xs a g b h r → PutsEach P ys a g b h r
-puts-as P a g b h r e p = subst (λ (l : List _). PutsEach P l a g b h r) e p
-
--- where nothing was kept before, and then all that is kept is written
-pub delivers : {A X : Type 0} (P : A → List ℕ → Type 0) (items : List A) {a b : SinkState} {g h : List ℕ} (c : SinkState) (k : List ℕ) (r : Result X Stop)
-    → g ≡ [] → GathersEach P items a g b h → Puts b h c k [] r → OnOk r (k ≡ []) → DeliversEach P items a c r
-delivers P items c k (Ok _) none p last end = each-wrote none p last end
-delivers P items c k (Err _) none p last end = each-unwritten none p last
+pub puts-as : {A X : Type 0} (P : A → List ℕ → Type 0) {xs ys : List A} (a b : Output) (r : Result X Stop)
+    → xs ≡ ys → PutsEach P xs a b r → PutsEach P ys a b r
+puts-as P a b r e p = subst (λ (l : List _). PutsEach P l a b r) e p
 
 -- ---- fields of a line
 

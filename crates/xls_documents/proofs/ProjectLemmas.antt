@@ -2,6 +2,7 @@
 use Rattle.std.proofs.Common.{◌≡◌, ℕ, List, [], refl, inl, inr, Result, Ok, Err}
 use Rattle.std.specs.Result.{IsErrAnd}
 use Rattle.xls_lines.specs.SinkState.{SinkState}
+use Rattle.xls_lines.specs.Output.{Output}
 use Rattle.xls_lines.specs.declared.stop.Stop.{Stop}
 use Rattle.xls_lines.specs.declared.stop.Stop.TheVariants.{Memory}
 use Rattle.xls_pieces.specs.Each.{DeliversEach}
@@ -26,4 +27,5 @@ pub project_memory : {X : Type 0} (form : Form) (project : Project) (state : Sin
     → IsErrAnd r (λ e. e ≡ Memory) → DeliversProject form project state state r
 project_memory {X} form project state (Ok x) none = absurd none
 project_memory {X} form project state (Err e) is =
-    ([], inr refl, delivers-each-stop {X = X} (Err e) is (each-memory (IsLineText form) [] state []))
+    let unused : Output = record { sink = state; kept = []; lender = 0 } in
+    ([], inr refl, delivers-each-stop {X = X} {a = unused} {b = unused} (Err e) is refl (each-memory (IsLineText form) []))

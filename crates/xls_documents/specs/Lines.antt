@@ -1,13 +1,11 @@
 -- Lines of a word and fields, and what becomes of them.
 use Rattle.std.specs.Prelude.{ℕ, List, Result}
-use Rattle.std.specs.String.{string_bytes}
-use Rattle.xls_lines.specs.SinkState.{SinkState}
+use Rattle.xls_lines.specs.Output.{Output}
 use Rattle.xls_lines.specs.declared.stop.Stop.{Stop}
 use Rattle.xls_readable.specs.Items.{NamedItem}
 use Rattle.xls_readable.specs.Lines.{IsLine}
 use Rattle.xls_readable.specs.declared.forms.Form.{Form}
 use Rattle.xls_pieces.specs.Each.{PutsEach}
-use Rattle.xls_pieces.specs.declared.pieces.Pieces.{Pieces}
 
 -- a word, and fields by their names
 abbrev pub Line : Type 0
@@ -20,6 +18,5 @@ IsLineText form line out = IsLine form line.0 line.1 out
 -- ---- for the contracts of one step
 
 -- these lines were gathered; or, where it was given up, a prefix of those of the first so many was written
-abbrev pub PutsLines : {X : Type 0} → Form → List Line → SinkState → Pieces → SinkState → Pieces → Result X Stop → Type 0
-PutsLines form lines before pieces after pieces' result =
-    PutsEach (IsLineText form) lines before (string_bytes pieces.text) after (string_bytes pieces'.text) result
+abbrev pub PutsLines : {X : Type 0} → Form → List Line → Output → Output → Result X Stop → Type 0
+PutsLines form lines before after result = PutsEach (IsLineText form) lines before after result

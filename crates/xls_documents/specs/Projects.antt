@@ -52,7 +52,7 @@ WroteProject form project before after =
 -- a prefix of them was written; or of none, where memory ran out before the first
 abbrev pub StopsProject : Form → Project → SinkState → SinkState → Stop → Type 0
 StopsProject form project before after e =
-    (lines : List Line) × (AreProjectLines project lines ⊎ (lines ≡ [])) × StopsEach (IsLineText form) lines before [] after e
+    (lines : List Line) × (AreProjectLines project lines ⊎ (lines ≡ [])) × StopsEach (IsLineText form) lines before after e
 
 abbrev pub DeliversProject : {X : Type 0} → Form → Project → SinkState → SinkState → Result X Stop → Type 0
 DeliversProject form project before after result =

@@ -1,13 +1,11 @@
 -- The lines of a compound file's streams.
 use Rattle.std.specs.Prelude.{◌≡◌, ℕ, List, [], ◌∷◌, codes, Bool, true, false, Result}
 use Rattle.std.specs.List.{join_by}
-use Rattle.std.specs.String.{string_bytes}
 use Rattle.xls_directory.specs.Items.{Item, IsPath}
 use Rattle.xls_compound.specs.Entries.{Entry, IsItem}
-use Rattle.xls_lines.specs.SinkState.{SinkState}
+use Rattle.xls_lines.specs.Output.{Output}
 use Rattle.xls_lines.specs.declared.stop.Stop.{Stop}
 use Rattle.xls_pieces.specs.Each.{PutsEach}
-use Rattle.xls_pieces.specs.declared.pieces.Pieces.{Pieces}
 use Rattle.xls_readable.specs.Items.{NamedItem, text, count}
 use Rattle.xls_readable.specs.Lines.{IsLine}
 use Rattle.xls_readable.specs.declared.forms.Form.{Form}
@@ -36,6 +34,5 @@ abbrev pub IsStream : Entry → Type 0
 IsStream entry = (item : Item) → IsItem entry item → item.is_stream ≡ true
 
 -- the texts of these entries were gathered; or, where it was given up, a prefix of those of the first so many was written
-abbrev pub PutsEntries : {X : Type 0} → Form → List Entry → SinkState → Pieces → SinkState → Pieces → Result X Stop → Type 0
-PutsEntries form entries before pieces after pieces' result =
-    PutsEach (IsEntryText form) entries before (string_bytes pieces.text) after (string_bytes pieces'.text) result
+abbrev pub PutsEntries : {X : Type 0} → Form → List Entry → Output → Output → Result X Stop → Type 0
+PutsEntries form entries before after result = PutsEach (IsEntryText form) entries before after result

@@ -2,11 +2,12 @@
 
 ghost use Rattle.std.specs.Prelude.{◌≡◌, ◌∷◌, [], map};
 ghost use Rattle.xls_documents.specs.Lines.{PutsLines};
+ghost use Rattle.xls_pieces.specs.Each.{pieces_output};
 ghost use Rattle.xls_readable.specs.Items as items;
 ghost use Rattle.xls_readable.specs.Items.{named_of};
 
-use xls_lines::{Sink, Stop};
-use xls_pieces::Pieces;
+use xls_lines::{Sink, Stop, Writer};
+use xls_pieces::{Pieces, pass};
 use xls_readable::{Field, Form, Member, push_line};
 
 /// A text under a name.
@@ -32,14 +33,14 @@ pub(crate) fn count_member<'a>(name: &'a str, n: u64) -> Member<'a>
 /// Puts a line.
 pub(crate) fn put_line<K: Sink>(
     form: Form,
-    pieces: &mut Pieces,
-    sink: &mut K,
+    out: &mut Writer<'_, K, Pieces>,
     word: &str,
     members: &[Member<'_>],
 ) -> Result<(), Stop>
     ensures { PutsLines form ((word.now, map named_of members.now) ∷ [])
-        (K.state sink.old) pieces.old (K.state sink.new) pieces.new result }
+        (pieces_output K.state out.old) (pieces_output K.state out.new) result }
 {
+    let pieces = &mut *out.buffer;
     push_line(form, word, members, &mut pieces.room, &mut pieces.text)?;
-    pieces.pass(sink)
+    pass(out)
 }

@@ -6,42 +6,41 @@ ghost use Rattle.std.specs.List.{flat_map};
 ghost use Rattle.std.specs.String.{string_bytes, string_cmp};
 ghost use Rattle.xls_documents.specs.Lines.{IsLineText, PutsLines};
 ghost use Rattle.xls_documents.specs.Properties.{property_line, custom_lines, displayed_field, known_lines, property_lines};
-ghost use Rattle.xls_pieces.specs.Each.{DeliversEach};
+ghost use Rattle.xls_pieces.specs.Each.{DeliversEach, pieces_output};
 
 use std::alloc::Global;
 use std::collections::btree_map::Iter;
-use xls_lines::{Sink, Stop};
-use xls_pieces::Pieces;
+use xls_lines::{Sink, Stop, Writer};
+use xls_pieces::{Pieces, finish, pass};
 use xls_props::WorkbookProperties;
 use xls_readable::{Form, Property, push_custom, push_property};
 
 // Puts the line of a property.
 fn put_text<K: Sink>(
     form: Form,
-    pieces: &mut Pieces,
-    sink: &mut K,
+    out: &mut Writer<'_, K, Pieces>,
     property: Property,
     text: &str,
 ) -> Result<(), Stop>
     ensures { PutsLines form (property_line property text.now ∷ [])
-        (K.state sink.old) pieces.old (K.state sink.new) pieces.new result }
+        (pieces_output K.state out.old) (pieces_output K.state out.new) result }
 {
+    let pieces = &mut *out.buffer;
     push_property(form, property, text, &mut pieces.room, &mut pieces.text)?;
-    pieces.pass(sink)
+    pass(out)
 }
 
 // Puts the line of a property, if it is there.
 fn put_property<K: Sink>(
     form: Form,
-    pieces: &mut Pieces,
-    sink: &mut K,
+    out: &mut Writer<'_, K, Pieces>,
     field: (Property, &Option<String>),
 ) -> Result<(), Stop>
     ensures { PutsLines form (displayed_field field.entry)
-        (K.state sink.old) pieces.old (K.state sink.new) pieces.new result }
+        (pieces_output K.state out.old) (pieces_output K.state out.new) result }
 {
     match field.1 {
-        Some(text) => put_text(form, pieces, sink, field.0, text.as_str()),
+        Some(text) => put_text(form, out, field.0, text.as_str()),
         None => Ok(()),
     }
 }
@@ -49,15 +48,14 @@ fn put_property<K: Sink>(
 // Puts the lines of those that are there.
 fn put_fields<K: Sink>(
     form: Form,
-    pieces: &mut Pieces,
-    sink: &mut K,
+    out: &mut Writer<'_, K, Pieces>,
     fields: &[(Property, &Option<String>)],
 ) -> Result<(), Stop>
     ensures { PutsLines form (flat_map displayed_field fields.now)
-        (K.state sink.old) pieces.old (K.state sink.new) pieces.new result }
+        (pieces_output K.state out.old) (pieces_output K.state out.new) result }
 {
     for field in fields {
-        put_property(form, pieces, sink, *field)?;
+        put_property(form, out, *field)?;
     }
     Ok(())
 }
@@ -65,12 +63,11 @@ fn put_fields<K: Sink>(
 // Puts the lines of the properties that have names of their own, in their order.
 fn put_known<K: Sink>(
     form: Form,
-    pieces: &mut Pieces,
-    sink: &mut K,
+    out: &mut Writer<'_, K, Pieces>,
     properties: &WorkbookProperties,
 ) -> Result<(), Stop>
     ensures { PutsLines form (known_lines properties.now)
-        (K.state sink.old) pieces.old (K.state sink.new) pieces.new result }
+        (pieces_output K.state out.old) (pieces_output K.state out.new) result }
 {
     let fields = [
         (Property::Title, &properties.title),
@@ -91,20 +88,20 @@ fn put_known<K: Sink>(
         (Property::Version, &properties.version),
         (Property::AppVersion, &properties.app_version),
     ];
-    put_fields(form, pieces, sink, &fields)
+    put_fields(form, out, &fields)
 }
 
 // Puts the line of a custom property.
 fn put_custom<K: Sink>(
     form: Form,
-    pieces: &mut Pieces,
-    sink: &mut K,
+    out: &mut Writer<'_, K, Pieces>,
     name: &String,
     value: &String,
 ) -> Result<(), Stop>
     ensures { PutsLines form (custom_lines (name.now, value.now))
-        (K.state sink.old) pieces.old (K.state sink.new) pieces.new result }
+        (pieces_output K.state out.old) (pieces_output K.state out.new) result }
 {
+    let pieces = &mut *out.buffer;
     push_custom(
         form,
         name.as_str(),
@@ -112,21 +109,20 @@ fn put_custom<K: Sink>(
         &mut pieces.room,
         &mut pieces.text,
     )?;
-    pieces.pass(sink)
+    pass(out)
 }
 
 // Puts the lines of custom properties.
 fn put_customs<K: Sink>(
     form: Form,
-    pieces: &mut Pieces,
-    sink: &mut K,
+    out: &mut Writer<'_, K, Pieces>,
     customs: Iter<'_, String, String>,
 ) -> Result<(), Stop>
     ensures { PutsLines form (flat_map custom_lines customs.entry)
-        (K.state sink.old) pieces.old (K.state sink.new) pieces.new result }
+        (pieces_output K.state out.old) (pieces_output K.state out.new) result }
 {
     for (name, value) in customs {
-        put_custom(form, pieces, sink, name, value)?;
+        put_custom(form, out, name, value)?;
     }
     Ok(())
 }
@@ -134,17 +130,16 @@ fn put_customs<K: Sink>(
 // Puts the lines of the properties with names of their own, and then of the custom ones.
 fn put_properties<K: Sink>(
     form: Form,
-    pieces: &mut Pieces,
-    sink: &mut K,
+    out: &mut Writer<'_, K, Pieces>,
     properties: &WorkbookProperties,
 ) -> Result<(), Stop>
     ensures puts { PutsLines form (property_lines properties.now)
-        (K.state sink.old) pieces.old (K.state sink.new) pieces.new result }
+        (pieces_output K.state out.old) (pieces_output K.state out.new) result }
     ensures ordered { IsOrdered string_cmp properties.now.custom_properties }
 {
     let customs = properties.custom_properties.iter();
-    put_known(form, pieces, sink, properties)?;
-    put_customs(form, pieces, sink, customs)
+    put_known(form, out, properties)?;
+    put_customs(form, out, customs)
 }
 
 /// Writes the properties of a workbook: a line for each that is there, in the order of `Property`, and then a
@@ -161,6 +156,7 @@ pub fn write_properties<K: Sink>(
     ensures ordered { IsOrdered string_cmp properties.now.custom_properties }
 {
     let mut pieces = Pieces::new(alloc);
-    put_properties(form, &mut pieces, sink, properties)?;
-    pieces.finish(sink)
+    let mut out = Writer::new(&mut pieces, sink);
+    put_properties(form, &mut out, properties)?;
+    finish(&mut out)
 }

@@ -3,47 +3,46 @@
 ghost use Rattle.std.specs.Prelude.{◌≡◌, ◌∷◌, []};
 ghost use Rattle.xls_compound.specs.Entries.{entries_from};
 ghost use Rattle.xls_documents.specs.Streams.{IsEntryText, IsStream, PutsEntries};
-ghost use Rattle.xls_pieces.specs.Each.{DeliversEach};
+ghost use Rattle.xls_pieces.specs.Each.{DeliversEach, pieces_output};
 
 use crate::line::{count_member, text_member};
 use std::alloc::Global;
 use xls_compound::{Compound, Entries, Entry};
-use xls_lines::{Sink, Stop};
-use xls_pieces::Pieces;
+use xls_lines::{Sink, Stop, Writer};
+use xls_pieces::{Pieces, finish, pass};
 use xls_readable::{Form, push_line};
 
 // Puts the line of a stream.
 fn put_stream<K: Sink>(
     form: Form,
     alloc: Global,
-    pieces: &mut Pieces,
-    sink: &mut K,
+    out: &mut Writer<'_, K, Pieces>,
     entry: &Entry<'_>,
 ) -> Result<(), Stop>
     requires { IsStream entry.now }
-    ensures { PutsEntries form (entry.now ∷ []) (K.state sink.old) pieces.old (K.state sink.new) pieces.new result }
+    ensures { PutsEntries form (entry.now ∷ []) (pieces_output K.state out.old) (pieces_output K.state out.new) result }
 {
     let path = entry.path(alloc)?.join(alloc, "/")?;
     let members = [
         count_member("size", entry.size()),
         text_member("path", path.as_str()),
     ];
+    let pieces = &mut *out.buffer;
     push_line(form, "stream", &members, &mut pieces.room, &mut pieces.text)?;
-    pieces.pass(sink)
+    pass(out)
 }
 
 // Puts the line of an entry, if it is a stream.
 fn put_entry<K: Sink>(
     form: Form,
     alloc: Global,
-    pieces: &mut Pieces,
-    sink: &mut K,
+    out: &mut Writer<'_, K, Pieces>,
     entry: &Entry<'_>,
 ) -> Result<(), Stop>
-    ensures { PutsEntries form (entry.now ∷ []) (K.state sink.old) pieces.old (K.state sink.new) pieces.new result }
+    ensures { PutsEntries form (entry.now ∷ []) (pieces_output K.state out.old) (pieces_output K.state out.new) result }
 {
     if entry.is_stream() {
-        return put_stream(form, alloc, pieces, sink, entry);
+        return put_stream(form, alloc, out, entry);
     }
     Ok(())
 }
@@ -52,14 +51,13 @@ fn put_entry<K: Sink>(
 fn put_entries<K: Sink>(
     form: Form,
     alloc: Global,
-    pieces: &mut Pieces,
-    sink: &mut K,
+    out: &mut Writer<'_, K, Pieces>,
     entries: Entries<'_>,
 ) -> Result<(), Stop>
-    ensures { PutsEntries form entries.entry (K.state sink.old) pieces.old (K.state sink.new) pieces.new result }
+    ensures { PutsEntries form entries.entry (pieces_output K.state out.old) (pieces_output K.state out.new) result }
 {
     for entry in entries {
-        put_entry(form, alloc, pieces, sink, &entry)?;
+        put_entry(form, alloc, out, &entry)?;
     }
     Ok(())
 }
@@ -77,6 +75,7 @@ pub fn write_streams<K: Sink>(
         (K.state sink.old) (K.state sink.new) result }
 {
     let mut pieces = Pieces::new(alloc);
-    put_entries(form, alloc, &mut pieces, sink, compound.streams())?;
-    pieces.finish(sink)
+    let mut out = Writer::new(&mut pieces, sink);
+    put_entries(form, alloc, &mut out, compound.streams())?;
+    finish(&mut out)
 }

@@ -5,6 +5,7 @@ use Rattle.std.specs.List.{flat_map}
 use Rattle.std.proofs.lemmas.List.{take_more}
 use Rattle.std.proofs.lemmas.Grind.{flat_map-append}
 use Rattle.std.specs.Result.{IsErrAnd}
+use Rattle.std.specs.String.{string_bytes}
 use Rattle.xls_decimals.specs.Added.{AddsText}
 use Rattle.xls_readable.specs.Values.{Concatenates}
 use Rattle.xls_lines.specs.SinkState.{SinkState}
@@ -14,6 +15,7 @@ use Rattle.xls_lines.specs.declared.stop.Stop.TheVariants.{Memory}
 use Rattle.xls_lines.proofs.GatherLemmas.{stops-from}
 use Rattle.xls_lines.proofs.OutputLemmas.{gathers-added, gathers-after, gathers-nothing, gathers-then, stops-after, stops-memory-now, stops-then, wrote}
 use Rattle.xls_pieces.specs.Each.{GathersEach, GivesUpEach, PutsEach, StopsEach, WroteEach, DeliversEach}
+use Rattle.xls_pieces.specs.declared.pieces.Pieces.{Pieces}
 
 -- ---- texts one after another
 
@@ -210,7 +212,10 @@ pub delivers-each : {A X : Type 0} {P : A → List ℕ → Type 0} {items : List
 delivers-each c (Ok _) none p last end = each-wrote none p last end
 delivers-each c (Err _) none p last end = each-unwritten none p last
 
--- ---- at the end of a writer, when its sink goes back to the lender
+-- ---- from the pieces that a writer is made of to the lender of its sink
+
+pub kept-none : {p q : Pieces} → p ≡ q → string_bytes q.text ≡ [] → string_bytes p.text ≡ []
+kept-none e none = ap (λ (p : Pieces). string_bytes p.text) e ∙ none
 
 pub delivers-each-back : {A X K : Type 0} (state : K → SinkState) {x x' y y' : K} (P : A → List ℕ → Type 0) (items : List A) (r : Result X Stop)
     → x' ≡ x → y' ≡ y → DeliversEach P items (state x') (state y') r → DeliversEach P items (state x) (state y) r

@@ -5,7 +5,7 @@ use Rattle.xls_documents.proofs.LineLemmas.{puts-memory, puts-one}
 use Rattle.xls_documents.proofs.line.put_line.Goals as goal
 
 pub returns-in_err-push_line : goal.returns-in_err-push_line
-returns-in_err-push_line g c = puts-memory (IsLineText c.args.form) _ _ _ _ c.from_residual.result c.from_residual.ensures.1
+returns-in_err-push_line g c = puts-memory (IsLineText c.args.form) _ _ _ _ _ c.from_residual.result c.from_residual.ensures.1
 
 pub returns : goal.returns
 returns g c =

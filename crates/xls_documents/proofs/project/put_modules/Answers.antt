@@ -6,12 +6,12 @@ use Rattle.xls_pieces.proofs.EachLemmas.{each-as, each-item, each-item-stopped, 
 use Rattle.xls_documents.proofs.project.put_modules.Goals as goal
 
 pub loop-name-init : goal.loop-name-init
-loop-name-init g c = each-none (IsLineText c.args.form) _ _
+loop-name-init g c = each-none (IsLineText c.args.form) _
 
 pub returns-in_err-put_named : goal.returns-in_err-put_named
 returns-in_err-put_named g c =
     let lines = named_lines c.args.project.now.modules in
-    puts-each-stop _ c.from_residual.result c.from_residual.ensures.1
+    puts-each-stop c.from_residual.result c.from_residual.ensures.1
     (each-stops-as (each-item-stopped (λ name. lines name.now) c.args.names.now c.loop-name.name-index _ c.loop-name-test.true
     c.loop-name.invariant c.in_err-put_named.ensures) (lent_lines lines c.args.names.now))
 

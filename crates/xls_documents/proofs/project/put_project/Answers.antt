@@ -7,10 +7,10 @@ use Rattle.xls_documents.proofs.project.put_project.Goals as goal
 
 pub returns-in_err-put_references : goal.returns-in_err-put_references
 returns-in_err-put_references g c =
-    puts-each-stop _ c.from_residual.result c.from_residual.ensures.1
+    puts-each-stop c.from_residual.result c.from_residual.ensures.1
     (each-stops-more _ (each-stops-as c.in_err-put_references.ensures (ap (map reference_line) c.get_references.ensures)))
 
 pub returns : goal.returns
 returns g c =
-    puts-then (IsLineText c.args.form) (map reference_line c.args.project.now.references) _ _ _ c.put_modules.result
+    puts-then (IsLineText c.args.form) (map reference_line c.args.project.now.references) _ _ c.put_modules.result
     (each-as c.in_ok-put_references.ensures (ap (map reference_line) c.get_references.ensures)) c.put_modules.ensures

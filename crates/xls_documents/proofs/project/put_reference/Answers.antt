@@ -9,4 +9,4 @@ returns g c =
     (c.text_member.ensures ∙ displayed (codes "name") c.as_str.ensures.value)
     (c.text_member-2.ensures ∙ displayed (codes "description") c.as_str-2.ensures.value)
     (c.text_member-3.ensures ∙ displayed (codes "path") c.as_str-3.ensures.value) in
-    puts-as (IsLineText c.args.form) _ _ _ _ c.put_line.result fields c.put_line.ensures
+    puts-as (IsLineText c.args.form) _ _ c.put_line.result fields c.put_line.ensures

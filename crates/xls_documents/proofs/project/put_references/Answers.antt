@@ -7,11 +7,11 @@ use Rattle.xls_pieces.proofs.EachLemmas.{each-as, each-item, each-item-stopped, 
 use Rattle.xls_documents.proofs.project.put_references.Goals as goal
 
 pub loop-reference-init : goal.loop-reference-init
-loop-reference-init g c = each-none (IsLineText c.args.form) _ _
+loop-reference-init g c = each-none (IsLineText c.args.form) _
 
 pub returns-in_err-put_reference : goal.returns-in_err-put_reference
 returns-in_err-put_reference g c =
-    puts-each-stop _ c.from_residual.result c.from_residual.ensures.1
+    puts-each-stop c.from_residual.result c.from_residual.ensures.1
     (each-stops-as (each-item-stopped (λ r. reference_line (reference_view r) ∷ []) c.args.references.now
     c.loop-reference.reference-index _ c.loop-reference-test.true c.loop-reference.invariant (rw c.reference-item.is at c.in_err-put_reference.ensures))
     (single_lines reference_line reference_view c.args.references.now))

@@ -1,8 +1,7 @@
 use Rattle.std.proofs.Common.{take, ◌∷◌, []}
 use Rattle.std.specs.List.{flat_map}
-use Rattle.std.specs.String.{string_bytes}
 use Rattle.xls_vba.specs.References.{reference_view}
-use Rattle.xls_pieces.specs.Each.{GathersEach}
+use Rattle.xls_pieces.specs.Each.{GathersEach, pieces_output}
 use Rattle.xls_documents.specs.Lines.{IsLineText}
 use Rattle.xls_documents.specs.Projects.{reference_line}
 use Rattle.xls_documents.proofs.project.put_references.Given as goal
@@ -10,6 +9,5 @@ use Rattle.xls_documents.proofs.project.put_references.Given as goal
 -- the lines of the references so far are put
 abbrev pub invariant-loop-reference : goal.invariant-loop-reference
 invariant-loop-reference g l =
-    let sink = g.K.Sink in
     GathersEach (IsLineText l.form) (flat_map (λ r. reference_line (reference_view r) ∷ []) (take l.reference-index l.references))
-    (sink.state l.fn.sink) (string_bytes l.fn.pieces.text) (sink.state l.sink) (string_bytes l.pieces.text)
+    (pieces_output g.K.Sink.state l.fn.out) (pieces_output g.K.Sink.state l.out)

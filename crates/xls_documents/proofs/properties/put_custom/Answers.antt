@@ -6,7 +6,7 @@ use Rattle.xls_documents.proofs.LineLemmas.{puts-memory, puts-one}
 use Rattle.xls_documents.proofs.properties.put_custom.Goals as goal
 
 pub returns-in_err-push_custom : goal.returns-in_err-push_custom
-returns-in_err-push_custom g c = puts-memory (IsLineText c.args.form) _ _ _ _ c.from_residual.result c.from_residual.ensures.1
+returns-in_err-push_custom g c = puts-memory (IsLineText c.args.form) _ _ _ _ _ c.from_residual.result c.from_residual.ensures.1
 
 pub returns : goal.returns
 returns g c =

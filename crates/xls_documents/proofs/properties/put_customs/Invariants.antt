@@ -1,4 +1,4 @@
-use Rattle.std.specs.String.{string_bytes}
+use Rattle.xls_pieces.specs.Each.{pieces_output}
 use Rattle.xls_pieces.proofs.EachLemmas.{EachSome}
 use Rattle.xls_documents.specs.Lines.{IsLineText}
 use Rattle.xls_documents.specs.Properties.{custom_lines}
@@ -7,8 +7,7 @@ use Rattle.xls_documents.proofs.properties.put_customs.Given as goal
 -- the lines of some custom properties are put, and the others are left
 abbrev pub invariant-loop-name : goal.invariant-loop-name
 invariant-loop-name g l =
-    let sink = g.K.Sink in
     (goal.iterator-loop-name g).can_next l.name-iterator ×
     (goal.iterator-loop-name g).is_finite l.name-iterator ×
     EachSome (IsLineText l.form) custom_lines l.fn.customs l.name-iterator
-    (sink.state l.fn.sink) (string_bytes l.fn.pieces.text) (sink.state l.sink) (string_bytes l.pieces.text)
+    (pieces_output g.K.Sink.state l.fn.out) (pieces_output g.K.Sink.state l.out)

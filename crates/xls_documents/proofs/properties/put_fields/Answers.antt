@@ -4,11 +4,11 @@ use Rattle.xls_pieces.proofs.EachLemmas.{each-item, each-item-stopped, each-none
 use Rattle.xls_documents.proofs.properties.put_fields.Goals as goal
 
 pub loop-field-init : goal.loop-field-init
-loop-field-init g c = each-none (IsLineText c.args.form) _ _
+loop-field-init g c = each-none (IsLineText c.args.form) _
 
 pub returns-in_err-put_property : goal.returns-in_err-put_property
 returns-in_err-put_property g c =
-    puts-each-stop _ c.from_residual.result c.from_residual.ensures.1
+    puts-each-stop c.from_residual.result c.from_residual.ensures.1
     (each-item-stopped displayed_field c.args.fields.now c.loop-field.field-index _ c.loop-field-test.true
     c.loop-field.invariant (rw c.field-item.is at c.in_err-put_property.ensures))
 

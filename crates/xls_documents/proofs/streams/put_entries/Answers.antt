@@ -6,7 +6,7 @@ use Rattle.xls_documents.proofs.streams.put_entries.Goals as goal
 
 pub loop-entry-init : goal.loop-entry-init
 loop-entry-init g c =
-    (tt, tt, each-some-first (IsEntryText c.args.form) (λ entry. entry ∷ []) _ _ _ _ c.into_iter-entry-iterator.ensures.into_iter_gives)
+    (tt, tt, each-some-first (IsEntryText c.args.form) (λ entry. entry ∷ []) _ _ _ c.into_iter-entry-iterator.ensures.into_iter_gives)
 
 pub loop-entry-preserved : goal.loop-entry-preserved
 loop-entry-preserved g c =
@@ -14,7 +14,7 @@ loop-entry-preserved g c =
 
 pub returns-in_err-put_entry : goal.returns-in_err-put_entry
 returns-in_err-put_entry g c =
-    puts-each-stop _ c.from_residual.result c.from_residual.ensures.1
+    puts-each-stop c.from_residual.result c.from_residual.ensures.1
     (each-stops-as (each-some-stopped (λ entry. entry ∷ []) c.loop-entry.invariant.2 c.in-Some.ensures.steps c.in_err-put_entry.ensures)
     (each_itself c.args.entries))
 

@@ -7,17 +7,17 @@ use Rattle.xls_documents.proofs.LineLemmas.{puts-memory, puts-one, displayed, tw
 use Rattle.xls_documents.proofs.streams.put_stream.Goals as goal
 
 pub returns-in_err-path : goal.returns-in_err-path
-returns-in_err-path g c = puts-memory (IsEntryText c.args.form) _ _ _ _ c.from_residual.result c.from_residual.ensures.1
+returns-in_err-path g c = puts-memory (IsEntryText c.args.form) _ _ _ _ _ c.from_residual.result c.from_residual.ensures.1
 
 pub returns-in_err-path-2 : goal.returns-in_err-path-2
 returns-in_err-path-2 g c =
     let a = c.from_residual-in_err-path-2 in
-    puts-memory (IsEntryText c.args.form) _ _ _ _ a.result a.ensures.1
+    puts-memory (IsEntryText c.args.form) _ _ _ _ _ a.result a.ensures.1
 
 pub returns-in_err-push_line : goal.returns-in_err-push_line
 returns-in_err-push_line g c =
     let a = c.from_residual-in_err-push_line in
-    puts-memory (IsEntryText c.args.form) _ _ _ _ a.result a.ensures.1
+    puts-memory (IsEntryText c.args.form) _ _ _ _ _ a.result a.ensures.1
 
 pub returns : goal.returns
 returns g c =
