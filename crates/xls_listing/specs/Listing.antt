@@ -1,7 +1,6 @@
 -- The lines of what a workbook shows, as people read them. Texts stand in UTF-8.
 use Rattle.std.specs.Prelude.{ℕ, Bool, List, [], ◌∷◌, ◌++◌, map, codes, Option, Some, None, Result, slice_get, unwrap_or, encode_utf8_all}
 use Rattle.std.specs.List.{flat_map}
-use Rattle.std.specs.String.{string_bytes}
 use Rattle.xls_data.specs.Content.{Content, int, float, text, truth, date, iso_date, iso_duration, failure, nothing}
 use Rattle.xls_data.specs.Sheets.{SheetContent}
 use Rattle.xls_data.specs.declared.regions.Dimensions.{Dimensions}
@@ -10,14 +9,13 @@ use Rattle.xls_biff.specs.Cells.{CellEntry}
 use Rattle.xls_meaning.specs.Reading.{SheetView, BookView}
 use Rattle.xls_meaning.specs.SheetTable.{FormulaEntry, nonempty_formulas}
 use Rattle.xls_refs.specs.Cited.{BookCitation, BookCited}
-use Rattle.xls_lines.specs.SinkState.{SinkState}
+use Rattle.xls_lines.specs.Output.{Output}
 use Rattle.xls_lines.specs.declared.stop.Stop.{Stop}
 use Rattle.xls_readable.specs.Items as item
 use Rattle.xls_readable.specs.Items.{NamedItem}
 use Rattle.xls_readable.specs.Lines.{IsLine, dates_members, name_members, sheet_members, cell_members, moment_kind, formula_members, merge_members, ref_members}
 use Rattle.xls_readable.specs.declared.forms.Form.{Form}
 use Rattle.xls_pieces.specs.Each.{PutsEach}
-use Rattle.xls_pieces.specs.declared.pieces.Pieces.{Pieces}
 
 -- a line by its word and by its fields, each under its name
 pub record Line : Type 0 where
@@ -129,9 +127,8 @@ ref_lines book = map (ref_line book.names) book.cites
 -- ---- for the contracts of one step
 
 -- these lines were gathered; or, where it was given up, a prefix of those of the first so many was written
-abbrev pub PutsLines : {X : Type 0} → Form → List Line → SinkState → Pieces → SinkState → Pieces → Result X Stop → Type 0
-PutsLines form lines before pieces after pieces' result =
-    PutsEach (IsDisplayedLine form) lines before (string_bytes pieces.text) after (string_bytes pieces'.text) result
+abbrev pub PutsLines : {X : Type 0} → Form → List Line → Output → Output → Result X Stop → Type 0
+PutsLines form lines before after result = PutsEach (IsDisplayedLine form) lines before after result
 
 -- the lines of what stands at an index, if there is anything
 abbrev pub displayed_at : {X : Type 0} → (X → List Line) → Option X → List Line

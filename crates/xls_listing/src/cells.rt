@@ -6,61 +6,60 @@ ghost use Rattle.xls_data.specs.Refs.{ref_content_of};
 ghost use Rattle.xls_cursors.specs.Values.{cell_entry};
 ghost use Rattle.xls_cursors.specs.Displayed.{sheet_view_of};
 ghost use Rattle.xls_readable.specs.Lines.{kind_and_item};
+ghost use Rattle.xls_pieces.specs.Each.{pieces_output};
 ghost use Rattle.xls_listing.specs.Listing.{PutsLines, cell_lines, lines_of_cells, valued_lines};
 
 use crate::values::displayed_value;
 use std::alloc::Global;
-use xls_lines::{Sink, Stop};
-use xls_pieces::Pieces;
+use xls_lines::{Sink, Stop, Writer};
+use xls_pieces::{Pieces, pass};
 use xls_readable::{Form, Value, push_cell};
 use xls_view::{Cells, SheetCell, TextBuffer, ViewSheet};
 
 /// Puts the line of a value at a row and a column; a blank has none.
 fn put_value<K: Sink>(
     form: Form,
-    pieces: &mut Pieces,
-    sink: &mut K,
+    out: &mut Writer<'_, K, Pieces>,
     row: u32,
     column: u32,
     value: &Value<'_>,
 ) -> Result<(), Stop>
     ensures { PutsLines form (valued_lines (row, column) (kind_and_item value.now))
-        (K.state sink.old) pieces.old (K.state sink.new) pieces.new result }
+        (pieces_output K.state out.old) (pieces_output K.state out.new) result }
 {
+    let pieces = &mut *out.buffer;
     push_cell(form, row, column, value, &mut pieces.room, &mut pieces.text)?;
-    pieces.pass(sink)
+    pass(out)
 }
 
 /// Puts the line of a cell, whose text is decoded in `text`.
 fn put_cell<K: Sink>(
     form: Form,
-    pieces: &mut Pieces,
-    sink: &mut K,
+    out: &mut Writer<'_, K, Pieces>,
     text: &mut TextBuffer,
     cell: SheetCell<'_>,
 ) -> Result<(), Stop>
     ensures { PutsLines form (cell_lines (cell_entry cell.entry))
-        (K.state sink.old) pieces.old (K.state sink.new) pieces.new result }
+        (pieces_output K.state out.old) (pieces_output K.state out.new) result }
 {
     let SheetCell { row, column, value } = cell;
     let value = text.value_of(value)?;
-    put_value(form, pieces, sink, row, column, &displayed_value(&value))
+    put_value(form, out, row, column, &displayed_value(&value))
 }
 
 /// Puts the lines of a sheet's cells.
 fn put_cells<K: Sink>(
     alloc: Global,
     form: Form,
-    pieces: &mut Pieces,
-    sink: &mut K,
+    out: &mut Writer<'_, K, Pieces>,
     cells: Cells<'_>,
 ) -> Result<(), Stop>
     ensures { PutsLines form (flat_map cell_lines cells.entry)
-        (K.state sink.old) pieces.old (K.state sink.new) pieces.new result }
+        (pieces_output K.state out.old) (pieces_output K.state out.new) result }
 {
     let mut text = TextBuffer::new(alloc);
     for cell in cells {
-        put_cell(form, pieces, sink, &mut text, cell)?;
+        put_cell(form, out, &mut text, cell)?;
     }
     Ok(())
 }
@@ -69,13 +68,12 @@ fn put_cells<K: Sink>(
 pub(crate) fn put_displayed_cells<K: Sink>(
     alloc: Global,
     form: Form,
-    pieces: &mut Pieces,
-    sink: &mut K,
+    out: &mut Writer<'_, K, Pieces>,
     sheet: &ViewSheet<'_>,
 ) -> Result<(), Stop>
     ensures { PutsLines form (lines_of_cells (sheet_view_of sheet.now))
-        (K.state sink.old) pieces.old (K.state sink.new) pieces.new result }
+        (pieces_output K.state out.old) (pieces_output K.state out.new) result }
 {
     let cells = sheet.cells()?;
-    put_cells(alloc, form, pieces, sink, cells.iter())
+    put_cells(alloc, form, out, cells.iter())
 }

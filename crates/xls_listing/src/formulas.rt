@@ -2,87 +2,82 @@
 
 ghost use Rattle.std.specs.Prelude.{◌≡◌, ◌∷◌, [], map, slice_get};
 ghost use Rattle.std.specs.Str.{chars};
-ghost use Rattle.xls_data.specs.Sheets.{sheet_content};
 ghost use Rattle.xls_meaning.specs.SheetTable.{nonempty_formulas};
 ghost use Rattle.xls_cursors.specs.Formulas.{text_entry};
 ghost use Rattle.xls_cursors.specs.Displayed.{sheet_view_of};
 ghost use Rattle.xls_cursors.specs.Walking.{formula_seen};
-ghost use Rattle.xls_listing.specs.Listing.{IsDisplayedLine, PutsLines, each_sheet, formula_line, formula_lines, lines_of_formulas, sheet_line, displayed_at};
-ghost use Rattle.xls_pieces.specs.Each.{DeliversEach};
+ghost use Rattle.xls_listing.specs.Listing.{IsDisplayedLine, PutsLines, each_sheet, formula_line, formula_lines, lines_of_formulas, displayed_at};
+ghost use Rattle.xls_pieces.specs.Each.{DeliversEach, pieces_output};
 
 use crate::sheets::put_sheet;
 use std::alloc::Global;
-use xls_data::Sheet;
-use xls_lines::{Sink, Stop};
-use xls_pieces::Pieces;
+use xls_lines::{Sink, Stop, Writer};
+use xls_pieces::{Pieces, finish, pass};
 use xls_readable::{Form, push_formula_line};
 use xls_view::{FormulaBuffer, FormulaCell, SheetFormulas, View, ViewSheet};
 
 /// Puts the line of a formula.
 fn put_formula<K: Sink>(
     form: Form,
-    pieces: &mut Pieces,
-    sink: &mut K,
+    out: &mut Writer<'_, K, Pieces>,
     row: u32,
     column: u32,
     text: &str,
 ) -> Result<(), Stop>
     ensures { PutsLines form (formula_line ((row, column), chars text.now) ∷ [])
-        (K.state sink.old) pieces.old (K.state sink.new) pieces.new result }
+        (pieces_output K.state out.old) (pieces_output K.state out.new) result }
 {
+    let pieces = &mut *out.buffer;
     push_formula_line(form, row, column, text, &mut pieces.room, &mut pieces.text)?;
-    pieces.pass(sink)
+    pass(out)
 }
 
 /// Puts the line of a formula, unless its text is empty.
 fn put_displayed_formula<K: Sink>(
     form: Form,
-    pieces: &mut Pieces,
-    sink: &mut K,
+    out: &mut Writer<'_, K, Pieces>,
     row: u32,
     column: u32,
     text: &str,
 ) -> Result<(), Stop>
     ensures { PutsLines form (map formula_line (nonempty_formulas (((row, column), chars text.now) ∷ [])))
-        (K.state sink.old) pieces.old (K.state sink.new) pieces.new result }
+        (pieces_output K.state out.old) (pieces_output K.state out.new) result }
 {
     if text.is_empty() {
         return Ok(());
     }
-    put_formula(form, pieces, sink, row, column, text)
+    put_formula(form, out, row, column, text)
 }
 
 /// Puts the line of a formula of a sheet, unless its text is empty.
 fn put_formula_of<K: Sink>(
     form: Form,
-    pieces: &mut Pieces,
-    sink: &mut K,
+    out: &mut Writer<'_, K, Pieces>,
     texts: &mut FormulaBuffer,
     formulas: &SheetFormulas<'_>,
     formula: FormulaCell<'_>,
 ) -> Result<(), Stop>
     ensures { PutsLines form
         (map formula_line (nonempty_formulas (text_entry formulas.now.context (formula_seen formula.entry) ∷ [])))
-        (K.state sink.old) pieces.old (K.state sink.new) pieces.new result }
+        (pieces_output K.state out.old) (pieces_output K.state out.new) result }
 {
     let text = formulas.text_in(texts, formula)?;
-    put_displayed_formula(form, pieces, sink, formula.row, formula.column, text)
+    put_displayed_formula(form, out, formula.row, formula.column, text)
 }
 
 /// Puts the lines of a sheet's formulas.
 fn put_formulas<K: Sink>(
     form: Form,
-    pieces: &mut Pieces,
-    sink: &mut K,
+    out: &mut Writer<'_, K, Pieces>,
     texts: &mut FormulaBuffer,
     formulas: &SheetFormulas<'_>,
 ) -> Result<(), Stop>
     ensures { PutsLines form
         (map formula_line (nonempty_formulas (map (text_entry formulas.now.context) formulas.now.left)))
-        (K.state sink.old) pieces.old (K.state sink.new) pieces.new result }
+        (pieces_output K.state out.old) (pieces_output K.state out.new) result }
 {
     for formula in formulas.iter() {
-        put_formula_of(form, pieces, sink, texts, formulas, formula)?;
+        put_formula_of(form, out, texts, formulas, formula)?;
     }
     Ok(())
 }
@@ -90,68 +85,48 @@ fn put_formulas<K: Sink>(
 /// Puts the lines of the formulas that a sheet shows.
 pub(crate) fn put_displayed_formulas<K: Sink>(
     form: Form,
-    pieces: &mut Pieces,
-    sink: &mut K,
+    out: &mut Writer<'_, K, Pieces>,
     texts: &mut FormulaBuffer,
     sheet: &ViewSheet<'_>,
 ) -> Result<(), Stop>
     ensures { PutsLines form (lines_of_formulas (sheet_view_of sheet.now))
-        (K.state sink.old) pieces.old (K.state sink.new) pieces.new result }
+        (pieces_output K.state out.old) (pieces_output K.state out.new) result }
 {
     let formulas = sheet.formulas()?;
-    put_formulas(form, pieces, sink, texts, &formulas)
+    put_formulas(form, out, texts, &formulas)
 }
 
 /// Puts the lines of the formulas of the sheet at an index.
 fn put_formulas_at<K: Sink>(
     form: Form,
-    pieces: &mut Pieces,
-    sink: &mut K,
+    out: &mut Writer<'_, K, Pieces>,
     texts: &mut FormulaBuffer,
     view: &View<'_>,
     n: usize,
 ) -> Result<(), Stop>
     ensures { PutsLines form (displayed_at lines_of_formulas (slice_get view.now.book.contents n))
-        (K.state sink.old) pieces.old (K.state sink.new) pieces.new result }
+        (pieces_output K.state out.old) (pieces_output K.state out.new) result }
 {
     match view.sheet_at(n) {
-        Some(sheet) => put_displayed_formulas(form, pieces, sink, texts, &sheet),
+        Some(sheet) => put_displayed_formulas(form, out, texts, &sheet),
         None => Ok(()),
     }
-}
-
-/// Puts the line of a sheet, and those of the formulas at its index.
-fn put_sheet_formulas<K: Sink>(
-    form: Form,
-    pieces: &mut Pieces,
-    sink: &mut K,
-    texts: &mut FormulaBuffer,
-    view: &View<'_>,
-    sheet: &Sheet,
-    n: usize,
-) -> Result<(), Stop>
-    ensures { PutsLines form
-        (sheet_line (sheet_content sheet.now) ∷ displayed_at lines_of_formulas (slice_get view.now.book.contents n))
-        (K.state sink.old) pieces.old (K.state sink.new) pieces.new result }
-{
-    put_sheet(form, pieces, sink, sheet)?;
-    put_formulas_at(form, pieces, sink, texts, view, n)
 }
 
 /// Puts the sheets in workbook order, each with its formulas.
 fn put_all_formulas<K: Sink>(
     form: Form,
-    pieces: &mut Pieces,
-    sink: &mut K,
+    out: &mut Writer<'_, K, Pieces>,
     texts: &mut FormulaBuffer,
     view: &View<'_>,
 ) -> Result<(), Stop>
     ensures { PutsLines form (each_sheet lines_of_formulas view.now.book.sheets view.now.book.contents)
-        (K.state sink.old) pieces.old (K.state sink.new) pieces.new result }
+        (pieces_output K.state out.old) (pieces_output K.state out.new) result }
 {
     let sheets = view.sheets();
     for i in 0..sheets.len() {
-        put_sheet_formulas(form, pieces, sink, texts, view, &sheets[i], i)?;
+        put_sheet(form, out, &sheets[i])?;
+        put_formulas_at(form, out, texts, view, i)?;
     }
     Ok(())
 }
@@ -168,7 +143,8 @@ pub fn write_formula_list<K: Sink>(
         (K.state sink.old) (K.state sink.new) result }
 {
     let mut pieces = Pieces::new(alloc);
+    let mut out = Writer::new(&mut pieces, sink);
     let mut texts = FormulaBuffer::new(alloc);
-    put_all_formulas(form, &mut pieces, sink, &mut texts, view)?;
-    pieces.finish(sink)
+    put_all_formulas(form, &mut out, &mut texts, view)?;
+    finish(&mut out)
 }

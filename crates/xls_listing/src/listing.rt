@@ -1,48 +1,46 @@
 //! All that a workbook holds.
 
 ghost use Rattle.std.specs.Prelude.{◌≡◌, ◌∷◌, [], map, slice_get};
-ghost use Rattle.xls_data.specs.Sheets.{sheet_content};
 ghost use Rattle.xls_open.specs.Workbook.{name_texts};
 ghost use Rattle.xls_cursors.specs.Displayed.{sheet_view_of};
-ghost use Rattle.xls_listing.specs.Listing.{IsDisplayedLine, PutsLines, dates_line, dump_lines, each_sheet, lines_of_sheet, name_line, sheet_line, displayed_at};
-ghost use Rattle.xls_pieces.specs.Each.{DeliversEach};
+ghost use Rattle.xls_listing.specs.Listing.{IsDisplayedLine, PutsLines, dates_line, dump_lines, each_sheet, lines_of_sheet, name_line, displayed_at};
+ghost use Rattle.xls_pieces.specs.Each.{DeliversEach, pieces_output};
 
 use crate::cells::put_displayed_cells;
 use crate::formulas::put_displayed_formulas;
 use crate::merges::put_merges;
 use crate::sheets::put_sheet;
 use std::alloc::Global;
-use xls_data::Sheet;
-use xls_lines::{Sink, Stop};
-use xls_pieces::Pieces;
+use xls_lines::{Sink, Stop, Writer};
+use xls_pieces::{Pieces, finish, pass};
 use xls_readable::{Form, push_dates, push_name};
 use xls_view::{FormulaBuffer, View, ViewSheet};
 
 /// Puts the line of the date system.
 fn put_dates<K: Sink>(
     form: Form,
-    pieces: &mut Pieces,
-    sink: &mut K,
+    out: &mut Writer<'_, K, Pieces>,
     is_1904: bool,
 ) -> Result<(), Stop>
     ensures { PutsLines form (dates_line is_1904 ∷ [])
-        (K.state sink.old) pieces.old (K.state sink.new) pieces.new result }
+        (pieces_output K.state out.old) (pieces_output K.state out.new) result }
 {
+    let pieces = &mut *out.buffer;
     push_dates(form, is_1904, &mut pieces.room, &mut pieces.text)?;
-    pieces.pass(sink)
+    pass(out)
 }
 
 /// Puts the line of a defined name.
 fn put_name<K: Sink>(
     form: Form,
-    pieces: &mut Pieces,
-    sink: &mut K,
+    out: &mut Writer<'_, K, Pieces>,
     name: &(String, String),
 ) -> Result<(), Stop>
     ensures { PutsLines form (name_line (name_texts name.now) ∷ [])
-        (K.state sink.old) pieces.old (K.state sink.new) pieces.new result }
+        (pieces_output K.state out.old) (pieces_output K.state out.new) result }
 {
     let (name, text) = name;
+    let pieces = &mut *out.buffer;
     push_name(
         form,
         name.as_str(),
@@ -50,21 +48,20 @@ fn put_name<K: Sink>(
         &mut pieces.room,
         &mut pieces.text,
     )?;
-    pieces.pass(sink)
+    pass(out)
 }
 
 /// Puts the lines of defined names.
 fn put_names<K: Sink>(
     form: Form,
-    pieces: &mut Pieces,
-    sink: &mut K,
+    out: &mut Writer<'_, K, Pieces>,
     names: &[(String, String)],
 ) -> Result<(), Stop>
     ensures { PutsLines form (map (λ n. name_line (name_texts n)) names.now)
-        (K.state sink.old) pieces.old (K.state sink.new) pieces.new result }
+        (pieces_output K.state out.old) (pieces_output K.state out.new) result }
 {
     for name in names {
-        put_name(form, pieces, sink, name)?;
+        put_name(form, out, name)?;
     }
     Ok(())
 }
@@ -73,69 +70,49 @@ fn put_names<K: Sink>(
 fn put_displayed<K: Sink>(
     alloc: Global,
     form: Form,
-    pieces: &mut Pieces,
-    sink: &mut K,
+    out: &mut Writer<'_, K, Pieces>,
     sheet: &ViewSheet<'_>,
 ) -> Result<(), Stop>
     ensures { PutsLines form (lines_of_sheet (sheet_view_of sheet.now))
-        (K.state sink.old) pieces.old (K.state sink.new) pieces.new result }
+        (pieces_output K.state out.old) (pieces_output K.state out.new) result }
 {
-    put_displayed_cells(alloc, form, pieces, sink, sheet)?;
+    put_displayed_cells(alloc, form, out, sheet)?;
     let mut texts = FormulaBuffer::new(alloc);
-    put_displayed_formulas(form, pieces, sink, &mut texts, sheet)?;
-    put_merges(form, pieces, sink, sheet.merges())
+    put_displayed_formulas(form, out, &mut texts, sheet)?;
+    put_merges(form, out, sheet.merges())
 }
 
 /// Puts the lines of what the sheet at an index shows.
 fn put_displayed_at<K: Sink>(
     alloc: Global,
     form: Form,
-    pieces: &mut Pieces,
-    sink: &mut K,
+    out: &mut Writer<'_, K, Pieces>,
     view: &View<'_>,
     n: usize,
 ) -> Result<(), Stop>
     ensures { PutsLines form (displayed_at lines_of_sheet (slice_get view.now.book.contents n))
-        (K.state sink.old) pieces.old (K.state sink.new) pieces.new result }
+        (pieces_output K.state out.old) (pieces_output K.state out.new) result }
 {
     match view.sheet_at(n) {
-        Some(sheet) => put_displayed(alloc, form, pieces, sink, &sheet),
+        Some(sheet) => put_displayed(alloc, form, out, &sheet),
         None => Ok(()),
     }
-}
-
-/// Puts the line of a sheet, and those of what stands at its index.
-fn put_whole_sheet<K: Sink>(
-    alloc: Global,
-    form: Form,
-    pieces: &mut Pieces,
-    sink: &mut K,
-    view: &View<'_>,
-    sheet: &Sheet,
-    n: usize,
-) -> Result<(), Stop>
-    ensures { PutsLines form
-        (sheet_line (sheet_content sheet.now) ∷ displayed_at lines_of_sheet (slice_get view.now.book.contents n))
-        (K.state sink.old) pieces.old (K.state sink.new) pieces.new result }
-{
-    put_sheet(form, pieces, sink, sheet)?;
-    put_displayed_at(alloc, form, pieces, sink, view, n)
 }
 
 /// Puts the sheets in workbook order, each with what it shows.
 fn put_all_sheets<K: Sink>(
     alloc: Global,
     form: Form,
-    pieces: &mut Pieces,
-    sink: &mut K,
+    out: &mut Writer<'_, K, Pieces>,
     view: &View<'_>,
 ) -> Result<(), Stop>
     ensures { PutsLines form (each_sheet lines_of_sheet view.now.book.sheets view.now.book.contents)
-        (K.state sink.old) pieces.old (K.state sink.new) pieces.new result }
+        (pieces_output K.state out.old) (pieces_output K.state out.new) result }
 {
     let sheets = view.sheets();
     for i in 0..sheets.len() {
-        put_whole_sheet(alloc, form, pieces, sink, view, &sheets[i], i)?;
+        put_sheet(form, out, &sheets[i])?;
+        put_displayed_at(alloc, form, out, view, i)?;
     }
     Ok(())
 }
@@ -144,16 +121,15 @@ fn put_all_sheets<K: Sink>(
 fn put_book<K: Sink>(
     alloc: Global,
     form: Form,
-    pieces: &mut Pieces,
-    sink: &mut K,
+    out: &mut Writer<'_, K, Pieces>,
     view: &View<'_>,
 ) -> Result<(), Stop>
     ensures { PutsLines form (dump_lines view.now.book)
-        (K.state sink.old) pieces.old (K.state sink.new) pieces.new result }
+        (pieces_output K.state out.old) (pieces_output K.state out.new) result }
 {
-    put_dates(form, pieces, sink, view.has_1904_epoch())?;
-    put_names(form, pieces, sink, view.defined_names())?;
-    put_all_sheets(alloc, form, pieces, sink, view)
+    put_dates(form, out, view.has_1904_epoch())?;
+    put_names(form, out, view.defined_names())?;
+    put_all_sheets(alloc, form, out, view)
 }
 
 /// Writes all that a workbook holds: the line of the date system, those of the defined names, and for each
@@ -170,6 +146,7 @@ pub fn write_listing<K: Sink>(
         (K.state sink.old) (K.state sink.new) result }
 {
     let mut pieces = Pieces::new(alloc);
-    put_book(alloc, form, &mut pieces, sink, view)?;
-    pieces.finish(sink)
+    let mut out = Writer::new(&mut pieces, sink);
+    put_book(alloc, form, &mut out, view)?;
+    finish(&mut out)
 }

@@ -4,14 +4,14 @@ ghost use Rattle.std.specs.Prelude.{◌≡◌, ◌∷◌, [], map, slice_get, un
 ghost use Rattle.std.specs.List.{flat_map};
 ghost use Rattle.std.specs.Str.{chars};
 ghost use Rattle.xls_refs.specs.Views.{cited_in, each_cited, lent_citation_of, sheets_cited};
-ghost use Rattle.xls_listing.specs.Listing.{IsDisplayedLine, PutsLines, cited_line, ref_line, ref_lines, displayed_at};
-ghost use Rattle.xls_pieces.specs.Each.{DeliversEach};
+ghost use Rattle.xls_listing.specs.Listing.{IsDisplayedLine, PutsLines, ref_line, ref_lines, displayed_at};
+ghost use Rattle.xls_pieces.specs.Each.{DeliversEach, pieces_output};
 
 use std::alloc::Global;
 use xls_biff::Strings;
 use xls_data::Dimensions;
-use xls_lines::{Sink, Stop};
-use xls_pieces::Pieces;
+use xls_lines::{Sink, Stop, Writer};
+use xls_pieces::{Pieces, finish, pass};
 use xls_readable::{Form, push_ref};
 use xls_refs::{CitedCells, CitedFormula, SheetCites, cites_of_sheet};
 use xls_view::View;
@@ -26,73 +26,56 @@ fn name_of(names: &Strings, sheet: usize) -> &str
     }
 }
 
-/// Puts the line of cells that a formula cites: sheet, row and column of the formula, sheet of the cells,
-/// and their corners.
-fn put_cited<K: Sink>(
-    form: Form,
-    pieces: &mut Pieces,
-    sink: &mut K,
-    name: &str,
-    formula: (u32, u32),
-    sheet: &str,
-    cells: Dimensions,
-) -> Result<(), Stop>
-    ensures { PutsLines form (cited_line (chars name.now) formula (chars sheet.now) cells ∷ [])
-        (K.state sink.old) pieces.old (K.state sink.new) pieces.new result }
+/// The name of the sheet on which cited cells stand.
+fn sheet_of(cite: CitedCells<'_>) -> &str
+    ensures { result.now ≡ cite.entry.on.now }
 {
+    cite.on
+}
+
+/// Puts the line of cells that a formula cites, where the sheets have these names: sheet, row and column of
+/// the formula, sheet of the cells, and their corners.
+fn put_cite<K: Sink>(
+    form: Form,
+    out: &mut Writer<'_, K, Pieces>,
+    names: &Strings,
+    cite: CitedCells<'_>,
+) -> Result<(), Stop>
+    ensures { PutsLines form (ref_line names.now (lent_citation_of cite.entry) ∷ [])
+        (pieces_output K.state out.old) (pieces_output K.state out.new) result }
+{
+    let name = name_of(names, cite.sheet);
+    let sheet = sheet_of(cite);
+    let cells = Dimensions {
+        start: cite.first,
+        end: cite.last,
+    };
+    let pieces = &mut *out.buffer;
     push_ref(
         form,
         name,
-        formula,
+        (cite.row, cite.col),
         sheet,
         cells,
         &mut pieces.room,
         &mut pieces.text,
     )?;
-    pieces.pass(sink)
-}
-
-/// Puts the line of cells that a formula cites, where the sheets have these names.
-fn put_cite<K: Sink>(
-    form: Form,
-    pieces: &mut Pieces,
-    sink: &mut K,
-    names: &Strings,
-    cite: CitedCells<'_>,
-) -> Result<(), Stop>
-    ensures { PutsLines form (ref_line names.now (lent_citation_of cite.entry) ∷ [])
-        (K.state sink.old) pieces.old (K.state sink.new) pieces.new result }
-{
-    let name = name_of(names, cite.sheet);
-    let cells = Dimensions {
-        start: cite.first,
-        end: cite.last,
-    };
-    put_cited(
-        form,
-        pieces,
-        sink,
-        name,
-        (cite.row, cite.col),
-        cite.on,
-        cells,
-    )
+    pass(out)
 }
 
 /// Puts the line at an index of what a formula cites, if there is one.
 fn put_cite_at<K: Sink>(
     form: Form,
-    pieces: &mut Pieces,
-    sink: &mut K,
+    out: &mut Writer<'_, K, Pieces>,
     names: &Strings,
     formula: &CitedFormula<'_>,
     i: usize,
 ) -> Result<(), Stop>
     ensures { PutsLines form (displayed_at (λ c. ref_line names.now c ∷ []) (slice_get formula.now i))
-        (K.state sink.old) pieces.old (K.state sink.new) pieces.new result }
+        (pieces_output K.state out.old) (pieces_output K.state out.new) result }
 {
     match formula.get(i) {
-        Some(cite) => put_cite(form, pieces, sink, names, cite),
+        Some(cite) => put_cite(form, out, names, cite),
         None => Ok(()),
     }
 }
@@ -100,16 +83,15 @@ fn put_cite_at<K: Sink>(
 /// Puts the lines of all cells that a formula cites.
 fn put_cites<K: Sink>(
     form: Form,
-    pieces: &mut Pieces,
-    sink: &mut K,
+    out: &mut Writer<'_, K, Pieces>,
     names: &Strings,
     formula: &CitedFormula<'_>,
 ) -> Result<(), Stop>
     ensures { PutsLines form (map (ref_line names.now) formula.now)
-        (K.state sink.old) pieces.old (K.state sink.new) pieces.new result }
+        (pieces_output K.state out.old) (pieces_output K.state out.new) result }
 {
     for i in 0..formula.len() {
-        put_cite_at(form, pieces, sink, names, formula, i)?;
+        put_cite_at(form, out, names, formula, i)?;
     }
     Ok(())
 }
@@ -117,17 +99,16 @@ fn put_cites<K: Sink>(
 /// Puts the lines of all cells that the formulas of a sheet cite.
 fn put_sheet_refs<K: Sink>(
     form: Form,
-    pieces: &mut Pieces,
-    sink: &mut K,
+    out: &mut Writer<'_, K, Pieces>,
     names: &Strings,
     cites: &SheetCites<'_>,
 ) -> Result<(), Stop>
     ensures { PutsLines form (map (ref_line names.now) (each_cited cites.now))
-        (K.state sink.old) pieces.old (K.state sink.new) pieces.new result }
+        (pieces_output K.state out.old) (pieces_output K.state out.new) result }
 {
     for formula in cites.iter() {
         let formula = formula?;
-        put_cites(form, pieces, sink, names, &formula)?;
+        put_cites(form, out, names, &formula)?;
     }
     Ok(())
 }
@@ -136,16 +117,15 @@ fn put_sheet_refs<K: Sink>(
 fn put_refs_at<K: Sink>(
     alloc: Global,
     form: Form,
-    pieces: &mut Pieces,
-    sink: &mut K,
+    out: &mut Writer<'_, K, Pieces>,
     view: &View<'_>,
     sheet: usize,
 ) -> Result<(), Stop>
     ensures { PutsLines form (displayed_at (λ cites. map (ref_line view.now.context.sheets) (each_cited cites)) (slice_get (sheets_cited view.now) sheet))
-        (K.state sink.old) pieces.old (K.state sink.new) pieces.new result }
+        (pieces_output K.state out.old) (pieces_output K.state out.new) result }
 {
     match cites_of_sheet(alloc, view, sheet)? {
-        Some(cites) => put_sheet_refs(form, pieces, sink, view.naming().sheets, &cites),
+        Some(cites) => put_sheet_refs(form, out, view.naming().sheets, &cites),
         None => Ok(()),
     }
 }
@@ -154,15 +134,14 @@ fn put_refs_at<K: Sink>(
 fn put_refs<K: Sink>(
     alloc: Global,
     form: Form,
-    pieces: &mut Pieces,
-    sink: &mut K,
+    out: &mut Writer<'_, K, Pieces>,
     view: &View<'_>,
 ) -> Result<(), Stop>
     ensures { PutsLines form (ref_lines (cited_in view.now))
-        (K.state sink.old) pieces.old (K.state sink.new) pieces.new result }
+        (pieces_output K.state out.old) (pieces_output K.state out.new) result }
 {
     for sheet in 0..view.naming().sheets.len() {
-        put_refs_at(alloc, form, pieces, sink, view, sheet)?;
+        put_refs_at(alloc, form, out, view, sheet)?;
     }
     Ok(())
 }
@@ -179,6 +158,7 @@ pub fn write_ref_list<K: Sink>(
         (K.state sink.old) (K.state sink.new) result }
 {
     let mut pieces = Pieces::new(alloc);
-    put_refs(alloc, form, &mut pieces, sink, view)?;
-    pieces.finish(sink)
+    let mut out = Writer::new(&mut pieces, sink);
+    put_refs(alloc, form, &mut out, view)?;
+    finish(&mut out)
 }

@@ -3,25 +3,25 @@
 ghost use Rattle.std.specs.Prelude.{◌≡◌, ◌∷◌, [], map};
 ghost use Rattle.xls_data.specs.Sheets.{sheet_content};
 ghost use Rattle.xls_listing.specs.Listing.{IsDisplayedLine, PutsLines, sheet_line, sheet_lines};
-ghost use Rattle.xls_pieces.specs.Each.{DeliversEach};
+ghost use Rattle.xls_pieces.specs.Each.{DeliversEach, pieces_output};
 
 use std::alloc::Global;
 use xls_data::Sheet;
-use xls_lines::{Sink, Stop};
-use xls_pieces::Pieces;
+use xls_lines::{Sink, Stop, Writer};
+use xls_pieces::{Pieces, finish, pass};
 use xls_readable::{Form, push_sheet};
 use xls_view::View;
 
 /// Puts the line of a sheet.
 pub(crate) fn put_sheet<K: Sink>(
     form: Form,
-    pieces: &mut Pieces,
-    sink: &mut K,
+    out: &mut Writer<'_, K, Pieces>,
     sheet: &Sheet,
 ) -> Result<(), Stop>
     ensures { PutsLines form (sheet_line (sheet_content sheet.now) ∷ [])
-        (K.state sink.old) pieces.old (K.state sink.new) pieces.new result }
+        (pieces_output K.state out.old) (pieces_output K.state out.new) result }
 {
+    let pieces = &mut *out.buffer;
     push_sheet(
         form,
         sheet.name.as_str(),
@@ -30,21 +30,20 @@ pub(crate) fn put_sheet<K: Sink>(
         &mut pieces.room,
         &mut pieces.text,
     )?;
-    pieces.pass(sink)
+    pass(out)
 }
 
 /// Puts the lines of sheets.
 fn put_sheets<K: Sink>(
     form: Form,
-    pieces: &mut Pieces,
-    sink: &mut K,
+    out: &mut Writer<'_, K, Pieces>,
     sheets: &[Sheet],
 ) -> Result<(), Stop>
     ensures { PutsLines form (map (λ s. sheet_line (sheet_content s)) sheets.now)
-        (K.state sink.old) pieces.old (K.state sink.new) pieces.new result }
+        (pieces_output K.state out.old) (pieces_output K.state out.new) result }
 {
     for sheet in sheets {
-        put_sheet(form, pieces, sink, sheet)?;
+        put_sheet(form, out, sheet)?;
     }
     Ok(())
 }
@@ -60,6 +59,7 @@ pub fn write_sheet_list<K: Sink>(
         (K.state sink.old) (K.state sink.new) result }
 {
     let mut pieces = Pieces::new(alloc);
-    put_sheets(form, &mut pieces, sink, view.sheets())?;
-    pieces.finish(sink)
+    let mut out = Writer::new(&mut pieces, sink);
+    put_sheets(form, &mut out, view.sheets())?;
+    finish(&mut out)
 }

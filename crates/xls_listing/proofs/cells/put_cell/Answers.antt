@@ -3,4 +3,4 @@ use Rattle.xls_listing.proofs.LineLemmas.{puts-memory}
 use Rattle.xls_listing.proofs.cells.put_cell.Goals as goal
 
 pub returns-in_err-value : goal.returns-in_err-value
-returns-in_err-value g c = puts-memory (IsDisplayedLine c.args.form) _ _ _ _ c.from_residual.result c.from_residual.ensures.1
+returns-in_err-value g c = puts-memory (IsDisplayedLine c.args.form) _ _ _ _ _ c.from_residual.result c.from_residual.ensures.1

@@ -7,7 +7,7 @@ use Rattle.xls_listing.proofs.cells.put_cells.Goals as goal
 
 pub loop-cell-init : goal.loop-cell-init
 loop-cell-init g c =
-    (tt, tt, some-first (IsDisplayedLine c.args.form) _ _ _ _ (ap (flat_map cell_lines) c.into_iter-cell-iterator.ensures.into_iter_gives))
+    (tt, tt, some-first (IsDisplayedLine c.args.form) _ _ _ (ap (flat_map cell_lines) c.into_iter-cell-iterator.ensures.into_iter_gives))
 
 pub loop-cell-preserved : goal.loop-cell-preserved
 loop-cell-preserved g c =
@@ -15,7 +15,7 @@ loop-cell-preserved g c =
 
 pub returns-in_err-put_cell : goal.returns-in_err-put_cell
 returns-in_err-put_cell g c =
-    puts-each-stop _ c.from_residual.result c.from_residual.ensures.1
+    puts-each-stop c.from_residual.result c.from_residual.ensures.1
     (some-stopped _ c.loop-cell.invariant.2 (ap (flat_map cell_lines) c.in-Some.ensures.steps) c.in_err-put_cell.ensures)
 
 pub returns : goal.returns

@@ -1,4 +1,5 @@
 use Rattle.std.proofs.Common.{sym, ◌∙◌}
+use Rattle.xls_pieces.specs.Each.{pieces_output}
 use Rattle.xls_listing.specs.Listing.{IsDisplayedLine}
 use Rattle.xls_listing.proofs.LineLemmas.{puts-as}
 use Rattle.xls_listing.proofs.DisplayedLemmas.{formula_none, formula_displayed, no_characters, some_characters}
@@ -7,12 +8,12 @@ use Rattle.xls_listing.proofs.formulas.put_displayed_formula.Goals as goal
 
 pub returns-then-is_empty : goal.returns-then-is_empty
 returns-then-is_empty g c =
-    each-as (each-none (IsDisplayedLine c.args.form) _ _)
+    each-as (each-none (IsDisplayedLine c.args.form) _)
     (sym (formula_none (c.args.row, c.args.column) _ (no_characters c.args.text.now (sym c.if-is_empty.true ∙ c.is_empty.ensures))))
 
 pub returns : goal.returns
 returns g c =
     let state = g.K.Sink.state in
     let some = some_characters c.args.text.now c.utf8.text (sym c.if-is_empty.false ∙ c.is_empty.ensures) in
-    puts-as (IsDisplayedLine c.args.form) (state c.args.sink.now) _ (state c.put_formula.new.sink) _ c.put_formula.result
+    puts-as (IsDisplayedLine c.args.form) (pieces_output state c.args.out.now) (pieces_output state c.put_formula.new.out) c.put_formula.result
     (formula_displayed (c.args.row, c.args.column) _ some) c.put_formula.ensures

@@ -3,4 +3,4 @@ use Rattle.xls_listing.proofs.LineLemmas.{puts-memory}
 use Rattle.xls_listing.proofs.formulas.put_formula_of.Goals as goal
 
 pub returns-in_err-text : goal.returns-in_err-text
-returns-in_err-text g c = puts-memory (IsDisplayedLine c.args.form) _ _ _ _ c.from_residual.result c.from_residual.ensures.1
+returns-in_err-text g c = puts-memory (IsDisplayedLine c.args.form) _ _ _ _ _ c.from_residual.result c.from_residual.ensures.1

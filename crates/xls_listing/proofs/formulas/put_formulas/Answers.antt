@@ -9,7 +9,7 @@ pub loop-formula-init : goal.loop-formula-init
 loop-formula-init g c = (
   tt,
   tt,
-  some-first (IsDisplayedLine c.args.form) _ _ _ _
+  some-first (IsDisplayedLine c.args.form) _ _ _
       (ap (token_lines c.args.formulas.now.context) (c.into_iter-formula-iterator.ensures.into_iter_gives ∙ c.iter-formula-items.ensures)),
 )
 
@@ -19,7 +19,7 @@ loop-formula-preserved g c =
 
 pub returns-in_err-put_formula_of : goal.returns-in_err-put_formula_of
 returns-in_err-put_formula_of g c =
-    puts-each-stop _ c.from_residual.result c.from_residual.ensures.1
+    puts-each-stop c.from_residual.result c.from_residual.ensures.1
     (some-stopped _ c.loop-formula.invariant.2 (formulas_step c.args.formulas.now.context _ _ _ c.in-Some.ensures.steps) c.in_err-put_formula_of.ensures)
 
 pub returns : goal.returns

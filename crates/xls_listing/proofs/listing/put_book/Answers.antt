@@ -1,5 +1,6 @@
 use Rattle.std.proofs.Common.{[], ◌∷◌, ◌++◌, ap, map}
 use Rattle.xls_open.specs.Workbook.{name_texts}
+use Rattle.xls_pieces.specs.Each.{pieces_output}
 use Rattle.xls_listing.specs.Listing.{IsDisplayedLine, dates_line, each_sheet, lines_of_sheet, name_line}
 use Rattle.xls_listing.proofs.LineLemmas.{puts-then}
 use Rattle.xls_listing.proofs.DisplayedLemmas.{map_again}
@@ -9,7 +10,7 @@ use Rattle.xls_listing.proofs.listing.put_book.Goals as goal
 pub returns-in_err-put_dates : goal.returns-in_err-put_dates
 returns-in_err-put_dates g c =
     let book = c.args.view.now.book in
-    puts-each-stop _ c.from_residual.result c.from_residual.ensures.1
+    puts-each-stop c.from_residual.result c.from_residual.ensures.1
     (each-stops-more (map name_line book.names ++ each_sheet lines_of_sheet book.sheets book.contents)
     (each-stops-as c.in_err-put_dates.ensures (ap (λ b. dates_line b ∷ []) c.has_1904_epoch.ensures)))
 
@@ -19,15 +20,14 @@ returns-in_err-put_names g c =
     let book = c.args.view.now.book in
     let dates = each-as c.in_ok-put_dates.ensures (ap (λ b. dates_line b ∷ []) c.has_1904_epoch.ensures) in
     let names = each-stops-as c.in_err-put_names.ensures (map_again name_line name_texts _ book.names c.defined_names.ensures) in
-    puts-each-stop _ a.result a.ensures.1
+    puts-each-stop a.result a.ensures.1
     (each-stops-then dates (each-stops-more (each_sheet lines_of_sheet book.sheets book.contents) names))
 
 pub returns : goal.returns
 returns g c =
     let book = c.args.view.now.book in
     let is = IsDisplayedLine c.args.form in
-    let sink = g.K.Sink.state c.put_all_sheets.new.sink in
     let dates = each-as c.in_ok-put_dates.ensures (ap (λ b. dates_line b ∷ []) c.has_1904_epoch.ensures) in
     let names = each-as c.in_ok-put_names.ensures (map_again name_line name_texts _ book.names c.defined_names.ensures) in
     puts-then is ((dates_line book.is_1904 ∷ []) ++ map name_line book.names) (each_sheet lines_of_sheet book.sheets book.contents)
-    sink _ c.put_all_sheets.result (each-then dates names) c.put_all_sheets.ensures
+    (pieces_output g.K.Sink.state c.put_all_sheets.new.out) c.put_all_sheets.result (each-then dates names) c.put_all_sheets.ensures

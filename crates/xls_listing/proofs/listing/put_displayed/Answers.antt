@@ -1,5 +1,6 @@
 use Rattle.std.proofs.Common.{◌++◌, append_assoc, ap, map}
 use Rattle.xls_cursors.specs.Displayed.{sheet_view_of}
+use Rattle.xls_pieces.specs.Each.{pieces_output}
 use Rattle.xls_listing.specs.Listing.{IsDisplayedLine, lines_of_cells, lines_of_formulas, lines_of_merges, merge_line}
 use Rattle.xls_listing.proofs.LineLemmas.{puts-as, puts-then}
 use Rattle.xls_pieces.proofs.EachLemmas.{each-stops-more, each-stops-then, each-then, puts-each-stop}
@@ -8,14 +9,14 @@ use Rattle.xls_listing.proofs.listing.put_displayed.Goals as goal
 pub returns-in_err-put_displayed_cells : goal.returns-in_err-put_displayed_cells
 returns-in_err-put_displayed_cells g c =
     let v = sheet_view_of c.args.sheet.now in
-    puts-each-stop _ c.from_residual.result c.from_residual.ensures.1
+    puts-each-stop c.from_residual.result c.from_residual.ensures.1
     (each-stops-more (lines_of_formulas v ++ lines_of_merges v) c.in_err-put_displayed_cells.ensures)
 
 pub returns-in_err-put_displayed_formulas : goal.returns-in_err-put_displayed_formulas
 returns-in_err-put_displayed_formulas g c =
     let a = c.from_residual-in_err-put_displayed_formulas in
     let v = sheet_view_of c.args.sheet.now in
-    puts-each-stop _ a.result a.ensures.1
+    puts-each-stop a.result a.ensures.1
     (each-stops-then c.in_ok-put_displayed_cells.ensures (each-stops-more (lines_of_merges v) c.in_err-put_displayed_formulas.ensures))
 
 pub returns : goal.returns
@@ -24,8 +25,8 @@ returns g c =
     let v = sheet_view_of c.args.sheet.now in
     let is = IsDisplayedLine c.args.form in
     let before = each-then c.in_ok-put_displayed_cells.ensures c.in_ok-put_displayed_formulas.ensures in
-    puts-as is (state c.args.sink.now) _ (state c.put_merges.new.sink) _ c.put_merges.result
+    puts-as is (pieces_output state c.args.out.now) (pieces_output state c.put_merges.new.out) c.put_merges.result
     (append_assoc (lines_of_cells v) (lines_of_formulas v) (lines_of_merges v))
     (puts-then is (lines_of_cells v ++ lines_of_formulas v) (lines_of_merges v)
-    (state c.put_merges.new.sink) _ c.put_merges.result before
-    (puts-as is _ _ (state c.put_merges.new.sink) _ c.put_merges.result (ap (map merge_line) c.merges.ensures) c.put_merges.ensures))
+    (pieces_output state c.put_merges.new.out) c.put_merges.result before
+    (puts-as is _ (pieces_output state c.put_merges.new.out) c.put_merges.result (ap (map merge_line) c.merges.ensures) c.put_merges.ensures))

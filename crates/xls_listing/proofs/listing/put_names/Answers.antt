@@ -7,7 +7,7 @@ use Rattle.xls_pieces.proofs.EachLemmas.{puts-each-stop}
 use Rattle.xls_listing.proofs.listing.put_names.Goals as goal
 
 pub loop-name-init : goal.loop-name-init
-loop-name-init g c = some-first (IsDisplayedLine c.args.form) _ _ _ _ refl
+loop-name-init g c = some-first (IsDisplayedLine c.args.form) _ _ _ refl
 
 pub loop-name-preserved : goal.loop-name-preserved
 loop-name-preserved g c =
@@ -17,7 +17,7 @@ loop-name-preserved g c =
 
 pub returns-in_err-put_name : goal.returns-in_err-put_name
 returns-in_err-put_name g c =
-    puts-each-stop _ c.from_residual.result c.from_residual.ensures.1
+    puts-each-stop c.from_residual.result c.from_residual.ensures.1
     (some-stopped _ c.loop-name.invariant
     (drop_step (λ (n : Reported). name_line (name_texts n)) c.args.names.now c.loop-name.name-index _ c.loop-name-test.true c.name-item.is)
     c.in_err-put_name.ensures)

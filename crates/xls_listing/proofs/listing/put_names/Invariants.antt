@@ -1,6 +1,6 @@
 use Rattle.std.proofs.Common.{drop, map}
-use Rattle.std.specs.String.{string_bytes}
 use Rattle.xls_open.specs.Workbook.{name_texts}
+use Rattle.xls_pieces.specs.Each.{pieces_output}
 use Rattle.xls_listing.specs.Listing.{IsDisplayedLine, name_line}
 use Rattle.xls_listing.proofs.LineLemmas.{PutsSome}
 use Rattle.xls_listing.proofs.DisplayedLemmas.{Reported}
@@ -9,7 +9,6 @@ use Rattle.xls_listing.proofs.listing.put_names.Given as goal
 -- the lines of the names so far are put
 abbrev pub invariant-loop-name : goal.invariant-loop-name
 invariant-loop-name g l =
-    let sink = g.K.Sink in
     let line = λ (n : Reported). name_line (name_texts n) in
     PutsSome (IsDisplayedLine l.form) (map line l.names) (map line (drop l.name-index l.names))
-    (sink.state l.fn.sink) (string_bytes l.fn.pieces.text) (sink.state l.sink) (string_bytes l.pieces.text)
+    (pieces_output g.K.Sink.state l.fn.out) (pieces_output g.K.Sink.state l.out)

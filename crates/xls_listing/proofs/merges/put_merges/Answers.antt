@@ -6,7 +6,7 @@ use Rattle.xls_listing.proofs.merges.put_merges.Goals as goal
 
 pub loop-region-init : goal.loop-region-init
 loop-region-init g c =
-    (tt, tt, some-first (IsDisplayedLine c.args.form) _ _ _ _ (ap (map merge_line) c.into_iter-region-iterator.ensures.into_iter_gives))
+    (tt, tt, some-first (IsDisplayedLine c.args.form) _ _ _ (ap (map merge_line) c.into_iter-region-iterator.ensures.into_iter_gives))
 
 pub loop-region-preserved : goal.loop-region-preserved
 loop-region-preserved g c =
@@ -14,7 +14,7 @@ loop-region-preserved g c =
 
 pub returns-in_err-put_merge : goal.returns-in_err-put_merge
 returns-in_err-put_merge g c =
-    puts-each-stop _ c.from_residual.result c.from_residual.ensures.1
+    puts-each-stop c.from_residual.result c.from_residual.ensures.1
     (some-stopped _ c.loop-region.invariant.2 (ap (map merge_line) c.in-Some.ensures.steps) c.in_err-put_merge.ensures)
 
 pub returns : goal.returns

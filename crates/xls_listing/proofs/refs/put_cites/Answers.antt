@@ -7,7 +7,7 @@ use Rattle.xls_pieces.proofs.EachLemmas.{puts-each-stop}
 use Rattle.xls_listing.proofs.refs.put_cites.Goals as goal
 
 pub loop-i-init : goal.loop-i-init
-loop-i-init g c = some-first (IsDisplayedLine c.args.form) _ _ _ _ refl
+loop-i-init g c = some-first (IsDisplayedLine c.args.form) _ _ _ refl
 
 pub loop-i-preserved : goal.loop-i-preserved
 loop-i-preserved g c =
@@ -15,7 +15,7 @@ loop-i-preserved g c =
 
 pub returns-in_err-put_cite_at : goal.returns-in_err-put_cite_at
 returns-in_err-put_cite_at g c =
-    puts-each-stop _ c.from_residual.result c.from_residual.ensures.1
+    puts-each-stop c.from_residual.result c.from_residual.ensures.1
     (some-stopped _ c.loop-i.invariant (cites_step (ref_line c.args.names.now) c.args.formula.now c.loop-i.i) c.in_err-put_cite_at.ensures)
 
 pub returns : goal.returns

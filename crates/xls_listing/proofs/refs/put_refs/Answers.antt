@@ -8,12 +8,12 @@ use Rattle.xls_pieces.proofs.EachLemmas.{puts-each-stop}
 use Rattle.xls_listing.proofs.refs.put_refs.Goals as goal
 
 pub loop-sheet-init : goal.loop-sheet-init
-loop-sheet-init g c = some-first (IsDisplayedLine c.args.form) _ _ _ _ refl
+loop-sheet-init g c = some-first (IsDisplayedLine c.args.form) _ _ _ refl
 
 pub returns-in_err-put_refs_at : goal.returns-in_err-put_refs_at
 returns-in_err-put_refs_at g c =
     let view = c.args.view.now in
-    puts-each-stop _ c.from_residual.result c.from_residual.ensures.1
+    puts-each-stop c.from_residual.result c.from_residual.ensures.1
     (some-stopped _ c.loop-sheet.invariant (sheets_cited_step view.context.sheets (sheets_cited view) c.loop-sheet.sheet) c.in_err-put_refs_at.ensures)
 
 pub loop-sheet-preserved : goal.loop-sheet-preserved

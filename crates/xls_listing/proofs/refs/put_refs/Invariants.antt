@@ -1,6 +1,6 @@
 use Rattle.std.proofs.Common.{drop}
-use Rattle.std.specs.String.{string_bytes}
 use Rattle.xls_refs.specs.Views.{sheets_cited}
+use Rattle.xls_pieces.specs.Each.{pieces_output}
 use Rattle.xls_listing.specs.Listing.{IsDisplayedLine}
 use Rattle.xls_listing.proofs.LineLemmas.{PutsSome}
 use Rattle.xls_listing.proofs.RefLemmas.{all_cited_lines}
@@ -9,7 +9,6 @@ use Rattle.xls_listing.proofs.refs.put_refs.Given as goal
 -- the lines of the sheets so far are put
 abbrev pub invariant-loop-sheet : goal.invariant-loop-sheet
 invariant-loop-sheet g l =
-    let sink = g.K.Sink in
     let lines = all_cited_lines l.view.context.sheets in
     PutsSome (IsDisplayedLine l.form) (lines (sheets_cited l.view)) (lines (drop l.sheet (sheets_cited l.view)))
-    (sink.state l.fn.sink) (string_bytes l.fn.pieces.text) (sink.state l.sink) (string_bytes l.pieces.text)
+    (pieces_output g.K.Sink.state l.fn.out) (pieces_output g.K.Sink.state l.out)

@@ -1,4 +1,4 @@
-use Rattle.std.specs.String.{string_bytes}
+use Rattle.xls_pieces.specs.Each.{pieces_output}
 use Rattle.xls_listing.specs.Listing.{IsDisplayedLine}
 use Rattle.xls_listing.proofs.LineLemmas.{PutsSome}
 use Rattle.xls_listing.proofs.RefLemmas.{cited_lines}
@@ -7,8 +7,7 @@ use Rattle.xls_listing.proofs.refs.put_sheet_refs.Given as goal
 -- the lines of some formulas are put, and the others are left
 abbrev pub invariant-loop-formula : goal.invariant-loop-formula
 invariant-loop-formula g l =
-    let sink = g.K.Sink in
     (goal.iterator-loop-formula g).can_next l.formula-iterator ×
     (goal.iterator-loop-formula g).is_finite l.formula-iterator ×
     PutsSome (IsDisplayedLine l.form) (cited_lines l.names l.fn.cites) (cited_lines l.names l.formula-iterator)
-    (sink.state l.fn.sink) (string_bytes l.fn.pieces.text) (sink.state l.sink) (string_bytes l.pieces.text)
+    (pieces_output g.K.Sink.state l.fn.out) (pieces_output g.K.Sink.state l.out)

@@ -8,7 +8,7 @@ use Rattle.xls_pieces.proofs.EachLemmas.{puts-each-stop}
 use Rattle.xls_listing.proofs.sheets.put_sheets.Goals as goal
 
 pub loop-sheet-init : goal.loop-sheet-init
-loop-sheet-init g c = some-first (IsDisplayedLine c.args.form) _ _ _ _ refl
+loop-sheet-init g c = some-first (IsDisplayedLine c.args.form) _ _ _ refl
 
 pub loop-sheet-preserved : goal.loop-sheet-preserved
 loop-sheet-preserved g c =
@@ -18,7 +18,7 @@ loop-sheet-preserved g c =
 
 pub returns-in_err-put_sheet : goal.returns-in_err-put_sheet
 returns-in_err-put_sheet g c =
-    puts-each-stop _ c.from_residual.result c.from_residual.ensures.1
+    puts-each-stop c.from_residual.result c.from_residual.ensures.1
     (some-stopped _ c.loop-sheet.invariant
     (drop_step (λ (s : Sheet). sheet_line (sheet_content s)) c.args.sheets.now c.loop-sheet.sheet-index _ c.loop-sheet-test.true c.sheet-item.is)
     c.in_err-put_sheet.ensures)
