@@ -4,10 +4,10 @@ use Rattle.std.specs.Prelude.{slice_get}
 use Rattle.std.specs.List.{flat_map}
 use Rattle.std.proofs.lemmas.Grind.{flat_map-append}
 use Rattle.xls_lines.specs.SinkState.{SinkState}
-use Rattle.xls_lines.specs.Gathering.{GathersText, Stops}
+use Rattle.xls_lines.specs.Output.{Output, Gathers, GivesUp}
 use Rattle.xls_lines.specs.declared.stop.Stop.{Stop}
 use Rattle.xls_lines.specs.declared.stop.Stop.TheVariants.{Memory}
-use Rattle.xls_lines.proofs.GatherLemmas.{PutsSome, gathers-as, gathers-then, stops-as, stops-memory, stops-more, stops-then}
+use Rattle.xls_lines.proofs.OutputLemmas.{PutsSome, gathers-as, gathers-then, stops-as, stops-memory, stops-more, stops-then}
 use Rattle.xls_refs.specs.Cited.{BookCitation}
 use Rattle.xls_refs.specs.Views.{cited_in, each_cited, sheets_cited}
 use Rattle.xls_refs.proofs.ViewLemmas.{length-sheets_from}
@@ -32,15 +32,15 @@ one_more text xs i =
     sym (take_next text xs i) ∙ ap (λ (n : ℕ). flat_map text (take n xs)) next
 
 -- one more is put
-pub gathers-where : {X : Type 0} {a b c : SinkState} {g h k : List ℕ} (text : X → List ℕ) (xs : List X) (i : ℕ)
-    → GathersText a g b h (flat_map text (take i xs)) → GathersText b h c k (lines_where text (slice_get xs i))
-    → GathersText a g c k (flat_map text (take (i + 1) xs))
+pub gathers-where : {X : Type 0} {a b c : Output} (text : X → List ℕ) (xs : List X) (i : ℕ)
+    → Gathers a b (flat_map text (take i xs)) → Gathers b c (lines_where text (slice_get xs i))
+    → Gathers a c (flat_map text (take (i + 1) xs))
 gathers-where text xs i p q = gathers-as (gathers-then p q) (one_more text xs i)
 
 -- one that was not put whole
-pub stops-where : {X : Type 0} {a b c : SinkState} {g h : List ℕ} {e : Stop} (text : X → List ℕ) (xs : List X) (i : ℕ)
-    → GathersText a g b h (flat_map text (take i xs)) → Stops b h c (lines_where text (slice_get xs i)) e
-    → Stops a g c (flat_map text xs) e
+pub stops-where : {X : Type 0} {a b c : Output} {e : Stop} (text : X → List ℕ) (xs : List X) (i : ℕ)
+    → Gathers a b (flat_map text (take i xs)) → GivesUp b c (lines_where text (slice_get xs i)) e
+    → GivesUp a c (flat_map text xs) e
 stops-where text xs i p q =
     stops-as (stops-more (flat_map text (drop (i + 1) xs)) (stops-as (stops-then p q) (one_more text xs i)))
     (sym (flat_map-append text (take (i + 1) xs) (drop (i + 1) xs)) ∙ ap (flat_map text) (take-append-drop (i + 1) xs))
@@ -48,8 +48,9 @@ stops-where text xs i p q =
 -- ---- items that an iterator gives
 
 -- out of memory while the next one was made
-pub some-memory : {X : Type 0} (text : X → List ℕ) {all left : List X} {a b : SinkState} {g h : List ℕ}
-    → PutsSome text all left a g b h → Stops a g b (flat_map text all) Memory
+pub some-memory : {X : Type 0} (text : X → List ℕ) {all left : List X} {a : Output} {w : SinkState} {n : ℕ} {g h : List ℕ}
+    → PutsSome text all left a (record { sink = w; kept = g; lender = n })
+    → GivesUp a (record { sink = w; kept = h; lender = n }) (flat_map text all) Memory
 some-memory text {all} {left} p = stops-as (stops-memory (flat_map text left) p.gathers) p.whole
 
 -- ---- the whole text
@@ -75,8 +76,8 @@ refs-by-sheet v =
     sym (nested (ref_line v.context.sheets) each_cited (sheets_cited v) ∙ by_sheet v.context.sheets (sheets_cited v))
 
 -- all of them are put
-pub gathers-refs : {a b : SinkState} {g h : List ℕ} (v : Viewed) (i : ℕ) → length v.context.sheets ≤ i
-    → GathersText a g b h (flat_map (sheet_refs v.context.sheets) (take i (sheets_cited v))) → GathersText a g b h (refs_text (cited_in v))
+pub gathers-refs : {a b : Output} (v : Viewed) (i : ℕ) → length v.context.sheets ≤ i
+    → Gathers a b (flat_map (sheet_refs v.context.sheets) (take i (sheets_cited v))) → Gathers a b (refs_text (cited_in v))
 gathers-refs v i l p =
     let within = length-sheets_from v.context 0 v.context.sheets v.formulas in
     gathers-as p (ap (flat_map (sheet_refs v.context.sheets)) (take_all i (sheets_cited v) (omega (arith, within, l))) ∙ refs-by-sheet v)

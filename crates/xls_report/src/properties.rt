@@ -5,51 +5,46 @@ ghost use Rattle.std.specs.BTreeMap.{IsOrdered};
 ghost use Rattle.std.specs.List.{flat_map};
 ghost use Rattle.std.specs.Option.{option_map};
 ghost use Rattle.std.specs.String.{string_bytes, string_cmp};
-ghost use Rattle.xls_lines.specs.Gathering.{Delivers, Puts};
+ghost use Rattle.xls_lines.specs.Gathering.{Delivers};
+ghost use Rattle.xls_lines.specs.Output.{Puts, output};
 ghost use Rattle.xls_report.specs.Properties.{custom_line, known_lines, property_lines, property_text};
 
 use std::alloc::Global;
 use std::collections::btree_map::Iter;
-use xls_lines::{Buffer, Field, Sink, Stop};
+use xls_lines::{Buffer, Field, Sink, Stop, Writer};
 use xls_props::WorkbookProperties;
 
 /// Puts the line of a field by its name and its text, if it is there.
 fn put_property<K: Sink>(
-    buffer: &mut Buffer,
-    sink: &mut K,
+    out: &mut Writer<'_, K>,
     field: (&'static str, &Option<String>),
 ) -> Result<(), Stop>
-    ensures { Puts (K.state sink.old) buffer.old (K.state sink.new) buffer.new
+    ensures { Puts (output K.state out.old) (output K.state out.new)
         (property_text field.entry) result }
 {
     match field.1 {
-        Some(text) => buffer.put_line(sink, field.0, &[Field::Text(text.as_str())]),
+        Some(text) => out.put_line(field.0, &[Field::Text(text.as_str())]),
         None => Ok(()),
     }
 }
 
 /// Puts the lines of the fields that are there.
 fn put_fields<K: Sink>(
-    buffer: &mut Buffer,
-    sink: &mut K,
+    out: &mut Writer<'_, K>,
     fields: &[(&'static str, &Option<String>)],
 ) -> Result<(), Stop>
-    ensures { Puts (K.state sink.old) buffer.old (K.state sink.new) buffer.new
+    ensures { Puts (output K.state out.old) (output K.state out.new)
         (flat_map property_text fields.now) result }
 {
     for field in fields {
-        put_property(buffer, sink, *field)?;
+        put_property(out, *field)?;
     }
     Ok(())
 }
 
 /// Puts the lines of the fields of some properties, in their order.
-fn put_known<K: Sink>(
-    buffer: &mut Buffer,
-    sink: &mut K,
-    properties: &WorkbookProperties,
-) -> Result<(), Stop>
-    ensures { Puts (K.state sink.old) buffer.old (K.state sink.new) buffer.new
+fn put_known<K: Sink>(out: &mut Writer<'_, K>, properties: &WorkbookProperties) -> Result<(), Stop>
+    ensures { Puts (output K.state out.old) (output K.state out.new)
         (known_lines properties.now) result }
 {
     let fields = [
@@ -71,51 +66,44 @@ fn put_known<K: Sink>(
         ("version", &properties.version),
         ("app_version", &properties.app_version),
     ];
-    put_fields(buffer, sink, &fields)
+    put_fields(out, &fields)
 }
 
 /// Puts the line of a custom property.
-fn put_custom<K: Sink>(
-    buffer: &mut Buffer,
-    sink: &mut K,
-    name: &String,
-    text: &String,
-) -> Result<(), Stop>
-    ensures { Puts (K.state sink.old) buffer.old (K.state sink.new) buffer.new
+fn put_custom<K: Sink>(out: &mut Writer<'_, K>, name: &String, text: &String) -> Result<(), Stop>
+    ensures { Puts (output K.state out.old) (output K.state out.new)
         (custom_line (name.now, text.now)) result }
 {
     let fields = [Field::Text(name.as_str()), Field::Text(text.as_str())];
-    buffer.put_line(sink, "custom", &fields)
+    out.put_line("custom", &fields)
 }
 
 /// Puts the lines of custom properties.
 fn put_customs<K: Sink>(
-    buffer: &mut Buffer,
-    sink: &mut K,
+    out: &mut Writer<'_, K>,
     customs: Iter<'_, String, String>,
 ) -> Result<(), Stop>
-    ensures { Puts (K.state sink.old) buffer.old (K.state sink.new) buffer.new
+    ensures { Puts (output K.state out.old) (output K.state out.new)
         (flat_map custom_line customs.entry) result }
 {
     for (name, text) in customs {
-        put_custom(buffer, sink, name, text)?;
+        put_custom(out, name, text)?;
     }
     Ok(())
 }
 
 /// Puts the lines of the fields, and then of the custom properties in the order of their names.
 fn put_properties<K: Sink>(
-    buffer: &mut Buffer,
-    sink: &mut K,
+    out: &mut Writer<'_, K>,
     properties: &WorkbookProperties,
 ) -> Result<(), Stop>
-    ensures puts { Puts (K.state sink.old) buffer.old (K.state sink.new) buffer.new
+    ensures puts { Puts (output K.state out.old) (output K.state out.new)
         (property_lines properties.now) result }
     ensures ordered { IsOrdered string_cmp properties.now.custom_properties }
 {
     let customs = properties.custom_properties.iter();
-    put_known(buffer, sink, properties)?;
-    put_customs(buffer, sink, customs)?;
+    put_known(out, properties)?;
+    put_customs(out, customs)?;
     Ok(())
 }
 
@@ -131,7 +119,8 @@ pub fn write_properties<K: Sink>(
     ensures ordered { IsOrdered string_cmp properties.now.custom_properties }
 {
     let mut buffer = Buffer::new(alloc);
-    put_properties(&mut buffer, sink, properties)?;
-    buffer.finish(sink)?;
+    let mut out = Writer::new(&mut buffer, sink);
+    put_properties(&mut out, properties)?;
+    out.finish()?;
     Ok(())
 }

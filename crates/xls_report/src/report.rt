@@ -8,7 +8,8 @@ ghost use Rattle.xls_data.specs.Data.{bool_text};
 ghost use Rattle.xls_data.specs.Refs.{ref_content_of};
 ghost use Rattle.xls_data.specs.Sheets.{sheet_content};
 ghost use Rattle.xls_record.specs.declared.error.XlsError.TheVariants.{Memory};
-ghost use Rattle.xls_lines.specs.Gathering.{Delivers, Puts};
+ghost use Rattle.xls_lines.specs.Gathering.{Delivers};
+ghost use Rattle.xls_lines.specs.Output.{Puts, output};
 ghost use Rattle.xls_report.specs.Endings.{EndsWithEither};
 ghost use Rattle.xls_lines.specs.Lines.{field_text};
 ghost use Rattle.xls_open.specs.Workbook.{name_texts};
@@ -23,7 +24,7 @@ use std::alloc::Global;
 use xls_biff::XlsError;
 use xls_data::{DataRef, Dimensions, Sheet, SheetType, SheetVisible};
 use xls_lay::LayError;
-use xls_lines::{Buffer, Field, Sink, Stop, write_line};
+use xls_lines::{Buffer, Field, Sink, Stop, Writer, write_line};
 use xls_view::{
     Cells, FormulaBuffer, FormulaCell, Merges, SheetCell, SheetFormulas, TextBuffer, View,
     ViewSheet,
@@ -65,49 +66,42 @@ fn fields_of<'v>(value: &'v DataRef<'v>) -> Option<(&'static str, Field<'v>)>
 
 /// Puts the line of a value at a row and a column.
 fn put_value<K: Sink>(
-    buffer: &mut Buffer,
-    sink: &mut K,
+    out: &mut Writer<'_, K>,
     row: u32,
     column: u32,
     value: &DataRef<'_>,
 ) -> Result<(), Stop>
-    ensures { Puts (K.state sink.old) buffer.old (K.state sink.new) buffer.new
+    ensures { Puts (output K.state out.old) (output K.state out.new)
         (cell_line ((row, column), ref_content_of value.now)) result }
 {
     match fields_of(value) {
-        Some((kind, displayed)) => buffer.put_cell(sink, row, column, kind, displayed),
+        Some((kind, displayed)) => out.put_cell(row, column, kind, displayed),
         None => Ok(()),
     }
 }
 
 /// Puts the line of a cell, whose text is decoded in `text`.
 fn put_cell<K: Sink>(
-    buffer: &mut Buffer,
-    sink: &mut K,
+    out: &mut Writer<'_, K>,
     text: &mut TextBuffer,
     cell: SheetCell<'_>,
 ) -> Result<(), Stop>
-    ensures { Puts (K.state sink.old) buffer.old (K.state sink.new) buffer.new
+    ensures { Puts (output K.state out.old) (output K.state out.new)
         (cell_line (cell_entry cell.entry)) result }
 {
     let SheetCell { row, column, value } = cell;
     let value = text.value_of(value)?;
-    put_value(buffer, sink, row, column, &value)
+    put_value(out, row, column, &value)
 }
 
 /// Puts the lines of a sheet's cells.
-fn put_cells<K: Sink>(
-    alloc: Global,
-    buffer: &mut Buffer,
-    sink: &mut K,
-    cells: Cells<'_>,
-) -> Result<(), Stop>
-    ensures { Puts (K.state sink.old) buffer.old (K.state sink.new) buffer.new
+fn put_cells<K: Sink>(alloc: Global, out: &mut Writer<'_, K>, cells: Cells<'_>) -> Result<(), Stop>
+    ensures { Puts (output K.state out.old) (output K.state out.new)
         (flat_map cell_line cells.entry) result }
 {
     let mut text = TextBuffer::new(alloc);
     for cell in cells {
-        put_cell(buffer, sink, &mut text, cell)?;
+        put_cell(out, &mut text, cell)?;
     }
     Ok(())
 }
@@ -137,84 +131,80 @@ fn visible_word(visible: SheetVisible) -> &'static str
 }
 
 /// Puts the line of a sheet.
-fn put_sheet<K: Sink>(buffer: &mut Buffer, sink: &mut K, sheet: &Sheet) -> Result<(), Stop>
-    ensures { Puts (K.state sink.old) buffer.old (K.state sink.new) buffer.new
+fn put_sheet<K: Sink>(out: &mut Writer<'_, K>, sheet: &Sheet) -> Result<(), Stop>
+    ensures { Puts (output K.state out.old) (output K.state out.new)
         (sheet_line (sheet_content sheet.now)) result }
 {
     let name = Field::Text(sheet.name.as_str());
     let typ = Field::Word(type_word(sheet.typ));
     let visible = Field::Word(visible_word(sheet.visible));
-    buffer.put_line(sink, "sheet", &[name, typ, visible])
+    out.put_line("sheet", &[name, typ, visible])
 }
 
 /// Puts the line of a formula.
 fn put_formula<K: Sink>(
-    buffer: &mut Buffer,
-    sink: &mut K,
+    out: &mut Writer<'_, K>,
     row: u32,
     column: u32,
     text: &str,
 ) -> Result<(), Stop>
-    ensures { Puts (K.state sink.old) buffer.old (K.state sink.new) buffer.new
+    ensures { Puts (output K.state out.old) (output K.state out.new)
         (formula_line ((row, column), chars text.now)) result }
 {
     let row = Field::Number(u64::from(row));
     let column = Field::Number(u64::from(column));
-    buffer.put_line(sink, "formula", &[row, column, Field::Text(text)])
+    out.put_line("formula", &[row, column, Field::Text(text)])
 }
 
 /// Puts the line of a formula, unless its text is empty.
 fn put_displayed_formula<K: Sink>(
-    buffer: &mut Buffer,
-    sink: &mut K,
+    out: &mut Writer<'_, K>,
     row: u32,
     column: u32,
     text: &str,
 ) -> Result<(), Stop>
-    ensures { Puts (K.state sink.old) buffer.old (K.state sink.new) buffer.new
+    ensures { Puts (output K.state out.old) (output K.state out.new)
         (formula_lines (((row, column), chars text.now) ∷ [])) result }
 {
     if text.is_empty() {
         return Ok(());
     }
-    put_formula(buffer, sink, row, column, text)
+    put_formula(out, row, column, text)
 }
 
 /// Puts the line of a formula of a sheet, unless its text is empty.
 fn put_formula_of<K: Sink>(
-    buffer: &mut Buffer,
-    sink: &mut K,
+    out: &mut Writer<'_, K>,
     texts: &mut FormulaBuffer,
     formulas: &SheetFormulas<'_>,
     formula: FormulaCell<'_>,
 ) -> Result<(), Stop>
-    ensures { Puts (K.state sink.old) buffer.old (K.state sink.new) buffer.new
+    ensures { Puts (output K.state out.old) (output K.state out.new)
         (formula_lines (text_entry formulas.now.context (formula_seen formula.entry) ∷ [])) result }
 {
     let text = formulas.text_in(texts, formula)?;
-    put_displayed_formula(buffer, sink, formula.row, formula.column, text)
+    put_displayed_formula(out, formula.row, formula.column, text)
 }
 
 /// Puts the lines of a sheet's formulas.
 fn put_formulas<K: Sink>(
     alloc: Global,
-    buffer: &mut Buffer,
-    sink: &mut K,
+    out: &mut Writer<'_, K>,
     formulas: &SheetFormulas<'_>,
 ) -> Result<(), Stop>
-    ensures { Puts (K.state sink.old) buffer.old (K.state sink.new) buffer.new
+    ensures { Puts (output K.state out.old) (output K.state out.new)
         (formula_lines (map (text_entry formulas.now.context) formulas.now.left)) result }
 {
     let mut texts = FormulaBuffer::new(alloc);
     for formula in formulas.iter() {
-        put_formula_of(buffer, sink, &mut texts, formulas, formula)?;
+        put_formula_of(out, &mut texts, formulas, formula)?;
     }
     Ok(())
 }
 
 /// Puts the line of a merged region.
-fn put_merge<K: Sink>(buffer: &mut Buffer, sink: &mut K, region: Dimensions) -> Result<(), Stop>
-    ensures { Puts (K.state sink.old) buffer.old (K.state sink.new) buffer.new
+fn put_merge<K: Sink>(out: &mut Writer<'_, K>, region: Dimensions) -> Result<(), Stop>
+    ensures { Puts (output K.state out.old) (output K.state out.new)
         (merge_line region) result }
 {
     let (first_row, first_column) = region.start;
@@ -225,16 +215,16 @@ fn put_merge<K: Sink>(buffer: &mut Buffer, sink: &mut K, region: Dimensions) -> 
         Field::Number(u64::from(last_row)),
         Field::Number(u64::from(last_column)),
     ];
-    buffer.put_line(sink, "merge", &fields)
+    out.put_line("merge", &fields)
 }
 
 /// Puts the lines of merged regions.
-fn put_merges<K: Sink>(buffer: &mut Buffer, sink: &mut K, merges: Merges<'_>) -> Result<(), Stop>
-    ensures { Puts (K.state sink.old) buffer.old (K.state sink.new) buffer.new
+fn put_merges<K: Sink>(out: &mut Writer<'_, K>, merges: Merges<'_>) -> Result<(), Stop>
+    ensures { Puts (output K.state out.old) (output K.state out.new)
         (flat_map merge_line merges.entry) result }
 {
     for region in merges {
-        put_merge(buffer, sink, region)?;
+        put_merge(out, region)?;
     }
     Ok(())
 }
@@ -242,60 +232,56 @@ fn put_merges<K: Sink>(buffer: &mut Buffer, sink: &mut K, merges: Merges<'_>) ->
 /// Puts the lines of the cells that a sheet shows.
 fn put_displayed_cells<K: Sink>(
     alloc: Global,
-    buffer: &mut Buffer,
-    sink: &mut K,
+    out: &mut Writer<'_, K>,
     sheet: &ViewSheet<'_>,
 ) -> Result<(), Stop>
-    ensures { Puts (K.state sink.old) buffer.old (K.state sink.new) buffer.new
+    ensures { Puts (output K.state out.old) (output K.state out.new)
         (flat_map cell_line sheet.now.cells) result }
 {
     let cells = sheet.cells()?;
-    put_cells(alloc, buffer, sink, cells.iter())
+    put_cells(alloc, out, cells.iter())
 }
 
 /// Puts the lines of the formulas that a sheet shows.
 fn put_displayed_formulas<K: Sink>(
     alloc: Global,
-    buffer: &mut Buffer,
-    sink: &mut K,
+    out: &mut Writer<'_, K>,
     sheet: &ViewSheet<'_>,
 ) -> Result<(), Stop>
-    ensures { Puts (K.state sink.old) buffer.old (K.state sink.new) buffer.new
+    ensures { Puts (output K.state out.old) (output K.state out.new)
         (formula_lines (sheet_view_of sheet.now).formulas) result }
 {
     let formulas = sheet.formulas()?;
-    put_formulas(alloc, buffer, sink, &formulas)
+    put_formulas(alloc, out, &formulas)
 }
 
 /// Puts the lines of what a sheet shows.
 fn put_displayed<K: Sink>(
     alloc: Global,
-    buffer: &mut Buffer,
-    sink: &mut K,
+    out: &mut Writer<'_, K>,
     sheet: &ViewSheet<'_>,
 ) -> Result<(), Stop>
-    ensures { Puts (K.state sink.old) buffer.old (K.state sink.new) buffer.new
+    ensures { Puts (output K.state out.old) (output K.state out.new)
         (lines_at (Some (sheet_view_of sheet.now))) result }
 {
-    put_displayed_cells(alloc, buffer, sink, sheet)?;
-    put_displayed_formulas(alloc, buffer, sink, sheet)?;
-    put_merges(buffer, sink, sheet.merges())?;
+    put_displayed_cells(alloc, out, sheet)?;
+    put_displayed_formulas(alloc, out, sheet)?;
+    put_merges(out, sheet.merges())?;
     Ok(())
 }
 
 /// Puts the lines of what the sheet at an index shows.
 fn put_lines_at<K: Sink>(
     alloc: Global,
-    buffer: &mut Buffer,
-    sink: &mut K,
+    out: &mut Writer<'_, K>,
     view: &View<'_>,
     n: usize,
 ) -> Result<(), Stop>
-    ensures { Puts (K.state sink.old) buffer.old (K.state sink.new) buffer.new
+    ensures { Puts (output K.state out.old) (output K.state out.new)
         (lines_at (slice_get view.now.book.contents n)) result }
 {
     match view.sheet_at(n) {
-        Some(sheet) => put_displayed(alloc, buffer, sink, &sheet),
+        Some(sheet) => put_displayed(alloc, out, &sheet),
         None => Ok(()),
     }
 }
@@ -303,33 +289,27 @@ fn put_lines_at<K: Sink>(
 /// Puts the line of a sheet, and those of what stands at its index.
 fn put_view<K: Sink>(
     alloc: Global,
-    buffer: &mut Buffer,
-    sink: &mut K,
+    out: &mut Writer<'_, K>,
     view: &View<'_>,
     sheet: &Sheet,
     n: usize,
 ) -> Result<(), Stop>
-    ensures { Puts (K.state sink.old) buffer.old (K.state sink.new) buffer.new
+    ensures { Puts (output K.state out.old) (output K.state out.new)
         (sheet_line (sheet_content sheet.now) ++ lines_at (slice_get view.now.book.contents n)) result }
 {
-    put_sheet(buffer, sink, sheet)?;
-    put_lines_at(alloc, buffer, sink, view, n)?;
+    put_sheet(out, sheet)?;
+    put_lines_at(alloc, out, view, n)?;
     Ok(())
 }
 
 /// Puts the sheets in workbook order, and what they show.
-fn put_views<K: Sink>(
-    alloc: Global,
-    buffer: &mut Buffer,
-    sink: &mut K,
-    view: &View<'_>,
-) -> Result<(), Stop>
-    ensures { Puts (K.state sink.old) buffer.old (K.state sink.new) buffer.new
+fn put_views<K: Sink>(alloc: Global, out: &mut Writer<'_, K>, view: &View<'_>) -> Result<(), Stop>
+    ensures { Puts (output K.state out.old) (output K.state out.new)
         (sheets_text view.now.book.sheets view.now.book.contents) result }
 {
     let sheets = view.sheets();
     for i in 0..sheets.len() {
-        put_view(alloc, buffer, sink, view, &sheets[i], i)?;
+        put_view(alloc, out, view, &sheets[i], i)?;
     }
     Ok(())
 }
@@ -342,50 +322,41 @@ fn epoch_word(is_1904: bool) -> &'static str
 }
 
 /// Puts the date system.
-fn put_dates<K: Sink>(buffer: &mut Buffer, sink: &mut K, is_1904: bool) -> Result<(), Stop>
-    ensures { Puts (K.state sink.old) buffer.old (K.state sink.new) buffer.new
+fn put_dates<K: Sink>(out: &mut Writer<'_, K>, is_1904: bool) -> Result<(), Stop>
+    ensures { Puts (output K.state out.old) (output K.state out.new)
         (dates_line is_1904) result }
 {
-    buffer.put_line(sink, "dates", &[Field::Word(epoch_word(is_1904))])
+    out.put_line("dates", &[Field::Word(epoch_word(is_1904))])
 }
 
 /// Puts the line of a defined name.
-fn put_name<K: Sink>(buffer: &mut Buffer, sink: &mut K, name: &(String, String)) -> Result<(), Stop>
-    ensures { Puts (K.state sink.old) buffer.old (K.state sink.new) buffer.new
+fn put_name<K: Sink>(out: &mut Writer<'_, K>, name: &(String, String)) -> Result<(), Stop>
+    ensures { Puts (output K.state out.old) (output K.state out.new)
         (name_line (name_texts name.now)) result }
 {
     let text = Field::Text(name.1.as_str());
-    buffer.put_line(sink, "name", &[Field::Text(name.0.as_str()), text])
+    out.put_line("name", &[Field::Text(name.0.as_str()), text])
 }
 
 /// Puts the lines of the defined names.
-fn put_names<K: Sink>(
-    buffer: &mut Buffer,
-    sink: &mut K,
-    names: &[(String, String)],
-) -> Result<(), Stop>
-    ensures { Puts (K.state sink.old) buffer.old (K.state sink.new) buffer.new
+fn put_names<K: Sink>(out: &mut Writer<'_, K>, names: &[(String, String)]) -> Result<(), Stop>
+    ensures { Puts (output K.state out.old) (output K.state out.new)
         (flat_map (λ n. name_line (name_texts n)) names.now) result }
 {
     for name in names {
-        put_name(buffer, sink, name)?;
+        put_name(out, name)?;
     }
     Ok(())
 }
 
 /// Puts the date system, the defined names, and the sheets with what they show.
-fn put_report<K: Sink>(
-    alloc: Global,
-    buffer: &mut Buffer,
-    sink: &mut K,
-    view: &View<'_>,
-) -> Result<(), Stop>
-    ensures { Puts (K.state sink.old) buffer.old (K.state sink.new) buffer.new
+fn put_report<K: Sink>(alloc: Global, out: &mut Writer<'_, K>, view: &View<'_>) -> Result<(), Stop>
+    ensures { Puts (output K.state out.old) (output K.state out.new)
         (report view.now.book) result }
 {
-    put_dates(buffer, sink, view.has_1904_epoch())?;
-    put_names(buffer, sink, view.defined_names())?;
-    put_views(alloc, buffer, sink, view)?;
+    put_dates(out, view.has_1904_epoch())?;
+    put_names(out, view.defined_names())?;
+    put_views(alloc, out, view)?;
     Ok(())
 }
 
@@ -396,18 +367,19 @@ pub fn write_report<K: Sink>(alloc: Global, sink: &mut K, view: &View<'_>) -> Re
     ensures { Delivers (K.state sink.old) (K.state sink.new) (report view.now.book) result }
 {
     let mut buffer = Buffer::new(alloc);
-    put_report(alloc, &mut buffer, sink, view)?;
-    buffer.finish(sink)?;
+    let mut out = Writer::new(&mut buffer, sink);
+    put_report(alloc, &mut out, view)?;
+    out.finish()?;
     Ok(())
 }
 
 /// Puts the lines of sheets.
-fn put_sheets<K: Sink>(buffer: &mut Buffer, sink: &mut K, sheets: &[Sheet]) -> Result<(), Stop>
-    ensures { Puts (K.state sink.old) buffer.old (K.state sink.new) buffer.new
+fn put_sheets<K: Sink>(out: &mut Writer<'_, K>, sheets: &[Sheet]) -> Result<(), Stop>
+    ensures { Puts (output K.state out.old) (output K.state out.new)
         (flat_map (λ s. sheet_line (sheet_content s)) sheets.now) result }
 {
     for sheet in sheets {
-        put_sheet(buffer, sink, sheet)?;
+        put_sheet(out, sheet)?;
     }
     Ok(())
 }
@@ -417,8 +389,9 @@ pub fn write_sheets<K: Sink>(alloc: Global, sink: &mut K, view: &View<'_>) -> Re
     ensures { Delivers (K.state sink.old) (K.state sink.new) (sheet_report view.now.book) result }
 {
     let mut buffer = Buffer::new(alloc);
-    put_sheets(&mut buffer, sink, view.sheets())?;
-    buffer.finish(sink)?;
+    let mut out = Writer::new(&mut buffer, sink);
+    put_sheets(&mut out, view.sheets())?;
+    out.finish()?;
     Ok(())
 }
 

@@ -1,5 +1,5 @@
-use Rattle.xls_lines.proofs.GatherLemmas.{puts-memory}
+use Rattle.xls_lines.proofs.OutputLemmas.{puts-memory}
 use Rattle.xls_report.proofs.report.put_cell.Goals as goal
 
 pub returns-in_err-value : goal.returns-in_err-value
-returns-in_err-value g c = puts-memory _ _ _ _ c.from_residual.result c.from_residual.ensures.1
+returns-in_err-value g c = puts-memory _ _ _ _ _ c.from_residual.result c.from_residual.ensures.1

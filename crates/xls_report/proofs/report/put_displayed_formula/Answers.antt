@@ -1,14 +1,15 @@
 use Rattle.std.proofs.Common.{sym, ◌∙◌}
-use Rattle.xls_lines.proofs.GatherLemmas.{gathers-as, gathers-nothing, puts-as}
+use Rattle.xls_lines.specs.Output.{output}
+use Rattle.xls_lines.proofs.OutputLemmas.{gathers-as, gathers-nothing, puts-as}
 use Rattle.xls_report.proofs.TextLemmas.{formula_none, formula_displayed, no_characters, some_characters}
 use Rattle.xls_report.proofs.report.put_displayed_formula.Goals as goal
 
 pub returns-then-is_empty : goal.returns-then-is_empty
 returns-then-is_empty g c =
-    gathers-as (gathers-nothing _ _) (sym (formula_none (c.args.row, c.args.column) _ (no_characters c.args.text.now (sym c.if-is_empty.true ∙ c.is_empty.ensures))))
+    gathers-as (gathers-nothing _) (sym (formula_none (c.args.row, c.args.column) _ (no_characters c.args.text.now (sym c.if-is_empty.true ∙ c.is_empty.ensures))))
 
 pub returns : goal.returns
 returns g c =
     let state = g.K.Sink.state in
     let some = some_characters c.args.text.now c.utf8.text (sym c.if-is_empty.false ∙ c.is_empty.ensures) in
-    puts-as (state c.args.sink.now) _ (state c.put_formula.new.sink) _ c.put_formula.result (formula_displayed (c.args.row, c.args.column) _ some) c.put_formula.ensures
+    puts-as (output state c.args.out.now) (output state c.put_formula.new.out) c.put_formula.result (formula_displayed (c.args.row, c.args.column) _ some) c.put_formula.ensures

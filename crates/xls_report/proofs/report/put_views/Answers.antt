@@ -2,7 +2,7 @@ use Rattle.std.proofs.Common.{◌≡◌, ◌+◌, ◌++◌, length, take, refl, 
 use Rattle.std.proofs.lemmas.List.{length-map}
 use Rattle.xls_data.specs.Sheets.{sheet_content}
 use Rattle.xls_report.specs.Report.{sheets_text}
-use Rattle.xls_lines.proofs.GatherLemmas.{gathers-as, gathers-then, puts-stop, stops-as, stops-more, stops-then}
+use Rattle.xls_lines.proofs.OutputLemmas.{gathers-as, gathers-then, puts-stop, stops-as, stops-more, stops-then}
 use Rattle.xls_report.proofs.TextLemmas.{mapped, sheets-all, sheets-next, sheets-split}
 use Rattle.xls_report.proofs.report.put_views.Goals as goal
 
@@ -14,7 +14,7 @@ returns-in_err-put_view g c =
     let here = mapped sheet_content c.sheets-sheets.result.now book.sheets i sheet c.loop-i-test.true c.index-sheets-i.is c.sheets-sheets.ensures in
     let next = sheets-next book.sheets book.contents i (sheet_content sheet) _ here refl in
     let split = sheets-split book.sheets book.contents (i + 1) in
-    puts-stop _ c.from_residual.result c.from_residual.ensures.1
+    puts-stop c.from_residual.result c.from_residual.ensures.1
     (stops-as (stops-more split.0 (stops-then {xs = sheets_text (take i book.sheets) (take i book.contents)} c.loop-i.invariant c.in_err-put_view.ensures)) (ap (λ text. text ++ split.0) next ∙ split.1))
 
 pub loop-i-preserved : goal.loop-i-preserved

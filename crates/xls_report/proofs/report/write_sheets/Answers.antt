@@ -1,9 +1,9 @@
-use Rattle.std.proofs.Common.{◌≡◌, List, [], ◌∷◌, ◌++◌, map, refl, ap, ◌∙◌}
+use Rattle.std.proofs.Common.{◌≡◌, List, [], ◌∷◌, ◌++◌, map, refl, rules, ap, ◌∙◌}
 use Rattle.std.specs.List.{flat_map}
 use Rattle.xls_data.specs.Sheets.{SheetContent, sheet_content}
 use Rattle.xls_data.specs.declared.sheets.Sheet.{Sheet}
 use Rattle.xls_report.specs.Report.{sheet_line}
-use Rattle.xls_lines.proofs.GatherLemmas.{delivers-stop, gathers-as, gathers-after, gathers-from, stops-as, stops-after, stops-from, wrote}
+use Rattle.xls_lines.proofs.OutputLemmas.{delivers-back, delivers-stop, gathers-as, gathers-after, stops-as, stops-after, wrote, wrote-back}
 use Rattle.xls_report.proofs.report.write_sheets.Goals as goal
 
 -- the lines of the sheets as their content says
@@ -18,13 +18,17 @@ all_sheets sheets contents e = each sheets ∙ ap (flat_map sheet_line) e
 
 pub returns-in_err-put_sheets : goal.returns-in_err-put_sheets
 returns-in_err-put_sheets g c =
-    delivers-stop c.from_residual.result c.from_residual.ensures.1 (stops-from c.new-buffer.ensures (stops-as c.in_err-put_sheets.ensures (all_sheets _ _ c.sheets.ensures)))
+    let r = c.from_residual in
+    delivers-back g.K.Sink.state _ r.result c.new-out.ensures.sink (search rules)
+    (delivers-stop r.result r.ensures.1 (c.new-out.ensures.kept ∙ c.new-buffer.ensures) (stops-as c.in_err-put_sheets.ensures (all_sheets _ _ c.sheets.ensures)))
 
 pub returns-in_err-finish : goal.returns-in_err-finish
 returns-in_err-finish g c =
-    let a = c.from_residual-in_err-finish in
-    delivers-stop a.result a.ensures.1 (stops-after (gathers-from c.new-buffer.ensures (gathers-as c.in_ok-put_sheets.ensures (all_sheets _ _ c.sheets.ensures))) c.in_err-finish.ensures.puts)
+    let r = c.from_residual-in_err-finish in
+    delivers-back g.K.Sink.state _ r.result c.new-out.ensures.sink (search rules)
+    (delivers-stop r.result r.ensures.1 (c.new-out.ensures.kept ∙ c.new-buffer.ensures) (stops-after (gathers-as c.in_ok-put_sheets.ensures (all_sheets _ _ c.sheets.ensures)) c.in_err-finish.ensures.puts))
 
 pub returns : goal.returns
 returns g c =
-    wrote (gathers-after (gathers-from c.new-buffer.ensures (gathers-as c.in_ok-put_sheets.ensures (all_sheets _ _ c.sheets.ensures))) c.in_ok-finish.ensures.puts) c.in_ok-finish.ensures.none
+    wrote-back g.K.Sink.state c.new-out.ensures.sink (search rules)
+    (wrote (c.new-out.ensures.kept ∙ c.new-buffer.ensures) (gathers-after (gathers-as c.in_ok-put_sheets.ensures (all_sheets _ _ c.sheets.ensures)) c.in_ok-finish.ensures.puts) c.in_ok-finish.ensures.none)
