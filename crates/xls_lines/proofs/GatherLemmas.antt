@@ -131,52 +131,10 @@ pub memory-inside : {a b : SinkState} {g h : List ℕ} (at : ℕ) (text : List �
     → GathersText a g b h (take at text) → Stops a g b text Memory
 memory-inside at text p = stops-as (stops-memory (drop at text) p) (take-append-drop at text)
 
--- ---- what was kept apart is kept together
-
-pub joined : {a b : SinkState} {g h xs all : List ℕ} → all ≡ g ++ xs
-    → GathersText a g b h xs → GathersText a all b h []
-joined {a} {b} {g} {h} {xs} {all} e p = subst (λ (l : List ℕ). GathersText a l b h []) (sym e) (record {
-  grows = (p.grows.0, append-nil (g ++ xs) ∙ p.grows.1, p.grows.2);
-  later = p.later;
-  steady = λ n le take.
-      let size : length (g ++ xs) ≡ length g + length xs = length-append g xs in
-      let less = p.steady n (omega (arith, size, le)) take in
-      (less.0, less.1, less.2, omega (arith, size, less.3));
-})
-
-pub joined-stops : {a b : SinkState} {g xs all : List ℕ} {e : Stop} → all ≡ g ++ xs
-    → Stops a g b xs e → Stops a all b [] e
-joined-stops {a} {b} {g} {xs} {all} {e} is p = subst (λ (l : List ℕ). Stops a l b [] e) (sym is) (record {
-  start = subst (AppendsPrefix a.written b.written) (sym (append-nil (g ++ xs))) p.start;
-  cause = p.cause;
-  later = p.later;
-  steady = λ n le take. p.steady n (omega (arith, length-append g xs, le)) take;
-})
-
--- ---- then no further text
-
-pub gathers-after : {a b c : SinkState} {g h k xs : List ℕ}
-    → GathersText a g b h xs → GathersText b h c k [] → GathersText a g c k xs
-gathers-after p q = gathers-as (gathers-then p q) (append-nil _)
-
-pub stops-after : {a b c : SinkState} {g h xs : List ℕ} {e : Stop}
-    → GathersText a g b h xs → Stops b h c [] e → Stops a g c xs e
-stops-after p q = stops-as (stops-then p q) (append-nil _)
-
--- what is kept, spelled otherwise
-pub gathers-to : {a b : SinkState} {g h k xs : List ℕ}
-    → GathersText a g b h xs → h ≡ k → GathersText a g b k xs
-gathers-to {a} {b} {g} {h} {k} {xs} p e =
-    subst (λ (l : List ℕ). GathersText a g b l xs) e p
-
 -- ---- out of memory before anything was written
 
 pub stops-memory-now : (w : SinkState) (g text : List ℕ) → Stops w g w text Memory
 stops-memory-now w g text = stops-memory text (gathers-nothing w g)
-
-pub puts-memory : {X : Type 0} (w : SinkState) (g text : List ℕ) (h : List ℕ) (r : Result X Stop)
-    → IsErrAnd r (λ d. d ≡ Memory) → PutsText w g w h text r
-puts-memory w g text h r is = puts-stop h r is (stops-memory-now w g text)
 
 -- ---- lists whose items are put one after the other
 
@@ -236,7 +194,3 @@ gathers-from {a} {b} {g} {h} {xs} e p =
 pub stops-from : {a b : SinkState} {g xs : List ℕ} {e : Stop} → g ≡ []
     → Stops a g b xs e → Stops a [] b xs e
 stops-from {a} {b} {g} {xs} {e} is p = subst (λ (l : List ℕ). Stops a l b xs e) is p
-
-pub puts-as : {X : Type 0} (a : SinkState) (g : List ℕ) (b : SinkState) (h : List ℕ) {xs ys : List ℕ} (r : Result X Stop)
-    → xs ≡ ys → PutsText a g b h xs r → PutsText a g b h ys r
-puts-as a g b h r e p = subst (λ (text : List ℕ). PutsText a g b h text r) e p
