@@ -7,7 +7,7 @@ use crate::failure::Failure;
 use std::alloc::Global;
 use xls_biff::XlsError;
 use xls_lay::{LayError, TOO_LONG, canonical_length, logical_of, write_stream};
-use xls_lines::{Buffer, Sink, Stop};
+use xls_lines::{Buffer, Sink, Stop, Writer};
 use xls_open::MAX_BYTES;
 
 /// Writes bytes.
@@ -15,8 +15,9 @@ fn write_bytes<K: Sink>(alloc: Global, sink: &mut K, bytes: &[u8]) -> Result<(),
     ensures { Delivers (K.state sink.old) (K.state sink.new) bytes.now result }
 {
     let mut buffer = Buffer::new(alloc);
-    buffer.put(sink, bytes)?;
-    buffer.finish(sink)?;
+    let mut out = Writer::new(&mut buffer, sink);
+    out.put(bytes)?;
+    out.finish()?;
     Ok(())
 }
 

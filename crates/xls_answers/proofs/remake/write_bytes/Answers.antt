@@ -1,7 +1,20 @@
-use Rattle.xls_lines.proofs.GatherLemmas.{delivers-stop, gathers-from, stops-after}
+use Rattle.std.proofs.Common.{rules, ◌∙◌}
+use Rattle.xls_lines.proofs.OutputLemmas.{delivers-back, delivers-stop, gathers-after, stops-after, wrote, wrote-back}
 use Rattle.xls_answers.proofs.remake.write_bytes.Goals as goal
+
+pub returns-in_err-put : goal.returns-in_err-put
+returns-in_err-put g c =
+    let r = c.from_residual in
+    delivers-back g.K.Sink.state _ r.result c.new-out.ensures.sink (search rules)
+    (delivers-stop r.result r.ensures.1 (c.new-out.ensures.kept ∙ c.new-buffer.ensures) c.in_err-put.ensures)
 
 pub returns-in_err-finish : goal.returns-in_err-finish
 returns-in_err-finish g c =
-    let a = c.from_residual-in_err-finish in
-    delivers-stop a.result a.ensures.1 (stops-after (gathers-from c.new-buffer.ensures c.in_ok-put.ensures) c.in_err-finish.ensures.puts)
+    let r = c.from_residual-in_err-finish in
+    delivers-back g.K.Sink.state _ r.result c.new-out.ensures.sink (search rules)
+    (delivers-stop r.result r.ensures.1 (c.new-out.ensures.kept ∙ c.new-buffer.ensures) (stops-after c.in_ok-put.ensures c.in_err-finish.ensures.puts))
+
+pub returns : goal.returns
+returns g c =
+    wrote-back g.K.Sink.state c.new-out.ensures.sink (search rules)
+    (wrote (c.new-out.ensures.kept ∙ c.new-buffer.ensures) (gathers-after c.in_ok-put.ensures c.in_ok-finish.ensures.puts) c.in_ok-finish.ensures.none)
