@@ -12,7 +12,7 @@ use crate::sample::sample_bytes;
 use std::alloc::{AllocError, Global};
 use xls_book::{Reader, SteadySource, Xls};
 use xls_data::{CellType, Data};
-use xls_lines::{Buffer, Field, Sink, Stop};
+use xls_lines::{Buffer, Field, Sink, Stop, Writer};
 use xls_range::Range;
 
 /// The height of a range, how many of its cells are used, and the sum of its whole numbers.
@@ -85,9 +85,10 @@ pub fn write_summary<K: Sink>(alloc: Global, sink: &mut K, summary: Summary) -> 
         (counts_text summary.rows summary.cells summary.sum) result }
 {
     let mut buffer = Buffer::new(alloc);
-    buffer.put_line(sink, "rows", &[Field::Number(summary.rows)])?;
-    buffer.put_line(sink, "cells", &[Field::Number(summary.cells)])?;
-    buffer.put_line(sink, "sum", &[Field::Number(summary.sum)])?;
-    buffer.finish(sink)?;
+    let mut out = Writer::new(&mut buffer, sink);
+    out.put_line("rows", &[Field::Number(summary.rows)])?;
+    out.put_line("cells", &[Field::Number(summary.cells)])?;
+    out.put_line("sum", &[Field::Number(summary.sum)])?;
+    out.finish()?;
     Ok(())
 }
