@@ -3,7 +3,6 @@
 ghost use Rattle.std.specs.Prelude.{◌≡◌};
 ghost use Rattle.xls_arrays.specs.Numbers.{bits_of, number_form};
 ghost use Rattle.xls_arrays.specs.Values.{error_code, form_in, content_kind, value_in};
-ghost use Rattle.xls_data.specs.Numeric.{numeric_content};
 ghost use Rattle.xls_cursors.specs.Values.{lent_content};
 
 use crate::items::{CellItem, Span};
@@ -27,46 +26,16 @@ fn error_code(error: CellErrorType) -> u64
     }
 }
 
-/// An item of a text as long as this one, or of a value without a text.
-#[inline(always)]
-fn item(row: u32, column: u32, kind: u32, form: u32, value: u64, text: Span) -> CellItem
-    ensures { result ≡ record { row = row; column = column; kind = kind; form = form; value = value; length = text.length } }
+/// The item with a number of a kind.
+#[inline]
+fn number_item(item: CellItem, kind: u32, number: Number) -> CellItem
+    ensures { result ≡ record item { kind = kind; form = number_form number; value = bits_of number } }
 {
     CellItem {
-        row,
-        column,
         kind,
-        form,
-        value,
-        length: text.length,
-    }
-}
-
-/// The item of a number of a kind.
-#[inline]
-fn number_item(row: u32, column: u32, kind: u32, number: Number, text: Span) -> CellItem
-    ensures { result ≡ record { row = row; column = column; kind = kind; form = number_form number; value = bits_of number; length = text.length } }
-{
-    item(row, column, kind, form_of(number), bits_of(number), text)
-}
-
-/// The item of a number under its format.
-#[inline]
-fn numeric_item(row: u32, column: u32, value: Numeric, text: Span) -> CellItem
-    ensures { result ≡ record {
-      row = row;
-      column = column;
-      kind = content_kind (numeric_content value);
-      form = form_in (numeric_content value);
-      value = value_in text.offset (numeric_content value);
-      length = text.length;
-    } }
-{
-    match value {
-        Numeric::Int(n) => number_item(row, column, 9, Number::Whole(n), text),
-        Numeric::Float(number) => number_item(row, column, 1, number, text),
-        Numeric::DateTime(number, _) => number_item(row, column, 2, number, text),
-        Numeric::TimeDelta(number, _) => number_item(row, column, 3, number, text),
+        form: form_of(number),
+        value: bits_of(number),
+        ..item
     }
 }
 
@@ -82,12 +51,34 @@ pub(crate) fn cell_item(row: u32, column: u32, value: &CellValue<'_>, text: Span
       length = text.length;
     } }
 {
+    let blank = CellItem {
+        row,
+        column,
+        kind: 0,
+        form: 0,
+        value: 0,
+        length: text.length,
+    };
     match value {
-        CellValue::Number(number) => numeric_item(row, column, *number, text),
-        CellValue::Bool(truth) => item(row, column, 4, 0, u64::from(*truth), text),
-        CellValue::Error(error) => item(row, column, 5, 0, error_code(*error), text),
-        CellValue::Empty => item(row, column, 0, 0, 0, text),
-        CellValue::Shared(_) => item(row, column, 6, 0, text.offset, text),
-        CellValue::Encoded(_) => item(row, column, 6, 0, text.offset, text),
+        CellValue::Number(Numeric::Int(n)) => number_item(blank, 9, Number::Whole(*n)),
+        CellValue::Number(Numeric::Float(number)) => number_item(blank, 1, *number),
+        CellValue::Number(Numeric::DateTime(number, _)) => number_item(blank, 2, *number),
+        CellValue::Number(Numeric::TimeDelta(number, _)) => number_item(blank, 3, *number),
+        CellValue::Bool(truth) => CellItem {
+            kind: 4,
+            value: u64::from(*truth),
+            ..blank
+        },
+        CellValue::Error(error) => CellItem {
+            kind: 5,
+            value: error_code(*error),
+            ..blank
+        },
+        CellValue::Empty => blank,
+        CellValue::Shared(_) | CellValue::Encoded(_) => CellItem {
+            kind: 6,
+            value: text.offset,
+            ..blank
+        },
     }
 }
