@@ -55,7 +55,7 @@ pub struct CellItem {
     pub row: u32,
     pub column: u32,
     /// 0 blank, 1 number, 2 date and time, 3 duration, 4 truth value, 5 error value, 6 text, 7 date as text, 8
-    /// duration as text.
+    /// duration as text, 9 whole number.
     pub kind: u32,
     /// Of a number, a date or a duration: 0 a double, 1 a whole number, 2 hundredths, 3 a double over 100.
     pub form: u32,
