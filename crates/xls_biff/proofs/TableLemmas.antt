@@ -11,8 +11,9 @@ use Rattle.xls_record.proofs.ReadingLemmas.{gives-ok}
 use Rattle.xls_data.specs.Content.{Content}
 use Rattle.xls_data.specs.declared.regions.Dimensions.{Dimensions}
 use Rattle.xls_biff.specs.Cells.{CellEntry, Position}
+use Rattle.xls_biff.specs.Lines.{line_of}
 use Rattle.xls_biff.specs.Records.Rk.{mul_rk_at}
-use Rattle.xls_biff.specs.SheetTable.{CellContext, SheetRecord, TableLine, empty_record, cell_record, cells_record, shared_record, string_record, formula_record, regions_record, other_line, empty_line, cell_line, cells_line, shared_line, string_line, formula_line, regions_line, read_on_line, line_of, sheet_table, sheet_record_at, weight_of, weight_of_type, other_weights}
+use Rattle.xls_biff.specs.SheetTable.{CellContext, SheetRecord, TableLine, empty_record, cell_record, cells_record, shared_record, string_record, formula_record, regions_record, other_line, empty_line, cell_line, cells_line, shared_line, string_line, formula_line, regions_line, read_on_line, sheet_table, sheet_record_at, weight_of, weight_of_type, other_weights}
 
 infixr 4 ◌&◌
 -- what a line has, and what those after it have
@@ -20,15 +21,15 @@ pub ◌&◌ : {A B : Type 0} → A → B → A × B
 a & b = (a, b)
 
 -- what all lines have, and a type that has none, each type has
-pub every_type : (P : ℕ → TableLine → Type 0) (lines : List (ℕ × TableLine)) (typ : ℕ)
-    → (is_among typ (map (λ line. line.0) lines) ≡ false → P typ other_line)
-    → AllByRecursion (λ line. P line.0 line.1) lines → P typ (line_of lines typ)
-every_type P [] typ none all = none refl
-every_type P (line ∷ lines) typ none all =
-    by_test (typ == line.0) refl (λ t. every_type P lines typ (λ h. none (rw t h)) all.1)
+pub every_type : {Line : Type 0} (other : Line) (P : ℕ → Line → Type 0) (lines : List (ℕ × Line)) (typ : ℕ)
+    → (is_among typ (map (λ line. line.0) lines) ≡ false → P typ other)
+    → AllByRecursion (λ line. P line.0 line.1) lines → P typ (line_of other lines typ)
+every_type other P [] typ none all = none refl
+every_type {Line} other P (line ∷ lines) typ none all =
+    by_test (typ == line.0) refl (λ t. every_type other P lines typ (λ h. none (rw t h)) all.1)
   where
-    by_test : (b : Bool) → (typ == line.0) ≡ b → ((typ == line.0) ≡ false → P typ (line_of lines typ))
-        → P typ (if b then line.1 else line_of lines typ)
+    by_test : (b : Bool) → (typ == line.0) ≡ b → ((typ == line.0) ≡ false → P typ (line_of other lines typ))
+        → P typ (if b then line.1 else line_of other lines typ)
     by_test true t later = subst (λ (n : ℕ). P n line.1) (sym (eqb-true typ line.0 t)) all.0
     by_test false t later = later t
 
@@ -40,8 +41,8 @@ IsOwn typ (formula_line read) = typ ≡ types.FORMULA
 IsOwn typ (regions_line read) = typ ≡ types.MERGE_CELLS
 IsOwn typ _ = Unit {0}
 
-pub each_own : (typ : ℕ) → IsOwn typ (line_of sheet_table typ)
-each_own typ = every_type IsOwn sheet_table typ (λ h. tt) (search rules)
+pub each_own : (typ : ℕ) → IsOwn typ (line_of other_line sheet_table typ)
+each_own typ = every_type other_line IsOwn sheet_table typ (λ h. tt) (search rules)
 
 -- what a fault has and each kind of record, each type has
 module _ (Q : Result SheetRecord XlsError → Type 0) (fault : (e : XlsError) → Q (Err e)) (empty : Q (Ok empty_record)) (cells : (cs : List CellEntry) → Q (Ok (cells_record cs))) (shared : (c : Option CellEntry) → Q (Ok (shared_record c))) (string : (cs : List ℕ) → Q (Ok (string_record cs))) where
@@ -67,7 +68,7 @@ module _ (Q : Result SheetRecord XlsError → Type 0) (fault : (e : XlsError) �
       → (typ ≡ types.FORMULA → (at : Position) (value : Option Content) (tokens : List ℕ) → Q (Ok (formula_record at value tokens)))
       → (typ ≡ types.MERGE_CELLS → (rs : List Dimensions) → Q (Ok (regions_record rs)))
       → (settings : CellContext) (body : List ℕ) → Q (sheet_record_at settings typ body)
-  each_kind typ = on_line typ (line_of sheet_table typ) (each_own typ)
+  each_kind typ = on_line typ (line_of other_line sheet_table typ) (each_own typ)
 
 -- ---- weights
 
@@ -94,8 +95,8 @@ unlisted typ h = rw h (either (is_among typ other_weights))
     either true = refl
     either false = refl
 
-each_weight : (typ : ℕ) → Weighs typ (line_of sheet_table typ)
-each_weight typ = every_type Weighs sheet_table typ (unlisted typ) (search rules)
+each_weight : (typ : ℕ) → Weighs typ (line_of other_line sheet_table typ)
+each_weight typ = every_type other_line Weighs sheet_table typ (unlisted typ) (search rules)
 
 weight_by : (typ : ℕ) (line : TableLine) → Weighs typ line → typ ≢ types.MUL_RK → (settings : CellContext) (body : List ℕ) (g : SheetRecord)
     → read_on_line line settings body ≡ Ok g → weight_of_type typ ≡ weight_of g
@@ -111,7 +112,7 @@ weight_by typ (regions_line read) w apart settings body g e = w ∙ weighs regio
 
 pub weight_by_the_table : (typ : ℕ) → typ ≢ types.MUL_RK → (settings : CellContext) (body : List ℕ) (g : SheetRecord)
     → sheet_record_at settings typ body ≡ Ok g → weight_of_type typ ≡ weight_of g
-weight_by_the_table typ = weight_by typ (line_of sheet_table typ) (each_weight typ)
+weight_by_the_table typ = weight_by typ (line_of other_line sheet_table typ) (each_weight typ)
 
 -- a MulRk weighs as its cells
 pub all_cells : (settings : CellContext) (body : List ℕ) (n : ℕ)

@@ -1,5 +1,5 @@
 -- The records of a sheet: what each gives, or its first fault. One line a type.
-use Rattle.std.specs.Prelude.{ℕ, List, [], ◌∷◌, Bool, ◌==◌, if◌then◌else◌, length, Option, Some, None, Result, Ok, Err, ◌≡◌, ◌≢◌, ◌+◌, ◌*◌, ◌≤◌, ◌^◌, map}
+use Rattle.std.specs.Prelude.{ℕ, List, [], ◌∷◌, Bool, if◌then◌else◌, length, Option, Some, None, Result, Ok, Err, ◌≡◌, ◌≢◌, ◌+◌, ◌*◌, ◌≤◌, ◌^◌, map}
 use Rattle.xls_text.specs.declared.encoding.XlsEncoding.{XlsEncoding}
 use Rattle.xls_stream.specs.Substreams.{is_among, sheet_types}
 use Rattle.xls_stream.specs.declared.types.TheConstants as types
@@ -11,6 +11,7 @@ use Rattle.xls_record.specs.declared.error.XlsError.{XlsError}
 use Rattle.xls_record.specs.Reading.{gives}
 use Rattle.xls_strings.specs.Strings.{string_at}
 use Rattle.xls_biff.specs.Cells.{CellEntry, Position, characters_in}
+use Rattle.xls_biff.specs.Lines.{line_of}
 use Rattle.xls_biff.specs.Records.BoolErr.{bool_err_at, bes_entry}
 use Rattle.xls_biff.specs.Records.Dimensions.{dimensions_at}
 use Rattle.xls_biff.specs.Records.Formula.{formula_at, formula_parts}
@@ -95,13 +96,8 @@ sheet_table =
     ∷ (types.FORMULA, formula_line (λ settings body. formula_at settings.classes settings.is_1904 body))
     ∷ []
 
--- the line of a type
-abbrev pub line_of : List (ℕ × TableLine) → ℕ → TableLine
-line_of [] typ = other_line
-line_of (line ∷ lines) typ = if typ == line.0 then line.1 else line_of lines typ
-
 abbrev pub sheet_record_at : CellContext → ℕ → List ℕ → Result SheetRecord XlsError
-sheet_record_at settings typ body = read_on_line (line_of sheet_table typ) settings body
+sheet_record_at settings typ body = read_on_line (line_of other_line sheet_table typ) settings body
 
 -- how many cells a record weighs; a Formula and a LabelSst count as one even where they give none
 abbrev pub weight_of : SheetRecord → ℕ

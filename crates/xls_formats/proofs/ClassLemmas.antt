@@ -24,10 +24,10 @@ use Rattle.xls_biff.specs.Records.BoundSheet.{sheet_by}
 use Rattle.xls_biff.specs.Records.Format.{format_at, format_text_at, is_format_id}
 use Rattle.xls_biff.specs.Records.Xf.{xf_at}
 use Rattle.xls_meaning.specs.Order.{map_with_earlier, somes}
-use Rattle.xls_meaning.specs.GlobalsTable.{NamedPlace, GlobalsRecord, version_record, other_record, page_record, date_record, xf_record, references_record, name_record, sheet_record, unless_forced, unless_refused, PlainLine, globals_table, plain_record_at, GlobalsLine, format_from, xf_from}
+use Rattle.xls_meaning.specs.GlobalsTable.{NamedPlace, GlobalsRecord, version_record, other_record, page_record, date_record, xf_record, references_record, name_record, sheet_record, unless_forced, unless_refused, PlainLine, other_line, globals_table, plain_record_at, GlobalsLine, format_from, xf_from}
 use Rattle.xls_meaning.specs.Settings.{page_in, version_in, line_in, formats_in, last_class, class_in, identifiers_in}
 use Rattle.xls_meaning.specs.Rules.{Rules}
-use Rattle.xls_meaning.proofs.GlobalsTableLemmas.{every_plain_type}
+use Rattle.xls_biff.proofs.TableLemmas.{every_type}
 use Rattle.xls_formats.specs.Uncounted.{xf_identifier_at, uncounted_in, xf_identifier_in, uncounted_ids, is_touched}
 use Rattle.xls_formats.specs.Laws.{TouchedAreBuiltIn}
 
@@ -55,7 +55,7 @@ module _ (P : GlobalsLine → Type 0) (fails : (e : XlsError) → P (Err e)) (ot
   plain_line : (typ : ℕ) → ((p : XlsEncoding) (v : Biff) (body : List ℕ) → P (unless_refused (format_at p v body)))
       → (typ ≡ types.XF → (body : List ℕ) → P (gives xf_record (xf_at body)))
       → (forced : Option ℕ) (p : XlsEncoding) (v : Biff) (body : List ℕ) → P (plain_record_at forced p v typ body)
-  plain_line typ = every_plain_type Has globals_table typ (λ h format xf forced p v body. other) (search (rules, built, unforced) depth 16)
+  plain_line typ = every_type other_line Has globals_table typ (λ h format xf forced p v body. other) (search (rules, built, unforced) depth 16)
 
 -- ---- XFs
 

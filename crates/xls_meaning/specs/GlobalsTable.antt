@@ -13,6 +13,7 @@ use Rattle.xls_record.specs.declared.error.XlsError.{XlsError}
 use Rattle.xls_record.specs.declared.error.XlsError.TheVariants.{Len, Cfb}
 use Rattle.xls_record.specs.declared.version.Biff.{Biff}
 use Rattle.xls_biff.specs.declared.records.bof.Bof.{Bof}
+use Rattle.xls_biff.specs.Lines.{line_of}
 use Rattle.xls_biff.specs.Records.Bof.{bof_at}
 use Rattle.xls_biff.specs.Records.Xf.{xf_at}
 use Rattle.xls_biff.specs.Records.ExternSheet.{refs_at}
@@ -84,14 +85,9 @@ globals_table =
     ∷ (types.EXTERN_SHEET, λ forced page version body. gives references_record (refs_at version body))
     ∷ []
 
--- the line of a type
-abbrev pub line_of : List (ℕ × PlainLine) → ℕ → PlainLine
-line_of [] typ = other_line
-line_of (line ∷ lines) typ = if typ == line.0 then line.1 else line_of lines typ
-
 -- a record that is neither SST nor BoundSheet8, under a forced page, the page and the version
 abbrev pub plain_record_at : Option ℕ → XlsEncoding → Biff → ℕ → List ℕ → Result GlobalsRecord XlsError
-plain_record_at forced page version typ body = line_of globals_table typ forced page version body
+plain_record_at forced page version typ body = line_of other_line globals_table typ forced page version body
 
 -- a record as it stands in the globals
 abbrev pub item_record_at : Option ℕ → XlsEncoding → Biff → Item → Result GlobalsRecord XlsError

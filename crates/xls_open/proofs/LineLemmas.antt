@@ -13,13 +13,13 @@ use Rattle.xls_record.specs.declared.error.XlsError.TheVariants as errors
 use Rattle.xls_record.specs.declared.version.Biff.{Biff}
 use Rattle.xls_record.specs.Reading.{gives}
 use Rattle.xls_biff.specs.Records.BoundSheet.{sheet_by, bound_sheet_at}
+use Rattle.xls_biff.proofs.TableLemmas.{every_type}
 use Rattle.xls_meaning.specs.Order.{last_of, somes}
-use Rattle.xls_meaning.specs.GlobalsTable.{NamedPlace, GlobalsRecord, other_record, format_record, references_record, name_record, sheet_record, unless_forced, unless_refused, PlainLine, globals_table, plain_record_at, item_record_at, entry_record_at, GlobalsLine, version_from, page_from, date_from, sheet_from}
+use Rattle.xls_meaning.specs.GlobalsTable.{NamedPlace, GlobalsRecord, other_record, format_record, references_record, name_record, sheet_record, unless_forced, unless_refused, PlainLine, other_line, globals_table, plain_record_at, item_record_at, entry_record_at, GlobalsLine, version_from, page_from, date_from, sheet_from}
 use Rattle.xls_meaning.specs.Settings.{sets_1904}
 use Rattle.xls_open.specs.Steps.{with_one, with_all, or_also}
 use Rattle.xls_meaning.proofs.OrderLemmas.{somes-append, last-push, unwrap_push, flat_push}
 use Rattle.xls_meaning.proofs.EntryLemmas.{long_sheet}
-use Rattle.xls_meaning.proofs.GlobalsTableLemmas.{every_plain_type}
 
 -- ---- what one more item gives
 
@@ -93,7 +93,7 @@ have_no_sheet = search (rules, no_sheet_of, no_sheet_unforced, no_sheet_unrefuse
 -- a plain record gives none
 pub no_sheet : (forced : Option ℕ) (p : XlsEncoding) (v : Biff) (typ : ℕ) (body : List ℕ)
     → sheet_from (plain_record_at forced p v typ body) ≡ None
-no_sheet forced p v typ body = every_plain_type HasNoSheet globals_table typ (λ h forced p v body. refl) have_no_sheet forced p v body
+no_sheet forced p v typ body = every_type other_line HasNoSheet globals_table typ (λ h forced p v body. refl) have_no_sheet forced p v body
 
 -- pages and versions hang on nothing that is in force
 module _ {X : Type 0} (f : GlobalsLine → Option X) (fails : (e : XlsError) → f (Err e) ≡ None)
@@ -123,7 +123,7 @@ module _ {X : Type 0} (f : GlobalsLine → Option X) (fails : (e : XlsError) →
   same_said : (forced : Option ℕ) (p q : XlsEncoding) (v w : Biff) (e : ListEntry)
       → f (entry_record_at forced p v e) ≡ f (entry_record_at forced q w e)
   same_said forced p q v w (plain_entry typ body) =
-      every_plain_type IsSame globals_table typ (λ h forced p q v w body. refl) are_same forced p q v w body
+      every_type other_line IsSame globals_table typ (λ h forced p q v w body. refl) are_same forced p q v w body
   same_said forced p q v w (table_entry strings) = refl
   same_said forced p q v w (sheet_entry state kind text kept) =
       not_yielded f sheet_record sheet fails (sheet_by p v state kind text)
