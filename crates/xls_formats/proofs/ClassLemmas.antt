@@ -1,5 +1,5 @@
 -- The classes of touched XFs in a reading.
-use Rattle.std.proofs.Common.{◌≡◌, ℕ, ℤ, List, [], ◌∷◌, ◌++◌, map, take, drop, refl, sym, ap, subst, ◌∙◌, inl, inr, Bool, true, false, Option, Some, None, Result, Ok, Err}
+use Rattle.std.proofs.Common.{rules, ◌≡◌, ℕ, ℤ, List, [], ◌∷◌, ◌++◌, map, take, drop, refl, sym, ap, subst, ◌∙◌, inl, inr, Bool, true, false, Option, Some, None, Result, Ok, Err}
 use Rattle.std.specs.Prelude.{◌==◌, ◌&&◌, ◌||◌, not, nat_le, length, if◌then◌else◌, unwrap_or, slice_get, slice_index}
 use Rattle.std.specs.Result.{result_ok}
 use Rattle.std.specs.Option.{option_map, option_or}
@@ -18,32 +18,20 @@ use Rattle.xls_record.specs.declared.error.XlsError.{XlsError}
 use Rattle.xls_record.specs.declared.error.XlsError.TheVariants.{InvalidFormat}
 use Rattle.xls_record.specs.Reading.{◌>>=◌, ◌>>◌, gives, at_least}
 use Rattle.xls_stream.specs.declared.part.Part.TheVariants as parts
+use Rattle.xls_stream.specs.declared.types.TheConstants as types
 use Rattle.xls_biff.specs.declared.records.bof.Bof.{Bof}
-use Rattle.xls_biff.specs.Records.Bof.{bof_at}
 use Rattle.xls_biff.specs.Records.BoundSheet.{sheet_by}
-use Rattle.xls_biff.specs.Records.CodePage.{code_page_at}
-use Rattle.xls_biff.specs.Records.DateMode.{date_mode_at}
-use Rattle.xls_biff.specs.Records.ExternSheet.{refs_at}
-use Rattle.xls_biff.specs.Records.FilePass.{file_pass_at}
 use Rattle.xls_biff.specs.Records.Format.{format_at, format_text_at, is_format_id}
 use Rattle.xls_biff.specs.Records.Xf.{xf_at}
-use Rattle.xls_formula.specs.Defined.{lbl_at}
 use Rattle.xls_meaning.specs.Order.{map_with_earlier, somes}
-use Rattle.xls_meaning.specs.GlobalsTable.{NamedPlace, GlobalsRecord, version_record, other_record, page_record, date_record, xf_record, references_record, name_record, sheet_record, unless_forced, unless_refused, plain_record_at, GlobalsLine, format_from, xf_from}
+use Rattle.xls_meaning.specs.GlobalsTable.{NamedPlace, GlobalsRecord, version_record, other_record, page_record, date_record, xf_record, references_record, name_record, sheet_record, unless_forced, unless_refused, PlainLine, globals_table, plain_record_at, GlobalsLine, format_from, xf_from}
 use Rattle.xls_meaning.specs.Settings.{page_in, version_in, line_in, formats_in, last_class, class_in, identifiers_in}
 use Rattle.xls_meaning.specs.Rules.{Rules}
+use Rattle.xls_meaning.proofs.GlobalsTableLemmas.{every_plain_type}
 use Rattle.xls_formats.specs.Uncounted.{xf_identifier_at, uncounted_in, xf_identifier_in, uncounted_ids, is_touched}
 use Rattle.xls_formats.specs.Laws.{TouchedAreBuiltIn}
 
 -- ---- lines of the table
-
-choice : (P : GlobalsLine → Type 0) (t : Bool) (a b : GlobalsLine) → P a → P b → P (if t then a else b)
-choice P true a b h k = h
-choice P false a b h k = k
-
-skip : (P : GlobalsLine → Type 0) (t : Bool) (a b : GlobalsLine) → t ≡ false → P b → P (if t then a else b)
-skip P true a b e k = absurd cc
-skip P false a b e k = k
 
 -- what holds of each record that a plain one can be, where it holds of what a Format and an XF give
 module _ (P : GlobalsLine → Type 0) (fails : (e : XlsError) → P (Err e)) (other : P (Ok other_record))
@@ -58,17 +46,16 @@ module _ (P : GlobalsLine → Type 0) (fails : (e : XlsError) → P (Err e)) (ot
   unforced None r = built page_record page r
   unforced (Some n) r = other
 
-  plain_line : (forced : Option ℕ) (p : XlsEncoding) (v : Biff) (typ : ℕ) (body : List ℕ) → P (unless_refused (format_at p v body))
-      → ((b : GlobalsLine) → P b → P (if typ == 0x00E0 then gives xf_record (xf_at body) else b)) → P (plain_record_at forced p v typ body)
-  plain_line forced p v typ body format xf =
-      choice P (typ == 0x0809) _ _ (built (λ (b : Bof). version_record b.biff) version (bof_at body))
-      (choice P (typ == 0x002F) _ _ (built (λ (u : Unit {0}). other_record) (λ u. other) (file_pass_at body))
-      (choice P (typ == 0x0042) _ _ (unforced forced (code_page_at body))
-      (choice P (typ == 0x0022) _ _ (built date_record date (date_mode_at body))
-      (choice P (typ == 0x041E) _ _ format
-      (xf _
-      (choice P (typ == 0x0017) _ _ (built references_record references (refs_at v body))
-      (choice P (typ == 0x0018) _ _ (built name_record name (lbl_at p v body)) other)))))))
+  -- the records of a type have it
+  abbrev Has : ℕ → PlainLine → Type 0
+  Has typ line = ((p : XlsEncoding) (v : Biff) (body : List ℕ) → P (unless_refused (format_at p v body)))
+      → (typ ≡ types.XF → (body : List ℕ) → P (gives xf_record (xf_at body)))
+      → (forced : Option ℕ) (p : XlsEncoding) (v : Biff) (body : List ℕ) → P (line forced p v body)
+
+  plain_line : (typ : ℕ) → ((p : XlsEncoding) (v : Biff) (body : List ℕ) → P (unless_refused (format_at p v body)))
+      → (typ ≡ types.XF → (body : List ℕ) → P (gives xf_record (xf_at body)))
+      → (forced : Option ℕ) (p : XlsEncoding) (v : Biff) (body : List ℕ) → P (plain_record_at forced p v typ body)
+  plain_line typ = every_plain_type Has globals_table typ (λ h format xf forced p v body. other) (search (rules, built, unforced) depth 16)
 
 -- ---- XFs
 
@@ -89,8 +76,8 @@ xf_plain forced p v typ body =
     elim (eqb_tells typ 224) [
       | inl e ↦ rw e.1 (own_xf (xf_at body))
       | inr d ↦
-          plain_line NoXf (λ e. refl) refl (λ b. refl) (λ q. refl) (λ b. refl) (λ rs. refl) (λ n. refl) forced p v typ body (no_xf (format_at p v body))
-          (λ b k. skip NoXf (typ == 0x00E0) (gives xf_record (xf_at body)) b d.0 k)
+          plain_line NoXf (λ e. refl) refl (λ b. refl) (λ q. refl) (λ b. refl) (λ rs. refl) (λ n. refl) typ (λ p v body. no_xf (format_at p v body))
+          (λ e body. absurd (d.1 e)) forced p v body
           ∙ ap (λ (t : Bool). if t then result_ok (xf_at body) else None) (sym d.0)
     ]
 
@@ -151,9 +138,8 @@ none_counts g h (Err e) = no_format None refl
 plain_counts : (forced : Option ℕ) (p : XlsEncoding) (v : Biff) (typ : ℕ) (body : List ℕ) → Counts (plain_record_at forced p v typ body)
 plain_counts forced p v typ body =
     let none = no_format None refl in
-    plain_line Counts (λ e. none) none (λ b. none) (λ q. none) (λ b. none) (λ rs. none) (λ n. none) forced p v typ body
-    (format_counts p v body (format_at p v body) refl)
-    (λ b k. choice Counts (typ == 0x00E0) (gives xf_record (xf_at body)) b (none_counts xf_record (λ n. refl) (xf_at body)) k)
+    plain_line Counts (λ e. none) none (λ b. none) (λ q. none) (λ b. none) (λ rs. none) (λ n. none) typ
+    (λ p v body. format_counts p v body (format_at p v body) refl) (λ e body. none_counts xf_record (λ n. refl) (xf_at body)) forced p v body
 
 line_counts : (rules : Rules) (before : List ListEntry) (e : ListEntry) → Counts (line_in rules before e)
 line_counts rules before (plain_entry typ body) = plain_counts rules.force_codepage (page_in rules before) (version_in rules before) typ body

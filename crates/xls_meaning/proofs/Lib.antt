@@ -4,6 +4,7 @@ pub mod HeldLemmas
 pub mod LawLemmas
 pub mod NamedLemmas
 pub mod RegionLemmas
+pub mod GlobalsTableLemmas
 pub mod SampleStreams
 pub mod FaultFacts
 pub mod StreamFacts

@@ -1,14 +1,20 @@
--- Values that the rules for formulas and names give, so that a wrong rule in the specs does not check.
-use Rattle.std.proofs.Common.{◌≡◌, [], ◌∷◌, false, refl, None, Some}
+-- Values that the rules for records, formulas and names give, so that a wrong rule in the specs does not check.
+use Rattle.std.proofs.Common.{◌≡◌, [], ◌∷◌, map, false, refl, None, Some}
 use Rattle.std.specs.Prelude.{pos, codes}
 use Rattle.std.specs.Fmt.{digits}
+use Rattle.std.specs.List.{filter}
 use Rattle.xls_text.specs.declared.encoding.XlsEncoding.TheVariants.{Utf16}
-use Rattle.xls_stream.specs.Listing.{Kept}
+use Rattle.xls_stream.specs.Listing.{Kept, globals_types, is_plain_type}
 use Rattle.xls_biff.specs.SheetTable.{CellContext}
 use Rattle.xls_record.specs.declared.error.XlsError.TheVariants.{StackLen}
 use Rattle.xls_record.specs.declared.version.Biff.TheVariants.{Biff5, Biff8}
+use Rattle.xls_meaning.specs.GlobalsTable.{globals_table}
 use Rattle.xls_meaning.specs.Settings.{known_refs, placed_text, resolved_name}
 use Rattle.xls_meaning.specs.SheetTable.{nonempty_formulas, refusal_bytes, last_formula}
+
+-- the table of the globals has the types of their records but for SST and BoundSheet8
+pub same_types : map (λ line. line.0) globals_table ≡ filter is_plain_type globals_types
+same_types = refl
 
 -- why a formula is refused, and where
 pub refused : refusal_bytes (0, 0) StackLen ≡ codes "Unrecognised formula for cell (0, 0): Invalid stack length"

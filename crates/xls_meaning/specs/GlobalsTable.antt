@@ -1,5 +1,5 @@
 -- The record table of the globals: what a record of each type gives, or its first fault.
-use Rattle.std.specs.Prelude.{ℕ, ℤ, List, Bool, ◌==◌, if◌then◌else◌, map, length, Option, Some, None, Result, Ok, Err}
+use Rattle.std.specs.Prelude.{ℕ, ℤ, List, [], ◌∷◌, Bool, ◌==◌, if◌then◌else◌, map, length, Option, Some, None, Result, Ok, Err}
 use Rattle.std.specs.Result.{result_map_both}
 use Rattle.std.specs.Char.Utf16.{utf16_lossy_chars}
 use Rattle.xls_text.specs.Pages.{page_of}
@@ -62,19 +62,36 @@ shared_texts len (table_without missing) = Err (error_of missing)
 
 -- ---- the table
 
--- a record that is neither SST nor BoundSheet8, under a forced page, the page and the version; those
--- of other types give nothing
+-- how the records of a type read under a forced page, the page and the version: what each body gives, or
+-- its first fault
+abbrev pub PlainLine : Type 0
+PlainLine = Option ℕ → XlsEncoding → Biff → List ℕ → Result GlobalsRecord XlsError
+
+-- they give nothing, whatever their bodies
+abbrev pub other_line : PlainLine
+other_line forced page version body = Ok other_record
+
+-- one line a type, without SST and BoundSheet8, which have items of their own
+abbrev pub globals_table : List (ℕ × PlainLine)
+globals_table =
+    (types.BOF, λ forced page version body. gives (λ (b : Bof). version_record b.biff) (bof_at body))
+    ∷ (types.FILE_PASS, λ forced page version body. gives (λ (u : Unit {0}). other_record) (file_pass_at body))
+    ∷ (types.CODE_PAGE, λ forced page version body. unless_forced forced (gives page_record (code_page_at body)))
+    ∷ (types.DATE_MODE, λ forced page version body. gives date_record (date_mode_at body))
+    ∷ (types.FORMAT, λ forced page version body. unless_refused (format_at page version body))
+    ∷ (types.XF, λ forced page version body. gives xf_record (xf_at body))
+    ∷ (types.LBL, λ forced page version body. gives name_record (lbl_at page version body))
+    ∷ (types.EXTERN_SHEET, λ forced page version body. gives references_record (refs_at version body))
+    ∷ []
+
+-- the line of a type
+abbrev pub line_of : List (ℕ × PlainLine) → ℕ → PlainLine
+line_of [] typ = other_line
+line_of (line ∷ lines) typ = if typ == line.0 then line.1 else line_of lines typ
+
+-- a record that is neither SST nor BoundSheet8, under a forced page, the page and the version
 abbrev pub plain_record_at : Option ℕ → XlsEncoding → Biff → ℕ → List ℕ → Result GlobalsRecord XlsError
-plain_record_at forced page version typ body =
-    if typ == types.BOF then gives (λ (b : Bof). version_record b.biff) (bof_at body)
-    else if typ == types.FILE_PASS then gives (λ (u : Unit {0}). other_record) (file_pass_at body)
-    else if typ == types.CODE_PAGE then unless_forced forced (gives page_record (code_page_at body))
-    else if typ == types.DATE_MODE then gives date_record (date_mode_at body)
-    else if typ == types.FORMAT then unless_refused (format_at page version body)
-    else if typ == types.XF then gives xf_record (xf_at body)
-    else if typ == types.EXTERN_SHEET then gives references_record (refs_at version body)
-    else if typ == types.LBL then gives name_record (lbl_at page version body)
-    else Ok other_record
+plain_record_at forced page version typ body = line_of globals_table typ forced page version body
 
 -- a record as it stands in the globals
 abbrev pub item_record_at : Option ℕ → XlsEncoding → Biff → Item → Result GlobalsRecord XlsError

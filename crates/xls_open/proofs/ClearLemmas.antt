@@ -24,8 +24,9 @@ use Rattle.xls_biff.proofs.TableLemmas.{every_type}
 use Rattle.xls_formula.specs.Defined.{place_at}
 use Rattle.xls_meaning.specs.Order.{map_with_earlier, first_of}
 use Rattle.xls_meaning.specs.Settings.{page_in, version_in, cells_of}
-use Rattle.xls_meaning.specs.GlobalsTable.{GlobalsLine, unless_forced, unless_refused, shared_texts, plain_record_at, fault_of, forced_fault}
+use Rattle.xls_meaning.specs.GlobalsTable.{GlobalsLine, unless_forced, unless_refused, shared_texts, PlainLine, globals_table, plain_record_at, fault_of, forced_fault}
 use Rattle.xls_meaning.specs.SheetTable.{kept_line}
+use Rattle.xls_meaning.proofs.GlobalsTableLemmas.{every_plain_type}
 use Rattle.xls_open.specs.Opening.{IsOfOpening}
 use Rattle.xls_meaning.specs.Faults.{item_fault, weight_in, weight_fault, kept_fault, cut_fault, part_places, sheet_places, globals_places, places}
 use Rattle.xls_open.specs.Steps.{StreamFault}
@@ -114,9 +115,15 @@ table_clear len (table_without m) = missing_clear m
 
 -- ---- records of the globals
 
-plain_clear : (forced : Option ℕ) (p : XlsEncoding) (v : Biff) (typ : ℕ) (body : List ℕ)
-    → Clear (plain_record_at forced p v typ body)
-plain_clear forced p v typ body = search (rules, when, next, kept_page_clear, place_clear, unless_clear, format_clear) depth 24
+-- every record of a type is clear
+abbrev IsClearLine : ℕ → PlainLine → Type 0
+IsClearLine typ line = (forced : Option ℕ) (p : XlsEncoding) (v : Biff) (body : List ℕ) → Clear (line forced p v body)
+
+plain_lines_clear : AllByRecursion (λ line. IsClearLine line.0 line.1) globals_table
+plain_lines_clear = search (rules, when, next, kept_page_clear, place_clear, unless_clear, format_clear) depth 24
+
+plain_clear : (forced : Option ℕ) (p : XlsEncoding) (v : Biff) (typ : ℕ) (body : List ℕ) → Clear (plain_record_at forced p v typ body)
+plain_clear forced p v typ body = every_plain_type IsClearLine globals_table typ (λ h forced p v body. tt) plain_lines_clear forced p v body
 
 sheet_clear : (p : XlsEncoding) (v : Biff) (body : List ℕ) → Clear (bound_sheet_at p v body)
 sheet_clear p v body = search (rules, when, next) depth 20

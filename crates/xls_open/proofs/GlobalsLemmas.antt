@@ -1,11 +1,11 @@
 -- The records of the globals, one after the other.
-use Rattle.std.proofs.Common.{◌≡◌, ℕ, List, [], ◌∷◌, ◌++◌, drop, refl, sym, ap, subst, ◌∙◌, Bool, true, false, Option, Some, None, Result, Ok, Err}
-use Rattle.std.specs.Prelude.{◌==◌, ◌||◌, length, unwrap_or}
+use Rattle.std.proofs.Common.{◌≡◌, ℕ, List, [], ◌∷◌, ◌++◌, refl, sym, ap, subst, ◌∙◌, Bool, true, false, Option, Some, None, Result, Ok, Err}
+use Rattle.std.specs.Prelude.{length, unwrap_or}
 use Rattle.xls_text.specs.declared.encoding.XlsEncoding.{XlsEncoding}
 use Rattle.xls_stream.specs.Stream.{Group, Begins}
 use Rattle.xls_stream.specs.Cut.{Cut}
 use Rattle.xls_stream.specs.Walks.{IsBytes}
-use Rattle.xls_stream.specs.Listing.{is_among, globals_types, is_globals_type, is_plain_type, Shared, IsShared, Item, plain_item, table_item, sheet_item, IsItem}
+use Rattle.xls_stream.specs.Listing.{is_globals_type, is_plain_type, Shared, IsShared, Item, plain_item, table_item, sheet_item, IsItem}
 use Rattle.xls_stream.specs.declared.part.Part.{Part}
 use Rattle.xls_stream.proofs.HoldingLemmas.{has_item}
 use Rattle.xls_data.specs.Sheets.{SheetContent}
@@ -24,6 +24,7 @@ use Rattle.xls_meaning.specs.GlobalsTable as table
 use Rattle.xls_meaning.specs.GlobalsTable.{GlobalsLine, fault_of, version_from, unless_refused, other_record, references_record, name_record, strings_record, sheet_record, shared_texts, plain_record_at, item_record_at}
 use Rattle.xls_meaning.specs.Faults.{item_line, item_fault, cut_fault}
 use Rattle.xls_meaning.specs.Rules.{Rules}
+use Rattle.xls_meaning.proofs.GlobalsTableLemmas.{unlisted, unlisted_plain}
 use Rattle.xls_meaning.proofs.OrderLemmas.{first_at, none_push, first_after}
 use Rattle.xls_meaning.specs.Settings.{page_in}
 use Rattle.xls_open.specs.Globals.{State, IsState, AreGlobals, GlobalsFault, ReadsGlobals}
@@ -50,34 +51,6 @@ item_read : (forced : Option ℕ) (version : Biff) (page : XlsEncoding) (bytes :
 item_read forced version page bytes g (plain_item typ body) result t k = rw (k.1, k.2) (t.plain k.0 page)
 item_read forced version page bytes g (table_item body shared) result t k = rw k.1 (t.table k.0 page shared k.2)
 item_read forced version page bytes g (sheet_item body kept cut) result t k = rw k.1 (t.sheet k.0 page)
-
-neither : (a b : Bool) → a || b ≡ false → (a ≡ false) × (b ≡ false)
-neither true b h = absurd cc
-neither false b h = (refl, h)
-
--- a type that is none of these is not one of them
-not_among : (n t : ℕ) (before after : List ℕ) → is_among n (before ++ t ∷ after) ≡ false → (n == t) ≡ false
-not_among n t [] after h = (neither (n == t) (is_among n after) h).0
-not_among n t (u ∷ before) after h = not_among n t before after (neither (n == u) (is_among n (before ++ t ∷ after)) h).1
-
--- a record of another type gives nothing
-other_line : (forced : Option ℕ) (page : XlsEncoding) (version : Biff) (g : Group) → is_globals_type g ≡ false
-    → (is_plain_type g.typ ≡ true) × (plain_record_at forced page version g.typ g.body ≡ Ok other_record)
-other_line forced page version g t =
-    let n = g.typ in
-    let bof = not_among n 2057 [] (drop 1 globals_types) t in
-    let pass = not_among n 47 (2057 ∷ []) (drop 2 globals_types) t in
-    let page = not_among n 66 (2057 ∷ 47 ∷ []) (drop 3 globals_types) t in
-    let date = not_among n 34 (2057 ∷ 47 ∷ 66 ∷ []) (drop 4 globals_types) t in
-    let format = not_among n 1054 (2057 ∷ 47 ∷ 66 ∷ 34 ∷ []) (drop 5 globals_types) t in
-    let xf = not_among n 224 (2057 ∷ 47 ∷ 66 ∷ 34 ∷ 1054 ∷ []) (drop 6 globals_types) t in
-    let lbl = not_among n 24 (2057 ∷ 47 ∷ 66 ∷ 34 ∷ 1054 ∷ 224 ∷ []) (drop 7 globals_types) t in
-    let ext = not_among n 23 (2057 ∷ 47 ∷ 66 ∷ 34 ∷ 1054 ∷ 224 ∷ 24 ∷ []) (drop 8 globals_types) t in
-    let sst = not_among n 252 (2057 ∷ 47 ∷ 66 ∷ 34 ∷ 1054 ∷ 224 ∷ 24 ∷ 23 ∷ []) (drop 9 globals_types) t in
-    let sheet = not_among n 133 (2057 ∷ 47 ∷ 66 ∷ 34 ∷ 1054 ∷ 224 ∷ 24 ∷ 23 ∷ 252 ∷ []) (drop 10 globals_types) t in (
-      rw (sst, sheet) refl,
-      rw (bof, pass, page, date, format, xf, ext, lbl) refl,
-    )
 
 -- ---- the globals so far
 
@@ -137,7 +110,8 @@ module _ (rules : Rules) (stream rest later : List ℕ) (s : State) (g : Group) 
             next_is = refl;
           }
       by_type false u =
-          let o = other_line rules.force_codepage s.page s.version g u in
+          let plain = unlisted_plain g.typ u in
+          let nothing = unlisted rules.force_codepage s.page s.version g.typ g.body u in
           record {
             next = s;
             so_far = record {
@@ -148,7 +122,7 @@ module _ (rules : Rules) (stream rest later : List ℕ) (s : State) (g : Group) 
             };
             body = g.body;
             gives = other_record;
-            stands = subst (Stands s.page s.version g.body x) o.1 (t.plain o.0 s.page).1;
+            stands = subst (Stands s.page s.version g.body x) nothing (t.plain plain s.page).1;
             next_is = refl;
           }
 
@@ -167,8 +141,9 @@ module _ (rules : Rules) (stream rest later : List ℕ) (s : State) (g : Group) 
             first_at (item_fault rules) c.items i.0 held.0 (cut_fault held.1 ∷ []) e c.faultless (ap (fault_of {X = table.GlobalsRecord}) line),
           )
       by_type false u =
-          let o = other_line rules.force_codepage s.page s.version g u in
-          absurd (let both : ◌≡◌ {A = GlobalsLine} (Ok other_record) (Err e) = sym o.1 ∙ t.plain o.0 s.page in cc)
+          let plain = unlisted_plain g.typ u in
+          let nothing = unlisted rules.force_codepage s.page s.version g.typ g.body u in
+          absurd (let both : ◌≡◌ {A = GlobalsLine} (Ok other_record) (Err e) = sym nothing ∙ t.plain plain s.page in cc)
 
   -- what is kept of it
   pub globals_more : (x : GlobalsRecord) (t : State) → IsRecordRead rules.force_codepage s.version g (Ok x) → IsTaken s x t

@@ -1,7 +1,7 @@
 -- Lines of the globals' table, and what one more gives.
-use Rattle.std.proofs.Common.{◌≡◌, ℕ, List, [], ◌∷◌, ◌++◌, map, length, drop, refl, sym, ap, ◌∙◌, Bool, true, false, Option, Some, None, Result, Ok, Err}
-use Rattle.std.specs.Prelude.{ℤ, ◌==◌, ◌||◌, nat_lt, slice_index, if◌then◌else◌, unwrap_or}
-use Rattle.std.specs.List.{flat_map}
+use Rattle.std.proofs.Common.{rules, ◌≡◌, ℕ, List, [], ◌∷◌, ◌++◌, map, length, drop, refl, sym, ap, ◌∙◌, Bool, true, false, Option, Some, None, Result, Ok, Err}
+use Rattle.std.specs.Prelude.{ℤ, ◌||◌, nat_lt, slice_index, unwrap_or}
+use Rattle.std.specs.List.{flat_map, AllByRecursion}
 use Rattle.std.proofs.lemmas.List.{append-nil, map-append}
 use Rattle.xls_text.specs.declared.encoding.XlsEncoding.{XlsEncoding}
 use Rattle.xls_stream.specs.Listing.{no_table, table_of, table_without, ListEntry, plain_entry, table_entry, sheet_entry, Item, plain_item, table_item, sheet_item, entry_of}
@@ -11,22 +11,15 @@ use Rattle.xls_dates.specs.declared.formats.CellFormat.{CellFormat}
 use Rattle.xls_record.specs.declared.error.XlsError.{XlsError}
 use Rattle.xls_record.specs.declared.error.XlsError.TheVariants as errors
 use Rattle.xls_record.specs.declared.version.Biff.{Biff}
-use Rattle.xls_biff.specs.Records.Bof.{bof_at}
-use Rattle.xls_biff.specs.Records.Xf.{xf_at}
-use Rattle.xls_biff.specs.Records.ExternSheet.{refs_at}
-use Rattle.xls_biff.specs.Records.Format.{format_at}
-use Rattle.xls_formula.specs.Defined.{lbl_at}
 use Rattle.xls_record.specs.Reading.{gives}
-use Rattle.xls_biff.specs.Records.FilePass.{file_pass_at}
-use Rattle.xls_biff.specs.Records.CodePage.{code_page_at}
-use Rattle.xls_biff.specs.Records.DateMode.{date_mode_at}
 use Rattle.xls_biff.specs.Records.BoundSheet.{sheet_by, bound_sheet_at}
 use Rattle.xls_meaning.specs.Order.{last_of, somes}
-use Rattle.xls_meaning.specs.GlobalsTable.{NamedPlace, GlobalsRecord, other_record, page_record, date_record, format_record, xf_record, references_record, name_record, sheet_record, unless_forced, unless_refused, plain_record_at, item_record_at, entry_record_at, GlobalsLine, version_from, page_from, date_from, sheet_from}
+use Rattle.xls_meaning.specs.GlobalsTable.{NamedPlace, GlobalsRecord, other_record, format_record, references_record, name_record, sheet_record, unless_forced, unless_refused, PlainLine, globals_table, plain_record_at, item_record_at, entry_record_at, GlobalsLine, version_from, page_from, date_from, sheet_from}
 use Rattle.xls_meaning.specs.Settings.{sets_1904}
 use Rattle.xls_open.specs.Steps.{with_one, with_all, or_also}
 use Rattle.xls_meaning.proofs.OrderLemmas.{somes-append, last-push, unwrap_push, flat_push}
 use Rattle.xls_meaning.proofs.EntryLemmas.{long_sheet}
+use Rattle.xls_meaning.proofs.GlobalsTableLemmas.{every_plain_type}
 
 -- ---- what one more item gives
 
@@ -73,47 +66,34 @@ date_push (m ∷ ls) l =
 
 -- ---- lines of the table
 
--- what a kind is not given by, through the choices of the table
-choice : {X : Type 0} (f : GlobalsLine → X) (x : X) (t : Bool) (a b : GlobalsLine) → f a ≡ x → f b ≡ x
-    → f (if t then a else b) ≡ x
-choice f x true a b h k = h
-choice f x false a b h k = k
-
 pub not_yielded : {X Y : Type 0} (f : GlobalsLine → Option Y) (g : X → GlobalsRecord) → ((x : X) → f (Ok (g x)) ≡ None)
     → ((e : XlsError) → f (Err e) ≡ None) → (r : Result X XlsError) → f (gives g r) ≡ None
 not_yielded f g h k (Ok x) = h x
 not_yielded f g h k (Err e) = k e
 
--- a plain record gives no sheet
+no_sheet_of : {X : Type 0} (g : X → GlobalsRecord) → ((x : X) → sheet_from (Ok (g x)) ≡ None)
+    → (r : Result X XlsError) → sheet_from (gives g r) ≡ None
+no_sheet_of g h r = not_yielded sheet_from g h (λ e. refl) r
+
+no_sheet_unforced : (o : Option ℕ) (line : GlobalsLine) → sheet_from line ≡ None → sheet_from (unless_forced o line) ≡ None
+no_sheet_unforced None line h = h
+no_sheet_unforced (Some n) line h = refl
+
+no_sheet_unrefused : (r : Result (ℕ × CellFormat) XlsError) → sheet_from (unless_refused r) ≡ None
+no_sheet_unrefused (Ok f) = refl
+no_sheet_unrefused (Err e) = refl
+
+-- the records of a type give no sheet
+abbrev HasNoSheet : ℕ → PlainLine → Type 0
+HasNoSheet typ line = (forced : Option ℕ) (p : XlsEncoding) (v : Biff) (body : List ℕ) → sheet_from (line forced p v body) ≡ None
+
+have_no_sheet : AllByRecursion (λ line. HasNoSheet line.0 line.1) globals_table
+have_no_sheet = search (rules, no_sheet_of, no_sheet_unforced, no_sheet_unrefused) depth 16
+
+-- a plain record gives none
 pub no_sheet : (forced : Option ℕ) (p : XlsEncoding) (v : Biff) (typ : ℕ) (body : List ℕ)
     → sheet_from (plain_record_at forced p v typ body) ≡ None
-no_sheet forced p v typ body =
-    choice sheet_from None (typ == 0x0809) _ _ (none _ (λ b. refl) (bof_at body))
-    (choice sheet_from None (typ == 0x002F) _ _ (none _ (λ u. refl) (file_pass_at body))
-    (choice sheet_from None (typ == 0x0042) _ _ (page forced)
-    (choice sheet_from None (typ == 0x0022) _ _ (none date_record (λ b. refl) (date_mode_at body))
-    (choice sheet_from None (typ == 0x041E) _ _ (format (format_at p v body))
-    (choice sheet_from None (typ == 0x00E0) _ _ (none xf_record (λ n. refl) (xf_at body))
-    (choice sheet_from None (typ == 0x0017) _ _ (none references_record (λ rs. refl) (refs_at v body))
-    (choice sheet_from None (typ == 0x0018) _ _ (none name_record (λ n. refl) (lbl_at p v body)) refl)))))))
-  where
-    none : {X : Type 0} (g : X → GlobalsRecord) → ((x : X) → sheet_from (Ok (g x)) ≡ None)
-        → (r : Result X XlsError) → sheet_from (gives g r) ≡ None
-    none g h r = not_yielded sheet_from g h (λ e. refl) r
-
-    page : (o : Option ℕ) → sheet_from (unless_forced o (gives page_record (code_page_at body))) ≡ None
-    page None = none page_record (λ q. refl) (code_page_at body)
-    page (Some n) = refl
-
-    format : (r : Result (ℕ × CellFormat) XlsError) → sheet_from (unless_refused r) ≡ None
-    format (Ok f) = refl
-    format (Err e) = refl
-
--- what is the same by every line of a choice
-same_choice : {X : Type 0} (f : GlobalsLine → X) (t : Bool) (a b c d : GlobalsLine) → f a ≡ f c → f b ≡ f d
-    → f (if t then a else b) ≡ f (if t then c else d)
-same_choice f true a b c d h k = h
-same_choice f false a b c d h k = k
+no_sheet forced p v typ body = every_plain_type HasNoSheet globals_table typ (λ h forced p v body. refl) have_no_sheet forced p v body
 
 -- pages and versions hang on nothing that is in force
 module _ {X : Type 0} (f : GlobalsLine → Option X) (fails : (e : XlsError) → f (Err e) ≡ None)
@@ -124,17 +104,26 @@ module _ {X : Type 0} (f : GlobalsLine → Option X) (fails : (e : XlsError) →
   no_format (Ok q) = format q.0 q.1
   no_format (Err e) = other
 
+  same_format : (r s : Result (ℕ × CellFormat) XlsError) → f (unless_refused r) ≡ f (unless_refused s)
+  same_format r s = no_format r ∙ sym (no_format s)
+
+  same_references : (r s : Result (List ℤ) XlsError) → f (gives references_record r) ≡ f (gives references_record s)
+  same_references r s = not_yielded f references_record references fails r ∙ sym (not_yielded f references_record references fails s)
+
+  same_name : (r s : Result NamedPlace XlsError) → f (gives name_record r) ≡ f (gives name_record s)
+  same_name r s = not_yielded f name_record name fails r ∙ sym (not_yielded f name_record name fails s)
+
+  -- the records of a type give the same under each page and version
+  abbrev IsSame : ℕ → PlainLine → Type 0
+  IsSame typ line = (forced : Option ℕ) (p q : XlsEncoding) (v w : Biff) (body : List ℕ) → f (line forced p v body) ≡ f (line forced q w body)
+
+  are_same : AllByRecursion (λ line. IsSame line.0 line.1) globals_table
+  are_same = search (rules, same_format, same_references, same_name) depth 16
+
   same_said : (forced : Option ℕ) (p q : XlsEncoding) (v w : Biff) (e : ListEntry)
       → f (entry_record_at forced p v e) ≡ f (entry_record_at forced q w e)
   same_said forced p q v w (plain_entry typ body) =
-      same_choice f (typ == 0x0809) _ _ _ _ refl
-      (same_choice f (typ == 0x002F) _ _ _ _ refl
-      (same_choice f (typ == 0x0042) _ _ _ _ refl
-      (same_choice f (typ == 0x0022) _ _ _ _ refl
-      (same_choice f (typ == 0x041E) _ _ _ _ (no_format (format_at p v body) ∙ sym (no_format (format_at q w body)))
-      (same_choice f (typ == 0x00E0) _ _ _ _ refl
-      (same_choice f (typ == 0x0017) _ _ _ _ (not_yielded f references_record references fails (refs_at v body) ∙ sym (not_yielded f references_record references fails (refs_at w body)))
-      (same_choice f (typ == 0x0018) _ _ _ _ (not_yielded f name_record name fails (lbl_at p v body) ∙ sym (not_yielded f name_record name fails (lbl_at q w body))) refl)))))))
+      every_plain_type IsSame globals_table typ (λ h forced p q v w body. refl) are_same forced p q v w body
   same_said forced p q v w (table_entry strings) = refl
   same_said forced p q v w (sheet_entry state kind text kept) =
       not_yielded f sheet_record sheet fails (sheet_by p v state kind text)
