@@ -1,11 +1,12 @@
 -- The table of a sheet's records, line by line.
 use Rattle.std.proofs.Common.{◌≡◌, ◌≢◌, ℕ, List, [], ◌∷◌, map, length, Bool, true, false, Option, rules, Result, Ok, Err, refl, sym, ap, subst, ◌∙◌}
-use Rattle.std.specs.Prelude.{◌==◌, if◌then◌else◌}
+use Rattle.std.specs.Prelude.{IsErrAnd, ◌==◌, if◌then◌else◌}
 use Rattle.std.specs.List.{AllByRecursion}
 use Rattle.std.proofs.lemmas.Bool.{eqb-true}
 use Rattle.xls_stream.specs.Substreams.{is_among, sheet_types}
 use Rattle.xls_stream.specs.declared.types.TheConstants as types
 use Rattle.xls_record.specs.declared.error.XlsError.{XlsError}
+use Rattle.xls_record.specs.declared.version.Biff.{Biff}
 use Rattle.xls_record.specs.Reading.{gives}
 use Rattle.xls_record.proofs.ReadingLemmas.{gives-ok}
 use Rattle.xls_data.specs.Content.{Content}
@@ -13,7 +14,8 @@ use Rattle.xls_data.specs.declared.regions.Dimensions.{Dimensions}
 use Rattle.xls_biff.specs.Cells.{CellEntry, Position}
 use Rattle.xls_biff.specs.Lines.{line_of}
 use Rattle.xls_biff.specs.Records.Rk.{mul_rk_at}
-use Rattle.xls_biff.specs.SheetTable.{CellContext, SheetRecord, TableLine, empty_record, cell_record, cells_record, shared_record, string_record, formula_record, regions_record, other_line, empty_line, cell_line, cells_line, shared_line, string_line, formula_line, regions_line, read_on_line, sheet_table, sheet_record_at, weight_of, weight_of_type, other_weights}
+use Rattle.xls_biff.specs.declared.sheet_record.SheetRecord as read
+use Rattle.xls_biff.specs.SheetTable.{CellContext, ReadsByType, SheetRecord, TableLine, empty_record, cell_record, cells_record, shared_record, string_record, formula_record, regions_record, other_line, empty_line, cell_line, cells_line, shared_line, string_line, formula_line, regions_line, read_on_line, sheet_table, sheet_record_at, weight_of, weight_of_type, other_weights}
 
 infixr 4 ◌&◌
 -- what a line has, and what those after it have
@@ -127,3 +129,35 @@ all_cells settings body n count g e =
 -- a line that gives what a reader found, or its fault
 pub line_is : {X : Type 0} (f : X → SheetRecord) (r s : Result X XlsError) → r ≡ s → gives f r ≡ gives f s
 line_is {X} f r s e = ap (λ (x : Result X XlsError). gives f x) e
+
+-- the reader of a line refuses a body so
+abbrev Refuses : TableLine → CellContext → List ℕ → XlsError → Type 0
+Refuses other_line settings body e = ⊥
+Refuses (empty_line read) settings body e = read settings body ≡ Err e
+Refuses (cell_line read) settings body e = read settings body ≡ Err e
+Refuses (cells_line read) settings body e = read settings body ≡ Err e
+Refuses (shared_line read) settings body e = read settings body ≡ Err e
+Refuses (string_line read) settings body e = read settings body ≡ Err e
+Refuses (formula_line read) settings body e = read settings body ≡ Err e
+Refuses (regions_line read) settings body e = read settings body ≡ Err e
+
+refused_on : (line : TableLine) (settings : CellContext) (body : List ℕ) (e : XlsError)
+    → Refuses line settings body e → read_on_line line settings body ≡ Err e
+refused_on other_line settings body e r = absurd r
+refused_on (empty_line read) settings body e r = line_is (λ u. empty_record) (read settings body) (Err e) r
+refused_on (cell_line read) settings body e r = line_is cell_record (read settings body) (Err e) r
+refused_on (cells_line read) settings body e r = line_is cells_record (read settings body) (Err e) r
+refused_on (shared_line read) settings body e r = line_is shared_record (read settings body) (Err e) r
+refused_on (string_line read) settings body e r = line_is string_record (read settings body) (Err e) r
+refused_on (formula_line read) settings body e r = line_is (λ f. formula_record f.0 f.1 f.2) (read settings body) (Err e) r
+refused_on (regions_line read) settings body e r = line_is regions_record (read settings body) (Err e) r
+
+-- a fault that the reader of a type's line finds is what is read
+pub refused : (typ : ℕ) (biff : Biff) (body : List ℕ) (e : XlsError) (result : Result read.SheetRecord XlsError)
+    → IsErrAnd result (λ found. found ≡ e) → ((settings : CellContext) → settings.version ≡ biff → Refuses (line_of other_line sheet_table typ) settings body e)
+    → ReadsByType typ biff body result
+refused typ biff body e (Err found) is r = record {
+  exact = λ settings same. rw is (refused_on (line_of other_line sheet_table typ) settings body e (r settings same));
+  items = tt;
+}
+refused typ biff body e (Ok g) is r = absurd is

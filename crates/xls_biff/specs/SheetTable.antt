@@ -1,5 +1,5 @@
 -- The records of a sheet: what each gives, or its first fault. One line a type.
-use Rattle.std.specs.Prelude.{ℕ, List, [], ◌∷◌, Bool, if◌then◌else◌, length, Option, Some, None, Result, Ok, Err, ◌≡◌, ◌≢◌, ◌+◌, ◌*◌, ◌≤◌, ◌^◌, map}
+use Rattle.std.specs.Prelude.{ℕ, List, [], ◌∷◌, Bool, IfOk, ◌==◌, if◌then◌else◌, length, Option, Some, None, Result, Ok, Err, ◌≡◌, ◌≢◌, ◌+◌, ◌*◌, ◌≤◌, ◌^◌, map}
 use Rattle.xls_text.specs.declared.encoding.XlsEncoding.{XlsEncoding}
 use Rattle.xls_stream.specs.Substreams.{is_among, sheet_types}
 use Rattle.xls_stream.specs.declared.types.TheConstants as types
@@ -8,7 +8,7 @@ use Rattle.xls_data.specs.declared.regions.Dimensions.{Dimensions}
 use Rattle.xls_dates.specs.declared.formats.CellFormat.{CellFormat}
 use Rattle.xls_record.specs.declared.version.Biff.{Biff}
 use Rattle.xls_record.specs.declared.error.XlsError.{XlsError}
-use Rattle.xls_record.specs.Reading.{gives}
+use Rattle.xls_record.specs.Reading.{Exactly, gives}
 use Rattle.xls_strings.specs.Strings.{string_at}
 use Rattle.xls_biff.specs.Cells.{CellEntry, Position, characters_in}
 use Rattle.xls_biff.specs.Lines.{line_of}
@@ -153,3 +153,9 @@ HasItems typ body (variant.MulRk kept count) =
 HasItems typ body (variant.MergeCells kept count) =
     (typ ≡ types.MERGE_CELLS) × (kept.now ≡ body) × (2 + 8 * count ≤ length body)
 HasItems typ body _ = (typ ≢ types.MUL_RK) × (typ ≢ types.MERGE_CELLS)
+
+-- what was read of a body under a version, as one of a type, is what the type's line gives, whatever else is
+-- in force
+pub record ReadsByType (typ : ℕ) (biff : Biff) (body : List ℕ) (result : Result read.SheetRecord XlsError) : Type 0 where
+  pub exact : (settings : CellContext) → settings.version ≡ biff → Exactly (stands_for settings) result (sheet_record_at settings typ body)
+  pub items : IfOk result (HasItems typ body)

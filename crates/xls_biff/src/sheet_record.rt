@@ -2,7 +2,7 @@
 
 ghost use Rattle.std.specs.Prelude.{◌≡◌, ◌≢◌, Ok, IsErr, IfOk};
 ghost use Rattle.xls_record.specs.Reading.{Exactly, fault_in};
-ghost use Rattle.xls_biff.specs.SheetTable.{CellContext, sheet_record_at, weight_of, weight_of_type, formula_position, HasItems, stands_for};
+ghost use Rattle.xls_biff.specs.SheetTable.{CellContext, sheet_record_at, weight_of, weight_of_type, formula_position, HasItems, ReadsByType, stands_for};
 ghost use Rattle.xls_biff.specs.SheetTable as table;
 ghost use Rattle.xls_biff.specs.Records.Rk.{mul_rk_count};
 ghost use Rattle.xls_stream.specs.Substreams.{is_among, sheet_types};
@@ -108,6 +108,114 @@ impl SheetRecord<'_> {
     }
 }
 
+/// The body of a sheet's record, under a version. Its methods read it as one of a type.
+#[derive(Clone, Copy)]
+struct Body<'a> {
+    bytes: &'a [u8],
+    biff: Biff,
+}
+
+impl<'a> Body<'a> {
+    #[inline(always)]
+    fn number(&self) -> Result<SheetRecord<'a>, XlsError>
+        ensures { ReadsByType types.NUMBER self.now.biff self.now.bytes.now result }
+    {
+        Ok(SheetRecord::Number(read_number(self.bytes)?))
+    }
+
+    #[inline(always)]
+    fn rk(&self) -> Result<SheetRecord<'a>, XlsError>
+        ensures { ReadsByType types.RK self.now.biff self.now.bytes.now result }
+    {
+        Ok(SheetRecord::Rk(read_rk(self.bytes)?))
+    }
+
+    #[inline(always)]
+    fn label_sst(&self) -> Result<SheetRecord<'a>, XlsError>
+        ensures { ReadsByType types.LABEL_SST self.now.biff self.now.bytes.now result }
+    {
+        let (position, index) = read_label_sst(self.bytes)?;
+        Ok(SheetRecord::LabelSst { position, index })
+    }
+
+    #[inline(always)]
+    fn mul_rk(&self) -> Result<SheetRecord<'a>, XlsError>
+        ensures { ReadsByType types.MUL_RK self.now.biff self.now.bytes.now result }
+    {
+        let body = self.bytes;
+        let count = count_mul_rk(body)?;
+        Ok(SheetRecord::MulRk { body, count })
+    }
+
+    #[inline(always)]
+    fn bool_err(&self) -> Result<SheetRecord<'a>, XlsError>
+        ensures { ReadsByType types.BOOL_ERR self.now.biff self.now.bytes.now result }
+    {
+        let (position, value) = read_bool_err(self.bytes)?;
+        Ok(SheetRecord::BoolErr { position, value })
+    }
+
+    /// Of a Label or an RString.
+    #[inline(always)]
+    fn label(&self) -> Result<SheetRecord<'a>, XlsError>
+        ensures label { ReadsByType types.LABEL self.now.biff self.now.bytes.now result }
+        ensures r_string { ReadsByType types.R_STRING self.now.biff self.now.bytes.now result }
+    {
+        let (position, string) = read_label(self.bytes, self.biff)?;
+        Ok(SheetRecord::Label { position, string })
+    }
+
+    #[inline(always)]
+    fn string(&self) -> Result<SheetRecord<'a>, XlsError>
+        ensures { ReadsByType types.STRING self.now.biff self.now.bytes.now result }
+    {
+        Ok(SheetRecord::String(read_string(self.bytes, self.biff)?))
+    }
+
+    #[inline(always)]
+    fn formula(&self) -> Result<SheetRecord<'a>, XlsError>
+        ensures { ReadsByType types.FORMULA self.now.biff self.now.bytes.now result }
+    {
+        Ok(SheetRecord::Formula(read_formula(self.bytes)?))
+    }
+
+    #[inline(always)]
+    fn merge_cells(&self) -> Result<SheetRecord<'a>, XlsError>
+        ensures { ReadsByType types.MERGE_CELLS self.now.biff self.now.bytes.now result }
+    {
+        let body = self.bytes;
+        let count = count_merges(body)?;
+        Ok(SheetRecord::MergeCells { body, count })
+    }
+
+    #[inline(always)]
+    fn dimensions(&self) -> Result<SheetRecord<'a>, XlsError>
+        ensures { ReadsByType types.DIMENSIONS self.now.biff self.now.bytes.now result }
+    {
+        Ok(SheetRecord::Dimensions(parse_dimensions(self.bytes)?))
+    }
+
+    /// Whatever the type.
+    #[inline(always)]
+    fn read(&self, typ: u16) -> Result<SheetRecord<'a>, XlsError>
+        ensures { ReadsByType typ self.now.biff self.now.bytes.now result }
+    {
+        match typ {
+            NUMBER => self.number(),
+            RK => self.rk(),
+            LABEL_SST => self.label_sst(),
+            MUL_RK => self.mul_rk(),
+            BOOL_ERR => self.bool_err(),
+            LABEL | R_STRING => self.label(),
+            STRING => self.string(),
+            FORMULA => self.formula(),
+            MERGE_CELLS => self.merge_cells(),
+            DIMENSIONS => self.dimensions(),
+            _ => Ok(SheetRecord::Other),
+        }
+    }
+}
+
 /// What a record of a sheet holds, or its first fault: the error that its reader answers, out of memory
 /// apart, whatever page, classes, strings and date system are in force, and of a Formula `Len` and the
 /// errors of its value. Takes no memory.
@@ -117,36 +225,11 @@ pub fn read_sheet_record<'a>(r: &Record<'a>, biff: Biff) -> Result<SheetRecord<'
         Exactly (stands_for settings) result (sheet_record_at settings r.now.typ r.now.body.now) }
     ensures items { IfOk result (HasItems r.now.typ r.now.body.now) }
 {
-    match r.typ {
-        NUMBER => Ok(SheetRecord::Number(read_number(r.body)?)),
-        RK => Ok(SheetRecord::Rk(read_rk(r.body)?)),
-        LABEL_SST => {
-            let (position, index) = read_label_sst(r.body)?;
-            Ok(SheetRecord::LabelSst { position, index })
-        }
-        MUL_RK => {
-            let body = r.body;
-            let count = count_mul_rk(body)?;
-            Ok(SheetRecord::MulRk { body, count })
-        }
-        BOOL_ERR => {
-            let (position, value) = read_bool_err(r.body)?;
-            Ok(SheetRecord::BoolErr { position, value })
-        }
-        LABEL | R_STRING => {
-            let (position, string) = read_label(r.body, biff)?;
-            Ok(SheetRecord::Label { position, string })
-        }
-        STRING => Ok(SheetRecord::String(read_string(r.body, biff)?)),
-        FORMULA => Ok(SheetRecord::Formula(read_formula(r.body)?)),
-        MERGE_CELLS => {
-            let body = r.body;
-            let count = count_merges(body)?;
-            Ok(SheetRecord::MergeCells { body, count })
-        }
-        DIMENSIONS => Ok(SheetRecord::Dimensions(parse_dimensions(r.body)?)),
-        _ => Ok(SheetRecord::Other),
-    }
+    let body = Body {
+        bytes: r.body,
+        biff,
+    };
+    body.read(r.typ)
 }
 
 /// The first fault of a sheet's record, as `read_sheet_record` finds it. Takes no memory.

@@ -1,8 +1,11 @@
 -- Records that begin with the position of their one cell.
-use Rattle.std.proofs.Common.{◌≡◌, ℕ, ◌≤◌, inl, inr, List, [], ◌∷◌, length, drop, take, refl, sym, ap, ◌∙◌, arith, Bool, true, false, Option, Some, None, Result, Ok, Err}
-use Rattle.std.specs.Prelude.{nat_lt, slice_index, IfSome}
+use Rattle.std.proofs.Common.{◌≡◌, ℕ, ◌≤◌, inl, inr, List, [], ◌∷◌, length, drop, take, refl, sym, ap, ◌∙◌, arith, subst, Bool, true, false, Option, Some, None, Result, Ok, Err}
+use Rattle.std.specs.Prelude.{◌==◌, ◌||◌, nat_lt, slice_index, IfSome}
 use Rattle.std.specs.Option.{option_map}
+use Rattle.std.specs.List.{AllByRecursion}
+use Rattle.std.proofs.lemmas.Bool.{eqb-true, false≢true}
 use Rattle.xls_bytes.specs.Numbers.{le}
+use Rattle.xls_stream.specs.Substreams.{is_among}
 use Rattle.xls_stream.specs.declared.part.Part.{Part}
 use Rattle.xls_stream.specs.declared.part.Part.TheVariants as parts
 use Rattle.xls_stream.specs.declared.types.TheConstants as types
@@ -23,7 +26,7 @@ use Rattle.xls_biff.specs.Records.Rk.{rk_at, rk_content}
 use Rattle.xls_biff.specs.SheetTable.{CellContext, SheetRecord, cell_record, cells_record, formula_position, shared_record, sheet_record_at}
 use Rattle.xls_meaning.specs.SheetTable.{adds}
 use Rattle.xls_formula.specs.Context.{Context}
-use Rattle.xls_cursors.specs.Surveying.{IsOneCell, IsPlainCell}
+use Rattle.xls_cursors.specs.Surveying.{IsOneCell, IsPlainCell, placed_types}
 
 -- a body without a fault is so long, and what follows has none
 begins : {X : Type 0} (n : ℕ) (part : Part) (body : List ℕ) (rest : Result X XlsError) (x : X) → (at_least n part body >> rest) ≡ Ok x
@@ -96,21 +99,26 @@ by_line s typ body line apart (Some p) is = record {
   apart = apart;
 }
 
-module _ (s : CellContext) (typ : ℕ) (body : List ℕ) (place : Option Position) (is : 4 ≤ length body → place ≡ Some (position_at body)) where
-  pub plain_number : typ ≡ types.NUMBER → IfSome place (IsPlainCell s (record { typ = typ; body = body }))
-  plain_number e = rw e (by_line s types.NUMBER body (number_line body) (λ m. absurd (omega (arith, m))) place is)
+-- what all types of a list have
+among : (P : ℕ → Type 0) (typ : ℕ) (ts : List ℕ) → is_among typ ts ≡ true → AllByRecursion P ts → P typ
+among P typ [] h all = absurd (false≢true h)
+among P typ (t ∷ ts) h all = by_test (typ == t) refl h (λ g. among P typ ts g all.1)
+  where
+    by_test : (b : Bool) → (typ == t) ≡ b → (b || is_among typ ts) ≡ true → (is_among typ ts ≡ true → P typ) → P typ
+    by_test true e g later = subst P (sym (eqb-true typ t e)) all.0
+    by_test false e g later = later g
 
-  pub plain_rk : typ ≡ types.RK → IfSome place (IsPlainCell s (record { typ = typ; body = body }))
-  plain_rk e = rw e (by_line s types.RK body (rk_line body) (λ m. absurd (omega (arith, m))) place is)
+-- their lines give one cell each, which stands where the body begins
+each_placed : AllByRecursion (λ typ. (body : List ℕ) → Line typ body) placed_types
+each_placed = (number_line, (rk_line, (bool_err_line, (label_line, (r_string_line, tt)))))
 
-  pub plain_bool_err : typ ≡ types.BOOL_ERR → IfSome place (IsPlainCell s (record { typ = typ; body = body }))
-  plain_bool_err e = rw e (by_line s types.BOOL_ERR body (bool_err_line body) (λ m. absurd (omega (arith, m))) place is)
-
-  pub plain_label : typ ≡ types.LABEL → IfSome place (IsPlainCell s (record { typ = typ; body = body }))
-  plain_label e = rw e (by_line s types.LABEL body (label_line body) (λ m. absurd (omega (arith, m))) place is)
-
-  pub plain_r_string : typ ≡ types.R_STRING → IfSome place (IsPlainCell s (record { typ = typ; body = body }))
-  plain_r_string e = rw e (by_line s types.R_STRING body (r_string_line body) (λ m. absurd (omega (arith, m))) place is)
+pub plain_placed : (s : CellContext) (typ : ℕ) (body : List ℕ) (place : Option Position) → (4 ≤ length body → place ≡ Some (position_at body))
+    → is_among typ placed_types ≡ true → IfSome place (IsPlainCell s (record { typ = typ; body = body }))
+plain_placed s typ body place is h =
+    by_line s typ body (among (λ t. (b : List ℕ) → Line t b) typ placed_types h each_placed body) apart place is
+  where
+    apart : typ ≡ types.MERGE_CELLS → ⊥
+    apart m = false≢true (subst (λ (t : ℕ). is_among t placed_types ≡ true) m h)
 
 -- ---- a LabelSst
 

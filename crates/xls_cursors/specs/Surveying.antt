@@ -1,5 +1,5 @@
 -- What a walk over positions finds, for the proofs.
-use Rattle.std.specs.Prelude.{◌≡◌, ◌⊎◌, ◌-◌, ◌^◌, ◌==◌, if◌then◌else◌, min, max, List, [], ◌∷◌, map, Option, Some, None, Ok}
+use Rattle.std.specs.Prelude.{◌≡◌, ℕ, ◌⊎◌, ◌-◌, ◌^◌, ◌==◌, if◌then◌else◌, min, max, List, [], ◌∷◌, map, Option, Some, None, Ok}
 use Rattle.xls_range.specs.Positions.{Position}
 use Rattle.xls_range.specs.Bounds.{bounds_of}
 use Rattle.xls_data.specs.Content.{Content}
@@ -33,6 +33,10 @@ IsOneCell g e = (g ≡ cells_record (e ∷ [])) ⊎ (g ≡ shared_record (Some e
 pub record IsPlainCell (s : CellContext) (k : Kept) (p : Position) : Type 0 where
   pub one : (g : SheetRecord) → kept_line s k ≡ Ok g → (v : Content) × IsOneCell g (p, v)
   pub apart : k.typ ≡ types.MERGE_CELLS → ⊥
+
+-- types of one cell whose records begin with its position; sheets have most of these, and of LabelSst
+abbrev pub placed_types : List ℕ
+placed_types = types.NUMBER ∷ types.RK ∷ types.BOOL_ERR ∷ types.LABEL ∷ types.R_STRING ∷ []
 
 -- the formula of a record, if it is a Formula
 abbrev pub formula_listed : Kept → List Formula

@@ -6,6 +6,7 @@ ghost use Rattle.std.specs.Option.{option_map};
 ghost use Rattle.xls_data.specs.Content.{Content};
 ghost use Rattle.xls_data.specs.declared.regions.Dimensions.{Dimensions};
 ghost use Rattle.xls_stream.specs.Listing.{Kept, kept_group};
+ghost use Rattle.xls_stream.specs.Substreams.{is_among};
 ghost use Rattle.xls_stream.specs.declared.types.TheConstants as types;
 ghost use Rattle.xls_biff.specs.Cells.{CellEntry};
 ghost use Rattle.xls_biff.specs.Records.LabelSst.{shared_entry};
@@ -17,7 +18,7 @@ ghost use Rattle.xls_meaning.specs.SheetTable.{adds, kept_line};
 ghost use Rattle.xls_cursors.specs.Contents.{cells_after, kept_in, regions_at, regions_of};
 ghost use Rattle.xls_cursors.specs.Formulas.{Formula, formulas_kept};
 ghost use Rattle.xls_cursors.specs.Placing.{IsAscent};
-ghost use Rattle.xls_cursors.specs.Surveying.{IsCellAt, IsFound, IsPlainCell, IsSurvey, box_found, formula_listed};
+ghost use Rattle.xls_cursors.specs.Surveying.{IsCellAt, IsFound, IsPlainCell, IsSurvey, box_found, formula_listed, placed_types};
 ghost use Rattle.xls_cursors.specs.Walking.{IsReadRecord, IsSoundPart, run_of};
 
 use crate::ascent::Ascent;
@@ -240,20 +241,27 @@ fn label_place(body: &[u8], settings: &Settings<'_>) -> Option<(u32, u32)>
     }
 }
 
+/// Whether records of this type begin with the position of their one cell.
+#[inline(always)]
+fn is_placed_type(typ: u16) -> bool
+    ensures { result ≡ is_among typ placed_types }
+{
+    matches!(typ, NUMBER | RK | BOOL_ERR | LABEL | R_STRING)
+}
+
 /// Where the one cell of a record stands that begins with its position, of the types that sheets have most of: these
 /// needn't be read whole for that.
 #[inline(always)]
 fn first_place(r: &Record<'_>, settings: &Settings<'_>) -> Option<(u32, u32)>
     ensures { IfSome result (IsPlainCell settings.now.cells (kept_group (group_of r.now))) }
 {
-    match r.typ {
-        NUMBER => cell_position(r.body),
-        RK => cell_position(r.body),
-        BOOL_ERR => cell_position(r.body),
-        LABEL | R_STRING => cell_position(r.body),
-        LABEL_SST => label_place(r.body, settings),
-        _ => None,
+    if is_placed_type(r.typ) {
+        return cell_position(r.body);
     }
+    if r.typ == LABEL_SST {
+        return label_place(r.body, settings);
+    }
+    None
 }
 
 /// What was found so far but for the formulas, which are rarer and stay in memory, so that this passes in registers:

@@ -91,11 +91,13 @@ fn take_record(
         list.push_plain(r.typ, r.body)?;
         return Ok(());
     }
-    match r.typ {
-        SST => take_table(alloc, list, r),
-        BOUND_SHEET_8 => take_sheet(list, stream, r.body),
-        _ => Ok(()),
+    if r.typ == SST {
+        return take_table(alloc, list, r);
     }
+    if r.typ == BOUND_SHEET_8 {
+        return take_sheet(list, stream, r.body);
+    }
+    Ok(())
 }
 
 /// The logical list that a stream of fewer than 2^32 bytes carries. The first fault that `check_stream` answers

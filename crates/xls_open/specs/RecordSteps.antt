@@ -1,9 +1,11 @@
 -- What a record of the globals that is read without memory stands for, for the proofs.
-use Rattle.std.specs.Prelude.{◌≡◌, ℕ, List, Option, Some, None, unwrap_or, length, Result, Ok, Err}
+use Rattle.std.specs.Prelude.{◌≡◌, ℕ, List, true, Option, Some, None, unwrap_or, length, Result, Ok, Err}
 use Rattle.xls_text.specs.declared.encoding.XlsEncoding.{XlsEncoding}
-use Rattle.xls_stream.specs.Listing.{Shared, IsShared}
+use Rattle.xls_stream.specs.Listing.{Shared, IsShared, is_plain_type}
+use Rattle.xls_stream.specs.declared.types.TheConstants as types
 use Rattle.xls_data.specs.Sheets.{SheetContent}
 use Rattle.xls_record.specs.declared.error.XlsError.{XlsError}
+use Rattle.xls_record.specs.declared.record.Record.{Record}
 use Rattle.xls_record.specs.declared.version.Biff.{Biff}
 use Rattle.xls_record.specs.Reading.{gives}
 use Rattle.xls_biff.specs.Walking.{group_of}
@@ -11,7 +13,7 @@ use Rattle.xls_biff.specs.Records.BoundSheet.{bound_sheet_at}
 use Rattle.xls_biff.specs.Records.ExternSheet.{refs_at}
 use Rattle.xls_biff.specs.Records.Format.{format_at}
 use Rattle.xls_formula.specs.Defined.{lbl_at}
-use Rattle.xls_meaning.specs.GlobalsTable.{other_record, version_record, page_record, date_record, xf_record, references_record, name_record, strings_record, sheet_record, unless_refused, shared_texts, GlobalsLine, fault_of}
+use Rattle.xls_meaning.specs.GlobalsTable.{other_record, version_record, page_record, date_record, xf_record, references_record, name_record, strings_record, sheet_record, unless_refused, shared_texts, plain_record_at, GlobalsLine, fault_of}
 use Rattle.xls_meaning.specs.GlobalsTable as table
 use Rattle.xls_open.specs.Globals.{State}
 use Rattle.xls_open.specs.Steps.{after}
@@ -39,6 +41,16 @@ Stands page version body (read.Sheet r) line =
 abbrev pub ReadsLine : XlsEncoding → Biff → List ℕ → GlobalsLine → Result GlobalsRecord XlsError → Type 0
 ReadsLine page version body line (Ok g) = (fault_of line ≡ None) × Stands page version body g line
 ReadsLine page version body line (Err e) = line ≡ Err e
+
+-- what was read of a record, as one of a type, under a forced page and a version, is its line, whatever the
+-- page
+pub record ReadsByType (forced : Option ℕ) (version : Biff) (typ : ℕ) (r : Record) (result : Result GlobalsRecord XlsError) : Type 0 where
+  pub plain : is_plain_type typ ≡ true → (page : XlsEncoding)
+      → ReadsLine page version r.body.now (plain_record_at forced page version typ r.body.now) result
+  pub table : typ ≡ types.SST → (page : XlsEncoding) (shared : Shared) → IsShared (group_of r) shared
+      → ReadsLine page version r.body.now (gives strings_record (shared_texts (length r.body.now) shared)) result
+  pub sheet : typ ≡ types.BOUND_SHEET_8 → (page : XlsEncoding)
+      → ReadsLine page version r.body.now (gives (λ (q : ℕ × SheetContent). sheet_record q.1) (bound_sheet_at page version r.body.now)) result
 
 -- some line that it is has no fault
 abbrev pub IsFaultlessRecord : State → GlobalsRecord → Type 0

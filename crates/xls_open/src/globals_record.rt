@@ -9,7 +9,7 @@ ghost use Rattle.xls_record.specs.Reading.{gives};
 ghost use Rattle.xls_biff.specs.Walking.{group_of};
 ghost use Rattle.xls_biff.specs.Records.BoundSheet.{bound_sheet_at};
 ghost use Rattle.xls_meaning.specs.GlobalsTable.{strings_record, sheet_record, shared_texts, plain_record_at};
-ghost use Rattle.xls_open.specs.RecordSteps.{ReadsLine, version_by};
+ghost use Rattle.xls_open.specs.RecordSteps.{ReadsByType, ReadsLine, version_by};
 
 use xls_biff::{
     Biff, Record, XlsError, check_extern_sheet, check_sheet_metadata, parse_bof, parse_code_page,
@@ -52,6 +52,104 @@ impl GlobalsRecord<'_> {
     }
 }
 
+/// A record of the globals, under a version and a forced page. Its methods read it as one of a type.
+#[derive(Clone, Copy)]
+struct RecordUnder<'a> {
+    record: &'a Record<'a>,
+    biff: Biff,
+    forced: Option<u16>,
+}
+
+impl<'a> RecordUnder<'a> {
+    fn bof(&self) -> Result<GlobalsRecord<'a>, XlsError>
+        ensures { ReadsByType self.now.forced self.now.biff types.BOF self.now.record.now result }
+    {
+        let bof = parse_bof(self.record)?;
+        Ok(GlobalsRecord::Version(bof.biff))
+    }
+
+    fn file_pass(&self) -> Result<GlobalsRecord<'a>, XlsError>
+        ensures { ReadsByType self.now.forced self.now.biff types.FILE_PASS self.now.record.now result }
+    {
+        parse_file_pass(self.record)?;
+        Ok(GlobalsRecord::Other)
+    }
+
+    fn code_page(&self) -> Result<GlobalsRecord<'a>, XlsError>
+        ensures { ReadsByType self.now.forced self.now.biff types.CODE_PAGE self.now.record.now result }
+    {
+        if self.forced.is_some() {
+            return Ok(GlobalsRecord::Other);
+        }
+        Ok(GlobalsRecord::Page(parse_code_page(self.record)?))
+    }
+
+    fn date_mode(&self) -> Result<GlobalsRecord<'a>, XlsError>
+        ensures { ReadsByType self.now.forced self.now.biff types.DATE_MODE self.now.record.now result }
+    {
+        Ok(GlobalsRecord::Date(parse_date_mode(self.record)?))
+    }
+
+    fn format(&self) -> Result<GlobalsRecord<'a>, XlsError>
+        ensures { ReadsByType self.now.forced self.now.biff types.FORMAT self.now.record.now result }
+    {
+        Ok(GlobalsRecord::Format(self.record))
+    }
+
+    fn xf(&self) -> Result<GlobalsRecord<'a>, XlsError>
+        ensures { ReadsByType self.now.forced self.now.biff types.XF self.now.record.now result }
+    {
+        Ok(GlobalsRecord::Xf(parse_xf(self.record)?))
+    }
+
+    fn extern_sheet(&self) -> Result<GlobalsRecord<'a>, XlsError>
+        ensures { ReadsByType self.now.forced self.now.biff types.EXTERN_SHEET self.now.record.now result }
+    {
+        check_extern_sheet(self.record, self.biff)?;
+        Ok(GlobalsRecord::References(self.record))
+    }
+
+    fn lbl(&self) -> Result<GlobalsRecord<'a>, XlsError>
+        ensures { ReadsByType self.now.forced self.now.biff types.LBL self.now.record.now result }
+    {
+        check_lbl(self.record, self.biff)?;
+        Ok(GlobalsRecord::Name(self.record))
+    }
+
+    fn sst(&self) -> Result<GlobalsRecord<'a>, XlsError>
+        ensures { ReadsByType self.now.forced self.now.biff types.SST self.now.record.now result }
+    {
+        skip_sst(self.record)?;
+        Ok(GlobalsRecord::Table(self.record))
+    }
+
+    fn bound_sheet(&self) -> Result<GlobalsRecord<'a>, XlsError>
+        ensures { ReadsByType self.now.forced self.now.biff types.BOUND_SHEET_8 self.now.record.now result }
+    {
+        check_sheet_metadata(self.record, self.biff)?;
+        Ok(GlobalsRecord::Sheet(self.record))
+    }
+
+    /// Whatever the type.
+    fn read(&self, typ: u16) -> Result<GlobalsRecord<'a>, XlsError>
+        ensures { ReadsByType self.now.forced self.now.biff typ self.now.record.now result }
+    {
+        match typ {
+            BOF => self.bof(),
+            FILE_PASS => self.file_pass(),
+            CODE_PAGE => self.code_page(),
+            DATE_MODE => self.date_mode(),
+            FORMAT => self.format(),
+            XF => self.xf(),
+            EXTERN_SHEET => self.extern_sheet(),
+            LBL => self.lbl(),
+            SST => self.sst(),
+            BOUND_SHEET_8 => self.bound_sheet(),
+            _ => Ok(GlobalsRecord::Other),
+        }
+    }
+}
+
 /// What a record of the globals is under a version and a forced page, or its fault. A CodePage has none
 /// under a forced page, and a Format that its reader refuses is none.
 pub(crate) fn read_globals_record<'a>(
@@ -66,32 +164,10 @@ pub(crate) fn read_globals_record<'a>(
     ensures sheet { r.now.typ ≡ types.BOUND_SHEET_8 → (page : XlsEncoding)
         → ReadsLine page biff r.now.body.now (gives (λ (q : ℕ × SheetContent). sheet_record q.1) (bound_sheet_at page biff r.now.body.now)) result }
 {
-    match r.typ {
-        BOF => Ok(GlobalsRecord::Version(parse_bof(r)?.biff)),
-        FILE_PASS => {
-            parse_file_pass(r)?;
-            Ok(GlobalsRecord::Other)
-        }
-        CODE_PAGE if forced.is_none() => Ok(GlobalsRecord::Page(parse_code_page(r)?)),
-        DATE_MODE => Ok(GlobalsRecord::Date(parse_date_mode(r)?)),
-        FORMAT => Ok(GlobalsRecord::Format(r)),
-        XF => Ok(GlobalsRecord::Xf(parse_xf(r)?)),
-        EXTERN_SHEET => {
-            check_extern_sheet(r, biff)?;
-            Ok(GlobalsRecord::References(r))
-        }
-        LBL => {
-            check_lbl(r, biff)?;
-            Ok(GlobalsRecord::Name(r))
-        }
-        SST => {
-            skip_sst(r)?;
-            Ok(GlobalsRecord::Table(r))
-        }
-        BOUND_SHEET_8 => {
-            check_sheet_metadata(r, biff)?;
-            Ok(GlobalsRecord::Sheet(r))
-        }
-        _ => Ok(GlobalsRecord::Other),
-    }
+    let record = RecordUnder {
+        record: r,
+        biff,
+        forced,
+    };
+    record.read(r.typ)
 }

@@ -1,0 +1,6 @@
+use Rattle.xls_stream.specs.declared.types.TheConstants as types
+use Rattle.xls_biff.proofs.TableLemmas.{refused}
+use Rattle.xls_biff.proofs.sheet_record.Body.number.Goals as goal
+
+pub returns-in_err-read_number : goal.returns-in_err-read_number
+returns-in_err-read_number c = refused types.NUMBER c.args.self.now.biff _ _ _ c.from_residual.ensures.1 (λ s same. c.in_err-read_number.ensures s.classes s.is_1904)
