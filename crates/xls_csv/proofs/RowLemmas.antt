@@ -3,7 +3,7 @@ use Rattle.std.proofs.Common.{◌≡◌, ℕ, ◌+◌, ◌-◌, ◌<◌, ◌≤�
 use Rattle.std.specs.Prelude.{◌==◌, ◌&&◌}
 use Rattle.csv.specs.Writing.{default_writer, row_body}
 use Rattle.xls_biff.specs.Cells.{CellEntry}
-use Rattle.xls_lines.specs.Output.{Gathers, GivesUp, Output}
+use Rattle.xls_lines.specs.Output.{Buffers, GivesUp, Output}
 use Rattle.xls_lines.specs.declared.stop.Stop.{Stop}
 use Rattle.xls_lines.proofs.OutputLemmas.{gathers-as, gathers-nothing, gathers-then, stops-as, stops-more, stops-then}
 use Rattle.xls_csv.specs.Dense.{box_of}
@@ -24,7 +24,7 @@ pub record FieldsSoFar (row left width : ℕ) (all : List CellEntry) (a : Output
   pub whole : text ++ rest_text (place == 0) (map field (row_over row (left + place) (width - place) cells)) ≡ body row left width all
   pub rest : left_over row (left + place) (width - place) cells ≡ left_over row left width all
   pub bare : is_bare ≡ (length text == 0)
-  pub gathers : Gathers a b text
+  pub gathers : Buffers a b text
 
 pub fields_first : (row left width : ℕ) (all : List CellEntry) (a : Output) → FieldsSoFar row left width all a 0 true all a
 fields_first row left width all a =
@@ -48,7 +48,7 @@ both_none xs ys a b e f = rw (e, f, length-append xs ys) (sums (length xs) (leng
 pub fields_more : {row left width place : ℕ} {all cells cells' : List CellEntry} {a b c : Output}
     {is_bare none now : Bool} → place < width
     → FieldsSoFar row left width all a place is_bare cells b
-    → Gathers b c (field_placed place (take_at row (left + place) cells).0)
+    → Buffers b c (field_placed place (take_at row (left + place) cells).0)
     → none ≡ (length (field_placed place (take_at row (left + place) cells).0) == 0)
     → cells' ≡ (take_at row (left + place) cells).1 → now ≡ (is_bare && none)
     → FieldsSoFar row left width all a (place + 1) now cells' c
@@ -70,7 +70,7 @@ row_whole {row} {left} {width} {place} {all} {cells} l so = fields_end so.text _
 
 pub row_gathered : {row left width place : ℕ} {all cells : List CellEntry} {a b : Output} {is_bare : Bool}
     → width ≤ place → FieldsSoFar row left width all a place is_bare cells b
-    → Gathers a b (body row left width all)
+    → Buffers a b (body row left width all)
 row_gathered l so = gathers-as so.gathers (row_whole l so)
 
 pub row_bare : {row left width place : ℕ} {all cells : List CellEntry} {a b : Output} {is_bare : Bool}

@@ -5,7 +5,7 @@ use Rattle.std.proofs.Math.Seq.{drop-cons, take-length}
 use Rattle.std.proofs.lemmas.List.{append-nil, drop_all, length-append, length-take-le, length-drop, take-append-le, drop-append-le}
 use Rattle.xls_stream.specs.Stream.{record_bytes}
 use Rattle.xls_stream.specs.Listing.{Kept}
-use Rattle.xls_lines.specs.Output.{Output, Gathers, GivesUp}
+use Rattle.xls_lines.specs.Output.{Output, Buffers, GivesUp}
 use Rattle.xls_lines.specs.declared.stop.Stop.{Stop}
 use Rattle.xls_lines.proofs.OutputLemmas.{gathers-as, gathers-nothing, gathers-then, stops-as, stops-more, stops-then}
 use Rattle.xls_lay.specs.Inside.{total, parts_of, sizes_sum, records_of}
@@ -96,7 +96,7 @@ module _ (old out : List ℕ) (heads : List RecordHead) (bytes rest : List ℕ) 
 -- some records are put, and the others are still to come
 pub record KeptOn (a b : Output) (heads : List RecordHead) (bytes rest : List ℕ) (i : ℕ) : Type 0 where
   pub text : List ℕ
-  pub gathers : Gathers a b text
+  pub gathers : Buffers a b text
   pub put : PutsKept [] text heads bytes rest i
 
 pub kept_on_none : (a : Output) (heads : List RecordHead) (bytes : List ℕ) → sizes_sum heads ≡ length bytes
@@ -107,7 +107,7 @@ module _ {a b : Output} (heads : List RecordHead) (bytes rest : List ℕ) (i : �
   pub kept_on_within : h.size ≤ length rest
   kept_on_within = kept_within [] so.text heads bytes rest i h lt here so.put
 
-  pub kept_on_more : {c : Output} → Gathers b c (record_bytes h.typ (take h.size rest)) → KeptOn a c heads bytes (drop h.size rest) (i + 1)
+  pub kept_on_more : {c : Output} → Buffers b c (record_bytes h.typ (take h.size rest)) → KeptOn a c heads bytes (drop h.size rest) (i + 1)
   kept_on_more more = record {
     text = so.text ++ record_bytes h.typ (take h.size rest);
     gathers = gathers-then so.gathers more;
@@ -120,7 +120,7 @@ module _ {a b : Output} (heads : List RecordHead) (bytes rest : List ℕ) (i : �
       stops-as (stops-more (flat_map kept_bytes (records_of (drop (i + 1) heads) (drop h.size rest))) (stops-then so.gathers stops)) next.whole
 
 pub kept_on_all : {a b : Output} (heads : List RecordHead) (bytes rest : List ℕ) (i : ℕ) → length heads ≤ i
-    → KeptOn a b heads bytes rest i → Gathers a b (flat_map kept_bytes (records_of heads bytes))
+    → KeptOn a b heads bytes rest i → Buffers a b (flat_map kept_bytes (records_of heads bytes))
 kept_on_all heads bytes rest i le so = gathers-as so.gathers (kept_all [] so.text heads bytes rest i le so.put)
 
 -- ---- strings

@@ -10,7 +10,7 @@ use Rattle.xls_layouts.specs.LaidStrings.{le32, marks_of_strings}
 use Rattle.xls_layouts.specs.Canonical.{canonical_strings, counts_of}
 use Rattle.xls_lay.specs.Writing.{saturated, canonical_bytes, canonical_size}
 use Rattle.xls_lay.specs.Cutting.{eof_bytes, part_bytes, part_size, entry_bytes, table_bytes, rest_bytes, globals_from, parts_from}
-use Rattle.xls_lines.specs.Output.{Output, Gathers, GivesUp, Puts}
+use Rattle.xls_lines.specs.Output.{Output, Buffers, GivesUp, Puts}
 use Rattle.xls_lines.specs.declared.stop.Stop.{Stop}
 use Rattle.xls_lines.proofs.OutputLemmas.{gathers-as, gathers-nothing, gathers-then, stops-as, stops-more, stops-then}
 use Rattle.xls_lay.specs.Putting.{PutsOn, StopsOn}
@@ -96,7 +96,7 @@ module _ (old out : List ℕ) (entries : List Entry) (i : ℕ) (p : PutParts old
 -- the globals up to an entry, whose part begins at this offset
 pub record GlobalsOn (a b : Output) (first offset : ℕ) (entries : List Entry) (i : ℕ) : Type 0 where
   pub text : List ℕ
-  pub gathers : Gathers a b text
+  pub gathers : Buffers a b text
   pub put : PutGlobals [] text first offset entries i
 
 pub globals_on_none : (a : Output) (first : ℕ) (entries : List Entry) → Counted (entries_in entries)
@@ -114,7 +114,7 @@ module _ {a b : Output} (first offset : ℕ) (entries : List Entry) (i : ℕ) (s
   on_size e lt here = globals_size_fits [] so.text first offset entries i so.put e lt here
 
   pub globals_on_more : {c : Output} (e : Entry) (next : ℕ) → i < length entries → get_or entries i e ≡ e
-      → Gathers b c (entry_bytes offset (entry_in e)) → next ≡ offset + part_size (entry_in e)
+      → Buffers b c (entry_bytes offset (entry_in e)) → next ≡ offset + part_size (entry_in e)
       → GlobalsOn a c first next entries (i + 1)
   globals_on_more e next lt here more n = record {
     text = so.text ++ entry_bytes offset (entry_in e);
@@ -128,8 +128,8 @@ module _ {a b : Output} (first offset : ℕ) (entries : List Entry) (i : ℕ) (s
       let next = globals_more [] so.text first offset entries i so.put e (so.text ++ entry_bytes offset (entry_in e)) (offset + part_size (entry_in e)) lt here refl refl in
       stops-as (stops-more (globals_from (offset + part_size (entry_in e)) (entries_in (drop (i + 1) entries))) (stops-then so.gathers stops)) next.whole
 
-  globals_on_all : {c : Output} → length entries ≤ i → Gathers b c eof_bytes
-      → Gathers a c (globals_from first (entries_in entries))
+  globals_on_all : {c : Output} → length entries ≤ i → Buffers b c eof_bytes
+      → Buffers a c (globals_from first (entries_in entries))
   globals_on_all le more =
       gathers-as (gathers-then so.gathers more) (globals_all [] so.text first offset entries i so.put (so.text ++ eof_bytes) le refl)
 
@@ -146,7 +146,7 @@ module _ {a b : Output} (first offset : ℕ) (entries : List Entry) (i : ℕ) (s
 -- the parts up to an entry
 pub record PartsOn (a b : Output) (entries : List Entry) (i : ℕ) : Type 0 where
   pub text : List ℕ
-  pub gathers : Gathers a b text
+  pub gathers : Buffers a b text
   pub put : PutParts [] text entries i
 
 pub parts_on_none : (a : Output) (entries : List Entry) → PartsOn a a entries 0
@@ -154,7 +154,7 @@ parts_on_none a entries = record { text = []; gathers = gathers-nothing a; put =
 
 module _ {a b : Output} (entries : List Entry) (i : ℕ) (so : PartsOn a b entries i) where
   pub parts_on_more : {c : Output} (e : Entry) → i < length entries → get_or entries i e ≡ e
-      → Gathers b c (part_bytes (entry_in e)) → PartsOn a c entries (i + 1)
+      → Buffers b c (part_bytes (entry_in e)) → PartsOn a c entries (i + 1)
   parts_on_more e lt here more = record {
     text = so.text ++ part_bytes (entry_in e);
     gathers = gathers-then so.gathers more;
@@ -167,7 +167,7 @@ module _ {a b : Output} (entries : List Entry) (i : ℕ) (so : PartsOn a b entri
       let next = parts_more [] so.text entries i so.put e (so.text ++ part_bytes (entry_in e)) lt here refl in
       stops-as (stops-more (parts_from (entries_in (drop (i + 1) entries))) (stops-then so.gathers stops)) next.whole
 
-  pub parts_on_all : length entries ≤ i → Gathers a b (parts_from (entries_in entries))
+  pub parts_on_all : length entries ≤ i → Buffers a b (parts_from (entries_in entries))
   parts_on_all le = gathers-as so.gathers (parts_all [] so.text entries i so.put le)
 
 -- ---- a string table
@@ -198,7 +198,7 @@ module _ (s : Output) (strings : List (List ℕ)) (count : ℕ) (a : TableWriter
     last_is : p.bytes ++ record_bytes b.typ b.body.items ≡ table_bytes strings
     last_is = ap (λ (x : List ℕ). p.bytes ++ x) (sym (rest_none b.typ b.body.items)) ∙ p.moves.whole [] ∙ table_is
 
-    pub table_put : {v : Output} → Gathers u v (record_bytes b.typ b.body.items) → Gathers s v (table_bytes strings)
+    pub table_put : {v : Output} → Buffers u v (record_bytes b.typ b.body.items) → Buffers s v (table_bytes strings)
     table_put q = gathers-as (gathers-then p.gathers q) last_is
 
     pub table_unfinished : {v : Output} {e : Stop} → GivesUp u v (record_bytes b.typ b.body.items) e → GivesUp s v (table_bytes strings) e

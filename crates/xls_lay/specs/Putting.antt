@@ -1,7 +1,7 @@
 -- For the proofs: a string table that is being written.
 use Rattle.std.specs.Prelude.{◌≡◌, ℕ, ◌≤◌, List, [], ◌++◌, length, Bool, Result, MatchResult}
 use Rattle.xls_stream.specs.StringTable.{Mark}
-use Rattle.xls_lines.specs.Output.{Output, Gathers, GivesUp}
+use Rattle.xls_lines.specs.Output.{Output, Buffers, GivesUp}
 use Rattle.xls_lines.specs.declared.stop.Stop.{Stop}
 use Rattle.xls_layouts.specs.LaidStrings.{marks_of_steps}
 use Rattle.xls_layouts.specs.Canonical.{passes, record_limit, unit_size, cut_if, fill_from}
@@ -22,7 +22,7 @@ pub record PutsMarks (before : List ℕ) (old : TableWriter) (ms : List Mark) (a
 -- likewise, in a writer
 pub record PutsOn (before : Output) (old : TableWriter) (ms : List Mark) (after : Output) (new : TableWriter) : Type 0 where
   pub bytes : List ℕ
-  pub gathers : Gathers before after bytes
+  pub gathers : Buffers before after bytes
   pub moves : Moves old ms bytes new
 
 -- or a prefix of the table was written, whatever marks were still to come, and then it was given up

@@ -8,7 +8,7 @@ use Rattle.std.specs.Result.{IsErrAnd}
 use Rattle.std.proofs.KnownBytes.{Appends-trans, Appends-nil}
 use Rattle.xls_lines.specs.SinkState.{SinkState}
 use Rattle.xls_lines.specs.Written.{AppendsPrefix}
-use Rattle.xls_lines.specs.Gathering.{WriteCause, GrowsSink, GathersText, Stops, PutsText, Wrote, Delivers}
+use Rattle.xls_lines.specs.Gathering.{WriteCause, GrowsSink, GathersText, Stops, PutsInto, Wrote, Delivers}
 use Rattle.xls_lines.specs.declared.stop.Stop.{Stop}
 use Rattle.xls_lines.specs.declared.stop.Stop.TheVariants.{Read, Write, Memory}
 
@@ -116,7 +116,7 @@ stops-as {a} {b} {g} {xs} {ys} {e} p is =
 -- ---- at an error
 
 pub puts-stop : {X : Type 0} {a b : SinkState} {g xs : List ℕ} {e : Stop} (h : List ℕ) (r : Result X Stop)
-    → IsErrAnd r (λ d. d ≡ e) → Stops a g b xs e → PutsText a g b h xs r
+    → IsErrAnd r (λ d. d ≡ e) → Stops a g b xs e → PutsInto a g b h xs r
 puts-stop h (Ok x) none p = absurd none
 puts-stop {X} {a} {b} {g} {xs} {e} h (Err d) is p = subst (Stops a g b xs) (sym is) p
 

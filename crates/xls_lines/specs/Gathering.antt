@@ -35,8 +35,8 @@ pub record Stops (before : SinkState) (kept : List ℕ) (after : SinkState) (tex
   pub steady : (n : ℕ) → length kept + length text ≤ n → before.takes n → after.faults ≡ before.faults
 
 -- either of them
-abbrev pub PutsText : {X : Type 0} → SinkState → List ℕ → SinkState → List ℕ → List ℕ → Result X Stop → Type 0
-PutsText before kept after kept' text result =
+abbrev pub PutsInto : {X : Type 0} → SinkState → List ℕ → SinkState → List ℕ → List ℕ → Result X Stop → Type 0
+PutsInto before kept after kept' text result =
     MatchResult result (λ _. GathersText before kept after kept' text) (Stops before kept after text)
 
 -- ---- a whole text

@@ -16,7 +16,7 @@ abbrev pub output : {K : Type 0} → (K → SinkState) → Writer K (List ℕ) �
 output state out = record { sink = state out.sink.now; kept = out.buffer.now; lender = out.sink.ghost_name }
 
 -- the text was gathered, and the sink is the same one
-pub record Gathers (before after : Output) (text : List ℕ) : Type 0 where
+pub record Buffers (before after : Output) (text : List ℕ) : Type 0 where
   pub gathers : GathersText before.sink before.kept after.sink after.kept text
   pub same : after.lender ≡ before.lender
 
@@ -27,4 +27,4 @@ pub record GivesUp (before after : Output) (text : List ℕ) (e : Stop) : Type 0
 
 -- either of them
 abbrev pub Puts : {X : Type 0} → Output → Output → List ℕ → Result X Stop → Type 0
-Puts before after text result = MatchResult result (λ _. Gathers before after text) (GivesUp before after text)
+Puts before after text result = MatchResult result (λ _. Buffers before after text) (GivesUp before after text)

@@ -1,7 +1,7 @@
 //! Text that is gathered, and written in large pieces.
 
 ghost use Rattle.std.specs.Prelude.{◌≡◌, ◌++◌, ◌+◌, ◌<◌, ◌≤◌, [], length, IfOk, OnOk, codes};
-ghost use Rattle.xls_lines.specs.Gathering.{PutsText};
+ghost use Rattle.xls_lines.specs.Gathering.{PutsInto};
 
 use crate::head::Head;
 use crate::sink::{Sink, write_all};
@@ -15,7 +15,7 @@ const PIECE: usize = 65_536;
 /// Writes all that is gathered.
 pub(crate) fn flush<K: Sink>(bytes: &mut Vec<u8>, sink: &mut K) -> Result<(), Stop>
     requires { length bytes.old.items ≤ PIECE }
-    ensures puts { PutsText (K.state sink.old) bytes.old.items (K.state sink.new) bytes.new.items
+    ensures puts { PutsInto (K.state sink.old) bytes.old.items (K.state sink.new) bytes.new.items
         [] result }
     ensures none { OnOk result (bytes.new.items ≡ []) }
     ensures bound { length bytes.new.items ≤ PIECE }
@@ -28,7 +28,7 @@ pub(crate) fn flush<K: Sink>(bytes: &mut Vec<u8>, sink: &mut K) -> Result<(), St
 /// The room for more bytes, of which there is some. A full piece is written.
 fn room_in<K: Sink>(bytes: &mut Vec<u8>, sink: &mut K) -> Result<usize, Stop>
     requires { length bytes.old.items ≤ PIECE }
-    ensures puts { PutsText (K.state sink.old) bytes.old.items (K.state sink.new) bytes.new.items
+    ensures puts { PutsInto (K.state sink.old) bytes.old.items (K.state sink.new) bytes.new.items
         [] result }
     ensures room { IfOk result (λ n. (0 < n) × (n + length bytes.new.items ≡ PIECE)) }
     ensures bound { length bytes.new.items ≤ PIECE }
@@ -44,7 +44,7 @@ fn room_in<K: Sink>(bytes: &mut Vec<u8>, sink: &mut K) -> Result<usize, Stop>
 #[inline(always)]
 pub(crate) fn gather<K: Sink>(bytes: &mut Vec<u8>, sink: &mut K, text: &[u8]) -> Result<(), Stop>
     requires { length bytes.old.items ≤ PIECE }
-    ensures puts { PutsText (K.state sink.old) bytes.old.items (K.state sink.new) bytes.new.items
+    ensures puts { PutsInto (K.state sink.old) bytes.old.items (K.state sink.new) bytes.new.items
         text.now result }
     ensures bound { length bytes.new.items ≤ PIECE }
 {
@@ -59,7 +59,7 @@ pub(crate) fn gather<K: Sink>(bytes: &mut Vec<u8>, sink: &mut K, text: &[u8]) ->
 #[inline(never)]
 fn gather_by_pieces<K: Sink>(bytes: &mut Vec<u8>, sink: &mut K, text: &[u8]) -> Result<(), Stop>
     requires { length bytes.old.items ≤ PIECE }
-    ensures puts { PutsText (K.state sink.old) bytes.old.items (K.state sink.new) bytes.new.items
+    ensures puts { PutsInto (K.state sink.old) bytes.old.items (K.state sink.new) bytes.new.items
         text.now result }
     ensures bound { length bytes.new.items ≤ PIECE }
 {
@@ -82,7 +82,7 @@ pub(crate) fn gather_line<K: Sink>(
     text: &[u8],
 ) -> Result<(), Stop>
     requires { length bytes.old.items ≤ PIECE }
-    ensures puts { PutsText (K.state sink.old) bytes.old.items (K.state sink.new) bytes.new.items
+    ensures puts { PutsInto (K.state sink.old) bytes.old.items (K.state sink.new) bytes.new.items
         (start.now ++ (text.now ++ codes "\n")) result }
     ensures bound { length bytes.new.items ≤ PIECE }
 {

@@ -44,7 +44,7 @@ ReadsLine page version body line (Err e) = line ≡ Err e
 
 -- what was read of a record, as one of a type, under a forced page and a version, is its line, whatever the
 -- page
-pub record ReadsByType (forced : Option ℕ) (version : Biff) (typ : ℕ) (r : Record) (result : Result GlobalsRecord XlsError) : Type 0 where
+pub record ReadsAsType (forced : Option ℕ) (version : Biff) (typ : ℕ) (r : Record) (result : Result GlobalsRecord XlsError) : Type 0 where
   pub plain : is_plain_type typ ≡ true → (page : XlsEncoding)
       → ReadsLine page version r.body.now (plain_record_at forced page version typ r.body.now) result
   pub table : typ ≡ types.SST → (page : XlsEncoding) (shared : Shared) → IsShared (group_of r) shared

@@ -9,7 +9,7 @@ ghost use Rattle.xls_record.specs.Reading.{gives};
 ghost use Rattle.xls_biff.specs.Walking.{group_of};
 ghost use Rattle.xls_biff.specs.Records.BoundSheet.{bound_sheet_at};
 ghost use Rattle.xls_meaning.specs.GlobalsTable.{strings_record, sheet_record, shared_texts, plain_record_at};
-ghost use Rattle.xls_open.specs.RecordSteps.{ReadsByType, ReadsLine, version_by};
+ghost use Rattle.xls_open.specs.RecordSteps.{ReadsAsType, ReadsLine, version_by};
 
 use xls_biff::{
     Biff, Record, XlsError, check_extern_sheet, check_sheet_metadata, parse_bof, parse_code_page,
@@ -62,21 +62,21 @@ struct RecordUnder<'a> {
 
 impl<'a> RecordUnder<'a> {
     fn bof(&self) -> Result<GlobalsRecord<'a>, XlsError>
-        ensures { ReadsByType self.now.forced self.now.biff types.BOF self.now.record.now result }
+        ensures { ReadsAsType self.now.forced self.now.biff types.BOF self.now.record.now result }
     {
         let bof = parse_bof(self.record)?;
         Ok(GlobalsRecord::Version(bof.biff))
     }
 
     fn file_pass(&self) -> Result<GlobalsRecord<'a>, XlsError>
-        ensures { ReadsByType self.now.forced self.now.biff types.FILE_PASS self.now.record.now result }
+        ensures { ReadsAsType self.now.forced self.now.biff types.FILE_PASS self.now.record.now result }
     {
         parse_file_pass(self.record)?;
         Ok(GlobalsRecord::Other)
     }
 
     fn code_page(&self) -> Result<GlobalsRecord<'a>, XlsError>
-        ensures { ReadsByType self.now.forced self.now.biff types.CODE_PAGE self.now.record.now result }
+        ensures { ReadsAsType self.now.forced self.now.biff types.CODE_PAGE self.now.record.now result }
     {
         if self.forced.is_some() {
             return Ok(GlobalsRecord::Other);
@@ -85,46 +85,46 @@ impl<'a> RecordUnder<'a> {
     }
 
     fn date_mode(&self) -> Result<GlobalsRecord<'a>, XlsError>
-        ensures { ReadsByType self.now.forced self.now.biff types.DATE_MODE self.now.record.now result }
+        ensures { ReadsAsType self.now.forced self.now.biff types.DATE_MODE self.now.record.now result }
     {
         Ok(GlobalsRecord::Date(parse_date_mode(self.record)?))
     }
 
     fn format(&self) -> Result<GlobalsRecord<'a>, XlsError>
-        ensures { ReadsByType self.now.forced self.now.biff types.FORMAT self.now.record.now result }
+        ensures { ReadsAsType self.now.forced self.now.biff types.FORMAT self.now.record.now result }
     {
         Ok(GlobalsRecord::Format(self.record))
     }
 
     fn xf(&self) -> Result<GlobalsRecord<'a>, XlsError>
-        ensures { ReadsByType self.now.forced self.now.biff types.XF self.now.record.now result }
+        ensures { ReadsAsType self.now.forced self.now.biff types.XF self.now.record.now result }
     {
         Ok(GlobalsRecord::Xf(parse_xf(self.record)?))
     }
 
     fn extern_sheet(&self) -> Result<GlobalsRecord<'a>, XlsError>
-        ensures { ReadsByType self.now.forced self.now.biff types.EXTERN_SHEET self.now.record.now result }
+        ensures { ReadsAsType self.now.forced self.now.biff types.EXTERN_SHEET self.now.record.now result }
     {
         check_extern_sheet(self.record, self.biff)?;
         Ok(GlobalsRecord::References(self.record))
     }
 
     fn lbl(&self) -> Result<GlobalsRecord<'a>, XlsError>
-        ensures { ReadsByType self.now.forced self.now.biff types.LBL self.now.record.now result }
+        ensures { ReadsAsType self.now.forced self.now.biff types.LBL self.now.record.now result }
     {
         check_lbl(self.record, self.biff)?;
         Ok(GlobalsRecord::Name(self.record))
     }
 
     fn sst(&self) -> Result<GlobalsRecord<'a>, XlsError>
-        ensures { ReadsByType self.now.forced self.now.biff types.SST self.now.record.now result }
+        ensures { ReadsAsType self.now.forced self.now.biff types.SST self.now.record.now result }
     {
         skip_sst(self.record)?;
         Ok(GlobalsRecord::Table(self.record))
     }
 
     fn bound_sheet(&self) -> Result<GlobalsRecord<'a>, XlsError>
-        ensures { ReadsByType self.now.forced self.now.biff types.BOUND_SHEET_8 self.now.record.now result }
+        ensures { ReadsAsType self.now.forced self.now.biff types.BOUND_SHEET_8 self.now.record.now result }
     {
         check_sheet_metadata(self.record, self.biff)?;
         Ok(GlobalsRecord::Sheet(self.record))
@@ -132,7 +132,7 @@ impl<'a> RecordUnder<'a> {
 
     /// Whatever the type.
     fn read(&self, typ: u16) -> Result<GlobalsRecord<'a>, XlsError>
-        ensures { ReadsByType self.now.forced self.now.biff typ self.now.record.now result }
+        ensures { ReadsAsType self.now.forced self.now.biff typ self.now.record.now result }
     {
         match typ {
             BOF => self.bof(),

@@ -9,7 +9,7 @@ use Rattle.std.specs.String.{string_bytes}
 use Rattle.xls_decimals.specs.Added.{AddsText}
 use Rattle.xls_readable.specs.Values.{Concatenates}
 use Rattle.xls_lines.specs.SinkState.{SinkState}
-use Rattle.xls_lines.specs.Output.{Output, Gathers, GivesUp, Puts}
+use Rattle.xls_lines.specs.Output.{Output, Buffers, GivesUp, Puts}
 use Rattle.xls_lines.specs.declared.stop.Stop.{Stop}
 use Rattle.xls_lines.specs.declared.stop.Stop.TheVariants.{Memory}
 use Rattle.xls_lines.proofs.GatherLemmas.{stops-from}
@@ -55,7 +55,7 @@ each-none P a = record { text = []; texts = refl; gathers = gathers-nothing a }
 
 -- the text of an item was appended, and then what was gathered was passed on
 pub each-one : {A : Type 0} (P : A → List ℕ → Type 0) (x : A) {w : SinkState} {n : ℕ} {g h : List ℕ} {b : Output}
-    → AddsText (P x) g h → Gathers (record { sink = w; kept = h; lender = n }) b []
+    → AddsText (P x) g h → Buffers (record { sink = w; kept = h; lender = n }) b []
     → GathersEach P (x ∷ []) (record { sink = w; kept = g; lender = n }) b
 each-one P x {w} {n} {g} {h} {b} (out, p, is) q = record {
   text = out;
@@ -212,7 +212,7 @@ each-some-all f p e =
 
 -- where nothing was kept before and nothing is kept after, the texts were written
 pub each-wrote : {A : Type 0} {P : A → List ℕ → Type 0} {items : List A} {a b c : Output} → a.kept ≡ []
-    → GathersEach P items a b → Gathers b c [] → c.kept ≡ [] → WroteEach P items a.sink c.sink
+    → GathersEach P items a b → Buffers b c [] → c.kept ≡ [] → WroteEach P items a.sink c.sink
 each-wrote none p last end = record { text = p.text; texts = p.texts; wrote = wrote none (gathers-after p.gathers last) end }
 
 -- where nothing was kept before

@@ -4,7 +4,7 @@ use Rattle.std.specs.String.{string_bytes}
 use Rattle.xls_readable.specs.Values.{Concatenates}
 use Rattle.xls_lines.specs.SinkState.{SinkState}
 use Rattle.xls_lines.specs.Gathering.{Stops, Wrote}
-use Rattle.xls_lines.specs.Output.{Output, Gathers, GivesUp}
+use Rattle.xls_lines.specs.Output.{Output, Buffers, GivesUp}
 use Rattle.xls_lines.specs.declared.stop.Stop.{Stop}
 use Rattle.xls_lines.specs.declared.writer.Writer.{Writer}
 use Rattle.xls_pieces.specs.declared.pieces.Pieces.{Pieces}
@@ -18,7 +18,7 @@ pieces_output state out =
 pub record GathersEach {A : Type 0} (IsText : A → List ℕ → Type 0) (items : List A) (before after : Output) : Type 0 where
   pub text : List ℕ
   pub texts : Concatenates IsText items text
-  pub gathers : Gathers before after text
+  pub gathers : Buffers before after text
 
 -- a prefix of what was kept and of the texts of the first so many items was written, and then it was given up
 pub record GivesUpEach {A : Type 0} (IsText : A → List ℕ → Type 0) (items : List A) (before after : Output) (e : Stop) : Type 0 where

@@ -4,7 +4,7 @@ use Rattle.std.specs.Prelude.{slice_get}
 use Rattle.std.specs.List.{flat_map}
 use Rattle.std.proofs.lemmas.Grind.{flat_map-append}
 use Rattle.xls_lines.specs.SinkState.{SinkState}
-use Rattle.xls_lines.specs.Output.{Output, Gathers, GivesUp}
+use Rattle.xls_lines.specs.Output.{Output, Buffers, GivesUp}
 use Rattle.xls_lines.specs.declared.stop.Stop.{Stop}
 use Rattle.xls_lines.specs.declared.stop.Stop.TheVariants.{Memory}
 use Rattle.xls_lines.proofs.OutputLemmas.{PutsSome, gathers-as, gathers-then, stops-as, stops-memory, stops-more, stops-then}
@@ -33,13 +33,13 @@ one_more text xs i =
 
 -- one more is put
 pub gathers-where : {X : Type 0} {a b c : Output} (text : X → List ℕ) (xs : List X) (i : ℕ)
-    → Gathers a b (flat_map text (take i xs)) → Gathers b c (lines_where text (slice_get xs i))
-    → Gathers a c (flat_map text (take (i + 1) xs))
+    → Buffers a b (flat_map text (take i xs)) → Buffers b c (lines_where text (slice_get xs i))
+    → Buffers a c (flat_map text (take (i + 1) xs))
 gathers-where text xs i p q = gathers-as (gathers-then p q) (one_more text xs i)
 
 -- one that was not put whole
 pub stops-where : {X : Type 0} {a b c : Output} {e : Stop} (text : X → List ℕ) (xs : List X) (i : ℕ)
-    → Gathers a b (flat_map text (take i xs)) → GivesUp b c (lines_where text (slice_get xs i)) e
+    → Buffers a b (flat_map text (take i xs)) → GivesUp b c (lines_where text (slice_get xs i)) e
     → GivesUp a c (flat_map text xs) e
 stops-where text xs i p q =
     stops-as (stops-more (flat_map text (drop (i + 1) xs)) (stops-as (stops-then p q) (one_more text xs i)))
@@ -77,7 +77,7 @@ refs-by-sheet v =
 
 -- all of them are put
 pub gathers-refs : {a b : Output} (v : Viewed) (i : ℕ) → length v.context.sheets ≤ i
-    → Gathers a b (flat_map (sheet_refs v.context.sheets) (take i (sheets_cited v))) → Gathers a b (refs_text (cited_in v))
+    → Buffers a b (flat_map (sheet_refs v.context.sheets) (take i (sheets_cited v))) → Buffers a b (refs_text (cited_in v))
 gathers-refs v i l p =
     let within = length-sheets_from v.context 0 v.context.sheets v.formulas in
     gathers-as p (ap (flat_map (sheet_refs v.context.sheets)) (take_all i (sheets_cited v) (omega (arith, within, l))) ∙ refs-by-sheet v)

@@ -11,7 +11,7 @@ use Rattle.xls_biff.specs.Cells.{CellEntry}
 use Rattle.xls_csv.specs.Walk.{take_at, row_over, left_over}
 use Rattle.xls_readable.specs.Csv.{csv_field, joined, separated}
 use Rattle.xls_lines.specs.SinkState.{SinkState}
-use Rattle.xls_lines.specs.Output.{Gathers, GivesUp, Output}
+use Rattle.xls_lines.specs.Output.{Buffers, GivesUp, Output}
 use Rattle.xls_lines.specs.declared.stop.Stop.{Stop}
 use Rattle.xls_lines.proofs.OutputLemmas.{gathers-added, gathers-as, gathers-nothing, gathers-then, stops-as, stops-then}
 use Rattle.xls_tables.specs.Rows.{AreContentTexts, IsContentField, IsContentText}
@@ -69,7 +69,7 @@ pub record FieldsSoFar (d row left width : ℕ) (all : List CellEntry) (a : Outp
   pub whole : prefix ++ row_over row (left + place) (width - place) cells ≡ row_over row left width all
   pub rest : left_over row (left + place) (width - place) cells ≡ left_over row left width all
   pub bare : is_bare ≡ (length (joined d texts) == 0)
-  pub gathers : Gathers a b (joined d texts)
+  pub gathers : Buffers a b (joined d texts)
 
 pub fields_first : (d row left width : ℕ) (all : List CellEntry) (a : Output) → FieldsSoFar d row left width all a 0 true all a
 fields_first d row left width all a =
@@ -90,7 +90,7 @@ pub fields_more : {d row left width place : ℕ} {all cells cells' : List CellEn
     {is_bare none now : Bool} → place < width
     → FieldsSoFar d row left width all a place is_bare cells b
     → IsPlaced d (place == 0) (take_at row (left + place) cells).0 text → none ≡ (length text == 0)
-    → Gathers b c text → cells' ≡ (take_at row (left + place) cells).1 → now ≡ (is_bare && none)
+    → Buffers b c text → cells' ≡ (take_at row (left + place) cells).1 → now ≡ (is_bare && none)
     → FieldsSoFar d row left width all a (place + 1) now cells' c
 fields_more {d} {row} {left} {width} {place} {all} {cells} {cells'} {a} {b} {c} {text} {is_bare} {none} l
     so (field, (bytes, is, e), placed) none_is gathers left_is now_is =
@@ -161,10 +161,10 @@ puts_stop IsWhole Begins a b {e} (Err d) is (text, begins, stops) = (text, begin
 -- what was gathered was passed on, and then the field was appended
 pub field_put : (d : ℕ) (is_first : Bool) {is_bare : Bool} {taken : Content × List CellEntry} {content : Content} {rest : List CellEntry}
     {a : Output} {w : SinkState} {n : ℕ} {h k : List ℕ} → taken ≡ (content, rest)
-    → Gathers a (record { sink = w; kept = h; lender = n }) []
+    → Buffers a (record { sink = w; kept = h; lender = n }) []
     → AddsPlaced d is_first content is_bare h k
     → (text : List ℕ) × (IsPlaced d is_first taken.0 text × (is_bare ≡ (length text == 0)))
-    × Gathers a (record { sink = w; kept = k; lender = n }) text
+    × Buffers a (record { sink = w; kept = k; lender = n }) text
 field_put d is_first {is_bare} {taken} {content} {rest} {a} {w} {n} {h} {k} e passed (text, placed, bare, appended) = (
   text,
   (subst (λ (t : Content × List CellEntry). IsPlaced d is_first t.0 text) (sym e) placed, bare),

@@ -9,7 +9,7 @@ use Rattle.xls_csv.proofs.WalkLemmas.{rows_from}
 use Rattle.xls_readable.specs.Csv.{row_end}
 use Rattle.xls_readable.specs.Values.{Concatenates}
 use Rattle.xls_lines.specs.SinkState.{SinkState}
-use Rattle.xls_lines.specs.Output.{Gathers, GivesUp, Output}
+use Rattle.xls_lines.specs.Output.{Buffers, GivesUp, Output}
 use Rattle.xls_lines.specs.declared.stop.Stop.{Stop}
 use Rattle.xls_lines.specs.declared.stop.Stop.TheVariants.{Memory}
 use Rattle.xls_lines.proofs.GatherLemmas.{stops-from, stops-memory-now}
@@ -28,7 +28,7 @@ row_ended d row {text} {is_bare} (texts, are, is) bare =
 
 -- out of memory after all fields
 pub row_stop : (d : ℕ) (row : List Content) {a : Output} {w : SinkState} {n : ℕ} {g h text : List ℕ} → IsContentFields d row text
-    → Gathers a (record { sink = w; kept = g; lender = n }) text
+    → Buffers a (record { sink = w; kept = g; lender = n }) text
     → (prefix : List ℕ) × BeginsRow d row prefix × GivesUp a (record { sink = w; kept = h; lender = n }) prefix Memory
 row_stop d row {a} {w} {n} {g} {h} {text} fields gathers =
     (text, (row, [], sym (append-nil row), fields), stops-as (stops-memory [] gathers) (append-nil text))
@@ -77,7 +77,7 @@ pub record RowsSoFar (d height top left width : ℕ) (all : List CellEntry) (a :
   pub body : List ℕ
   pub are : Concatenates (IsContentRow d) prefix body
   pub whole : prefix ++ rows_over (height - i) (top + i) left width cells ≡ rows_over height top left width all
-  pub gathers : Gathers a b body
+  pub gathers : Buffers a b body
 
 pub rows_first : (d height top left width : ℕ) (all : List CellEntry) (a : Output)
     → RowsSoFar d height top left width all a 0 all a
@@ -88,7 +88,7 @@ rows_first d height top left width all a =
 
 pub rows_more : {d height top left width i : ℕ} {all cells cells' : List CellEntry} {a b c : Output} {text : List ℕ}
     → i < height → RowsSoFar d height top left width all a i cells b
-    → IsContentRow d (row_over (top + i) left width cells) text → Gathers b c text
+    → IsContentRow d (row_over (top + i) left width cells) text → Buffers b c text
     → cells' ≡ left_over (top + i) left width cells
     → RowsSoFar d height top left width all a (i + 1) cells' c
 rows_more {d} {height} {top} {left} {width} {i} {all} {cells} {cells'} {a} {b} {c} {text} l so is gathers rest =
@@ -106,7 +106,7 @@ rows_more {d} {height} {top} {left} {width} {i} {all} {cells} {cells'} {a} {b} {
 
 pub rows_end : {d height top left width i : ℕ} {all cells : List CellEntry} {a b : Output}
     → height ≤ i → RowsSoFar d height top left width all a i cells b
-    → (text : List ℕ) × Concatenates (IsContentRow d) (rows_over height top left width all) text × Gathers a b text
+    → (text : List ℕ) × Concatenates (IsContentRow d) (rows_over height top left width all) text × Buffers a b text
 rows_end {d} {height} {top} {left} {width} {i} {all} {cells} l so =
     let none : height - i ≡ 0 = omega arith in
     let no_rows : rows_over (height - i) (top + i) left width cells ≡ [] = rw none refl in
@@ -147,7 +147,7 @@ table_memory d is_marked rows a = record {
 
 -- after the mark
 pub table_stop : (d : ℕ) (is_marked : Bool) (rows : List (List Content)) {a b c : Output} {e : Stop} → a.kept ≡ []
-    → Gathers a b (byte_order_mark is_marked) → (text : List ℕ) × BeginsRows d rows text × GivesUp b c text e
+    → Buffers a b (byte_order_mark is_marked) → (text : List ℕ) × BeginsRows d rows text × GivesUp b c text e
     → StopsTable d is_marked rows a.sink c.sink e
 table_stop d is_marked rows none mark (text, begins, stops) = record {
   text = byte_order_mark is_marked ++ text;
@@ -156,15 +156,15 @@ table_stop d is_marked rows none mark (text, begins, stops) = record {
 }
 
 pub table_gathered : (d : ℕ) (is_marked : Bool) (rows : List (List Content)) {a b c : Output}
-    → Gathers a b (byte_order_mark is_marked)
-    → (text : List ℕ) × Concatenates (IsContentRow d) rows text × Gathers b c text
-    → (text : List ℕ) × IsTable d is_marked rows text × Gathers a c text
+    → Buffers a b (byte_order_mark is_marked)
+    → (text : List ℕ) × Concatenates (IsContentRow d) rows text × Buffers b c text
+    → (text : List ℕ) × IsTable d is_marked rows text × Buffers a c text
 table_gathered d is_marked rows mark (text, is, gathers) =
     (byte_order_mark is_marked ++ text, (text, is, refl), gathers-then mark gathers)
 
 -- all was gathered, and then it was given up
 pub table_unfinished : (d : ℕ) (is_marked : Bool) (rows : List (List Content)) {a b c : Output} {e : Stop} → a.kept ≡ []
-    → (text : List ℕ) × IsTable d is_marked rows text × Gathers a b text → GivesUp b c [] e
+    → (text : List ℕ) × IsTable d is_marked rows text × Buffers a b text → GivesUp b c [] e
     → StopsTable d is_marked rows a.sink c.sink e
 table_unfinished d is_marked rows none (text, (body, is, e), gathers) stops = record {
   text = text;
@@ -173,7 +173,7 @@ table_unfinished d is_marked rows none (text, (body, is, e), gathers) stops = re
 }
 
 pub table_finished : (d : ℕ) (is_marked : Bool) (rows : List (List Content)) {a b c : Output} → a.kept ≡ []
-    → (text : List ℕ) × IsTable d is_marked rows text × Gathers a b text → Gathers b c [] → c.kept ≡ []
+    → (text : List ℕ) × IsTable d is_marked rows text × Buffers a b text → Buffers b c [] → c.kept ≡ []
     → WroteTable d is_marked rows a.sink c.sink
 table_finished d is_marked rows none (text, is, gathers) last none' =
     record { text = text; table = is; wrote = wrote none (gathers-after gathers last) none' }

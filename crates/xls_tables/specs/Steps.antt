@@ -2,7 +2,7 @@
 use Rattle.std.specs.Prelude.{◌≡◌, ℕ, ◌==◌, Bool, true, false, List, [], ◌∷◌, ◌++◌, length, Result, Ok, Err}
 use Rattle.xls_data.specs.Content.{Content}
 use Rattle.xls_readable.specs.Values.{Concatenates}
-use Rattle.xls_lines.specs.Output.{Gathers, GivesUp, Output}
+use Rattle.xls_lines.specs.Output.{Buffers, GivesUp, Output}
 use Rattle.xls_lines.specs.declared.stop.Stop.{Stop}
 use Rattle.xls_tables.specs.Rows.{IsContentField, IsContentFields, IsContentRow}
 use Rattle.xls_tables.specs.Tables.{BeginsRow, BeginsRows}
@@ -29,7 +29,7 @@ AddsPlaced delimiter is_first content is_bare old new =
 -- a text of the first kind was gathered; or a prefix of what was kept and of one of the second kind was
 -- written, and then it was given up
 abbrev pub PutsOrBegins : {X : Type 0} → (X → List ℕ → Type 0) → (List ℕ → Type 0) → Output → Output → Result X Stop → Type 0
-PutsOrBegins IsWhole Begins before after (Ok x) = (text : List ℕ) × IsWhole x text × Gathers before after text
+PutsOrBegins IsWhole Begins before after (Ok x) = (text : List ℕ) × IsWhole x text × Buffers before after text
 PutsOrBegins IsWhole Begins before after (Err e) = (text : List ℕ) × Begins text × GivesUp before after text e
 
 -- a field, and whether it is no byte
