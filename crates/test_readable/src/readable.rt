@@ -7,9 +7,10 @@ use xls_data::{
     SheetVisible,
 };
 use xls_readable::{
-    Delimiter, Field, Form, Member, Property, Value, end_row, push_cell, push_custom, push_dates,
-    push_error, push_field, push_formula_line, push_json_line, push_line, push_merge, push_name,
-    push_ok, push_property, push_ref, push_row, push_separator, push_sheet, push_text_line,
+    CellLines, Delimiter, Field, Form, Member, Property, Value, end_row, push_cell, push_custom,
+    push_dates, push_error, push_field, push_formula_line, push_json_line, push_line, push_merge,
+    push_name, push_ok, push_property, push_ref, push_row, push_separator, push_sheet,
+    push_text_line,
 };
 
 // The lines of a workbook's parts.
@@ -31,7 +32,7 @@ fn push_parts(form: Form, room: &mut String, text: &mut String) -> Result<(), Al
 }
 
 // The lines of cells, one of each kind of value.
-fn push_cells(form: Form, room: &mut String, text: &mut String) -> Result<(), AllocError> {
+fn push_cells(form: Form, lines: &mut CellLines, text: &mut String) -> Result<(), AllocError> {
     let day = ExcelDateTime::new(Number::Whole(43831), ExcelDateTimeType::DateTime, false);
     let span = ExcelDateTime::new(Number::Hundredths(125), ExcelDateTimeType::TimeDelta, false);
     let values = [
@@ -48,7 +49,7 @@ fn push_cells(form: Form, room: &mut String, text: &mut String) -> Result<(), Al
         Value::Empty,
     ];
     for value in values.iter() {
-        push_cell(form, 1, 0, value, room, text)?;
+        push_cell(form, lines, (1, 0), value, text)?;
     }
     Ok(())
 }
@@ -81,10 +82,11 @@ static LINES: [(Form, &str); 2] = [
 fn writes_each_line_as_text_and_as_json(rt: HostRuntime) -> Result<(), Fail> {
     let mut room = String::new(rt.alloc());
     let mut text = String::new(rt.alloc());
+    let mut lines = CellLines::new(rt.alloc());
     for (form, expected) in LINES.iter() {
         text.clear();
         push_parts(*form, &mut room, &mut text)?;
-        push_cells(*form, &mut room, &mut text)?;
+        push_cells(*form, &mut lines, &mut text)?;
         push_others(*form, &mut room, &mut text)?;
         assert!(rt; text.as_str() == *expected);
     }

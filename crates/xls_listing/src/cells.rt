@@ -13,22 +13,21 @@ use crate::values::displayed_value;
 use std::alloc::Global;
 use xls_lines::{Sink, Stop, Writer};
 use xls_pieces::{Pieces, pass};
-use xls_readable::{Form, Value, push_cell};
+use xls_readable::{CellLines, Form, Value, push_cell};
 use xls_view::{Cells, SheetCell, TextBuffer, ViewSheet};
 
-/// Puts the line of a value at a row and a column; a blank has none.
+/// Puts the line of a value at a position; a blank has none.
 fn put_value<K: Sink>(
     form: Form,
     out: &mut Writer<'_, K, Pieces>,
-    row: u32,
-    column: u32,
+    lines: &mut CellLines,
+    position: (u32, u32),
     value: &Value<'_>,
 ) -> Result<(), Stop>
-    ensures { PutsLines form (valued_lines (row, column) (kind_and_item value.now))
+    ensures { PutsLines form (valued_lines position (kind_and_item value.now))
         (pieces_output K.state out.old) (pieces_output K.state out.new) result }
 {
-    let pieces = &mut *out.buffer;
-    push_cell(form, row, column, value, &mut pieces.room, &mut pieces.text)?;
+    push_cell(form, lines, position, value, &mut out.buffer.text)?;
     pass(out)
 }
 
@@ -36,6 +35,7 @@ fn put_value<K: Sink>(
 fn put_cell<K: Sink>(
     form: Form,
     out: &mut Writer<'_, K, Pieces>,
+    lines: &mut CellLines,
     text: &mut TextBuffer,
     cell: SheetCell<'_>,
 ) -> Result<(), Stop>
@@ -44,7 +44,7 @@ fn put_cell<K: Sink>(
 {
     let SheetCell { row, column, value } = cell;
     let value = text.value_of(value)?;
-    put_value(form, out, row, column, &displayed_value(&value))
+    put_value(form, out, lines, (row, column), &displayed_value(&value))
 }
 
 /// Puts the lines of a sheet's cells.
@@ -57,9 +57,10 @@ fn put_cells<K: Sink>(
     ensures { PutsLines form (flat_map cell_lines cells.entry)
         (pieces_output K.state out.old) (pieces_output K.state out.new) result }
 {
+    let mut lines = CellLines::new(alloc);
     let mut text = TextBuffer::new(alloc);
     for cell in cells {
-        put_cell(form, out, &mut text, cell)?;
+        put_cell(form, out, &mut lines, &mut text, cell)?;
     }
     Ok(())
 }

@@ -1,5 +1,6 @@
 pub mod StretchLemmas
 pub mod GrowthLemmas
+pub mod CellLemmas
 pub mod ConcatenationLemmas
 pub mod JsonLemmas
 pub mod RowLemmas

@@ -65,7 +65,11 @@ fn push_formula_text(text: &str, room: &mut String, buf: &mut String) -> Result<
 }
 
 // Appends the text of a field.
-fn push_item(field: &Field<'_>, room: &mut String, buf: &mut String) -> Result<(), AllocError>
+pub(crate) fn push_item(
+    field: &Field<'_>,
+    room: &mut String,
+    buf: &mut String,
+) -> Result<(), AllocError>
     ensures ok { OnOk result (AddsText (IsItemText (item_of field.now))
         (string_bytes buf.old) (string_bytes buf.new)) }
     ensures err { OnErr result (string_bytes buf.new ≡ string_bytes buf.old) }
@@ -90,7 +94,7 @@ fn push_tabbed(member: &Member<'_>, room: &mut String, buf: &mut String) -> Resu
         (string_bytes buf.old) (string_bytes buf.new)) }
     ensures grown { GrowsText (string_bytes buf.old) (string_bytes buf.new) }
 {
-    buf.push_str("\t")?;
+    buf.push('\t')?;
     push_item(&member.field, room, buf)
 }
 
@@ -123,7 +127,7 @@ fn append_text_line(
 {
     buf.push_str(word)?;
     push_all_tabbed(members, room, buf)?;
-    buf.push_str("\n")?;
+    buf.push('\n')?;
     Ok(())
 }
 

@@ -2,6 +2,7 @@
 //! to a text that is used again.
 #![tactic(auto)]
 
+mod cell_lines;
 mod delimited;
 mod forms;
 mod items;
@@ -12,6 +13,7 @@ mod properties;
 mod rows;
 mod values;
 
+pub use cell_lines::{CellLines, push_cell};
 pub use delimited::{
     Delimiter, end_row, push_failure_field, push_field, push_int_field, push_moment_field,
     push_number_field, push_separator, push_text_field, push_truth_field,
@@ -21,8 +23,7 @@ pub use items::{Field, Member, push_text_line};
 pub use json_lines::push_json_line;
 pub use laws::{numbers_are_bare, rows_read_back};
 pub use lines::{
-    push_cell, push_dates, push_error, push_formula_line, push_merge, push_name, push_ok, push_ref,
-    push_sheet,
+    push_dates, push_error, push_formula_line, push_merge, push_name, push_ok, push_ref, push_sheet,
 };
 pub use properties::{Property, push_custom, push_property};
 pub use rows::push_row;

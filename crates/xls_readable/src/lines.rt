@@ -1,15 +1,14 @@
 //! The lines of a workbook, a call for each kind.
 
-ghost use Rattle.std.specs.Prelude.{◌≡◌, [], option_map, OnOk, OnErr, codes};
+ghost use Rattle.std.specs.Prelude.{◌≡◌, [], OnOk, OnErr, codes};
 ghost use Rattle.std.specs.String.{string_bytes};
 ghost use Rattle.xls_decimals.specs.Added.{AddsText};
 ghost use Rattle.xls_readable.specs.Items.{count, named_of, text};
 ghost use Rattle.xls_readable.specs.Lines.{IsLine};
-ghost use Rattle.xls_readable.specs.Lines.{IsCellLine, kind_and_item, dates_members, name_members, sheet_members, cell_members, formula_members, merge_members, ref_members, text_members, item_of, type_text, visible_text, year_text};
+ghost use Rattle.xls_readable.specs.Lines.{dates_members, name_members, sheet_members, formula_members, merge_members, ref_members, text_members, item_of, type_text, visible_text, year_text};
 
 use crate::forms::{Form, push_line};
 use crate::items::{Field, Member};
-use crate::values::Value;
 use std::alloc::AllocError;
 use xls_data::{Dimensions, SheetType, SheetVisible};
 
@@ -40,12 +39,12 @@ pub fn push_dates(
 }
 
 // A text under a name.
-pub(crate) fn text_member<'a>(name: &'a str, shown: &'a str) -> Member<'a>
-    ensures { named_of result ≡ (name.now, text shown.now) }
+pub(crate) fn text_member<'a>(name: &'a str, displayed: &'a str) -> Member<'a>
+    ensures { named_of result ≡ (name.now, text displayed.now) }
 {
     Member {
         name,
-        field: Field::Text(shown),
+        field: Field::Text(displayed),
     }
 }
 
@@ -127,62 +126,6 @@ pub fn push_sheet(
         field: Field::Word(visible_word(visible)),
     };
     push_line(form, "sheet", &[name, kind, visibility], room, buf)
-}
-
-// The kind of a value, and the field that shows it. A blank has none.
-fn kind_and_field<'a>(value: &'a Value<'a>) -> Option<(&'static str, Field<'a>)>
-    ensures { option_map (λ p. (p.0.now, item_of p.1)) result ≡ kind_and_item value.now }
-{
-    match value {
-        Value::Int(n) => Some(("int", Field::Int(*n))),
-        Value::Float(n) => Some(("float", Field::Number(*n))),
-        Value::Text(text) => Some(("text", Field::Text(text))),
-        Value::Truth(b) => Some(("bool", Field::Truth(*b))),
-        Value::Moment(moment) if moment.is_duration() => Some(("span", Field::Moment(*moment))),
-        Value::Moment(moment) => Some(("date", Field::Moment(*moment))),
-        Value::IsoDate(text) => Some(("date", Field::Text(text))),
-        Value::IsoDuration(text) => Some(("span", Field::Text(text))),
-        Value::Failure(failure) => Some(("error", Field::Failure(*failure))),
-        Value::Empty => None,
-    }
-}
-
-/// Appends the line of a cell's row, column, kind and value, `cell`; of a blank nothing. The kinds are
-/// `int`, `float`, `text`, `bool`, `date`, `span` and `error`.
-pub fn push_cell(
-    form: Form,
-    row: u32,
-    column: u32,
-    value: &Value<'_>,
-    room: &mut String,
-    buf: &mut String,
-) -> Result<(), AllocError>
-    ensures ok { OnOk result (AddsText (IsCellLine form row column value.now)
-        (string_bytes buf.old) (string_bytes buf.new)) }
-    ensures err { OnErr result (string_bytes buf.new ≡ string_bytes buf.old) }
-{
-    match kind_and_field(value) {
-        Some((kind, field)) => {
-            let row = Member {
-                name: "row",
-                field: Field::Count(u64::from(row)),
-            };
-            let column = Member {
-                name: "column",
-                field: Field::Count(u64::from(column)),
-            };
-            let kind = Member {
-                name: "kind",
-                field: Field::Word(kind),
-            };
-            let value = Member {
-                name: "value",
-                field,
-            };
-            push_line(form, "cell", &[row, column, kind, value], room, buf)
-        }
-        None => Ok(()),
-    }
 }
 
 /// Appends the line of a formula's row, column and text, `formula`.

@@ -7,4 +7,4 @@ pub returns-in_err-push_cell : goal.returns-in_err-push_cell
 returns-in_err-push_cell g c = puts-memory (IsDisplayedLine c.args.form) _ _ _ _ _ c.from_residual.result c.from_residual.ensures.1
 
 pub returns : goal.returns
-returns g c = puts-cell c.args.form (c.args.row, c.args.column) _ _ _ _ _ _ c.pass.result c.in_ok-push_cell.ensures.ok c.pass.ensures.puts
+returns g c = puts-cell c.args.form c.args.position _ _ _ _ _ _ c.pass.result c.in_ok-push_cell.ensures.ok c.pass.ensures.puts

@@ -7,8 +7,8 @@ returns-in_err-push_str-clause-grown c = grows_same _ _ c.in_err-push_str.ensure
 pub returns-in_err-push_all_tabbed-clause-grown : goal.returns-in_err-push_all_tabbed-clause-grown
 returns-in_err-push_all_tabbed-clause-grown c = grows_then _ _ _ (grows_text _ _ _ c.in_ok-push_str.ensures.bytes) (c.push_all_tabbed.ensures.grown)
 
-pub returns-in_err-push_str-2-clause-grown : goal.returns-in_err-push_str-2-clause-grown
-returns-in_err-push_str-2-clause-grown c = grows_then _ _ _ (grows_then _ _ _ (grows_text _ _ _ c.in_ok-push_str.ensures.bytes) (c.push_all_tabbed.ensures.grown)) (grows_same _ _ c.in_err-push_str-2.ensures.bytes)
+pub returns-in_err-push-clause-grown : goal.returns-in_err-push-clause-grown
+returns-in_err-push-clause-grown c = grows_then _ _ _ (grows_then _ _ _ (grows_text _ _ _ c.in_ok-push_str.ensures.bytes) (c.push_all_tabbed.ensures.grown)) (grows_same _ _ c.in_err-push.ensures.bytes)
 
 pub returns-clause-grown : goal.returns-clause-grown
-returns-clause-grown c = grows_then _ _ _ (grows_then _ _ _ (grows_text _ _ _ c.in_ok-push_str.ensures.bytes) (c.push_all_tabbed.ensures.grown)) (grows_text _ _ _ c.in_ok-push_str-2.ensures.bytes)
+returns-clause-grown c = grows_then _ _ _ (grows_then _ _ _ (grows_text _ _ _ c.in_ok-push_str.ensures.bytes) (c.push_all_tabbed.ensures.grown)) (grows_text _ _ _ c.in_ok-push.ensures.bytes)

@@ -1,8 +1,8 @@
 use Rattle.xls_readable.proofs.GrowthLemmas.{grows_same, grows_text, grows_then, grows_either}
 use Rattle.xls_readable.proofs.items.push_tabbed.Goals as goal
 
-pub returns-in_err-push_str-clause-grown : goal.returns-in_err-push_str-clause-grown
-returns-in_err-push_str-clause-grown c = grows_same _ _ c.in_err-push_str.ensures.bytes
+pub returns-in_err-push-clause-grown : goal.returns-in_err-push-clause-grown
+returns-in_err-push-clause-grown c = grows_same _ _ c.in_err-push.ensures.bytes
 
 pub returns-clause-grown : goal.returns-clause-grown
-returns-clause-grown c = grows_then _ _ _ (grows_text _ _ _ c.in_ok-push_str.ensures.bytes) (grows_either c.push_item.result _ _ _ c.push_item.ensures.ok c.push_item.ensures.err)
+returns-clause-grown c = grows_then _ _ _ (grows_text _ _ _ c.in_ok-push.ensures.bytes) (grows_either c.push_item.result _ _ _ c.push_item.ensures.ok c.push_item.ensures.err)
