@@ -66,8 +66,11 @@ fn file_bytes(rt: &HostRuntime, path: &str) -> io::Result<Vec<u8>> {
     let Ok(mut bytes) = read_whole(&mut file, rt.alloc(), size) else {
         return fs::read(rt, path);
     };
-    // What stands past the size: a pipe has none, and a file may have grown.
-    file.read_to_end(&mut bytes)?;
+    // What stands past the size: a pipe has none, and a file may have grown. Mostly there is none, and what was read
+    // stays where it is.
+    let mut others = Vec::new(rt.alloc());
+    file.read_to_end(&mut others)?;
+    bytes.extend_from_slice(&others)?;
     Ok(bytes)
 }
 
