@@ -200,6 +200,29 @@ fn do_name<H: Host, K: Sink>(
     do_queue(alloc, host, report, job, &mut queue)
 }
 
+/// Tells that a list has a name that isn't UTF-8.
+fn tell_unnamed<H: Host, K: Sink>(
+    alloc: Global,
+    host: &mut H,
+    report: &mut Report<'_, K>,
+    list: &str,
+) -> Result<(), Stop> {
+    let result = Err(unnamed(alloc)?);
+    tell(alloc, host, report, list, &result)
+}
+
+/// Tells why a list isn't read on.
+fn tell_unread<H: Host, K: Sink>(
+    alloc: Global,
+    host: &mut H,
+    report: &mut Report<'_, K>,
+    list: &str,
+    reason: Reason,
+) -> Result<(), Stop> {
+    let result = Err(Problem::Unread(reason));
+    tell(alloc, host, report, list, &result)
+}
+
 /// Does the work of all files whose names stand in a list, each before the next name is read.
 fn do_names<H: Host, K: Sink>(
     alloc: Global,
@@ -213,15 +236,9 @@ fn do_names<H: Host, K: Sink>(
     for _ in 0..u64::MAX {
         match host.next_name(list.path, list.by_nul) {
             Ok(Some(Name::Text(path))) => do_name(alloc, host, report, job, path.as_str())?,
-            Ok(Some(Name::Unnamed)) => {
-                let result = Err(unnamed(alloc)?);
-                tell(alloc, host, report, list.path, &result)?;
-            }
+            Ok(Some(Name::Unnamed)) => tell_unnamed(alloc, host, report, list.path)?,
             Ok(None) => return Ok(()),
-            Err(reason) => {
-                let result = Err(Problem::Unread(reason));
-                return tell(alloc, host, report, list.path, &result);
-            }
+            Err(reason) => return tell_unread(alloc, host, report, list.path, reason),
         }
     }
     Ok(())

@@ -85,21 +85,35 @@ impl Problem {
     }
 }
 
+impl fmt::Display for Absent {
+    ghost use Rattle.std.specs.Prelude.{Some};
+    ghost use Rattle.xls_tool.specs.Displayed.{absent_text};
+
+    ghost output = { λ absent. Some (absent_text absent) };
+
+    fn fmt<W: fmt::Write>(&self, f: &mut fmt::Formatter<W>) -> fmt::Result {
+        f.write_str(match self {
+            Absent::Properties => "it has no property streams",
+            Absent::Project => "it has no macro project (no stream VBA/dir)",
+            Absent::Stream => "it has no such stream",
+            Absent::Compound => "it is a workbook's stream alone, without other streams",
+        })
+    }
+}
+
 impl fmt::Display for Problem {
+    ghost use Rattle.std.specs.Prelude.{Some};
+    ghost use Rattle.xls_tool.specs.Displayed.{problem_text};
+
+    ghost output = { λ problem. Some (problem_text problem) };
+
     fn fmt<W: fmt::Write>(&self, f: &mut fmt::Formatter<W>) -> fmt::Result {
         match self {
             Problem::Unread(reason) => write!(f, "{reason}"),
             Problem::Folder => f.write_str("it is a folder"),
             Problem::Irregular => f.write_str("it is no regular file"),
             Problem::Failure(failure) => write!(f, "{failure}"),
-            Problem::Absent(Absent::Properties) => f.write_str("it has no property streams"),
-            Problem::Absent(Absent::Project) => {
-                f.write_str("it has no macro project (no stream VBA/dir)")
-            }
-            Problem::Absent(Absent::Stream) => f.write_str("it has no such stream"),
-            Problem::Absent(Absent::Compound) => {
-                f.write_str("it is a workbook's stream alone, without other streams")
-            }
+            Problem::Absent(what) => write!(f, "{what}"),
             Problem::Project(fault) => write!(f, "{fault}"),
             Problem::Unwritten(path, reason) => write!(f, "{path}: {reason}"),
         }

@@ -1,0 +1,25 @@
+-- What is printed of each problem.
+use Rattle.std.specs.Prelude.{ℕ, List, ◌++◌, codes}
+use Rattle.std.specs.String.{string_bytes}
+use Rattle.xls_answers.specs.Texts.{failure_text}
+use Rattle.xls_documents.specs.Texts as documents
+use Rattle.xls_files.specs.Reasons.{reason_text}
+use Rattle.xls_tool.specs.declared.problem.Absent.{Absent}
+use Rattle.xls_tool.specs.declared.problem.Absent.TheVariants as absent
+use Rattle.xls_tool.specs.declared.problem.Problem.{Problem}
+use Rattle.xls_tool.specs.declared.problem.Problem.TheVariants as problems
+
+abbrev pub absent_text : Absent → List ℕ
+absent_text absent.Properties = codes "it has no property streams"
+absent_text absent.Project = codes "it has no macro project (no stream VBA/dir)"
+absent_text absent.Stream = codes "it has no such stream"
+absent_text absent.Compound = codes "it is a workbook's stream alone, without other streams"
+
+abbrev pub problem_text : Problem → List ℕ
+problem_text (problems.Unread reason) = reason_text reason
+problem_text problems.Folder = codes "it is a folder"
+problem_text problems.Irregular = codes "it is no regular file"
+problem_text (problems.Failure failure) = failure_text failure
+problem_text (problems.Absent what) = absent_text what
+problem_text (problems.Project fault) = documents.fault_text fault
+problem_text (problems.Unwritten path reason) = string_bytes path ++ (codes ": " ++ reason_text reason)
