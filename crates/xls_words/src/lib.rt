@@ -2,12 +2,14 @@
 #![tactic(auto)]
 
 mod displayed;
+mod grammar;
 mod parse;
 mod plain;
 mod request;
 mod word;
 
 pub use displayed::Displayed;
-pub use parse::{VERSION, request_of};
+pub use grammar::VERSION;
+pub use parse::request_of;
 pub use request::{Command, Files, Request, SheetChoice, Style, Table};
 pub use word::Word;

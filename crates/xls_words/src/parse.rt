@@ -4,227 +4,18 @@ ghost use Rattle.std.specs.Prelude.{◌≡◌, ℕ, List, true, IfOk, IfSome, Ma
 ghost use Rattle.std.specs.String.{string_bytes};
 ghost use Rattle.xls_words.specs.Requests.{AreWordsOf, CommandHasNumber, IsAsked, IsNumbered, IsPage, IsPlainRequest, are_plain, word_of};
 ghost use Rattle.xls_words.specs.declared.displayed.Displayed.TheVariants as displayed;
+ghost use Rattle.xls_words.specs.declared.parse.Refusal.TheVariants as refusals;
 ghost use Rattle.xls_words.specs.declared.word.Word.{Word};
 
 use crate::displayed::{Displayed, displayed_of};
+use crate::grammar::{grammar_of, overview};
 use crate::plain::{are_plain, plain_request};
 use crate::request::{Command, Files, Request, SheetChoice, Style, Table};
-use crate::word::{ALL, Word};
+use crate::word::Word;
 use clap::error::ErrorKind;
-use clap::{Arg, ArgAction, ArgMatches, Error, value_parser};
+use clap::{ArgMatches, Error};
 use std::alloc::{AllocError, Global};
 use xls_readable::Delimiter;
-
-/// The version of the program and of its libraries.
-pub const VERSION: &str = "0.45.0";
-
-/// An option that takes a value.
-fn option<'a>(alloc: Global, name: &'a str, value: &'a str, help: &'a str) -> Arg<'a> {
-    Arg::new(alloc, name)
-        .long(name)
-        .value_name(value)
-        .help(help)
-        .action(ArgAction::Set)
-}
-
-/// An option without a value.
-fn flag<'a>(alloc: Global, name: &'a str, help: &'a str) -> Arg<'a> {
-    Arg::new(alloc, name)
-        .long(name)
-        .help(help)
-        .action(ArgAction::SetTrue)
-}
-
-/// The files and folders that are read.
-fn files_arg<'a>(alloc: Global) -> Arg<'a> {
-    Arg::new(alloc, "FILE")
-        .num_args(0..)
-        .action(ArgAction::Append)
-        .help("Files, folders, or - for a file on standard input")
-}
-
-/// The one file that is read.
-fn file_arg<'a>(alloc: Global) -> Arg<'a> {
-    Arg::new(alloc, "FILE")
-        .required(true)
-        .action(ArgAction::Set)
-        .help("A file, or - for one on standard input")
-}
-
-/// An option or a flag that isn't given together with others.
-fn without<'a>(mut arg: Arg<'a>, others: &'static [&'static str]) -> Result<Arg<'a>, AllocError> {
-    for other in others {
-        arg = arg.conflicts_with(other)?;
-    }
-    Ok(arg)
-}
-
-/// The list of the files' names.
-fn with_list<'a>(
-    alloc: Global,
-    command: clap::Command<'a>,
-) -> Result<clap::Command<'a>, AllocError> {
-    let help = "Read the files whose names stand in LIST (- for standard input), one a line";
-    let command = command.arg(option(alloc, "files-from", "LIST", help))?;
-    let null = flag(alloc, "null", "The names in LIST are ended by NUL");
-    command.arg(null.short('0'))
-}
-
-/// The folder for texts.
-fn with_out<'a>(
-    alloc: Global,
-    command: clap::Command<'a>,
-) -> Result<clap::Command<'a>, AllocError> {
-    let help = "Write into DIR/FILE, a folder for each file";
-    let command = command.arg(option(alloc, "out", "DIR", help))?;
-    command.arg(flag(alloc, "force", "Write over files that exist"))
-}
-
-/// The options of those commands that read many files.
-fn with_many<'a>(
-    alloc: Global,
-    command: clap::Command<'a>,
-) -> Result<clap::Command<'a>, AllocError> {
-    let command = command.arg(files_arg(alloc))?;
-    with_out(alloc, with_list(alloc, command)?)
-}
-
-/// The page that texts are read by.
-fn with_page<'a>(
-    alloc: Global,
-    command: clap::Command<'a>,
-) -> Result<clap::Command<'a>, AllocError> {
-    let help = "Read texts of single bytes by this page: 1200, 1252, 28591 or 65001";
-    command.arg(option(alloc, "codepage", "N", help))
-}
-
-/// Lines as objects of JSON.
-fn with_json<'a>(
-    alloc: Global,
-    command: clap::Command<'a>,
-) -> Result<clap::Command<'a>, AllocError> {
-    command.arg(flag(alloc, "json", "Write each line as an object of JSON"))
-}
-
-/// The texts of `xls_dump`, which other options don't go together with.
-fn with_exact<'a>(
-    alloc: Global,
-    command: clap::Command<'a>,
-    others: &'static [&'static str],
-) -> Result<clap::Command<'a>, AllocError> {
-    let exact = flag(
-        alloc,
-        "exact",
-        "Write numbers by their bits, as xls_dump does",
-    );
-    command.arg(without(exact, others)?)
-}
-
-/// Which sheet is written, by its number.
-fn with_number<'a>(
-    alloc: Global,
-    command: clap::Command<'a>,
-) -> Result<clap::Command<'a>, AllocError> {
-    let number = option(alloc, "number", "N", "The sheet of this number, from 1");
-    let number = number.value_parser(value_parser!(u32).range(1..));
-    command.arg(without(number, &["sheet"])?)
-}
-
-/// Which sheets are written.
-fn with_choice<'a>(
-    alloc: Global,
-    command: clap::Command<'a>,
-) -> Result<clap::Command<'a>, AllocError> {
-    let command = command.arg(option(alloc, "sheet", "NAME", "The last sheet of this name"))?;
-    let command = with_number(alloc, command)?;
-    let all = flag(alloc, "all", "Each worksheet and macro sheet; wants --out");
-    command.arg(without(all, &["sheet", "number"])?)
-}
-
-/// How rows are written.
-fn with_rows<'a>(
-    alloc: Global,
-    command: clap::Command<'a>,
-) -> Result<clap::Command<'a>, AllocError> {
-    let help = "The character between fields, in place of a comma; tab for a tab";
-    let command = command.arg(option(alloc, "delimiter", "C", help))?;
-    command.arg(flag(
-        alloc,
-        "bom",
-        "Begin with a byte order mark, as Excel wants it",
-    ))
-}
-
-/// The options of CSV.
-fn with_table<'a>(
-    alloc: Global,
-    command: clap::Command<'a>,
-) -> Result<clap::Command<'a>, AllocError> {
-    let command = with_rows(alloc, with_choice(alloc, command)?)?;
-    with_exact(alloc, command, &["delimiter", "bom"])
-}
-
-/// The forms of lines.
-fn with_forms<'a>(
-    alloc: Global,
-    command: clap::Command<'a>,
-) -> Result<clap::Command<'a>, AllocError> {
-    with_exact(alloc, with_json(alloc, command)?, &["json"])
-}
-
-/// The path of a stream.
-fn with_path<'a>(
-    alloc: Global,
-    command: clap::Command<'a>,
-) -> Result<clap::Command<'a>, AllocError> {
-    let path = Arg::new(alloc, "NAME").action(ArgAction::Set);
-    command.arg(path.help("The path of a stream, its names separated by /"))
-}
-
-/// How the words of a command are read.
-fn grammar_of<'a>(
-    alloc: Global,
-    word: Word,
-    title: &'a str,
-    about: &'a str,
-) -> Result<clap::Command<'a>, AllocError> {
-    let command = clap::Command::new(alloc, title).about(about);
-    match word {
-        Word::Dump | Word::Sheets | Word::Refs => {
-            with_page(alloc, with_forms(alloc, with_many(alloc, command)?)?)
-        }
-        Word::Check | Word::Formulas => {
-            with_page(alloc, with_json(alloc, with_many(alloc, command)?)?)
-        }
-        Word::Csv => with_page(alloc, with_table(alloc, with_many(alloc, command)?)?),
-        Word::Props | Word::Vba => with_many(alloc, command),
-        Word::Remake | Word::Streams => command.arg(file_arg(alloc)),
-        Word::Stream => with_path(alloc, command.arg(file_arg(alloc))?),
-    }
-}
-
-/// A command line with one more command in its help.
-fn with_summary<'a>(
-    alloc: Global,
-    command: clap::Command<'a>,
-    name: &'a str,
-    about: &'a str,
-) -> Result<clap::Command<'a>, AllocError> {
-    command.subcommand(clap::Command::new(alloc, name).about(about))
-}
-
-/// The commands together, which only help and the version are asked of.
-fn overview<'a>(alloc: Global) -> Result<clap::Command<'a>, AllocError> {
-    let mut command = clap::Command::new(alloc, "xls")
-        .version(VERSION)
-        .about("Reads old Excel workbooks (.xls): xls [COMMAND] FILE..")
-        .arg_required_else_help(true)
-        .disable_help_subcommand(true);
-    for word in ALL {
-        command = with_summary(alloc, command, word.name(), word.about())?;
-    }
-    Ok(command)
-}
 
 /// How the lines of a command are written.
 fn style_in(matches: &ArgMatches<'_>) -> Style {
@@ -275,51 +66,80 @@ fn choice_in<'w>(matches: &ArgMatches<'w>) -> SheetChoice<'w>
     }
 }
 
-/// A mistake in the words that the grammar doesn't see.
-fn mistake(grammar: &mut clap::Command<'_>, text: &str) -> Error {
-    match grammar.error(ErrorKind::ValueValidation, text) {
+/// Why words that the grammar takes are refused.
+#[derive(Clone, Copy)]
+enum Refusal {
+    Memory,
+    /// The delimiter is none.
+    Delimiter,
+    /// There is no file.
+    NoFile,
+    /// There are files and a list of files.
+    FilesAndList,
+    /// The page is none that is read.
+    Page,
+}
+
+impl Refusal {
+    /// What is wrong with the words.
+    fn text(self) -> &'static str {
+        match self {
+            Refusal::Memory => "out of memory",
+            Refusal::Delimiter => {
+                "the delimiter is one character of ASCII, and no quote, newline or return"
+            }
+            Refusal::NoFile => "no file is given",
+            Refusal::FilesAndList => "give files, or --files-from, and not both",
+            Refusal::Page => "the pages are 1200, 1252, 28591 and 65001",
+        }
+    }
+}
+
+impl From<AllocError> for Refusal {
+    ghost from_gives = { λ _ refusal. refusal ≡ refusals.Memory };
+
+    fn from(_: AllocError) -> Refusal {
+        Refusal::Memory
+    }
+}
+
+/// The refusal as the grammar tells its own.
+fn error_of(grammar: &mut clap::Command<'_>, refusal: Refusal) -> Error {
+    if let Refusal::Memory = refusal {
+        return Error::from(AllocError);
+    }
+    match grammar.error(ErrorKind::ValueValidation, refusal.text()) {
         Ok(error) => error,
         Err(error) => Error::from(error),
     }
 }
 
-/// How sheets are written as CSV.
-fn table_in<'w>(
-    grammar: &mut clap::Command<'_>,
-    matches: &ArgMatches<'w>,
-) -> Result<Table<'w>, Error>
-    ensures { IfOk result (λ t. IsNumbered t.choice) }
+/// The character between fields, if what is given is one.
+fn delimiter_in(matches: &ArgMatches<'_>) -> Option<Delimiter> {
+    match matches.get_str("delimiter") {
+        None => Some(Delimiter::comma()),
+        Some(text) => delimiter_of(text),
+    }
+}
+
+/// How sheets are written as CSV. None where the delimiter is none.
+fn table_in<'w>(matches: &ArgMatches<'w>) -> Option<Table<'w>>
+    ensures { IfSome result (λ t. IsNumbered t.choice) }
 {
-    let delimiter = match matches.get_str("delimiter") {
-        Some(text) => match delimiter_of(text) {
-            Some(delimiter) => delimiter,
-            None => {
-                return Err(mistake(
-                    grammar,
-                    "the delimiter is one character of ASCII, and no quote, newline or return",
-                ));
-            }
-        },
-        None => Delimiter::comma(),
-    };
-    Ok(Table {
+    Some(Table {
         choice: choice_in(matches),
-        delimiter,
+        delimiter: delimiter_in(matches)?,
         begins_with_mark: matches.get_flag("bom"),
         style: style_in(matches),
     })
 }
 
-/// The command of some words.
-fn command_in<'w>(
-    word: Word,
-    grammar: &mut clap::Command<'_>,
-    matches: &ArgMatches<'w>,
-) -> Result<Command<'w>, Error>
-    ensures named { IfOk result (λ c. word_of c ≡ word) }
-    ensures numbered { IfOk result (λ c. CommandHasNumber c) }
+/// The command of some words. None where the delimiter is none.
+fn command_in<'w>(word: Word, matches: &ArgMatches<'w>) -> Option<Command<'w>>
+    ensures named { IfSome result (λ c. word_of c ≡ word) }
+    ensures numbered { IfSome result (λ c. CommandHasNumber c) }
 {
-    Ok(match word {
+    Some(match word {
         Word::Dump => Command::Dump(style_in(matches)),
         Word::Sheets => Command::Sheets(style_in(matches)),
         Word::Check => Command::Check,
@@ -327,7 +147,10 @@ fn command_in<'w>(
         Word::Refs => Command::Refs(style_in(matches)),
         Word::Props => Command::Props,
         Word::Vba => Command::Vba,
-        Word::Csv => Command::Csv(table_in(grammar, matches)?),
+        Word::Csv => match table_in(matches) {
+            Some(table) => Command::Csv(table),
+            None => return None,
+        },
         Word::Remake => Command::Remake,
         Word::Stream => Command::Stream(matches.get_str("NAME")),
         Word::Streams => Command::Streams,
@@ -335,34 +158,54 @@ fn command_in<'w>(
 }
 
 /// The files of some words.
-fn files_in<'w>(
-    alloc: Global,
-    grammar: &mut clap::Command<'_>,
-    matches: &ArgMatches<'w>,
-) -> Result<Files<'w>, Error> {
+fn files_in<'w>(alloc: Global, matches: &ArgMatches<'w>) -> Result<Files<'w>, Refusal> {
     let names = matches.get_strs("FILE").unwrap_or(&[]);
     match (matches.get_str("files-from"), names) {
-        (None, []) => Err(mistake(grammar, "no file is given")),
+        (None, []) => Err(Refusal::NoFile),
         (None, names) => Ok(Files::Named(Vec::from_slice(alloc, names)?)),
         (Some(list), []) => Ok(Files::Listed {
             list,
             by_nul: matches.get_flag("null"),
         }),
-        (Some(_), _) => Err(mistake(grammar, "give files, or --files-from, and not both")),
+        (Some(_), _) => Err(Refusal::FilesAndList),
     }
 }
 
 /// The page that is asked for.
-fn page_in(grammar: &mut clap::Command<'_>, matches: &ArgMatches<'_>) -> Result<Option<u16>, Error>
+fn page_in(matches: &ArgMatches<'_>) -> Result<Option<u16>, Refusal>
     ensures { IfOk result (λ page. IfSome page IsPage) }
 {
     match matches.get_str("codepage") {
+        None => Ok(None),
         Some(text) => match page_of(text) {
             Some(page) => Ok(Some(page)),
-            None => Err(mistake(grammar, "the pages are 1200, 1252, 28591 and 65001")),
+            None => Err(Refusal::Page),
         },
-        None => Ok(None),
     }
+}
+
+/// What the words ask for that the grammar took.
+fn request_taken<'w>(
+    alloc: Global,
+    word: Word,
+    matches: &ArgMatches<'w>,
+) -> Result<Request<'w>, Refusal>
+    ensures named { IfOk result (λ r. word_of r.command ≡ word) }
+    ensures numbered { IfOk result (λ r. CommandHasNumber r.command) }
+    ensures page { IfOk result (λ r. IfSome r.page IsPage) }
+{
+    let Some(command) = command_in(word, matches) else {
+        return Err(Refusal::Delimiter);
+    };
+    let files = files_in(alloc, matches)?;
+    Ok(Request {
+        command,
+        files,
+        tells_json: matches.get_flag("json"),
+        page: page_in(matches)?,
+        out: matches.get_str("out"),
+        writes_over: matches.get_flag("force"),
+    })
 }
 
 /// What the words after a command's name ask for.
@@ -373,14 +216,10 @@ fn request_in<'w>(alloc: Global, word: Word, words: &'w [String]) -> Result<Requ
 {
     let mut grammar = grammar_of(alloc, word, word.title(), word.about())?.no_binary_name(true);
     let matches = grammar.try_get_matches_from_mut(words)?;
-    Ok(Request {
-        command: command_in(word, &mut grammar, &matches)?,
-        files: files_in(alloc, &mut grammar, &matches)?,
-        tells_json: matches.get_flag("json"),
-        page: page_in(&mut grammar, &matches)?,
-        out: matches.get_str("out"),
-        writes_over: matches.get_flag("force"),
-    })
+    match request_taken(alloc, word, &matches) {
+        Ok(request) => Ok(request),
+        Err(refusal) => Err(error_of(&mut grammar, refusal)),
+    }
 }
 
 /// Help, the version, or that there are no words.

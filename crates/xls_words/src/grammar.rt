@@ -1,0 +1,255 @@
+//! What each command takes, as a table, and the grammar that the table gives.
+
+use crate::word::{ALL, Word};
+use clap::{Arg, ArgAction, Command, value_parser};
+use std::alloc::{AllocError, Global};
+
+/// The version of the program and of its libraries.
+pub const VERSION: &str = "0.45.0";
+
+/// How an argument is given.
+#[derive(Clone, Copy)]
+enum Takes {
+    /// Any number of words.
+    Words,
+    /// One word, which there must be.
+    Word,
+    /// One word, if any.
+    LastWord,
+    /// An option with a value, which help calls by this name.
+    Value(&'static str),
+    /// An option with a number, from 1.
+    Number,
+    /// An option without a value.
+    Nothing,
+    /// The same, which has a short form.
+    NothingShort(char),
+}
+
+/// A word or an option that a command takes.
+#[derive(Clone, Copy)]
+struct Argument {
+    name: &'static str,
+    takes: Takes,
+    help: &'static str,
+    /// The options that it isn't given together with.
+    without: &'static [&'static str],
+}
+
+const FILES: Argument = Argument {
+    name: "FILE",
+    takes: Takes::Words,
+    help: "Files, folders, or - for a file on standard input",
+    without: &[],
+};
+
+const FILE: Argument = Argument {
+    name: "FILE",
+    takes: Takes::Word,
+    help: "A file, or - for one on standard input",
+    without: &[],
+};
+
+const PATH: Argument = Argument {
+    name: "NAME",
+    takes: Takes::LastWord,
+    help: "The path of a stream, its names separated by /",
+    without: &[],
+};
+
+const LIST: Argument = Argument {
+    name: "files-from",
+    takes: Takes::Value("LIST"),
+    help: "Read the files whose names stand in LIST (- for standard input), one a line",
+    without: &[],
+};
+
+const NULL: Argument = Argument {
+    name: "null",
+    takes: Takes::NothingShort('0'),
+    help: "The names in LIST are ended by NUL",
+    without: &[],
+};
+
+const OUT: Argument = Argument {
+    name: "out",
+    takes: Takes::Value("DIR"),
+    help: "Write into DIR/FILE, a folder for each file",
+    without: &[],
+};
+
+const FORCE: Argument = Argument {
+    name: "force",
+    takes: Takes::Nothing,
+    help: "Write over files that exist",
+    without: &[],
+};
+
+const PAGE: Argument = Argument {
+    name: "codepage",
+    takes: Takes::Value("N"),
+    help: "Read texts of single bytes by this page: 1200, 1252, 28591 or 65001",
+    without: &[],
+};
+
+const JSON: Argument = Argument {
+    name: "json",
+    takes: Takes::Nothing,
+    help: "Write each line as an object of JSON",
+    without: &[],
+};
+
+// The exact texts of lines.
+const EXACT: Argument = Argument {
+    name: "exact",
+    takes: Takes::Nothing,
+    help: "Write numbers by their bits, as xls_dump does",
+    without: &["json"],
+};
+
+// The exact texts of CSV.
+const EXACT_CSV: Argument = Argument {
+    without: &["delimiter", "bom"],
+    ..EXACT
+};
+
+const SHEET: Argument = Argument {
+    name: "sheet",
+    takes: Takes::Value("NAME"),
+    help: "The last sheet of this name",
+    without: &[],
+};
+
+const NUMBER: Argument = Argument {
+    name: "number",
+    takes: Takes::Number,
+    help: "The sheet of this number, from 1",
+    without: &["sheet"],
+};
+
+const ALL_SHEETS: Argument = Argument {
+    name: "all",
+    takes: Takes::Nothing,
+    help: "Each worksheet and macro sheet; wants --out",
+    without: &["sheet", "number"],
+};
+
+const DELIMITER: Argument = Argument {
+    name: "delimiter",
+    takes: Takes::Value("C"),
+    help: "The character between fields, in place of a comma; tab for a tab",
+    without: &[],
+};
+
+const MARK: Argument = Argument {
+    name: "bom",
+    takes: Takes::Nothing,
+    help: "Begin with a byte order mark, as Excel wants it",
+    without: &[],
+};
+
+/// What commands take whose lines have all three forms, in the order of help.
+static LINES: [Argument; 8] = [FILES, LIST, NULL, OUT, FORCE, JSON, EXACT, PAGE];
+
+/// What those take whose lines have two.
+static TWO_FORMS: [Argument; 7] = [FILES, LIST, NULL, OUT, FORCE, JSON, PAGE];
+
+static CSV: [Argument; 12] = [
+    FILES, LIST, NULL, OUT, FORCE, SHEET, NUMBER, ALL_SHEETS, DELIMITER, MARK, EXACT_CSV, PAGE,
+];
+
+static DOCUMENTS: [Argument; 5] = [FILES, LIST, NULL, OUT, FORCE];
+
+static ONE_FILE: [Argument; 1] = [FILE];
+
+static ONE_STREAM: [Argument; 2] = [FILE, PATH];
+
+/// What a command takes.
+fn arguments_of(word: Word) -> &'static [Argument] {
+    match word {
+        Word::Dump | Word::Sheets | Word::Refs => &LINES,
+        Word::Check | Word::Formulas => &TWO_FORMS,
+        Word::Csv => &CSV,
+        Word::Props | Word::Vba => &DOCUMENTS,
+        Word::Remake | Word::Streams => &ONE_FILE,
+        Word::Stream => &ONE_STREAM,
+    }
+}
+
+/// Any number of words.
+fn words<'a>(arg: Arg<'a>) -> Arg<'a> {
+    arg.num_args(0..).action(ArgAction::Append)
+}
+
+/// An option with a value.
+fn option<'a>(arg: Arg<'a>, name: &'a str, value: &'a str) -> Arg<'a> {
+    arg.long(name).value_name(value)
+}
+
+/// An option with a number, from 1.
+fn number<'a>(arg: Arg<'a>, name: &'a str) -> Arg<'a> {
+    option(arg, name, "N").value_parser(value_parser!(u32).range(1..))
+}
+
+/// An option without a value.
+fn flag<'a>(arg: Arg<'a>, name: &'a str) -> Arg<'a> {
+    arg.long(name).action(ArgAction::SetTrue)
+}
+
+/// An argument of the grammar that is given so.
+fn given_as<'a>(arg: Arg<'a>, name: &'a str, takes: Takes) -> Arg<'a> {
+    match takes {
+        Takes::Words => words(arg),
+        Takes::Word => arg.required(true),
+        Takes::LastWord => arg,
+        Takes::Value(value) => option(arg, name, value),
+        Takes::Number => number(arg, name),
+        Takes::Nothing => flag(arg, name),
+        Takes::NothingShort(letter) => flag(arg.short(letter), name),
+    }
+}
+
+/// An argument of the grammar.
+fn arg_of<'a>(alloc: Global, it: &Argument) -> Result<Arg<'a>, AllocError> {
+    let arg = Arg::new(alloc, it.name)
+        .help(it.help)
+        .action(ArgAction::Set);
+    given_as(arg, it.name, it.takes).conflicts_with_all(it.without)
+}
+
+/// How the words of a command are read.
+pub(crate) fn grammar_of<'a>(
+    alloc: Global,
+    word: Word,
+    title: &'a str,
+    about: &'a str,
+) -> Result<Command<'a>, AllocError> {
+    let mut grammar = Command::new(alloc, title).about(about);
+    for argument in arguments_of(word) {
+        grammar = grammar.arg(arg_of(alloc, argument)?)?;
+    }
+    Ok(grammar)
+}
+
+/// A command line with one more command in its help.
+fn with_summary<'a>(
+    alloc: Global,
+    grammar: Command<'a>,
+    name: &'a str,
+    about: &'a str,
+) -> Result<Command<'a>, AllocError> {
+    grammar.subcommand(Command::new(alloc, name).about(about))
+}
+
+/// The commands together, which only help and the version are asked of.
+pub(crate) fn overview<'a>(alloc: Global) -> Result<Command<'a>, AllocError> {
+    let mut grammar = Command::new(alloc, "xls")
+        .version(VERSION)
+        .about("Reads old Excel workbooks (.xls): xls [COMMAND] FILE..")
+        .arg_required_else_help(true)
+        .disable_help_subcommand(true);
+    for word in ALL {
+        grammar = with_summary(alloc, grammar, word.name(), word.about())?;
+    }
+    Ok(grammar)
+}
