@@ -13,6 +13,7 @@ use xls_container::{Container, is_obfuscated};
 use xls_data::{Sheet, SheetType, SheetVisible};
 use xls_files::{Host, Reason, file_path, folder_of};
 use xls_lines::Stop;
+use xls_open::XlsOptions;
 use xls_tables::file_name;
 use xls_view::View;
 use xls_words::{Command, SheetChoice, Table};
@@ -211,6 +212,30 @@ fn write_one_sheet<H: Host>(
     }
 }
 
+/// Writes the sheets that are chosen into files.
+fn write_chosen<H: Host>(
+    alloc: Global,
+    host: &mut H,
+    files: &SheetFiles<'_, '_>,
+    view: &View<'_>,
+) -> Result<(), Problem> {
+    if files.table.choice == SheetChoice::All {
+        return write_all_sheets(alloc, host, files, view);
+    }
+    write_one_sheet(alloc, host, files, view)
+}
+
+/// The view of a workbook's stream.
+fn view_of<'s>(alloc: Global, stream: &'s [u8], options: &XlsOptions) -> Result<View<'s>, Problem> {
+    if is_obfuscated(stream) {
+        return Err(Problem::Failure(Failure::Obfuscated));
+    }
+    match View::new(alloc, stream, options) {
+        Ok(view) => Ok(view),
+        Err(error) => Err(Problem::from(Failure::from(error))),
+    }
+}
+
 /// Writes the sheets of a workbook's stream into files.
 fn write_tables<H: Host>(
     alloc: Global,
@@ -218,14 +243,8 @@ fn write_tables<H: Host>(
     files: &SheetFiles<'_, '_>,
     stream: &[u8],
 ) -> Result<(), Problem> {
-    let view = match View::new(alloc, stream, &files.job.options) {
-        Ok(view) => view,
-        Err(error) => return Err(Problem::from(Failure::from(error))),
-    };
-    if files.table.choice == SheetChoice::All {
-        return write_all_sheets(alloc, host, files, &view);
-    }
-    write_one_sheet(alloc, host, files, &view)
+    let view = view_of(alloc, stream, &files.job.options)?;
+    write_chosen(alloc, host, files, &view)
 }
 
 /// Writes the sheets of a file's workbook into files.
@@ -237,9 +256,6 @@ fn write_table_files<H: Host>(
 ) -> Result<(), Problem> {
     let container = Container::open(alloc, bytes)?;
     let stream = container.workbook(alloc)?;
-    if is_obfuscated(stream.as_slice()) {
-        return Err(Problem::Failure(Failure::Obfuscated));
-    }
     write_tables(alloc, host, files, stream.as_slice())
 }
 
