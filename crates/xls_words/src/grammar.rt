@@ -9,7 +9,7 @@ pub const VERSION: &str = "0.45.0";
 
 /// How an argument is given.
 #[derive(Clone, Copy)]
-enum Takes {
+enum ArgumentKind {
     /// Any number of words.
     Words,
     /// One word, which there must be.
@@ -21,16 +21,16 @@ enum Takes {
     /// An option with a number, from 1.
     Number,
     /// An option without a value.
-    Nothing,
+    Flag,
     /// The same, which has a short form.
-    NothingShort(char),
+    ShortFlag(char),
 }
 
 /// A word or an option that a command takes.
 #[derive(Clone, Copy)]
 struct Argument {
     name: &'static str,
-    takes: Takes,
+    kind: ArgumentKind,
     help: &'static str,
     /// The options that it isn't given together with.
     without: &'static [&'static str],
@@ -38,63 +38,63 @@ struct Argument {
 
 const FILES: Argument = Argument {
     name: "FILE",
-    takes: Takes::Words,
+    kind: ArgumentKind::Words,
     help: "Files, folders, or - for a file on standard input",
     without: &[],
 };
 
 const FILE: Argument = Argument {
     name: "FILE",
-    takes: Takes::Word,
+    kind: ArgumentKind::Word,
     help: "A file, or - for one on standard input",
     without: &[],
 };
 
 const PATH: Argument = Argument {
     name: "NAME",
-    takes: Takes::LastWord,
+    kind: ArgumentKind::LastWord,
     help: "The path of a stream, its names separated by /",
     without: &[],
 };
 
 const LIST: Argument = Argument {
     name: "files-from",
-    takes: Takes::Value("LIST"),
+    kind: ArgumentKind::Value("LIST"),
     help: "Read the files whose names stand in LIST (- for standard input), one a line",
     without: &[],
 };
 
 const NULL: Argument = Argument {
     name: "null",
-    takes: Takes::NothingShort('0'),
+    kind: ArgumentKind::ShortFlag('0'),
     help: "The names in LIST are ended by NUL",
     without: &[],
 };
 
 const OUT: Argument = Argument {
     name: "out",
-    takes: Takes::Value("DIR"),
+    kind: ArgumentKind::Value("DIR"),
     help: "Write into DIR/FILE, a folder for each file",
     without: &[],
 };
 
 const FORCE: Argument = Argument {
     name: "force",
-    takes: Takes::Nothing,
+    kind: ArgumentKind::Flag,
     help: "Write over files that exist",
     without: &[],
 };
 
 const PAGE: Argument = Argument {
     name: "codepage",
-    takes: Takes::Value("N"),
+    kind: ArgumentKind::Value("N"),
     help: "Read texts of single bytes by this page: 1200, 1252, 28591 or 65001",
     without: &[],
 };
 
 const JSON: Argument = Argument {
     name: "json",
-    takes: Takes::Nothing,
+    kind: ArgumentKind::Flag,
     help: "Write each line as an object of JSON",
     without: &[],
 };
@@ -102,7 +102,7 @@ const JSON: Argument = Argument {
 // The exact texts of lines.
 const EXACT: Argument = Argument {
     name: "exact",
-    takes: Takes::Nothing,
+    kind: ArgumentKind::Flag,
     help: "Write numbers by their bits, as xls_dump does",
     without: &["json"],
 };
@@ -115,35 +115,35 @@ const EXACT_CSV: Argument = Argument {
 
 const SHEET: Argument = Argument {
     name: "sheet",
-    takes: Takes::Value("NAME"),
+    kind: ArgumentKind::Value("NAME"),
     help: "The last sheet of this name",
     without: &[],
 };
 
 const NUMBER: Argument = Argument {
     name: "number",
-    takes: Takes::Number,
+    kind: ArgumentKind::Number,
     help: "The sheet of this number, from 1",
     without: &["sheet"],
 };
 
 const ALL_SHEETS: Argument = Argument {
     name: "all",
-    takes: Takes::Nothing,
+    kind: ArgumentKind::Flag,
     help: "Each worksheet and macro sheet; wants --out",
     without: &["sheet", "number"],
 };
 
 const DELIMITER: Argument = Argument {
     name: "delimiter",
-    takes: Takes::Value("C"),
+    kind: ArgumentKind::Value("C"),
     help: "The character between fields, in place of a comma; tab for a tab",
     without: &[],
 };
 
 const MARK: Argument = Argument {
     name: "bom",
-    takes: Takes::Nothing,
+    kind: ArgumentKind::Flag,
     help: "Begin with a byte order mark, as Excel wants it",
     without: &[],
 };
@@ -196,16 +196,16 @@ fn flag<'a>(arg: Arg<'a>, name: &'a str) -> Arg<'a> {
     arg.long(name).action(ArgAction::SetTrue)
 }
 
-/// An argument of the grammar that is given so.
-fn given_as<'a>(arg: Arg<'a>, name: &'a str, takes: Takes) -> Arg<'a> {
-    match takes {
-        Takes::Words => words(arg),
-        Takes::Word => arg.required(true),
-        Takes::LastWord => arg,
-        Takes::Value(value) => option(arg, name, value),
-        Takes::Number => number(arg, name),
-        Takes::Nothing => flag(arg, name),
-        Takes::NothingShort(letter) => flag(arg.short(letter), name),
+/// An argument of this kind.
+fn of_kind<'a>(arg: Arg<'a>, name: &'a str, kind: ArgumentKind) -> Arg<'a> {
+    match kind {
+        ArgumentKind::Words => words(arg),
+        ArgumentKind::Word => arg.required(true),
+        ArgumentKind::LastWord => arg,
+        ArgumentKind::Value(value) => option(arg, name, value),
+        ArgumentKind::Number => number(arg, name),
+        ArgumentKind::Flag => flag(arg, name),
+        ArgumentKind::ShortFlag(letter) => flag(arg.short(letter), name),
     }
 }
 
@@ -214,7 +214,7 @@ fn arg_of<'a>(alloc: Global, it: &Argument) -> Result<Arg<'a>, AllocError> {
     let arg = Arg::new(alloc, it.name)
         .help(it.help)
         .action(ArgAction::Set);
-    given_as(arg, it.name, it.takes).conflicts_with_all(it.without)
+    of_kind(arg, it.name, it.kind).conflicts_with_all(it.without)
 }
 
 /// How the words of a command are read.
