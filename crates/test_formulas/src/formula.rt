@@ -10,38 +10,51 @@ const UTF16: XlsEncoding = XlsEncoding::Utf16;
 
 const WINDOWS: XlsEncoding = XlsEncoding::Windows1252;
 
-/// The text of a formula in a workbook of one sheet, `A`, which reference 0 names, and of no names.
+/// The name of one sheet, `A`.
+fn one_sheet(alloc: Global) -> Result<Strings, AllocError> {
+    let mut sheets = Strings::new(alloc);
+    sheets.push("A")?;
+    Ok(sheets)
+}
+
+/// One reference, to the first sheet.
+fn one_reference(alloc: Global) -> Result<Refs, AllocError> {
+    let mut refs = Refs::new(alloc);
+    refs.push(0)?;
+    Ok(refs)
+}
+
+/// The text of a formula in a workbook of one sheet, `A`, which reference 0 names.
 fn text_by(
     alloc: Global,
     rgce: &[u8],
-    encoding: XlsEncoding,
     biff: Biff,
+    names: &Names,
     functions: &FunctionTable,
 ) -> Result<String, XlsError> {
-    let mut sheets = Strings::new(alloc);
-    sheets.push("A")?;
-    let mut refs = Refs::new(alloc);
-    refs.push(0)?;
-    let names = Names::new(alloc);
+    let encoding = if biff == Biff::Biff8 { UTF16 } else { WINDOWS };
+    let sheets = one_sheet(alloc)?;
+    let refs = one_reference(alloc)?;
     parse_formula(
-        alloc, rgce, &sheets, &names, &refs, &encoding, biff, functions,
+        alloc, rgce, &sheets, names, &refs, &encoding, biff, functions,
     )
 }
 
+/// The same in one without names, with the functions of the table.
 fn text_in(alloc: Global, rgce: &[u8], biff: Biff) -> Result<String, XlsError> {
-    let encoding = if biff == Biff::Biff8 { UTF16 } else { WINDOWS };
-    text_by(alloc, rgce, encoding, biff, &FunctionTable::shipped(alloc)?)
+    let functions = FunctionTable::shipped(alloc)?;
+    text_by(alloc, rgce, biff, &Names::new(alloc), &functions)
 }
 
-fn prints(alloc: Global, rgce: &[u8], biff: Biff, text: &str) -> bool {
-    match text_in(alloc, rgce, biff) {
+fn is_text(answer: Result<String, XlsError>, text: &str) -> bool {
+    match answer {
         Ok(printed) => printed.as_str() == text,
         Err(_) => false,
     }
 }
 
-fn refuses(alloc: Global, rgce: &[u8], biff: Biff, error: &XlsError) -> bool {
-    match text_in(alloc, rgce, biff) {
+fn is_refused(answer: Result<String, XlsError>, error: &XlsError) -> bool {
+    match answer {
         Ok(_) => false,
         Err(e) => e == *error,
     }
@@ -95,8 +108,12 @@ static PRINTED: [(Biff, &[u8], &str); 17] = [
 #[test]
 fn prints_formulas(rt: HostRuntime) {
     for (biff, rgce, text) in PRINTED.iter() {
-        assert!(rt; prints(rt.alloc(), rgce, *biff, text));
+        assert!(rt; is_text(text_in(rt.alloc(), rgce, *biff), text));
     }
+}
+
+fn refuses(alloc: Global, rgce: &[u8], biff: Biff, error: &XlsError) -> bool {
+    is_refused(text_in(alloc, rgce, biff), error)
 }
 
 #[test]
@@ -114,60 +131,62 @@ fn refuses_formulas(rt: HostRuntime) {
     }
 }
 
+/// Whether a call of function 72 is refused by the functions of the table, and printed where it has a name.
+fn calls_a_function_with_a_name(alloc: Global) -> Result<bool, AllocError> {
+    let call = [0x07, 0x00, 0x1E, 0x01, 0x00, 0x22, 0x01, 0x48, 0x00];
+    let names = Names::new(alloc);
+    let mut functions = FunctionTable::shipped(alloc)?;
+    let missing = text_by(alloc, &call, Biff::Biff8, &names, &functions);
+    functions.push("X", 1)?;
+    let text = text_by(alloc, &call, Biff::Biff8, &names, &functions);
+    Ok(is_refused(missing, &XlsError::IfTab(72)) && is_text(text, "X(1)"))
+}
+
 #[test]
 fn prints_the_functions_of_the_table(rt: HostRuntime) -> Result<(), Fail> {
-    let call = [0x07, 0x00, 0x1E, 0x01, 0x00, 0x22, 0x01, 0x48, 0x00];
-    let mut functions = FunctionTable::shipped(rt.alloc())?;
-    assert_eq!(rt; functions.len(), FTAB_LEN);
-    let missing = text_by(rt.alloc(), &call, UTF16, Biff::Biff8, &functions);
-    assert_eq!(rt; missing.err(), Some(XlsError::IfTab(72)));
-    functions.push("X", 1)?;
-    let text = text_by(rt.alloc(), &call, UTF16, Biff::Biff8, &functions)?;
-    assert_eq!(rt; text.as_str(), "X(1)");
+    assert!(rt; calls_a_function_with_a_name(rt.alloc())?);
     Ok(())
+}
+
+fn is_shipped(functions: &FunctionTable) -> bool {
+    functions.len() == FTAB_LEN
+        && functions.name(0) == Some("COUNT")
+        && functions.argc(11) == Some(254)
+        && functions.name(71) == Some("HOUR")
+        && functions.name(72).is_none()
+        && functions.argc(72).is_none()
 }
 
 #[test]
 fn ships_functions(rt: HostRuntime) -> Result<(), Fail> {
-    let functions = FunctionTable::shipped(rt.alloc())?;
-    assert_eq!(rt; functions.name(0), Some("COUNT"));
-    assert_eq!(rt; functions.argc(11), Some(254));
-    assert_eq!(rt; functions.name(71), Some("HOUR"));
-    assert_eq!(rt; functions.name(72), None);
-    assert_eq!(rt; functions.argc(72), None);
-    assert_eq!(rt; (FTAB[60], FTAB_ARGC[60]), ("RATE", 6));
+    assert!(rt; is_shipped(&FunctionTable::shipped(rt.alloc())?));
+    assert!(rt; FTAB[60] == "RATE" && FTAB_ARGC[60] == 6);
     Ok(())
+}
+
+fn two_names(alloc: Global) -> Result<Names, AllocError> {
+    let mut names = Names::new(alloc);
+    names.push("Total", "A!$A$1")?;
+    names.push("M", "A!$A$2")?;
+    Ok(names)
+}
+
+fn has_two_names(names: &Names) -> bool {
+    names.len() == 2
+        && names.name(0) == Some("Total")
+        && names.name(1) == Some("M")
+        && names.name(2).is_none()
+}
+
+fn keeps_a_function(alloc: Global) -> Result<bool, AllocError> {
+    let mut functions = FunctionTable::new(alloc);
+    functions.push("X", 1)?;
+    Ok(functions.len() == 1)
 }
 
 #[test]
 fn keeps_lists(rt: HostRuntime) -> Result<(), Fail> {
-    let mut names = Names::new(rt.alloc());
-    names.push("N", "A!$A$1")?;
-    assert_eq!(rt; names.len(), 1);
-    assert_eq!(rt; names.name(0), Some("N"));
-    assert_eq!(rt; names.name(1), None);
-    let mut functions = FunctionTable::new(rt.alloc());
-    functions.push("X", 1)?;
-    assert_eq!(rt; functions.len(), 1);
-    Ok(())
-}
-
-#[test]
-fn prints_names_by_their_index_from_1(rt: HostRuntime) -> Result<(), Fail> {
-    let mut names = Names::new(rt.alloc());
-    names.push("N", "A!$A$1")?;
-    names.push("M", "A!$A$2")?;
-    let text = parse_formula(
-        rt.alloc(),
-        &[5, 0, 0x43, 2, 0, 0, 0],
-        &Strings::new(rt.alloc()),
-        &names,
-        &Refs::new(rt.alloc()),
-        &UTF16,
-        Biff::Biff8,
-        &FunctionTable::new(rt.alloc()),
-    )?;
-    assert_eq!(rt; text.as_str(), "M");
+    assert!(rt; has_two_names(&two_names(rt.alloc())?) && keeps_a_function(rt.alloc())?);
     Ok(())
 }
 
@@ -206,80 +225,84 @@ fn record_of(bytes: &[u8]) -> Result<Record<'_>, XlsError> {
     }
 }
 
-#[test]
-fn reads_a_defined_name(rt: HostRuntime) -> Result<(), Fail> {
-    let r = record_of(TOTAL)?;
-    let (name, (index, text)) = parse_lbl(rt.alloc(), &r, &UTF16, Biff::Biff8)?;
-    assert_eq!(rt; name.as_str(), "Total");
-    assert_eq!(rt; (index, text.as_str()), (Some(0), "$B$2"));
-    assert_eq!(rt; check_lbl(&r, Biff::Biff8), Ok(()));
-    Ok(())
+fn defines_total(alloc: Global, r: &Record<'_>) -> bool {
+    match parse_lbl(alloc, r, &UTF16, Biff::Biff8) {
+        Ok((name, (index, text))) => {
+            name.as_str() == "Total" && index == Some(0) && text.as_str() == "$B$2"
+        }
+        Err(_) => false,
+    }
 }
 
 #[test]
-fn refuses_a_name_that_is_cut(rt: HostRuntime) -> Result<(), Fail> {
-    let r = record_of(b"\x18\x00\x0D\x00\x00\x00\x00\x00\x00\x00\x00\x00\x00\x00\x00\x00\x00")?;
+fn reads_a_defined_name(rt: HostRuntime) -> Result<(), Fail> {
+    let r = record_of(TOTAL)?;
+    assert!(rt; defines_total(rt.alloc(), &r) && check_lbl(&r, Biff::Biff8).is_ok());
+    Ok(())
+}
+
+/// Whether a record is refused since its head has 13 of 14 bytes.
+fn has_13_bytes(r: &Record<'_>) -> bool {
     let error = XlsError::Len {
         expected: 14,
         found: 13,
         typ: Part::Lbl,
     };
-    assert_eq!(rt; check_lbl(&r, Biff::Biff8), Err(error));
+    check_lbl(r, Biff::Biff8).err() == Some(error)
+}
+
+#[test]
+fn refuses_a_name_that_is_cut(rt: HostRuntime) -> Result<(), Fail> {
+    let r = record_of(b"\x18\x00\x0D\x00\x00\x00\x00\x00\x00\x00\x00\x00\x00\x00\x00\x00\x00")?;
+    assert!(rt; has_13_bytes(&r));
     Ok(())
 }
 
 // ---- nesting
 
-/// A formula of 5,000 pairs of parentheses around 1, and its text.
-fn nested(alloc: Global) -> Result<(Vec<u8>, String), AllocError> {
+/// A formula of 5,000 pairs of parentheses around 1.
+fn nested_tokens(alloc: Global) -> Result<Vec<u8>, AllocError> {
     let mut rgce = Vec::new(alloc);
     rgce.extend_from_slice(&[0x8B, 0x13, 0x1E, 0x01, 0x00])?;
-    let mut text = String::new(alloc);
     for _ in 0..5_000 {
         rgce.push(0x15)?;
+    }
+    Ok(rgce)
+}
+
+/// Its text.
+fn nested_text(alloc: Global) -> Result<String, AllocError> {
+    let mut text = String::new(alloc);
+    for _ in 0..5_000 {
         text.push('(')?;
     }
     text.push('1')?;
     for _ in 0..5_000 {
         text.push(')')?;
     }
-    Ok((rgce, text))
+    Ok(text)
 }
 
-/// A formula of 5,000 missing arguments with `+` between them, and its text.
-fn summed(alloc: Global) -> Result<(Vec<u8>, String), AllocError> {
-    let mut rgce = Vec::new(alloc);
-    rgce.extend_from_slice(&[0x0F, 0x27, 0x16])?;
-    let mut text = String::new(alloc);
-    for _ in 1..5_000 {
-        rgce.extend_from_slice(&[0x16, 0x03])?;
-        text.push('+')?;
-    }
-    Ok((rgce, text))
-}
-
-#[test]
-fn prints_the_sum_of_5000_missing_arguments(rt: HostRuntime) -> Result<(), Fail> {
-    let (rgce, text) = summed(rt.alloc())?;
-    let functions = FunctionTable::new(rt.alloc());
-    let printed = text_by(rt.alloc(), &rgce, UTF16, Biff::Biff8, &functions)?;
-    assert!(rt; printed.as_str() == text.as_str());
-    Ok(())
+/// Whether a formula is printed so, in a workbook with two names.
+fn prints(alloc: Global, rgce: &[u8], text: &str) -> Result<bool, AllocError> {
+    let names = two_names(alloc)?;
+    let functions = FunctionTable::shipped(alloc)?;
+    let printed = text_by(alloc, rgce, Biff::Biff8, &names, &functions);
+    Ok(is_text(printed, text))
 }
 
 #[test]
 fn prints_what_nests_5000_deep(rt: HostRuntime) -> Result<(), Fail> {
-    let (rgce, text) = nested(rt.alloc())?;
-    let functions = FunctionTable::new(rt.alloc());
-    let printed = text_by(rt.alloc(), &rgce, UTF16, Biff::Biff8, &functions)?;
-    assert!(rt; printed.as_str() == text.as_str());
+    let rgce = nested_tokens(rt.alloc())?;
+    let text = nested_text(rt.alloc())?;
+    assert!(rt; prints(rt.alloc(), &rgce, text.as_str())?);
     Ok(())
 }
 
 // ---- memory
 
 /// A leaf of each kind, with its text.
-static LEAVES: [(&[u8], &str); 23] = [
+static LEAVES: [(&[u8], &str); 24] = [
     (b"\x16", ""),
     (b"\x16\x19\x40\0\x02", "  "),
     (b"\x17\x02\0AB", "\"AB\""),
@@ -294,6 +317,7 @@ static LEAVES: [(&[u8], &str); 23] = [
     (b"\x21\x13\0", "PI()"),
     (b"\x22\0\x04\0", "SUM()"),
     (b"\x23\x01\0\0\0", "Total"),
+    (b"\x23\x02\0\0\0", "M"),
     (b"\x24\xFF\xFF\xFF\x3F", "$XFD$65536"),
     (b"\x25\0\0\x01\0\0\xC0\x01\xC0", "A1:B2"),
     (b"\x2A\0\0\0\0", "#REF!"),
@@ -305,47 +329,36 @@ static LEAVES: [(&[u8], &str); 23] = [
     (b"\x3D\0\0\0\0\0\0\0\0\0\0", "A!#REF!"),
 ];
 
-/// A formula of 5,000 such leaves with `+` between them, and its text.
-fn sum_of(alloc: Global, leaf: &[u8], word: &str) -> Result<(Vec<u8>, String), AllocError> {
-    let mut tokens = Vec::new(alloc);
-    tokens.extend_from_slice(leaf)?;
+/// A formula of 5,000 such leaves with `+` between them.
+fn sum_tokens(alloc: Global, leaf: &[u8]) -> Result<Vec<u8>, AllocError> {
+    let len = leaf.len().saturating_mul(5_000).saturating_add(4_999);
+    let mut rgce = Vec::new(alloc);
+    rgce.extend_from_slice(&[(len % 256) as u8, (len / 256 % 256) as u8])?;
+    rgce.extend_from_slice(leaf)?;
+    for _ in 1..5_000 {
+        rgce.extend_from_slice(leaf)?;
+        rgce.push(0x03)?;
+    }
+    Ok(rgce)
+}
+
+/// Its text.
+fn sum_text(alloc: Global, word: &str) -> Result<String, AllocError> {
     let mut text = String::new(alloc);
     text.push_str(word)?;
     for _ in 1..5_000 {
-        tokens.extend_from_slice(leaf)?;
-        tokens.push(0x03)?;
         text.push('+')?;
         text.push_str(word)?;
     }
-    let mut rgce = Vec::new(alloc);
-    rgce.push((tokens.len() % 256) as u8)?;
-    rgce.push((tokens.len() / 256 % 256) as u8)?;
-    rgce.extend_from_slice(&tokens)?;
-    Ok((rgce, text))
+    Ok(text)
 }
 
 #[test]
 fn prints_5000_leaves_of_each_kind(rt: HostRuntime) -> Result<(), Fail> {
-    let mut sheets = Strings::new(rt.alloc());
-    sheets.push("A")?;
-    let mut refs = Refs::new(rt.alloc());
-    refs.push(0)?;
-    let mut names = Names::new(rt.alloc());
-    names.push("Total", "A!$A$1")?;
-    let functions = FunctionTable::shipped(rt.alloc())?;
     for (leaf, word) in LEAVES.iter() {
-        let (rgce, text) = sum_of(rt.alloc(), leaf, word)?;
-        let printed = parse_formula(
-            rt.alloc(),
-            &rgce,
-            &sheets,
-            &names,
-            &refs,
-            &UTF16,
-            Biff::Biff8,
-            &functions,
-        )?;
-        assert!(rt; printed.as_str() == text.as_str());
+        let rgce = sum_tokens(rt.alloc(), leaf)?;
+        let text = sum_text(rt.alloc(), word)?;
+        assert!(rt; prints(rt.alloc(), &rgce, text.as_str())?);
     }
     Ok(())
 }

@@ -177,44 +177,64 @@ fn arguments_of(word: Word) -> &'static [Argument] {
 }
 
 /// Any number of words.
-fn words<'a>(arg: Arg<'a>) -> Arg<'a> {
-    arg.num_args(0..).action(ArgAction::Append)
+fn words<'a>(alloc: Global, name: &'a str) -> Arg<'a> {
+    Arg::new(alloc, name)
+        .num_args(0..)
+        .action(ArgAction::Append)
+}
+
+/// One word.
+fn word<'a>(alloc: Global, name: &'a str, is_required: bool) -> Arg<'a> {
+    Arg::new(alloc, name)
+        .action(ArgAction::Set)
+        .required(is_required)
 }
 
 /// An option with a value.
-fn option<'a>(arg: Arg<'a>, name: &'a str, value: &'a str) -> Arg<'a> {
-    arg.long(name).value_name(value)
+fn option<'a>(alloc: Global, name: &'a str, value: &'a str) -> Arg<'a> {
+    Arg::new(alloc, name)
+        .action(ArgAction::Set)
+        .long(name)
+        .value_name(value)
 }
 
 /// An option with a number, from 1.
-fn number<'a>(arg: Arg<'a>, name: &'a str) -> Arg<'a> {
-    option(arg, name, "N").value_parser(value_parser!(u32).range(1..))
+fn number<'a>(alloc: Global, name: &'a str) -> Arg<'a> {
+    option(alloc, name, "N").value_parser(value_parser!(u32).range(1..))
 }
 
 /// An option without a value.
-fn flag<'a>(arg: Arg<'a>, name: &'a str) -> Arg<'a> {
-    arg.long(name).action(ArgAction::SetTrue)
+fn flag<'a>(alloc: Global, name: &'a str) -> Arg<'a> {
+    Arg::new(alloc, name).action(ArgAction::SetTrue).long(name)
 }
 
 /// An argument of this kind.
-fn of_kind<'a>(arg: Arg<'a>, name: &'a str, kind: ArgumentKind) -> Arg<'a> {
+fn of_kind<'a>(alloc: Global, name: &'a str, kind: ArgumentKind) -> Arg<'a> {
     match kind {
-        ArgumentKind::Words => words(arg),
-        ArgumentKind::Word => arg.required(true),
-        ArgumentKind::LastWord => arg,
-        ArgumentKind::Value(value) => option(arg, name, value),
-        ArgumentKind::Number => number(arg, name),
-        ArgumentKind::Flag => flag(arg, name),
-        ArgumentKind::ShortFlag(letter) => flag(arg.short(letter), name),
+        ArgumentKind::Words => words(alloc, name),
+        ArgumentKind::Word => word(alloc, name, true),
+        ArgumentKind::LastWord => word(alloc, name, false),
+        ArgumentKind::Value(value) => option(alloc, name, value),
+        ArgumentKind::Number => number(alloc, name),
+        ArgumentKind::Flag => flag(alloc, name),
+        ArgumentKind::ShortFlag(letter) => flag(alloc, name).short(letter),
     }
 }
 
 /// An argument of the grammar.
 fn arg_of<'a>(alloc: Global, it: &Argument) -> Result<Arg<'a>, AllocError> {
-    let arg = Arg::new(alloc, it.name)
+    of_kind(alloc, it.name, it.kind)
         .help(it.help)
-        .action(ArgAction::Set);
-    of_kind(arg, it.name, it.kind).conflicts_with_all(it.without)
+        .conflicts_with_all(it.without)
+}
+
+/// What a command takes, as clap reads it.
+fn args_of<'a>(alloc: Global, word: Word) -> Result<Vec<Arg<'a>>, AllocError> {
+    let mut args = Vec::new(alloc);
+    for it in arguments_of(word) {
+        args.push(arg_of(alloc, it)?)?;
+    }
+    Ok(args)
 }
 
 /// How the words of a command are read.
@@ -224,32 +244,36 @@ pub(crate) fn grammar_of<'a>(
     title: &'a str,
     about: &'a str,
 ) -> Result<Command<'a>, AllocError> {
-    let mut grammar = Command::new(alloc, title).about(about);
-    for argument in arguments_of(word) {
-        grammar = grammar.arg(arg_of(alloc, argument)?)?;
-    }
-    Ok(grammar)
+    let args = args_of(alloc, word)?;
+    Command::new(alloc, title).about(about).args(args)
 }
 
-/// A command line with one more command in its help.
-fn with_summary<'a>(
+/// Adds a command's line of help.
+fn push_summary<'a>(
+    commands: &mut Vec<Command<'a>>,
     alloc: Global,
-    grammar: Command<'a>,
     name: &'a str,
     about: &'a str,
-) -> Result<Command<'a>, AllocError> {
-    grammar.subcommand(Command::new(alloc, name).about(about))
+) -> Result<(), AllocError> {
+    Ok(commands.push(Command::new(alloc, name).about(about))?)
+}
+
+/// A line of help for each command.
+fn summaries<'a>(alloc: Global) -> Result<Vec<Command<'a>>, AllocError> {
+    let mut commands = Vec::new(alloc);
+    for word in ALL {
+        push_summary(&mut commands, alloc, word.name(), word.about())?;
+    }
+    Ok(commands)
 }
 
 /// The commands together, which only help and the version are asked of.
 pub(crate) fn overview<'a>(alloc: Global) -> Result<Command<'a>, AllocError> {
-    let mut grammar = Command::new(alloc, "xls")
+    let commands = summaries(alloc)?;
+    Command::new(alloc, "xls")
         .version(VERSION)
         .about("Reads old Excel workbooks (.xls): xls [COMMAND] FILE..")
         .arg_required_else_help(true)
-        .disable_help_subcommand(true);
-    for word in ALL {
-        grammar = with_summary(alloc, grammar, word.name(), word.about())?;
-    }
-    Ok(grammar)
+        .disable_help_subcommand(true)
+        .subcommands(commands)
 }
