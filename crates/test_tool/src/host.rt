@@ -118,6 +118,8 @@ impl MemoryHost {
 }
 
 impl Host for MemoryHost {
+    ghost reads = { λ _ _ _. Unit {0} };
+
     type File = MemoryFile;
 
     fn place(&mut self, path: &str) -> Result<Place, Reason> {

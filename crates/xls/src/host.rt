@@ -82,6 +82,9 @@ fn input(rt: &HostRuntime) -> io::Result<Vec<u8>> {
 }
 
 impl<'r> Host for StdHost<'r> {
+    // A file of the system may change at any time, so nothing is told.
+    ghost reads = { λ _ _ _. Unit {0} };
+
     type File = OutFile<'r>;
 
     fn place(&mut self, path: &str) -> Result<Place, Reason> {

@@ -1,6 +1,7 @@
 //! What the program reads and writes by.
 
-ghost use Rattle.std.specs.Prelude.{◌≡◌};
+ghost use Rattle.std.specs.Prelude.{◌≡◌, ℕ, List, IfOk, codes};
+ghost use Rattle.xls_files.specs.Reads.{Stays};
 
 use std::alloc::AllocError;
 use std::fmt;
@@ -68,20 +69,26 @@ pub enum Name {
 
 /// Where files are read and written. Standard output is a sink apart from it.
 pub trait Host {
+    /// Which bytes it may read from a path; `-` is standard input.
+    ghost reads: { Self → List ℕ → List ℕ → Type 0 };
+
     /// A file that is written. Its first write makes it.
     type File: Sink + Drop;
 
     /// What stands at a path.
-    fn place(&mut self, path: &str) -> Result<Place, Reason>;
+    fn place(&mut self, path: &str) -> Result<Place, Reason>
+        ensures stays { Stays (reads self.old) (reads self.new) };
 
     /// The folders and regular files in a folder, in any order.
     fn list(&mut self, folder: &str) -> Result<Vec<Listed>, Reason>;
 
     /// The bytes of a file.
-    fn read(&mut self, path: &str) -> Result<Vec<u8>, Reason>;
+    fn read(&mut self, path: &str) -> Result<Vec<u8>, Reason>
+        ensures bytes { IfOk result (λ bytes. reads self.old path.now bytes.items) };
 
     /// The bytes of standard input.
-    fn read_input(&mut self) -> Result<Vec<u8>, Reason>;
+    fn read_input(&mut self) -> Result<Vec<u8>, Reason>
+        ensures bytes { IfOk result (λ bytes. reads self.old (codes "-") bytes.items) };
 
     /// The next name of a list, which stands in a file, or on standard input where that is `-`. None at its end.
     fn next_name(&mut self, list: &str, by_nul: bool) -> Result<Option<Name>, Reason>;
@@ -105,7 +112,9 @@ pub trait Host {
 }
 
 /// What stands at a path; `-` is standard input, which is read as a file.
-pub fn place_of<H: Host>(host: &mut H, path: &str) -> Result<Place, Reason> {
+pub fn place_of<H: Host>(host: &mut H, path: &str) -> Result<Place, Reason>
+    ensures stays { Stays (H.reads host.old) (H.reads host.new) }
+{
     if path == "-" {
         return Ok(Place::File);
     }

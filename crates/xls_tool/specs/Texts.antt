@@ -1,5 +1,5 @@
 -- What is written of a file whose workbook is asked for.
-use Rattle.std.specs.Prelude.{ℕ, List, Option, None, Some, Result, Ok, Err}
+use Rattle.std.specs.Prelude.{◌==◌, ℕ, Bool, true, false, List, Option, None, Some, Result, Ok, Err}
 use Rattle.xls_answers.specs.Answers.{OfFile}
 use Rattle.xls_answers.specs.declared.answer.Answer.{Answer}
 use Rattle.xls_answers.specs.declared.answer.Answer.TheVariants as answers
@@ -52,3 +52,30 @@ OfAnswer answer options file before after (Err other) = ⊥
 abbrev pub OfText : Option Answer → XlsOptions → List ℕ → SinkState → SinkState → Result (Unit {0}) Problem → Type 0
 OfText None options file before after result = Unit {0}
 OfText (Some answer) options file before after result = OfAnswer answer options file before after result
+
+-- ---- texts as xls_dump has them
+
+abbrev pub is_exact_style : Style → Bool
+is_exact_style styles.Readable = false
+is_exact_style styles.Json = false
+is_exact_style styles.Exact = true
+
+abbrev pub is_exact : Command → Bool
+is_exact (commands.Dump s) = is_exact_style s
+is_exact (commands.Sheets s) = is_exact_style s
+is_exact (commands.Formulas s) = is_exact_style s
+is_exact (commands.Refs s) = is_exact_style s
+is_exact (commands.Csv t) = is_exact_style t.style
+is_exact commands.Check = false
+is_exact commands.Props = false
+is_exact commands.Vba = false
+is_exact commands.Remake = false
+is_exact (commands.Stream path) = false
+is_exact commands.Streams = false
+
+-- ---- of one file
+
+-- bytes that may be read were answered, and the whole answer was written
+abbrev pub Answered : (List ℕ → Type 0) → Option Answer → XlsOptions → SinkState → SinkState → Type 0
+Answered reads answer options before after =
+    (file : List ℕ) × reads file × OfText answer options file before after (Ok tt)

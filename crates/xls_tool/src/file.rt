@@ -1,5 +1,7 @@
 //! Files that are read.
 
+ghost use Rattle.std.specs.Prelude.{IfOk};
+
 use crate::problem::Problem;
 use xls_files::Host;
 
@@ -12,7 +14,9 @@ pub(crate) struct ReadFile<'f> {
 }
 
 /// The bytes of a file, or of standard input.
-pub(crate) fn read<H: Host>(host: &mut H, path: &str) -> Result<Vec<u8>, Problem> {
+pub(crate) fn read<H: Host>(host: &mut H, path: &str) -> Result<Vec<u8>, Problem>
+    ensures { IfOk result (λ bytes. H.reads host.old path.now bytes.items) }
+{
     let bytes = if path == "-" {
         host.read_input()
     } else {

@@ -3,7 +3,8 @@
 ghost use Rattle.std.specs.Prelude.{◌≡◌, IfOk, IfSome};
 ghost use Rattle.xls_words.specs.Requests as requests;
 ghost use Rattle.xls_answers.specs.Answers.{HasNumber};
-ghost use Rattle.xls_tool.specs.Texts.{answer_of, style_form};
+ghost use Rattle.xls_answers.specs.Views.{options_under};
+ghost use Rattle.xls_tool.specs.Texts.{answer_of, is_exact, style_form};
 
 use std::alloc::{AllocError, Global};
 use xls_answers::{Answer, Listing, options_of};
@@ -40,7 +41,9 @@ fn form_of(style: Style) -> Form
 }
 
 /// Whether texts are as `xls_dump` has them.
-fn is_exact(command: &Command<'_>) -> bool {
+fn is_exact(command: &Command<'_>) -> bool
+    ensures { result ≡ is_exact command.now }
+{
     match command {
         Command::Dump(style)
         | Command::Sheets(style)
@@ -106,7 +109,8 @@ pub(crate) fn takes_many(command: &Command<'_>) -> bool {
 
 /// What a request asks for of each file.
 pub(crate) fn job_of<'w>(alloc: Global, request: Request<'w>) -> Result<Job<'w>, AllocError>
-    ensures { IfOk result (λ job. job.request ≡ request.entry) }
+    ensures request { IfOk result (λ job. job.request ≡ request.entry) }
+    ensures options { IfOk result (λ job. job.options ≡ options_under request.entry.page (is_exact request.entry.command)) }
 {
     let options = options_of(alloc, request.page, is_exact(&request.command))?;
     Ok(Job { request, options })

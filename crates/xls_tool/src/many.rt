@@ -1,7 +1,8 @@
 //! Many files, one after another.
 
-ghost use Rattle.std.specs.Prelude.{IfOk, None};
+ghost use Rattle.std.specs.Prelude.{◌≡◌, IfOk, None};
 ghost use Rattle.xls_tool.specs.Problems.{IsStatus};
+ghost use Rattle.xls_tool.specs.Texts.{Answered, answer_of};
 ghost use Rattle.xls_words.specs.Requests as requests;
 
 use crate::file::{ReadFile, read};
@@ -38,6 +39,8 @@ pub(crate) fn do_file<H: Host, K: Sink>(
     path: &str,
 ) -> Result<(), Problem>
     requires { requests.CommandHasNumber job.now.request.command }
+    ensures { IfOk result (λ _. job.now.request.out ≡ None → Answered (H.reads host.old path.now)
+        (answer_of job.now.request.command) job.now.options (K.state sink.old) (K.state sink.new)) }
 {
     let bytes = read(host, path)?;
     let file = ReadFile {

@@ -1,7 +1,8 @@
 //! One file by itself.
 
-ghost use Rattle.std.specs.Prelude.{IfOk};
+ghost use Rattle.std.specs.Prelude.{◌≡◌, IfOk, None};
 ghost use Rattle.xls_tool.specs.Problems.{IsStatus};
+ghost use Rattle.xls_tool.specs.Texts.{Answered, answer_of};
 ghost use Rattle.xls_words.specs.Requests as requests;
 
 use crate::job::Job;
@@ -29,6 +30,8 @@ fn do_placed<H: Host, K: Sink>(
     placed: Placed<'_>,
 ) -> Result<(), Problem>
     requires { requests.CommandHasNumber job.now.request.command }
+    ensures { IfOk result (λ _. job.now.request.out ≡ None → Answered (H.reads host.old placed.entry.path.now)
+        (answer_of job.now.request.command) job.now.options (K.state out.old) (K.state out.new)) }
 {
     match placed.place {
         Ok(Place::File) => do_file(alloc, host, out, job, placed.path),
@@ -48,7 +51,9 @@ pub(crate) fn do_one<H: Host, K: Sink>(
     placed: Placed<'_>,
 ) -> Result<u8, Stop>
     requires { requests.CommandHasNumber job.now.request.command }
-    ensures { IfOk result IsStatus }
+    ensures status { IfOk result IsStatus }
+    ensures zero { IfOk result (λ n. n ≡ 0 → job.now.request.out ≡ None → Answered (H.reads host.old placed.entry.path.now)
+        (answer_of job.now.request.command) job.now.options (K.state out.old) (K.state out.new)) }
 {
     let path = placed.path;
     match do_placed(alloc, host, out, job, placed) {

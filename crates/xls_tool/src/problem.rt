@@ -1,6 +1,6 @@
 //! Why the text of a file isn't written.
 
-ghost use Rattle.std.specs.Prelude.{◌≡◌};
+ghost use Rattle.std.specs.Prelude.{◌≡◌, ◌≢◌};
 ghost use Rattle.xls_tool.specs.Problems.{IsStatus, outcome_of, problem_of_project, problem_status};
 ghost use Rattle.xls_answers.specs.Failures.{failure_of_fault};
 ghost use Rattle.xls_tool.specs.declared.problem.Problem.TheVariants as problems;
@@ -62,6 +62,7 @@ impl Problem {
     pub fn status(&self) -> u8
         ensures exact { result ≡ problem_status self.now }
         ensures status { IsStatus result }
+        ensures fails { result ≢ 0 }
     {
         match self {
             Problem::Unread(Reason::Memory) | Problem::Unwritten(_, Reason::Memory) => 5,
