@@ -15,11 +15,12 @@ use Rattle.xls_words.specs.declared.request.Request.{Request}
 use Rattle.xls_words.specs.declared.word.Word.{Word}
 use Rattle.xls_words.specs.declared.word.Word.TheVariants as words
 
--- what the host of later may read was to be read before
+-- what may be read later could be read before
 earlier : (before after : List ℕ → List ℕ → Type 0) (path : List ℕ) (answer : Option Answer) (options : XlsOptions) (a b : SinkState)
     → Stays before after → Answered (after path) answer options a b → Answered (before path) answer options a b
 earlier before after path answer options a b stays (file, given, text) = (file, stays path file given, text)
 
+-- so a status of 0 says of the earlier host what it says of the later
 pub zero-before : (before after : List ℕ → List ℕ → Type 0) (path : List ℕ) (answer : Option Answer) (options : XlsOptions) (a b : SinkState)
     (r : Result ℕ Stop) (Asked Other : Type 0) → Stays before after
     → IfOk r (λ n. n ≡ 0 → Asked → Answered (after path) answer options a b)
@@ -28,7 +29,7 @@ zero-before before after path answer options a b (Ok n) Asked Other stays p =
     λ zero asked other. earlier before after path answer options a b stays (p zero asked)
 zero-before before after path answer options a b (Err e) Asked Other stays p = tt
 
--- what isn't asked for
+-- of what isn't asked for nothing is said
 pub unasked : (r : Result ℕ Stop) (Asked Other Done : Type 0) → (Asked → Other) → IfOk r (λ n. n ≡ 0 → Asked → (Other → ⊥) → Done)
 unasked (Ok n) Asked Other Done other = λ zero asked none. absurd (none (other asked))
 unasked (Err e) Asked Other Done other = tt
