@@ -195,7 +195,7 @@ pub fn run<H: Host, K: Sink>(alloc: Global, host: &mut H, out: &mut K, words: &[
     ensures ends { Ends out.old out.new result }
 
     // A command without options, but for `check`, over one path ends with 0 only where bytes that the host reads there
-    // are answered, and the whole answer is written.
+    // are answered, and the whole answer is written. Of `props`, `vba` and `streams` no text is stated.
     ensures zero { (word : Word) (path : List ℕ) → AreWordsOf word (path ∷ []) (map string_bytes words.now)
         → are_plain word (path ∷ []) ≡ true → (word ≡ names.Check → ⊥) → result ≡ 0
         → Answered (H.reads host.old path) (answer_of (plain_command word)) (options_under None false)
