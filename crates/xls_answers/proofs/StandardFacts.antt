@@ -2,10 +2,15 @@
 use Rattle.std.proofs.Common.{◌≡◌, [], ◌∷◌, map, refl, codes}
 use Rattle.std.specs.Fmt.{digits}
 use Rattle.xls_text.specs.declared.error.CfbError.TheVariants.{CodePageNotFound}
+use Rattle.xls_record.specs.declared.error.XlsError.{XlsError}
 use Rattle.xls_record.specs.declared.error.XlsError.TheVariants.{Cfb, Password, StackLen}
+use Rattle.xls_container.specs.declared.fault.FileFault.TheVariants as faults
+use Rattle.xls_container.specs.declared.kind.FileKind.{FileKind}
+use Rattle.xls_lay.specs.declared.error.LayError.{LayError}
 use Rattle.xls_lines.specs.declared.stop.Stop.TheVariants.{Read, Write, Memory}
+use Rattle.xls_answers.specs.Failures.{status_of}
 use Rattle.xls_answers.specs.Texts.{failure_text, page_name}
-use Rattle.xls_answers.specs.declared.failure.Failure.TheVariants.{Obfuscated, Stream, Missing, Stopped}
+use Rattle.xls_answers.specs.declared.failure.Failure.TheVariants.{File, Obfuscated, Stream, Missing, Canonical, Stopped}
 use Rattle.xls_answers.specs.declared.failure.Missing.TheVariants.{Number, Worksheet}
 
 -- the pages that have names; 1252 and 1200 are read
@@ -22,3 +27,11 @@ pub known_failures : map failure_text (Obfuscated ∷ Stream Password ∷ Stream
     ∷ codes "it can't be read" ∷ codes "the output can't be written" ∷ codes "out of memory" ∷ []
 unfolding digits page_name
 known_failures = refl
+
+-- ---- exit statuses, as docs/xls.md has them
+
+pub known_statuses : (k : FileKind) (c : _) (e : XlsError) (l : LayError) → map status_of
+    (File faults.NoWorkbook ∷ File faults.Memory ∷ File (faults.Kind k) ∷ File (faults.Compound c) ∷ Obfuscated ∷ Stream e
+    ∷ Missing (Number 3) ∷ Missing Worksheet ∷ Canonical l ∷ Stopped Read ∷ Stopped Write ∷ Stopped Memory ∷ [])
+    ≡ 12 ∷ 5 ∷ 11 ∷ 11 ∷ 17 ∷ 1 ∷ 1 ∷ 1 ∷ 1 ∷ 10 ∷ 4 ∷ 5 ∷ []
+known_statuses k c e l = refl

@@ -1,6 +1,6 @@
--- What a host may read.
-use Rattle.std.specs.Prelude.{ℕ, List}
+-- What a host may find at its paths.
+use Rattle.std.specs.Prelude.{ℕ, List, Option}
 
--- what may be read after could be read before
-abbrev pub Stays : (List ℕ → List ℕ → Type 0) → (List ℕ → List ℕ → Type 0) → Type 0
-Stays before after = (path : List ℕ) (bytes : List ℕ) → after path bytes → before path bytes
+-- what may be found after could be found before
+abbrev pub Stays : (List ℕ → Option (List ℕ) → Type 0) → (List ℕ → Option (List ℕ) → Type 0) → Type 0
+Stays before after = (path : List ℕ) (found : Option (List ℕ)) → after path found → before path found

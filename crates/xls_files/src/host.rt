@@ -1,7 +1,9 @@
 //! What the program reads and writes by.
 
-ghost use Rattle.std.specs.Prelude.{◌≡◌, ℕ, List, IfOk, codes};
+ghost use Rattle.std.specs.Prelude.{◌≡◌, ◌≢◌, ℕ, List, Option, Some, None, IfOk, IfErr, codes};
 ghost use Rattle.xls_files.specs.Reads.{Stays};
+ghost use Rattle.xls_files.specs.declared.host.Place.TheVariants.{File};
+ghost use Rattle.xls_files.specs.declared.host.Reason.TheVariants.{Memory};
 
 use std::alloc::AllocError;
 use std::fmt;
@@ -31,8 +33,6 @@ impl fmt::Display for Reason {
 }
 
 impl From<AllocError> for Reason {
-    ghost use Rattle.xls_files.specs.declared.host.Reason.TheVariants.{Memory};
-
     ghost from_gives = { λ _ e. e ≡ Memory };
 
     fn from(_: AllocError) -> Reason {
@@ -69,14 +69,17 @@ pub enum Name {
 
 /// Where files are read and written. Standard output is a sink apart from it.
 pub trait Host {
-    /// Which bytes it may read from a path; `-` is standard input.
-    ghost reads: { Self → List ℕ → List ℕ → Type 0 };
+    /// What it may find at a path: the bytes of a file, or None where there is no file that it can read. `-` is
+    /// standard input.
+    ghost reads: { Self → List ℕ → Option (List ℕ) → Type 0 };
 
     /// A file that is written. Its first write makes it.
     type File: Sink + Drop;
 
     /// What stands at a path.
     fn place(&mut self, path: &str) -> Result<Place, Reason>
+        ensures place { IfOk result (λ place. place ≢ File → reads self.new path.now None) }
+        ensures reason { IfErr result (λ reason. reason ≢ Memory → reads self.new path.now None) }
         ensures stays { Stays (reads self.old) (reads self.new) };
 
     /// The folders and regular files in a folder, in any order.
@@ -84,11 +87,13 @@ pub trait Host {
 
     /// The bytes of a file.
     fn read(&mut self, path: &str) -> Result<Vec<u8>, Reason>
-        ensures bytes { IfOk result (λ bytes. reads self.old path.now bytes.items) };
+        ensures bytes { IfOk result (λ bytes. reads self.old path.now (Some bytes.items)) }
+        ensures reason { IfErr result (λ reason. reason ≢ Memory → reads self.old path.now None) };
 
     /// The bytes of standard input.
     fn read_input(&mut self) -> Result<Vec<u8>, Reason>
-        ensures bytes { IfOk result (λ bytes. reads self.old (codes "-") bytes.items) };
+        ensures bytes { IfOk result (λ bytes. reads self.old (codes "-") (Some bytes.items)) }
+        ensures reason { IfErr result (λ reason. reason ≢ Memory → reads self.old (codes "-") None) };
 
     /// The next name of a list, which stands in a file, or on standard input where that is `-`. None at its end.
     fn next_name(&mut self, list: &str, by_nul: bool) -> Result<Option<Name>, Reason>;
@@ -113,6 +118,8 @@ pub trait Host {
 
 /// What stands at a path; `-` is standard input, which is read as a file.
 pub fn place_of<H: Host>(host: &mut H, path: &str) -> Result<Place, Reason>
+    ensures place { IfOk result (λ place. place ≢ File → H.reads host.new path.now None) }
+    ensures reason { IfErr result (λ reason. reason ≢ Memory → H.reads host.new path.now None) }
     ensures stays { Stays (H.reads host.old) (H.reads host.new) }
 {
     if path == "-" {

@@ -1,2 +1,2 @@
 pub mod StandardFacts
-pub mod AnsweredLemmas
+pub mod CauseLemmas

@@ -1,3 +1,4 @@
 pub mod Problems
 pub mod Texts
 pub mod Displayed
+pub mod Steps

@@ -1,9 +1,10 @@
 -- The exit status of each problem, and how many files are told of it.
-use Rattle.std.specs.Prelude.{◌≡◌, ◌⊎◌, ℕ, ◌==◌, Bool, true, ◌||◌, if◌then◌else◌}
+use Rattle.std.specs.Prelude.{◌≡◌, ◌⊎◌, ℕ, ◌==◌, Bool, true, ◌||◌, if◌then◌else◌, Result, Ok, Err}
 use Rattle.xls_answers.specs.Failures as failures
 use Rattle.xls_answers.specs.declared.failure.Failure.TheVariants.{Stopped}
 use Rattle.xls_documents.specs.declared.fault.ProjectFault.{ProjectFault}
 use Rattle.xls_documents.specs.declared.fault.ProjectFault.TheVariants as faults
+use Rattle.xls_lines.specs.declared.stop.Stop.{Stop}
 use Rattle.xls_lines.specs.declared.stop.Stop.TheVariants as stop
 use Rattle.xls_files.specs.declared.host.Reason.TheVariants.{Memory, Reported}
 use Rattle.xls_tool.specs.declared.problem.Outcome.{Outcome}
@@ -21,6 +22,18 @@ problem_status (problems.Absent a) = 12
 problem_status (problems.Project f) = 11
 problem_status (problems.Unwritten path Memory) = 5
 problem_status (problems.Unwritten path (Reported t)) = 16
+
+-- the exit status of a file whose text was to be written
+abbrev pub status_of_file : Result (Unit {0}) Problem → ℕ
+status_of_file (Ok x) = 0
+status_of_file (Err p) = problem_status p
+
+-- the exit status of work that ends with one, or is stopped
+abbrev pub status_of_work : Result ℕ Stop → ℕ
+status_of_work (Ok n) = n
+status_of_work (Err stop.Memory) = 5
+status_of_work (Err stop.Write) = 4
+status_of_work (Err stop.Read) = 4
 
 -- the statuses of a file that can't be read, or that gives no workbook
 abbrev pub is_unread : ℕ → Bool

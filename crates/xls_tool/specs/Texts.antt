@@ -1,5 +1,5 @@
 -- What is written of a file whose workbook is asked for.
-use Rattle.std.specs.Prelude.{◌==◌, ℕ, Bool, true, false, List, Option, None, Some, Result, Ok, Err}
+use Rattle.std.specs.Prelude.{◌≡◌, ◌⊎◌, ℕ, Bool, true, false, List, Option, None, Some, Result, Ok, Err}
 use Rattle.xls_answers.specs.Answers.{OfFile}
 use Rattle.xls_answers.specs.declared.answer.Answer.{Answer}
 use Rattle.xls_answers.specs.declared.answer.Answer.TheVariants as answers
@@ -8,10 +8,13 @@ use Rattle.xls_lines.specs.SinkState.{SinkState}
 use Rattle.xls_open.specs.declared.options.XlsOptions.{XlsOptions}
 use Rattle.xls_readable.specs.declared.forms.Form.{Form}
 use Rattle.xls_readable.specs.declared.forms.Form.TheVariants.{Text, Json}
+use Rattle.xls_report.specs.Endings.{IsUntouched}
 use Rattle.xls_words.specs.declared.request.Command.{Command}
 use Rattle.xls_words.specs.declared.request.Command.TheVariants as commands
+use Rattle.xls_words.specs.declared.request.SheetChoice.TheVariants.{All}
 use Rattle.xls_words.specs.declared.request.Style.{Style}
 use Rattle.xls_words.specs.declared.request.Style.TheVariants as styles
+use Rattle.xls_tool.specs.Problems.{status_of_file}
 use Rattle.xls_tool.specs.declared.problem.Problem.{Problem}
 use Rattle.xls_tool.specs.declared.problem.Problem.TheVariants as problems
 
@@ -48,9 +51,17 @@ OfAnswer answer options file before after (Ok x) = OfFile answer options file be
 OfAnswer answer options file before after (Err (problems.Failure f)) = OfFile answer options file before after (Err f)
 OfAnswer answer options file before after (Err other) = ⊥
 
--- likewise, where the command writes of the workbook
+-- a problem of a file's bytes, and not of its path
+abbrev pub IsOfBytes : Problem → Type 0
+IsOfBytes (problems.Failure f) = Unit {0}
+IsOfBytes (problems.Absent a) = Unit {0}
+IsOfBytes (problems.Project f) = Unit {0}
+IsOfBytes other = ⊥
+
+-- likewise, where the command writes of the workbook; of what stands beside it, no text is stated
 abbrev pub OfText : Option Answer → XlsOptions → List ℕ → SinkState → SinkState → Result (Unit {0}) Problem → Type 0
-OfText None options file before after result = Unit {0}
+OfText None options file before after (Ok x) = Unit {0}
+OfText None options file before after (Err p) = IsOfBytes p
 OfText (Some answer) options file before after result = OfAnswer answer options file before after result
 
 -- ---- texts as xls_dump has them
@@ -73,9 +84,23 @@ is_exact commands.Remake = false
 is_exact (commands.Stream path) = false
 is_exact commands.Streams = false
 
--- ---- of one file
+-- ---- of one path
 
--- bytes that may be read were answered, and the whole answer was written
-abbrev pub Answered : (List ℕ → Type 0) → Option Answer → XlsOptions → SinkState → SinkState → Type 0
-Answered reads answer options before after =
-    (file : List ℕ) × reads file × OfText answer options file before after (Ok tt)
+-- bytes that may be found there were answered, with this result
+abbrev pub Answered : (Option (List ℕ) → Type 0) → Option Answer → XlsOptions → SinkState → SinkState → Result (Unit {0}) Problem → Type 0
+Answered finds answer options before after result =
+    (file : List ℕ) × finds (Some file) × OfText answer options file before after result
+
+-- the sheets that are asked for want a folder
+abbrev pub WantsFolder : Option Answer → Type 0
+WantsFolder (Some (answers.Sheet table)) = table.choice ≡ All
+WantsFolder other = ⊥
+
+-- each exit status of a path has its cause, and only that of memory is free: 2 and 10 come where nothing is written, since
+-- no file may be found there (or, 2, all sheets are asked for); each other status is that of the answer to what is found
+abbrev pub HasCause : (Option (List ℕ) → Type 0) → Option Answer → XlsOptions → SinkState → SinkState → ℕ → Type 0
+HasCause finds answer options before after n =
+    (n ≡ 5)
+    ⊎ (((n ≡ 2) × (finds None ⊎ WantsFolder answer) × IsUntouched before after)
+    ⊎ (((n ≡ 10) × finds None × IsUntouched before after)
+    ⊎ ((result : Result (Unit {0}) Problem) × Answered finds answer options before after result × (n ≡ status_of_file result))))

@@ -1,6 +1,7 @@
 //! Files that are read.
 
-ghost use Rattle.std.specs.Prelude.{IfOk};
+ghost use Rattle.std.specs.Prelude.{IfOk, IfErr, Some};
+ghost use Rattle.xls_tool.specs.Steps.{IsUnread};
 
 use crate::problem::Problem;
 use xls_files::Host;
@@ -15,7 +16,8 @@ pub(crate) struct ReadFile<'f> {
 
 /// The bytes of a file, or of standard input.
 pub(crate) fn read<H: Host>(host: &mut H, path: &str) -> Result<Vec<u8>, Problem>
-    ensures { IfOk result (λ bytes. H.reads host.old path.now bytes.items) }
+    ensures bytes { IfOk result (λ bytes. H.reads host.old path.now (Some bytes.items)) }
+    ensures unread { IfErr result (IsUnread (H.reads host.old path.now)) }
 {
     let bytes = if path == "-" {
         host.read_input()

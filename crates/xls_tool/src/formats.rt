@@ -2,10 +2,9 @@
 
 use crate::file::ReadFile;
 use crate::job::Job;
-use crate::problem::Problem;
 use crate::say::say_of;
 use std::alloc::{AllocError, Global};
-use xls_container::Container;
+use xls_container::{Container, FileFault};
 use xls_files::Host;
 use xls_formats::{Uncounted, uncounted_formats};
 use xls_words::Command;
@@ -15,11 +14,24 @@ fn writes_values(command: &Command<'_>) -> bool {
     matches!(command, Command::Dump(_) | Command::Csv(_))
 }
 
+/// What a file gives, or None where that has a fault, which is told with its text; out of memory is no fault.
+fn unless_faulty<T>(given: Result<T, FileFault>) -> Result<Option<T>, AllocError> {
+    match given {
+        Ok(given) => Ok(Some(given)),
+        Err(FileFault::Memory) => Err(AllocError),
+        Err(_) => Ok(None),
+    }
+}
+
 /// The formats in a file's workbook that don't count, if there are any.
-fn uncounted_in(alloc: Global, bytes: &[u8]) -> Result<Option<Uncounted>, Problem> {
-    let container = Container::open(alloc, bytes)?;
-    let stream = container.workbook(alloc)?;
-    Ok(uncounted_formats(alloc, stream.as_slice())?)
+fn uncounted_in(alloc: Global, bytes: &[u8]) -> Result<Option<Uncounted>, AllocError> {
+    let Some(container) = unless_faulty(Container::open(alloc, bytes))? else {
+        return Ok(None);
+    };
+    match unless_faulty(container.workbook(alloc))? {
+        Some(stream) => uncounted_formats(alloc, stream.as_slice()),
+        None => Ok(None),
+    }
 }
 
 /// Tells of formats that don't count.
@@ -42,7 +54,7 @@ pub(crate) fn tell_formats<H: Host>(
     host: &mut H,
     job: &Job<'_>,
     file: &ReadFile<'_>,
-) -> Result<(), Problem> {
+) -> Result<(), AllocError> {
     if !writes_values(&job.request.command) {
         return Ok(());
     }

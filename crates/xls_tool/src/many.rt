@@ -2,7 +2,8 @@
 
 ghost use Rattle.std.specs.Prelude.{◌≡◌, IfOk, None};
 ghost use Rattle.xls_tool.specs.Problems.{IsStatus};
-ghost use Rattle.xls_tool.specs.Texts.{Answered, answer_of};
+ghost use Rattle.xls_tool.specs.Steps.{EndsPath};
+ghost use Rattle.xls_tool.specs.Texts.{answer_of};
 ghost use Rattle.xls_words.specs.Requests as requests;
 
 use crate::file::{ReadFile, read};
@@ -39,8 +40,8 @@ pub(crate) fn do_file<H: Host, K: Sink>(
     path: &str,
 ) -> Result<(), Problem>
     requires { requests.CommandHasNumber job.now.request.command }
-    ensures { IfOk result (λ _. job.now.request.out ≡ None → Answered (H.reads host.old path.now)
-        (answer_of job.now.request.command) job.now.options (K.state sink.old) (K.state sink.new)) }
+    ensures { job.now.request.out ≡ None → EndsPath (H.reads host.old path.now)
+        (answer_of job.now.request.command) job.now.options (K.state sink.old) (K.state sink.new) result }
 {
     let bytes = read(host, path)?;
     let file = ReadFile {
@@ -51,7 +52,8 @@ pub(crate) fn do_file<H: Host, K: Sink>(
         Some(out) => write_files(alloc, host, job, out, &file)?,
         None => write_text(alloc, sink, job, file.bytes)?,
     }
-    tell_formats(alloc, host, job, &file)
+    tell_formats(alloc, host, job, &file)?;
+    Ok(())
 }
 
 /// That a name isn't UTF-8.
@@ -72,6 +74,29 @@ fn tell<H: Host, K: Sink>(
     report.tell(alloc, file, done)
 }
 
+/// Tells that a name isn't UTF-8, of the folder or the list in which it stands.
+fn tell_unnamed<H: Host, K: Sink>(
+    alloc: Global,
+    host: &mut H,
+    report: &mut Report<'_, K>,
+    place: &str,
+) -> Result<(), Stop> {
+    let result = Err(unnamed(alloc)?);
+    tell(alloc, host, report, place, &result)
+}
+
+/// Tells why a file, a folder or a list isn't read.
+fn tell_unread<H: Host, K: Sink>(
+    alloc: Global,
+    host: &mut H,
+    report: &mut Report<'_, K>,
+    file: &str,
+    reason: Reason,
+) -> Result<(), Stop> {
+    let result = Err(Problem::Unread(reason));
+    tell(alloc, host, report, file, &result)
+}
+
 /// Does the work of what comes next, and tells how it went.
 fn do_next<H: Host, K: Sink>(
     alloc: Global,
@@ -82,16 +107,18 @@ fn do_next<H: Host, K: Sink>(
 ) -> Result<(), Stop>
     requires { requests.CommandHasNumber job.now.request.command }
 {
-    let (file, result) = match next {
+    match next {
         Next::File(path) => {
             let result = do_file(alloc, host, &mut Nowhere, job, path.as_str());
-            (path, result)
+            tell(alloc, host, report, path.as_str(), &result)
         }
-        Next::Irregular(path) => (path, Err(Problem::Irregular)),
-        Next::Unread(path, reason) => (path, Err(Problem::Unread(reason))),
-        Next::Unnamed(folder) => (folder, Err(unnamed(alloc)?)),
-    };
-    tell(alloc, host, report, file.as_str(), &result)
+        Next::Irregular(path) => {
+            let result = Err(Problem::Irregular);
+            tell(alloc, host, report, path.as_str(), &result)
+        }
+        Next::Unread(path, reason) => tell_unread(alloc, host, report, path.as_str(), reason),
+        Next::Unnamed(folder) => tell_unnamed(alloc, host, report, folder.as_str()),
+    }
 }
 
 /// Shows how far the work is, where that is seen.
@@ -201,29 +228,6 @@ fn do_name<H: Host, K: Sink>(
 {
     let mut queue = queue_of(alloc, &[path])?;
     do_queue(alloc, host, report, job, &mut queue)
-}
-
-/// Tells that a list has a name that isn't UTF-8.
-fn tell_unnamed<H: Host, K: Sink>(
-    alloc: Global,
-    host: &mut H,
-    report: &mut Report<'_, K>,
-    list: &str,
-) -> Result<(), Stop> {
-    let result = Err(unnamed(alloc)?);
-    tell(alloc, host, report, list, &result)
-}
-
-/// Tells why a list isn't read on.
-fn tell_unread<H: Host, K: Sink>(
-    alloc: Global,
-    host: &mut H,
-    report: &mut Report<'_, K>,
-    list: &str,
-    reason: Reason,
-) -> Result<(), Stop> {
-    let result = Err(Problem::Unread(reason));
-    tell(alloc, host, report, list, &result)
 }
 
 /// Does the work of all files whose names stand in a list, each before the next name is read.

@@ -1,8 +1,11 @@
 //! One file by itself.
 
-ghost use Rattle.std.specs.Prelude.{◌≡◌, IfOk, None};
-ghost use Rattle.xls_tool.specs.Problems.{IsStatus};
-ghost use Rattle.xls_tool.specs.Texts.{Answered, answer_of};
+ghost use Rattle.std.specs.Prelude.{◌≡◌, ◌≢◌, ◌⊎◌, None, IfOk, IfErr};
+ghost use Rattle.xls_files.specs.declared.host.Place.TheVariants.{File};
+ghost use Rattle.xls_files.specs.declared.host.Reason.TheVariants.{Memory};
+ghost use Rattle.xls_tool.specs.Problems.{IsStatus, problem_status, status_of_work};
+ghost use Rattle.xls_tool.specs.Steps.{EndsPath};
+ghost use Rattle.xls_tool.specs.Texts.{HasCause, answer_of};
 ghost use Rattle.xls_words.specs.Requests as requests;
 
 use crate::job::Job;
@@ -29,9 +32,11 @@ fn do_placed<H: Host, K: Sink>(
     job: &Job<'_>,
     placed: Placed<'_>,
 ) -> Result<(), Problem>
-    requires { requests.CommandHasNumber job.now.request.command }
-    ensures { IfOk result (λ _. job.now.request.out ≡ None → Answered (H.reads host.old placed.entry.path.now)
-        (answer_of job.now.request.command) job.now.options (K.state out.old) (K.state out.new)) }
+    requires number { requests.CommandHasNumber job.now.request.command }
+    requires place { IfOk placed.place (λ place. place ≢ File → H.reads host.old placed.path.now None) }
+    requires reason { IfErr placed.place (λ reason. reason ≢ Memory → H.reads host.old placed.path.now None) }
+    ensures { job.now.request.out ≡ None → EndsPath (H.reads host.old placed.entry.path.now)
+        (answer_of job.now.request.command) job.now.options (K.state out.old) (K.state out.new) result }
 {
     match placed.place {
         Ok(Place::File) => do_file(alloc, host, out, job, placed.path),
@@ -39,6 +44,23 @@ fn do_placed<H: Host, K: Sink>(
         Ok(Place::Other) => Err(Problem::Irregular),
         Err(reason) => Err(Problem::Unread(reason)),
     }
+}
+
+/// Tells a problem of what stands at a path, but for a write that failed, which ends the work. The exit status.
+fn tell_problem<H: Host>(
+    alloc: Global,
+    host: &mut H,
+    path: &str,
+    problem: &Problem,
+) -> Result<u8, Stop>
+    ensures status { IfOk result IsStatus }
+    ensures exact { (status_of_work result ≡ problem_status problem.now) ⊎ (status_of_work result ≡ 5) }
+{
+    if let Problem::Failure(Failure::Stopped(Stop::Write)) = problem {
+        return Err(Stop::Write);
+    }
+    say_problem(alloc, host, path, problem)?;
+    Ok(problem.status())
 }
 
 /// Does the work of what stands at a path: its text goes to the sink, or into files below the folder, if there is
@@ -50,18 +72,16 @@ pub(crate) fn do_one<H: Host, K: Sink>(
     job: &Job<'_>,
     placed: Placed<'_>,
 ) -> Result<u8, Stop>
-    requires { requests.CommandHasNumber job.now.request.command }
+    requires number { requests.CommandHasNumber job.now.request.command }
+    requires place { IfOk placed.place (λ place. place ≢ File → H.reads host.old placed.path.now None) }
+    requires reason { IfErr placed.place (λ reason. reason ≢ Memory → H.reads host.old placed.path.now None) }
     ensures status { IfOk result IsStatus }
-    ensures zero { IfOk result (λ n. n ≡ 0 → job.now.request.out ≡ None → Answered (H.reads host.old placed.entry.path.now)
-        (answer_of job.now.request.command) job.now.options (K.state out.old) (K.state out.new)) }
+    ensures cause { job.now.request.out ≡ None → HasCause (H.reads host.old placed.entry.path.now)
+        (answer_of job.now.request.command) job.now.options (K.state out.old) (K.state out.new) (status_of_work result) }
 {
     let path = placed.path;
     match do_placed(alloc, host, out, job, placed) {
         Ok(()) => Ok(0),
-        Err(Problem::Failure(Failure::Stopped(Stop::Write))) => Err(Stop::Write),
-        Err(problem) => {
-            say_problem(alloc, host, path, &problem)?;
-            Ok(problem.status())
-        }
+        Err(problem) => tell_problem(alloc, host, path, &problem),
     }
 }

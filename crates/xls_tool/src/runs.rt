@@ -1,11 +1,12 @@
 //! The top call of the program.
 
-ghost use Rattle.std.specs.Prelude.{◌≡◌, ◌≢◌, ℕ, true, false, List, [], ◌∷◌, map, None, Err, IfOk, MatchResult};
+ghost use Rattle.std.specs.Prelude.{◌≡◌, ◌⊎◌, ℕ, true, false, List, [], ◌∷◌, map, None, Err, IfOk, IfErr, IfSome};
 ghost use Rattle.std.specs.String.{string_bytes};
 ghost use Rattle.xls_answers.specs.Views.{options_under};
 ghost use Rattle.xls_lines.specs.declared.stop.Stop.TheVariants.{Memory};
-ghost use Rattle.xls_tool.specs.Problems.{Ends, IsStatus};
-ghost use Rattle.xls_tool.specs.Texts.{Answered, answer_of, is_exact};
+ghost use Rattle.xls_tool.specs.Problems.{Ends, IsStatus, status_of_work};
+ghost use Rattle.xls_tool.specs.Steps.{OfPath};
+ghost use Rattle.xls_tool.specs.Texts.{HasCause, WantsFolder, answer_of, is_exact};
 ghost use Rattle.xls_words.specs.Requests as requests;
 ghost use Rattle.xls_words.specs.Requests.{AreNamed, AreWordsOf, are_plain, plain_command};
 ghost use Rattle.xls_words.specs.declared.displayed.Displayed.TheVariants as displays;
@@ -23,7 +24,8 @@ use xls_words::{Command, Displayed, Files, Request, SheetChoice, request_of};
 
 /// Where there is no folder for the texts, what is wrong with that.
 fn mistake_in(job: &Job<'_>, is_many: bool) -> Option<&'static str>
-    ensures { result ≡ None → is_many ≡ true → job.now.request.out ≡ None → job.now.request.command ≡ commands.Check }
+    ensures none { result ≡ None → is_many ≡ true → job.now.request.out ≡ None → job.now.request.command ≡ commands.Check }
+    ensures some { IfSome result (λ _. (is_many ≡ true) ⊎ WantsFolder (answer_of job.now.request.command)) }
 {
     match (&job.request.out, &job.request.command) {
         (Some(_), _) | (None, Command::Check) => None,
@@ -45,9 +47,7 @@ fn do_path<H: Host, K: Sink>(
 ) -> Result<u8, Stop>
     requires { requests.CommandHasNumber job.now.request.command }
     ensures ends { IfOk result (Ends out.old out.new) }
-    ensures zero { IfOk result (λ n. n ≡ 0 → job.now.request.out ≡ None → (job.now.request.command ≡ commands.Check → ⊥)
-        → Answered (H.reads host.old path.now) (answer_of job.now.request.command) job.now.options
-        (K.state out.old) (K.state out.new)) }
+    ensures cause { OfPath (H.reads host.old path.now) job.now.request job.now.options (K.state out.old) (K.state out.new) result }
 {
     let place = place_of(host, path);
     let is_many = matches!(place, Ok(Place::Folder)) && takes_many(&job.request.command);
@@ -71,9 +71,8 @@ fn do_paths<H: Host, K: Sink>(
 ) -> Result<u8, Stop>
     requires { requests.CommandHasNumber job.now.request.command }
     ensures ends { IfOk result (Ends out.old out.new) }
-    ensures zero { IfOk result (λ n. n ≡ 0 → job.now.request.out ≡ None → (job.now.request.command ≡ commands.Check → ⊥)
-        → (path : List ℕ) → map (λ it. it.now) paths.now ≡ (path ∷ [])
-        → Answered (H.reads host.old path) (answer_of job.now.request.command) job.now.options (K.state out.old) (K.state out.new)) }
+    ensures cause { (path : List ℕ) → map (λ it. it.now) paths.now ≡ (path ∷ [])
+        → OfPath (H.reads host.old path) job.now.request job.now.options (K.state out.old) (K.state out.new) result }
 {
     if let [path] = paths {
         return do_path(alloc, host, out, job, path);
@@ -112,10 +111,9 @@ fn do_request<H: Host, K: Sink>(
 ) -> Result<u8, Stop>
     requires { requests.CommandHasNumber request.command }
     ensures ends { IfOk result (Ends out.old out.new) }
-    ensures zero { IfOk result (λ n. n ≡ 0 → request.entry.out ≡ None → (request.entry.command ≡ commands.Check → ⊥)
-        → (path : List ℕ) → AreNamed (path ∷ []) request.entry.files
-        → Answered (H.reads host.old path) (answer_of request.entry.command)
-        (options_under request.entry.page (is_exact request.entry.command)) (K.state out.old) (K.state out.new)) }
+    ensures cause { (path : List ℕ) → AreNamed (path ∷ []) request.entry.files
+        → OfPath (H.reads host.old path) request.entry (options_under request.entry.page (is_exact request.entry.command))
+        (K.state out.old) (K.state out.new) result }
 {
     let job = job_of(alloc, request)?;
     match &job.request.files {
@@ -160,10 +158,10 @@ fn do_words<H: Host, K: Sink>(
     words: &[String],
 ) -> Result<u8, Stop>
     ensures ends { IfOk result (Ends out.old out.new) }
-    ensures zero { (word : Word) (path : List ℕ) → AreWordsOf word (path ∷ []) (map string_bytes words.now)
-        → are_plain word (path ∷ []) ≡ true → (word ≡ names.Check → ⊥)
-        → IfOk result (λ n. n ≡ 0 → Answered (H.reads host.old path) (answer_of (plain_command word)) (options_under None false)
-        (K.state out.old) (K.state out.new)) }
+    ensures cause { (word : Word) (path : List ℕ) → AreWordsOf word (path ∷ []) (map string_bytes words.now)
+        → are_plain word (path ∷ []) ≡ true → (word ≡ names.Check → H.reads host.old path None → ⊥)
+        → HasCause (H.reads host.old path) (answer_of (plain_command word)) (options_under None false)
+        (K.state out.old) (K.state out.new) (status_of_work result) }
 {
     match request_of(alloc, words) {
         Ok(request) => do_request(alloc, host, out, request),
@@ -173,7 +171,8 @@ fn do_words<H: Host, K: Sink>(
 
 /// The exit status of work that was stopped, which is told.
 fn status_of<H: Host>(host: &mut H, done: Result<u8, Stop>) -> u8
-    ensures { MatchResult done (λ n. result ≡ n) (λ _. IsStatus result × (result ≢ 0)) }
+    ensures exact { result ≡ status_of_work done }
+    ensures stopped { IfErr done (λ _. IsStatus result) }
 {
     match done {
         Ok(status) => status,
@@ -194,12 +193,14 @@ pub fn run<H: Host, K: Sink>(alloc: Global, host: &mut H, out: &mut K, words: &[
     // 2 comes only where nothing is written to `out`. Each other status is that of a file, or of what is written.
     ensures ends { Ends out.old out.new result }
 
-    // A command without options, but for `check`, over one path ends with 0 only where bytes that the host reads there
-    // are answered, and the whole answer is written. Of `props`, `vba` and `streams` no text is stated.
-    ensures zero { (word : Word) (path : List ℕ) → AreWordsOf word (path ∷ []) (map string_bytes words.now)
-        → are_plain word (path ∷ []) ≡ true → (word ≡ names.Check → ⊥) → result ≡ 0
-        → Answered (H.reads host.old path) (answer_of (plain_command word)) (options_under None false)
-        (K.state out.old) (K.state out.new) }
+    // Each status of a command without options over one path has its cause in what the host may find there: 0 comes
+    // only where the whole answer to bytes of that path is written, 1 and most others only where the answer to them is
+    // a failure that has this status. A path where `check` may find no file is left out: a folder is many files. Of
+    // `props`, `vba` and `streams` no text is stated.
+    ensures cause { (word : Word) (path : List ℕ) → AreWordsOf word (path ∷ []) (map string_bytes words.now)
+        → are_plain word (path ∷ []) ≡ true → (word ≡ names.Check → H.reads host.old path None → ⊥)
+        → HasCause (H.reads host.old path) (answer_of (plain_command word)) (options_under None false)
+        (K.state out.old) (K.state out.new) result }
 {
     let done = do_words(alloc, host, out, words);
     status_of(host, done)

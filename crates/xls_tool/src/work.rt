@@ -1,7 +1,8 @@
 //! What is written of one file.
 
+ghost use Rattle.std.specs.Prelude.{IfErr};
 ghost use Rattle.xls_words.specs.Requests as requests;
-ghost use Rattle.xls_tool.specs.Texts.{OfText, answer_of};
+ghost use Rattle.xls_tool.specs.Texts.{IsOfBytes, OfText, answer_of};
 
 use crate::job::{Job, answer_of};
 use crate::problem::{Absent, Problem};
@@ -11,7 +12,7 @@ use xls_compound::{Compound, Entry};
 use xls_container::{Container, FileFault};
 use xls_documents::{project_of, properties_of, write_project, write_properties, write_streams};
 use xls_files::names_of;
-use xls_lines::{Sink, write_all};
+use xls_lines::{Sink, Stop, write_all};
 use xls_readable::Form;
 use xls_words::Command;
 
@@ -20,7 +21,9 @@ fn stream_at<'c>(
     alloc: Global,
     compound: &'c Compound<'_>,
     path: &str,
-) -> Result<Entry<'c>, Problem> {
+) -> Result<Entry<'c>, Problem>
+    ensures { IfErr result IsOfBytes }
+{
     let names = names_of(alloc, path)?;
     match compound.find(names.as_slice()) {
         Some(entry) if entry.is_stream() => Ok(entry),
@@ -34,7 +37,9 @@ fn write_stream_at<K: Sink>(
     sink: &mut K,
     compound: &Compound<'_>,
     path: &str,
-) -> Result<(), Problem> {
+) -> Result<(), Problem>
+    ensures { IfErr result IsOfBytes }
+{
     let entry = stream_at(alloc, compound, path)?;
     let bytes = match compound.stream(alloc, &entry) {
         Ok(bytes) => bytes,
@@ -42,8 +47,15 @@ fn write_stream_at<K: Sink>(
     };
     match write_all(sink, bytes.as_slice()) {
         Ok(()) => Ok(()),
-        Err(fault) => Err(Problem::from(xls_lines::Stop::from(fault))),
+        Err(fault) => Err(Problem::from(Stop::from(fault))),
     }
+}
+
+/// How writing went, as the work of a file tells it.
+fn written(done: Result<(), Stop>) -> Result<(), Problem>
+    ensures { IfErr result IsOfBytes }
+{
+    Ok(done?)
 }
 
 /// Writes the properties of a compound file.
@@ -51,9 +63,11 @@ fn write_properties_of<K: Sink>(
     alloc: Global,
     sink: &mut K,
     container: &Container<'_>,
-) -> Result<(), Problem> {
+) -> Result<(), Problem>
+    ensures { IfErr result IsOfBytes }
+{
     match properties_of(alloc, container)? {
-        Some(properties) => Ok(write_properties(alloc, sink, Form::Text, &properties)?),
+        Some(properties) => written(write_properties(alloc, sink, Form::Text, &properties)),
         None => Err(Problem::Absent(Absent::Properties)),
     }
 }
@@ -63,15 +77,19 @@ fn write_project_of<K: Sink>(
     alloc: Global,
     sink: &mut K,
     container: &Container<'_>,
-) -> Result<(), Problem> {
+) -> Result<(), Problem>
+    ensures { IfErr result IsOfBytes }
+{
     match project_of(alloc, container)? {
-        Some(project) => Ok(write_project(alloc, sink, Form::Text, &project)?),
+        Some(project) => written(write_project(alloc, sink, Form::Text, &project)),
         None => Err(Problem::Absent(Absent::Project)),
     }
 }
 
 /// The compound file that a file is.
-fn compound_in<'c, 'a>(container: &'c Container<'a>) -> Result<&'c Compound<'a>, Problem> {
+fn compound_in<'c, 'a>(container: &'c Container<'a>) -> Result<&'c Compound<'a>, Problem>
+    ensures { IfErr result IsOfBytes }
+{
     match container.compound() {
         Some(compound) => Ok(compound),
         None => Err(Problem::Absent(Absent::Compound)),
@@ -84,14 +102,16 @@ fn write_beside<K: Sink>(
     sink: &mut K,
     command: &Command<'_>,
     container: &Container<'_>,
-) -> Result<(), Problem> {
+) -> Result<(), Problem>
+    ensures { IfErr result IsOfBytes }
+{
     match command {
         Command::Props => write_properties_of(alloc, sink, container),
         Command::Vba => write_project_of(alloc, sink, container),
         Command::Stream(Some(path)) => {
             write_stream_at(alloc, sink, compound_in(container)?, path)
         }
-        _ => Ok(write_streams(alloc, sink, Form::Text, compound_in(container)?)?),
+        _ => written(write_streams(alloc, sink, Form::Text, compound_in(container)?)),
     }
 }
 
