@@ -3,21 +3,19 @@ use Rattle.std.proofs.Common.{◌≡◌, ◌≢◌, ◌⊎◌, ◌∙◌, refl, 
 use Rattle.std.proofs.KnownBytes.{Keeps-refl}
 use lib.ListN.{get_or}
 use Rattle.xls_answers.specs.Views.{options_under}
-use Rattle.xls_answers.specs.declared.answer.Answer.{Answer}
-use Rattle.xls_documents.specs.declared.fault.ProjectFault.{ProjectFault}
-use Rattle.xls_documents.specs.declared.fault.ProjectFault.TheVariants as faults
 use Rattle.xls_files.specs.Reads.{Stays}
 use Rattle.xls_files.specs.declared.host.Reason.{Reason}
 use Rattle.xls_files.specs.declared.host.Reason.TheVariants as reasons
 use Rattle.xls_lines.specs.SinkState.{SinkState}
 use Rattle.xls_lines.specs.declared.stop.Stop.{Stop}
 use Rattle.xls_open.specs.declared.options.XlsOptions.{XlsOptions}
-use Rattle.xls_tool.specs.Problems.{problem_of_project, problem_status, status_of_file, status_of_work}
+use Rattle.xls_tool.specs.Problems.{problem_status, status_of_file, status_of_work}
 use Rattle.xls_tool.specs.Steps.{EndsPath, IsUnread, OfPath}
-use Rattle.xls_tool.specs.Texts.{HasCause, IsOfBytes, OfText, WantsFolder, answer_of, is_exact}
+use Rattle.xls_tool.specs.Texts.{HasCause, OfText, WantsFolder, is_exact}
 use Rattle.xls_tool.specs.declared.problem.Problem.{Problem}
 use Rattle.xls_tool.specs.declared.problem.Problem.TheVariants as problems
 use Rattle.xls_words.specs.Requests.{AreNamed, IsPlainRequest, plain_command}
+use Rattle.xls_words.specs.declared.request.Command.{Command}
 use Rattle.xls_words.specs.declared.request.Command.TheVariants.{Check}
 use Rattle.xls_words.specs.declared.request.Request.{Request}
 use Rattle.xls_words.specs.declared.word.Word.{Word}
@@ -31,53 +29,46 @@ unread finds reasons.Memory lacks = inl refl
 unread finds (reasons.Reported text) lacks = inr (refl, lacks (λ e. cc e))
 
 -- so nothing was answered
-pub not-read : (finds : Option (List ℕ) → Type 0) (answer : Option Answer) (options : XlsOptions) (s : SinkState) (p : Problem)
-    → IsUnread finds p → EndsPath finds answer options s s (Err p)
-not-read finds answer options s p (inl memory) = inl memory
-not-read finds answer options s p (inr (status, lacks)) = inr (inl (status, lacks, (Keeps-refl s.written, refl)))
+pub not-read : (finds : Option (List ℕ) → Type 0) (command : Command) (options : XlsOptions) (s : SinkState) (p : Problem)
+    → IsUnread finds p → EndsPath finds command options s s (Err p)
+not-read finds command options s p (inl memory) = inl memory
+not-read finds command options s p (inr (status, lacks)) = inr (inl (status, lacks, (Keeps-refl s.written, refl)))
 
 -- bytes that were read were answered
-pub was-answered : (finds : Option (List ℕ) → Type 0) (answer : Option Answer) (options : XlsOptions) (file : List ℕ) (a b : SinkState)
-    (r : Result (Unit {0}) Problem) → finds (Some file) → OfText answer options file a b r → EndsPath finds answer options a b r
-was-answered finds answer options file a b (Ok tt) found text = (file, found, text)
-was-answered finds answer options file a b (Err p) found text = inr (inr (file, found, text))
-
--- a macro project is of the file's bytes
-pub of-project : (fault : ProjectFault) → IsOfBytes (problem_of_project fault)
-of-project (faults.File f) = tt
-of-project faults.Memory = tt
-of-project (faults.Compression e) = tt
-of-project (faults.Directory e) = tt
+pub was-answered : (finds : Option (List ℕ) → Type 0) (command : Command) (options : XlsOptions) (file : List ℕ) (a b : SinkState)
+    (r : Result (Unit {0}) Problem) → finds (Some file) → OfText command options file a b r → EndsPath finds command options a b r
+was-answered finds command options file a b (Ok tt) found text = (file, found, text)
+was-answered finds command options file a b (Err p) found text = inr (inr (file, found, text))
 
 -- ---- the status of a path
 
 -- the status that tells how the work of a path ended
-pub has-cause : (finds : Option (List ℕ) → Type 0) (answer : Option Answer) (options : XlsOptions) (a b : SinkState)
-    (r : Result (Unit {0}) Problem) → EndsPath finds answer options a b r → HasCause finds answer options a b (status_of_file r)
-has-cause finds answer options a b (Ok x) ends = inr (inr (inr (Ok x, ends, refl)))
-has-cause finds answer options a b (Err p) (inl memory) = inl memory
-has-cause finds answer options a b (Err p) (inr (inl unread)) = inr (inr (inl unread))
-has-cause finds answer options a b (Err p) (inr (inr answered)) = inr (inr (inr (Err p, answered, refl)))
+pub has-cause : (finds : Option (List ℕ) → Type 0) (command : Command) (options : XlsOptions) (a b : SinkState)
+    (r : Result (Unit {0}) Problem) → EndsPath finds command options a b r → HasCause finds command options a b (status_of_file r)
+has-cause finds command options a b (Ok x) ends = inr (inr (inr (Ok x, ends, refl)))
+has-cause finds command options a b (Err p) (inl memory) = inl memory
+has-cause finds command options a b (Err p) (inr (inl unread)) = inr (inr (inl unread))
+has-cause finds command options a b (Err p) (inr (inr answered)) = inr (inr (inr (Err p, answered, refl)))
 
 -- the same where memory may have run out as it was told
-pub told : (finds : Option (List ℕ) → Type 0) (answer : Option Answer) (options : XlsOptions) (a b : SinkState) (p : Problem) (n : ℕ)
-    → EndsPath finds answer options a b (Err p) → (n ≡ problem_status p) ⊎ (n ≡ 5) → HasCause finds answer options a b n
-told finds answer options a b p n ends (inl is) = subst (HasCause finds answer options a b) (sym is) (has-cause finds answer options a b (Err p) ends)
-told finds answer options a b p n ends (inr memory) = inl memory
+pub told : (finds : Option (List ℕ) → Type 0) (command : Command) (options : XlsOptions) (a b : SinkState) (p : Problem) (n : ℕ)
+    → EndsPath finds command options a b (Err p) → (n ≡ problem_status p) ⊎ (n ≡ 5) → HasCause finds command options a b n
+told finds command options a b p n ends (inl is) = subst (HasCause finds command options a b) (sym is) (has-cause finds command options a b (Err p) ends)
+told finds command options a b p n ends (inr memory) = inl memory
 
 -- a folder is wanted where no file is found, or all sheets are asked for
-pub wants-folder : (finds : Option (List ℕ) → Type 0) (answer : Option Answer) (options : XlsOptions) (s : SinkState)
-    → finds None ⊎ WantsFolder answer → HasCause finds answer options s s 2
-wants-folder finds answer options s why = inr (inl (refl, why, (Keeps-refl s.written, refl)))
+pub wants-folder : (finds : Option (List ℕ) → Type 0) (command : Command) (options : XlsOptions) (s : SinkState)
+    → finds None ⊎ WantsFolder command → HasCause finds command options s s 2
+wants-folder finds command options s why = inr (inl (refl, why, (Keeps-refl s.written, refl)))
 
 -- what may be found later could be found before
-pub earlier : (before after : List ℕ → Option (List ℕ) → Type 0) (path : List ℕ) (answer : Option Answer) (options : XlsOptions)
-    (a b : SinkState) (n : ℕ) → Stays before after → HasCause (after path) answer options a b n → HasCause (before path) answer options a b n
-earlier before after path answer options a b n stays (inl memory) = inl memory
-earlier before after path answer options a b n stays (inr (inl (two, inl lacks, same))) = inr (inl (two, inl (stays path None lacks), same))
-earlier before after path answer options a b n stays (inr (inl (two, inr wants, same))) = inr (inl (two, inr wants, same))
-earlier before after path answer options a b n stays (inr (inr (inl (ten, lacks, same)))) = inr (inr (inl (ten, stays path None lacks, same)))
-earlier before after path answer options a b n stays (inr (inr (inr (result, (file, found, text), is)))) =
+pub earlier : (before after : List ℕ → Option (List ℕ) → Type 0) (path : List ℕ) (command : Command) (options : XlsOptions)
+    (a b : SinkState) (n : ℕ) → Stays before after → HasCause (after path) command options a b n → HasCause (before path) command options a b n
+earlier before after path command options a b n stays (inl memory) = inl memory
+earlier before after path command options a b n stays (inr (inl (two, inl lacks, same))) = inr (inl (two, inl (stays path None lacks), same))
+earlier before after path command options a b n stays (inr (inl (two, inr wants, same))) = inr (inl (two, inr wants, same))
+earlier before after path command options a b n stays (inr (inr (inl (ten, lacks, same)))) = inr (inr (inl (ten, stays path None lacks, same)))
+earlier before after path command options a b n stays (inr (inr (inr (result, (file, found, text), is)))) =
     inr (inr (inr (result, (file, stays path (Some file) found, text), is)))
 
 -- ---- one path of many
@@ -138,16 +129,16 @@ pub of-words : (finds : List ℕ → Option (List ℕ) → Type 0) (a b : SinkSt
     → IsPlainRequest word (path ∷ []) request → (word ≡ words.Check → finds path None → ⊥)
     → ((path : List ℕ) → AreNamed (path ∷ []) request.files
     → OfPath (finds path) request (options_under request.page (is_exact request.command)) a b r)
-    → HasCause (finds path) (answer_of (plain_command word)) (options_under None false) a b (status_of_work r)
+    → HasCause (finds path) (plain_command word) (options_under None false) a b (status_of_work r)
 of-words finds a b word path request r plain other h =
-    subst (λ exact. HasCause (finds path) (answer_of (plain_command word)) (options_under None exact) a b (status_of_work r)) (readable word)
-    (subst (λ page. HasCause (finds path) (answer_of (plain_command word)) (options_under page (is_exact (plain_command word))) a b (status_of_work r))
+    subst (λ exact. HasCause (finds path) (plain_command word) (options_under None exact) a b (status_of_work r)) (readable word)
+    (subst (λ page. HasCause (finds path) (plain_command word) (options_under page (is_exact (plain_command word))) a b (status_of_work r))
     plain.page
-    (subst (λ command. HasCause (finds path) (answer_of command) (options_under request.page (is_exact command)) a b (status_of_work r)) plain.command
+    (subst (λ command. HasCause (finds path) command (options_under request.page (is_exact command)) a b (status_of_work r)) plain.command
     (h path plain.files plain.out (λ e lacks. other (checks word (sym plain.command ∙ e)) lacks))))
 
 -- ---- work that is stopped by memory
 
-pub of-memory : (finds : Option (List ℕ) → Type 0) (answer : Option Answer) (options : XlsOptions) (a b : SinkState) (r : Result ℕ Stop)
-    → status_of_work r ≡ 5 → HasCause finds answer options a b (status_of_work r)
-of-memory finds answer options a b r memory = inl memory
+pub of-memory : (finds : Option (List ℕ) → Type 0) (command : Command) (options : XlsOptions) (a b : SinkState) (r : Result ℕ Stop)
+    → status_of_work r ≡ 5 → HasCause finds command options a b (status_of_work r)
+of-memory finds command options a b r memory = inl memory

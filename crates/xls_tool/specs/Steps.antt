@@ -1,13 +1,13 @@
 -- How the work of a path ends, for the proofs.
 use Rattle.std.specs.Prelude.{◌≡◌, ◌⊎◌, ℕ, List, Option, None, Result, Ok, Err}
-use Rattle.xls_answers.specs.declared.answer.Answer.{Answer}
 use Rattle.xls_lines.specs.SinkState.{SinkState}
 use Rattle.xls_lines.specs.declared.stop.Stop.{Stop}
 use Rattle.xls_open.specs.declared.options.XlsOptions.{XlsOptions}
 use Rattle.xls_report.specs.Endings.{IsUntouched}
 use Rattle.xls_tool.specs.Problems.{problem_status, status_of_work}
-use Rattle.xls_tool.specs.Texts.{Answered, HasCause, answer_of}
+use Rattle.xls_tool.specs.Texts.{Answered, HasCause}
 use Rattle.xls_tool.specs.declared.problem.Problem.{Problem}
+use Rattle.xls_words.specs.declared.request.Command.{Command}
 use Rattle.xls_words.specs.declared.request.Command.TheVariants.{Check}
 use Rattle.xls_words.specs.declared.request.Request.{Request}
 
@@ -16,14 +16,14 @@ abbrev pub IsUnread : (Option (List ℕ) → Type 0) → Problem → Type 0
 IsUnread finds p = (problem_status p ≡ 5) ⊎ ((problem_status p ≡ 10) × finds None)
 
 -- what is found there was answered; or nothing was written, since no file may be found there; or memory ran out
-abbrev pub EndsPath : (Option (List ℕ) → Type 0) → Option Answer → XlsOptions → SinkState → SinkState → Result (Unit {0}) Problem → Type 0
-EndsPath finds answer options before after (Ok x) = Answered finds answer options before after (Ok x)
-EndsPath finds answer options before after (Err p) =
+abbrev pub EndsPath : (Option (List ℕ) → Type 0) → Command → XlsOptions → SinkState → SinkState → Result (Unit {0}) Problem → Type 0
+EndsPath finds command options before after (Ok x) = Answered finds command options before after (Ok x)
+EndsPath finds command options before after (Err p) =
     (problem_status p ≡ 5)
-    ⊎ (((problem_status p ≡ 10) × finds None × IsUntouched before after) ⊎ Answered finds answer options before after (Err p))
+    ⊎ (((problem_status p ≡ 10) × finds None × IsUntouched before after) ⊎ Answered finds command options before after (Err p))
 
 -- the exit status has its cause, where the text goes to standard output; a folder is checked file by file
 abbrev pub OfPath : (Option (List ℕ) → Type 0) → Request → XlsOptions → SinkState → SinkState → Result ℕ Stop → Type 0
 OfPath finds request options before after result =
     request.out ≡ None → (request.command ≡ Check → finds None → ⊥)
-    → HasCause finds (answer_of request.command) options before after (status_of_work result)
+    → HasCause finds request.command options before after (status_of_work result)

@@ -14,6 +14,7 @@ use Rattle.xls_words.specs.declared.request.Command.TheVariants as commands
 use Rattle.xls_words.specs.declared.request.SheetChoice.TheVariants.{All}
 use Rattle.xls_words.specs.declared.request.Style.{Style}
 use Rattle.xls_words.specs.declared.request.Style.TheVariants as styles
+use Rattle.xls_tool.specs.Beside.{OfBeside}
 use Rattle.xls_tool.specs.Problems.{status_of_file}
 use Rattle.xls_tool.specs.declared.problem.Problem.{Problem}
 use Rattle.xls_tool.specs.declared.problem.Problem.TheVariants as problems
@@ -51,18 +52,14 @@ OfAnswer answer options file before after (Ok x) = OfFile answer options file be
 OfAnswer answer options file before after (Err (problems.Failure f)) = OfFile answer options file before after (Err f)
 OfAnswer answer options file before after (Err other) = ⊥
 
--- a problem of a file's bytes, and not of its path
-abbrev pub IsOfBytes : Problem → Type 0
-IsOfBytes (problems.Failure f) = Unit {0}
-IsOfBytes (problems.Absent a) = Unit {0}
-IsOfBytes (problems.Project f) = Unit {0}
-IsOfBytes other = ⊥
+-- likewise, or what is written of what stands beside the workbook
+abbrev pub OfGiven : Option Answer → Command → XlsOptions → List ℕ → SinkState → SinkState → Result (Unit {0}) Problem → Type 0
+OfGiven (Some answer) command options file before after result = OfAnswer answer options file before after result
+OfGiven None command options file before after result = OfBeside command file before after result
 
--- likewise, where the command writes of the workbook; of what stands beside it, no text is stated
-abbrev pub OfText : Option Answer → XlsOptions → List ℕ → SinkState → SinkState → Result (Unit {0}) Problem → Type 0
-OfText None options file before after (Ok x) = Unit {0}
-OfText None options file before after (Err p) = IsOfBytes p
-OfText (Some answer) options file before after result = OfAnswer answer options file before after result
+-- what a command writes of a file
+abbrev pub OfText : Command → XlsOptions → List ℕ → SinkState → SinkState → Result (Unit {0}) Problem → Type 0
+OfText command = OfGiven (answer_of command) command
 
 -- ---- texts as xls_dump has them
 
@@ -87,20 +84,20 @@ is_exact commands.Streams = false
 -- ---- of one path
 
 -- bytes that may be found there were answered, with this result
-abbrev pub Answered : (Option (List ℕ) → Type 0) → Option Answer → XlsOptions → SinkState → SinkState → Result (Unit {0}) Problem → Type 0
-Answered finds answer options before after result =
-    (file : List ℕ) × finds (Some file) × OfText answer options file before after result
+abbrev pub Answered : (Option (List ℕ) → Type 0) → Command → XlsOptions → SinkState → SinkState → Result (Unit {0}) Problem → Type 0
+Answered finds command options before after result =
+    (file : List ℕ) × finds (Some file) × OfText command options file before after result
 
 -- the sheets that are asked for want a folder
-abbrev pub WantsFolder : Option Answer → Type 0
-WantsFolder (Some (answers.Sheet table)) = table.choice ≡ All
+abbrev pub WantsFolder : Command → Type 0
+WantsFolder (commands.Csv table) = table.choice ≡ All
 WantsFolder other = ⊥
 
 -- each exit status of a path has its cause, and only that of memory is free: 2 and 10 come where nothing is written, since
 -- no file may be found there (or, 2, all sheets are asked for); each other status is that of the answer to what is found
-abbrev pub HasCause : (Option (List ℕ) → Type 0) → Option Answer → XlsOptions → SinkState → SinkState → ℕ → Type 0
-HasCause finds answer options before after n =
+abbrev pub HasCause : (Option (List ℕ) → Type 0) → Command → XlsOptions → SinkState → SinkState → ℕ → Type 0
+HasCause finds command options before after n =
     (n ≡ 5)
-    ⊎ (((n ≡ 2) × (finds None ⊎ WantsFolder answer) × IsUntouched before after)
+    ⊎ (((n ≡ 2) × (finds None ⊎ WantsFolder command) × IsUntouched before after)
     ⊎ (((n ≡ 10) × finds None × IsUntouched before after)
-    ⊎ ((result : Result (Unit {0}) Problem) × Answered finds answer options before after result × (n ≡ status_of_file result))))
+    ⊎ ((result : Result (Unit {0}) Problem) × Answered finds command options before after result × (n ≡ status_of_file result))))

@@ -3,7 +3,7 @@
 ghost use Rattle.std.specs.Prelude.{◌≡◌, IfOk, None};
 ghost use Rattle.xls_tool.specs.Problems.{IsStatus};
 ghost use Rattle.xls_tool.specs.Steps.{EndsPath};
-ghost use Rattle.xls_tool.specs.Texts.{answer_of};
+ghost use Rattle.xls_tool.specs.Texts.{OfText};
 ghost use Rattle.xls_words.specs.Requests as requests;
 
 use crate::file::{ReadFile, read};
@@ -31,7 +31,25 @@ impl Sink for Nowhere {
     }
 }
 
-/// Does the work of a file: its text goes to the sink, or into files below the folder, if there is one.
+/// Writes the text of a file to the sink, or into files below the folder, if there is one.
+fn write<H: Host, K: Sink>(
+    alloc: Global,
+    host: &mut H,
+    sink: &mut K,
+    job: &Job<'_>,
+    file: &ReadFile<'_>,
+) -> Result<(), Problem>
+    requires { requests.CommandHasNumber job.now.request.command }
+    ensures { job.now.request.out ≡ None → OfText job.now.request.command job.now.options file.now.bytes.now
+        (K.state sink.old) (K.state sink.new) result }
+{
+    match job.request.out {
+        Some(out) => write_files(alloc, host, job, out, file),
+        None => write_text(alloc, sink, job, file.bytes),
+    }
+}
+
+/// Does the work of a file: reads it, writes its text, and tells of its formats.
 pub(crate) fn do_file<H: Host, K: Sink>(
     alloc: Global,
     host: &mut H,
@@ -41,17 +59,14 @@ pub(crate) fn do_file<H: Host, K: Sink>(
 ) -> Result<(), Problem>
     requires { requests.CommandHasNumber job.now.request.command }
     ensures { job.now.request.out ≡ None → EndsPath (H.reads host.old path.now)
-        (answer_of job.now.request.command) job.now.options (K.state sink.old) (K.state sink.new) result }
+        job.now.request.command job.now.options (K.state sink.old) (K.state sink.new) result }
 {
     let bytes = read(host, path)?;
     let file = ReadFile {
         path,
         bytes: bytes.as_slice(),
     };
-    match job.request.out {
-        Some(out) => write_files(alloc, host, job, out, &file)?,
-        None => write_text(alloc, sink, job, file.bytes)?,
-    }
+    write(alloc, host, sink, job, &file)?;
     tell_formats(alloc, host, job, &file)?;
     Ok(())
 }

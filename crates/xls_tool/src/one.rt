@@ -5,7 +5,7 @@ ghost use Rattle.xls_files.specs.declared.host.Place.TheVariants.{File};
 ghost use Rattle.xls_files.specs.declared.host.Reason.TheVariants.{Memory};
 ghost use Rattle.xls_tool.specs.Problems.{IsStatus, problem_status, status_of_work};
 ghost use Rattle.xls_tool.specs.Steps.{EndsPath};
-ghost use Rattle.xls_tool.specs.Texts.{HasCause, answer_of};
+ghost use Rattle.xls_tool.specs.Texts.{HasCause};
 ghost use Rattle.xls_words.specs.Requests as requests;
 
 use crate::job::Job;
@@ -36,7 +36,7 @@ fn do_placed<H: Host, K: Sink>(
     requires place { IfOk placed.place (λ place. place ≢ File → H.reads host.old placed.path.now None) }
     requires reason { IfErr placed.place (λ reason. reason ≢ Memory → H.reads host.old placed.path.now None) }
     ensures { job.now.request.out ≡ None → EndsPath (H.reads host.old placed.entry.path.now)
-        (answer_of job.now.request.command) job.now.options (K.state out.old) (K.state out.new) result }
+        job.now.request.command job.now.options (K.state out.old) (K.state out.new) result }
 {
     match placed.place {
         Ok(Place::File) => do_file(alloc, host, out, job, placed.path),
@@ -77,7 +77,7 @@ pub(crate) fn do_one<H: Host, K: Sink>(
     requires reason { IfErr placed.place (λ reason. reason ≢ Memory → H.reads host.old placed.path.now None) }
     ensures status { IfOk result IsStatus }
     ensures cause { job.now.request.out ≡ None → HasCause (H.reads host.old placed.entry.path.now)
-        (answer_of job.now.request.command) job.now.options (K.state out.old) (K.state out.new) (status_of_work result) }
+        job.now.request.command job.now.options (K.state out.old) (K.state out.new) (status_of_work result) }
 {
     let path = placed.path;
     match do_placed(alloc, host, out, job, placed) {

@@ -6,7 +6,7 @@ ghost use Rattle.xls_answers.specs.Views.{options_under};
 ghost use Rattle.xls_lines.specs.declared.stop.Stop.TheVariants.{Memory};
 ghost use Rattle.xls_tool.specs.Problems.{Ends, IsStatus, status_of_work};
 ghost use Rattle.xls_tool.specs.Steps.{OfPath};
-ghost use Rattle.xls_tool.specs.Texts.{HasCause, WantsFolder, answer_of, is_exact};
+ghost use Rattle.xls_tool.specs.Texts.{HasCause, WantsFolder, is_exact};
 ghost use Rattle.xls_words.specs.Requests as requests;
 ghost use Rattle.xls_words.specs.Requests.{AreNamed, AreWordsOf, are_plain, plain_command};
 ghost use Rattle.xls_words.specs.declared.displayed.Displayed.TheVariants as displays;
@@ -25,7 +25,7 @@ use xls_words::{Command, Displayed, Files, Request, SheetChoice, request_of};
 /// Where there is no folder for the texts, what is wrong with that.
 fn mistake_in(job: &Job<'_>, is_many: bool) -> Option<&'static str>
     ensures none { result ≡ None → is_many ≡ true → job.now.request.out ≡ None → job.now.request.command ≡ commands.Check }
-    ensures some { IfSome result (λ _. (is_many ≡ true) ⊎ WantsFolder (answer_of job.now.request.command)) }
+    ensures some { IfSome result (λ _. (is_many ≡ true) ⊎ WantsFolder job.now.request.command) }
 {
     match (&job.request.out, &job.request.command) {
         (Some(_), _) | (None, Command::Check) => None,
@@ -160,7 +160,7 @@ fn do_words<H: Host, K: Sink>(
     ensures ends { IfOk result (Ends out.old out.new) }
     ensures cause { (word : Word) (path : List ℕ) → AreWordsOf word (path ∷ []) (map string_bytes words.now)
         → are_plain word (path ∷ []) ≡ true → (word ≡ names.Check → H.reads host.old path None → ⊥)
-        → HasCause (H.reads host.old path) (answer_of (plain_command word)) (options_under None false)
+        → HasCause (H.reads host.old path) (plain_command word) (options_under None false)
         (K.state out.old) (K.state out.new) (status_of_work result) }
 {
     match request_of(alloc, words) {
@@ -195,11 +195,10 @@ pub fn run<H: Host, K: Sink>(alloc: Global, host: &mut H, out: &mut K, words: &[
 
     // Each status of a command without options over one path has its cause in what the host may find there: 0 comes
     // only where the whole answer to bytes of that path is written, 1 and most others only where the answer to them is
-    // a failure that has this status. A path where `check` may find no file is left out: a folder is many files. Of
-    // `props`, `vba` and `streams` no text is stated.
+    // a failure that has this status. A path where `check` may find no file is left out: a folder is many files.
     ensures cause { (word : Word) (path : List ℕ) → AreWordsOf word (path ∷ []) (map string_bytes words.now)
         → are_plain word (path ∷ []) ≡ true → (word ≡ names.Check → H.reads host.old path None → ⊥)
-        → HasCause (H.reads host.old path) (answer_of (plain_command word)) (options_under None false)
+        → HasCause (H.reads host.old path) (plain_command word) (options_under None false)
         (K.state out.old) (K.state out.new) result }
 {
     let done = do_words(alloc, host, out, words);

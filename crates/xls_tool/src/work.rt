@@ -1,59 +1,33 @@
 //! What is written of one file.
 
-ghost use Rattle.std.specs.Prelude.{IfErr};
+ghost use Rattle.std.specs.Prelude.{◌≡◌, ◌⊎◌, Some, None, IfOk, IfErr};
+ghost use Rattle.xls_directory.specs.Items.{Item};
+ghost use Rattle.xls_compound.specs.Entries.{IsItem};
+ghost use Rattle.xls_container.specs.Files.{compound_in};
+ghost use Rattle.xls_lines.specs.declared.stop.Stop.TheVariants.{Memory};
+ghost use Rattle.xls_answers.specs.declared.failure.Failure.TheVariants.{Stopped};
 ghost use Rattle.xls_words.specs.Requests as requests;
-ghost use Rattle.xls_tool.specs.Texts.{IsOfBytes, OfText, answer_of};
+ghost use Rattle.xls_tool.specs.Beside.{IsStreamAt, OfContainer, OfProject, OfProperties, OfStreamAt, OfStreamIn, OfStreams, as_failure, as_problem};
+ghost use Rattle.xls_tool.specs.Texts.{OfText};
+ghost use Rattle.xls_tool.specs.declared.problem.Absent.TheVariants as absent;
+ghost use Rattle.xls_tool.specs.declared.problem.Problem.TheVariants as problems;
 
 use crate::job::{Job, answer_of};
 use crate::problem::{Absent, Problem};
 use std::alloc::Global;
-use xls_answers::write_file;
+use xls_answers::{Answer, write_file, write_stream};
 use xls_compound::{Compound, Entry};
 use xls_container::{Container, FileFault};
 use xls_documents::{project_of, properties_of, write_project, write_properties, write_streams};
 use xls_files::names_of;
-use xls_lines::{Sink, Stop, write_all};
+use xls_lines::{Sink, Stop};
+use xls_open::XlsOptions;
 use xls_readable::Form;
 use xls_words::Command;
 
-/// The stream of a path.
-fn stream_at<'c>(
-    alloc: Global,
-    compound: &'c Compound<'_>,
-    path: &str,
-) -> Result<Entry<'c>, Problem>
-    ensures { IfErr result IsOfBytes }
-{
-    let names = names_of(alloc, path)?;
-    match compound.find(names.as_slice()) {
-        Some(entry) if entry.is_stream() => Ok(entry),
-        _ => Err(Problem::Absent(Absent::Stream)),
-    }
-}
-
-/// Writes the bytes of the stream of a path.
-fn write_stream_at<K: Sink>(
-    alloc: Global,
-    sink: &mut K,
-    compound: &Compound<'_>,
-    path: &str,
-) -> Result<(), Problem>
-    ensures { IfErr result IsOfBytes }
-{
-    let entry = stream_at(alloc, compound, path)?;
-    let bytes = match compound.stream(alloc, &entry) {
-        Ok(bytes) => bytes,
-        Err(error) => return Err(Problem::from(FileFault::from(error))),
-    };
-    match write_all(sink, bytes.as_slice()) {
-        Ok(()) => Ok(()),
-        Err(fault) => Err(Problem::from(Stop::from(fault))),
-    }
-}
-
 /// How writing went, as the work of a file tells it.
 fn written(done: Result<(), Stop>) -> Result<(), Problem>
-    ensures { IfErr result IsOfBytes }
+    ensures { result ≡ as_problem (as_failure done) }
 {
     Ok(done?)
 }
@@ -64,7 +38,7 @@ fn write_properties_of<K: Sink>(
     sink: &mut K,
     container: &Container<'_>,
 ) -> Result<(), Problem>
-    ensures { IfErr result IsOfBytes }
+    ensures { OfProperties container.now (K.state sink.old) (K.state sink.new) result }
 {
     match properties_of(alloc, container)? {
         Some(properties) => written(write_properties(alloc, sink, Form::Text, &properties)),
@@ -78,7 +52,7 @@ fn write_project_of<K: Sink>(
     sink: &mut K,
     container: &Container<'_>,
 ) -> Result<(), Problem>
-    ensures { IfErr result IsOfBytes }
+    ensures { OfProject container.now (K.state sink.old) (K.state sink.new) result }
 {
     match project_of(alloc, container)? {
         Some(project) => written(write_project(alloc, sink, Form::Text, &project)),
@@ -88,7 +62,8 @@ fn write_project_of<K: Sink>(
 
 /// The compound file that a file is.
 fn compound_in<'c, 'a>(container: &'c Container<'a>) -> Result<&'c Compound<'a>, Problem>
-    ensures { IfErr result IsOfBytes }
+    ensures ok { IfOk result (λ compound. compound_in container.now ≡ Some compound.now) }
+    ensures err { IfErr result (λ p. (p ≡ problems.Absent absent.Compound) × (compound_in container.now ≡ None)) }
 {
     match container.compound() {
         Some(compound) => Ok(compound),
@@ -96,22 +71,86 @@ fn compound_in<'c, 'a>(container: &'c Container<'a>) -> Result<&'c Compound<'a>,
     }
 }
 
+/// Writes a line for each stream of a compound file.
+fn write_streams_of<K: Sink>(
+    alloc: Global,
+    sink: &mut K,
+    container: &Container<'_>,
+) -> Result<(), Problem>
+    ensures { OfStreams container.now (K.state sink.old) (K.state sink.new) result }
+{
+    let compound = compound_in(container)?;
+    written(write_streams(alloc, sink, Form::Text, compound))
+}
+
+/// The stream of a path.
+fn stream_at<'c>(
+    alloc: Global,
+    compound: &'c Compound<'_>,
+    path: &str,
+) -> Result<Entry<'c>, Problem>
+    ensures ok { IfOk result (λ entry. (item : Item) × IsStreamAt compound.now path.now item × IsItem entry item) }
+    ensures err { IfErr result (λ p. ((p ≡ problems.Absent absent.Stream) × ((item : Item) → IsStreamAt compound.now path.now item → ⊥))
+        ⊎ (p ≡ problems.Failure (Stopped Memory))) }
+{
+    let names = names_of(alloc, path)?;
+    match compound.find(names.as_slice()) {
+        Some(entry) if entry.is_stream() => Ok(entry),
+        _ => Err(Problem::Absent(Absent::Stream)),
+    }
+}
+
+/// Writes the bytes of the stream of a path.
+fn write_stream_in<K: Sink>(
+    alloc: Global,
+    sink: &mut K,
+    options: &XlsOptions,
+    compound: &Compound<'_>,
+    path: &str,
+) -> Result<(), Problem>
+    ensures { OfStreamIn path.now compound.now (K.state sink.old) (K.state sink.new) result }
+{
+    let entry = stream_at(alloc, compound, path)?;
+    let bytes = match compound.stream(alloc, &entry) {
+        Ok(bytes) => bytes,
+        Err(error) => return Err(Problem::from(FileFault::from(error))),
+    };
+    match write_stream(alloc, sink, &Answer::Bytes, options, bytes.as_slice()) {
+        Ok(()) => Ok(()),
+        Err(failure) => Err(Problem::from(failure)),
+    }
+}
+
+/// Writes the bytes of the stream of a path in a compound file.
+fn write_stream_at<K: Sink>(
+    alloc: Global,
+    sink: &mut K,
+    options: &XlsOptions,
+    container: &Container<'_>,
+    path: &str,
+) -> Result<(), Problem>
+    ensures { OfStreamAt path.now container.now (K.state sink.old) (K.state sink.new) result }
+{
+    let compound = compound_in(container)?;
+    write_stream_in(alloc, sink, options, compound, path)
+}
+
 /// Writes what stands beside the workbook in a file.
 fn write_beside<K: Sink>(
     alloc: Global,
     sink: &mut K,
-    command: &Command<'_>,
+    job: &Job<'_>,
     container: &Container<'_>,
 ) -> Result<(), Problem>
-    ensures { IfErr result IsOfBytes }
+    ensures { OfContainer job.now.request.command container.now (K.state sink.old) (K.state sink.new) result }
 {
-    match command {
+    match &job.request.command {
         Command::Props => write_properties_of(alloc, sink, container),
         Command::Vba => write_project_of(alloc, sink, container),
         Command::Stream(Some(path)) => {
-            write_stream_at(alloc, sink, compound_in(container)?, path)
+            write_stream_at(alloc, sink, &job.options, container, path)
         }
-        _ => written(write_streams(alloc, sink, Form::Text, compound_in(container)?)),
+        _ => write_streams_of(alloc, sink, container),
     }
 }
 
@@ -123,12 +162,11 @@ pub(crate) fn write_text<K: Sink>(
     file: &[u8],
 ) -> Result<(), Problem>
     requires { requests.CommandHasNumber job.now.request.command }
-    ensures { OfText (answer_of job.now.request.command) job.now.options file.now
-        (K.state sink.old) (K.state sink.new) result }
+    ensures { OfText job.now.request.command job.now.options file.now (K.state sink.old) (K.state sink.new) result }
 {
     if let Some(answer) = answer_of(&job.request.command) {
         return Ok(write_file(alloc, sink, &answer, &job.options, file)?);
     }
     let container = Container::open(alloc, file)?;
-    write_beside(alloc, sink, &job.request.command, &container)
+    write_beside(alloc, sink, job, &container)
 }
