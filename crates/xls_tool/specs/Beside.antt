@@ -101,7 +101,7 @@ OfStreamAt path container before after result =
     ((compound : Compound) × (compound_in container ≡ Some compound) × OfStreamIn path compound before after result)
     ⊎ ((compound_in container ≡ None) × IsRefused (problems.Absent absent.Compound) before after result)
 
--- by the command; each other one writes of the workbook
+-- by the command: `props`, `vba`, `stream` with a path, `streams`; the others write of the workbook
 abbrev pub OfContainer : Command → Container → SinkState → SinkState → Result (Unit {0}) Problem → Type 0
 OfContainer commands.Props = OfProperties
 OfContainer commands.Vba = OfProject

@@ -1,4 +1,4 @@
--- What is written of a file whose workbook is asked for.
+-- What is written of a file, and which cause an exit status has.
 use Rattle.std.specs.Prelude.{◌≡◌, ◌⊎◌, ℕ, Bool, true, false, List, Option, None, Some, Result, Ok, Err}
 use Rattle.xls_answers.specs.Answers.{OfFile}
 use Rattle.xls_answers.specs.declared.answer.Answer.{Answer}

@@ -14,7 +14,7 @@ fn writes_values(command: &Command<'_>) -> bool {
     matches!(command, Command::Dump(_) | Command::Csv(_))
 }
 
-/// What a file gives, or None where that has a fault, which is told with its text; out of memory is no fault.
+/// What a file gives, or None where it has a fault, which was told in place of its text. Out of memory is passed on.
 fn unless_faulty<T>(given: Result<T, FileFault>) -> Result<Option<T>, AllocError> {
     match given {
         Ok(given) => Ok(Some(given)),
