@@ -1,5 +1,5 @@
 -- What users are told of a file's problem, as docs/xls.md has it, so that a wrong text in the definitions does not check.
-use Rattle.std.proofs.Common.{◌≡◌, ℕ, Bool, true, [], ◌∷◌, Ok, Err, map, refl, codes}
+use Rattle.std.proofs.Common.{◌≡◌, ℕ, Bool, true, false, [], ◌∷◌, Ok, Err, map, refl, codes}
 use Rattle.xls_documents.specs.declared.fault.ProjectFault.{ProjectFault}
 use Rattle.xls_files.specs.declared.host.Reason.TheVariants as reasons
 use Rattle.xls_lines.specs.declared.stop.Stop.TheVariants as stop
@@ -11,7 +11,7 @@ use Rattle.xls_tool.specs.declared.problem.Absent.TheVariants.{Properties, Proje
 use Rattle.xls_tool.specs.declared.problem.Problem.TheVariants as problems
 use Rattle.xls_words.specs.declared.request.Command.TheVariants as commands
 use Rattle.xls_words.specs.declared.request.SheetChoice.{SheetChoice}
-use Rattle.xls_words.specs.declared.request.Style.TheVariants.{Exact}
+use Rattle.xls_words.specs.declared.request.Style.TheVariants.{Readable, Json, Exact}
 
 pub known_absences : map absent_text (Properties ∷ Project ∷ Stream ∷ Compound ∷ [])
     ≡ codes "it has no property streams" ∷ codes "it has no macro project (no stream VBA/dir)" ∷ codes "it has no such stream"
@@ -44,3 +44,10 @@ pub known_exact : (s : SheetChoice) (d : ℕ) (m : Bool) → map is_exact
     ∷ commands.Csv (record { choice = s; delimiter = d; begins_with_mark = m; style = Exact }) ∷ [])
     ≡ true ∷ true ∷ true ∷ true ∷ true ∷ []
 known_exact s d m = refl
+
+pub known_readable : (s : SheetChoice) (d : ℕ) (m : Bool) (path : _) → map is_exact
+    (commands.Dump Json ∷ commands.Sheets Json ∷ commands.Formulas Json ∷ commands.Refs Json
+    ∷ commands.Csv (record { choice = s; delimiter = d; begins_with_mark = m; style = Readable })
+    ∷ commands.Check ∷ commands.Props ∷ commands.Vba ∷ commands.Remake ∷ commands.Stream path ∷ commands.Streams ∷ [])
+    ≡ false ∷ false ∷ false ∷ false ∷ false ∷ false ∷ false ∷ false ∷ false ∷ false ∷ false ∷ []
+known_readable s d m path = refl
