@@ -3,7 +3,7 @@
 
     for kind in leaves right left parens spaces sums calls strings; do
         python3 bench/formula_tokens.py $kind > /tmp/$kind.tokens
-        bench/run /tmp/$kind.tokens crates/example_formula/out/example_formula
+        bench/run /tmp/$kind.tokens crates/example_calls/out/example_calls formula
     done
 """
 import struct

@@ -2,7 +2,7 @@
 """Writes a stream whose string table has so many strings, cut into bodies of so many bytes.
 
     python3 bench/string_stream.py 200000 8224 > /tmp/strings.xls-stream
-    bench/run /tmp/strings.xls-stream crates/example_strings/out/example_strings
+    bench/run /tmp/strings.xls-stream crates/example_calls/out/example_calls strings
 """
 import struct
 import sys

@@ -1,6 +1,8 @@
-//! Tests of workbooks, their CSV and their canonical streams.
+//! Tests of workbooks, their CSV, their arrays and their canonical streams.
 #![tactic(auto)]
 
+#[cfg(test)]
+mod arrays;
 #[cfg(test)]
 mod book;
 #[cfg(test)]

@@ -1,4 +1,4 @@
-//! Tests of values and properties.
+//! Tests of values, ranges, rows and properties.
 #![tactic(auto)]
 
 #[cfg(test)]
@@ -11,6 +11,12 @@ mod decimals;
 mod ovba;
 #[cfg(test)]
 mod props;
+#[cfg(test)]
+mod range;
+#[cfg(test)]
+mod readable;
+#[cfg(test)]
+mod rows;
 #[cfg(test)]
 mod text;
 #[cfg(test)]

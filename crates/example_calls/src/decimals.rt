@@ -1,4 +1,4 @@
-//! The answer to a line.
+//! Numbers as people read them.
 
 ghost use Rattle.std.specs.Prelude.{◌≡◌, OnOk, IfOk, true, false, codes};
 ghost use Rattle.std.specs.String.{string_bytes};
@@ -6,7 +6,7 @@ ghost use Rattle.xls_decimals.specs.Added.{AddsText};
 ghost use Rattle.xls_decimals.specs.Decimals.{IsDecimal};
 ghost use Rattle.xls_decimals.specs.Moments.{IsDate, IsDuration};
 
-use std::alloc::AllocError;
+use std::alloc::{AllocError, Global};
 use xls_data::Number;
 use xls_decimals::{push_date, push_decimal, push_duration};
 
@@ -35,7 +35,7 @@ fn push_number(kind: &str, number: Number, text: &mut String) -> Result<bool, Al
 /// Appends the answer to a line: `d` asks for the decimal of a double by its bits in hexadecimal,
 /// `t0` and `t4` for a date in the 1900 and the 1904 system, `u` for a duration. False for any other
 /// line.
-pub(crate) fn push_answer(line: &str, text: &mut String) -> Result<bool, AllocError> {
+fn push_answer(line: &str, text: &mut String) -> Result<bool, AllocError> {
     let Some((kind, digits)) = line.split_once(' ') else {
         return Ok(false);
     };
@@ -43,4 +43,16 @@ pub(crate) fn push_answer(line: &str, text: &mut String) -> Result<bool, AllocEr
         Ok(bits) => push_number(kind, Number::Bits(bits), text),
         Err(_) => Ok(false),
     }
+}
+
+/// The answer to each line of a text. `None` where a line has no answer.
+pub(crate) fn answers(alloc: Global, text: &str) -> Result<Option<String>, AllocError> {
+    let mut all = String::new(alloc);
+    for line in text.lines() {
+        if !push_answer(line, &mut all)? {
+            return Ok(None);
+        }
+        all.push('\n')?;
+    }
+    Ok(Some(all))
 }

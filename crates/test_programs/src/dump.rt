@@ -1,4 +1,4 @@
-use crate::runs::ledger::{LEDGER, LEDGER_CSV, LEDGER_REFS, LEDGER_SHEETS};
+use crate::dump::ledger::{LEDGER, LEDGER_CSV, LEDGER_REFS, LEDGER_SHEETS};
 use std::alloc::{AllocError, Global};
 use std::env::{Env, FillError};
 use std::io::{self, ErrorKind, Write};

@@ -1,6 +1,8 @@
-//! Tests of the work of the program `xls`.
+//! Tests of the work of both programs.
 #![tactic(auto)]
 
+#[cfg(test)]
+mod dump;
 #[cfg(test)]
 mod files;
 #[cfg(test)]

@@ -2,7 +2,7 @@
 use Rattle.std.proofs.Common.{◌≢◌, ℕ, List, [], ◌∷◌, ◌++◌}
 use Rattle.xls_stream.specs.Stream.{Group, Begins, Run}
 use Rattle.xls_stream.proofs.Runs.{Run-push}
-use Rattle.example_strings.specs.Counts.{NoTable}
+use Rattle.example_calls.specs.Counts.{NoTable}
 
 -- records without a table were passed
 abbrev pub Passed : List ℕ → List ℕ → Type 0

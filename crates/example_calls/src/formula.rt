@@ -1,5 +1,4 @@
-//! Prints the text of a formula on standard input.
-#![tactic(auto)]
+//! The text of a formula.
 
 ghost use Rattle.std.specs.Prelude.{[]};
 ghost use Rattle.xls_text.specs.declared.encoding.XlsEncoding.TheVariants.{Utf16};
@@ -10,14 +9,12 @@ ghost use Rattle.xls_formula.specs.Fold.{formula_text};
 ghost use Rattle.xls_formula.specs.Functions.{shipped};
 
 use std::alloc::Global;
-use std::io::Read;
-use std::process::ExitCode;
 use xls_biff::{Biff, Refs, Strings, XlsError};
 use xls_formula::{FunctionTable, Names, parse_formula};
 use xls_text::XlsEncoding;
 
 /// The text of a formula of BIFF8 that may name the shipped functions, and neither sheets nor names.
-fn spelled(alloc: Global, rgce: &[u8]) -> Result<String, XlsError>
+pub(crate) fn spelled(alloc: Global, rgce: &[u8]) -> Result<String, XlsError>
     ensures { Gives text_of result (formula_text (record {
       sheets = [];
       names = [];
@@ -37,20 +34,4 @@ fn spelled(alloc: Global, rgce: &[u8]) -> Result<String, XlsError>
         Biff::Biff8,
         &FunctionTable::shipped(alloc)?,
     )
-}
-
-fn main(rt: HostRuntime) -> ExitCode {
-    let alloc = rt.alloc();
-    let mut rgce = Vec::new(alloc);
-    if rt.stdin().read_to_end(&mut rgce).is_err() {
-        return ExitCode::from(3);
-    }
-    let (written, status) = match spelled(alloc, &rgce) {
-        Ok(text) => (println!(rt; "{text}"), ExitCode::SUCCESS),
-        Err(error) => (println!(rt; "{error}"), ExitCode::from(1)),
-    };
-    match written {
-        Ok(()) => status,
-        Err(_) => ExitCode::from(4),
-    }
 }

@@ -1,5 +1,5 @@
-use Rattle.example_strings.proofs.CountLemmas.{Passed}
-use Rattle.example_strings.proofs.count_strings.Given as goal
+use Rattle.example_calls.proofs.CountLemmas.{Passed}
+use Rattle.example_calls.proofs.strings.count_strings.Given as goal
 
 -- no table stands in the records so far
 abbrev pub invariant-loop-record : goal.invariant-loop-record

@@ -1,6 +1,6 @@
 use Rattle.xls_biff.specs.Walking.{group_of}
-use Rattle.example_strings.proofs.CountLemmas.{passed-one}
-use Rattle.example_strings.proofs.count_strings.Goals as goal
+use Rattle.example_calls.proofs.CountLemmas.{passed-one}
+use Rattle.example_calls.proofs.strings.count_strings.Goals as goal
 
 pub loop-record-preserved : goal.loop-record-preserved
 loop-record-preserved c =

@@ -1,5 +1,0 @@
-//! Tests of the commands of the program.
-#![tactic(auto)]
-
-#[cfg(test)]
-mod runs;

@@ -1,7 +1,0 @@
-//! Tests of ranges and rows.
-#![tactic(auto)]
-
-#[cfg(test)]
-mod range;
-#[cfg(test)]
-mod rows;
