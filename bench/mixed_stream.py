@@ -7,14 +7,16 @@
 With `open` after it the stream lists a second sheet whose part is missing. The first sheet is then
 read whole before that fault is answered, so the time is that of opening alone.
 """
+import os
 import struct
 import sys
 
+sys.path.insert(0, os.path.join(os.path.dirname(os.path.realpath(__file__)), "..", "tools"))
+sys.dont_write_bytecode = True
+
+from biff import record  # noqa: E402
+
 ROWS, STRINGS = 65_536, 1_000
-
-
-def record(typ, body=b""):
-    return struct.pack("<HH", typ, len(body)) + body
 
 
 def cell(typ, row, column, xf, body):

@@ -4,14 +4,16 @@
     python3 bench/number_stream.py > /tmp/numbers.xls-stream
     bench/run /tmp/numbers.xls-stream
 """
+import os
 import struct
 import sys
 
+sys.path.insert(0, os.path.join(os.path.dirname(os.path.realpath(__file__)), "..", "tools"))
+sys.dont_write_bytecode = True
+
+from biff import record  # noqa: E402
+
 ROWS, COLUMNS = 65_536, 4
-
-
-def record(typ, body):
-    return struct.pack("<HH", typ, len(body)) + body
 
 
 def main():

@@ -4,14 +4,16 @@
     python3 bench/refs_stream.py 100 > /tmp/refs.xls-stream
     bench/run /tmp/refs.xls-stream crates/xls_dump/out/xls_dump refs
 """
+import os
 import struct
 import sys
 
+sys.path.insert(0, os.path.join(os.path.dirname(os.path.realpath(__file__)), "..", "tools"))
+sys.dont_write_bytecode = True
+
+from biff import record  # noqa: E402
+
 CELLS = 13_000
-
-
-def record(typ, body):
-    return struct.pack("<HH", typ, len(body)) + body
 
 
 def tokens():

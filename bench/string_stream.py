@@ -4,12 +4,14 @@
     python3 bench/string_stream.py 200000 8224 > /tmp/strings.xls-stream
     bench/run /tmp/strings.xls-stream crates/example_calls/out/example_calls strings
 """
+import os
 import struct
 import sys
 
+sys.path.insert(0, os.path.join(os.path.dirname(os.path.realpath(__file__)), "..", "tools"))
+sys.dont_write_bytecode = True
 
-def record(typ, body):
-    return struct.pack("<HH", typ, len(body)) + body
+from biff import record  # noqa: E402
 
 
 def bodies(strings, room):

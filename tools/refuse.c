@@ -1,5 +1,5 @@
 /* Preloaded into a program, refuses its request for memory of the number REFUSE. With COUNT it says on standard error, at the
-   end, how many requests there were. Built and used by bench/refused_memory. */
+   end, how many requests there were. Built and used by tools/refused_memory. */
 #include <errno.h>
 #include <stddef.h>
 #include <stdio.h>
