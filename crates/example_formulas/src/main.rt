@@ -13,7 +13,7 @@ use anyhow::anyhow;
 use std::alloc::{AllocError, Global};
 use std::io::Read;
 use xls_book::{SteadySource, Xls, XlsOptions};
-use xls_functions::push_functions;
+use xls_formula::push_functions;
 
 /// The options by default, with the names of all functions.
 fn options(alloc: Global) -> Result<XlsOptions, AllocError>

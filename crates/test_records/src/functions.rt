@@ -1,8 +1,7 @@
 //! Known functions by their indexes, [MS-XLS] Ftab 2.5.198.17.
 
 use std::test::Fail;
-use xls_formula::FunctionTable;
-use xls_functions::push_functions;
+use xls_formula::{FunctionTable, push_functions};
 
 // The first and the last, and some between.
 static KNOWN: [(usize, &str, u8); 7] = [

@@ -2,7 +2,7 @@
 
 use std::alloc::{AllocError, Global};
 use std::test::Fail;
-use xls_ovba::*;
+use xls_vba::*;
 use xls_text::XlsEncoding;
 
 // Containers, and what they say or why they are refused. The first three are those of the standard.

@@ -1,6 +1,6 @@
 -- What is written of a workbook that is looked at.
 use Rattle.std.specs.Prelude.{◌≡◌, ◌⊎◌, ℕ, Bool, true, false, Option, List, [], ◌++◌, take, Result, Ok, Err}
-use Rattle.xls_functions.specs.Table.{from_index_72}
+use Rattle.xls_formula.specs.Table.{from_index_72}
 use Rattle.xls_formula.specs.Functions.{shipped}
 use Rattle.xls_open.specs.Opening.{default_options}
 use Rattle.xls_open.specs.declared.options.XlsOptions.{XlsOptions}

@@ -4,7 +4,7 @@ ghost use Rattle.std.specs.Prelude.{◌≡◌, IfOk};
 ghost use Rattle.xls_answers.specs.Views.{options_under};
 
 use std::alloc::{AllocError, Global};
-use xls_functions::push_functions;
+use xls_formula::push_functions;
 use xls_open::XlsOptions;
 
 /// The options by default with a forced page, and with the names of all functions unless texts are to be as

@@ -1,7 +1,7 @@
 -- How a stream is read.
 use Rattle.std.specs.Prelude.{ℕ, ◌==◌, ◌++◌, if◌then◌else◌, Option, Some, None}
 use Rattle.xls_formula.specs.Functions.{shipped}
-use Rattle.xls_functions.specs.Table.{from_index_72}
+use Rattle.xls_formula.specs.Table.{from_index_72}
 use Rattle.xls_open.specs.Opening.{default_options}
 use Rattle.xls_open.specs.declared.options.XlsOptions.{XlsOptions}
 use Rattle.xls_arrays.specs.declared.options.Options.{Options}

@@ -4,7 +4,7 @@ ghost use Rattle.std.specs.Prelude.{◌≡◌, ◌==◌, IfOk, if◌then◌else�
 ghost use Rattle.xls_arrays.specs.Options.{limit_or, options_by, forced_page_of};
 
 use std::alloc::{AllocError, Global};
-use xls_functions::push_functions;
+use xls_formula::push_functions;
 use xls_open::XlsOptions;
 
 /// How a stream is read. All zero is: every sheet, the limits by default, the page that the stream names,

@@ -1,7 +1,7 @@
 -- The entries from a place on.
 use Rattle.std.proofs.Common.{◌≡◌, ℕ, ◌+◌, ◌-◌, ◌<◌, ◌≤◌, suc, [], ◌∷◌, length, map, ap, arith}
 use Rattle.std.specs.List.{range_with_len}
-use Rattle.xls_directory.specs.Directory.{Listing}
+use Rattle.xls_compound.specs.Directory.{Listing}
 use Rattle.xls_compound.specs.Entries.{entry_at, entries_from}
 
 pub entries_from_more : (listing : Listing) (place : ℕ) → place < length listing.items

@@ -12,8 +12,8 @@ use Rattle.xls_sectors.specs.Reading.{◌>>=◌}
 use Rattle.xls_sectors.specs.Chains.{Path, Stops}
 use Rattle.xls_sectors.specs.Streams.{Space, next_in, sector_at, part_of, gathered, too_short, Stream, WholeChain}
 use Rattle.xls_sectors.specs.Tables.{sectors_of}
-use Rattle.xls_directory.specs.Items.{onward}
-use Rattle.xls_directory.specs.Directory.{Listing}
+use Rattle.xls_compound.specs.Items.{onward}
+use Rattle.xls_compound.specs.Directory.{Listing}
 use Rattle.xls_compound.specs.Compound.{Compound, HoldsCompound, mini_sectors, space_of, size_of}
 use Rattle.xls_compound.specs.Layout.{IsLinked, StandsIn, LiesIn, Fills, NamedStream, IsLaid, IsLayout, IsFound}
 

@@ -5,3 +5,11 @@ pub mod LayoutLemmas
 pub mod StandardFacts
 pub mod ReadLemmas
 pub mod WholeFileFacts
+pub mod DirectoryEntryLemmas
+pub mod MetLemmas
+pub mod OneTreeLemmas
+pub mod HeldLemmas
+pub mod FindLemmas
+pub mod NameLemmas
+pub mod StepLemmas
+pub mod DirectoryFacts

@@ -5,7 +5,7 @@ use Rattle.xls_sectors.specs.declared.error.SectorFault.{SectorFault}
 use Rattle.xls_sectors.specs.Laws.{OneAnswer, StreamsHaveOneAnswer, WholeChainsHaveOneAnswer, FilesHaveOneAnswer}
 use Rattle.xls_sectors.specs.Streams.{Space}
 use Rattle.xls_sectors.specs.Tables.{Opened, OpensSectors, sectors_of}
-use Rattle.xls_directory.specs.Directory.{Listing, IsDirectory}
+use Rattle.xls_compound.specs.Directory.{Listing, IsDirectory}
 use Rattle.xls_compound.specs.Compound.{Compound, HoldsCompound, DirectoryBytes, MiniFatBytes, MiniStream, mini_sectors, is_wide}
 
 -- one value where there is one answer

@@ -4,8 +4,8 @@ use Rattle.std.specs.List.{range_with_len}
 use Rattle.xls_sectors.specs.declared.error.Table.TheVariants as tables
 use Rattle.xls_sectors.specs.declared.header.Header.{Header}
 use Rattle.xls_sectors.specs.Streams.{Space, sector_at}
-use Rattle.xls_directory.specs.Items.{Item}
-use Rattle.xls_directory.specs.Directory.{Listing}
+use Rattle.xls_compound.specs.Items.{Item}
+use Rattle.xls_compound.specs.Directory.{Listing}
 use Rattle.xls_compound.specs.Compound.{Compound, CUTOFF, MINI_SECTOR_SIZE, mini_sectors, is_wide, space_of, size_of}
 use Rattle.xls_compound.specs.Entries.{Entry, entries_from}
 

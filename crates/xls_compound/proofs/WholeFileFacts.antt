@@ -7,10 +7,10 @@ use Rattle.xls_bytes.specs.Numbers.{u32s_of}
 use Rattle.xls_sectors.specs.Header.{header_of, header_fields}
 use Rattle.xls_sectors.specs.Streams.{gathered, WholeChain}
 use Rattle.xls_sectors.specs.Tables.{Opened, OpensSectors, fat_numbers, sectors_of}
-use Rattle.xls_directory.specs.Entries.{Entry, entries_of, directory_entry_of}
-use Rattle.xls_directory.specs.Tree.{empty, node}
-use Rattle.xls_directory.specs.Items.{Item}
-use Rattle.xls_directory.specs.Directory.{Listing, IsDirectory}
+use Rattle.xls_compound.specs.DirectoryEntries.{Entry, entries_of, directory_entry_of}
+use Rattle.xls_compound.specs.Tree.{empty, node}
+use Rattle.xls_compound.specs.Items.{Item}
+use Rattle.xls_compound.specs.Directory.{Listing, IsDirectory}
 use Rattle.xls_compound.specs.Compound.{Compound, HoldsCompound, mini_sectors, ItemBytes}
 
 -- a number of 32 bits, the lowest byte first

@@ -9,8 +9,8 @@ use Rattle.xls_sectors.specs.declared.header.Header.{Header}
 use Rattle.xls_sectors.specs.Streams.{Space, next_in, IsAdjacent, Stream, WholeChain}
 use Rattle.xls_sectors.specs.Chains.{Stops}
 use Rattle.xls_sectors.specs.Tables.{Opened, OpensSectors, sectors_of}
-use Rattle.xls_directory.specs.Items.{Item}
-use Rattle.xls_directory.specs.Directory.{Listing, IsDirectory, IsDirectoryFault}
+use Rattle.xls_compound.specs.Items.{Item}
+use Rattle.xls_compound.specs.Directory.{Listing, IsDirectory, IsDirectoryFault}
 use Rattle.xls_compound.specs.declared.error.CompoundError.{CompoundError}
 use Rattle.xls_compound.specs.declared.error.CompoundError.TheVariants as errors
 

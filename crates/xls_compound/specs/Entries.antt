@@ -1,8 +1,8 @@
 -- What a compound file lists, by places in its listing.
 use Rattle.std.specs.Prelude.{◌≡◌, ℕ, ◌-◌, List, length, map, Some}
 use Rattle.std.specs.List.{range_with_len, slice_get}
-use Rattle.xls_directory.specs.Items.{Item}
-use Rattle.xls_directory.specs.Directory.{Listing}
+use Rattle.xls_compound.specs.Items.{Item}
+use Rattle.xls_compound.specs.Directory.{Listing}
 
 -- an entry: a place in a listing, and what stands there
 pub record Entry : Type 0 where

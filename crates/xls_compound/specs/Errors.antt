@@ -2,7 +2,7 @@
 use Rattle.std.specs.Prelude.{ℕ, List, ◌++◌, codes}
 use Rattle.std.specs.String.{string_bytes}
 use Rattle.xls_sectors.specs.Errors.{fault_text}
-use Rattle.xls_directory.specs.Errors as directory
+use Rattle.xls_compound.specs.DirectoryErrors as directory
 use Rattle.xls_compound.specs.declared.error.CompoundError.{CompoundError}
 use Rattle.xls_compound.specs.declared.error.CompoundError.TheVariants as errors
 

@@ -6,8 +6,8 @@ use Rattle.xls_bytes.specs.Numbers.{u32s_of}
 use Rattle.xls_sectors.specs.Header.{SPECIAL, END_OF_CHAIN}
 use Rattle.xls_sectors.specs.Streams.{Space, sector_at, chain_size}
 use Rattle.xls_sectors.specs.Tables.{Opened, OpensSectors, sectors_of}
-use Rattle.xls_directory.specs.Items.{Item, is_child, find_from}
-use Rattle.xls_directory.specs.Directory.{Listing, IsDirectory}
+use Rattle.xls_compound.specs.Items.{Item, is_child, find_from}
+use Rattle.xls_compound.specs.Directory.{Listing, IsDirectory}
 use Rattle.xls_compound.specs.Compound.{Compound, HoldsCompound, is_wide, mini_sectors, space_of, ItemBytes}
 
 -- the table leads from a number over these sectors to FFFFFFFE

@@ -2,3 +2,11 @@ pub mod Errors
 pub mod Compound
 pub mod Entries
 pub mod Layout
+pub mod DirectoryEntries
+pub mod Tree
+pub mod Names
+pub mod Items
+pub mod Directory
+pub mod DirectoryErrors
+pub mod Held
+pub mod Steps

@@ -4,9 +4,9 @@ ghost use Rattle.std.specs.Prelude.{◌≡◌, ◌<◌, ℕ, List, Ok, map, None
 ghost use Rattle.std.specs.Cow.{cow_slice_items, IsBorrowedSlice};
 ghost use Rattle.std.specs.Option.{option_map};
 ghost use Rattle.xls_bytes.specs.Numbers.{u32s_of};
-ghost use Rattle.xls_directory.specs.Items as items;
-ghost use Rattle.xls_directory.specs.Items.{Item};
-ghost use Rattle.xls_directory.specs.Directory.{Listing, IsDirectory};
+ghost use Rattle.xls_compound.specs.Items as items;
+ghost use Rattle.xls_compound.specs.Items.{Item};
+ghost use Rattle.xls_compound.specs.Directory.{Listing, IsDirectory};
 ghost use Rattle.xls_compound.specs.declared.error.CompoundError.TheVariants.{Memory};
 ghost use Rattle.xls_sectors.specs.Tables.{OpensSectors};
 ghost use Rattle.xls_compound.specs.Compound.{HoldsCompound, HoldsListing, Refuses, is_wide, DirectoryBytes, MiniFatBytes, MiniStream, space_of, size_of, ItemBytes, LiesAdjacent, RefusesItem};
@@ -14,11 +14,11 @@ ghost use Rattle.xls_compound.specs.Entries.{entry_at, entries_from, IsItem};
 
 use crate::entry::{Entries, Entry};
 use crate::error::CompoundError;
+use crate::{Directory, DirectoryError};
 use std::alloc::Global;
 use std::borrow::CowSlice;
 use std::marker::Model;
 use xls_bytes::to_u32;
-use xls_directory::{Directory, DirectoryError};
 use xls_sectors::{Chains, SectorError, Sectors, Table};
 
 /// Streams of fewer bytes lie in mini sectors.

@@ -2,13 +2,13 @@
 
 ghost use Rattle.std.specs.Prelude.{◌≡◌, ◌<◌, map, length, IfOk, Some};
 ghost use Rattle.std.specs.Iterator.{YieldsFirst, item_count};
-ghost use Rattle.xls_directory.specs.Items.{Item, IsPath};
-ghost use Rattle.xls_directory.specs.Directory.{Listing};
+ghost use Rattle.xls_compound.specs.Items.{Item, IsPath};
+ghost use Rattle.xls_compound.specs.Directory.{Listing};
 ghost use Rattle.xls_compound.specs.Entries.{IsItem, entry_at, entries_from};
 
+use crate::{Directory, Item};
 use std::alloc::{AllocError, Global};
 use std::marker::Model;
-use xls_directory::{Directory, Item};
 
 /// A storage or a stream of a compound file. Contracts see its place in what the file lists.
 #[derive(Drop)]

@@ -1,9 +1,9 @@
 //! Why a file isn't opened, or a stream isn't read.
 
+use crate::DirectoryFault;
 use std::alloc::{AllocError, AllocFailed};
 use std::error::Error;
 use std::fmt;
-use xls_directory::DirectoryFault;
 use xls_sectors::SectorFault;
 
 /// Why a compound file isn't opened, or one of its streams isn't read. Each prints a sentence that says

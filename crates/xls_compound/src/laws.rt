@@ -4,7 +4,7 @@ ghost use Rattle.std.specs.Prelude.{◌≡◌, ℕ, List};
 ghost use Rattle.xls_compound.specs.Compound.{Compound, HoldsCompound};
 ghost use Rattle.xls_compound.specs.Layout.{LaidIsFound};
 
-use xls_directory::one_listing;
+use crate::one_listing;
 use xls_sectors::one_answer;
 
 /// A file holds at most one compound.

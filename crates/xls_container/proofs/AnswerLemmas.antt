@@ -6,9 +6,9 @@ use Rattle.xls_sectors.specs.declared.error.SectorFault.{SectorFault}
 use Rattle.xls_sectors.specs.Errors as sectors
 use Rattle.xls_sectors.specs.Laws.{StreamsHaveOneAnswer, WholeChainsHaveOneAnswer, FilesHaveOneAnswer}
 use Rattle.xls_sectors.specs.Tables.{Opened, OpensSectors as OpensTables, sectors_of}
-use Rattle.xls_directory.specs.declared.fault.DirectoryFault.{DirectoryFault}
-use Rattle.xls_directory.specs.Items.{Item, workbook}
-use Rattle.xls_directory.specs.Directory.{Listing, IsDirectory, IsDirectoryFault}
+use Rattle.xls_compound.specs.declared.fault.DirectoryFault.{DirectoryFault}
+use Rattle.xls_compound.specs.Items.{Item, workbook}
+use Rattle.xls_compound.specs.Directory.{Listing, IsDirectory, IsDirectoryFault}
 use Rattle.xls_compound.specs.Compound.{Compound, HoldsCompound, Refuses, ItemBytes, RefusesItem, DirectoryBytes, MiniFatBytes, MiniStream, mini_sectors, is_wide, space_of, size_of}
 use Rattle.xls_compound.specs.declared.error.CompoundError.{CompoundError}
 use Rattle.xls_compound.specs.declared.error.CompoundError.TheVariants as errors

@@ -5,8 +5,8 @@ use Rattle.std.proofs.lemmas.List.Quantifiers.{position-Some}
 use Rattle.std.proofs.lemmas.Option.{slice_get-get_or}
 use Rattle.std.specs.List.{position, slice_get}
 use Rattle.std.specs.Option.{option_map, option_or}
-use Rattle.xls_directory.specs.Items.{Item, workbook}
-use Rattle.xls_directory.specs.Directory.{Listing}
+use Rattle.xls_compound.specs.Items.{Item, workbook}
+use Rattle.xls_compound.specs.Directory.{Listing}
 use Rattle.xls_compound.specs.Compound.{Compound, RefusesItem}
 use Rattle.xls_compound.specs.Entries.{Entry, IsItem, entry_at}
 use Rattle.xls_compound.specs.declared.error.CompoundError.{CompoundError}

@@ -1,7 +1,7 @@
 -- What a file holds: a compound file with the stream of a workbook, or that stream alone.
 use Rattle.std.specs.Prelude.{◌≡◌, ◌≢◌, ◌⊎◌, ℕ, List, Option, Some, None, Ok, true, false}
 use Rattle.std.specs.List.{slice_get}
-use Rattle.xls_directory.specs.Items.{Item, workbook}
+use Rattle.xls_compound.specs.Items.{Item, workbook}
 use Rattle.xls_compound.specs.Compound.{Compound, HoldsCompound, Refuses, ItemBytes, LiesAdjacent, RefusesItem}
 use Rattle.xls_compound.specs.declared.error.CompoundError.{CompoundError}
 use Rattle.xls_compound.specs.declared.error.CompoundError.TheVariants as errors

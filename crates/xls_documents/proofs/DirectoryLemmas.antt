@@ -4,17 +4,17 @@ use Rattle.std.proofs.Math.ListN.{get_or}
 use Rattle.std.proofs.lemmas.Bool.{cases_lt}
 use Rattle.std.proofs.lemmas.Option.{slice_get_cases}
 use Rattle.std.specs.List.{slice_get}
-use Rattle.xls_directory.specs.Items.{Item}
-use Rattle.xls_directory.specs.Directory.{Listing}
+use Rattle.xls_compound.specs.Items.{Item}
+use Rattle.xls_compound.specs.Directory.{Listing}
 use Rattle.xls_compound.proofs.EntryLemmas.{entries_from_more, entries_from_none}
 use Rattle.xls_compound.specs.Compound.{Compound, RefusesItem}
 use Rattle.xls_compound.specs.Entries.{Entry, IsItem, entry_at, entries_from}
 use Rattle.xls_compound.specs.declared.error.CompoundError.{CompoundError}
 use Rattle.xls_compound.specs.declared.error.CompoundError.TheVariants as errors
 use Rattle.xls_container.specs.Files.{fault_of}
-use Rattle.xls_ovba.specs.Container as compressed
-use Rattle.xls_ovba.specs.declared.error.OvbaError.{OvbaError}
-use Rattle.xls_ovba.specs.declared.error.OvbaError.TheVariants as ovba
+use Rattle.xls_vba.specs.Container as compressed
+use Rattle.xls_vba.specs.declared.compression_error.OvbaError.{OvbaError}
+use Rattle.xls_vba.specs.declared.compression_error.OvbaError.TheVariants as ovba
 use Rattle.xls_vba.specs.Directory as directories
 use Rattle.xls_vba.specs.declared.error.VbaError.{VbaError}
 use Rattle.xls_vba.specs.declared.error.VbaError.TheVariants as vba

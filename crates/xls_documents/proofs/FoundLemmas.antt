@@ -2,7 +2,7 @@
 use Rattle.std.proofs.Common.{◌≡◌, ℕ, List, [], ◌∷◌, Option, Some, None, sym, subst, true}
 use Rattle.std.specs.List.{position}
 use Rattle.std.specs.Option.{option_map}
-use Rattle.xls_directory.specs.Items.{Item, find_from, is_child, onward}
+use Rattle.xls_compound.specs.Items.{Item, find_from, is_child, onward}
 use Rattle.xls_compound.specs.Compound.{Compound, RefusesItem}
 use Rattle.xls_compound.specs.Entries.{Entry, IsItem, entry_at}
 use Rattle.xls_compound.specs.declared.error.CompoundError.{CompoundError}

@@ -2,17 +2,17 @@
 use Rattle.std.specs.Prelude.{◌≡◌, ◌≢◌, ◌⊎◌, ◌&&◌, ◌-◌, ◌<◌, ℕ, List, [], ◌∷◌, length, drop, codes, Bool, true, false, Option, Some, None, Ok}
 use Rattle.std.specs.List.{slice_get}
 use Rattle.std.specs.Str.{str_eq_ignore_ascii_case}
-use Rattle.xls_directory.specs.Items.{Item, IsPath}
-use Rattle.xls_directory.specs.Directory.{Listing}
+use Rattle.xls_compound.specs.Items.{Item, IsPath}
+use Rattle.xls_compound.specs.Directory.{Listing}
 use Rattle.xls_compound.specs.Compound.{Compound, ItemBytes, RefusesItem}
 use Rattle.xls_compound.specs.Entries.{Entry, IsItem, entry_at}
 use Rattle.xls_compound.specs.declared.error.CompoundError.TheVariants as errors
 use Rattle.xls_container.specs.Files.{Container, compound_file, bare_stream}
 use Rattle.xls_container.specs.declared.fault.FileFault.{FileFault}
 use Rattle.xls_container.specs.declared.fault.FileFault.TheVariants as files
-use Rattle.xls_ovba.specs.Container as compressed
-use Rattle.xls_ovba.specs.declared.error.OvbaError.{OvbaError}
-use Rattle.xls_ovba.specs.declared.error.OvbaError.TheVariants as ovba
+use Rattle.xls_vba.specs.Container as compressed
+use Rattle.xls_vba.specs.declared.compression_error.OvbaError.{OvbaError}
+use Rattle.xls_vba.specs.declared.compression_error.OvbaError.TheVariants as ovba
 use Rattle.xls_vba.specs.Directory as directories
 use Rattle.xls_vba.specs.Directory.{Project}
 use Rattle.xls_vba.specs.declared.error.VbaError.{VbaError}

@@ -1,7 +1,7 @@
 -- The property streams of a file ([MS-OLEPS]).
 use Rattle.std.specs.Prelude.{◌≡◌, ◌≢◌, ◌⊎◌, ℕ, List, [], ◌∷◌, codes, Option, Some, None, Ok, true}
 use Rattle.std.specs.List.{slice_get}
-use Rattle.xls_directory.specs.Items.{Item, find_from}
+use Rattle.xls_compound.specs.Items.{Item, find_from}
 use Rattle.xls_compound.specs.Compound.{Compound, ItemBytes, RefusesItem}
 use Rattle.xls_compound.specs.declared.error.CompoundError.TheVariants as errors
 use Rattle.xls_container.specs.Files.{Container, compound_file, bare_stream}

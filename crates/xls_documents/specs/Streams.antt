@@ -1,7 +1,7 @@
 -- The lines of a compound file's streams.
 use Rattle.std.specs.Prelude.{◌≡◌, ℕ, List, [], ◌∷◌, codes, Bool, true, false, Result}
 use Rattle.std.specs.List.{join_by}
-use Rattle.xls_directory.specs.Items.{Item, IsPath}
+use Rattle.xls_compound.specs.Items.{Item, IsPath}
 use Rattle.xls_compound.specs.Entries.{Entry, IsItem}
 use Rattle.xls_lines.specs.Output.{Output}
 use Rattle.xls_lines.specs.declared.stop.Stop.{Stop}

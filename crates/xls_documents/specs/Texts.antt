@@ -1,7 +1,7 @@
 -- The printed texts of refusals.
 use Rattle.std.specs.Prelude.{ℕ, List, codes}
 use Rattle.xls_container.specs.Texts as files
-use Rattle.xls_ovba.specs.Errors.{ovba_error_text}
+use Rattle.xls_vba.specs.CompressionErrors.{ovba_error_text}
 use Rattle.xls_vba.specs.Errors.{vba_error_text}
 use Rattle.xls_documents.specs.declared.fault.ProjectFault.{ProjectFault}
 use Rattle.xls_documents.specs.declared.fault.ProjectFault.TheVariants as faults

@@ -4,8 +4,7 @@ use std::alloc::AllocError;
 use std::error::Error;
 use std::fmt;
 use xls_container::FileFault;
-use xls_ovba::OvbaError;
-use xls_vba::VbaError;
+use xls_vba::{OvbaError, VbaError};
 
 /// Why the macro project of a file isn't read. Each prints what it holds.
 #[derive(Debug, Drop)]

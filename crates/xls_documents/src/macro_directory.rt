@@ -10,8 +10,7 @@ use std::alloc::{AllocError, Global};
 use std::borrow::CowSlice;
 use xls_compound::{Compound, Entry};
 use xls_container::{Container, FileFault};
-use xls_ovba::decompress;
-use xls_vba::VbaProject;
+use xls_vba::{VbaProject, decompress};
 
 // Whether a storage and a stream of these names are those of a directory.
 fn is_directory_in(storage: &str, name: &str) -> bool

@@ -23,3 +23,4 @@ pub use Rattle.xls_ptg.specs.References
 pub use Rattle.xls_ptg.specs.References3d
 pub use Rattle.xls_ptg.specs.Tokens
 pub use Rattle.xls_ptg.specs.Cites
+pub mod Table

@@ -1,4 +1,4 @@
-//! Formulas and defined names: from token bytes to text.
+//! Formulas and defined names: from token bytes to text; the names of functions.
 #![tactic(auto)]
 
 mod buffer;
@@ -9,8 +9,10 @@ mod functions;
 mod names;
 mod parse;
 mod prefixes;
+mod push;
 mod put;
 mod scope;
+mod table;
 mod words;
 
 pub use defined::{check_lbl, parse_defined_names, parse_lbl};
@@ -19,6 +21,7 @@ pub use ftab::{FTAB, FTAB_ARGC, FTAB_LEN};
 pub use functions::FunctionTable;
 pub use names::Names;
 pub use parse::{FormulaTexts, parse_formula, tokens_of};
+pub use push::push_functions;
 pub use scope::{Scope, sheet_of_reference};
 pub use words::Word;
 pub use xls_ptg::{RawCite, Token, read_token};

@@ -6,7 +6,7 @@ use Rattle.xls_text.specs.declared.error.CfbError.TheVariants as pages
 use Rattle.xls_record.specs.declared.error.XlsError.TheVariants as errors
 use Rattle.xls_sectors.specs.declared.error.Table.TheVariants as tables
 use Rattle.xls_sectors.specs.declared.error.SectorFault.TheVariants as sectors
-use Rattle.xls_directory.specs.declared.fault.DirectoryFault.TheVariants as entries
+use Rattle.xls_compound.specs.declared.fault.DirectoryFault.TheVariants as entries
 use Rattle.xls_container.specs.declared.kind.FileKind.TheVariants as kinds
 use Rattle.xls_refusals.specs.Codes as number
 use Rattle.xls_refusals.specs.Codes.{numbers}

@@ -5,8 +5,8 @@ use Rattle.xls_record.specs.declared.error.XlsError.{XlsError}
 use Rattle.xls_record.specs.declared.error.XlsError.TheVariants as errors
 use Rattle.xls_sectors.specs.declared.error.SectorFault.{SectorFault}
 use Rattle.xls_sectors.specs.declared.error.SectorFault.TheVariants as sectors
-use Rattle.xls_directory.specs.declared.fault.DirectoryFault.{DirectoryFault}
-use Rattle.xls_directory.specs.declared.fault.DirectoryFault.TheVariants as entries
+use Rattle.xls_compound.specs.declared.fault.DirectoryFault.{DirectoryFault}
+use Rattle.xls_compound.specs.declared.fault.DirectoryFault.TheVariants as entries
 use Rattle.xls_refusals.specs.Faults.{fault_numbered}
 use Rattle.xls_refusals.specs.Telling.{refusal_of, sentence}
 use Rattle.xls_refusals.specs.Texts.{refusal_text}

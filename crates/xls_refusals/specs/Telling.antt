@@ -9,8 +9,8 @@ use Rattle.xls_sectors.specs.declared.error.Table.{Table}
 use Rattle.xls_sectors.specs.declared.error.Table.TheVariants as tables
 use Rattle.xls_sectors.specs.declared.error.SectorFault.{SectorFault}
 use Rattle.xls_sectors.specs.declared.error.SectorFault.TheVariants as sectors
-use Rattle.xls_directory.specs.declared.fault.DirectoryFault.{DirectoryFault}
-use Rattle.xls_directory.specs.declared.fault.DirectoryFault.TheVariants as entries
+use Rattle.xls_compound.specs.declared.fault.DirectoryFault.{DirectoryFault}
+use Rattle.xls_compound.specs.declared.fault.DirectoryFault.TheVariants as entries
 use Rattle.xls_container.specs.declared.kind.FileKind.{FileKind}
 use Rattle.xls_container.specs.declared.kind.FileKind.TheVariants as kinds
 use Rattle.xls_refusals.specs.Parts.{part_numbered}

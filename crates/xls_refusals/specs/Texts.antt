@@ -3,7 +3,7 @@ use Rattle.std.specs.Prelude.{ℕ, List, [], ◌++◌, codes}
 use Rattle.std.specs.Fmt.{decimal}
 use Rattle.xls_record.specs.ErrorText.{error_text}
 use Rattle.xls_sectors.specs.Errors.{fault_text}
-use Rattle.xls_directory.specs.Errors as directory
+use Rattle.xls_compound.specs.DirectoryErrors as directory
 use Rattle.xls_container.specs.Texts as files
 use Rattle.xls_container.specs.declared.fault.FileFault.TheVariants as faults
 use Rattle.xls_refusals.specs.declared.refusal.Chain.{Chain}

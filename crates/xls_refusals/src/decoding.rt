@@ -14,7 +14,7 @@ use crate::faults::Fault;
 use crate::parts::part_of;
 use crate::refusal::{Chain, Refusal};
 use xls_container::FileKind;
-use xls_directory::DirectoryFault;
+use xls_compound::DirectoryFault;
 use xls_record::{Part, XlsError};
 use xls_sectors::{SectorFault, Table};
 use xls_text::CfbError;

@@ -8,7 +8,7 @@ ghost use Rattle.xls_refusals.specs.Codes.{file_kind_number, sector_fault, strea
 use crate::parts::part_number;
 use crate::refusal::{Chain, Refusal};
 use xls_container::FileKind;
-use xls_directory::DirectoryFault;
+use xls_compound::DirectoryFault;
 use xls_record::XlsError;
 use xls_sectors::{SectorFault, Table};
 use xls_text::CfbError;

@@ -2,9 +2,8 @@
 
 use std::alloc::AllocError;
 use std::fmt;
-use xls_compound::CompoundError;
+use xls_compound::{CompoundError, DirectoryFault};
 use xls_container::{FileFault, FileKind};
-use xls_directory::DirectoryFault;
 use xls_record::XlsError;
 use xls_sectors::SectorFault;
 

@@ -3,7 +3,7 @@ use Rattle.std.proofs.Common.{◌≡◌, ℕ, List, [], ◌∷◌, Option, Some,
 use Rattle.std.proofs.KnownBytes.{Keeps-refl}
 use Rattle.std.specs.List.{position}
 use Rattle.std.specs.Option.{option_map}
-use Rattle.xls_directory.specs.Items.{Item, find_from, is_child, onward}
+use Rattle.xls_compound.specs.Items.{Item, find_from, is_child, onward}
 use Rattle.xls_compound.specs.Compound.{Compound}
 use Rattle.xls_compound.specs.Entries.{Entry, IsItem, entry_at}
 use Rattle.xls_container.proofs.EntryLemmas.{HasAt, found_at, place_of}

@@ -1,7 +1,7 @@
 -- What is written of what stands beside the workbook in a file.
 use Rattle.std.specs.Prelude.{◌≡◌, ◌⊎◌, ℕ, List, Some, None, Result, Ok, Err, true}
 use Rattle.std.specs.List.{slice_get}
-use Rattle.xls_directory.specs.Items.{Item, find_from}
+use Rattle.xls_compound.specs.Items.{Item, find_from}
 use Rattle.xls_compound.specs.Compound.{Compound, ItemBytes, RefusesItem}
 use Rattle.xls_compound.specs.Entries.{entries_from}
 use Rattle.xls_compound.specs.declared.error.CompoundError.{CompoundError}

@@ -1,7 +1,7 @@
 //! What is written of one file.
 
 ghost use Rattle.std.specs.Prelude.{◌≡◌, ◌⊎◌, Some, None, IfOk, IfErr};
-ghost use Rattle.xls_directory.specs.Items.{Item};
+ghost use Rattle.xls_compound.specs.Items.{Item};
 ghost use Rattle.xls_compound.specs.Entries.{IsItem};
 ghost use Rattle.xls_container.specs.Files.{compound_in};
 ghost use Rattle.xls_lines.specs.declared.stop.Stop.TheVariants.{Memory};

@@ -7,3 +7,9 @@ pub mod References
 pub mod Modules
 pub mod Directory
 pub mod Project
+pub mod CompressionErrors
+pub mod Tokens
+pub mod Chunks
+pub mod Container
+pub mod Stored
+pub mod Source

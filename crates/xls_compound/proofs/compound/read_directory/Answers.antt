@@ -1,7 +1,7 @@
 use Rattle.std.proofs.Common.{subst}
 use Rattle.xls_sectors.specs.declared.header.Header.{Header}
-use Rattle.xls_directory.specs.declared.fault.DirectoryError.{DirectoryError}
-use Rattle.xls_directory.specs.Directory.{IsDirectory, IsRefusal, IsDirectoryFault}
+use Rattle.xls_compound.specs.declared.fault.DirectoryError.{DirectoryError}
+use Rattle.xls_compound.specs.Directory.{IsDirectory, IsRefusal, IsDirectoryFault}
 use Rattle.xls_compound.specs.Compound.{is_wide}
 use Rattle.xls_compound.proofs.ReadLemmas.{directory_is}
 use Rattle.xls_compound.proofs.compound.read_directory.Goals as goal

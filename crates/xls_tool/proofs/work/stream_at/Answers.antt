@@ -1,7 +1,7 @@
 use Rattle.std.proofs.Common.{◌≡◌, ◌∙◌, ap, ℕ, List, map, Some, None, Bor, subst, sym}
 use Rattle.std.specs.Option.{option_map}
 use Rattle.xls_compound.specs.Entries.{entry_at}
-use Rattle.xls_directory.specs.Items.{find_from}
+use Rattle.xls_compound.specs.Items.{find_from}
 use Rattle.xls_tool.proofs.BesideLemmas.{stream-at}
 use Rattle.xls_tool.proofs.work.stream_at.Goals as goal
 

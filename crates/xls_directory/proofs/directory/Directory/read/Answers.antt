@@ -1,7 +1,0 @@
-use Rattle.std.proofs.Common.{sym, subst}
-use Rattle.xls_directory.specs.Held.{AreHeld}
-use Rattle.xls_directory.proofs.HeldLemmas.{held}
-use Rattle.xls_directory.proofs.directory.Directory.read.Goals as goal
-
-pub invariant_of-result : goal.invariant_of-result
-invariant_of-result c = subst AreHeld (sym c.in_ok-items.ensures.ok.2) (held c.in_ok-items.ensures.ok.0)

@@ -1,6 +1,0 @@
-use Rattle.std.proofs.Common.{length, sym, ap, ◌∙◌}
-use Rattle.xls_directory.proofs.EntryLemmas.{length-entries_of}
-use Rattle.xls_directory.proofs.entry.Entries.len.Goals as goal
-
-pub returns : goal.returns
-returns c = sym (length-entries_of c.self.inside.is_wide c.self.inside.bytes.now) ∙ ap length c.self.view_is

@@ -1,4 +1,0 @@
-pub mod TokenLemmas
-pub mod ContainerLemmas
-pub mod LawLemmas
-mod StandardFacts
