@@ -7,7 +7,7 @@ use xls_biff::XlsError;
 use xls_book::{Reader as _, SteadySource, StreamBytes, Xls, XlsOptions};
 use xls_csv::{dense_boxes, export_csv, field_text, printed_fields, rows_of_sheet, write_rows};
 use xls_data::{Cell, Data, Dimensions, ExcelDateTime, ExcelDateTimeType, Number};
-use xls_lines::MemorySink;
+use xls_output::MemorySink;
 use xls_range::Range;
 use xls_view::View;
 

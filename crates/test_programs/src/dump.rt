@@ -6,7 +6,7 @@ use std::process::Abort;
 use std::test::*;
 use xls_book::{MemorySource, SteadySource};
 use xls_command::{run, words_in};
-use xls_lines::{MemorySink, StdSink, write_all};
+use xls_output::{MemorySink, StdSink, write_all};
 
 mod first_fault;
 mod ledger;

@@ -5,7 +5,7 @@ use Rattle.std.proofs.KnownBytes.{Keeps-refl}
 use Rattle.xls_record.specs.declared.error.XlsError.{XlsError}
 use Rattle.xls_record.specs.declared.error.XlsError.TheVariants as errors
 use Rattle.xls_lay.specs.Reading.{ReadsList}
-use Rattle.xls_lines.specs.SinkState.{SinkState}
+use Rattle.xls_output.specs.SinkState.{SinkState}
 use Rattle.xls_report.specs.Endings.{IsUntouched}
 use Rattle.xls_answers.specs.Answers.{OfRemade}
 use Rattle.xls_answers.specs.Failures.{failure_of_stream}

@@ -2,7 +2,7 @@
 use Rattle.std.proofs.Common.{◌≡◌, ℕ, List, Result, Ok, Err, inl, inr, refl, sym, subst}
 use Rattle.std.specs.Result.{IsErrAnd}
 use Rattle.std.proofs.KnownBytes.{Keeps-refl}
-use Rattle.xls_lines.specs.SinkState.{SinkState}
+use Rattle.xls_output.specs.SinkState.{SinkState}
 use Rattle.xls_open.specs.declared.options.XlsOptions.{XlsOptions}
 use Rattle.xls_container.specs.Files.{Container, OpensContainer, RefusesWorkbook, WorkbookBytes}
 use Rattle.xls_container.specs.declared.fault.FileFault.{FileFault}

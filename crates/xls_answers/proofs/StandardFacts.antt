@@ -7,7 +7,7 @@ use Rattle.xls_record.specs.declared.error.XlsError.TheVariants.{Cfb, Password, 
 use Rattle.xls_container.specs.declared.fault.FileFault.TheVariants as faults
 use Rattle.xls_container.specs.declared.kind.FileKind.{FileKind}
 use Rattle.xls_lay.specs.declared.error.LayError.{LayError}
-use Rattle.xls_lines.specs.declared.stop.Stop.TheVariants.{Read, Write, Memory}
+use Rattle.xls_output.specs.declared.stop.Stop.TheVariants.{Read, Write, Memory}
 use Rattle.xls_answers.specs.Failures.{status_of}
 use Rattle.xls_answers.specs.Texts.{failure_text, page_name}
 use Rattle.xls_answers.specs.declared.failure.Failure.TheVariants.{File, Obfuscated, Stream, Missing, Canonical, Stopped}

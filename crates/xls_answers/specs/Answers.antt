@@ -7,9 +7,9 @@ use Rattle.xls_open.specs.Opening.{default_options}
 use Rattle.xls_view.specs.Viewing.{IsViewFault}
 use Rattle.xls_lay.specs.Reading.{ReadsList, IsFirst}
 use Rattle.xls_lay.specs.Writing.{WritesList}
-use Rattle.xls_lines.specs.SinkState.{SinkState}
-use Rattle.xls_lines.specs.Gathering.{Stops, Wrote}
-use Rattle.xls_lines.specs.declared.stop.Stop.TheVariants.{Memory}
+use Rattle.xls_output.specs.SinkState.{SinkState}
+use Rattle.xls_output.specs.Gathering.{Stops, Wrote}
+use Rattle.xls_output.specs.declared.stop.Stop.TheVariants.{Memory}
 use Rattle.xls_report.specs.Endings.{IsUntouched}
 use Rattle.xls_report.specs.Report.{report, sound_line}
 use Rattle.xls_container.specs.Files.{WorkbookBytes, RefusesFile}

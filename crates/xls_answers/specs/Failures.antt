@@ -6,7 +6,7 @@ use Rattle.xls_container.specs.declared.fault.FileFault.{FileFault}
 use Rattle.xls_container.specs.declared.fault.FileFault.TheVariants as file
 use Rattle.xls_lay.specs.declared.error.LayError.{LayError}
 use Rattle.xls_lay.specs.declared.error.LayError.TheVariants as lay
-use Rattle.xls_lines.specs.declared.stop.Stop.TheVariants.{Read, Write, Memory}
+use Rattle.xls_output.specs.declared.stop.Stop.TheVariants.{Read, Write, Memory}
 use Rattle.xls_answers.specs.declared.failure.Failure.{Failure}
 use Rattle.xls_answers.specs.declared.failure.Failure.TheVariants as failures
 

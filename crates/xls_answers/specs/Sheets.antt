@@ -10,10 +10,10 @@ use Rattle.xls_meaning.specs.Reading.{SheetView, BookView, displayed_of}
 use Rattle.xls_view.specs.Viewing.{Viewed}
 use Rattle.xls_csv.specs.Dense.{dense_rows, sheet_csv}
 use Rattle.xls_tables.specs.Tables.{IsTable, BeginsTable}
-use Rattle.xls_lines.specs.SinkState.{SinkState}
-use Rattle.xls_lines.specs.Gathering.{Stops, Wrote}
-use Rattle.xls_lines.specs.declared.stop.Stop.{Stop}
-use Rattle.xls_lines.specs.declared.stop.Stop.TheVariants.{Memory}
+use Rattle.xls_output.specs.SinkState.{SinkState}
+use Rattle.xls_output.specs.Gathering.{Stops, Wrote}
+use Rattle.xls_output.specs.declared.stop.Stop.{Stop}
+use Rattle.xls_output.specs.declared.stop.Stop.TheVariants.{Memory}
 use Rattle.xls_report.specs.Endings.{IsUntouched}
 use Rattle.xls_words.specs.declared.request.SheetChoice.{SheetChoice}
 use Rattle.xls_words.specs.declared.request.SheetChoice.TheVariants.{First, Named, Number, All}

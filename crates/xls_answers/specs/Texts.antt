@@ -8,7 +8,7 @@ use Rattle.xls_record.specs.declared.error.XlsError.TheVariants as stream
 use Rattle.xls_record.specs.ErrorText.{error_text}
 use Rattle.xls_container.specs.Texts.{fault_text}
 use Rattle.xls_lay.specs.ErrorText.{error_text as canonical_text}
-use Rattle.xls_lines.specs.declared.stop.Stop.TheVariants.{Read, Write, Memory}
+use Rattle.xls_output.specs.declared.stop.Stop.TheVariants.{Read, Write, Memory}
 use Rattle.xls_answers.specs.declared.failure.Failure.{Failure}
 use Rattle.xls_answers.specs.declared.failure.Failure.TheVariants as failures
 use Rattle.xls_answers.specs.declared.failure.Missing.{Missing}

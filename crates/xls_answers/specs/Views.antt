@@ -5,9 +5,9 @@ use Rattle.xls_formula.specs.Functions.{shipped}
 use Rattle.xls_open.specs.Opening.{default_options}
 use Rattle.xls_open.specs.declared.options.XlsOptions.{XlsOptions}
 use Rattle.xls_view.specs.Viewing.{Viewed, IsViewed, IsViewFault}
-use Rattle.xls_lines.specs.SinkState.{SinkState}
-use Rattle.xls_lines.specs.Gathering.{Stops, Wrote}
-use Rattle.xls_lines.specs.declared.stop.Stop.TheVariants.{Memory}
+use Rattle.xls_output.specs.SinkState.{SinkState}
+use Rattle.xls_output.specs.Gathering.{Stops, Wrote}
+use Rattle.xls_output.specs.declared.stop.Stop.TheVariants.{Memory}
 use Rattle.xls_readable.specs.Values.{Concatenates}
 use Rattle.xls_readable.specs.declared.forms.Form.{Form}
 use Rattle.xls_refs.specs.Views.{cited_in}

@@ -4,8 +4,8 @@ ghost use Rattle.xls_answers.specs.Answers.{OfCheck};
 
 use crate::failure::Failure;
 use std::alloc::Global;
-use xls_lines::Sink;
 use xls_open::{XlsOptions, check_stream};
+use xls_output::Sink;
 use xls_report::write_sound;
 
 /// Writes that the bytes of a stream have no fault. Nothing is kept of them.

@@ -4,14 +4,14 @@ ghost use Rattle.std.specs.Prelude.{◌≡◌};
 ghost use Rattle.xls_answers.specs.Failures.{failure_of_fault, failure_of_lay, failure_of_stream, status_of};
 ghost use Rattle.xls_answers.specs.Texts.{page_name};
 ghost use Rattle.xls_answers.specs.declared.failure.Failure.TheVariants.{Stopped};
-ghost use Rattle.xls_lines.specs.declared.stop.Stop.TheVariants.{Memory};
+ghost use Rattle.xls_output.specs.declared.stop.Stop.TheVariants.{Memory};
 
 use std::alloc::AllocError;
 use std::fmt;
 use xls_biff::XlsError;
 use xls_container::FileFault;
 use xls_lay::LayError;
-use xls_lines::Stop;
+use xls_output::Stop;
 use xls_text::CfbError;
 
 /// Which sheet a workbook doesn't have.

@@ -6,9 +6,9 @@ ghost use Rattle.xls_answers.specs.Views.{AreLines, BeginLines, MissesNone, OfVi
 
 use crate::failure::Failure;
 use std::alloc::Global;
-use xls_lines::{Sink, Stop};
 use xls_listing::{write_formula_list, write_listing, write_ref_list, write_sheet_list};
 use xls_open::XlsOptions;
+use xls_output::{Sink, Stop};
 use xls_readable::Form;
 use xls_view::View;
 

@@ -1,14 +1,15 @@
 //! The canonical stream of a workbook, and the stream as it stands.
 
-ghost use Rattle.xls_lines.specs.Gathering.{Delivers};
+ghost use Rattle.xls_output.specs.Gathering.{Delivers};
 ghost use Rattle.xls_answers.specs.Answers.{OfBytes, OfRemade};
 
 use crate::failure::Failure;
 use std::alloc::Global;
 use xls_biff::XlsError;
 use xls_lay::{LayError, TOO_LONG, canonical_length, logical_of, write_stream};
-use xls_lines::{Buffer, Sink, Stop, Writer};
+use xls_lines::Buffer;
 use xls_open::MAX_BYTES;
+use xls_output::{Sink, Stop, Writer};
 
 /// Writes bytes.
 fn write_bytes<K: Sink>(alloc: Global, sink: &mut K, bytes: &[u8]) -> Result<(), Stop>

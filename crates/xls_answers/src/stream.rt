@@ -13,8 +13,8 @@ use crate::remake::{write_remade, write_whole};
 use crate::tables::write_sheet_of;
 use std::alloc::Global;
 use xls_container::{Container, is_obfuscated};
-use xls_lines::Sink;
 use xls_open::XlsOptions;
+use xls_output::Sink;
 use xls_report::write_report;
 use xls_view::View;
 

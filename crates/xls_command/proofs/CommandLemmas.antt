@@ -11,7 +11,7 @@ use Rattle.xls_meaning.specs.Faults.{IsSound}
 use Rattle.xls_open.specs.Opening.{IsOpened, default_options, default_rules}
 use Rattle.xls_source.specs.Bounded.{ReadCause}
 use Rattle.xls_source.specs.SourceState.{SourceState}
-use Rattle.xls_lines.specs.SinkState.{SinkState, TakesEach}
+use Rattle.xls_output.specs.SinkState.{SinkState, TakesEach}
 use Rattle.xls_report.specs.Report.{fault_line}
 use Rattle.xls_command.specs.Outputs.{IsOutput, IsRefusalText, MayWrite, ReadsNothing, EndsBy, Spec, reading, accepting_sound, spec_of, IsNameLine, HasSheet, HasCanonical}
 use Rattle.xls_report.specs.Texts.{IsFirstLine, IsUnremadeLine}
@@ -20,7 +20,7 @@ use Rattle.xls_command.specs.Endings.{Ends}
 use Rattle.xls_command.specs.declared.command.Command.{Command}
 use Rattle.xls_command.specs.declared.command.Command.TheVariants.{Dump, Sheets, Props, Check, Refs, Remake, Csv, Generate}
 use Rattle.xls_report.specs.declared.ending.Ending.{Ending}
-use Rattle.xls_lines.specs.declared.stop.Stop.{Stop}
+use Rattle.xls_output.specs.declared.stop.Stop.{Stop}
 use Rattle.xls_report.proofs.CheckLemmas.{too_large, none_checked}
 use Rattle.xls_command.proofs.EndingLemmas.{ends-either, ends-error, steady-either, steady-error}
 

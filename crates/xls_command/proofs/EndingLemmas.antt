@@ -1,8 +1,8 @@
 -- How any command ends, by what was written.
 use Rattle.std.proofs.Common.{◌≡◌, ℕ, List, [], Option, Result, Ok, Err, inl, inr, sym, subst, arith}
 use Rattle.xls_record.specs.declared.error.XlsError.{XlsError}
-use Rattle.xls_lines.specs.SinkState.{SinkState, TakesEach}
-use Rattle.xls_lines.specs.Gathering.{Stops, Wrote}
+use Rattle.xls_output.specs.SinkState.{SinkState, TakesEach}
+use Rattle.xls_output.specs.Gathering.{Stops, Wrote}
 use Rattle.xls_report.specs.Report.{fault_line}
 use Rattle.xls_command.specs.Outputs.{IsOutput, IsRefusalText, MayWrite, EndsWell}
 use Rattle.xls_report.specs.Endings.{IsStreamFault, EndsWithError, EndsWithEither}
@@ -10,8 +10,8 @@ use Rattle.xls_command.specs.Endings.{Ends}
 use Rattle.xls_command.specs.declared.command.Command.{Command}
 use Rattle.xls_report.specs.declared.ending.Ending.{Ending}
 use Rattle.xls_report.specs.declared.ending.Ending.TheVariants.{Done, Refused}
-use Rattle.xls_lines.specs.declared.stop.Stop.{Stop}
-use Rattle.xls_lines.specs.declared.stop.Stop.TheVariants.{Read, Write, Memory}
+use Rattle.xls_output.specs.declared.stop.Stop.{Stop}
+use Rattle.xls_output.specs.declared.stop.Stop.TheVariants.{Read, Write, Memory}
 
 -- ---- any command
 

@@ -7,14 +7,14 @@ use Rattle.xls_meaning.specs.Reading.{BookView}
 use Rattle.xls_meaning.specs.Faults.{FirstFault}
 use Rattle.xls_open.specs.Workbook.{Workbook, view_of}
 use Rattle.xls_open.specs.Opening.{IsOpened, default_options, default_rules}
-use Rattle.xls_source.specs.Causes.{Rose}
+use Rattle.xls_output.specs.Causes.{Rose}
 use Rattle.xls_source.specs.SourceState.{SourceState}
-use Rattle.xls_lines.specs.SinkState.{SinkState}
-use Rattle.xls_lines.specs.Written.{Writes, WritesPart}
+use Rattle.xls_output.specs.SinkState.{SinkState}
+use Rattle.xls_output.specs.Written.{Writes, WritesPart}
 use Rattle.xls_report.specs.declared.ending.Ending.{Ending}
 use Rattle.xls_report.specs.declared.ending.Ending.TheVariants.{Done, Refused}
-use Rattle.xls_lines.specs.declared.stop.Stop.{Stop}
-use Rattle.xls_lines.specs.declared.stop.Stop.TheVariants.{Read, Write, Memory}
+use Rattle.xls_output.specs.declared.stop.Stop.{Stop}
+use Rattle.xls_output.specs.declared.stop.Stop.TheVariants.{Read, Write, Memory}
 use Rattle.xls_command.specs.Outputs.{IsOutput, IsRefusalText, MayWrite, HasRead, EndsWell, ReadsNothing}
 use Rattle.xls_command.specs.declared.command.Command.{Command}
 

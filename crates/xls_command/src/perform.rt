@@ -5,7 +5,7 @@ ghost use Rattle.xls_open.specs.Opening.{default_options};
 ghost use Rattle.xls_command.specs.Endings.{Ends, IsViewRefusal, OpensTo, Reads};
 ghost use Rattle.xls_report.specs.Endings.{EndsWithEither, EndsWithError};
 ghost use Rattle.xls_command.specs.Outputs.{IsOutput, IsRefusalText, MayWrite, ReadsNothing};
-ghost use Rattle.xls_lines.specs.SinkState.{TakesEach};
+ghost use Rattle.xls_output.specs.SinkState.{TakesEach};
 ghost use Rattle.xls_command.specs.Words.{IsPossible, max_rows};
 ghost use Rattle.xls_command.specs.declared.command.Command.TheVariants.{Dump, Sheets, Props, Check, Csv, Generate};
 
@@ -14,8 +14,8 @@ use crate::summary::{summary_of, write_summary};
 use std::alloc::Global;
 use xls_biff::XlsError;
 use xls_book::{Source, StreamBytes, XlsOptions, check_stream, read_all};
-use xls_lines::{Sink, Stop};
 use xls_open::{MAX_BYTES, MAX_CELLS};
+use xls_output::{Sink, Stop};
 use xls_props::workbook_properties_of;
 use xls_report::{
     Ending, write_csv, write_fault, write_properties, write_refs, write_refusal, write_remake,

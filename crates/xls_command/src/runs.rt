@@ -3,19 +3,19 @@
 ghost use Rattle.std.specs.Prelude.{◌≡◌, ◌↔◌, ◌<◌, ◌≤◌, List, map};
 ghost use Rattle.std.specs.String.{string_bytes};
 ghost use Rattle.std.specs.Io.KnownBytes.{Keeps};
-ghost use Rattle.xls_source.specs.Causes.{Rose};
-ghost use Rattle.xls_lines.specs.Written.{Writes, WritesPart};
+ghost use Rattle.xls_output.specs.Causes.{Rose};
+ghost use Rattle.xls_output.specs.Written.{Writes, WritesPart};
 ghost use Rattle.xls_command.specs.Endings.{IsQuiet};
 ghost use Rattle.xls_command.specs.Words.{IsCommand, OfCommand};
 ghost use Rattle.xls_command.specs.Outputs.{EndsWell, HasRead, IsOutput, IsRefusalText, MayWrite, ReadsNothing};
-ghost use Rattle.xls_lines.specs.SinkState.{TakesEach};
+ghost use Rattle.xls_output.specs.SinkState.{TakesEach};
 ghost use Rattle.xls_command.specs.declared.command.Command.{Command};
 
 use crate::command::command_of;
 use crate::perform::perform;
 use std::alloc::Global;
 use xls_book::Source;
-use xls_lines::{Sink, Stop};
+use xls_output::{Sink, Stop};
 use xls_report::Ending;
 
 /// Does what the words ask for, and answers the status.

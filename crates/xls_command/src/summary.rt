@@ -3,7 +3,7 @@
 ghost use Rattle.std.specs.Prelude.{◌≡◌, ◌≤◌, IfOk};
 ghost use Rattle.xls_data.specs.Data.{content_of, is_nothing};
 ghost use Rattle.xls_sample_stream.specs.Sample.{IsSampleRange, int_of};
-ghost use Rattle.xls_lines.specs.Gathering.{Delivers};
+ghost use Rattle.xls_output.specs.Gathering.{Delivers};
 ghost use Rattle.xls_command.specs.Summary.{counts_text};
 ghost use Rattle.xls_command.specs.Words.{max_rows};
 ghost use Rattle.xls_command.specs.Counting.{IsCountSummary, Measures};
@@ -12,7 +12,8 @@ use crate::sample::sample_bytes;
 use std::alloc::{AllocError, Global};
 use xls_book::{Reader, SteadySource, Xls};
 use xls_data::{CellType, Data};
-use xls_lines::{Buffer, Field, Sink, Stop, Writer};
+use xls_lines::{Buffer, Field, put_line};
+use xls_output::{Sink, Stop, Writer};
 use xls_range::Range;
 
 /// The height of a range, how many of its cells are used, and the sum of its whole numbers.
@@ -86,9 +87,9 @@ pub fn write_summary<K: Sink>(alloc: Global, sink: &mut K, summary: Summary) -> 
 {
     let mut buffer = Buffer::new(alloc);
     let mut out = Writer::new(&mut buffer, sink);
-    out.put_line("rows", &[Field::Number(summary.rows)])?;
-    out.put_line("cells", &[Field::Number(summary.cells)])?;
-    out.put_line("sum", &[Field::Number(summary.sum)])?;
+    put_line(&mut out, "rows", &[Field::Number(summary.rows)])?;
+    put_line(&mut out, "cells", &[Field::Number(summary.cells)])?;
+    put_line(&mut out, "sum", &[Field::Number(summary.sum)])?;
     out.finish()?;
     Ok(())
 }

@@ -3,9 +3,9 @@ use Rattle.std.proofs.Common.{◌≡◌, ℕ, ◌+◌, ◌-◌, ◌<◌, ◌≤�
 use Rattle.std.specs.Prelude.{◌==◌, ◌&&◌}
 use Rattle.csv.specs.Writing.{default_writer, row_body}
 use Rattle.xls_biff.specs.Cells.{CellEntry}
-use Rattle.xls_lines.specs.Output.{Buffers, GivesUp, Output}
-use Rattle.xls_lines.specs.declared.stop.Stop.{Stop}
-use Rattle.xls_lines.proofs.OutputLemmas.{gathers-as, gathers-nothing, gathers-then, stops-as, stops-more, stops-then}
+use Rattle.xls_output.specs.Output.{Buffers, GivesUp, Output}
+use Rattle.xls_output.specs.declared.stop.Stop.{Stop}
+use Rattle.xls_output.proofs.OutputLemmas.{gathers-as, gathers-nothing, gathers-then, stops-as, stops-more, stops-then}
 use Rattle.xls_csv.specs.Dense.{box_of}
 use Rattle.xls_csv.specs.Fields.{field}
 use Rattle.xls_csv.specs.Steps.{field_placed}

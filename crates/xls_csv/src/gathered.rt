@@ -2,7 +2,7 @@
 
 ghost use Rattle.std.specs.Prelude.{◌≡◌, ◌≤◌, ◌++◌, ◌==◌, ◌↔◌, [], length, encode_utf8_all, IsTrue, IfOk, OnOk};
 ghost use Rattle.csv.specs.Writing.{default_writer, field_text, next_sep};
-ghost use Rattle.xls_lines.specs.Output.{Puts, output};
+ghost use Rattle.xls_output.specs.Output.{Puts, output};
 ghost use Rattle.xls_cursors.specs.Values.{value_text, lent_content};
 ghost use Rattle.xls_csv.specs.Fields.{field};
 ghost use Rattle.xls_csv.specs.Walk.{value_in};
@@ -12,7 +12,7 @@ use crate::line::{push_error, push_text, push_truth};
 use crate::numbers::push_number;
 use std::alloc::{AllocError, Global};
 use std::marker::Model;
-use xls_lines::{Sink, Stop, Writer, write_all};
+use xls_output::{Sink, Stop, Writer, write_all};
 use xls_view::{CellValue, TextBuffer};
 
 /// From so many bytes on, what is gathered is written.

@@ -4,8 +4,8 @@ ghost use Rattle.std.specs.Prelude.{◌≡◌, ◌≤◌, ◌^◌, ◌+◌, ◌=
 ghost use Rattle.csv.specs.Writing.{default_writer, row_body};
 ghost use Rattle.xls_biff.specs.Cells.{CellEntry};
 ghost use Rattle.xls_range.specs.Positions.{IsAscending};
-ghost use Rattle.xls_lines.specs.Gathering.{Delivers};
-ghost use Rattle.xls_lines.specs.Output.{Puts, output};
+ghost use Rattle.xls_output.specs.Gathering.{Delivers};
+ghost use Rattle.xls_output.specs.Output.{Puts, output};
 ghost use Rattle.xls_csv.specs.Dense.{sheet_csv};
 ghost use Rattle.xls_csv.specs.Fields.{field};
 ghost use Rattle.xls_csv.specs.Steps.{field_placed};
@@ -16,7 +16,7 @@ use crate::ahead::Ahead;
 use crate::extent::{BoxRow, Extent, extent_of};
 use crate::gathered::{Gathered, finish, pass};
 use std::alloc::Global;
-use xls_lines::{Sink, Stop, Writer};
+use xls_output::{Sink, Stop, Writer};
 use xls_view::SheetCells;
 
 /// Puts the field at a place of a row, and tells whether that is no byte.

@@ -1,7 +1,7 @@
 -- Lines of a word and fields, and what becomes of them.
 use Rattle.std.specs.Prelude.{ℕ, List, Result}
-use Rattle.xls_lines.specs.Output.{Output}
-use Rattle.xls_lines.specs.declared.stop.Stop.{Stop}
+use Rattle.xls_output.specs.Output.{Output}
+use Rattle.xls_output.specs.declared.stop.Stop.{Stop}
 use Rattle.xls_readable.specs.Items.{NamedItem}
 use Rattle.xls_readable.specs.Lines.{IsLine}
 use Rattle.xls_readable.specs.declared.forms.Form.{Form}

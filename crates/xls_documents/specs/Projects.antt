@@ -1,8 +1,8 @@
 -- The lines of a macro project.
 use Rattle.std.specs.Prelude.{◌≡◌, ◌⊎◌, ℕ, List, [], ◌∷◌, ◌++◌, map, codes, Option, Some, None, Result, MatchResult}
 use Rattle.std.specs.List.{flat_map}
-use Rattle.xls_lines.specs.SinkState.{SinkState}
-use Rattle.xls_lines.specs.declared.stop.Stop.{Stop}
+use Rattle.xls_output.specs.SinkState.{SinkState}
+use Rattle.xls_output.specs.declared.stop.Stop.{Stop}
 use Rattle.xls_pieces.specs.Each.{WroteEach, StopsEach}
 use Rattle.xls_readable.specs.Items.{text, count}
 use Rattle.xls_readable.specs.declared.forms.Form.{Form}

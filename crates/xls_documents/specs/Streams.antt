@@ -3,8 +3,8 @@ use Rattle.std.specs.Prelude.{◌≡◌, ℕ, List, [], ◌∷◌, codes, Bool, 
 use Rattle.std.specs.List.{join_by}
 use Rattle.xls_compound.specs.Items.{Item, IsPath}
 use Rattle.xls_compound.specs.Entries.{Entry, IsItem}
-use Rattle.xls_lines.specs.Output.{Output}
-use Rattle.xls_lines.specs.declared.stop.Stop.{Stop}
+use Rattle.xls_output.specs.Output.{Output}
+use Rattle.xls_output.specs.declared.stop.Stop.{Stop}
 use Rattle.xls_pieces.specs.Each.{PutsEach}
 use Rattle.xls_readable.specs.Items.{NamedItem, text, count}
 use Rattle.xls_readable.specs.Lines.{IsLine}

@@ -6,7 +6,7 @@ ghost use Rattle.xls_pieces.specs.Each.{pieces_output};
 ghost use Rattle.xls_readable.specs.Items as items;
 ghost use Rattle.xls_readable.specs.Items.{named_of};
 
-use xls_lines::{Sink, Stop, Writer};
+use xls_output::{Sink, Stop, Writer};
 use xls_pieces::{Pieces, pass};
 use xls_readable::{Field, Form, Member, push_line};
 

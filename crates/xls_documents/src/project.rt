@@ -10,7 +10,7 @@ ghost use Rattle.xls_pieces.specs.Each.{pieces_output};
 
 use crate::line::{count_member, put_line, text_member};
 use std::alloc::Global;
-use xls_lines::{Sink, Stop, Writer};
+use xls_output::{Sink, Stop, Writer};
 use xls_pieces::{Pieces, finish};
 use xls_readable::Form;
 use xls_vba::{Module, Reference, VbaProject};

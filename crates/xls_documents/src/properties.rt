@@ -10,7 +10,7 @@ ghost use Rattle.xls_pieces.specs.Each.{DeliversEach, pieces_output};
 
 use std::alloc::Global;
 use std::collections::btree_map::Iter;
-use xls_lines::{Sink, Stop, Writer};
+use xls_output::{Sink, Stop, Writer};
 use xls_pieces::{Pieces, finish, pass};
 use xls_props::WorkbookProperties;
 use xls_readable::{Form, Property, push_custom, push_property};

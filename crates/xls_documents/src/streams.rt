@@ -8,7 +8,7 @@ ghost use Rattle.xls_pieces.specs.Each.{DeliversEach, pieces_output};
 use crate::line::{count_member, text_member};
 use std::alloc::Global;
 use xls_compound::{Compound, Entries, Entry};
-use xls_lines::{Sink, Stop, Writer};
+use xls_output::{Sink, Stop, Writer};
 use xls_pieces::{Pieces, finish, pass};
 use xls_readable::{Form, push_line};
 

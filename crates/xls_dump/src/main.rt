@@ -6,7 +6,7 @@ use std::process::ExitCode;
 use xls_book::StdSource;
 use xls_command::words_in;
 pub use xls_command::{generate_stream, run};
-pub use xls_lines::{MemorySink, Sink, StdSink, WriteFault};
+pub use xls_output::{MemorySink, Sink, StdSink, WriteFault};
 
 /// What standard error is told of a status. Of 0 and 1 standard output tells.
 fn message(status: u8) -> Option<&'static str> {

@@ -7,7 +7,7 @@ ghost use Rattle.xls_files.specs.declared.host.Reason.TheVariants.{Memory};
 
 use std::alloc::AllocError;
 use std::fmt;
-use xls_lines::Sink;
+use xls_output::Sink;
 
 /// Why something can't be read or written.
 #[derive(Debug, Drop)]

@@ -5,9 +5,9 @@ use Rattle.std.proofs.Math.Seq.{drop-cons, take-length}
 use Rattle.std.proofs.lemmas.List.{append-nil, drop_all, length-append, length-take-le, length-drop, take-append-le, drop-append-le}
 use Rattle.xls_stream.specs.Stream.{record_bytes}
 use Rattle.xls_stream.specs.Listing.{Kept}
-use Rattle.xls_lines.specs.Output.{Output, Buffers, GivesUp}
-use Rattle.xls_lines.specs.declared.stop.Stop.{Stop}
-use Rattle.xls_lines.proofs.OutputLemmas.{gathers-as, gathers-nothing, gathers-then, stops-as, stops-more, stops-then}
+use Rattle.xls_output.specs.Output.{Output, Buffers, GivesUp}
+use Rattle.xls_output.specs.declared.stop.Stop.{Stop}
+use Rattle.xls_output.proofs.OutputLemmas.{gathers-as, gathers-nothing, gathers-then, stops-as, stops-more, stops-then}
 use Rattle.xls_lay.specs.Inside.{total, parts_of, sizes_sum, records_of}
 use Rattle.xls_lay.specs.Cutting.{kept_bytes}
 use Rattle.xls_lay.specs.declared.kept.RecordHead.{RecordHead}

@@ -1,9 +1,9 @@
 -- Bytes that are appended, and passed on.
 use Rattle.std.proofs.Common.{◌≡◌, ℕ, List, [], ◌++◌, Result, Ok, Err}
-use Rattle.xls_lines.specs.Output.{Output, Puts}
-use Rattle.xls_lines.specs.SinkState.{SinkState}
-use Rattle.xls_lines.specs.declared.stop.Stop.{Stop}
-use Rattle.xls_lines.proofs.OutputLemmas.{gathers-added, gathers-after, stops-after}
+use Rattle.xls_output.specs.Output.{Output, Puts}
+use Rattle.xls_output.specs.SinkState.{SinkState}
+use Rattle.xls_output.specs.declared.stop.Stop.{Stop}
+use Rattle.xls_output.proofs.OutputLemmas.{gathers-added, gathers-after, stops-after}
 
 -- bytes were appended, and then what was gathered was passed on, or not
 pub added_passed : {X : Type 0} (w : SinkState) (n : ℕ) (g h text : List ℕ) (b : Output) (r : Result X Stop)

@@ -6,8 +6,8 @@ use Rattle.xls_layouts.specs.LaidStrings.{marks_of_string, marks_of_strings}
 use Rattle.xls_layouts.specs.Canonical.{fill_from, canonical_string, canonical_strings}
 use Rattle.xls_lay.specs.Inside.{total, parts_of}
 use Rattle.xls_lay.specs.Filling.{IsFilled, Fills}
-use Rattle.xls_lines.specs.Output.{Output}
-use Rattle.xls_lines.specs.declared.stop.Stop.{Stop}
+use Rattle.xls_output.specs.Output.{Output}
+use Rattle.xls_output.specs.declared.stop.Stop.{Stop}
 use Rattle.xls_lay.specs.Putting.{PutsOn, StopsOn}
 use Rattle.xls_lay.specs.declared.fill.Fill.{Fill}
 use Rattle.xls_lay.specs.declared.table.TableWriter.{TableWriter}

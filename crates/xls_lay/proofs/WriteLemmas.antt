@@ -10,9 +10,9 @@ use Rattle.xls_layouts.specs.LaidStrings.{le32, marks_of_strings}
 use Rattle.xls_layouts.specs.Canonical.{canonical_strings, counts_of}
 use Rattle.xls_lay.specs.Writing.{saturated, canonical_bytes, canonical_size}
 use Rattle.xls_lay.specs.Cutting.{eof_bytes, part_bytes, part_size, entry_bytes, table_bytes, rest_bytes, globals_from, parts_from}
-use Rattle.xls_lines.specs.Output.{Output, Buffers, GivesUp, Puts}
-use Rattle.xls_lines.specs.declared.stop.Stop.{Stop}
-use Rattle.xls_lines.proofs.OutputLemmas.{gathers-as, gathers-nothing, gathers-then, stops-as, stops-more, stops-then}
+use Rattle.xls_output.specs.Output.{Output, Buffers, GivesUp, Puts}
+use Rattle.xls_output.specs.declared.stop.Stop.{Stop}
+use Rattle.xls_output.proofs.OutputLemmas.{gathers-as, gathers-nothing, gathers-then, stops-as, stops-more, stops-then}
 use Rattle.xls_lay.specs.Putting.{PutsOn, StopsOn}
 use Rattle.xls_lay.specs.declared.table.TableWriter.{TableWriter}
 use Rattle.xls_lay.proofs.WholeLemmas.{whole, whole_length}

@@ -1,8 +1,8 @@
 -- For the proofs: a string table that is being written.
 use Rattle.std.specs.Prelude.{◌≡◌, ℕ, ◌≤◌, List, [], ◌++◌, length, Bool, Result, MatchResult}
 use Rattle.xls_stream.specs.StringTable.{Mark}
-use Rattle.xls_lines.specs.Output.{Output, Buffers, GivesUp}
-use Rattle.xls_lines.specs.declared.stop.Stop.{Stop}
+use Rattle.xls_output.specs.Output.{Output, Buffers, GivesUp}
+use Rattle.xls_output.specs.declared.stop.Stop.{Stop}
 use Rattle.xls_layouts.specs.LaidStrings.{marks_of_steps}
 use Rattle.xls_layouts.specs.Canonical.{passes, record_limit, unit_size, cut_if, fill_from}
 use Rattle.xls_lay.specs.Cutting.{rest_bytes}

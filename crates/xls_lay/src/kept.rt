@@ -3,7 +3,7 @@
 ghost use Rattle.std.specs.Prelude.{◌≡◌, ◌<◌, ◌≤◌, ◌^◌, ◌++◌, ◌∷◌, [], drop, length, take, OnOk, OnErr};
 ghost use Rattle.std.specs.List.{flat_map};
 ghost use Rattle.xls_stream.specs.Stream.{record_bytes};
-ghost use Rattle.xls_lines.specs.Output.{Puts};
+ghost use Rattle.xls_output.specs.Output.{Puts};
 ghost use Rattle.xls_lay.specs.BytesOutput.{bytes_output};
 ghost use Rattle.xls_lay.specs.Writing.{saturated};
 ghost use Rattle.xls_lay.specs.Cutting.{kept_bytes};
@@ -12,7 +12,7 @@ ghost use Rattle.xls_lay.specs.Inside.{records_of, sizes_sum};
 use crate::write::put_record;
 use std::alloc::{AllocError, Global};
 use std::marker::Model;
-use xls_lines::{Sink, Stop, Writer};
+use xls_output::{Sink, Stop, Writer};
 
 /// The type of a record and the size of its body.
 #[derive(Clone, Copy)]

@@ -1,10 +1,10 @@
 //! Bytes that are gathered, and written in large pieces.
 
 ghost use Rattle.std.specs.Prelude.{◌≡◌, [], OnOk};
-ghost use Rattle.xls_lines.specs.Output.{Puts};
+ghost use Rattle.xls_output.specs.Output.{Puts};
 ghost use Rattle.xls_lay.specs.BytesOutput.{bytes_output};
 
-use xls_lines::{Sink, Stop, Writer, write_all};
+use xls_output::{Sink, Stop, Writer, write_all};
 
 /// From so many bytes on, what is gathered is written.
 const PIECE: usize = 65_536;

@@ -6,7 +6,7 @@ ghost use Rattle.xls_stream.specs.Stream.{record_bytes};
 ghost use Rattle.xls_stream.specs.declared.types.TheConstants as types;
 ghost use Rattle.xls_layouts.specs.LaidStrings.{head_bytes, le32, marks_of_break, marks_of_steps, marks_of_string, unit_bytes, FitsWidth};
 ghost use Rattle.xls_layouts.specs.Canonical.{passes, record_limit, unit_size, canonical_steps, canonical_string};
-ghost use Rattle.xls_lines.specs.Output.{Puts};
+ghost use Rattle.xls_output.specs.Output.{Puts};
 ghost use Rattle.xls_lay.specs.BytesOutput.{bytes_output};
 ghost use Rattle.xls_lay.specs.Putting.{Moves, PutsMarks, PutsOrStops, TableHasRoom, cut_marks};
 
@@ -14,7 +14,7 @@ use crate::fill::{FULL, is_all_narrow, size_of_unit};
 use crate::pieces::pass;
 use crate::write::{push_record, push_u32, put_record};
 use std::alloc::{AllocError, Global};
-use xls_lines::{Sink, Stop, Writer};
+use xls_output::{Sink, Stop, Writer};
 use xls_stream::types::{CONTINUE, SST};
 
 /// The type and the body of the current record of a table. The records before it are done: they are gathered.

@@ -14,7 +14,7 @@ use crate::fill::Fill;
 use crate::table::TableWriter;
 use std::alloc::{AllocError, Global};
 use std::marker::Model;
-use xls_lines::{Sink, Stop, Writer};
+use xls_output::{Sink, Stop, Writer};
 
 /// Adds the strings of these sizes, whose units stand one after the other.
 fn fill_strings(sizes: &[u16], units: &[u16], fill: &mut Fill)

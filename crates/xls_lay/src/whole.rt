@@ -3,11 +3,11 @@
 ghost use Rattle.std.specs.Prelude.{◌≡◌, ◌<◌, [], Some, IfOk, length};
 ghost use Rattle.std.specs.Io.{WritesAtMost};
 ghost use Rattle.std.specs.Io.KnownBytes.{WriteAppends};
-ghost use Rattle.xls_source.specs.Causes.{HasCause};
+ghost use Rattle.xls_output.specs.Causes.{HasCause};
 
 use std::alloc::{AllocError, Global};
 use std::marker::Model;
-use xls_lines::{Sink, WriteFault};
+use xls_output::{Sink, WriteFault};
 
 /// The bytes so far. A write fails where memory runs out.
 #[derive(Drop)]

@@ -1,29 +1,12 @@
 //! Text that is gathered, and written in large pieces.
 
 ghost use Rattle.std.specs.Prelude.{◌≡◌, ◌++◌, ◌+◌, ◌<◌, ◌≤◌, [], length, IfOk, OnOk, codes};
-ghost use Rattle.xls_lines.specs.Gathering.{PutsInto};
+ghost use Rattle.xls_output.specs.Gathering.{PutsInto};
 
 use crate::head::Head;
-use crate::sink::{Sink, write_all};
-use crate::stop::Stop;
 use std::alloc::Global;
 use std::marker::Model;
-
-/// How many bytes are written at a time, at most.
-const PIECE: usize = 65_536;
-
-/// Writes all that is gathered.
-pub(crate) fn flush<K: Sink>(bytes: &mut Vec<u8>, sink: &mut K) -> Result<(), Stop>
-    requires { length bytes.old.items ≤ PIECE }
-    ensures puts { PutsInto (K.state sink.old) bytes.old.items (K.state sink.new) bytes.new.items
-        [] result }
-    ensures none { OnOk result (bytes.new.items ≡ []) }
-    ensures bound { length bytes.new.items ≤ PIECE }
-{
-    write_all(sink, bytes)?;
-    bytes.clear();
-    Ok(())
-}
+use xls_output::{Gathers, PIECE, Sink, Stop, flush};
 
 /// The room for more bytes, of which there is some. A full piece is written.
 fn room_in<K: Sink>(bytes: &mut Vec<u8>, sink: &mut K) -> Result<usize, Stop>
@@ -105,7 +88,7 @@ pub struct Buffer {
 
 impl Model for Buffer {
     ghost use Rattle.std.specs.Prelude.{List, ℕ, ◌≤◌, length};
-    ghost use Rattle.xls_lines.specs.declared.buffer.TheConstants.{PIECE};
+    ghost use Rattle.xls_output.specs.declared.writer.TheConstants.{PIECE};
 
     ghost Value = { List ℕ };
 
@@ -124,5 +107,17 @@ impl Buffer {
             printed: String::new(alloc),
             head: Head::new(0),
         }
+    }
+}
+
+impl Gathers for Buffer {
+    ghost kept = { λ bytes. bytes };
+
+    fn bytes(&self) -> &[u8] {
+        &self.piece
+    }
+
+    fn clear(&mut self) {
+        self.piece.clear();
     }
 }

@@ -3,9 +3,9 @@ use Rattle.std.proofs.Common.{ℕ, List, append-nil, Option, Some, None, codes, 
 use Rattle.std.specs.Prelude.{MatchOption}
 use Rattle.xls_range.specs.Positions.{Position}
 use Rattle.xls_decimals.specs.Added.{AddsText}
-use Rattle.xls_lines.specs.SinkState.{SinkState}
-use Rattle.xls_lines.specs.Output.{Output, Puts}
-use Rattle.xls_lines.specs.declared.stop.Stop.{Stop}
+use Rattle.xls_output.specs.SinkState.{SinkState}
+use Rattle.xls_output.specs.Output.{Output, Puts}
+use Rattle.xls_output.specs.declared.stop.Stop.{Stop}
 use Rattle.xls_readable.specs.Items.{NamedItem}
 use Rattle.xls_readable.specs.Lines.{IsLine, cell_members}
 use Rattle.xls_readable.specs.declared.forms.Form.{Form}

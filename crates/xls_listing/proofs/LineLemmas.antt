@@ -1,9 +1,9 @@
 -- Lines that are put one after another.
 use Rattle.std.proofs.Common.{◌≡◌, ℕ, List, [], ◌++◌, append_assoc, append-nil, refl, sym, ap, subst, ◌∙◌, Result, Ok, Err}
-use Rattle.xls_lines.specs.SinkState.{SinkState}
-use Rattle.xls_lines.specs.Output.{Output, Puts}
-use Rattle.xls_lines.specs.declared.stop.Stop.{Stop}
-use Rattle.xls_lines.specs.declared.stop.Stop.TheVariants.{Memory}
+use Rattle.xls_output.specs.SinkState.{SinkState}
+use Rattle.xls_output.specs.Output.{Output, Puts}
+use Rattle.xls_output.specs.declared.stop.Stop.{Stop}
+use Rattle.xls_output.specs.declared.stop.Stop.TheVariants.{Memory}
 use Rattle.xls_pieces.specs.Each.{GathersEach, GivesUpEach, PutsEach}
 use Rattle.xls_pieces.proofs.EachLemmas.{each-as, each-memory, each-none, each-stops-as, each-stops-more, each-stops-then, each-then}
 

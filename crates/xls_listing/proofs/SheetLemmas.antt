@@ -5,8 +5,8 @@ use Rattle.std.proofs.lemmas.List.{length-map}
 use Rattle.xls_data.specs.Sheets.{sheet_content}
 use Rattle.xls_data.specs.declared.sheets.Sheet.{Sheet}
 use Rattle.xls_meaning.specs.Reading.{SheetView, BookView}
-use Rattle.xls_lines.specs.Output.{Output}
-use Rattle.xls_lines.specs.declared.stop.Stop.{Stop}
+use Rattle.xls_output.specs.Output.{Output}
+use Rattle.xls_output.specs.declared.stop.Stop.{Stop}
 use Rattle.xls_pieces.specs.Each.{GathersEach, GivesUpEach}
 use Rattle.xls_pieces.proofs.EachLemmas.{each-stops-more, each-stops-then, each-then}
 use Rattle.xls_listing.specs.Listing.{Line, each_sheet, sheet_line, displayed_at}

@@ -9,8 +9,8 @@ use Rattle.xls_biff.specs.Cells.{CellEntry}
 use Rattle.xls_meaning.specs.Reading.{SheetView, BookView}
 use Rattle.xls_meaning.specs.SheetTable.{FormulaEntry, nonempty_formulas}
 use Rattle.xls_refs.specs.Cited.{BookCitation, BookCited}
-use Rattle.xls_lines.specs.Output.{Output}
-use Rattle.xls_lines.specs.declared.stop.Stop.{Stop}
+use Rattle.xls_output.specs.Output.{Output}
+use Rattle.xls_output.specs.declared.stop.Stop.{Stop}
 use Rattle.xls_readable.specs.Items as item
 use Rattle.xls_readable.specs.Items.{NamedItem}
 use Rattle.xls_readable.specs.Lines.{IsLine, dates_members, name_members, sheet_members, cell_members, moment_kind, formula_members, merge_members, ref_members}

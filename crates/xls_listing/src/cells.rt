@@ -11,7 +11,7 @@ ghost use Rattle.xls_listing.specs.Listing.{PutsLines, cell_lines, lines_of_cell
 
 use crate::values::displayed_value;
 use std::alloc::Global;
-use xls_lines::{Sink, Stop, Writer};
+use xls_output::{Sink, Stop, Writer};
 use xls_pieces::{Pieces, pass};
 use xls_readable::{CellLines, Form, Value, push_cell};
 use xls_view::{Cells, SheetCell, TextBuffer, ViewSheet};

@@ -11,7 +11,7 @@ ghost use Rattle.xls_pieces.specs.Each.{DeliversEach, pieces_output};
 
 use crate::sheets::put_sheet;
 use std::alloc::Global;
-use xls_lines::{Sink, Stop, Writer};
+use xls_output::{Sink, Stop, Writer};
 use xls_pieces::{Pieces, finish, pass};
 use xls_readable::{Form, push_formula_line};
 use xls_view::{FormulaBuffer, FormulaCell, SheetFormulas, View, ViewSheet};

@@ -11,7 +11,7 @@ use crate::formulas::put_displayed_formulas;
 use crate::merges::put_merges;
 use crate::sheets::put_sheet;
 use std::alloc::Global;
-use xls_lines::{Sink, Stop, Writer};
+use xls_output::{Sink, Stop, Writer};
 use xls_pieces::{Pieces, finish, pass};
 use xls_readable::{Form, push_dates, push_name};
 use xls_view::{FormulaBuffer, View, ViewSheet};

@@ -5,7 +5,7 @@ ghost use Rattle.xls_pieces.specs.Each.{pieces_output};
 ghost use Rattle.xls_listing.specs.Listing.{PutsLines, merge_line};
 
 use xls_data::Dimensions;
-use xls_lines::{Sink, Stop, Writer};
+use xls_output::{Sink, Stop, Writer};
 use xls_pieces::{Pieces, pass};
 use xls_readable::{Form, push_merge};
 use xls_view::Merges;

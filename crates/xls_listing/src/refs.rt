@@ -10,7 +10,7 @@ ghost use Rattle.xls_pieces.specs.Each.{DeliversEach, pieces_output};
 use std::alloc::Global;
 use xls_biff::Strings;
 use xls_data::Dimensions;
-use xls_lines::{Sink, Stop, Writer};
+use xls_output::{Sink, Stop, Writer};
 use xls_pieces::{Pieces, finish, pass};
 use xls_readable::{Form, push_ref};
 use xls_refs::{CitedCells, CitedFormula, SheetCites, cites_of_sheet};

@@ -7,7 +7,7 @@ ghost use Rattle.xls_pieces.specs.Each.{DeliversEach, pieces_output};
 
 use std::alloc::Global;
 use xls_data::Sheet;
-use xls_lines::{Sink, Stop, Writer};
+use xls_output::{Sink, Stop, Writer};
 use xls_pieces::{Pieces, finish, pass};
 use xls_readable::{Form, push_sheet};
 use xls_view::View;

@@ -9,7 +9,7 @@ use Rattle.xls_record.specs.declared.error.XlsError.TheVariants as errors
 use Rattle.xls_meaning.specs.GlobalsTable.{forced_fault}
 use Rattle.xls_open.specs.Workbook.{rules_of}
 use Rattle.xls_meaning.specs.Faults.{outer_fault, FirstAfter, FirstFault, IsSound}
-use Rattle.xls_source.specs.Causes.{Rose}
+use Rattle.xls_output.specs.Causes.{Rose}
 use Rattle.xls_source.specs.SourceState.{SourceState}
 use Rattle.xls_open.specs.Opening.{IsOfOpening, OpenCause}
 use Rattle.xls_source.specs.Bounded.{ReadCause}

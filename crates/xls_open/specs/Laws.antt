@@ -13,7 +13,7 @@ use Rattle.xls_meaning.specs.GlobalsTable.{forced_fault, entry_record_at, page_f
 use Rattle.xls_meaning.specs.Settings.{said_by}
 use Rattle.xls_meaning.specs.Reading.{IsReading}
 use Rattle.xls_meaning.specs.Faults.{FirstFault, IsSound, IsFull}
-use Rattle.xls_source.specs.Causes.{Rose}
+use Rattle.xls_output.specs.Causes.{Rose}
 use Rattle.xls_source.specs.SourceState.{SourceState}
 use Rattle.xls_open.specs.Workbook.{Workbook, rules_of, view_of}
 use Rattle.xls_open.specs.Opening.{IsOpened, Opens}

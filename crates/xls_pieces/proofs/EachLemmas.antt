@@ -8,12 +8,12 @@ use Rattle.std.specs.Result.{IsErrAnd}
 use Rattle.std.specs.String.{string_bytes}
 use Rattle.xls_decimals.specs.Added.{AddsText}
 use Rattle.xls_readable.specs.Values.{Concatenates}
-use Rattle.xls_lines.specs.SinkState.{SinkState}
-use Rattle.xls_lines.specs.Output.{Output, Buffers, GivesUp, Puts}
-use Rattle.xls_lines.specs.declared.stop.Stop.{Stop}
-use Rattle.xls_lines.specs.declared.stop.Stop.TheVariants.{Memory}
-use Rattle.xls_lines.proofs.GatherLemmas.{stops-from}
-use Rattle.xls_lines.proofs.OutputLemmas.{gathers-added, gathers-after, gathers-nothing, gathers-then, stops-after, stops-memory-now, stops-then, wrote}
+use Rattle.xls_output.specs.SinkState.{SinkState}
+use Rattle.xls_output.specs.Output.{Output, Buffers, GivesUp, Puts}
+use Rattle.xls_output.specs.declared.stop.Stop.{Stop}
+use Rattle.xls_output.specs.declared.stop.Stop.TheVariants.{Memory}
+use Rattle.xls_output.proofs.GatherLemmas.{stops-from}
+use Rattle.xls_output.proofs.OutputLemmas.{gathers-added, gathers-after, gathers-nothing, gathers-then, stops-after, stops-memory-now, stops-then, wrote}
 use Rattle.xls_pieces.specs.Each.{GathersEach, GivesUpEach, PutsEach, StopsEach, WroteEach, DeliversEach}
 use Rattle.xls_pieces.specs.declared.pieces.Pieces.{Pieces}
 

@@ -2,11 +2,11 @@
 use Rattle.std.specs.Prelude.{ℕ, List, [], take, Result, MatchResult}
 use Rattle.std.specs.String.{string_bytes}
 use Rattle.xls_readable.specs.Values.{Concatenates}
-use Rattle.xls_lines.specs.SinkState.{SinkState}
-use Rattle.xls_lines.specs.Gathering.{Stops, Wrote}
-use Rattle.xls_lines.specs.Output.{Output, Buffers, GivesUp}
-use Rattle.xls_lines.specs.declared.stop.Stop.{Stop}
-use Rattle.xls_lines.specs.declared.writer.Writer.{Writer}
+use Rattle.xls_output.specs.SinkState.{SinkState}
+use Rattle.xls_output.specs.Gathering.{Stops, Wrote}
+use Rattle.xls_output.specs.Output.{Output, Buffers, GivesUp}
+use Rattle.xls_output.specs.declared.stop.Stop.{Stop}
+use Rattle.xls_output.specs.declared.writer.Writer.{Writer}
 use Rattle.xls_pieces.specs.declared.pieces.Pieces.{Pieces}
 
 -- the state of a sink, the text that is kept for it, and the name of the reference by which it was lent

@@ -2,11 +2,11 @@
 
 ghost use Rattle.std.specs.Prelude.{◌≡◌, ◌<◌, [], OnOk, length};
 ghost use Rattle.std.specs.String.{string_bytes};
-ghost use Rattle.xls_lines.specs.Output.{Puts};
+ghost use Rattle.xls_output.specs.Output.{Puts};
 ghost use Rattle.xls_pieces.specs.Each.{pieces_output};
 
 use std::alloc::Global;
-use xls_lines::{Sink, Stop, Writer, write_all};
+use xls_output::{Sink, Stop, Writer, write_all};
 
 /// From so many bytes on the text is written.
 const PIECE: usize = 65_536;

@@ -3,11 +3,11 @@ use Rattle.std.proofs.Common.{◌≡◌, ℕ, zero, suc, ◌+◌, ◌≤◌, Lis
 use Rattle.std.specs.Prelude.{slice_get}
 use Rattle.std.specs.List.{flat_map}
 use Rattle.std.proofs.lemmas.Grind.{flat_map-append}
-use Rattle.xls_lines.specs.SinkState.{SinkState}
-use Rattle.xls_lines.specs.Output.{Output, Buffers, GivesUp}
-use Rattle.xls_lines.specs.declared.stop.Stop.{Stop}
-use Rattle.xls_lines.specs.declared.stop.Stop.TheVariants.{Memory}
-use Rattle.xls_lines.proofs.OutputLemmas.{PutsSome, gathers-as, gathers-then, stops-as, stops-memory, stops-more, stops-then}
+use Rattle.xls_output.specs.SinkState.{SinkState}
+use Rattle.xls_output.specs.Output.{Output, Buffers, GivesUp}
+use Rattle.xls_output.specs.declared.stop.Stop.{Stop}
+use Rattle.xls_output.specs.declared.stop.Stop.TheVariants.{Memory}
+use Rattle.xls_output.proofs.OutputLemmas.{PutsSome, gathers-as, gathers-then, stops-as, stops-memory, stops-more, stops-then}
 use Rattle.xls_refs.specs.Cited.{BookCitation}
 use Rattle.xls_refs.specs.Views.{cited_in, each_cited, sheets_cited}
 use Rattle.xls_refs.proofs.ViewLemmas.{length-sheets_from}

@@ -3,13 +3,13 @@ use Rattle.std.specs.Prelude.{◌≡◌, ◌≢◌, ◌⊎◌, ℕ, List, [], Re
 use Rattle.std.specs.Io.KnownBytes.{Keeps}
 use Rattle.xls_record.specs.declared.error.XlsError.{XlsError}
 use Rattle.xls_record.specs.declared.error.XlsError.TheVariants as errors
-use Rattle.xls_lines.specs.SinkState.{SinkState}
-use Rattle.xls_lines.specs.Gathering.{Stops, Wrote}
+use Rattle.xls_output.specs.SinkState.{SinkState}
+use Rattle.xls_output.specs.Gathering.{Stops, Wrote}
 use Rattle.xls_report.specs.Report.{fault_line}
 use Rattle.xls_report.specs.declared.ending.Ending.{Ending}
 use Rattle.xls_report.specs.declared.ending.Ending.TheVariants.{Done, Refused}
-use Rattle.xls_lines.specs.declared.stop.Stop.{Stop}
-use Rattle.xls_lines.specs.declared.stop.Stop.TheVariants.{Read, Write, Memory}
+use Rattle.xls_output.specs.declared.stop.Stop.{Stop}
+use Rattle.xls_output.specs.declared.stop.Stop.TheVariants.{Read, Write, Memory}
 
 -- nothing was written, and no write failed
 abbrev pub IsUntouched : SinkState → SinkState → Type 0

@@ -8,7 +8,7 @@ use crate::report::write_fault;
 use std::alloc::Global;
 use xls_biff::XlsError;
 use xls_csv::write_rows;
-use xls_lines::{Sink, Stop};
+use xls_output::{Sink, Stop};
 use xls_view::View;
 
 /// Writes that no sheet has a name.

@@ -5,32 +5,33 @@ ghost use Rattle.std.specs.BTreeMap.{IsOrdered};
 ghost use Rattle.std.specs.List.{flat_map};
 ghost use Rattle.std.specs.Option.{option_map};
 ghost use Rattle.std.specs.String.{string_bytes, string_cmp};
-ghost use Rattle.xls_lines.specs.Gathering.{Delivers};
-ghost use Rattle.xls_lines.specs.Output.{Puts, output};
+ghost use Rattle.xls_output.specs.Gathering.{Delivers};
+ghost use Rattle.xls_output.specs.Output.{Puts, output};
 ghost use Rattle.xls_report.specs.Properties.{custom_line, known_lines, property_lines, property_text};
 
 use std::alloc::Global;
 use std::collections::btree_map::Iter;
-use xls_lines::{Buffer, Field, Sink, Stop, Writer};
+use xls_lines::{Buffer, Field, put_line};
+use xls_output::{Sink, Stop, Writer};
 use xls_props::WorkbookProperties;
 
 /// Puts the line of a field by its name and its text, if it is there.
 fn put_property<K: Sink>(
-    out: &mut Writer<'_, K>,
+    out: &mut Writer<'_, K, Buffer>,
     field: (&'static str, &Option<String>),
 ) -> Result<(), Stop>
     ensures { Puts (output K.state out.old) (output K.state out.new)
         (property_text field.entry) result }
 {
     match field.1 {
-        Some(text) => out.put_line(field.0, &[Field::Text(text.as_str())]),
+        Some(text) => put_line(out, field.0, &[Field::Text(text.as_str())]),
         None => Ok(()),
     }
 }
 
 /// Puts the lines of the fields that are there.
 fn put_fields<K: Sink>(
-    out: &mut Writer<'_, K>,
+    out: &mut Writer<'_, K, Buffer>,
     fields: &[(&'static str, &Option<String>)],
 ) -> Result<(), Stop>
     ensures { Puts (output K.state out.old) (output K.state out.new)
@@ -43,7 +44,7 @@ fn put_fields<K: Sink>(
 }
 
 /// Puts the lines of the fields of some properties, in their order.
-fn put_known<K: Sink>(out: &mut Writer<'_, K>, properties: &WorkbookProperties) -> Result<(), Stop>
+fn put_known<K: Sink>(out: &mut Writer<'_, K, Buffer>, properties: &WorkbookProperties) -> Result<(), Stop>
     ensures { Puts (output K.state out.old) (output K.state out.new)
         (known_lines properties.now) result }
 {
@@ -70,17 +71,17 @@ fn put_known<K: Sink>(out: &mut Writer<'_, K>, properties: &WorkbookProperties) 
 }
 
 /// Puts the line of a custom property.
-fn put_custom<K: Sink>(out: &mut Writer<'_, K>, name: &String, text: &String) -> Result<(), Stop>
+fn put_custom<K: Sink>(out: &mut Writer<'_, K, Buffer>, name: &String, text: &String) -> Result<(), Stop>
     ensures { Puts (output K.state out.old) (output K.state out.new)
         (custom_line (name.now, text.now)) result }
 {
     let fields = [Field::Text(name.as_str()), Field::Text(text.as_str())];
-    out.put_line("custom", &fields)
+    put_line(out, "custom", &fields)
 }
 
 /// Puts the lines of custom properties.
 fn put_customs<K: Sink>(
-    out: &mut Writer<'_, K>,
+    out: &mut Writer<'_, K, Buffer>,
     customs: Iter<'_, String, String>,
 ) -> Result<(), Stop>
     ensures { Puts (output K.state out.old) (output K.state out.new)
@@ -94,7 +95,7 @@ fn put_customs<K: Sink>(
 
 /// Puts the lines of the fields, and then of the custom properties in the order of their names.
 fn put_properties<K: Sink>(
-    out: &mut Writer<'_, K>,
+    out: &mut Writer<'_, K, Buffer>,
     properties: &WorkbookProperties,
 ) -> Result<(), Stop>
     ensures puts { Puts (output K.state out.old) (output K.state out.new)

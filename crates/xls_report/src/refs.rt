@@ -5,8 +5,8 @@ ghost use Rattle.std.specs.List.{flat_map};
 ghost use Rattle.std.specs.Str.{chars};
 ghost use Rattle.xls_open.specs.Opening.{default_options};
 ghost use Rattle.xls_refs.specs.Views.{cited_in, lent_citation_of, sheets_cited};
-ghost use Rattle.xls_lines.specs.Gathering.{Delivers};
-ghost use Rattle.xls_lines.specs.Output.{Puts, output};
+ghost use Rattle.xls_output.specs.Gathering.{Delivers};
+ghost use Rattle.xls_output.specs.Output.{Puts, output};
 ghost use Rattle.xls_report.specs.Endings.{EndsWithEither};
 ghost use Rattle.xls_report.specs.Texts.{IsFirstLine, IsRefsText};
 ghost use Rattle.xls_report.specs.Refs.{cited_line, lines_where, ref_line, refs_text, sheet_refs};
@@ -15,8 +15,9 @@ use crate::ending::Ending;
 use crate::report::write_refusal;
 use std::alloc::Global;
 use xls_biff::Strings;
-use xls_lines::{Buffer, Field, Sink, Stop, Writer};
+use xls_lines::{Buffer, Field, put_line};
 use xls_open::XlsOptions;
+use xls_output::{Sink, Stop, Writer};
 use xls_refs::{CitedCells, CitedFormula, SheetCites, cites_of_sheet};
 use xls_view::View;
 
@@ -33,7 +34,7 @@ fn name_of(names: &Strings, sheet: usize) -> &str
 /// Puts the line of cells that a formula on the sheet of a name cites: sheet, row and column of the formula, and
 /// of the cells the sheet, and row and column of the first and of the last.
 fn put_cited<'x, K: Sink>(
-    out: &mut Writer<'_, K>,
+    out: &mut Writer<'_, K, Buffer>,
     name: &'x str,
     cite: CitedCells<'x>,
 ) -> Result<(), Stop>
@@ -50,12 +51,12 @@ fn put_cited<'x, K: Sink>(
         Field::Number(u64::from(cite.last.0)),
         Field::Number(u64::from(cite.last.1)),
     ];
-    out.put_line("ref", &fields)
+    put_line(out, "ref", &fields)
 }
 
 /// Puts the line of cells that a formula cites, where the sheets have these names.
 fn put_cite<K: Sink>(
-    out: &mut Writer<'_, K>,
+    out: &mut Writer<'_, K, Buffer>,
     names: &Strings,
     cite: CitedCells<'_>,
 ) -> Result<(), Stop>
@@ -67,7 +68,7 @@ fn put_cite<K: Sink>(
 
 /// Puts the line at an index of what a formula cites.
 fn put_cite_at<K: Sink>(
-    out: &mut Writer<'_, K>,
+    out: &mut Writer<'_, K, Buffer>,
     names: &Strings,
     formula: &CitedFormula<'_>,
     i: usize,
@@ -83,7 +84,7 @@ fn put_cite_at<K: Sink>(
 
 /// Puts the lines of all cells that a formula cites.
 fn put_cites<K: Sink>(
-    out: &mut Writer<'_, K>,
+    out: &mut Writer<'_, K, Buffer>,
     names: &Strings,
     formula: &CitedFormula<'_>,
 ) -> Result<(), Stop>
@@ -98,7 +99,7 @@ fn put_cites<K: Sink>(
 
 /// Puts the lines of all cells that the formulas of a sheet cite.
 fn put_sheet_refs<K: Sink>(
-    out: &mut Writer<'_, K>,
+    out: &mut Writer<'_, K, Buffer>,
     names: &Strings,
     cites: &SheetCites<'_>,
 ) -> Result<(), Stop>
@@ -115,7 +116,7 @@ fn put_sheet_refs<K: Sink>(
 /// Puts those of the sheet at an index, if there is one.
 fn put_refs_at<K: Sink>(
     alloc: Global,
-    out: &mut Writer<'_, K>,
+    out: &mut Writer<'_, K, Buffer>,
     view: &View<'_>,
     sheet: usize,
 ) -> Result<(), Stop>
@@ -129,7 +130,7 @@ fn put_refs_at<K: Sink>(
 }
 
 /// Puts the lines of all cells that are cited, formula by formula.
-fn put_refs<K: Sink>(alloc: Global, out: &mut Writer<'_, K>, view: &View<'_>) -> Result<(), Stop>
+fn put_refs<K: Sink>(alloc: Global, out: &mut Writer<'_, K, Buffer>, view: &View<'_>) -> Result<(), Stop>
     ensures { Puts (output K.state out.old) (output K.state out.new)
         (refs_text (cited_in view.now)) result }
 {

@@ -12,7 +12,7 @@ use std::alloc::Global;
 use xls_biff::XlsError;
 use xls_book::StreamBytes;
 use xls_lay::{LayError, Logical, TOO_LONG, canonical_length, logical_of, write_stream};
-use xls_lines::{Sink, Stop};
+use xls_output::{Sink, Stop};
 
 /// Writes the canonical stream of a list, or that it is too long.
 fn write_list<K: Sink>(alloc: Global, sink: &mut K, list: &Logical) -> Result<Ending, Stop>

@@ -8,8 +8,8 @@ ghost use Rattle.xls_data.specs.Data.{bool_text};
 ghost use Rattle.xls_data.specs.Refs.{ref_content_of};
 ghost use Rattle.xls_data.specs.Sheets.{sheet_content};
 ghost use Rattle.xls_record.specs.declared.error.XlsError.TheVariants.{Memory};
-ghost use Rattle.xls_lines.specs.Gathering.{Delivers};
-ghost use Rattle.xls_lines.specs.Output.{Puts, output};
+ghost use Rattle.xls_output.specs.Gathering.{Delivers};
+ghost use Rattle.xls_output.specs.Output.{Puts, output};
 ghost use Rattle.xls_report.specs.Endings.{EndsWithEither};
 ghost use Rattle.xls_lines.specs.Lines.{field_text};
 ghost use Rattle.xls_open.specs.Workbook.{name_texts};
@@ -24,7 +24,8 @@ use std::alloc::Global;
 use xls_biff::XlsError;
 use xls_data::{DataRef, Dimensions, Sheet, SheetType, SheetVisible};
 use xls_lay::LayError;
-use xls_lines::{Buffer, Field, Sink, Stop, Writer, write_line};
+use xls_lines::{Buffer, Field, put_line, write_line};
+use xls_output::{Sink, Stop, Writer};
 use xls_view::{
     Cells, FormulaBuffer, FormulaCell, Merges, SheetCell, SheetFormulas, TextBuffer, View,
     ViewSheet,
@@ -66,7 +67,7 @@ fn fields_of<'v>(value: &'v DataRef<'v>) -> Option<(&'static str, Field<'v>)>
 
 /// Puts the line of a value at a row and a column.
 fn put_value<K: Sink>(
-    out: &mut Writer<'_, K>,
+    out: &mut Writer<'_, K, Buffer>,
     row: u32,
     column: u32,
     value: &DataRef<'_>,
@@ -75,14 +76,14 @@ fn put_value<K: Sink>(
         (cell_line ((row, column), ref_content_of value.now)) result }
 {
     match fields_of(value) {
-        Some((kind, displayed)) => out.put_cell(row, column, kind, displayed),
+        Some((kind, displayed)) => xls_lines::put_cell(out, row, column, kind, displayed),
         None => Ok(()),
     }
 }
 
 /// Puts the line of a cell, whose text is decoded in `text`.
 fn put_cell<K: Sink>(
-    out: &mut Writer<'_, K>,
+    out: &mut Writer<'_, K, Buffer>,
     text: &mut TextBuffer,
     cell: SheetCell<'_>,
 ) -> Result<(), Stop>
@@ -95,7 +96,7 @@ fn put_cell<K: Sink>(
 }
 
 /// Puts the lines of a sheet's cells.
-fn put_cells<K: Sink>(alloc: Global, out: &mut Writer<'_, K>, cells: Cells<'_>) -> Result<(), Stop>
+fn put_cells<K: Sink>(alloc: Global, out: &mut Writer<'_, K, Buffer>, cells: Cells<'_>) -> Result<(), Stop>
     ensures { Puts (output K.state out.old) (output K.state out.new)
         (flat_map cell_line cells.entry) result }
 {
@@ -131,19 +132,19 @@ fn visible_word(visible: SheetVisible) -> &'static str
 }
 
 /// Puts the line of a sheet.
-fn put_sheet<K: Sink>(out: &mut Writer<'_, K>, sheet: &Sheet) -> Result<(), Stop>
+fn put_sheet<K: Sink>(out: &mut Writer<'_, K, Buffer>, sheet: &Sheet) -> Result<(), Stop>
     ensures { Puts (output K.state out.old) (output K.state out.new)
         (sheet_line (sheet_content sheet.now)) result }
 {
     let name = Field::Text(sheet.name.as_str());
     let typ = Field::Word(type_word(sheet.typ));
     let visible = Field::Word(visible_word(sheet.visible));
-    out.put_line("sheet", &[name, typ, visible])
+    put_line(out, "sheet", &[name, typ, visible])
 }
 
 /// Puts the line of a formula.
 fn put_formula<K: Sink>(
-    out: &mut Writer<'_, K>,
+    out: &mut Writer<'_, K, Buffer>,
     row: u32,
     column: u32,
     text: &str,
@@ -153,12 +154,12 @@ fn put_formula<K: Sink>(
 {
     let row = Field::Number(u64::from(row));
     let column = Field::Number(u64::from(column));
-    out.put_line("formula", &[row, column, Field::Text(text)])
+    put_line(out, "formula", &[row, column, Field::Text(text)])
 }
 
 /// Puts the line of a formula, unless its text is empty.
 fn put_displayed_formula<K: Sink>(
-    out: &mut Writer<'_, K>,
+    out: &mut Writer<'_, K, Buffer>,
     row: u32,
     column: u32,
     text: &str,
@@ -174,7 +175,7 @@ fn put_displayed_formula<K: Sink>(
 
 /// Puts the line of a formula of a sheet, unless its text is empty.
 fn put_formula_of<K: Sink>(
-    out: &mut Writer<'_, K>,
+    out: &mut Writer<'_, K, Buffer>,
     texts: &mut FormulaBuffer,
     formulas: &SheetFormulas<'_>,
     formula: FormulaCell<'_>,
@@ -189,7 +190,7 @@ fn put_formula_of<K: Sink>(
 /// Puts the lines of a sheet's formulas.
 fn put_formulas<K: Sink>(
     alloc: Global,
-    out: &mut Writer<'_, K>,
+    out: &mut Writer<'_, K, Buffer>,
     formulas: &SheetFormulas<'_>,
 ) -> Result<(), Stop>
     ensures { Puts (output K.state out.old) (output K.state out.new)
@@ -203,7 +204,7 @@ fn put_formulas<K: Sink>(
 }
 
 /// Puts the line of a merged region.
-fn put_merge<K: Sink>(out: &mut Writer<'_, K>, region: Dimensions) -> Result<(), Stop>
+fn put_merge<K: Sink>(out: &mut Writer<'_, K, Buffer>, region: Dimensions) -> Result<(), Stop>
     ensures { Puts (output K.state out.old) (output K.state out.new)
         (merge_line region) result }
 {
@@ -215,11 +216,11 @@ fn put_merge<K: Sink>(out: &mut Writer<'_, K>, region: Dimensions) -> Result<(),
         Field::Number(u64::from(last_row)),
         Field::Number(u64::from(last_column)),
     ];
-    out.put_line("merge", &fields)
+    put_line(out, "merge", &fields)
 }
 
 /// Puts the lines of merged regions.
-fn put_merges<K: Sink>(out: &mut Writer<'_, K>, merges: Merges<'_>) -> Result<(), Stop>
+fn put_merges<K: Sink>(out: &mut Writer<'_, K, Buffer>, merges: Merges<'_>) -> Result<(), Stop>
     ensures { Puts (output K.state out.old) (output K.state out.new)
         (flat_map merge_line merges.entry) result }
 {
@@ -232,7 +233,7 @@ fn put_merges<K: Sink>(out: &mut Writer<'_, K>, merges: Merges<'_>) -> Result<()
 /// Puts the lines of the cells that a sheet shows.
 fn put_displayed_cells<K: Sink>(
     alloc: Global,
-    out: &mut Writer<'_, K>,
+    out: &mut Writer<'_, K, Buffer>,
     sheet: &ViewSheet<'_>,
 ) -> Result<(), Stop>
     ensures { Puts (output K.state out.old) (output K.state out.new)
@@ -245,7 +246,7 @@ fn put_displayed_cells<K: Sink>(
 /// Puts the lines of the formulas that a sheet shows.
 fn put_displayed_formulas<K: Sink>(
     alloc: Global,
-    out: &mut Writer<'_, K>,
+    out: &mut Writer<'_, K, Buffer>,
     sheet: &ViewSheet<'_>,
 ) -> Result<(), Stop>
     ensures { Puts (output K.state out.old) (output K.state out.new)
@@ -258,7 +259,7 @@ fn put_displayed_formulas<K: Sink>(
 /// Puts the lines of what a sheet shows.
 fn put_displayed<K: Sink>(
     alloc: Global,
-    out: &mut Writer<'_, K>,
+    out: &mut Writer<'_, K, Buffer>,
     sheet: &ViewSheet<'_>,
 ) -> Result<(), Stop>
     ensures { Puts (output K.state out.old) (output K.state out.new)
@@ -273,7 +274,7 @@ fn put_displayed<K: Sink>(
 /// Puts the lines of what the sheet at an index shows.
 fn put_lines_at<K: Sink>(
     alloc: Global,
-    out: &mut Writer<'_, K>,
+    out: &mut Writer<'_, K, Buffer>,
     view: &View<'_>,
     n: usize,
 ) -> Result<(), Stop>
@@ -289,7 +290,7 @@ fn put_lines_at<K: Sink>(
 /// Puts the line of a sheet, and those of what stands at its index.
 fn put_view<K: Sink>(
     alloc: Global,
-    out: &mut Writer<'_, K>,
+    out: &mut Writer<'_, K, Buffer>,
     view: &View<'_>,
     sheet: &Sheet,
     n: usize,
@@ -303,7 +304,7 @@ fn put_view<K: Sink>(
 }
 
 /// Puts the sheets in workbook order, and what they show.
-fn put_views<K: Sink>(alloc: Global, out: &mut Writer<'_, K>, view: &View<'_>) -> Result<(), Stop>
+fn put_views<K: Sink>(alloc: Global, out: &mut Writer<'_, K, Buffer>, view: &View<'_>) -> Result<(), Stop>
     ensures { Puts (output K.state out.old) (output K.state out.new)
         (sheets_text view.now.book.sheets view.now.book.contents) result }
 {
@@ -322,24 +323,24 @@ fn epoch_word(is_1904: bool) -> &'static str
 }
 
 /// Puts the date system.
-fn put_dates<K: Sink>(out: &mut Writer<'_, K>, is_1904: bool) -> Result<(), Stop>
+fn put_dates<K: Sink>(out: &mut Writer<'_, K, Buffer>, is_1904: bool) -> Result<(), Stop>
     ensures { Puts (output K.state out.old) (output K.state out.new)
         (dates_line is_1904) result }
 {
-    out.put_line("dates", &[Field::Word(epoch_word(is_1904))])
+    put_line(out, "dates", &[Field::Word(epoch_word(is_1904))])
 }
 
 /// Puts the line of a defined name.
-fn put_name<K: Sink>(out: &mut Writer<'_, K>, name: &(String, String)) -> Result<(), Stop>
+fn put_name<K: Sink>(out: &mut Writer<'_, K, Buffer>, name: &(String, String)) -> Result<(), Stop>
     ensures { Puts (output K.state out.old) (output K.state out.new)
         (name_line (name_texts name.now)) result }
 {
     let text = Field::Text(name.1.as_str());
-    out.put_line("name", &[Field::Text(name.0.as_str()), text])
+    put_line(out, "name", &[Field::Text(name.0.as_str()), text])
 }
 
 /// Puts the lines of the defined names.
-fn put_names<K: Sink>(out: &mut Writer<'_, K>, names: &[(String, String)]) -> Result<(), Stop>
+fn put_names<K: Sink>(out: &mut Writer<'_, K, Buffer>, names: &[(String, String)]) -> Result<(), Stop>
     ensures { Puts (output K.state out.old) (output K.state out.new)
         (flat_map (λ n. name_line (name_texts n)) names.now) result }
 {
@@ -350,7 +351,7 @@ fn put_names<K: Sink>(out: &mut Writer<'_, K>, names: &[(String, String)]) -> Re
 }
 
 /// Puts the date system, the defined names, and the sheets with what they show.
-fn put_report<K: Sink>(alloc: Global, out: &mut Writer<'_, K>, view: &View<'_>) -> Result<(), Stop>
+fn put_report<K: Sink>(alloc: Global, out: &mut Writer<'_, K, Buffer>, view: &View<'_>) -> Result<(), Stop>
     ensures { Puts (output K.state out.old) (output K.state out.new)
         (report view.now.book) result }
 {
@@ -374,7 +375,7 @@ pub fn write_report<K: Sink>(alloc: Global, sink: &mut K, view: &View<'_>) -> Re
 }
 
 /// Puts the lines of sheets.
-fn put_sheets<K: Sink>(out: &mut Writer<'_, K>, sheets: &[Sheet]) -> Result<(), Stop>
+fn put_sheets<K: Sink>(out: &mut Writer<'_, K, Buffer>, sheets: &[Sheet]) -> Result<(), Stop>
     ensures { Puts (output K.state out.old) (output K.state out.new)
         (flat_map (λ s. sheet_line (sheet_content s)) sheets.now) result }
 {

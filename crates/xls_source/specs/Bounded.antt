@@ -2,7 +2,7 @@
 use Rattle.std.specs.Prelude.{◌≡◌, ◌⊎◌, ℕ, ◌<◌, length, IfSome, Result, MatchResult}
 use Rattle.xls_record.specs.declared.error.XlsError.{XlsError}
 use Rattle.xls_record.specs.declared.error.XlsError.TheVariants as errors
-use Rattle.xls_source.specs.Causes.{Rose}
+use Rattle.xls_output.specs.Causes.{Rose}
 use Rattle.xls_source.specs.SourceState.{SourceState}
 
 -- why a bounded read is refused, by the states of the source before and after it

@@ -3,7 +3,7 @@
 ghost use Rattle.std.specs.Prelude.{◌≡◌, ◌↔◌, ◌+◌, ◌-◌, ◌^◌, ◌≤◌, [], min, Some, IfOk, OnOk, OnErr, IsOk, IsErr, Contains, length, take, drop};
 ghost use Rattle.std.specs.Io.{ReadsAtMost};
 ghost use Rattle.std.specs.Io.KnownBytes.{ReadConsumes};
-ghost use Rattle.xls_source.specs.Causes.{HasCause};
+ghost use Rattle.xls_output.specs.Causes.{HasCause};
 
 use crate::source::{ReadFault, Source};
 use std::marker::Model;

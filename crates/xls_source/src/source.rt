@@ -3,7 +3,7 @@
 ghost use Rattle.std.specs.Prelude.{◌≡◌, ◌<◌, ◌+◌, ◌-◌, ◌^◌, IfOk, OnOk, OnErr, length, min};
 ghost use Rattle.std.specs.Io.{ReadsAtMost};
 ghost use Rattle.std.specs.Io.KnownBytes.{ReadConsumes};
-ghost use Rattle.xls_source.specs.Causes.{HasCause};
+ghost use Rattle.xls_output.specs.Causes.{HasCause};
 ghost use Rattle.xls_source.specs.SourceState.{SourceState};
 
 use std::io::{ErrorKind, Read};

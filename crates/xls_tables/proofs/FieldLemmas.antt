@@ -10,10 +10,10 @@ use Rattle.xls_decimals.specs.Added.{AddsText}
 use Rattle.xls_biff.specs.Cells.{CellEntry}
 use Rattle.xls_csv.specs.Walk.{take_at, row_over, left_over}
 use Rattle.xls_readable.specs.Csv.{csv_field, joined, separated}
-use Rattle.xls_lines.specs.SinkState.{SinkState}
-use Rattle.xls_lines.specs.Output.{Buffers, GivesUp, Output}
-use Rattle.xls_lines.specs.declared.stop.Stop.{Stop}
-use Rattle.xls_lines.proofs.OutputLemmas.{gathers-added, gathers-as, gathers-nothing, gathers-then, stops-as, stops-then}
+use Rattle.xls_output.specs.SinkState.{SinkState}
+use Rattle.xls_output.specs.Output.{Buffers, GivesUp, Output}
+use Rattle.xls_output.specs.declared.stop.Stop.{Stop}
+use Rattle.xls_output.proofs.OutputLemmas.{gathers-added, gathers-as, gathers-nothing, gathers-then, stops-as, stops-then}
 use Rattle.xls_tables.specs.Rows.{AreContentTexts, IsContentField, IsContentText}
 use Rattle.xls_tables.specs.Tables.{BeginsRow}
 use Rattle.xls_tables.specs.Steps.{AddsPlaced, IsPlaced, PutsFields, PutsOrBegins, separator}

@@ -8,12 +8,12 @@ use Rattle.xls_csv.specs.Walk.{left_over, row_over, rows_over, walk_rows}
 use Rattle.xls_csv.proofs.WalkLemmas.{rows_from}
 use Rattle.xls_readable.specs.Csv.{row_end}
 use Rattle.xls_readable.specs.Values.{Concatenates}
-use Rattle.xls_lines.specs.SinkState.{SinkState}
-use Rattle.xls_lines.specs.Output.{Buffers, GivesUp, Output}
-use Rattle.xls_lines.specs.declared.stop.Stop.{Stop}
-use Rattle.xls_lines.specs.declared.stop.Stop.TheVariants.{Memory}
-use Rattle.xls_lines.proofs.GatherLemmas.{stops-from, stops-memory-now}
-use Rattle.xls_lines.proofs.OutputLemmas.{gathers-after, gathers-nothing, gathers-then, stops-after, stops-as, stops-memory, stops-then, wrote}
+use Rattle.xls_output.specs.SinkState.{SinkState}
+use Rattle.xls_output.specs.Output.{Buffers, GivesUp, Output}
+use Rattle.xls_output.specs.declared.stop.Stop.{Stop}
+use Rattle.xls_output.specs.declared.stop.Stop.TheVariants.{Memory}
+use Rattle.xls_output.proofs.GatherLemmas.{stops-from, stops-memory-now}
+use Rattle.xls_output.proofs.OutputLemmas.{gathers-after, gathers-nothing, gathers-then, stops-after, stops-as, stops-memory, stops-then, wrote}
 use Rattle.xls_tables.specs.Rows.{IsContentFields, IsContentRow}
 use Rattle.xls_csv.specs.Dense.{box_of}
 use Rattle.xls_csv.specs.declared.extent.Extent.{Extent}

@@ -1,9 +1,9 @@
 -- Rows of CSV one after another, and how far they were written.
 use Rattle.std.specs.Prelude.{◌≡◌, ◌⊎◌, ℕ, Bool, true, false, List, [], ◌∷◌, ◌++◌, Result, MatchResult}
 use Rattle.xls_data.specs.Content.{Content}
-use Rattle.xls_lines.specs.Gathering.{Stops, Wrote}
-use Rattle.xls_lines.specs.SinkState.{SinkState}
-use Rattle.xls_lines.specs.declared.stop.Stop.{Stop}
+use Rattle.xls_output.specs.Gathering.{Stops, Wrote}
+use Rattle.xls_output.specs.SinkState.{SinkState}
+use Rattle.xls_output.specs.declared.stop.Stop.{Stop}
 use Rattle.xls_readable.specs.Values.{Concatenates}
 use Rattle.xls_tables.specs.Rows.{IsContentFields, IsContentRow}
 

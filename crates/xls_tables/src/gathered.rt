@@ -5,7 +5,7 @@ ghost use Rattle.std.specs.Str.{chars};
 ghost use Rattle.xls_data.specs.Content.{text};
 ghost use Rattle.xls_data.specs.Numeric.{numeric_content};
 ghost use Rattle.xls_decimals.specs.Added.{AddsText};
-ghost use Rattle.xls_lines.specs.Output.{Puts, output};
+ghost use Rattle.xls_output.specs.Output.{Puts, output};
 ghost use Rattle.xls_readable.specs.Csv.{row_end};
 ghost use Rattle.xls_cursors.specs.Values.{lent_content, value_text};
 ghost use Rattle.xls_csv.specs.Walk.{value_in};
@@ -16,7 +16,7 @@ ghost use Rattle.xls_tables.specs.Steps.{AddsPlaced, separator};
 use std::alloc::{AllocError, Global};
 use std::marker::Model;
 use xls_data::{ExcelDateTime, ExcelDateTimeType, Numeric};
-use xls_lines::{Sink, Stop, Writer, write_all};
+use xls_output::{Sink, Stop, Writer, write_all};
 use xls_readable::{
     Delimiter, push_failure_field, push_int_field, push_moment_field, push_number_field,
     push_separator, push_text_field, push_truth_field,

@@ -4,7 +4,7 @@ ghost use Rattle.std.specs.Prelude.{◌≡◌, ◌≤◌, ◌^◌, ◌+◌, ◌=
 ghost use Rattle.xls_biff.specs.Cells.{CellEntry};
 ghost use Rattle.xls_range.specs.Positions.{IsAscending};
 ghost use Rattle.xls_csv.specs.Dense.{dense_rows};
-ghost use Rattle.xls_lines.specs.Output.{output};
+ghost use Rattle.xls_output.specs.Output.{output};
 ghost use Rattle.xls_csv.specs.Walk.{left_over, row_over, rows_over, take_at, walk_rows};
 ghost use Rattle.xls_tables.specs.Steps.{PutsField, PutsFields, PutsRow, PutsRows};
 ghost use Rattle.xls_tables.specs.Tables.{DeliversTable};
@@ -12,7 +12,7 @@ ghost use Rattle.xls_tables.specs.Tables.{DeliversTable};
 use crate::gathered::{Gathered, finish, pass};
 use std::alloc::Global;
 use xls_csv::{Ahead, BoxRow, Extent, extent_of};
-use xls_lines::{Sink, Stop, Writer};
+use xls_output::{Sink, Stop, Writer};
 use xls_readable::Delimiter;
 use xls_view::SheetCells;
 

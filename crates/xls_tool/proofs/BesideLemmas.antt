@@ -8,7 +8,7 @@ use Rattle.xls_compound.specs.Compound.{Compound}
 use Rattle.xls_compound.specs.Entries.{Entry, IsItem, entry_at}
 use Rattle.xls_container.proofs.EntryLemmas.{HasAt, found_at, place_of}
 use Rattle.xls_files.specs.Paths.{names_in}
-use Rattle.xls_lines.specs.SinkState.{SinkState}
+use Rattle.xls_output.specs.SinkState.{SinkState}
 use Rattle.xls_tool.specs.Beside.{IsRefused, IsStreamAt}
 use Rattle.xls_tool.specs.declared.problem.Problem.{Problem}
 

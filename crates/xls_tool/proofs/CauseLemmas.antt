@@ -6,8 +6,8 @@ use Rattle.xls_answers.specs.Views.{options_under}
 use Rattle.xls_files.specs.Reads.{Stays}
 use Rattle.xls_files.specs.declared.host.Reason.{Reason}
 use Rattle.xls_files.specs.declared.host.Reason.TheVariants as reasons
-use Rattle.xls_lines.specs.SinkState.{SinkState}
-use Rattle.xls_lines.specs.declared.stop.Stop.{Stop}
+use Rattle.xls_output.specs.SinkState.{SinkState}
+use Rattle.xls_output.specs.declared.stop.Stop.{Stop}
 use Rattle.xls_open.specs.declared.options.XlsOptions.{XlsOptions}
 use Rattle.xls_tool.specs.Problems.{problem_status, status_of_file, status_of_work}
 use Rattle.xls_tool.specs.Steps.{EndsPath, IsUnread, OfPath}

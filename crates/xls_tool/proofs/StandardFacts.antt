@@ -2,7 +2,7 @@
 use Rattle.std.proofs.Common.{◌≡◌, ℕ, Bool, true, false, [], ◌∷◌, Ok, Err, map, refl, codes}
 use Rattle.xls_documents.specs.declared.fault.ProjectFault.{ProjectFault}
 use Rattle.xls_files.specs.declared.host.Reason.TheVariants as reasons
-use Rattle.xls_lines.specs.declared.stop.Stop.TheVariants as stop
+use Rattle.xls_output.specs.declared.stop.Stop.TheVariants as stop
 use Rattle.xls_tool.specs.Displayed.{absent_text, problem_text}
 use Rattle.xls_tool.specs.Problems.{outcome_for, problem_status, status_of_work}
 use Rattle.xls_tool.specs.Texts.{is_exact}

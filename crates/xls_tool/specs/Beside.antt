@@ -17,9 +17,9 @@ use Rattle.xls_documents.specs.Properties.{property_lines}
 use Rattle.xls_documents.specs.PropertyStreams.{HasProperties, RefusesInFile}
 use Rattle.xls_documents.specs.Streams.{IsEntryText}
 use Rattle.xls_documents.specs.declared.fault.ProjectFault.{ProjectFault}
-use Rattle.xls_lines.specs.SinkState.{SinkState}
-use Rattle.xls_lines.specs.declared.stop.Stop.{Stop}
-use Rattle.xls_lines.specs.declared.stop.Stop.TheVariants.{Memory}
+use Rattle.xls_output.specs.SinkState.{SinkState}
+use Rattle.xls_output.specs.declared.stop.Stop.{Stop}
+use Rattle.xls_output.specs.declared.stop.Stop.TheVariants.{Memory}
 use Rattle.xls_readable.specs.declared.forms.Form.TheVariants.{Text}
 use Rattle.xls_report.specs.Endings.{IsUntouched}
 use Rattle.xls_answers.specs.Answers.{OfBytes}

@@ -4,8 +4,8 @@ use Rattle.xls_answers.specs.Failures as failures
 use Rattle.xls_answers.specs.declared.failure.Failure.TheVariants.{Stopped}
 use Rattle.xls_documents.specs.declared.fault.ProjectFault.{ProjectFault}
 use Rattle.xls_documents.specs.declared.fault.ProjectFault.TheVariants as faults
-use Rattle.xls_lines.specs.declared.stop.Stop.{Stop}
-use Rattle.xls_lines.specs.declared.stop.Stop.TheVariants as stop
+use Rattle.xls_output.specs.declared.stop.Stop.{Stop}
+use Rattle.xls_output.specs.declared.stop.Stop.TheVariants as stop
 use Rattle.xls_files.specs.declared.host.Reason.TheVariants.{Memory, Reported}
 use Rattle.xls_tool.specs.declared.problem.Outcome.{Outcome}
 use Rattle.xls_tool.specs.declared.problem.Outcome.TheVariants as outcome

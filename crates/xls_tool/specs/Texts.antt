@@ -4,7 +4,7 @@ use Rattle.xls_answers.specs.Answers.{OfFile}
 use Rattle.xls_answers.specs.declared.answer.Answer.{Answer}
 use Rattle.xls_answers.specs.declared.answer.Answer.TheVariants as answers
 use Rattle.xls_answers.specs.declared.lines.Listing.TheVariants as listing
-use Rattle.xls_lines.specs.SinkState.{SinkState}
+use Rattle.xls_output.specs.SinkState.{SinkState}
 use Rattle.xls_open.specs.declared.options.XlsOptions.{XlsOptions}
 use Rattle.xls_readable.specs.declared.forms.Form.{Form}
 use Rattle.xls_readable.specs.declared.forms.Form.TheVariants.{Text, Json}

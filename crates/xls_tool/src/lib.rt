@@ -17,4 +17,4 @@ mod work;
 pub use problem::Problem;
 pub use runs::run;
 pub use xls_files::{Host, Listed, Name, Place, Reason};
-pub use xls_lines::{MemorySink, Sink, StdSink, WriteFault};
+pub use xls_output::{MemorySink, Sink, StdSink, WriteFault};

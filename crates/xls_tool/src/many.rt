@@ -15,7 +15,7 @@ use crate::tell::Report;
 use crate::work::write_text;
 use std::alloc::{AllocError, Global};
 use xls_files::{Host, Name, Next, Queue, Reason};
-use xls_lines::{Sink, Stop, WriteFault};
+use xls_output::{Sink, Stop, WriteFault};
 
 /// A sink that keeps nothing.
 #[derive(Drop)]

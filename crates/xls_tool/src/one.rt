@@ -15,7 +15,7 @@ use crate::say::say_problem;
 use std::alloc::Global;
 use xls_answers::Failure;
 use xls_files::{Host, Place, Reason};
-use xls_lines::{Sink, Stop};
+use xls_output::{Sink, Stop};
 
 /// A path, and what stands there.
 #[derive(Drop)]

@@ -5,7 +5,7 @@ ghost use Rattle.xls_tool.specs.Problems.{IsStatus, outcome_of, problem_of_proje
 ghost use Rattle.xls_answers.specs.Failures.{failure_of_fault};
 ghost use Rattle.xls_tool.specs.declared.problem.Problem.TheVariants as problems;
 ghost use Rattle.xls_answers.specs.declared.failure.Failure.TheVariants.{Stopped};
-ghost use Rattle.xls_lines.specs.declared.stop.Stop.TheVariants.{Memory};
+ghost use Rattle.xls_output.specs.declared.stop.Stop.TheVariants.{Memory};
 
 use std::alloc::AllocError;
 use std::fmt;
@@ -13,7 +13,7 @@ use xls_answers::Failure;
 use xls_container::FileFault;
 use xls_documents::ProjectFault;
 use xls_files::Reason;
-use xls_lines::Stop;
+use xls_output::Stop;
 
 /// How it went with a file.
 #[derive(Clone, Copy, Debug, PartialEq, Eq)]

@@ -3,7 +3,7 @@
 ghost use Rattle.std.specs.Prelude.{◌≡◌, ◌⊎◌, ℕ, true, false, List, [], ◌∷◌, map, None, Err, IfOk, IfErr, IfSome};
 ghost use Rattle.std.specs.String.{string_bytes};
 ghost use Rattle.xls_answers.specs.Views.{options_under};
-ghost use Rattle.xls_lines.specs.declared.stop.Stop.TheVariants.{Memory};
+ghost use Rattle.xls_output.specs.declared.stop.Stop.TheVariants.{Memory};
 ghost use Rattle.xls_tool.specs.Problems.{Ends, IsStatus, status_of_work};
 ghost use Rattle.xls_tool.specs.Steps.{OfPath};
 ghost use Rattle.xls_tool.specs.Texts.{HasCause, WantsFolder, is_exact};
@@ -19,7 +19,7 @@ use crate::many::{NameList, do_list, do_many};
 use crate::one::{Placed, do_one};
 use std::alloc::Global;
 use xls_files::{Host, Place, place_of};
-use xls_lines::{Sink, Stop, write_all};
+use xls_output::{Sink, Stop, write_all};
 use xls_words::{Command, Displayed, Files, Request, SheetChoice, request_of};
 
 /// Where there is no folder for the texts, what is wrong with that.

@@ -6,7 +6,7 @@ ghost use Rattle.xls_tool.specs.Problems.{IsStatus};
 use crate::problem::{Outcome, Problem};
 use std::alloc::{AllocError, Global};
 use std::marker::Model;
-use xls_lines::{Sink, Stop, write_all};
+use xls_output::{Sink, Stop, write_all};
 use xls_readable::{Field, Form, Member, push_line};
 
 /// How many files went how, and the greatest exit status of theirs. Contracts see the status.

@@ -4,7 +4,7 @@ ghost use Rattle.std.specs.Prelude.{◌≡◌, ◌⊎◌, Some, None, IfOk, IfEr
 ghost use Rattle.xls_compound.specs.Items.{Item};
 ghost use Rattle.xls_compound.specs.Entries.{IsItem};
 ghost use Rattle.xls_container.specs.Files.{compound_in};
-ghost use Rattle.xls_lines.specs.declared.stop.Stop.TheVariants.{Memory};
+ghost use Rattle.xls_output.specs.declared.stop.Stop.TheVariants.{Memory};
 ghost use Rattle.xls_answers.specs.declared.failure.Failure.TheVariants.{Stopped};
 ghost use Rattle.xls_words.specs.Requests as requests;
 ghost use Rattle.xls_tool.specs.Beside.{IsStreamAt, OfContainer, OfProject, OfProperties, OfStreamAt, OfStreamIn, OfStreams, as_failure, as_problem};
@@ -20,8 +20,8 @@ use xls_compound::{Compound, Entry};
 use xls_container::{Container, FileFault};
 use xls_documents::{project_of, properties_of, write_project, write_properties, write_streams};
 use xls_files::names_of;
-use xls_lines::{Sink, Stop};
 use xls_open::XlsOptions;
+use xls_output::{Sink, Stop};
 use xls_readable::Form;
 use xls_words::Command;
 

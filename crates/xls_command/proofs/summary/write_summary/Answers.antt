@@ -1,7 +1,7 @@
 use Rattle.std.proofs.Common.{rules, append_assoc, ◌∙◌}
 use Rattle.std.specs.Prelude.{codes}
 use Rattle.xls_command.specs.Summary.{count_line}
-use Rattle.xls_lines.proofs.OutputLemmas.{delivers-back, delivers-stop, gathers-as, gathers-after, gathers-then, stops-as, stops-after, stops-more, stops-then, wrote, wrote-back}
+use Rattle.xls_output.proofs.OutputLemmas.{delivers-back, delivers-stop, gathers-as, gathers-after, gathers-then, stops-as, stops-after, stops-more, stops-then, wrote, wrote-back}
 use Rattle.xls_command.proofs.summary.write_summary.Goals as goal
 
 pub returns-in_err-put_line : goal.returns-in_err-put_line

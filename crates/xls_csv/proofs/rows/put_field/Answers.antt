@@ -1,5 +1,5 @@
 use Rattle.std.proofs.Common.{◌+◌}
-use Rattle.xls_lines.proofs.OutputLemmas.{puts-stop, stops-memory, stops-more}
+use Rattle.xls_output.proofs.OutputLemmas.{puts-stop, stops-memory, stops-more}
 use Rattle.xls_csv.specs.Steps.{field_placed}
 use Rattle.xls_csv.specs.Walk.{take_at}
 use Rattle.xls_csv.proofs.rows.put_field.Goals as goal

@@ -1,6 +1,6 @@
 use Rattle.std.proofs.Common.{◌≡◌, ◌∙◌}
 use Rattle.std.specs.Prelude.{◌&&◌}
-use Rattle.xls_lines.proofs.OutputLemmas.{puts-stop}
+use Rattle.xls_output.proofs.OutputLemmas.{puts-stop}
 use Rattle.xls_csv.proofs.RowLemmas.{fields_first, fields_more, fields_stop, row_bare, row_gathered, row_left}
 use Rattle.xls_csv.proofs.rows.put_fields.Goals.{then-is_bare, else-is_bare}
 use Rattle.xls_csv.proofs.rows.put_fields.Goals as goal

@@ -1,4 +1,4 @@
-use Rattle.xls_lines.specs.Output.{output}
+use Rattle.xls_output.specs.Output.{output}
 use Rattle.xls_csv.proofs.RowLemmas.{FieldsSoFar}
 use Rattle.xls_csv.proofs.rows.put_fields.Given as goal
 

@@ -4,7 +4,7 @@ use Rattle.csv.specs.Writing.{default_writer, row_body}
 use Rattle.xls_csv.specs.Fields.{field}
 use Rattle.xls_csv.specs.Steps.{row_end}
 use Rattle.xls_csv.specs.Walk.{row_over}
-use Rattle.xls_lines.proofs.OutputLemmas.{gathers-added, gathers-as, gathers-then, puts-stop, stops-as, stops-memory, stops-more}
+use Rattle.xls_output.proofs.OutputLemmas.{gathers-added, gathers-as, gathers-then, puts-stop, stops-as, stops-memory, stops-more}
 use Rattle.xls_csv.proofs.LineLemmas.{row_ended}
 use Rattle.xls_csv.proofs.rows.put_row.Goals as goal
 

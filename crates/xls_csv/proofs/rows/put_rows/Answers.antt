@@ -1,5 +1,5 @@
 use Rattle.std.proofs.Common.{◌≡◌, ◌+◌, ◌-◌, arith, refl}
-use Rattle.xls_lines.proofs.OutputLemmas.{puts-stop, some-all, some-first, some-next, some-stopped}
+use Rattle.xls_output.proofs.OutputLemmas.{puts-stop, some-all, some-first, some-next, some-stopped}
 use Rattle.xls_csv.specs.Text.{row_csv}
 use Rattle.xls_csv.proofs.WalkLemmas.{rows_from}
 use Rattle.xls_csv.proofs.rows.put_rows.Goals as goal

@@ -1,6 +1,6 @@
 use Rattle.std.proofs.Common.{◌+◌, ◌-◌}
-use Rattle.xls_lines.specs.Output.{output}
-use Rattle.xls_lines.proofs.OutputLemmas.{PutsSome}
+use Rattle.xls_output.specs.Output.{output}
+use Rattle.xls_output.proofs.OutputLemmas.{PutsSome}
 use Rattle.xls_csv.specs.Text.{row_csv}
 use Rattle.xls_csv.specs.Walk.{rows_over}
 use Rattle.xls_csv.proofs.rows.put_rows.Given as goal

@@ -1,5 +1,5 @@
 use Rattle.std.proofs.Common.{List, ℕ, subst}
-use Rattle.xls_lines.specs.Gathering.{Delivers}
+use Rattle.xls_output.specs.Gathering.{Delivers}
 use Rattle.xls_csv.proofs.WalkLemmas.{joins_to_csv}
 use Rattle.xls_csv.proofs.rows.write_rows.Goals as goal
 

@@ -1,6 +1,6 @@
 use Rattle.std.proofs.Common.{ap, rules, ◌∙◌}
 use Rattle.xls_csv.specs.Text.{rows_csv}
-use Rattle.xls_lines.proofs.OutputLemmas.{delivers-back, delivers-stop, gathers-after, gathers-as, stops-after, stops-as, wrote, wrote-back}
+use Rattle.xls_output.proofs.OutputLemmas.{delivers-back, delivers-stop, gathers-after, gathers-as, stops-after, stops-as, wrote, wrote-back}
 use Rattle.xls_csv.proofs.RowLemmas.{walked}
 use Rattle.xls_csv.proofs.rows.write_walk.Goals as goal
 

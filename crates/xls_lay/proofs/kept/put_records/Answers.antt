@@ -1,5 +1,5 @@
 use Rattle.std.proofs.Common.{rules}
-use Rattle.xls_lines.proofs.OutputLemmas.{puts-stop}
+use Rattle.xls_output.proofs.OutputLemmas.{puts-stop}
 use Rattle.xls_lay.proofs.InsideLemmas.{kept_on_more, kept_on_none, kept_on_stop}
 use Rattle.xls_lay.proofs.kept.put_records.Goals as goal
 

@@ -1,5 +1,5 @@
 use Rattle.std.proofs.Common.{[], rules}
-use Rattle.xls_lines.proofs.OutputLemmas.{puts-of}
+use Rattle.xls_output.proofs.OutputLemmas.{puts-of}
 use Rattle.xls_lay.proofs.pieces.finish.Goals as goal
 
 pub returns-in_err-write_all-clause-puts : goal.returns-in_err-write_all-clause-puts

@@ -1,7 +1,7 @@
 use Rattle.std.proofs.Common.{◌≡◌, ◌+◌, arith, get_or, rules}
 use Rattle.xls_lay.specs.Cutting.{part_size}
 use Rattle.xls_lay.specs.Entries.{entry_in}
-use Rattle.xls_lines.proofs.OutputLemmas.{puts-stop}
+use Rattle.xls_output.proofs.OutputLemmas.{puts-stop}
 use Rattle.xls_lay.proofs.WriteLemmas.{globals_on_eof, globals_on_more, globals_on_none, globals_on_stop, on_size}
 use Rattle.xls_lay.proofs.write.put_globals.Goals as goal
 

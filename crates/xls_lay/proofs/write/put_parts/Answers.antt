@@ -1,5 +1,5 @@
 use Rattle.std.proofs.Common.{◌≡◌, get_or, rules}
-use Rattle.xls_lines.proofs.OutputLemmas.{puts-stop}
+use Rattle.xls_output.proofs.OutputLemmas.{puts-stop}
 use Rattle.xls_lay.proofs.WriteLemmas.{parts_on_more, parts_on_stop}
 use Rattle.xls_lay.proofs.write.put_parts.Goals as goal
 

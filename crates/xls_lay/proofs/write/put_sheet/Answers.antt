@@ -1,4 +1,4 @@
-use Rattle.xls_lines.proofs.OutputLemmas.{puts-memory}
+use Rattle.xls_output.proofs.OutputLemmas.{puts-memory}
 use Rattle.xls_lay.proofs.PieceLemmas.{added_passed}
 use Rattle.xls_lay.proofs.write.put_sheet.Goals as goal
 

@@ -1,4 +1,4 @@
-use Rattle.xls_lines.proofs.OutputLemmas.{gathers-then, puts-stop, stops-more, stops-then}
+use Rattle.xls_output.proofs.OutputLemmas.{gathers-then, puts-stop, stops-more, stops-then}
 use Rattle.xls_lay.specs.Cutting.{eof_bytes}
 use Rattle.xls_lay.proofs.write.put_sheet_part.Goals as goal
 

@@ -1,4 +1,4 @@
-use Rattle.xls_lines.proofs.OutputLemmas.{puts-stop}
+use Rattle.xls_output.proofs.OutputLemmas.{puts-stop}
 use Rattle.xls_lay.proofs.WriteLemmas.{table_put, table_stop, table_unfinished}
 use Rattle.xls_lay.proofs.write.put_table.Goals as goal
 

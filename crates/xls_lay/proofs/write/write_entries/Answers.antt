@@ -2,7 +2,7 @@ use Rattle.std.proofs.Common.{ap, List, rules, ◌∙◌, ℕ}
 use Rattle.std.specs.Global.{Vec}
 use Rattle.xls_lay.specs.Cutting.{parts_from}
 use Rattle.xls_lay.specs.Entries.{entries_in}
-use Rattle.xls_lines.proofs.OutputLemmas.{delivers-back, delivers-stop, gathers-after, gathers-then, stops-after, stops-more, stops-then, wrote, wrote-back}
+use Rattle.xls_output.proofs.OutputLemmas.{delivers-back, delivers-stop, gathers-after, gathers-then, stops-after, stops-more, stops-then, wrote, wrote-back}
 use Rattle.xls_lay.proofs.write.write_entries.Goals as goal
 
 abbrev items : Vec ℕ → List ℕ

@@ -1,5 +1,5 @@
 use Rattle.std.proofs.Common.{◌<◌, ◌^◌, ◌∙◌, ap, length, List, ℕ, subst}
-use Rattle.xls_lines.specs.Gathering.{Delivers}
+use Rattle.xls_output.specs.Gathering.{Delivers}
 use Rattle.xls_lay.specs.Entries.{entries_in}
 use Rattle.xls_lay.specs.Writing.{canonical_bytes}
 use Rattle.xls_lay.proofs.WriteLemmas.{canonical_is, parts_within}

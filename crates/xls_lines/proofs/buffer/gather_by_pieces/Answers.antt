@@ -2,8 +2,8 @@ use Rattle.std.proofs.Common.{◌≡◌, ℕ, List, ◌+◌, ◌-◌, ◌++◌, 
 use Rattle.std.proofs.lemmas.List.{length-take}
 use Rattle.std.proofs.Math.Seq.{take-add}
 use Rattle.std.proofs.lemmas.Grind.{common_steps}
-use Rattle.xls_lines.specs.declared.buffer.TheConstants.{PIECE}
-use Rattle.xls_lines.proofs.GatherLemmas.{gathers-added, gathers-as, gathers-then, memory-inside, puts-stop, stops-inside}
+use Rattle.xls_output.specs.declared.writer.TheConstants.{PIECE}
+use Rattle.xls_output.proofs.GatherLemmas.{gathers-added, gathers-as, gathers-then, memory-inside, puts-stop, stops-inside}
 use Rattle.xls_lines.proofs.buffer.gather_by_pieces.Goals as goal
 
 add-sub-left : (a b : ℕ) → a + b - a ≡ b

@@ -1,6 +1,6 @@
 use Rattle.std.proofs.Common.{◌-◌, ◌≤◌, length, take}
-use Rattle.xls_lines.specs.Gathering.{GathersText}
-use Rattle.xls_lines.specs.declared.buffer.TheConstants.{PIECE}
+use Rattle.xls_output.specs.Gathering.{GathersText}
+use Rattle.xls_output.specs.declared.writer.TheConstants.{PIECE}
 use Rattle.xls_lines.proofs.buffer.gather_by_pieces.Given as goal
 
 -- the text up to here is gathered

@@ -1,5 +1,5 @@
 use Rattle.std.proofs.Common.{◌++◌, codes, append_assoc}
-use Rattle.xls_lines.proofs.GatherLemmas.{gathers-as, gathers-then, puts-stop, stops-as, stops-more, stops-then}
+use Rattle.xls_output.proofs.GatherLemmas.{gathers-as, gathers-then, puts-stop, stops-as, stops-more, stops-then}
 use Rattle.xls_lines.proofs.buffer.gather_line.Goals as goal
 
 pub returns-in_err-gather-clause-puts : goal.returns-in_err-gather-clause-puts

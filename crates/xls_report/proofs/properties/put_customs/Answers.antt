@@ -1,5 +1,5 @@
 use Rattle.xls_report.specs.Properties.{custom_line}
-use Rattle.xls_lines.proofs.OutputLemmas.{puts-stop, some-first, some-next, some-stopped}
+use Rattle.xls_output.proofs.OutputLemmas.{puts-stop, some-first, some-next, some-stopped}
 use Rattle.xls_report.proofs.properties.put_customs.Goals as goal
 
 pub loop-name-init : goal.loop-name-init

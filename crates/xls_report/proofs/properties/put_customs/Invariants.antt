@@ -1,6 +1,6 @@
 use Rattle.xls_report.specs.Properties.{custom_line}
-use Rattle.xls_lines.specs.Output.{output}
-use Rattle.xls_lines.proofs.OutputLemmas.{PutsSome}
+use Rattle.xls_output.specs.Output.{output}
+use Rattle.xls_output.proofs.OutputLemmas.{PutsSome}
 use Rattle.xls_report.proofs.properties.put_customs.Given as goal
 
 -- the lines of some custom properties are put, and the others are left

@@ -1,5 +1,5 @@
 use Rattle.xls_report.specs.Properties.{property_text}
-use Rattle.xls_lines.proofs.OutputLemmas.{gathers-item, puts-stop, stops-item}
+use Rattle.xls_output.proofs.OutputLemmas.{gathers-item, puts-stop, stops-item}
 use Rattle.xls_report.proofs.properties.put_fields.Goals as goal
 
 pub returns-in_err-put_property : goal.returns-in_err-put_property

@@ -1,6 +1,6 @@
 use Rattle.std.proofs.Common.{take}
 use Rattle.std.specs.List.{flat_map}
-use Rattle.xls_lines.specs.Output.{Buffers, output}
+use Rattle.xls_output.specs.Output.{Buffers, output}
 use Rattle.xls_report.specs.Properties.{property_text}
 use Rattle.xls_report.proofs.properties.put_fields.Given as goal
 

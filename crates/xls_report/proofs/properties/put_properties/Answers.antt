@@ -1,7 +1,7 @@
 use Rattle.std.proofs.Common.{ap}
 use Rattle.std.specs.List.{flat_map}
 use Rattle.xls_report.specs.Properties.{custom_line}
-use Rattle.xls_lines.proofs.OutputLemmas.{gathers-as, gathers-then, puts-stop, stops-as, stops-more, stops-then}
+use Rattle.xls_output.proofs.OutputLemmas.{gathers-as, gathers-then, puts-stop, stops-as, stops-more, stops-then}
 use Rattle.xls_report.proofs.properties.put_properties.Goals as goal
 
 pub returns-in_err-put_known-clause-puts : goal.returns-in_err-put_known-clause-puts

@@ -1,5 +1,5 @@
 use Rattle.xls_report.specs.Refs.{ref_line}
-use Rattle.xls_lines.proofs.OutputLemmas.{puts-stop}
+use Rattle.xls_output.proofs.OutputLemmas.{puts-stop}
 use Rattle.xls_report.proofs.RefsLemmas.{gathers-where, stops-where}
 use Rattle.xls_report.proofs.refs.put_cites.Goals as goal
 

@@ -1,6 +1,6 @@
 use Rattle.std.proofs.Common.{take}
 use Rattle.std.specs.List.{flat_map}
-use Rattle.xls_lines.specs.Output.{Buffers, output}
+use Rattle.xls_output.specs.Output.{Buffers, output}
 use Rattle.xls_report.specs.Refs.{ref_line}
 use Rattle.xls_report.proofs.refs.put_cites.Given as goal
 

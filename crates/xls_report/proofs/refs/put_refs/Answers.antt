@@ -2,7 +2,7 @@ use Rattle.std.proofs.Common.{arith, ap, length, ◌∙◌}
 use Rattle.xls_formula.specs.Context.{Context}
 use Rattle.xls_refs.specs.Views.{sheets_cited}
 use Rattle.xls_report.specs.Refs.{sheet_refs}
-use Rattle.xls_lines.proofs.OutputLemmas.{puts-stop, stops-as}
+use Rattle.xls_output.proofs.OutputLemmas.{puts-stop, stops-as}
 use Rattle.xls_report.proofs.RefsLemmas.{gathers-refs, gathers-where, stops-where, refs-by-sheet}
 use Rattle.xls_report.proofs.refs.put_refs.Goals as goal
 

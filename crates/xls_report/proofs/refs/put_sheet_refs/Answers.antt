@@ -1,7 +1,7 @@
 use Rattle.std.proofs.Common.{◌∙◌}
 use Rattle.std.specs.List.{flat_map}
 use Rattle.xls_report.specs.Refs.{ref_line}
-use Rattle.xls_lines.proofs.OutputLemmas.{puts-stop, some-first, some-next, some-stopped}
+use Rattle.xls_output.proofs.OutputLemmas.{puts-stop, some-first, some-next, some-stopped}
 use Rattle.xls_report.proofs.RefsLemmas.{some-memory}
 use Rattle.xls_report.proofs.refs.put_sheet_refs.Goals as goal
 

@@ -1,6 +1,6 @@
 use Rattle.std.specs.List.{flat_map}
-use Rattle.xls_lines.specs.Output.{output}
-use Rattle.xls_lines.proofs.OutputLemmas.{PutsSome}
+use Rattle.xls_output.specs.Output.{output}
+use Rattle.xls_output.proofs.OutputLemmas.{PutsSome}
 use Rattle.xls_report.specs.Refs.{ref_line}
 use Rattle.xls_report.proofs.refs.put_sheet_refs.Given as goal
 

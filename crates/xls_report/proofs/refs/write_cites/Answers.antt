@@ -1,5 +1,5 @@
 use Rattle.std.proofs.Common.{rules, ◌∙◌}
-use Rattle.xls_lines.proofs.OutputLemmas.{delivers-back, delivers-stop, gathers-after, stops-after, wrote, wrote-back}
+use Rattle.xls_output.proofs.OutputLemmas.{delivers-back, delivers-stop, gathers-after, stops-after, wrote, wrote-back}
 use Rattle.xls_report.proofs.refs.write_cites.Goals as goal
 
 pub returns-in_err-put_refs : goal.returns-in_err-put_refs

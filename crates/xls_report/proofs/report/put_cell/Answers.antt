@@ -1,4 +1,4 @@
-use Rattle.xls_lines.proofs.OutputLemmas.{puts-memory}
+use Rattle.xls_output.proofs.OutputLemmas.{puts-memory}
 use Rattle.xls_report.proofs.report.put_cell.Goals as goal
 
 pub returns-in_err-value : goal.returns-in_err-value

@@ -1,5 +1,5 @@
 use Rattle.xls_report.specs.Report.{cell_line}
-use Rattle.xls_lines.proofs.OutputLemmas.{puts-stop, some-first, some-next, some-stopped}
+use Rattle.xls_output.proofs.OutputLemmas.{puts-stop, some-first, some-next, some-stopped}
 use Rattle.xls_report.proofs.report.put_cells.Goals as goal
 
 pub loop-cell-init : goal.loop-cell-init

@@ -1,6 +1,6 @@
 use Rattle.xls_report.specs.Report.{cell_line}
-use Rattle.xls_lines.specs.Output.{output}
-use Rattle.xls_lines.proofs.OutputLemmas.{PutsSome}
+use Rattle.xls_output.specs.Output.{output}
+use Rattle.xls_output.proofs.OutputLemmas.{PutsSome}
 use Rattle.xls_report.proofs.report.put_cells.Given as goal
 
 -- the lines of some cells are put, and the others are left

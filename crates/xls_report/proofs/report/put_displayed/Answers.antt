@@ -1,7 +1,7 @@
 use Rattle.std.proofs.Common.{append_assoc}
 use Rattle.std.specs.List.{flat_map}
 use Rattle.xls_report.specs.Report.{cell_line, merge_line}
-use Rattle.xls_lines.proofs.OutputLemmas.{gathers-as, gathers-then, puts-stop, stops-as, stops-more, stops-then}
+use Rattle.xls_output.proofs.OutputLemmas.{gathers-as, gathers-then, puts-stop, stops-as, stops-more, stops-then}
 use Rattle.xls_report.proofs.report.put_displayed.Goals as goal
 
 pub returns-in_err-put_displayed_cells : goal.returns-in_err-put_displayed_cells

@@ -1,8 +1,8 @@
 use Rattle.std.proofs.Common.{ap, ◌∙◌}
 use Rattle.std.specs.List.{flat_map}
 use Rattle.xls_report.specs.Report.{cell_line}
-use Rattle.xls_lines.specs.Output.{output}
-use Rattle.xls_lines.proofs.OutputLemmas.{puts-as, puts-memory}
+use Rattle.xls_output.specs.Output.{output}
+use Rattle.xls_output.proofs.OutputLemmas.{puts-as, puts-memory}
 use Rattle.xls_report.proofs.report.put_displayed_cells.Goals as goal
 
 pub returns-in_err-cells : goal.returns-in_err-cells

@@ -1,6 +1,6 @@
 use Rattle.std.proofs.Common.{sym, ◌∙◌}
-use Rattle.xls_lines.specs.Output.{output}
-use Rattle.xls_lines.proofs.OutputLemmas.{gathers-as, gathers-nothing, puts-as}
+use Rattle.xls_output.specs.Output.{output}
+use Rattle.xls_output.proofs.OutputLemmas.{gathers-as, gathers-nothing, puts-as}
 use Rattle.xls_report.proofs.TextLemmas.{formula_none, formula_displayed, no_characters, some_characters}
 use Rattle.xls_report.proofs.report.put_displayed_formula.Goals as goal
 

@@ -2,8 +2,8 @@ use Rattle.std.proofs.Common.{ap, map}
 use Rattle.xls_cursors.specs.Formulas.{text_entry}
 use Rattle.xls_cursors.specs.Walking.{NamedContext}
 use Rattle.xls_report.specs.Report.{formula_lines}
-use Rattle.xls_lines.specs.Output.{output}
-use Rattle.xls_lines.proofs.OutputLemmas.{puts-as, puts-memory}
+use Rattle.xls_output.specs.Output.{output}
+use Rattle.xls_output.proofs.OutputLemmas.{puts-as, puts-memory}
 use Rattle.xls_report.proofs.report.put_displayed_formulas.Goals as goal
 
 pub returns-in_err-formulas : goal.returns-in_err-formulas

@@ -1,5 +1,5 @@
-use Rattle.xls_lines.specs.Output.{output}
-use Rattle.xls_lines.proofs.OutputLemmas.{PutsSome}
+use Rattle.xls_output.specs.Output.{output}
+use Rattle.xls_output.proofs.OutputLemmas.{PutsSome}
 use Rattle.xls_report.proofs.TextLemmas.{token_lines}
 use Rattle.xls_report.proofs.report.put_formulas.Given as goal
 

@@ -2,8 +2,8 @@ use Rattle.std.proofs.Common.{ap, sym, ◌∙◌}
 use Rattle.std.specs.Option.{option_map}
 use Rattle.xls_cursors.specs.Displayed.{sheet_view_of}
 use Rattle.xls_report.specs.Report.{lines_at}
-use Rattle.xls_lines.specs.Output.{output}
-use Rattle.xls_lines.proofs.OutputLemmas.{gathers-as, gathers-nothing, puts-as}
+use Rattle.xls_output.specs.Output.{output}
+use Rattle.xls_output.proofs.OutputLemmas.{gathers-as, gathers-nothing, puts-as}
 use Rattle.xls_report.proofs.report.put_lines_at.Goals as goal
 
 pub returns-in-Some : goal.returns-in-Some

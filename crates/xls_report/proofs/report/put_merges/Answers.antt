@@ -1,5 +1,5 @@
 use Rattle.xls_report.specs.Report.{merge_line}
-use Rattle.xls_lines.proofs.OutputLemmas.{puts-stop, some-first, some-next, some-stopped}
+use Rattle.xls_output.proofs.OutputLemmas.{puts-stop, some-first, some-next, some-stopped}
 use Rattle.xls_report.proofs.report.put_merges.Goals as goal
 
 pub loop-region-init : goal.loop-region-init

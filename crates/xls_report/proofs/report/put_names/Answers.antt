@@ -1,6 +1,6 @@
 use Rattle.xls_open.specs.Workbook.{name_texts}
 use Rattle.xls_report.specs.Report.{name_line}
-use Rattle.xls_lines.proofs.OutputLemmas.{gathers-item, puts-stop, stops-item}
+use Rattle.xls_output.proofs.OutputLemmas.{gathers-item, puts-stop, stops-item}
 use Rattle.xls_report.proofs.TextLemmas.{Named}
 use Rattle.xls_report.proofs.report.put_names.Goals as goal
 

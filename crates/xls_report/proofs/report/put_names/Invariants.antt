@@ -1,7 +1,7 @@
 use Rattle.std.proofs.Common.{take}
 use Rattle.std.specs.List.{flat_map}
 use Rattle.xls_open.specs.Workbook.{name_texts}
-use Rattle.xls_lines.specs.Output.{Buffers, output}
+use Rattle.xls_output.specs.Output.{Buffers, output}
 use Rattle.xls_report.specs.Report.{name_line}
 use Rattle.xls_report.proofs.TextLemmas.{Named}
 use Rattle.xls_report.proofs.report.put_names.Given as goal

@@ -1,6 +1,6 @@
 use Rattle.std.proofs.Common.{ap, append_assoc}
 use Rattle.xls_report.specs.Report.{dates_line, sheets_text}
-use Rattle.xls_lines.proofs.OutputLemmas.{gathers-as, gathers-then, puts-stop, stops-as, stops-more, stops-then}
+use Rattle.xls_output.proofs.OutputLemmas.{gathers-as, gathers-then, puts-stop, stops-as, stops-more, stops-then}
 use Rattle.xls_report.proofs.TextLemmas.{all_names}
 use Rattle.xls_report.proofs.report.put_report.Goals as goal
 

@@ -1,7 +1,7 @@
 use Rattle.xls_data.specs.Sheets.{sheet_content}
 use Rattle.xls_data.specs.declared.sheets.Sheet.{Sheet}
 use Rattle.xls_report.specs.Report.{sheet_line}
-use Rattle.xls_lines.proofs.OutputLemmas.{gathers-item, puts-stop, stops-item}
+use Rattle.xls_output.proofs.OutputLemmas.{gathers-item, puts-stop, stops-item}
 use Rattle.xls_report.proofs.report.put_sheets.Goals as goal
 
 pub returns-in_err-put_sheet : goal.returns-in_err-put_sheet

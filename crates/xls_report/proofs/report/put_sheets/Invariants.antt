@@ -1,7 +1,7 @@
 use Rattle.std.proofs.Common.{take}
 use Rattle.std.specs.List.{flat_map}
 use Rattle.xls_data.specs.Sheets.{sheet_content}
-use Rattle.xls_lines.specs.Output.{Buffers, output}
+use Rattle.xls_output.specs.Output.{Buffers, output}
 use Rattle.xls_report.specs.Report.{sheet_line}
 use Rattle.xls_report.proofs.report.put_sheets.Given as goal
 

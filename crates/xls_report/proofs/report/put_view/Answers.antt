@@ -1,4 +1,4 @@
-use Rattle.xls_lines.proofs.OutputLemmas.{gathers-then, puts-stop, stops-more, stops-then}
+use Rattle.xls_output.proofs.OutputLemmas.{gathers-then, puts-stop, stops-more, stops-then}
 use Rattle.xls_report.proofs.report.put_view.Goals as goal
 
 pub returns-in_err-put_sheet : goal.returns-in_err-put_sheet

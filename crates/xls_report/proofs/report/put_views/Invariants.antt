@@ -1,5 +1,5 @@
 use Rattle.std.proofs.Common.{take}
-use Rattle.xls_lines.specs.Output.{Buffers, output}
+use Rattle.xls_output.specs.Output.{Buffers, output}
 use Rattle.xls_report.specs.Report.{sheets_text}
 use Rattle.xls_report.proofs.report.put_views.Given as goal
 

@@ -3,7 +3,7 @@ use Rattle.std.specs.List.{flat_map}
 use Rattle.xls_data.specs.Sheets.{SheetContent, sheet_content}
 use Rattle.xls_data.specs.declared.sheets.Sheet.{Sheet}
 use Rattle.xls_report.specs.Report.{sheet_line}
-use Rattle.xls_lines.proofs.OutputLemmas.{delivers-back, delivers-stop, gathers-as, gathers-after, stops-as, stops-after, wrote, wrote-back}
+use Rattle.xls_output.proofs.OutputLemmas.{delivers-back, delivers-stop, gathers-as, gathers-after, stops-as, stops-after, wrote, wrote-back}
 use Rattle.xls_report.proofs.report.write_sheets.Goals as goal
 
 -- the lines of the sheets as their content says

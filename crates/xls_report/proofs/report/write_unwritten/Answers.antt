@@ -1,6 +1,6 @@
 use Rattle.std.proofs.Common.{ℕ, List, subst, ◌∙◌}
-use Rattle.xls_lines.specs.Gathering.{Delivers}
-use Rattle.xls_lines.proofs.GatherLemmas.{delivers-stop, stops-memory-now}
+use Rattle.xls_output.specs.Gathering.{Delivers}
+use Rattle.xls_output.proofs.GatherLemmas.{delivers-stop, stops-memory-now}
 use Rattle.xls_report.specs.Report.{error_line}
 use Rattle.xls_report.proofs.report.write_unwritten.Goals as goal
 

@@ -1,4 +1,4 @@
-use Rattle.xls_lines.specs.Output.{output}
+use Rattle.xls_output.specs.Output.{output}
 use Rattle.xls_tables.proofs.FieldLemmas.{FieldsSoFar}
 use Rattle.xls_tables.proofs.table.put_fields.Given as goal
 

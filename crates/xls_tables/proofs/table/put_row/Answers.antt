@@ -1,6 +1,6 @@
 use Rattle.xls_csv.specs.Walk.{row_over}
 use Rattle.xls_readable.specs.Csv.{row_end}
-use Rattle.xls_lines.proofs.OutputLemmas.{gathers-added, gathers-then}
+use Rattle.xls_output.proofs.OutputLemmas.{gathers-added, gathers-then}
 use Rattle.xls_tables.proofs.FieldLemmas.{puts_stop}
 use Rattle.xls_tables.proofs.RowLemmas.{row_ended, row_stop}
 use Rattle.xls_tables.proofs.table.put_row.Goals as goal

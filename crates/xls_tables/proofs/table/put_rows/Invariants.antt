@@ -1,4 +1,4 @@
-use Rattle.xls_lines.specs.Output.{output}
+use Rattle.xls_output.specs.Output.{output}
 use Rattle.xls_tables.proofs.RowLemmas.{RowsSoFar}
 use Rattle.xls_tables.proofs.table.put_rows.Given as goal
 

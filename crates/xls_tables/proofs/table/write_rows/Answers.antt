@@ -1,6 +1,6 @@
 use Rattle.std.proofs.Common.{rules, ◌∙◌}
 use Rattle.xls_csv.specs.Walk.{walk_rows}
-use Rattle.xls_lines.proofs.OutputLemmas.{gathers-added}
+use Rattle.xls_output.proofs.OutputLemmas.{gathers-added}
 use Rattle.xls_tables.specs.Tables.{DeliversTable, WroteTable, byte_order_mark}
 use Rattle.xls_tables.proofs.RowLemmas.{delivers_stop, lent_back, table_finished, table_gathered, table_memory, table_stop, table_unfinished, walked}
 use Rattle.xls_tables.proofs.table.write_rows.Goals as goal

@@ -1,0 +1,20 @@
+use Rattle.std.proofs.Common.{rules, ◌∙◌}
+use Rattle.xls_output.proofs.OutputLemmas.{delivers-back, delivers-stop, gathers-after, stops-after, wrote, wrote-back}
+use Rattle.xls_lines.proofs.put.write_line.Goals as goal
+
+pub returns-in_err-put_line : goal.returns-in_err-put_line
+returns-in_err-put_line g c =
+    let r = c.from_residual in
+    delivers-back g.K.Sink.state _ r.result c.new-out.ensures.sink (search rules)
+    (delivers-stop r.result r.ensures.1 (c.new-out.ensures.kept ∙ c.new-buffer.ensures) c.in_err-put_line.ensures)
+
+pub returns-in_err-finish : goal.returns-in_err-finish
+returns-in_err-finish g c =
+    let r = c.from_residual-in_err-finish in
+    delivers-back g.K.Sink.state _ r.result c.new-out.ensures.sink (search rules)
+    (delivers-stop r.result r.ensures.1 (c.new-out.ensures.kept ∙ c.new-buffer.ensures) (stops-after c.in_ok-put_line.ensures c.in_err-finish.ensures.puts))
+
+pub returns : goal.returns
+returns g c =
+    wrote-back g.K.Sink.state c.new-out.ensures.sink (search rules)
+    (wrote (c.new-out.ensures.kept ∙ c.new-buffer.ensures) (gathers-after c.in_ok-put_line.ensures c.in_ok-finish.ensures.puts) c.in_ok-finish.ensures.none)

@@ -1,0 +1,4 @@
+pub mod PieceLemmas
+pub mod GatherLemmas
+pub mod OutputLemmas
+pub mod StandardFacts

@@ -1,0 +1,5 @@
+pub mod Causes
+pub mod Written
+pub mod SinkState
+pub mod Gathering
+pub mod Output

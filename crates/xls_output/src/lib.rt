@@ -1,0 +1,14 @@
+//! Where text goes, and what is gathered before it is written.
+#![tactic(auto)]
+
+mod gathers;
+mod memory;
+mod sink;
+mod stop;
+mod writer;
+
+pub use gathers::{Gathers, flush};
+pub use memory::MemorySink;
+pub use sink::{Sink, StdSink, WriteFault, write_all};
+pub use stop::Stop;
+pub use writer::{PIECE, Writer};
