@@ -1,8 +1,7 @@
 //! The rows that are gathered before they are written.
 
-ghost use Rattle.std.specs.Prelude.{◌≡◌, ◌≤◌, ◌++◌, ◌==◌, ◌↔◌, [], length, encode_utf8_all, IsTrue, IfOk, OnOk};
+ghost use Rattle.std.specs.Prelude.{◌≡◌, ◌++◌, ◌==◌, [], length, encode_utf8_all, IfOk, OnOk};
 ghost use Rattle.csv.specs.Writing.{default_writer, field_text, next_sep};
-ghost use Rattle.xls_output.specs.Output.{Puts, output};
 ghost use Rattle.xls_cursors.specs.Values.{value_text, lent_content};
 ghost use Rattle.xls_csv.specs.Fields.{field};
 ghost use Rattle.xls_csv.specs.Walk.{value_in};
@@ -12,11 +11,8 @@ use crate::line::{push_error, push_text, push_truth};
 use crate::numbers::push_number;
 use std::alloc::{AllocError, Global};
 use std::marker::Model;
-use xls_output::{Sink, Stop, Writer, write_all};
+use xls_output::Gathers;
 use xls_view::{CellValue, TextBuffer};
-
-/// From so many bytes on, what is gathered is written.
-const PIECE: usize = 65_536;
 
 /// The bytes that are gathered, and memory for the text of one cell. Contracts see what is gathered.
 #[derive(Drop)]
@@ -45,14 +41,6 @@ impl Gathered {
             text: TextBuffer::new(alloc),
             printed: String::new(alloc),
         }
-    }
-
-    /// Whether there is a piece to write.
-    #[inline(always)]
-    fn is_full(&self) -> bool
-        ensures { IsTrue result ↔ (PIECE ≤ length self.now) }
-    {
-        self.bytes.len() >= PIECE
     }
 
     /// Appends what stands before the field at a place of a row: a comma, but at the first.
@@ -131,25 +119,15 @@ impl Gathered {
     }
 }
 
-/// Writes all that is gathered.
-#[inline(never)]
-pub(crate) fn finish<K: Sink>(out: &mut Writer<'_, K, Gathered>) -> Result<(), Stop>
-    ensures puts { Puts (output K.state out.old) (output K.state out.new) [] result }
-    ensures none { OnOk result (out.new.buffer.now ≡ []) }
-{
-    let gathered = &mut *out.buffer;
-    write_all(out.sink, &gathered.bytes)?;
-    gathered.bytes.clear();
-    Ok(())
-}
+impl Gathers for Gathered {
+    ghost kept = { λ bytes. bytes };
 
-/// Writes what is gathered, where it is 64 KiB or more.
-#[inline(always)]
-pub(crate) fn pass<K: Sink>(out: &mut Writer<'_, K, Gathered>) -> Result<(), Stop>
-    ensures { Puts (output K.state out.old) (output K.state out.new) [] result }
-{
-    if out.buffer.is_full() {
-        return finish(out);
+    #[inline(always)]
+    fn bytes(&self) -> &[u8] {
+        &self.bytes
     }
-    Ok(())
+
+    fn clear(&mut self) {
+        self.bytes.clear();
+    }
 }

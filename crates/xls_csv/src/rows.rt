@@ -14,7 +14,7 @@ ghost use Rattle.xls_csv.specs.Walk.{left_over, row_over, rows_over, take_at, wa
 
 use crate::ahead::Ahead;
 use crate::extent::{BoxRow, Extent, extent_of};
-use crate::gathered::{Gathered, finish, pass};
+use crate::gathered::Gathered;
 use std::alloc::Global;
 use xls_output::{Sink, Stop, Writer};
 use xls_view::SheetCells;
@@ -34,7 +34,7 @@ fn put_field<K: Sink>(
         ≡ (length (field_placed place (take_at row.number (row.left + place) cells.old).0) == 0)) }
     ensures cells { OnOk result (cells.new ≡ (take_at row.number (row.left + place) cells.old).1) }
 {
-    pass(out)?;
+    out.pass()?;
     let is_bare = out
         .buffer
         .push_field(place, cells.take_at(row.number, row.left + place))?;
@@ -108,7 +108,7 @@ fn write_walk<K: Sink>(alloc: Global, sink: &mut K, cells: &SheetCells<'_>) -> R
     let mut out = Writer::new(&mut gathered, sink);
     let extent = extent_of(cells);
     put_rows(&mut out, Ahead::new(cells.iter()), extent)?;
-    finish(&mut out)?;
+    out.finish()?;
     Ok(())
 }
 

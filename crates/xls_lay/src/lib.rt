@@ -8,7 +8,6 @@ mod kept;
 mod laws;
 mod length;
 mod logical;
-mod pieces;
 mod read;
 mod table;
 mod units;

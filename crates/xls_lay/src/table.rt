@@ -11,7 +11,6 @@ ghost use Rattle.xls_lay.specs.BytesOutput.{bytes_output};
 ghost use Rattle.xls_lay.specs.Putting.{Moves, PutsMarks, PutsOrStops, TableHasRoom, cut_marks};
 
 use crate::fill::{FULL, is_all_narrow, size_of_unit};
-use crate::pieces::pass;
 use crate::write::{push_record, push_u32, put_record};
 use std::alloc::{AllocError, Global};
 use xls_output::{Sink, Stop, Writer};
@@ -161,7 +160,7 @@ impl TableWriter {
         ensures room { OnOk result (TableHasRoom self.new) }
     {
         self.put_string(out.buffer, units)?;
-        pass(out)
+        out.pass()
     }
 
     /// Puts the current record, the last one.

@@ -19,7 +19,6 @@ use crate::error::LayError;
 use crate::kept::KeptRecords;
 use crate::length::{TOO_LONG, globals_length, part_size, parts_length};
 use crate::logical::Logical;
-use crate::pieces::{finish, pass};
 use crate::table::TableWriter;
 use crate::units::UnitLists;
 use crate::whole::Whole;
@@ -67,7 +66,7 @@ pub(crate) fn put_record<K: Sink>(
     ensures { Puts (bytes_output K.state out.old) (bytes_output K.state out.new) (record_bytes typ body.now) result }
 {
     push_record(out.buffer, typ, body)?;
-    pass(out)
+    out.pass()
 }
 
 /// Appends the BoundSheet8 record of a sheet, whose part begins at this offset.
@@ -101,7 +100,7 @@ fn put_sheet<K: Sink>(
         (record_bytes types.BOUND_SHEET_8 (sheet_body offset state kind name.now)) result }
 {
     push_sheet(out.buffer, offset, state, kind, name)?;
-    pass(out)
+    out.pass()
 }
 
 /// Puts the SST record of a table, with its Continue records.
@@ -209,7 +208,7 @@ fn write_entries<K: Sink>(
     let mut out = Writer::new(&mut gathered, sink);
     put_globals(alloc, &mut out, offset, entries)?;
     put_parts(&mut out, entries)?;
-    finish(&mut out)?;
+    out.finish()?;
     Ok(())
 }
 

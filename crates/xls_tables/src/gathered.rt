@@ -1,11 +1,10 @@
 //! The rows that are gathered before they are written.
 
-ghost use Rattle.std.specs.Prelude.{◌≡◌, ◌≤◌, ◌++◌, ◌==◌, ◌↔◌, [], length, IsTrue, IfOk, OnOk};
+ghost use Rattle.std.specs.Prelude.{◌≡◌, ◌++◌, ◌==◌, [], length, IfOk, OnOk};
 ghost use Rattle.std.specs.Str.{chars};
 ghost use Rattle.xls_data.specs.Content.{text};
 ghost use Rattle.xls_data.specs.Numeric.{numeric_content};
 ghost use Rattle.xls_decimals.specs.Added.{AddsText};
-ghost use Rattle.xls_output.specs.Output.{Puts, output};
 ghost use Rattle.xls_readable.specs.Csv.{row_end};
 ghost use Rattle.xls_cursors.specs.Values.{lent_content, value_text};
 ghost use Rattle.xls_csv.specs.Walk.{value_in};
@@ -16,15 +15,12 @@ ghost use Rattle.xls_tables.specs.Steps.{AddsPlaced, separator};
 use std::alloc::{AllocError, Global};
 use std::marker::Model;
 use xls_data::{ExcelDateTime, ExcelDateTimeType, Numeric};
-use xls_output::{Sink, Stop, Writer, write_all};
+use xls_output::Gathers;
 use xls_readable::{
     Delimiter, push_failure_field, push_int_field, push_moment_field, push_number_field,
     push_separator, push_text_field, push_truth_field,
 };
 use xls_view::{CellValue, TextBuffer};
-
-/// From so many bytes on, what is gathered is written.
-const PIECE: usize = 65_536;
 
 /// The text that is gathered, and memory for what has to be printed or decoded first. Contracts see what is
 /// gathered.
@@ -53,14 +49,6 @@ impl Gathered {
             room: String::new(alloc),
             decoded: TextBuffer::new(alloc),
         }
-    }
-
-    /// Whether there is a piece to write.
-    #[inline(always)]
-    fn is_full(&self) -> bool
-        ensures { IsTrue result ↔ (PIECE ≤ length self.now) }
-    {
-        self.text.len() >= PIECE
     }
 
     /// Appends the byte order mark, where it is asked for.
@@ -181,25 +169,15 @@ impl Gathered {
     }
 }
 
-/// Writes all that is gathered.
-#[inline(never)]
-pub(crate) fn finish<K: Sink>(out: &mut Writer<'_, K, Gathered>) -> Result<(), Stop>
-    ensures puts { Puts (output K.state out.old) (output K.state out.new) [] result }
-    ensures none { OnOk result (out.new.buffer.now ≡ []) }
-{
-    let gathered = &mut *out.buffer;
-    write_all(out.sink, gathered.text.as_bytes())?;
-    gathered.text.clear();
-    Ok(())
-}
+impl Gathers for Gathered {
+    ghost kept = { λ bytes. bytes };
 
-/// Writes what is gathered, where it is 64 KiB or more.
-#[inline(always)]
-pub(crate) fn pass<K: Sink>(out: &mut Writer<'_, K, Gathered>) -> Result<(), Stop>
-    ensures { Puts (output K.state out.old) (output K.state out.new) [] result }
-{
-    if out.buffer.is_full() {
-        return finish(out);
+    #[inline(always)]
+    fn bytes(&self) -> &[u8] {
+        self.text.as_bytes()
     }
-    Ok(())
+
+    fn clear(&mut self) {
+        self.text.clear();
+    }
 }

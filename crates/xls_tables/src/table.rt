@@ -9,7 +9,7 @@ ghost use Rattle.xls_csv.specs.Walk.{left_over, row_over, rows_over, take_at, wa
 ghost use Rattle.xls_tables.specs.Steps.{PutsField, PutsFields, PutsRow, PutsRows};
 ghost use Rattle.xls_tables.specs.Tables.{DeliversTable};
 
-use crate::gathered::{Gathered, finish, pass};
+use crate::gathered::Gathered;
 use std::alloc::Global;
 use xls_csv::{Ahead, BoxRow, Extent, extent_of};
 use xls_output::{Sink, Stop, Writer};
@@ -30,7 +30,7 @@ fn put_field<K: Sink>(
         (output K.state out.old) (output K.state out.new) result }
     ensures cells { OnOk result (cells.new ≡ (take_at row.number (row.left + place) cells.old).1) }
 {
-    pass(out)?;
+    out.pass()?;
     let value = cells.take_at(row.number, row.left + place);
     let is_bare = out.buffer.push_field(delimiter, place, value)?;
     Ok(is_bare)
@@ -111,7 +111,7 @@ fn write_rows<K: Sink>(
     out.buffer.push_mark(begins_with_mark)?;
     let extent = extent_of(cells);
     put_rows(&mut out, Ahead::new(cells.iter()), delimiter, extent)?;
-    finish(&mut out)?;
+    out.finish()?;
     Ok(())
 }
 

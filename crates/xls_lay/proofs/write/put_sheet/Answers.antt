@@ -6,4 +6,4 @@ pub returns-in_err-push_sheet : goal.returns-in_err-push_sheet
 returns-in_err-push_sheet g c = puts-memory _ _ _ _ _ c.from_residual.result c.from_residual.ensures.1
 
 pub returns : goal.returns
-returns g c = added_passed _ _ _ _ _ _ c.pass.result c.in_ok-push_sheet.ensures c.pass.ensures
+returns g c = added_passed _ _ _ _ _ _ c.pass.result c.in_ok-push_sheet.ensures c.pass.ensures.puts

@@ -7,4 +7,4 @@ returns-in_err-put_string-clause-puts g c =
 
 pub returns-clause-puts : goal.returns-clause-puts
 returns-clause-puts g c =
-    on_pass _ _ _ _ c.args.self.now c.put_string.new.self _ _ c.pass.result c.in_ok-put_string.ensures.puts c.pass.ensures
+    on_pass _ _ _ _ c.args.self.now c.put_string.new.self _ _ c.pass.result c.in_ok-put_string.ensures.puts c.pass.ensures.puts
