@@ -2,7 +2,7 @@
 
 ghost use Rattle.std.specs.Prelude.{◌≡◌, OnOk, IfOk, true, false, codes};
 ghost use Rattle.std.specs.String.{string_bytes};
-ghost use Rattle.xls_decimals.specs.Added.{AddsText};
+ghost use Rattle.xls_output.specs.Added.{AddsText};
 ghost use Rattle.xls_decimals.specs.Decimals.{IsDecimal};
 ghost use Rattle.xls_decimals.specs.Moments.{IsDate, IsDuration};
 

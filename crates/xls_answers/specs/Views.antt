@@ -8,7 +8,7 @@ use Rattle.xls_view.specs.Viewing.{Viewed, IsViewed, IsViewFault}
 use Rattle.xls_output.specs.SinkState.{SinkState}
 use Rattle.xls_output.specs.Gathering.{Stops, Wrote}
 use Rattle.xls_output.specs.declared.stop.Stop.TheVariants.{Memory}
-use Rattle.xls_readable.specs.Values.{Concatenates}
+use Rattle.xls_output.specs.Each.{Concatenates}
 use Rattle.xls_readable.specs.declared.forms.Form.{Form}
 use Rattle.xls_refs.specs.Views.{cited_in}
 use Rattle.xls_listing.specs.Listing.{Line, IsDisplayedLine, dump_lines, sheet_lines, formula_lines, ref_lines}

@@ -1,7 +1,7 @@
 //! The lines of a workbook.
 
 ghost use Rattle.xls_listing.specs.Listing.{IsDisplayedLine};
-ghost use Rattle.xls_pieces.specs.Each.{DeliversEach};
+ghost use Rattle.xls_output.specs.Each.{DeliversEach};
 ghost use Rattle.xls_answers.specs.Views.{AreLines, BeginLines, MissesNone, OfView, lines_listed};
 
 use crate::failure::Failure;

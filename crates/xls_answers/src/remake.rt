@@ -7,26 +7,22 @@ use crate::failure::Failure;
 use std::alloc::Global;
 use xls_biff::XlsError;
 use xls_lay::{LayError, TOO_LONG, canonical_length, logical_of, write_stream};
-use xls_lines::Buffer;
 use xls_open::MAX_BYTES;
-use xls_output::{Sink, Stop, Writer};
+use xls_output::{Sink, Stop, write_all};
 
 /// Writes bytes.
-fn write_bytes<K: Sink>(alloc: Global, sink: &mut K, bytes: &[u8]) -> Result<(), Stop>
+fn write_bytes<K: Sink>(sink: &mut K, bytes: &[u8]) -> Result<(), Stop>
     ensures { Delivers (K.state sink.old) (K.state sink.new) bytes.now result }
 {
-    let mut buffer = Buffer::new(alloc);
-    let mut out = Writer::new(&mut buffer, sink);
-    out.put(bytes)?;
-    out.finish()?;
+    write_all(sink, bytes)?;
     Ok(())
 }
 
 /// Writes the bytes of a stream.
-pub(crate) fn write_whole<K: Sink>(alloc: Global, sink: &mut K, bytes: &[u8]) -> Result<(), Failure>
+pub(crate) fn write_whole<K: Sink>(sink: &mut K, bytes: &[u8]) -> Result<(), Failure>
     ensures { OfBytes bytes.now (K.state sink.old) (K.state sink.new) result }
 {
-    write_bytes(alloc, sink, bytes)?;
+    write_bytes(sink, bytes)?;
     Ok(())
 }
 

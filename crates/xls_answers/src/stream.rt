@@ -50,7 +50,7 @@ pub fn write_stream<K: Sink>(
         Answer::Sheet(table) => write_sheet_of(alloc, sink, table, options, bytes),
         Answer::Check => write_check(alloc, sink, options, bytes),
         Answer::Remade => write_remade(alloc, sink, bytes),
-        Answer::Bytes => write_whole(alloc, sink, bytes),
+        Answer::Bytes => write_whole(sink, bytes),
     }
 }
 

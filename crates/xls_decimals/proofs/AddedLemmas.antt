@@ -3,7 +3,7 @@ use Rattle.std.proofs.Common.{◌≡◌, ◌≤◌, Ok, Err, Result, ℕ, List, 
 use Rattle.std.specs.String.Boundary.{IsSplitPoint}
 use Rattle.std.proofs.lemmas.Str.{IsCharBoundary-from_take}
 use Rattle.std.specs.Prelude.{OnOk}
-use Rattle.xls_decimals.specs.Added.{AddsText}
+use Rattle.xls_output.specs.Added.{AddsText}
 
 -- a text of which P holds was added
 pub adds : {X E : Type 0} (r : Result X E) (P : List ℕ → Type 0) (text old new : List ℕ)

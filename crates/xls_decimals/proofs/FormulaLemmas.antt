@@ -7,7 +7,7 @@ use Rattle.std.proofs.lemmas.Bool.{cases_lt}
 use Rattle.std.proofs.lemmas.Str.{IsCharBoundary-after_ascii}
 use Rattle.std.proofs.lemmas.List.{get_or-drop, get_or-take, take_all, take_more}
 use Rattle.xls_decimals.specs.Formulas.{hex_digit_of, with_digit, Piece, Quoted, Unclosed, Word, Symbol, piece_bytes, IsPiece, IsPieceText, IsFormula, IsBitsOrWord, is_quote, is_word_byte, bits_of_word, hex_value_after, EndsWord}
-use Rattle.xls_decimals.specs.Added.{AddsText}
+use Rattle.xls_output.specs.Added.{AddsText}
 use Rattle.xls_decimals.specs.Pieces.{HasPiece}
 
 -- what isn't a digit stays so

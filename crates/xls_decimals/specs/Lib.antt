@@ -1,4 +1,3 @@
-pub mod Added
 pub mod Decimals
 pub mod Fractions
 pub mod Texts

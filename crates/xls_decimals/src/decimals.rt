@@ -6,7 +6,7 @@ ghost use Rattle.std.specs.Fmt.{signed_decimal};
 ghost use Rattle.std.specs.String.{string_bytes};
 ghost use Rattle.xls_bytes.specs.Doubles.{exponent_of};
 ghost use Rattle.xls_dates.specs.Numbers.{hundredths_text};
-ghost use Rattle.xls_decimals.specs.Added.{AddsText};
+ghost use Rattle.xls_output.specs.Added.{AddsText};
 ghost use Rattle.xls_decimals.specs.Decimals.{large_whole_of, short_whole_of, decimal_of_bits, over_100, IsDouble, IsDoubleOver100, IsDecimal};
 
 use crate::short_texts::{hexadecimal, hundredths, push_ascii};

@@ -3,7 +3,7 @@
 ghost use Rattle.std.specs.Prelude.{◌≡◌, ◌≢◌, ◌<◌, ◌≤◌, ◌++◌, ◌∷◌, ℕ, Some, [], IsTrue, IsFalse, MatchOption, IfSome, length, get_or, IsUtf8, OnOk, OnErr};
 ghost use Rattle.std.specs.String.{string_bytes};
 ghost use Rattle.std.specs.Str.{IsCharBoundary};
-ghost use Rattle.xls_decimals.specs.Added.{AddsText};
+ghost use Rattle.xls_output.specs.Added.{AddsText};
 ghost use Rattle.xls_decimals.specs.Formulas.{is_quote, is_between, is_word_byte, hex_digit_of, hex_value_after, bits_of_word, IsFormula, IsBitsOrWord};
 ghost use Rattle.xls_decimals.specs.Pieces.{HasPiece};
 

@@ -2,7 +2,7 @@
 
 ghost use Rattle.std.specs.Prelude.{◌≡◌, ◌/◌, ◌≤◌, OnOk, OnErr};
 ghost use Rattle.std.specs.String.{string_bytes};
-ghost use Rattle.xls_decimals.specs.Added.{AddsText};
+ghost use Rattle.xls_output.specs.Added.{AddsText};
 ghost use Rattle.xls_decimals.specs.Fractions.{day};
 ghost use Rattle.xls_decimals.specs.Texts.{IsMoment};
 ghost use Rattle.xls_decimals.specs.Moments.{IsDate, IsDateOrDuration, last_day_in, moment_of};

@@ -5,8 +5,8 @@ use Rattle.xls_output.specs.SinkState.{SinkState}
 use Rattle.xls_output.specs.Output.{Output}
 use Rattle.xls_output.specs.declared.stop.Stop.{Stop}
 use Rattle.xls_output.specs.declared.stop.Stop.TheVariants.{Memory}
-use Rattle.xls_pieces.specs.Each.{DeliversEach}
-use Rattle.xls_pieces.proofs.EachLemmas.{each-memory, delivers-each-stop}
+use Rattle.xls_output.specs.Each.{DeliversEach}
+use Rattle.xls_output.proofs.EachLemmas.{each-memory, delivers-each-stop}
 use Rattle.xls_readable.specs.declared.forms.Form.{Form}
 use Rattle.xls_vba.specs.Directory.{Project}
 use Rattle.xls_vba.specs.Project.{AreNames}

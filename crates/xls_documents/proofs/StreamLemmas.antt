@@ -1,7 +1,7 @@
 -- The line of a stream.
 use Rattle.std.proofs.Common.{◌≡◌, ℕ, List, [], ◌∷◌, ◌++◌, map, refl, sym, ap, subst, Bool, true, Bor, codes}
 use Rattle.std.specs.List.{flat_map, join_by}
-use Rattle.xls_decimals.specs.Added.{AddsText}
+use Rattle.xls_output.specs.Added.{AddsText}
 use Rattle.xls_compound.specs.Items.{Item, IsPath}
 use Rattle.xls_compound.specs.Entries.{Entry, IsItem}
 use Rattle.xls_readable.specs.Items.{NamedItem}

@@ -5,7 +5,7 @@ use Rattle.xls_output.specs.declared.stop.Stop.{Stop}
 use Rattle.xls_readable.specs.Items.{NamedItem}
 use Rattle.xls_readable.specs.Lines.{IsLine}
 use Rattle.xls_readable.specs.declared.forms.Form.{Form}
-use Rattle.xls_pieces.specs.Each.{PutsEach}
+use Rattle.xls_output.specs.Each.{PutsEach}
 
 -- a word, and fields by their names
 abbrev pub Line : Type 0

@@ -3,7 +3,7 @@ use Rattle.std.specs.Prelude.{◌≡◌, ◌⊎◌, ℕ, List, [], ◌∷◌, �
 use Rattle.std.specs.List.{flat_map}
 use Rattle.xls_output.specs.SinkState.{SinkState}
 use Rattle.xls_output.specs.declared.stop.Stop.{Stop}
-use Rattle.xls_pieces.specs.Each.{WroteEach, StopsEach}
+use Rattle.xls_output.specs.Each.{WroteEach, StopsEach}
 use Rattle.xls_readable.specs.Items.{text, count}
 use Rattle.xls_readable.specs.declared.forms.Form.{Form}
 use Rattle.xls_vba.specs.References.{Ref}

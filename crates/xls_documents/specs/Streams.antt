@@ -5,7 +5,7 @@ use Rattle.xls_compound.specs.Items.{Item, IsPath}
 use Rattle.xls_compound.specs.Entries.{Entry, IsItem}
 use Rattle.xls_output.specs.Output.{Output}
 use Rattle.xls_output.specs.declared.stop.Stop.{Stop}
-use Rattle.xls_pieces.specs.Each.{PutsEach}
+use Rattle.xls_output.specs.Each.{PutsEach}
 use Rattle.xls_readable.specs.Items.{NamedItem, text, count}
 use Rattle.xls_readable.specs.Lines.{IsLine}
 use Rattle.xls_readable.specs.declared.forms.Form.{Form}

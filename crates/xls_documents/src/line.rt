@@ -2,12 +2,11 @@
 
 ghost use Rattle.std.specs.Prelude.{◌≡◌, ◌∷◌, [], map};
 ghost use Rattle.xls_documents.specs.Lines.{PutsLines};
-ghost use Rattle.xls_pieces.specs.Each.{pieces_output};
+ghost use Rattle.xls_output.specs.Each.{text_output};
 ghost use Rattle.xls_readable.specs.Items as items;
 ghost use Rattle.xls_readable.specs.Items.{named_of};
 
-use xls_output::{Sink, Stop, Writer};
-use xls_pieces::{Pieces, pass};
+use xls_output::{OutputText, Sink, Stop, Writer};
 use xls_readable::{Field, Form, Member, push_line};
 
 /// A text under a name.
@@ -33,14 +32,14 @@ pub(crate) fn count_member<'a>(name: &'a str, n: u64) -> Member<'a>
 /// Puts a line.
 pub(crate) fn put_line<K: Sink>(
     form: Form,
-    out: &mut Writer<'_, K, Pieces>,
+    out: &mut Writer<'_, K, OutputText>,
     word: &str,
     members: &[Member<'_>],
 ) -> Result<(), Stop>
     ensures { PutsLines form ((word.now, map named_of members.now) ∷ [])
-        (pieces_output K.state out.old) (pieces_output K.state out.new) result }
+        (text_output K.state out.old) (text_output K.state out.new) result }
 {
-    let pieces = &mut *out.buffer;
-    push_line(form, word, members, &mut pieces.room, &mut pieces.text)?;
-    pass(out)
+    let buffer = &mut *out.buffer;
+    push_line(form, word, members, &mut buffer.scratch, &mut buffer.text)?;
+    out.pass()
 }

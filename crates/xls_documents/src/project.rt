@@ -6,23 +6,22 @@ ghost use Rattle.xls_vba.specs.References.{reference_view, reference_views};
 ghost use Rattle.xls_vba.specs.Modules.{module_view};
 ghost use Rattle.xls_documents.specs.Lines.{IsLineText, PutsLines};
 ghost use Rattle.xls_documents.specs.Projects.{reference_line, module_line, named_lines, lines_by, DeliversProject};
-ghost use Rattle.xls_pieces.specs.Each.{pieces_output};
+ghost use Rattle.xls_output.specs.Each.{text_output};
 
 use crate::line::{count_member, put_line, text_member};
 use std::alloc::Global;
-use xls_output::{Sink, Stop, Writer};
-use xls_pieces::{Pieces, finish};
+use xls_output::{OutputText, Sink, Stop, Writer};
 use xls_readable::Form;
 use xls_vba::{Module, Reference, VbaProject};
 
 // Puts the line of a reference.
 fn put_reference<K: Sink>(
     form: Form,
-    out: &mut Writer<'_, K, Pieces>,
+    out: &mut Writer<'_, K, OutputText>,
     reference: &Reference,
 ) -> Result<(), Stop>
     ensures { PutsLines form (reference_line (reference_view reference.now) ∷ [])
-        (pieces_output K.state out.old) (pieces_output K.state out.new) result }
+        (text_output K.state out.old) (text_output K.state out.new) result }
 {
     let members = [
         text_member("name", reference.name.as_str()),
@@ -35,11 +34,11 @@ fn put_reference<K: Sink>(
 // Puts the lines of references, in their order.
 fn put_references<K: Sink>(
     form: Form,
-    out: &mut Writer<'_, K, Pieces>,
+    out: &mut Writer<'_, K, OutputText>,
     references: &[Reference],
 ) -> Result<(), Stop>
     ensures { PutsLines form (map reference_line (reference_views references.now))
-        (pieces_output K.state out.old) (pieces_output K.state out.new) result }
+        (text_output K.state out.old) (text_output K.state out.new) result }
 {
     for reference in references {
         put_reference(form, out, reference)?;
@@ -50,11 +49,11 @@ fn put_references<K: Sink>(
 // Puts the line of a module.
 fn put_module<K: Sink>(
     form: Form,
-    out: &mut Writer<'_, K, Pieces>,
+    out: &mut Writer<'_, K, OutputText>,
     source: &Module,
 ) -> Result<(), Stop>
     ensures { PutsLines form (module_line (module_view source.now) ∷ [])
-        (pieces_output K.state out.old) (pieces_output K.state out.new) result }
+        (text_output K.state out.old) (text_output K.state out.new) result }
 {
     let members = [
         text_member("name", source.name.as_str()),
@@ -68,12 +67,12 @@ fn put_module<K: Sink>(
 fn put_named<K: Sink>(
     form: Form,
     alloc: Global,
-    out: &mut Writer<'_, K, Pieces>,
+    out: &mut Writer<'_, K, OutputText>,
     project: &VbaProject,
     name: &str,
 ) -> Result<(), Stop>
     ensures { PutsLines form (named_lines project.now.modules name.now)
-        (pieces_output K.state out.old) (pieces_output K.state out.new) result }
+        (text_output K.state out.old) (text_output K.state out.new) result }
 {
     // The name is that of a module, so only memory can be missing.
     match project.module(alloc, name) {
@@ -86,12 +85,12 @@ fn put_named<K: Sink>(
 fn put_modules<K: Sink>(
     form: Form,
     alloc: Global,
-    out: &mut Writer<'_, K, Pieces>,
+    out: &mut Writer<'_, K, OutputText>,
     project: &VbaProject,
     names: &[&str],
 ) -> Result<(), Stop>
     ensures { PutsLines form (flat_map (named_lines project.now.modules) (map (λ x. x.now) names.now))
-        (pieces_output K.state out.old) (pieces_output K.state out.new) result }
+        (text_output K.state out.old) (text_output K.state out.new) result }
 {
     for name in names {
         put_named(form, alloc, out, project, name)?;
@@ -103,12 +102,12 @@ fn put_modules<K: Sink>(
 fn put_project<K: Sink>(
     form: Form,
     alloc: Global,
-    out: &mut Writer<'_, K, Pieces>,
+    out: &mut Writer<'_, K, OutputText>,
     project: &VbaProject,
     names: &[&str],
 ) -> Result<(), Stop>
     ensures { PutsLines form (lines_by project.now (map (λ x. x.now) names.now))
-        (pieces_output K.state out.old) (pieces_output K.state out.new) result }
+        (text_output K.state out.old) (text_output K.state out.new) result }
 {
     put_references(form, out, project.get_references())?;
     put_modules(form, alloc, out, project, names)
@@ -127,8 +126,8 @@ pub fn write_project<K: Sink>(
     ensures { DeliversProject form project.now (K.state sink.old) (K.state sink.new) result }
 {
     let names = project.get_module_names(alloc)?;
-    let mut pieces = Pieces::new(alloc);
-    let mut out = Writer::new(&mut pieces, sink);
+    let mut buffer = OutputText::new(alloc);
+    let mut out = Writer::new(&mut buffer, sink);
     put_project(form, alloc, &mut out, project, &names)?;
-    finish(&mut out)
+    out.finish()
 }

@@ -6,38 +6,37 @@ ghost use Rattle.std.specs.List.{flat_map};
 ghost use Rattle.std.specs.String.{string_bytes, string_cmp};
 ghost use Rattle.xls_documents.specs.Lines.{IsLineText, PutsLines};
 ghost use Rattle.xls_documents.specs.Properties.{property_line, custom_lines, displayed_field, known_lines, property_lines};
-ghost use Rattle.xls_pieces.specs.Each.{DeliversEach, pieces_output};
+ghost use Rattle.xls_output.specs.Each.{DeliversEach, text_output};
 
 use std::alloc::Global;
 use std::collections::btree_map::Iter;
-use xls_output::{Sink, Stop, Writer};
-use xls_pieces::{Pieces, finish, pass};
+use xls_output::{OutputText, Sink, Stop, Writer};
 use xls_props::WorkbookProperties;
 use xls_readable::{Form, Property, push_custom, push_property};
 
 // Puts the line of a property.
 fn put_text<K: Sink>(
     form: Form,
-    out: &mut Writer<'_, K, Pieces>,
+    out: &mut Writer<'_, K, OutputText>,
     property: Property,
     text: &str,
 ) -> Result<(), Stop>
     ensures { PutsLines form (property_line property text.now ∷ [])
-        (pieces_output K.state out.old) (pieces_output K.state out.new) result }
+        (text_output K.state out.old) (text_output K.state out.new) result }
 {
-    let pieces = &mut *out.buffer;
-    push_property(form, property, text, &mut pieces.room, &mut pieces.text)?;
-    pass(out)
+    let buffer = &mut *out.buffer;
+    push_property(form, property, text, &mut buffer.scratch, &mut buffer.text)?;
+    out.pass()
 }
 
 // Puts the line of a property, if it is there.
 fn put_property<K: Sink>(
     form: Form,
-    out: &mut Writer<'_, K, Pieces>,
+    out: &mut Writer<'_, K, OutputText>,
     field: (Property, &Option<String>),
 ) -> Result<(), Stop>
     ensures { PutsLines form (displayed_field field.entry)
-        (pieces_output K.state out.old) (pieces_output K.state out.new) result }
+        (text_output K.state out.old) (text_output K.state out.new) result }
 {
     match field.1 {
         Some(text) => put_text(form, out, field.0, text.as_str()),
@@ -48,11 +47,11 @@ fn put_property<K: Sink>(
 // Puts the lines of those that are there.
 fn put_fields<K: Sink>(
     form: Form,
-    out: &mut Writer<'_, K, Pieces>,
+    out: &mut Writer<'_, K, OutputText>,
     fields: &[(Property, &Option<String>)],
 ) -> Result<(), Stop>
     ensures { PutsLines form (flat_map displayed_field fields.now)
-        (pieces_output K.state out.old) (pieces_output K.state out.new) result }
+        (text_output K.state out.old) (text_output K.state out.new) result }
 {
     for field in fields {
         put_property(form, out, *field)?;
@@ -63,11 +62,11 @@ fn put_fields<K: Sink>(
 // Puts the lines of the properties that have names of their own, in their order.
 fn put_known<K: Sink>(
     form: Form,
-    out: &mut Writer<'_, K, Pieces>,
+    out: &mut Writer<'_, K, OutputText>,
     properties: &WorkbookProperties,
 ) -> Result<(), Stop>
     ensures { PutsLines form (known_lines properties.now)
-        (pieces_output K.state out.old) (pieces_output K.state out.new) result }
+        (text_output K.state out.old) (text_output K.state out.new) result }
 {
     let fields = [
         (Property::Title, &properties.title),
@@ -94,32 +93,32 @@ fn put_known<K: Sink>(
 // Puts the line of a custom property.
 fn put_custom<K: Sink>(
     form: Form,
-    out: &mut Writer<'_, K, Pieces>,
+    out: &mut Writer<'_, K, OutputText>,
     name: &String,
     value: &String,
 ) -> Result<(), Stop>
     ensures { PutsLines form (custom_lines (name.now, value.now))
-        (pieces_output K.state out.old) (pieces_output K.state out.new) result }
+        (text_output K.state out.old) (text_output K.state out.new) result }
 {
-    let pieces = &mut *out.buffer;
+    let buffer = &mut *out.buffer;
     push_custom(
         form,
         name.as_str(),
         value.as_str(),
-        &mut pieces.room,
-        &mut pieces.text,
+        &mut buffer.scratch,
+        &mut buffer.text,
     )?;
-    pass(out)
+    out.pass()
 }
 
 // Puts the lines of custom properties.
 fn put_customs<K: Sink>(
     form: Form,
-    out: &mut Writer<'_, K, Pieces>,
+    out: &mut Writer<'_, K, OutputText>,
     customs: Iter<'_, String, String>,
 ) -> Result<(), Stop>
     ensures { PutsLines form (flat_map custom_lines customs.entry)
-        (pieces_output K.state out.old) (pieces_output K.state out.new) result }
+        (text_output K.state out.old) (text_output K.state out.new) result }
 {
     for (name, value) in customs {
         put_custom(form, out, name, value)?;
@@ -130,11 +129,11 @@ fn put_customs<K: Sink>(
 // Puts the lines of the properties with names of their own, and then of the custom ones.
 fn put_properties<K: Sink>(
     form: Form,
-    out: &mut Writer<'_, K, Pieces>,
+    out: &mut Writer<'_, K, OutputText>,
     properties: &WorkbookProperties,
 ) -> Result<(), Stop>
     ensures puts { PutsLines form (property_lines properties.now)
-        (pieces_output K.state out.old) (pieces_output K.state out.new) result }
+        (text_output K.state out.old) (text_output K.state out.new) result }
     ensures ordered { IsOrdered string_cmp properties.now.custom_properties }
 {
     let customs = properties.custom_properties.iter();
@@ -155,8 +154,8 @@ pub fn write_properties<K: Sink>(
         (K.state sink.old) (K.state sink.new) result }
     ensures ordered { IsOrdered string_cmp properties.now.custom_properties }
 {
-    let mut pieces = Pieces::new(alloc);
-    let mut out = Writer::new(&mut pieces, sink);
+    let mut buffer = OutputText::new(alloc);
+    let mut out = Writer::new(&mut buffer, sink);
     put_properties(form, &mut out, properties)?;
-    finish(&mut out)
+    out.finish()
 }

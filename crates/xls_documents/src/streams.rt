@@ -3,43 +3,48 @@
 ghost use Rattle.std.specs.Prelude.{◌≡◌, ◌∷◌, []};
 ghost use Rattle.xls_compound.specs.Entries.{entries_from};
 ghost use Rattle.xls_documents.specs.Streams.{IsEntryText, IsStream, PutsEntries};
-ghost use Rattle.xls_pieces.specs.Each.{DeliversEach, pieces_output};
+ghost use Rattle.xls_output.specs.Each.{DeliversEach, text_output};
 
 use crate::line::{count_member, text_member};
 use std::alloc::Global;
 use xls_compound::{Compound, Entries, Entry};
-use xls_output::{Sink, Stop, Writer};
-use xls_pieces::{Pieces, finish, pass};
+use xls_output::{OutputText, Sink, Stop, Writer};
 use xls_readable::{Form, push_line};
 
 // Puts the line of a stream.
 fn put_stream<K: Sink>(
     form: Form,
     alloc: Global,
-    out: &mut Writer<'_, K, Pieces>,
+    out: &mut Writer<'_, K, OutputText>,
     entry: &Entry<'_>,
 ) -> Result<(), Stop>
     requires { IsStream entry.now }
-    ensures { PutsEntries form (entry.now ∷ []) (pieces_output K.state out.old) (pieces_output K.state out.new) result }
+    ensures { PutsEntries form (entry.now ∷ []) (text_output K.state out.old) (text_output K.state out.new) result }
 {
     let path = entry.path(alloc)?.join(alloc, "/")?;
     let members = [
         count_member("size", entry.size()),
         text_member("path", path.as_str()),
     ];
-    let pieces = &mut *out.buffer;
-    push_line(form, "stream", &members, &mut pieces.room, &mut pieces.text)?;
-    pass(out)
+    let buffer = &mut *out.buffer;
+    push_line(
+        form,
+        "stream",
+        &members,
+        &mut buffer.scratch,
+        &mut buffer.text,
+    )?;
+    out.pass()
 }
 
 // Puts the line of an entry, if it is a stream.
 fn put_entry<K: Sink>(
     form: Form,
     alloc: Global,
-    out: &mut Writer<'_, K, Pieces>,
+    out: &mut Writer<'_, K, OutputText>,
     entry: &Entry<'_>,
 ) -> Result<(), Stop>
-    ensures { PutsEntries form (entry.now ∷ []) (pieces_output K.state out.old) (pieces_output K.state out.new) result }
+    ensures { PutsEntries form (entry.now ∷ []) (text_output K.state out.old) (text_output K.state out.new) result }
 {
     if entry.is_stream() {
         return put_stream(form, alloc, out, entry);
@@ -51,10 +56,10 @@ fn put_entry<K: Sink>(
 fn put_entries<K: Sink>(
     form: Form,
     alloc: Global,
-    out: &mut Writer<'_, K, Pieces>,
+    out: &mut Writer<'_, K, OutputText>,
     entries: Entries<'_>,
 ) -> Result<(), Stop>
-    ensures { PutsEntries form entries.entry (pieces_output K.state out.old) (pieces_output K.state out.new) result }
+    ensures { PutsEntries form entries.entry (text_output K.state out.old) (text_output K.state out.new) result }
 {
     for entry in entries {
         put_entry(form, alloc, out, &entry)?;
@@ -74,8 +79,8 @@ pub fn write_streams<K: Sink>(
     ensures { DeliversEach (IsEntryText form) (entries_from compound.now.listing 0)
         (K.state sink.old) (K.state sink.new) result }
 {
-    let mut pieces = Pieces::new(alloc);
-    let mut out = Writer::new(&mut pieces, sink);
+    let mut buffer = OutputText::new(alloc);
+    let mut out = Writer::new(&mut buffer, sink);
     put_entries(form, alloc, &mut out, compound.streams())?;
-    finish(&mut out)
+    out.finish()
 }

@@ -9,5 +9,5 @@ mod short;
 
 pub use buffer::Buffer;
 pub use field::Field;
-pub use put::{put_bytes, put_cell, put_line, write_line};
+pub use put::{put_cell, put_line, write_line};
 pub use short::Short;

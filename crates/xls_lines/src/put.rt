@@ -46,7 +46,7 @@ fn put_head(head: &mut Head, line: &mut Short, row: u32, column: u32, kind: &str
 
 /// Puts some bytes.
 #[inline(always)]
-pub fn put_bytes<K: Sink>(out: &mut Writer<'_, K, Buffer>, bytes: &[u8]) -> Result<(), Stop>
+fn put<K: Sink>(out: &mut Writer<'_, K, Buffer>, bytes: &[u8]) -> Result<(), Stop>
     ensures { Puts (output K.state out.old) (output K.state out.new) bytes.now result }
 {
     let buffer = &mut *out.buffer;
@@ -57,7 +57,7 @@ pub fn put_bytes<K: Sink>(out: &mut Writer<'_, K, Buffer>, bytes: &[u8]) -> Resu
 fn put_str<K: Sink>(out: &mut Writer<'_, K, Buffer>, text: &str) -> Result<(), Stop>
     ensures { Puts (output K.state out.old) (output K.state out.new) text.now result }
 {
-    put_bytes(out, text.as_bytes())
+    put(out, text.as_bytes())
 }
 
 /// Puts what a field prints.
@@ -89,7 +89,11 @@ fn put_fields<K: Sink>(out: &mut Writer<'_, K, Buffer>, fields: &[Field<'_>]) ->
 }
 
 /// Puts a line: a word, and fields after it.
-pub fn put_line<K: Sink>(out: &mut Writer<'_, K, Buffer>, word: &str, fields: &[Field<'_>]) -> Result<(), Stop>
+pub fn put_line<K: Sink>(
+    out: &mut Writer<'_, K, Buffer>,
+    word: &str,
+    fields: &[Field<'_>],
+) -> Result<(), Stop>
     ensures { Puts (output K.state out.old) (output K.state out.new)
         (word.now ++ (flat_map tabbed_field fields.now ++ codes "\n")) result }
 {
@@ -116,7 +120,7 @@ fn put_number_cell<K: Sink>(
     line.put_number(number);
     let buffer = &mut *out.buffer;
     put_head(&mut buffer.head, &mut line, row, column, kind);
-    put_bytes(out, line.as_slice())
+    put(out, line.as_slice())
 }
 
 /// Puts the line of a cell with what it prints, all at once where that is short.

@@ -2,16 +2,16 @@
 use Rattle.std.proofs.Common.{ℕ, List, append-nil, Option, Some, None, codes, ap, ◌∙◌, ◌≡◌, ◌++◌, [], Result}
 use Rattle.std.specs.Prelude.{MatchOption}
 use Rattle.xls_range.specs.Positions.{Position}
-use Rattle.xls_decimals.specs.Added.{AddsText}
+use Rattle.xls_output.specs.Added.{AddsText}
 use Rattle.xls_output.specs.SinkState.{SinkState}
 use Rattle.xls_output.specs.Output.{Output, Puts}
 use Rattle.xls_output.specs.declared.stop.Stop.{Stop}
 use Rattle.xls_readable.specs.Items.{NamedItem}
 use Rattle.xls_readable.specs.Lines.{IsLine, cell_members}
 use Rattle.xls_readable.specs.declared.forms.Form.{Form}
-use Rattle.xls_pieces.specs.Each.{PutsEach}
+use Rattle.xls_output.specs.Each.{PutsEach}
 use Rattle.xls_listing.specs.Listing.{IsDisplayedLine, valued_lines}
-use Rattle.xls_pieces.proofs.EachLemmas.{puts-one}
+use Rattle.xls_output.proofs.EachLemmas.{puts-one}
 use Rattle.xls_listing.proofs.LineLemmas.{puts-pass}
 
 -- the line of a value was appended, or of a blank nothing, and then what was gathered was passed on

@@ -4,8 +4,8 @@ use Rattle.xls_output.specs.SinkState.{SinkState}
 use Rattle.xls_output.specs.Output.{Output, Puts}
 use Rattle.xls_output.specs.declared.stop.Stop.{Stop}
 use Rattle.xls_output.specs.declared.stop.Stop.TheVariants.{Memory}
-use Rattle.xls_pieces.specs.Each.{GathersEach, GivesUpEach, PutsEach}
-use Rattle.xls_pieces.proofs.EachLemmas.{each-as, each-memory, each-none, each-stops-as, each-stops-more, each-stops-then, each-then}
+use Rattle.xls_output.specs.Each.{GathersEach, GivesUpEach, PutsEach}
+use Rattle.xls_output.proofs.EachLemmas.{each-as, each-memory, each-none, each-stops-as, each-stops-more, each-stops-then, each-then}
 
 -- nothing was appended
 pub puts-pass : {A X : Type 0} (P : A → List ℕ → Type 0) (w : SinkState) (n : ℕ) (g h : List ℕ) (b : Output) (r : Result X Stop)

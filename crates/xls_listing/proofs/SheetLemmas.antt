@@ -7,8 +7,8 @@ use Rattle.xls_data.specs.declared.sheets.Sheet.{Sheet}
 use Rattle.xls_meaning.specs.Reading.{SheetView, BookView}
 use Rattle.xls_output.specs.Output.{Output}
 use Rattle.xls_output.specs.declared.stop.Stop.{Stop}
-use Rattle.xls_pieces.specs.Each.{GathersEach, GivesUpEach}
-use Rattle.xls_pieces.proofs.EachLemmas.{each-stops-more, each-stops-then, each-then}
+use Rattle.xls_output.specs.Each.{GathersEach, GivesUpEach}
+use Rattle.xls_output.proofs.EachLemmas.{each-stops-more, each-stops-then, each-then}
 use Rattle.xls_listing.specs.Listing.{Line, each_sheet, sheet_line, displayed_at}
 use Rattle.xls_listing.proofs.LineLemmas.{PutsSome, some-all, some-first, some-next, some-stopped}
 use Rattle.xls_listing.proofs.DisplayedLemmas.{mapped, sheets_end, sheets_step}

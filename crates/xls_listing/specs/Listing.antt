@@ -15,7 +15,7 @@ use Rattle.xls_readable.specs.Items as item
 use Rattle.xls_readable.specs.Items.{NamedItem}
 use Rattle.xls_readable.specs.Lines.{IsLine, dates_members, name_members, sheet_members, cell_members, moment_kind, formula_members, merge_members, ref_members}
 use Rattle.xls_readable.specs.declared.forms.Form.{Form}
-use Rattle.xls_pieces.specs.Each.{PutsEach}
+use Rattle.xls_output.specs.Each.{PutsEach}
 
 -- a line by its word and by its fields, each under its name
 pub record Line : Type 0 where

@@ -7,41 +7,47 @@ ghost use Rattle.xls_cursors.specs.Formulas.{text_entry};
 ghost use Rattle.xls_cursors.specs.Displayed.{sheet_view_of};
 ghost use Rattle.xls_cursors.specs.Walking.{formula_seen};
 ghost use Rattle.xls_listing.specs.Listing.{IsDisplayedLine, PutsLines, each_sheet, formula_line, formula_lines, lines_of_formulas, displayed_at};
-ghost use Rattle.xls_pieces.specs.Each.{DeliversEach, pieces_output};
+ghost use Rattle.xls_output.specs.Each.{DeliversEach, text_output};
 
 use crate::sheets::put_sheet;
 use std::alloc::Global;
-use xls_output::{Sink, Stop, Writer};
-use xls_pieces::{Pieces, finish, pass};
+use xls_output::{OutputText, Sink, Stop, Writer};
 use xls_readable::{Form, push_formula_line};
 use xls_view::{FormulaBuffer, FormulaCell, SheetFormulas, View, ViewSheet};
 
 /// Puts the line of a formula.
 fn put_formula<K: Sink>(
     form: Form,
-    out: &mut Writer<'_, K, Pieces>,
+    out: &mut Writer<'_, K, OutputText>,
     row: u32,
     column: u32,
     text: &str,
 ) -> Result<(), Stop>
     ensures { PutsLines form (formula_line ((row, column), chars text.now) ∷ [])
-        (pieces_output K.state out.old) (pieces_output K.state out.new) result }
+        (text_output K.state out.old) (text_output K.state out.new) result }
 {
-    let pieces = &mut *out.buffer;
-    push_formula_line(form, row, column, text, &mut pieces.room, &mut pieces.text)?;
-    pass(out)
+    let buffer = &mut *out.buffer;
+    push_formula_line(
+        form,
+        row,
+        column,
+        text,
+        &mut buffer.scratch,
+        &mut buffer.text,
+    )?;
+    out.pass()
 }
 
 /// Puts the line of a formula, unless its text is empty.
 fn put_displayed_formula<K: Sink>(
     form: Form,
-    out: &mut Writer<'_, K, Pieces>,
+    out: &mut Writer<'_, K, OutputText>,
     row: u32,
     column: u32,
     text: &str,
 ) -> Result<(), Stop>
     ensures { PutsLines form (map formula_line (nonempty_formulas (((row, column), chars text.now) ∷ [])))
-        (pieces_output K.state out.old) (pieces_output K.state out.new) result }
+        (text_output K.state out.old) (text_output K.state out.new) result }
 {
     if text.is_empty() {
         return Ok(());
@@ -52,14 +58,14 @@ fn put_displayed_formula<K: Sink>(
 /// Puts the line of a formula of a sheet, unless its text is empty.
 fn put_formula_of<K: Sink>(
     form: Form,
-    out: &mut Writer<'_, K, Pieces>,
+    out: &mut Writer<'_, K, OutputText>,
     texts: &mut FormulaBuffer,
     formulas: &SheetFormulas<'_>,
     formula: FormulaCell<'_>,
 ) -> Result<(), Stop>
     ensures { PutsLines form
         (map formula_line (nonempty_formulas (text_entry formulas.now.context (formula_seen formula.entry) ∷ [])))
-        (pieces_output K.state out.old) (pieces_output K.state out.new) result }
+        (text_output K.state out.old) (text_output K.state out.new) result }
 {
     let text = formulas.text_in(texts, formula)?;
     put_displayed_formula(form, out, formula.row, formula.column, text)
@@ -68,13 +74,13 @@ fn put_formula_of<K: Sink>(
 /// Puts the lines of a sheet's formulas.
 fn put_formulas<K: Sink>(
     form: Form,
-    out: &mut Writer<'_, K, Pieces>,
+    out: &mut Writer<'_, K, OutputText>,
     texts: &mut FormulaBuffer,
     formulas: &SheetFormulas<'_>,
 ) -> Result<(), Stop>
     ensures { PutsLines form
         (map formula_line (nonempty_formulas (map (text_entry formulas.now.context) formulas.now.left)))
-        (pieces_output K.state out.old) (pieces_output K.state out.new) result }
+        (text_output K.state out.old) (text_output K.state out.new) result }
 {
     for formula in formulas.iter() {
         put_formula_of(form, out, texts, formulas, formula)?;
@@ -85,12 +91,12 @@ fn put_formulas<K: Sink>(
 /// Puts the lines of the formulas that a sheet shows.
 pub(crate) fn put_displayed_formulas<K: Sink>(
     form: Form,
-    out: &mut Writer<'_, K, Pieces>,
+    out: &mut Writer<'_, K, OutputText>,
     texts: &mut FormulaBuffer,
     sheet: &ViewSheet<'_>,
 ) -> Result<(), Stop>
     ensures { PutsLines form (lines_of_formulas (sheet_view_of sheet.now))
-        (pieces_output K.state out.old) (pieces_output K.state out.new) result }
+        (text_output K.state out.old) (text_output K.state out.new) result }
 {
     let formulas = sheet.formulas()?;
     put_formulas(form, out, texts, &formulas)
@@ -99,13 +105,13 @@ pub(crate) fn put_displayed_formulas<K: Sink>(
 /// Puts the lines of the formulas of the sheet at an index.
 fn put_formulas_at<K: Sink>(
     form: Form,
-    out: &mut Writer<'_, K, Pieces>,
+    out: &mut Writer<'_, K, OutputText>,
     texts: &mut FormulaBuffer,
     view: &View<'_>,
     n: usize,
 ) -> Result<(), Stop>
     ensures { PutsLines form (displayed_at lines_of_formulas (slice_get view.now.book.contents n))
-        (pieces_output K.state out.old) (pieces_output K.state out.new) result }
+        (text_output K.state out.old) (text_output K.state out.new) result }
 {
     match view.sheet_at(n) {
         Some(sheet) => put_displayed_formulas(form, out, texts, &sheet),
@@ -116,12 +122,12 @@ fn put_formulas_at<K: Sink>(
 /// Puts the sheets in workbook order, each with its formulas.
 fn put_all_formulas<K: Sink>(
     form: Form,
-    out: &mut Writer<'_, K, Pieces>,
+    out: &mut Writer<'_, K, OutputText>,
     texts: &mut FormulaBuffer,
     view: &View<'_>,
 ) -> Result<(), Stop>
     ensures { PutsLines form (each_sheet lines_of_formulas view.now.book.sheets view.now.book.contents)
-        (pieces_output K.state out.old) (pieces_output K.state out.new) result }
+        (text_output K.state out.old) (text_output K.state out.new) result }
 {
     let sheets = view.sheets();
     for i in 0..sheets.len() {
@@ -142,9 +148,9 @@ pub fn write_formula_list<K: Sink>(
     ensures { DeliversEach (IsDisplayedLine form) (formula_lines view.now.book)
         (K.state sink.old) (K.state sink.new) result }
 {
-    let mut pieces = Pieces::new(alloc);
-    let mut out = Writer::new(&mut pieces, sink);
+    let mut buffer = OutputText::new(alloc);
+    let mut out = Writer::new(&mut buffer, sink);
     let mut texts = FormulaBuffer::new(alloc);
     put_all_formulas(form, &mut out, &mut texts, view)?;
-    finish(&mut out)
+    out.finish()
 }

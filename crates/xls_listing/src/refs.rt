@@ -5,13 +5,12 @@ ghost use Rattle.std.specs.List.{flat_map};
 ghost use Rattle.std.specs.Str.{chars};
 ghost use Rattle.xls_refs.specs.Views.{cited_in, each_cited, lent_citation_of, sheets_cited};
 ghost use Rattle.xls_listing.specs.Listing.{IsDisplayedLine, PutsLines, ref_line, ref_lines, displayed_at};
-ghost use Rattle.xls_pieces.specs.Each.{DeliversEach, pieces_output};
+ghost use Rattle.xls_output.specs.Each.{DeliversEach, text_output};
 
 use std::alloc::Global;
 use xls_biff::Strings;
 use xls_data::Dimensions;
-use xls_output::{Sink, Stop, Writer};
-use xls_pieces::{Pieces, finish, pass};
+use xls_output::{OutputText, Sink, Stop, Writer};
 use xls_readable::{Form, push_ref};
 use xls_refs::{CitedCells, CitedFormula, SheetCites, cites_of_sheet};
 use xls_view::View;
@@ -37,12 +36,12 @@ fn sheet_of(cite: CitedCells<'_>) -> &str
 /// the formula, sheet of the cells, and their corners.
 fn put_cite<K: Sink>(
     form: Form,
-    out: &mut Writer<'_, K, Pieces>,
+    out: &mut Writer<'_, K, OutputText>,
     names: &Strings,
     cite: CitedCells<'_>,
 ) -> Result<(), Stop>
     ensures { PutsLines form (ref_line names.now (lent_citation_of cite.entry) ∷ [])
-        (pieces_output K.state out.old) (pieces_output K.state out.new) result }
+        (text_output K.state out.old) (text_output K.state out.new) result }
 {
     let name = name_of(names, cite.sheet);
     let sheet = sheet_of(cite);
@@ -50,29 +49,29 @@ fn put_cite<K: Sink>(
         start: cite.first,
         end: cite.last,
     };
-    let pieces = &mut *out.buffer;
+    let buffer = &mut *out.buffer;
     push_ref(
         form,
         name,
         (cite.row, cite.col),
         sheet,
         cells,
-        &mut pieces.room,
-        &mut pieces.text,
+        &mut buffer.scratch,
+        &mut buffer.text,
     )?;
-    pass(out)
+    out.pass()
 }
 
 /// Puts the line at an index of what a formula cites, if there is one.
 fn put_cite_at<K: Sink>(
     form: Form,
-    out: &mut Writer<'_, K, Pieces>,
+    out: &mut Writer<'_, K, OutputText>,
     names: &Strings,
     formula: &CitedFormula<'_>,
     i: usize,
 ) -> Result<(), Stop>
     ensures { PutsLines form (displayed_at (λ c. ref_line names.now c ∷ []) (slice_get formula.now i))
-        (pieces_output K.state out.old) (pieces_output K.state out.new) result }
+        (text_output K.state out.old) (text_output K.state out.new) result }
 {
     match formula.get(i) {
         Some(cite) => put_cite(form, out, names, cite),
@@ -83,12 +82,12 @@ fn put_cite_at<K: Sink>(
 /// Puts the lines of all cells that a formula cites.
 fn put_cites<K: Sink>(
     form: Form,
-    out: &mut Writer<'_, K, Pieces>,
+    out: &mut Writer<'_, K, OutputText>,
     names: &Strings,
     formula: &CitedFormula<'_>,
 ) -> Result<(), Stop>
     ensures { PutsLines form (map (ref_line names.now) formula.now)
-        (pieces_output K.state out.old) (pieces_output K.state out.new) result }
+        (text_output K.state out.old) (text_output K.state out.new) result }
 {
     for i in 0..formula.len() {
         put_cite_at(form, out, names, formula, i)?;
@@ -99,12 +98,12 @@ fn put_cites<K: Sink>(
 /// Puts the lines of all cells that the formulas of a sheet cite.
 fn put_sheet_refs<K: Sink>(
     form: Form,
-    out: &mut Writer<'_, K, Pieces>,
+    out: &mut Writer<'_, K, OutputText>,
     names: &Strings,
     cites: &SheetCites<'_>,
 ) -> Result<(), Stop>
     ensures { PutsLines form (map (ref_line names.now) (each_cited cites.now))
-        (pieces_output K.state out.old) (pieces_output K.state out.new) result }
+        (text_output K.state out.old) (text_output K.state out.new) result }
 {
     for formula in cites.iter() {
         let formula = formula?;
@@ -117,12 +116,12 @@ fn put_sheet_refs<K: Sink>(
 fn put_refs_at<K: Sink>(
     alloc: Global,
     form: Form,
-    out: &mut Writer<'_, K, Pieces>,
+    out: &mut Writer<'_, K, OutputText>,
     view: &View<'_>,
     sheet: usize,
 ) -> Result<(), Stop>
     ensures { PutsLines form (displayed_at (λ cites. map (ref_line view.now.context.sheets) (each_cited cites)) (slice_get (sheets_cited view.now) sheet))
-        (pieces_output K.state out.old) (pieces_output K.state out.new) result }
+        (text_output K.state out.old) (text_output K.state out.new) result }
 {
     match cites_of_sheet(alloc, view, sheet)? {
         Some(cites) => put_sheet_refs(form, out, view.naming().sheets, &cites),
@@ -134,11 +133,11 @@ fn put_refs_at<K: Sink>(
 fn put_refs<K: Sink>(
     alloc: Global,
     form: Form,
-    out: &mut Writer<'_, K, Pieces>,
+    out: &mut Writer<'_, K, OutputText>,
     view: &View<'_>,
 ) -> Result<(), Stop>
     ensures { PutsLines form (ref_lines (cited_in view.now))
-        (pieces_output K.state out.old) (pieces_output K.state out.new) result }
+        (text_output K.state out.old) (text_output K.state out.new) result }
 {
     for sheet in 0..view.naming().sheets.len() {
         put_refs_at(alloc, form, out, view, sheet)?;
@@ -157,8 +156,8 @@ pub fn write_ref_list<K: Sink>(
     ensures { DeliversEach (IsDisplayedLine form) (ref_lines (cited_in view.now))
         (K.state sink.old) (K.state sink.new) result }
 {
-    let mut pieces = Pieces::new(alloc);
-    let mut out = Writer::new(&mut pieces, sink);
+    let mut buffer = OutputText::new(alloc);
+    let mut out = Writer::new(&mut buffer, sink);
     put_refs(alloc, form, &mut out, view)?;
-    finish(&mut out)
+    out.finish()
 }

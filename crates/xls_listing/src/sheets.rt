@@ -3,44 +3,43 @@
 ghost use Rattle.std.specs.Prelude.{◌≡◌, ◌∷◌, [], map};
 ghost use Rattle.xls_data.specs.Sheets.{sheet_content};
 ghost use Rattle.xls_listing.specs.Listing.{IsDisplayedLine, PutsLines, sheet_line, sheet_lines};
-ghost use Rattle.xls_pieces.specs.Each.{DeliversEach, pieces_output};
+ghost use Rattle.xls_output.specs.Each.{DeliversEach, text_output};
 
 use std::alloc::Global;
 use xls_data::Sheet;
-use xls_output::{Sink, Stop, Writer};
-use xls_pieces::{Pieces, finish, pass};
+use xls_output::{OutputText, Sink, Stop, Writer};
 use xls_readable::{Form, push_sheet};
 use xls_view::View;
 
 /// Puts the line of a sheet.
 pub(crate) fn put_sheet<K: Sink>(
     form: Form,
-    out: &mut Writer<'_, K, Pieces>,
+    out: &mut Writer<'_, K, OutputText>,
     sheet: &Sheet,
 ) -> Result<(), Stop>
     ensures { PutsLines form (sheet_line (sheet_content sheet.now) ∷ [])
-        (pieces_output K.state out.old) (pieces_output K.state out.new) result }
+        (text_output K.state out.old) (text_output K.state out.new) result }
 {
-    let pieces = &mut *out.buffer;
+    let buffer = &mut *out.buffer;
     push_sheet(
         form,
         sheet.name.as_str(),
         sheet.typ,
         sheet.visible,
-        &mut pieces.room,
-        &mut pieces.text,
+        &mut buffer.scratch,
+        &mut buffer.text,
     )?;
-    pass(out)
+    out.pass()
 }
 
 /// Puts the lines of sheets.
 fn put_sheets<K: Sink>(
     form: Form,
-    out: &mut Writer<'_, K, Pieces>,
+    out: &mut Writer<'_, K, OutputText>,
     sheets: &[Sheet],
 ) -> Result<(), Stop>
     ensures { PutsLines form (map (λ s. sheet_line (sheet_content s)) sheets.now)
-        (pieces_output K.state out.old) (pieces_output K.state out.new) result }
+        (text_output K.state out.old) (text_output K.state out.new) result }
 {
     for sheet in sheets {
         put_sheet(form, out, sheet)?;
@@ -58,8 +57,8 @@ pub fn write_sheet_list<K: Sink>(
     ensures { DeliversEach (IsDisplayedLine form) (sheet_lines view.now.book)
         (K.state sink.old) (K.state sink.new) result }
 {
-    let mut pieces = Pieces::new(alloc);
-    let mut out = Writer::new(&mut pieces, sink);
+    let mut buffer = OutputText::new(alloc);
+    let mut out = Writer::new(&mut buffer, sink);
     put_sheets(form, &mut out, view.sheets())?;
-    finish(&mut out)
+    out.finish()
 }

@@ -2,3 +2,4 @@ pub mod PieceLemmas
 pub mod GatherLemmas
 pub mod OutputLemmas
 pub mod StandardFacts
+pub mod EachLemmas

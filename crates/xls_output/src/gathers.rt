@@ -1,6 +1,6 @@
 //! What is gathered before it is written.
 
-ghost use Rattle.std.specs.Prelude.{◌≡◌, [], OnOk};
+ghost use Rattle.std.specs.Prelude.{◌≡◌, [], OnOk, OnErr};
 ghost use Rattle.xls_output.specs.Gathering.{PutsInto};
 
 use crate::sink::{Sink, write_all};
@@ -41,6 +41,7 @@ impl Gathers for Vec<u8> {
 pub fn flush<K: Sink, B: Gathers>(buffer: &mut B, sink: &mut K) -> Result<(), Stop>
     ensures puts { PutsInto (K.state sink.old) (B.kept buffer.old) (K.state sink.new) (B.kept buffer.new) [] result }
     ensures none { OnOk result (B.kept buffer.new ≡ []) }
+    ensures err { OnErr result (B.kept buffer.new ≡ B.kept buffer.old) }
 {
     write_all(sink, buffer.bytes())?;
     buffer.clear();

@@ -3,7 +3,7 @@ use Rattle.std.proofs.Common.{◌≡◌, ℕ, ◌+◌, ◌/◌, ◌%◌, ◌<◌
 use Rattle.std.specs.Prelude.{OnOk}
 use Rattle.std.specs.Fmt.{decimal}
 use Rattle.std.proofs.lemmas.Fmt.{decimal_digit, decimal_step}
-use Rattle.xls_decimals.specs.Added.{AddsText}
+use Rattle.xls_output.specs.Added.{AddsText}
 use Rattle.xls_readable.specs.Growth.{cell_head}
 use Rattle.xls_readable.specs.Items.{FieldItem, IsItemText, IsTextLine}
 use Rattle.xls_readable.specs.Lines.{cell_members}

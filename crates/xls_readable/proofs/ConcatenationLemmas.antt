@@ -1,7 +1,7 @@
 -- Texts one after another.
 use Rattle.std.proofs.Common.{◌≡◌, ℕ, ◌+◌, ◌<◌, List, [], ◌∷◌, ◌++◌, length, get_or, take, append_assoc, append-nil, map, ◌≤◌, refl, sym, ap, subst, ◌∙◌}
-use Rattle.xls_decimals.specs.Added.{AddsText}
-use Rattle.xls_readable.specs.Values.{Concatenates}
+use Rattle.xls_output.specs.Added.{AddsText}
+use Rattle.xls_output.specs.Each.{Concatenates}
 use Rattle.std.proofs.lemmas.List.{take_more}
 use Rattle.std.proofs.lemmas.List.{take_all}
 

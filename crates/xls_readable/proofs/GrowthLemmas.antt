@@ -3,7 +3,7 @@ use Rattle.std.proofs.Common.{◌≡◌, ◌≤◌, Result, Ok, Err, ℕ, List, 
 use Rattle.std.specs.String.Boundary.{IsSplitPoint}
 use Rattle.std.specs.Prelude.{OnOk, OnErr}
 use Rattle.std.proofs.lemmas.Str.{IsCharBoundary-from_take}
-use Rattle.xls_decimals.specs.Added.{AddsText}
+use Rattle.xls_output.specs.Added.{AddsText}
 use Rattle.xls_readable.specs.Growth.{GrowsText}
 
 pub grows_same : (old new : List ℕ) → new ≡ old → GrowsText old new

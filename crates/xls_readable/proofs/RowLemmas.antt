@@ -1,9 +1,9 @@
 -- The fields of values, one after another, are a row.
 use Rattle.std.proofs.Common.{◌≡◌, ℕ, List, [], ◌∷◌, ◌++◌, append_assoc, ap, ◌∙◌, Result, Ok, Err}
 use Rattle.std.specs.Prelude.{OnOk}
-use Rattle.xls_decimals.specs.Added.{AddsText}
+use Rattle.xls_output.specs.Added.{AddsText}
 use Rattle.xls_readable.specs.declared.values.Value.{Value}
-use Rattle.xls_readable.specs.Values.{Concatenates}
+use Rattle.xls_output.specs.Each.{Concatenates}
 use Rattle.xls_readable.specs.Csv.{AreValueTexts, IsField, IsJoined, IsSeparated, csv_field, separated}
 
 collected : (d : ℕ) (values : List Value) (text : List ℕ) → Concatenates (IsSeparated d) values text

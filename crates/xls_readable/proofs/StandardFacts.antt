@@ -15,7 +15,8 @@ use Rattle.xls_data.specs.declared.sheets.SheetVisible.TheVariants as states
 use Rattle.xls_readable.specs.declared.values.Value.TheVariants as value
 use Rattle.xls_readable.specs.declared.forms.Form.TheVariants.{Text, Json}
 use Rattle.xls_readable.specs.declared.properties.Property.TheVariants as property
-use Rattle.xls_readable.specs.Values.{truth_text, Concatenates}
+use Rattle.xls_output.specs.Each.{Concatenates}
+use Rattle.xls_readable.specs.Values.{truth_text}
 use Rattle.xls_readable.specs.Csv.{is_delimiter, is_marked, csv_field, csv_row}
 use Rattle.xls_readable.specs.Items.{FieldItem, NamedItem, IsItemText, IsTabbed, count, int, number, truth, moment, failure}
 use Rattle.xls_readable.specs.Json.{IsItemJson, IsMember}

@@ -14,7 +14,7 @@ use Rattle.xls_decimals.specs.Moments.{IsDateOrDuration}
 use Rattle.xls_readable.specs.declared.items.Field.{Field}
 use Rattle.xls_readable.specs.declared.items.Field.TheVariants as field
 use Rattle.xls_readable.specs.declared.items.Member.{Member}
-use Rattle.xls_readable.specs.Values.{Concatenates}
+use Rattle.xls_output.specs.Each.{Concatenates}
 
 -- what a field holds: a word as it is, a text, a formula's text, a count, a whole number, a number, a
 -- truth value, a date or a duration, an error value

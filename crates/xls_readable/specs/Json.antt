@@ -7,7 +7,7 @@ use Rattle.xls_data.specs.Errors.{error_text}
 use Rattle.xls_decimals.specs.Decimals.{IsDecimal}
 use Rattle.xls_decimals.specs.Formulas.{IsFormula}
 use Rattle.xls_decimals.specs.Moments.{IsDateOrDuration}
-use Rattle.xls_readable.specs.Values.{Concatenates}
+use Rattle.xls_output.specs.Each.{Concatenates}
 use Rattle.xls_readable.specs.Items.{FieldItem, NamedItem, word, text, formula, count, int, number, truth, moment, failure}
 
 -- a byte of a string that stands for itself

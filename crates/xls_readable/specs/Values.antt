@@ -1,5 +1,5 @@
 -- The value of a cell and its text as people read it, without quotes or escapes, in UTF-8.
-use Rattle.std.specs.Prelude.{◌≡◌, ℕ, Bool, true, false, List, [], ◌∷◌, ◌++◌, codes}
+use Rattle.std.specs.Prelude.{◌≡◌, ℕ, Bool, true, false, List, [], codes}
 use Rattle.std.specs.Fmt.{signed_decimal}
 use Rattle.std.specs.String.{string_bytes}
 use Rattle.xls_data.specs.Errors.{error_text}
@@ -39,9 +39,3 @@ IsValueOf (variant.DurationIso s) (IsoDuration t) = t.now ≡ string_bytes s
 IsValueOf (variant.Error e) (Failure f) = f ≡ e
 IsValueOf variant.Empty Empty = Unit {0}
 IsValueOf d v = ⊥
-
--- texts one after another, each of which P holds of its item
-abbrev pub Concatenates : {X : Type 0} → (X → List ℕ → Type 0) → List X → List ℕ → Type 0
-Concatenates P [] text = text ≡ []
-Concatenates P (x ∷ xs) text =
-    (first : List ℕ) × (others : List ℕ) × P x first × Concatenates P xs others × (text ≡ first ++ others)

@@ -3,7 +3,7 @@
 ghost use Rattle.std.specs.Prelude.{◌≡◌, ◌++◌, ◌∷◌, ◌+◌, ◌<◌, Some, None, [], option_map, IfOk, OnOk, OnErr, codes};
 ghost use Rattle.std.specs.Fmt.{decimal};
 ghost use Rattle.std.specs.String.{string_bytes};
-ghost use Rattle.xls_decimals.specs.Added.{AddsText};
+ghost use Rattle.xls_output.specs.Added.{AddsText};
 ghost use Rattle.xls_readable.specs.Growth.{GrowsText, cell_head, row_head};
 ghost use Rattle.xls_readable.specs.Items.{IsTextLine, item_of};
 ghost use Rattle.xls_readable.specs.Lines.{IsCellLine, cell_members, kind_and_item};

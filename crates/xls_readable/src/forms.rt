@@ -2,7 +2,7 @@
 
 ghost use Rattle.std.specs.Prelude.{◌≡◌, map, OnOk, OnErr};
 ghost use Rattle.std.specs.String.{string_bytes};
-ghost use Rattle.xls_decimals.specs.Added.{AddsText};
+ghost use Rattle.xls_output.specs.Added.{AddsText};
 ghost use Rattle.xls_readable.specs.Items.{named_of};
 ghost use Rattle.xls_readable.specs.Lines.{IsLine};
 

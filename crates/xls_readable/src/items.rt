@@ -3,9 +3,9 @@
 ghost use Rattle.std.specs.Prelude.{◌≡◌, ◌++◌, map, OnOk, OnErr};
 ghost use Rattle.std.specs.Fmt.{decimal};
 ghost use Rattle.std.specs.String.{string_bytes};
-ghost use Rattle.xls_decimals.specs.Added.{AddsText};
+ghost use Rattle.xls_output.specs.Added.{AddsText};
 ghost use Rattle.xls_readable.specs.Growth.{GrowsText};
-ghost use Rattle.xls_readable.specs.Values.{Concatenates};
+ghost use Rattle.xls_output.specs.Each.{Concatenates};
 ghost use Rattle.xls_readable.specs.Items.{IsItemText, IsTabbed, IsTextLine, formula, item_of, named_of};
 
 use crate::values::{failure_text, push_int};

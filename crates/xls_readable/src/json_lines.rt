@@ -5,9 +5,9 @@ ghost use Rattle.std.specs.List.{flat_map};
 ghost use Rattle.std.specs.Char.{digit_char};
 ghost use Rattle.std.specs.String.{string_bytes};
 ghost use Rattle.json.specs.Print.{escape_byte, escape_letter, quoted};
-ghost use Rattle.xls_decimals.specs.Added.{AddsText};
+ghost use Rattle.xls_output.specs.Added.{AddsText};
 ghost use Rattle.xls_readable.specs.Growth.{GrowsText};
-ghost use Rattle.xls_readable.specs.Values.{Concatenates};
+ghost use Rattle.xls_output.specs.Each.{Concatenates};
 ghost use Rattle.xls_readable.specs.Items.{formula, item_of, moment, named_of, number};
 ghost use Rattle.xls_readable.specs.Json.{is_plain, IsBare, IsItemJson, IsMember, IsJsonLine};
 

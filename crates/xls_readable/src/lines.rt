@@ -2,7 +2,7 @@
 
 ghost use Rattle.std.specs.Prelude.{◌≡◌, [], OnOk, OnErr, codes};
 ghost use Rattle.std.specs.String.{string_bytes};
-ghost use Rattle.xls_decimals.specs.Added.{AddsText};
+ghost use Rattle.xls_output.specs.Added.{AddsText};
 ghost use Rattle.xls_readable.specs.Items.{count, named_of, text};
 ghost use Rattle.xls_readable.specs.Lines.{IsLine};
 ghost use Rattle.xls_readable.specs.Lines.{dates_members, name_members, sheet_members, formula_members, merge_members, ref_members, text_members, item_of, type_text, visible_text, year_text};

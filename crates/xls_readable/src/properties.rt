@@ -2,7 +2,7 @@
 
 ghost use Rattle.std.specs.Prelude.{◌≡◌, OnOk, OnErr, codes};
 ghost use Rattle.std.specs.String.{string_bytes};
-ghost use Rattle.xls_decimals.specs.Added.{AddsText};
+ghost use Rattle.xls_output.specs.Added.{AddsText};
 ghost use Rattle.xls_readable.specs.Lines.{IsLine, custom_members, property_word, text_members};
 
 use crate::forms::{Form, push_line};

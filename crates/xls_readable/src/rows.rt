@@ -2,9 +2,9 @@
 
 ghost use Rattle.std.specs.Prelude.{◌≡◌, ◌++◌, length, OnOk, OnErr};
 ghost use Rattle.std.specs.String.{string_bytes};
-ghost use Rattle.xls_decimals.specs.Added.{AddsText};
+ghost use Rattle.xls_output.specs.Added.{AddsText};
 ghost use Rattle.xls_readable.specs.Growth.{GrowsText};
-ghost use Rattle.xls_readable.specs.Values.{Concatenates};
+ghost use Rattle.xls_output.specs.Each.{Concatenates};
 ghost use Rattle.xls_readable.specs.Csv.{IsRow, IsJoined, IsSeparated};
 
 use crate::delimited::{Delimiter, end_row, push_field, push_separator};

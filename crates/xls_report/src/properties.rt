@@ -44,7 +44,10 @@ fn put_fields<K: Sink>(
 }
 
 /// Puts the lines of the fields of some properties, in their order.
-fn put_known<K: Sink>(out: &mut Writer<'_, K, Buffer>, properties: &WorkbookProperties) -> Result<(), Stop>
+fn put_known<K: Sink>(
+    out: &mut Writer<'_, K, Buffer>,
+    properties: &WorkbookProperties,
+) -> Result<(), Stop>
     ensures { Puts (output K.state out.old) (output K.state out.new)
         (known_lines properties.now) result }
 {
@@ -71,7 +74,11 @@ fn put_known<K: Sink>(out: &mut Writer<'_, K, Buffer>, properties: &WorkbookProp
 }
 
 /// Puts the line of a custom property.
-fn put_custom<K: Sink>(out: &mut Writer<'_, K, Buffer>, name: &String, text: &String) -> Result<(), Stop>
+fn put_custom<K: Sink>(
+    out: &mut Writer<'_, K, Buffer>,
+    name: &String,
+    text: &String,
+) -> Result<(), Stop>
     ensures { Puts (output K.state out.old) (output K.state out.new)
         (custom_line (name.now, text.now)) result }
 {

@@ -130,7 +130,11 @@ fn put_refs_at<K: Sink>(
 }
 
 /// Puts the lines of all cells that are cited, formula by formula.
-fn put_refs<K: Sink>(alloc: Global, out: &mut Writer<'_, K, Buffer>, view: &View<'_>) -> Result<(), Stop>
+fn put_refs<K: Sink>(
+    alloc: Global,
+    out: &mut Writer<'_, K, Buffer>,
+    view: &View<'_>,
+) -> Result<(), Stop>
     ensures { Puts (output K.state out.old) (output K.state out.new)
         (refs_text (cited_in view.now)) result }
 {

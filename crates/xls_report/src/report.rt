@@ -96,7 +96,11 @@ fn put_cell<K: Sink>(
 }
 
 /// Puts the lines of a sheet's cells.
-fn put_cells<K: Sink>(alloc: Global, out: &mut Writer<'_, K, Buffer>, cells: Cells<'_>) -> Result<(), Stop>
+fn put_cells<K: Sink>(
+    alloc: Global,
+    out: &mut Writer<'_, K, Buffer>,
+    cells: Cells<'_>,
+) -> Result<(), Stop>
     ensures { Puts (output K.state out.old) (output K.state out.new)
         (flat_map cell_line cells.entry) result }
 {
@@ -304,7 +308,11 @@ fn put_view<K: Sink>(
 }
 
 /// Puts the sheets in workbook order, and what they show.
-fn put_views<K: Sink>(alloc: Global, out: &mut Writer<'_, K, Buffer>, view: &View<'_>) -> Result<(), Stop>
+fn put_views<K: Sink>(
+    alloc: Global,
+    out: &mut Writer<'_, K, Buffer>,
+    view: &View<'_>,
+) -> Result<(), Stop>
     ensures { Puts (output K.state out.old) (output K.state out.new)
         (sheets_text view.now.book.sheets view.now.book.contents) result }
 {
@@ -340,7 +348,10 @@ fn put_name<K: Sink>(out: &mut Writer<'_, K, Buffer>, name: &(String, String)) -
 }
 
 /// Puts the lines of the defined names.
-fn put_names<K: Sink>(out: &mut Writer<'_, K, Buffer>, names: &[(String, String)]) -> Result<(), Stop>
+fn put_names<K: Sink>(
+    out: &mut Writer<'_, K, Buffer>,
+    names: &[(String, String)],
+) -> Result<(), Stop>
     ensures { Puts (output K.state out.old) (output K.state out.new)
         (flat_map (λ n. name_line (name_texts n)) names.now) result }
 {
@@ -351,7 +362,11 @@ fn put_names<K: Sink>(out: &mut Writer<'_, K, Buffer>, names: &[(String, String)
 }
 
 /// Puts the date system, the defined names, and the sheets with what they show.
-fn put_report<K: Sink>(alloc: Global, out: &mut Writer<'_, K, Buffer>, view: &View<'_>) -> Result<(), Stop>
+fn put_report<K: Sink>(
+    alloc: Global,
+    out: &mut Writer<'_, K, Buffer>,
+    view: &View<'_>,
+) -> Result<(), Stop>
     ensures { Puts (output K.state out.old) (output K.state out.new)
         (report view.now.book) result }
 {

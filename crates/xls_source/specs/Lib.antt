@@ -1,4 +1,3 @@
-pub mod Causes
 pub mod SourceState
 pub mod Bounded
 pub mod Feed

@@ -6,7 +6,7 @@ use Rattle.std.specs.Result.{IsErrAnd}
 use Rattle.std.proofs.lemmas.Grind.{flat_map-append}
 use Rattle.xls_data.specs.Content as content
 use Rattle.xls_data.specs.Content.{Content}
-use Rattle.xls_decimals.specs.Added.{AddsText}
+use Rattle.xls_output.specs.Added.{AddsText}
 use Rattle.xls_biff.specs.Cells.{CellEntry}
 use Rattle.xls_csv.specs.Walk.{take_at, row_over, left_over}
 use Rattle.xls_readable.specs.Csv.{csv_field, joined, separated}

@@ -7,7 +7,7 @@ use Rattle.xls_biff.specs.Cells.{CellEntry}
 use Rattle.xls_csv.specs.Walk.{left_over, row_over, rows_over, walk_rows}
 use Rattle.xls_csv.proofs.WalkLemmas.{rows_from}
 use Rattle.xls_readable.specs.Csv.{row_end}
-use Rattle.xls_readable.specs.Values.{Concatenates}
+use Rattle.xls_output.specs.Each.{Concatenates}
 use Rattle.xls_output.specs.SinkState.{SinkState}
 use Rattle.xls_output.specs.Output.{Buffers, GivesUp, Output}
 use Rattle.xls_output.specs.declared.stop.Stop.{Stop}

@@ -1,7 +1,7 @@
 -- Words of private calls, for the proofs.
 use Rattle.std.specs.Prelude.{◌≡◌, ℕ, ◌==◌, Bool, true, false, List, [], ◌∷◌, ◌++◌, length, Result, Ok, Err}
 use Rattle.xls_data.specs.Content.{Content}
-use Rattle.xls_readable.specs.Values.{Concatenates}
+use Rattle.xls_output.specs.Each.{Concatenates}
 use Rattle.xls_output.specs.Output.{Buffers, GivesUp, Output}
 use Rattle.xls_output.specs.declared.stop.Stop.{Stop}
 use Rattle.xls_tables.specs.Rows.{IsContentField, IsContentFields, IsContentRow}

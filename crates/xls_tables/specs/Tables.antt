@@ -4,7 +4,7 @@ use Rattle.xls_data.specs.Content.{Content}
 use Rattle.xls_output.specs.Gathering.{Stops, Wrote}
 use Rattle.xls_output.specs.SinkState.{SinkState}
 use Rattle.xls_output.specs.declared.stop.Stop.{Stop}
-use Rattle.xls_readable.specs.Values.{Concatenates}
+use Rattle.xls_output.specs.Each.{Concatenates}
 use Rattle.xls_tables.specs.Rows.{IsContentFields, IsContentRow}
 
 -- the byte order mark U+FEFF in UTF-8, where it is asked for

@@ -9,7 +9,7 @@ use Rattle.xls_container.specs.Files.{Container, OpensContainer, RefusesToOpen, 
 use Rattle.xls_container.specs.declared.fault.FileFault.{FileFault}
 use Rattle.xls_props.specs.declared.properties.WorkbookProperties.{WorkbookProperties}
 use Rattle.xls_vba.specs.Directory.{Project}
-use Rattle.xls_pieces.specs.Each.{DeliversEach}
+use Rattle.xls_output.specs.Each.{DeliversEach}
 use Rattle.xls_documents.specs.Lines.{IsLineText}
 use Rattle.xls_documents.specs.MacroDirectory.{HasProject, RefusesProject}
 use Rattle.xls_documents.specs.Projects.{DeliversProject}

@@ -1,7 +1,7 @@
 use Rattle.std.proofs.Common.{map}
 use Rattle.xls_readable.specs.Items.{named_of}
 use Rattle.xls_documents.specs.Lines.{IsLineText}
-use Rattle.xls_pieces.proofs.EachLemmas.{puts-memory, puts-one}
+use Rattle.xls_output.proofs.EachLemmas.{puts-memory, puts-one}
 use Rattle.xls_documents.proofs.line.put_line.Goals as goal
 
 pub returns-in_err-push_line : goal.returns-in_err-push_line

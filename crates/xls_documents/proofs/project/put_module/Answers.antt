@@ -1,6 +1,6 @@
 use Rattle.std.proofs.Common.{codes, ◌∙◌}
 use Rattle.xls_documents.specs.Lines.{IsLineText}
-use Rattle.xls_pieces.proofs.EachLemmas.{puts-as}
+use Rattle.xls_output.proofs.EachLemmas.{puts-as}
 use Rattle.xls_documents.proofs.LineLemmas.{counted, displayed, three_fields}
 use Rattle.xls_documents.proofs.project.put_module.Goals as goal
 

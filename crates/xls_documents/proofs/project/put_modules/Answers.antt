@@ -2,7 +2,7 @@ use Rattle.std.proofs.Common.{◌∙◌}
 use Rattle.xls_documents.specs.Lines.{IsLineText}
 use Rattle.xls_documents.specs.Projects.{named_lines}
 use Rattle.xls_documents.proofs.LineLemmas.{lent_lines, whole_lines}
-use Rattle.xls_pieces.proofs.EachLemmas.{each-as, each-item, each-item-stopped, each-none, each-stops-as, puts-each-stop}
+use Rattle.xls_output.proofs.EachLemmas.{each-as, each-item, each-item-stopped, each-none, each-stops-as, puts-each-stop}
 use Rattle.xls_documents.proofs.project.put_modules.Goals as goal
 
 pub loop-name-init : goal.loop-name-init

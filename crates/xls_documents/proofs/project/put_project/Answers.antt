@@ -1,7 +1,7 @@
 use Rattle.std.proofs.Common.{ap, map}
 use Rattle.xls_documents.specs.Lines.{IsLineText}
 use Rattle.xls_documents.specs.Projects.{reference_line}
-use Rattle.xls_pieces.proofs.EachLemmas.{each-as, each-stops-as, each-stops-more, puts-each-stop, puts-then}
+use Rattle.xls_output.proofs.EachLemmas.{each-as, each-stops-as, each-stops-more, puts-each-stop, puts-then}
 use Rattle.xls_documents.proofs.project.put_project.Goals as goal
 
 pub returns-in_err-put_references : goal.returns-in_err-put_references

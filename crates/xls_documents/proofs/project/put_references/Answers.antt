@@ -3,7 +3,7 @@ use Rattle.xls_vba.specs.References.{reference_view}
 use Rattle.xls_documents.specs.Lines.{IsLineText}
 use Rattle.xls_documents.specs.Projects.{reference_line}
 use Rattle.xls_documents.proofs.LineLemmas.{single_lines, whole_lines}
-use Rattle.xls_pieces.proofs.EachLemmas.{each-as, each-item, each-item-stopped, each-none, each-stops-as, puts-each-stop}
+use Rattle.xls_output.proofs.EachLemmas.{each-as, each-item, each-item-stopped, each-none, each-stops-as, puts-each-stop}
 use Rattle.xls_documents.proofs.project.put_references.Goals as goal
 
 pub loop-reference-init : goal.loop-reference-init

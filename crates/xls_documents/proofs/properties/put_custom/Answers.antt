@@ -2,7 +2,7 @@ use Rattle.std.proofs.Common.{codes}
 use Rattle.std.specs.String.{string_bytes}
 use Rattle.xls_readable.specs.Lines.{custom_members}
 use Rattle.xls_documents.specs.Lines.{IsLineText}
-use Rattle.xls_pieces.proofs.EachLemmas.{puts-memory, puts-one}
+use Rattle.xls_output.proofs.EachLemmas.{puts-memory, puts-one}
 use Rattle.xls_documents.proofs.properties.put_custom.Goals as goal
 
 pub returns-in_err-push_custom : goal.returns-in_err-push_custom

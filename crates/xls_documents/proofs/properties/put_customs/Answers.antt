@@ -1,6 +1,6 @@
 use Rattle.xls_documents.specs.Lines.{IsLineText}
 use Rattle.xls_documents.specs.Properties.{custom_lines}
-use Rattle.xls_pieces.proofs.EachLemmas.{each-some-all, each-some-first, each-some-next, each-some-stopped, puts-each-stop}
+use Rattle.xls_output.proofs.EachLemmas.{each-some-all, each-some-first, each-some-next, each-some-stopped, puts-each-stop}
 use Rattle.xls_documents.proofs.properties.put_customs.Goals as goal
 
 pub loop-name-init : goal.loop-name-init

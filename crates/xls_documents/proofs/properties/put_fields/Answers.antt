@@ -1,6 +1,6 @@
 use Rattle.xls_documents.specs.Lines.{IsLineText}
 use Rattle.xls_documents.specs.Properties.{displayed_field}
-use Rattle.xls_pieces.proofs.EachLemmas.{each-item, each-item-stopped, each-none, puts-each-stop}
+use Rattle.xls_output.proofs.EachLemmas.{each-item, each-item-stopped, each-none, puts-each-stop}
 use Rattle.xls_documents.proofs.properties.put_fields.Goals as goal
 
 pub loop-field-init : goal.loop-field-init

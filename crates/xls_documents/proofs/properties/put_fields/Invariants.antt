@@ -1,6 +1,6 @@
 use Rattle.std.proofs.Common.{take}
 use Rattle.std.specs.List.{flat_map}
-use Rattle.xls_pieces.specs.Each.{GathersEach, pieces_output}
+use Rattle.xls_output.specs.Each.{GathersEach, text_output}
 use Rattle.xls_documents.specs.Lines.{IsLineText}
 use Rattle.xls_documents.specs.Properties.{displayed_field}
 use Rattle.xls_documents.proofs.properties.put_fields.Given as goal
@@ -9,4 +9,4 @@ use Rattle.xls_documents.proofs.properties.put_fields.Given as goal
 abbrev pub invariant-loop-field : goal.invariant-loop-field
 invariant-loop-field g l =
     GathersEach (IsLineText l.form) (flat_map displayed_field (take l.field-index l.fields))
-    (pieces_output g.K.Sink.state l.fn.out) (pieces_output g.K.Sink.state l.out)
+    (text_output g.K.Sink.state l.fn.out) (text_output g.K.Sink.state l.out)

@@ -2,7 +2,7 @@ use Rattle.std.proofs.Common.{ap}
 use Rattle.std.specs.List.{flat_map}
 use Rattle.xls_documents.specs.Lines.{IsLineText}
 use Rattle.xls_documents.specs.Properties.{custom_lines, known_lines}
-use Rattle.xls_pieces.proofs.EachLemmas.{each-stops-more, puts-as, puts-each-stop, puts-then}
+use Rattle.xls_output.proofs.EachLemmas.{each-stops-more, puts-as, puts-each-stop, puts-then}
 use Rattle.xls_documents.proofs.properties.put_properties.Goals as goal
 
 pub returns-in_err-put_known-clause-puts : goal.returns-in_err-put_known-clause-puts

@@ -1,6 +1,6 @@
 use Rattle.xls_documents.specs.Lines.{IsLineText}
 use Rattle.xls_documents.specs.Properties.{property_line}
-use Rattle.xls_pieces.proofs.EachLemmas.{puts-memory, puts-one}
+use Rattle.xls_output.proofs.EachLemmas.{puts-memory, puts-one}
 use Rattle.xls_documents.proofs.properties.put_text.Goals as goal
 
 pub returns-in_err-push_property : goal.returns-in_err-push_property

@@ -1,7 +1,7 @@
 use Rattle.std.proofs.Common.{◌∷◌, []}
 use Rattle.xls_documents.specs.Streams.{IsEntryText}
 use Rattle.xls_documents.proofs.StreamLemmas.{each_itself}
-use Rattle.xls_pieces.proofs.EachLemmas.{each-as, each-some-all, each-some-first, each-some-next, each-some-stopped, each-stops-as, puts-each-stop}
+use Rattle.xls_output.proofs.EachLemmas.{each-as, each-some-all, each-some-first, each-some-next, each-some-stopped, each-stops-as, puts-each-stop}
 use Rattle.xls_documents.proofs.streams.put_entries.Goals as goal
 
 pub loop-entry-init : goal.loop-entry-init

@@ -3,7 +3,7 @@ use Rattle.std.specs.List.{join_by}
 use Rattle.std.specs.String.{string_bytes}
 use Rattle.xls_documents.specs.Streams.{IsEntryText, path_text}
 use Rattle.xls_documents.proofs.StreamLemmas.{path_joined, stream_added}
-use Rattle.xls_pieces.proofs.EachLemmas.{puts-memory, puts-one}
+use Rattle.xls_output.proofs.EachLemmas.{puts-memory, puts-one}
 use Rattle.xls_documents.proofs.LineLemmas.{displayed, two_fields}
 use Rattle.xls_documents.proofs.streams.put_stream.Goals as goal
 

@@ -7,5 +7,5 @@ use Rattle.xls_lines.proofs.put.put_fields.Given as goal
 -- the fields so far are put
 abbrev pub invariant-loop-field : goal.invariant-loop-field
 invariant-loop-field g l =
-    Buffers (output g.K.Sink.state l.fn.self) (output g.K.Sink.state l.self)
+    Buffers (output g.K.Sink.state l.fn.out) (output g.K.Sink.state l.out)
     (flat_map tabbed_field (take l.field-index l.fields))

@@ -1,5 +1,5 @@
 use Rattle.xls_listing.specs.Listing.{IsDisplayedLine}
-use Rattle.xls_pieces.proofs.EachLemmas.{puts-memory}
+use Rattle.xls_output.proofs.EachLemmas.{puts-memory}
 use Rattle.xls_listing.proofs.cells.put_cell.Goals as goal
 
 pub returns-in_err-value : goal.returns-in_err-value

@@ -2,7 +2,7 @@ use Rattle.std.proofs.Common.{ap}
 use Rattle.std.specs.List.{flat_map}
 use Rattle.xls_listing.specs.Listing.{IsDisplayedLine, cell_lines}
 use Rattle.xls_listing.proofs.LineLemmas.{some-all, some-first, some-next, some-stopped}
-use Rattle.xls_pieces.proofs.EachLemmas.{puts-each-stop}
+use Rattle.xls_output.proofs.EachLemmas.{puts-each-stop}
 use Rattle.xls_listing.proofs.cells.put_cells.Goals as goal
 
 pub loop-cell-init : goal.loop-cell-init

@@ -1,5 +1,5 @@
 use Rattle.std.specs.List.{flat_map}
-use Rattle.xls_pieces.specs.Each.{pieces_output}
+use Rattle.xls_output.specs.Each.{text_output}
 use Rattle.xls_listing.specs.Listing.{IsDisplayedLine, cell_lines}
 use Rattle.xls_listing.proofs.LineLemmas.{PutsSome}
 use Rattle.xls_listing.proofs.cells.put_cells.Given as goal
@@ -10,4 +10,4 @@ invariant-loop-cell g l =
     (goal.iterator-loop-cell g).can_next l.cell-iterator ×
     (goal.iterator-loop-cell g).is_finite l.cell-iterator ×
     PutsSome (IsDisplayedLine l.form) (flat_map cell_lines l.fn.cells) (flat_map cell_lines l.cell-iterator)
-    (pieces_output g.K.Sink.state l.fn.out) (pieces_output g.K.Sink.state l.out)
+    (text_output g.K.Sink.state l.fn.out) (text_output g.K.Sink.state l.out)

@@ -1,8 +1,8 @@
 use Rattle.std.proofs.Common.{ap, ◌∙◌}
 use Rattle.std.specs.List.{flat_map}
-use Rattle.xls_pieces.specs.Each.{pieces_output}
+use Rattle.xls_output.specs.Each.{text_output}
 use Rattle.xls_listing.specs.Listing.{IsDisplayedLine, cell_lines}
-use Rattle.xls_pieces.proofs.EachLemmas.{puts-as, puts-memory}
+use Rattle.xls_output.proofs.EachLemmas.{puts-as, puts-memory}
 use Rattle.xls_listing.proofs.cells.put_displayed_cells.Goals as goal
 
 pub returns-in_err-cells : goal.returns-in_err-cells
@@ -11,5 +11,5 @@ returns-in_err-cells g c = puts-memory (IsDisplayedLine c.args.form) _ _ _ _ _ c
 pub returns : goal.returns
 returns g c =
     let state = g.K.Sink.state in
-    puts-as (IsDisplayedLine c.args.form) (pieces_output state c.args.out.now) (pieces_output state c.put_cells.new.out) c.put_cells.result
+    puts-as (IsDisplayedLine c.args.form) (text_output state c.args.out.now) (text_output state c.put_cells.new.out) c.put_cells.result
     (ap (flat_map cell_lines) (c.iter.ensures ∙ c.in_ok-cells.ensures.cells)) c.put_cells.ensures

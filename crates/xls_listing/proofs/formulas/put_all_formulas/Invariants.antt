@@ -1,4 +1,4 @@
-use Rattle.xls_pieces.specs.Each.{pieces_output}
+use Rattle.xls_output.specs.Each.{text_output}
 use Rattle.xls_listing.specs.Listing.{IsDisplayedLine, lines_of_formulas}
 use Rattle.xls_listing.proofs.SheetLemmas.{PutsSheets}
 use Rattle.xls_listing.proofs.formulas.put_all_formulas.Given as goal
@@ -7,4 +7,4 @@ use Rattle.xls_listing.proofs.formulas.put_all_formulas.Given as goal
 abbrev pub invariant-loop-i : goal.invariant-loop-i
 invariant-loop-i g l =
     PutsSheets (IsDisplayedLine l.form) lines_of_formulas l.view.book l.i
-    (pieces_output g.K.Sink.state l.fn.out) (pieces_output g.K.Sink.state l.out)
+    (text_output g.K.Sink.state l.fn.out) (text_output g.K.Sink.state l.out)

@@ -1,4 +1,4 @@
-use Rattle.xls_pieces.specs.Each.{pieces_output}
+use Rattle.xls_output.specs.Each.{text_output}
 use Rattle.xls_listing.specs.Listing.{IsDisplayedLine}
 use Rattle.xls_listing.proofs.LineLemmas.{PutsSome}
 use Rattle.xls_listing.proofs.DisplayedLemmas.{token_lines}
@@ -11,4 +11,4 @@ invariant-loop-formula g l =
     (goal.iterator-loop-formula g).can_next l.formula-iterator ×
     (goal.iterator-loop-formula g).is_finite l.formula-iterator ×
     PutsSome (IsDisplayedLine l.form) (lines l.formulas.left) (lines l.formula-iterator)
-    (pieces_output g.K.Sink.state l.fn.out) (pieces_output g.K.Sink.state l.out)
+    (text_output g.K.Sink.state l.fn.out) (text_output g.K.Sink.state l.out)

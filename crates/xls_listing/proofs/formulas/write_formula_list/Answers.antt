@@ -1,18 +1,18 @@
 use Rattle.std.proofs.Common.{rules}
-use Rattle.xls_pieces.specs.Each.{pieces_output}
-use Rattle.xls_pieces.proofs.EachLemmas.{delivers-each, delivers-each-back, delivers-each-stop, kept-none}
+use Rattle.xls_output.specs.Each.{text_output}
+use Rattle.xls_output.proofs.EachLemmas.{delivers-each, delivers-each-back, delivers-each-stop, kept-none}
 use Rattle.xls_listing.specs.Listing.{IsDisplayedLine, formula_lines}
 use Rattle.xls_listing.proofs.formulas.write_formula_list.Goals as goal
 
 pub returns-in_err-put_all_formulas : goal.returns-in_err-put_all_formulas
 returns-in_err-put_all_formulas g c =
     let r = c.from_residual in
-    let none = kept-none c.new-out.ensures.kept c.new-pieces.ensures in
+    let none = kept-none c.new-out.ensures.kept c.new-buffer.ensures in
     delivers-each-back g.K.Sink.state (IsDisplayedLine c.args.form) (formula_lines c.args.view.now.book) r.result c.new-out.ensures.sink (search rules)
     (delivers-each-stop r.result r.ensures.1 none c.in_err-put_all_formulas.ensures)
 
 pub returns : goal.returns
 returns g c =
-    let none = kept-none c.new-out.ensures.kept c.new-pieces.ensures in
+    let none = kept-none c.new-out.ensures.kept c.new-buffer.ensures in
     delivers-each-back g.K.Sink.state (IsDisplayedLine c.args.form) (formula_lines c.args.view.now.book) c.finish.result c.new-out.ensures.sink (search rules)
-    (delivers-each (pieces_output g.K.Sink.state c.finish.new.out) c.finish.result none c.in_ok-put_all_formulas.ensures c.finish.ensures.puts c.finish.ensures.none)
+    (delivers-each (text_output g.K.Sink.state c.finish.new.out) c.finish.result none c.in_ok-put_all_formulas.ensures c.finish.ensures.puts c.finish.ensures.none)

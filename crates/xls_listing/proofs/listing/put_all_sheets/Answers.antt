@@ -1,5 +1,5 @@
 use Rattle.std.proofs.Common.{◌≤◌, length, arith}
-use Rattle.xls_pieces.proofs.EachLemmas.{puts-each-stop}
+use Rattle.xls_output.proofs.EachLemmas.{puts-each-stop}
 use Rattle.xls_listing.specs.Listing.{IsDisplayedLine, lines_of_sheet}
 use Rattle.xls_listing.proofs.SheetLemmas.{sheets-all, sheets-first, sheets-line-stopped, sheets-next, sheets-stopped}
 use Rattle.xls_listing.proofs.listing.put_all_sheets.Goals as goal

@@ -1,9 +1,9 @@
 use Rattle.std.proofs.Common.{[], ◌∷◌, ◌++◌, ap, map}
 use Rattle.xls_open.specs.Workbook.{name_texts}
-use Rattle.xls_pieces.specs.Each.{pieces_output}
+use Rattle.xls_output.specs.Each.{text_output}
 use Rattle.xls_listing.specs.Listing.{IsDisplayedLine, dates_line, each_sheet, lines_of_sheet, name_line}
 use Rattle.xls_listing.proofs.DisplayedLemmas.{map_again}
-use Rattle.xls_pieces.proofs.EachLemmas.{each-as, each-stops-as, each-stops-more, each-stops-then, each-then, puts-each-stop, puts-then}
+use Rattle.xls_output.proofs.EachLemmas.{each-as, each-stops-as, each-stops-more, each-stops-then, each-then, puts-each-stop, puts-then}
 use Rattle.xls_listing.proofs.listing.put_book.Goals as goal
 
 pub returns-in_err-put_dates : goal.returns-in_err-put_dates
@@ -29,4 +29,4 @@ returns g c =
     let dates = each-as c.in_ok-put_dates.ensures (ap (λ b. dates_line b ∷ []) c.has_1904_epoch.ensures) in
     let names = each-as c.in_ok-put_names.ensures (map_again name_line name_texts _ book.names c.defined_names.ensures) in
     puts-then is ((dates_line book.is_1904 ∷ []) ++ map name_line book.names) (each_sheet lines_of_sheet book.sheets book.contents)
-    (pieces_output g.K.Sink.state c.put_all_sheets.new.out) c.put_all_sheets.result (each-then dates names) c.put_all_sheets.ensures
+    (text_output g.K.Sink.state c.put_all_sheets.new.out) c.put_all_sheets.result (each-then dates names) c.put_all_sheets.ensures

@@ -1,5 +1,5 @@
 use Rattle.xls_listing.specs.Listing.{IsDisplayedLine, dates_line}
-use Rattle.xls_pieces.proofs.EachLemmas.{puts-memory, puts-one}
+use Rattle.xls_output.proofs.EachLemmas.{puts-memory, puts-one}
 use Rattle.xls_listing.proofs.listing.put_dates.Goals as goal
 
 pub returns-in_err-push_dates : goal.returns-in_err-push_dates

@@ -1,8 +1,8 @@
 use Rattle.std.proofs.Common.{◌++◌, append_assoc, ap, map}
 use Rattle.xls_cursors.specs.Displayed.{sheet_view_of}
-use Rattle.xls_pieces.specs.Each.{pieces_output}
+use Rattle.xls_output.specs.Each.{text_output}
 use Rattle.xls_listing.specs.Listing.{IsDisplayedLine, lines_of_cells, lines_of_formulas, lines_of_merges, merge_line}
-use Rattle.xls_pieces.proofs.EachLemmas.{each-stops-more, each-stops-then, each-then, puts-as, puts-each-stop, puts-then}
+use Rattle.xls_output.proofs.EachLemmas.{each-stops-more, each-stops-then, each-then, puts-as, puts-each-stop, puts-then}
 use Rattle.xls_listing.proofs.listing.put_displayed.Goals as goal
 
 pub returns-in_err-put_displayed_cells : goal.returns-in_err-put_displayed_cells
@@ -24,8 +24,8 @@ returns g c =
     let v = sheet_view_of c.args.sheet.now in
     let is = IsDisplayedLine c.args.form in
     let before = each-then c.in_ok-put_displayed_cells.ensures c.in_ok-put_displayed_formulas.ensures in
-    puts-as is (pieces_output state c.args.out.now) (pieces_output state c.put_merges.new.out) c.put_merges.result
+    puts-as is (text_output state c.args.out.now) (text_output state c.put_merges.new.out) c.put_merges.result
     (append_assoc (lines_of_cells v) (lines_of_formulas v) (lines_of_merges v))
     (puts-then is (lines_of_cells v ++ lines_of_formulas v) (lines_of_merges v)
-    (pieces_output state c.put_merges.new.out) c.put_merges.result before
-    (puts-as is _ (pieces_output state c.put_merges.new.out) c.put_merges.result (ap (map merge_line) c.merges.ensures) c.put_merges.ensures))
+    (text_output state c.put_merges.new.out) c.put_merges.result before
+    (puts-as is _ (text_output state c.put_merges.new.out) c.put_merges.result (ap (map merge_line) c.merges.ensures) c.put_merges.ensures))

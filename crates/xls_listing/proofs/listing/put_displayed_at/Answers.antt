@@ -1,15 +1,15 @@
 use Rattle.std.proofs.Common.{ap, sym, ◌∙◌}
 use Rattle.std.specs.Option.{option_map}
 use Rattle.xls_cursors.specs.Displayed.{sheet_view_of}
-use Rattle.xls_pieces.specs.Each.{pieces_output}
+use Rattle.xls_output.specs.Each.{text_output}
 use Rattle.xls_listing.specs.Listing.{IsDisplayedLine, lines_of_sheet, displayed_at}
-use Rattle.xls_pieces.proofs.EachLemmas.{each-as, each-none, puts-as}
+use Rattle.xls_output.proofs.EachLemmas.{each-as, each-none, puts-as}
 use Rattle.xls_listing.proofs.listing.put_displayed_at.Goals as goal
 
 pub returns-in-Some : goal.returns-in-Some
 returns-in-Some g c =
     let state = g.K.Sink.state in
-    puts-as (IsDisplayedLine c.args.form) (pieces_output state c.args.out.now) (pieces_output state c.put_displayed.new.out) c.put_displayed.result
+    puts-as (IsDisplayedLine c.args.form) (text_output state c.args.out.now) (text_output state c.put_displayed.new.out) c.put_displayed.result
     (ap (displayed_at lines_of_sheet) (ap (option_map sheet_view_of) (sym c.in-Some.is) ∙ c.sheet_at.ensures.content)) c.put_displayed.ensures
 
 pub returns-in-None : goal.returns-in-None

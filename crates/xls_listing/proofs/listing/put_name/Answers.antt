@@ -1,7 +1,7 @@
 use Rattle.std.specs.String.{string_bytes}
 use Rattle.xls_open.specs.Workbook.{name_texts}
 use Rattle.xls_listing.specs.Listing.{IsDisplayedLine, name_line}
-use Rattle.xls_pieces.proofs.EachLemmas.{puts-memory, puts-one}
+use Rattle.xls_output.proofs.EachLemmas.{puts-memory, puts-one}
 use Rattle.xls_listing.proofs.DisplayedLemmas.{encoded_of, named_added}
 use Rattle.xls_listing.proofs.listing.put_name.Goals as goal
 

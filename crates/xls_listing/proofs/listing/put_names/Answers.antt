@@ -3,7 +3,7 @@ use Rattle.xls_open.specs.Workbook.{name_texts}
 use Rattle.xls_listing.specs.Listing.{IsDisplayedLine, name_line}
 use Rattle.xls_listing.proofs.LineLemmas.{some-first, some-next, some-stopped}
 use Rattle.xls_listing.proofs.DisplayedLemmas.{Reported, drop_step}
-use Rattle.xls_pieces.proofs.EachLemmas.{puts-each-stop}
+use Rattle.xls_output.proofs.EachLemmas.{puts-each-stop}
 use Rattle.xls_listing.proofs.listing.put_names.Goals as goal
 
 pub loop-name-init : goal.loop-name-init

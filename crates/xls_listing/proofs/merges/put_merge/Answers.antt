@@ -1,5 +1,5 @@
 use Rattle.xls_listing.specs.Listing.{IsDisplayedLine, merge_line}
-use Rattle.xls_pieces.proofs.EachLemmas.{puts-memory, puts-one}
+use Rattle.xls_output.proofs.EachLemmas.{puts-memory, puts-one}
 use Rattle.xls_listing.proofs.merges.put_merge.Goals as goal
 
 pub returns-in_err-push_merge : goal.returns-in_err-push_merge

@@ -1,5 +1,5 @@
 use Rattle.std.proofs.Common.{map}
-use Rattle.xls_pieces.specs.Each.{pieces_output}
+use Rattle.xls_output.specs.Each.{text_output}
 use Rattle.xls_listing.specs.Listing.{IsDisplayedLine, merge_line}
 use Rattle.xls_listing.proofs.LineLemmas.{PutsSome}
 use Rattle.xls_listing.proofs.merges.put_merges.Given as goal
@@ -10,4 +10,4 @@ invariant-loop-region g l =
     (goal.iterator-loop-region g).can_next l.region-iterator ×
     (goal.iterator-loop-region g).is_finite l.region-iterator ×
     PutsSome (IsDisplayedLine l.form) (map merge_line l.fn.merges) (map merge_line l.region-iterator)
-    (pieces_output g.K.Sink.state l.fn.out) (pieces_output g.K.Sink.state l.out)
+    (text_output g.K.Sink.state l.fn.out) (text_output g.K.Sink.state l.out)

@@ -3,7 +3,7 @@ use Rattle.std.specs.Str.{chars}
 use Rattle.std.specs.String.{string_bytes}
 use Rattle.xls_refs.specs.Views.{lent_citation_of}
 use Rattle.xls_listing.specs.Listing.{IsDisplayedLine, area, ref_line}
-use Rattle.xls_pieces.proofs.EachLemmas.{puts-memory, puts-one}
+use Rattle.xls_output.proofs.EachLemmas.{puts-memory, puts-one}
 use Rattle.xls_listing.proofs.DisplayedLemmas.{cited_added, encoded, encoded_of}
 use Rattle.xls_listing.proofs.refs.put_cite.Goals as goal
 

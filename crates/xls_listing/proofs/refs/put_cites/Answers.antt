@@ -3,7 +3,7 @@ use Rattle.xls_listing.specs.Listing.{IsDisplayedLine, ref_line}
 use Rattle.xls_listing.proofs.LineLemmas.{some-all, some-first, some-next, some-stopped}
 use Rattle.xls_listing.proofs.RefLemmas.{cites_step}
 use Rattle.xls_listing.proofs.DisplayedLemmas.{map_end}
-use Rattle.xls_pieces.proofs.EachLemmas.{puts-each-stop}
+use Rattle.xls_output.proofs.EachLemmas.{puts-each-stop}
 use Rattle.xls_listing.proofs.refs.put_cites.Goals as goal
 
 pub loop-i-init : goal.loop-i-init

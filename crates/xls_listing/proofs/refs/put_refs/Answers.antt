@@ -4,7 +4,7 @@ use Rattle.xls_refs.specs.Views.{sheets_cited}
 use Rattle.xls_listing.specs.Listing.{IsDisplayedLine}
 use Rattle.xls_listing.proofs.LineLemmas.{some-all, some-first, some-next, some-stopped}
 use Rattle.xls_listing.proofs.RefLemmas.{sheets_cited_end, sheets_cited_step}
-use Rattle.xls_pieces.proofs.EachLemmas.{puts-each-stop}
+use Rattle.xls_output.proofs.EachLemmas.{puts-each-stop}
 use Rattle.xls_listing.proofs.refs.put_refs.Goals as goal
 
 pub loop-sheet-init : goal.loop-sheet-init

@@ -1,6 +1,6 @@
 use Rattle.std.proofs.Common.{drop}
 use Rattle.xls_refs.specs.Views.{sheets_cited}
-use Rattle.xls_pieces.specs.Each.{pieces_output}
+use Rattle.xls_output.specs.Each.{text_output}
 use Rattle.xls_listing.specs.Listing.{IsDisplayedLine}
 use Rattle.xls_listing.proofs.LineLemmas.{PutsSome}
 use Rattle.xls_listing.proofs.RefLemmas.{all_cited_lines}
@@ -11,4 +11,4 @@ abbrev pub invariant-loop-sheet : goal.invariant-loop-sheet
 invariant-loop-sheet g l =
     let lines = all_cited_lines l.view.context.sheets in
     PutsSome (IsDisplayedLine l.form) (lines (sheets_cited l.view)) (lines (drop l.sheet (sheets_cited l.view)))
-    (pieces_output g.K.Sink.state l.fn.out) (pieces_output g.K.Sink.state l.out)
+    (text_output g.K.Sink.state l.fn.out) (text_output g.K.Sink.state l.out)

@@ -1,7 +1,7 @@
 use Rattle.std.proofs.Common.{ap, sym, ◌∙◌}
 use Rattle.xls_listing.specs.Listing.{IsDisplayedLine, displayed_at}
 use Rattle.xls_listing.proofs.RefLemmas.{cited_lines}
-use Rattle.xls_pieces.proofs.EachLemmas.{each-as, each-none, puts-memory}
+use Rattle.xls_output.proofs.EachLemmas.{each-as, each-none, puts-memory}
 use Rattle.xls_listing.proofs.refs.put_refs_at.Goals as goal
 
 pub returns-in_err-cites : goal.returns-in_err-cites

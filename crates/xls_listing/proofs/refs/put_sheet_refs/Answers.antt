@@ -2,7 +2,7 @@ use Rattle.std.proofs.Common.{ap, ◌∙◌}
 use Rattle.xls_listing.specs.Listing.{IsDisplayedLine}
 use Rattle.xls_listing.proofs.LineLemmas.{some-all, some-first, some-memory, some-next, some-stopped}
 use Rattle.xls_listing.proofs.RefLemmas.{cited_lines, formulas_cited_step}
-use Rattle.xls_pieces.proofs.EachLemmas.{puts-each-stop}
+use Rattle.xls_output.proofs.EachLemmas.{puts-each-stop}
 use Rattle.xls_listing.proofs.refs.put_sheet_refs.Goals as goal
 
 pub loop-formula-init : goal.loop-formula-init

@@ -1,10 +1,10 @@
 use Rattle.std.proofs.Common.{List, ℕ, codes, subst}
 use Rattle.std.specs.String.{string_bytes}
 use Rattle.xls_data.specs.Sheets.{sheet_content}
-use Rattle.xls_decimals.specs.Added.{AddsText}
+use Rattle.xls_output.specs.Added.{AddsText}
 use Rattle.xls_readable.specs.Lines.{IsLine, sheet_members}
 use Rattle.xls_listing.specs.Listing.{IsDisplayedLine, sheet_line}
-use Rattle.xls_pieces.proofs.EachLemmas.{puts-memory, puts-one}
+use Rattle.xls_output.proofs.EachLemmas.{puts-memory, puts-one}
 use Rattle.xls_listing.proofs.DisplayedLemmas.{encoded_of}
 use Rattle.xls_listing.proofs.sheets.put_sheet.Goals as goal
 

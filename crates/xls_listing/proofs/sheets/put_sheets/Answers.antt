@@ -4,7 +4,7 @@ use Rattle.xls_data.specs.declared.sheets.Sheet.{Sheet}
 use Rattle.xls_listing.specs.Listing.{IsDisplayedLine, sheet_line}
 use Rattle.xls_listing.proofs.LineLemmas.{some-first, some-next, some-stopped}
 use Rattle.xls_listing.proofs.DisplayedLemmas.{drop_step}
-use Rattle.xls_pieces.proofs.EachLemmas.{puts-each-stop}
+use Rattle.xls_output.proofs.EachLemmas.{puts-each-stop}
 use Rattle.xls_listing.proofs.sheets.put_sheets.Goals as goal
 
 pub loop-sheet-init : goal.loop-sheet-init

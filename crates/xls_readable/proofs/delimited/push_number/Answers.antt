@@ -1,6 +1,6 @@
 use Rattle.std.proofs.Common.{ℕ, ◌<◌, List, Result, Ok, Err, OnOk}
 use Rattle.xls_dates.specs.declared.numbers.Number.{Number}
-use Rattle.xls_decimals.specs.Added.{AddsText}
+use Rattle.xls_output.specs.Added.{AddsText}
 use Rattle.xls_decimals.specs.Decimals.{IsDecimal}
 use Rattle.xls_readable.specs.Csv.{IsField}
 use Rattle.xls_readable.specs.declared.values.Value.TheVariants.{Float}

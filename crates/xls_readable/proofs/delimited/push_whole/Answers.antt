@@ -1,7 +1,7 @@
 use Rattle.std.proofs.Common.{◌≡◌, ℕ, ◌<◌, ℤ, List, ◌++◌, Result, Ok, Err, OnOk, refl, rules}
 use Rattle.std.specs.Fmt.{signed_decimal}
 use Rattle.std.specs.String.{string_bytes}
-use Rattle.xls_decimals.specs.Added.{AddsText}
+use Rattle.xls_output.specs.Added.{AddsText}
 use Rattle.xls_readable.specs.Csv.{IsField}
 use Rattle.xls_readable.specs.declared.values.Value.TheVariants.{Int}
 use Rattle.xls_readable.proofs.QuoteLemmas.{whole_field}

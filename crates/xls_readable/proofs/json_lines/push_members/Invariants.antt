@@ -1,8 +1,8 @@
 use Rattle.std.proofs.Common.{take}
 use Rattle.std.specs.String.{string_bytes}
-use Rattle.xls_decimals.specs.Added.{AddsText}
+use Rattle.xls_output.specs.Added.{AddsText}
 use Rattle.xls_readable.specs.declared.items.Member.{Member}
-use Rattle.xls_readable.specs.Values.{Concatenates}
+use Rattle.xls_output.specs.Each.{Concatenates}
 use Rattle.xls_readable.specs.Items.{named_of}
 use Rattle.xls_readable.specs.Json.{IsMember}
 use Rattle.xls_readable.proofs.json_lines.push_members.Given as goal

@@ -1,7 +1,7 @@
 use Rattle.std.proofs.Common.{take}
 use Rattle.std.specs.String.{string_bytes}
-use Rattle.xls_decimals.specs.Added.{AddsText}
-use Rattle.xls_readable.specs.Values.{Concatenates}
+use Rattle.xls_output.specs.Added.{AddsText}
+use Rattle.xls_output.specs.Each.{Concatenates}
 use Rattle.xls_readable.specs.Csv.{IsSeparated}
 use Rattle.xls_readable.proofs.rows.push_others.Given as goal
 

@@ -6,16 +6,15 @@ use Rattle.std.proofs.lemmas.List.{take_more}
 use Rattle.std.proofs.lemmas.Grind.{flat_map-append}
 use Rattle.std.specs.Result.{IsErrAnd}
 use Rattle.std.specs.String.{string_bytes}
-use Rattle.xls_decimals.specs.Added.{AddsText}
-use Rattle.xls_readable.specs.Values.{Concatenates}
+use Rattle.xls_output.specs.Added.{AddsText}
 use Rattle.xls_output.specs.SinkState.{SinkState}
 use Rattle.xls_output.specs.Output.{Output, Buffers, GivesUp, Puts}
 use Rattle.xls_output.specs.declared.stop.Stop.{Stop}
 use Rattle.xls_output.specs.declared.stop.Stop.TheVariants.{Memory}
 use Rattle.xls_output.proofs.GatherLemmas.{stops-from}
 use Rattle.xls_output.proofs.OutputLemmas.{gathers-added, gathers-after, gathers-nothing, gathers-then, stops-after, stops-memory-now, stops-then, wrote}
-use Rattle.xls_pieces.specs.Each.{GathersEach, GivesUpEach, PutsEach, StopsEach, WroteEach, DeliversEach}
-use Rattle.xls_pieces.specs.declared.pieces.Pieces.{Pieces}
+use Rattle.xls_output.specs.Each.{Concatenates, GathersEach, GivesUpEach, PutsEach, StopsEach, WroteEach, DeliversEach}
+use Rattle.xls_output.specs.declared.text.OutputText.{OutputText}
 
 -- ---- texts one after another
 
@@ -240,8 +239,8 @@ delivers-each c (Err _) none p last end = each-unwritten none p last
 
 -- ---- from the pieces that a writer is made of to the lender of its sink
 
-pub kept-none : {p q : Pieces} → p ≡ q → string_bytes q.text ≡ [] → string_bytes p.text ≡ []
-kept-none e none = ap (λ (p : Pieces). string_bytes p.text) e ∙ none
+pub kept-none : {p q : OutputText} → p ≡ q → string_bytes q.text ≡ [] → string_bytes p.text ≡ []
+kept-none e none = ap (λ (p : OutputText). string_bytes p.text) e ∙ none
 
 pub delivers-each-back : {A X K : Type 0} (state : K → SinkState) {x x' y y' : K} (P : A → List ℕ → Type 0) (items : List A) (r : Result X Stop)
     → x' ≡ x → y' ≡ y → DeliversEach P items (state x') (state y') r → DeliversEach P items (state x) (state y) r

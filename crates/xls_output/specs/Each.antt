@@ -1,18 +1,22 @@
 -- What becomes of texts, each of an item, that are put into a writer one after another.
-use Rattle.std.specs.Prelude.{ℕ, List, [], take, Result, MatchResult}
+use Rattle.std.specs.Prelude.{◌≡◌, ℕ, List, [], ◌∷◌, ◌++◌, take, Result, MatchResult}
 use Rattle.std.specs.String.{string_bytes}
-use Rattle.xls_readable.specs.Values.{Concatenates}
 use Rattle.xls_output.specs.SinkState.{SinkState}
 use Rattle.xls_output.specs.Gathering.{Stops, Wrote}
-use Rattle.xls_output.specs.Output.{Output, Buffers, GivesUp}
+use Rattle.xls_output.specs.Output.{Output, Buffers, GivesUp, output_of}
 use Rattle.xls_output.specs.declared.stop.Stop.{Stop}
 use Rattle.xls_output.specs.declared.writer.Writer.{Writer}
-use Rattle.xls_pieces.specs.declared.pieces.Pieces.{Pieces}
+use Rattle.xls_output.specs.declared.text.OutputText.{OutputText}
 
--- the state of a sink, the text that is kept for it, and the name of the reference by which it was lent
-abbrev pub pieces_output : {K : Type 0} → (K → SinkState) → Writer K Pieces → Output
-pieces_output state out =
-    record { sink = state out.sink.now; kept = string_bytes out.buffer.now.text; lender = out.sink.ghost_name }
+-- the sink of a writer, and the text that is kept for it
+abbrev pub text_output : {K : Type 0} → (K → SinkState) → Writer K OutputText → Output
+text_output state out = output_of state (λ (buffer : OutputText). string_bytes buffer.text) out
+
+-- texts one after another, each of which P holds of its item
+abbrev pub Concatenates : {X : Type 0} → (X → List ℕ → Type 0) → List X → List ℕ → Type 0
+Concatenates P [] text = text ≡ []
+Concatenates P (x ∷ xs) text =
+    (first : List ℕ) × (others : List ℕ) × P x first × Concatenates P xs others × (text ≡ first ++ others)
 
 -- the texts of all items, one after another, were gathered
 pub record GathersEach {A : Type 0} (IsText : A → List ℕ → Type 0) (items : List A) (before after : Output) : Type 0 where
