@@ -1,6 +1,6 @@
 //! The words in the order of the string table.
 
-use xls_sample_stream::word_of;
+use xls_command::word_of;
 
 static WORDS: [(u32, &str); 4] = [(0, "a"), (1, "bb"), (2, "ccc"), (65_535, "a")];
 

@@ -1,7 +1,7 @@
 -- How calls end.
 use Rattle.std.proofs.Common.{◌≡◌, ℕ, List, Result, Ok, Err, OnOk, IfErr, inl, inr, refl, subst}
-use Rattle.xls_refusals.specs.declared.faults.Fault.{Fault}
-use Rattle.xls_refusals.specs.declared.refusal.Refusal.{Refusal}
+use Rattle.xls_arrays.specs.declared.faults.Fault.{Fault}
+use Rattle.xls_arrays.specs.declared.refusal.Refusal.{Refusal}
 use Rattle.xls_arrays.specs.Answers.{AreFilled, Answers, IsAnswer, Reads, RefusesToFill}
 use Rattle.xls_arrays.specs.Arrays.{Arrays}
 use Rattle.xls_arrays.specs.Filled.{in_rooms}

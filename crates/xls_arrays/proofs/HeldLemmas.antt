@@ -1,8 +1,8 @@
 -- What a stream holds, and why it isn't read.
 use Rattle.std.proofs.Common.{◌≡◌, ℕ, List, Result, Ok, Err, IfErr, IsErrAnd, sym, subst}
 use Rattle.xls_view.specs.Viewing.{Viewed}
-use Rattle.xls_refusals.specs.declared.refusal.Refusal.{Refusal}
-use Rattle.xls_refusals.specs.declared.refusal.Refusal.TheVariants as refusals
+use Rattle.xls_arrays.specs.declared.refusal.Refusal.{Refusal}
+use Rattle.xls_arrays.specs.declared.refusal.Refusal.TheVariants as refusals
 use Rattle.xls_arrays.specs.Held.{RefusesStream, ShowsStream}
 use Rattle.xls_arrays.specs.Laying.{MissesSheet}
 use Rattle.xls_arrays.specs.declared.options.Options.{Options}

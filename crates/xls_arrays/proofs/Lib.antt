@@ -6,3 +6,5 @@ pub mod DisplayedLemmas
 pub mod StandardFacts
 pub mod TextLemmas
 pub mod ReportedLemmas
+pub mod RefusalLemmas
+pub mod RefusalFacts

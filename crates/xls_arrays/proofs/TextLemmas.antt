@@ -4,9 +4,9 @@ use Rattle.std.specs.Prelude.{encode_utf8_all}
 use Rattle.std.specs.Str.{chars, IsUtf8}
 use Rattle.std.proofs.lemmas.Str.{encodes-chars}
 use Rattle.xls_data.specs.declared.numeric.Numeric.TheVariants as numbers
-use Rattle.xls_cursors.specs.Values.{lent_content, value_text as characters_in}
-use Rattle.xls_cursors.specs.declared.value.CellValue.{CellValue}
-use Rattle.xls_cursors.specs.declared.value.CellValue.TheVariants as values
+use Rattle.xls_view.specs.Values.{lent_content, value_text as characters_in}
+use Rattle.xls_view.specs.declared.value.CellValue.{CellValue}
+use Rattle.xls_view.specs.declared.value.CellValue.TheVariants as values
 use Rattle.xls_arrays.specs.Values.{content_text}
 
 -- the bytes of the characters of a text

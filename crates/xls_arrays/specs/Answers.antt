@@ -4,12 +4,12 @@ use Rattle.xls_container.specs.Files.{RefusesFile, WorkbookBytes}
 use Rattle.xls_container.specs.declared.fault.FileFault.{FileFault}
 use Rattle.xls_dates.specs.declared.numbers.Number.TheVariants.{Bits}
 use Rattle.xls_decimals.specs.Moments.{IsDate, IsDuration}
-use Rattle.xls_refusals.specs.Codes.{plain}
-use Rattle.xls_refusals.specs.Faults.{fault_numbered}
-use Rattle.xls_refusals.specs.Refusals.{refusal_of_file}
-use Rattle.xls_refusals.specs.declared.faults.Fault.{Fault}
-use Rattle.xls_refusals.specs.declared.refusal.Refusal.{Refusal}
-use Rattle.xls_refusals.specs.declared.refusal.Refusal.TheVariants as refusals
+use Rattle.xls_arrays.specs.Codes.{plain}
+use Rattle.xls_arrays.specs.Faults.{fault_numbered}
+use Rattle.xls_arrays.specs.Refusals.{refusal_of_file}
+use Rattle.xls_arrays.specs.declared.faults.Fault.{Fault}
+use Rattle.xls_arrays.specs.declared.refusal.Refusal.{Refusal}
+use Rattle.xls_arrays.specs.declared.refusal.Refusal.TheVariants as refusals
 use Rattle.xls_arrays.specs.Values.{truth_bit}
 use Rattle.xls_arrays.specs.Arrays.{Arrays, empty, sizes_of}
 use Rattle.xls_arrays.specs.Filled.{FitsBefore, RoomsHold}

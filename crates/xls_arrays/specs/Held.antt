@@ -4,8 +4,8 @@ use Rattle.xls_meaning.specs.Reading.{BookView}
 use Rattle.xls_container.specs.Obfuscation.{IsObfuscated}
 use Rattle.xls_record.specs.declared.error.XlsError.TheVariants as errors
 use Rattle.xls_view.specs.Viewing.{IsViewFault, IsViewed, Viewed}
-use Rattle.xls_refusals.specs.declared.refusal.Refusal.{Refusal}
-use Rattle.xls_refusals.specs.declared.refusal.Refusal.TheVariants as refusals
+use Rattle.xls_arrays.specs.declared.refusal.Refusal.{Refusal}
+use Rattle.xls_arrays.specs.declared.refusal.Refusal.TheVariants as refusals
 use Rattle.xls_arrays.specs.Arrays.{Arrays, Reported, arrays_of}
 use Rattle.xls_arrays.specs.Options.{max_bytes_in, options_by}
 use Rattle.xls_arrays.specs.Displayed.{asked_for}

@@ -1,8 +1,8 @@
 -- Steps of laying what a view shows, for the contracts of the steps.
 use Rattle.std.specs.Prelude.{◌≡◌, ℕ, ◌≤◌, List, Some, length, slice_get}
 use Rattle.xls_meaning.specs.Reading.{BookView}
-use Rattle.xls_refusals.specs.declared.refusal.Refusal.{Refusal}
-use Rattle.xls_refusals.specs.declared.refusal.Refusal.TheVariants as refusals
+use Rattle.xls_arrays.specs.declared.refusal.Refusal.{Refusal}
+use Rattle.xls_arrays.specs.declared.refusal.Refusal.TheVariants as refusals
 use Rattle.xls_arrays.specs.Arrays.{Reported, laid, with_name, with_sheet}
 use Rattle.xls_arrays.specs.Filled.{Lays}
 use Rattle.xls_arrays.specs.Held.{Misses}

@@ -1,4 +1,4 @@
-pub use Rattle.xls_refusals.specs.Telling
+pub use Rattle.xls_arrays.specs.Telling
 pub mod Answers
 pub mod Arrays
 pub mod Filled
@@ -10,3 +10,10 @@ pub mod Options
 pub mod Displayed
 pub mod Values
 pub mod Whole
+pub mod Codes
+pub mod Faults
+pub mod RefusalLaws
+pub mod Parts
+pub mod Refusals
+pub mod Telling
+pub mod Texts

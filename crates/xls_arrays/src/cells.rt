@@ -1,7 +1,7 @@
 //! The cells of a sheet.
 
 ghost use Rattle.std.specs.Prelude.{OnOk};
-ghost use Rattle.xls_cursors.specs.Values.{cell_entry};
+ghost use Rattle.xls_view.specs.Values.{cell_entry};
 ghost use Rattle.xls_arrays.specs.Arrays.{laid, with_cell_laid};
 ghost use Rattle.xls_arrays.specs.Filled.{KeepsRooms, Lays};
 

@@ -2,8 +2,8 @@
 
 ghost use Rattle.std.specs.Prelude.{OnOk, map};
 ghost use Rattle.std.specs.Str.{chars};
-ghost use Rattle.xls_cursors.specs.Formulas.{text_entry};
-ghost use Rattle.xls_cursors.specs.Walking.{formula_seen};
+ghost use Rattle.xls_view.specs.Formulas.{text_entry};
+ghost use Rattle.xls_view.specs.Walking.{formula_seen};
 ghost use Rattle.xls_arrays.specs.Arrays.{laid, with_formula};
 ghost use Rattle.xls_arrays.specs.Filled.{KeepsRooms, Lays};
 

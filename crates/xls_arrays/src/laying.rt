@@ -8,6 +8,7 @@ ghost use Rattle.xls_arrays.specs.Filled.{RoomsHold, KeepsRooms, Lays};
 ghost use Rattle.xls_arrays.specs.Held.{IsHeld, IsPlainStream, RefusesStream};
 ghost use Rattle.xls_arrays.specs.Laying.{LaysAskedFor, LaysOne, LaysView, MissesIndex, MissesSheet};
 
+use crate::Refusal;
 use crate::items::NameItem;
 use crate::options::{ALL_SHEETS, ONE_SHEET, Options, limit_or, options_of};
 use crate::rooms::{Rooms, lay_name_item, lay_text};
@@ -15,7 +16,6 @@ use crate::sheets::{lay_bare_sheets, lay_whole_sheet, lay_whole_sheets};
 use std::alloc::{AllocError, Global};
 use xls_container::is_obfuscated;
 use xls_open::MAX_BYTES;
-use xls_refusals::Refusal;
 use xls_strings::XlsError;
 use xls_view::View;
 

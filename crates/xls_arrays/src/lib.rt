@@ -2,13 +2,19 @@
 #![tactic(auto)]
 
 mod cells;
+mod decoding;
+mod faults;
 mod formulas;
 mod items;
 mod laws;
 mod laying;
 mod numbers;
 mod options;
+mod parts;
 mod reading;
+mod refusal;
+mod refusal_laws;
+mod refusal_texts;
 mod regions;
 mod rooms;
 mod serials;
@@ -18,12 +24,16 @@ mod telling;
 mod values;
 mod whole;
 
+pub use decoding::refusal_of;
+pub use faults::{Fault, fault_of, plain};
 pub use items::{CellItem, FormulaItem, NameItem, RegionItem, SheetItem, Sizes, Span};
 pub use laws::arrays_are_reported;
 pub use numbers::{bits_of, form_of};
 pub use options::Options;
 pub use reading::{measure, read};
+pub use refusal::{Chain, Refusal};
+pub use refusal_laws::refusals_are_reported;
+pub use refusal_texts::sentence_of;
 pub use serials::serial;
 pub use streams::stream;
 pub use telling::fault_text;
-pub use xls_refusals::{Chain, Fault, Refusal, fault_of, refusal_of, refusals_are_reported};

@@ -11,8 +11,8 @@ use crate::items::{CellItem, FormulaItem, NameItem, RegionItem, SheetItem, Sizes
 use crate::laying::lay_stream;
 use crate::options::Options;
 use crate::rooms::{NOTHING, Rooms, fits};
+use crate::{Fault, Refusal, fault_of, plain};
 use std::alloc::Global;
-use xls_refusals::{Fault, Refusal, fault_of, plain};
 
 /// Puts the numbers of a refusal into `fault`, and gives its code; all 0 where what was asked for was done.
 pub(crate) fn answer(done: Result<(), Refusal>, fault: &mut Fault) -> u32

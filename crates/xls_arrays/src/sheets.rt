@@ -2,7 +2,7 @@
 
 ghost use Rattle.std.specs.Prelude.{◌≡◌, ◌-◌, [], OnOk, slice_get};
 ghost use Rattle.xls_data.specs.Sheets.{sheet_content};
-ghost use Rattle.xls_cursors.specs.Displayed.{sheet_view_of};
+ghost use Rattle.xls_view.specs.Displayed.{sheet_view_of};
 ghost use Rattle.xls_arrays.specs.Arrays.{sheet_kind_number, laid, visibility_number, with_content, with_sheet};
 ghost use Rattle.xls_arrays.specs.Filled.{KeepsRooms, Lays};
 ghost use Rattle.xls_arrays.specs.Displayed.{content_in, each_with, item_between, no_content};

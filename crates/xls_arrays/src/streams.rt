@@ -6,9 +6,9 @@ ghost use Rattle.xls_arrays.specs.Answers.{KeepsStream, PutsStream, RefusesStrea
 
 use crate::reading::answer;
 use crate::whole::put_whole;
+use crate::{Fault, Refusal};
 use std::alloc::Global;
 use xls_container::Container;
-use xls_refusals::{Fault, Refusal};
 
 /// Puts the workbook's stream of a file into an array.
 fn put_stream(alloc: Global, file: &[u8], out: &mut [u8], size: &mut u64) -> Result<(), Refusal>

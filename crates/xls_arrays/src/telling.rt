@@ -2,11 +2,11 @@
 
 ghost use Rattle.std.specs.Prelude.{◌≡◌};
 ghost use Rattle.xls_arrays.specs.Answers.{PutsText};
-ghost use Rattle.xls_refusals.specs.Telling.{sentence};
+ghost use Rattle.xls_arrays.specs.Telling.{sentence};
 
 use crate::whole::put_text;
+use crate::{Fault, sentence_of};
 use std::alloc::Global;
-use xls_refusals::{Fault, sentence_of};
 
 /// Puts the sentence of a fault into `out`, and its length into `size`. Answers 0, 1 where memory ran out, `size`
 /// being 0, or 2 where `out` is too short and is as it was.

@@ -3,7 +3,7 @@
 ghost use Rattle.std.specs.Prelude.{◌≡◌};
 ghost use Rattle.xls_arrays.specs.Numbers.{bits_of, number_form};
 ghost use Rattle.xls_arrays.specs.Values.{error_code, form_in, content_kind, value_in};
-ghost use Rattle.xls_cursors.specs.Values.{lent_content};
+ghost use Rattle.xls_view.specs.Values.{lent_content};
 
 use crate::items::{CellItem, Span};
 use crate::numbers::{bits_of, form_of};

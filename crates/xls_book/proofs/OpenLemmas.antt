@@ -8,8 +8,8 @@ use Rattle.xls_record.specs.declared.error.XlsError.TheVariants as errors
 use Rattle.xls_meaning.specs.Settings.{Settings, SheetRecords, settings_of, sheets_of}
 use Rattle.xls_meaning.specs.Reading.{IsReading, IsDisplayed, SheetView}
 use Rattle.std.specs.Io.KnownBytes.{IsAtEnd}
-use Rattle.xls_source.specs.Bounded.{ReadCause}
-use Rattle.xls_source.specs.SourceState.{SourceState, TakesWithin}
+use Rattle.xls_record.specs.Bounded.{ReadCause}
+use Rattle.xls_record.specs.SourceState.{SourceState, TakesWithin}
 use Rattle.xls_open.specs.Opening.{IsOfOpening, IsOpened, OpenCause, Opens}
 use Rattle.xls_open.specs.Workbook.{IsOrdered, Workbook, rules_of}
 use Rattle.xls_open.specs.declared.options.XlsOptions.{XlsOptions}

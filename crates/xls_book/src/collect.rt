@@ -2,15 +2,14 @@
 
 ghost use Rattle.std.specs.Prelude.{◌≡◌, IfOk, length, map};
 ghost use Rattle.xls_biff.specs.Cells.{CellEntry};
-ghost use Rattle.xls_cursors.specs.Formulas.{text_entry};
-ghost use Rattle.xls_cursors.specs.Displayed.{sheet_view_of};
+ghost use Rattle.xls_view.specs.Formulas.{text_entry};
+ghost use Rattle.xls_view.specs.Displayed.{sheet_view_of};
 ghost use Rattle.xls_open.specs.Workbook.{cell_content, formula_content};
 
 use std::alloc::{AllocError, Global};
 use std::marker::Model;
-use xls_cursors::{Cells, FormulaBuffer, Merges, SheetFormulas, ViewSheet};
+use xls_view::{Cells, FormulaBuffer, Merges, SheetFormulas, View, ViewSheet};
 use xls_data::{Cell, Data, Dimensions};
-use xls_view::View;
 
 /// The cells, the formulas and the merged regions of a sheet.
 #[derive(Drop)]

@@ -18,7 +18,7 @@ pub use xls_open::{
     XlsOptions, check_stream, checked_alike, laid_checks, laid_opens, laid_sound,
     one_list_per_stream, same_list_same_book,
 };
-pub use xls_source::{
+pub use xls_record::{
     EndlessSource, MemorySource, ReadFault, Source, StdSource, SteadySource, StreamBytes, read_all,
     steady_count,
 };

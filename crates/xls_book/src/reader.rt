@@ -11,7 +11,7 @@ ghost use Rattle.xls_record.specs.declared.error.XlsError.TheVariants.{Memory};
 ghost use Rattle.xls_meaning.specs.Reading.{SheetView};
 ghost use Rattle.xls_open.specs.Workbook.{Workbook, name_texts, view_named};
 ghost use Rattle.xls_book.specs.LookUps.{AreWorksheets, IsRangeOf, IsTextBox, NameCause, is_empty_text, sheet_names_in, under_header};
-ghost use Rattle.xls_source.specs.SourceState.{SourceState};
+ghost use Rattle.xls_record.specs.SourceState.{SourceState};
 ghost use Rattle.xls_open.specs.Opening.{Opens, default_options};
 
 use crate::ranges::{range_of, text_box_of};
@@ -21,7 +21,7 @@ use xls_biff::XlsError;
 use xls_data::{Data, HeaderRow, Sheet};
 use xls_open::XlsOptions;
 use xls_range::Range;
-use xls_source::Source;
+use xls_record::Source;
 
 /// A workbook that was opened from a stream.
 pub trait Reader: Sized {

@@ -14,7 +14,7 @@ ghost use Rattle.xls_book.specs.LookUps.{AreWorksheets, GivesMerges, NameCause, 
 ghost use Rattle.xls_open.specs.Workbook.{IsOrdered, name_texts, view_named};
 ghost use Rattle.xls_meaning.specs.SheetTable.{nonempty_formulas};
 ghost use Rattle.xls_book.specs.Steps.{OpensBytes};
-ghost use Rattle.xls_source.specs.Bounded.{AnswersAtEnd};
+ghost use Rattle.xls_record.specs.Bounded.{AnswersAtEnd};
 
 use crate::collect::{Content, contents_of};
 use crate::formulas::Formulas;
@@ -28,7 +28,7 @@ use xls_data::{CellFormat, Data, Dimensions, HeaderRow, Sheet};
 use xls_open::XlsOptions;
 use xls_props::{WorkbookProperties, workbook_properties_of};
 use xls_range::Range;
-use xls_source::{Source, StreamBytes, read_all};
+use xls_record::{Source, StreamBytes, read_all};
 use xls_view::{View, ViewParts, find_named};
 
 /// What is told of a whole workbook.

@@ -9,8 +9,8 @@ use Rattle.xls_open.specs.Workbook.{Workbook, view_named}
 use Rattle.xls_open.proofs.SameLemmas.{same_list_same_book}
 use Rattle.xls_meaning.specs.Faults.{IsSound}
 use Rattle.xls_open.specs.Opening.{IsOpened, default_options, default_rules}
-use Rattle.xls_source.specs.Bounded.{ReadCause}
-use Rattle.xls_source.specs.SourceState.{SourceState}
+use Rattle.xls_record.specs.Bounded.{ReadCause}
+use Rattle.xls_record.specs.SourceState.{SourceState}
 use Rattle.xls_output.specs.SinkState.{SinkState, TakesEach}
 use Rattle.xls_report.specs.Report.{fault_line}
 use Rattle.xls_command.specs.Outputs.{IsOutput, IsRefusalText, MayWrite, ReadsNothing, EndsBy, Spec, reading, accepting_sound, spec_of, IsNameLine, HasSheet, HasCanonical}

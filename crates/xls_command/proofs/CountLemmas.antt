@@ -6,8 +6,8 @@ use Rattle.xls_data.specs.Content.{Content}
 use Rattle.xls_data.specs.Data.{content_of, is_nothing}
 use Rattle.xls_range.specs.Lists.{used}
 use Rattle.xls_data.specs.declared.values.Data.{Data}
-use Rattle.xls_sample_stream.specs.Sample.{int_of, sum_of_ints}
-use Rattle.xls_sample_stream.proofs.SumLemmas.{sum_more}
+use Rattle.xls_command.specs.Sample.{int_of, sum_of_ints}
+use Rattle.xls_command.proofs.SumLemmas.{sum_more}
 
 -- a cell with its row and its column
 abbrev pub Placed : Type 0

@@ -4,3 +4,14 @@ pub mod ViewLemmas
 pub mod StandardFacts
 pub mod RowsLemmas
 pub mod CountLemmas
+pub mod ByteLemmas
+pub mod LayoutLemmas
+pub mod LengthLemmas
+pub mod YieldLemmas
+pub mod ReadLemmas
+pub mod SampleFacts
+pub mod CornerLemmas
+pub mod SumLemmas
+pub mod RangeLemmas
+pub mod SoundLemmas
+pub mod BuildLemmas

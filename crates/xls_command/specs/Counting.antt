@@ -3,7 +3,7 @@ use Rattle.std.specs.Prelude.{◌≡◌, ℕ, ℤ, ◌-◌, ◌*◌, ◌/◌, le
 use Rattle.xls_data.specs.Data.{is_nothing}
 use Rattle.xls_data.specs.declared.values.Data.{Data}
 use Rattle.xls_range.specs.Grid.{Grid}
-use Rattle.xls_sample_stream.specs.Sample.{used_in, contents_in, sum_of_ints}
+use Rattle.xls_command.specs.Sample.{used_in, contents_in, sum_of_ints}
 use Rattle.xls_command.specs.declared.summary.Summary.{Summary}
 
 -- how many cells are used, and the sum of their whole numbers

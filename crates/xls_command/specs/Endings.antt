@@ -8,7 +8,7 @@ use Rattle.xls_meaning.specs.Faults.{FirstFault}
 use Rattle.xls_open.specs.Workbook.{Workbook, view_of}
 use Rattle.xls_open.specs.Opening.{IsOpened, default_options, default_rules}
 use Rattle.xls_output.specs.Causes.{Rose}
-use Rattle.xls_source.specs.SourceState.{SourceState}
+use Rattle.xls_record.specs.SourceState.{SourceState}
 use Rattle.xls_output.specs.SinkState.{SinkState}
 use Rattle.xls_output.specs.Written.{Writes, WritesPart}
 use Rattle.xls_report.specs.declared.ending.Ending.{Ending}

@@ -4,3 +4,5 @@ pub mod Counting
 pub mod Outputs
 pub mod Endings
 pub mod Laws
+pub mod Sample
+pub mod SampleLaws

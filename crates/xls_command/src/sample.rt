@@ -4,7 +4,7 @@ ghost use Rattle.std.specs.Prelude.{◌≡◌, ◌≤◌, ◌<◌, ◌++◌, ◌
 ghost use Rattle.xls_bytes.specs.Numbers.{le16};
 ghost use Rattle.xls_stream.specs.Stream.{record_bytes};
 ghost use Rattle.xls_stream.specs.declared.types.TheConstants as types;
-ghost use Rattle.xls_sample_stream.specs.Sample.{cell_body, le32, sample_globals, sample_part, sample_row, sample_stream, part_body};
+ghost use Rattle.xls_command.specs.Sample.{cell_body, le32, sample_globals, sample_part, sample_row, sample_stream, part_body};
 ghost use Rattle.xls_command.specs.Words.{max_rows};
 
 use std::alloc::{AllocError, Global};

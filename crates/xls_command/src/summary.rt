@@ -2,7 +2,7 @@
 
 ghost use Rattle.std.specs.Prelude.{◌≡◌, ◌≤◌, IfOk};
 ghost use Rattle.xls_data.specs.Data.{content_of, is_nothing};
-ghost use Rattle.xls_sample_stream.specs.Sample.{IsSampleRange, int_of};
+ghost use Rattle.xls_command.specs.Sample.{IsSampleRange, int_of};
 ghost use Rattle.xls_output.specs.Gathering.{Delivers};
 ghost use Rattle.xls_command.specs.Summary.{counts_text};
 ghost use Rattle.xls_command.specs.Words.{max_rows};

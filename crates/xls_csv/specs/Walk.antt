@@ -3,9 +3,9 @@
 use Rattle.std.specs.Prelude.{◌≡◌, ℕ, List, [], ◌∷◌, Option, Some, None, if◌then◌else◌, zero, suc, ◌+◌, ◌==◌, ◌&&◌}
 use Rattle.xls_data.specs.Content.{Content, nothing}
 use Rattle.xls_biff.specs.Cells.{CellEntry}
-use Rattle.xls_cursors.specs.Values.{cell_entry, lent_content}
-use Rattle.xls_cursors.specs.declared.value.CellValue.{CellValue}
-use Rattle.xls_cursors.specs.declared.value.SheetCell.{SheetCell}
+use Rattle.xls_view.specs.Values.{cell_entry, lent_content}
+use Rattle.xls_view.specs.declared.value.CellValue.{CellValue}
+use Rattle.xls_view.specs.declared.value.SheetCell.{SheetCell}
 use Rattle.xls_csv.specs.Dense.{box_of}
 
 -- a value, and the cells that are left after it

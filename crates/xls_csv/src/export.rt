@@ -11,7 +11,7 @@ use csv::Writer;
 use std::alloc::{AllocError, Global};
 use xls_data::Data;
 use xls_range::Range;
-use xls_source::StreamBytes;
+use xls_record::StreamBytes;
 
 /// Fills a record with the fields of a row.
 fn fill(fields: &mut Record, row: &[Data]) -> Result<(), AllocError>

@@ -2,7 +2,7 @@
 
 ghost use Rattle.std.specs.Prelude.{◌≡◌, ◌++◌, ◌==◌, [], length, encode_utf8_all, IfOk, OnOk};
 ghost use Rattle.csv.specs.Writing.{default_writer, field_text, next_sep};
-ghost use Rattle.xls_cursors.specs.Values.{value_text, lent_content};
+ghost use Rattle.xls_view.specs.Values.{value_text, lent_content};
 ghost use Rattle.xls_csv.specs.Fields.{field};
 ghost use Rattle.xls_csv.specs.Walk.{value_in};
 ghost use Rattle.xls_csv.specs.Steps.{field_placed, row_end};

@@ -11,7 +11,7 @@ use Rattle.xls_layouts.proofs.CanonicalListLemmas.{canonical_layout}
 use Rattle.xls_meaning.proofs.LawLemmas.{sound_where_full}
 use Rattle.xls_meaning.specs.Faults.{IsFull}
 use Rattle.xls_meaning.specs.Reading.{IsReading}
-use Rattle.xls_source.specs.SourceState.{SourceState}
+use Rattle.xls_record.specs.SourceState.{SourceState}
 use Rattle.xls_open.specs.declared.options.XlsOptions.{XlsOptions}
 use Rattle.xls_open.specs.Workbook.{Workbook, rules_of, view_of}
 use Rattle.xls_open.specs.Opening.{IsOpened, Opens}

@@ -4,7 +4,7 @@ use Rattle.xls_stream.specs.Walks.{IsBytes}
 use Rattle.xls_stream.specs.Listing.{ListEntry, Carries}
 use Rattle.xls_record.specs.declared.error.XlsError.{XlsError}
 use Rattle.xls_meaning.specs.Faults.{IsFull}
-use Rattle.xls_source.specs.SourceState.{SourceState}
+use Rattle.xls_record.specs.SourceState.{SourceState}
 use Rattle.xls_open.specs.declared.options.XlsOptions.{XlsOptions}
 use Rattle.xls_open.specs.Workbook.{Workbook, rules_of}
 use Rattle.xls_open.specs.Opening.{IsOpened, Opens}

@@ -24,7 +24,7 @@ use crate::units::UnitLists;
 use crate::whole::Whole;
 use std::alloc::{AllocError, Global};
 use xls_output::{Sink, Stop, Writer};
-use xls_source::StreamBytes;
+use xls_record::StreamBytes;
 use xls_stream::types::{BOF, EOF};
 
 /// Appends a 32-bit number.

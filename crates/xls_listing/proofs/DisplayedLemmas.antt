@@ -9,7 +9,7 @@ use Rattle.xls_range.specs.Positions.{Position}
 use Rattle.xls_meaning.specs.Reading.{SheetView}
 use Rattle.xls_meaning.specs.SheetTable.{FormulaEntry, nonempty_formulas}
 use Rattle.xls_formula.specs.Context.{Context}
-use Rattle.xls_cursors.specs.Formulas.{Formula, text_entry}
+use Rattle.xls_view.specs.Formulas.{Formula, text_entry}
 use Rattle.xls_output.specs.Added.{AddsText}
 use Rattle.xls_data.specs.declared.regions.Dimensions.{Dimensions}
 use Rattle.xls_readable.specs.Lines.{IsLine, name_members, ref_members}

@@ -3,8 +3,8 @@
 ghost use Rattle.std.specs.Prelude.{◌≡◌};
 ghost use Rattle.std.specs.List.{flat_map};
 ghost use Rattle.xls_data.specs.Refs.{ref_content_of};
-ghost use Rattle.xls_cursors.specs.Values.{cell_entry};
-ghost use Rattle.xls_cursors.specs.Displayed.{sheet_view_of};
+ghost use Rattle.xls_view.specs.Values.{cell_entry};
+ghost use Rattle.xls_view.specs.Displayed.{sheet_view_of};
 ghost use Rattle.xls_readable.specs.Lines.{kind_and_item};
 ghost use Rattle.xls_output.specs.Each.{text_output};
 ghost use Rattle.xls_listing.specs.Listing.{PutsLines, cell_lines, lines_of_cells, valued_lines};

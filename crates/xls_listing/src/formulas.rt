@@ -3,9 +3,9 @@
 ghost use Rattle.std.specs.Prelude.{◌≡◌, ◌∷◌, [], map, slice_get};
 ghost use Rattle.std.specs.Str.{chars};
 ghost use Rattle.xls_meaning.specs.SheetTable.{nonempty_formulas};
-ghost use Rattle.xls_cursors.specs.Formulas.{text_entry};
-ghost use Rattle.xls_cursors.specs.Displayed.{sheet_view_of};
-ghost use Rattle.xls_cursors.specs.Walking.{formula_seen};
+ghost use Rattle.xls_view.specs.Formulas.{text_entry};
+ghost use Rattle.xls_view.specs.Displayed.{sheet_view_of};
+ghost use Rattle.xls_view.specs.Walking.{formula_seen};
 ghost use Rattle.xls_listing.specs.Listing.{IsDisplayedLine, PutsLines, each_sheet, formula_line, formula_lines, lines_of_formulas, displayed_at};
 ghost use Rattle.xls_output.specs.Each.{DeliversEach, text_output};
 

@@ -2,7 +2,7 @@
 
 ghost use Rattle.std.specs.Prelude.{◌≡◌, ◌∷◌, [], map, slice_get};
 ghost use Rattle.xls_open.specs.Workbook.{name_texts};
-ghost use Rattle.xls_cursors.specs.Displayed.{sheet_view_of};
+ghost use Rattle.xls_view.specs.Displayed.{sheet_view_of};
 ghost use Rattle.xls_listing.specs.Listing.{IsDisplayedLine, PutsLines, dates_line, dump_lines, each_sheet, lines_of_sheet, name_line, displayed_at};
 ghost use Rattle.xls_output.specs.Each.{DeliversEach, text_output};
 

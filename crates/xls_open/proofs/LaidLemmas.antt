@@ -11,7 +11,7 @@ use Rattle.xls_meaning.specs.Rules.{Rules}
 use Rattle.xls_meaning.specs.Faults.{FirstFault, IsSound, IsFull}
 use Rattle.xls_meaning.proofs.LawLemmas.{sound_where_full}
 use Rattle.xls_open.specs.Workbook.{Workbook, rules_of}
-use Rattle.xls_source.specs.SourceState.{SourceState}
+use Rattle.xls_record.specs.SourceState.{SourceState}
 use Rattle.xls_open.specs.Opening.{IsOpened, OpenCause, Opens}
 use Rattle.xls_open.specs.Checking.{Checks}
 use Rattle.xls_open.specs.Laws.{HasOneList, OpensAs}

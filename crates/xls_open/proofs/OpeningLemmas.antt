@@ -10,9 +10,9 @@ use Rattle.xls_meaning.specs.GlobalsTable.{forced_fault}
 use Rattle.xls_open.specs.Workbook.{rules_of}
 use Rattle.xls_meaning.specs.Faults.{outer_fault, FirstAfter, FirstFault, IsSound}
 use Rattle.xls_output.specs.Causes.{Rose}
-use Rattle.xls_source.specs.SourceState.{SourceState}
+use Rattle.xls_record.specs.SourceState.{SourceState}
 use Rattle.xls_open.specs.Opening.{IsOfOpening, OpenCause}
-use Rattle.xls_source.specs.Bounded.{ReadCause}
+use Rattle.xls_record.specs.Bounded.{ReadCause}
 use Rattle.xls_meaning.specs.Rules.{Rules}
 use Rattle.xls_open.specs.declared.options.XlsOptions.{XlsOptions}
 use Rattle.xls_open.specs.Checking.{FirstChecked, checked}

@@ -14,7 +14,7 @@ use Rattle.xls_meaning.specs.Settings.{said_by}
 use Rattle.xls_meaning.specs.Reading.{IsReading}
 use Rattle.xls_meaning.specs.Faults.{FirstFault, IsSound, IsFull}
 use Rattle.xls_output.specs.Causes.{Rose}
-use Rattle.xls_source.specs.SourceState.{SourceState}
+use Rattle.xls_record.specs.SourceState.{SourceState}
 use Rattle.xls_open.specs.Workbook.{Workbook, rules_of, view_of}
 use Rattle.xls_open.specs.Opening.{IsOpened, Opens}
 use Rattle.xls_open.specs.Checking.{FirstChecked, Checks}

@@ -7,7 +7,7 @@ use Rattle.xls_record.specs.declared.error.XlsError.TheVariants as errors
 use Rattle.xls_data.specs.declared.regions.HeaderRow.TheVariants.{FirstNonEmptyRow}
 use Rattle.xls_formula.specs.Functions.{shipped}
 use Rattle.xls_output.specs.Causes.{Rose}
-use Rattle.xls_source.specs.SourceState.{SourceState, TakesWithin}
+use Rattle.xls_record.specs.SourceState.{SourceState, TakesWithin}
 use Rattle.xls_meaning.specs.Rules.{Rules}
 use Rattle.xls_open.specs.Workbook.{Workbook, rules_of, view_of}
 use Rattle.xls_meaning.specs.Reading.{IsReading}

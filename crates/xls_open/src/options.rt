@@ -10,7 +10,7 @@ use std::alloc::{AllocError, Global};
 use xls_biff::XlsError;
 use xls_data::HeaderRow;
 use xls_formula::FunctionTable;
-use xls_source::StreamBytes;
+use xls_record::StreamBytes;
 use xls_text::XlsEncoding;
 
 /// How many bytes a stream may have by default.

@@ -8,9 +8,9 @@ use Rattle.xls_formula.specs.Context.{Context}
 use Rattle.xls_meaning.specs.Settings.{SheetRecords, sheets_of, sheet_names_of, context_of}
 use Rattle.xls_open.specs.Workbook.{rules_of}
 use Rattle.xls_open.specs.declared.options.XlsOptions.{XlsOptions}
-use Rattle.xls_cursors.specs.Formulas.{Formula}
+use Rattle.xls_view.specs.Formulas.{Formula}
 use Rattle.xls_view.specs.Viewing.{Viewed, IsViewed, ShowsFormulas}
-use Rattle.xls_cursors.specs.Walking.{NamedContext}
+use Rattle.xls_view.specs.Walking.{NamedContext}
 use Rattle.xls_refs.specs.Cited.{AreCited, BookCitation, BookCited, cited_by}
 use Rattle.xls_refs.specs.Citing.{IsBookCited}
 use Rattle.xls_refs.specs.Views.{cited_in, cited_of, each_cited, sheets_cited, sheets_from}

@@ -8,7 +8,7 @@ use Rattle.xls_formula.specs.Context.{Context}
 use Rattle.xls_meaning.specs.Settings.{SheetRecords, sheets_of, sheet_names_of, context_of}
 use Rattle.xls_meaning.specs.Reading.{kept_named}
 use Rattle.xls_meaning.specs.Rules.{Rules}
-use Rattle.xls_cursors.specs.Formulas.{Formula, AreLast, formulas_kept}
+use Rattle.xls_view.specs.Formulas.{Formula, AreLast, formulas_kept}
 use Rattle.xls_refs.specs.Citations.{Citation, citation_of, cites_at}
 use Rattle.xls_refs.specs.declared.cite.BookCite.{BookCite}
 

@@ -4,7 +4,7 @@ use Rattle.xls_stream.specs.Listing.{Kept}
 use Rattle.xls_biff.specs.SheetTable.{CellContext}
 use Rattle.xls_meaning.specs.SheetTable.{kept_line}
 use Rattle.xls_open.specs.declared.options.XlsOptions.{XlsOptions}
-use Rattle.xls_cursors.specs.Formulas.{formula_from, formula_of}
+use Rattle.xls_view.specs.Formulas.{formula_from, formula_of}
 use Rattle.xls_view.specs.Viewing.{Viewed, IsViewed}
 use Rattle.xls_refs.specs.Citations.{Citation, same_cells}
 use Rattle.xls_refs.specs.Citing.{IsBookCited}

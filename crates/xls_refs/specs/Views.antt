@@ -4,7 +4,7 @@ use Rattle.std.specs.List.{flat_map}
 use Rattle.std.specs.Str.{chars}
 use Rattle.std.specs.declared.alloc.AllocError.{AllocError}
 use Rattle.xls_formula.specs.Context.{Context}
-use Rattle.xls_cursors.specs.Formulas.{Formula}
+use Rattle.xls_view.specs.Formulas.{Formula}
 use Rattle.xls_view.specs.Viewing.{Viewed}
 use Rattle.xls_refs.specs.Cited.{BookCitation, BookCited, cited_by}
 use Rattle.xls_refs.specs.declared.cite.CitedCells.{CitedCells}

@@ -6,7 +6,7 @@ ghost use Rattle.xls_refs.specs.Citations.{cites_at};
 ghost use Rattle.xls_refs.specs.Cited.{cited_by, citations_unless_refused};
 ghost use Rattle.xls_refs.specs.Views.{sheets_cited};
 ghost use Rattle.xls_view.specs.Naming.{context_in};
-ghost use Rattle.xls_cursors.specs.Walking.{formula_seen};
+ghost use Rattle.xls_view.specs.Walking.{formula_seen};
 
 use crate::cite::{CitedFormula, Cites};
 use crate::formula::cites_in_scope;

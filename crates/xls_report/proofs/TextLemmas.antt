@@ -12,7 +12,7 @@ use Rattle.xls_meaning.specs.Reading.{SheetView}
 use Rattle.xls_meaning.specs.SheetTable.{FormulaEntry}
 use Rattle.xls_open.specs.Workbook.{name_texts}
 use Rattle.xls_formula.specs.Context.{Context}
-use Rattle.xls_cursors.specs.Formulas.{Formula, text_entry}
+use Rattle.xls_view.specs.Formulas.{Formula, text_entry}
 use Rattle.xls_report.specs.Report.{formula_line, formula_lines, lines_at, view_text, sheet_line, sheets_text, name_line}
 
 -- ---- sheets

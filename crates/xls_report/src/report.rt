@@ -13,10 +13,10 @@ ghost use Rattle.xls_output.specs.Output.{Puts, output};
 ghost use Rattle.xls_report.specs.Endings.{EndsWithEither};
 ghost use Rattle.xls_lines.specs.Lines.{field_text};
 ghost use Rattle.xls_open.specs.Workbook.{name_texts};
-ghost use Rattle.xls_cursors.specs.Formulas.{text_entry};
-ghost use Rattle.xls_cursors.specs.Values.{cell_entry};
-ghost use Rattle.xls_cursors.specs.Displayed.{sheet_view_of};
-ghost use Rattle.xls_cursors.specs.Walking.{formula_seen};
+ghost use Rattle.xls_view.specs.Formulas.{text_entry};
+ghost use Rattle.xls_view.specs.Values.{cell_entry};
+ghost use Rattle.xls_view.specs.Displayed.{sheet_view_of};
+ghost use Rattle.xls_view.specs.Walking.{formula_seen};
 ghost use Rattle.xls_report.specs.Report.{cell_line, dates_line, epoch_text, fault_line, formula_line, formula_lines, lines_at, merge_line, name_line, report, sheet_line, sheet_report, sheets_text, sound_line, type_text, unwritten_line, value_fields, visible_text};
 
 use crate::ending::Ending;

@@ -6,7 +6,7 @@ ghost use Rattle.xls_data.specs.Content.{text};
 ghost use Rattle.xls_data.specs.Numeric.{numeric_content};
 ghost use Rattle.xls_output.specs.Added.{AddsText};
 ghost use Rattle.xls_readable.specs.Csv.{row_end};
-ghost use Rattle.xls_cursors.specs.Values.{lent_content, value_text};
+ghost use Rattle.xls_view.specs.Values.{lent_content, value_text};
 ghost use Rattle.xls_csv.specs.Walk.{value_in};
 ghost use Rattle.xls_tables.specs.Rows.{IsContentField};
 ghost use Rattle.xls_tables.specs.Tables.{byte_order_mark};

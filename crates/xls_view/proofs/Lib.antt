@@ -1,3 +1,15 @@
 pub mod ViewLemmas
 pub mod NameLemmas
 pub mod IndexLemmas
+pub mod WalkLemmas
+pub mod RecordLemmas
+pub mod ContentLemmas
+pub mod SettledLemmas
+pub mod TableLemmas
+pub mod ValueLemmas
+pub mod MeaningLemmas
+pub mod PlaceLemmas
+pub mod AscentLemmas
+pub mod BoundsLemmas
+pub mod SurveyLemmas
+pub mod PlainLemmas

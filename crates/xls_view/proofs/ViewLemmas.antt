@@ -33,14 +33,14 @@ use Rattle.xls_open.specs.Workbook.{rules_of}
 use Rattle.xls_open.specs.declared.options.XlsOptions.{XlsOptions}
 use Rattle.xls_open.proofs.AlikeLemmas.{places_same, checked_alike}
 use Rattle.xls_open.proofs.OpenLemmas.{stands, opened_under}
-use Rattle.xls_cursors.specs.Contents.{IsReadable, content_by, formulas_at, kept_at, settled}
+use Rattle.xls_view.specs.SheetContents.{IsReadable, content_by, formulas_at, kept_at, settled}
 use Rattle.xls_view.specs.Contents.{AreReadable, by_name, viewed}
-use Rattle.xls_cursors.specs.Formulas.{AreLast, Formula, formulas_kept}
+use Rattle.xls_view.specs.Formulas.{AreLast, Formula, formulas_kept}
 use Rattle.xls_view.specs.Viewing.{IsViewFault, IsViewed, ShowsFormulas, ViewCause, Viewed, formulas_named}
 use Rattle.xls_view.specs.Placing.{IsPartOf}
-use Rattle.xls_cursors.proofs.WalkLemmas.{sheet_kept, drop_bytes}
-use Rattle.xls_cursors.proofs.SettledLemmas.{ascending_settled, last_settled}
-use Rattle.xls_cursors.proofs.MeaningLemmas.{are_readable, is_content}
+use Rattle.xls_view.proofs.WalkLemmas.{sheet_kept, drop_bytes}
+use Rattle.xls_view.proofs.SettledLemmas.{ascending_settled, last_settled}
+use Rattle.xls_view.proofs.MeaningLemmas.{are_readable, is_content}
 
 -- ---- by name
 

@@ -7,7 +7,7 @@ use Rattle.xls_meaning.specs.Settings.{Settings}
 use Rattle.xls_meaning.specs.Reading.{last_named, paired}
 use Rattle.xls_open.specs.Workbook.{views_listed}
 use Rattle.xls_view.specs.Viewing.{Viewed}
-use Rattle.xls_cursors.specs.Contents.{IsReadable, content_by, formulas_at, kept_at}
+use Rattle.xls_view.specs.SheetContents.{IsReadable, content_by, formulas_at, kept_at}
 
 -- each kept record of the parts at these offsets has no fault
 abbrev pub AreReadable : CellContext → List ℕ → List ℕ → Type 0

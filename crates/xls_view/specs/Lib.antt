@@ -3,3 +3,12 @@ pub mod Contents
 pub mod Viewing
 pub mod Naming
 pub mod Placing
+pub mod Formulas
+pub mod Displayed
+pub mod Walking
+pub mod Values
+pub mod Groups
+pub mod SheetContents
+pub mod Placed
+pub mod SheetPlacing
+pub mod Surveying

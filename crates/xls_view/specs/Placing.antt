@@ -3,10 +3,10 @@ use Rattle.std.specs.Prelude.{◌≡◌, ℕ, List, ◌-◌, Option, Some, None}
 use Rattle.std.specs.Borrow.{Bor}
 use Rattle.xls_meaning.specs.Settings.{Settings}
 use Rattle.xls_meaning.specs.Reading.{SheetView}
-use Rattle.xls_cursors.specs.Contents.{content_by, kept_in, settled}
-use Rattle.xls_cursors.specs.Formulas.{Formula, formulas_kept}
+use Rattle.xls_view.specs.SheetContents.{content_by, kept_in, settled}
+use Rattle.xls_view.specs.Formulas.{Formula, formulas_kept}
 use Rattle.xls_view.specs.Viewing.{Viewed}
-use Rattle.xls_cursors.specs.Walking.{IsSoundPart}
+use Rattle.xls_view.specs.Walking.{IsSoundPart}
 
 -- what the records of the sheets are read under
 abbrev pub settings_viewed : Viewed → Settings

@@ -12,7 +12,7 @@ use Rattle.xls_meaning.specs.Faults.{IsFull}
 use Rattle.xls_open.specs.Checking.{FirstChecked}
 use Rattle.xls_open.specs.Workbook.{rules_of}
 use Rattle.xls_open.specs.declared.options.XlsOptions.{XlsOptions}
-use Rattle.xls_cursors.specs.Formulas.{Formula, AreLast, formulas_kept}
+use Rattle.xls_view.specs.Formulas.{Formula, AreLast, formulas_kept}
 
 -- what a workbook shows, what is in force for its cells, what its formulas may name, and the formulas that
 -- each index shows, by their tokens

@@ -10,11 +10,11 @@ ghost use Rattle.xls_meaning.specs.GlobalsTable.{forced_fault};
 ghost use Rattle.xls_biff.specs.Cells.{CellEntry};
 ghost use Rattle.xls_range.specs.Positions.{IsAscending};
 ghost use Rattle.xls_meaning.specs.Reading.{SheetView, displayed_of};
-ghost use Rattle.xls_cursors.specs.Displayed.{DisplayedSheet, sheet_view_of};
+ghost use Rattle.xls_view.specs.Displayed.{DisplayedSheet, sheet_view_of};
 ghost use Rattle.xls_view.specs.Viewing.{IsViewFault, IsViewed, ViewCause, formulas_named};
-ghost use Rattle.xls_cursors.specs.Walking.{NamedContext};
+ghost use Rattle.xls_view.specs.Walking.{NamedContext};
 ghost use Rattle.xls_view.specs.Placing.{IsPartOf, settings_viewed};
-ghost use Rattle.xls_cursors.specs.Formulas.{text_entry};
+ghost use Rattle.xls_view.specs.Formulas.{text_entry};
 ghost use Rattle.xls_view.specs.Index.{IsIndex};
 ghost use Rattle.xls_view.specs.Naming.{context_in};
 ghost use Rattle.xls_record.specs.declared.error.XlsError.{XlsError};
@@ -23,11 +23,11 @@ ghost use Rattle.xls_open.specs.Globals.{listed_of};
 
 use crate::index::{find_named, index_of};
 use crate::naming::ViewNaming;
+use crate::{Merges, SheetCells, SheetFormulas, ViewSheet, part_at};
 use std::alloc::{AllocError, Global};
 use std::collections::BTreeMap;
 use std::marker::Model;
 use xls_biff::{Biff, Strings, XlsError};
-use xls_cursors::{Merges, SheetCells, SheetFormulas, ViewSheet, part_at};
 use xls_data::{CellFormat, Sheet};
 use xls_formula::FunctionTable;
 use xls_open::{

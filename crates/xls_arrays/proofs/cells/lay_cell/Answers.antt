@@ -1,6 +1,6 @@
 use Rattle.std.proofs.Common.{IsUtf8, rules}
 use Rattle.std.proofs.lemmas.Result.{on_ok_weaker}
-use Rattle.xls_cursors.specs.Values.{cell_entry}
+use Rattle.xls_view.specs.Values.{cell_entry}
 use Rattle.xls_arrays.proofs.LaidLemmas.{lays-cell}
 use Rattle.xls_arrays.proofs.TextLemmas.{text-laid}
 use Rattle.xls_arrays.proofs.cells.lay_cell.Goals as goal

@@ -1,5 +1,5 @@
 use Rattle.std.proofs.Common.{ap, map}
-use Rattle.xls_cursors.specs.Formulas.{text_entry}
+use Rattle.xls_view.specs.Formulas.{text_entry}
 use Rattle.xls_arrays.specs.Arrays.{with_formula}
 use Rattle.xls_arrays.proofs.LaidLemmas.{partly-all, partly-next}
 use Rattle.xls_arrays.proofs.formulas.lay_formulas.Goals as goal

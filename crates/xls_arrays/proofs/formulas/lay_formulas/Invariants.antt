@@ -1,5 +1,5 @@
 use Rattle.std.proofs.Common.{map}
-use Rattle.xls_cursors.specs.Formulas.{text_entry}
+use Rattle.xls_view.specs.Formulas.{text_entry}
 use Rattle.xls_arrays.specs.Arrays.{with_formula}
 use Rattle.xls_arrays.proofs.LaidLemmas.{IsPartly}
 use Rattle.xls_arrays.proofs.formulas.lay_formulas.Given as goal

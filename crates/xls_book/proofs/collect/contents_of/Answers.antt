@@ -1,6 +1,6 @@
 use Rattle.std.proofs.Common.{◌≡◌, ◌++◌, ◌∷◌, [], sym, ap, ◌∙◌}
 use Rattle.std.specs.Option.{option_map}
-use Rattle.xls_cursors.specs.Displayed.{sheet_view_of}
+use Rattle.xls_view.specs.Displayed.{sheet_view_of}
 use Rattle.xls_book.proofs.TakeLemmas.{take_none, take_one}
 use Rattle.xls_book.proofs.collect.contents_of.Goals as goal
 use Rattle.xls_book.proofs.collect.contents_of.Goals.{in-Some+in_ok-content_of+in_ok-push, in_default}

@@ -1,5 +1,5 @@
 use Rattle.std.proofs.Common.{◌≡◌, ◌++◌, map}
-use Rattle.xls_cursors.specs.Formulas.{text_entry}
+use Rattle.xls_view.specs.Formulas.{text_entry}
 use Rattle.xls_open.specs.Workbook.{formula_content}
 use Rattle.xls_book.proofs.collect.formulas_of.Given as goal
 

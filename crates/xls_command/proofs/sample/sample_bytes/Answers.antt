@@ -1,8 +1,8 @@
 use Rattle.std.proofs.Common.{List, ℕ, [], ◌++◌, ◌≡◌, append_assoc, sym, ap, ◌∙◌, arith}
 use Rattle.xls_stream.specs.Stream.{record_bytes}
 use Rattle.xls_stream.specs.declared.types.TheConstants as types
-use Rattle.xls_sample_stream.specs.Sample.{sample_globals, sample_row, sample_rows, sample_stream, part_body}
-use Rattle.xls_sample_stream.proofs.BuildLemmas.{rows_more, stream_parts}
+use Rattle.xls_command.specs.Sample.{sample_globals, sample_row, sample_rows, sample_stream, part_body}
+use Rattle.xls_command.proofs.BuildLemmas.{rows_more, stream_parts}
 use Rattle.xls_command.proofs.sample.sample_bytes.Goals as goal
 
 -- one row more

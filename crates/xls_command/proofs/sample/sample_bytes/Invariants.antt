@@ -1,7 +1,7 @@
 use Rattle.std.proofs.Common.{◌≡◌, ◌++◌}
 use Rattle.xls_stream.specs.Stream.{record_bytes}
 use Rattle.xls_stream.specs.declared.types.TheConstants as types
-use Rattle.xls_sample_stream.specs.Sample.{sample_globals, sample_rows, part_body}
+use Rattle.xls_command.specs.Sample.{sample_globals, sample_rows, part_body}
 use Rattle.xls_command.proofs.sample.sample_bytes.Given as goal
 
 -- the globals, the head of the sheet, and the rows so far

@@ -2,7 +2,7 @@ use Rattle.std.proofs.Common.{rules, ◌≡◌, ◌+◌, pos, SFits, w64, sym, a
 use Rattle.std.proofs.lemmas.Int.{ints}
 use Rattle.xls_data.specs.Data.{content_of, is_nothing}
 use Rattle.xls_range.specs.Lists.{used}
-use Rattle.xls_sample_stream.specs.Sample.{used_in, int_of}
+use Rattle.xls_command.specs.Sample.{used_in, int_of}
 use Rattle.xls_command.proofs.CountLemmas.{Placed, SoFar, count_next, count_nothing, counted_next, used_kept, used_most}
 use Rattle.xls_command.proofs.summary.measured.Goals as goal
 

@@ -1,7 +1,7 @@
 use Rattle.std.proofs.Common.{length}
 use Rattle.xls_data.specs.Data.{is_nothing}
 use Rattle.xls_range.specs.Lists.{used}
-use Rattle.xls_sample_stream.specs.Sample.{used_in}
+use Rattle.xls_command.specs.Sample.{used_in}
 use Rattle.xls_command.proofs.CountLemmas.{SoFar}
 use Rattle.xls_command.proofs.summary.measured.Given as goal
 

@@ -2,8 +2,8 @@ use Rattle.std.proofs.Common.{sym, ap, subst, ◌∙◌}
 use Rattle.xls_range.specs.Grid.{IsRange}
 use Rattle.xls_open.specs.Opening.{IsOpened, default_options}
 use Rattle.xls_open.specs.Workbook.{view_named}
-use Rattle.xls_sample_stream.proofs.BuildLemmas.{name_chars}
-use Rattle.xls_sample_stream.proofs.RangeLemmas.{sample_shows}
+use Rattle.xls_command.proofs.BuildLemmas.{name_chars}
+use Rattle.xls_command.proofs.RangeLemmas.{sample_shows}
 use Rattle.xls_command.proofs.summary.summary_of.Goals as goal
 
 -- the range is that of the sheet of the workbook that the stream opens to

@@ -1,7 +1,7 @@
 use Rattle.std.proofs.Common.{ap, map}
 use Rattle.xls_meaning.specs.SheetTable.{nonempty_formulas}
-use Rattle.xls_cursors.specs.Formulas.{text_entry}
-use Rattle.xls_cursors.specs.Walking.{NamedContext}
+use Rattle.xls_view.specs.Formulas.{text_entry}
+use Rattle.xls_view.specs.Walking.{NamedContext}
 use Rattle.xls_output.specs.Each.{text_output}
 use Rattle.xls_listing.specs.Listing.{IsDisplayedLine, formula_line}
 use Rattle.xls_output.proofs.EachLemmas.{puts-as, puts-memory}

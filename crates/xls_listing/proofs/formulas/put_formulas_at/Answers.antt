@@ -1,6 +1,6 @@
 use Rattle.std.proofs.Common.{ap, sym, ◌∙◌}
 use Rattle.std.specs.Option.{option_map}
-use Rattle.xls_cursors.specs.Displayed.{sheet_view_of}
+use Rattle.xls_view.specs.Displayed.{sheet_view_of}
 use Rattle.xls_output.specs.Each.{text_output}
 use Rattle.xls_listing.specs.Listing.{IsDisplayedLine, lines_of_formulas, displayed_at}
 use Rattle.xls_output.proofs.EachLemmas.{each-as, each-none, puts-as}

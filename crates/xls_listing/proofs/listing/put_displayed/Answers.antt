@@ -1,5 +1,5 @@
 use Rattle.std.proofs.Common.{◌++◌, append_assoc, ap, map}
-use Rattle.xls_cursors.specs.Displayed.{sheet_view_of}
+use Rattle.xls_view.specs.Displayed.{sheet_view_of}
 use Rattle.xls_output.specs.Each.{text_output}
 use Rattle.xls_listing.specs.Listing.{IsDisplayedLine, lines_of_cells, lines_of_formulas, lines_of_merges, merge_line}
 use Rattle.xls_output.proofs.EachLemmas.{each-stops-more, each-stops-then, each-then, puts-as, puts-each-stop, puts-then}

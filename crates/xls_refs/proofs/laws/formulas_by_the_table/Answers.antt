@@ -1,4 +1,4 @@
-use Rattle.xls_cursors.proofs.TableLemmas.{formulas_by_the_table}
+use Rattle.xls_view.proofs.TableLemmas.{formulas_by_the_table}
 use Rattle.xls_refs.proofs.laws.formulas_by_the_table.Goals as goal
 
 pub returns : goal.returns

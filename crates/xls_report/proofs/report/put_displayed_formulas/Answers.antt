@@ -1,6 +1,6 @@
 use Rattle.std.proofs.Common.{ap, map}
-use Rattle.xls_cursors.specs.Formulas.{text_entry}
-use Rattle.xls_cursors.specs.Walking.{NamedContext}
+use Rattle.xls_view.specs.Formulas.{text_entry}
+use Rattle.xls_view.specs.Walking.{NamedContext}
 use Rattle.xls_report.specs.Report.{formula_lines}
 use Rattle.xls_output.specs.Output.{output}
 use Rattle.xls_output.proofs.OutputLemmas.{puts-as, puts-memory}

@@ -1,5 +1,5 @@
 use Rattle.std.proofs.Common.{◌∙◌}
-use Rattle.xls_cursors.specs.Formulas.{text_entry}
+use Rattle.xls_view.specs.Formulas.{text_entry}
 use Rattle.xls_output.proofs.OutputLemmas.{gathers-as, puts-stop, some-all, some-first, some-next, some-stopped, stops-as}
 use Rattle.xls_report.proofs.TextLemmas.{formulas_each, token_lines}
 use Rattle.xls_report.proofs.report.put_formulas.Goals as goal

@@ -1,6 +1,6 @@
 use Rattle.std.proofs.Common.{ap, sym, ◌∙◌}
 use Rattle.std.specs.Option.{option_map}
-use Rattle.xls_cursors.specs.Displayed.{sheet_view_of}
+use Rattle.xls_view.specs.Displayed.{sheet_view_of}
 use Rattle.xls_report.specs.Report.{lines_at}
 use Rattle.xls_output.specs.Output.{output}
 use Rattle.xls_output.proofs.OutputLemmas.{gathers-as, gathers-nothing, puts-as}

@@ -1,4 +1,0 @@
-use Rattle.xls_cursors.proofs.formulas.FormulaWalk.again.Goals as goal
-
-pub returns : goal.returns
-returns c = rw c.again.ensures c.self.view_is

@@ -1,5 +1,0 @@
-use Rattle.std.proofs.Common.{refl}
-use Rattle.xls_cursors.proofs.merges.Merges.new.Goals as goal
-
-pub returns : goal.returns
-returns c = rw (c.new.ensures, c.none.ensures) refl

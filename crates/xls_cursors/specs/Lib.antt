@@ -1,9 +1,0 @@
-pub mod Formulas
-pub mod Displayed
-pub mod Walking
-pub mod Values
-pub mod Groups
-pub mod Contents
-pub mod Placed
-pub mod Placing
-pub mod Surveying

@@ -1,2 +1,0 @@
-pub mod RefusalLemmas
-pub mod StandardFacts

@@ -1,5 +1,0 @@
-use Rattle.xls_sample_stream.proofs.RangeLemmas as lemmas
-use Rattle.xls_sample_stream.proofs.laws.sample_range.Goals as goal
-
-pub returns : goal.returns
-returns c = lemmas.sample_range

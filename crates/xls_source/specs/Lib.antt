@@ -1,4 +1,0 @@
-pub mod SourceState
-pub mod Bounded
-pub mod Feed
-pub mod Laws

@@ -1,8 +1,0 @@
-//! Laws over counts of faults, each on a function with an empty body.
-
-ghost use Rattle.xls_source.specs.Laws.{SteadyCount};
-
-/// The count of a source that never fails doesn't rise, and doesn't stand saturated.
-pub fn steady_count()
-    ensures { SteadyCount }
-{}
