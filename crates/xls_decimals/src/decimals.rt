@@ -16,7 +16,7 @@ use xls_data::Number;
 
 const FRACTION: u64 = 1 << 52;
 
-const SIGN: u64 = 1 << 63;
+pub(crate) const SIGN: u64 = 1 << 63;
 
 const INFINITE: u64 = 2047;
 
@@ -63,7 +63,7 @@ fn finite_of(bits: u64) -> Option<f64>
 }
 
 // Appends a whole number.
-fn push_int(n: i64, buf: &mut String) -> Result<(), AllocError>
+pub(crate) fn push_int(n: i64, buf: &mut String) -> Result<(), AllocError>
     ensures ok { OnOk result (string_bytes buf.new ≡ string_bytes buf.old ++ signed_decimal n) }
     ensures err { OnErr result (string_bytes buf.new ≡ string_bytes buf.old) }
 {
@@ -72,7 +72,7 @@ fn push_int(n: i64, buf: &mut String) -> Result<(), AllocError>
 }
 
 // Appends so many hundredths.
-fn push_hundredths(n: i64, buf: &mut String) -> Result<(), AllocError>
+pub(crate) fn push_hundredths(n: i64, buf: &mut String) -> Result<(), AllocError>
     ensures ok { OnOk result (string_bytes buf.new ≡ string_bytes buf.old ++ hundredths_text n) }
     ensures err { OnErr result (string_bytes buf.new ≡ string_bytes buf.old) }
 {
@@ -80,7 +80,7 @@ fn push_hundredths(n: i64, buf: &mut String) -> Result<(), AllocError>
 }
 
 // Appends the bits of a double that is infinite or no number.
-fn push_bits(bits: u64, buf: &mut String) -> Result<(), AllocError>
+pub(crate) fn push_bits(bits: u64, buf: &mut String) -> Result<(), AllocError>
     ensures ok { OnOk result (string_bytes buf.new ≡ string_bytes buf.old ++ decimal_of_bits bits) }
     ensures err { OnErr result (string_bytes buf.new ≡ string_bytes buf.old) }
 {
@@ -88,7 +88,7 @@ fn push_bits(bits: u64, buf: &mut String) -> Result<(), AllocError>
 }
 
 // Appends the bits of such a double over 100.
-fn push_bits_over_100(bits: u64, buf: &mut String) -> Result<(), AllocError>
+pub(crate) fn push_bits_over_100(bits: u64, buf: &mut String) -> Result<(), AllocError>
     ensures ok { OnOk result (string_bytes buf.new
         ≡ string_bytes buf.old ++ (decimal_of_bits bits ++ codes "/100")) }
     ensures err { OnErr result (string_bytes buf.new ≡ string_bytes buf.old) }

@@ -8,6 +8,7 @@ mod formulas;
 mod fractions;
 mod laws;
 mod moments;
+mod numbers;
 mod short_texts;
 
 pub use decimals::{push_decimal, push_double};
@@ -15,3 +16,4 @@ pub use durations::push_duration;
 pub use formulas::push_formula;
 pub use laws::dates_differ;
 pub use moments::{push_date, push_date_or_duration};
+pub use numbers::push_number;
