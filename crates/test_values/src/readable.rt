@@ -8,9 +8,9 @@ use xls_data::{
 };
 use xls_readable::{
     CellLines, Delimiter, Field, Form, Member, Property, Value, end_row, push_cell, push_custom,
-    push_dates, push_error, push_field, push_formula_line, push_json_line, push_line, push_merge,
-    push_name, push_ok, push_property, push_ref, push_row, push_separator, push_sheet,
-    push_text_line,
+    push_dates, push_error, push_exact_line, push_field, push_formula_line, push_json_line,
+    push_line, push_merge, push_name, push_ok, push_property, push_ref, push_row, push_separator,
+    push_sheet, push_text_line,
 };
 
 // The lines of a workbook's parts.
@@ -67,7 +67,7 @@ fn push_others(form: Form, room: &mut String, text: &mut String) -> Result<(), A
     push_line(form, "rows", &[member], room, text)
 }
 
-static LINES: [(Form, &str); 2] = [
+static LINES: [(Form, &str); 3] = [
     (
         Form::Text,
         "dates\t1904\nname\tTotal\tA\\tB\nsheet\tData\tworksheet\tveryhidden\nformula\t2\t3\tA1*1.5\nmerge\t0\t1\t2\t3\nref\tData\t2\t3\tLog\t0\t0\t4\t0\ncell\t1\t0\tint\t-7\ncell\t1\t0\tfloat\t4.5\ncell\t1\t0\tfloat\t0x7ff0000000000000\ncell\t1\t0\ttext\té\"\\n\ncell\t1\t0\tbool\ttrue\ncell\t1\t0\tdate\t2020-01-01\ncell\t1\t0\tspan\t30:00:00\ncell\t1\t0\tdate\t2020-01-01\ncell\t1\t0\tspan\tP1D\ncell\t1\t0\terror\t#N/A\nlast_modified_by\tAnn\ncustom\tKey\tv\\\\w\nerror\tbad\nok\nrows\t12\n",
@@ -76,10 +76,14 @@ static LINES: [(Form, &str); 2] = [
         Form::Json,
         "{\"line\":\"dates\",\"year\":\"1904\"}\n{\"line\":\"name\",\"name\":\"Total\",\"text\":\"A\\tB\"}\n{\"line\":\"sheet\",\"name\":\"Data\",\"kind\":\"worksheet\",\"visibility\":\"veryhidden\"}\n{\"line\":\"formula\",\"row\":2,\"column\":3,\"text\":\"A1*1.5\"}\n{\"line\":\"merge\",\"first_row\":0,\"first_column\":1,\"last_row\":2,\"last_column\":3}\n{\"line\":\"ref\",\"sheet\":\"Data\",\"row\":2,\"column\":3,\"cited_sheet\":\"Log\",\"first_row\":0,\"first_column\":0,\"last_row\":4,\"last_column\":0}\n{\"line\":\"cell\",\"row\":1,\"column\":0,\"kind\":\"int\",\"value\":-7}\n{\"line\":\"cell\",\"row\":1,\"column\":0,\"kind\":\"float\",\"value\":4.5}\n{\"line\":\"cell\",\"row\":1,\"column\":0,\"kind\":\"float\",\"value\":\"0x7ff0000000000000\"}\n{\"line\":\"cell\",\"row\":1,\"column\":0,\"kind\":\"text\",\"value\":\"é\\\"\\n\"}\n{\"line\":\"cell\",\"row\":1,\"column\":0,\"kind\":\"bool\",\"value\":true}\n{\"line\":\"cell\",\"row\":1,\"column\":0,\"kind\":\"date\",\"value\":\"2020-01-01\"}\n{\"line\":\"cell\",\"row\":1,\"column\":0,\"kind\":\"span\",\"value\":\"30:00:00\"}\n{\"line\":\"cell\",\"row\":1,\"column\":0,\"kind\":\"date\",\"value\":\"2020-01-01\"}\n{\"line\":\"cell\",\"row\":1,\"column\":0,\"kind\":\"span\",\"value\":\"P1D\"}\n{\"line\":\"cell\",\"row\":1,\"column\":0,\"kind\":\"error\",\"value\":\"#N/A\"}\n{\"line\":\"last_modified_by\",\"text\":\"Ann\"}\n{\"line\":\"custom\",\"name\":\"Key\",\"value\":\"v\\\\w\"}\n{\"line\":\"error\",\"text\":\"bad\"}\n{\"line\":\"ok\"}\n{\"line\":\"rows\",\"n\":12}\n",
     ),
+    (
+        Form::Exact,
+        "dates\t1904\nname\tTotal\tA\\tB\nsheet\tData\tworksheet\tveryhidden\nformula\t2\t3\tA1*0x3ff8000000000000\nmerge\t0\t1\t2\t3\nref\tData\t2\t3\tLog\t0\t0\t4\t0\ncell\t1\t0\tint\t-7\ncell\t1\t0\tfloat\t4.5\ncell\t1\t0\tfloat\t0x7ff0000000000000\ncell\t1\t0\ttext\té\"\\n\ncell\t1\t0\tbool\ttrue\ncell\t1\t0\tdate\t43831\ncell\t1\t0\tspan\t1.25\ncell\t1\t0\tdate\t2020-01-01\ncell\t1\t0\tspan\tP1D\ncell\t1\t0\terror\t#N/A\nlast_modified_by\tAnn\ncustom\tKey\tv\\\\w\nerror\tbad\nok\nrows\t12\n",
+    ),
 ];
 
 #[test]
-fn writes_each_line_as_text_and_as_json(rt: HostRuntime) -> Result<(), Fail> {
+fn writes_each_line_in_each_form(rt: HostRuntime) -> Result<(), Fail> {
     let mut room = String::new(rt.alloc());
     let mut text = String::new(rt.alloc());
     let mut lines = CellLines::new(rt.alloc());
@@ -109,7 +113,8 @@ fn push_rows(room: &mut String, text: &mut String) -> Result<(), AllocError> {
     push_field(&Value::Text("b;c"), Delimiter::comma(), room, text)?;
     end_row(start, text)?;
     push_text_line("end", &[], room, text)?;
-    push_json_line("end", &[], room, text)
+    push_json_line("end", &[], room, text)?;
+    push_exact_line("end", &[], text)
 }
 
 #[test]
@@ -118,7 +123,7 @@ fn writes_rows_of_csv(rt: HostRuntime) -> Result<(), Fail> {
     let mut text = String::new(rt.alloc());
     push_rows(&mut room, &mut text)?;
     assert!(rt;
-        text.as_str() == "\"a,\"\"b\"\"\",4.5,FALSE,\n\"\"\n7,b;c\nend\n{\"line\":\"end\"}\n"
+        text.as_str() == "\"a,\"\"b\"\"\",4.5,FALSE,\n\"\"\n7,b;c\nend\n{\"line\":\"end\"}\nend\n"
     );
     if let Some(semicolon) = Delimiter::new(b';') {
         text.clear();

@@ -5,7 +5,7 @@ use Rattle.std.specs.Fmt.{decimal}
 use Rattle.std.proofs.lemmas.Fmt.{decimal_digit, decimal_step}
 use Rattle.xls_output.specs.Added.{AddsText}
 use Rattle.xls_readable.specs.Growth.{cell_head}
-use Rattle.xls_readable.specs.Items.{FieldItem, IsItemText, IsTextLine}
+use Rattle.xls_readable.specs.Items.{FieldItem, IsItemText, IsTextLine, exact_line, exact_text}
 use Rattle.xls_readable.specs.Lines.{cell_members}
 
 decimal_of_two : (n : ℕ) → 10 ≤ n → n < 100 → decimal n ≡ (48 + n / 10) ∷ (48 + n % 10) ∷ []
@@ -38,3 +38,10 @@ adds_cell_line row column kind item old begun valued new e (text, is, f) g =
       g ∙ ap (λ t. t ++ codes "\n") (f ∙ ap (λ t. t ++ text) e)
           ∙ pieces old (codes "cell") (codes "\t") (decimal row) (decimal column) kind text (codes "\n"),
     )
+
+pub exact_cell_line : (row column : ℕ) (kind : List ℕ) (item : FieldItem) (old begun valued new : List ℕ)
+    → begun ≡ old ++ cell_head (row, column) kind → valued ≡ begun ++ exact_text item → new ≡ valued ++ codes "\n"
+    → new ≡ old ++ exact_line (codes "cell") (cell_members row column kind item)
+exact_cell_line row column kind item old begun valued new e f g =
+    g ∙ ap (λ t. t ++ codes "\n") (f ∙ ap (λ t. t ++ exact_text item) e)
+    ∙ pieces old (codes "cell") (codes "\t") (decimal row) (decimal column) kind (exact_text item) (codes "\n")

@@ -1,6 +1,6 @@
 -- Values that RFC 4180, RFC 8259 and the manual of xls_dump give, so that a wrong rule in the specs
 -- does not check.
-use Rattle.std.proofs.Common.{◌≡◌, ℕ, ℤ, Bool, List, ◌∷◌, ◌++◌, [], map, true, false, refl}
+use Rattle.std.proofs.Common.{◌≡◌, ℕ, ℤ, pos, negsuc, Bool, List, ◌∷◌, ◌++◌, [], map, true, false, refl}
 use Rattle.std.specs.Prelude.{Some, None, codes}
 use Rattle.std.specs.Fmt.{digits}
 use Rattle.std.specs.Str.{chars}
@@ -8,17 +8,21 @@ use Rattle.json.specs.Print.{escape_byte, quoted}
 use Rattle.xls_dates.specs.Dates.{DateParts}
 use Rattle.xls_dates.specs.declared.dates.ExcelDateTimeType.TheVariants.{DateTime, TimeDelta}
 use Rattle.xls_data.specs.declared.errors.CellErrorType.{CellErrorType}
+use Rattle.xls_data.specs.declared.errors.CellErrorType.TheVariants.{NA}
+use Rattle.xls_bytes.specs.Doubles.{size_of_parts}
+use Rattle.xls_dates.specs.Numbers.{sixteen_digits}
 use Rattle.xls_dates.specs.declared.numbers.Number.{Number}
+use Rattle.xls_dates.specs.declared.numbers.Number.TheVariants.{Bits, Whole, Hundredths, BitsOver100}
 use Rattle.xls_data.specs.declared.regions.Dimensions.{Dimensions}
 use Rattle.xls_data.specs.declared.sheets.SheetType.TheVariants as types
 use Rattle.xls_data.specs.declared.sheets.SheetVisible.TheVariants as states
 use Rattle.xls_readable.specs.declared.values.Value.TheVariants as value
-use Rattle.xls_readable.specs.declared.forms.Form.TheVariants.{Text, Json}
+use Rattle.xls_readable.specs.declared.forms.Form.TheVariants.{Text, Json, Exact}
 use Rattle.xls_readable.specs.declared.properties.Property.TheVariants as property
 use Rattle.xls_output.specs.Each.{Concatenates}
 use Rattle.xls_readable.specs.Values.{truth_text}
 use Rattle.xls_readable.specs.Csv.{is_delimiter, is_marked, csv_field, csv_row}
-use Rattle.xls_readable.specs.Items.{FieldItem, NamedItem, IsItemText, IsTabbed, count, int, number, truth, moment, failure}
+use Rattle.xls_readable.specs.Items.{FieldItem, NamedItem, IsItemText, IsTabbed, exact_text, word, text, formula, count, int, number, truth, moment, failure}
 use Rattle.xls_readable.specs.Json.{IsItemJson, IsMember}
 use Rattle.xls_readable.specs.Lines.{
   IsLine,
@@ -181,6 +185,29 @@ known_ref_json =
     json_line (codes "ref") ref
     (codes "\"A\"" ∷ codes "3" ∷ codes "4" ∷ codes "\"B\\tC\"" ∷ codes "1" ∷ codes "2" ∷ codes "5" ∷ codes "6" ∷ [])
     (refl, (refl, (refl, (refl, (refl, (refl, (refl, (refl, tt))))))))
+
+-- each kind of field as xls_dump writes it: 1.5 and -0.05 by bits and hundredths, the bits also in a formula, 2.5 over
+-- 100; a day and a duration by their numbers
+pub known_exact : map exact_text (word (codes "a\t") ∷ text (0xC3 ∷ 0xA9 ∷ codes "a\t\n\r\\") ∷ formula (codes "A1+0x3ff8000000000000\t") ∷ count 7 ∷ int (negsuc 11)
+    ∷ number (Bits 0x3ff8_0000_0000_0000) ∷ number (Bits 0x4008_0000_0000_0000) ∷ number (Whole (pos 3)) ∷ number (Hundredths (negsuc 4))
+    ∷ number (BitsOver100 0x4004_0000_0000_0000) ∷ truth true ∷ truth false
+    ∷ moment (record { number = Whole (pos 43831); kind = DateTime; is_1904 = false })
+    ∷ moment (record { number = Bits 0x3fe0_0000_0000_0000; kind = TimeDelta; is_1904 = true }) ∷ failure NA ∷ [])
+    ≡ codes "a\t" ∷ (0xC3 ∷ 0xA9 ∷ codes "a\\t\\n\\r\\\\") ∷ codes "A1+0x3ff8000000000000\\t" ∷ codes "7" ∷ codes "-12"
+    ∷ codes "0x3ff8000000000000" ∷ codes "3" ∷ codes "3" ∷ codes "-0.05"
+    ∷ codes "0x4004000000000000/100" ∷ codes "true" ∷ codes "false"
+    ∷ codes "43831" ∷ codes "0x3fe0000000000000" ∷ codes "#N/A" ∷ []
+unfolding digits sixteen_digits size_of_parts chars lib.Utf8.encode
+known_exact = refl
+
+pub known_ref_exact : IsLine Exact (codes "ref") ref (codes "ref\tA\t3\t4\tB\\tC\t1\t2\t5\t6\n")
+unfolding digits chars lib.Utf8.encode
+known_ref_exact = refl
+
+pub known_cell_exact : IsLine Exact (codes "cell") (cell_members 4 1 (codes "float") (number (Bits 0x3ff8_0000_0000_0000)))
+    (codes "cell\t4\t1\tfloat\t0x3ff8000000000000\n")
+unfolding digits sixteen_digits size_of_parts
+known_cell_exact = refl
 
 pub known_ok : IsLine Text (codes "ok") [] (codes "ok\n") × IsLine Json (codes "ok") [] (codes "{\"line\":\"ok\"}\n")
 unfolding escape_byte

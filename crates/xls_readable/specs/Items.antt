@@ -1,12 +1,14 @@
--- The fields of a line as people read it, and lines of them as text and as JSON, in UTF-8.
+-- The fields of a line, and lines of them as text: exact, and as people read them. In UTF-8.
 use Rattle.std.specs.Prelude.{◌≡◌, ℕ, ℤ, Bool, List, ◌++◌, codes}
 use Rattle.std.specs.Fmt.{decimal, signed_decimal}
+use Rattle.std.specs.List.{flat_map}
 use Rattle.std.specs.Str.{chars}
 use Rattle.xls_bytes.specs.Escapes.{escaped_text}
 use Rattle.xls_data.specs.Data.{bool_text}
 use Rattle.xls_dates.specs.Dates.{DateParts}
 use Rattle.xls_data.specs.Errors.{error_text}
 use Rattle.xls_data.specs.declared.errors.CellErrorType.{CellErrorType}
+use Rattle.xls_dates.specs.Numbers.{number_text}
 use Rattle.xls_dates.specs.declared.numbers.Number.{Number}
 use Rattle.xls_decimals.specs.Decimals.{IsDecimal}
 use Rattle.xls_decimals.specs.Formulas.{IsFormula}
@@ -47,19 +49,38 @@ NamedItem = List ℕ × FieldItem
 abbrev pub named_of : Member → NamedItem
 named_of m = (m.name.now, item_of m.field)
 
--- ---- lines of text
+-- ---- exact lines
 
--- the text of a field: texts escaped, numbers in decimal, also those of formulas
+-- the exact text of a field: a number, also that of a date or a duration, as the workbook has it; texts
+-- escaped
+abbrev pub exact_text : FieldItem → List ℕ
+exact_text (word w) = w
+exact_text (text t) = escaped_text (chars t)
+exact_text (formula f) = escaped_text (chars f)
+exact_text (count n) = decimal n
+exact_text (int n) = signed_decimal n
+exact_text (number n) = number_text n
+exact_text (truth b) = bool_text b
+exact_text (moment d) = number_text d.number
+exact_text (failure e) = error_text e
+
+-- the same after a tab
+abbrev pub exact_tabbed : NamedItem → List ℕ
+exact_tabbed m = codes "\t" ++ exact_text m.1
+
+-- a word and the fields after it, each after a tab, and a newline
+abbrev pub exact_line : List ℕ → List NamedItem → List ℕ
+exact_line kind members = kind ++ (flat_map exact_tabbed members ++ codes "\n")
+
+-- ---- lines as people read them
+
+-- the text of a field: numbers in decimal, also those of formulas, dates and durations as xls_decimals has
+-- them, every other one as it is exactly
 abbrev pub IsItemText : FieldItem → List ℕ → Type 0
-IsItemText (word w) out = out ≡ w
-IsItemText (text t) out = out ≡ escaped_text (chars t)
 IsItemText (formula f) out = (plain : List ℕ) × IsFormula f plain × (out ≡ escaped_text (chars plain))
-IsItemText (count n) out = out ≡ decimal n
-IsItemText (int n) out = out ≡ signed_decimal n
 IsItemText (number n) out = IsDecimal n out
-IsItemText (truth b) out = out ≡ bool_text b
 IsItemText (moment d) out = IsDateOrDuration d out
-IsItemText (failure e) out = out ≡ error_text e
+IsItemText other out = out ≡ exact_text other
 
 -- the same after a tab
 abbrev pub IsTabbed : NamedItem → List ℕ → Type 0

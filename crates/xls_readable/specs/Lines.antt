@@ -11,15 +11,16 @@ use Rattle.xls_readable.specs.declared.values.Value.{Value}
 use Rattle.xls_readable.specs.declared.values.Value.TheVariants as value
 use Rattle.xls_readable.specs.Json.{IsJsonLine}
 use Rattle.xls_readable.specs.declared.forms.Form.{Form}
-use Rattle.xls_readable.specs.declared.forms.Form.TheVariants.{Text, Json}
+use Rattle.xls_readable.specs.declared.forms.Form.TheVariants.{Text, Json, Exact}
 use Rattle.xls_readable.specs.declared.properties.Property.{Property}
 use Rattle.xls_readable.specs.declared.properties.Property.TheVariants as property
-pub use Rattle.xls_readable.specs.Items.{FieldItem, NamedItem, IsTextLine, item_of, word, text, formula, count, int, number, truth, moment, failure}
+pub use Rattle.xls_readable.specs.Items.{FieldItem, NamedItem, IsTextLine, exact_line, item_of, word, text, formula, count, int, number, truth, moment, failure}
 
--- a line of a word and fields, as text or as JSON
+-- a line of a word and fields, as text, as JSON, or exact
 abbrev pub IsLine : Form → List ℕ → List NamedItem → List ℕ → Type 0
 IsLine Text kind members out = IsTextLine kind members out
 IsLine Json kind members out = IsJsonLine kind members out
+IsLine Exact kind members out = out ≡ exact_line kind members
 
 abbrev pub year_text : Bool → List ℕ
 year_text true = codes "1904"

@@ -5,9 +5,10 @@ ghost use Rattle.std.specs.Fmt.{decimal};
 ghost use Rattle.std.specs.String.{string_bytes};
 ghost use Rattle.xls_output.specs.Added.{AddsText};
 ghost use Rattle.xls_readable.specs.Growth.{GrowsText, cell_head, row_head};
-ghost use Rattle.xls_readable.specs.Items.{IsTextLine, item_of};
+ghost use Rattle.xls_readable.specs.Items.{IsTextLine, exact_line, item_of};
 ghost use Rattle.xls_readable.specs.Lines.{IsCellLine, cell_members, kind_and_item};
 
+use crate::exact_lines::push_exact_item;
 use crate::forms::{Form, push_line};
 use crate::items::{Field, Member, push_count, push_item};
 use crate::values::Value;
@@ -138,6 +139,45 @@ impl CellLines {
         Ok(())
     }
 
+    // Appends the exact line of a cell. An error may leave a part of it.
+    #[inline(always)]
+    fn append_exact(
+        &mut self,
+        position: (u32, u32),
+        kind: &str,
+        field: &Field<'_>,
+        buf: &mut String,
+    ) -> Result<(), AllocError>
+        ensures ok { OnOk result (string_bytes buf.new
+            ≡ string_bytes buf.old ++ exact_line (codes "cell") (cell_members position.0 position.1 kind.now (item_of field.now))) }
+        ensures grown { GrowsText (string_bytes buf.old) (string_bytes buf.new) }
+    {
+        self.append_head(position, kind, buf)?;
+        push_exact_item(field, buf)?;
+        buf.push('\n')?;
+        Ok(())
+    }
+
+    // Appends the exact line of a cell.
+    fn push_exact(
+        &mut self,
+        position: (u32, u32),
+        kind: &str,
+        field: &Field<'_>,
+        buf: &mut String,
+    ) -> Result<(), AllocError>
+        ensures ok { OnOk result (string_bytes buf.new
+            ≡ string_bytes buf.old ++ exact_line (codes "cell") (cell_members position.0 position.1 kind.now (item_of field.now))) }
+        ensures err { OnErr result (string_bytes buf.new ≡ string_bytes buf.old) }
+    {
+        let before = buf.len();
+        let done = self.append_exact(position, kind, field, buf);
+        if done.is_err() {
+            buf.truncate(before);
+        }
+        done
+    }
+
     // Appends the line of a cell as text.
     fn push_text(
         &mut self,
@@ -198,6 +238,7 @@ pub fn push_cell(
     };
     match form {
         Form::Text => return lines.push_text(position, kind, &field, buf),
+        Form::Exact => return lines.push_exact(position, kind, &field, buf),
         Form::Json => {}
     }
     let (row, column) = position;

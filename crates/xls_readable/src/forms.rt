@@ -6,6 +6,7 @@ ghost use Rattle.xls_output.specs.Added.{AddsText};
 ghost use Rattle.xls_readable.specs.Items.{named_of};
 ghost use Rattle.xls_readable.specs.Lines.{IsLine};
 
+use crate::exact_lines::push_exact_line;
 use crate::items::{Member, push_text_line};
 use crate::json_lines::push_json_line;
 use std::alloc::AllocError;
@@ -17,6 +18,8 @@ pub enum Form {
     Text,
     /// A JSON object on a line.
     Json,
+    /// A word and fields, each after a tab, with numbers as the workbook has them.
+    Exact,
 }
 
 /// Appends a line of a word and of fields in a form. What has to be printed first is printed into `room`,
@@ -35,5 +38,6 @@ pub fn push_line(
     match form {
         Form::Text => push_text_line(word, members, room, buf),
         Form::Json => push_json_line(word, members, room, buf),
+        Form::Exact => push_exact_line(word, members, buf),
     }
 }

@@ -8,7 +8,7 @@ ghost use Rattle.xls_readable.specs.Growth.{GrowsText};
 ghost use Rattle.xls_output.specs.Each.{Concatenates};
 ghost use Rattle.xls_readable.specs.Items.{IsItemText, IsTabbed, IsTextLine, formula, item_of, named_of};
 
-use crate::values::{failure_text, push_int};
+use crate::exact_lines::push_exact_item;
 use std::alloc::AllocError;
 use xls_bytes::push_escaped;
 use xls_data::{CellErrorType, ExcelDateTime, Number};
@@ -75,16 +75,10 @@ pub(crate) fn push_item(
     ensures err { OnErr result (string_bytes buf.new ≡ string_bytes buf.old) }
 {
     match field {
-        Field::Word(word) => buf.push_str(word),
-        Field::Text(text) => push_escaped(text, buf),
         Field::Formula(text) => push_formula_text(text, room, buf),
-        Field::Count(n) => push_count(*n, buf),
-        Field::Int(n) => push_int(*n, buf),
         Field::Number(n) => push_decimal(*n, buf),
-        Field::Truth(true) => buf.push_str("true"),
-        Field::Truth(false) => buf.push_str("false"),
         Field::Moment(moment) => push_date_or_duration(*moment, buf),
-        Field::Failure(failure) => buf.push_str(failure_text(*failure)),
+        other => push_exact_item(other, buf),
     }
 }
 

@@ -1,9 +1,10 @@
-//! The values and lines of a workbook as people read them: fields of CSV, lines of fields, and JSON, appended
-//! to a text that is used again.
+//! The values and lines of a workbook as people read them: fields of CSV, lines of fields, and JSON; and exact
+//! lines. They are appended to a text that is used again.
 #![tactic(auto)]
 
 mod cell_lines;
 mod delimited;
+mod exact_lines;
 mod forms;
 mod items;
 mod json_lines;
@@ -18,6 +19,7 @@ pub use delimited::{
     Delimiter, end_row, push_failure_field, push_field, push_int_field, push_moment_field,
     push_number_field, push_separator, push_text_field, push_truth_field,
 };
+pub use exact_lines::push_exact_line;
 pub use forms::{Form, push_line};
 pub use items::{Field, Member, push_text_line};
 pub use json_lines::push_json_line;

@@ -144,7 +144,7 @@ fn counts_text(alloc: Global, counts: &Counts) -> Result<String, AllocError> {
 fn counts_line(alloc: Global, form: Form, counts: &Counts) -> Result<String, AllocError> {
     match form {
         Form::Json => counts_json(alloc, counts),
-        Form::Text => counts_text(alloc, counts),
+        Form::Text | Form::Exact => counts_text(alloc, counts),
     }
 }
 
