@@ -4,3 +4,4 @@ pub mod ProjectLemmas
 pub mod FoundLemmas
 pub mod DirectoryLemmas
 pub mod StandardFacts
+pub mod PropertyFacts

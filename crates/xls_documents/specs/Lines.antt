@@ -1,9 +1,10 @@
 -- Lines of a word and fields, and what becomes of them.
 use Rattle.std.specs.Prelude.{ℕ, List, Result}
+use Rattle.std.specs.List.{flat_map}
 use Rattle.xls_output.specs.Output.{Output}
 use Rattle.xls_output.specs.declared.stop.Stop.{Stop}
 use Rattle.xls_readable.specs.Items.{NamedItem}
-use Rattle.xls_readable.specs.Lines.{IsLine}
+use Rattle.xls_readable.specs.Lines.{IsLine, exact_line}
 use Rattle.xls_readable.specs.declared.forms.Form.{Form}
 use Rattle.xls_output.specs.Each.{PutsEach}
 
@@ -14,6 +15,10 @@ Line = List ℕ × List NamedItem
 -- the text of a line in a form
 abbrev pub IsLineText : Form → Line → List ℕ → Type 0
 IsLineText form line out = IsLine form line.0 line.1 out
+
+-- exact lines, one after another
+abbrev pub exact_lines : List Line → List ℕ
+exact_lines ls = flat_map (λ l. exact_line l.0 l.1) ls
 
 -- ---- for the contracts of one step
 
