@@ -4,3 +4,4 @@ pub mod RefLemmas
 pub mod CellLemmas
 pub mod SheetLemmas
 pub mod StandardFacts
+pub mod ExactFacts

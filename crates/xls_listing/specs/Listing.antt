@@ -1,4 +1,4 @@
--- The lines of what a workbook shows, as people read them. Texts stand in UTF-8.
+-- The lines of what a workbook shows. Texts stand in UTF-8.
 use Rattle.std.specs.Prelude.{ℕ, Bool, List, [], ◌∷◌, ◌++◌, map, codes, Option, Some, None, Result, slice_get, unwrap_or, encode_utf8_all}
 use Rattle.std.specs.List.{flat_map}
 use Rattle.xls_data.specs.Content.{Content, int, float, text, truth, date, iso_date, iso_duration, failure, nothing}
@@ -13,7 +13,7 @@ use Rattle.xls_output.specs.Output.{Output}
 use Rattle.xls_output.specs.declared.stop.Stop.{Stop}
 use Rattle.xls_readable.specs.Items as item
 use Rattle.xls_readable.specs.Items.{NamedItem}
-use Rattle.xls_readable.specs.Lines.{IsLine, dates_members, name_members, sheet_members, cell_members, moment_kind, formula_members, merge_members, ref_members}
+use Rattle.xls_readable.specs.Lines.{IsLine, exact_line, dates_members, name_members, sheet_members, cell_members, moment_kind, formula_members, merge_members, ref_members}
 use Rattle.xls_readable.specs.declared.forms.Form.{Form}
 use Rattle.xls_output.specs.Each.{PutsEach}
 
@@ -25,6 +25,10 @@ pub record Line : Type 0 where
 -- its text in a form
 abbrev pub IsDisplayedLine : Form → Line → List ℕ → Type 0
 IsDisplayedLine form l out = IsLine form l.word l.members out
+
+-- exact lines, one after another
+abbrev pub exact_lines : List Line → List ℕ
+exact_lines ls = flat_map (λ l. exact_line l.word l.members) ls
 
 -- ---- one line
 

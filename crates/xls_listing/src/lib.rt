@@ -1,8 +1,9 @@
-//! What a workbook holds, line by line as people read it, written to a sink as text or as JSON.
+//! What a workbook holds, line by line, written to a sink as people read it, as JSON, or exact.
 #![tactic(auto)]
 
 mod cells;
 mod formulas;
+mod laws;
 mod listing;
 mod merges;
 mod refs;
@@ -10,6 +11,7 @@ mod sheets;
 mod values;
 
 pub use formulas::write_formula_list;
+pub use laws::exact_is_given;
 pub use listing::write_listing;
 pub use refs::write_ref_list;
 pub use sheets::write_sheet_list;
