@@ -1,6 +1,6 @@
 -- A law over exact lines.
 use Rattle.std.specs.Prelude.{◌≡◌, ◌↔◌, ℕ, List}
-use Rattle.xls_readable.specs.Values.{Concatenates}
+use Rattle.xls_output.specs.Each.{Concatenates}
 use Rattle.xls_readable.specs.declared.forms.Form.TheVariants.{Exact}
 use Rattle.xls_listing.specs.Listing.{Line, IsDisplayedLine, exact_lines}
 

@@ -9,3 +9,4 @@ pub mod QuotientLemmas
 pub mod NumberLemmas
 pub mod QuoteLemmas
 pub mod StandardFacts
+pub mod ExactLemmas

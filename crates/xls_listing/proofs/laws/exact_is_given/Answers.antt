@@ -1,7 +1,7 @@
 use Rattle.std.proofs.Common.{◌≡◌, ℕ, List, [], ◌∷◌, refl}
-use Rattle.xls_pieces.proofs.ExactLemmas.{exact-all}
+use Rattle.xls_readable.proofs.ExactLemmas.{exact-all}
 use Rattle.xls_readable.specs.Lines.{exact_line}
-use Rattle.xls_readable.specs.Values.{Concatenates}
+use Rattle.xls_output.specs.Each.{Concatenates}
 use Rattle.xls_readable.specs.declared.forms.Form.TheVariants.{Exact}
 use Rattle.xls_listing.specs.Listing.{Line, IsDisplayedLine, exact_lines}
 use Rattle.xls_listing.proofs.laws.exact_is_given.Goals as goal
