@@ -118,7 +118,11 @@ impl MemoryHost {
 }
 
 impl Host for MemoryHost {
+    ghost use Rattle.std.specs.Prelude.{[]};
+
     ghost reads = { λ _ _ _. Unit {0} };
+
+    ghost files = { λ _. record { created = []; ended = [] } };
 
     type File = MemoryFile;
 

@@ -82,8 +82,13 @@ fn input(rt: &HostRuntime) -> io::Result<Vec<u8>> {
 }
 
 impl<'r> Host for StdHost<'r> {
+    ghost use Rattle.std.specs.Prelude.{[]};
+
     // A file of the system may change at any time, so nothing is told.
     ghost reads = { λ _ _ _. Unit {0} };
+
+    // Nor is it told which files were made.
+    ghost files = { λ _. record { created = []; ended = [] } };
 
     type File = OutFile<'r>;
 

@@ -1,2 +1,3 @@
+pub mod FileLemmas
 mod PathLemmas
 pub mod StandardFacts

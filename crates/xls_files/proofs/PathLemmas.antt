@@ -1,13 +1,14 @@
 -- The folder for a file's texts lies inside the folder for all.
-use Rattle.std.proofs.Common.{◌≡◌, ◌≢◌, ℕ, ◌≤◌, Bool, true, false, List, [], ◌∷◌, ◌++◌, length, take, map, Bor, codes, refl, ap, arith, rules}
-use Rattle.std.specs.Prelude.{◌==◌, ◌||◌, if◌then◌else◌, All, Option, None, Some, IfSome}
+use Rattle.std.proofs.Common.{◌≡◌, ◌≢◌, ℕ, suc, ◌+◌, ◌≤◌, Bool, true, false, List, [], ◌∷◌, ◌++◌, length, take, map, Bor, codes, append_assoc, append-nil, length-append, refl, sym, ap, subst, arith, rules}
+use Rattle.std.specs.Prelude.{◌==◌, ◌||◌, if◌then◌else◌, All, Option, None, Some, IfOk, IfSome, Result, Ok, Err}
 use Rattle.std.specs.List.{AllByRecursion, flat_map, onto_first}
 use Rattle.std.specs.Str.{bytes_eq}
 use Rattle.std.proofs.lemmas.List.{take_all}
-use Rattle.std.proofs.lemmas.List.Elements.{All-nil, All-cons}
+use Rattle.std.proofs.lemmas.Grind.{flat_map-append}
+use Rattle.std.proofs.lemmas.List.Elements.{All-append, All-nil, All-cons}
 use Rattle.std.proofs.lemmas.List.Folds.{flat_map-map}
 use Rattle.std.proofs.lemmas.Slice.Eq.{bytes_eq-Decides}
-use Rattle.xls_files.specs.Paths.{IsInside, LeadsDown, below, file_called, folder_path, kept_name, names_in}
+use Rattle.xls_files.specs.Paths.{HasNoSlash, IsInside, LeadsDown, below, file_called, file_path, folder_path, kept_name, names_in}
 
 -- what the loop appended
 pub folder_whole : (out file path : List ℕ) (names : List (Bor (List ℕ))) (index : ℕ)
@@ -15,10 +16,6 @@ pub folder_whole : (out file path : List ℕ) (names : List (Bor (List ℕ))) (i
     → path ≡ out ++ flat_map (λ n. below (kept_name n.now)) (take index names) → path ≡ folder_path out file
 folder_whole out file path names index e l h =
     rw (h, take_all index names l, ← flat_map-map (λ name. below (kept_name name)) (λ (n : Bor (List ℕ)). n.now) names, e) refl
-
--- no name of a path holds a slash
-abbrev HasNoSlash : List ℕ → Type 0
-HasNoSlash name = All (λ b. b ≢ 47) name
 
 onto : (b : ℕ) (parts : List (List ℕ)) → b ≢ 47 → AllByRecursion HasNoSlash parts → AllByRecursion HasNoSlash (onto_first b parts)
 onto b [] other all = (All-cons (λ c. c ≢ 47) b [] other (All-nil (λ c. c ≢ 47)), tt)
@@ -60,3 +57,30 @@ pub folder_inside : (out file : List ℕ) → IsInside out (folder_path out file
 folder_inside out file =
     let kept = kept_names (names_in (file_called file)) (names_without_slash (file_called file)) in
     (kept.0, kept.1, ap (λ t. out ++ t) kept.2)
+
+-- ---- a file in a folder
+
+-- a name with an ending of two letters or more leads down
+leads_down : (name ending : List ℕ) → HasNoSlash name → HasNoSlash ending → 2 ≤ length ending → LeadsDown (name ++ 46 ∷ ending)
+leads_down name ending free free' long =
+    let whole : length (name ++ 46 ∷ ending) ≡ length name + suc (length ending) = length-append name (46 ∷ ending) in (
+      λ e. let none : length (name ++ 46 ∷ ending) ≡ 0 = ap length e in omega (arith, whole, none, long),
+      λ e. let one : length (name ++ 46 ∷ ending) ≡ 1 = ap length e in omega (arith, whole, one, long),
+      λ e. let two : length (name ++ 46 ∷ ending) ≡ 2 = ap length e in omega (arith, whole, two, long),
+      All-append (λ b. b ≢ 47) name (46 ∷ ending) free (All-cons (λ b. b ≢ 47) 46 ending (search rules) free'),
+    )
+
+-- it lies where the folder does
+pub file_inside : (out folder name ending : List ℕ) → IsInside out folder → HasNoSlash name → HasNoSlash ending → 2 ≤ length ending
+    → IsInside out (file_path folder name ending)
+file_inside out folder name ending (names, down, is) free free' long =
+    let last = name ++ 46 ∷ ending in
+    let path : file_path folder name ending ≡ out ++ flat_map (λ n. 47 ∷ n) (names ++ last ∷ []) =
+    rw (is, flat_map-append (λ n. 47 ∷ n) names (last ∷ [])) (simp (append_assoc, append-nil) refl) in
+    (names ++ last ∷ [], All-append LeadsDown names (last ∷ []) down (All-cons LeadsDown last [] (leads_down name ending free free' long) (All-nil LeadsDown)), path)
+
+-- a path lies where its bytes do
+pub lies_inside : {S E : Type 0} (bytes : S → List ℕ) (out path : List ℕ) (r : Result S E)
+    → IfOk r (λ s. bytes s ≡ path) → IsInside out path → IfOk r (λ s. IsInside out (bytes s))
+lies_inside bytes out path (Ok s) is lies = subst (IsInside out) (sym is) lies
+lies_inside bytes out path (Err e) is lies = tt

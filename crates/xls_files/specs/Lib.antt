@@ -1,3 +1,4 @@
+pub mod Files
 pub mod Paths
 pub mod Reasons
 pub mod Reads

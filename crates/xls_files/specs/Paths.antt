@@ -29,9 +29,13 @@ file_called file = if bytes_eq file (codes "-") then codes "stdin" else file
 abbrev pub folder_path : List ℕ → List ℕ → List ℕ
 folder_path out file = out ++ flat_map (λ name. below (kept_name name)) (names_in (file_called file))
 
+-- no byte of a name is a slash
+abbrev pub HasNoSlash : List ℕ → Type 0
+HasNoSlash name = All (λ b. b ≢ 0x2F) name
+
 -- a name that leads neither out of a folder nor to the folder itself
 abbrev pub LeadsDown : List ℕ → Type 0
-LeadsDown name = (name ≢ []) × (name ≢ codes ".") × (name ≢ codes "..") × All (λ b. b ≢ 0x2F) name
+LeadsDown name = (name ≢ []) × (name ≢ codes ".") × (name ≢ codes "..") × HasNoSlash name
 
 -- a path that such names lead to
 abbrev pub IsInside : List ℕ → List ℕ → Type 0

@@ -1,6 +1,7 @@
 //! What the program reads and writes by.
 
 ghost use Rattle.std.specs.Prelude.{◌≡◌, ◌≢◌, ℕ, List, Option, Some, None, IfOk, IfErr, codes};
+ghost use Rattle.xls_files.specs.Files.{Creates, EndsFile, HostFiles, IsEmpty};
 ghost use Rattle.xls_files.specs.Reads.{Stays};
 ghost use Rattle.xls_files.specs.declared.host.Place.TheVariants.{File};
 ghost use Rattle.xls_files.specs.declared.host.Reason.TheVariants.{Memory};
@@ -73,6 +74,9 @@ pub trait Host {
     /// standard input.
     ghost reads: { Self → List ℕ → Option (List ℕ) → Type 0 };
 
+    /// The files that it was told to make: a host tells of some, or of none.
+    ghost files: { Self → HostFiles Self.File };
+
     /// A file that is written. Its first write makes it.
     type File: Sink + Drop;
 
@@ -80,40 +84,50 @@ pub trait Host {
     fn place(&mut self, path: &str) -> Result<Place, Reason>
         ensures place { IfOk result (λ place. place ≢ File → reads self.new path.now None) }
         ensures reason { IfErr result (λ reason. reason ≢ Memory → reads self.new path.now None) }
-        ensures stays { Stays (reads self.old) (reads self.new) };
+        ensures stays { Stays (reads self.old) (reads self.new) }
+        ensures files { files self.new ≡ files self.old };
 
     /// The folders and regular files in a folder, in any order.
-    fn list(&mut self, folder: &str) -> Result<Vec<Listed>, Reason>;
+    fn list(&mut self, folder: &str) -> Result<Vec<Listed>, Reason>
+        ensures { files self.new ≡ files self.old };
 
     /// The bytes of a file.
     fn read(&mut self, path: &str) -> Result<Vec<u8>, Reason>
         ensures bytes { IfOk result (λ bytes. reads self.old path.now (Some bytes.items)) }
-        ensures reason { IfErr result (λ reason. reason ≢ Memory → reads self.old path.now None) };
+        ensures reason { IfErr result (λ reason. reason ≢ Memory → reads self.old path.now None) }
+        ensures files { files self.new ≡ files self.old };
 
     /// The bytes of standard input.
     fn read_input(&mut self) -> Result<Vec<u8>, Reason>
         ensures bytes { IfOk result (λ bytes. reads self.old (codes "-") (Some bytes.items)) }
-        ensures reason { IfErr result (λ reason. reason ≢ Memory → reads self.old (codes "-") None) };
+        ensures reason { IfErr result (λ reason. reason ≢ Memory → reads self.old (codes "-") None) }
+        ensures files { files self.new ≡ files self.old };
 
     /// The next name of a list, which stands in a file, or on standard input where that is `-`. None at its end.
-    fn next_name(&mut self, list: &str, by_nul: bool) -> Result<Option<Name>, Reason>;
+    fn next_name(&mut self, list: &str, by_nul: bool) -> Result<Option<Name>, Reason>
+        ensures { files self.new ≡ files self.old };
 
     /// A file to be written, in folders that are made with it. One that exists is written over only where that is
     /// said.
-    fn create(&mut self, path: &str, writes_over: bool) -> Result<Self::File, Reason>;
+    fn create(&mut self, path: &str, writes_over: bool) -> Result<Self::File, Reason>
+        ensures empty { IfOk result (λ file. IsEmpty (Self.File.state file)) }
+        ensures files { Creates path.now writes_over (files self.old) (files self.new) };
 
     /// Ends a file: it is made where nothing was written, and all of it is written; or why not.
-    fn close(&mut self, file: Self::File) -> Result<(), Reason>;
+    fn close(&mut self, file: Self::File) -> Result<(), Reason>
+        ensures { EndsFile file (files self.old) (files self.new) result };
 
     /// Tells a line on standard error.
-    fn say(&mut self, line: &str);
+    fn say(&mut self, line: &str)
+        ensures { files self.new ≡ files self.old };
 
     /// Whether standard error is a terminal.
     fn shows(&self) -> bool;
 
     /// Shows how far the work is, in place of what was shown before. Only a terminal is shown it; what is told takes
     /// its place, and before a line of standard output nothing is shown.
-    fn show(&mut self, progress: &str);
+    fn show(&mut self, progress: &str)
+        ensures { files self.new ≡ files self.old };
 }
 
 /// What stands at a path; `-` is standard input, which is read as a file.
@@ -121,6 +135,7 @@ pub fn place_of<H: Host>(host: &mut H, path: &str) -> Result<Place, Reason>
     ensures place { IfOk result (λ place. place ≢ File → H.reads host.new path.now None) }
     ensures reason { IfErr result (λ reason. reason ≢ Memory → H.reads host.new path.now None) }
     ensures stays { Stays (H.reads host.old) (H.reads host.new) }
+    ensures files { H.files host.new ≡ H.files host.old }
 {
     if path == "-" {
         return Ok(Place::File);

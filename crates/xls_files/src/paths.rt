@@ -1,9 +1,9 @@
 //! Where the texts of files are written.
 
-ghost use Rattle.std.specs.Prelude.{◌≡◌, ◌++◌, ◌↔◌, map, IsTrue, IfOk, OnOk};
+ghost use Rattle.std.specs.Prelude.{◌≡◌, ◌≤◌, ◌++◌, ◌↔◌, ℕ, List, length, map, IsTrue, IfOk, OnOk};
 ghost use Rattle.std.specs.Option.{option_map};
 ghost use Rattle.std.specs.String.{string_bytes};
-ghost use Rattle.xls_files.specs.Paths.{IsInside, IsWorkbookName, below, file_called, file_path, folder_path, joined, kept_name, names_in};
+ghost use Rattle.xls_files.specs.Paths.{HasNoSlash, IsInside, IsWorkbookName, below, file_called, file_path, folder_path, joined, kept_name, names_in};
 
 use std::alloc::{AllocError, Global};
 
@@ -59,13 +59,8 @@ pub fn folder_of(alloc: Global, out: &str, file: &str) -> Result<String, AllocEr
     Ok(path)
 }
 
-/// The path of a file in a folder, by its name and its ending.
-pub fn file_path(
-    alloc: Global,
-    folder: &str,
-    name: &str,
-    ending: &str,
-) -> Result<String, AllocError>
+/// A folder, a slash, a name, a dot and an ending.
+fn path_in(alloc: Global, folder: &str, name: &str, ending: &str) -> Result<String, AllocError>
     ensures { IfOk result (λ s. string_bytes s ≡ file_path folder.now name.now ending.now) }
 {
     let mut path = String::from_str(alloc, folder)?;
@@ -74,6 +69,22 @@ pub fn file_path(
     path.push('.')?;
     path.push_str(ending)?;
     Ok(path)
+}
+
+/// The path of a file in a folder, by its name and its ending.
+pub fn file_path(
+    alloc: Global,
+    folder: &str,
+    name: &str,
+    ending: &str,
+) -> Result<String, AllocError>
+    ensures path { IfOk result (λ s. string_bytes s ≡ file_path folder.now name.now ending.now) }
+
+    // It lies where the folder does. An ending of two letters or more makes no `.` and no `..` of a name.
+    ensures inside { (out : List ℕ) → IsInside out folder.now → HasNoSlash name.now → HasNoSlash ending.now
+        → 2 ≤ length ending.now → IfOk result (λ s. IsInside out (string_bytes s)) }
+{
+    path_in(alloc, folder, name, ending)
 }
 
 /// The path of something in a folder. No slash follows one that ends the folder's path.

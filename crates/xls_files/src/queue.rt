@@ -1,5 +1,7 @@
 //! Files and folders that are still to be answered.
 
+ghost use Rattle.std.specs.Prelude.{◌≡◌};
+
 use crate::host::{Host, Listed, Place, Reason, place_of};
 use crate::paths::{is_workbook, joined};
 use std::alloc::{AllocError, Global};
@@ -80,7 +82,9 @@ impl Queue {
         &mut self,
         host: &mut H,
         folder: String,
-    ) -> Result<Option<Next>, AllocError> {
+    ) -> Result<Option<Next>, AllocError>
+        ensures { H.files host.new ≡ H.files host.old }
+    {
         match host.list(folder.as_str()) {
             Ok(listed) => {
                 self.put_all(folder.as_str(), listed)?;
@@ -95,7 +99,9 @@ impl Queue {
         &mut self,
         host: &mut H,
         path: String,
-    ) -> Result<Option<Next>, AllocError> {
+    ) -> Result<Option<Next>, AllocError>
+        ensures { H.files host.new ≡ H.files host.old }
+    {
         match place_of(host, path.as_str()) {
             Ok(Place::File) => Ok(Some(Next::File(path))),
             Ok(Place::Folder) => self.take_folder(host, path),
@@ -105,7 +111,9 @@ impl Queue {
     }
 
     /// Takes an item: it comes next, or what stands in it does.
-    fn take<H: Host>(&mut self, host: &mut H, item: Item) -> Result<Option<Next>, AllocError> {
+    fn take<H: Host>(&mut self, host: &mut H, item: Item) -> Result<Option<Next>, AllocError>
+        ensures { H.files host.new ≡ H.files host.old }
+    {
         match item {
             Item::Unseen(path) => self.take_named(host, path),
             Item::File(path) => Ok(Some(Next::File(path))),
@@ -115,8 +123,10 @@ impl Queue {
     }
 
     /// The next file, or what can't be read.
-    pub fn next<H: Host>(&mut self, host: &mut H) -> Result<Option<Next>, AllocError> {
-        for _ in 0..u64::MAX {
+    pub fn next<H: Host>(&mut self, host: &mut H) -> Result<Option<Next>, AllocError>
+        ensures { H.files host.new ≡ H.files host.old }
+    {
+        'items: for _ in 0..u64::MAX {
             let Some(item) = self.left.pop() else {
                 return Ok(None);
             };
