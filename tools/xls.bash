@@ -3,8 +3,8 @@
 _xls_options() {
     local many='--files-from --null --out --force --help'
     case $1 in
-        dump | sheets | formulas | refs) echo "$many --json --exact --codepage" ;;
-        check) echo "$many --json --codepage" ;;
+        dump | sheets | refs) echo "$many --json --exact --codepage" ;;
+        check | formulas) echo "$many --json --codepage" ;;
         csv) echo "$many --sheet --number --all --delimiter --bom --exact --codepage" ;;
         props | vba) echo "$many" ;;
         remake | stream | streams) echo '--help' ;;
