@@ -2,8 +2,8 @@
 
 use std::alloc::{AllocError, Global};
 use std::test::Fail;
-use xls_vba::*;
 use xls_text::XlsEncoding;
+use xls_vba::*;
 
 // Containers, and what they say or why they are refused. The first three are those of the standard.
 static CONTAINERS: [(&[u8], &str); 15] = [

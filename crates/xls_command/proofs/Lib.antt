@@ -15,3 +15,4 @@ pub mod SumLemmas
 pub mod RangeLemmas
 pub mod SoundLemmas
 pub mod BuildLemmas
+pub mod ExactLemmas

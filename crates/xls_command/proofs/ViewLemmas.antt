@@ -6,6 +6,9 @@ use Rattle.xls_record.specs.declared.error.XlsError.TheVariants as errors
 use Rattle.xls_open.specs.Checking.{FirstChecked}
 use Rattle.xls_open.specs.Opening.{default_options}
 use Rattle.xls_open.specs.declared.options.XlsOptions.{XlsOptions}
+use Rattle.xls_refs.specs.Citing.{IsBookCited}
+use Rattle.xls_refs.specs.Views.{cited_in}
+use Rattle.xls_refs.proofs.ViewLemmas.{viewed_is_cited}
 use Rattle.xls_view.specs.Viewing.{IsViewed, ViewCause, Viewed}
 use Rattle.xls_report.proofs.CheckLemmas.{first_checked, none_checked}
 use Rattle.xls_command.specs.Endings.{IsViewRefusal, OpensTo}
@@ -38,6 +41,13 @@ pub opens : (options : XlsOptions) (bytes : List ℕ) (r : Result Viewed XlsErro
 opens options bytes (Ok view) same within h =
     opened_by bytes view within (subst (λ (o : XlsOptions). IsViewed o bytes view) same h)
 opens options bytes (Err e) same within h = tt
+
+-- and what its formulas cite is told by the view
+pub cites : (options : XlsOptions) (bytes : List ℕ) (r : Result Viewed XlsError) → options ≡ default_options
+    → IfOk r (IsViewed options bytes) → IfOk r (λ view. IsBookCited default_options bytes (cited_in view))
+cites options bytes (Ok view) same h =
+    subst (λ (o : XlsOptions). IsBookCited o bytes (cited_in view)) same (viewed_is_cited options bytes view h)
+cites options bytes (Err e) same h = tt
 
 -- and another refusal than out of memory is the first fault
 checked : (options : XlsOptions) (bytes : List ℕ) (e : XlsError) → options ≡ default_options

@@ -1,6 +1,8 @@
 -- What a command reads, writes and refuses, by what a source had left.
-use Rattle.std.specs.Prelude.{◌≡◌, ◌≢◌, ◌⊎◌, ℕ, ◌<◌, ◌≤◌, ◌^◌, List, length, Option, None, IfSome}
+use Rattle.std.specs.Prelude.{◌≡◌, ◌≢◌, ◌⊎◌, ℕ, ◌<◌, ◌≤◌, ◌^◌, List, length, Option, Some, None, IfSome}
+use Rattle.std.specs.BTreeMap.{IsOrdered}
 use Rattle.std.specs.Str.{chars}
+use Rattle.std.specs.String.{string_cmp}
 use Rattle.std.specs.Io.KnownBytes.{IsAtEnd}
 use Rattle.xls_record.specs.SourceState.{SourceState}
 use Rattle.xls_record.specs.declared.error.XlsError.TheVariants.{TooLarge}
@@ -8,7 +10,14 @@ use Rattle.xls_open.specs.Workbook.{Workbook, view_named, view_of}
 use Rattle.xls_meaning.specs.Reading.{BookView}
 use Rattle.xls_stream.specs.Listing.{ListEntry, Carries}
 use Rattle.xls_lay.specs.Writing.{canonical_bytes}
-use Rattle.xls_report.specs.Texts.{IsPropertyText, IsFirstLine, IsRefsText, IsRemadeText, IsUnremadeLine, IsCsvOf, IsMissingOf}
+use Rattle.xls_props.specs.Properties.{IsProperties}
+use Rattle.xls_props.specs.declared.properties.WorkbookProperties.{WorkbookProperties}
+use Rattle.xls_refs.specs.Cited.{BookCited}
+use Rattle.xls_refs.specs.Citing.{IsBookCited}
+use Rattle.xls_documents.specs.Lines as documents
+use Rattle.xls_documents.specs.Properties.{property_lines}
+use Rattle.xls_listing.specs.Listing.{exact_lines, ref_lines}
+use Rattle.xls_report.specs.Texts.{IsFirstLine, IsRemadeText, IsUnremadeLine, IsCsvOf, IsMissingOf}
 use Rattle.xls_meaning.specs.Faults.{IsSound}
 use Rattle.xls_open.specs.Opening.{IsOpened, default_options, default_rules}
 use Rattle.xls_report.specs.Report.{report, sheet_report, sound_line, fault_line}
@@ -87,9 +96,21 @@ IsSoundText left text = IfSome left (IsSound default_rules) × (text ≡ sound_l
 abbrev pub property_limit : ℕ
 property_limit = default_options.max_bytes
 
--- the properties that the bytes hold
+-- the lines of the properties that the bytes hold as both property streams: each field that is there,
+-- and each custom property once, in the byte order of their names
+abbrev pub IsPropertyText : List ℕ → List ℕ → Type 0
+IsPropertyText bytes text =
+    (p : WorkbookProperties) × IsProperties (Some bytes) (Some bytes) p
+    × IsOrdered string_cmp p.custom_properties × (text ≡ documents.exact_lines (property_lines p))
+
+-- the same of bytes within the limit
 abbrev pub IsPropertyOutput : List ℕ → List ℕ → Type 0
 IsPropertyOutput bytes text = (length bytes ≤ property_limit) × IsPropertyText bytes text
+
+-- the lines of the cells that the formulas of the bytes' workbook cite
+abbrev pub IsRefsText : List ℕ → List ℕ → Type 0
+IsRefsText bytes text =
+    (book : BookCited) × IsBookCited default_options bytes book × (text ≡ exact_lines (ref_lines book))
 
 -- the line of too many bytes
 abbrev pub IsLengthLine : List ℕ → List ℕ → Type 0

@@ -2,24 +2,29 @@
 
 ghost use Rattle.std.specs.Prelude.{◌≡◌, ◌≤◌, ◌↔◌, IsTrue, length, IfErr, IfOk, Some, None};
 ghost use Rattle.xls_open.specs.Opening.{default_options};
+ghost use Rattle.xls_refs.specs.Citing.{IsBookCited};
+ghost use Rattle.xls_refs.specs.Views.{cited_in};
 ghost use Rattle.xls_command.specs.Endings.{Ends, IsViewRefusal, OpensTo, Reads};
 ghost use Rattle.xls_report.specs.Endings.{EndsWithEither, EndsWithError};
 ghost use Rattle.xls_command.specs.Outputs.{IsOutput, IsRefusalText, MayWrite, ReadsNothing};
 ghost use Rattle.xls_output.specs.SinkState.{TakesEach};
 ghost use Rattle.xls_command.specs.Words.{IsPossible, max_rows};
-ghost use Rattle.xls_command.specs.declared.command.Command.TheVariants.{Dump, Sheets, Props, Check, Csv, Generate};
+ghost use Rattle.xls_command.specs.declared.command.Command.TheVariants.{Dump, Sheets, Props, Check, Refs, Csv, Generate};
 
 use crate::command::Command;
 use crate::summary::{summary_of, write_summary};
 use std::alloc::Global;
 use xls_biff::XlsError;
 use xls_book::{Source, StreamBytes, XlsOptions, check_stream, read_all};
+use xls_documents::write_properties;
+use xls_listing::write_ref_list;
 use xls_open::{MAX_BYTES, MAX_CELLS};
 use xls_output::{Sink, Stop};
 use xls_props::workbook_properties_of;
+use xls_readable::Form;
 use xls_report::{
-    Ending, write_csv, write_fault, write_properties, write_refs, write_refusal, write_remake,
-    write_report, write_sheets, write_sound,
+    Ending, write_csv, write_fault, write_refusal, write_remake, write_report, write_sheets,
+    write_sound,
 };
 use xls_view::View;
 
@@ -27,6 +32,7 @@ use xls_view::View;
 fn view_of<'a>(alloc: Global, bytes: &'a [u8]) -> Result<View<'a>, XlsError>
     requires within { length bytes.now ≤ default_options.max_bytes }
     ensures opened { IfOk result (λ view. OpensTo bytes.now view.book) }
+    ensures cited { IfOk result (λ view. IsBookCited default_options bytes.now (cited_in view)) }
     ensures fault { IfErr result (IsViewRefusal bytes.now) }
 {
     let options = XlsOptions::defaults(alloc)?;
@@ -70,8 +76,23 @@ fn write_properties_of<K: Sink>(alloc: Global, sink: &mut K, bytes: &[u8]) -> Re
         (K.state sink.old) (K.state sink.new) result }
 {
     let properties = workbook_properties_of(alloc, Some(bytes), Some(bytes))?;
-    write_properties(alloc, sink, &properties)?;
+    write_properties(alloc, sink, Form::Exact, &properties)?;
     Ok(Ending::Done)
+}
+
+/// Writes the cells that the formulas of the bytes' workbook cite, or the first fault of the bytes.
+fn write_cited<K: Sink>(alloc: Global, sink: &mut K, bytes: &[u8]) -> Result<Ending, Stop>
+    requires within { length bytes.now ≤ default_options.max_bytes }
+    ensures { EndsWithEither (IsOutput Refs (Some bytes.now)) (IsRefusalText Refs (Some bytes.now))
+        (K.state sink.old) (K.state sink.new) result }
+{
+    match view_of(alloc, bytes) {
+        Ok(view) => {
+            write_ref_list(alloc, sink, Form::Exact, &view)?;
+            Ok(Ending::Done)
+        }
+        Err(error) => write_refusal(alloc, sink, &error),
+    }
 }
 
 /// Writes that the bytes have no fault, or which is the first. Nothing is kept but the bytes.
@@ -139,7 +160,7 @@ fn write<K: Sink>(
         Command::Sheets => write_sheet_lines(alloc, sink, bytes.as_slice()),
         Command::Props => write_properties_of(alloc, sink, bytes.as_slice()),
         Command::Check => write_check(alloc, sink, bytes.as_slice()),
-        Command::Refs => write_refs(alloc, sink, bytes.as_slice()),
+        Command::Refs => write_cited(alloc, sink, bytes.as_slice()),
         Command::Remake => write_remake(alloc, sink, bytes),
         Command::Csv(name) => write_named(alloc, sink, bytes.as_slice(), name),
         Command::Generate(rows) => generate(alloc, rows, sink),

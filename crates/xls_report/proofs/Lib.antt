@@ -3,5 +3,3 @@ pub mod NamedLemmas
 pub mod CheckLemmas
 pub mod EndingLemmas
 pub mod StandardFacts
-pub mod PropertyFacts
-pub mod RefsLemmas

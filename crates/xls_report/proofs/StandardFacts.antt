@@ -11,7 +11,6 @@ use Rattle.xls_record.specs.declared.error.XlsError.TheVariants.{Password, TooLa
 use Rattle.xls_lay.specs.declared.error.LayError.TheVariants.{TooLong}
 use Rattle.xls_meaning.specs.Reading.{BookView}
 use Rattle.xls_report.specs.Report.{cell_line, fault_line, report, sheet_report, sound_line, unwritten_line}
-use Rattle.xls_report.specs.Refs.{refs_text}
 
 -- row 4, column 1, -12
 pub known_cell : cell_line ((4, 1), float (Whole (negsuc 11))) ≡ codes "cell\t4\t1\tfloat\t-12\n"
@@ -89,17 +88,6 @@ known_sheet_report = refl
 -- what `check` writes of a stream without a fault
 pub known_sound : sound_line ≡ codes "ok\n"
 known_sound = refl
-
--- a formula of the second sheet, in row 1 and column 2, that cites rows 3 to 5 and columns 4 to 6 of the
--- first, and one cell of its own
-pub known_refs : refs_text (record {
-  names = codes "A" ∷ codes "b\t" ∷ [];
-  cites = record { sheet = 1; row = 1; col = 2; cite = record { sheet = Some (codes "A"); first = (3, 4); last = (5, 6) } }
-      ∷ record { sheet = 1; row = 1; col = 2; cite = record { sheet = Some (codes "b\t"); first = (7, 8); last = (7, 8) } } ∷ [];
-})
-    ≡ codes "ref\tb\\t\t1\t2\tA\t3\t4\t5\t6\nref\tb\\t\t1\t2\tb\\t\t7\t8\t7\t8\n"
-unfolding digits lib.Utf8.encode
-known_refs = refl
 
 -- a canonical stream that has no offsets of 32 bits
 pub known_unwritten : unwritten_line (TooLong 0x1_0000_0000) ≡ codes "error\tWorkbook of 4294967296 bytes is too long\n"

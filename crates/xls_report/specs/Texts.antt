@@ -2,30 +2,16 @@
 use Rattle.std.specs.Prelude.{◌≡◌, ◌⊎◌, ℕ, String, List, Some, None}
 use Rattle.std.specs.Global.{Global}
 use Rattle.std.specs.Str.{chars}
-use Rattle.std.specs.BTreeMap.{IsOrdered}
-use Rattle.std.specs.String.{string_bytes, string_cmp}
+use Rattle.std.specs.String.{string_bytes}
 use Rattle.xls_record.specs.declared.error.XlsError.{XlsError}
 use Rattle.xls_record.specs.declared.error.XlsError.TheVariants.{WorksheetNotFound}
-use Rattle.xls_props.specs.Properties.{IsProperties}
-use Rattle.xls_props.specs.declared.properties.WorkbookProperties.{WorkbookProperties}
 use Rattle.xls_meaning.specs.Reading.{SheetView, BookView, displayed_of}
 use Rattle.xls_csv.specs.Dense.{sheet_csv}
-use Rattle.xls_refs.specs.Cited.{BookCited}
-use Rattle.xls_refs.specs.Citing.{IsBookCited}
-use Rattle.xls_report.specs.Refs.{refs_text}
 use Rattle.xls_stream.specs.Listing.{ListEntry, Carries}
 use Rattle.xls_report.specs.Remaking.{IsWrittenOf, IsUnwrittenOf}
 use Rattle.xls_meaning.specs.Faults.{FirstFault, IsSound}
-use Rattle.xls_open.specs.Opening.{default_options, default_rules}
+use Rattle.xls_open.specs.Opening.{default_rules}
 use Rattle.xls_report.specs.Report.{sound_line, fault_line}
-use Rattle.xls_report.specs.Properties.{property_lines}
-
--- the lines of the properties that the bytes hold as both property streams: each field that is there,
--- and each custom property once, in the byte order of their names
-abbrev pub IsPropertyText : List ℕ → List ℕ → Type 0
-IsPropertyText bytes text =
-    (p : WorkbookProperties) × IsProperties (Some bytes) (Some bytes) p
-    × IsOrdered string_cmp p.custom_properties × (text ≡ property_lines p)
 
 -- the line of bytes of which no place has a fault
 abbrev pub IsSoundLine : List ℕ → List ℕ → Type 0
@@ -35,11 +21,6 @@ IsSoundLine bytes text = IsSound default_rules bytes × (text ≡ sound_line)
 abbrev pub IsFirstLine : List ℕ → List ℕ → Type 0
 IsFirstLine bytes text =
     (e : XlsError) × FirstFault default_rules bytes e × (text ≡ fault_line e)
-
--- the lines of the cells that the formulas of the bytes' workbook cite
-abbrev pub IsRefsText : List ℕ → List ℕ → Type 0
-IsRefsText bytes text =
-    (book : BookCited) × IsBookCited default_options bytes book × (text ≡ refs_text book)
 
 -- no place of the bytes has a fault, and this text is of each list that they carry, of which there is one
 pub record IsOfList (IsOf : List ListEntry → List ℕ → Type 0) (bytes text : List ℕ) : Type 0 where

@@ -1,4 +1,0 @@
-use Rattle.xls_report.proofs.properties.put_known.Goals as goal
-
-pub returns : goal.returns
-returns g c = c.put_fields.ensures
