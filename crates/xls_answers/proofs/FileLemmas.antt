@@ -37,7 +37,7 @@ no-file-fault : (answer : Answer) (options : XlsOptions) (bytes : List ℕ) (a b
     → OfStream answer options bytes a b (Err (failures.File fault)) → ⊥
 no-file-fault (answers.Lines lines form) options bytes a b fault p = p
 no-file-fault answers.Exact options bytes a b fault p = p
-no-file-fault (answers.Sheet table) options bytes a b fault p = p
+no-file-fault (answers.Sheet choice table) options bytes a b fault p = p
 no-file-fault answers.Check options bytes a b fault p = p
 no-file-fault answers.Remade options bytes a b fault p = p
 no-file-fault answers.Bytes options bytes a b fault p = p

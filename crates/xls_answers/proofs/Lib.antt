@@ -1,3 +1,4 @@
 pub mod FailureLemmas
 pub mod FileLemmas
+pub mod SheetLemmas
 pub mod StandardFacts

@@ -59,8 +59,8 @@ abbrev pub OfStream : Answer → XlsOptions → List ℕ → SinkState → SinkS
 OfStream (answers.Lines lines form) options bytes = OfView options bytes (AreLines lines form) (BeginLines lines form) MissesNone
 OfStream answers.Exact options bytes =
     OfView options bytes (λ view text. text ≡ report view.book) (λ view text. text ≡ report view.book) MissesNone
-OfStream (answers.Sheet table) options bytes =
-    OfView options bytes (IsTableOf table) (BeginsTableOf table) (MissesSheet table.choice)
+OfStream (answers.Sheet choice table) options bytes =
+    OfView options bytes (IsTableOf choice table) (BeginsTableOf choice table) (MissesSheet choice)
 OfStream answers.Check options bytes = OfCheck options bytes
 OfStream answers.Remade options bytes = OfRemade bytes
 OfStream answers.Bytes options bytes = OfBytes bytes
@@ -72,7 +72,7 @@ OfReadable answer options bytes before after result = OfStream answer options by
 
 -- a sheet that is asked for by its number has one
 abbrev pub HasNumber : Answer → Type 0
-HasNumber (answers.Sheet table) = IsNumbered table.choice
+HasNumber (answers.Sheet choice table) = IsNumbered choice
 HasNumber (answers.Lines lines form) = Unit {0}
 HasNumber answers.Exact = Unit {0}
 HasNumber answers.Check = Unit {0}

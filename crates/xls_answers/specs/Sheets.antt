@@ -1,12 +1,14 @@
 -- The sheet that is written as CSV, and its text.
-use Rattle.std.specs.Prelude.{◌≡◌, ◌⊎◌, ℕ, ◌-◌, Bool, true, false, if◌then◌else◌, List, [], ◌∷◌, Option, Some, None, slice_get, Result, Ok, Err}
-use Rattle.std.specs.Option.{option_map}
+use Rattle.std.specs.Prelude.{◌≡◌, ◌⊎◌, ℕ, ◌+◌, ◌-◌, ◌==◌, nat_lt, Bool, true, false, if◌then◌else◌, List, [], ◌∷◌, length, Option, Some, None, slice_get, Result, Ok, Err}
+use Rattle.std.specs.Cmp.Lexicographic.{pointwise}
+use Rattle.std.specs.Option.{option_or}
 use Rattle.std.specs.Str.{chars}
 use Rattle.std.specs.String.{string_bytes}
 use Rattle.xls_data.specs.Sheets.{SheetContent}
 use Rattle.xls_data.specs.declared.sheets.SheetType.{SheetType}
 use Rattle.xls_data.specs.declared.sheets.SheetType.TheVariants as types
-use Rattle.xls_meaning.specs.Reading.{SheetView, BookView, displayed_of}
+use Rattle.xls_biff.specs.Cells.{CellEntry}
+use Rattle.xls_meaning.specs.Reading.{SheetView, BookView}
 use Rattle.xls_view.specs.Viewing.{Viewed}
 use Rattle.xls_csv.specs.Dense.{dense_rows, sheet_csv}
 use Rattle.xls_tables.specs.Tables.{IsTable, BeginsTable}
@@ -16,7 +18,7 @@ use Rattle.xls_output.specs.declared.stop.Stop.{Stop}
 use Rattle.xls_output.specs.declared.stop.Stop.TheVariants.{Memory}
 use Rattle.xls_report.specs.Endings.{IsUntouched}
 use Rattle.xls_words.specs.declared.request.SheetChoice.{SheetChoice}
-use Rattle.xls_words.specs.declared.request.SheetChoice.TheVariants.{First, Named, Number, All}
+use Rattle.xls_words.specs.declared.request.SheetChoice.TheVariants.{First, Named, Number}
 use Rattle.xls_words.specs.declared.request.Style.{Style}
 use Rattle.xls_words.specs.declared.request.Style.TheVariants.{Readable, Json, Exact}
 use Rattle.xls_words.specs.declared.request.Table.{Table}
@@ -34,101 +36,87 @@ is_worksheet types.MacroSheet = false
 is_worksheet types.ChartSheet = false
 is_worksheet types.Vba = false
 
--- the name of the first worksheet
-abbrev pub first_worksheet : List SheetContent → Option (List ℕ)
-first_worksheet [] = None
-first_worksheet (s ∷ ss) = if is_worksheet s.typ then Some s.name else first_worksheet ss
+-- the index of the first worksheet, where these sheets have the indices from n on
+abbrev pub first_worksheet_from : ℕ → List SheetContent → Option ℕ
+first_worksheet_from n [] = None
+first_worksheet_from n (s ∷ ss) = if is_worksheet s.typ then Some n else first_worksheet_from (n + 1) ss
 
--- the name of the sheet that is chosen; sheets are numbered from 1
-abbrev pub chosen_name : SheetChoice → List SheetContent → Option (List ℕ)
-chosen_name First sheets = first_worksheet sheets
-chosen_name (Named name) sheets = Some (chars name.now)
-chosen_name (Number n) sheets = option_map (λ (s : SheetContent). s.name) (slice_get sheets (n - 1))
-chosen_name All sheets = first_worksheet sheets
+-- the index of the last sheet of a name, likewise
+abbrev pub last_named_from : ℕ → List ℕ → List SheetContent → Option ℕ
+last_named_from n name [] = None
+last_named_from n name (s ∷ ss) =
+    option_or (last_named_from (n + 1) name ss) (if pointwise ◌==◌ s.name name then Some n else None)
 
--- what is shown under a name, if there is one
-abbrev pub displayed_under : BookView → Option (List ℕ) → Option SheetView
-displayed_under book None = None
-displayed_under book (Some name) = displayed_of book name
+-- the index of the sheet of a number, of so many; sheets are numbered from 1
+abbrev pub index_of_number : ℕ → ℕ → Option ℕ
+index_of_number number count = if nat_lt (number - 1) count then Some (number - 1) else None
 
--- the last sheet of that name
-abbrev pub chosen_sheet : SheetChoice → BookView → Option SheetView
-chosen_sheet choice book = displayed_under book (chosen_name choice book.sheets)
+-- the index of the sheet that is chosen
+abbrev pub chosen_index : SheetChoice → List SheetContent → Option ℕ
+chosen_index First sheets = first_worksheet_from 0 sheets
+chosen_index (Named name) sheets = last_named_from 0 (chars name.now) sheets
+chosen_index (Number number) sheets = index_of_number number (length sheets)
+
+-- what a workbook shows of the sheet that is chosen
+abbrev pub IsChosen : SheetChoice → BookView → SheetView → Type 0
+IsChosen choice book sheet =
+    (n : ℕ) × (Some n ≡ chosen_index choice book.sheets) × (slice_get book.contents n ≡ Some sheet)
 
 -- how it is told that there is none
 abbrev pub IsMissing : SheetChoice → Missing → Type 0
 IsMissing (Named name) (missing.Name s) = string_bytes s ≡ name.now
 IsMissing (Number n) (missing.Number m) = m ≡ n
 IsMissing First missing.Worksheet = Unit {0}
-IsMissing All missing.Worksheet = Unit {0}
 IsMissing choice m = ⊥
 
 abbrev pub MissesSheet : SheetChoice → Missing → Viewed → Type 0
-MissesSheet choice m view = IsMissing choice m × (chosen_sheet choice view.book ≡ None)
+MissesSheet choice m view = IsMissing choice m × (chosen_index choice view.book.sheets ≡ None)
+
+-- there is none, and it is told so; or memory ran out
+abbrev pub HasNoSheet : SheetChoice → BookView → Failure → Type 0
+HasNoSheet choice book (failures.Missing m) = IsMissing choice m × (chosen_index choice book.sheets ≡ None)
+HasNoSheet choice book (failures.Stopped s) = s ≡ Memory
+HasNoSheet choice book other = ⊥
 
 -- ---- its text
 
 -- the dense box of its cells as people read it, or as xls_dump writes it
-abbrev pub IsSheetText : Style → Table → SheetView → List ℕ → Type 0
-IsSheetText Readable table sheet text = IsTable table.delimiter table.begins_with_mark (dense_rows sheet.cells) text
-IsSheetText Json table sheet text = IsTable table.delimiter table.begins_with_mark (dense_rows sheet.cells) text
-IsSheetText Exact table sheet text = text ≡ sheet_csv sheet.cells
+abbrev pub IsCellsText : Style → Table → List CellEntry → List ℕ → Type 0
+IsCellsText Readable table cells text = IsTable table.delimiter table.begins_with_mark (dense_rows cells) text
+IsCellsText Json table cells text = IsTable table.delimiter table.begins_with_mark (dense_rows cells) text
+IsCellsText Exact table cells text = text ≡ sheet_csv cells
 
 -- a part of it
-abbrev pub BeginsSheetText : Style → Table → SheetView → List ℕ → Type 0
-BeginsSheetText Readable table sheet text = BeginsTable table.delimiter table.begins_with_mark (dense_rows sheet.cells) text
-BeginsSheetText Json table sheet text = BeginsTable table.delimiter table.begins_with_mark (dense_rows sheet.cells) text
-BeginsSheetText Exact table sheet text = text ≡ sheet_csv sheet.cells
+abbrev pub BeginsCellsText : Style → Table → List CellEntry → List ℕ → Type 0
+BeginsCellsText Readable table cells text = BeginsTable table.delimiter table.begins_with_mark (dense_rows cells) text
+BeginsCellsText Json table cells text = BeginsTable table.delimiter table.begins_with_mark (dense_rows cells) text
+BeginsCellsText Exact table cells text = text ≡ sheet_csv cells
 
 -- the text of the sheet that is chosen, and a part of it
-abbrev pub IsChosenText : Table → BookView → List ℕ → Type 0
-IsChosenText table book text =
-    (sheet : SheetView) × (chosen_sheet table.choice book ≡ Some sheet) × IsSheetText table.style table sheet text
+abbrev pub IsTableOf : SheetChoice → Table → Viewed → List ℕ → Type 0
+IsTableOf choice table view text =
+    (sheet : SheetView) × IsChosen choice view.book sheet × IsCellsText table.style table sheet.cells text
 
-abbrev pub BeginsChosenText : Table → BookView → List ℕ → Type 0
-BeginsChosenText table book text =
-    (sheet : SheetView) × (chosen_sheet table.choice book ≡ Some sheet) × BeginsSheetText table.style table sheet text
+abbrev pub BeginsTableOf : SheetChoice → Table → Viewed → List ℕ → Type 0
+BeginsTableOf choice table view text =
+    (sheet : SheetView) × IsChosen choice view.book sheet × BeginsCellsText table.style table sheet.cells text
 
-abbrev pub IsTableOf : Table → Viewed → List ℕ → Type 0
-IsTableOf table view text = IsChosenText table view.book text
+-- ---- what is written
 
-abbrev pub BeginsTableOf : Table → Viewed → List ℕ → Type 0
-BeginsTableOf table view text = BeginsChosenText table view.book text
-
--- ---- what is written of a view
-
--- the text was written, a prefix of a part of it, or nothing where memory ran out or there is no such sheet
-abbrev pub OfSheet : Table → BookView → SinkState → SinkState → Result (Unit {0}) Failure → Type 0
-OfSheet table book before after (Ok x) = (text : List ℕ) × IsChosenText table book text × Wrote before after text
-OfSheet table book before after (Err (failures.Missing m)) =
-    IsMissing table.choice m × (chosen_sheet table.choice book ≡ None) × IsUntouched before after
-OfSheet table book before after (Err (failures.Stopped s)) =
+-- the text of these cells was written, a prefix of a part of it, or nothing where memory ran out
+abbrev pub WritesCells : Table → List CellEntry → SinkState → SinkState → Result (Unit {0}) Stop → Type 0
+WritesCells table cells before after (Ok x) =
+    (text : List ℕ) × IsCellsText table.style table cells text × Wrote before after text
+WritesCells table cells before after (Err s) =
     ((s ≡ Memory) × IsUntouched before after)
-    ⊎ ((text : List ℕ) × BeginsChosenText table book text × Stops before [] after text s)
-OfSheet table book before after (Err other) = ⊥
+    ⊎ ((text : List ℕ) × BeginsCellsText table.style table cells text × Stops before [] after text s)
 
--- ---- for the contracts of its steps
-
--- the CSV of the last sheet of a name, as xls_dump writes it
-abbrev pub DeliversExact : BookView → List ℕ → SinkState → SinkState → Result (Unit {0}) Stop → Type 0
-DeliversExact book name before after (Ok x) =
-    (sheet : SheetView) × (displayed_of book name ≡ Some sheet) × Wrote before after (sheet_csv sheet.cells)
-DeliversExact book name before after (Err s) =
+-- the text of the sheet at an index likewise
+abbrev pub WritesSheetAt : Table → BookView → ℕ → SinkState → SinkState → Result (Unit {0}) Stop → Type 0
+WritesSheetAt table book n before after (Ok x) =
+    (sheet : SheetView) × (slice_get book.contents n ≡ Some sheet)
+    × (text : List ℕ) × IsCellsText table.style table sheet.cells text × Wrote before after text
+WritesSheetAt table book n before after (Err s) =
     ((s ≡ Memory) × IsUntouched before after)
-    ⊎ ((sheet : SheetView) × (displayed_of book name ≡ Some sheet) × Stops before [] after (sheet_csv sheet.cells) s)
-
--- the text of the sheet that is shown, if there is one
-abbrev pub WritesDisplayed : Table → Option SheetView → SinkState → SinkState → Result Bool Stop → Type 0
-WritesDisplayed table displayed before after (Ok true) =
-    (sheet : SheetView) × (displayed ≡ Some sheet) × (text : List ℕ) × IsSheetText table.style table sheet text × Wrote before after text
-WritesDisplayed table displayed before after (Ok false) = (displayed ≡ None) × IsUntouched before after
-WritesDisplayed table displayed before after (Err s) =
-    ((s ≡ Memory) × IsUntouched before after)
-    ⊎ ((sheet : SheetView) × (displayed ≡ Some sheet) × (text : List ℕ) × BeginsSheetText table.style table sheet text
-    × Stops before [] after text s)
-
-abbrev pub WritesNamed : Table → BookView → List ℕ → SinkState → SinkState → Result Bool Stop → Type 0
-WritesNamed table book name = WritesDisplayed table (displayed_of book name)
-
-abbrev pub WritesChosen : Table → BookView → SinkState → SinkState → Result Bool Stop → Type 0
-WritesChosen table book = WritesDisplayed table (chosen_sheet table.choice book)
+    ⊎ ((sheet : SheetView) × (slice_get book.contents n ≡ Some sheet)
+    × (text : List ℕ) × BeginsCellsText table.style table sheet.cells text × Stops before [] after text s)

@@ -1,5 +1,6 @@
 -- What is written of a workbook that is looked at.
 use Rattle.std.specs.Prelude.{◌≡◌, ◌⊎◌, ℕ, Bool, true, false, Option, List, [], ◌++◌, take, Result, Ok, Err}
+use Rattle.xls_container.specs.Obfuscation.{IsObfuscated}
 use Rattle.xls_formula.specs.Table.{from_index_72}
 use Rattle.xls_formula.specs.Functions.{shipped}
 use Rattle.xls_open.specs.Opening.{default_options}
@@ -25,6 +26,13 @@ use Rattle.xls_answers.specs.declared.failure.Missing.{Missing}
 abbrev pub options_under : Option ℕ → Bool → XlsOptions
 options_under page true = record default_options { force_codepage = page }
 options_under page false = record default_options { force_codepage = page; functions = shipped ++ from_index_72 }
+
+-- why a stream isn't looked at
+abbrev pub RefusesView : XlsOptions → List ℕ → Failure → Type 0
+RefusesView options bytes failures.Obfuscated = IsObfuscated bytes
+RefusesView options bytes (failures.Stream e) = IsViewFault options bytes e
+RefusesView options bytes (failures.Stopped s) = s ≡ Memory
+RefusesView options bytes other = ⊥
 
 -- ---- lines
 

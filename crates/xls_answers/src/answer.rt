@@ -2,7 +2,7 @@
 
 use crate::lines::Listing;
 use xls_readable::Form;
-use xls_words::Table;
+use xls_words::{SheetChoice, Table};
 
 /// What is written of a workbook.
 #[derive(Clone, Copy, Debug, PartialEq, Eq)]
@@ -12,7 +12,7 @@ pub enum Answer<'w> {
     /// All that it holds, as `xls_dump` writes it.
     Exact,
     /// One of its sheets as CSV.
-    Sheet(Table<'w>),
+    Sheet(SheetChoice<'w>, Table),
     /// That its stream has no fault.
     Check,
     /// Its stream once more in canonical form.

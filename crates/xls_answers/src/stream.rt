@@ -1,9 +1,10 @@
 //! What is written of a workbook's stream, and of a file.
 
-ghost use Rattle.std.specs.Prelude.{◌≡◌};
+ghost use Rattle.std.specs.Prelude.{◌≡◌, IfErr, IfOk, length};
 ghost use Rattle.xls_answers.specs.Answers.{HasNumber, OfFile, OfReadable, OfStream};
 ghost use Rattle.xls_report.specs.Report.{report};
-ghost use Rattle.xls_answers.specs.Views.{MissesNone, OfView};
+ghost use Rattle.xls_answers.specs.Views.{MissesNone, OfView, RefusesView};
+ghost use Rattle.xls_view.specs.Viewing.{IsViewed};
 
 use crate::answer::Answer;
 use crate::check::write_check;
@@ -47,15 +48,34 @@ pub fn write_stream<K: Sink>(
     match answer {
         Answer::Lines(lines, form) => write_lines(alloc, sink, *lines, *form, options, bytes),
         Answer::Exact => write_exact(alloc, sink, options, bytes),
-        Answer::Sheet(table) => write_sheet_of(alloc, sink, table, options, bytes),
+        Answer::Sheet(choice, table) => {
+            write_sheet_of(alloc, sink, choice, table, options, bytes)
+        }
         Answer::Check => write_check(alloc, sink, options, bytes),
         Answer::Remade => write_remade(alloc, sink, bytes),
         Answer::Bytes => write_whole(sink, bytes),
     }
 }
 
-/// Likewise, but of a stream whose records are obfuscated with a password, which is refused.
-fn write_readable<K: Sink>(
+/// The view of a workbook's stream. One whose records are obfuscated with a password is refused.
+pub fn view_of<'s>(
+    alloc: Global,
+    options: &XlsOptions,
+    bytes: &'s [u8],
+) -> Result<View<'s>, Failure>
+    ensures ok { IfOk result (λ view. IsViewed options.now bytes.now view) }
+    ensures sheets { IfOk result (λ view. length view.book.contents ≡ length view.book.sheets) }
+    ensures err { IfErr result (RefusesView options.now bytes.now) }
+{
+    if !is_obfuscated(bytes) {
+        return Ok(View::new(alloc, bytes, options)?);
+    }
+    Err(Failure::Obfuscated)
+}
+
+/// Writes what is asked for of a workbook's stream. One whose records are obfuscated with a password is refused, and
+/// nothing is written before all of it is checked.
+pub fn write_workbook<K: Sink>(
     alloc: Global,
     sink: &mut K,
     answer: &Answer<'_>,
@@ -85,5 +105,5 @@ pub fn write_file<K: Sink>(
 {
     let container = Container::open(alloc, file)?;
     let bytes = container.workbook(alloc)?;
-    write_readable(alloc, sink, answer, options, bytes.as_slice())
+    write_workbook(alloc, sink, answer, options, bytes.as_slice())
 }

@@ -1,25 +1,21 @@
 //! A sheet of a workbook as CSV.
 
-ghost use Rattle.std.specs.Prelude.{◌≡◌, ◌≢◌, IfOk, None, map};
-ghost use Rattle.std.specs.Option.{option_map};
+ghost use Rattle.std.specs.Prelude.{◌≡◌, ◌<◌, ◌==◌, IfErr, IfOk, IfSome, Some, length, map};
+ghost use Rattle.std.specs.Cmp.Lexicographic.{pointwise};
 ghost use Rattle.std.specs.Str.{chars};
 ghost use Rattle.xls_data.specs.Sheets.{sheet_content};
 ghost use Rattle.xls_range.specs.Positions.{IsAscending};
 ghost use Rattle.xls_biff.specs.Cells.{CellEntry};
-ghost use Rattle.xls_meaning.specs.Reading.{displayed_of};
-ghost use Rattle.xls_csv.specs.Dense.{dense_rows};
-ghost use Rattle.xls_tables.specs.Tables.{DeliversTable};
 ghost use Rattle.xls_words.specs.Requests.{IsNumbered};
-ghost use Rattle.xls_words.specs.declared.request.SheetChoice.TheVariants.{Number};
-ghost use Rattle.xls_answers.specs.Sheets.{BeginsTableOf, DeliversExact, IsMissing, IsTableOf, MissesSheet, OfSheet, WritesChosen, WritesNamed, WritesDisplayed, chosen_name, first_worksheet, is_worksheet, displayed_under};
+ghost use Rattle.xls_answers.specs.Sheets.{BeginsTableOf, HasNoSheet, IsMissing, IsTableOf, MissesSheet, WritesCells, WritesSheetAt, chosen_index, first_worksheet_from, index_of_number, is_worksheet, last_named_from};
 ghost use Rattle.xls_answers.specs.Views.{OfView};
 
 use crate::failure::{Failure, Missing};
 use std::alloc::{AllocError, Global};
+use xls_csv::write_rows;
 use xls_data::{Sheet, SheetType};
 use xls_open::XlsOptions;
 use xls_output::{Sink, Stop};
-use xls_report::write_csv;
 use xls_tables::write_table;
 use xls_view::{SheetCells, View};
 use xls_words::{SheetChoice, Style, Table};
@@ -31,25 +27,61 @@ fn is_worksheet(sheet: &Sheet) -> bool
     matches!(sheet.typ, SheetType::WorkSheet)
 }
 
-/// The name of the first worksheet.
-fn first_worksheet(sheets: &[Sheet]) -> Option<&str>
-    ensures { option_map (λ n. chars n.now) result ≡ first_worksheet (map sheet_content sheets.now) }
+/// Whether a sheet has a name.
+fn is_named(sheet: &Sheet, name: &str) -> bool
+    ensures { result ≡ pointwise ◌==◌ (sheet_content sheet.now).name (chars name.now) }
 {
-    for sheet in sheets {
-        if is_worksheet(sheet) {
-            return Some(sheet.name.as_str());
+    sheet.name.as_str() == name
+}
+
+/// The index of the first worksheet.
+fn first_worksheet(sheets: &[Sheet]) -> Option<usize>
+    ensures exact { result ≡ first_worksheet_from 0 (map sheet_content sheets.now) }
+    ensures within { IfSome result (λ n. n < length sheets.now) }
+{
+    for index in 0..sheets.len() {
+        if is_worksheet(&sheets[index]) {
+            return Some(index);
         }
     }
     None
 }
 
-/// The name of the sheet of a number.
-fn numbered(sheets: &[Sheet], number: u32) -> Option<&str>
-    requires { IsNumbered (Number number) }
-    ensures { option_map (λ n. chars n.now) result ≡ chosen_name (Number number) (map sheet_content sheets.now) }
+/// The index of the last sheet of a name.
+fn last_named(sheets: &[Sheet], name: &str) -> Option<usize>
+    ensures exact { result ≡ last_named_from 0 (chars name.now) (map sheet_content sheets.now) }
+    ensures within { IfSome result (λ n. n < length sheets.now) }
 {
-    let sheet = sheets.get(number as usize - 1)?;
-    Some(sheet.name.as_str())
+    let mut found = None;
+    for index in 0..sheets.len() {
+        if is_named(&sheets[index], name) {
+            found = Some(index);
+        }
+    }
+    found
+}
+
+/// The index of the sheet of a number, of so many.
+fn numbered(count: usize, number: u32) -> Option<usize>
+    requires { 0 < number }
+    ensures exact { result ≡ index_of_number number count }
+    ensures within { IfSome result (λ n. n < count) }
+{
+    let index = number as usize - 1;
+    if index < count { Some(index) } else { None }
+}
+
+/// The index of the sheet that is chosen.
+fn index_of(sheets: &[Sheet], choice: &SheetChoice<'_>) -> Option<usize>
+    requires { IsNumbered choice.now }
+    ensures exact { result ≡ chosen_index choice.now (map sheet_content sheets.now) }
+    ensures within { IfSome result (λ n. n < length sheets.now) }
+{
+    match choice {
+        SheetChoice::First => first_worksheet(sheets),
+        SheetChoice::Named(name) => last_named(sheets, name),
+        SheetChoice::Number(number) => numbered(sheets.len(), *number),
+    }
 }
 
 /// That the sheet that is chosen isn't there.
@@ -59,124 +91,79 @@ fn missing(alloc: Global, choice: &SheetChoice<'_>) -> Result<Missing, AllocErro
     Ok(match choice {
         SheetChoice::Named(name) => Missing::Name(String::from_str(alloc, name)?),
         SheetChoice::Number(number) => Missing::Number(*number),
-        SheetChoice::First | SheetChoice::All => Missing::Worksheet,
+        SheetChoice::First => Missing::Worksheet,
     })
 }
 
-/// Writes the cells of the sheet of a name as `xls_dump` does.
-fn write_exact<K: Sink>(
-    alloc: Global,
-    sink: &mut K,
-    view: &View<'_>,
-    name: &str,
-) -> Result<(), Stop>
-    requires { displayed_of view.now.book (chars name.now) ≢ None }
-    ensures { DeliversExact view.now.book (chars name.now) (K.state sink.old) (K.state sink.new) result }
+/// The index of the sheet that is chosen: the first worksheet, the last sheet of a name, or the sheet of a number;
+/// or that there is none.
+pub fn chosen(alloc: Global, view: &View<'_>, choice: &SheetChoice<'_>) -> Result<usize, Failure>
+    requires { IsNumbered choice.now }
+    ensures ok { IfOk result (λ n. Some n ≡ chosen_index choice.now view.now.book.sheets) }
+    ensures within { IfOk result (λ n. n < length view.now.book.sheets) }
+    ensures err { IfErr result (HasNoSheet choice.now view.now.book) }
 {
-    // A sheet has the name, so its cells were written.
-    let _written = write_csv(alloc, sink, view, name)?;
-    Ok(())
+    match index_of(view.sheets(), choice) {
+        Some(index) => Ok(index),
+        None => Err(Failure::Missing(missing(alloc, choice)?)),
+    }
 }
 
-/// Writes the cells of a sheet as people read them.
+/// Writes the cells of a sheet as CSV.
 fn write_cells<K: Sink>(
     alloc: Global,
     sink: &mut K,
-    table: &Table<'_>,
+    table: &Table,
     cells: &SheetCells<'_>,
 ) -> Result<(), Stop>
     requires { IsAscending (map (λ (c : CellEntry). c.0) cells.now) }
-    ensures { DeliversTable table.now.delimiter table.now.begins_with_mark (dense_rows cells.now) (K.state sink.old) (K.state sink.new) result }
+    ensures { WritesCells table.now cells.now (K.state sink.old) (K.state sink.new) result }
 {
-    write_table(alloc, sink, table.delimiter, table.begins_with_mark, cells)
-}
-
-/// Writes the last sheet of a name as CSV. False where no sheet has the name.
-fn write_named<K: Sink>(
-    alloc: Global,
-    sink: &mut K,
-    table: &Table<'_>,
-    view: &View<'_>,
-    name: &str,
-) -> Result<bool, Stop>
-    ensures { WritesNamed table.now view.now.book (chars name.now) (K.state sink.old) (K.state sink.new) result }
-{
-    let Some(cells) = view.cells_named(name)? else {
-        return Ok(false);
-    };
     match table.style {
-        Style::Exact => write_exact(alloc, sink, view, name)?,
-        Style::Readable | Style::Json => write_cells(alloc, sink, table, &cells)?,
+        Style::Exact => write_rows(alloc, sink, cells),
+        Style::Readable | Style::Json => write_table(
+            alloc,
+            sink,
+            table.delimiter,
+            table.begins_with_mark,
+            cells,
+        ),
     }
-    Ok(true)
 }
 
-/// Writes the last sheet of a name as CSV, if there is a name. False where there is no sheet.
-fn write_found<K: Sink>(
+/// Writes the sheet of an index as CSV.
+pub fn write_sheet_at<K: Sink>(
     alloc: Global,
     sink: &mut K,
-    table: &Table<'_>,
+    table: &Table,
     view: &View<'_>,
-    name: Option<&str>,
-) -> Result<bool, Stop>
-    ensures { WritesDisplayed table.now (displayed_under view.now.book (option_map (λ n. chars n.now) name.entry)) (K.state sink.old) (K.state sink.new) result }
+    index: usize,
+) -> Result<(), Stop>
+    requires { index < length view.now.book.contents }
+    ensures { WritesSheetAt table.now view.now.book index (K.state sink.old) (K.state sink.new) result }
 {
-    match name {
-        Some(name) => write_named(alloc, sink, table, view, name),
-        None => Ok(false),
+    match view.cells_at(index)? {
+        Some(cells) => write_cells(alloc, sink, table, &cells),
+        None => unreachable!(),
     }
 }
 
-/// Writes the sheet that is chosen as CSV. False where there is none.
-fn write_chosen<K: Sink>(
-    alloc: Global,
-    sink: &mut K,
-    table: &Table<'_>,
-    view: &View<'_>,
-) -> Result<bool, Stop>
-    requires { IsNumbered table.now.choice }
-    ensures { WritesChosen table.now view.now.book (K.state sink.old) (K.state sink.new) result }
-{
-    match &table.choice {
-        SheetChoice::Named(name) => write_named(alloc, sink, table, view, name),
-        SheetChoice::Number(number) => {
-            write_found(alloc, sink, table, view, numbered(view.sheets(), *number))
-        }
-        SheetChoice::First | SheetChoice::All => {
-            write_found(alloc, sink, table, view, first_worksheet(view.sheets()))
-        }
-    }
-}
-
-/// Writes the sheet of the view that is chosen as CSV: the last one of its name. Where all are, it is the first
-/// worksheet. Nothing is written where there is no such sheet.
-pub fn write_sheet<K: Sink>(
-    alloc: Global,
-    sink: &mut K,
-    table: &Table<'_>,
-    view: &View<'_>,
-) -> Result<(), Failure>
-    requires { IsNumbered table.now.choice }
-    ensures { OfSheet table.now view.now.book (K.state sink.old) (K.state sink.new) result }
-{
-    if write_chosen(alloc, sink, table, view)? {
-        return Ok(());
-    }
-    Err(Failure::Missing(missing(alloc, &table.choice)?))
-}
-
-/// Writes the sheet that is chosen of the workbook that a stream's bytes hold.
+/// Writes the sheet that is chosen of the workbook that a stream's bytes hold. Nothing is written where there is no
+/// such sheet.
 pub(crate) fn write_sheet_of<K: Sink>(
     alloc: Global,
     sink: &mut K,
-    table: &Table<'_>,
+    choice: &SheetChoice<'_>,
+    table: &Table,
     options: &XlsOptions,
     bytes: &[u8],
 ) -> Result<(), Failure>
-    requires { IsNumbered table.now.choice }
-    ensures { OfView options.now bytes.now (IsTableOf table.now) (BeginsTableOf table.now) (MissesSheet table.now.choice)
+    requires { IsNumbered choice.now }
+    ensures { OfView options.now bytes.now (IsTableOf choice.now table.now) (BeginsTableOf choice.now table.now) (MissesSheet choice.now)
         (K.state sink.old) (K.state sink.new) result }
 {
     let view = View::new(alloc, bytes, options)?;
-    write_sheet(alloc, sink, table, &view)
+    let index = chosen(alloc, &view, choice)?;
+    write_sheet_at(alloc, sink, table, &view, index)?;
+    Ok(())
 }

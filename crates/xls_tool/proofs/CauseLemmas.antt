@@ -10,8 +10,8 @@ use Rattle.xls_output.specs.SinkState.{SinkState}
 use Rattle.xls_output.specs.declared.stop.Stop.{Stop}
 use Rattle.xls_open.specs.declared.options.XlsOptions.{XlsOptions}
 use Rattle.xls_tool.specs.Problems.{problem_status, status_of_file, status_of_work}
-use Rattle.xls_tool.specs.Steps.{EndsPath, IsUnread, OfPath}
-use Rattle.xls_tool.specs.Texts.{HasCause, OfText, WantsFolder, is_exact}
+use Rattle.xls_tool.specs.Steps.{EndsPath, EndsText, IsUnread, OfPath}
+use Rattle.xls_tool.specs.Texts.{HasCause, is_exact}
 use Rattle.xls_tool.specs.declared.problem.Problem.{Problem}
 use Rattle.xls_tool.specs.declared.problem.Problem.TheVariants as problems
 use Rattle.xls_words.specs.Requests.{AreNamed, IsPlainRequest, plain_command}
@@ -36,9 +36,11 @@ not-read finds command options s p (inr (status, lacks)) = inr (inl (status, lac
 
 -- bytes that were read were answered
 pub was-answered : (finds : Option (List ℕ) → Type 0) (command : Command) (options : XlsOptions) (file : List ℕ) (a b : SinkState)
-    (r : Result (Unit {0}) Problem) → finds (Some file) → OfText command options file a b r → EndsPath finds command options a b r
-was-answered finds command options file a b (Ok tt) found text = (file, found, text)
-was-answered finds command options file a b (Err p) found text = inr (inr (file, found, text))
+    (r : Result (Unit {0}) Problem) → finds (Some file) → EndsText command options file a b r → EndsPath finds command options a b r
+was-answered finds command options file a b (Ok x) found (inl none) = absurd none
+was-answered finds command options file a b (Ok x) found (inr text) = (file, found, text)
+was-answered finds command options file a b (Err p) found (inl memory) = inl memory
+was-answered finds command options file a b (Err p) found (inr text) = inr (inr (file, found, text))
 
 -- ---- the status of a path
 
@@ -56,17 +58,16 @@ pub told : (finds : Option (List ℕ) → Type 0) (command : Command) (options :
 told finds command options a b p n ends (inl is) = subst (HasCause finds command options a b) (sym is) (has-cause finds command options a b (Err p) ends)
 told finds command options a b p n ends (inr memory) = inl memory
 
--- a folder is wanted where no file is found, or all sheets are asked for
+-- a folder is wanted where no file is found
 pub wants-folder : (finds : Option (List ℕ) → Type 0) (command : Command) (options : XlsOptions) (s : SinkState)
-    → finds None ⊎ WantsFolder command → HasCause finds command options s s 2
-wants-folder finds command options s why = inr (inl (refl, why, (Keeps-refl s.written, refl)))
+    → finds None → HasCause finds command options s s 2
+wants-folder finds command options s lacks = inr (inl (refl, lacks, (Keeps-refl s.written, refl)))
 
 -- what may be found later could be found before
 pub earlier : (before after : List ℕ → Option (List ℕ) → Type 0) (path : List ℕ) (command : Command) (options : XlsOptions)
     (a b : SinkState) (n : ℕ) → Stays before after → HasCause (after path) command options a b n → HasCause (before path) command options a b n
 earlier before after path command options a b n stays (inl memory) = inl memory
-earlier before after path command options a b n stays (inr (inl (two, inl lacks, same))) = inr (inl (two, inl (stays path None lacks), same))
-earlier before after path command options a b n stays (inr (inl (two, inr wants, same))) = inr (inl (two, inr wants, same))
+earlier before after path command options a b n stays (inr (inl (two, lacks, same))) = inr (inl (two, stays path None lacks, same))
 earlier before after path command options a b n stays (inr (inr (inl (ten, lacks, same)))) = inr (inr (inl (ten, stays path None lacks, same)))
 earlier before after path command options a b n stays (inr (inr (inr (result, (file, found, text), is)))) =
     inr (inr (inr (result, (file, stays path (Some file) found, text), is)))

@@ -1,3 +1,4 @@
 pub mod StandardFacts
 pub mod CauseLemmas
 pub mod BesideLemmas
+pub mod FileLemmas

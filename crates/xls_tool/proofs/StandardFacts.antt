@@ -41,13 +41,13 @@ known_outcomes = refl
 
 pub known_exact : (s : SheetChoice) (d : ℕ) (m : Bool) → map is_exact
     (commands.Dump Exact ∷ commands.Sheets Exact ∷ commands.Formulas Exact ∷ commands.Refs Exact
-    ∷ commands.Csv (record { choice = s; delimiter = d; begins_with_mark = m; style = Exact }) ∷ [])
+    ∷ commands.Csv s (record { delimiter = d; begins_with_mark = m; style = Exact }) ∷ [])
     ≡ true ∷ true ∷ true ∷ true ∷ true ∷ []
 known_exact s d m = refl
 
 pub known_readable : (s : SheetChoice) (d : ℕ) (m : Bool) (path : _) → map is_exact
     (commands.Dump Json ∷ commands.Sheets Json ∷ commands.Formulas Json ∷ commands.Refs Json
-    ∷ commands.Csv (record { choice = s; delimiter = d; begins_with_mark = m; style = Readable })
+    ∷ commands.Csv s (record { delimiter = d; begins_with_mark = m; style = Readable })
     ∷ commands.Check ∷ commands.Props ∷ commands.Vba ∷ commands.Remake ∷ commands.Stream path ∷ commands.Streams ∷ [])
     ≡ false ∷ false ∷ false ∷ false ∷ false ∷ false ∷ false ∷ false ∷ false ∷ false ∷ false ∷ []
 known_readable s d m path = refl

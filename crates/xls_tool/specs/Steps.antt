@@ -1,11 +1,12 @@
--- How the work of a path ends, for the proofs.
+-- How the work of a file and of a path ends, for the proofs.
 use Rattle.std.specs.Prelude.{◌≡◌, ◌⊎◌, ℕ, List, Option, None, Result, Ok, Err}
 use Rattle.xls_output.specs.SinkState.{SinkState}
 use Rattle.xls_output.specs.declared.stop.Stop.{Stop}
 use Rattle.xls_open.specs.declared.options.XlsOptions.{XlsOptions}
 use Rattle.xls_report.specs.Endings.{IsUntouched}
 use Rattle.xls_tool.specs.Problems.{problem_status, status_of_work}
-use Rattle.xls_tool.specs.Texts.{Answered, HasCause}
+use Rattle.xls_answers.specs.declared.answer.Answer.{Answer}
+use Rattle.xls_tool.specs.Texts.{Answered, HasCause, OfAnswer, OfText}
 use Rattle.xls_tool.specs.declared.problem.Problem.{Problem}
 use Rattle.xls_words.specs.declared.request.Command.{Command}
 use Rattle.xls_words.specs.declared.request.Command.TheVariants.{Check}
@@ -14,6 +15,18 @@ use Rattle.xls_words.specs.declared.request.Request.{Request}
 -- memory ran out, or no file may be found there
 abbrev pub IsUnread : (Option (List ℕ) → Type 0) → Problem → Type 0
 IsUnread finds p = (problem_status p ≡ 5) ⊎ ((problem_status p ≡ 10) × finds None)
+
+-- memory ran out
+abbrev pub RanOut : Result (Unit {0}) Problem → Type 0
+RanOut (Ok x) = ⊥
+RanOut (Err p) = problem_status p ≡ 5
+
+-- a file was answered, unless memory ran out, maybe as its formats were told of
+abbrev pub EndsAnswer : Answer → XlsOptions → List ℕ → SinkState → SinkState → Result (Unit {0}) Problem → Type 0
+EndsAnswer answer options file before after result = RanOut result ⊎ OfAnswer answer options file before after result
+
+abbrev pub EndsText : Command → XlsOptions → List ℕ → SinkState → SinkState → Result (Unit {0}) Problem → Type 0
+EndsText command options file before after result = RanOut result ⊎ OfText command options file before after result
 
 -- what is found there was answered; or nothing was written, since no file may be found there; or memory ran out
 abbrev pub EndsPath : (Option (List ℕ) → Type 0) → Command → XlsOptions → SinkState → SinkState → Result (Unit {0}) Problem → Type 0

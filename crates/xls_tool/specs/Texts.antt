@@ -1,6 +1,6 @@
 -- What is written of a file, and which cause an exit status has.
 use Rattle.std.specs.Prelude.{◌≡◌, ◌⊎◌, ℕ, Bool, true, false, List, Option, None, Some, Result, Ok, Err}
-use Rattle.xls_answers.specs.Answers.{OfFile}
+use Rattle.xls_answers.specs.Answers.{OfFile, OfReadable}
 use Rattle.xls_answers.specs.declared.answer.Answer.{Answer}
 use Rattle.xls_answers.specs.declared.answer.Answer.TheVariants as answers
 use Rattle.xls_answers.specs.declared.lines.Listing.TheVariants as listing
@@ -11,7 +11,6 @@ use Rattle.xls_readable.specs.declared.forms.Form.TheVariants.{Text, Json}
 use Rattle.xls_report.specs.Endings.{IsUntouched}
 use Rattle.xls_words.specs.declared.request.Command.{Command}
 use Rattle.xls_words.specs.declared.request.Command.TheVariants as commands
-use Rattle.xls_words.specs.declared.request.SheetChoice.TheVariants.{All}
 use Rattle.xls_words.specs.declared.request.Style.{Style}
 use Rattle.xls_words.specs.declared.request.Style.TheVariants as styles
 use Rattle.xls_tool.specs.Beside.{OfBeside}
@@ -38,7 +37,7 @@ answer_of (commands.Sheets s) = Some (answers.Lines listing.Sheets (style_form s
 answer_of (commands.Formulas s) = Some (answers.Lines listing.Formulas (style_form s))
 answer_of (commands.Refs s) = Some (answers.Lines listing.Refs (style_form s))
 answer_of commands.Check = Some answers.Check
-answer_of (commands.Csv t) = Some (answers.Sheet t)
+answer_of (commands.Csv choice t) = Some (answers.Sheet choice t)
 answer_of commands.Remake = Some answers.Remade
 answer_of (commands.Stream None) = Some answers.Bytes
 answer_of (commands.Stream (Some path)) = None
@@ -46,7 +45,13 @@ answer_of commands.Props = None
 answer_of commands.Vba = None
 answer_of commands.Streams = None
 
--- the whole answer was written, or what a failure leaves of it
+-- the whole answer was written of a workbook's stream, or what a failure leaves of it
+abbrev pub OfWorkbook : Answer → XlsOptions → List ℕ → SinkState → SinkState → Result (Unit {0}) Problem → Type 0
+OfWorkbook answer options stream before after (Ok x) = OfReadable answer options stream before after (Ok x)
+OfWorkbook answer options stream before after (Err (problems.Failure f)) = OfReadable answer options stream before after (Err f)
+OfWorkbook answer options stream before after (Err other) = ⊥
+
+-- likewise of a file
 abbrev pub OfAnswer : Answer → XlsOptions → List ℕ → SinkState → SinkState → Result (Unit {0}) Problem → Type 0
 OfAnswer answer options file before after (Ok x) = OfFile answer options file before after (Ok x)
 OfAnswer answer options file before after (Err (problems.Failure f)) = OfFile answer options file before after (Err f)
@@ -73,7 +78,7 @@ is_exact (commands.Dump s) = is_exact_style s
 is_exact (commands.Sheets s) = is_exact_style s
 is_exact (commands.Formulas s) = is_exact_style s
 is_exact (commands.Refs s) = is_exact_style s
-is_exact (commands.Csv t) = is_exact_style t.style
+is_exact (commands.Csv choice t) = is_exact_style t.style
 is_exact commands.Check = false
 is_exact commands.Props = false
 is_exact commands.Vba = false
@@ -88,16 +93,11 @@ abbrev pub Answered : (Option (List ℕ) → Type 0) → Command → XlsOptions 
 Answered finds command options before after result =
     (file : List ℕ) × finds (Some file) × OfText command options file before after result
 
--- the sheets that are asked for want a folder
-abbrev pub WantsFolder : Command → Type 0
-WantsFolder (commands.Csv table) = table.choice ≡ All
-WantsFolder other = ⊥
-
 -- each exit status of a path has its cause, and only that of memory is free: 2 and 10 come where nothing is written, since
--- no file may be found there (or, 2, all sheets are asked for); each other status is that of the answer to what is found
+-- no file may be found there; each other status is that of the answer to what is found
 abbrev pub HasCause : (Option (List ℕ) → Type 0) → Command → XlsOptions → SinkState → SinkState → ℕ → Type 0
 HasCause finds command options before after n =
     (n ≡ 5)
-    ⊎ (((n ≡ 2) × (finds None ⊎ WantsFolder command) × IsUntouched before after)
+    ⊎ (((n ≡ 2) × finds None × IsUntouched before after)
     ⊎ (((n ≡ 10) × finds None × IsUntouched before after)
     ⊎ ((result : Result (Unit {0}) Problem) × Answered finds command options before after result × (n ≡ status_of_file result))))

@@ -4,14 +4,23 @@ ghost use Rattle.std.specs.Prelude.{IfOk, IfErr, Some};
 ghost use Rattle.xls_tool.specs.Steps.{IsUnread};
 
 use crate::problem::Problem;
+use xls_container::Container;
 use xls_files::Host;
 
-/// A file that was read.
+/// A file that was opened.
 #[derive(Drop)]
-pub(crate) struct ReadFile<'f> {
+pub(crate) struct OpenedFile<'f> {
     /// By which it is told of.
     pub path: &'f str,
-    pub bytes: &'f [u8],
+    pub container: Container<'f>,
+}
+
+/// The stream of a file's workbook.
+#[derive(Drop)]
+pub(crate) struct Workbook<'f> {
+    /// The path of the file.
+    pub path: &'f str,
+    pub stream: &'f [u8],
 }
 
 /// The bytes of a file, or of standard input.

@@ -1,36 +1,20 @@
 //! Number formats of a workbook's own that don't count.
 
-use crate::file::ReadFile;
-use crate::job::Job;
+use crate::file::Workbook;
 use crate::say::say_of;
 use std::alloc::{AllocError, Global};
-use xls_container::{Container, FileFault};
+use xls_answers::{Answer, Listing};
 use xls_files::Host;
 use xls_formats::{Uncounted, uncounted_formats};
-use xls_words::Command;
 
-/// Whether a command writes values, which formats make dates and durations.
-fn writes_values(command: &Command<'_>) -> bool {
-    matches!(command, Command::Dump(_) | Command::Csv(_))
-}
-
-/// What a file gives, or None where it has a fault, which was told in place of its text. Out of memory is passed on.
-fn unless_faulty<T>(given: Result<T, FileFault>) -> Result<Option<T>, AllocError> {
-    match given {
-        Ok(given) => Ok(Some(given)),
-        Err(FileFault::Memory) => Err(AllocError),
-        Err(_) => Ok(None),
-    }
-}
-
-/// The formats in a file's workbook that don't count, if there are any.
-fn uncounted_in(alloc: Global, bytes: &[u8]) -> Result<Option<Uncounted>, AllocError> {
-    let Some(container) = unless_faulty(Container::open(alloc, bytes))? else {
-        return Ok(None);
-    };
-    match unless_faulty(container.workbook(alloc))? {
-        Some(stream) => uncounted_formats(alloc, stream.as_slice()),
-        None => Ok(None),
+/// Whether values are written, which formats make dates and durations.
+fn has_values(answer: &Answer<'_>) -> bool {
+    match answer {
+        Answer::Lines(Listing::Dump, _) | Answer::Exact | Answer::Sheet(..) => true,
+        Answer::Lines(Listing::Sheets | Listing::Formulas | Listing::Refs, _)
+        | Answer::Check
+        | Answer::Remade
+        | Answer::Bytes => false,
     }
 }
 
@@ -48,18 +32,18 @@ fn tell_uncounted<H: Host>(
     say_of(alloc, host, path, text.as_str())
 }
 
-/// Tells of the formats in a file's workbook that don't count, where its values were written.
+/// Tells of the formats of a workbook that don't count, where its values were written.
 pub(crate) fn tell_formats<H: Host>(
     alloc: Global,
     host: &mut H,
-    job: &Job<'_>,
-    file: &ReadFile<'_>,
+    answer: &Answer<'_>,
+    book: &Workbook<'_>,
 ) -> Result<(), AllocError> {
-    if !writes_values(&job.request.command) {
+    if !has_values(answer) {
         return Ok(());
     }
-    if let Some(found) = uncounted_in(alloc, file.bytes)? {
-        tell_uncounted(alloc, host, file.path, found)?;
+    if let Some(found) = uncounted_formats(alloc, book.stream)? {
+        tell_uncounted(alloc, host, book.path, found)?;
     }
     Ok(())
 }

@@ -49,8 +49,13 @@ fn is_exact(command: &Command<'_>) -> bool
         | Command::Sheets(style)
         | Command::Formulas(style)
         | Command::Refs(style) => *style == Style::Exact,
-        Command::Csv(table) => table.style == Style::Exact,
-        _ => false,
+        Command::Csv(_, table) => table.style == Style::Exact,
+        Command::Check
+        | Command::Props
+        | Command::Vba
+        | Command::Remake
+        | Command::Stream(_)
+        | Command::Streams => false,
     }
 }
 
@@ -67,12 +72,14 @@ pub(crate) fn answer_of<'w>(command: &Command<'w>) -> Option<Answer<'w>>
         Command::Formulas(style) => Some(Answer::Lines(Listing::Formulas, form_of(*style))),
         Command::Refs(style) => Some(Answer::Lines(Listing::Refs, form_of(*style))),
         Command::Check => Some(Answer::Check),
-        Command::Csv(table) => Some(Answer::Sheet(Table {
-            choice: table.choice,
-            delimiter: table.delimiter,
-            begins_with_mark: table.begins_with_mark,
-            style: table.style,
-        })),
+        Command::Csv(choice, table) => Some(Answer::Sheet(
+            *choice,
+            Table {
+                delimiter: table.delimiter,
+                begins_with_mark: table.begins_with_mark,
+                style: table.style,
+            },
+        )),
         Command::Remake => Some(Answer::Remade),
         Command::Stream(None) => Some(Answer::Bytes),
         Command::Stream(Some(_)) | Command::Props | Command::Vba | Command::Streams => None,
@@ -94,8 +101,13 @@ pub(crate) fn ending_of(command: &Command<'_>) -> &'static str {
         | Command::Sheets(style)
         | Command::Formulas(style)
         | Command::Refs(style) => line_ending(*style),
-        Command::Csv(_) => "csv",
-        _ => "txt",
+        Command::Csv(..) => "csv",
+        Command::Check
+        | Command::Props
+        | Command::Vba
+        | Command::Remake
+        | Command::Stream(_)
+        | Command::Streams => "txt",
     }
 }
 

@@ -7,6 +7,7 @@ mod formats;
 mod job;
 mod many;
 mod one;
+mod opened;
 mod problem;
 mod runs;
 mod say;

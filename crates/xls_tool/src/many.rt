@@ -3,16 +3,13 @@
 ghost use Rattle.std.specs.Prelude.{◌≡◌, IfOk, None};
 ghost use Rattle.xls_tool.specs.Problems.{IsStatus};
 ghost use Rattle.xls_tool.specs.Steps.{EndsPath};
-ghost use Rattle.xls_tool.specs.Texts.{OfText};
 ghost use Rattle.xls_words.specs.Requests as requests;
 
-use crate::file::{ReadFile, read};
-use crate::formats::tell_formats;
+use crate::file::read;
 use crate::job::Job;
+use crate::opened::do_bytes;
 use crate::problem::Problem;
-use crate::sheets::write_files;
 use crate::tell::Report;
-use crate::work::write_text;
 use std::alloc::{AllocError, Global};
 use xls_files::{Host, Name, Next, Queue, Reason};
 use xls_output::{Sink, Stop, WriteFault};
@@ -31,24 +28,6 @@ impl Sink for Nowhere {
     }
 }
 
-/// Writes the text of a file to the sink, or into files below the folder, if there is one.
-fn write<H: Host, K: Sink>(
-    alloc: Global,
-    host: &mut H,
-    sink: &mut K,
-    job: &Job<'_>,
-    file: &ReadFile<'_>,
-) -> Result<(), Problem>
-    requires { requests.CommandHasNumber job.now.request.command }
-    ensures { job.now.request.out ≡ None → OfText job.now.request.command job.now.options file.now.bytes.now
-        (K.state sink.old) (K.state sink.new) result }
-{
-    match job.request.out {
-        Some(out) => write_files(alloc, host, job, out, file),
-        None => write_text(alloc, sink, job, file.bytes),
-    }
-}
-
 /// Does the work of a file: reads it, writes its text, and tells of its formats.
 pub(crate) fn do_file<H: Host, K: Sink>(
     alloc: Global,
@@ -62,13 +41,7 @@ pub(crate) fn do_file<H: Host, K: Sink>(
         job.now.request.command job.now.options (K.state sink.old) (K.state sink.new) result }
 {
     let bytes = read(host, path)?;
-    let file = ReadFile {
-        path,
-        bytes: bytes.as_slice(),
-    };
-    write(alloc, host, sink, job, &file)?;
-    tell_formats(alloc, host, job, &file)?;
-    Ok(())
+    do_bytes(alloc, host, sink, job, path, bytes.as_slice())
 }
 
 /// That a name isn't UTF-8.

@@ -1,12 +1,12 @@
 //! The top call of the program.
 
-ghost use Rattle.std.specs.Prelude.{◌≡◌, ◌⊎◌, ℕ, true, false, List, [], ◌∷◌, map, None, Err, IfOk, IfErr, IfSome};
+ghost use Rattle.std.specs.Prelude.{◌≡◌, ℕ, true, false, List, [], ◌∷◌, map, None, Err, IfOk, IfErr};
 ghost use Rattle.std.specs.String.{string_bytes};
 ghost use Rattle.xls_answers.specs.Views.{options_under};
 ghost use Rattle.xls_output.specs.declared.stop.Stop.TheVariants.{Memory};
 ghost use Rattle.xls_tool.specs.Problems.{Ends, IsStatus, status_of_work};
 ghost use Rattle.xls_tool.specs.Steps.{OfPath};
-ghost use Rattle.xls_tool.specs.Texts.{HasCause, WantsFolder, is_exact};
+ghost use Rattle.xls_tool.specs.Texts.{HasCause, is_exact};
 ghost use Rattle.xls_words.specs.Requests as requests;
 ghost use Rattle.xls_words.specs.Requests.{AreNamed, AreWordsOf, are_plain, plain_command};
 ghost use Rattle.xls_words.specs.declared.displayed.Displayed.TheVariants as displays;
@@ -20,21 +20,16 @@ use crate::one::{Placed, do_one};
 use std::alloc::Global;
 use xls_files::{Host, Place, place_of};
 use xls_output::{Sink, Stop, write_all};
-use xls_words::{Command, Displayed, Files, Request, SheetChoice, request_of};
+use xls_words::{Command, Displayed, Files, Request, request_of};
 
-/// Where there is no folder for the texts, what is wrong with that.
-fn mistake_in(job: &Job<'_>, is_many: bool) -> Option<&'static str>
-    ensures none { result ≡ None → is_many ≡ true → job.now.request.out ≡ None → job.now.request.command ≡ commands.Check }
-    ensures some { IfSome result (λ _. (is_many ≡ true) ⊎ WantsFolder job.now.request.command) }
+/// What is told of many files without a folder for their texts.
+const WANTS_FOLDER: &str = "error: many files want --out DIR (but for check)";
+
+/// Whether the texts of many files have a place: a folder, or for `check` none is needed.
+fn takes_many_files(job: &Job<'_>) -> bool
+    ensures { result ≡ true → job.now.request.out ≡ None → job.now.request.command ≡ commands.Check }
 {
-    match (&job.request.out, &job.request.command) {
-        (Some(_), _) | (None, Command::Check) => None,
-        (None, Command::Csv(table)) if table.choice == SheetChoice::All => {
-            Some("error: --all wants --out DIR")
-        }
-        (None, _) if is_many => Some("error: many files want --out DIR (but for check)"),
-        (None, _) => None,
-    }
+    job.request.out.is_some() || matches!(job.request.command, Command::Check)
 }
 
 /// Does the work of one file, or of a folder.
@@ -51,8 +46,8 @@ fn do_path<H: Host, K: Sink>(
 {
     let place = place_of(host, path);
     let is_many = matches!(place, Ok(Place::Folder)) && takes_many(&job.request.command);
-    if let Some(mistake) = mistake_in(job, is_many) {
-        host.say(mistake);
+    if is_many && !takes_many_files(job) {
+        host.say(WANTS_FOLDER);
         return Ok(2);
     }
     if is_many {
@@ -77,8 +72,8 @@ fn do_paths<H: Host, K: Sink>(
     if let [path] = paths {
         return do_path(alloc, host, out, job, path);
     }
-    if let Some(mistake) = mistake_in(job, true) {
-        host.say(mistake);
+    if !takes_many_files(job) {
+        host.say(WANTS_FOLDER);
         return Ok(2);
     }
     do_many(alloc, host, out, job, paths)
@@ -95,8 +90,8 @@ fn do_listed<H: Host, K: Sink>(
     requires { requests.CommandHasNumber job.now.request.command }
     ensures { IfOk result (Ends out.old out.new) }
 {
-    if let Some(mistake) = mistake_in(job, true) {
-        host.say(mistake);
+    if !takes_many_files(job) {
+        host.say(WANTS_FOLDER);
         return Ok(2);
     }
     do_list(alloc, host, out, job, list)

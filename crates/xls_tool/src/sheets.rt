@@ -1,22 +1,22 @@
 //! Texts that are written into files.
 
-ghost use Rattle.xls_words.specs.Requests as requests;
+ghost use Rattle.std.specs.Prelude.{◌≡◌, ◌<◌, length};
+ghost use Rattle.xls_answers.specs.Answers.{HasNumber};
+ghost use Rattle.xls_words.specs.Requests.{IsNumbered};
 
-use crate::file::ReadFile;
+use crate::file::{OpenedFile, Workbook};
 use crate::job::{Job, ending_of};
 use crate::problem::Problem;
 use crate::say::say_of;
-use crate::work::write_text;
-use std::alloc::Global;
-use xls_answers::{Failure, Missing, write_sheet};
-use xls_container::{Container, is_obfuscated};
+use crate::work::{write_beside, write_text, written};
+use std::alloc::{AllocError, Global};
+use xls_answers::{Answer, Failure, chosen, view_of, write_sheet_at};
 use xls_data::{Sheet, SheetType, SheetVisible};
 use xls_files::{Host, Reason, file_path, folder_of};
-use xls_open::XlsOptions;
 use xls_output::Stop;
 use xls_tables::file_name;
 use xls_view::View;
-use xls_words::{Command, SheetChoice, Table};
+use xls_words::{Folder, SheetChoice, Table};
 
 /// A file to be written.
 fn create<H: Host>(host: &mut H, path: &str, writes_over: bool) -> Result<H::File, Reason> {
@@ -43,81 +43,104 @@ fn end<H: Host>(
     }
 }
 
-/// Writes the text of a file's bytes into a file of its own.
+/// The path of the file for the text of a command, which is named by the command.
+fn text_path(
+    alloc: Global,
+    job: &Job<'_>,
+    folder: &Folder<'_>,
+    file: &str,
+) -> Result<String, AllocError> {
+    let below = folder_of(alloc, folder.path, file)?;
+    let name = job.request.command.word().name();
+    file_path(alloc, below.as_str(), name, ending_of(&job.request.command))
+}
+
+/// Writes what is asked for of a workbook into a file of its own.
 fn write_text_file<H: Host>(
     alloc: Global,
     host: &mut H,
     job: &Job<'_>,
-    folder: &str,
-    bytes: &[u8],
+    folder: &Folder<'_>,
+    answer: &Answer<'_>,
+    book: &Workbook<'_>,
 ) -> Result<(), Problem>
-    requires { requests.CommandHasNumber job.now.request.command }
+    requires { HasNumber answer.now }
 {
-    let path = file_path(
-        alloc,
-        folder,
-        job.request.command.word().name(),
-        ending_of(&job.request.command),
-    )?;
-    let mut file = match create(host, path.as_str(), job.request.writes_over) {
+    let path = text_path(alloc, job, folder, book.path)?;
+    let mut file = match create(host, path.as_str(), folder.writes_over) {
         Ok(file) => file,
         Err(reason) => return Err(Problem::Unwritten(path, reason)),
     };
-    let done = write_text(alloc, &mut file, job, bytes);
+    let done = write_text(alloc, &mut file, answer, &job.options, book.stream);
     end(host, path, file, done)
 }
 
-/// The number of a sheet by its index, from 1.
-fn number_of(index: usize) -> Option<u32> {
-    match index.checked_add(1) {
-        Some(number) => u32::try_from(number).ok(),
-        None => None,
-    }
+/// Writes what stands beside the workbook into a file of its own.
+pub(crate) fn write_beside_file<H: Host>(
+    alloc: Global,
+    host: &mut H,
+    job: &Job<'_>,
+    folder: &Folder<'_>,
+    file: &OpenedFile<'_>,
+) -> Result<(), Problem> {
+    let path = text_path(alloc, job, folder, file.path)?;
+    let mut out = match create(host, path.as_str(), folder.writes_over) {
+        Ok(out) => out,
+        Err(reason) => return Err(Problem::Unwritten(path, reason)),
+    };
+    let done = write_beside(
+        alloc,
+        &mut out,
+        &job.request.command,
+        &job.options,
+        &file.container,
+    );
+    end(host, path, out, done)
 }
 
 /// The files that the sheets of a workbook are written into.
 #[derive(Drop)]
-struct SheetFiles<'f, 'w> {
-    job: &'f Job<'w>,
-    /// Which sheets, and how their cells are written.
-    table: &'f Table<'w>,
-    /// Where the files are.
+struct SheetFiles<'f> {
+    /// How the cells of each are written.
+    table: &'f Table,
+    /// The folder for all files, and the one for the files of this workbook.
+    out: &'f Folder<'f>,
     folder: &'f str,
     /// The path of the workbook's file, by which it is told of.
     book: &'f str,
+}
+
+/// The path of the file for the sheet of an index.
+fn sheet_path(
+    alloc: Global,
+    files: &SheetFiles<'_>,
+    view: &View<'_>,
+    index: usize,
+) -> Result<String, AllocError>
+    requires { index < length view.now.book.sheets }
+{
+    let sheet = &view.sheets()[index];
+    let name = file_name(alloc, index + 1, sheet.name.as_str())?;
+    file_path(alloc, files.folder, name.as_str(), "csv")
 }
 
 /// Writes the sheet of an index into a file of its own.
 fn write_sheet_file<H: Host>(
     alloc: Global,
     host: &mut H,
-    files: &SheetFiles<'_, '_>,
+    files: &SheetFiles<'_>,
     view: &View<'_>,
     index: usize,
-) -> Result<(), Problem> {
-    let Some(sheet) = view.sheets().get(index) else {
-        return Err(Problem::Failure(Failure::Missing(Missing::Worksheet)));
-    };
-    let number = match number_of(index) {
-        Some(number) if number > 0 => number,
-        _ => return Err(Problem::Failure(Failure::Missing(Missing::Worksheet))),
-    };
-    let name = file_name(alloc, number as usize, sheet.name.as_str())?;
-    let path = file_path(alloc, files.folder, name.as_str(), "csv")?;
-    let mut file = match create(host, path.as_str(), files.job.request.writes_over) {
+) -> Result<(), Problem>
+    requires within { index < length view.now.book.sheets }
+    requires sheets { length view.now.book.contents ≡ length view.now.book.sheets }
+{
+    let path = sheet_path(alloc, files, view, index)?;
+    let mut file = match create(host, path.as_str(), files.out.writes_over) {
         Ok(file) => file,
         Err(reason) => return Err(Problem::Unwritten(path, reason)),
     };
-    let table = Table {
-        choice: SheetChoice::Number(number),
-        delimiter: files.table.delimiter,
-        begins_with_mark: files.table.begins_with_mark,
-        style: files.table.style,
-    };
-    let done = match write_sheet(alloc, &mut file, &table, view) {
-        Ok(()) => Ok(()),
-        Err(failure) => Err(Problem::from(failure)),
-    };
+    let done = written(write_sheet_at(alloc, &mut file, files.table, view, index));
     end(host, path, file, done)
 }
 
@@ -127,13 +150,12 @@ fn tell_hidden<H: Host>(
     host: &mut H,
     file: &str,
     sheet: &Sheet,
-) -> Result<(), Problem> {
+) -> Result<(), AllocError> {
     if sheet.visible == SheetVisible::Visible {
         return Ok(());
     }
     let text = format!(in alloc; "sheet '{}' is hidden", sheet.name)?;
-    say_of(alloc, host, file, text.as_str())?;
-    Ok(())
+    say_of(alloc, host, file, text.as_str())
 }
 
 /// Whether all sheets have it among them.
@@ -145,9 +167,11 @@ fn is_table(sheet: &Sheet) -> bool {
 fn write_all_sheets<H: Host>(
     alloc: Global,
     host: &mut H,
-    files: &SheetFiles<'_, '_>,
+    files: &SheetFiles<'_>,
     view: &View<'_>,
-) -> Result<(), Problem> {
+) -> Result<(), Problem>
+    requires { length view.now.book.contents ≡ length view.now.book.sheets }
+{
     let sheets = view.sheets();
     for index in 0..sheets.len() {
         let sheet = &sheets[index];
@@ -159,127 +183,63 @@ fn write_all_sheets<H: Host>(
     Ok(())
 }
 
-/// The index of the first worksheet.
-fn first_index(sheets: &[Sheet]) -> Option<usize> {
-    for index in 0..sheets.len() {
-        if sheets[index].typ == SheetType::WorkSheet {
-            return Some(index);
-        }
-    }
-    None
-}
-
-/// The index of the last sheet of a name.
-fn named_index(sheets: &[Sheet], name: &str) -> Option<usize> {
-    let mut found = None;
-    for index in 0..sheets.len() {
-        if sheets[index].name.as_str() == name {
-            found = Some(index);
-        }
-    }
-    found
-}
-
-/// The index of the sheet that is chosen.
-fn index_of(sheets: &[Sheet], choice: &SheetChoice<'_>) -> Option<usize> {
-    match choice {
-        SheetChoice::First | SheetChoice::All => first_index(sheets),
-        SheetChoice::Named(name) => named_index(sheets, name),
-        SheetChoice::Number(number) => (*number as usize).checked_sub(1),
-    }
-}
-
-/// That there is no sheet as it is chosen.
-fn missing(alloc: Global, choice: &SheetChoice<'_>) -> Result<Problem, Problem> {
-    Ok(Problem::Failure(Failure::Missing(match choice {
-        SheetChoice::Named(name) => Missing::Name(String::from_str(alloc, name)?),
-        SheetChoice::Number(number) => Missing::Number(*number),
-        SheetChoice::First | SheetChoice::All => Missing::Worksheet,
-    })))
-}
-
 /// Writes the sheet that is chosen into a file of its own.
-fn write_one_sheet<H: Host>(
+fn write_chosen_sheet<H: Host>(
     alloc: Global,
     host: &mut H,
-    files: &SheetFiles<'_, '_>,
+    files: &SheetFiles<'_>,
     view: &View<'_>,
-) -> Result<(), Problem> {
-    let sheets = view.sheets();
-    match index_of(sheets, &files.table.choice) {
-        Some(index) if index < sheets.len() => write_sheet_file(alloc, host, files, view, index),
-        _ => Err(missing(alloc, &files.table.choice)?),
-    }
+    choice: &SheetChoice<'_>,
+) -> Result<(), Problem>
+    requires number { IsNumbered choice.now }
+    requires sheets { length view.now.book.contents ≡ length view.now.book.sheets }
+{
+    let index = chosen(alloc, view, choice)?;
+    write_sheet_file(alloc, host, files, view, index)
 }
 
-/// Writes the sheets that are chosen into files.
-fn write_chosen<H: Host>(
+/// Writes the sheet that is chosen into a file of its own, or all sheets where they are asked for.
+fn write_sheet_files<H: Host>(
     alloc: Global,
     host: &mut H,
-    files: &SheetFiles<'_, '_>,
+    files: &SheetFiles<'_>,
     view: &View<'_>,
-) -> Result<(), Problem> {
-    if files.table.choice == SheetChoice::All {
+    choice: &SheetChoice<'_>,
+) -> Result<(), Problem>
+    requires number { IsNumbered choice.now }
+    requires sheets { length view.now.book.contents ≡ length view.now.book.sheets }
+{
+    if files.out.takes_all_sheets {
         return write_all_sheets(alloc, host, files, view);
     }
-    write_one_sheet(alloc, host, files, view)
+    write_chosen_sheet(alloc, host, files, view, choice)
 }
 
-/// The view of a workbook's stream.
-fn view_of<'s>(alloc: Global, stream: &'s [u8], options: &XlsOptions) -> Result<View<'s>, Problem> {
-    if is_obfuscated(stream) {
-        return Err(Problem::Failure(Failure::Obfuscated));
-    }
-    match View::new(alloc, stream, options) {
-        Ok(view) => Ok(view),
-        Err(error) => Err(Problem::from(Failure::from(error))),
-    }
-}
-
-/// Writes the sheets of a workbook's stream into files.
-fn write_tables<H: Host>(
-    alloc: Global,
-    host: &mut H,
-    files: &SheetFiles<'_, '_>,
-    stream: &[u8],
-) -> Result<(), Problem> {
-    let view = view_of(alloc, stream, &files.job.options)?;
-    write_chosen(alloc, host, files, &view)
-}
-
-/// Writes the sheets of a file's workbook into files.
-fn write_table_files<H: Host>(
-    alloc: Global,
-    host: &mut H,
-    files: &SheetFiles<'_, '_>,
-    bytes: &[u8],
-) -> Result<(), Problem> {
-    let container = Container::open(alloc, bytes)?;
-    let stream = container.workbook(alloc)?;
-    write_tables(alloc, host, files, stream.as_slice())
-}
-
-/// Writes the texts of a file's bytes into files below a folder.
-pub(crate) fn write_files<H: Host>(
+/// Writes what is asked for of a workbook into files below a folder.
+pub(crate) fn write_workbook_files<H: Host>(
     alloc: Global,
     host: &mut H,
     job: &Job<'_>,
-    out: &str,
-    file: &ReadFile<'_>,
+    out: &Folder<'_>,
+    answer: &Answer<'_>,
+    book: &Workbook<'_>,
 ) -> Result<(), Problem>
-    requires { requests.CommandHasNumber job.now.request.command }
+    requires { HasNumber answer.now }
 {
-    let folder = folder_of(alloc, out, file.path)?;
-    match &job.request.command {
-        Command::Csv(table) => {
+    match answer {
+        Answer::Sheet(choice, table) => {
+            let view = view_of(alloc, &job.options, book.stream)?;
+            let folder = folder_of(alloc, out.path, book.path)?;
             let files = SheetFiles {
-                job,
                 table,
+                out,
                 folder: folder.as_str(),
-                book: file.path,
+                book: book.path,
             };
-            write_table_files(alloc, host, &files, file.bytes)
+            write_sheet_files(alloc, host, &files, &view, choice)
         }
-        _ => write_text_file(alloc, host, job, folder.as_str(), file.bytes),
+        Answer::Lines(..) | Answer::Exact | Answer::Check | Answer::Remade | Answer::Bytes => {
+            write_text_file(alloc, host, job, out, answer, book)
+        }
     }
 }

@@ -6,16 +6,15 @@ ghost use Rattle.xls_compound.specs.Entries.{IsItem};
 ghost use Rattle.xls_container.specs.Files.{compound_in};
 ghost use Rattle.xls_output.specs.declared.stop.Stop.TheVariants.{Memory};
 ghost use Rattle.xls_answers.specs.declared.failure.Failure.TheVariants.{Stopped};
-ghost use Rattle.xls_words.specs.Requests as requests;
+ghost use Rattle.xls_answers.specs.Answers.{HasNumber};
 ghost use Rattle.xls_tool.specs.Beside.{IsStreamAt, OfContainer, OfProject, OfProperties, OfStreamAt, OfStreamIn, OfStreams, as_failure, as_problem};
-ghost use Rattle.xls_tool.specs.Texts.{OfText};
+ghost use Rattle.xls_tool.specs.Texts.{OfWorkbook};
 ghost use Rattle.xls_tool.specs.declared.problem.Absent.TheVariants as absent;
 ghost use Rattle.xls_tool.specs.declared.problem.Problem.TheVariants as problems;
 
-use crate::job::{Job, answer_of};
 use crate::problem::{Absent, Problem};
 use std::alloc::Global;
-use xls_answers::{Answer, write_file, write_stream};
+use xls_answers::{Answer, write_stream, write_workbook};
 use xls_compound::{Compound, Entry};
 use xls_container::{Container, FileFault};
 use xls_documents::{project_of, properties_of, write_project, write_properties, write_streams};
@@ -26,7 +25,7 @@ use xls_readable::Form;
 use xls_words::Command;
 
 /// How writing went, as the work of a file tells it.
-fn written(done: Result<(), Stop>) -> Result<(), Problem>
+pub(crate) fn written(done: Result<(), Stop>) -> Result<(), Problem>
     ensures { result ≡ as_problem (as_failure done) }
 {
     Ok(done?)
@@ -136,37 +135,33 @@ fn write_stream_at<K: Sink>(
 }
 
 /// Writes what stands beside the workbook in a file.
-fn write_beside<K: Sink>(
+pub(crate) fn write_beside<K: Sink>(
     alloc: Global,
     sink: &mut K,
-    job: &Job<'_>,
+    command: &Command<'_>,
+    options: &XlsOptions,
     container: &Container<'_>,
 ) -> Result<(), Problem>
-    ensures { OfContainer job.now.request.command container.now (K.state sink.old) (K.state sink.new) result }
+    ensures { OfContainer command.now container.now (K.state sink.old) (K.state sink.new) result }
 {
-    match &job.request.command {
+    match command {
         Command::Props => write_properties_of(alloc, sink, container),
         Command::Vba => write_project_of(alloc, sink, container),
-        Command::Stream(Some(path)) => {
-            write_stream_at(alloc, sink, &job.options, container, path)
-        }
+        Command::Stream(Some(path)) => write_stream_at(alloc, sink, options, container, path),
         _ => write_streams_of(alloc, sink, container),
     }
 }
 
-/// Writes the text of a file's bytes.
+/// Writes what is asked for of a workbook's stream.
 pub(crate) fn write_text<K: Sink>(
     alloc: Global,
     sink: &mut K,
-    job: &Job<'_>,
-    file: &[u8],
+    answer: &Answer<'_>,
+    options: &XlsOptions,
+    stream: &[u8],
 ) -> Result<(), Problem>
-    requires { requests.CommandHasNumber job.now.request.command }
-    ensures { OfText job.now.request.command job.now.options file.now (K.state sink.old) (K.state sink.new) result }
+    requires { HasNumber answer.now }
+    ensures { OfWorkbook answer.now options.now stream.now (K.state sink.old) (K.state sink.new) result }
 {
-    if let Some(answer) = answer_of(&job.request.command) {
-        return Ok(write_file(alloc, sink, &answer, &job.options, file)?);
-    }
-    let container = Container::open(alloc, file)?;
-    write_beside(alloc, sink, job, &container)
+    Ok(write_workbook(alloc, sink, answer, options, stream)?)
 }

@@ -21,7 +21,7 @@ word_of (commands.Formulas s) = words.Formulas
 word_of (commands.Refs s) = words.Refs
 word_of commands.Props = words.Props
 word_of commands.Vba = words.Vba
-word_of (commands.Csv t) = words.Csv
+word_of (commands.Csv choice t) = words.Csv
 word_of commands.Remake = words.Remake
 word_of (commands.Stream p) = words.Stream
 word_of commands.Streams = words.Streams
@@ -37,10 +37,9 @@ abbrev pub IsNumbered : SheetChoice → Type 0
 IsNumbered choices.First = Unit {0}
 IsNumbered (choices.Named name) = Unit {0}
 IsNumbered (choices.Number n) = 0 < n
-IsNumbered choices.All = Unit {0}
 
 abbrev pub CommandHasNumber : Command → Type 0
-CommandHasNumber (commands.Csv t) = IsNumbered t.choice
+CommandHasNumber (commands.Csv choice t) = IsNumbered choice
 CommandHasNumber (commands.Dump s) = Unit {0}
 CommandHasNumber (commands.Sheets s) = Unit {0}
 CommandHasNumber commands.Check = Unit {0}
@@ -95,7 +94,7 @@ plain_command words.Formulas = commands.Formulas Readable
 plain_command words.Refs = commands.Refs Readable
 plain_command words.Props = commands.Props
 plain_command words.Vba = commands.Vba
-plain_command words.Csv = commands.Csv (record { choice = choices.First; delimiter = 0x2C; begins_with_mark = false; style = Readable })
+plain_command words.Csv = commands.Csv choices.First (record { delimiter = 0x2C; begins_with_mark = false; style = Readable })
 plain_command words.Remake = commands.Remake
 plain_command words.Stream = commands.Stream None
 plain_command words.Streams = commands.Streams
@@ -112,4 +111,3 @@ pub record IsPlainRequest (word : Word) (paths : List (List ℕ)) (request : Req
   pub json : request.tells_json ≡ false
   pub page : request.page ≡ None
   pub out : request.out ≡ None
-  pub over : request.writes_over ≡ false

@@ -10,7 +10,7 @@ ghost use Rattle.xls_words.specs.declared.word.Word.{Word};
 use crate::displayed::{Displayed, displayed_of};
 use crate::grammar::{grammar_of, overview};
 use crate::plain::{are_plain, plain_request};
-use crate::request::{Command, Files, Request, SheetChoice, Style, Table};
+use crate::request::{Command, Files, Folder, Request, SheetChoice, Style, Table};
 use crate::word::Word;
 use clap::error::ErrorKind;
 use clap::{ArgMatches, Error};
@@ -50,13 +50,10 @@ fn page_of(text: &str) -> Option<u16>
     }
 }
 
-/// The sheets that are chosen.
+/// The sheet that is chosen.
 fn choice_in<'w>(matches: &ArgMatches<'w>) -> SheetChoice<'w>
     ensures { IsNumbered result }
 {
-    if matches.get_flag("all") {
-        return SheetChoice::All;
-    }
     if let Some(name) = matches.get_str("sheet") {
         return SheetChoice::Named(name);
     }
@@ -78,6 +75,8 @@ enum Refusal {
     FilesAndList,
     /// The page is none that is read.
     Page,
+    /// All sheets are asked for, and no folder for them is given.
+    NoFolder,
 }
 
 impl Refusal {
@@ -91,6 +90,7 @@ impl Refusal {
             Refusal::NoFile => "no file is given",
             Refusal::FilesAndList => "give files, or --files-from, and not both",
             Refusal::Page => "the pages are 1200, 1252, 28591 and 65001",
+            Refusal::NoFolder => "error: --all wants --out DIR",
         }
     }
 }
@@ -114,6 +114,26 @@ fn error_of(grammar: &mut clap::Command<'_>, refusal: Refusal) -> Error {
     }
 }
 
+/// What is wrong with the words, as it stands.
+fn mistake(alloc: Global, text: &str) -> Displayed {
+    match String::from_str(alloc, text) {
+        Ok(text) => Displayed::Mistake(text),
+        Err(_) => Displayed::Memory,
+    }
+}
+
+/// What a user is shown of a refusal. How the command is used is shown with it, but where a folder is missing.
+fn refused(alloc: Global, grammar: &mut clap::Command<'_>, refusal: Refusal) -> Displayed {
+    match refusal {
+        Refusal::NoFolder => mistake(alloc, refusal.text()),
+        Refusal::Memory
+        | Refusal::Delimiter
+        | Refusal::NoFile
+        | Refusal::FilesAndList
+        | Refusal::Page => displayed_of(alloc, &error_of(grammar, refusal)),
+    }
+}
+
 /// The character between fields, if what is given is one.
 fn delimiter_in(matches: &ArgMatches<'_>) -> Option<Delimiter> {
     match matches.get_str("delimiter") {
@@ -122,12 +142,9 @@ fn delimiter_in(matches: &ArgMatches<'_>) -> Option<Delimiter> {
     }
 }
 
-/// How sheets are written as CSV. None where the delimiter is none.
-fn table_in<'w>(matches: &ArgMatches<'w>) -> Option<Table<'w>>
-    ensures { IfSome result (λ t. IsNumbered t.choice) }
-{
+/// How a sheet is written as CSV. None where the delimiter is none.
+fn table_in(matches: &ArgMatches<'_>) -> Option<Table> {
     Some(Table {
-        choice: choice_in(matches),
         delimiter: delimiter_in(matches)?,
         begins_with_mark: matches.get_flag("bom"),
         style: style_in(matches),
@@ -147,10 +164,7 @@ fn command_in<'w>(word: Word, matches: &ArgMatches<'w>) -> Option<Command<'w>>
         Word::Refs => Command::Refs(style_in(matches)),
         Word::Props => Command::Props,
         Word::Vba => Command::Vba,
-        Word::Csv => match table_in(matches) {
-            Some(table) => Command::Csv(table),
-            None => return None,
-        },
+        Word::Csv => Command::Csv(choice_in(matches), table_in(matches)?),
         Word::Remake => Command::Remake,
         Word::Stream => Command::Stream(matches.get_str("NAME")),
         Word::Streams => Command::Streams,
@@ -184,6 +198,20 @@ fn page_in(matches: &ArgMatches<'_>) -> Result<Option<u16>, Refusal>
     }
 }
 
+/// The folder into which texts are written, if there is one.
+fn folder_in<'w>(matches: &ArgMatches<'w>) -> Result<Option<Folder<'w>>, Refusal> {
+    let takes_all_sheets = matches.get_flag("all");
+    match matches.get_str("out") {
+        Some(path) => Ok(Some(Folder {
+            path,
+            writes_over: matches.get_flag("force"),
+            takes_all_sheets,
+        })),
+        None if takes_all_sheets => Err(Refusal::NoFolder),
+        None => Ok(None),
+    }
+}
+
 /// What the words ask for that the grammar took.
 fn request_taken<'w>(
     alloc: Global,
@@ -203,22 +231,24 @@ fn request_taken<'w>(
         files,
         tells_json: matches.get_flag("json"),
         page: page_in(matches)?,
-        out: matches.get_str("out"),
-        writes_over: matches.get_flag("force"),
+        out: folder_in(matches)?,
     })
 }
 
 /// What the words after a command's name ask for.
-fn request_in<'w>(alloc: Global, word: Word, words: &'w [String]) -> Result<Request<'w>, Error>
+fn request_in<'w>(alloc: Global, word: Word, words: &'w [String]) -> Result<Request<'w>, Displayed>
     ensures named { IfOk result (λ r. word_of r.command ≡ word) }
     ensures numbered { IfOk result (λ r. CommandHasNumber r.command) }
     ensures page { IfOk result (λ r. IfSome r.page IsPage) }
 {
     let mut grammar = grammar_of(alloc, word, word.title(), word.about())?.no_binary_name(true);
-    let matches = grammar.try_get_matches_from_mut(words)?;
+    let matches = match grammar.try_get_matches_from_mut(words) {
+        Ok(matches) => matches,
+        Err(error) => return Err(displayed_of(alloc, &error)),
+    };
     match request_taken(alloc, word, &matches) {
         Ok(request) => Ok(request),
-        Err(refusal) => Err(error_of(&mut grammar, refusal)),
+        Err(refusal) => Err(refused(alloc, &mut grammar, refusal)),
     }
 }
 
@@ -245,10 +275,7 @@ fn request_for<'w>(alloc: Global, word: Word, words: &'w [String]) -> Result<Req
     if are_plain(word, words) {
         return Ok(plain_request(alloc, word, words)?);
     }
-    match request_in(alloc, word, words) {
-        Ok(request) => Ok(request),
-        Err(error) => Err(displayed_of(alloc, &error)),
-    }
+    request_in(alloc, word, words)
 }
 
 /// What the words of a command line ask for, which stand behind the program's name. The first may be a command's

@@ -54,12 +54,14 @@ fn plain_command<'w>(word: Word) -> Command<'w>
         Word::Refs => Command::Refs(Style::Readable),
         Word::Props => Command::Props,
         Word::Vba => Command::Vba,
-        Word::Csv => Command::Csv(Table {
-            choice: SheetChoice::First,
-            delimiter: Delimiter::comma(),
-            begins_with_mark: false,
-            style: Style::Readable,
-        }),
+        Word::Csv => Command::Csv(
+            SheetChoice::First,
+            Table {
+                delimiter: Delimiter::comma(),
+                begins_with_mark: false,
+                style: Style::Readable,
+            },
+        ),
         Word::Remake => Command::Remake,
         Word::Stream => Command::Stream(None),
         Word::Streams => Command::Streams,
@@ -93,6 +95,5 @@ pub(crate) fn plain_request<'w>(
         tells_json: false,
         page: None,
         out: None,
-        writes_over: false,
     })
 }

@@ -17,7 +17,7 @@ pub enum Style {
     Exact,
 }
 
-/// Which sheets of a workbook are written as CSV.
+/// Which sheet of a workbook is written as CSV.
 #[derive(Clone, Copy, Debug, PartialEq, Eq)]
 pub enum SheetChoice<'w> {
     /// The first worksheet.
@@ -26,14 +26,11 @@ pub enum SheetChoice<'w> {
     Named(&'w str),
     /// The sheet of this number, counted from 1.
     Number(u32),
-    /// Each worksheet and each macro sheet.
-    All,
 }
 
-/// How sheets are written as CSV.
+/// How a sheet is written as CSV.
 #[derive(Clone, Copy, Debug, PartialEq, Eq)]
-pub struct Table<'w> {
-    pub choice: SheetChoice<'w>,
+pub struct Table {
     pub delimiter: Delimiter,
     /// Begins with a byte order mark.
     pub begins_with_mark: bool,
@@ -50,7 +47,7 @@ pub enum Command<'w> {
     Refs(Style),
     Props,
     Vba,
-    Csv(Table<'w>),
+    Csv(SheetChoice<'w>, Table),
     Remake,
     /// The stream of a path, its names separated by `/`, or else the workbook's.
     Stream(Option<&'w str>),
@@ -70,7 +67,7 @@ impl Command<'_> {
             Command::Refs(_) => Word::Refs,
             Command::Props => Word::Props,
             Command::Vba => Word::Vba,
-            Command::Csv(_) => Word::Csv,
+            Command::Csv(..) => Word::Csv,
             Command::Remake => Word::Remake,
             Command::Stream(_) => Word::Stream,
             Command::Streams => Word::Streams,
@@ -91,6 +88,16 @@ pub enum Files<'w> {
     },
 }
 
+/// The folder into which the texts of files are written.
+#[derive(Clone, Copy, Debug, PartialEq, Eq)]
+pub struct Folder<'w> {
+    pub path: &'w str,
+    /// Files that exist are written over.
+    pub writes_over: bool,
+    /// Of a workbook whose sheet is asked for each worksheet and each macro sheet is written.
+    pub takes_all_sheets: bool,
+}
+
 /// What the words of the command line ask for.
 #[derive(Debug, Drop)]
 pub struct Request<'w> {
@@ -101,8 +108,6 @@ pub struct Request<'w> {
     /// The page that texts of single bytes are read by, in place of the one that a workbook says: 1200, 1252,
     /// 28591 or 65001.
     pub page: Option<u16>,
-    /// The folder into which the texts of files are written.
-    pub out: Option<&'w str>,
-    /// Files that exist are written over.
-    pub writes_over: bool,
+    /// Where the texts of files are written, if not to standard output.
+    pub out: Option<Folder<'w>>,
 }

@@ -11,6 +11,6 @@ returns-in_err-bytes g c =
 
 pub returns : goal.returns
 returns g c =
-    of-workbook c.args.answer.now c.args.options.now c.args.file.now _ _ _ c.write_readable.result
+    of-workbook c.args.answer.now c.args.options.now c.args.file.now _ _ _ c.write_workbook.result
     (record { container = _; is_opened = c.in_ok-container.ensures.ok; has = subst (HasWorkbook _) (sym c.as_slice.ensures.value) c.in_ok-bytes.ensures.ok })
-    c.write_readable.ensures
+    c.write_workbook.ensures

@@ -1,9 +1,9 @@
 use Rattle.std.proofs.Common.{◌≡◌, drop, map}
 use Rattle.xls_data.specs.Sheets.{sheet_content}
-use Rattle.xls_answers.specs.Sheets.{first_worksheet}
+use Rattle.xls_answers.specs.Sheets.{first_worksheet_from}
 use Rattle.xls_answers.proofs.tables.first_worksheet.Given as goal
 
 -- no sheet so far is a worksheet
-abbrev pub invariant-loop-sheet : goal.invariant-loop-sheet
-invariant-loop-sheet l =
-    first_worksheet (map sheet_content l.sheets) ≡ first_worksheet (map sheet_content (drop l.sheet-index l.sheets))
+abbrev pub invariant-loop-index : goal.invariant-loop-index
+invariant-loop-index l =
+    first_worksheet_from 0 (map sheet_content l.sheets) ≡ first_worksheet_from l.index (map sheet_content (drop l.index l.sheets))

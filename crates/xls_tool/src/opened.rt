@@ -1,0 +1,121 @@
+//! The work of a file that is opened.
+
+ghost use Rattle.std.specs.Prelude.{◌≡◌, ℕ, List, None};
+ghost use Rattle.xls_answers.specs.Answers.{HasNumber};
+ghost use Rattle.xls_words.specs.Requests as requests;
+ghost use Rattle.xls_container.specs.Files.{OpensContainer};
+ghost use Rattle.xls_tool.specs.Beside.{OfContainer};
+ghost use Rattle.xls_tool.specs.Texts.{OfWorkbook};
+ghost use Rattle.xls_tool.specs.Steps.{EndsAnswer, EndsText};
+
+use crate::file::{OpenedFile, Workbook};
+use crate::formats::tell_formats;
+use crate::job::{Job, answer_of};
+use crate::problem::Problem;
+use crate::sheets::{write_beside_file, write_workbook_files};
+use crate::work::{write_beside, write_text};
+use std::alloc::Global;
+use xls_answers::Answer;
+use xls_container::Container;
+use xls_files::Host;
+use xls_output::Sink;
+
+/// Writes what is asked for of a workbook to the sink, or into files below the folder, if there is one.
+fn write_answer<H: Host, K: Sink>(
+    alloc: Global,
+    host: &mut H,
+    sink: &mut K,
+    job: &Job<'_>,
+    answer: &Answer<'_>,
+    book: &Workbook<'_>,
+) -> Result<(), Problem>
+    requires { HasNumber answer.now }
+    ensures { job.now.request.out ≡ None → OfWorkbook answer.now job.now.options book.now.stream.now
+        (K.state sink.old) (K.state sink.new) result }
+{
+    match &job.request.out {
+        Some(folder) => write_workbook_files(alloc, host, job, folder, answer, book),
+        None => write_text(alloc, sink, answer, &job.options, book.stream),
+    }
+}
+
+/// Does the work of a file's workbook: its text is written, and its formats are told of.
+fn do_workbook<H: Host, K: Sink>(
+    alloc: Global,
+    host: &mut H,
+    sink: &mut K,
+    job: &Job<'_>,
+    answer: &Answer<'_>,
+    file: &OpenedFile<'_>,
+) -> Result<(), Problem>
+    requires { HasNumber answer.now }
+    ensures { job.now.request.out ≡ None → (bytes : List ℕ) → OpensContainer bytes file.now.container
+        → EndsAnswer answer.now job.now.options bytes (K.state sink.old) (K.state sink.new) result }
+{
+    let stream = file.container.workbook(alloc)?;
+    let book = Workbook {
+        path: file.path,
+        stream: stream.as_slice(),
+    };
+    write_answer(alloc, host, sink, job, answer, &book)?;
+    tell_formats(alloc, host, answer, &book)?;
+    Ok(())
+}
+
+/// Writes what stands beside the workbook to the sink, or into a file below the folder, if there is one.
+fn do_beside<H: Host, K: Sink>(
+    alloc: Global,
+    host: &mut H,
+    sink: &mut K,
+    job: &Job<'_>,
+    file: &OpenedFile<'_>,
+) -> Result<(), Problem>
+    ensures { job.now.request.out ≡ None → OfContainer job.now.request.command file.now.container
+        (K.state sink.old) (K.state sink.new) result }
+{
+    match &job.request.out {
+        Some(folder) => write_beside_file(alloc, host, job, folder, file),
+        None => write_beside(
+            alloc,
+            sink,
+            &job.request.command,
+            &job.options,
+            &file.container,
+        ),
+    }
+}
+
+/// Does the work of a file that is opened.
+fn do_opened<H: Host, K: Sink>(
+    alloc: Global,
+    host: &mut H,
+    sink: &mut K,
+    job: &Job<'_>,
+    file: &OpenedFile<'_>,
+) -> Result<(), Problem>
+    requires { requests.CommandHasNumber job.now.request.command }
+    ensures { job.now.request.out ≡ None → (bytes : List ℕ) → OpensContainer bytes file.now.container
+        → EndsText job.now.request.command job.now.options bytes (K.state sink.old) (K.state sink.new) result }
+{
+    match answer_of(&job.request.command) {
+        Some(answer) => do_workbook(alloc, host, sink, job, &answer, file),
+        None => do_beside(alloc, host, sink, job, file),
+    }
+}
+
+/// Does the work of a file's bytes, which are opened once.
+pub(crate) fn do_bytes<H: Host, K: Sink>(
+    alloc: Global,
+    host: &mut H,
+    sink: &mut K,
+    job: &Job<'_>,
+    path: &str,
+    bytes: &[u8],
+) -> Result<(), Problem>
+    requires { requests.CommandHasNumber job.now.request.command }
+    ensures { job.now.request.out ≡ None → EndsText job.now.request.command job.now.options bytes.now
+        (K.state sink.old) (K.state sink.new) result }
+{
+    let container = Container::open(alloc, bytes)?;
+    do_opened(alloc, host, sink, job, &OpenedFile { path, container })
+}
