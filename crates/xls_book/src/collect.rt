@@ -8,8 +8,8 @@ ghost use Rattle.xls_open.specs.Workbook.{cell_content, formula_content};
 
 use std::alloc::{AllocError, Global};
 use std::marker::Model;
-use xls_view::{Cells, FormulaBuffer, Merges, SheetFormulas, View, ViewSheet};
 use xls_data::{Cell, Data, Dimensions};
+use xls_view::{Cells, FormulaBuffer, Merges, SheetFormulas, View, ViewSheet};
 
 /// The cells, the formulas and the merged regions of a sheet.
 #[derive(Drop)]

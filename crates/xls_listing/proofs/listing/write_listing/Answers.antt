@@ -15,4 +15,4 @@ pub returns : goal.returns
 returns g c =
     let none = kept-none c.new-out.ensures.kept c.new-buffer.ensures in
     delivers-each-back g.K.Sink.state (IsDisplayedLine c.args.form) (dump_lines c.args.view.now.book) c.finish.result c.new-out.ensures.sink (search rules)
-    (delivers-each (text_output g.K.Sink.state c.finish.new.out) c.finish.result none c.in_ok-put_book.ensures c.finish.ensures.puts c.finish.ensures.none)
+    (delivers-each (text_output g.K.Sink.state c.finish.new.self) c.finish.result none c.in_ok-put_book.ensures c.finish.ensures.puts c.finish.ensures.none)
