@@ -1,0 +1,5 @@
+//! Tests of code pages.
+#![tactic(auto)]
+
+#[cfg(test)]
+mod pages;

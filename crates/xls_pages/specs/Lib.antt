@@ -1,0 +1,4 @@
+pub mod Single
+pub mod Double
+pub mod Pages
+pub mod Laws
