@@ -1,0 +1,4 @@
+mod LimbLemmas
+mod PlaceLemmas
+mod ScaleLemmas
+mod StandardFacts

@@ -1,0 +1,16 @@
+use Rattle.std.proofs.Common.{◌≡◌, arith}
+use Rattle.xls_rounding.specs.Fractions.{places}
+use Rattle.xls_rounding.proofs.PlaceLemmas.{count_more, count_all}
+use Rattle.xls_rounding.proofs.decimals.places.Goals as goal
+
+pub loop-rest-preserved : goal.loop-rest-preserved
+loop-rest-preserved c =
+    let l = c.loop-rest in
+    count_more l.count l.rest _ l.invariant.0 l.invariant.1 l.invariant.2 (omega arith)
+
+pub returns-clause-value : goal.returns-clause-value
+unfolding places
+returns-clause-value c =
+    let l = c.loop-rest in
+    let none : l.rest ≡ 0 = omega arith in
+    count_all l.count _ (rw none at l.invariant.2)
