@@ -1,3 +1,5 @@
+mod DecimalLemmas
+mod FormulaLemmas
 mod LimbLemmas
 mod PlaceLemmas
 mod ScaleLemmas

@@ -211,7 +211,7 @@ nearest_half x p =
     let e : 2 * x.denominator ≡ x.denominator * 2 = mul_comm 2 x.denominator in
     rw e (sym (div-div-eq-div-mul (2 * x.numerator + x.denominator) x.denominator 2) ∙ ap (λ t. t / 2) (add-div_right (2 * x.numerator) p))
 
-digits_by : (a b s : ℕ) (z : ℤ) → 0 < b → z ≡ pos s -ℤ pos 308
+pub digits_by : (a b s : ℕ) (z : ℤ) → 0 < b → z ≡ pos s -ℤ pos 308
     → nearest (ten_to z (record { numerator = a; denominator = b })) ≡ (2 * a * 10 ^ s / (b * 10 ^ 308) + 1) / 2
 digits_by a b s (pos n) p e =
     let off : 308 ≤ s = omega (arith, ints) in

@@ -1,3 +1,4 @@
 pub mod Fractions
 pub mod Rounding
+pub mod FormulaNumbers
 pub mod Limbs

@@ -32,7 +32,7 @@ fn over_ten_to(n: u128, s: u32) -> u128
 }
 
 // The number over ten to the power s, rounded, halves up.
-fn short_over_ten_to(n: u64, s: u32) -> u64
+pub(crate) fn short_over_ten_to(n: u64, s: u32) -> u64
     requires { 0 < s }
     ensures { result ≡ (2 * n + 10 ^ s) / (2 * 10 ^ s) }
 {
@@ -129,6 +129,9 @@ fn places(n: u64) -> u8
     ensures value { result ≡ places n }
     ensures within { result ≤ 20 }
 {
+    if n >= 100_000_000_000_000 && n < 1_000_000_000_000_000 {
+        return 15;
+    }
     let mut rest = n;
     let mut count = 0;
     while rest > 0 {

@@ -1,13 +1,15 @@
 //! Doubles as decimals of 15 significant digits.
 
-ghost use Rattle.std.specs.Prelude.{◌≡◌, ◌+◌, ◌-◌, ◌*◌, ◌/◌, ◌^◌, ◌<◌, ◌≤◌, min};
+ghost use Rattle.std.specs.Prelude.{◌≡◌, ℕ, neg_ℤ, ◌+◌, ◌-◌, ◌*◌, ◌/◌, ◌^◌, ◌<◌, ◌≤◌, min, pos, negsuc, ◌≤ℤ◌};
+ghost use Rattle.xls_bytes.specs.Doubles.{exponent_of, fraction_of};
+ghost use Rattle.xls_rounding.specs.Fractions.{whole, ten_to, IsBetween, IsNatural};
 ghost use Rattle.xls_rounding.specs.Limbs.{twice_at};
 ghost use Rattle.xls_rounding.specs.Rounding.{size_of, of_15_digits, decimal_of};
 
 use crate::decimals::Decimal;
 use crate::limbs::{MANY, long_product, long_quotient};
 
-const FRACTION: u64 = 1 << 52;
+pub(crate) const FRACTION: u64 = 1 << 52;
 
 // Twice 10^14, and twice 10^15.
 const LEAST: u64 = 200_000_000_000_000;
@@ -76,7 +78,13 @@ fn rounded_size(mantissa: u64, exponent: u64) -> Decimal
     requires least { 2 ^ 52 ≤ mantissa }
     requires most { mantissa < 2 ^ 53 }
     requires exponent { (0 < exponent) × (exponent < 2048) }
-    ensures { result ≡ of_15_digits (size_of exponent (mantissa - 2 ^ 52)) }
+    ensures exact { result ≡ of_15_digits (size_of exponent (mantissa - 2 ^ 52)) }
+    ensures scale { IsBetween (10 ^ 14) (10 ^ 15)
+        (ten_to (neg_ℤ result.exponent) (size_of exponent (mantissa - 2 ^ 52))) }
+    ensures whole { (n : ℕ) → n < 10 ^ 15 → IsNatural n (size_of exponent (mantissa - 2 ^ 52))
+        → IsNatural n (ten_to result.exponent (whole result.digits)) }
+    ensures digits { (10 ^ 14 ≤ result.digits) × (result.digits ≤ 10 ^ 15) }
+    ensures exponent { (negsuc 321 ≤ℤ result.exponent) × (result.exponent ≤ℤ pos 308) }
 {
     // The logarithm of two, to begin at the right scale or the one above.
     let mut scale = 630 - (exponent * 30_103 + 4_631) / 100_000;
@@ -99,7 +107,19 @@ fn rounded_size(mantissa: u64, exponent: u64) -> Decimal
 /// the greater: digits from 10^14 to 10^15. Zeros and subnormal numbers give 0; the exponent of
 /// infinities and of what is no number counts as any other.
 pub fn to_15_digits(bits: u64) -> Decimal
-    ensures { result ≡ decimal_of bits }
+    ensures exact { result ≡ decimal_of bits }
+
+    // The scale is that which leaves 15 digits before the point, and a whole number of at most 15
+    // digits stays itself.
+    ensures scale { 0 < exponent_of bits → IsBetween (10 ^ 14) (10 ^ 15)
+        (ten_to (neg_ℤ result.exponent) (size_of (exponent_of bits) (fraction_of bits))) }
+    ensures whole { (n : ℕ) → 0 < exponent_of bits → n < 10 ^ 15
+        → IsNatural n (size_of (exponent_of bits) (fraction_of bits))
+        → IsNatural n (ten_to result.exponent (whole result.digits)) }
+
+    ensures least { 0 < exponent_of bits → 10 ^ 14 ≤ result.digits }
+    ensures most { result.digits ≤ 10 ^ 15 }
+    ensures exponent { (negsuc 321 ≤ℤ result.exponent) × (result.exponent ≤ℤ pos 308) }
 {
     let exponent = bits / FRACTION % 2048;
     if exponent == 0 {

@@ -3,7 +3,11 @@
 
 mod decimals;
 mod doubles;
+mod formula_numbers;
+mod laws;
 mod limbs;
 
 pub use decimals::{Decimal, Rounded, at_place, magnitude, times_at_place};
 pub use doubles::to_15_digits;
+pub use formula_numbers::push_formula_number;
+pub use laws::halves_up;

@@ -3,6 +3,7 @@ use Rattle.std.specs.Prelude.{◌-ℤ◌}
 use Rattle.std.proofs.Common.{to_z, of_z, w16}
 use Rattle.std.proofs.lemmas.Int.{ints}
 use Rattle.xls_rounding.proofs.ScaleLemmas.{scale_above, scale_below, scale_keeps, size_at}
+use Rattle.xls_rounding.proofs.DecimalLemmas.{between_at, whole_at}
 use Rattle.xls_rounding.proofs.doubles.rounded_size.Goals as goal
 
 pub twice_at-twice-requires-in-up-clause-scale : goal.twice_at-twice-requires-in-up-clause-scale
@@ -42,10 +43,24 @@ down-preserved c =
     let keeps = scale_keeps c.args.mantissa c.args.exponent l.scale some high in
     (omega arith, c.twice_at-twice-in-down.ensures, rw c.twice_at-twice-in-down.ensures keeps)
 
-pub returns : goal.returns
-returns c =
+pub returns-clause-exact : goal.returns-clause-exact
+returns-clause-exact c =
     let l = c.down in
     let m : 2 ^ 52 + (c.args.mantissa - 2 ^ 52) ≡ c.args.mantissa = omega arith in
     let z : to_z w16 (of_z w16 (pos 308 -ℤ to_z w16 l.scale)) ≡ pos 308 -ℤ pos l.scale = omega (arith, ints) in
     let is = size_at c.args.mantissa c.args.exponent l.scale l.twice l.invariant.0 l.invariant.1 l.invariant.2 (omega arith) in
     rw (z, m) (sym is)
+
+pub returns-clause-scale : goal.returns-clause-scale
+returns-clause-scale c =
+    let l = c.down in
+    let m : 2 ^ 52 + (c.args.mantissa - 2 ^ 52) ≡ c.args.mantissa = omega arith in
+    let z : to_z w16 (of_z w16 (pos 308 -ℤ to_z w16 l.scale)) ≡ pos 308 -ℤ pos l.scale = omega (arith, ints) in
+    rw (z, m) (between_at c.args.mantissa c.args.exponent l.scale l.twice l.invariant.1 l.invariant.2 (omega arith))
+
+pub returns-clause-whole : goal.returns-clause-whole
+returns-clause-whole c = λ n small same.
+    let l = c.down in
+    let m : 2 ^ 52 + (c.args.mantissa - 2 ^ 52) ≡ c.args.mantissa = omega arith in
+    let z : to_z w16 (of_z w16 (pos 308 -ℤ to_z w16 l.scale)) ≡ pos 308 -ℤ pos l.scale = omega (arith, ints) in
+    rw z (whole_at c.args.mantissa c.args.exponent l.scale l.twice n l.invariant.1 l.invariant.2 (omega arith) small (rw m at same))
