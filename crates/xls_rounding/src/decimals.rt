@@ -1,6 +1,6 @@
 //! Decimals, rounded at a place.
 
-ghost use Rattle.std.specs.Prelude.{◌≡◌, ℕ, ◌+◌, ◌*◌, ◌/◌, ◌^◌, ◌<◌, ◌==◌, if◌then◌else◌, MatchOption, ℤ, pos, ◌+ℤ◌, ◌≤◌};
+ghost use Rattle.std.specs.Prelude.{◌≡◌, ◌+◌, ◌*◌, ◌/◌, ◌^◌, ◌<◌, ◌==◌, if◌then◌else◌, MatchOption, ◌+ℤ◌, ◌≤◌};
 ghost use Rattle.xls_rounding.specs.Fractions.{places};
 ghost use Rattle.xls_rounding.specs.Rounding.{positive_part, rounded, rounded_at, magnitude_of};
 
@@ -141,7 +141,7 @@ fn places(n: u64) -> u8
     count
 }
 
-/// The power of ten below a decimal that isn't 0: the k with 10^k <= decimal < 10^(k + 1).
+/// The place of the first digit of a decimal that isn't 0: the k with 10^k <= decimal < 10^(k + 1).
 pub fn magnitude(decimal: Decimal) -> i32
     requires { 0 < decimal.digits }
     ensures { result ≡ magnitude_of decimal }

@@ -1,6 +1,6 @@
 //! Doubles as decimals of 15 significant digits.
 
-ghost use Rattle.std.specs.Prelude.{◌≡◌, ℕ, neg_ℤ, ◌+◌, ◌-◌, ◌*◌, ◌/◌, ◌^◌, ◌<◌, ◌≤◌, min, pos, negsuc, ◌≤ℤ◌};
+ghost use Rattle.std.specs.Prelude.{◌≡◌, ℕ, neg_ℤ, ◌-◌, ◌*◌, ◌/◌, ◌^◌, ◌<◌, ◌≤◌, min, pos, negsuc, ◌≤ℤ◌};
 ghost use Rattle.xls_bytes.specs.Doubles.{exponent_of, fraction_of};
 ghost use Rattle.xls_rounding.specs.Fractions.{whole, ten_to, IsBetween, IsNatural};
 ghost use Rattle.xls_rounding.specs.Limbs.{twice_at};
@@ -104,8 +104,9 @@ fn rounded_size(mantissa: u64, exponent: u64) -> Decimal
 }
 
 /// The size of a double as the nearest decimal of 15 significant digits, of two that are as near
-/// the greater: digits from 10^14 to 10^15. Zeros and subnormal numbers give 0; the exponent of
-/// infinities and of what is no number counts as any other.
+/// the greater: digits from 10^14 on and below 10^15, or 10^15 where rounding carries. Zeros and
+/// subnormal numbers give 0; the exponent of infinities and of what is no number counts as any
+/// other.
 pub fn to_15_digits(bits: u64) -> Decimal
     ensures exact { result ≡ decimal_of bits }
 
