@@ -1,0 +1,5 @@
+pub mod TextLemmas
+pub mod BracketLemmas
+pub mod HeadLemmas
+pub mod WalkLemmas
+mod GrammarFacts
