@@ -1,3 +1,10 @@
 pub mod Grammar
 pub mod Cuts
 pub mod Walk
+pub mod Sections
+pub mod Scans
+pub mod Choices
+pub mod Formats
+pub mod Builtins
+pub mod Classes
+pub mod Laws

@@ -2,10 +2,22 @@
 #![tactic(auto)]
 
 mod brackets;
+mod builtins;
+mod choices;
+mod classes;
+mod formats;
 mod heads;
 mod items;
+mod laws;
+mod sections;
 mod texts;
 mod walk;
 
+pub use builtins::built_in_code;
+pub use choices::Choice;
+pub use classes::{Class, class_of};
+pub use formats::Format;
 pub use items::{Comparison, Condition, Item, Letter, Place};
+pub use laws::items_spell_the_code;
+pub use sections::{Kind, Section, read_section};
 pub use walk::Items;

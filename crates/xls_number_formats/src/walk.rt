@@ -1,6 +1,6 @@
 //! A walk over the items of a section.
 
-ghost use Rattle.std.specs.Prelude.{◌≡◌, ◌||◌};
+ghost use Rattle.std.specs.Prelude.{◌≡◌, ◌||◌, [], MatchOption, Some, None};
 ghost use Rattle.std.specs.Str.{chars};
 ghost use Rattle.xls_number_formats.specs.Grammar.{is_place, items, after_section};
 ghost use Rattle.xls_number_formats.specs.Walk.{items_left, after_left};
@@ -44,6 +44,17 @@ impl<'a> Items<'a> {
             rest: code,
             placed: false,
             closes: true,
+        }
+    }
+
+    /// What follows the `;` behind the section, where all its items have been given.
+    pub fn after(&self) -> Option<&'a str>
+        requires { items_left self.now ≡ [] }
+        ensures { MatchOption result (after_left self.now ≡ None) (λ rest. after_left self.now ≡ Some (chars rest.now)) }
+    {
+        match first_char(self.rest) {
+            Some((';', rest)) => Some(rest),
+            _ => None,
         }
     }
 }
