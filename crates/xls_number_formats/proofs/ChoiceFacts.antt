@@ -11,6 +11,7 @@ use Rattle.xls_number_formats.specs.Sections.{sections_of}
 use Rattle.xls_number_formats.specs.Choices.{choice_of, texts_at, counted}
 use Rattle.xls_number_formats.specs.Classes.{class_of}
 use Rattle.xls_number_formats.specs.Builtins.{built_in_code}
+use Rattle.xls_number_formats.specs.Texts.{shown_text}
 
 -- what -1, 0 and 1 are shown by
 abbrev pub around : List ℕ → List (Choice × Bool)
@@ -122,3 +123,9 @@ pub known_later_built_ins : map built_in_code (37 ∷ 38 ∷ 39 ∷ 40 ∷ 41 �
     ∷ codes "_(* #,##0.00_);_(* \\(#,##0.00\\);_(* \"-\"??_);_(@_)" ∷ codes "_(\"$\"* #,##0.00_);_(\"$\"* \\(#,##0.00\\);_(\"$\"* \"-\"??_);_(@_)" ∷ codes "mm:ss" ∷ codes "[h]:mm:ss" ∷ codes "mm:ss.0" ∷ codes "##0.0E+0" ∷ codes "@" ∷ replicate 9 (codes "m/d/yyyy"))
     ++ replicate 3 None
 known_later_built_ins = refl
+
+-- ---- texts
+
+pub known_shown_texts : map (λ cs. shown_text cs (codes "x")) (codes "" ∷ codes "General" ∷ codes "@" ∷ codes "0" ∷ codes ";;;" ∷ codes "0;0;0;" ∷ codes "0;-0;0;\"t:\"@" ∷ codes ";;;\\@@\\@" ∷ codes ";;;-@-@-" ∷ codes "_(@_)" ∷ codes "0.00;@\" !\"" ∷ codes "[Red]@" ∷ codes ";;;0#?@[h]d.,%/1e+AM/PM*y" ∷ codes "@;@" ∷ codes "0;0;0;\"hi\"" ∷ [])
+    ≡ codes "x" ∷ codes "x" ∷ codes "x" ∷ codes "x" ∷ [] ∷ [] ∷ codes "t:x" ∷ codes "@x@" ∷ codes "-x-x-" ∷ codes " x " ∷ codes "x !" ∷ codes "x" ∷ codes "xd.,%/1e+AM/PM" ∷ codes "x" ∷ codes "hi" ∷ []
+known_shown_texts = refl

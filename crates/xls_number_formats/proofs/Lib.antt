@@ -9,3 +9,4 @@ mod SectionFacts
 mod ChoiceFacts
 pub mod TestLemmas
 pub mod LawLemmas
+pub mod ShownLemmas

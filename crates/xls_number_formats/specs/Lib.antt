@@ -8,3 +8,4 @@ pub mod Formats
 pub mod Builtins
 pub mod Classes
 pub mod Laws
+pub mod Texts

@@ -10,6 +10,7 @@ mod heads;
 mod items;
 mod laws;
 mod sections;
+mod shown_texts;
 mod texts;
 mod walk;
 
@@ -20,4 +21,5 @@ pub use formats::Format;
 pub use items::{Comparison, Condition, Item, Letter, Place};
 pub use laws::items_spell_the_code;
 pub use sections::{Kind, Section, read_section};
+pub use shown_texts::push_shown_text;
 pub use walk::Items;
