@@ -22,8 +22,10 @@ abbrev pub class_by : List Section → Choice → Class
 class_by ss (choice.Section place) = class_at (slice_get ss place)
 class_by ss other = Number
 
--- of a double's bits; infinities and what is no number are shown by no section
+-- of a double's bits, under these sections; infinities and what is no number are shown by none
+abbrev pub class_in : List Section → ℕ → Class
+class_in ss bits =
+    if exponent_of bits == 2047 then Number else class_by ss (choice_of ss (counted bits)).0
+
 abbrev pub class_of : List ℕ → ℕ → Class
-class_of cs bits =
-    if exponent_of bits == 2047 then Number
-    else class_by (sections_of cs) (choice_of (sections_of cs) (counted bits)).0
+class_of cs bits = class_in (sections_of cs) bits

@@ -1,16 +1,12 @@
 //! Whether a format shows a number as a date.
 
-ghost use Rattle.std.specs.Prelude.{◌≡◌, ◌<◌};
+ghost use Rattle.std.specs.Prelude.{◌≡◌};
 ghost use Rattle.std.specs.Str.{chars};
 ghost use Rattle.xls_number_formats.specs.Classes.{class_of_section, class_by, class_of};
 
 use crate::choices::Choice;
 use crate::formats::Format;
 use crate::sections::{Kind, Section};
-
-const FRACTION: u64 = 1 << 52;
-
-const INFINITE: u64 = 2047;
 
 /// What a number is, by the section that it is shown by.
 #[derive(Clone, Copy, Debug, PartialEq, Eq)]
@@ -33,7 +29,8 @@ fn class_of_section(section: &Section) -> Class
     }
 }
 
-fn class_by(sections: &[Section], choice: Choice) -> Class
+// That of the section which applies.
+pub(crate) fn class_by(sections: &[Section], choice: Choice) -> Class
     ensures { result ≡ class_by sections.now choice }
 {
     match choice {
@@ -49,14 +46,9 @@ fn class_by(sections: &[Section], choice: Choice) -> Class
 /// a number: the section that applies decides, by its kind. A section is a date that has one of the
 /// letters y m d h s outside of quotes, escapes and brackets, elapsed time, AM/PM or A/P; or the letters
 /// e or b and neither a place, General nor `@`. Infinities and what is no number are numbers. Takes no
-/// memory.
+/// memory. For many numbers under one code, `Format::class` reads the code once.
 pub fn class_of(code: &str, bits: u64) -> Class
     ensures { result ≡ class_of (chars code.now) bits }
 {
-    if bits / FRACTION % 2048 == INFINITE {
-        return Class::Number;
-    }
-    let format = Format::new(code);
-    let (choice, _) = format.choose(bits);
-    class_by(format.sections(), choice)
+    Format::new(code).class(bits)
 }

@@ -8,12 +8,16 @@ ghost use Rattle.xls_number_formats.specs.Grammar.{items, after_section};
 ghost use Rattle.xls_number_formats.specs.Sections.{section_of, kinds};
 ghost use Rattle.xls_number_formats.specs.Choices.{texts_at, choice_of, counted};
 ghost use Rattle.xls_number_formats.specs.Formats.{parts_of};
+ghost use Rattle.xls_number_formats.specs.Classes.{class_in};
 
 use crate::choices::{Choice, ZERO, choice_of, texts_at};
+use crate::classes::{Class, class_by};
 use crate::sections::{Kind, Section, read_section};
 use std::marker::Model;
 
 const FRACTION: u64 = 1 << 52;
+
+const INFINITE: u64 = 2047;
 
 const UNREAD: Section = Section {
     kind: Kind::Plain,
@@ -125,6 +129,18 @@ impl<'a> Format<'a> {
         ensures { result ≡ choice_of self.now.sections (counted bits) }
     {
         choice_of(self.sections(), counted(bits))
+    }
+
+    /// Whether the double with these bits is shown as a date, as an elapsed time, or as a number, as
+    /// `class_of` tells it.
+    pub fn class(&self, bits: u64) -> Class
+        ensures { result ≡ class_in self.now.sections bits }
+    {
+        if bits / FRACTION % 2048 == INFINITE {
+            return Class::Number;
+        }
+        let (choice, _) = self.choose(bits);
+        class_by(self.sections(), choice)
     }
 }
 
