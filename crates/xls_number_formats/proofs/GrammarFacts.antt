@@ -7,7 +7,7 @@ use Rattle.xls_number_formats.specs.declared.items.Letter.TheVariants.{Y, M, D, 
 use Rattle.xls_number_formats.specs.declared.items.Comparison.TheVariants.{Below, Above, Same, AtMost, AtLeast, Other}
 use Rattle.xls_number_formats.specs.declared.items.Item.{Item}
 use Rattle.xls_number_formats.specs.declared.items.Item.TheVariants as item
-use Rattle.xls_number_formats.specs.Grammar.{head_of, items, after_section, bracket_token, condition_in}
+use Rattle.xls_number_formats.specs.Grammar.{head_of, items, after_section, bracket_token, condition_in, elapsed_in, is_number_char}
 
 -- each ASCII character from the space on
 abbrev pub ascii : List ℕ
@@ -91,3 +91,26 @@ pub known_no_conditions : map condition_in (codes "<" ∷ codes "<inf" ∷ codes
     ≡ replicate 14 None
 unfolding parse_float_on_literals
 known_no_conditions = refl
+
+-- ---- the rest of the tables
+
+-- control characters, the last one of ASCII and others stand for themselves
+abbrev pub others : List ℕ
+others = 0 ∷ 1 ∷ 2 ∷ 3 ∷ 4 ∷ 5 ∷ 6 ∷ 7 ∷ 8 ∷ 9 ∷ 10 ∷ 11 ∷ 12 ∷ 13 ∷ 14 ∷ 15 ∷ 16 ∷ 17 ∷ 18 ∷ 19 ∷ 20 ∷ 21 ∷ 22 ∷ 23 ∷ 24 ∷ 25 ∷ 26 ∷ 27 ∷ 28 ∷ 29 ∷ 30 ∷ 31 ∷ 127 ∷ 160 ∷ 0x20AC ∷ 0x1F600 ∷ []
+
+pub known_other_characters : map (λ c. head_of true c []) others ≡ map (λ c. record { item = item.Literal; text = c ∷ []; more = 0 }) others
+known_other_characters = refl
+
+-- alone, none is another item where the section has had no place
+pub known_unplaced : map (λ c. head_of false c []) ascii ≡ map (λ c. head_of true c []) ascii
+known_unplaced = refl
+
+-- the letters of elapsed time are those of hours, minutes and seconds, in both cases
+pub known_elapsed_letters : map (λ c. elapsed_in (c ∷ [])) ascii
+    ≡ replicate 40 None ++ Some H ∷ replicate 4 None ++ Some M ∷ replicate 5 None ++ Some S ∷ replicate 20 None ++ Some H ∷ replicate 4 None ++ Some M ∷ replicate 5 None ++ Some S ∷ replicate 11 None
+known_elapsed_letters = refl
+
+-- the characters of decimal numbers: + - . the digits E e
+pub known_number_characters : map is_number_char ascii
+    ≡ replicate 11 false ++ true ∷ false ∷ true ∷ true ∷ false ∷ replicate 10 true ++ replicate 11 false ++ true ∷ replicate 31 false ++ true ∷ replicate 25 false
+known_number_characters = refl
