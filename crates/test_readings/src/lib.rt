@@ -1,5 +1,9 @@
-//! Tests of code pages.
+//! Tests of code pages, of rounding by 15 digits, and of number formats.
 #![tactic(auto)]
 
 #[cfg(test)]
+mod formats;
+#[cfg(test)]
 mod pages;
+#[cfg(test)]
+mod rounding;
