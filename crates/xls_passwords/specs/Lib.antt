@@ -1,0 +1,10 @@
+pub mod Rc4
+pub mod Schemes
+pub mod Xor
+pub mod Keys
+pub mod Streams
+pub mod Passwords
+pub mod Records
+pub mod Plain
+pub mod Opening
+pub mod Laws
