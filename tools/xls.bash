@@ -1,15 +1,18 @@
 # Completion of the command line of xls, for bash.
 
+# Of the table of commands, by tools/make_man.
+_xls_commands='dump sheets check formulas refs props vba csv remake stream streams'
+
 _xls_options() {
-    local many='--files-from --null --out --force --help'
     case $1 in
-        dump | sheets | refs) echo "$many --json --exact --codepage" ;;
-        check | formulas) echo "$many --json --codepage" ;;
-        csv) echo "$many --sheet --number --all --delimiter --bom --exact --codepage" ;;
-        props | vba) echo "$many" ;;
+        dump | sheets | refs) echo '--files-from --null --out --force --json --exact --codepage --help' ;;
+        check | formulas) echo '--files-from --null --out --force --json --codepage --help' ;;
+        props | vba) echo '--files-from --null --out --force --help' ;;
+        csv) echo '--files-from --null --out --force --sheet --number --all --delimiter --bom --exact --codepage --help' ;;
         remake | stream | streams) echo '--help' ;;
     esac
 }
+# End.
 
 # The names of the sheets of the first workbook among the words, in quotes where they need them.
 _xls_sheets() {
@@ -30,9 +33,8 @@ _xls_files() {
 }
 
 _xls() {
-    local commands='dump sheets check formulas refs props vba csv remake stream streams'
     local word=${COMP_WORDS[COMP_CWORD]} before=${COMP_WORDS[COMP_CWORD - 1]} command=dump
-    if ((COMP_CWORD > 1)) && [[ " $commands " == *" ${COMP_WORDS[1]} "* ]]; then
+    if ((COMP_CWORD > 1)) && [[ " $_xls_commands " == *" ${COMP_WORDS[1]} "* ]]; then
         command=${COMP_WORDS[1]}
     fi
     COMPREPLY=()
@@ -65,7 +67,7 @@ _xls() {
     fi
     _xls_files "$word"
     if ((COMP_CWORD == 1)); then
-        mapfile -t -O "${#COMPREPLY[@]}" COMPREPLY < <(compgen -W "$commands" -- "$word")
+        mapfile -t -O "${#COMPREPLY[@]}" COMPREPLY < <(compgen -W "$_xls_commands" -- "$word")
     fi
 }
 

@@ -118,11 +118,13 @@ impl MemoryHost {
 }
 
 impl Host for MemoryHost {
-    ghost use Rattle.std.specs.Prelude.{[]};
+    ghost use Rattle.std.specs.Prelude.{[], false};
 
     ghost reads = { λ _ _ _. Unit {0} };
 
     ghost files = { λ _. record { created = []; ended = [] } };
+
+    ghost tells = { false };
 
     type File = MemoryFile;
 
@@ -180,6 +182,10 @@ impl Host for MemoryHost {
         }
         self.keep(&file)?;
         Ok(())
+    }
+
+    fn give_up(&mut self, _file: MemoryFile) -> Reason {
+        Reason::Memory
     }
 
     fn say(&mut self, line: &str) {

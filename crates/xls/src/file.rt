@@ -94,30 +94,31 @@ impl<'r> OutFile<'r> {
         written
     }
 
-    /// Makes the file where nothing was written. Where a write failed, what was written is taken away.
+    /// Makes the file where nothing was written.
     pub(crate) fn close(self) -> Result<(), Reason> {
+        if self.file.is_some() {
+            return Ok(());
+        }
+        match make(self.rt, self.path.as_str(), self.writes_over) {
+            Ok(_) => Ok(()),
+            Err(error) => Err(reason_of(self.rt.alloc(), &error)),
+        }
+    }
+
+    /// Takes away what was written, and tells why the last write failed.
+    pub(crate) fn give_up(self) -> Reason {
         let OutFile {
             rt,
             path,
-            writes_over,
             file,
             said,
             ..
         } = self;
-        if let Some(said) = said {
-            if file.is_some() {
-                // A part would be in the way of the next run. Where it can't be taken away, it stays.
-                let _ = fs::remove_file(rt, path.as_str());
-            }
-            return Err(said);
-        }
         if file.is_some() {
-            return Ok(());
+            // A part would be in the way of the next run. Where it can't be taken away, it stays.
+            let _ = fs::remove_file(rt, path.as_str());
         }
-        match make(rt, path.as_str(), writes_over) {
-            Ok(_) => Ok(()),
-            Err(error) => Err(reason_of(rt.alloc(), &error)),
-        }
+        said.unwrap_or(Reason::Memory)
     }
 }
 

@@ -82,13 +82,15 @@ fn input(rt: &HostRuntime) -> io::Result<Vec<u8>> {
 }
 
 impl<'r> Host for StdHost<'r> {
-    ghost use Rattle.std.specs.Prelude.{[]};
+    ghost use Rattle.std.specs.Prelude.{[], false};
 
     // A file of the system may change at any time, so nothing is told.
     ghost reads = { λ _ _ _. Unit {0} };
 
     // Nor is it told which files were made.
     ghost files = { λ _. record { created = []; ended = [] } };
+
+    ghost tells = { false };
 
     type File = OutFile<'r>;
 
@@ -120,6 +122,10 @@ impl<'r> Host for StdHost<'r> {
 
     fn close(&mut self, file: OutFile<'r>) -> Result<(), Reason> {
         file.close()
+    }
+
+    fn give_up(&mut self, file: OutFile<'r>) -> Reason {
+        file.give_up()
     }
 
     fn say(&mut self, line: &str) {

@@ -9,8 +9,8 @@ use Rattle.xls_answers.specs.declared.failure.Failure.TheVariants as failures
 use Rattle.xls_output.specs.SinkState.{SinkState}
 use Rattle.xls_open.specs.declared.options.XlsOptions.{XlsOptions}
 use Rattle.xls_view.specs.Viewing.{IsViewed, Viewed}
-use Rattle.xls_words.specs.declared.request.SheetChoice.{SheetChoice}
-use Rattle.xls_words.specs.declared.request.Table.{Table}
+use Rattle.xls_readable.specs.declared.choices.SheetChoice.{SheetChoice}
+use Rattle.xls_readable.specs.declared.choices.Table.{Table}
 
 module _ (options : XlsOptions) (bytes : List ℕ) (choice : SheetChoice) (table : Table) (view : Viewed) (w : SinkState) where
   refused : (f : Failure) → IsViewed options bytes view → HasNoSheet choice view.book f

@@ -18,7 +18,7 @@ use Rattle.xls_answers.specs.declared.answer.Answer.{Answer}
 use Rattle.xls_answers.specs.declared.answer.Answer.TheVariants as answers
 use Rattle.xls_answers.specs.declared.failure.Failure.{Failure}
 use Rattle.xls_answers.specs.declared.failure.Failure.TheVariants as failures
-use Rattle.xls_words.specs.Requests.{IsNumbered}
+use Rattle.xls_readable.specs.Choices.{IsNumbered}
 use Rattle.xls_answers.specs.Views.{OfView, AreLines, BeginLines, MissesNone}
 use Rattle.xls_answers.specs.Sheets.{IsTableOf, BeginsTableOf, MissesSheet}
 

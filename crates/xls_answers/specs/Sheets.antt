@@ -17,11 +17,9 @@ use Rattle.xls_output.specs.Gathering.{Stops, Wrote}
 use Rattle.xls_output.specs.declared.stop.Stop.{Stop}
 use Rattle.xls_output.specs.declared.stop.Stop.TheVariants.{Memory}
 use Rattle.xls_report.specs.Endings.{IsUntouched}
-use Rattle.xls_words.specs.declared.request.SheetChoice.{SheetChoice}
-use Rattle.xls_words.specs.declared.request.SheetChoice.TheVariants.{First, Named, Number}
-use Rattle.xls_words.specs.declared.request.Style.{Style}
-use Rattle.xls_words.specs.declared.request.Style.TheVariants.{Readable, Json, Exact}
-use Rattle.xls_words.specs.declared.request.Table.{Table}
+use Rattle.xls_readable.specs.declared.choices.SheetChoice.{SheetChoice}
+use Rattle.xls_readable.specs.declared.choices.SheetChoice.TheVariants.{First, Named, Number}
+use Rattle.xls_readable.specs.declared.choices.Table.{Table}
 use Rattle.xls_answers.specs.declared.failure.Failure.{Failure}
 use Rattle.xls_answers.specs.declared.failure.Failure.TheVariants as failures
 use Rattle.xls_answers.specs.declared.failure.Missing.{Missing}
@@ -80,43 +78,41 @@ HasNoSheet choice book other = ⊥
 
 -- ---- its text
 
--- the dense box of its cells as people read it, or as xls_dump writes it
-abbrev pub IsCellsText : Style → Table → List CellEntry → List ℕ → Type 0
-IsCellsText Readable table cells text = IsTable table.delimiter table.begins_with_mark (dense_rows cells) text
-IsCellsText Json table cells text = IsTable table.delimiter table.begins_with_mark (dense_rows cells) text
-IsCellsText Exact table cells text = text ≡ sheet_csv cells
+-- the dense box of its cells, by whether it is exact: as people read it, or as xls_dump writes it
+abbrev pub IsCellsText : Bool → Table → List CellEntry → List ℕ → Type 0
+IsCellsText false table cells text = IsTable table.delimiter table.begins_with_mark (dense_rows cells) text
+IsCellsText true table cells text = text ≡ sheet_csv cells
 
 -- a part of it
-abbrev pub BeginsCellsText : Style → Table → List CellEntry → List ℕ → Type 0
-BeginsCellsText Readable table cells text = BeginsTable table.delimiter table.begins_with_mark (dense_rows cells) text
-BeginsCellsText Json table cells text = BeginsTable table.delimiter table.begins_with_mark (dense_rows cells) text
-BeginsCellsText Exact table cells text = text ≡ sheet_csv cells
+abbrev pub BeginsCellsText : Bool → Table → List CellEntry → List ℕ → Type 0
+BeginsCellsText false table cells text = BeginsTable table.delimiter table.begins_with_mark (dense_rows cells) text
+BeginsCellsText true table cells text = text ≡ sheet_csv cells
 
 -- the text of the sheet that is chosen, and a part of it
 abbrev pub IsTableOf : SheetChoice → Table → Viewed → List ℕ → Type 0
 IsTableOf choice table view text =
-    (sheet : SheetView) × IsChosen choice view.book sheet × IsCellsText table.style table sheet.cells text
+    (sheet : SheetView) × IsChosen choice view.book sheet × IsCellsText table.is_exact table sheet.cells text
 
 abbrev pub BeginsTableOf : SheetChoice → Table → Viewed → List ℕ → Type 0
 BeginsTableOf choice table view text =
-    (sheet : SheetView) × IsChosen choice view.book sheet × BeginsCellsText table.style table sheet.cells text
+    (sheet : SheetView) × IsChosen choice view.book sheet × BeginsCellsText table.is_exact table sheet.cells text
 
 -- ---- what is written
 
 -- the text of these cells was written, a prefix of a part of it, or nothing where memory ran out
 abbrev pub WritesCells : Table → List CellEntry → SinkState → SinkState → Result (Unit {0}) Stop → Type 0
 WritesCells table cells before after (Ok x) =
-    (text : List ℕ) × IsCellsText table.style table cells text × Wrote before after text
+    (text : List ℕ) × IsCellsText table.is_exact table cells text × Wrote before after text
 WritesCells table cells before after (Err s) =
     ((s ≡ Memory) × IsUntouched before after)
-    ⊎ ((text : List ℕ) × BeginsCellsText table.style table cells text × Stops before [] after text s)
+    ⊎ ((text : List ℕ) × BeginsCellsText table.is_exact table cells text × Stops before [] after text s)
 
 -- the text of the sheet at an index likewise
 abbrev pub WritesSheetAt : Table → BookView → ℕ → SinkState → SinkState → Result (Unit {0}) Stop → Type 0
 WritesSheetAt table book n before after (Ok x) =
     (sheet : SheetView) × (slice_get book.contents n ≡ Some sheet)
-    × (text : List ℕ) × IsCellsText table.style table sheet.cells text × Wrote before after text
+    × (text : List ℕ) × IsCellsText table.is_exact table sheet.cells text × Wrote before after text
 WritesSheetAt table book n before after (Err s) =
     ((s ≡ Memory) × IsUntouched before after)
     ⊎ ((sheet : SheetView) × (slice_get book.contents n ≡ Some sheet)
-    × (text : List ℕ) × BeginsCellsText table.style table sheet.cells text × Stops before [] after text s)
+    × (text : List ℕ) × BeginsCellsText table.is_exact table sheet.cells text × Stops before [] after text s)

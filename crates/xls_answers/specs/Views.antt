@@ -14,8 +14,8 @@ use Rattle.xls_readable.specs.declared.forms.Form.{Form}
 use Rattle.xls_refs.specs.Views.{cited_in}
 use Rattle.xls_listing.specs.Listing.{Line, IsDisplayedLine, dump_lines, sheet_lines, formula_lines, ref_lines}
 use Rattle.xls_report.specs.Endings.{IsUntouched}
-use Rattle.xls_answers.specs.declared.lines.Listing.{Listing}
-use Rattle.xls_answers.specs.declared.lines.Listing.TheVariants as listing
+use Rattle.xls_readable.specs.declared.choices.Listing.{Listing}
+use Rattle.xls_readable.specs.declared.choices.Listing.TheVariants as listing
 use Rattle.xls_answers.specs.declared.failure.Failure.{Failure}
 use Rattle.xls_answers.specs.declared.failure.Failure.TheVariants as failures
 use Rattle.xls_answers.specs.declared.failure.Missing.{Missing}

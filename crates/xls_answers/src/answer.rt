@@ -1,8 +1,6 @@
 //! What is written of a workbook.
 
-use crate::lines::Listing;
-use xls_readable::Form;
-use xls_words::{SheetChoice, Table};
+use xls_readable::{Form, Listing, SheetChoice, Table};
 
 /// What is written of a workbook.
 #[derive(Clone, Copy, Debug, PartialEq, Eq)]

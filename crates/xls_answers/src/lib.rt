@@ -12,7 +12,7 @@ mod tables;
 
 pub use answer::Answer;
 pub use failure::{Failure, Missing};
-pub use lines::{Listing, write_lines};
+pub use lines::write_lines;
 pub use options::options_of;
 pub use stream::{view_of, write_file, write_stream, write_workbook};
 pub use tables::{chosen, write_sheet_at};

@@ -9,21 +9,8 @@ use std::alloc::Global;
 use xls_listing::{write_formula_list, write_listing, write_ref_list, write_sheet_list};
 use xls_open::XlsOptions;
 use xls_output::{Sink, Stop};
-use xls_readable::Form;
+use xls_readable::{Form, Listing};
 use xls_view::View;
-
-/// Which lines are written of a workbook.
-#[derive(Clone, Copy, Debug, PartialEq, Eq)]
-pub enum Listing {
-    /// All that it holds.
-    Dump,
-    /// Its sheets.
-    Sheets,
-    /// Its sheets, each with its formulas.
-    Formulas,
-    /// The cells that its formulas cite.
-    Refs,
-}
 
 /// Writes the lines of a view.
 fn write_view<K: Sink>(

@@ -6,7 +6,7 @@ ghost use Rattle.std.specs.Str.{chars};
 ghost use Rattle.xls_data.specs.Sheets.{sheet_content};
 ghost use Rattle.xls_range.specs.Positions.{IsAscending};
 ghost use Rattle.xls_biff.specs.Cells.{CellEntry};
-ghost use Rattle.xls_words.specs.Requests.{IsNumbered};
+ghost use Rattle.xls_readable.specs.Choices.{IsNumbered};
 ghost use Rattle.xls_answers.specs.Sheets.{BeginsTableOf, HasNoSheet, IsMissing, IsTableOf, MissesSheet, WritesCells, WritesSheetAt, chosen_index, first_worksheet_from, index_of_number, is_worksheet, last_named_from};
 ghost use Rattle.xls_answers.specs.Views.{OfView};
 
@@ -16,9 +16,9 @@ use xls_csv::write_rows;
 use xls_data::{Sheet, SheetType};
 use xls_open::XlsOptions;
 use xls_output::{Sink, Stop};
+use xls_readable::{SheetChoice, Table};
 use xls_tables::write_table;
 use xls_view::{SheetCells, View};
-use xls_words::{SheetChoice, Style, Table};
 
 /// Whether a sheet is a worksheet.
 fn is_worksheet(sheet: &Sheet) -> bool
@@ -119,16 +119,10 @@ fn write_cells<K: Sink>(
     requires { IsAscending (map (λ (c : CellEntry). c.0) cells.now) }
     ensures { WritesCells table.now cells.now (K.state sink.old) (K.state sink.new) result }
 {
-    match table.style {
-        Style::Exact => write_rows(alloc, sink, cells),
-        Style::Readable | Style::Json => write_table(
-            alloc,
-            sink,
-            table.delimiter,
-            table.begins_with_mark,
-            cells,
-        ),
+    if table.is_exact {
+        return write_rows(alloc, sink, cells);
     }
+    write_table(alloc, sink, table.delimiter, table.begins_with_mark, cells)
 }
 
 /// Writes the sheet of an index as CSV.

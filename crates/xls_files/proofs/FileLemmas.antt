@@ -2,7 +2,6 @@
 use Rattle.std.proofs.Common.{◌≡◌, ℕ, Bool, List, Result, inl, inr, sym, subst}
 use Rattle.std.specs.Prelude.{IsOk}
 use Rattle.xls_files.specs.Files.{AreAllowed, Creates, EndsFile, HostFiles}
-use Rattle.xls_files.specs.declared.host.Reason.{Reason}
 
 module _ {F : Type 0} (MayCreate : List ℕ × Bool → Type 0) (Holds : F → Type 0) where
   -- no file is made
@@ -17,7 +16,7 @@ module _ {F : Type 0} (MayCreate : List ℕ × Bool → Type 0) (Holds : F → T
       subst (AreAllowed MayCreate Holds) (sym e) (record { created = (may, h.created); ended = h.ended })
 
   -- a file is ended that holds what it should
-  pub ended_one : (file : F) (before after : HostFiles F) (r : Result (Unit {0}) Reason)
+  pub ended_one : {X E : Type 0} (file : F) (before after : HostFiles F) (r : Result X E)
       → EndsFile file before after r → (IsOk r → Holds file) → AreAllowed MayCreate Holds before → AreAllowed MayCreate Holds after
   ended_one file before after r (inl e) holds h = same_files before after e h
   ended_one file before after r (inr (ok, e)) holds h =

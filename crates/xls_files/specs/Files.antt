@@ -1,7 +1,6 @@
 -- The files that a host is told to make.
-use Rattle.std.specs.Prelude.{◌≡◌, ◌⊎◌, ℕ, Bool, List, [], ◌∷◌, Result, IfSome, IsOk}
+use Rattle.std.specs.Prelude.{◌≡◌, ◌⊎◌, ℕ, Bool, true, List, [], ◌∷◌, Some, Result, IsOk}
 use Rattle.std.specs.List.{AllByRecursion}
-use Rattle.xls_files.specs.declared.host.Reason.{Reason}
 use Rattle.xls_output.specs.SinkState.{SinkState}
 
 -- the paths of the files that were created, each with whether it may be written over, and the files that were ended;
@@ -16,13 +15,13 @@ Creates path over before after =
     (after ≡ before) ⊎ (after ≡ record { created = (path, over) ∷ before.created; ended = before.ended })
 
 -- one more is ended, where that has no fault and the host tells of it
-abbrev pub EndsFile : {F : Type 0} → F → HostFiles F → HostFiles F → Result (Unit {0}) Reason → Type 0
+abbrev pub EndsFile : {F X E : Type 0} → F → HostFiles F → HostFiles F → Result X E → Type 0
 EndsFile file before after result =
     (after ≡ before) ⊎ (IsOk result × (after ≡ record { created = before.created; ended = file ∷ before.ended }))
 
--- nothing is written yet, where that is told
-abbrev pub IsEmpty : SinkState → Type 0
-IsEmpty state = IfSome state.written (λ text. text ≡ [])
+-- nothing is written yet, where files tell what they hold
+abbrev pub IsEmpty : Bool → SinkState → Type 0
+IsEmpty tells state = tells ≡ true → state.written ≡ Some []
 
 -- all files that were created may be, and all that were ended hold what they should
 pub record AreAllowed {F : Type 0} (MayCreate : List ℕ × Bool → Type 0) (Holds : F → Type 0) (files : HostFiles F) : Type 0 where

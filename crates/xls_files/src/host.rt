@@ -1,6 +1,6 @@
 //! What the program reads and writes by.
 
-ghost use Rattle.std.specs.Prelude.{◌≡◌, ◌≢◌, ℕ, List, Option, Some, None, IfOk, IfErr, codes};
+ghost use Rattle.std.specs.Prelude.{◌≡◌, ◌≢◌, ℕ, Bool, List, Option, Some, None, IfOk, IfErr, codes};
 ghost use Rattle.xls_files.specs.Files.{Creates, EndsFile, HostFiles, IsEmpty};
 ghost use Rattle.xls_files.specs.Reads.{Stays};
 ghost use Rattle.xls_files.specs.declared.host.Place.TheVariants.{File};
@@ -77,6 +77,9 @@ pub trait Host {
     /// The files that it was told to make: a host tells of some, or of none.
     ghost files: { Self → HostFiles Self.File };
 
+    /// Whether its files tell what they hold.
+    ghost tells: { Bool };
+
     /// A file that is written. Its first write makes it.
     type File: Sink + Drop;
 
@@ -110,12 +113,17 @@ pub trait Host {
     /// A file to be written, in folders that are made with it. One that exists is written over only where that is
     /// said.
     fn create(&mut self, path: &str, writes_over: bool) -> Result<Self::File, Reason>
-        ensures empty { IfOk result (λ file. IsEmpty (Self.File.state file)) }
+        ensures empty { IfOk result (λ file. IsEmpty tells (Self.File.state file)) }
         ensures files { Creates path.now writes_over (files self.old) (files self.new) };
 
-    /// Ends a file: it is made where nothing was written, and all of it is written; or why not.
+    /// Ends a file, no write of which failed: it is made where nothing was written, and all of it is written; or why
+    /// not.
     fn close(&mut self, file: Self::File) -> Result<(), Reason>
         ensures { EndsFile file (files self.old) (files self.new) result };
+
+    /// Takes a file away, a write of which failed, as far as that can be done. Why the last write failed.
+    fn give_up(&mut self, file: Self::File) -> Reason
+        ensures { files self.new ≡ files self.old };
 
     /// Tells a line on standard error.
     fn say(&mut self, line: &str)

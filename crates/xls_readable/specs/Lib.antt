@@ -1,3 +1,4 @@
+pub mod Choices
 pub mod Values
 pub mod Csv
 pub mod Laws

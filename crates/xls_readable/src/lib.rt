@@ -3,6 +3,7 @@
 #![tactic(auto)]
 
 mod cell_lines;
+mod choices;
 mod delimited;
 mod exact_lines;
 mod forms;
@@ -15,6 +16,7 @@ mod rows;
 mod values;
 
 pub use cell_lines::{CellLines, push_cell};
+pub use choices::{Listing, SheetChoice, Table};
 pub use delimited::{
     Delimiter, end_row, push_failure_field, push_field, push_int_field, push_moment_field,
     push_number_field, push_separator, push_text_field, push_truth_field,

@@ -11,10 +11,10 @@ use Rattle.xls_output.specs.declared.stop.Stop.{Stop}
 use Rattle.xls_open.specs.declared.options.XlsOptions.{XlsOptions}
 use Rattle.xls_tool.specs.Problems.{problem_status, status_of_file, status_of_work}
 use Rattle.xls_tool.specs.Steps.{EndsPath, EndsText, IsUnread, OfPath}
-use Rattle.xls_tool.specs.Texts.{HasCause, is_exact}
+use Rattle.xls_tool.specs.Texts.{HasCause}
 use Rattle.xls_tool.specs.declared.problem.Problem.{Problem}
 use Rattle.xls_tool.specs.declared.problem.Problem.TheVariants as problems
-use Rattle.xls_words.specs.Requests.{AreNamed, IsPlainRequest, plain_command}
+use Rattle.xls_words.specs.Requests.{AreNamed, IsPlainRequest, is_exact, plain_command}
 use Rattle.xls_words.specs.declared.request.Command.{Command}
 use Rattle.xls_words.specs.declared.request.Command.TheVariants.{Check}
 use Rattle.xls_words.specs.declared.request.Request.{Request}
@@ -100,11 +100,8 @@ of-request finds a b asked request options paths r same under named h path are_n
 
 -- which ask for readable texts
 readable : (word : Word) → is_exact (plain_command word) ≡ false
-readable words.Dump = refl
-readable words.Sheets = refl
+readable (words.Lines lines) = refl
 readable words.Check = refl
-readable words.Formulas = refl
-readable words.Refs = refl
 readable words.Props = refl
 readable words.Vba = refl
 readable words.Csv = refl
@@ -113,11 +110,8 @@ readable words.Stream = refl
 readable words.Streams = refl
 
 checks : (word : Word) → plain_command word ≡ Check → word ≡ words.Check
-checks words.Dump e = absurd (cc e)
-checks words.Sheets e = absurd (cc e)
+checks (words.Lines lines) e = absurd (cc e)
 checks words.Check e = refl
-checks words.Formulas e = absurd (cc e)
-checks words.Refs e = absurd (cc e)
 checks words.Props e = absurd (cc e)
 checks words.Vba e = absurd (cc e)
 checks words.Csv e = absurd (cc e)

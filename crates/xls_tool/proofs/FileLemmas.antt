@@ -1,5 +1,5 @@
 -- What is written of a file that is opened once.
-use Rattle.std.proofs.Common.{◌≡◌, ◌⊎◌, ℕ, List, Option, Some, None, Result, Ok, Err, inl, inr, refl, sym, subst}
+use Rattle.std.proofs.Common.{◌≡◌, ◌⊎◌, ℕ, List, Result, Ok, Err, inl, inr, refl, sym, subst}
 use Rattle.std.specs.Result.{IsErrAnd}
 use Rattle.std.proofs.KnownBytes.{Keeps-refl}
 use Rattle.xls_answers.proofs.FileLemmas.{of-workbook, workbook-refused}
@@ -14,7 +14,11 @@ use Rattle.xls_output.specs.declared.stop.Stop.TheVariants.{Memory}
 use Rattle.xls_open.specs.declared.options.XlsOptions.{XlsOptions}
 use Rattle.xls_tool.specs.Beside.{OfContainer}
 use Rattle.xls_tool.specs.Steps.{EndsAnswer, EndsText, RanOut}
-use Rattle.xls_tool.specs.Texts.{OfAnswer, OfGiven, OfText, OfWorkbook, answer_of}
+use Rattle.xls_tool.specs.Asked.{asked_by}
+use Rattle.xls_tool.specs.Texts.{OfAnswer, OfGiven, OfText, OfWorkbook}
+use Rattle.xls_tool.specs.declared.job.Asked.{Asked}
+use Rattle.xls_tool.specs.declared.job.Asked.TheVariants.{Workbook, Other}
+use Rattle.xls_tool.specs.declared.job.Beside.{Beside}
 use Rattle.xls_tool.specs.declared.problem.Problem.{Problem}
 use Rattle.xls_tool.specs.declared.problem.Problem.TheVariants as problems
 use Rattle.xls_words.specs.declared.request.Command.{Command}
@@ -61,27 +65,27 @@ ran-out answer options file a b r is = passed answer options file a b (problems.
 
 -- a command that writes of the workbook
 pub by-answer : (answer : Answer) (command : Command) (options : XlsOptions) (file : List ℕ) (a b : SinkState) (r : Result (Unit {0}) Problem)
-    → answer_of command ≡ Some answer → EndsAnswer answer options file a b r → EndsText command options file a b r
+    → asked_by command ≡ Workbook answer → EndsAnswer answer options file a b r → EndsText command options file a b r
 by-answer answer command options file a b r is ends =
-    subst (λ given. RanOut r ⊎ OfGiven given command options file a b r) (sym is) ends
+    subst (λ asked. RanOut r ⊎ OfGiven asked options file a b r) (sym is) ends
 
 -- one that writes of what stands beside it
-pub by-beside : (command : Command) (options : XlsOptions) (file : List ℕ) (a b : SinkState) (c : Container) (r : Result (Unit {0}) Problem)
-    → answer_of command ≡ None → OpensContainer file c → OfContainer command c a b r → EndsText command options file a b r
-by-beside command options file a b c r is opens p =
-    inr (subst (λ given. OfGiven given command options file a b r) (sym is) (inl (c, opens, p)))
+pub by-beside : (beside : Beside) (command : Command) (options : XlsOptions) (file : List ℕ) (a b : SinkState) (c : Container) (r : Result (Unit {0}) Problem)
+    → asked_by command ≡ Other beside → OpensContainer file c → OfContainer beside c a b r → EndsText command options file a b r
+by-beside beside command options file a b c r is opens p =
+    inr (subst (λ asked. OfGiven asked options file a b r) (sym is) (inl (c, opens, p)))
 
 -- a file isn't opened
-refused : (given : Option Answer) (command : Command) (options : XlsOptions) (file : List ℕ) (s : SinkState) (fault : FileFault)
-    → RefusesToOpen file fault → OfGiven given command options file s s (Err (problems.Failure (failure_of_fault fault)))
-refused (Some answer) command options file s faults.Memory refuses = inl (refl, (Keeps-refl s.written, refl))
-refused (Some answer) command options file s (faults.Kind k) refuses = (inl refuses, (Keeps-refl s.written, refl))
-refused (Some answer) command options file s (faults.Compound e) refuses = (inl refuses, (Keeps-refl s.written, refl))
-refused (Some answer) command options file s faults.NoWorkbook refuses = absurd refuses
-refused None command options file s fault refuses = inr (fault, refuses, (refl, (Keeps-refl s.written, refl)))
+refused : (asked : Asked) (options : XlsOptions) (file : List ℕ) (s : SinkState) (fault : FileFault)
+    → RefusesToOpen file fault → OfGiven asked options file s s (Err (problems.Failure (failure_of_fault fault)))
+refused (Workbook answer) options file s faults.Memory refuses = inl (refl, (Keeps-refl s.written, refl))
+refused (Workbook answer) options file s (faults.Kind k) refuses = (inl refuses, (Keeps-refl s.written, refl))
+refused (Workbook answer) options file s (faults.Compound e) refuses = (inl refuses, (Keeps-refl s.written, refl))
+refused (Workbook answer) options file s faults.NoWorkbook refuses = absurd refuses
+refused (Other beside) options file s fault refuses = inr (fault, refuses, (refl, (Keeps-refl s.written, refl)))
 
 pub not-opened : (command : Command) (options : XlsOptions) (file : List ℕ) (s : SinkState) (fault : FileFault) (r : Result (Unit {0}) Problem)
     → IsErrAnd r (λ d. d ≡ problems.Failure (failure_of_fault fault)) → RefusesToOpen file fault → EndsText command options file s s r
 not-opened command options file s fault (Ok x) none refuses = absurd none
 not-opened command options file s fault (Err d) is refuses =
-    inr (subst (λ (p : Problem). OfText command options file s s (Err p)) (sym is) (refused (answer_of command) command options file s fault refuses))
+    inr (subst (λ (p : Problem). OfText command options file s s (Err p)) (sym is) (refused (asked_by command) options file s fault refuses))

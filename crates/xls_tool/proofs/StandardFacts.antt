@@ -1,17 +1,22 @@
 -- What users are told of a file's problem, as docs/xls.md has it, so that a wrong text in the definitions does not check.
-use Rattle.std.proofs.Common.{◌≡◌, ℕ, Bool, true, false, [], ◌∷◌, Ok, Err, map, refl, codes}
+use Rattle.std.proofs.Common.{◌≡◌, ℕ, [], ◌∷◌, Some, None, Ok, Err, map, refl, codes}
 use Rattle.xls_documents.specs.declared.fault.ProjectFault.{ProjectFault}
 use Rattle.xls_files.specs.declared.host.Reason.TheVariants as reasons
 use Rattle.xls_output.specs.declared.stop.Stop.TheVariants as stop
 use Rattle.xls_tool.specs.Displayed.{absent_text, problem_text}
 use Rattle.xls_tool.specs.Problems.{outcome_for, problem_status, status_of_work}
-use Rattle.xls_tool.specs.Texts.{is_exact}
 use Rattle.xls_tool.specs.declared.problem.Outcome.TheVariants as outcome
 use Rattle.xls_tool.specs.declared.problem.Absent.TheVariants.{Properties, Project, Stream, Compound}
 use Rattle.xls_tool.specs.declared.problem.Problem.TheVariants as problems
+use Rattle.xls_readable.specs.declared.choices.Listing.TheVariants.{Dump, Sheets, Formulas, Refs}
+use Rattle.xls_readable.specs.declared.choices.SheetChoice.{SheetChoice}
+use Rattle.xls_readable.specs.declared.choices.Table.{Table}
+use Rattle.xls_readable.specs.declared.forms.Form.TheVariants.{Text, Json, Exact}
+use Rattle.xls_answers.specs.declared.answer.Answer.TheVariants as answers
 use Rattle.xls_words.specs.declared.request.Command.TheVariants as commands
-use Rattle.xls_words.specs.declared.request.SheetChoice.{SheetChoice}
-use Rattle.xls_words.specs.declared.request.Style.TheVariants.{Readable, Json, Exact}
+use Rattle.xls_tool.specs.Asked.{asked_by}
+use Rattle.xls_tool.specs.declared.job.Asked.TheVariants.{Workbook, Other}
+use Rattle.xls_tool.specs.declared.job.Beside.TheVariants as beside
 
 pub known_absences : map absent_text (Properties ∷ Project ∷ Stream ∷ Compound ∷ [])
     ≡ codes "it has no property streams" ∷ codes "it has no macro project (no stream VBA/dir)" ∷ codes "it has no such stream"
@@ -37,17 +42,20 @@ pub known_outcomes : map outcome_for (1 ∷ 4 ∷ 5 ∷ 10 ∷ 11 ∷ 12 ∷ 16 
     ≡ outcome.Refused ∷ outcome.Failed ∷ outcome.Failed ∷ outcome.Unread ∷ outcome.Unread ∷ outcome.Unread ∷ outcome.Failed ∷ outcome.Unread ∷ []
 known_outcomes = refl
 
--- ---- which words ask for the texts of xls_dump
+-- ---- what each command writes, whole
 
-pub known_exact : (s : SheetChoice) (d : ℕ) (m : Bool) → map is_exact
-    (commands.Dump Exact ∷ commands.Sheets Exact ∷ commands.Formulas Exact ∷ commands.Refs Exact
-    ∷ commands.Csv s (record { delimiter = d; begins_with_mark = m; style = Exact }) ∷ [])
-    ≡ true ∷ true ∷ true ∷ true ∷ true ∷ []
-known_exact s d m = refl
+pub known_asked : (s : SheetChoice) (t : Table) → map asked_by
+    (commands.Lines Dump Text ∷ commands.Lines Sheets Text ∷ commands.Lines Formulas Text ∷ commands.Lines Refs Text
+    ∷ commands.Lines Dump Json ∷ commands.Lines Sheets Json ∷ commands.Lines Formulas Json ∷ commands.Lines Refs Json
+    ∷ commands.Lines Dump Exact ∷ commands.Lines Sheets Exact ∷ commands.Lines Formulas Exact ∷ commands.Lines Refs Exact
+    ∷ commands.Check ∷ commands.Csv s t ∷ commands.Remake ∷ commands.Stream None ∷ [])
+    ≡ map Workbook
+    (answers.Lines Dump Text ∷ answers.Lines Sheets Text ∷ answers.Lines Formulas Text ∷ answers.Lines Refs Text
+    ∷ answers.Lines Dump Json ∷ answers.Lines Sheets Json ∷ answers.Lines Formulas Json ∷ answers.Lines Refs Json
+    ∷ answers.Exact ∷ answers.Lines Sheets Text ∷ answers.Lines Formulas Text ∷ answers.Lines Refs Text
+    ∷ answers.Check ∷ answers.Sheet s t ∷ answers.Remade ∷ answers.Bytes ∷ [])
+known_asked s t = refl
 
-pub known_readable : (s : SheetChoice) (d : ℕ) (m : Bool) (path : _) → map is_exact
-    (commands.Dump Json ∷ commands.Sheets Json ∷ commands.Formulas Json ∷ commands.Refs Json
-    ∷ commands.Csv s (record { delimiter = d; begins_with_mark = m; style = Readable })
-    ∷ commands.Check ∷ commands.Props ∷ commands.Vba ∷ commands.Remake ∷ commands.Stream path ∷ commands.Streams ∷ [])
-    ≡ false ∷ false ∷ false ∷ false ∷ false ∷ false ∷ false ∷ false ∷ false ∷ false ∷ false ∷ []
-known_readable s d m path = refl
+pub known_others : (path : _) → map asked_by (commands.Props ∷ commands.Vba ∷ commands.Stream (Some path) ∷ commands.Streams ∷ [])
+    ≡ map Other (beside.Properties ∷ beside.Project ∷ beside.Stream path ∷ beside.Streams ∷ [])
+known_others path = refl

@@ -27,9 +27,9 @@ use Rattle.xls_answers.specs.Failures.{failure_of_fault}
 use Rattle.xls_answers.specs.declared.failure.Failure.{Failure}
 use Rattle.xls_answers.specs.declared.failure.Failure.TheVariants as failures
 use Rattle.xls_files.specs.Paths.{names_in}
-use Rattle.xls_words.specs.declared.request.Command.{Command}
-use Rattle.xls_words.specs.declared.request.Command.TheVariants as commands
 use Rattle.xls_tool.specs.Problems.{problem_of_project}
+use Rattle.xls_tool.specs.declared.job.Beside.{Beside}
+use Rattle.xls_tool.specs.declared.job.Beside.TheVariants as asked
 use Rattle.xls_tool.specs.declared.problem.Absent.TheVariants as absent
 use Rattle.xls_tool.specs.declared.problem.Problem.{Problem}
 use Rattle.xls_tool.specs.declared.problem.Problem.TheVariants as problems
@@ -101,17 +101,16 @@ OfStreamAt path container before after result =
     ((compound : Compound) × (compound_in container ≡ Some compound) × OfStreamIn path compound before after result)
     ⊎ ((compound_in container ≡ None) × IsRefused (problems.Absent absent.Compound) before after result)
 
--- by the command: `props`, `vba`, `stream` with a path, `streams`; the others write of the workbook
-abbrev pub OfContainer : Command → Container → SinkState → SinkState → Result (Unit {0}) Problem → Type 0
-OfContainer commands.Props = OfProperties
-OfContainer commands.Vba = OfProject
-OfContainer (commands.Stream (Some path)) = OfStreamAt path.now
-OfContainer other = OfStreams
+abbrev pub OfContainer : Beside → Container → SinkState → SinkState → Result (Unit {0}) Problem → Type 0
+OfContainer asked.Properties = OfProperties
+OfContainer asked.Project = OfProject
+OfContainer (asked.Stream path) = OfStreamAt path.now
+OfContainer asked.Streams = OfStreams
 
 -- ---- of a file
 
 -- what an opened file holds; or the file isn't opened
-abbrev pub OfBeside : Command → List ℕ → SinkState → SinkState → Result (Unit {0}) Problem → Type 0
-OfBeside command file before after result =
-    ((container : Container) × OpensContainer file container × OfContainer command container before after result)
+abbrev pub OfBeside : Beside → List ℕ → SinkState → SinkState → Result (Unit {0}) Problem → Type 0
+OfBeside beside file before after result =
+    ((container : Container) × OpensContainer file container × OfContainer beside container before after result)
     ⊎ ((fault : FileFault) × RefusesToOpen file fault × IsRefused (problems.Failure (failure_of_fault fault)) before after result)

@@ -1,11 +1,15 @@
 -- What is printed of each problem.
 use Rattle.std.specs.Prelude.{ℕ, List, ◌++◌, codes}
+use Rattle.std.specs.Str.{chars}
 use Rattle.std.specs.String.{string_bytes}
+use Rattle.xls_bytes.specs.Escapes.{escaped_text}
 use Rattle.xls_answers.specs.Texts.{failure_text}
 use Rattle.xls_documents.specs.Texts as documents
 use Rattle.xls_files.specs.Reasons.{reason_text}
 use Rattle.xls_tool.specs.declared.problem.Absent.{Absent}
 use Rattle.xls_tool.specs.declared.problem.Absent.TheVariants as absent
+use Rattle.xls_tool.specs.declared.problem.Outcome.{Outcome}
+use Rattle.xls_tool.specs.declared.problem.Outcome.TheVariants as outcome
 use Rattle.xls_tool.specs.declared.problem.Problem.{Problem}
 use Rattle.xls_tool.specs.declared.problem.Problem.TheVariants as problems
 
@@ -23,3 +27,14 @@ problem_text (problems.Failure failure) = failure_text failure
 problem_text (problems.Absent what) = absent_text what
 problem_text (problems.Project fault) = documents.fault_text fault
 problem_text (problems.Unwritten path reason) = string_bytes path ++ (codes ": " ++ reason_text reason)
+
+-- a line on standard error about a file: tabs, newlines and returns of its name and of the text are escaped
+abbrev pub said_line : List ℕ → List ℕ → List ℕ
+said_line file text = codes "xls: " ++ (escaped_text (chars file) ++ (codes ": " ++ escaped_text (chars text)))
+
+-- how it went with a file of many, in the line that tells of it
+abbrev pub outcome_word : Outcome → List ℕ
+outcome_word outcome.Ok = codes "ok"
+outcome_word outcome.Refused = codes "refused"
+outcome_word outcome.Unread = codes "unread"
+outcome_word outcome.Failed = codes "failed"

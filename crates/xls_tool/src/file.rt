@@ -1,6 +1,6 @@
 //! Files that are read.
 
-ghost use Rattle.std.specs.Prelude.{IfOk, IfErr, Some};
+ghost use Rattle.std.specs.Prelude.{◌≡◌, IfOk, IfErr, Some};
 ghost use Rattle.xls_tool.specs.Steps.{IsUnread};
 
 use crate::problem::Problem;
@@ -27,6 +27,7 @@ pub(crate) struct Workbook<'f> {
 pub(crate) fn read<H: Host>(host: &mut H, path: &str) -> Result<Vec<u8>, Problem>
     ensures bytes { IfOk result (λ bytes. H.reads host.old path.now (Some bytes.items)) }
     ensures unread { IfErr result (IsUnread (H.reads host.old path.now)) }
+    ensures files { H.files host.new ≡ H.files host.old }
 {
     let bytes = if path == "-" {
         host.read_input()

@@ -1,20 +1,21 @@
 //! Number formats of a workbook's own that don't count.
 
+ghost use Rattle.std.specs.Prelude.{◌≡◌};
+
 use crate::file::Workbook;
 use crate::say::say_of;
 use std::alloc::{AllocError, Global};
-use xls_answers::{Answer, Listing};
+use xls_answers::Answer;
 use xls_files::Host;
 use xls_formats::{Uncounted, uncounted_formats};
+use xls_readable::Listing;
 
 /// Whether values are written, which formats make dates and durations.
 fn has_values(answer: &Answer<'_>) -> bool {
     match answer {
-        Answer::Lines(Listing::Dump, _) | Answer::Exact | Answer::Sheet(..) => true,
-        Answer::Lines(Listing::Sheets | Listing::Formulas | Listing::Refs, _)
-        | Answer::Check
-        | Answer::Remade
-        | Answer::Bytes => false,
+        Answer::Lines(listing, _) => *listing == Listing::Dump,
+        Answer::Exact | Answer::Sheet(..) => true,
+        Answer::Check | Answer::Remade | Answer::Bytes => false,
     }
 }
 
@@ -24,7 +25,9 @@ fn tell_uncounted<H: Host>(
     host: &mut H,
     path: &str,
     found: Uncounted,
-) -> Result<(), AllocError> {
+) -> Result<(), AllocError>
+    ensures { H.files host.new ≡ H.files host.old }
+{
     let text = format!(in alloc;
         "formats of its own that don't count: {}; cells that have one: {}",
         found.formats, found.cells
@@ -38,7 +41,9 @@ pub(crate) fn tell_formats<H: Host>(
     host: &mut H,
     answer: &Answer<'_>,
     book: &Workbook<'_>,
-) -> Result<(), AllocError> {
+) -> Result<(), AllocError>
+    ensures { H.files host.new ≡ H.files host.old }
+{
     if !has_values(answer) {
         return Ok(());
     }

@@ -1,16 +1,17 @@
 //! What is done with each file.
 
-ghost use Rattle.std.specs.Prelude.{◌≡◌, IfOk, IfSome};
+ghost use Rattle.std.specs.Prelude.{◌≡◌, IfOk};
 ghost use Rattle.xls_words.specs.Requests as requests;
+ghost use Rattle.xls_words.specs.Requests.{is_exact};
 ghost use Rattle.xls_answers.specs.Answers.{HasNumber};
 ghost use Rattle.xls_answers.specs.Views.{options_under};
-ghost use Rattle.xls_tool.specs.Texts.{answer_of, is_exact, style_form};
+ghost use Rattle.xls_tool.specs.Asked.{AskedHasNumber, asked_by, form_of_many, exact_lines, lines_of};
 
 use std::alloc::{AllocError, Global};
-use xls_answers::{Answer, Listing, options_of};
+use xls_answers::{Answer, options_of};
 use xls_open::XlsOptions;
-use xls_readable::Form;
-use xls_words::{Command, Request, Style, Table};
+use xls_readable::{Form, Listing};
+use xls_words::{Command, Request};
 
 /// What is asked for of each file, and how workbooks are read.
 #[derive(Drop)]
@@ -21,7 +22,9 @@ pub(crate) struct Job<'w> {
 
 impl Job<'_> {
     /// The form of the lines that tell of many files.
-    pub(crate) fn form(&self) -> Form {
+    pub(crate) fn form(&self) -> Form
+        ensures { result ≡ form_of_many self.now.request.tells_json }
+    {
         if self.request.tells_json {
             Form::Json
         } else {
@@ -30,93 +33,65 @@ impl Job<'_> {
     }
 }
 
-/// The form of lines.
-fn form_of(style: Style) -> Form
-    ensures { result ≡ style_form style }
+/// What stands beside the workbook in a file.
+#[derive(Clone, Copy, Debug, PartialEq, Eq)]
+pub enum Beside<'w> {
+    Properties,
+    Project,
+    /// The stream of a path, its names separated by `/`.
+    Stream(&'w str),
+    Streams,
+}
+
+/// What a command writes of a file.
+#[derive(Clone, Copy, Debug, PartialEq, Eq)]
+pub enum Asked<'w> {
+    Workbook(Answer<'w>),
+    Other(Beside<'w>),
+}
+
+/// Lines as `xls_dump` has them: its own where all are asked for.
+fn exact_lines<'w>(listing: Listing) -> Answer<'w>
+    ensures exact { result ≡ exact_lines listing }
+    ensures number { HasNumber result }
 {
-    match style {
-        Style::Json => Form::Json,
-        Style::Readable | Style::Exact => Form::Text,
+    match listing {
+        Listing::Dump => Answer::Exact,
+        Listing::Sheets => Answer::Lines(Listing::Sheets, Form::Text),
+        Listing::Formulas => Answer::Lines(Listing::Formulas, Form::Text),
+        Listing::Refs => Answer::Lines(Listing::Refs, Form::Text),
     }
 }
 
-/// Whether texts are as `xls_dump` has them.
-fn is_exact(command: &Command<'_>) -> bool
-    ensures { result ≡ is_exact command.now }
+/// Lines of the workbook in a form.
+fn lines_of<'w>(listing: Listing, form: Form) -> Answer<'w>
+    ensures exact { result ≡ lines_of listing form }
+    ensures number { HasNumber result }
 {
-    match command {
-        Command::Dump(style)
-        | Command::Sheets(style)
-        | Command::Formulas(style)
-        | Command::Refs(style) => *style == Style::Exact,
-        Command::Csv(_, table) => table.style == Style::Exact,
-        Command::Check
-        | Command::Props
-        | Command::Vba
-        | Command::Remake
-        | Command::Stream(_)
-        | Command::Streams => false,
+    match form {
+        Form::Text => Answer::Lines(listing, Form::Text),
+        Form::Json => Answer::Lines(listing, Form::Json),
+        Form::Exact => exact_lines(listing),
     }
 }
 
-/// What is written of the workbook, where a command writes of it.
-pub(crate) fn answer_of<'w>(command: &Command<'w>) -> Option<Answer<'w>>
+/// What a command writes of a file.
+pub(crate) fn asked_by<'w>(command: &Command<'w>) -> Asked<'w>
     requires { requests.CommandHasNumber command.now }
-    ensures exact { result ≡ answer_of command.now }
-    ensures number { IfSome result HasNumber }
+    ensures exact { result ≡ asked_by command.now }
+    ensures number { AskedHasNumber result }
 {
     match command {
-        Command::Dump(Style::Exact) => Some(Answer::Exact),
-        Command::Dump(style) => Some(Answer::Lines(Listing::Dump, form_of(*style))),
-        Command::Sheets(style) => Some(Answer::Lines(Listing::Sheets, form_of(*style))),
-        Command::Formulas(style) => Some(Answer::Lines(Listing::Formulas, form_of(*style))),
-        Command::Refs(style) => Some(Answer::Lines(Listing::Refs, form_of(*style))),
-        Command::Check => Some(Answer::Check),
-        Command::Csv(choice, table) => Some(Answer::Sheet(
-            *choice,
-            Table {
-                delimiter: table.delimiter,
-                begins_with_mark: table.begins_with_mark,
-                style: table.style,
-            },
-        )),
-        Command::Remake => Some(Answer::Remade),
-        Command::Stream(None) => Some(Answer::Bytes),
-        Command::Stream(Some(_)) | Command::Props | Command::Vba | Command::Streams => None,
+        Command::Lines(listing, form) => Asked::Workbook(lines_of(*listing, *form)),
+        Command::Check => Asked::Workbook(Answer::Check),
+        Command::Csv(choice, table) => Asked::Workbook(Answer::Sheet(*choice, *table)),
+        Command::Remake => Asked::Workbook(Answer::Remade),
+        Command::Stream(None) => Asked::Workbook(Answer::Bytes),
+        Command::Stream(Some(path)) => Asked::Other(Beside::Stream(path)),
+        Command::Props => Asked::Other(Beside::Properties),
+        Command::Vba => Asked::Other(Beside::Project),
+        Command::Streams => Asked::Other(Beside::Streams),
     }
-}
-
-/// The ending of the names of files for lines of a form.
-fn line_ending(style: Style) -> &'static str {
-    match style {
-        Style::Json => "json",
-        Style::Readable | Style::Exact => "txt",
-    }
-}
-
-/// The ending of the name of a text's file.
-pub(crate) fn ending_of(command: &Command<'_>) -> &'static str {
-    match command {
-        Command::Dump(style)
-        | Command::Sheets(style)
-        | Command::Formulas(style)
-        | Command::Refs(style) => line_ending(*style),
-        Command::Csv(..) => "csv",
-        Command::Check
-        | Command::Props
-        | Command::Vba
-        | Command::Remake
-        | Command::Stream(_)
-        | Command::Streams => "txt",
-    }
-}
-
-/// Whether a command is one of those that read many files.
-pub(crate) fn takes_many(command: &Command<'_>) -> bool {
-    !matches!(
-        command,
-        Command::Remake | Command::Stream(_) | Command::Streams
-    )
 }
 
 /// What a request asks for of each file.
@@ -124,6 +99,6 @@ pub(crate) fn job_of<'w>(alloc: Global, request: Request<'w>) -> Result<Job<'w>,
     ensures request { IfOk result (λ job. job.request ≡ request.entry) }
     ensures options { IfOk result (λ job. job.options ≡ options_under request.entry.page (is_exact request.entry.command)) }
 {
-    let options = options_of(alloc, request.page, is_exact(&request.command))?;
+    let options = options_of(alloc, request.page, request.command.is_exact())?;
     Ok(Job { request, options })
 }

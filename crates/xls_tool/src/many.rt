@@ -1,7 +1,8 @@
 //! Many files, one after another.
 
-ghost use Rattle.std.specs.Prelude.{◌≡◌, IfOk, None};
-ghost use Rattle.xls_tool.specs.Problems.{IsStatus};
+ghost use Rattle.std.specs.Prelude.{◌≡◌, max, IfOk, None};
+ghost use Rattle.xls_tool.specs.Outputs.{KeepsOutputs};
+ghost use Rattle.xls_tool.specs.Problems.{IsStatus, problem_status, status_of_file};
 ghost use Rattle.xls_tool.specs.Steps.{EndsPath};
 ghost use Rattle.xls_words.specs.Requests as requests;
 
@@ -36,16 +37,19 @@ pub(crate) fn do_file<H: Host, K: Sink>(
     job: &Job<'_>,
     path: &str,
 ) -> Result<(), Problem>
-    requires { requests.CommandHasNumber job.now.request.command }
-    ensures { job.now.request.out ≡ None → EndsPath (H.reads host.old path.now)
+    requires number { requests.CommandHasNumber job.now.request.command }
+    ensures written { job.now.request.out ≡ None → EndsPath (H.reads host.old path.now)
         job.now.request.command job.now.options (K.state sink.old) (K.state sink.new) result }
+    ensures outputs { KeepsOutputs H.tells H.File.state job.now.request job.now.options (H.files host.old) (H.files host.new) }
 {
     let bytes = read(host, path)?;
     do_bytes(alloc, host, sink, job, path, bytes.as_slice())
 }
 
 /// That a name isn't UTF-8.
-fn unnamed(alloc: Global) -> Result<Problem, AllocError> {
+fn unnamed(alloc: Global) -> Result<Problem, AllocError>
+    ensures { IfOk result (λ problem. problem_status problem ≡ 10) }
+{
     let text = String::from_str(alloc, "the name isn't UTF-8")?;
     Ok(Problem::Unread(Reason::Reported(text)))
 }
@@ -57,7 +61,10 @@ fn tell<H: Host, K: Sink>(
     report: &mut Report<'_, K>,
     file: &str,
     done: &Result<(), Problem>,
-) -> Result<(), Stop> {
+) -> Result<(), Stop>
+    ensures files { H.files host.new ≡ H.files host.old }
+    ensures status { report.new.counts ≡ max report.old.counts (status_of_file done.now) }
+{
     host.show("");
     report.tell(alloc, file, done)
 }
@@ -68,7 +75,9 @@ fn tell_unnamed<H: Host, K: Sink>(
     host: &mut H,
     report: &mut Report<'_, K>,
     place: &str,
-) -> Result<(), Stop> {
+) -> Result<(), Stop>
+    ensures { H.files host.new ≡ H.files host.old }
+{
     let result = Err(unnamed(alloc)?);
     tell(alloc, host, report, place, &result)
 }
@@ -80,7 +89,9 @@ fn tell_unread<H: Host, K: Sink>(
     report: &mut Report<'_, K>,
     file: &str,
     reason: Reason,
-) -> Result<(), Stop> {
+) -> Result<(), Stop>
+    ensures { H.files host.new ≡ H.files host.old }
+{
     let result = Err(Problem::Unread(reason));
     tell(alloc, host, report, file, &result)
 }
@@ -93,7 +104,8 @@ fn do_next<H: Host, K: Sink>(
     job: &Job<'_>,
     next: Next,
 ) -> Result<(), Stop>
-    requires { requests.CommandHasNumber job.now.request.command }
+    requires number { requests.CommandHasNumber job.now.request.command }
+    ensures { KeepsOutputs H.tells H.File.state job.now.request job.now.options (H.files host.old) (H.files host.new) }
 {
     match next {
         Next::File(path) => {
@@ -114,7 +126,9 @@ fn show<H: Host, K: Sink>(
     alloc: Global,
     host: &mut H,
     report: &Report<'_, K>,
-) -> Result<(), AllocError> {
+) -> Result<(), AllocError>
+    ensures { H.files host.new ≡ H.files host.old }
+{
     if !host.shows() {
         return Ok(());
     }
@@ -131,7 +145,8 @@ fn do_queue<H: Host, K: Sink>(
     job: &Job<'_>,
     queue: &mut Queue,
 ) -> Result<(), Stop>
-    requires { requests.CommandHasNumber job.now.request.command }
+    requires number { requests.CommandHasNumber job.now.request.command }
+    ensures { KeepsOutputs H.tells H.File.state job.now.request job.now.options (H.files host.old) (H.files host.new) }
 {
     for _ in 0..u64::MAX {
         let Some(next) = queue.next(host)? else {
@@ -153,7 +168,9 @@ fn queue_of(alloc: Global, paths: &[&str]) -> Result<Queue, AllocError> {
 }
 
 /// How many files there are.
-fn count_files<H: Host>(alloc: Global, host: &mut H, paths: &[&str]) -> Result<u64, AllocError> {
+fn count_files<H: Host>(alloc: Global, host: &mut H, paths: &[&str]) -> Result<u64, AllocError>
+    ensures { H.files host.new ≡ H.files host.old }
+{
     let mut queue = queue_of(alloc, paths)?;
     for count in 0..u64::MAX {
         if queue.next(host)?.is_none() {
@@ -168,7 +185,9 @@ fn displayed_count<H: Host>(
     alloc: Global,
     host: &mut H,
     paths: &[&str],
-) -> Result<Option<u64>, AllocError> {
+) -> Result<Option<u64>, AllocError>
+    ensures { H.files host.new ≡ H.files host.old }
+{
     if host.shows() {
         Ok(Some(count_files(alloc, host, paths)?))
     } else {
@@ -184,8 +203,9 @@ pub(crate) fn do_many<H: Host, K: Sink>(
     job: &Job<'_>,
     paths: &[&str],
 ) -> Result<u8, Stop>
-    requires { requests.CommandHasNumber job.now.request.command }
-    ensures { IfOk result IsStatus }
+    requires number { requests.CommandHasNumber job.now.request.command }
+    ensures status { IfOk result IsStatus }
+    ensures outputs { KeepsOutputs H.tells H.File.state job.now.request job.now.options (H.files host.old) (H.files host.new) }
 {
     let all = displayed_count(alloc, host, paths)?;
     let mut queue = queue_of(alloc, paths)?;
@@ -212,7 +232,8 @@ fn do_name<H: Host, K: Sink>(
     job: &Job<'_>,
     path: &str,
 ) -> Result<(), Stop>
-    requires { requests.CommandHasNumber job.now.request.command }
+    requires number { requests.CommandHasNumber job.now.request.command }
+    ensures { KeepsOutputs H.tells H.File.state job.now.request job.now.options (H.files host.old) (H.files host.new) }
 {
     let mut queue = queue_of(alloc, &[path])?;
     do_queue(alloc, host, report, job, &mut queue)
@@ -226,7 +247,8 @@ fn do_names<H: Host, K: Sink>(
     job: &Job<'_>,
     list: NameList<'_>,
 ) -> Result<(), Stop>
-    requires { requests.CommandHasNumber job.now.request.command }
+    requires number { requests.CommandHasNumber job.now.request.command }
+    ensures { KeepsOutputs H.tells H.File.state job.now.request job.now.options (H.files host.old) (H.files host.new) }
 {
     for _ in 0..u64::MAX {
         match host.next_name(list.path, list.by_nul) {
@@ -248,8 +270,9 @@ pub(crate) fn do_list<H: Host, K: Sink>(
     job: &Job<'_>,
     list: NameList<'_>,
 ) -> Result<u8, Stop>
-    requires { requests.CommandHasNumber job.now.request.command }
-    ensures { IfOk result IsStatus }
+    requires number { requests.CommandHasNumber job.now.request.command }
+    ensures status { IfOk result IsStatus }
+    ensures outputs { KeepsOutputs H.tells H.File.state job.now.request job.now.options (H.files host.old) (H.files host.new) }
 {
     let mut report = Report::new(out, job.form(), None);
     do_names(alloc, host, &mut report, job, list)?;

@@ -3,6 +3,7 @@
 ghost use Rattle.std.specs.Prelude.{◌≡◌, ◌≢◌, ◌⊎◌, None, IfOk, IfErr};
 ghost use Rattle.xls_files.specs.declared.host.Place.TheVariants.{File};
 ghost use Rattle.xls_files.specs.declared.host.Reason.TheVariants.{Memory};
+ghost use Rattle.xls_tool.specs.Outputs.{KeepsOutputs};
 ghost use Rattle.xls_tool.specs.Problems.{IsStatus, problem_status, status_of_work};
 ghost use Rattle.xls_tool.specs.Steps.{EndsPath};
 ghost use Rattle.xls_tool.specs.Texts.{HasCause};
@@ -35,8 +36,9 @@ fn do_placed<H: Host, K: Sink>(
     requires number { requests.CommandHasNumber job.now.request.command }
     requires place { IfOk placed.place (λ place. place ≢ File → H.reads host.old placed.path.now None) }
     requires reason { IfErr placed.place (λ reason. reason ≢ Memory → H.reads host.old placed.path.now None) }
-    ensures { job.now.request.out ≡ None → EndsPath (H.reads host.old placed.entry.path.now)
+    ensures ends { job.now.request.out ≡ None → EndsPath (H.reads host.old placed.entry.path.now)
         job.now.request.command job.now.options (K.state out.old) (K.state out.new) result }
+    ensures outputs { KeepsOutputs H.tells H.File.state job.now.request job.now.options (H.files host.old) (H.files host.new) }
 {
     match placed.place {
         Ok(Place::File) => do_file(alloc, host, out, job, placed.path),
@@ -55,6 +57,7 @@ fn tell_problem<H: Host>(
 ) -> Result<u8, Stop>
     ensures status { IfOk result IsStatus }
     ensures exact { (status_of_work result ≡ problem_status problem.now) ⊎ (status_of_work result ≡ 5) }
+    ensures files { H.files host.new ≡ H.files host.old }
 {
     if let Problem::Failure(Failure::Stopped(Stop::Write)) = problem {
         return Err(Stop::Write);
@@ -78,6 +81,7 @@ pub(crate) fn do_one<H: Host, K: Sink>(
     ensures status { IfOk result IsStatus }
     ensures cause { job.now.request.out ≡ None → HasCause (H.reads host.old placed.entry.path.now)
         job.now.request.command job.now.options (K.state out.old) (K.state out.new) (status_of_work result) }
+    ensures outputs { KeepsOutputs H.tells H.File.state job.now.request job.now.options (H.files host.old) (H.files host.new) }
 {
     let path = placed.path;
     match do_placed(alloc, host, out, job, placed) {

@@ -4,13 +4,16 @@ ghost use Rattle.std.specs.Prelude.{◌≡◌, ℕ, List, None};
 ghost use Rattle.xls_answers.specs.Answers.{HasNumber};
 ghost use Rattle.xls_words.specs.Requests as requests;
 ghost use Rattle.xls_container.specs.Files.{OpensContainer};
+ghost use Rattle.xls_tool.specs.Asked.{asked_by};
 ghost use Rattle.xls_tool.specs.Beside.{OfContainer};
+ghost use Rattle.xls_tool.specs.Outputs.{KeepsOutputs};
 ghost use Rattle.xls_tool.specs.Texts.{OfWorkbook};
 ghost use Rattle.xls_tool.specs.Steps.{EndsAnswer, EndsText};
+ghost use Rattle.xls_tool.specs.declared.job.Asked.TheVariants as asked;
 
 use crate::file::{OpenedFile, Workbook};
 use crate::formats::tell_formats;
-use crate::job::{Job, answer_of};
+use crate::job::{Asked, Beside, Job, asked_by};
 use crate::problem::Problem;
 use crate::sheets::{write_beside_file, write_workbook_files};
 use crate::work::{write_beside, write_text};
@@ -29,9 +32,11 @@ fn write_answer<H: Host, K: Sink>(
     answer: &Answer<'_>,
     book: &Workbook<'_>,
 ) -> Result<(), Problem>
-    requires { HasNumber answer.now }
-    ensures { job.now.request.out ≡ None → OfWorkbook answer.now job.now.options book.now.stream.now
+    requires number { HasNumber answer.now }
+    requires asked { asked_by job.now.request.command ≡ asked.Workbook answer.now }
+    ensures written { job.now.request.out ≡ None → OfWorkbook answer.now job.now.options book.now.stream.now
         (K.state sink.old) (K.state sink.new) result }
+    ensures outputs { KeepsOutputs H.tells H.File.state job.now.request job.now.options (H.files host.old) (H.files host.new) }
 {
     match &job.request.out {
         Some(folder) => write_workbook_files(alloc, host, job, folder, answer, book),
@@ -48,9 +53,11 @@ fn do_workbook<H: Host, K: Sink>(
     answer: &Answer<'_>,
     file: &OpenedFile<'_>,
 ) -> Result<(), Problem>
-    requires { HasNumber answer.now }
-    ensures { job.now.request.out ≡ None → (bytes : List ℕ) → OpensContainer bytes file.now.container
+    requires number { HasNumber answer.now }
+    requires asked { asked_by job.now.request.command ≡ asked.Workbook answer.now }
+    ensures written { job.now.request.out ≡ None → (bytes : List ℕ) → OpensContainer bytes file.now.container
         → EndsAnswer answer.now job.now.options bytes (K.state sink.old) (K.state sink.new) result }
+    ensures outputs { KeepsOutputs H.tells H.File.state job.now.request job.now.options (H.files host.old) (H.files host.new) }
 {
     let stream = file.container.workbook(alloc)?;
     let book = Workbook {
@@ -68,20 +75,16 @@ fn do_beside<H: Host, K: Sink>(
     host: &mut H,
     sink: &mut K,
     job: &Job<'_>,
+    beside: &Beside<'_>,
     file: &OpenedFile<'_>,
 ) -> Result<(), Problem>
-    ensures { job.now.request.out ≡ None → OfContainer job.now.request.command file.now.container
-        (K.state sink.old) (K.state sink.new) result }
+    requires asked { asked_by job.now.request.command ≡ asked.Other beside.now }
+    ensures written { job.now.request.out ≡ None → OfContainer beside.now file.now.container (K.state sink.old) (K.state sink.new) result }
+    ensures outputs { KeepsOutputs H.tells H.File.state job.now.request job.now.options (H.files host.old) (H.files host.new) }
 {
     match &job.request.out {
-        Some(folder) => write_beside_file(alloc, host, job, folder, file),
-        None => write_beside(
-            alloc,
-            sink,
-            &job.request.command,
-            &job.options,
-            &file.container,
-        ),
+        Some(folder) => write_beside_file(alloc, host, job, folder, beside, file),
+        None => write_beside(alloc, sink, beside, &job.options, &file.container),
     }
 }
 
@@ -93,13 +96,14 @@ fn do_opened<H: Host, K: Sink>(
     job: &Job<'_>,
     file: &OpenedFile<'_>,
 ) -> Result<(), Problem>
-    requires { requests.CommandHasNumber job.now.request.command }
-    ensures { job.now.request.out ≡ None → (bytes : List ℕ) → OpensContainer bytes file.now.container
+    requires number { requests.CommandHasNumber job.now.request.command }
+    ensures written { job.now.request.out ≡ None → (bytes : List ℕ) → OpensContainer bytes file.now.container
         → EndsText job.now.request.command job.now.options bytes (K.state sink.old) (K.state sink.new) result }
+    ensures outputs { KeepsOutputs H.tells H.File.state job.now.request job.now.options (H.files host.old) (H.files host.new) }
 {
-    match answer_of(&job.request.command) {
-        Some(answer) => do_workbook(alloc, host, sink, job, &answer, file),
-        None => do_beside(alloc, host, sink, job, file),
+    match asked_by(&job.request.command) {
+        Asked::Workbook(answer) => do_workbook(alloc, host, sink, job, &answer, file),
+        Asked::Other(beside) => do_beside(alloc, host, sink, job, &beside, file),
     }
 }
 
@@ -112,9 +116,10 @@ pub(crate) fn do_bytes<H: Host, K: Sink>(
     path: &str,
     bytes: &[u8],
 ) -> Result<(), Problem>
-    requires { requests.CommandHasNumber job.now.request.command }
-    ensures { job.now.request.out ≡ None → EndsText job.now.request.command job.now.options bytes.now
+    requires number { requests.CommandHasNumber job.now.request.command }
+    ensures written { job.now.request.out ≡ None → EndsText job.now.request.command job.now.options bytes.now
         (K.state sink.old) (K.state sink.new) result }
+    ensures outputs { KeepsOutputs H.tells H.File.state job.now.request job.now.options (H.files host.old) (H.files host.new) }
 {
     let container = Container::open(alloc, bytes)?;
     do_opened(alloc, host, sink, job, &OpenedFile { path, container })

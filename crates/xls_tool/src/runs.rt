@@ -4,17 +4,18 @@ ghost use Rattle.std.specs.Prelude.{◌≡◌, ℕ, true, false, List, [], ◌�
 ghost use Rattle.std.specs.String.{string_bytes};
 ghost use Rattle.xls_answers.specs.Views.{options_under};
 ghost use Rattle.xls_output.specs.declared.stop.Stop.TheVariants.{Memory};
+ghost use Rattle.xls_tool.specs.Outputs.{KeepsNamedOutputs, KeepsOutputs};
 ghost use Rattle.xls_tool.specs.Problems.{Ends, IsStatus, status_of_work};
 ghost use Rattle.xls_tool.specs.Steps.{OfPath};
-ghost use Rattle.xls_tool.specs.Texts.{HasCause, is_exact};
+ghost use Rattle.xls_tool.specs.Texts.{HasCause};
 ghost use Rattle.xls_words.specs.Requests as requests;
-ghost use Rattle.xls_words.specs.Requests.{AreNamed, AreWordsOf, are_plain, plain_command};
+ghost use Rattle.xls_words.specs.Requests.{AreNamed, AreWordsOf, are_plain, is_exact, plain_command};
 ghost use Rattle.xls_words.specs.declared.displayed.Displayed.TheVariants as displays;
 ghost use Rattle.xls_words.specs.declared.request.Command.TheVariants as commands;
 ghost use Rattle.xls_words.specs.declared.word.Word.{Word};
 ghost use Rattle.xls_words.specs.declared.word.Word.TheVariants as names;
 
-use crate::job::{Job, job_of, takes_many};
+use crate::job::{Job, job_of};
 use crate::many::{NameList, do_list, do_many};
 use crate::one::{Placed, do_one};
 use std::alloc::Global;
@@ -43,9 +44,10 @@ fn do_path<H: Host, K: Sink>(
     requires { requests.CommandHasNumber job.now.request.command }
     ensures ends { IfOk result (Ends out.old out.new) }
     ensures cause { OfPath (H.reads host.old path.now) job.now.request job.now.options (K.state out.old) (K.state out.new) result }
+    ensures outputs { KeepsOutputs H.tells H.File.state job.now.request job.now.options (H.files host.old) (H.files host.new) }
 {
     let place = place_of(host, path);
-    let is_many = matches!(place, Ok(Place::Folder)) && takes_many(&job.request.command);
+    let is_many = matches!(place, Ok(Place::Folder)) && job.request.command.word().takes_many();
     if is_many && !takes_many_files(job) {
         host.say(WANTS_FOLDER);
         return Ok(2);
@@ -68,6 +70,7 @@ fn do_paths<H: Host, K: Sink>(
     ensures ends { IfOk result (Ends out.old out.new) }
     ensures cause { (path : List ℕ) → map (λ it. it.now) paths.now ≡ (path ∷ [])
         → OfPath (H.reads host.old path) job.now.request job.now.options (K.state out.old) (K.state out.new) result }
+    ensures outputs { KeepsOutputs H.tells H.File.state job.now.request job.now.options (H.files host.old) (H.files host.new) }
 {
     if let [path] = paths {
         return do_path(alloc, host, out, job, path);
@@ -88,7 +91,8 @@ fn do_listed<H: Host, K: Sink>(
     list: NameList<'_>,
 ) -> Result<u8, Stop>
     requires { requests.CommandHasNumber job.now.request.command }
-    ensures { IfOk result (Ends out.old out.new) }
+    ensures ends { IfOk result (Ends out.old out.new) }
+    ensures outputs { KeepsOutputs H.tells H.File.state job.now.request job.now.options (H.files host.old) (H.files host.new) }
 {
     if !takes_many_files(job) {
         host.say(WANTS_FOLDER);
@@ -109,6 +113,8 @@ fn do_request<H: Host, K: Sink>(
     ensures cause { (path : List ℕ) → AreNamed (path ∷ []) request.entry.files
         → OfPath (H.reads host.old path) request.entry (options_under request.entry.page (is_exact request.entry.command))
         (K.state out.old) (K.state out.new) result }
+    ensures outputs { KeepsOutputs H.tells H.File.state request.entry (options_under request.entry.page (is_exact request.entry.command))
+        (H.files host.old) (H.files host.new) }
 {
     let job = job_of(alloc, request)?;
     match &job.request.files {
@@ -131,6 +137,7 @@ fn do_displayed<H: Host, K: Sink>(
 ) -> Result<u8, Stop>
     ensures ends { IfOk result (Ends out.old out.new) }
     ensures memory { displayed.now ≡ displays.Memory → result ≡ Err Memory }
+    ensures files { H.files host.new ≡ H.files host.old }
 {
     match displayed {
         Displayed::Memory => Err(Stop::Memory),
@@ -157,6 +164,7 @@ fn do_words<H: Host, K: Sink>(
         → are_plain word (path ∷ []) ≡ true → (word ≡ names.Check → H.reads host.old path None → ⊥)
         → HasCause (H.reads host.old path) (plain_command word) (options_under None false)
         (K.state out.old) (K.state out.new) (status_of_work result) }
+    ensures outputs { KeepsNamedOutputs H.tells H.File.state (map string_bytes words.now) (H.files host.old) (H.files host.new) }
 {
     match request_of(alloc, words) {
         Ok(request) => do_request(alloc, host, out, request),
@@ -168,6 +176,7 @@ fn do_words<H: Host, K: Sink>(
 fn status_of<H: Host>(host: &mut H, done: Result<u8, Stop>) -> u8
     ensures exact { result ≡ status_of_work done }
     ensures stopped { IfErr done (λ _. IsStatus result) }
+    ensures files { H.files host.new ≡ H.files host.old }
 {
     match done {
         Ok(status) => status,
@@ -195,6 +204,10 @@ pub fn run<H: Host, K: Sink>(alloc: Global, host: &mut H, out: &mut K, words: &[
         → are_plain word (path ∷ []) ≡ true → (word ≡ names.Check → H.reads host.old path None → ⊥)
         → HasCause (H.reads host.old path) (plain_command word) (options_under None false)
         (K.state out.old) (K.state out.new) result }
+
+    // Files are made only inside the folder that the words name, by the command that they name, and one that exists is
+    // written over only where they say so. Each file that is ended has the whole text that else goes to `out`.
+    ensures outputs { KeepsNamedOutputs H.tells H.File.state (map string_bytes words.now) (H.files host.old) (H.files host.new) }
 {
     let done = do_words(alloc, host, out, words);
     status_of(host, done)

@@ -1,11 +1,18 @@
 //! Texts that are written into files.
 
-ghost use Rattle.std.specs.Prelude.{◌≡◌, ◌<◌, length};
+ghost use Rattle.std.specs.Prelude.{◌≡◌, ◌<◌, true, Some, length, IfOk};
+ghost use Rattle.std.specs.String.{string_bytes};
 ghost use Rattle.xls_answers.specs.Answers.{HasNumber};
-ghost use Rattle.xls_words.specs.Requests.{IsNumbered};
+ghost use Rattle.xls_files.specs.Files.{Creates, EndsFile, IsEmpty};
+ghost use Rattle.xls_files.specs.Paths.{IsInside};
+ghost use Rattle.xls_tool.specs.Asked.{asked_by};
+ghost use Rattle.xls_tool.specs.Outputs.{KeepsOutputs, is_table};
+ghost use Rattle.xls_tool.specs.SheetFiles.{AreSheetFiles, IsAskedSheet};
+ghost use Rattle.xls_tool.specs.declared.job.Asked.TheVariants as asked;
+ghost use Rattle.xls_readable.specs.Choices.{IsNumbered};
 
 use crate::file::{OpenedFile, Workbook};
-use crate::job::{Job, ending_of};
+use crate::job::{Beside, Job};
 use crate::problem::Problem;
 use crate::say::say_of;
 use crate::work::{write_beside, write_text, written};
@@ -14,12 +21,16 @@ use xls_answers::{Answer, Failure, chosen, view_of, write_sheet_at};
 use xls_data::{Sheet, SheetType, SheetVisible};
 use xls_files::{Host, Reason, file_path, folder_of};
 use xls_output::Stop;
+use xls_readable::{SheetChoice, Table};
 use xls_tables::file_name;
 use xls_view::View;
-use xls_words::{Folder, SheetChoice, Table};
+use xls_words::Folder;
 
 /// A file to be written.
-fn create<H: Host>(host: &mut H, path: &str, writes_over: bool) -> Result<H::File, Reason> {
+fn create<H: Host>(host: &mut H, path: &str, writes_over: bool) -> Result<H::File, Reason>
+    ensures empty { IfOk result (λ file. IsEmpty H.tells (H.File.state file)) }
+    ensures files { Creates path.now writes_over (H.files host.old) (H.files host.new) }
+{
     host.create(path, writes_over)
 }
 
@@ -29,16 +40,17 @@ fn end<H: Host>(
     path: String,
     file: H::File,
     done: Result<(), Problem>,
-) -> Result<(), Problem> {
+) -> Result<(), Problem>
+    ensures { EndsFile file (H.files host.old) (H.files host.new) done }
+{
     match done {
         Ok(()) => match host.close(file) {
             Ok(()) => Ok(()),
             Err(reason) => Err(Problem::Unwritten(path, reason)),
         },
-        Err(Problem::Failure(Failure::Stopped(Stop::Write))) => match host.close(file) {
-            Ok(()) => Err(Problem::Failure(Failure::Stopped(Stop::Write))),
-            Err(reason) => Err(Problem::Unwritten(path, reason)),
-        },
+        Err(Problem::Failure(Failure::Stopped(Stop::Write))) => {
+            Err(Problem::Unwritten(path, host.give_up(file)))
+        }
         Err(problem) => Err(problem),
     }
 }
@@ -49,10 +61,17 @@ fn text_path(
     job: &Job<'_>,
     folder: &Folder<'_>,
     file: &str,
-) -> Result<String, AllocError> {
+) -> Result<String, AllocError>
+    ensures { IfOk result (λ path. IsInside folder.now.path.now (string_bytes path)) }
+{
     let below = folder_of(alloc, folder.path, file)?;
-    let name = job.request.command.word().name();
-    file_path(alloc, below.as_str(), name, ending_of(&job.request.command))
+    let command = &job.request.command;
+    file_path(
+        alloc,
+        below.as_str(),
+        command.word().name(),
+        command.ending(),
+    )
 }
 
 /// Writes what is asked for of a workbook into a file of its own.
@@ -64,7 +83,10 @@ fn write_text_file<H: Host>(
     answer: &Answer<'_>,
     book: &Workbook<'_>,
 ) -> Result<(), Problem>
-    requires { HasNumber answer.now }
+    requires number { HasNumber answer.now }
+    requires out { job.now.request.out ≡ Some folder.now }
+    requires asked { asked_by job.now.request.command ≡ asked.Workbook answer.now }
+    ensures outputs { KeepsOutputs H.tells H.File.state job.now.request job.now.options (H.files host.old) (H.files host.new) }
 {
     let path = text_path(alloc, job, folder, book.path)?;
     let mut file = match create(host, path.as_str(), folder.writes_over) {
@@ -81,33 +103,33 @@ pub(crate) fn write_beside_file<H: Host>(
     host: &mut H,
     job: &Job<'_>,
     folder: &Folder<'_>,
+    beside: &Beside<'_>,
     file: &OpenedFile<'_>,
-) -> Result<(), Problem> {
+) -> Result<(), Problem>
+    requires out { job.now.request.out ≡ Some folder.now }
+    requires asked { asked_by job.now.request.command ≡ asked.Other beside.now }
+    ensures outputs { KeepsOutputs H.tells H.File.state job.now.request job.now.options (H.files host.old) (H.files host.new) }
+{
     let path = text_path(alloc, job, folder, file.path)?;
     let mut out = match create(host, path.as_str(), folder.writes_over) {
         Ok(out) => out,
         Err(reason) => return Err(Problem::Unwritten(path, reason)),
     };
-    let done = write_beside(
-        alloc,
-        &mut out,
-        &job.request.command,
-        &job.options,
-        &file.container,
-    );
+    let done = write_beside(alloc, &mut out, beside, &job.options, &file.container);
     end(host, path, out, done)
 }
 
 /// The files that the sheets of a workbook are written into.
 #[derive(Drop)]
 struct SheetFiles<'f> {
-    /// How the cells of each are written.
-    table: &'f Table,
+    job: &'f Job<'f>,
     /// The folder for all files, and the one for the files of this workbook.
     out: &'f Folder<'f>,
     folder: &'f str,
-    /// The path of the workbook's file, by which it is told of.
-    book: &'f str,
+    /// Which sheet is asked for, where all aren't, and how the cells of each are written.
+    choice: &'f SheetChoice<'f>,
+    table: &'f Table,
+    book: &'f Workbook<'f>,
 }
 
 /// The path of the file for the sheet of an index.
@@ -117,7 +139,9 @@ fn sheet_path(
     view: &View<'_>,
     index: usize,
 ) -> Result<String, AllocError>
-    requires { index < length view.now.book.sheets }
+    requires within { index < length view.now.book.sheets }
+    requires folder { IsInside files.now.out.now.path.now files.now.folder.now }
+    ensures { IfOk result (λ path. IsInside files.now.out.now.path.now (string_bytes path)) }
 {
     let sheet = &view.sheets()[index];
     let name = file_name(alloc, index + 1, sheet.name.as_str())?;
@@ -134,6 +158,9 @@ fn write_sheet_file<H: Host>(
 ) -> Result<(), Problem>
     requires within { index < length view.now.book.sheets }
     requires sheets { length view.now.book.contents ≡ length view.now.book.sheets }
+    requires files { AreSheetFiles files.now view.now }
+    requires asked { IsAskedSheet files.now view.now index }
+    ensures outputs { KeepsOutputs H.tells H.File.state files.now.job.now.request files.now.job.now.options (H.files host.old) (H.files host.new) }
 {
     let path = sheet_path(alloc, files, view, index)?;
     let mut file = match create(host, path.as_str(), files.out.writes_over) {
@@ -150,7 +177,9 @@ fn tell_hidden<H: Host>(
     host: &mut H,
     file: &str,
     sheet: &Sheet,
-) -> Result<(), AllocError> {
+) -> Result<(), AllocError>
+    ensures { H.files host.new ≡ H.files host.old }
+{
     if sheet.visible == SheetVisible::Visible {
         return Ok(());
     }
@@ -159,7 +188,9 @@ fn tell_hidden<H: Host>(
 }
 
 /// Whether all sheets have it among them.
-fn is_table(sheet: &Sheet) -> bool {
+fn is_table(sheet: &Sheet) -> bool
+    ensures { result ≡ is_table sheet.now.typ }
+{
     matches!(sheet.typ, SheetType::WorkSheet | SheetType::MacroSheet)
 }
 
@@ -170,14 +201,17 @@ fn write_all_sheets<H: Host>(
     files: &SheetFiles<'_>,
     view: &View<'_>,
 ) -> Result<(), Problem>
-    requires { length view.now.book.contents ≡ length view.now.book.sheets }
+    requires sheets { length view.now.book.contents ≡ length view.now.book.sheets }
+    requires files { AreSheetFiles files.now view.now }
+    requires asked { files.now.out.now.takes_all_sheets ≡ true }
+    ensures outputs { KeepsOutputs H.tells H.File.state files.now.job.now.request files.now.job.now.options (H.files host.old) (H.files host.new) }
 {
     let sheets = view.sheets();
     for index in 0..sheets.len() {
         let sheet = &sheets[index];
         if is_table(sheet) {
             write_sheet_file(alloc, host, files, view, index)?;
-            tell_hidden(alloc, host, files.book, sheet)?;
+            tell_hidden(alloc, host, files.book.path, sheet)?;
         }
     }
     Ok(())
@@ -189,12 +223,13 @@ fn write_chosen_sheet<H: Host>(
     host: &mut H,
     files: &SheetFiles<'_>,
     view: &View<'_>,
-    choice: &SheetChoice<'_>,
 ) -> Result<(), Problem>
-    requires number { IsNumbered choice.now }
+    requires number { IsNumbered files.now.choice.now }
     requires sheets { length view.now.book.contents ≡ length view.now.book.sheets }
+    requires files { AreSheetFiles files.now view.now }
+    ensures outputs { KeepsOutputs H.tells H.File.state files.now.job.now.request files.now.job.now.options (H.files host.old) (H.files host.new) }
 {
-    let index = chosen(alloc, view, choice)?;
+    let index = chosen(alloc, view, files.choice)?;
     write_sheet_file(alloc, host, files, view, index)
 }
 
@@ -204,15 +239,16 @@ fn write_sheet_files<H: Host>(
     host: &mut H,
     files: &SheetFiles<'_>,
     view: &View<'_>,
-    choice: &SheetChoice<'_>,
 ) -> Result<(), Problem>
-    requires number { IsNumbered choice.now }
+    requires number { IsNumbered files.now.choice.now }
     requires sheets { length view.now.book.contents ≡ length view.now.book.sheets }
+    requires files { AreSheetFiles files.now view.now }
+    ensures outputs { KeepsOutputs H.tells H.File.state files.now.job.now.request files.now.job.now.options (H.files host.old) (H.files host.new) }
 {
     if files.out.takes_all_sheets {
         return write_all_sheets(alloc, host, files, view);
     }
-    write_chosen_sheet(alloc, host, files, view, choice)
+    write_chosen_sheet(alloc, host, files, view)
 }
 
 /// Writes what is asked for of a workbook into files below a folder.
@@ -224,19 +260,24 @@ pub(crate) fn write_workbook_files<H: Host>(
     answer: &Answer<'_>,
     book: &Workbook<'_>,
 ) -> Result<(), Problem>
-    requires { HasNumber answer.now }
+    requires number { HasNumber answer.now }
+    requires out { job.now.request.out ≡ Some out.now }
+    requires asked { asked_by job.now.request.command ≡ asked.Workbook answer.now }
+    ensures outputs { KeepsOutputs H.tells H.File.state job.now.request job.now.options (H.files host.old) (H.files host.new) }
 {
     match answer {
         Answer::Sheet(choice, table) => {
             let view = view_of(alloc, &job.options, book.stream)?;
             let folder = folder_of(alloc, out.path, book.path)?;
             let files = SheetFiles {
-                table,
+                job,
                 out,
                 folder: folder.as_str(),
-                book: book.path,
+                choice,
+                table,
+                book,
             };
-            write_sheet_files(alloc, host, &files, &view, choice)
+            write_sheet_files(alloc, host, &files, &view)
         }
         Answer::Lines(..) | Answer::Exact | Answer::Check | Answer::Remade | Answer::Bytes => {
             write_text_file(alloc, host, job, out, answer, book)

@@ -1,7 +1,12 @@
 //! The lines that tell of many files.
 
-ghost use Rattle.std.specs.Prelude.{◌≡◌, max};
-ghost use Rattle.xls_tool.specs.Problems.{IsStatus};
+ghost use Rattle.std.specs.Prelude.{◌≡◌, map, max, IfOk};
+ghost use Rattle.std.specs.String.{string_bytes};
+ghost use Rattle.xls_readable.specs.Items as items;
+ghost use Rattle.xls_readable.specs.Items.{named_of};
+ghost use Rattle.xls_readable.specs.Lines.{IsLine};
+ghost use Rattle.xls_tool.specs.Displayed.{outcome_word};
+ghost use Rattle.xls_tool.specs.Problems.{IsStatus, status_of_file};
 
 use crate::problem::{Outcome, Problem};
 use std::alloc::{AllocError, Global};
@@ -31,7 +36,9 @@ impl Model for Counts {
 }
 
 /// The word for how it went with a file.
-fn word_of(outcome: Outcome) -> &'static str {
+fn word_of(outcome: Outcome) -> &'static str
+    ensures { result.now ≡ outcome_word outcome }
+{
     match outcome {
         Outcome::Ok => "ok",
         Outcome::Refused => "refused",
@@ -88,7 +95,9 @@ impl Counts {
 }
 
 /// A field of text under a name.
-fn text<'t>(name: &'static str, text: &'t str) -> Member<'t> {
+fn text<'t>(name: &'static str, text: &'t str) -> Member<'t>
+    ensures { named_of result ≡ (name.now, items.text text.now) }
+{
     Member {
         name,
         field: Field::Text(text),
@@ -96,7 +105,9 @@ fn text<'t>(name: &'static str, text: &'t str) -> Member<'t> {
 }
 
 /// A count under a name.
-fn count<'t>(name: &'static str, count: u64) -> Member<'t> {
+fn count<'t>(name: &'static str, count: u64) -> Member<'t>
+    ensures { named_of result ≡ (name.now, items.count count) }
+{
     Member {
         name,
         field: Field::Count(count),
@@ -109,7 +120,9 @@ fn line_of(
     form: Form,
     word: &str,
     members: &[Member<'_>],
-) -> Result<String, AllocError> {
+) -> Result<String, AllocError>
+    ensures { IfOk result (λ line. IsLine form word.now (map named_of members.now) (string_bytes line)) }
+{
     let mut room = String::new(alloc);
     let mut line = String::new(alloc);
     push_line(form, word, members, &mut room, &mut line)?;
@@ -162,7 +175,9 @@ pub(crate) struct Report<'r, K> {
 
 impl<'r, K: Sink> Report<'r, K> {
     /// No file was told of.
-    pub(crate) fn new(out: &'r mut K, form: Form, all: Option<u64>) -> Report<'r, K> {
+    pub(crate) fn new(out: &'r mut K, form: Form, all: Option<u64>) -> Report<'r, K>
+        ensures { result.counts ≡ 0 }
+    {
         Report {
             out,
             form,
@@ -172,19 +187,18 @@ impl<'r, K: Sink> Report<'r, K> {
     }
 
     /// Writes a line of these fields.
-    fn write_line(
-        &mut self,
-        alloc: Global,
-        word: &str,
-        members: &[Member<'_>],
-    ) -> Result<(), Stop> {
+    fn write_line(&mut self, alloc: Global, word: &str, members: &[Member<'_>]) -> Result<(), Stop>
+        ensures { self.new.counts ≡ self.old.counts }
+    {
         let line = line_of(alloc, self.form, word, members)?;
         write_all(self.out, line.as_bytes())?;
         Ok(())
     }
 
     /// Tells that the text of a file is written.
-    fn tell_ok(&mut self, alloc: Global, file: &str) -> Result<(), Stop> {
+    fn tell_ok(&mut self, alloc: Global, file: &str) -> Result<(), Stop>
+        ensures { self.new.counts ≡ self.old.counts }
+    {
         self.write_line(alloc, "ok", &[text("file", file)])
     }
 
@@ -195,13 +209,17 @@ impl<'r, K: Sink> Report<'r, K> {
         outcome: Outcome,
         file: &str,
         why: &str,
-    ) -> Result<(), Stop> {
+    ) -> Result<(), Stop>
+        ensures { self.new.counts ≡ self.old.counts }
+    {
         let members = [text("file", file), text("why", why)];
         self.write_line(alloc, word_of(outcome), &members)
     }
 
     /// Tells the problem of a file.
-    fn tell_problem(&mut self, alloc: Global, file: &str, problem: &Problem) -> Result<(), Stop> {
+    fn tell_problem(&mut self, alloc: Global, file: &str, problem: &Problem) -> Result<(), Stop>
+        ensures { self.new.counts ≡ self.old.counts }
+    {
         let why = format!(in alloc; "{problem}")?;
         self.tell_why(alloc, problem.outcome(), file, why.as_str())
     }
@@ -212,7 +230,9 @@ impl<'r, K: Sink> Report<'r, K> {
         alloc: Global,
         file: &str,
         done: &Result<(), Problem>,
-    ) -> Result<(), Stop> {
+    ) -> Result<(), Stop>
+        ensures { self.new.counts ≡ max self.old.counts (status_of_file done.now) }
+    {
         match done {
             Ok(()) => {
                 self.counts.count(Outcome::Ok, 0);
@@ -240,7 +260,9 @@ impl<'r, K: Sink> Report<'r, K> {
     }
 
     /// Writes the last line.
-    pub(crate) fn write_last_line(&mut self, alloc: Global) -> Result<(), Stop> {
+    pub(crate) fn write_last_line(&mut self, alloc: Global) -> Result<(), Stop>
+        ensures { self.new.counts ≡ self.old.counts }
+    {
         let line = self.last_line(alloc)?;
         write_all(self.out, line.as_bytes())?;
         Ok(())
@@ -248,7 +270,8 @@ impl<'r, K: Sink> Report<'r, K> {
 
     /// The greatest exit status of the files.
     pub(crate) fn status(&self) -> u8
-        ensures { IsStatus result }
+        ensures exact { result ≡ self.now.counts }
+        ensures status { IsStatus result }
     {
         self.counts.status()
     }

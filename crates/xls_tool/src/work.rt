@@ -12,6 +12,7 @@ ghost use Rattle.xls_tool.specs.Texts.{OfWorkbook};
 ghost use Rattle.xls_tool.specs.declared.problem.Absent.TheVariants as absent;
 ghost use Rattle.xls_tool.specs.declared.problem.Problem.TheVariants as problems;
 
+use crate::job::Beside;
 use crate::problem::{Absent, Problem};
 use std::alloc::Global;
 use xls_answers::{Answer, write_stream, write_workbook};
@@ -22,7 +23,6 @@ use xls_files::names_of;
 use xls_open::XlsOptions;
 use xls_output::{Sink, Stop};
 use xls_readable::Form;
-use xls_words::Command;
 
 /// How writing went, as the work of a file tells it.
 pub(crate) fn written(done: Result<(), Stop>) -> Result<(), Problem>
@@ -138,17 +138,17 @@ fn write_stream_at<K: Sink>(
 pub(crate) fn write_beside<K: Sink>(
     alloc: Global,
     sink: &mut K,
-    command: &Command<'_>,
+    beside: &Beside<'_>,
     options: &XlsOptions,
     container: &Container<'_>,
 ) -> Result<(), Problem>
-    ensures { OfContainer command.now container.now (K.state sink.old) (K.state sink.new) result }
+    ensures { OfContainer beside.now container.now (K.state sink.old) (K.state sink.new) result }
 {
-    match command {
-        Command::Props => write_properties_of(alloc, sink, container),
-        Command::Vba => write_project_of(alloc, sink, container),
-        Command::Stream(Some(path)) => write_stream_at(alloc, sink, options, container, path),
-        _ => write_streams_of(alloc, sink, container),
+    match beside {
+        Beside::Properties => write_properties_of(alloc, sink, container),
+        Beside::Project => write_project_of(alloc, sink, container),
+        Beside::Stream(path) => write_stream_at(alloc, sink, options, container, path),
+        Beside::Streams => write_streams_of(alloc, sink, container),
     }
 }
 

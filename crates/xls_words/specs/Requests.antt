@@ -1,11 +1,18 @@
 -- What the words of the command line ask for.
-use Rattle.std.specs.Prelude.{◌≡◌, ◌⊎◌, ◌<◌, ◌==◌, nat_lt, ℕ, Bool, true, false, None, List, [], ◌∷◌, length, map, not, ◌&&◌}
-use Rattle.xls_words.specs.Words.{word_text}
-use Rattle.xls_words.specs.declared.request.SheetChoice.{SheetChoice}
-use Rattle.xls_words.specs.declared.request.SheetChoice.TheVariants as choices
-use Rattle.xls_words.specs.declared.request.Style.TheVariants.{Readable}
+use Rattle.std.specs.Prelude.{◌≡◌, ◌⊎◌, ◌==◌, nat_lt, ℕ, Bool, true, false, None, List, [], ◌∷◌, length, map, codes, not, ◌&&◌, ◌||◌}
+use Rattle.xls_readable.specs.Choices.{IsNumbered}
+use Rattle.xls_readable.specs.declared.choices.Listing.TheVariants as listing
+use Rattle.xls_readable.specs.declared.choices.SheetChoice.TheVariants.{First}
+use Rattle.xls_readable.specs.declared.forms.Form.{Form}
+use Rattle.xls_readable.specs.declared.forms.Form.TheVariants.{Text, Json, Exact}
+use Rattle.xls_words.specs.Words.{ending_text, file_count, word_text}
+use Rattle.xls_words.specs.declared.word.FileCount.{FileCount}
+use Rattle.xls_words.specs.declared.word.FileCount.TheVariants.{Many, One, OneAndPath}
+use Rattle.std.specs.List.{ends_with}
+use Rattle.std.specs.Str.{bytes_eq}
 use Rattle.xls_words.specs.declared.request.Files.{Files}
 use Rattle.xls_words.specs.declared.request.Files.TheVariants as files
+use Rattle.xls_words.specs.declared.request.Folder.{Folder}
 use Rattle.xls_words.specs.declared.request.Request.{Request}
 use Rattle.xls_words.specs.declared.word.Word.{Word}
 use Rattle.xls_words.specs.declared.word.Word.TheVariants as words
@@ -14,11 +21,8 @@ use Rattle.xls_words.specs.declared.request.Command.TheVariants as commands
 
 -- the name of a command
 abbrev pub word_of : Command → Word
-word_of (commands.Dump s) = words.Dump
-word_of (commands.Sheets s) = words.Sheets
+word_of (commands.Lines lines form) = words.Lines lines
 word_of commands.Check = words.Check
-word_of (commands.Formulas s) = words.Formulas
-word_of (commands.Refs s) = words.Refs
 word_of commands.Props = words.Props
 word_of commands.Vba = words.Vba
 word_of (commands.Csv choice t) = words.Csv
@@ -26,25 +30,43 @@ word_of commands.Remake = words.Remake
 word_of (commands.Stream p) = words.Stream
 word_of commands.Streams = words.Streams
 
+-- whether numbers are written as the workbook has them
+abbrev pub is_exact_form : Form → Bool
+is_exact_form Text = false
+is_exact_form Json = false
+is_exact_form Exact = true
+
+abbrev pub is_exact : Command → Bool
+is_exact (commands.Lines lines form) = is_exact_form form
+is_exact (commands.Csv choice t) = t.is_exact
+is_exact commands.Check = false
+is_exact commands.Props = false
+is_exact commands.Vba = false
+is_exact commands.Remake = false
+is_exact (commands.Stream path) = false
+is_exact commands.Streams = false
+
+-- the ending of the name of a text's file: that of its command, but for objects of JSON
+abbrev pub ending_in : Form → List ℕ → List ℕ
+ending_in Json ending = codes "json"
+ending_in Text ending = ending
+ending_in Exact ending = ending
+
+abbrev pub ending_of : Command → List ℕ
+ending_of (commands.Lines lines form) = ending_in form (ending_text (words.Lines lines))
+ending_of command = ending_text (word_of command)
+
 -- the first word names the command, or it names none and the command is dump
 abbrev pub IsAsked : List (List ℕ) → Word → Type 0
 IsAsked [] word = ⊥
 IsAsked (first ∷ others) word =
-    (word_text word ≡ first) ⊎ (((other : Word) → word_text other ≡ first → ⊥) × (word ≡ words.Dump))
+    (word_text word ≡ first) ⊎ (((other : Word) → word_text other ≡ first → ⊥) × (word ≡ words.Lines listing.Dump))
 
--- sheets are numbered from 1
-abbrev pub IsNumbered : SheetChoice → Type 0
-IsNumbered choices.First = Unit {0}
-IsNumbered (choices.Named name) = Unit {0}
-IsNumbered (choices.Number n) = 0 < n
-
+-- a sheet that is asked for by its number has one
 abbrev pub CommandHasNumber : Command → Type 0
 CommandHasNumber (commands.Csv choice t) = IsNumbered choice
-CommandHasNumber (commands.Dump s) = Unit {0}
-CommandHasNumber (commands.Sheets s) = Unit {0}
+CommandHasNumber (commands.Lines lines form) = Unit {0}
 CommandHasNumber commands.Check = Unit {0}
-CommandHasNumber (commands.Formulas s) = Unit {0}
-CommandHasNumber (commands.Refs s) = Unit {0}
 CommandHasNumber commands.Props = Unit {0}
 CommandHasNumber commands.Vba = Unit {0}
 CommandHasNumber commands.Remake = Unit {0}
@@ -63,7 +85,7 @@ abbrev pub AreWordsOf : Word → List (List ℕ) → List (List ℕ) → Type 0
 AreWordsOf word others [] = ⊥
 AreWordsOf word others (first ∷ rest) =
     ((word_text word ≡ first) × (others ≡ rest))
-    ⊎ (((other : Word) → word_text other ≡ first → ⊥) × ((word ≡ words.Dump) × (others ≡ first ∷ rest)))
+    ⊎ (((other : Word) → word_text other ≡ first → ⊥) × ((word ≡ words.Lines listing.Dump) × (others ≡ first ∷ rest)))
 
 -- a `-` with something after it; `-` alone is standard input
 abbrev pub is_option : List ℕ → Bool
@@ -74,12 +96,14 @@ abbrev pub has_no_option : List (List ℕ) → Bool
 has_no_option [] = true
 has_no_option (word ∷ others) = not (is_option word) && has_no_option others
 
--- how many files a command takes; `stream` may also have a path after its file
+-- whether so many files are as many as a command reads; behind one a path may stand
+abbrev pub are_counted : FileCount → ℕ → Bool
+are_counted Many n = nat_lt 0 n
+are_counted One n = n == 1
+are_counted OneAndPath n = false
+
 abbrev pub takes : Word → ℕ → Bool
-takes words.Remake n = n == 1
-takes words.Streams n = n == 1
-takes words.Stream n = false
-takes _ n = nat_lt 0 n
+takes word n = are_counted (file_count word) n
 
 -- files alone, and as many as the command takes
 abbrev pub are_plain : Word → List (List ℕ) → Bool
@@ -87,14 +111,11 @@ are_plain word paths = has_no_option paths && takes word (length paths)
 
 -- the command that has no options
 abbrev pub plain_command : Word → Command
-plain_command words.Dump = commands.Dump Readable
-plain_command words.Sheets = commands.Sheets Readable
+plain_command (words.Lines lines) = commands.Lines lines Text
 plain_command words.Check = commands.Check
-plain_command words.Formulas = commands.Formulas Readable
-plain_command words.Refs = commands.Refs Readable
 plain_command words.Props = commands.Props
 plain_command words.Vba = commands.Vba
-plain_command words.Csv = commands.Csv choices.First (record { delimiter = 0x2C; begins_with_mark = false; style = Readable })
+plain_command words.Csv = commands.Csv First (record { delimiter = 0x2C; begins_with_mark = false; is_exact = false })
 plain_command words.Remake = commands.Remake
 plain_command words.Stream = commands.Stream None
 plain_command words.Streams = commands.Streams
@@ -103,6 +124,24 @@ plain_command words.Streams = commands.Streams
 abbrev pub AreNamed : List (List ℕ) → Files → Type 0
 AreNamed paths (files.Named names) = map (λ name. name.now) names.items ≡ paths
 AreNamed paths (files.Listed list by_nul) = ⊥
+
+-- ---- where options' values come from
+
+abbrev pub is_among : List ℕ → List (List ℕ) → Bool
+is_among text [] = false
+is_among text (word ∷ words) = bytes_eq word text || is_among text words
+
+-- a word ends so: it is the text, or an option with it
+abbrev pub ends_one : List ℕ → List (List ℕ) → Bool
+ends_one text [] = false
+ends_one text (word ∷ words) = ends_with ◌==◌ word text || ends_one text words
+
+-- the folder for texts was named, and files that exist are written over only where that was said
+abbrev pub IsNamedFolder : List (List ℕ) → Folder → Type 0
+IsNamedFolder words folder =
+    (ends_one folder.path.now words ≡ true) × (folder.writes_over ≡ true → is_among (codes "--force") words ≡ true)
+
+-- ---- requests
 
 -- a command without options over these files, and nothing else
 pub record IsPlainRequest (word : Word) (paths : List (List ℕ)) (request : Request) : Type 0 where

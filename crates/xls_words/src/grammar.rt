@@ -1,6 +1,6 @@
-//! What each command takes, as a table, and the grammar that the table gives.
+//! What commands take, and the grammar that their table gives.
 
-use crate::word::{ALL, Word};
+use crate::word::{ALL, FileCount, Row};
 use clap::{Arg, ArgAction, Command, value_parser};
 use std::alloc::{AllocError, Global};
 
@@ -28,7 +28,7 @@ enum ArgumentKind {
 
 /// A word or an option that a command takes.
 #[derive(Clone, Copy)]
-struct Argument {
+pub(crate) struct Argument {
     name: &'static str,
     kind: ArgumentKind,
     help: &'static str,
@@ -148,31 +148,30 @@ const MARK: Argument = Argument {
     without: &[],
 };
 
-/// What commands take whose lines have all three forms, in the order of help.
-static LINES: [Argument; 8] = [FILES, LIST, NULL, OUT, FORCE, JSON, EXACT, PAGE];
-
-/// What those take whose lines have two.
-static TWO_FORMS: [Argument; 7] = [FILES, LIST, NULL, OUT, FORCE, JSON, PAGE];
-
-static CSV: [Argument; 12] = [
-    FILES, LIST, NULL, OUT, FORCE, SHEET, NUMBER, ALL_SHEETS, DELIMITER, MARK, EXACT_CSV, PAGE,
-];
-
-static DOCUMENTS: [Argument; 5] = [FILES, LIST, NULL, OUT, FORCE];
+/// The files of a command that reads many, and what it takes for them.
+static MANY_FILES: [Argument; 5] = [FILES, LIST, NULL, OUT, FORCE];
 
 static ONE_FILE: [Argument; 1] = [FILE];
 
 static ONE_STREAM: [Argument; 2] = [FILE, PATH];
 
-/// What a command takes.
-fn arguments_of(word: Word) -> &'static [Argument] {
-    match word {
-        Word::Dump | Word::Sheets | Word::Refs => &LINES,
-        Word::Check | Word::Formulas => &TWO_FORMS,
-        Word::Csv => &CSV,
-        Word::Props | Word::Vba => &DOCUMENTS,
-        Word::Remake | Word::Streams => &ONE_FILE,
-        Word::Stream => &ONE_STREAM,
+/// The options of a command whose lines have all three forms.
+pub(crate) static THREE_FORMS: [Argument; 3] = [JSON, EXACT, PAGE];
+
+/// Those of one whose lines have two.
+pub(crate) static TWO_FORMS: [Argument; 2] = [JSON, PAGE];
+
+/// Those of a sheet as CSV.
+pub(crate) static SHEET_OPTIONS: [Argument; 7] = [
+    SHEET, NUMBER, ALL_SHEETS, DELIMITER, MARK, EXACT_CSV, PAGE,
+];
+
+/// The files that a command takes, and what it takes for them.
+fn files_of(files: FileCount) -> &'static [Argument] {
+    match files {
+        FileCount::Many => &MANY_FILES,
+        FileCount::One => &ONE_FILE,
+        FileCount::OneAndPath => &ONE_STREAM,
     }
 }
 
@@ -228,24 +227,24 @@ fn arg_of<'a>(alloc: Global, it: &Argument) -> Result<Arg<'a>, AllocError> {
         .conflicts_with_all(it.without)
 }
 
-/// What a command takes, as clap reads it.
-fn args_of<'a>(alloc: Global, word: Word) -> Result<Vec<Arg<'a>>, AllocError> {
-    let mut args = Vec::new(alloc);
-    for it in arguments_of(word) {
+/// Adds what a command takes, as clap reads it.
+fn push_args<'a>(
+    args: &mut Vec<Arg<'a>>,
+    alloc: Global,
+    arguments: &[Argument],
+) -> Result<(), AllocError> {
+    for it in arguments {
         args.push(arg_of(alloc, it)?)?;
     }
-    Ok(args)
+    Ok(())
 }
 
 /// How the words of a command are read.
-pub(crate) fn grammar_of<'a>(
-    alloc: Global,
-    word: Word,
-    title: &'a str,
-    about: &'a str,
-) -> Result<Command<'a>, AllocError> {
-    let args = args_of(alloc, word)?;
-    Command::new(alloc, title).about(about).args(args)
+pub(crate) fn grammar_of<'a>(alloc: Global, row: Row) -> Result<Command<'a>, AllocError> {
+    let mut args = Vec::new(alloc);
+    push_args(&mut args, alloc, files_of(row.files))?;
+    push_args(&mut args, alloc, row.options)?;
+    Command::new(alloc, row.title).about(row.about).args(args)
 }
 
 /// Adds a command's line of help.
@@ -262,7 +261,8 @@ fn push_summary<'a>(
 fn summaries<'a>(alloc: Global) -> Result<Vec<Command<'a>>, AllocError> {
     let mut commands = Vec::new(alloc);
     for word in ALL {
-        push_summary(&mut commands, alloc, word.name(), word.about())?;
+        let row = word.row();
+        push_summary(&mut commands, alloc, row.name, row.about)?;
     }
     Ok(commands)
 }

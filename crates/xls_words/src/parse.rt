@@ -2,7 +2,8 @@
 
 ghost use Rattle.std.specs.Prelude.{◌≡◌, ℕ, List, true, IfOk, IfSome, MatchResult, map};
 ghost use Rattle.std.specs.String.{string_bytes};
-ghost use Rattle.xls_words.specs.Requests.{AreWordsOf, CommandHasNumber, IsAsked, IsNumbered, IsPage, IsPlainRequest, are_plain, word_of};
+ghost use Rattle.xls_readable.specs.Choices.{IsNumbered};
+ghost use Rattle.xls_words.specs.Requests.{AreWordsOf, CommandHasNumber, IsAsked, IsPage, IsPlainRequest, IsNamedFolder, are_plain, ends_one, is_among, word_of};
 ghost use Rattle.xls_words.specs.declared.displayed.Displayed.TheVariants as displayed;
 ghost use Rattle.xls_words.specs.declared.parse.Refusal.TheVariants as refusals;
 ghost use Rattle.xls_words.specs.declared.word.Word.{Word};
@@ -10,22 +11,22 @@ ghost use Rattle.xls_words.specs.declared.word.Word.{Word};
 use crate::displayed::{Displayed, displayed_of};
 use crate::grammar::{grammar_of, overview};
 use crate::plain::{are_plain, plain_request};
-use crate::request::{Command, Files, Folder, Request, SheetChoice, Style, Table};
+use crate::request::{Command, Files, Folder, Request};
 use crate::word::Word;
 use clap::error::ErrorKind;
 use clap::{ArgMatches, Error};
 use std::alloc::{AllocError, Global};
-use xls_readable::Delimiter;
+use xls_readable::{Delimiter, Form, Listing, SheetChoice, Table};
 
 /// How the lines of a command are written.
-fn style_in(matches: &ArgMatches<'_>) -> Style {
+fn form_in(matches: &ArgMatches<'_>) -> Form {
     if matches.get_flag("exact") {
-        return Style::Exact;
+        return Form::Exact;
     }
     if matches.get_flag("json") {
-        return Style::Json;
+        return Form::Json;
     }
-    Style::Readable
+    Form::Text
 }
 
 /// The delimiter of a text, if it is one.
@@ -147,7 +148,7 @@ fn table_in(matches: &ArgMatches<'_>) -> Option<Table> {
     Some(Table {
         delimiter: delimiter_in(matches)?,
         begins_with_mark: matches.get_flag("bom"),
-        style: style_in(matches),
+        is_exact: matches.get_flag("exact"),
     })
 }
 
@@ -157,11 +158,8 @@ fn command_in<'w>(word: Word, matches: &ArgMatches<'w>) -> Option<Command<'w>>
     ensures numbered { IfSome result (λ c. CommandHasNumber c) }
 {
     Some(match word {
-        Word::Dump => Command::Dump(style_in(matches)),
-        Word::Sheets => Command::Sheets(style_in(matches)),
+        Word::Lines(listing) => Command::Lines(listing, form_in(matches)),
         Word::Check => Command::Check,
-        Word::Formulas => Command::Formulas(style_in(matches)),
-        Word::Refs => Command::Refs(style_in(matches)),
         Word::Props => Command::Props,
         Word::Vba => Command::Vba,
         Word::Csv => Command::Csv(choice_in(matches), table_in(matches)?),
@@ -198,17 +196,44 @@ fn page_in(matches: &ArgMatches<'_>) -> Result<Option<u16>, Refusal>
     }
 }
 
-/// The folder into which texts are written, if there is one.
-fn folder_in<'w>(matches: &ArgMatches<'w>) -> Result<Option<Folder<'w>>, Refusal> {
+/// Whether a text is one of the words.
+fn is_among(words: &[String], text: &str) -> bool
+    ensures { result ≡ is_among text.now (map string_bytes words.now) }
+{
+    'words: for word in words {
+        if word.as_str() == text {
+            return true;
+        }
+    }
+    false
+}
+
+/// Whether a text ends one of the words.
+fn ends_one(words: &[String], text: &str) -> bool
+    ensures { result ≡ ends_one text.now (map string_bytes words.now) }
+{
+    'words: for word in words {
+        if word.as_bytes().ends_with(text.as_bytes()) {
+            return true;
+        }
+    }
+    false
+}
+
+/// The folder into which texts are written, if there is one. What the grammar took of the words is looked for among
+/// them: nothing else tells that it stands there.
+fn folder_in<'w>(matches: &ArgMatches<'w>, words: &[String]) -> Result<Option<Folder<'w>>, Refusal>
+    ensures { IfOk result (λ out. IfSome out (IsNamedFolder (map string_bytes words.now))) }
+{
     let takes_all_sheets = matches.get_flag("all");
     match matches.get_str("out") {
-        Some(path) => Ok(Some(Folder {
+        Some(path) if ends_one(words, path) => Ok(Some(Folder {
             path,
-            writes_over: matches.get_flag("force"),
+            writes_over: matches.get_flag("force") && is_among(words, "--force"),
             takes_all_sheets,
         })),
-        None if takes_all_sheets => Err(Refusal::NoFolder),
-        None => Ok(None),
+        None if !takes_all_sheets => Ok(None),
+        _ => Err(Refusal::NoFolder),
     }
 }
 
@@ -217,10 +242,12 @@ fn request_taken<'w>(
     alloc: Global,
     word: Word,
     matches: &ArgMatches<'w>,
+    words: &[String],
 ) -> Result<Request<'w>, Refusal>
     ensures named { IfOk result (λ r. word_of r.command ≡ word) }
     ensures numbered { IfOk result (λ r. CommandHasNumber r.command) }
     ensures page { IfOk result (λ r. IfSome r.page IsPage) }
+    ensures out { IfOk result (λ r. IfSome r.out (IsNamedFolder (map string_bytes words.now))) }
 {
     let Some(command) = command_in(word, matches) else {
         return Err(Refusal::Delimiter);
@@ -231,7 +258,7 @@ fn request_taken<'w>(
         files,
         tells_json: matches.get_flag("json"),
         page: page_in(matches)?,
-        out: folder_in(matches)?,
+        out: folder_in(matches, words)?,
     })
 }
 
@@ -240,13 +267,14 @@ fn request_in<'w>(alloc: Global, word: Word, words: &'w [String]) -> Result<Requ
     ensures named { IfOk result (λ r. word_of r.command ≡ word) }
     ensures numbered { IfOk result (λ r. CommandHasNumber r.command) }
     ensures page { IfOk result (λ r. IfSome r.page IsPage) }
+    ensures out { IfOk result (λ r. IfSome r.out (IsNamedFolder (map string_bytes words.now))) }
 {
-    let mut grammar = grammar_of(alloc, word, word.title(), word.about())?.no_binary_name(true);
+    let mut grammar = grammar_of(alloc, word.row())?.no_binary_name(true);
     let matches = match grammar.try_get_matches_from_mut(words) {
         Ok(matches) => matches,
         Err(error) => return Err(displayed_of(alloc, &error)),
     };
-    match request_taken(alloc, word, &matches) {
+    match request_taken(alloc, word, &matches, words) {
         Ok(request) => Ok(request),
         Err(refusal) => Err(refused(alloc, &mut grammar, refusal)),
     }
@@ -269,6 +297,7 @@ fn request_for<'w>(alloc: Global, word: Word, words: &'w [String]) -> Result<Req
     ensures named { IfOk result (λ r. word_of r.command ≡ word) }
     ensures numbered { IfOk result (λ r. CommandHasNumber r.command) }
     ensures page { IfOk result (λ r. IfSome r.page IsPage) }
+    ensures out { IfOk result (λ r. IfSome r.out (IsNamedFolder (map string_bytes words.now))) }
     ensures plain { are_plain word (map string_bytes words.now) ≡ true
         → MatchResult result (IsPlainRequest word (map string_bytes words.now)) (λ s. s ≡ displayed.Memory) }
 {
@@ -284,6 +313,7 @@ pub fn request_of<'w>(alloc: Global, words: &'w [String]) -> Result<Request<'w>,
     ensures named { IfOk result (λ r. IsAsked (map string_bytes words.now) (word_of r.command)) }
     ensures numbered { IfOk result (λ r. CommandHasNumber r.command) }
     ensures page { IfOk result (λ r. IfSome r.page IsPage) }
+    ensures out { IfOk result (λ r. IfSome r.out (IsNamedFolder (map string_bytes words.now))) }
 
     // Files alone are read by the command without options, unless memory runs out.
     ensures plain { (word : Word) (paths : List (List ℕ)) → AreWordsOf word paths (map string_bytes words.now)
@@ -296,7 +326,7 @@ pub fn request_of<'w>(alloc: Global, words: &'w [String]) -> Result<Request<'w>,
         "-h" | "--help" | "-V" | "--version" => Err(help_of(alloc, words)),
         name => match Word::of(name) {
             Some(word) => request_for(alloc, word, others),
-            None => request_for(alloc, Word::Dump, words),
+            None => request_for(alloc, Word::Lines(Listing::Dump), words),
         },
     }
 }

@@ -4,10 +4,10 @@ ghost use Rattle.std.specs.Prelude.{◌≡◌, IfOk, map};
 ghost use Rattle.std.specs.String.{string_bytes};
 ghost use Rattle.xls_words.specs.Requests.{CommandHasNumber, IsPlainRequest, are_plain, is_option, plain_command, takes, word_of};
 
-use crate::request::{Command, Files, Request, SheetChoice, Style, Table};
-use crate::word::Word;
+use crate::request::{Command, Files, Request};
+use crate::word::{FileCount, Word};
 use std::alloc::{AllocError, Global};
-use xls_readable::Delimiter;
+use xls_readable::{Delimiter, Form, SheetChoice, Table};
 
 // A `-` with something after it.
 fn is_option(word: &str) -> bool
@@ -17,14 +17,14 @@ fn is_option(word: &str) -> bool
     bytes.len() > 1 && bytes[0] == b'-'
 }
 
-// Whether a command takes so many files and nothing else.
+// Whether a command reads so many files. Behind one a path may stand, which is no file.
 fn takes(word: Word, count: usize) -> bool
     ensures { result ≡ takes word count }
 {
-    match word {
-        Word::Remake | Word::Streams => count == 1,
-        Word::Stream => false,
-        _ => count > 0,
+    match word.row().files {
+        FileCount::Many => count > 0,
+        FileCount::One => count == 1,
+        FileCount::OneAndPath => false,
     }
 }
 
@@ -47,11 +47,8 @@ fn plain_command<'w>(word: Word) -> Command<'w>
     ensures numbered { CommandHasNumber result }
 {
     match word {
-        Word::Dump => Command::Dump(Style::Readable),
-        Word::Sheets => Command::Sheets(Style::Readable),
+        Word::Lines(listing) => Command::Lines(listing, Form::Text),
         Word::Check => Command::Check,
-        Word::Formulas => Command::Formulas(Style::Readable),
-        Word::Refs => Command::Refs(Style::Readable),
         Word::Props => Command::Props,
         Word::Vba => Command::Vba,
         Word::Csv => Command::Csv(
@@ -59,7 +56,7 @@ fn plain_command<'w>(word: Word) -> Command<'w>
             Table {
                 delimiter: Delimiter::comma(),
                 begins_with_mark: false,
-                style: Style::Readable,
+                is_exact: false,
             },
         ),
         Word::Remake => Command::Remake,

@@ -1,50 +1,17 @@
 //! What the words ask for.
 
 ghost use Rattle.std.specs.Prelude.{◌≡◌};
-ghost use Rattle.xls_words.specs.Requests.{word_of};
+ghost use Rattle.xls_words.specs.Requests.{ending_of, is_exact, word_of};
 
 use crate::word::Word;
-use xls_readable::Delimiter;
-
-/// How values are written.
-#[derive(Clone, Copy, Debug, PartialEq, Eq)]
-pub enum Style {
-    /// As people read them: decimals, dates and times in ISO form, the names of all functions.
-    Readable,
-    /// The same, each line as an object of JSON.
-    Json,
-    /// As `xls_dump` writes them: numbers by their bits where they aren't whole or hundredths.
-    Exact,
-}
-
-/// Which sheet of a workbook is written as CSV.
-#[derive(Clone, Copy, Debug, PartialEq, Eq)]
-pub enum SheetChoice<'w> {
-    /// The first worksheet.
-    First,
-    /// The last sheet of this name.
-    Named(&'w str),
-    /// The sheet of this number, counted from 1.
-    Number(u32),
-}
-
-/// How a sheet is written as CSV.
-#[derive(Clone, Copy, Debug, PartialEq, Eq)]
-pub struct Table {
-    pub delimiter: Delimiter,
-    /// Begins with a byte order mark.
-    pub begins_with_mark: bool,
-    pub style: Style,
-}
+use xls_readable::{Form, Listing, SheetChoice, Table};
 
 /// What is done with each file.
 #[derive(Clone, Copy, Debug, PartialEq, Eq)]
 pub enum Command<'w> {
-    Dump(Style),
-    Sheets(Style),
+    /// Lines of the workbook, in a form.
+    Lines(Listing, Form),
     Check,
-    Formulas(Style),
-    Refs(Style),
     Props,
     Vba,
     Csv(SheetChoice<'w>, Table),
@@ -60,17 +27,40 @@ impl Command<'_> {
         ensures { result ≡ word_of self.now }
     {
         match self {
-            Command::Dump(_) => Word::Dump,
-            Command::Sheets(_) => Word::Sheets,
+            Command::Lines(listing, _) => Word::Lines(*listing),
             Command::Check => Word::Check,
-            Command::Formulas(_) => Word::Formulas,
-            Command::Refs(_) => Word::Refs,
             Command::Props => Word::Props,
             Command::Vba => Word::Vba,
             Command::Csv(..) => Word::Csv,
             Command::Remake => Word::Remake,
             Command::Stream(_) => Word::Stream,
             Command::Streams => Word::Streams,
+        }
+    }
+
+    /// Whether numbers are written as the workbook has them.
+    pub fn is_exact(&self) -> bool
+        ensures { result ≡ is_exact self.now }
+    {
+        match self {
+            Command::Lines(_, form) => *form == Form::Exact,
+            Command::Csv(_, table) => table.is_exact,
+            Command::Check
+            | Command::Props
+            | Command::Vba
+            | Command::Remake
+            | Command::Stream(_)
+            | Command::Streams => false,
+        }
+    }
+
+    /// The ending of the name of a text's file.
+    pub fn ending(&self) -> &'static str
+        ensures { result.now ≡ ending_of self.now }
+    {
+        match self {
+            Command::Lines(_, Form::Json) => "json",
+            _ => self.word().row().ending,
         }
     }
 }

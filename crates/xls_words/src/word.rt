@@ -1,17 +1,18 @@
-//! The names of the commands.
+//! The commands, as a table: what each is called, what it does, and what it takes.
 
-ghost use Rattle.std.specs.Prelude.{◌≡◌, MatchOption};
+ghost use Rattle.std.specs.Prelude.{◌≡◌, true, MatchOption};
 ghost use Rattle.xls_words.specs.declared.word.Word.{Word};
-ghost use Rattle.xls_words.specs.Words.{word_text};
+ghost use Rattle.xls_words.specs.Words.{ending_text, file_count, takes_many, word_text};
+
+use crate::grammar::{Argument, SHEET_OPTIONS, THREE_FORMS, TWO_FORMS};
+use xls_readable::Listing;
 
 /// A command by its name.
 #[derive(Clone, Copy, Debug, PartialEq, Eq)]
 pub enum Word {
-    Dump,
-    Sheets,
+    /// Lines of the workbook.
+    Lines(Listing),
     Check,
-    Formulas,
-    Refs,
     Props,
     Vba,
     Csv,
@@ -20,17 +21,156 @@ pub enum Word {
     Streams,
 }
 
+/// All commands, in the order of help.
+pub(crate) const ALL: [Word; 11] = [
+    Word::Lines(Listing::Dump),
+    Word::Lines(Listing::Sheets),
+    Word::Check,
+    Word::Lines(Listing::Formulas),
+    Word::Lines(Listing::Refs),
+    Word::Props,
+    Word::Vba,
+    Word::Csv,
+    Word::Remake,
+    Word::Stream,
+    Word::Streams,
+];
+
+/// How many files a command reads.
+#[derive(Clone, Copy, Debug, PartialEq, Eq)]
+pub(crate) enum FileCount {
+    /// Any number, at least one, folders among them.
+    Many,
+    /// One.
+    One,
+    /// One, and maybe the path of a stream in it.
+    OneAndPath,
+}
+
+/// A row of the table of commands.
+#[derive(Clone, Copy)]
+pub(crate) struct Row {
+    pub(crate) name: &'static str,
+    /// The command line that help shows.
+    pub(crate) title: &'static str,
+    /// What help says of it.
+    pub(crate) about: &'static str,
+    pub(crate) files: FileCount,
+    /// The options that it takes beside those of many files, which say the forms of its lines too.
+    pub(crate) options: &'static [Argument],
+    /// The ending of the files that its texts are written into.
+    pub(crate) ending: &'static str,
+}
+
 impl Word {
+    /// The row of a command.
+    pub(crate) fn row(self) -> Row
+        ensures name { result.name.now ≡ word_text self }
+        ensures files { result.files ≡ file_count self }
+        ensures ending { result.ending.now ≡ ending_text self }
+    {
+        match self {
+            Word::Lines(Listing::Dump) => Row {
+                name: "dump",
+                title: "xls dump",
+                about: "What each workbook holds, line by line: sheets, cells, formulas, merged regions, names",
+                files: FileCount::Many,
+                options: &THREE_FORMS,
+                ending: "txt",
+            },
+            Word::Lines(Listing::Sheets) => Row {
+                name: "sheets",
+                title: "xls sheets",
+                about: "The name, the kind and the visibility of each sheet",
+                files: FileCount::Many,
+                options: &THREE_FORMS,
+                ending: "txt",
+            },
+            Word::Check => Row {
+                name: "check",
+                title: "xls check",
+                about: "Whether a workbook is whole, or the first thing that is wrong",
+                files: FileCount::Many,
+                options: &TWO_FORMS,
+                ending: "txt",
+            },
+            Word::Lines(Listing::Formulas) => Row {
+                name: "formulas",
+                title: "xls formulas",
+                about: "The formulas of each sheet",
+                files: FileCount::Many,
+                options: &TWO_FORMS,
+                ending: "txt",
+            },
+            Word::Lines(Listing::Refs) => Row {
+                name: "refs",
+                title: "xls refs",
+                about: "The cells that each formula cites",
+                files: FileCount::Many,
+                options: &THREE_FORMS,
+                ending: "txt",
+            },
+            Word::Props => Row {
+                name: "props",
+                title: "xls props",
+                about: "Title, author, dates and custom properties",
+                files: FileCount::Many,
+                options: &[],
+                ending: "txt",
+            },
+            Word::Vba => Row {
+                name: "vba",
+                title: "xls vba",
+                about: "What a macro project refers to, and its modules",
+                files: FileCount::Many,
+                options: &[],
+                ending: "txt",
+            },
+            Word::Csv => Row {
+                name: "csv",
+                title: "xls csv",
+                about: "A sheet as CSV: the first worksheet, unless one is chosen",
+                files: FileCount::Many,
+                options: &SHEET_OPTIONS,
+                ending: "csv",
+            },
+            Word::Remake => Row {
+                name: "remake",
+                title: "xls remake",
+                about: "The workbook's stream once more in its canonical form",
+                files: FileCount::One,
+                options: &[],
+                ending: "txt",
+            },
+            Word::Stream => Row {
+                name: "stream",
+                title: "xls stream",
+                about: "The bytes of a stream: the workbook's, unless a path is given",
+                files: FileCount::OneAndPath,
+                options: &[],
+                ending: "txt",
+            },
+            Word::Streams => Row {
+                name: "streams",
+                title: "xls streams",
+                about: "The size and the path of each stream of a file",
+                files: FileCount::One,
+                options: &[],
+                ending: "txt",
+            },
+        }
+    }
+
     /// The command of this name.
     pub fn of(name: &str) -> Option<Word>
         ensures { MatchOption result ((w : Word) → word_text w ≡ name.now → ⊥) (λ w. word_text w ≡ name.now) }
     {
         match name {
-            "dump" => Some(Word::Dump),
-            "sheets" => Some(Word::Sheets),
+            "dump" => Some(Word::Lines(Listing::Dump)),
+            "sheets" => Some(Word::Lines(Listing::Sheets)),
             "check" => Some(Word::Check),
-            "formulas" => Some(Word::Formulas),
-            "refs" => Some(Word::Refs),
+            "formulas" => Some(Word::Lines(Listing::Formulas)),
+            "refs" => Some(Word::Lines(Listing::Refs)),
             "props" => Some(Word::Props),
             "vba" => Some(Word::Vba),
             "csv" => Some(Word::Csv),
@@ -45,68 +185,13 @@ impl Word {
     pub fn name(self) -> &'static str
         ensures { result.now ≡ word_text self }
     {
-        match self {
-            Word::Dump => "dump",
-            Word::Sheets => "sheets",
-            Word::Check => "check",
-            Word::Formulas => "formulas",
-            Word::Refs => "refs",
-            Word::Props => "props",
-            Word::Vba => "vba",
-            Word::Csv => "csv",
-            Word::Remake => "remake",
-            Word::Stream => "stream",
-            Word::Streams => "streams",
-        }
+        self.row().name
     }
 
-    /// What help says of it.
-    pub(crate) fn about(self) -> &'static str {
-        match self {
-            Word::Dump =>
-                "What each workbook holds, line by line: sheets, cells, formulas, merged regions, names",
-            Word::Sheets => "The name, the kind and the visibility of each sheet",
-            Word::Check => "Whether a workbook is whole, or the first thing that is wrong",
-            Word::Formulas => "The formulas of each sheet",
-            Word::Refs => "The cells that each formula cites",
-            Word::Props => "Title, author, dates and custom properties",
-            Word::Vba => "What a macro project refers to, and its modules",
-            Word::Csv => "A sheet as CSV: the first worksheet, unless one is chosen",
-            Word::Remake => "The workbook's stream once more in its canonical form",
-            Word::Stream => "The bytes of a stream: the workbook's, unless a path is given",
-            Word::Streams => "The size and the path of each stream of a file",
-        }
-    }
-
-    /// The command line that help shows.
-    pub(crate) fn title(self) -> &'static str {
-        match self {
-            Word::Dump => "xls dump",
-            Word::Sheets => "xls sheets",
-            Word::Check => "xls check",
-            Word::Formulas => "xls formulas",
-            Word::Refs => "xls refs",
-            Word::Props => "xls props",
-            Word::Vba => "xls vba",
-            Word::Csv => "xls csv",
-            Word::Remake => "xls remake",
-            Word::Stream => "xls stream",
-            Word::Streams => "xls streams",
-        }
+    /// Whether it reads any number of files.
+    pub fn takes_many(self) -> bool
+        ensures { result ≡ takes_many self }
+    {
+        self.row().files == FileCount::Many
     }
 }
-
-/// All commands, in the order of help.
-pub(crate) const ALL: [Word; 11] = [
-    Word::Dump,
-    Word::Sheets,
-    Word::Check,
-    Word::Formulas,
-    Word::Refs,
-    Word::Props,
-    Word::Vba,
-    Word::Csv,
-    Word::Remake,
-    Word::Stream,
-    Word::Streams,
-];

@@ -1,0 +1,152 @@
+-- Texts that are written into files of their own, and which files are made.
+use Rattle.std.proofs.Common.{◌≡◌, ℕ, Bool, true, List, [], Some, Result, Ok, Err, inl, inr, sym, subst}
+use Rattle.std.specs.Io.KnownBytes.{Appends}
+use Rattle.std.specs.Result.{IsOk}
+use Rattle.xls_answers.specs.Sheets.{BeginsTableOf, IsTableOf, MissesSheet, WritesSheetAt, chosen_index}
+use Rattle.xls_answers.specs.Views.{AreLines, BeginLines, MissesNone, OfView}
+use Rattle.xls_answers.specs.declared.answer.Answer.{Answer}
+use Rattle.xls_answers.specs.declared.answer.Answer.TheVariants as answers
+use Rattle.xls_answers.specs.declared.failure.Missing.{Missing}
+use Rattle.xls_container.specs.Files.{Container}
+use Rattle.xls_files.proofs.FileLemmas.{created_one, ended_one}
+use Rattle.xls_files.specs.Files.{Creates, EndsFile, HostFiles}
+use Rattle.xls_files.specs.Paths.{IsInside}
+use Rattle.xls_open.specs.declared.options.XlsOptions.{XlsOptions}
+use Rattle.xls_output.specs.Each.{WroteEach}
+use Rattle.xls_output.specs.Gathering.{Wrote}
+use Rattle.xls_output.specs.SinkState.{SinkState}
+use Rattle.xls_output.specs.declared.stop.Stop.{Stop}
+use Rattle.xls_report.specs.Report.{report}
+use Rattle.xls_tool.specs.Asked.{asked_by}
+use Rattle.xls_tool.specs.Beside.{OfContainer, as_failure, as_problem}
+use Rattle.xls_tool.specs.Outputs.{HoldsText, KeepsOutputs, MayMake, TakesAll, unwritten}
+use Rattle.xls_tool.specs.SheetFiles.{AreSheetFiles, IsAskedSheet}
+use Rattle.xls_tool.specs.Texts.{OfWorkbook}
+use Rattle.xls_tool.specs.declared.job.Asked.TheVariants.{Workbook, Other}
+use Rattle.xls_tool.specs.declared.job.Beside.{Beside}
+use Rattle.xls_tool.specs.declared.job.Beside.TheVariants as beside
+use Rattle.xls_tool.specs.declared.problem.Problem.{Problem}
+use Rattle.xls_tool.specs.declared.sheets.SheetFiles.{SheetFiles}
+use Rattle.xls_view.specs.Viewing.{Viewed}
+use Rattle.xls_words.specs.declared.request.Folder.{Folder}
+use Rattle.xls_words.specs.declared.request.Request.{Request}
+
+-- ---- from the first byte on
+
+module _ (a b : SinkState) (empty : a.written ≡ Some []) where
+  -- what was written from there is all that was written
+  text-written : (text : List ℕ) → Wrote a b text → Wrote unwritten b text
+  text-written text w = record {
+    appends = subst (λ old. Appends old b.written text) empty w.appends;
+    steady = λ n fits none. absurd none;
+  }
+
+  each-written : {A : Type 0} (IsText : A → List ℕ → Type 0) (items : List A) → WroteEach IsText items a b → WroteEach IsText items unwritten b
+  each-written IsText items w = record { text = w.text; texts = w.texts; wrote = text-written w.text w.wrote }
+
+  view-written : (options : XlsOptions) (stream : List ℕ) (IsWhole IsPart : Viewed → List ℕ → Type 0) (Misses : Missing → Viewed → Type 0)
+      → OfView options stream IsWhole IsPart Misses a b (Ok tt) → OfView options stream IsWhole IsPart Misses unwritten b (Ok tt)
+  view-written options stream IsWhole IsPart Misses (view, is, text, whole, wrote) = (view, is, text, whole, text-written text wrote)
+
+  workbook-written : (answer : Answer) (options : XlsOptions) (stream : List ℕ)
+      → OfWorkbook answer options stream a b (Ok tt) → OfWorkbook answer options stream unwritten b (Ok tt)
+  workbook-written (answers.Lines lines form) options stream h =
+      view-written options stream (AreLines lines form) (BeginLines lines form) MissesNone h
+  workbook-written answers.Exact options stream h =
+      let is = λ (view : Viewed) (text : List ℕ). text ≡ report view.book in view-written options stream is is MissesNone h
+  workbook-written (answers.Sheet choice table) options stream h =
+      view-written options stream (IsTableOf choice table) (BeginsTableOf choice table) (MissesSheet choice) h
+  workbook-written answers.Check options stream (sound, wrote) = (sound, text-written _ wrote)
+  workbook-written answers.Remade options stream (list, reads, text, writes, wrote) = (list, reads, text, writes, text-written text wrote)
+  workbook-written answers.Bytes options stream wrote = text-written _ wrote
+
+  beside-written : (what : Beside) (container : Container)
+      → OfContainer what container a b (Ok tt) → OfContainer what container unwritten b (Ok tt)
+  beside-written beside.Properties container (inl (properties, has, (Ok x, delivers, is))) =
+      inl (properties, has, (Ok x, each-written _ _ delivers, is))
+  beside-written beside.Properties container (inl (properties, has, (Err s, delivers, is))) = absurd (cc is)
+  beside-written beside.Properties container (inr (inl (none, (is, same)))) = absurd (cc is)
+  beside-written beside.Properties container (inr (inr (fault, refuses, (is, same)))) = absurd (cc is)
+  beside-written beside.Project container (inl (project, has, (Ok x, (lines, are, wrote), is))) =
+      inl (project, has, (Ok x, (lines, are, each-written _ _ wrote), is))
+  beside-written beside.Project container (inl (project, has, (Err s, delivers, is))) = absurd (cc is)
+  beside-written beside.Project container (inr (inl (none, (is, same)))) = absurd (cc is)
+  beside-written beside.Project container (inr (inr (fault, refuses, (is, same)))) = absurd (cc is)
+  beside-written (beside.Stream path) container (inl (compound, in_it, inl (item, bytes, at, has, Ok x, wrote, is))) =
+      inl (compound, in_it, inl (item, bytes, at, has, Ok x, text-written bytes wrote, is))
+  beside-written (beside.Stream path) container (inl (compound, in_it, inl (item, bytes, at, has, Err f, stops, is))) = absurd (cc is)
+  beside-written (beside.Stream path) container (inl (compound, in_it, inr (inl (none, (is, same))))) = absurd (cc is)
+  beside-written (beside.Stream path) container (inl (compound, in_it, inr (inr (inl (item, error, at, refuses, (is, same)))))) = absurd (cc is)
+  beside-written (beside.Stream path) container (inl (compound, in_it, inr (inr (inr (is, same))))) = absurd (cc is)
+  beside-written (beside.Stream path) container (inr (none, (is, same))) = absurd (cc is)
+  beside-written beside.Streams container (inl (compound, in_it, (Ok x, delivers, is))) = inl (compound, in_it, (Ok x, each-written _ _ delivers, is))
+  beside-written beside.Streams container (inl (compound, in_it, (Err s, delivers, is))) = absurd (cc is)
+  beside-written beside.Streams container (inr (none, (is, same))) = absurd (cc is)
+
+  -- ---- what a file holds then
+
+  pub holds-workbook : (request : Request) (answer : Answer) (options : XlsOptions) (stream : List ℕ) (r : Result (Unit {0}) Problem)
+      → asked_by request.command ≡ Workbook answer → OfWorkbook answer options stream a b r → IsOk r
+      → HoldsText request.out (asked_by request.command) options b
+  holds-workbook request answer options stream (Ok x) is h ok =
+      subst (λ asked. HoldsText request.out asked options b) (sym is) (stream, inl (workbook-written answer options stream h))
+  holds-workbook request answer options stream (Err p) is h ok = absurd (cc ok)
+
+  pub holds-beside : (request : Request) (what : Beside) (options : XlsOptions) (container : Container) (r : Result (Unit {0}) Problem)
+      → asked_by request.command ≡ Other what → OfContainer what container a b r → IsOk r
+      → HoldsText request.out (asked_by request.command) options b
+  holds-beside request what options container (Ok x) is h ok =
+      subst (λ asked. HoldsText request.out asked options b) (sym is) (container, beside-written what container h)
+  holds-beside request what options container (Err p) is h ok = absurd (cc ok)
+
+  -- a sheet: where all are asked for, or the chosen one
+  all-sheets : (files : SheetFiles) (view : Viewed) (n : ℕ) → AreSheetFiles files view → files.out.now.takes_all_sheets ≡ true
+      → WritesSheetAt files.table.now view.book n a b (Ok tt)
+      → HoldsText files.job.now.request.out (Workbook (answers.Sheet files.choice.now files.table.now)) files.job.now.options b
+  all-sheets files view n are all (sheet, is, text, cells, wrote) = (
+    files.book.now.stream.now,
+    inr (subst TakesAll (sym are.out) all, (view, are.viewed, n, (sheet, is, text, cells, text-written text wrote))),
+  )
+
+  chosen-sheet : (files : SheetFiles) (view : Viewed) (n : ℕ) → AreSheetFiles files view
+      → Some n ≡ chosen_index files.choice.now view.book.sheets → WritesSheetAt files.table.now view.book n a b (Ok tt)
+      → HoldsText files.job.now.request.out (Workbook (answers.Sheet files.choice.now files.table.now)) files.job.now.options b
+  chosen-sheet files view n are chosen (sheet, is, text, cells, wrote) =
+      (files.book.now.stream.now, inl (view, are.viewed, text, (sheet, (n, chosen, is), cells), text-written text wrote))
+
+  asked-sheet : (files : SheetFiles) (view : Viewed) (n : ℕ) → AreSheetFiles files view → IsAskedSheet files view n
+      → WritesSheetAt files.table.now view.book n a b (Ok tt)
+      → HoldsText files.job.now.request.out (asked_by files.job.now.request.command) files.job.now.options b
+  asked-sheet files view n are (inl all) h =
+      subst (λ asked. HoldsText files.job.now.request.out asked files.job.now.options b) (sym are.asked) (all-sheets files view n are all h)
+  asked-sheet files view n are (inr chosen) h =
+      subst (λ asked. HoldsText files.job.now.request.out asked files.job.now.options b) (sym are.asked) (chosen-sheet files view n are chosen h)
+
+  pub holds-sheet : (files : SheetFiles) (view : Viewed) (n : ℕ) (done : Result (Unit {0}) Stop) (r : Result (Unit {0}) Problem)
+      → AreSheetFiles files view → IsAskedSheet files view n → WritesSheetAt files.table.now view.book n a b done
+      → r ≡ as_problem (as_failure done) → IsOk r
+      → HoldsText files.job.now.request.out (asked_by files.job.now.request.command) files.job.now.options b
+  holds-sheet files view n (Ok x) r are asked h is ok = asked-sheet files view n are asked h
+  holds-sheet files view n (Err s) r are asked h is ok =
+      let none : IsOk (as_problem (as_failure (Err s))) = subst IsOk is ok in absurd (cc none)
+
+-- ---- the host's files
+
+module _ {F : Type 0} (tells : Bool) (state : F → SinkState) (request : Request) (options : XlsOptions) where
+  Holds : F → Type 0
+  Holds file = tells ≡ true → HoldsText request.out (asked_by request.command) options (state file)
+
+  -- a file was made inside the folder
+  pub made : (folder : Folder) (path : List ℕ) (before after : HostFiles F) → request.out ≡ Some folder → IsInside folder.path.now path
+      → Creates path folder.writes_over before after → KeepsOutputs tells state request options before after
+  unfolding Holds
+  made folder path before after out inside creates h =
+      created_one (MayMake request.out) Holds path folder.writes_over before after creates
+      (subst (λ o. MayMake o (path, folder.writes_over)) (sym out) (inside, λ e. e)) h
+
+  -- one was ended that holds the whole text
+  pub ended : (file : F) (before after : HostFiles F) (done : Result (Unit {0}) Problem)
+      → (IsOk done → tells ≡ true → HoldsText request.out (asked_by request.command) options (state file))
+      → EndsFile file before after done → KeepsOutputs tells state request options before after
+  unfolding Holds
+  ended file before after done holds ends h = ended_one (MayMake request.out) Holds file before after done ends holds h
