@@ -3,7 +3,7 @@
 use std::alloc::{AllocError, Global};
 use std::test::Fail;
 use xls_number_formats::{
-    Choice, Class, Format, Items, Kind, built_in_code, class_of, items_spell_the_code,
+    Choice, Class, Format, Item, Items, Kind, Place, built_in_code, class_of, items_spell_the_code,
     push_shown_text, read_section,
 };
 
@@ -56,7 +56,12 @@ fn chooses_a_section(rt: HostRuntime) -> Result<(), Fail> {
     let (section, rest) = read_section("# ?/?;0");
     assert!(rt; section.kind == Kind::Fraction);
     assert!(rt; rest == Some("0"));
-    assert!(rt; Items::new("#,##0.00 \"x\"").count() == 10);
+    assert!(rt;
+        matches!(
+            Items::new("0.00").next(),
+            Some((Item::Place(Place::Zero), "0"))
+        )
+    );
     items_spell_the_code();
     Ok(())
 }
