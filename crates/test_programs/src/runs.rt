@@ -111,7 +111,7 @@ static RUNS: [Run; 37] = [
         &["d/p.xla"],
         17,
         "",
-        "xls: d/p.xla: its records are obfuscated with a password (XOR): save it without one\n",
+        "xls: d/p.xla: its password is wanted: --password-file FILE\n",
         "",
     ),
     (
@@ -176,7 +176,7 @@ static RUNS: [Run; 37] = [
     (
         &["check", "d"],
         17,
-        "refused\td/b.XLS\tEnd of stream 'sheet offset'\nok\td/e/f.xlt\nunread\td/p.xla\tits records are obfuscated with a password (XOR): save it without one\nfiles\t3\t1 ok\t1 refused\t1 unread\t0 failed\n",
+        "refused\td/b.XLS\tEnd of stream 'sheet offset'\nok\td/e/f.xlt\nunread\td/p.xla\tits password is wanted: --password-file FILE\nfiles\t3\t1 ok\t1 refused\t1 unread\t0 failed\n",
         "",
         "",
     ),

@@ -102,7 +102,7 @@ module _ (a b : SinkState) (empty : a.written ≡ Some []) where
   -- a sheet: where all are asked for, or the chosen one
   all-sheets : (files : SheetFiles) (view : Viewed) (n : ℕ) → AreSheetFiles files view → files.out.now.takes_all_sheets ≡ true
       → WritesSheetAt files.table.now view.book n a b (Ok tt)
-      → HoldsText files.job.now.request.out (Workbook (answers.Sheet files.choice.now files.table.now)) files.job.now.options b
+      → HoldsText files.job.now.request.out (Workbook (answers.Sheet files.choice.now files.table.now)) files.job.now.reading.options b
   all-sheets files view n are all (sheet, is, text, cells, wrote) = (
     files.book.now.stream.now,
     inr (subst TakesAll (sym are.out) all, (view, are.viewed, n, (sheet, is, text, cells, text-written text wrote))),
@@ -110,22 +110,22 @@ module _ (a b : SinkState) (empty : a.written ≡ Some []) where
 
   chosen-sheet : (files : SheetFiles) (view : Viewed) (n : ℕ) → AreSheetFiles files view
       → Some n ≡ chosen_index files.choice.now view.book.sheets → WritesSheetAt files.table.now view.book n a b (Ok tt)
-      → HoldsText files.job.now.request.out (Workbook (answers.Sheet files.choice.now files.table.now)) files.job.now.options b
+      → HoldsText files.job.now.request.out (Workbook (answers.Sheet files.choice.now files.table.now)) files.job.now.reading.options b
   chosen-sheet files view n are chosen (sheet, is, text, cells, wrote) =
       (files.book.now.stream.now, inl (view, are.viewed, text, (sheet, (n, chosen, is), cells), text-written text wrote))
 
   asked-sheet : (files : SheetFiles) (view : Viewed) (n : ℕ) → AreSheetFiles files view → IsAskedSheet files view n
       → WritesSheetAt files.table.now view.book n a b (Ok tt)
-      → HoldsText files.job.now.request.out (asked_by files.job.now.request.command) files.job.now.options b
+      → HoldsText files.job.now.request.out (asked_by files.job.now.request.command) files.job.now.reading.options b
   asked-sheet files view n are (inl all) h =
-      subst (λ asked. HoldsText files.job.now.request.out asked files.job.now.options b) (sym are.asked) (all-sheets files view n are all h)
+      subst (λ asked. HoldsText files.job.now.request.out asked files.job.now.reading.options b) (sym are.asked) (all-sheets files view n are all h)
   asked-sheet files view n are (inr chosen) h =
-      subst (λ asked. HoldsText files.job.now.request.out asked files.job.now.options b) (sym are.asked) (chosen-sheet files view n are chosen h)
+      subst (λ asked. HoldsText files.job.now.request.out asked files.job.now.reading.options b) (sym are.asked) (chosen-sheet files view n are chosen h)
 
   pub holds-sheet : (files : SheetFiles) (view : Viewed) (n : ℕ) (done : Result (Unit {0}) Stop) (r : Result (Unit {0}) Problem)
       → AreSheetFiles files view → IsAskedSheet files view n → WritesSheetAt files.table.now view.book n a b done
       → r ≡ as_problem (as_failure done) → IsOk r
-      → HoldsText files.job.now.request.out (asked_by files.job.now.request.command) files.job.now.options b
+      → HoldsText files.job.now.request.out (asked_by files.job.now.request.command) files.job.now.reading.options b
   holds-sheet files view n (Ok x) r are asked h is ok = asked-sheet files view n are asked h
   holds-sheet files view n (Err s) r are asked h is ok =
       let none : IsOk (as_problem (as_failure (Err s))) = subst IsOk is ok in absurd (cc none)

@@ -3,6 +3,8 @@ use Rattle.std.proofs.Common.{◌≡◌, ℕ, [], ◌∷◌, Some, None, Ok, Err
 use Rattle.xls_documents.specs.declared.fault.ProjectFault.{ProjectFault}
 use Rattle.xls_files.specs.declared.host.Reason.TheVariants as reasons
 use Rattle.xls_output.specs.declared.stop.Stop.TheVariants as stop
+use Rattle.xls_passwords.specs.declared.opening.Refusal.TheVariants as refusal
+use Rattle.xls_passwords.specs.declared.scheme.FilePassFault.TheVariants as pass
 use Rattle.xls_tool.specs.Displayed.{absent_text, problem_text}
 use Rattle.xls_tool.specs.Problems.{outcome_for, problem_status, status_of_work}
 use Rattle.xls_tool.specs.declared.problem.Outcome.TheVariants as outcome
@@ -34,6 +36,12 @@ pub known_statuses : (text : _) (fault : ProjectFault) → map problem_status
     ∷ problems.Project fault ∷ problems.Unwritten text reasons.Memory ∷ problems.Unwritten text (reasons.Reported text) ∷ [])
     ≡ 5 ∷ 10 ∷ 10 ∷ 10 ∷ 12 ∷ 11 ∷ 5 ∷ 16 ∷ []
 known_statuses text fault = refl
+
+pub known_locks : map problem_status
+    (problems.Encrypted (refusal.FilePass (pass.Length 54 53)) ∷ problems.Encrypted (refusal.FilePass pass.Unread)
+    ∷ problems.Encrypted refusal.PasswordWanted ∷ problems.Encrypted refusal.NoneFits ∷ [])
+    ≡ 1 ∷ 17 ∷ 17 ∷ 17 ∷ []
+known_locks = refl
 
 pub known_ends : (n : ℕ) → map status_of_work (Ok n ∷ Err stop.Memory ∷ Err stop.Write ∷ Err stop.Read ∷ []) ≡ n ∷ 5 ∷ 4 ∷ 4 ∷ []
 known_ends n = refl

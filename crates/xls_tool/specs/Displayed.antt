@@ -6,6 +6,7 @@ use Rattle.xls_bytes.specs.Escapes.{escaped_text}
 use Rattle.xls_answers.specs.Texts.{failure_text}
 use Rattle.xls_documents.specs.Texts as documents
 use Rattle.xls_files.specs.Reasons.{reason_text}
+use Rattle.xls_passwords.specs.Opening.{refusal_text}
 use Rattle.xls_tool.specs.declared.problem.Absent.{Absent}
 use Rattle.xls_tool.specs.declared.problem.Absent.TheVariants as absent
 use Rattle.xls_tool.specs.declared.problem.Outcome.{Outcome}
@@ -26,6 +27,7 @@ problem_text problems.Irregular = codes "it is no regular file"
 problem_text (problems.Failure failure) = failure_text failure
 problem_text (problems.Absent what) = absent_text what
 problem_text (problems.Project fault) = documents.fault_text fault
+problem_text (problems.Encrypted refusal) = refusal_text refusal
 problem_text (problems.Unwritten path reason) = string_bytes path ++ (codes ": " ++ reason_text reason)
 
 -- a line on standard error about a file: tabs, newlines and returns of its name and of the text are escaped

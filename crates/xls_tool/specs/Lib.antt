@@ -1,5 +1,6 @@
 pub mod Problems
 pub mod Asked
+pub mod Unlocking
 pub mod Beside
 pub mod Texts
 pub mod Outputs

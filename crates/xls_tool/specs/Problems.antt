@@ -7,6 +7,8 @@ use Rattle.xls_documents.specs.declared.fault.ProjectFault.TheVariants as faults
 use Rattle.xls_output.specs.declared.stop.Stop.{Stop}
 use Rattle.xls_output.specs.declared.stop.Stop.TheVariants as stop
 use Rattle.xls_files.specs.declared.host.Reason.TheVariants.{Memory, Reported}
+use Rattle.xls_passwords.specs.declared.opening.Refusal.TheVariants as refusal
+use Rattle.xls_passwords.specs.declared.scheme.FilePassFault.TheVariants as pass
 use Rattle.xls_tool.specs.declared.problem.Outcome.{Outcome}
 use Rattle.xls_tool.specs.declared.problem.Outcome.TheVariants as outcome
 use Rattle.xls_tool.specs.declared.problem.Problem.{Problem}
@@ -20,6 +22,10 @@ problem_status problems.Irregular = 10
 problem_status (problems.Failure f) = failures.status_of f
 problem_status (problems.Absent a) = 12
 problem_status (problems.Project f) = 11
+problem_status (problems.Encrypted (refusal.FilePass (pass.Length e f))) = 1
+problem_status (problems.Encrypted (refusal.FilePass pass.Unread)) = 17
+problem_status (problems.Encrypted refusal.PasswordWanted) = 17
+problem_status (problems.Encrypted refusal.NoneFits) = 17
 problem_status (problems.Unwritten path Memory) = 5
 problem_status (problems.Unwritten path (Reported t)) = 16
 

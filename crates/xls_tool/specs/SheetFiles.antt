@@ -13,7 +13,7 @@ pub record AreSheetFiles (files : SheetFiles) (view : Viewed) : Type 0 where
   pub out : files.job.now.request.out ≡ Some files.out.now
   pub inside : IsInside files.out.now.path.now files.folder.now
   pub asked : asked_by files.job.now.request.command ≡ Workbook (Sheet files.choice.now files.table.now)
-  pub viewed : IsViewed files.job.now.options files.book.now.stream.now view
+  pub viewed : IsViewed files.job.now.reading.options files.book.now.stream.now view
 
 -- all sheets are asked for, or this one
 abbrev pub IsAskedSheet : SheetFiles → Viewed → ℕ → Type 0

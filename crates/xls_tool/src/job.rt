@@ -7,17 +7,26 @@ ghost use Rattle.xls_answers.specs.Answers.{HasNumber};
 ghost use Rattle.xls_answers.specs.Views.{options_under};
 ghost use Rattle.xls_tool.specs.Asked.{AskedHasNumber, asked_by, form_of_many, exact_lines, lines_of};
 
+use crate::unlock::PasswordList;
 use std::alloc::{AllocError, Global};
 use xls_answers::{Answer, options_of};
 use xls_open::XlsOptions;
 use xls_readable::{Form, Listing};
 use xls_words::{Command, Request};
 
+/// How workbooks are read.
+#[derive(Drop)]
+pub struct Reading {
+    pub(crate) options: XlsOptions,
+    /// The passwords that are tried on encrypted ones.
+    pub(crate) passwords: PasswordList,
+}
+
 /// What is asked for of each file, and how workbooks are read.
 #[derive(Drop)]
 pub(crate) struct Job<'w> {
     pub(crate) request: Request<'w>,
-    pub(crate) options: XlsOptions,
+    pub(crate) reading: Reading,
 }
 
 impl Job<'_> {
@@ -94,11 +103,19 @@ pub(crate) fn asked_by<'w>(command: &Command<'w>) -> Asked<'w>
     }
 }
 
-/// What a request asks for of each file.
-pub(crate) fn job_of<'w>(alloc: Global, request: Request<'w>) -> Result<Job<'w>, AllocError>
+/// What a request asks for of each file, by these passwords.
+pub(crate) fn job_of<'w>(
+    alloc: Global,
+    request: Request<'w>,
+    passwords: PasswordList,
+) -> Result<Job<'w>, AllocError>
     ensures request { IfOk result (λ job. job.request ≡ request.entry) }
-    ensures options { IfOk result (λ job. job.options ≡ options_under request.entry.page (is_exact request.entry.command)) }
+    ensures options { IfOk result (λ job. job.reading.options ≡ options_under request.entry.page (is_exact request.entry.command)) }
+    ensures passwords { IfOk result (λ job. job.reading.passwords ≡ passwords) }
 {
     let options = options_of(alloc, request.page, request.command.is_exact())?;
-    Ok(Job { request, options })
+    Ok(Job {
+        request,
+        reading: Reading { options, passwords },
+    })
 }

@@ -13,6 +13,7 @@ mod runs;
 mod say;
 mod sheets;
 mod tell;
+mod unlock;
 mod work;
 
 pub use problem::Problem;

@@ -39,8 +39,8 @@ pub(crate) fn do_file<H: Host, K: Sink>(
 ) -> Result<(), Problem>
     requires number { requests.CommandHasNumber job.now.request.command }
     ensures written { job.now.request.out ≡ None → EndsPath (H.reads host.old path.now)
-        job.now.request.command job.now.options (K.state sink.old) (K.state sink.new) result }
-    ensures outputs { KeepsOutputs H.tells H.File.state job.now.request job.now.options (H.files host.old) (H.files host.new) }
+        job.now.request.command job.now.reading (K.state sink.old) (K.state sink.new) result }
+    ensures outputs { KeepsOutputs H.tells H.File.state job.now.request job.now.reading.options (H.files host.old) (H.files host.new) }
 {
     let bytes = read(host, path)?;
     do_bytes(alloc, host, sink, job, path, bytes.as_slice())
@@ -105,7 +105,7 @@ fn do_next<H: Host, K: Sink>(
     next: Next,
 ) -> Result<(), Stop>
     requires number { requests.CommandHasNumber job.now.request.command }
-    ensures { KeepsOutputs H.tells H.File.state job.now.request job.now.options (H.files host.old) (H.files host.new) }
+    ensures { KeepsOutputs H.tells H.File.state job.now.request job.now.reading.options (H.files host.old) (H.files host.new) }
 {
     match next {
         Next::File(path) => {
@@ -146,7 +146,7 @@ fn do_queue<H: Host, K: Sink>(
     queue: &mut Queue,
 ) -> Result<(), Stop>
     requires number { requests.CommandHasNumber job.now.request.command }
-    ensures { KeepsOutputs H.tells H.File.state job.now.request job.now.options (H.files host.old) (H.files host.new) }
+    ensures { KeepsOutputs H.tells H.File.state job.now.request job.now.reading.options (H.files host.old) (H.files host.new) }
 {
     for _ in 0..u64::MAX {
         let Some(next) = queue.next(host)? else {
@@ -205,7 +205,7 @@ pub(crate) fn do_many<H: Host, K: Sink>(
 ) -> Result<u8, Stop>
     requires number { requests.CommandHasNumber job.now.request.command }
     ensures status { IfOk result IsStatus }
-    ensures outputs { KeepsOutputs H.tells H.File.state job.now.request job.now.options (H.files host.old) (H.files host.new) }
+    ensures outputs { KeepsOutputs H.tells H.File.state job.now.request job.now.reading.options (H.files host.old) (H.files host.new) }
 {
     let all = displayed_count(alloc, host, paths)?;
     let mut queue = queue_of(alloc, paths)?;
@@ -233,7 +233,7 @@ fn do_name<H: Host, K: Sink>(
     path: &str,
 ) -> Result<(), Stop>
     requires number { requests.CommandHasNumber job.now.request.command }
-    ensures { KeepsOutputs H.tells H.File.state job.now.request job.now.options (H.files host.old) (H.files host.new) }
+    ensures { KeepsOutputs H.tells H.File.state job.now.request job.now.reading.options (H.files host.old) (H.files host.new) }
 {
     let mut queue = queue_of(alloc, &[path])?;
     do_queue(alloc, host, report, job, &mut queue)
@@ -248,7 +248,7 @@ fn do_names<H: Host, K: Sink>(
     list: NameList<'_>,
 ) -> Result<(), Stop>
     requires number { requests.CommandHasNumber job.now.request.command }
-    ensures { KeepsOutputs H.tells H.File.state job.now.request job.now.options (H.files host.old) (H.files host.new) }
+    ensures { KeepsOutputs H.tells H.File.state job.now.request job.now.reading.options (H.files host.old) (H.files host.new) }
 {
     for _ in 0..u64::MAX {
         match host.next_name(list.path, list.by_nul) {
@@ -272,7 +272,7 @@ pub(crate) fn do_list<H: Host, K: Sink>(
 ) -> Result<u8, Stop>
     requires number { requests.CommandHasNumber job.now.request.command }
     ensures status { IfOk result IsStatus }
-    ensures outputs { KeepsOutputs H.tells H.File.state job.now.request job.now.options (H.files host.old) (H.files host.new) }
+    ensures outputs { KeepsOutputs H.tells H.File.state job.now.request job.now.reading.options (H.files host.old) (H.files host.new) }
 {
     let mut report = Report::new(out, job.form(), None);
     do_names(alloc, host, &mut report, job, list)?;

@@ -37,8 +37,8 @@ fn do_placed<H: Host, K: Sink>(
     requires place { IfOk placed.place (λ place. place ≢ File → H.reads host.old placed.path.now None) }
     requires reason { IfErr placed.place (λ reason. reason ≢ Memory → H.reads host.old placed.path.now None) }
     ensures ends { job.now.request.out ≡ None → EndsPath (H.reads host.old placed.entry.path.now)
-        job.now.request.command job.now.options (K.state out.old) (K.state out.new) result }
-    ensures outputs { KeepsOutputs H.tells H.File.state job.now.request job.now.options (H.files host.old) (H.files host.new) }
+        job.now.request.command job.now.reading (K.state out.old) (K.state out.new) result }
+    ensures outputs { KeepsOutputs H.tells H.File.state job.now.request job.now.reading.options (H.files host.old) (H.files host.new) }
 {
     match placed.place {
         Ok(Place::File) => do_file(alloc, host, out, job, placed.path),
@@ -80,8 +80,8 @@ pub(crate) fn do_one<H: Host, K: Sink>(
     requires reason { IfErr placed.place (λ reason. reason ≢ Memory → H.reads host.old placed.path.now None) }
     ensures status { IfOk result IsStatus }
     ensures cause { job.now.request.out ≡ None → HasCause (H.reads host.old placed.entry.path.now)
-        job.now.request.command job.now.options (K.state out.old) (K.state out.new) (status_of_work result) }
-    ensures outputs { KeepsOutputs H.tells H.File.state job.now.request job.now.options (H.files host.old) (H.files host.new) }
+        job.now.request.command job.now.reading (K.state out.old) (K.state out.new) (status_of_work result) }
+    ensures outputs { KeepsOutputs H.tells H.File.state job.now.request job.now.reading.options (H.files host.old) (H.files host.new) }
 {
     let path = placed.path;
     match do_placed(alloc, host, out, job, placed) {

@@ -16,6 +16,7 @@ use crate::formats::tell_formats;
 use crate::job::{Asked, Beside, Job, asked_by};
 use crate::problem::Problem;
 use crate::sheets::{write_beside_file, write_workbook_files};
+use crate::unlock::plain_of;
 use crate::work::{write_beside, write_text};
 use std::alloc::Global;
 use xls_answers::Answer;
@@ -34,17 +35,18 @@ fn write_answer<H: Host, K: Sink>(
 ) -> Result<(), Problem>
     requires number { HasNumber answer.now }
     requires asked { asked_by job.now.request.command ≡ asked.Workbook answer.now }
-    ensures written { job.now.request.out ≡ None → OfWorkbook answer.now job.now.options book.now.stream.now
+    ensures written { job.now.request.out ≡ None → OfWorkbook answer.now job.now.reading.options book.now.stream.now
         (K.state sink.old) (K.state sink.new) result }
-    ensures outputs { KeepsOutputs H.tells H.File.state job.now.request job.now.options (H.files host.old) (H.files host.new) }
+    ensures outputs { KeepsOutputs H.tells H.File.state job.now.request job.now.reading.options (H.files host.old) (H.files host.new) }
 {
     match &job.request.out {
         Some(folder) => write_workbook_files(alloc, host, job, folder, answer, book),
-        None => write_text(alloc, sink, answer, &job.options, book.stream),
+        None => write_text(alloc, sink, answer, &job.reading.options, book.stream),
     }
 }
 
-/// Does the work of a file's workbook: its text is written, and its formats are told of.
+/// Does the work of a file's workbook, which is made plain where it is encrypted: its text is written, and its
+/// formats are told of.
 fn do_workbook<H: Host, K: Sink>(
     alloc: Global,
     host: &mut H,
@@ -56,10 +58,11 @@ fn do_workbook<H: Host, K: Sink>(
     requires number { HasNumber answer.now }
     requires asked { asked_by job.now.request.command ≡ asked.Workbook answer.now }
     ensures written { job.now.request.out ≡ None → (bytes : List ℕ) → OpensContainer bytes file.now.container
-        → EndsAnswer answer.now job.now.options bytes (K.state sink.old) (K.state sink.new) result }
-    ensures outputs { KeepsOutputs H.tells H.File.state job.now.request job.now.options (H.files host.old) (H.files host.new) }
+        → EndsAnswer answer.now job.now.reading bytes (K.state sink.old) (K.state sink.new) result }
+    ensures outputs { KeepsOutputs H.tells H.File.state job.now.request job.now.reading.options (H.files host.old) (H.files host.new) }
 {
     let stream = file.container.workbook(alloc)?;
+    let stream = plain_of(alloc, stream, &job.reading.passwords)?;
     let book = Workbook {
         path: file.path,
         stream: stream.as_slice(),
@@ -80,11 +83,11 @@ fn do_beside<H: Host, K: Sink>(
 ) -> Result<(), Problem>
     requires asked { asked_by job.now.request.command ≡ asked.Other beside.now }
     ensures written { job.now.request.out ≡ None → OfContainer beside.now file.now.container (K.state sink.old) (K.state sink.new) result }
-    ensures outputs { KeepsOutputs H.tells H.File.state job.now.request job.now.options (H.files host.old) (H.files host.new) }
+    ensures outputs { KeepsOutputs H.tells H.File.state job.now.request job.now.reading.options (H.files host.old) (H.files host.new) }
 {
     match &job.request.out {
         Some(folder) => write_beside_file(alloc, host, job, folder, beside, file),
-        None => write_beside(alloc, sink, beside, &job.options, &file.container),
+        None => write_beside(alloc, sink, beside, &job.reading.options, &file.container),
     }
 }
 
@@ -98,8 +101,8 @@ fn do_opened<H: Host, K: Sink>(
 ) -> Result<(), Problem>
     requires number { requests.CommandHasNumber job.now.request.command }
     ensures written { job.now.request.out ≡ None → (bytes : List ℕ) → OpensContainer bytes file.now.container
-        → EndsText job.now.request.command job.now.options bytes (K.state sink.old) (K.state sink.new) result }
-    ensures outputs { KeepsOutputs H.tells H.File.state job.now.request job.now.options (H.files host.old) (H.files host.new) }
+        → EndsText job.now.request.command job.now.reading bytes (K.state sink.old) (K.state sink.new) result }
+    ensures outputs { KeepsOutputs H.tells H.File.state job.now.request job.now.reading.options (H.files host.old) (H.files host.new) }
 {
     match asked_by(&job.request.command) {
         Asked::Workbook(answer) => do_workbook(alloc, host, sink, job, &answer, file),
@@ -117,9 +120,9 @@ pub(crate) fn do_bytes<H: Host, K: Sink>(
     bytes: &[u8],
 ) -> Result<(), Problem>
     requires number { requests.CommandHasNumber job.now.request.command }
-    ensures written { job.now.request.out ≡ None → EndsText job.now.request.command job.now.options bytes.now
+    ensures written { job.now.request.out ≡ None → EndsText job.now.request.command job.now.reading bytes.now
         (K.state sink.old) (K.state sink.new) result }
-    ensures outputs { KeepsOutputs H.tells H.File.state job.now.request job.now.options (H.files host.old) (H.files host.new) }
+    ensures outputs { KeepsOutputs H.tells H.File.state job.now.request job.now.reading.options (H.files host.old) (H.files host.new) }
 {
     let container = Container::open(alloc, bytes)?;
     do_opened(alloc, host, sink, job, &OpenedFile { path, container })

@@ -14,6 +14,7 @@ use xls_container::FileFault;
 use xls_documents::ProjectFault;
 use xls_files::Reason;
 use xls_output::Stop;
+use xls_passwords::{FilePassFault, Refusal};
 
 /// How it went with a file.
 #[derive(Clone, Copy, Debug, PartialEq, Eq)]
@@ -53,6 +54,8 @@ pub enum Problem {
     Absent(Absent),
     /// Its macro project is damaged.
     Project(ProjectFault),
+    /// Its workbook is encrypted, and no password makes it plain.
+    Encrypted(Refusal),
     /// A file of this path can't be written.
     Unwritten(String, Reason),
 }
@@ -70,6 +73,8 @@ impl Problem {
             Problem::Failure(failure) => failure.status(),
             Problem::Absent(_) => 12,
             Problem::Project(_) => 11,
+            Problem::Encrypted(Refusal::FilePass(FilePassFault::Length { .. })) => 1,
+            Problem::Encrypted(_) => 17,
             Problem::Unwritten(..) => 16,
         }
     }
@@ -116,6 +121,7 @@ impl fmt::Display for Problem {
             Problem::Failure(failure) => write!(f, "{failure}"),
             Problem::Absent(what) => write!(f, "{what}"),
             Problem::Project(fault) => write!(f, "{fault}"),
+            Problem::Encrypted(refusal) => write!(f, "{refusal}"),
             Problem::Unwritten(path, reason) => write!(f, "{path}: {reason}"),
         }
     }

@@ -7,9 +7,9 @@ ghost use Rattle.xls_output.specs.declared.stop.Stop.TheVariants.{Memory};
 ghost use Rattle.xls_tool.specs.Outputs.{KeepsNamedOutputs, KeepsOutputs};
 ghost use Rattle.xls_tool.specs.Problems.{Ends, IsStatus, status_of_work};
 ghost use Rattle.xls_tool.specs.Steps.{OfPath};
-ghost use Rattle.xls_tool.specs.Texts.{HasCause};
+ghost use Rattle.xls_tool.specs.Texts.{HasCause, reading_under};
 ghost use Rattle.xls_words.specs.Requests as requests;
-ghost use Rattle.xls_words.specs.Requests.{AreNamed, AreWordsOf, are_plain, is_exact, plain_command};
+ghost use Rattle.xls_words.specs.Requests.{AreNamed, AreWordsOf, are_plain, is_exact, no_passwords, plain_command};
 ghost use Rattle.xls_words.specs.declared.displayed.Displayed.TheVariants as displays;
 ghost use Rattle.xls_words.specs.declared.request.Command.TheVariants as commands;
 ghost use Rattle.xls_words.specs.declared.word.Word.{Word};
@@ -18,6 +18,9 @@ ghost use Rattle.xls_words.specs.declared.word.Word.TheVariants as names;
 use crate::job::{Job, job_of};
 use crate::many::{NameList, do_list, do_many};
 use crate::one::{Placed, do_one};
+use crate::problem::Problem;
+use crate::say::say_problem;
+use crate::unlock::{PasswordList, passwords_of};
 use std::alloc::Global;
 use xls_files::{Host, Place, place_of};
 use xls_output::{Sink, Stop, write_all};
@@ -43,8 +46,8 @@ fn do_path<H: Host, K: Sink>(
 ) -> Result<u8, Stop>
     requires { requests.CommandHasNumber job.now.request.command }
     ensures ends { IfOk result (Ends out.old out.new) }
-    ensures cause { OfPath (H.reads host.old path.now) job.now.request job.now.options (K.state out.old) (K.state out.new) result }
-    ensures outputs { KeepsOutputs H.tells H.File.state job.now.request job.now.options (H.files host.old) (H.files host.new) }
+    ensures cause { OfPath (H.reads host.old path.now) job.now.request job.now.reading (K.state out.old) (K.state out.new) result }
+    ensures outputs { KeepsOutputs H.tells H.File.state job.now.request job.now.reading.options (H.files host.old) (H.files host.new) }
 {
     let place = place_of(host, path);
     let is_many = matches!(place, Ok(Place::Folder)) && job.request.command.word().takes_many();
@@ -69,8 +72,8 @@ fn do_paths<H: Host, K: Sink>(
     requires { requests.CommandHasNumber job.now.request.command }
     ensures ends { IfOk result (Ends out.old out.new) }
     ensures cause { (path : List ℕ) → map (λ it. it.now) paths.now ≡ (path ∷ [])
-        → OfPath (H.reads host.old path) job.now.request job.now.options (K.state out.old) (K.state out.new) result }
-    ensures outputs { KeepsOutputs H.tells H.File.state job.now.request job.now.options (H.files host.old) (H.files host.new) }
+        → OfPath (H.reads host.old path) job.now.request job.now.reading (K.state out.old) (K.state out.new) result }
+    ensures outputs { KeepsOutputs H.tells H.File.state job.now.request job.now.reading.options (H.files host.old) (H.files host.new) }
 {
     if let [path] = paths {
         return do_path(alloc, host, out, job, path);
@@ -92,13 +95,56 @@ fn do_listed<H: Host, K: Sink>(
 ) -> Result<u8, Stop>
     requires { requests.CommandHasNumber job.now.request.command }
     ensures ends { IfOk result (Ends out.old out.new) }
-    ensures outputs { KeepsOutputs H.tells H.File.state job.now.request job.now.options (H.files host.old) (H.files host.new) }
+    ensures outputs { KeepsOutputs H.tells H.File.state job.now.request job.now.reading.options (H.files host.old) (H.files host.new) }
 {
     if !takes_many_files(job) {
         host.say(WANTS_FOLDER);
         return Ok(2);
     }
     do_list(alloc, host, out, job, list)
+}
+
+/// Does what is asked for, by these passwords.
+fn do_job<H: Host, K: Sink>(
+    alloc: Global,
+    host: &mut H,
+    out: &mut K,
+    request: Request<'_>,
+    passwords: PasswordList,
+) -> Result<u8, Stop>
+    requires { requests.CommandHasNumber request.command }
+    ensures ends { IfOk result (Ends out.old out.new) }
+    ensures cause { passwords ≡ [] → (path : List ℕ) → AreNamed (path ∷ []) request.entry.files
+        → OfPath (H.reads host.old path) request.entry (reading_under request.entry.page (is_exact request.entry.command))
+        (K.state out.old) (K.state out.new) result }
+    ensures outputs { KeepsOutputs H.tells H.File.state request.entry (options_under request.entry.page (is_exact request.entry.command))
+        (H.files host.old) (H.files host.new) }
+{
+    let job = job_of(alloc, request, passwords)?;
+    match &job.request.files {
+        Files::Named(paths) => do_paths(alloc, host, out, &job, paths.as_slice()),
+        Files::Listed { list, by_nul } => {
+            let list = NameList {
+                path: list,
+                by_nul: *by_nul,
+            };
+            do_listed(alloc, host, out, &job, list)
+        }
+    }
+}
+
+/// Tells why the passwords of a list aren't read.
+fn tell_passwords<H: Host>(
+    alloc: Global,
+    host: &mut H,
+    list: Option<&str>,
+    problem: &Problem,
+) -> Result<u8, Stop>
+    ensures status { IfOk result IsStatus }
+    ensures files { H.files host.new ≡ H.files host.old }
+{
+    say_problem(alloc, host, list.unwrap_or(""), problem)?;
+    Ok(problem.status())
 }
 
 /// Does what is asked for.
@@ -110,22 +156,16 @@ fn do_request<H: Host, K: Sink>(
 ) -> Result<u8, Stop>
     requires { requests.CommandHasNumber request.command }
     ensures ends { IfOk result (Ends out.old out.new) }
-    ensures cause { (path : List ℕ) → AreNamed (path ∷ []) request.entry.files
-        → OfPath (H.reads host.old path) request.entry (options_under request.entry.page (is_exact request.entry.command))
+    ensures cause { request.entry.passwords ≡ no_passwords → (path : List ℕ) → AreNamed (path ∷ []) request.entry.files
+        → OfPath (H.reads host.old path) request.entry (reading_under request.entry.page (is_exact request.entry.command))
         (K.state out.old) (K.state out.new) result }
     ensures outputs { KeepsOutputs H.tells H.File.state request.entry (options_under request.entry.page (is_exact request.entry.command))
         (H.files host.old) (H.files host.new) }
 {
-    let job = job_of(alloc, request)?;
-    match &job.request.files {
-        Files::Named(paths) => do_paths(alloc, host, out, &job, paths.as_slice()),
-        Files::Listed { list, by_nul } => {
-            let list = NameList {
-                path: list,
-                by_nul: *by_nul,
-            };
-            do_listed(alloc, host, out, &job, list)
-        }
+    let asked = request.passwords;
+    match passwords_of(alloc, host, asked) {
+        Ok(passwords) => do_job(alloc, host, out, request, passwords),
+        Err(problem) => tell_passwords(alloc, host, asked.list, &problem),
     }
 }
 
@@ -162,7 +202,7 @@ fn do_words<H: Host, K: Sink>(
     ensures ends { IfOk result (Ends out.old out.new) }
     ensures cause { (word : Word) (path : List ℕ) → AreWordsOf word (path ∷ []) (map string_bytes words.now)
         → are_plain word (path ∷ []) ≡ true → (word ≡ names.Check → H.reads host.old path None → ⊥)
-        → HasCause (H.reads host.old path) (plain_command word) (options_under None false)
+        → HasCause (H.reads host.old path) (plain_command word) (reading_under None false)
         (K.state out.old) (K.state out.new) (status_of_work result) }
     ensures outputs { KeepsNamedOutputs H.tells H.File.state (map string_bytes words.now) (H.files host.old) (H.files host.new) }
 {
@@ -202,7 +242,7 @@ pub fn run<H: Host, K: Sink>(alloc: Global, host: &mut H, out: &mut K, words: &[
     // a failure that has this status. A path where `check` may find no file is left out: a folder is many files.
     ensures cause { (word : Word) (path : List ℕ) → AreWordsOf word (path ∷ []) (map string_bytes words.now)
         → are_plain word (path ∷ []) ≡ true → (word ≡ names.Check → H.reads host.old path None → ⊥)
-        → HasCause (H.reads host.old path) (plain_command word) (options_under None false)
+        → HasCause (H.reads host.old path) (plain_command word) (reading_under None false)
         (K.state out.old) (K.state out.new) result }
 
     // Files are made only inside the folder that the words name, by the command that they name, and one that exists is

@@ -86,14 +86,14 @@ fn write_text_file<H: Host>(
     requires number { HasNumber answer.now }
     requires out { job.now.request.out ≡ Some folder.now }
     requires asked { asked_by job.now.request.command ≡ asked.Workbook answer.now }
-    ensures outputs { KeepsOutputs H.tells H.File.state job.now.request job.now.options (H.files host.old) (H.files host.new) }
+    ensures outputs { KeepsOutputs H.tells H.File.state job.now.request job.now.reading.options (H.files host.old) (H.files host.new) }
 {
     let path = text_path(alloc, job, folder, book.path)?;
     let mut file = match create(host, path.as_str(), folder.writes_over) {
         Ok(file) => file,
         Err(reason) => return Err(Problem::Unwritten(path, reason)),
     };
-    let done = write_text(alloc, &mut file, answer, &job.options, book.stream);
+    let done = write_text(alloc, &mut file, answer, &job.reading.options, book.stream);
     end(host, path, file, done)
 }
 
@@ -108,14 +108,20 @@ pub(crate) fn write_beside_file<H: Host>(
 ) -> Result<(), Problem>
     requires out { job.now.request.out ≡ Some folder.now }
     requires asked { asked_by job.now.request.command ≡ asked.Other beside.now }
-    ensures outputs { KeepsOutputs H.tells H.File.state job.now.request job.now.options (H.files host.old) (H.files host.new) }
+    ensures outputs { KeepsOutputs H.tells H.File.state job.now.request job.now.reading.options (H.files host.old) (H.files host.new) }
 {
     let path = text_path(alloc, job, folder, file.path)?;
     let mut out = match create(host, path.as_str(), folder.writes_over) {
         Ok(out) => out,
         Err(reason) => return Err(Problem::Unwritten(path, reason)),
     };
-    let done = write_beside(alloc, &mut out, beside, &job.options, &file.container);
+    let done = write_beside(
+        alloc,
+        &mut out,
+        beside,
+        &job.reading.options,
+        &file.container,
+    );
     end(host, path, out, done)
 }
 
@@ -160,7 +166,7 @@ fn write_sheet_file<H: Host>(
     requires sheets { length view.now.book.contents ≡ length view.now.book.sheets }
     requires files { AreSheetFiles files.now view.now }
     requires asked { IsAskedSheet files.now view.now index }
-    ensures outputs { KeepsOutputs H.tells H.File.state files.now.job.now.request files.now.job.now.options (H.files host.old) (H.files host.new) }
+    ensures outputs { KeepsOutputs H.tells H.File.state files.now.job.now.request files.now.job.now.reading.options (H.files host.old) (H.files host.new) }
 {
     let path = sheet_path(alloc, files, view, index)?;
     let mut file = match create(host, path.as_str(), files.out.writes_over) {
@@ -204,7 +210,7 @@ fn write_all_sheets<H: Host>(
     requires sheets { length view.now.book.contents ≡ length view.now.book.sheets }
     requires files { AreSheetFiles files.now view.now }
     requires asked { files.now.out.now.takes_all_sheets ≡ true }
-    ensures outputs { KeepsOutputs H.tells H.File.state files.now.job.now.request files.now.job.now.options (H.files host.old) (H.files host.new) }
+    ensures outputs { KeepsOutputs H.tells H.File.state files.now.job.now.request files.now.job.now.reading.options (H.files host.old) (H.files host.new) }
 {
     let sheets = view.sheets();
     for index in 0..sheets.len() {
@@ -227,7 +233,7 @@ fn write_chosen_sheet<H: Host>(
     requires number { IsNumbered files.now.choice.now }
     requires sheets { length view.now.book.contents ≡ length view.now.book.sheets }
     requires files { AreSheetFiles files.now view.now }
-    ensures outputs { KeepsOutputs H.tells H.File.state files.now.job.now.request files.now.job.now.options (H.files host.old) (H.files host.new) }
+    ensures outputs { KeepsOutputs H.tells H.File.state files.now.job.now.request files.now.job.now.reading.options (H.files host.old) (H.files host.new) }
 {
     let index = chosen(alloc, view, files.choice)?;
     write_sheet_file(alloc, host, files, view, index)
@@ -243,7 +249,7 @@ fn write_sheet_files<H: Host>(
     requires number { IsNumbered files.now.choice.now }
     requires sheets { length view.now.book.contents ≡ length view.now.book.sheets }
     requires files { AreSheetFiles files.now view.now }
-    ensures outputs { KeepsOutputs H.tells H.File.state files.now.job.now.request files.now.job.now.options (H.files host.old) (H.files host.new) }
+    ensures outputs { KeepsOutputs H.tells H.File.state files.now.job.now.request files.now.job.now.reading.options (H.files host.old) (H.files host.new) }
 {
     if files.out.takes_all_sheets {
         return write_all_sheets(alloc, host, files, view);
@@ -263,11 +269,11 @@ pub(crate) fn write_workbook_files<H: Host>(
     requires number { HasNumber answer.now }
     requires out { job.now.request.out ≡ Some out.now }
     requires asked { asked_by job.now.request.command ≡ asked.Workbook answer.now }
-    ensures outputs { KeepsOutputs H.tells H.File.state job.now.request job.now.options (H.files host.old) (H.files host.new) }
+    ensures outputs { KeepsOutputs H.tells H.File.state job.now.request job.now.reading.options (H.files host.old) (H.files host.new) }
 {
     match answer {
         Answer::Sheet(choice, table) => {
-            let view = view_of(alloc, &job.options, book.stream)?;
+            let view = view_of(alloc, &job.reading.options, book.stream)?;
             let folder = folder_of(alloc, out.path, book.path)?;
             let files = SheetFiles {
                 job,

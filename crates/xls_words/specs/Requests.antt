@@ -13,6 +13,7 @@ use Rattle.std.specs.Str.{bytes_eq}
 use Rattle.xls_words.specs.declared.request.Files.{Files}
 use Rattle.xls_words.specs.declared.request.Files.TheVariants as files
 use Rattle.xls_words.specs.declared.request.Folder.{Folder}
+use Rattle.xls_words.specs.declared.request.Passwords.{Passwords}
 use Rattle.xls_words.specs.declared.request.Request.{Request}
 use Rattle.xls_words.specs.declared.word.Word.{Word}
 use Rattle.xls_words.specs.declared.word.Word.TheVariants as words
@@ -143,6 +144,9 @@ IsNamedFolder words folder =
 
 -- ---- requests
 
+abbrev pub no_passwords : Passwords
+no_passwords = record { given = None; list = None }
+
 -- a command without options over these files, and nothing else
 pub record IsPlainRequest (word : Word) (paths : List (List ℕ)) (request : Request) : Type 0 where
   pub command : request.command ≡ plain_command word
@@ -150,3 +154,4 @@ pub record IsPlainRequest (word : Word) (paths : List (List ℕ)) (request : Req
   pub json : request.tells_json ≡ false
   pub page : request.page ≡ None
   pub out : request.out ≡ None
+  pub passwords : request.passwords ≡ no_passwords

@@ -92,6 +92,20 @@ const PAGE: Argument = Argument {
     without: &[],
 };
 
+const PASSWORD_FILE: Argument = Argument {
+    name: "password-file",
+    kind: ArgumentKind::Value("FILE"),
+    help: "Try the passwords that stand in FILE, one a line, on encrypted workbooks",
+    without: &[],
+};
+
+const PASSWORD: Argument = Argument {
+    name: "password",
+    kind: ArgumentKind::Value("P"),
+    help: "Try this password; other users can see it while xls runs",
+    without: &[],
+};
+
 const JSON: Argument = Argument {
     name: "json",
     kind: ArgumentKind::Flag,
@@ -156,14 +170,25 @@ static ONE_FILE: [Argument; 1] = [FILE];
 static ONE_STREAM: [Argument; 2] = [FILE, PATH];
 
 /// The options of a command whose lines have all three forms.
-pub(crate) static THREE_FORMS: [Argument; 3] = [JSON, EXACT, PAGE];
+pub(crate) static THREE_FORMS: [Argument; 5] = [JSON, EXACT, PAGE, PASSWORD_FILE, PASSWORD];
 
 /// Those of one whose lines have two.
-pub(crate) static TWO_FORMS: [Argument; 2] = [JSON, PAGE];
+pub(crate) static TWO_FORMS: [Argument; 4] = [JSON, PAGE, PASSWORD_FILE, PASSWORD];
+
+/// Those of one that writes a workbook's stream.
+pub(crate) static STREAM_OPTIONS: [Argument; 2] = [PASSWORD_FILE, PASSWORD];
 
 /// Those of a sheet as CSV.
-pub(crate) static SHEET_OPTIONS: [Argument; 7] = [
-    SHEET, NUMBER, ALL_SHEETS, DELIMITER, MARK, EXACT_CSV, PAGE,
+pub(crate) static SHEET_OPTIONS: [Argument; 9] = [
+    SHEET,
+    NUMBER,
+    ALL_SHEETS,
+    DELIMITER,
+    MARK,
+    EXACT_CSV,
+    PAGE,
+    PASSWORD_FILE,
+    PASSWORD,
 ];
 
 /// The files that a command takes, and what it takes for them.

@@ -11,5 +11,5 @@ mod word;
 pub use displayed::Displayed;
 pub use grammar::VERSION;
 pub use parse::request_of;
-pub use request::{Command, Files, Folder, Request};
+pub use request::{Command, Files, Folder, Passwords, Request};
 pub use word::Word;

@@ -11,7 +11,7 @@ ghost use Rattle.xls_words.specs.declared.word.Word.{Word};
 use crate::displayed::{Displayed, displayed_of};
 use crate::grammar::{grammar_of, overview};
 use crate::plain::{are_plain, plain_request};
-use crate::request::{Command, Files, Folder, Request};
+use crate::request::{Command, Files, Folder, Passwords, Request};
 use crate::word::Word;
 use clap::error::ErrorKind;
 use clap::{ArgMatches, Error};
@@ -237,6 +237,14 @@ fn folder_in<'w>(matches: &ArgMatches<'w>, words: &[String]) -> Result<Option<Fo
     }
 }
 
+/// The passwords that are tried.
+fn passwords_in<'w>(matches: &ArgMatches<'w>) -> Passwords<'w> {
+    Passwords {
+        given: matches.get_str("password"),
+        list: matches.get_str("password-file"),
+    }
+}
+
 /// What the words ask for that the grammar took.
 fn request_taken<'w>(
     alloc: Global,
@@ -259,6 +267,7 @@ fn request_taken<'w>(
         tells_json: matches.get_flag("json"),
         page: page_in(matches)?,
         out: folder_in(matches, words)?,
+        passwords: passwords_in(matches),
     })
 }
 

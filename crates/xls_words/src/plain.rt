@@ -4,7 +4,7 @@ ghost use Rattle.std.specs.Prelude.{◌≡◌, IfOk, map};
 ghost use Rattle.std.specs.String.{string_bytes};
 ghost use Rattle.xls_words.specs.Requests.{CommandHasNumber, IsPlainRequest, are_plain, is_option, plain_command, takes, word_of};
 
-use crate::request::{Command, Files, Request};
+use crate::request::{Command, Files, Passwords, Request};
 use crate::word::{FileCount, Word};
 use std::alloc::{AllocError, Global};
 use xls_readable::{Delimiter, Form, SheetChoice, Table};
@@ -92,5 +92,9 @@ pub(crate) fn plain_request<'w>(
         tells_json: false,
         page: None,
         out: None,
+        passwords: Passwords {
+            given: None,
+            list: None,
+        },
     })
 }

@@ -88,6 +88,15 @@ pub struct Folder<'w> {
     pub takes_all_sheets: bool,
 }
 
+/// The passwords that are tried on encrypted workbooks, before the one that Excel tries by itself.
+#[derive(Clone, Copy, Debug, PartialEq, Eq)]
+pub struct Passwords<'w> {
+    /// One that is given.
+    pub given: Option<&'w str>,
+    /// The path of a file with one a line.
+    pub list: Option<&'w str>,
+}
+
 /// What the words of the command line ask for.
 #[derive(Debug, Drop)]
 pub struct Request<'w> {
@@ -100,4 +109,5 @@ pub struct Request<'w> {
     pub page: Option<u16>,
     /// Where the texts of files are written, if not to standard output.
     pub out: Option<Folder<'w>>,
+    pub passwords: Passwords<'w>,
 }

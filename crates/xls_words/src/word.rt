@@ -4,7 +4,7 @@ ghost use Rattle.std.specs.Prelude.{◌≡◌, true, MatchOption};
 ghost use Rattle.xls_words.specs.declared.word.Word.{Word};
 ghost use Rattle.xls_words.specs.Words.{ending_text, file_count, takes_many, word_text};
 
-use crate::grammar::{Argument, SHEET_OPTIONS, THREE_FORMS, TWO_FORMS};
+use crate::grammar::{Argument, SHEET_OPTIONS, STREAM_OPTIONS, THREE_FORMS, TWO_FORMS};
 use xls_readable::Listing;
 
 /// A command by its name.
@@ -139,7 +139,7 @@ impl Word {
                 title: "xls remake",
                 about: "The workbook's stream once more in its canonical form",
                 files: FileCount::One,
-                options: &[],
+                options: &STREAM_OPTIONS,
                 ending: "txt",
             },
             Word::Stream => Row {
@@ -147,7 +147,7 @@ impl Word {
                 title: "xls stream",
                 about: "The bytes of a stream: the workbook's, unless a path is given",
                 files: FileCount::OneAndPath,
-                options: &[],
+                options: &STREAM_OPTIONS,
                 ending: "txt",
             },
             Word::Streams => Row {

@@ -7,8 +7,8 @@ pub returns : goal.returns
 returns g c = record {
   outputs = λ h.
       let path = subst (IsInside c.args.folder.now.path.now) (sym c.as_str.ensures.value) c.in_ok-path.ensures in
-      let created = made g.H.Host.tells g.H.File.Sink.state c.args.job.now.request c.args.job.now.options c.args.folder.now c.as_str.result.now _ _ c.requires.out path c.create.ensures.files h in
-      ended g.H.Host.tells g.H.File.Sink.state c.args.job.now.request c.args.job.now.options c.write_beside-done.new.sink _ _ c.write_beside-done.result
-      (λ ok tells. holds-beside (g.H.File.Sink.state c.in-Ok.out) _ (c.in-Ok.ensures.empty tells) c.args.job.now.request c.args.beside.now c.args.job.now.options c.args.file.now.container _ c.requires.asked c.write_beside-done.ensures ok)
+      let created = made g.H.Host.tells g.H.File.Sink.state c.args.job.now.request c.args.job.now.reading.options c.args.folder.now c.as_str.result.now _ _ c.requires.out path c.create.ensures.files h in
+      ended g.H.Host.tells g.H.File.Sink.state c.args.job.now.request c.args.job.now.reading.options c.write_beside-done.new.sink _ _ c.write_beside-done.result
+      (λ ok tells. holds-beside (g.H.File.Sink.state c.in-Ok.out) _ (c.in-Ok.ensures.empty tells) c.args.job.now.request c.args.beside.now c.args.job.now.reading.options c.args.file.now.container _ c.requires.asked c.write_beside-done.ensures ok)
       c.end.ensures created;
 }

@@ -7,8 +7,8 @@ pub returns : goal.returns
 returns g c = record {
   outputs = λ h.
       let path = subst (IsInside c.args.folder.now.path.now) (sym c.as_str.ensures.value) c.in_ok-path.ensures in
-      let created = made g.H.Host.tells g.H.File.Sink.state c.args.job.now.request c.args.job.now.options c.args.folder.now c.as_str.result.now _ _ c.requires.out path c.create.ensures.files h in
-      ended g.H.Host.tells g.H.File.Sink.state c.args.job.now.request c.args.job.now.options c.write_text-done.new.sink _ _ c.write_text-done.result
-      (λ ok tells. holds-workbook (g.H.File.Sink.state c.in-Ok.file) _ (c.in-Ok.ensures.empty tells) c.args.job.now.request c.args.answer.now c.args.job.now.options c.args.book.now.stream.now _ c.requires.asked c.write_text-done.ensures ok)
+      let created = made g.H.Host.tells g.H.File.Sink.state c.args.job.now.request c.args.job.now.reading.options c.args.folder.now c.as_str.result.now _ _ c.requires.out path c.create.ensures.files h in
+      ended g.H.Host.tells g.H.File.Sink.state c.args.job.now.request c.args.job.now.reading.options c.write_text-done.new.sink _ _ c.write_text-done.result
+      (λ ok tells. holds-workbook (g.H.File.Sink.state c.in-Ok.file) _ (c.in-Ok.ensures.empty tells) c.args.job.now.request c.args.answer.now c.args.job.now.reading.options c.args.book.now.stream.now _ c.requires.asked c.write_text-done.ensures ok)
       c.end.ensures created;
 }
