@@ -1,2 +1,4 @@
 mod TimeLemmas
 mod MomentFacts
+mod ScanLemmas
+mod FieldFacts
