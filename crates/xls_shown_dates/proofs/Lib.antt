@@ -2,3 +2,5 @@ mod TimeLemmas
 mod MomentFacts
 mod ScanLemmas
 mod FieldFacts
+mod TextLemmas
+mod TextFacts

@@ -48,7 +48,7 @@ behind_step t ts left behind result ahead now e h f g =
 
 -- ---- a field more
 
-fields_step : (t : Token) (ts left : List Token) (before after behind : Option Letter) (zeros next : Option ℕ) (f : Field) → left ≡ t ∷ ts → behind ≡ first (letters ts)
+pub fields_step : (t : Token) (ts left : List Token) (before after behind : Option Letter) (zeros next : Option ℕ) (f : Field) → left ≡ t ∷ ts → behind ≡ first (letters ts)
     → f ≡ field_of before behind zeros t.0 (length t.1) → after ≡ letter_after before t.0 → next ≡ zeros_after zeros t.0
     → fields_from before zeros left ≡ (f, t.1) ∷ fields_from after next ts
 fields_step t ts left before after behind zeros next f e b g a z =

@@ -1,3 +1,5 @@
 pub mod Moments
 pub mod Fields
 pub mod Scans
+pub mod Texts
+pub mod Shown
