@@ -4,3 +4,4 @@ mod ScanLemmas
 mod FieldFacts
 mod TextLemmas
 mod TextFacts
+mod LawLemmas

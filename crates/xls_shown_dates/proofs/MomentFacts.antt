@@ -5,9 +5,10 @@ use Rattle.jiff_core.specs.Calendar.{days_from_civil, day_count, days_of_years, 
 use Rattle.xls_dates.specs.SerialDays.{IsDayNumber, day_number}
 use Rattle.xls_rounding.specs.Fractions.{places_up_to, places, magnitude}
 use Rattle.xls_rounding.specs.Rounding.{of_15_digits, decimal_of}
+use Rattle.xls_shown_dates.specs.declared.moments.Moment.{Moment}
 use Rattle.xls_shown_dates.specs.declared.moments.Precision.{Precision}
 use Rattle.xls_shown_dates.specs.declared.moments.Precision.TheVariants.{Days, Seconds, Tenths, Hundredths, Milliseconds}
-use Rattle.xls_shown_dates.specs.Moments.{time_of, IsDate, weekday_of, last_of, has_moment}
+use Rattle.xls_shown_dates.specs.Moments.{time_of, IsDate, weekday_of, last_of, has_moment, IsMoment}
 
 -- ---- time
 
@@ -106,3 +107,20 @@ known_dates_of_1904 = (
 pub known_weekdays : (map (weekday_of false) (0 ∷ 1 ∷ 2 ∷ 3 ∷ 4 ∷ 5 ∷ 6 ∷ 7 ∷ 60 ∷ 61 ∷ 45_351 ∷ []) ≡ 6 ∷ 0 ∷ 1 ∷ 2 ∷ 3 ∷ 4 ∷ 5 ∷ 6 ∷ 3 ∷ 4 ∷ 4 ∷ [])
     × (map (weekday_of true) (0 ∷ 1 ∷ 2 ∷ 3 ∷ 4 ∷ 5 ∷ 6 ∷ 7 ∷ 43_889 ∷ []) ≡ 5 ∷ 6 ∷ 0 ∷ 1 ∷ 2 ∷ 3 ∷ 4 ∷ 5 ∷ 4 ∷ [])
 known_weekdays = (refl, refl)
+
+-- ---- moments
+
+abbrev afternoon : ℕ → Moment
+afternoon days = record { days = days; year = 2024; month = 2; day = 29; weekday = 4; hour = 14; minute = 5; second = 9; millisecond = 307 }
+
+-- 29 February 2024, 14:05:09.307, in both systems; the last millisecond; the beginning of day 0
+pub known_moments : IsMoment false 3_918_377_109_307 (afternoon 45_351) × IsMoment true 3_792_060_309_307 (afternoon 43_889)
+    × IsMoment true 255_485_145_599_999 (record { days = 2_957_003; year = 9999; month = 12; day = 31; weekday = 5; hour = 23; minute = 59; second = 59; millisecond = 999 })
+    × IsMoment false 0 (record { days = 0; year = 1900; month = 1; day = 0; weekday = 6; hour = 0; minute = 0; second = 0; millisecond = 0 })
+unfolding days_from_civil day_count days_of_years days_of_months
+known_moments = (
+  record { days = refl; date = known_dates_of_1900.5; weekday = refl; hour = refl; minute = refl; second = refl; millisecond = refl },
+  record { days = refl; date = record { civil = (year 2024 (omega arith), (omega arith, omega arith), (omega arith, omega arith)); counted = refl }; weekday = refl; hour = refl; minute = refl; second = refl; millisecond = refl },
+  record { days = refl; date = known_dates_of_1904.4; weekday = refl; hour = refl; minute = refl; second = refl; millisecond = refl },
+  record { days = refl; date = known_dates_of_1900.0; weekday = refl; hour = refl; minute = refl; second = refl; millisecond = refl },
+)

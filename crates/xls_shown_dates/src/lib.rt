@@ -3,10 +3,12 @@
 
 mod clocks;
 mod fields;
+mod laws;
 mod moments;
 mod texts;
 
 pub use clocks::{Clock, read_clock};
 pub use fields::Field;
+pub use laws::one_moment;
 pub use moments::{Moment, Precision, moment_of};
 pub use texts::push_moment;
