@@ -6,7 +6,7 @@ use Rattle.xls_number_formats.specs.Grammar.{items}
 use Rattle.xls_shown_dates.specs.declared.moments.Precision.{Precision}
 use Rattle.xls_shown_dates.specs.declared.moments.Precision.TheVariants as precision
 use Rattle.xls_shown_dates.specs.declared.fields.Field.{Field}
-use Rattle.xls_shown_dates.specs.declared.fields.Field.TheVariants.{Own, Year, FullYear, BuddhistYear, Era, Month, Day, Hours, Minutes, Seconds, ElapsedHours, ElapsedMinutes, ElapsedSeconds, Tenths, Hundredths, Thousandths, HalfDay, HalfDayLetter}
+use Rattle.xls_shown_dates.specs.declared.fields.Field.TheVariants.{Own, Year, FullYear, BuddhistYear, Nothing, Month, Day, Hours, Minutes, Seconds, ElapsedHours, ElapsedMinutes, ElapsedSeconds, Tenths, Hundredths, Thousandths, HalfDay, HalfDayLetter}
 use Rattle.xls_shown_dates.specs.declared.clocks.Clock.{Clock}
 use Rattle.xls_shown_dates.specs.Fields.{fields, zeros_after, clock_of, precision_of}
 
@@ -15,12 +15,12 @@ fields_in code = map (λ f. f.0) (fields (items code))
 
 -- each letter, in both cases
 pub known_letters : (map fields_in (codes "y" ∷ codes "M" ∷ codes "d" ∷ codes "H" ∷ codes "s" ∷ codes "E" ∷ codes "b" ∷ codes "G" ∷ [])
-    ≡ (Year ∷ []) ∷ (Month ∷ []) ∷ (Day ∷ []) ∷ (Hours ∷ []) ∷ (Seconds ∷ []) ∷ (FullYear ∷ []) ∷ (BuddhistYear ∷ []) ∷ (Era ∷ []) ∷ [])
+    ≡ (Year ∷ []) ∷ (Month ∷ []) ∷ (Day ∷ []) ∷ (Hours ∷ []) ∷ (Seconds ∷ []) ∷ (FullYear ∷ []) ∷ (BuddhistYear ∷ []) ∷ (Nothing ∷ []) ∷ [])
     × (map fields_in (codes "[h]" ∷ codes "[MM]" ∷ codes "[sss]" ∷ codes "am/pm" ∷ codes "a/P" ∷ []) ≡ (ElapsedHours ∷ []) ∷ (ElapsedMinutes ∷ []) ∷ (ElapsedSeconds ∷ []) ∷ (HalfDay ∷ []) ∷ (HalfDayLetter ∷ []) ∷ [])
 known_letters = (refl, refl)
 
 -- all else in a date stands for itself
-pub known_others : fields_in (codes "\"d\"\\m_y*s/ #?@%,1-[$s]") ≡ replicate 14 Own
+pub known_others : fields_in (codes "\"d\"\\m_y*s/ #?@%,1-[$s]") ≡ replicate 8 Own ++ (Nothing ∷ replicate 5 Own)
 known_others = refl
 
 -- m behind h, s and elapsed time of both; behind other letters and alone; before s and before other letters
@@ -35,7 +35,7 @@ known_minutes_before = refl
 
 pub known_months : map fields_in (codes "m" ∷ codes "mm" ∷ codes "d/m/y" ∷ codes "mh" ∷ codes "[m]m" ∷ codes "hdm" ∷ codes "mds" ∷ codes "h:m:m" ∷ codes "hgm" ∷ [])
     ≡ (Month ∷ []) ∷ (Month ∷ []) ∷ (Day ∷ Own ∷ Month ∷ Own ∷ Year ∷ []) ∷ (Month ∷ Hours ∷ []) ∷ (ElapsedMinutes ∷ Month ∷ []) ∷ (Hours ∷ Day ∷ Month ∷ [])
-    ∷ (Month ∷ Day ∷ Seconds ∷ []) ∷ (Hours ∷ Own ∷ Minutes ∷ Own ∷ Month ∷ []) ∷ (Hours ∷ Era ∷ Month ∷ []) ∷ []
+    ∷ (Month ∷ Day ∷ Seconds ∷ []) ∷ (Hours ∷ Own ∷ Minutes ∷ Own ∷ Month ∷ []) ∷ (Hours ∷ Nothing ∷ Month ∷ []) ∷ []
 known_months = refl
 
 -- three letters and more are months everywhere

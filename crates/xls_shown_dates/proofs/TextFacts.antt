@@ -124,7 +124,7 @@ known_fractions = refl
 -- ---- what stands for itself
 
 pub known_literals : codes_at leap_day (codes "\"d\"\\m_y*s/ #?@%,1-[$s][Red][$-409]" ∷ codes "yyyy-mm-dd\"T\"hh:mm:ss" ∷ codes "d. mmmm yyyy;@" ∷ codes "" ∷ [])
-    ≡ codes "dm / #?@%,1-s" ∷ codes "2024-02-29T14:05:09" ∷ codes "29. February 2024" ∷ codes "" ∷ []
+    ≡ codes "dm / #?%,1-s" ∷ codes "2024-02-29T14:05:09" ∷ codes "29. February 2024" ∷ codes "" ∷ []
 unfolding digits
 known_literals = refl
 

@@ -74,7 +74,7 @@ letters_field before behind letter.H count = field.Hours
 letters_field before behind letter.S count = field.Seconds
 letters_field before behind letter.E count = field.FullYear
 letters_field before behind letter.B count = field.BuddhistYear
-letters_field before behind letter.G count = field.Era
+letters_field before behind letter.G count = field.Nothing
 
 abbrev pub elapsed_field : Letter → Field
 elapsed_field letter.H = field.ElapsedHours
@@ -96,6 +96,7 @@ field_of before behind zeros (item.Elapsed letter) count = elapsed_field letter
 field_of before behind zeros (item.Place place.Zero) count = zero_field zeros
 field_of before behind zeros item.AmPm count = field.HalfDay
 field_of before behind zeros item.AP count = field.HalfDayLetter
+field_of before behind zeros item.Text count = field.Nothing
 field_of before behind zeros other count = field.Own
 
 -- the fields of a section's items behind a letter and so many zeros, each with the item's text
@@ -145,7 +146,7 @@ is_time field.Own = false
 is_time field.Year = false
 is_time field.FullYear = false
 is_time field.BuddhistYear = false
-is_time field.Era = false
+is_time field.Nothing = false
 is_time field.Month = false
 is_time field.Day = false
 is_time other = true

@@ -36,7 +36,7 @@ fn is_time(field: Field) -> bool
             | Field::Year
             | Field::FullYear
             | Field::BuddhistYear
-            | Field::Era
+            | Field::Nothing
             | Field::Month
             | Field::Day
     )

@@ -19,7 +19,7 @@ pub enum Field {
     /// The year and 543.
     BuddhistYear,
     /// Nothing.
-    Era,
+    Nothing,
     Month,
     Day,
     Hours,
@@ -141,7 +141,7 @@ fn letters_field(
         Letter::S => Field::Seconds,
         Letter::E => Field::FullYear,
         Letter::B => Field::BuddhistYear,
-        Letter::G => Field::Era,
+        Letter::G => Field::Nothing,
     }
 }
 
@@ -191,6 +191,7 @@ pub(crate) fn field_of(
         Item::Place(Place::Zero) => zero_field(zeros),
         Item::AmPm => Field::HalfDay,
         Item::AP => Field::HalfDayLetter,
+        Item::Text => Field::Nothing,
         _ => Field::Own,
     }
 }

@@ -196,7 +196,7 @@ fn field_shown<'a>(clock: Clock, moment: &Moment, field: Field, own: &'a str) ->
         Field::Year => year_shown(char_count(own), moment.year as u64),
         Field::FullYear => Shown::Number(4, moment.year as u64),
         Field::BuddhistYear => year_shown(char_count(own), moment.year as u64 + 543),
-        Field::Era => Shown::Text(""),
+        Field::Nothing => Shown::Text(""),
         Field::Month => month_shown(char_count(own), moment.month),
         Field::Day => day_shown(char_count(own), moment.day, moment.weekday),
         Field::Hours => time_shown(
