@@ -1,6 +1,8 @@
-//! Tests of code pages, of rounding by 15 digits, and of number formats.
+//! Tests of code pages, of rounding by 15 digits, of number formats, and of dates as shown.
 #![tactic(auto)]
 
+#[cfg(test)]
+mod dates;
 #[cfg(test)]
 mod formats;
 #[cfg(test)]
