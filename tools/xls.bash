@@ -40,7 +40,7 @@ _xls() {
     fi
     COMPREPLY=()
     case $before in
-        --files-from)
+        --files-from | --password-file)
             compopt -o filenames
             mapfile -t COMPREPLY < <(compgen -f -- "$word")
             return ;;
@@ -57,7 +57,7 @@ _xls() {
         --sheet)
             mapfile -t COMPREPLY < <(_xls_sheets "$1" | grep -F -- "$word")
             return ;;
-        --number) return ;;
+        --number | --password) return ;;
     esac
     if [[ $word == -* ]]; then
         local options
