@@ -1,6 +1,6 @@
 mod DecimalLemmas
 mod FormulaLemmas
 mod LimbLemmas
-mod PlaceLemmas
+pub mod PlaceLemmas
 mod ScaleLemmas
 mod StandardFacts

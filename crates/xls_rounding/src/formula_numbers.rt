@@ -28,8 +28,9 @@ fn append_parts(parts: &[&str], text: &mut String) -> Result<(), AllocError>
     Ok(())
 }
 
-// Appends parts, one behind the other.
-fn push_parts(parts: &[&str], text: &mut String) -> Result<(), AllocError>
+/// Appends parts, one behind the other. Only running out of memory refuses, and then the text is as
+/// it was.
+pub fn push_parts(parts: &[&str], text: &mut String) -> Result<(), AllocError>
     ensures ok { OnOk result (string_bytes text.new
         ≡ string_bytes text.old ++ flat_map (λ part. part.now) parts.now) }
     ensures err { OnErr result (string_bytes text.new ≡ string_bytes text.old) }
@@ -42,8 +43,8 @@ fn push_parts(parts: &[&str], text: &mut String) -> Result<(), AllocError>
     done
 }
 
-// So many zeros.
-fn zeros<'a>(n: usize) -> &'a str
+/// So many zeros, at most 20.
+pub fn zeros<'a>(n: usize) -> &'a str
     requires { n ≤ 20 }
     ensures { result.now ≡ zeros n }
 {
@@ -70,8 +71,9 @@ fn push_exponent<'a>(
     push_parts(&[sign, first, point, others, mark, exponent], text)
 }
 
-// Appends a sign and digits with a power of ten, `d.dddE+NN`.
-fn push_scientific<'a>(
+/// Appends a sign and digits with a power of ten, `d.dddE+NN`. Only running out of memory refuses, and
+/// then the text is as it was.
+pub fn push_scientific<'a>(
     sign: &'a str,
     digits: &'a str,
     is_negative: bool,
@@ -139,8 +141,8 @@ fn push_below_one<'a>(
     push_parts(&[sign, "0.", zeros(below as usize - 1), digits], text)
 }
 
-// The digits of a number without the zeros at their end.
-fn without_zeros(n: u64) -> u64
+/// The digits of a number without the zeros at their end.
+pub fn without_zeros(n: u64) -> u64
     requires { 0 < n }
     ensures { decimal result ≡ without_zeros (decimal n) }
 {

@@ -9,5 +9,5 @@ mod limbs;
 
 pub use decimals::{Decimal, Rounded, at_place, magnitude, times_at_place};
 pub use doubles::to_15_digits;
-pub use formula_numbers::push_formula_number;
+pub use formula_numbers::{push_formula_number, push_parts, push_scientific, without_zeros, zeros};
 pub use laws::halves_up;

@@ -1,0 +1,2 @@
+mod GeneralFacts
+mod GeneralLemmas
