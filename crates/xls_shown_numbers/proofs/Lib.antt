@@ -1,2 +1,4 @@
 mod GeneralFacts
 mod GeneralLemmas
+mod PlainFacts
+mod PlainLemmas

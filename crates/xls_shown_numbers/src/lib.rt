@@ -2,5 +2,7 @@
 #![tactic(auto)]
 
 mod general;
+mod plain;
 
 pub use general::push_general;
+pub use plain::{Plain, Seen, read_plain};
