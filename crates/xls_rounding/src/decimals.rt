@@ -31,8 +31,8 @@ fn over_ten_to(n: u128, s: u32) -> u128
     (2 * n + step) / (2 * step)
 }
 
-// The number over ten to the power s, rounded, halves up.
-pub(crate) fn short_over_ten_to(n: u64, s: u32) -> u64
+/// The number over ten to the power s, rounded, halves up.
+pub fn short_over_ten_to(n: u64, s: u32) -> u64
     requires { 0 < s }
     ensures { result ≡ (2 * n + 10 ^ s) / (2 * 10 ^ s) }
 {
@@ -124,8 +124,8 @@ pub fn times_at_place(decimal: Decimal, factor: u32, place: i16) -> Option<u64>
     )
 }
 
-// The number of decimal digits, none of 0.
-fn places(n: u64) -> u8
+/// The number of decimal digits, none of 0.
+pub fn places(n: u64) -> u8
     ensures value { result ≡ places n }
     ensures within { result ≤ 20 }
 {

@@ -1,4 +1,6 @@
 mod GeneralFacts
 mod GeneralLemmas
+mod NumberLemmas
 mod PlainFacts
 mod PlainLemmas
+mod ShownLemmas

@@ -4,11 +4,11 @@ use Rattle.std.specs.Prelude.{codes}
 use Rattle.xls_rounding.specs.Fractions.{places_up_to, places, magnitude}
 use Rattle.xls_rounding.specs.Rounding.{of_15_digits, decimal_of}
 use Rattle.xls_number_formats.specs.Grammar.{items}
-use Rattle.xls_shown_numbers.specs.Plain.{plain}
+use Rattle.xls_shown_numbers.specs.Plain.{plain_text}
 
 -- what a code shows of a double's size
 abbrev shown : List ℕ × ℕ → List ℕ
-shown row = plain (items row.0) (decimal_of row.1)
+shown row = plain_text (items row.0) (decimal_of row.1)
 
 -- codes and doubles, as Excel shows them
 pub known_texts_1 : map shown ((codes "0.00", 0x4028_B020_C49B_A5E3) ∷ (codes "0.0", 0x4028_B020_C49B_A5E3) ∷ (codes "000.00", 0x4028_9999_9999_999A) ∷

@@ -1,3 +1,4 @@
 pub mod Digits
 pub mod General
 pub mod Plain
+pub mod Numbers

@@ -103,8 +103,11 @@ abbrev pub digit : ℕ → ℕ → ℕ
 digit n p = 48 + n / 10 ^ p % 10
 
 -- behind whole place i from the right, where the whole part is grouped
+abbrev pub separates : Bool → ℕ → Bool
+separates grouping i = grouping && (nat_lt 0 i && (i % 3 == 0))
+
 abbrev pub separator : Bool → ℕ → List ℕ → List ℕ
-separator grouping i text = if grouping && (nat_lt 0 i && (i % 3 == 0)) then text else []
+separator grouping i text = if separates grouping i then text else []
 
 -- without a digit
 abbrev pub filler : Bool → Place → ℕ → List ℕ
@@ -142,11 +145,11 @@ place_text p n s place =
     if s.point then decimal_place n (nat_lt s.decimals p.seen.zeros) place (p.seen.decimals - s.decimals - 1)
     else whole_place p.grouping n p.seen.decimals (s.whole == 0) place (p.seen.whole - s.whole - 1)
 
--- the first point: without whole places, the whole part stands before it
-abbrev pub point_text : Plain → ℕ → Seen → List ℕ → List ℕ
-point_text p n s own =
+-- without whole places, the whole part stands before the first point
+abbrev pub whole_before : Plain → ℕ → Seen → List ℕ
+whole_before p n s =
     if not s.point && (p.seen.whole == 0)
-    then whole_digits p.grouping n p.seen.decimals 0 (size n - p.seen.decimals) ++ own else own
+    then whole_digits p.grouping n p.seen.decimals 0 (size n - p.seen.decimals) else []
 
 abbrev pub comma_text : Plain → Seen → List ℕ → List ℕ
 comma_text p s own = if groups p.seen s || divides p.seen s then [] else own
@@ -154,7 +157,7 @@ comma_text p s own = if groups p.seen s || divides p.seen s then [] else own
 -- every other item stands for itself, but `@` and elapsed time show nothing
 abbrev pub item_text : Plain → ℕ → Seen → Item → List ℕ → List ℕ
 item_text p n s (item.Place place) own = place_text p n s place
-item_text p n s item.Point own = point_text p n s own
+item_text p n s item.Point own = whole_before p n s ++ own
 item_text p n s item.Comma own = comma_text p s own
 item_text p n s item.Text own = []
 item_text p n s (item.Elapsed letter) own = []
@@ -168,7 +171,7 @@ text_from p n s (t ∷ ts) = item_text p n s t.0 t.1 ++ text_from p n (seen_afte
 abbrev pub number_shown : Plain → Decimal → ℕ
 number_shown p d = if is_placed p.seen then number_under p d else 0
 
-abbrev pub plain : List Token → Decimal → List ℕ
-plain ts d =
+abbrev pub plain_text : List Token → Decimal → List ℕ
+plain_text ts d =
     let p = plain_of (kinds ts) in
     text_from p (number_shown p d) none_seen ts

@@ -2,7 +2,10 @@
 #![tactic(auto)]
 
 mod general;
+mod number;
 mod plain;
+mod shown;
 
 pub use general::push_general;
 pub use plain::{Plain, Seen, read_plain};
+pub use shown::push_plain;

@@ -1,0 +1,86 @@
+//! Naturals of many digits.
+
+ghost use Rattle.std.specs.Prelude.{◌≡◌, ◌<◌, ◌≤◌, ◌^◌, ◌%◌, ◌==◌, pos, ◌≤ℤ◌};
+ghost use Rattle.xls_rounding.specs.Rounding.{rounded};
+ghost use Rattle.xls_shown_numbers.specs.Numbers.{value};
+ghost use Rattle.xls_shown_numbers.specs.Plain.{number_under, size, digit};
+
+use crate::plain::Plain;
+use xls_rounding::{Decimal, places, short_over_ten_to};
+
+// `digits` with so many zeros behind them.
+#[derive(Clone, Copy)]
+pub(crate) struct Number {
+    pub(crate) digits: u64,
+    pub(crate) zeros: u128,
+}
+
+// A decimal times ten to a power, rounded, halves up.
+fn moved_by(decimal: Decimal, moved: i128) -> Number
+    requires { moved ≤ℤ pos (2 ^ 100) }
+    ensures value { value result ≡ rounded decimal.digits moved }
+    ensures zeros { result.zeros ≤ 2 ^ 100 }
+{
+    if moved >= 0 {
+        Number {
+            digits: decimal.digits,
+            zeros: moved as u128,
+        }
+    } else {
+        let below = moved.unsigned_abs().min(40) as u32;
+        Number {
+            digits: short_over_ten_to(decimal.digits, below),
+            zeros: 0,
+        }
+    }
+}
+
+// A number under a section of places: its last digits are those of the decimal places.
+pub(crate) fn number_under(plain: &Plain, decimal: Decimal) -> Number
+    ensures value { value result ≡ number_under plain.now decimal }
+    ensures zeros { result.zeros ≤ 2 ^ 100 }
+{
+    let up = 2 * plain.seen.percents as i128 + plain.seen.decimals as i128;
+    let down = 3 * plain.thousands as i128;
+    moved_by(decimal, decimal.exponent as i128 + up - down)
+}
+
+// How many digits it has, none of 0.
+pub(crate) fn size(n: Number) -> u128
+    requires { n.zeros ≤ 2 ^ 100 }
+    ensures value { result ≡ size (value n) }
+    ensures within { result ≤ 2 ^ 101 }
+{
+    if n.digits == 0 {
+        0
+    } else {
+        places(n.digits) as u128 + n.zeros
+    }
+}
+
+// The digit that counts ten to the power p, in ASCII.
+pub(crate) fn digit(n: Number, p: u128) -> u8
+    ensures value { result ≡ digit (value n) p }
+    ensures within { result < 58 }
+{
+    if p < n.zeros {
+        return b'0';
+    }
+    if p - n.zeros > 19 {
+        return b'0';
+    }
+    b'0' + (n.digits / 10u64.pow((p - n.zeros) as u32) % 10) as u8
+}
+
+// Whether the last k digits are zeros.
+pub(crate) fn ends_in_zeros(n: Number, k: u128) -> bool
+    ensures { result ≡ (value n % 10 ^ k == 0) }
+{
+    if k <= n.zeros {
+        return true;
+    }
+    if k - n.zeros > 19 {
+        return n.digits == 0;
+    }
+    n.digits % 10u64.pow((k - n.zeros) as u32) == 0
+}
