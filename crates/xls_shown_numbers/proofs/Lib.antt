@@ -1,5 +1,6 @@
 mod GeneralFacts
 mod GeneralLemmas
+mod LawLemmas
 mod NumberLemmas
 mod PlainFacts
 mod PlainLemmas

@@ -89,13 +89,13 @@ zeros_far d z k p q r =
 -- ---- the number of digits
 
 -- n has j + 1 digits
-record Has (f n : ℕ) : Type 0 where
+pub record Has (f n : ℕ) : Type 0 where
   more : ℕ
   is : places_up_to f n ≡ more + 1
   low : 10 ^ more ≤ n
   high : n < 10 ^ (more + 1)
 
-one_step : (f n : ℕ) → 0 < n → places_up_to (suc f) n ≡ places_up_to f (n / 10) + 1
+pub one_step : (f n : ℕ) → 0 < n → places_up_to (suc f) n ≡ places_up_to f (n / 10) + 1
 one_step f n p = rw (← add-one) (places_more f n p)
 
 has_digits : (f n : ℕ) → 0 < n → n < 10 ^ f → Has f n
@@ -114,7 +114,7 @@ has_digits (suc f) n p q = elim (cases_lt n 10) [
       record { more = h.more + 1; is = is; low = omega (arith, h.low); high = omega (arith, h.high) }
 ]
 
-above : (k : ℕ) → k < 10 ^ k
+pub above : (k : ℕ) → k < 10 ^ k
 above zero = omega arith
 above (suc k) = let up : 10 ^ suc k ≡ 10 ^ k * 10 = pow-suc 10 k in let less = above k in omega arith
 

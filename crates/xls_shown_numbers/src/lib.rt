@@ -2,10 +2,12 @@
 #![tactic(auto)]
 
 mod general;
+mod laws;
 mod number;
 mod plain;
 mod shown;
 
 pub use general::push_general;
+pub use laws::shows_whole_numbers;
 pub use plain::{Plain, Seen, read_plain};
 pub use shown::push_plain;
