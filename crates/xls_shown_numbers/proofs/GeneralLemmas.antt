@@ -3,14 +3,15 @@ use Rattle.std.proofs.Common.{◌≡◌, ℕ, zero, suc, ◌+◌, ◌*◌, ◌/�
 use Rattle.std.specs.Prelude.{ℤ, pos, negsuc, ◌+ℤ◌, ◌≤ℤ◌}
 use Rattle.std.specs.Fmt.{decimal}
 use Rattle.std.proofs.lemmas.Int.{ints}
-use Rattle.std.proofs.lemmas.Bool.{cases_lt}
+use Rattle.std.proofs.lemmas.Bool.{cases_lt, cases_eq}
 use Rattle.std.proofs.lemmas.Fmt.{decimal_step, decimal_digit}
 use Rattle.std.proofs.lemmas.Nat.{le-div, mul-le}
 use Rattle.std.proofs.Math.Arith.{mod-mul}
 use Rattle.std.proofs.Math.Nat.{pow-suc, mod-lt}
 use Rattle.xls_rounding.specs.declared.decimals.Decimal.{Decimal}
+use Rattle.xls_bytes.specs.Doubles.{exponent_of}
 use Rattle.xls_rounding.specs.Fractions.{places}
-use Rattle.xls_rounding.specs.Rounding.{rounded, rounded_at, magnitude_of}
+use Rattle.xls_rounding.specs.Rounding.{rounded, rounded_at, magnitude_of, decimal_of}
 use Rattle.xls_rounding.specs.FormulaNumbers.{before}
 use Rattle.xls_rounding.proofs.PlaceLemmas.{places_is, ten_pos, ten_le, rounded_up, rounded_down}
 use Rattle.xls_shown_numbers.specs.Digits.{last_digits, Is15Digits}
@@ -65,3 +66,19 @@ some_by n (negsuc k) p q = rw (rounded_down n k) (some_down n (k + 1) p (omega (
 
 pub some_at : (d : Decimal) (p : ℤ) → Is15Digits d → negsuc 10 ≤ℤ (d.exponent +ℤ p) → 0 < rounded_at d p
 some_at d p is low = some_by d.digits (d.exponent +ℤ p) is.least low
+
+-- zeros and subnormal numbers have no digits
+none_of : (bits : ℕ) → exponent_of bits ≡ 0 → (decimal_of bits).digits ≡ 0
+unfolding decimal_of
+none_of bits e = rw e
+
+pub double_15 : (bits : ℕ) (d : Decimal) → d ≡ decimal_of bits → (0 < exponent_of bits → 10 ^ 14 ≤ d.digits) → d.digits ≤ 10 ^ 15
+    → negsuc 321 ≤ℤ d.exponent → d.exponent ≤ℤ pos 308 → 0 < d.digits → Is15Digits d
+double_15 bits d e least most low high some = elim (cases_eq (exponent_of bits) 0) [
+  | inl none ↦
+      let zero : d.digits ≡ 0 = ap (λ (x : Decimal). x.digits) e ∙ none_of bits none in
+      absurd (omega arith)
+  | inr other ↦
+      let more : 0 < exponent_of bits = omega (arith, other) in
+      record { least = least more; most = most; low = omega (arith, ints); high = omega (arith, ints) }
+]

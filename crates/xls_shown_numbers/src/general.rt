@@ -4,13 +4,14 @@ ghost use Rattle.std.specs.Prelude.{◌≡◌, ◌==◌, ◌<◌, ◌≤◌, ◌
 ghost use Rattle.std.specs.String.{string_bytes};
 ghost use Rattle.std.specs.Fmt.{decimal};
 ghost use Rattle.xls_rounding.specs.FormulaNumbers.{without_zeros};
-ghost use Rattle.xls_rounding.specs.Rounding.{rounded_at, magnitude_of};
+ghost use Rattle.xls_rounding.specs.Rounding.{rounded_at, magnitude_of, decimal_of};
 ghost use Rattle.xls_shown_numbers.specs.Digits.{last_digits, Is15Digits};
 ghost use Rattle.xls_shown_numbers.specs.General.{fixed, with_power, decimals_of, power_form, exponent_form, fixed_form, is_exact_enough, general_at, general};
 
 use std::alloc::AllocError;
 use xls_rounding::{
-    Decimal, at_place, magnitude, push_parts, push_scientific, times_at_place, without_zeros,
+    Decimal, at_place, magnitude, push_parts, push_scientific, times_at_place, to_15_digits,
+    without_zeros,
 };
 
 // A decimal rounded at a place before its last digit.
@@ -181,4 +182,12 @@ pub fn push_general(decimal: Decimal, text: &mut String) -> Result<(), AllocErro
     } else {
         push_from_one(decimal, k as u32, text)
     }
+}
+
+/// As `push_general`, of a double's size.
+pub fn push_general_double(bits: u64, text: &mut String) -> Result<(), AllocError>
+    ensures ok { OnOk result (string_bytes text.new ≡ string_bytes text.old ++ general (decimal_of bits)) }
+    ensures err { OnErr result (string_bytes text.new ≡ string_bytes text.old) }
+{
+    push_general(to_15_digits(bits), text)
 }
