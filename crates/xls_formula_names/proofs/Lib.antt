@@ -1,0 +1,3 @@
+pub mod QuoteFacts
+pub mod QuoteLemmas
+pub mod TextLemmas
