@@ -1,3 +1,5 @@
+pub mod AppendLemmas
+pub mod PrefixFacts
 pub mod QuoteFacts
 pub mod QuoteLemmas
 pub mod TextLemmas
