@@ -1,4 +1,6 @@
 pub mod AppendLemmas
+pub mod PathFacts
+pub mod PathLemmas
 pub mod PrefixFacts
 pub mod QuoteFacts
 pub mod QuoteLemmas

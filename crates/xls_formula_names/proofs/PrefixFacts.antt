@@ -1,7 +1,8 @@
 -- Known prefixes, so that a wrong rule does not check.
 use Rattle.std.proofs.Common.{◌≡◌, ℕ, List, [], ◌∷◌, map, refl, codes, Bor}
 use Rattle.std.specs.Str.{chars}
-use Rattle.xls_formula_names.specs.Prefixes.{name_text, quoted, sheets_prefix}
+use Rattle.xls_formula_names.specs.Prefixes.{book_prefix, file_prefix, name_text, quoted, sheets_prefix}
+use Rattle.xls_formula_names.specs.declared.sheets.Sheets.{Sheets}
 use Rattle.xls_formula_names.specs.declared.sheets.Sheets.TheVariants.{Gone, One, Range}
 
 abbrev lent : List ℕ → Bor (List ℕ)
@@ -21,3 +22,30 @@ pub known_sheets : map sheets_prefix (
     ≡ codes "#REF" ∷ codes "Sheet1" ∷ codes "'My sheet'" ∷ codes "'#REF'" ∷ codes "''" ∷ codes "Jan:Dec" ∷ codes "'It''s:Dec'" ∷ codes "'Jan:R1C1'" ∷ codes "'true:it''s'" ∷ []
 unfolding chars
 known_sheets = refl
+
+pub known_files : map (λ (x : List ℕ × List ℕ). file_prefix x.0 x.1) (
+    ([], codes "b.xls") ∷ ([], codes "my b.xls") ∷ (codes "C:\\d\\", codes "b.xls") ∷ (codes "C:\\it's\\", codes "b.xls") ∷ (codes "..\\", []) ∷ ([], []) ∷ ([], codes "A1") ∷ [])
+    ≡ codes "b.xls" ∷ codes "'my b.xls'" ∷ codes "'C:\\d\\b.xls'" ∷ codes "'C:\\it''s\\b.xls'" ∷ codes "'..\\'" ∷ codes "''" ∷ codes "'A1'" ∷ []
+known_files = refl
+
+abbrev at_home : Sheets → List ℕ
+at_home sheets = book_prefix [] (codes "b.xls") sheets
+
+abbrev in_folder : Sheets → List ℕ
+in_folder sheets = book_prefix (codes "C:\\") (codes "b's.xls") sheets
+
+abbrev some_sheets : List Sheets
+some_sheets =
+    Gone ∷ One (lent (codes "S")) ∷ One (lent (codes "S 1")) ∷ Range (lent (codes "S")) (lent (codes "T")) ∷ Range (lent (codes "S")) (lent (codes "T's")) ∷ []
+
+pub known_books : map at_home some_sheets ≡ codes "[b.xls]#REF" ∷ codes "[b.xls]S" ∷ codes "'[b.xls]S 1'" ∷ codes "[b.xls]S:T" ∷ codes "'[b.xls]S:T''s'" ∷ []
+unfolding chars
+known_books = refl
+
+pub known_far_books : map in_folder some_sheets
+    ≡ codes "'C:\\[b''s.xls]#REF'" ∷ codes "'C:\\[b''s.xls]S'" ∷ codes "'C:\\[b''s.xls]S 1'" ∷ codes "'C:\\[b''s.xls]S:T'" ∷ codes "'C:\\[b''s.xls]S:T''s'" ∷ []
+unfolding chars
+known_far_books = refl
+
+pub known_odd_file : book_prefix [] (codes "my b.xls") Gone ≡ codes "'[my b.xls]#REF'"
+known_odd_file = refl

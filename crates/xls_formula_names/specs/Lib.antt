@@ -1,3 +1,4 @@
 pub mod Parts
+pub mod Paths
 pub mod Prefixes
 pub mod Quotes

@@ -1,5 +1,5 @@
 -- What stands before the `!` of a reference to other sheets (ECMA-376 part 1, 18.17.2). Texts are lists of characters.
-use Rattle.std.specs.Prelude.{ℕ, Bool, false, ◌||◌, ◌==◌, List, [], ◌∷◌, ◌++◌, if◌then◌else◌, codes}
+use Rattle.std.specs.Prelude.{ℕ, Bool, true, false, not, ◌||◌, ◌==◌, List, [], ◌∷◌, ◌++◌, if◌then◌else◌, codes}
 use Rattle.std.specs.List.{flat_map}
 use Rattle.std.specs.Str.{chars}
 use Rattle.xls_formula_names.specs.Quotes.{needs_quotes}
@@ -38,3 +38,25 @@ sheets_need_quotes (Range first last) = needs_quotes (chars first.now) || needs_
 
 abbrev pub sheets_prefix : Sheets → List ℕ
 sheets_prefix sheets = in_quotes (sheets_need_quotes sheets) (sheets_text sheets)
+
+-- ---- Other workbooks, by their folder and file
+
+abbrev pub is_nothing : List ℕ → Bool
+is_nothing [] = true
+is_nothing (c ∷ cs) = false
+
+-- a folder always needs quotes
+abbrev pub book_needs_quotes : List ℕ → List ℕ → Bool
+book_needs_quotes dir file = not (is_nothing dir) || needs_quotes file
+
+-- the path alone, before a name of the book
+abbrev pub file_prefix : List ℕ → List ℕ → List ℕ
+file_prefix dir file = in_quotes (book_needs_quotes dir file) (dir ++ file)
+
+-- `DIR[FILE]`, and the sheets
+abbrev pub book_text : List ℕ → List ℕ → Sheets → List ℕ
+book_text dir file sheets = dir ++ (codes "[" ++ (file ++ (codes "]" ++ sheets_text sheets)))
+
+abbrev pub book_prefix : List ℕ → List ℕ → Sheets → List ℕ
+book_prefix dir file sheets =
+    in_quotes (book_needs_quotes dir file || sheets_need_quotes sheets) (book_text dir file sheets)

@@ -2,10 +2,15 @@
 #![tactic(auto)]
 
 mod appends;
+mod books;
+mod paths;
 mod quotes;
 mod sheets;
 mod signs;
+mod starts;
 mod texts;
 
+pub use books::{push_book, push_file};
+pub use paths::Path;
 pub use quotes::needs_quotes;
 pub use sheets::{Sheets, push_name, push_quoted, push_sheets};
