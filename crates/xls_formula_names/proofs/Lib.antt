@@ -4,4 +4,5 @@ pub mod PathLemmas
 pub mod PrefixFacts
 pub mod QuoteFacts
 pub mod QuoteLemmas
+pub mod TableFacts
 pub mod TextLemmas

@@ -1,4 +1,6 @@
+pub mod Commands
 pub mod Parts
 pub mod Paths
 pub mod Prefixes
 pub mod Quotes
+pub mod Tables

@@ -3,14 +3,18 @@
 
 mod appends;
 mod books;
+mod commands;
 mod paths;
 mod quotes;
 mod sheets;
 mod signs;
 mod starts;
+mod tables;
 mod texts;
 
 pub use books::{push_book, push_file};
+pub use commands::command_name;
 pub use paths::Path;
 pub use quotes::needs_quotes;
 pub use sheets::{Sheets, push_name, push_quoted, push_sheets};
+pub use tables::built_in_name;
