@@ -105,3 +105,13 @@ one_tail sheets name e = append-nil (chars name.now) ∙ ap sheets_text (sym e)
 
 pub range_tail : (sheets : Sheets) (first last : Bor (List ℕ)) → sheets ≡ Range first last → chars first.now ++ (chars (codes ":") ++ (chars last.now ++ [])) ≡ sheets_text sheets
 range_tail sheets first last e = range_text first.now last.now ∙ ap sheets_text (sym e)
+
+pub one_bar : chars (codes "|") ≡ 0x7C ∷ []
+unfolding chars
+one_bar = refl
+
+-- two texts with a bar between them
+pub with_bar : (old first second new app topic : List ℕ) → first ≡ old ++ app → second ≡ first ++ (0x7C ∷ []) → new ≡ second ++ topic → new ≡ old ++ (app ++ (0x7C ∷ topic))
+with_bar old first second new app topic e f g =
+    g ∙ (ap (λ xs. xs ++ topic) (f ∙ ap (λ xs. xs ++ (0x7C ∷ [])) e)
+    ∙ (append_assoc (old ++ app) (0x7C ∷ []) topic ∙ append_assoc old app (0x7C ∷ topic)))

@@ -1,4 +1,6 @@
 pub mod AppendLemmas
+pub mod FirstLemmas
+pub mod LinkFacts
 pub mod PathFacts
 pub mod PathLemmas
 pub mod PrefixFacts

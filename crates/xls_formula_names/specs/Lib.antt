@@ -1,4 +1,5 @@
 pub mod Commands
+pub mod Links
 pub mod Parts
 pub mod Paths
 pub mod Prefixes

@@ -69,7 +69,11 @@ fn append_quoted(parts: &[&str], out: &mut String) -> Result<(), AllocError>
     append_apostrophe(out)
 }
 
-fn append_parts(parts: &[&str], is_quoted: bool, out: &mut String) -> Result<(), AllocError>
+pub(crate) fn append_parts(
+    parts: &[&str],
+    is_quoted: bool,
+    out: &mut String,
+) -> Result<(), AllocError>
     ensures ok { OnOk result (chars (string_bytes out.new) ≡ chars (string_bytes out.old) ++ in_quotes is_quoted (joined parts.now)) }
     ensures grown { IsGrown (string_bytes out.old) (string_bytes out.new) }
 {

@@ -4,6 +4,7 @@
 mod appends;
 mod books;
 mod commands;
+mod links;
 mod paths;
 mod quotes;
 mod sheets;
@@ -14,6 +15,7 @@ mod texts;
 
 pub use books::{push_book, push_file};
 pub use commands::command_name;
+pub use links::{Link, push_link};
 pub use paths::Path;
 pub use quotes::needs_quotes;
 pub use sheets::{Sheets, push_name, push_quoted, push_sheets};
