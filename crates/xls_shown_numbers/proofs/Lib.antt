@@ -1,3 +1,4 @@
+mod ExponentFacts
 mod GeneralFacts
 mod GeneralLemmas
 mod LawLemmas

@@ -1,4 +1,5 @@
 pub mod Digits
 pub mod General
 pub mod Plain
+pub mod Exponent
 pub mod Numbers
