@@ -6,4 +6,5 @@ pub mod U32Lemmas
 pub mod ColumnLemmas
 pub mod GrownLemmas
 pub mod EscapeLemmas
+pub mod CharacterLemmas
 mod StandardFacts

@@ -3,3 +3,4 @@ pub mod Doubles
 pub mod Columns
 pub mod Escapes
 pub mod Growth
+pub mod Characters

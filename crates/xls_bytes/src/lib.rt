@@ -1,13 +1,15 @@
 //! Numbers in the bytes of a workbook stream, whole numbers in the bits of doubles, the names of
-//! columns, and texts with escapes.
+//! columns, characters, and texts with escapes.
 #![tactic(auto)]
 
+mod characters;
 mod columns;
 mod doubles;
 mod escapes;
 mod laws;
 mod numbers;
 
+pub use characters::{first_char, split_at_first};
 pub use columns::push_column;
 pub use doubles::{trunc_checked_of_bits, trunc_of_bits, whole_of_bits};
 pub use escapes::push_escaped;
