@@ -1,5 +1,4 @@
 pub mod AppendLemmas
-pub mod FirstLemmas
 pub mod LinkFacts
 pub mod PathFacts
 pub mod PathLemmas
@@ -7,4 +6,3 @@ pub mod PrefixFacts
 pub mod QuoteFacts
 pub mod QuoteLemmas
 pub mod TableFacts
-pub mod TextLemmas

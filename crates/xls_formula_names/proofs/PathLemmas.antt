@@ -9,7 +9,7 @@ use Rattle.std.proofs.lemmas.Str.{chars-nil}
 use Rattle.xls_formula_names.specs.Paths.{is_literal, is_separator, spelled, spelled_one, split, start_text, text_after}
 use Rattle.xls_formula_names.specs.declared.starts.Start.{Start}
 use Rattle.xls_formula_names.specs.declared.starts.Start.TheVariants.{Drive, Root, Share}
-use Rattle.xls_formula_names.proofs.TextLemmas.{EndsWith}
+use Rattle.xls_bytes.proofs.CharacterLemmas.{EndsWith}
 use Rattle.xls_formula_names.proofs.AppendLemmas.{appended, char_text, chars_more}
 
 -- texts that are written out

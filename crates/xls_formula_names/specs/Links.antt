@@ -1,13 +1,11 @@
 -- What another program gives: a path with 03 between the program and a topic ([MS-XLS] VirtualPath). Texts are lists of characters.
-use Rattle.std.specs.Prelude.{ℕ, ◌==◌, ◌||◌, Bool, not, List, [], ◌∷◌, ◌++◌, map, if◌then◌else◌, nat_lt, Option, Some, None}
+use Rattle.std.specs.Prelude.{ℕ, ◌==◌, ◌||◌, not, List, [], ◌∷◌, ◌++◌, map, if◌then◌else◌, nat_lt, Option, Some, None}
 use Rattle.std.specs.List.{list_any, before_first, after_first}
 use Rattle.std.specs.Str.{chars}
 use Rattle.std.specs.String.{string_bytes}
+use Rattle.xls_bytes.specs.Characters.{is}
 use Rattle.xls_formula_names.specs.Prefixes.{name_text}
 use Rattle.xls_formula_names.specs.declared.links.Link.{Link}
-
-abbrev pub is : ℕ → ℕ → Bool
-is x c = c == x
 
 -- 03 is written as a bar in a topic
 abbrev pub barred_one : ℕ → ℕ

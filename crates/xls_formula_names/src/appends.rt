@@ -7,8 +7,8 @@ ghost use Rattle.xls_bytes.specs.Growth.{IsGrown};
 ghost use Rattle.xls_formula_names.specs.Prefixes.{doubled, doubled_one, in_quotes, quoted};
 ghost use Rattle.xls_formula_names.specs.Parts.{joined};
 
-use crate::texts::first_char;
 use std::alloc::AllocError;
+use xls_bytes::first_char;
 
 // Appends a character, an apostrophe twice. In this file an error may leave a part.
 fn append_doubled_char(c: char, out: &mut String) -> Result<(), AllocError>

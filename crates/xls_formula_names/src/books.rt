@@ -8,8 +8,8 @@ ghost use Rattle.xls_formula_names.specs.Prefixes.{is_nothing, sheets_need_quote
 use crate::appends::push_parts;
 use crate::quotes::needs_quotes;
 use crate::sheets::{Sheets, need_quotes};
-use crate::texts::first_char;
 use std::alloc::AllocError;
+use xls_bytes::first_char;
 
 fn is_empty(text: &str) -> bool
     ensures { result ≡ is_nothing (chars text.now) }

@@ -11,7 +11,6 @@ mod sheets;
 mod signs;
 mod starts;
 mod tables;
-mod texts;
 
 pub use books::{push_book, push_file};
 pub use commands::command_name;

@@ -1,29 +1,17 @@
 //! What another program gives, by a program and a topic.
 
 ghost use Rattle.std.specs.Prelude.{◌≡◌, ◌∷◌, ◌++◌, [], ◌<◌, true, false, map, IfOk, OnOk, OnErr, MatchOption, None, Some};
-ghost use Rattle.std.specs.List.{list_any, before_first, after_first};
 ghost use Rattle.std.specs.Option.{option_map};
 ghost use Rattle.std.specs.Str.{chars};
 ghost use Rattle.std.specs.String.{string_bytes};
 ghost use Rattle.xls_bytes.specs.Growth.{IsGrown};
 ghost use Rattle.xls_formula_names.specs.Prefixes.{name_text};
-ghost use Rattle.xls_formula_names.specs.Links.{is, barred_one, link_of, link_prefix, link_texts};
+ghost use Rattle.xls_formula_names.specs.Links.{barred_one, link_of, link_prefix, link_texts};
 
 use crate::appends::append_parts;
 use crate::quotes::needs_quotes;
-use crate::texts::first_char;
 use std::alloc::{AllocError, Global};
-
-// What stands before and behind the first of an ASCII character.
-fn split_at_first(text: &str, c: char) -> Option<(&str, &str)>
-    requires { c < 128 }
-    ensures { MatchOption result (list_any (is c) (chars text.now) ≡ false)
-        (λ x. (list_any (is c) (chars text.now) ≡ true)
-        × (chars x.0.now ≡ before_first (is c) (chars text.now))
-        × (chars x.1.now ≡ after_first (is c) (chars text.now))) }
-{
-    text.split_once(c)
-}
+use xls_bytes::{first_char, split_at_first};
 
 fn barred_one(c: char) -> char
     ensures { result ≡ barred_one c }

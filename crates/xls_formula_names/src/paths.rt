@@ -7,8 +7,8 @@ ghost use Rattle.std.specs.String.{string_bytes};
 ghost use Rattle.xls_formula_names.specs.Paths.{start_text, is_literal, spelled_one, spelled, text_after, start_of, is_separator, split, has_slashes, path_of};
 
 use crate::starts::{Start, start_of};
-use crate::texts::first_char;
 use std::alloc::{AllocError, Global};
+use xls_bytes::first_char;
 
 // In these functions an error may leave a part of the text.
 fn append_start(start: Start, out: &mut String) -> Result<(), AllocError>

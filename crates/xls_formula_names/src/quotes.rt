@@ -7,7 +7,7 @@ ghost use Rattle.std.specs.Str.{chars};
 ghost use Rattle.xls_formula_names.specs.Quotes.{begins_badly, is_sign, is_within, number_at, is_row, is_cell, is_place, begins_column, begins_row, is_r1c1, is_word, is_truth, needs_quotes};
 
 use crate::signs::is_listed;
-use crate::texts::first_char;
+use xls_bytes::first_char;
 
 // Whether a name is empty, or begins with a digit or a point.
 fn begins_badly(name: &str) -> bool

@@ -4,7 +4,7 @@ ghost use Rattle.std.specs.Prelude.{◌≡◌, ◌∷◌, drop};
 ghost use Rattle.std.specs.Str.{chars};
 ghost use Rattle.xls_formula_names.specs.Paths.{volume_of, encoded_of, start_of, is_literal};
 
-use crate::texts::first_char;
+use xls_bytes::first_char;
 
 /// What the path of a workbook begins with.
 #[derive(Clone, Copy, Debug, PartialEq, Eq)]

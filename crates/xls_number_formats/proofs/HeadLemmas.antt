@@ -5,8 +5,9 @@ use Rattle.std.specs.List.{list_any, before_first, after_first, position_or_len}
 use Rattle.std.proofs.lemmas.List.{length-take-le, drop_all}
 use Rattle.std.proofs.lemmas.List.Sums.{prefix_len-le-length}
 use Rattle.std.proofs.lemmas.Bool.Decides.{nat_tests}
-use Rattle.xls_number_formats.specs.Grammar.{is, run_of}
-use Rattle.xls_number_formats.proofs.TextLemmas.{before_first_none}
+use Rattle.xls_bytes.specs.Characters.{is}
+use Rattle.xls_number_formats.specs.Grammar.{run_of}
+use Rattle.xls_bytes.proofs.CharacterLemmas.{before_first_none}
 
 -- what follows the first c, by how much stands before it
 pub after_length : (c : ℕ) (cs : List ℕ) → after_first (is c) cs ≡ drop (length (before_first (is c) cs) + 1) cs

@@ -18,6 +18,7 @@ use Rattle.std.specs.Float.{binary64, Float}
 use Rattle.std.specs.Float.Parse.{begins_with, parse_float}
 use Rattle.std.specs.List.{list_any, list_all, before_first, after_first}
 use Rattle.std.specs.Option.{option_map}
+use Rattle.xls_bytes.specs.Characters.{is}
 use Rattle.xls_number_formats.specs.declared.items.Place.TheVariants as place
 use Rattle.xls_number_formats.specs.declared.items.Letter.{Letter}
 use Rattle.xls_number_formats.specs.declared.items.Letter.TheVariants as letter
@@ -26,9 +27,6 @@ use Rattle.xls_number_formats.specs.declared.items.Comparison.TheVariants as com
 use Rattle.xls_number_formats.specs.declared.items.Condition.{Condition}
 use Rattle.xls_number_formats.specs.declared.items.Item.{Item}
 use Rattle.xls_number_formats.specs.declared.items.Item.TheVariants as item
-
-abbrev pub is : ℕ → ℕ → Bool
-is x c = c == x
 
 -- an item, and the text that it shows where it stands for itself
 abbrev pub Token : Type 0

@@ -4,10 +4,12 @@ ghost use Rattle.std.specs.Prelude.{◌≡◌, ◌==◌, ◌&&◌, true, false, 
 ghost use Rattle.std.specs.Char.{to_ascii_lowercase};
 ghost use Rattle.std.specs.Str.{chars};
 ghost use Rattle.std.specs.List.{list_all, before_first};
-ghost use Rattle.xls_number_formats.specs.Grammar.{is, is_number_char, comparison_at, number_of, number_in, condition_in, clock_letter_of, elapsed_in, symbol_token, condition_token, elapsed_token, bracket_token};
+ghost use Rattle.xls_bytes.specs.Characters.{is};
+ghost use Rattle.xls_number_formats.specs.Grammar.{is_number_char, comparison_at, number_of, number_in, condition_in, clock_letter_of, elapsed_in, symbol_token, condition_token, elapsed_token, bracket_token};
 
 use crate::items::{Comparison, Condition, Item, Letter};
-use crate::texts::{after_blanks, begins_with, first_char, split_at_first, split_chars};
+use crate::texts::{after_blanks, begins_with, split_chars};
+use xls_bytes::{first_char, split_at_first};
 
 // A comparison at the beginning of a text, and what follows it.
 fn comparison_at(text: &str) -> Option<(Comparison, &str)>
@@ -78,7 +80,7 @@ fn number_of(text: &str) -> Option<f64>
 }
 
 // That of a decimal number with blanks behind it.
-#[tactic(auto, using(crate::proofs::TextLemmas::before_first_none, crate::proofs::TextLemmas::after_first_none))]
+#[tactic(auto, using(xls_bytes::proofs::CharacterLemmas::before_first_none, xls_bytes::proofs::CharacterLemmas::after_first_none))]
 fn number_in(text: &str) -> Option<f64>
     ensures { result ≡ number_in (chars text.now) }
 {
@@ -142,7 +144,7 @@ fn elapsed_in(text: &str) -> Option<Letter>
 }
 
 // What stands before the first `-`.
-#[tactic(auto, using(crate::proofs::TextLemmas::before_first_none))]
+#[tactic(auto, using(xls_bytes::proofs::CharacterLemmas::before_first_none))]
 fn before_dash(text: &str) -> &str
     ensures { chars result.now ≡ before_first (is 45) (chars text.now) }
 {

@@ -4,13 +4,15 @@ ghost use Rattle.std.specs.Prelude.{◌≡◌, ◌∷◌, ◌<◌, ◌-◌, ◌=
 ghost use Rattle.std.specs.Char.{to_ascii_lowercase};
 ghost use Rattle.std.specs.Str.{chars};
 ghost use Rattle.std.specs.List.{list_any, before_first};
-ghost use Rattle.xls_number_formats.specs.Grammar.{is, letter_of, single_of, word_at, lettered_head, worded_head, quoted_head, bracket_head, exponent_head, head, unbracketed_head, head_of, is_exponent};
+ghost use Rattle.xls_bytes.specs.Characters.{is};
+ghost use Rattle.xls_number_formats.specs.Grammar.{letter_of, single_of, word_at, lettered_head, worded_head, quoted_head, bracket_head, exponent_head, head, unbracketed_head, head_of, is_exponent};
 ghost use Rattle.xls_number_formats.specs.declared.items.Item.TheVariants as item;
 ghost use Rattle.xls_number_formats.specs.Cuts.{IsCut};
 
 use crate::brackets::bracket_token;
 use crate::items::{Item, Letter, Place};
-use crate::texts::{begins_with, run_len, split_at_first, split_chars};
+use crate::texts::{begins_with, run_len, split_chars};
+use xls_bytes::split_at_first;
 
 // An item with its text, and what follows it.
 #[derive(Drop)]

@@ -7,8 +7,8 @@ ghost use Rattle.xls_number_formats.specs.Walk.{items_left, after_left};
 
 use crate::heads::first_item;
 use crate::items::Item;
-use crate::texts::first_char;
 use std::marker::Model;
+use xls_bytes::first_char;
 
 /// The items of a section in order, each with the text that it shows where it stands for itself,
 /// and `None` for good from the `;` or the end of the code on. It borrows the code and takes no
@@ -24,7 +24,7 @@ impl<'a> Model for Items<'a> {
     ghost use Rattle.std.specs.Prelude.{◌≡◌, false};
     ghost use Rattle.std.specs.Str.{chars};
     ghost use Rattle.std.specs.List.{list_any};
-    ghost use Rattle.xls_number_formats.specs.Grammar.{is};
+    ghost use Rattle.xls_bytes.specs.Characters.{is};
     ghost use Rattle.xls_number_formats.specs.Walk.{Left};
 
     ghost Value = { Left };

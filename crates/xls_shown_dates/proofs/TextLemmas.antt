@@ -9,8 +9,9 @@ use Rattle.std.proofs.lemmas.Str.Ascii.{IsAscii-nil, IsAscii-cons}
 use Rattle.xls_bytes.specs.Growth.{IsGrown}
 use Rattle.xls_bytes.proofs.GrownLemmas.{IsGrown-append}
 use Rattle.xls_number_formats.specs.declared.items.Letter.{Letter}
-use Rattle.xls_number_formats.specs.Grammar.{Token, is}
-use Rattle.xls_number_formats.proofs.TextLemmas.{before_first_none, after_first_none}
+use Rattle.xls_bytes.specs.Characters.{is}
+use Rattle.xls_number_formats.specs.Grammar.{Token}
+use Rattle.xls_bytes.proofs.CharacterLemmas.{before_first_none, after_first_none}
 use Rattle.xls_shown_dates.specs.declared.fields.Field.{Field}
 use Rattle.xls_shown_dates.specs.Fields.{letters, first, letter_after, zeros_after, field_of, fields_from}
 use Rattle.xls_shown_dates.specs.Texts.{padded}

@@ -3,7 +3,8 @@
 use Rattle.std.specs.Prelude.{ℕ, ◌+◌, ◌-◌, ◌*◌, ◌/◌, ◌%◌, min, nat_le, nat_lt, ◌==◌, Bool, List, [], ◌++◌, length, take, replicate, codes, if◌then◌else◌}
 use Rattle.std.specs.Fmt.{decimal}
 use Rattle.std.specs.List.{flat_map, before_first, after_first}
-use Rattle.xls_number_formats.specs.Grammar.{Token, is}
+use Rattle.xls_bytes.specs.Characters.{is}
+use Rattle.xls_number_formats.specs.Grammar.{Token}
 use Rattle.xls_shown_dates.specs.declared.moments.Moment.{Moment}
 use Rattle.xls_shown_dates.specs.declared.fields.Field.{Field}
 use Rattle.xls_shown_dates.specs.declared.fields.Field.TheVariants as field

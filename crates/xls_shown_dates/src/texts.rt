@@ -5,7 +5,8 @@ ghost use Rattle.std.specs.Str.{chars, IsAscii};
 ghost use Rattle.std.specs.String.{string_bytes};
 ghost use Rattle.std.specs.List.{list_any, before_first, after_first};
 ghost use Rattle.xls_bytes.specs.Growth.{IsGrown};
-ghost use Rattle.xls_number_formats.specs.Grammar.{is, items};
+ghost use Rattle.xls_bytes.specs.Characters.{is};
+ghost use Rattle.xls_number_formats.specs.Grammar.{items};
 ghost use Rattle.xls_shown_dates.specs.Texts.{padded, year_text, month_name, month_text, day_name, day_text, all_hours, all_minutes, all_seconds, time_text, hour_shown, is_morning, field_text, section_text};
 ghost use Rattle.xls_shown_dates.specs.Shown.{shown_text};
 
@@ -15,6 +16,7 @@ use crate::fields::{
 };
 use crate::moments::Moment;
 use std::alloc::AllocError;
+use xls_bytes::split_at_first;
 use xls_number_formats::Items;
 
 // A number in at least so many digits, or a text.
@@ -163,16 +165,6 @@ fn half_day<'a>(moment: &Moment) -> &'a str
     if moment.hour < 12 { "AM" } else { "PM" }
 }
 
-// What stands before and behind the first slash.
-fn split_at_slash(text: &str) -> Option<(&str, &str)>
-    ensures { MatchOption result (list_any (is 47) (chars text.now) ≡ false)
-        (λ x. (list_any (is 47) (chars text.now) ≡ true)
-        × (chars x.0.now ≡ before_first (is 47) (chars text.now))
-        × (chars x.1.now ≡ after_first (is 47) (chars text.now))) }
-{
-    text.split_once('/')
-}
-
 // The letter before the slash, or the one behind it.
 #[tactic(auto, using(crate::proofs::TextLemmas::all_before, crate::proofs::TextLemmas::none_behind))]
 fn half_day_letter<'a>(moment: &Moment, own: &'a str) -> &'a str
@@ -180,7 +172,7 @@ fn half_day_letter<'a>(moment: &Moment, own: &'a str) -> &'a str
         else after_first (is 47) (chars own.now)) }
 {
     let is_morning = moment.hour < 12;
-    match split_at_slash(own) {
+    match split_at_first(own, '/') {
         Some((morning, evening)) => { if is_morning { morning } else { evening } }
         None => { if is_morning { own } else { "" } }
     }

@@ -2,7 +2,7 @@ use Rattle.std.proofs.Common.{refl, rules, sym, ap, ◌∙◌, ◌++◌, [], enc
 use Rattle.std.specs.Str.{chars}
 use Rattle.xls_formula_names.specs.Paths.{split}
 use Rattle.xls_formula_names.proofs.PathLemmas.{all_left, end_after, last_after, last_file, split_whole}
-use Rattle.xls_formula_names.proofs.TextLemmas.{ends-trans, front_chars, seam}
+use Rattle.xls_bytes.proofs.CharacterLemmas.{ends-trans, front_chars, seam}
 use Rattle.xls_formula_names.proofs.paths.split_path.Goals as goal
 
 pub characters-init : goal.characters-init

@@ -4,7 +4,7 @@ use denote.Text.{Utf8}
 use denote.Shadow.{shadow}
 use Rattle.xls_formula_names.specs.Paths.{split}
 use Rattle.xls_formula_names.proofs.PathLemmas.{last_file}
-use Rattle.xls_formula_names.proofs.TextLemmas.{EndsWith}
+use Rattle.xls_bytes.proofs.CharacterLemmas.{EndsWith}
 use Rattle.xls_formula_names.proofs.paths.split_path.Given as goal
 
 abbrev pub invariant-characters : goal.invariant-characters

@@ -3,7 +3,7 @@ use Rattle.std.specs.Str.{chars}
 use Rattle.std.specs.List.{list_all}
 use denote.Text.{Utf8}
 use denote.Shadow.{shadow}
-use Rattle.xls_number_formats.specs.Grammar.{is}
+use Rattle.xls_bytes.specs.Characters.{is}
 use Rattle.xls_number_formats.proofs.brackets.is_blank.Given as goal
 
 abbrev pub invariant-blanks : goal.invariant-blanks

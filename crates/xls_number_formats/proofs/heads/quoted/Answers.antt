@@ -1,6 +1,7 @@
 use Rattle.std.proofs.Common.{refl, sym, ◌∙◌}
 use Rattle.std.specs.Str.{chars}
-use Rattle.xls_number_formats.proofs.TextLemmas.{before_first_none, no_chars}
+use Rattle.xls_bytes.proofs.CharacterLemmas.{before_first_none}
+use Rattle.xls_number_formats.proofs.TextLemmas.{no_chars}
 use Rattle.xls_number_formats.proofs.HeadLemmas.{quoted_end}
 use Rattle.xls_number_formats.proofs.heads.quoted.Goals as goal
 

@@ -1,7 +1,8 @@
 use Rattle.std.proofs.Common.{rules, ◌≡◌, ◌∷◌, ◌∙◌, ap, subst}
 use Rattle.std.specs.List.{list_any}
 use Rattle.std.specs.Str.{chars}
-use Rattle.xls_number_formats.specs.Grammar.{is, head_of}
+use Rattle.xls_bytes.specs.Characters.{is}
+use Rattle.xls_number_formats.specs.Grammar.{head_of}
 use Rattle.xls_number_formats.specs.Walk.{Left, items_left, after_left}
 use Rattle.xls_number_formats.proofs.WalkLemmas.{step_is, none_left, one_less}
 use Rattle.xls_number_formats.proofs.walk.ItemsIterator.next.Goals as goal
