@@ -10,7 +10,7 @@ ghost use Rattle.xls_formula.specs.Functions.{shipped};
 
 use std::alloc::Global;
 use xls_biff::{Biff, Refs, Strings, XlsError};
-use xls_formula::{FunctionTable, Names, parse_formula};
+use xls_formula::{FunctionTable, Names, NumberStyle, parse_formula};
 use xls_text::XlsEncoding;
 
 /// The text of a formula of BIFF8 that may name the shipped functions, and neither sheets nor names.
@@ -22,6 +22,7 @@ pub(crate) fn spelled(alloc: Global, rgce: &[u8]) -> Result<String, XlsError>
       page = Utf16;
       biff = Biff8;
       functions = shipped;
+      numbers = NumberStyle.Bits;
     }) rgce.now) }
 {
     parse_formula(

@@ -7,6 +7,7 @@ use xls_biff::XlsError;
 use xls_book::{Reader as _, SteadySource, StreamBytes, Xls, XlsOptions};
 use xls_csv::{dense_boxes, export_csv, field_text, printed_fields, rows_of_sheet, write_rows};
 use xls_data::{Cell, Data, Dimensions, ExcelDateTime, ExcelDateTimeType, Number};
+use xls_formula::NumberStyle;
 use xls_output::MemorySink;
 use xls_range::Range;
 use xls_view::View;
@@ -66,7 +67,7 @@ fn stream_of(alloc: Global, parts: &[&[u8]]) -> Result<Vec<u8>, AllocError> {
 
 fn view_of(alloc: Global, bytes: &[u8]) -> Result<View<'_>, XlsError> {
     let options = XlsOptions::defaults(alloc)?;
-    View::new(alloc, bytes, &options)
+    View::new(alloc, bytes, &options, NumberStyle::Bits)
 }
 
 fn data_of(alloc: Global, value: Value) -> Result<Data, AllocError> {

@@ -4,9 +4,7 @@
 use std::alloc::{AllocError, Global};
 use std::test::Fail;
 use xls_data::{ExcelDateTime, ExcelDateTimeType, Number};
-use xls_decimals::{
-    push_date, push_date_or_duration, push_decimal, push_double, push_duration, push_formula,
-};
+use xls_decimals::{push_date, push_date_or_duration, push_decimal, push_double, push_duration};
 
 static DECIMALS: [(Number, &str); 12] = [
     (Number::Bits(0x3FB9_9999_9999_999A), "$0.1"),
@@ -113,34 +111,6 @@ fn is_duration(alloc: Global, number: Number, expected: &str) -> Result<bool, Al
 fn writes_durations(rt: HostRuntime) -> Result<(), Fail> {
     for (number, expected) in DURATIONS.iter() {
         assert!(rt; is_duration(rt.alloc(), *number, expected)?);
-    }
-    Ok(())
-}
-
-static FORMULAS: [(&str, &str); 5] = [
-    ("SUM(A1,0x3ff8000000000000)", "SUM(A1,1.5)"),
-    (
-        "'0x3ff8000000000000'!A1&\"0x3ff8000000000000\"",
-        "'0x3ff8000000000000'!A1&\"0x3ff8000000000000\"",
-    ),
-    ("\"a\"\"\"&0x3ff8000000000000%", "\"a\"\"\"&1.5%"),
-    (
-        "é0x3ff8000000000000+0x3ff80000000000001",
-        "é0x3ff8000000000000+0x3ff80000000000001",
-    ),
-    ("-0x3fb999999999999a", "-0.1"),
-];
-
-fn is_formula(alloc: Global, formula: &str, expected: &str) -> Result<bool, AllocError> {
-    let mut text = String::new(alloc);
-    push_formula(formula, &mut text)?;
-    Ok(text.as_str() == expected)
-}
-
-#[test]
-fn writes_the_numbers_of_formulas(rt: HostRuntime) -> Result<(), Fail> {
-    for (formula, expected) in FORMULAS.iter() {
-        assert!(rt; is_formula(rt.alloc(), formula, expected)?);
     }
     Ok(())
 }

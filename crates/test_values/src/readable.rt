@@ -25,7 +25,7 @@ fn push_parts(form: Form, room: &mut String, text: &mut String) -> Result<(), Al
         room,
         text,
     )?;
-    push_formula_line(form, 2, 3, "A1*0x3ff8000000000000", room, text)?;
+    push_formula_line(form, 2, 3, "A1*1.5", room, text)?;
     push_merge(form, Dimensions::new((0, 1), (2, 3)), room, text)?;
     let cells = Dimensions::new((0, 0), (4, 0));
     push_ref(form, "Data", (2, 3), "Log", cells, room, text)
@@ -78,7 +78,7 @@ static LINES: [(Form, &str); 3] = [
     ),
     (
         Form::Exact,
-        "dates\t1904\nname\tTotal\tA\\tB\nsheet\tData\tworksheet\tveryhidden\nformula\t2\t3\tA1*0x3ff8000000000000\nmerge\t0\t1\t2\t3\nref\tData\t2\t3\tLog\t0\t0\t4\t0\ncell\t1\t0\tint\t-7\ncell\t1\t0\tfloat\t4.5\ncell\t1\t0\tfloat\t0x7ff0000000000000\ncell\t1\t0\ttext\té\"\\n\ncell\t1\t0\tbool\ttrue\ncell\t1\t0\tdate\t43831\ncell\t1\t0\tspan\t1.25\ncell\t1\t0\tdate\t2020-01-01\ncell\t1\t0\tspan\tP1D\ncell\t1\t0\terror\t#N/A\nlast_modified_by\tAnn\ncustom\tKey\tv\\\\w\nerror\tbad\nok\nrows\t12\n",
+        "dates\t1904\nname\tTotal\tA\\tB\nsheet\tData\tworksheet\tveryhidden\nformula\t2\t3\tA1*1.5\nmerge\t0\t1\t2\t3\nref\tData\t2\t3\tLog\t0\t0\t4\t0\ncell\t1\t0\tint\t-7\ncell\t1\t0\tfloat\t4.5\ncell\t1\t0\tfloat\t0x7ff0000000000000\ncell\t1\t0\ttext\té\"\\n\ncell\t1\t0\tbool\ttrue\ncell\t1\t0\tdate\t43831\ncell\t1\t0\tspan\t1.25\ncell\t1\t0\tdate\t2020-01-01\ncell\t1\t0\tspan\tP1D\ncell\t1\t0\terror\t#N/A\nlast_modified_by\tAnn\ncustom\tKey\tv\\\\w\nerror\tbad\nok\nrows\t12\n",
     ),
 ];
 

@@ -4,6 +4,7 @@ use Rattle.xls_stream.specs.Listing.{ListEntry}
 use Rattle.xls_record.specs.declared.error.XlsError.TheVariants.{TooLarge}
 use Rattle.xls_open.specs.declared.options.XlsOptions.{XlsOptions}
 use Rattle.xls_open.specs.Opening.{default_options}
+use Rattle.xls_open.specs.Workbook.{rules_of}
 use Rattle.xls_view.specs.Viewing.{IsViewFault}
 use Rattle.xls_lay.specs.Reading.{ReadsList, IsFirst}
 use Rattle.xls_lay.specs.Writing.{WritesList}
@@ -19,17 +20,17 @@ use Rattle.xls_answers.specs.declared.answer.Answer.TheVariants as answers
 use Rattle.xls_answers.specs.declared.failure.Failure.{Failure}
 use Rattle.xls_answers.specs.declared.failure.Failure.TheVariants as failures
 use Rattle.xls_readable.specs.Choices.{IsNumbered}
-use Rattle.xls_answers.specs.Views.{OfView, AreLines, BeginLines, MissesNone}
+use Rattle.xls_answers.specs.Views.{OfView, AreLines, BeginLines, MissesNone, rules_shown}
 use Rattle.xls_answers.specs.Sheets.{IsTableOf, BeginsTableOf, MissesSheet}
 
 -- ---- of a workbook's stream
 
 -- the line of bytes without a fault, or their first fault
 abbrev pub OfCheck : XlsOptions → List ℕ → SinkState → SinkState → Result (Unit {0}) Failure → Type 0
-OfCheck options bytes before after (Ok x) = ((e : _) → IsViewFault options bytes e → ⊥) × Wrote before after sound_line
-OfCheck options bytes before after (Err (failures.Stream e)) = IsViewFault options bytes e × IsUntouched before after
+OfCheck options bytes before after (Ok x) = ((e : _) → IsViewFault (rules_of options) bytes e → ⊥) × Wrote before after sound_line
+OfCheck options bytes before after (Err (failures.Stream e)) = IsViewFault (rules_of options) bytes e × IsUntouched before after
 OfCheck options bytes before after (Err (failures.Stopped s)) =
-    ((s ≡ Memory) × IsUntouched before after) ⊎ (((e : _) → IsViewFault options bytes e → ⊥) × Stops before [] after sound_line s)
+    ((s ≡ Memory) × IsUntouched before after) ⊎ (((e : _) → IsViewFault (rules_of options) bytes e → ⊥) × Stops before [] after sound_line s)
 OfCheck options bytes before after (Err other) = ⊥
 
 -- how many bytes a stream may have that is written once more
@@ -56,11 +57,12 @@ OfBytes bytes before after (Err (failures.Stopped s)) = Stops before [] after by
 OfBytes bytes before after (Err other) = ⊥
 
 abbrev pub OfStream : Answer → XlsOptions → List ℕ → SinkState → SinkState → Result (Unit {0}) Failure → Type 0
-OfStream (answers.Lines lines form) options bytes = OfView options bytes (AreLines lines form) (BeginLines lines form) MissesNone
+OfStream (answers.Lines lines form) options bytes =
+    OfView (rules_shown form options) bytes (AreLines lines form) (BeginLines lines form) MissesNone
 OfStream answers.Exact options bytes =
-    OfView options bytes (λ view text. text ≡ report view.book) (λ view text. text ≡ report view.book) MissesNone
+    OfView (rules_of options) bytes (λ view text. text ≡ report view.book) (λ view text. text ≡ report view.book) MissesNone
 OfStream (answers.Sheet choice table) options bytes =
-    OfView options bytes (IsTableOf choice table) (BeginsTableOf choice table) (MissesSheet choice)
+    OfView (rules_of options) bytes (IsTableOf choice table) (BeginsTableOf choice table) (MissesSheet choice)
 OfStream answers.Check options bytes = OfCheck options bytes
 OfStream answers.Remade options bytes = OfRemade bytes
 OfStream answers.Bytes options bytes = OfBytes bytes

@@ -2,8 +2,12 @@
 use Rattle.std.specs.Prelude.{◌≡◌, ◌⊎◌, ℕ, Bool, true, false, Option, List, [], ◌++◌, take, Result, Ok, Err}
 use Rattle.xls_container.specs.Obfuscation.{IsObfuscated}
 use Rattle.xls_formula.specs.Table.{from_index_72}
+use Rattle.xls_formula.specs.declared.numbers.NumberStyle.{NumberStyle}
+use Rattle.xls_formula.specs.declared.numbers.NumberStyle.TheVariants.{Bits, Decimal}
 use Rattle.xls_formula.specs.Functions.{shipped}
+use Rattle.xls_meaning.specs.Rules.{Rules}
 use Rattle.xls_open.specs.Opening.{default_options}
+use Rattle.xls_open.specs.Workbook.{rules_of, rules_under}
 use Rattle.xls_open.specs.declared.options.XlsOptions.{XlsOptions}
 use Rattle.xls_view.specs.Viewing.{Viewed, IsViewed, IsViewFault}
 use Rattle.xls_output.specs.SinkState.{SinkState}
@@ -11,6 +15,7 @@ use Rattle.xls_output.specs.Gathering.{Stops, Wrote}
 use Rattle.xls_output.specs.declared.stop.Stop.TheVariants.{Memory}
 use Rattle.xls_output.specs.Each.{Concatenates}
 use Rattle.xls_readable.specs.declared.forms.Form.{Form}
+use Rattle.xls_readable.specs.declared.forms.Form.TheVariants.{Text, Json, Exact}
 use Rattle.xls_refs.specs.Views.{cited_in}
 use Rattle.xls_listing.specs.Listing.{Line, IsDisplayedLine, dump_lines, sheet_lines, formula_lines, ref_lines}
 use Rattle.xls_report.specs.Endings.{IsUntouched}
@@ -27,10 +32,20 @@ abbrev pub options_under : Option ℕ → Bool → XlsOptions
 options_under page true = record default_options { force_codepage = page }
 options_under page false = record default_options { force_codepage = page; functions = shipped ++ from_index_72 }
 
+-- how formulas show doubles in the lines of a form
+abbrev pub numbers_in : Form → NumberStyle
+numbers_in Text = Decimal
+numbers_in Json = Decimal
+numbers_in Exact = Bits
+
+-- what the lines of a form hang on
+abbrev pub rules_shown : Form → XlsOptions → Rules
+rules_shown form options = rules_under (numbers_in form) options
+
 -- why a stream isn't looked at
 abbrev pub RefusesView : XlsOptions → List ℕ → Failure → Type 0
 RefusesView options bytes failures.Obfuscated = IsObfuscated bytes
-RefusesView options bytes (failures.Stream e) = IsViewFault options bytes e
+RefusesView options bytes (failures.Stream e) = IsViewFault (rules_of options) bytes e
 RefusesView options bytes (failures.Stopped s) = s ≡ Memory
 RefusesView options bytes other = ⊥
 
@@ -57,17 +72,17 @@ MissesNone missing view = ⊥
 
 -- of bytes without a fault the whole text of their view was written; or a prefix of a part of it; or nothing,
 -- since the bytes have a fault, the view has no such sheet, or memory ran out
-abbrev pub OfView : XlsOptions → List ℕ → (IsWhole IsPart : Viewed → List ℕ → Type 0) → (Missing → Viewed → Type 0)
+abbrev pub OfView : Rules → List ℕ → (IsWhole IsPart : Viewed → List ℕ → Type 0) → (Missing → Viewed → Type 0)
     → SinkState → SinkState → Result (Unit {0}) Failure → Type 0
-OfView options bytes IsWhole IsPart Misses before after (Ok x) =
-    (view : Viewed) × IsViewed options bytes view × (text : List ℕ) × IsWhole view text × Wrote before after text
-OfView options bytes IsWhole IsPart Misses before after (Err (failures.Stream e)) =
-    IsViewFault options bytes e × IsUntouched before after
-OfView options bytes IsWhole IsPart Misses before after (Err (failures.Missing m)) =
-    (view : Viewed) × IsViewed options bytes view × Misses m view × IsUntouched before after
-OfView options bytes IsWhole IsPart Misses before after (Err (failures.Stopped s)) =
+OfView rules bytes IsWhole IsPart Misses before after (Ok x) =
+    (view : Viewed) × IsViewed rules bytes view × (text : List ℕ) × IsWhole view text × Wrote before after text
+OfView rules bytes IsWhole IsPart Misses before after (Err (failures.Stream e)) =
+    IsViewFault rules bytes e × IsUntouched before after
+OfView rules bytes IsWhole IsPart Misses before after (Err (failures.Missing m)) =
+    (view : Viewed) × IsViewed rules bytes view × Misses m view × IsUntouched before after
+OfView rules bytes IsWhole IsPart Misses before after (Err (failures.Stopped s)) =
     ((s ≡ Memory) × IsUntouched before after)
-    ⊎ ((view : Viewed) × IsViewed options bytes view × (text : List ℕ) × IsPart view text × Stops before [] after text s)
-OfView options bytes IsWhole IsPart Misses before after (Err (failures.File f)) = ⊥
-OfView options bytes IsWhole IsPart Misses before after (Err failures.Obfuscated) = ⊥
-OfView options bytes IsWhole IsPart Misses before after (Err (failures.Canonical e)) = ⊥
+    ⊎ ((view : Viewed) × IsViewed rules bytes view × (text : List ℕ) × IsPart view text × Stops before [] after text s)
+OfView rules bytes IsWhole IsPart Misses before after (Err (failures.File f)) = ⊥
+OfView rules bytes IsWhole IsPart Misses before after (Err failures.Obfuscated) = ⊥
+OfView rules bytes IsWhole IsPart Misses before after (Err (failures.Canonical e)) = ⊥

@@ -1,16 +1,28 @@
 //! The lines of a workbook.
 
+ghost use Rattle.std.specs.Prelude.{◌≡◌};
 ghost use Rattle.xls_listing.specs.Listing.{IsDisplayedLine};
 ghost use Rattle.xls_output.specs.Each.{DeliversEach};
-ghost use Rattle.xls_answers.specs.Views.{AreLines, BeginLines, MissesNone, OfView, lines_listed};
+ghost use Rattle.xls_answers.specs.Views.{AreLines, BeginLines, MissesNone, OfView, lines_listed, numbers_in, rules_shown};
 
 use crate::failure::Failure;
 use std::alloc::Global;
+use xls_formula::NumberStyle;
 use xls_listing::{write_formula_list, write_listing, write_ref_list, write_sheet_list};
 use xls_open::XlsOptions;
 use xls_output::{Sink, Stop};
 use xls_readable::{Form, Listing};
 use xls_view::View;
+
+/// How formulas show doubles in the lines of a form.
+fn numbers_in(form: Form) -> NumberStyle
+    ensures { result ≡ numbers_in form }
+{
+    match form {
+        Form::Text | Form::Json => NumberStyle::Decimal,
+        Form::Exact => NumberStyle::Bits,
+    }
+}
 
 /// Writes the lines of a view.
 fn write_view<K: Sink>(
@@ -40,10 +52,10 @@ pub fn write_lines<K: Sink>(
     options: &XlsOptions,
     bytes: &[u8],
 ) -> Result<(), Failure>
-    ensures { OfView options.now bytes.now (AreLines lines form) (BeginLines lines form) MissesNone
+    ensures { OfView (rules_shown form options.now) bytes.now (AreLines lines form) (BeginLines lines form) MissesNone
         (K.state sink.old) (K.state sink.new) result }
 {
-    let view = View::new(alloc, bytes, options)?;
+    let view = View::new(alloc, bytes, options, numbers_in(form))?;
     write_view(alloc, sink, lines, form, &view)?;
     Ok(())
 }

@@ -4,6 +4,7 @@ ghost use Rattle.std.specs.Prelude.{◌≡◌, IfErr, IfOk, length};
 ghost use Rattle.xls_answers.specs.Answers.{HasNumber, OfFile, OfReadable, OfStream};
 ghost use Rattle.xls_report.specs.Report.{report};
 ghost use Rattle.xls_answers.specs.Views.{MissesNone, OfView, RefusesView};
+ghost use Rattle.xls_open.specs.Workbook.{rules_of};
 ghost use Rattle.xls_view.specs.Viewing.{IsViewed};
 
 use crate::answer::Answer;
@@ -14,6 +15,7 @@ use crate::remake::{write_remade, write_whole};
 use crate::tables::write_sheet_of;
 use std::alloc::Global;
 use xls_container::{Container, is_obfuscated};
+use xls_formula::NumberStyle;
 use xls_open::XlsOptions;
 use xls_output::Sink;
 use xls_report::write_report;
@@ -26,10 +28,10 @@ fn write_exact<K: Sink>(
     options: &XlsOptions,
     bytes: &[u8],
 ) -> Result<(), Failure>
-    ensures { OfView options.now bytes.now (λ view text. text ≡ report view.book) (λ view text. text ≡ report view.book) MissesNone
+    ensures { OfView (rules_of options.now) bytes.now (λ view text. text ≡ report view.book) (λ view text. text ≡ report view.book) MissesNone
         (K.state sink.old) (K.state sink.new) result }
 {
-    let view = View::new(alloc, bytes, options)?;
+    let view = View::new(alloc, bytes, options, NumberStyle::Bits)?;
     write_report(alloc, sink, &view)?;
     Ok(())
 }
@@ -63,12 +65,12 @@ pub fn view_of<'s>(
     options: &XlsOptions,
     bytes: &'s [u8],
 ) -> Result<View<'s>, Failure>
-    ensures ok { IfOk result (λ view. IsViewed options.now bytes.now view) }
+    ensures ok { IfOk result (λ view. IsViewed (rules_of options.now) bytes.now view) }
     ensures sheets { IfOk result (λ view. length view.book.contents ≡ length view.book.sheets) }
     ensures err { IfErr result (RefusesView options.now bytes.now) }
 {
     if !is_obfuscated(bytes) {
-        return Ok(View::new(alloc, bytes, options)?);
+        return Ok(View::new(alloc, bytes, options, NumberStyle::Bits)?);
     }
     Err(Failure::Obfuscated)
 }

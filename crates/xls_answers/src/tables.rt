@@ -7,6 +7,7 @@ ghost use Rattle.xls_data.specs.Sheets.{sheet_content};
 ghost use Rattle.xls_range.specs.Positions.{IsAscending};
 ghost use Rattle.xls_biff.specs.Cells.{CellEntry};
 ghost use Rattle.xls_readable.specs.Choices.{IsNumbered};
+ghost use Rattle.xls_open.specs.Workbook.{rules_of};
 ghost use Rattle.xls_answers.specs.Sheets.{BeginsTableOf, HasNoSheet, IsMissing, IsTableOf, MissesSheet, WritesCells, WritesSheetAt, chosen_index, first_worksheet_from, index_of_number, is_worksheet, last_named_from};
 ghost use Rattle.xls_answers.specs.Views.{OfView};
 
@@ -14,6 +15,7 @@ use crate::failure::{Failure, Missing};
 use std::alloc::{AllocError, Global};
 use xls_csv::write_rows;
 use xls_data::{Sheet, SheetType};
+use xls_formula::NumberStyle;
 use xls_open::XlsOptions;
 use xls_output::{Sink, Stop};
 use xls_readable::{SheetChoice, Table};
@@ -153,10 +155,10 @@ pub(crate) fn write_sheet_of<K: Sink>(
     bytes: &[u8],
 ) -> Result<(), Failure>
     requires { IsNumbered choice.now }
-    ensures { OfView options.now bytes.now (IsTableOf choice.now table.now) (BeginsTableOf choice.now table.now) (MissesSheet choice.now)
+    ensures { OfView (rules_of options.now) bytes.now (IsTableOf choice.now table.now) (BeginsTableOf choice.now table.now) (MissesSheet choice.now)
         (K.state sink.old) (K.state sink.new) result }
 {
-    let view = View::new(alloc, bytes, options)?;
+    let view = View::new(alloc, bytes, options, NumberStyle::Bits)?;
     let index = chosen(alloc, &view, choice)?;
     write_sheet_at(alloc, sink, table, &view, index)?;
     Ok(())

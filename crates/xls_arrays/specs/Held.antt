@@ -3,6 +3,7 @@ use Rattle.std.specs.Prelude.{◌≡◌, ◌⊎◌, ℕ, ◌<◌, ◌≤◌, Boo
 use Rattle.xls_meaning.specs.Reading.{BookView}
 use Rattle.xls_container.specs.Obfuscation.{IsObfuscated}
 use Rattle.xls_record.specs.declared.error.XlsError.TheVariants as errors
+use Rattle.xls_open.specs.Workbook.{rules_of}
 use Rattle.xls_view.specs.Viewing.{IsViewFault, IsViewed, Viewed}
 use Rattle.xls_arrays.specs.declared.refusal.Refusal.{Refusal}
 use Rattle.xls_arrays.specs.declared.refusal.Refusal.TheVariants as refusals
@@ -19,7 +20,7 @@ pub record IsPlainStream (options : Options) (stream : List ℕ) : Type 0 where
 -- the view of a stream that is read
 pub record ShowsStream (options : Options) (stream : List ℕ) (view : Viewed) : Type 0 where
   pub plain : IsPlainStream options stream
-  pub viewed : IsViewed (options_by options) stream view
+  pub viewed : IsViewed (rules_of (options_by options)) stream view
 
 -- these are the arrays of the sheets that are asked for, and this is the date system
 pub record IsHeld (options : Options) (stream : List ℕ) (is_1904 : Bool) (a : Arrays) : Type 0 where
@@ -44,7 +45,7 @@ RefusesStream options stream refusals.Obfuscated = IsObfuscated stream
 RefusesStream options stream (refusals.Stream error) =
     (IsObfuscated stream → ⊥)
     × (((max_bytes_in options < length stream) × (error ≡ errors.TooLarge (max_bytes_in options)))
-    ⊎ ((length stream ≤ max_bytes_in options) × IsViewFault (options_by options) stream error))
+    ⊎ ((length stream ≤ max_bytes_in options) × IsViewFault (rules_of (options_by options)) stream error))
 RefusesStream options stream (refusals.NoSheet index) =
     (view : Viewed) × ShowsStream options stream view × Misses options view.book index
 RefusesStream options stream other = ⊥

@@ -15,6 +15,7 @@ use crate::rooms::{Rooms, lay_name_item, lay_text};
 use crate::sheets::{lay_bare_sheets, lay_whole_sheet, lay_whole_sheets};
 use std::alloc::{AllocError, Global};
 use xls_container::is_obfuscated;
+use xls_formula::NumberStyle;
 use xls_open::MAX_BYTES;
 use xls_strings::XlsError;
 use xls_view::View;
@@ -130,7 +131,7 @@ pub(crate) fn lay_stream(
 {
     refuse_bytes(stream, options)?;
     let reader = options_of(alloc, options)?;
-    let view = View::new(alloc, stream, &reader)?;
+    let view = View::new(alloc, stream, &reader, NumberStyle::Bits)?;
     lay_view(alloc, rooms, &view, options)?;
     Ok(view.has_1904_epoch())
 }

@@ -31,7 +31,7 @@ module _ (s : Settings) (all : List SheetRecords) where
   displayed_ordered (v ∷ vs) [] a = absurd a
   displayed_ordered (v ∷ vs) (q ∷ qs) a = ((a.0.ascending, a.0.formulas_ascending), displayed_ordered vs qs a.1)
 
-module _ (options : XlsOptions) (bytes : List ℕ) (v : Viewed) (is : IsViewed options bytes v) where
+module _ (options : XlsOptions) (bytes : List ℕ) (v : Viewed) (is : IsViewed (rules_of options) bytes v) where
   reading : IsReading (rules_of options) is.entries v.book
   reading = is.every is.entries is.carries
 
@@ -70,11 +70,11 @@ open_ok options bytes (Some all) (Ok book) same within o = subst (IsOpened optio
 open_ok options bytes left (Err e) same within o = tt
 
 view_cause : (options : XlsOptions) (bytes : List ℕ) (was now : SourceState) (e : XlsError) → IfSome was.left (λ all. all ≡ bytes)
-    → length bytes ≤ options.max_bytes → ViewCause options bytes e → OpenCause options was now e
+    → length bytes ≤ options.max_bytes → ViewCause (rules_of options) bytes e → OpenCause options was now e
 view_cause options bytes was now errors.Memory same within c = tt
 view_cause options bytes was now e same within c = checked_cause options bytes was now e same within c
 
-view_named : (options : XlsOptions) (bytes : List ℕ) (e : XlsError) → ViewCause options bytes e → IsOfOpening e
+view_named : (options : XlsOptions) (bytes : List ℕ) (e : XlsError) → ViewCause (rules_of options) bytes e → IsOfOpening e
 view_named options bytes errors.Memory c = tt
 view_named options bytes e c = checked_named options bytes e c
 

@@ -8,7 +8,7 @@ use Rattle.xls_range.specs.Positions.{Position}
 use Rattle.xls_meaning.specs.SheetTable.{nonempty_formulas}
 use Rattle.xls_record.specs.declared.error.XlsError.{XlsError}
 use Rattle.xls_open.specs.declared.options.XlsOptions.{XlsOptions}
-use Rattle.xls_open.specs.Workbook.{Workbook, view_of, formula_content}
+use Rattle.xls_open.specs.Workbook.{Workbook, view_of, formula_content, rules_of}
 use Rattle.xls_view.specs.Viewing.{Viewed, IsViewed, ViewCause}
 
 -- a list of formulas that is empty or begins with one that is shown
@@ -32,5 +32,5 @@ FirstDisplayed all (Some f) =
 -- bytes that are opened: the workbook of a view of them under these options, or why there is no view
 abbrev pub OpensBytes : XlsOptions → List ℕ → Result Workbook XlsError → Type 0
 OpensBytes options bytes (Ok book) =
-    (book.options ≡ options) × (v : Viewed) × IsViewed options bytes v × (view_of book ≡ v.book)
-OpensBytes options bytes (Err e) = ViewCause options bytes e
+    (book.options ≡ options) × (v : Viewed) × IsViewed (rules_of options) bytes v × (view_of book ≡ v.book)
+OpensBytes options bytes (Err e) = ViewCause (rules_of options) bytes e

@@ -25,6 +25,7 @@ use std::collections::BTreeMap;
 use std::marker::Model;
 use xls_biff::XlsError;
 use xls_data::{CellFormat, Data, Dimensions, HeaderRow, Sheet};
+use xls_formula::NumberStyle;
 use xls_open::XlsOptions;
 use xls_props::{WorkbookProperties, workbook_properties_of};
 use xls_range::Range;
@@ -80,7 +81,7 @@ impl Model for Xls {
 fn open_bytes(alloc: Global, bytes: &[u8], options: XlsOptions) -> Result<Xls, XlsError>
     ensures { OpensBytes options bytes.now result }
 {
-    let view = View::new(alloc, bytes, &options)?;
+    let view = View::new(alloc, bytes, &options, NumberStyle::Bits)?;
     let contents = contents_of(alloc, &view)?;
     let ViewParts {
         sheets,

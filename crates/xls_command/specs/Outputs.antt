@@ -110,7 +110,7 @@ IsPropertyOutput bytes text = (length bytes ≤ property_limit) × IsPropertyTex
 -- the lines of the cells that the formulas of the bytes' workbook cite
 abbrev pub IsRefsText : List ℕ → List ℕ → Type 0
 IsRefsText bytes text =
-    (book : BookCited) × IsBookCited default_options bytes book × (text ≡ exact_lines (ref_lines book))
+    (book : BookCited) × IsBookCited default_rules bytes book × (text ≡ exact_lines (ref_lines book))
 
 -- the line of too many bytes
 abbrev pub IsLengthLine : List ℕ → List ℕ → Type 0

@@ -1,7 +1,7 @@
 //! What each command does.
 
 ghost use Rattle.std.specs.Prelude.{◌≡◌, ◌≤◌, ◌↔◌, IsTrue, length, IfErr, IfOk, Some, None};
-ghost use Rattle.xls_open.specs.Opening.{default_options};
+ghost use Rattle.xls_open.specs.Opening.{default_options, default_rules};
 ghost use Rattle.xls_refs.specs.Citing.{IsBookCited};
 ghost use Rattle.xls_refs.specs.Views.{cited_in};
 ghost use Rattle.xls_command.specs.Endings.{Ends, IsViewRefusal, OpensTo, Reads};
@@ -17,6 +17,7 @@ use std::alloc::Global;
 use xls_biff::XlsError;
 use xls_book::{Source, StreamBytes, XlsOptions, check_stream, read_all};
 use xls_documents::write_properties;
+use xls_formula::NumberStyle;
 use xls_listing::write_ref_list;
 use xls_open::{MAX_BYTES, MAX_CELLS};
 use xls_output::{Sink, Stop};
@@ -32,11 +33,11 @@ use xls_view::View;
 fn view_of<'a>(alloc: Global, bytes: &'a [u8]) -> Result<View<'a>, XlsError>
     requires within { length bytes.now ≤ default_options.max_bytes }
     ensures opened { IfOk result (λ view. OpensTo bytes.now view.book) }
-    ensures cited { IfOk result (λ view. IsBookCited default_options bytes.now (cited_in view)) }
+    ensures cited { IfOk result (λ view. IsBookCited default_rules bytes.now (cited_in view)) }
     ensures fault { IfErr result (IsViewRefusal bytes.now) }
 {
     let options = XlsOptions::defaults(alloc)?;
-    View::new(alloc, bytes, &options)
+    View::new(alloc, bytes, &options, NumberStyle::Bits)
 }
 
 /// Writes the dump of the bytes' workbook, or the first fault of the bytes.

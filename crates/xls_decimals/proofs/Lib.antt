@@ -5,5 +5,4 @@ pub mod FractionLemmas
 pub mod OrderLemmas
 pub mod ReadingLemmas
 pub mod LawLemmas
-pub mod FormulaLemmas
 pub mod StandardFacts

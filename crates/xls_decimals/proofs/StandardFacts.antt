@@ -16,7 +16,6 @@ use Rattle.xls_decimals.specs.Decimals.{fixed_text}
 use Rattle.xls_decimals.specs.Fractions.{nearest}
 use Rattle.xls_decimals.specs.Texts.{Ymd, IsSerialDate, date_text, clock_text, time_after_day, duration_text}
 use Rattle.xls_decimals.specs.Moments.{moment_of, span_of}
-use Rattle.xls_decimals.specs.Formulas.{bits_of_word, is_quote, is_word_byte}
 
 -- ---- doubles with one text
 
@@ -143,26 +142,6 @@ known_leap_day date h = h.leap refl refl
 pub known_dates_1904 : HasDate true 1 (1904, 1, 2) × HasDate true 1461 (1908, 1, 1) × HasDate true 2_957_003 (9999, 12, 31)
 unfolding days_from_civil day_count days_of_years days_of_months
 known_dates_1904 = (λ d h. (h.from_1904 refl).counted, λ d h. (h.from_1904 refl).counted, λ d h. (h.from_1904 refl).counted)
-
--- ---- formulas
-
-pub known_words : map bits_of_word (codes "0x3ff8000000000000" ∷ codes "0x00000000000000ff"
-    ∷ codes "0x3FF8000000000000" ∷ codes "0x3ff800000000000" ∷ codes "0x3ff80000000000000"
-    ∷ codes "1x3ff8000000000000" ∷ codes "SUM" ∷ [])
-    ≡ Some 0x3ff8_0000_0000_0000 ∷ Some 255 ∷ None ∷ None ∷ None ∷ None ∷ None ∷ []
-known_words = refl
-
--- the quotes are `"` and `'`; bytes of words are digits, letters, `_`, `.`, `?`, `\`, the first after ASCII
-pub known_quotes : map is_quote (codes "\"'`(") ≡ true ∷ true ∷ false ∷ false ∷ []
-known_quotes = refl
-
-pub known_word_bytes : map is_word_byte (codes "/09:@AZ[`az{_.?\\") ≡ false ∷ true ∷ true ∷ false ∷ false ∷ true
-    ∷ true ∷ false ∷ false ∷ true ∷ true ∷ false ∷ true ∷ true ∷ true ∷ true ∷ []
-known_word_bytes = refl
-
-pub known_word_edges : map is_word_byte (0x80 ∷ 0xff ∷ 0x22 ∷ 0x27 ∷ 0x20 ∷ 0x21 ∷ 0x7f ∷ []) ≡ true ∷ true
-    ∷ false ∷ false ∷ false ∷ false ∷ false ∷ []
-known_word_edges = refl
 
 -- ---- texts that read back
 

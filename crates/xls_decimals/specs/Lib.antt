@@ -3,6 +3,4 @@ pub mod Fractions
 pub mod Texts
 pub mod Counted
 pub mod Moments
-pub mod Formulas
-pub mod Pieces
 pub mod Laws

@@ -4,7 +4,6 @@
 
 mod decimals;
 mod durations;
-mod formulas;
 mod fractions;
 mod laws;
 mod moments;
@@ -13,7 +12,6 @@ mod short_texts;
 
 pub use decimals::{push_decimal, push_double};
 pub use durations::push_duration;
-pub use formulas::push_formula;
 pub use laws::dates_differ;
 pub use moments::{push_date, push_date_or_duration};
 pub use numbers::push_number;

@@ -11,10 +11,13 @@ use Rattle.xls_record.specs.declared.error.XlsError.TheVariants as errors
 use Rattle.xls_record.specs.declared.version.Biff.{Biff}
 use Rattle.xls_record.specs.declared.version.Biff.TheVariants.{Biff5, Biff8}
 use Rattle.xls_text.specs.declared.encoding.XlsEncoding.{XlsEncoding}
+use Rattle.xls_rounding.specs.Fractions.{magnitude, places, places_up_to}
+use Rattle.xls_rounding.specs.Rounding.{decimal_of, of_15_digits}
 use Rattle.xls_formula.specs.Context.{Context}
 use Rattle.xls_formula.specs.Defined.{defined_at, lbl_at}
 use Rattle.xls_formula.specs.Fold.{formula_text}
 use Rattle.xls_formula.specs.Functions.{Function, shipped}
+use Rattle.xls_formula.specs.declared.numbers.NumberStyle.TheVariants.{Bits, Decimal}
 
 -- a workbook of one sheet, `A`, of one name, `N`, and of a reference to the sheet
 abbrev context : XlsEncoding → Biff → Context
@@ -25,6 +28,7 @@ context page biff = record {
   page = page;
   biff = biff;
   functions = (codes "PI", 0) ∷ (codes "SUM", 255) ∷ (codes "ROUND", 2) ∷ [];
+  numbers = Bits;
 }
 
 -- cells on a sheet: the last row and column of BIFF8's, an area, a reference that holds no sheet
@@ -78,6 +82,7 @@ early = record {
   page = Windows1252;
   biff = Biff5;
   functions = [];
+  numbers = Bits;
 }
 
 abbrev early_prefix : List ℕ
@@ -115,6 +120,13 @@ known_double = refl
 known_fraction : formula_text (context Utf16 Biff8) (9 ∷ 0 ∷ 0x1F ∷ 0 ∷ 0 ∷ 0 ∷ 0 ∷ 0 ∷ 0 ∷ 0x04 ∷ 0x40 ∷ []) ≡ Ok (codes "0x4004000000000000")
 unfolding digits size_of_parts sixteen_digits
 known_fraction = refl
+
+-- the double 1.5 beside a sheet whose name is its bits: as Excel shows numbers, and by their bits
+known_styles : map (λ style. formula_text (record { sheets = codes "0x3ff8000000000000" ∷ []; names = []; refs = pos 0 ∷ []; page = Utf16; biff = Biff8; functions = []; numbers = style })
+    (17 ∷ 0 ∷ 0x3A ∷ 0 ∷ 0 ∷ 0 ∷ 0 ∷ 0 ∷ 0 ∷ 0x1F ∷ 0 ∷ 0 ∷ 0 ∷ 0 ∷ 0 ∷ 0 ∷ 0xF8 ∷ 0x3F ∷ 0x05 ∷ [])) (Bits ∷ Decimal ∷ [])
+    ≡ Ok (codes "0x3ff8000000000000!$A$1*0x3ff8000000000000") ∷ Ok (codes "0x3ff8000000000000!$A$1*1.5") ∷ []
+unfolding digits column_name word_of size_of_parts sixteen_digits decimal_of of_15_digits magnitude places places_up_to
+known_styles = refl
 
 -- the error values by their codes
 known_errors : map (λ code. formula_text (context Utf16 Biff8) (2 ∷ 0 ∷ 0x1C ∷ code ∷ [])) (0x00 ∷ 0x07 ∷ 0x0F ∷ 0x17 ∷ 0x1D ∷ 0x24 ∷ 0x2A ∷ 0x2B ∷ [])

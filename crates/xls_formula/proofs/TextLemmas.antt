@@ -80,7 +80,7 @@ glyph_ascii : (upper : Bool) (d : ℕ) → d < 16 → digit_glyph upper d < 128
 glyph_ascii false d lt = grind (arith, nat_tests)
 glyph_ascii true d lt = grind (arith, nat_tests)
 
-either_ascii : (b : Bool) (xs ys : List ℕ) → IsAscii xs → IsAscii ys → IsAscii (if b then xs else ys)
+pub either_ascii : (b : Bool) (xs ys : List ℕ) → IsAscii xs → IsAscii ys → IsAscii (if b then xs else ys)
 either_ascii true xs ys a b = a
 either_ascii false xs ys a b = b
 

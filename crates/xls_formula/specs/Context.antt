@@ -3,9 +3,10 @@ use Rattle.std.specs.Prelude.{ℕ, ◌-◌, ℤ, pos, negsuc, List, ◌==◌, if
 use Rattle.xls_text.specs.declared.encoding.XlsEncoding.{XlsEncoding}
 use Rattle.xls_record.specs.declared.version.Biff.{Biff}
 use Rattle.xls_formula.specs.Functions.{Function}
+use Rattle.xls_formula.specs.declared.numbers.NumberStyle.{NumberStyle}
 
 -- names of the sheets, defined names with their texts, the numbers of the references' sheets, code
--- page, version, and functions by index; texts as lists of characters
+-- page, version, functions by index, and how doubles are shown; texts as lists of characters
 pub record Context : Type 0 where
   pub sheets : List (List ℕ)
   pub names : List (List ℕ × List ℕ)
@@ -13,6 +14,7 @@ pub record Context : Type 0 where
   pub page : XlsEncoding
   pub biff : Biff
   pub functions : List Function
+  pub numbers : NumberStyle
 
 -- ---- sheets
 

@@ -4,10 +4,9 @@ use Rattle.std.specs.Fmt.{decimal}
 use Rattle.xls_record.specs.Reading.{◌>>=◌, gives}
 use Rattle.xls_text.specs.declared.encoding.XlsEncoding.{XlsEncoding}
 use Rattle.xls_text.specs.Pages.{string_text}
-use Rattle.xls_dates.specs.Numbers.{bits_text}
 use Rattle.xls_record.specs.declared.error.XlsError.{XlsError}
 use Rattle.xls_record.specs.declared.error.XlsError.TheVariants as errors
-use Rattle.xls_formula.specs.Words.{operator_text, err_text, bool_word, space_mark}
+use Rattle.xls_formula.specs.Words.{operator_text, err_text, bool_word, number_word, space_mark}
 use Rattle.xls_formula.specs.Functions.{Function}
 use Rattle.xls_formula.specs.Context.{Context, sheet_text, name_text}
 use Rattle.xls_ptg.specs.declared.tokens.Ptg.{Ptg}
@@ -65,7 +64,7 @@ effect context (ptg.AttrSpaceSemi is_return count) =
 effect context (ptg.Err error) = Ok (pushes (word (err_text error)))
 effect context (ptg.Bool truth) = Ok (pushes (word (bool_word truth)))
 effect context (ptg.Int n) = Ok (pushes (word (decimal n)))
-effect context (ptg.Num bits) = Ok (pushes (word (bits_text bits)))
+effect context (ptg.Num bits) = Ok (pushes (word (number_word context.numbers bits)))
 effect context ptg.Array = Ok (pushes (word (codes "{PtgArray}")))
 effect context (ptg.Func iftab) = gives (λ f. calls f.1 f.0) (function_at context iftab)
 effect context (ptg.FuncVar count iftab) = gives (λ f. calls count f.0) (function_at context iftab)

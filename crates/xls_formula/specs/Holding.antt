@@ -4,7 +4,6 @@ use Rattle.std.specs.Borrow.{Bor}
 use Rattle.std.specs.Fmt.{decimal}
 use Rattle.std.specs.Option.{option_map}
 use Rattle.std.specs.Str.{chars}
-use Rattle.xls_dates.specs.Numbers.{bits_text}
 use Rattle.xls_formula.specs.declared.scope.Scope.{Scope}
 use Rattle.xls_formula.specs.declared.words.Word.{Word}
 use Rattle.xls_formula.specs.declared.words.Word.TheVariants as words
@@ -13,7 +12,7 @@ use Rattle.xls_formula.specs.declared.effect.Effect.TheVariants as effects
 use Rattle.xls_formula.specs.Context.{Context}
 use Rattle.xls_formula.specs.Effects.{Effect, pushes, wraps, pairs, calls, spaces, keeps, str_text}
 use Rattle.xls_formula.specs.Tree.{Tree, word, ref, area}
-use Rattle.xls_formula.specs.Words.{err_text, space_mark}
+use Rattle.xls_formula.specs.Words.{err_text, number_word, space_mark}
 
 -- what a formula may name
 abbrev pub scope_context : Scope → Context
@@ -25,6 +24,7 @@ scope_context scope =
       page = scope.encoding;
       biff = scope.biff;
       functions = scope.functions.now;
+      numbers = scope.numbers;
     }
 
 -- a text that is lent, where there is one
@@ -35,7 +35,7 @@ lent_text text = option_map (λ (t : Bor (List ℕ)). chars t.now) text
 abbrev pub tree_of : Word → Tree
 tree_of (words.Plain text) = word (chars text.now)
 tree_of (words.Int n) = word (decimal n)
-tree_of (words.Num bits) = word (bits_text bits)
+tree_of (words.Num style bits) = word (number_word style bits)
 tree_of (words.Err error) = word (err_text error)
 tree_of (words.Str page high units cch) = word (str_text page high units.now cch)
 tree_of (words.Ref sheet corner) = ref (lent_text sheet) corner

@@ -89,7 +89,7 @@ fn ptg_effect<'a>(scope: Scope<'a>, ptg: Ptg<&'a [u8]>) -> Result<Effect<'a>, Xl
         Ptg::Err(error) => Ok(Effect::Pushes(Word::Err(error))),
         Ptg::Bool(truth) => Ok(Effect::Pushes(Word::Plain(bool_text(truth)))),
         Ptg::Int(n) => Ok(Effect::Pushes(Word::Int(n))),
-        Ptg::Num(bits) => Ok(Effect::Pushes(Word::Num(bits))),
+        Ptg::Num(bits) => Ok(Effect::Pushes(Word::Num(scope.numbers, bits))),
         Ptg::Array => Ok(Effect::Pushes(Word::Plain("{PtgArray}"))),
         Ptg::Func { iftab } => {
             let (name, count) = function_at(scope, iftab)?;

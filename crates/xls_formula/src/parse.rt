@@ -13,6 +13,7 @@ use crate::buffer::Operands;
 use crate::effect::read_effect;
 use crate::functions::FunctionTable;
 use crate::names::Names;
+use crate::numbers::NumberStyle;
 use crate::put::put;
 use crate::scope::Scope;
 use std::alloc::Global;
@@ -151,6 +152,7 @@ pub fn parse_formula(
       page = encoding.now;
       biff = biff;
       functions = functions.now;
+      numbers = NumberStyle.Bits;
     }) rgce.now) }
 {
     let scope = Scope {
@@ -160,6 +162,7 @@ pub fn parse_formula(
         encoding: *encoding,
         biff,
         functions,
+        numbers: NumberStyle::Bits,
     };
     text_in_scope(alloc, rgce, scope)
 }

@@ -7,10 +7,11 @@ ghost use Rattle.xls_formula.specs.Holding.{scope_context};
 
 use crate::functions::FunctionTable;
 use crate::names::Names;
+use crate::numbers::NumberStyle;
 use xls_biff::{Biff, Refs, Strings};
 use xls_text::XlsEncoding;
 
-/// The lists that a formula names things by, the code page and the version.
+/// The lists that a formula names things by, the code page, the version, and how it shows doubles.
 #[derive(Clone, Copy)]
 pub struct Scope<'a> {
     pub sheets: &'a Strings,
@@ -19,6 +20,7 @@ pub struct Scope<'a> {
     pub encoding: XlsEncoding,
     pub biff: Biff,
     pub functions: &'a FunctionTable,
+    pub numbers: NumberStyle,
 }
 
 /// The name of the sheet whose number a reference holds, and `#REF` where either is missing or

@@ -6,18 +6,21 @@ ghost use Rattle.std.specs.Str.{IsAscii, chars};
 ghost use Rattle.xls_bytes.specs.Columns.{column_name};
 ghost use Rattle.xls_strings.specs.Texts.{text_of};
 ghost use Rattle.xls_dates.specs.Numbers.{bits_text};
+ghost use Rattle.xls_rounding.specs.FormulaNumbers.{formula_number};
 ghost use Rattle.xls_text.specs.Pages.{string_text};
 ghost use Rattle.xls_formula.specs.Effects.{str_text};
 ghost use Rattle.xls_formula.specs.Holding.{lent_text, tree_of};
 ghost use Rattle.xls_formula.specs.Tree.{area_text, corner_text, dollar, on_sheet, render};
 ghost use Rattle.xls_data.specs.Errors.{error_text};
-ghost use Rattle.xls_formula.specs.Words.{bool_word, err_text, operator_text, space_mark};
+ghost use Rattle.xls_formula.specs.Words.{bool_word, err_text, number_word, operator_text, space_mark};
 
+use crate::numbers::NumberStyle;
 use std::alloc::AllocError;
 use std::str::from_utf8;
 use xls_bytes::push_column;
 use xls_data::{CellErrorType, Number};
 use xls_ptg::{Corner, Operator};
+use xls_rounding::push_formula_number;
 use xls_text::XlsEncoding;
 
 /// An operand without operands of its own.
@@ -28,7 +31,7 @@ pub enum Word<'a> {
     /// A whole number.
     Int(u16),
     /// The double with these bits.
-    Num(u64),
+    Num(NumberStyle, u64),
     /// An error value.
     Err(CellErrorType),
     /// A string in quotes.
@@ -117,13 +120,31 @@ pub(crate) fn push_hex(out: &mut String, n: u8) -> Result<(), AllocError>
     Ok(())
 }
 
-/// Appends the double with these bits.
-fn push_double(out: &mut String, bits: u64) -> Result<(), AllocError>
+/// Appends a double, a whole number in decimal or else by its bits.
+fn push_bits(out: &mut String, bits: u64) -> Result<(), AllocError>
     ensures { OnOk result (text_of out.new ≡ text_of out.old ++ bits_text bits) }
 {
     let number = Number::Bits(bits);
     write!(out, "{number}")?;
     Ok(())
+}
+
+/// Appends a double as Excel shows it in a formula.
+fn push_decimal(out: &mut String, bits: u64) -> Result<(), AllocError>
+    ensures { OnOk result (text_of out.new ≡ text_of out.old ++ formula_number bits) }
+{
+    push_formula_number(bits, out)?;
+    Ok(())
+}
+
+/// Appends the double with these bits.
+fn push_double(out: &mut String, style: NumberStyle, bits: u64) -> Result<(), AllocError>
+    ensures { OnOk result (text_of out.new ≡ text_of out.old ++ number_word style bits) }
+{
+    match style {
+        NumberStyle::Bits => push_bits(out, bits),
+        NumberStyle::Decimal => push_decimal(out, bits),
+    }
 }
 
 /// Appends an error value as a cell prints it.
@@ -269,7 +290,7 @@ pub(crate) fn push_word(out: &mut String, word: Word<'_>) -> Result<(), AllocErr
     match word {
         Word::Plain(text) => push_text(out, text),
         Word::Int(n) => push_number(out, u32::from(n)),
-        Word::Num(bits) => push_double(out, bits),
+        Word::Num(style, bits) => push_double(out, style, bits),
         Word::Err(error) => push_error(out, error),
         Word::Str {
             encoding,

@@ -10,6 +10,7 @@ use Rattle.xls_stream.specs.declared.part.Part.{Part}
 use Rattle.xls_stream.proofs.HoldingLemmas.{has_item, one_holds}
 use Rattle.xls_record.specs.declared.error.XlsError.{XlsError}
 use Rattle.xls_record.specs.declared.error.XlsError.TheVariants as errors
+use Rattle.xls_formula.specs.declared.numbers.NumberStyle.TheVariants.{Bits}
 use Rattle.xls_meaning.specs.Rules.{Rules}
 use Rattle.xls_meaning.specs.Faults.{IsSound}
 use Rattle.xls_open.proofs.AlikeLemmas.{checked_alike}
@@ -44,6 +45,7 @@ rules_for bytes = record {
   max_bytes = length bytes;
   max_cells = 33_554_432;
   functions = [];
+  numbers = Bits;
 }
 
 faultless_sound : (bytes : List ℕ) → IsFaultless bytes → IsSound (rules_for bytes) bytes

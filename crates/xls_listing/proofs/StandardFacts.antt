@@ -45,7 +45,7 @@ second_line = record {
 abbrev known_formula : Line
 known_formula = record {
   word = codes "formula";
-  members = (codes "row", item.count 0) ∷ (codes "column", item.count 0) ∷ (codes "text", item.formula (codes "B1")) ∷ [];
+  members = (codes "row", item.count 0) ∷ (codes "column", item.count 0) ∷ (codes "text", item.text (codes "B1")) ∷ [];
 }
 
 pub known_sheets : sheet_lines book ≡ first_line ∷ second_line ∷ []

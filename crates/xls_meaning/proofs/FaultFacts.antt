@@ -9,20 +9,21 @@ use Rattle.xls_stream.specs.declared.part.Part.{Part}
 use Rattle.xls_stream.specs.declared.part.Part.TheVariants as parts
 use Rattle.xls_text.specs.declared.error.CfbError.TheVariants.{CodePageNotFound}
 use Rattle.xls_record.specs.declared.error.XlsError.TheVariants as errors
+use Rattle.xls_formula.specs.declared.numbers.NumberStyle.TheVariants.{Bits}
 use Rattle.xls_meaning.specs.Faults.{FirstFault, outer_fault}
 use Rattle.xls_meaning.specs.Rules.{Rules}
 use Rattle.xls_meaning.proofs.SampleStreams.{bare, eof, in_globals, in_sheet, following, held, nothing_starts}
 use Rattle.xls_meaning.proofs.SampleStreams.{plain_fault, table_fault, bound_sheet_fault, sheet_fault}
 
 abbrev rules : Rules
-rules = record { force_codepage = None; max_bytes = 1000; max_cells = 2; functions = [] }
+rules = record { force_codepage = None; max_bytes = 1000; max_cells = 2; functions = []; numbers = Bits }
 
 -- ---- before the records: the byte limit comes before the forced page
 
-pub too_large : FirstFault (record { force_codepage = Some 437; max_bytes = 3; max_cells = 0; functions = [] }) eof (errors.TooLarge 3)
+pub too_large : FirstFault (record { force_codepage = Some 437; max_bytes = 3; max_cells = 0; functions = []; numbers = Bits }) eof (errors.TooLarge 3)
 too_large = refl
 
-pub forced_page : FirstFault (record { force_codepage = Some 437; max_bytes = 4; max_cells = 0; functions = [] }) eof
+pub forced_page : FirstFault (record { force_codepage = Some 437; max_bytes = 4; max_cells = 0; functions = []; numbers = Bits }) eof
     (errors.Cfb (CodePageNotFound 437))
 forced_page = refl
 

@@ -14,13 +14,14 @@ use Rattle.xls_data.specs.declared.sheets.SheetType.TheVariants.{WorkSheet, Macr
 use Rattle.xls_data.specs.declared.sheets.SheetVisible.TheVariants.{Visible, Hidden, VeryHidden}
 use Rattle.xls_record.specs.declared.error.XlsError.TheVariants as errors
 use Rattle.xls_record.specs.declared.version.Biff.TheVariants.{Biff2, Biff3, Biff4, Biff5, Biff8}
+use Rattle.xls_formula.specs.declared.numbers.NumberStyle.TheVariants.{Bits}
 use Rattle.xls_meaning.specs.GlobalsTable.{other_record, version_record, page_record, date_record, format_record, xf_record, references_record, name_record, strings_record, sheet_record, entry_record_at, forced_fault}
 use Rattle.xls_meaning.specs.Settings.{page_in, version_in, is_1904_in, classes_in, texts_in, sheets_of, sheet_names_of, extern_refs, known_refs, lbls_in, settings_of}
 use Rattle.xls_meaning.specs.Rules.{Rules}
 
 -- under a forced page or none, and with a function
 abbrev under : Option ℕ → Rules
-under forced = record { force_codepage = forced; max_bytes = 0x1000; max_cells = 0x1000; functions = (codes "PI", 0) ∷ [] }
+under forced = record { force_codepage = forced; max_bytes = 0x1000; max_cells = 0x1000; functions = (codes "PI", 0) ∷ []; numbers = Bits }
 
 abbrev free : Rules
 free = under None
@@ -209,6 +210,7 @@ pub settings : settings_of free entries
         page = Latin1;
         biff = Biff5;
         functions = (codes "PI", 0) ∷ [];
+        numbers = Bits;
       };
     }
 unfolding utf16_chars digits column_name word_of
@@ -223,5 +225,6 @@ pub settings_early : (settings_of (under (Some 0x04E4)) (bof 0x05 ∷ page_28591
       page = Windows1252;
       biff = Biff5;
       functions = (codes "PI", 0) ∷ [];
+      numbers = Bits;
     }
 settings_early = refl

@@ -21,6 +21,7 @@ use Rattle.xls_record.specs.declared.error.XlsError.TheVariants as errors
 use Rattle.xls_record.specs.declared.version.Biff.TheVariants.{Biff8}
 use Rattle.xls_biff.specs.Records.Rk.{rk_content}
 use Rattle.xls_biff.specs.SheetTable.{CellContext}
+use Rattle.xls_formula.specs.declared.numbers.NumberStyle.TheVariants.{Bits}
 use Rattle.xls_meaning.specs.Order.{map_with_earlier}
 use Rattle.xls_meaning.specs.Settings.{Settings, SheetRecords, settings_of, sheets_of}
 use Rattle.xls_meaning.specs.Reading.{SheetView, BookView, IsContent, IsReading, kept_named, values_of, formulas_of, merges_of, displayed_of}
@@ -42,6 +43,7 @@ settings = record {
     page = Windows1252;
     biff = Biff8;
     functions = (codes "PI", 0) ∷ [];
+    numbers = Bits;
   };
 }
 
@@ -138,7 +140,7 @@ unfolding rk_content
 weights = refl
 
 abbrev limit : ℕ → Rules
-limit max_cells = record { force_codepage = None; max_bytes = 0x1000; max_cells = max_cells; functions = [] }
+limit max_cells = record { force_codepage = None; max_bytes = 0x1000; max_cells = max_cells; functions = []; numbers = Bits }
 
 -- where two cells are the limit: the third one passes it, and so does each record after it, but one with a
 -- fault of its own has that

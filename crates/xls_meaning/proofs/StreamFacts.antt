@@ -10,6 +10,7 @@ use Rattle.xls_dates.specs.declared.numbers.Number.TheVariants.{Bits}
 use Rattle.xls_data.specs.declared.sheets.SheetType.TheVariants.{WorkSheet}
 use Rattle.xls_data.specs.declared.sheets.SheetVisible.TheVariants.{Visible}
 use Rattle.xls_record.specs.declared.error.XlsError.TheVariants as errors
+use Rattle.xls_formula.specs.declared.numbers.NumberStyle.TheVariants.{Bits}
 use Rattle.xls_meaning.specs.Reading.{BookView, IsReading}
 use Rattle.xls_meaning.specs.Faults.{FirstFault, IsFull, IsSound}
 use Rattle.xls_meaning.specs.Rules.{Rules}
@@ -17,7 +18,7 @@ use Rattle.xls_meaning.proofs.LawLemmas.{sound_where_full}
 use Rattle.xls_meaning.proofs.SampleStreams.{bare, eof, nothing_starts, begins, following}
 
 abbrev rules : Rules
-rules = record { force_codepage = None; max_bytes = 55; max_cells = 1; functions = [] }
+rules = record { force_codepage = None; max_bytes = 55; max_cells = 1; functions = []; numbers = Bits }
 
 -- ---- the stream
 
@@ -140,7 +141,7 @@ pub known_full : IsFull rules entries
 known_full = record { forced = refl; globals = refl; sheets = (tt, (refl, tt)) }
 
 -- and one byte less is too little
-pub known_limit : FirstFault (record { force_codepage = None; max_bytes = 54; max_cells = 1; functions = [] }) stream (errors.TooLarge 54)
+pub known_limit : FirstFault (record { force_codepage = None; max_bytes = 54; max_cells = 1; functions = []; numbers = Bits }) stream (errors.TooLarge 54)
 known_limit = refl
 
 all_small : List ℕ → Bool

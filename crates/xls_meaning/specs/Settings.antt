@@ -157,6 +157,7 @@ context_by rules page version sheets refs names =
       page = page;
       biff = version;
       functions = rules.functions;
+      numbers = rules.numbers;
     }
 
 -- by the lists at the end of the globals

@@ -63,6 +63,7 @@ wide_rules rules bytes = record {
   max_bytes = length bytes;
   max_cells = rules.max_cells;
   functions = rules.functions;
+  numbers = rules.numbers;
 }
 
 pub laid_checks : (rules : Rules) (d : Layout) → IsLayout d → IsFull rules (list_of d)

@@ -103,6 +103,7 @@ context_at rules page version n = record {
   page = page;
   biff = version;
   functions = rules.functions;
+  numbers = rules.numbers;
 }
 
 by_parts : (rules : Rules) (p : XlsEncoding) (v : Biff) (n : Naming) (ss : List (List ℕ)) (rs : List ℤ) (ls : List NamedPlace)

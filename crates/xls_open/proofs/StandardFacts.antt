@@ -3,6 +3,7 @@ use Rattle.std.proofs.Common.{◌≡◌, [], ◌∷◌, length, refl, None, Some
 use Rattle.xls_data.specs.declared.regions.HeaderRow.TheVariants.{FirstNonEmptyRow}
 use Rattle.xls_record.specs.declared.error.XlsError.TheVariants as errors
 use Rattle.xls_formula.specs.Functions.{shipped}
+use Rattle.xls_formula.specs.declared.numbers.NumberStyle.TheVariants.{Bits}
 use Rattle.xls_open.specs.Workbook.{rules_of}
 use Rattle.xls_open.specs.Opening.{default_options, default_rules, IsOfOpening}
 
@@ -23,9 +24,9 @@ known_options = refl
 pub known_functions : length default_rules.functions ≡ 0x48
 known_functions = refl
 
--- the options that the reading hangs on
+-- the options that the reading hangs on, and the style of doubles
 pub known_rules : rules_of (record default_options { force_codepage = Some 0x04E4; max_bytes = 0x10; max_cells = 0x20; functions = (codes "PI", 0) ∷ [] })
-    ≡ record { force_codepage = Some 0x04E4; max_bytes = 0x10; max_cells = 0x20; functions = (codes "PI", 0) ∷ [] }
+    ≡ record { force_codepage = Some 0x04E4; max_bytes = 0x10; max_cells = 0x20; functions = (codes "PI", 0) ∷ []; numbers = Bits }
 known_rules = refl
 
 -- no refusal of a formula, of a format or of a look-up

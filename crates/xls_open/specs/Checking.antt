@@ -1,11 +1,12 @@
 -- What a check of a stream answers.
 use Rattle.std.specs.Prelude.{ℕ, List, [], Option, Result, Ok, Err}
 use Rattle.xls_record.specs.declared.error.XlsError.{XlsError}
+use Rattle.xls_formula.specs.declared.numbers.NumberStyle.TheVariants.{Bits}
 use Rattle.xls_meaning.specs.GlobalsTable.{forced_fault}
 use Rattle.xls_meaning.specs.Faults.{FirstAfter}
 use Rattle.xls_meaning.specs.Rules.{Rules}
 
--- the rules of a check; neither the limit of bytes nor the functions count (`checked_alike`)
+-- the rules of a check; neither the limit of bytes, the functions nor the style counts (`checked_alike`)
 abbrev pub checked : Option ℕ → ℕ → Rules
 checked forced max =
     record {
@@ -13,6 +14,7 @@ checked forced max =
       max_bytes = 0;
       max_cells = max;
       functions = [];
+      numbers = Bits;
     }
 
 -- e is the first fault of the bytes, the byte limit apart

@@ -21,7 +21,7 @@ use Rattle.xls_open.specs.Checking.{FirstChecked, Checks}
 use Rattle.xls_open.specs.declared.options.XlsOptions.{XlsOptions}
 
 -- within the byte limit, the first fault of a stream is the one that a check finds under the forced page
--- and the bound of cells, whatever the limit and the functions are
+-- and the bound of cells, whatever the limit, the functions and the style are
 abbrev pub CheckedAlike : Type 0
 CheckedAlike =
     (rules : Rules) (bytes : List ℕ) → length bytes ≤ rules.max_bytes → (e : XlsError)

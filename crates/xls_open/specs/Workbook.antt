@@ -8,6 +8,8 @@ use Rattle.xls_range.specs.Positions.{Position, IsAscending}
 use Rattle.xls_strings.specs.Texts.{text_of}
 use Rattle.xls_biff.specs.Cells.{CellEntry}
 use Rattle.xls_biff.specs.Cells as cells
+use Rattle.xls_formula.specs.declared.numbers.NumberStyle.{NumberStyle}
+use Rattle.xls_formula.specs.declared.numbers.NumberStyle.TheVariants.{Bits}
 use Rattle.xls_meaning.specs.Rules.{Rules}
 use Rattle.xls_meaning.specs.Reading.{SheetView, BookView, displayed_of, last_named}
 use Rattle.xls_meaning.specs.SheetTable.{FormulaEntry}
@@ -16,15 +18,21 @@ use Rattle.xls_open.specs.declared.options.XlsOptions.{XlsOptions}
 
 -- ---- the options
 
--- what the reading of a stream and its faults hang on: not the header row, nor the property streams
-abbrev pub rules_of : XlsOptions → Rules
-rules_of options =
+-- what the reading of a stream and its faults hang on, where formulas show doubles so: not the header
+-- row, nor the property streams
+abbrev pub rules_under : NumberStyle → XlsOptions → Rules
+rules_under style options =
     record {
       force_codepage = options.force_codepage;
       max_bytes = options.max_bytes;
       max_cells = options.max_cells;
       functions = options.functions;
+      numbers = style;
     }
+
+-- a workbook shows them by their bits
+abbrev pub rules_of : XlsOptions → Rules
+rules_of options = rules_under Bits options
 
 -- ---- the workbook
 

@@ -63,6 +63,7 @@ impl FormulaBuffer {
             encoding: settings.page,
             biff: settings.version,
             functions: settings.functions,
+            numbers: settings.numbers,
         };
         match self.texts.read(rgce, scope) {
             Ok(()) => Ok(self.texts.as_str()),

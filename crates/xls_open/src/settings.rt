@@ -3,7 +3,7 @@
 use std::marker::Model;
 use xls_biff::{Biff, Refs, Strings};
 use xls_data::CellFormat;
-use xls_formula::{FunctionTable, Names};
+use xls_formula::{FunctionTable, Names, NumberStyle};
 use xls_text::XlsEncoding;
 
 /// What the records of a sheet are read under: what is in force at the end of the globals.
@@ -21,6 +21,8 @@ pub struct Settings<'a> {
     pub names: &'a Names,
     pub refs: &'a Refs,
     pub functions: &'a FunctionTable,
+    /// How formulas show doubles.
+    pub numbers: NumberStyle,
 }
 
 impl<'a> Model for Settings<'a> {
@@ -43,6 +45,7 @@ impl<'a> Model for Settings<'a> {
         page = s.page;
         biff = s.version;
         functions = s.functions.now;
+        numbers = s.numbers;
       };
     } };
 }
@@ -64,6 +67,7 @@ impl<'a> Settings<'a> {
             names: self.names,
             refs: self.refs,
             functions: self.functions,
+            numbers: self.numbers,
         }
     }
 }

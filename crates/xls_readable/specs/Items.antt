@@ -11,19 +11,17 @@ use Rattle.xls_data.specs.declared.errors.CellErrorType.{CellErrorType}
 use Rattle.xls_dates.specs.Numbers.{number_text}
 use Rattle.xls_dates.specs.declared.numbers.Number.{Number}
 use Rattle.xls_decimals.specs.Decimals.{IsDecimal}
-use Rattle.xls_decimals.specs.Formulas.{IsFormula}
 use Rattle.xls_decimals.specs.Moments.{IsDateOrDuration}
 use Rattle.xls_readable.specs.declared.items.Field.{Field}
 use Rattle.xls_readable.specs.declared.items.Field.TheVariants as field
 use Rattle.xls_readable.specs.declared.items.Member.{Member}
 use Rattle.xls_output.specs.Each.{Concatenates}
 
--- what a field holds: a word as it is, a text, a formula's text, a count, a whole number, a number, a
+-- what a field holds: a word as it is, a text, a count, a whole number, a number, a
 -- truth value, a date or a duration, an error value
 pub data FieldItem : Type 0 where
   word : List ℕ → FieldItem
   text : List ℕ → FieldItem
-  formula : List ℕ → FieldItem
   count : ℕ → FieldItem
   int : ℤ → FieldItem
   number : Number → FieldItem
@@ -34,7 +32,6 @@ pub data FieldItem : Type 0 where
 abbrev pub item_of : Field → FieldItem
 item_of (field.Word w) = word w.now
 item_of (field.Text t) = text t.now
-item_of (field.Formula f) = formula f.now
 item_of (field.Count n) = count n
 item_of (field.Int n) = int n
 item_of (field.Number n) = number n
@@ -56,7 +53,6 @@ named_of m = (m.name.now, item_of m.field)
 abbrev pub exact_text : FieldItem → List ℕ
 exact_text (word w) = w
 exact_text (text t) = escaped_text (chars t)
-exact_text (formula f) = escaped_text (chars f)
 exact_text (count n) = decimal n
 exact_text (int n) = signed_decimal n
 exact_text (number n) = number_text n
@@ -74,10 +70,9 @@ exact_line kind members = kind ++ (flat_map exact_tabbed members ++ codes "\n")
 
 -- ---- lines as people read them
 
--- the text of a field: numbers in decimal, also those of formulas, dates and durations as xls_decimals has
+-- the text of a field: numbers in decimal, dates and durations as xls_decimals has
 -- them, every other one as it is exactly
 abbrev pub IsItemText : FieldItem → List ℕ → Type 0
-IsItemText (formula f) out = (plain : List ℕ) × IsFormula f plain × (out ≡ escaped_text (chars plain))
 IsItemText (number n) out = IsDecimal n out
 IsItemText (moment d) out = IsDateOrDuration d out
 IsItemText other out = out ≡ exact_text other

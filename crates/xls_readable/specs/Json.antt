@@ -5,10 +5,9 @@ use Rattle.json.specs.Print.{IsNumber, escape_letter, quoted}
 use Rattle.xls_data.specs.Data.{bool_text}
 use Rattle.xls_data.specs.Errors.{error_text}
 use Rattle.xls_decimals.specs.Decimals.{IsDecimal}
-use Rattle.xls_decimals.specs.Formulas.{IsFormula}
 use Rattle.xls_decimals.specs.Moments.{IsDateOrDuration}
 use Rattle.xls_output.specs.Each.{Concatenates}
-use Rattle.xls_readable.specs.Items.{FieldItem, NamedItem, word, text, formula, count, int, number, truth, moment, failure}
+use Rattle.xls_readable.specs.Items.{FieldItem, NamedItem, word, text, count, int, number, truth, moment, failure}
 
 -- a byte of a string that stands for itself
 abbrev pub is_plain : ℕ → Bool
@@ -23,7 +22,6 @@ IsBare plain out = (IsNumber plain × (out ≡ plain)) ⊎ ((IsNumber plain → 
 abbrev pub IsItemJson : FieldItem → List ℕ → Type 0
 IsItemJson (word w) out = out ≡ quoted w
 IsItemJson (text t) out = out ≡ quoted t
-IsItemJson (formula f) out = (plain : List ℕ) × IsFormula f plain × (out ≡ quoted plain)
 IsItemJson (count n) out = out ≡ decimal n
 IsItemJson (int n) out = out ≡ signed_decimal n
 IsItemJson (number n) out = (plain : List ℕ) × IsDecimal n plain × IsBare plain out

@@ -14,7 +14,7 @@ use Rattle.xls_readable.specs.declared.forms.Form.{Form}
 use Rattle.xls_readable.specs.declared.forms.Form.TheVariants.{Text, Json, Exact}
 use Rattle.xls_readable.specs.declared.properties.Property.{Property}
 use Rattle.xls_readable.specs.declared.properties.Property.TheVariants as property
-pub use Rattle.xls_readable.specs.Items.{FieldItem, NamedItem, IsTextLine, exact_line, item_of, word, text, formula, count, int, number, truth, moment, failure}
+pub use Rattle.xls_readable.specs.Items.{FieldItem, NamedItem, IsTextLine, exact_line, item_of, word, text, count, int, number, truth, moment, failure}
 
 -- a line of a word and fields, as text, as JSON, or exact
 abbrev pub IsLine : Form → List ℕ → List NamedItem → List ℕ → Type 0
@@ -85,7 +85,7 @@ IsCellLine form row column v out =
 -- row, column and text of a formula
 abbrev pub formula_members : ℕ → ℕ → List ℕ → List NamedItem
 formula_members row column displayed =
-    (codes "row", count row) ∷ (codes "column", count column) ∷ (codes "text", formula displayed) ∷ []
+    (codes "row", count row) ∷ (codes "column", count column) ∷ (codes "text", text displayed) ∷ []
 
 -- the corners of a merged region
 abbrev pub merge_members : Dimensions → List NamedItem

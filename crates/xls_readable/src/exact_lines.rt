@@ -19,7 +19,7 @@ pub(crate) fn push_exact_item(field: &Field<'_>, buf: &mut String) -> Result<(),
 {
     match field {
         Field::Word(word) => buf.push_str(word),
-        Field::Text(text) | Field::Formula(text) => push_escaped(text, buf),
+        Field::Text(text) => push_escaped(text, buf),
         Field::Count(n) => push_count(*n, buf),
         Field::Int(n) => push_int(*n, buf),
         Field::Number(n) => push_number(*n, buf),

@@ -6,13 +6,13 @@ ghost use Rattle.std.specs.String.{string_bytes};
 ghost use Rattle.xls_output.specs.Added.{AddsText};
 ghost use Rattle.xls_readable.specs.Growth.{GrowsText};
 ghost use Rattle.xls_output.specs.Each.{Concatenates};
-ghost use Rattle.xls_readable.specs.Items.{IsItemText, IsTabbed, IsTextLine, formula, item_of, named_of};
+ghost use Rattle.xls_readable.specs.Items.{IsItemText, IsTabbed, IsTextLine, item_of, named_of};
 
 use crate::exact_lines::push_exact_item;
 use std::alloc::AllocError;
 use xls_bytes::push_escaped;
 use xls_data::{CellErrorType, ExcelDateTime, Number};
-use xls_decimals::{push_date_or_duration, push_decimal, push_formula};
+use xls_decimals::{push_date_or_duration, push_decimal};
 
 /// What a field of a line holds.
 #[derive(Drop)]
@@ -21,8 +21,6 @@ pub enum Field<'a> {
     Word(&'a str),
     /// A text.
     Text(&'a str),
-    /// The text of a formula, whose doubles become decimals.
-    Formula(&'a str),
     /// A row, a column or a count.
     Count(u64),
     /// A whole number.
@@ -53,17 +51,6 @@ pub(crate) fn push_count(n: u64, buf: &mut String) -> Result<(), AllocError>
     buf.push_str(digits.format(n))
 }
 
-// Appends the text of a formula, escaped.
-fn push_formula_text(text: &str, room: &mut String, buf: &mut String) -> Result<(), AllocError>
-    ensures ok { OnOk result (AddsText (IsItemText (formula text.now))
-        (string_bytes buf.old) (string_bytes buf.new)) }
-    ensures err { OnErr result (string_bytes buf.new ≡ string_bytes buf.old) }
-{
-    room.clear();
-    push_formula(text, room)?;
-    push_escaped(room.as_str(), buf)
-}
-
 // Appends the text of a field.
 pub(crate) fn push_item(
     field: &Field<'_>,
@@ -75,7 +62,6 @@ pub(crate) fn push_item(
     ensures err { OnErr result (string_bytes buf.new ≡ string_bytes buf.old) }
 {
     match field {
-        Field::Formula(text) => push_formula_text(text, room, buf),
         Field::Number(n) => push_decimal(*n, buf),
         Field::Moment(moment) => push_date_or_duration(*moment, buf),
         other => push_exact_item(other, buf),

@@ -8,14 +8,14 @@ ghost use Rattle.json.specs.Print.{escape_byte, escape_letter, quoted};
 ghost use Rattle.xls_output.specs.Added.{AddsText};
 ghost use Rattle.xls_readable.specs.Growth.{GrowsText};
 ghost use Rattle.xls_output.specs.Each.{Concatenates};
-ghost use Rattle.xls_readable.specs.Items.{formula, item_of, moment, named_of, number};
+ghost use Rattle.xls_readable.specs.Items.{item_of, moment, named_of, number};
 ghost use Rattle.xls_readable.specs.Json.{is_plain, IsBare, IsItemJson, IsMember, IsJsonLine};
 
 use crate::items::{Field, Member, push_count};
 use crate::values::{failure_text, push_int};
 use std::alloc::AllocError;
 use xls_data::{ExcelDateTime, Number};
-use xls_decimals::{push_date_or_duration, push_decimal, push_formula};
+use xls_decimals::{push_date_or_duration, push_decimal};
 
 // The letter of a byte's short escape, or 0 where it has none.
 fn escape_letter(byte: u8) -> u8
@@ -183,17 +183,6 @@ fn push_number(n: Number, room: &mut String, buf: &mut String) -> Result<(), All
     push_bare_or_string(room.as_str(), buf)
 }
 
-// Appends the text of a formula.
-fn push_formula_string(text: &str, room: &mut String, buf: &mut String) -> Result<(), AllocError>
-    ensures ok { OnOk result (AddsText (IsItemJson (formula text.now))
-        (string_bytes buf.old) (string_bytes buf.new)) }
-    ensures err { OnErr result (string_bytes buf.new ≡ string_bytes buf.old) }
-{
-    room.clear();
-    push_formula(text, room)?;
-    push_string(room.as_str(), buf)
-}
-
 // Appends a date or a duration.
 fn push_moment(date: ExcelDateTime, room: &mut String, buf: &mut String) -> Result<(), AllocError>
     ensures ok { OnOk result (AddsText (IsItemJson (moment date)) (string_bytes buf.old) (string_bytes buf.new)) }
@@ -213,7 +202,6 @@ fn push_item(field: &Field<'_>, room: &mut String, buf: &mut String) -> Result<(
     match field {
         Field::Word(word) => push_string(word, buf),
         Field::Text(text) => push_string(text, buf),
-        Field::Formula(text) => push_formula_string(text, room, buf),
         Field::Count(n) => push_count(*n, buf),
         Field::Int(n) => push_int(*n, buf),
         Field::Number(n) => push_number(*n, room, buf),

@@ -151,7 +151,7 @@ pub fn push_formula_line(
     };
     let text = Member {
         name: "text",
-        field: Field::Formula(text),
+        field: Field::Text(text),
     };
     push_line(form, "formula", &[row, column, text], room, buf)
 }

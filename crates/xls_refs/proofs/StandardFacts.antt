@@ -4,6 +4,7 @@ use Rattle.xls_text.specs.declared.encoding.XlsEncoding.TheVariants.{Utf16}
 use Rattle.xls_record.specs.declared.error.XlsError.TheVariants as errors
 use Rattle.xls_record.specs.declared.version.Biff.TheVariants.{Biff8}
 use Rattle.xls_formula.specs.Context.{Context}
+use Rattle.xls_formula.specs.declared.numbers.NumberStyle.TheVariants.{Bits}
 use Rattle.xls_refs.specs.Citations.{Citation, same_cells, distinct, cites_at}
 use Rattle.xls_refs.specs.Cited.{on_own_sheet}
 
@@ -16,6 +17,7 @@ context = record {
   page = Utf16;
   biff = Biff8;
   functions = (codes "PI", 0) ∷ (codes "SUM", 255) ∷ [];
+  numbers = Bits;
 }
 
 -- A1+A1 cites one cell

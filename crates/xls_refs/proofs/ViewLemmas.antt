@@ -5,9 +5,8 @@ use Rattle.std.specs.List.{flat_map, AllZip}
 use Rattle.std.specs.Option.{option_map}
 use Rattle.std.proofs.lemmas.List.{append-nil}
 use Rattle.xls_formula.specs.Context.{Context}
+use Rattle.xls_meaning.specs.Rules.{Rules}
 use Rattle.xls_meaning.specs.Settings.{SheetRecords, sheets_of, sheet_names_of, context_of}
-use Rattle.xls_open.specs.Workbook.{rules_of}
-use Rattle.xls_open.specs.declared.options.XlsOptions.{XlsOptions}
 use Rattle.xls_view.specs.Formulas.{Formula}
 use Rattle.xls_view.specs.Viewing.{Viewed, IsViewed, ShowsFormulas}
 use Rattle.xls_view.specs.Walking.{NamedContext}
@@ -40,16 +39,16 @@ cited_as_displayed context all index (formulas ∷ displayed) (q ∷ qs) z = (
   cited_as_displayed context all (suc index) displayed qs z.1,
 )
 
-pub viewed_is_cited : (options : XlsOptions) (bytes : List ℕ) (view : Viewed) → IsViewed options bytes view
-    → IsBookCited options bytes (cited_in view)
-viewed_is_cited options bytes view h = record {
+pub viewed_is_cited : (rules : Rules) (bytes : List ℕ) (view : Viewed) → IsViewed rules bytes view
+    → IsBookCited rules bytes (cited_in view)
+viewed_is_cited rules bytes view h = record {
   sound = h.sound;
   entries = h.entries;
   carries = h.carries;
   full = h.full;
   every = λ others c.
-      let sheets = sheets_of (rules_of options) others in
-      let context = context_of (rules_of options) others in
+      let sheets = sheets_of rules others in
+      let context = context_of rules others in
       record {
         names = ap (λ (x : Context). x.sheets) (h.context others c);
         cites = subst (λ (x : Context). AreCited context sheets 0 sheets (flat_map each_cited (sheets_from x 0 x.sheets view.formulas)))

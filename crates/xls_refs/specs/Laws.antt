@@ -2,8 +2,8 @@
 use Rattle.std.specs.Prelude.{◌≡◌, ◌↔◌, ℕ, List, true}
 use Rattle.xls_stream.specs.Listing.{Kept}
 use Rattle.xls_biff.specs.SheetTable.{CellContext}
+use Rattle.xls_meaning.specs.Rules.{Rules}
 use Rattle.xls_meaning.specs.SheetTable.{kept_line}
-use Rattle.xls_open.specs.declared.options.XlsOptions.{XlsOptions}
 use Rattle.xls_view.specs.Formulas.{formula_from, formula_of}
 use Rattle.xls_view.specs.Viewing.{Viewed, IsViewed}
 use Rattle.xls_refs.specs.Citations.{Citation, same_cells}
@@ -20,5 +20,5 @@ RepeatsAreEqual = (c d : Citation) → (same_cells c d ≡ true) ↔ (c ≡ d)
 
 -- what the formulas of a view cite is what the formulas of the workbook of its bytes cite
 abbrev pub ViewedIsCited : Type 0
-ViewedIsCited = (options : XlsOptions) (bytes : List ℕ) (view : Viewed) → IsViewed options bytes view
-    → IsBookCited options bytes (cited_in view)
+ViewedIsCited = (rules : Rules) (bytes : List ℕ) (view : Viewed) → IsViewed rules bytes view
+    → IsBookCited rules bytes (cited_in view)

@@ -6,6 +6,7 @@ ghost use Rattle.xls_record.specs.declared.error.XlsError.{XlsError};
 ghost use Rattle.xls_refs.specs.Citations.{citation_of};
 ghost use Rattle.xls_refs.specs.Cited.{book_citation_of, on_own_sheet};
 ghost use Rattle.xls_refs.specs.Citing.{CitingCause, IsBookCited};
+ghost use Rattle.xls_open.specs.Workbook.{rules_of};
 ghost use Rattle.xls_view.specs.Viewing.{IsViewFault};
 ghost use Rattle.xls_refs.specs.Views.{cited_in, cited_of, each_cited, sheets_cited};
 
@@ -13,6 +14,7 @@ use crate::cite::{BookCite, BookCites, Cite, CitedFormula};
 use crate::sheet::{SheetCites, cites_of_sheet};
 use std::alloc::{AllocError, Global};
 use xls_biff::{Strings, XlsError};
+use xls_formula::NumberStyle;
 use xls_open::XlsOptions;
 use xls_view::View;
 
@@ -129,11 +131,11 @@ pub fn cites_of_book(
     bytes: &[u8],
     options: &XlsOptions,
 ) -> Result<BookCites, XlsError>
-    ensures ok { IfOk result (λ book. IsBookCited options.now bytes.now book) }
-    ensures fault { (e : XlsError) → IsViewFault options.now bytes.now e → result ≡ Err e }
-    ensures cause { IfErr result (CitingCause options.now bytes.now) }
+    ensures ok { IfOk result (λ book. IsBookCited (rules_of options.now) bytes.now book) }
+    ensures fault { (e : XlsError) → IsViewFault (rules_of options.now) bytes.now e → result ≡ Err e }
+    ensures cause { IfErr result (CitingCause (rules_of options.now) bytes.now) }
 {
-    let view = View::new(alloc, bytes, options)?;
+    let view = View::new(alloc, bytes, options, NumberStyle::Bits)?;
     let cites = cites_of_view(alloc, &view)?;
     Ok(cites)
 }

@@ -9,7 +9,7 @@ use crate::distinct::distinct_cites;
 use crate::walk::cited_cells;
 use std::alloc::Global;
 use xls_biff::{Biff, Refs, Strings, XlsError};
-use xls_formula::{FunctionTable, Names, Scope};
+use xls_formula::{FunctionTable, Names, NumberStyle, Scope};
 use xls_text::XlsEncoding;
 
 /// What a formula cites.
@@ -49,6 +49,7 @@ pub fn cites_of_formula(
       page = encoding.now;
       biff = biff;
       functions = functions.now;
+      numbers = NumberStyle.Bits;
     }) rgce.now) }
 {
     let scope = Scope {
@@ -58,6 +59,7 @@ pub fn cites_of_formula(
         encoding: *encoding,
         biff,
         functions,
+        numbers: NumberStyle::Bits,
     };
     cites_in_scope(alloc, rgce, scope)
 }

@@ -30,6 +30,7 @@ fn cites_unless_refused(
         encoding: naming.page,
         biff: naming.biff,
         functions: naming.functions,
+        numbers: naming.numbers,
     };
     match cites_in_scope(alloc, rgce, scope) {
         Ok(cites) => Ok(cites),

@@ -3,7 +3,7 @@ use Rattle.std.proofs.Common.{◌≡◌, ℕ, Bool, true, List, [], Some, Result
 use Rattle.std.specs.Io.KnownBytes.{Appends}
 use Rattle.std.specs.Result.{IsOk}
 use Rattle.xls_answers.specs.Sheets.{BeginsTableOf, IsTableOf, MissesSheet, WritesSheetAt, chosen_index}
-use Rattle.xls_answers.specs.Views.{AreLines, BeginLines, MissesNone, OfView}
+use Rattle.xls_answers.specs.Views.{AreLines, BeginLines, MissesNone, OfView, rules_shown}
 use Rattle.xls_answers.specs.declared.answer.Answer.{Answer}
 use Rattle.xls_answers.specs.declared.answer.Answer.TheVariants as answers
 use Rattle.xls_answers.specs.declared.failure.Missing.{Missing}
@@ -11,6 +11,8 @@ use Rattle.xls_container.specs.Files.{Container}
 use Rattle.xls_files.proofs.FileLemmas.{created_one, ended_one}
 use Rattle.xls_files.specs.Files.{Creates, EndsFile, HostFiles}
 use Rattle.xls_files.specs.Paths.{IsInside}
+use Rattle.xls_meaning.specs.Rules.{Rules}
+use Rattle.xls_open.specs.Workbook.{rules_of}
 use Rattle.xls_open.specs.declared.options.XlsOptions.{XlsOptions}
 use Rattle.xls_output.specs.Each.{WroteEach}
 use Rattle.xls_output.specs.Gathering.{Wrote}
@@ -44,18 +46,18 @@ module _ (a b : SinkState) (empty : a.written ≡ Some []) where
   each-written : {A : Type 0} (IsText : A → List ℕ → Type 0) (items : List A) → WroteEach IsText items a b → WroteEach IsText items unwritten b
   each-written IsText items w = record { text = w.text; texts = w.texts; wrote = text-written w.text w.wrote }
 
-  view-written : (options : XlsOptions) (stream : List ℕ) (IsWhole IsPart : Viewed → List ℕ → Type 0) (Misses : Missing → Viewed → Type 0)
-      → OfView options stream IsWhole IsPart Misses a b (Ok tt) → OfView options stream IsWhole IsPart Misses unwritten b (Ok tt)
-  view-written options stream IsWhole IsPart Misses (view, is, text, whole, wrote) = (view, is, text, whole, text-written text wrote)
+  view-written : (rules : Rules) (stream : List ℕ) (IsWhole IsPart : Viewed → List ℕ → Type 0) (Misses : Missing → Viewed → Type 0)
+      → OfView rules stream IsWhole IsPart Misses a b (Ok tt) → OfView rules stream IsWhole IsPart Misses unwritten b (Ok tt)
+  view-written rules stream IsWhole IsPart Misses (view, is, text, whole, wrote) = (view, is, text, whole, text-written text wrote)
 
   workbook-written : (answer : Answer) (options : XlsOptions) (stream : List ℕ)
       → OfWorkbook answer options stream a b (Ok tt) → OfWorkbook answer options stream unwritten b (Ok tt)
   workbook-written (answers.Lines lines form) options stream h =
-      view-written options stream (AreLines lines form) (BeginLines lines form) MissesNone h
+      view-written (rules_shown form options) stream (AreLines lines form) (BeginLines lines form) MissesNone h
   workbook-written answers.Exact options stream h =
-      let is = λ (view : Viewed) (text : List ℕ). text ≡ report view.book in view-written options stream is is MissesNone h
+      let is = λ (view : Viewed) (text : List ℕ). text ≡ report view.book in view-written (rules_of options) stream is is MissesNone h
   workbook-written (answers.Sheet choice table) options stream h =
-      view-written options stream (IsTableOf choice table) (BeginsTableOf choice table) (MissesSheet choice) h
+      view-written (rules_of options) stream (IsTableOf choice table) (BeginsTableOf choice table) (MissesSheet choice) h
   workbook-written answers.Check options stream (sound, wrote) = (sound, text-written _ wrote)
   workbook-written answers.Remade options stream (list, reads, text, writes, wrote) = (list, reads, text, writes, text-written text wrote)
   workbook-written answers.Bytes options stream wrote = text-written _ wrote

@@ -9,6 +9,7 @@ use Rattle.xls_data.specs.declared.sheets.SheetType.{SheetType}
 use Rattle.xls_data.specs.declared.sheets.SheetType.TheVariants as types
 use Rattle.xls_files.specs.Files.{AreAllowed, HostFiles}
 use Rattle.xls_files.specs.Paths.{IsInside}
+use Rattle.xls_open.specs.Workbook.{rules_of}
 use Rattle.xls_open.specs.declared.options.XlsOptions.{XlsOptions}
 use Rattle.xls_output.specs.SinkState.{SinkState}
 use Rattle.xls_tool.specs.Asked.{asked_by}
@@ -49,7 +50,7 @@ TakesAll (Some folder) = folder.takes_all_sheets ≡ true
 -- the cells of one sheet of a workbook's stream
 abbrev pub HoldsSheet : Answer → XlsOptions → List ℕ → SinkState → Type 0
 HoldsSheet (answers.Sheet choice table) options stream state =
-    (view : Viewed) × IsViewed options stream view × (n : ℕ) × WritesSheetAt table view.book n unwritten state (Ok tt)
+    (view : Viewed) × IsViewed (rules_of options) stream view × (n : ℕ) × WritesSheetAt table view.book n unwritten state (Ok tt)
 HoldsSheet other options stream state = ⊥
 
 -- the whole text that else is written to standard output; or one of its sheets, where all are asked for

@@ -3,6 +3,7 @@ use Rattle.std.specs.Prelude.{◌≡◌, ◌⊎◌, ℕ, true, Some}
 use Rattle.xls_answers.specs.Sheets.{chosen_index}
 use Rattle.xls_answers.specs.declared.answer.Answer.TheVariants.{Sheet}
 use Rattle.xls_files.specs.Paths.{IsInside}
+use Rattle.xls_open.specs.Workbook.{rules_of}
 use Rattle.xls_tool.specs.Asked.{asked_by}
 use Rattle.xls_tool.specs.declared.job.Asked.TheVariants.{Workbook}
 use Rattle.xls_tool.specs.declared.sheets.SheetFiles.{SheetFiles}
@@ -13,7 +14,7 @@ pub record AreSheetFiles (files : SheetFiles) (view : Viewed) : Type 0 where
   pub out : files.job.now.request.out ≡ Some files.out.now
   pub inside : IsInside files.out.now.path.now files.folder.now
   pub asked : asked_by files.job.now.request.command ≡ Workbook (Sheet files.choice.now files.table.now)
-  pub viewed : IsViewed files.job.now.reading.options files.book.now.stream.now view
+  pub viewed : IsViewed (rules_of files.job.now.reading.options) files.book.now.stream.now view
 
 -- all sheets are asked for, or this one
 abbrev pub IsAskedSheet : SheetFiles → Viewed → ℕ → Type 0

@@ -29,8 +29,9 @@ use Rattle.xls_meaning.proofs.LawLemmas.{one_first_fault}
 use Rattle.xls_open.specs.Checking.{checked}
 use Rattle.xls_open.specs.Globals.{State, AreGlobals, ReadsGlobals, pair_of, Sheets}
 use Rattle.xls_open.specs.Steps.{AreContents}
-use Rattle.xls_open.specs.Workbook.{rules_of}
+use Rattle.xls_open.specs.Workbook.{rules_of, rules_under}
 use Rattle.xls_open.specs.declared.options.XlsOptions.{XlsOptions}
+use Rattle.xls_formula.specs.declared.numbers.NumberStyle.{NumberStyle}
 use Rattle.xls_open.proofs.AlikeLemmas.{places_same, checked_alike}
 use Rattle.xls_open.proofs.OpenLemmas.{stands, opened_under}
 use Rattle.xls_view.specs.SheetContents.{IsReadable, content_by, formulas_at, kept_at, settled}
@@ -126,42 +127,54 @@ module _ (bytes : List ℕ) (fits : IsBytes bytes) where
 
 -- ---- the whole
 
-module _ (options : XlsOptions) (bytes : List ℕ) (fits : IsBytes bytes) where
-  abbrev rules : Rules
-  rules = rules_of options
+-- the globals don't hang on the style of doubles
+pub globals_alike : (style : NumberStyle) (options : XlsOptions) (bytes : List ℕ) (t : State)
+    → AreGlobals (rules_of options) bytes t → AreGlobals (rules_under style options) bytes t
+globals_alike style options bytes t a = record {
+  items = a.items;
+  holds = a.holds;
+  faultless = a.faultless;
+  state = record {
+    page = a.state.page;
+    version = a.state.version;
+    is_1904 = a.state.is_1904;
+    formats = a.state.formats;
+    identifiers = a.state.identifiers;
+    strings = a.state.strings;
+    refs = a.state.refs;
+    names = a.state.names;
+    sheets = a.state.sheets;
+  };
+}
 
-  -- the same options, with room for all bytes
+module _ (rules : Rules) (bytes : List ℕ) (fits : IsBytes bytes) where
+  -- the same rules, with room for all bytes
   abbrev wide : Rules
-  wide = record {
-    force_codepage = options.force_codepage;
-    max_bytes = length bytes;
-    max_cells = options.max_cells;
-    functions = [];
-  }
+  wide = record rules { max_bytes = length bytes }
 
-  pub one_fault : (e f : XlsError) → IsViewFault options bytes e → IsViewFault options bytes f → e ≡ f
+  pub one_fault : (e f : XlsError) → IsViewFault rules bytes e → IsViewFault rules bytes f → e ≡ f
   one_fault e f a b =
       let within : length bytes ≤ wide.max_bytes = omega arith in
       one_first_fault wide bytes fits e f ((checked_alike wide bytes within e).1 a) ((checked_alike wide bytes within f).1 b)
 
-  fault_cause : (e : XlsError) → IsViewFault options bytes e → ViewCause options bytes e
+  fault_cause : (e : XlsError) → IsViewFault rules bytes e → ViewCause rules bytes e
   fault_cause errors.Memory h = tt
   fault_cause e h = h
 
-  module _ (forced : forced_fault options.force_codepage ≡ None) where
-    placed_fault : (items : List Item) (cut : Option Part) (e : XlsError) → Holds bytes items cut → first_of (places rules items cut) ≡ Some e → IsViewFault options bytes e
+  module _ (forced : forced_fault rules.force_codepage ≡ None) where
+    placed_fault : (items : List Item) (cut : Option Part) (e : XlsError) → Holds bytes items cut → first_of (places rules items cut) ≡ Some e → IsViewFault rules bytes e
     placed_fault items cut e holds first =
-        subst (λ (o : Option XlsError). FirstAfter o (checked options.force_codepage options.max_cells) bytes e) (sym forced)
+        subst (λ (o : Option XlsError). FirstAfter o (checked rules.force_codepage rules.max_cells) bytes e) (sym forced)
         (items, cut, holds, ap first_of (sym (places_same rules items cut)) ∙ first)
 
-    pub globals_cause : (e : XlsError) → ReadsGlobals rules bytes (Err e) → ViewCause options bytes e
+    pub globals_cause : (e : XlsError) → ReadsGlobals rules bytes (Err e) → ViewCause rules bytes e
     globals_cause errors.Memory r = tt
     globals_cause e r =
         fault_cause e (placed_fault r.0 r.1 e r.2 (first_early (globals_places rules r.0 r.1) (flat_map (sheet_places rules (cells_of rules (map entry_of r.0))) r.0) e r.3))
 
     -- ---- without a fault
 
-    module _ (sound : (e : XlsError) → IsViewFault options bytes e → ⊥) (t : State) (a : AreGlobals rules bytes t) where
+    module _ (sound : (e : XlsError) → IsViewFault rules bytes e → ⊥) (t : State) (a : AreGlobals rules bytes t) where
       abbrev entries : List ListEntry
       entries = map entry_of a.items
 
@@ -206,7 +219,7 @@ module _ (options : XlsOptions) (bytes : List ℕ) (fits : IsBytes bytes) where
       -- the view shows the reading of every list
       pub viewed_under : (s : Settings) (heads : List SheetContent) (offsets : List ℕ) (reported : List (List ℕ × List ℕ))
           → s ≡ settings → heads ≡ map (λ (q : ℕ × SheetContent). q.1) t.sheets → offsets ≡ map (λ (q : ℕ × SheetContent). q.0) t.sheets
-          → reported ≡ s.formulas.names → IsViewed options bytes (viewed bytes s heads offsets reported)
+          → reported ≡ s.formulas.names → IsViewed rules bytes (viewed bytes s heads offsets reported)
       viewed_under s heads offsets reported same named at reported_is =
           let at_opened : offsets ≡ offsets_of opened = at ∙ ap (map (λ (q : ℕ × SheetContent). q.0)) a.state.sheets in
           let heads_opened : heads ≡ heads_of opened = named ∙ ap (map (λ (q : ℕ × SheetContent). q.1)) a.state.sheets in

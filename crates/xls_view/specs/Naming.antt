@@ -12,4 +12,5 @@ context_in n =
       page = n.page;
       biff = n.biff;
       functions = n.functions.now;
+      numbers = n.numbers;
     }

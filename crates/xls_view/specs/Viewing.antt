@@ -6,12 +6,11 @@ use Rattle.xls_record.specs.declared.error.XlsError.{XlsError}
 use Rattle.xls_record.specs.declared.error.XlsError.TheVariants as errors
 use Rattle.xls_biff.specs.SheetTable.{CellContext}
 use Rattle.xls_formula.specs.Context.{Context}
+use Rattle.xls_meaning.specs.Rules.{Rules}
 use Rattle.xls_meaning.specs.Settings.{SheetRecords, sheets_of, context_of}
 use Rattle.xls_meaning.specs.Reading.{BookView, IsReading, kept_named, paired, last_named}
 use Rattle.xls_meaning.specs.Faults.{IsFull}
 use Rattle.xls_open.specs.Checking.{FirstChecked}
-use Rattle.xls_open.specs.Workbook.{rules_of}
-use Rattle.xls_open.specs.declared.options.XlsOptions.{XlsOptions}
 use Rattle.xls_view.specs.Formulas.{Formula, AreLast, formulas_kept}
 
 -- what a workbook shows, what is in force for its cells, what its formulas may name, and the formulas that
@@ -32,21 +31,21 @@ ShowsFormulas all formulas q = AreLast (formulas_kept (kept_named all q.0.name))
 
 -- no place of the bytes has a fault, the byte limit apart; they carry a full list, and the view shows
 -- the reading of every list that they carry
-pub record IsViewed (options : XlsOptions) (bytes : List ℕ) (view : Viewed) : Type 0 where
-  pub sound : (e : XlsError) → FirstChecked options.force_codepage options.max_cells bytes e → ⊥
+pub record IsViewed (rules : Rules) (bytes : List ℕ) (view : Viewed) : Type 0 where
+  pub sound : (e : XlsError) → FirstChecked rules.force_codepage rules.max_cells bytes e → ⊥
   pub entries : List ListEntry
   pub carries : Carries bytes entries
-  pub full : IsFull (rules_of options) entries
-  pub every : (others : List ListEntry) → Carries bytes others → IsReading (rules_of options) others view.book
-  pub context : (others : List ListEntry) → Carries bytes others → view.context ≡ context_of (rules_of options) others
+  pub full : IsFull rules entries
+  pub every : (others : List ListEntry) → Carries bytes others → IsReading rules others view.book
+  pub context : (others : List ListEntry) → Carries bytes others → view.context ≡ context_of rules others
   pub formulas : (others : List ListEntry) → Carries bytes others
-      → AllZip (ShowsFormulas (sheets_of (rules_of options) others)) view.formulas (sheets_of (rules_of options) others)
+      → AllZip (ShowsFormulas (sheets_of rules others)) view.formulas (sheets_of rules others)
 
 -- e is the first fault of the bytes, the byte limit apart
-abbrev pub IsViewFault : XlsOptions → List ℕ → XlsError → Type 0
-IsViewFault options bytes e = FirstChecked options.force_codepage options.max_cells bytes e
+abbrev pub IsViewFault : Rules → List ℕ → XlsError → Type 0
+IsViewFault rules bytes e = FirstChecked rules.force_codepage rules.max_cells bytes e
 
 -- why there is no view: out of memory, or else the first fault of the bytes
-abbrev pub ViewCause : XlsOptions → List ℕ → XlsError → Type 0
-ViewCause options bytes errors.Memory = Unit {0}
-ViewCause options bytes e = IsViewFault options bytes e
+abbrev pub ViewCause : Rules → List ℕ → XlsError → Type 0
+ViewCause rules bytes errors.Memory = Unit {0}
+ViewCause rules bytes e = IsViewFault rules bytes e

@@ -4,7 +4,7 @@ ghost use Rattle.std.specs.Prelude.{◌≡◌, ℕ, Err, IfErr, IfOk, IfSome, Li
 ghost use Rattle.std.specs.Option.{option_map};
 ghost use Rattle.std.specs.Str.{chars};
 ghost use Rattle.xls_data.specs.Sheets.{sheet_content};
-ghost use Rattle.xls_open.specs.Workbook.{rules_of, name_texts};
+ghost use Rattle.xls_open.specs.Workbook.{rules_of, rules_under, name_texts};
 ghost use Rattle.xls_open.specs.Globals.{AreGlobals};
 ghost use Rattle.xls_meaning.specs.GlobalsTable.{forced_fault};
 ghost use Rattle.xls_biff.specs.Cells.{CellEntry};
@@ -29,7 +29,7 @@ use std::collections::BTreeMap;
 use std::marker::Model;
 use xls_biff::{Biff, Strings, XlsError};
 use xls_data::{CellFormat, Sheet};
-use xls_formula::FunctionTable;
+use xls_formula::{FunctionTable, NumberStyle};
 use xls_open::{
     Globals, Listed, Naming, Settings, XlsOptions, check_sheets_of, check_stream, classes_of,
     naming_of, read_globals,
@@ -51,6 +51,7 @@ pub struct View<'a> {
     strings: Strings,
     naming: Naming,
     functions: FunctionTable,
+    numbers: NumberStyle,
     /// The sheets in workbook order, and where the part of each begins.
     sheets: Vec<Sheet>,
     offsets: Vec<usize>,
@@ -84,6 +85,7 @@ impl<'a> Model for View<'a> {
         page = v.page;
         biff = v.version;
         functions = v.functions;
+        numbers = v.numbers;
       };
     }) (map sheet_content v.sheets.items) v.offsets.items (map name_texts v.naming.reported.items) };
 
@@ -133,11 +135,12 @@ fn view_of<'a>(
     bytes: &'a [u8],
     globals: Globals,
     options: &XlsOptions,
+    numbers: NumberStyle,
 ) -> Result<View<'a>, AllocError>
-    requires sound { (e : XlsError) → IsViewFault options.now bytes.now e → ⊥ }
+    requires sound { (e : XlsError) → IsViewFault (rules_of options.now) bytes.now e → ⊥ }
     requires forced { forced_fault options.now.force_codepage ≡ None }
     requires globals { AreGlobals (rules_of options.now) bytes.now globals }
-    ensures { IfOk result (λ view. IsViewed options.now bytes.entry.now view) }
+    ensures { IfOk result (λ view. IsViewed (rules_under numbers options.now) bytes.entry.now view) }
 {
     let Globals {
         page,
@@ -165,6 +168,7 @@ fn view_of<'a>(
         strings,
         naming,
         functions,
+        numbers,
         sheets,
         offsets,
         index,
@@ -172,13 +176,18 @@ fn view_of<'a>(
 }
 
 impl<'a> View<'a> {
-    /// The view of a stream's bytes, under the forced page, the bound of cells and the functions of the options.
-    /// The first fault of the bytes is the one that `check_stream` answers; there is no limit of bytes.
-    /// Otherwise only running out of memory refuses.
-    pub fn new(alloc: Global, bytes: &'a [u8], options: &XlsOptions) -> Result<View<'a>, XlsError>
-        ensures ok { IfOk result (λ view. IsViewed options.now bytes.now view) }
-        ensures fault { (e : XlsError) → IsViewFault options.now bytes.now e → result ≡ Err e }
-        ensures cause { IfErr result (ViewCause options.now bytes.now) }
+    /// The view of a stream's bytes, under the forced page, the bound of cells and the functions of the options;
+    /// its formulas show doubles in this style. The first fault of the bytes is the one that `check_stream`
+    /// answers; there is no limit of bytes. Otherwise only running out of memory refuses.
+    pub fn new(
+        alloc: Global,
+        bytes: &'a [u8],
+        options: &XlsOptions,
+        numbers: NumberStyle,
+    ) -> Result<View<'a>, XlsError>
+        ensures ok { IfOk result (λ view. IsViewed (rules_under numbers options.now) bytes.now view) }
+        ensures fault { (e : XlsError) → IsViewFault (rules_of options.now) bytes.now e → result ≡ Err e }
+        ensures cause { IfErr result (ViewCause (rules_of options.now) bytes.now) }
     {
         let page = options.first_page()?;
         match read_globals(alloc, bytes, page, options) {
@@ -189,7 +198,7 @@ impl<'a> View<'a> {
                     options.force_codepage,
                     options.max_cells,
                 )?;
-                Ok(view_of(alloc, bytes, globals, options)?)
+                Ok(view_of(alloc, bytes, globals, options, numbers)?)
             }
             Err(error) => {
                 // A fault comes before running out of memory.
@@ -263,6 +272,7 @@ impl<'a> View<'a> {
             page: self.page,
             biff: self.version,
             functions: &self.functions,
+            numbers: self.numbers,
         }
     }
 
@@ -280,6 +290,7 @@ impl<'a> View<'a> {
             names: &self.naming.names,
             refs: &self.naming.refs,
             functions: &self.functions,
+            numbers: self.numbers,
         }
     }
 

@@ -1,6 +1,7 @@
 use super::*;
 use std::test::*;
 use xls_data::{Data, Dimensions};
+use xls_formula::NumberStyle;
 use xls_view::{
     FormulaBuffer, Merges, SheetCell, SheetCells, SheetFormulas, TextBuffer, View, ViewSheet,
 };
@@ -166,7 +167,7 @@ fn book_text(alloc: Global, book: &Xls) -> Result<String, AllocError> {
 fn viewed(alloc: Global, opening: Opening, parts: &[&[u8]], way: Way) -> Result<String, XlsError> {
     let bytes = joined(alloc, parts)?;
     let options = options_of(alloc, opening)?;
-    let view = View::new(alloc, &bytes, &options)?;
+    let view = View::new(alloc, &bytes, &options, NumberStyle::Bits)?;
     Ok(view_text(alloc, &view, way)?)
 }
 

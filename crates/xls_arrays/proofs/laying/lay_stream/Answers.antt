@@ -1,5 +1,6 @@
 use Rattle.std.proofs.Common.{refl, subst}
 use Rattle.xls_view.specs.Viewing.{IsViewed}
+use Rattle.xls_open.specs.Workbook.{rules_of}
 use Rattle.xls_open.specs.declared.options.XlsOptions.{XlsOptions}
 use Rattle.xls_arrays.specs.Arrays.{arrays_of, empty}
 use Rattle.xls_arrays.specs.Held.{IsHeld, RefusesStream, ShowsStream}
@@ -13,7 +14,7 @@ returns-in_err-lay_view-clause-err c =
     let shows : ShowsStream c.args.options.now stream view =
     record {
       plain = c.in_ok-refuse_bytes.ensures.ok;
-      viewed = subst (λ (o : XlsOptions). IsViewed o stream view) c.in_ok-reader.ensures c.in_ok-view.ensures.ok;
+      viewed = subst (λ (o : XlsOptions). IsViewed (rules_of o) stream view) c.in_ok-reader.ensures c.in_ok-view.ensures.ok;
     } in
     err-as (RefusesStream c.args.options.now stream) c.from_residual-in_err-lay_view.result _
     c.from_residual-in_err-lay_view.ensures.1
@@ -27,7 +28,7 @@ returns-clause-ok c =
     let shows : ShowsStream c.args.options.now stream view =
     record {
       plain = c.in_ok-refuse_bytes.ensures.ok;
-      viewed = subst (λ (o : XlsOptions). IsViewed o stream view) c.in_ok-reader.ensures c.in_ok-view.ensures.ok;
+      viewed = subst (λ (o : XlsOptions). IsViewed (rules_of o) stream view) c.in_ok-reader.ensures c.in_ok-view.ensures.ok;
     } in
     let laid = c.in_ok-lay_view.ensures.ok in
     let held : IsHeld c.args.options.now stream c.has_1904_epoch.result (arrays_of view.book.names laid.0) =

@@ -28,6 +28,7 @@ returns-in-Some c =
         page = v.page;
         biff = v.version;
         functions = v.functions;
+        numbers = v.numbers;
       };
     } in
     let reported = map name_texts v.naming.reported.items in
@@ -58,6 +59,7 @@ returns-in-None c =
         page = v.page;
         biff = v.version;
         functions = v.functions;
+        numbers = v.numbers;
       };
     } in
     let reported = map name_texts v.naming.reported.items in

@@ -27,6 +27,7 @@ returns-in-Some c =
         page = v.page;
         biff = v.version;
         functions = v.functions;
+        numbers = v.numbers;
       };
     } in
     let reported = map name_texts v.naming.reported.items in
@@ -56,6 +57,7 @@ returns-in-None c =
         page = v.page;
         biff = v.version;
         functions = v.functions;
+        numbers = v.numbers;
       };
     } in
     let reported = map name_texts v.naming.reported.items in
