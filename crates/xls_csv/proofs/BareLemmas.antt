@@ -14,7 +14,8 @@ use Rattle.xls_dates.specs.Numbers.{decimals_text, hundredths_text, minus_if_neg
 use Rattle.xls_dates.specs.declared.dates.ExcelDateTimeType.TheVariants as kind
 use Rattle.xls_dates.specs.declared.numbers.Number.{Number}
 use Rattle.xls_dates.specs.declared.numbers.Number.TheVariants.{Bits, Whole, Hundredths, BitsOver100}
-use Rattle.xls_csv.specs.Dates.{Ymd, date_text, day_of, digit, serial_date}
+use Rattle.xls_lines.specs.Days.{Ymd, date_text, digit, serial_date}
+use Rattle.xls_csv.specs.Dates.{day_of}
 use Rattle.xls_csv.specs.Fields.{field, displayed_date}
 
 -- no byte of a text calls for quotes

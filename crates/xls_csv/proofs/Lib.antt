@@ -1,4 +1,3 @@
-pub mod DateLemmas
 pub mod FieldLemmas
 pub mod ExtentLemmas
 pub mod WalkLemmas

@@ -7,7 +7,8 @@ use Rattle.xls_data.specs.Data.{bool_text}
 use Rattle.xls_dates.specs.Dates.{DateParts}
 use Rattle.xls_data.specs.Errors.{error_text}
 use Rattle.xls_dates.specs.Numbers.{number_text}
-use Rattle.xls_csv.specs.Dates.{day_of, serial_date, date_text}
+use Rattle.xls_lines.specs.Days.{date_text, serial_date}
+use Rattle.xls_csv.specs.Dates.{day_of}
 
 -- a date that has a serial day is shown as its date, and any other one as its number
 abbrev pub displayed_date : DateParts → Option ℕ → List ℕ

@@ -8,7 +8,7 @@ use Rattle.xls_data.specs.Refs.{ref_content_of, ref_text}
 use Rattle.xls_data.specs.declared.refs.DataRef.{DataRef}
 use Rattle.xls_biff.specs.Cells.{CellEntry}
 use Rattle.xls_view.specs.declared.value.SheetCell.{SheetCell}
-use Rattle.xls_csv.specs.Dates.{date_text, last_day_in, serial_date}
+use Rattle.xls_lines.specs.Days.{date_text, last_day_in, serial_date}
 use Rattle.xls_csv.specs.Fields.{field}
 
 -- ---- cells

@@ -1,10 +1,10 @@
 //! Serial days that are shown as dates.
 
-ghost use Rattle.std.specs.Prelude.{◌≡◌, ◌≤◌, IfSome, if◌then◌else◌};
+ghost use Rattle.std.specs.Prelude.{◌≡◌, Some};
 ghost use Rattle.xls_csv.specs.Dates as dates;
 
 use xls_bytes::whole_of_bits;
-use xls_data::{ExcelDateTime, Number, ymd_of_serial_day};
+use xls_data::{ExcelDateTime, Number};
 
 /// The last day that has a date, 9999-12-31, in both date systems.
 const LAST_DAY: i64 = 2_958_465;
@@ -42,41 +42,4 @@ pub(crate) fn day_of(date: ExcelDateTime) -> Option<u64>
         return None;
     }
     counted_day(whole_number(date.number())?, date.has_1904_epoch())
-}
-
-/// The last decimal digit of a number.
-fn digit(n: u16) -> u8
-    ensures { result ≡ dates.digit n }
-{
-    b'0' + (n % 10) as u8
-}
-
-/// A year in four digits, a month and a day in two.
-fn date_bytes(year: u16, month: u8, day: u8) -> [u8; 10]
-    ensures { result ≡ dates.date_text (year, month, day) }
-{
-    let month = u16::from(month);
-    let day = u16::from(day);
-    [
-        digit(year / 1000),
-        digit(year / 100),
-        digit(year / 10),
-        digit(year),
-        b'-',
-        digit(month / 10),
-        digit(month),
-        b'-',
-        digit(day / 10),
-        digit(day),
-    ]
-}
-
-/// The text of the date of a serial day.
-pub(crate) fn day_text(day: u64, is_1904: bool) -> [u8; 10]
-    requires first { 1 ≤ day }
-    requires last { day ≤ dates.last_day_in is_1904 }
-    ensures { result ≡ dates.date_text (dates.serial_date is_1904 day) }
-{
-    let (year, month, day) = ymd_of_serial_day(day, is_1904);
-    date_bytes(year, month, day)
 }

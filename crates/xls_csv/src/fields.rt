@@ -5,14 +5,15 @@ ghost use Rattle.std.specs.String.{string_bytes};
 ghost use Rattle.std.specs.Str.{IsAscii};
 ghost use Rattle.xls_data.specs.Data.{content_of};
 ghost use Rattle.xls_data.specs.Refs.{ref_content_of, ref_text};
-ghost use Rattle.xls_csv.specs.Dates.{date_text, last_day_in, serial_date};
+ghost use Rattle.xls_lines.specs.Days.{date_text, last_day_in, serial_date};
 ghost use Rattle.xls_csv.specs.Fields.{field};
 ghost use Rattle.xls_csv.specs.Steps.{IsDisplayedDay};
 
-use crate::dates::{day_of, day_text};
+use crate::dates::day_of;
 use std::alloc::{AllocError, Global};
 use std::str::from_utf8;
 use xls_data::{Data, DataRef};
+use xls_lines::{Short, put_day};
 
 /// A value with the same field, which borrows its text.
 fn lent(value: &Data) -> DataRef<'_>
@@ -56,11 +57,12 @@ fn push_ascii(bytes: &[u8], text: &mut String) -> Result<(), AllocError>
 
 /// Appends the date of a serial day.
 fn push_day(day: u64, is_1904: bool, text: &mut String) -> Result<(), AllocError>
-    requires first { 1 ≤ day }
     requires last { day ≤ last_day_in is_1904 }
     ensures { OnOk result (string_bytes text.new ≡ string_bytes text.old ++ date_text (serial_date is_1904 day)) }
 {
-    push_ascii(&day_text(day, is_1904), text)
+    let mut date = Short::new();
+    put_day(day, is_1904, &mut date);
+    push_ascii(date.as_slice(), text)
 }
 
 /// Appends what a value prints.

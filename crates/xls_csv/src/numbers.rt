@@ -6,10 +6,10 @@ ghost use Rattle.xls_data.specs.Numeric.{numeric_content};
 ghost use Rattle.xls_csv.specs.Dates as dates;
 ghost use Rattle.xls_csv.specs.Fields.{field, displayed_date};
 
-use crate::dates::{day_of, day_text};
+use crate::dates::day_of;
 use std::alloc::AllocError;
 use xls_data::{ExcelDateTime, ExcelDateTimeType, Numeric};
-use xls_lines::Short;
+use xls_lines::{Short, put_day};
 
 /// Puts the field of a date before a text: its day, if it is shown as one, or its number.
 fn put_date(text: &mut Short, date: ExcelDateTime)
@@ -18,7 +18,7 @@ fn put_date(text: &mut Short, date: ExcelDateTime)
     ensures room { length text.new ≤ length text.old + 24 }
 {
     match day_of(date) {
-        Some(day) => text.put_word(&day_text(day, date.has_1904_epoch())),
+        Some(day) => put_day(day, date.has_1904_epoch(), text),
         None => text.put_number(date.number()),
     }
 }

@@ -1,6 +1,6 @@
 -- The texts are ASCII.
 use Rattle.std.proofs.Common.{◌≡◌, ℕ, zero, suc, ◌-◌, ◌/◌, ◌%◌, ◌^◌, ◌<◌, List, [], ◌∷◌, ◌++◌, length, replicate, arith, ℤ, pos, negsuc, unsigned_abs, Bool, true, false, subst, sym}
-use Rattle.std.specs.Prelude.{◌==◌, codes, nat_lt, MatchBool, if◌then◌else◌}
+use Rattle.std.specs.Prelude.{◌==◌, codes, nat_lt, if◌then◌else◌}
 use Rattle.std.specs.Str.{IsAscii}
 use Rattle.std.specs.Fmt.{decimal, digits, digits_onto, digit_glyph}
 use Rattle.std.proofs.lemmas.Fmt.{IsAscii-decimal}
@@ -10,7 +10,8 @@ use Rattle.std.proofs.lemmas.Bool.Decides.{nat_tests}
 use Rattle.xls_dates.specs.Numbers.{sixteen_digits, hundredths_text, decimals_text, minus_if_negative}
 use Rattle.xls_decimals.specs.Fractions.{day}
 use Rattle.xls_decimals.specs.Decimals.{decimal_of_bits}
-use Rattle.xls_decimals.specs.Texts.{digit, two_digits, fraction_text, minutes_text, clock_text, date_text, time_after_day, sign_of, duration_text, IsMoment, Ymd}
+use Rattle.xls_lines.specs.Days.{Ymd, date_text, digit, serial_date, two_digits}
+use Rattle.xls_decimals.specs.Texts.{fraction_text, minutes_text, clock_text, time_after_day, sign_of, duration_text, moment_text}
 
 -- a text that isn't empty under a test
 if_ascii : (b : Bool) (xs ys : List ℕ) → IsAscii xs → IsAscii ys → IsAscii (if b then xs else ys)
@@ -66,16 +67,11 @@ date_ascii d =
     (IsAscii-append (two_digits d.1) (45 ∷ two_digits d.2) (two_ascii d.1)
     (sign_ascii 45 (two_digits d.2) (omega arith) (two_ascii d.2)))))
 
-moment_by : (is_1904 test : Bool) (ms : ℕ) (text : List ℕ) (P : Ymd → Type 0)
-    → MatchBool test (text ≡ clock_text ms) ((date : Ymd) × P date × (text ≡ date_text date ++ time_after_day (ms % day)))
-    → IsAscii text
-moment_by is_1904 true ms text P h = subst IsAscii (sym h) (clock_ascii ms)
-moment_by is_1904 false ms text P h =
-    subst IsAscii (sym h.2) (IsAscii-append (date_text h.0) (time_after_day (ms % day)) (date_ascii h.0)
-    (time_ascii (ms % day)))
-
-pub moment_ascii : (is_1904 : Bool) (ms : ℕ) (text : List ℕ) → IsMoment is_1904 ms text → IsAscii text
-moment_ascii is_1904 ms text h = moment_by is_1904 (nat_lt ms day) ms text _ h
+pub moment_ascii : (is_1904 : Bool) (ms : ℕ) → IsAscii (moment_text is_1904 ms)
+moment_ascii is_1904 ms =
+    let date = serial_date is_1904 (ms / day) in
+    if_ascii (nat_lt ms day) (clock_text ms) (date_text date ++ time_after_day (ms % day)) (clock_ascii ms)
+    (IsAscii-append (date_text date) (time_after_day (ms % day)) (date_ascii date) (time_ascii (ms % day)))
 
 pub duration_ascii : (negative : Bool) (ms : ℕ) → ms < 2 ^ 64 → IsAscii (duration_text negative ms)
 duration_ascii negative ms small =

@@ -2,7 +2,8 @@
 use Rattle.std.proofs.Common.{◌≡◌, ℕ, ◌+◌, ◌*◌, ◌/◌, ◌%◌, ◌<◌, ◌≤◌, arith, ◌∙◌, sym, ap, inl, inr, Some, None, true, false, Bool, unsigned_abs, lit<}
 use Rattle.std.specs.Prelude.{nat_lt, nat_le, not, ◌&&◌, if◌then◌else◌}
 use Rattle.std.specs.Option.{option_map}
-use Rattle.xls_decimals.specs.Moments.{moment_of, moment_in, last_day_in}
+use Rattle.xls_lines.specs.Days.{last_day_in}
+use Rattle.xls_decimals.specs.Moments.{moment_of, moment_in}
 use Rattle.std.proofs.lemmas.Bool.{cases_lt, cases_eq}
 use Rattle.std.proofs.lemmas.Nat.{mul-le, pow_pos}
 use Rattle.std.proofs.lemmas.Option.{none-some}
@@ -96,3 +97,20 @@ moment_is is_1904 n x p e h =
     let here : moment_in is_1904 (Some x) ≡ Some p = ap (moment_in is_1904) (sym e) ∙ h in
     some_moment (not (x.negative && nat_lt 0 x.numerator) && nat_le (milliseconds_of x / day)
     (last_day_in is_1904)) (milliseconds_of x) p here
+
+-- and lies on a day up to the last one
+within_both : (a : Bool) (n last ms p : ℕ) → (if a && nat_le n last then Some ms else None) ≡ Some p → n ≤ last
+within_both false n last ms p e = absurd (none-some p e)
+within_both true n last ms p e = elim (cases_lt last n) [
+  | inl past ↦
+      let test : nat_le n last ≡ false = grind arith in
+      absurd (none-some p (rw test at e))
+  | inr within ↦ within
+]
+
+pub moment_within : (is_1904 : Bool) (n : Number) (x : Fraction) (p : ℕ) → value_of n ≡ Some x
+    → moment_of is_1904 n ≡ Some p → p / day ≤ last_day_in is_1904
+moment_within is_1904 n x p e h =
+    let here : moment_in is_1904 (Some x) ≡ Some p = ap (moment_in is_1904) (sym e) ∙ h in
+    rw (moment_is is_1904 n x p e h)
+    (within_both (not (x.negative && nat_lt 0 x.numerator)) (milliseconds_of x / day) (last_day_in is_1904) (milliseconds_of x) p here)

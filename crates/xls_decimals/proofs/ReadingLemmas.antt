@@ -6,7 +6,9 @@ use Rattle.jiff_core.proofs.CalendarLemmas.{days_in_month_bounds}
 use Rattle.xls_dates.proofs.DayLemmas.{known}
 use Rattle.xls_dates.specs.SerialDays.{IsDayNumber, day_number}
 use Rattle.xls_decimals.specs.Fractions.{day}
-use Rattle.xls_decimals.specs.Texts.{Ymd, IsSerialDate, IsMoment, digit, fraction_text, clock_text, date_text, time_after_day}
+use Rattle.xls_lines.specs.Days.{Ymd, date_text, digit, last_day_in, serial_date}
+use Rattle.xls_lines.proofs.DayLemmas.{IsSerialDate, serial_dated}
+use Rattle.xls_decimals.specs.Texts.{fraction_text, clock_text, moment_text, time_after_day}
 
 -- the number of two digits
 two_value : ℕ → ℕ → ℕ
@@ -168,50 +170,44 @@ serial_same false a b d h i = serial_by a b d h i (cases_lt a 60) (cases_lt 60 a
 
 -- ---- moments
 
-Dated : Bool → ℕ → List ℕ → Type 0
-Dated is_1904 ms text = (date : Ymd) × IsSerialDate is_1904 (ms / day) date × (text
-    ≡ date_text date ++ time_after_day (ms % day))
-
-dated_same : (is_1904 : Bool) (p q : ℕ) (text : List ℕ) → Dated is_1904 p text → Dated is_1904 q text → p ≡ q
-unfolding Dated
-dated_same is_1904 p q text h i =
-    let one = date_back h.0 (time_after_day (p % day)) (date_small is_1904 (p / day) h.0 h.1) in
-    let two = date_back i.0 (time_after_day (q % day)) (date_small is_1904 (q / day) i.0 i.1) in
-    let dates : h.0 ≡ i.0 = sym one ∙ ap date_value (sym h.2 ∙ i.2) ∙ two in
-    let days : p / day ≡ q / day = serial_same is_1904 (p / day) (q / day) i.0 (subst (IsSerialDate is_1904
-    (p / day)) dates h.1) i.1 in
+dated_same : (is_1904 : Bool) (p q : ℕ) → p / day ≤ last_day_in is_1904 → q / day ≤ last_day_in is_1904
+    → date_text (serial_date is_1904 (p / day)) ++ time_after_day (p % day) ≡ date_text (serial_date is_1904 (q / day)) ++ time_after_day (q % day)
+    → p ≡ q
+dated_same is_1904 p q a b e =
+    let d = serial_date is_1904 (p / day) in
+    let f = serial_date is_1904 (q / day) in
+    let on = serial_dated is_1904 (p / day) a in
+    let to = serial_dated is_1904 (q / day) b in
+    let one = date_back d (time_after_day (p % day)) (date_small is_1904 (p / day) d on) in
+    let two = date_back f (time_after_day (q % day)) (date_small is_1904 (q / day) f to) in
+    let dates : d ≡ f = sym one ∙ ap date_value e ∙ two in
+    let days : p / day ≡ q / day = serial_same is_1904 (p / day) (q / day) f (subst (IsSerialDate is_1904 (p / day)) dates on) to in
     let tails : time_after_day (p % day) ≡ time_after_day (q % day) =
-    sym (after_back h.0 (time_after_day (p % day))) ∙ ap after_date (sym h.2 ∙ i.2) ∙ after_back i.0
-    (time_after_day (q % day)) in
+    sym (after_back d (time_after_day (p % day))) ∙ ap after_date e ∙ after_back f (time_after_day (q % day)) in
     let times : p % day ≡ q % day = sym (time_back (p % day) (omega arith)) ∙ ap time_value tails ∙ time_back
     (q % day) (omega arith) in
     omega (arith, days, times)
 
-clock_same : (p q : ℕ) (text : List ℕ) → p < day → q < day → text ≡ clock_text p → text ≡ clock_text q → p ≡ q
-clock_same p q text a b h i = sym (clock_back p a) ∙ ap clock_value (sym h ∙ i) ∙ clock_back q b
+clock_same : (p q : ℕ) → p < day → q < day → clock_text p ≡ clock_text q → p ≡ q
+clock_same p q a b e = sym (clock_back p a) ∙ ap clock_value e ∙ clock_back q b
 
 -- below a day, and from one on
-alone : (is_1904 : Bool) (p : ℕ) (text : List ℕ) → p < day → IsMoment is_1904 p text → text ≡ clock_text p
-alone is_1904 p text l h = rw (lt-ltb p day l) at h
+alone : (is_1904 : Bool) (p : ℕ) → p < day → moment_text is_1904 p ≡ clock_text p
+alone is_1904 p l = rw (lt-ltb p day l) refl
 
-dated : (is_1904 : Bool) (p : ℕ) (text : List ℕ) → day ≤ p → IsMoment is_1904 p text → Dated is_1904 p text
-unfolding Dated
-dated is_1904 p text l h = rw (le-ltb p day l) at h
+dated : (is_1904 : Bool) (p : ℕ) → day ≤ p
+    → moment_text is_1904 p ≡ date_text (serial_date is_1904 (p / day)) ++ time_after_day (p % day)
+dated is_1904 p l = rw (le-ltb p day l) refl
 
-pub moment_same : (is_1904 : Bool) (p q : ℕ) (text : List ℕ) → IsMoment is_1904 p text
-    → IsMoment is_1904 q text → p ≡ q
-unfolding Dated
-moment_same is_1904 p q text h i = elim (cases_lt p day) [
+pub moment_same : (is_1904 : Bool) (p q : ℕ) → p / day ≤ last_day_in is_1904 → q / day ≤ last_day_in is_1904
+    → moment_text is_1904 p ≡ moment_text is_1904 q → p ≡ q
+moment_same is_1904 p q h i e = elim (cases_lt p day) [
   | inl a ↦ elim (cases_lt q day) [
-    | inl b ↦ clock_same p q text a b (alone is_1904 p text a h) (alone is_1904 q text b i)
-    | inr b ↦
-        let d = dated is_1904 q text b i in
-        absurd (not_both p d.0 (time_after_day (q % day)) (sym (alone is_1904 p text a h) ∙ d.2))
+    | inl b ↦ clock_same p q a b (sym (alone is_1904 p a) ∙ e ∙ alone is_1904 q b)
+    | inr b ↦ absurd (not_both p (serial_date is_1904 (q / day)) (time_after_day (q % day)) (sym (alone is_1904 p a) ∙ e ∙ dated is_1904 q b))
   ]
   | inr a ↦ elim (cases_lt q day) [
-    | inl b ↦
-        let d = dated is_1904 p text a h in
-        absurd (not_both q d.0 (time_after_day (p % day)) (sym (alone is_1904 q text b i) ∙ d.2))
-    | inr b ↦ dated_same is_1904 p q text (dated is_1904 p text a h) (dated is_1904 q text b i)
+    | inl b ↦ absurd (not_both q (serial_date is_1904 (p / day)) (time_after_day (p % day)) (sym (alone is_1904 q b) ∙ sym e ∙ dated is_1904 p a))
+    | inr b ↦ dated_same is_1904 p q h i (sym (dated is_1904 p a) ∙ e ∙ dated is_1904 q b)
   ]
 ]

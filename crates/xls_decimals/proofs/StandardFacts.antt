@@ -9,12 +9,11 @@ use Rattle.ryu.specs.Parse.{parse_float, read_float}
 use Rattle.std.specs.Float.Numeral.{scan_numeral}
 use Rattle.xls_bytes.specs.Doubles.{size_of_parts}
 use Rattle.xls_dates.specs.Numbers.{sixteen_digits}
-use Rattle.xls_dates.specs.SerialDays.{day_number}
 use Rattle.xls_dates.specs.declared.numbers.Number.TheVariants.{Bits, Whole, Hundredths, BitsOver100}
-use Rattle.jiff_core.specs.Calendar.{days_from_civil, day_count, days_of_years, days_of_months}
+use Rattle.xls_lines.specs.Days.{days_after}
 use Rattle.xls_decimals.specs.Decimals.{fixed_text}
 use Rattle.xls_decimals.specs.Fractions.{nearest}
-use Rattle.xls_decimals.specs.Texts.{Ymd, IsSerialDate, date_text, clock_text, time_after_day, duration_text}
+use Rattle.xls_decimals.specs.Texts.{clock_text, moment_text, time_after_day, duration_text}
 use Rattle.xls_decimals.specs.Moments.{moment_of, span_of}
 
 -- ---- doubles with one text
@@ -105,9 +104,11 @@ known_clocks = refl
 pub known_times : map time_after_day (0 ∷ 49_530_250 ∷ []) ≡ [] ∷ codes "T13:45:30.25" ∷ []
 known_times = refl
 
-pub known_date_texts : map date_text ((2024, 2, 29) ∷ (1900, 1, 1) ∷ (9999, 12, 31) ∷ []) ≡ codes "2024-02-29"
-    ∷ codes "1900-01-01" ∷ codes "9999-12-31" ∷ []
-known_date_texts = refl
+-- below one day, at midnight of day 60 and after it
+pub known_moment_texts : map (moment_text false) (49_530_250 ∷ 5_184_000_000 ∷ 5_319_930_250 ∷ [])
+    ≡ codes "13:45:30.25" ∷ codes "1900-02-29" ∷ codes "1900-03-01T13:45:30.25" ∷ []
+unfolding days_after
+known_moment_texts = refl
 
 pub known_durations : (duration_text false 108_000_000 ≡ codes "30:00:00") × (duration_text true 5_400_500
     ≡ codes "-1:30:00.5")
@@ -115,33 +116,6 @@ pub known_durations : (duration_text false 108_000_000 ≡ codes "30:00:00") × 
     (duration_text false 360_000_000 ≡ codes "100:00:00")
 unfolding digits
 known_durations = (refl, refl, refl, refl, refl)
-
--- ---- dates
-
--- a serial day has no date but one with the number of this one
-abbrev pub HasDate : Bool → ℕ → Ymd → Type 0
-HasDate is_1904 serial d = (date : Ymd) → IsSerialDate is_1904 serial date → day_number date.0 date.1 date.2
-    ≡ day_number d.0 d.1 d.2
-
--- days 1, 59, 61, 366 and 2958465 of the 1900 system
-pub known_dates : HasDate false 1 (1900, 1, 1) × HasDate false 59 (1900, 2, 28) × HasDate false 61 (1900, 3, 1)
-    × HasDate false 366 (1900, 12, 31) × HasDate false 2_958_465 (9999, 12, 31)
-unfolding days_from_civil day_count days_of_years days_of_months
-known_dates = (
-  λ d h. (h.early refl (lit< tt)).counted,
-  λ d h. (h.early refl (lit< tt)).counted,
-  λ d h. (h.late refl (lit< tt)).counted,
-  λ d h. (h.late refl (lit< tt)).counted,
-  λ d h. (h.late refl (lit< tt)).counted,
-)
-
-pub known_leap_day : (date : Ymd) → IsSerialDate false 60 date → date ≡ (1900, 2, 29)
-known_leap_day date h = h.leap refl refl
-
--- days 1, 1461 and 2957003 of the 1904 system
-pub known_dates_1904 : HasDate true 1 (1904, 1, 2) × HasDate true 1461 (1908, 1, 1) × HasDate true 2_957_003 (9999, 12, 31)
-unfolding days_from_civil day_count days_of_years days_of_months
-known_dates_1904 = (λ d h. (h.from_1904 refl).counted, λ d h. (h.from_1904 refl).counted, λ d h. (h.from_1904 refl).counted)
 
 -- ---- texts that read back
 

@@ -1,18 +1,14 @@
 -- Which numbers are shown as dates and durations, and how.
-use Rattle.std.specs.Prelude.{◌≡◌, ℕ, ◌/◌, ◌&&◌, nat_le, nat_lt, not, if◌then◌else◌, Bool, true, false, Option, Some, None, MatchOption, List}
+use Rattle.std.specs.Prelude.{◌≡◌, ℕ, ◌/◌, ◌&&◌, nat_le, nat_lt, not, if◌then◌else◌, Bool, Option, Some, None, MatchOption, List}
 use Rattle.xls_dates.specs.Dates.{DateParts}
-use Rattle.xls_dates.specs.SerialDays.{last_day, last_day_of_1904}
+use Rattle.xls_dates.specs.SerialDays.{last_day}
 use Rattle.xls_dates.specs.declared.numbers.Number.{Number}
 use Rattle.xls_dates.specs.declared.dates.ExcelDateTimeType.{ExcelDateTimeType}
 use Rattle.xls_dates.specs.declared.dates.ExcelDateTimeType.TheVariants.{DateTime, TimeDelta}
+use Rattle.xls_lines.specs.Days.{last_day_in}
 use Rattle.xls_decimals.specs.Decimals.{IsDecimal}
 use Rattle.xls_decimals.specs.Fractions.{Fraction, value_of, milliseconds_of, day}
-use Rattle.xls_decimals.specs.Texts.{IsMoment, duration_text}
-
--- the last serial day, 9999-12-31
-abbrev pub last_day_in : Bool → ℕ
-last_day_in true = last_day_of_1904
-last_day_in false = last_day
+use Rattle.xls_decimals.specs.Texts.{moment_text, duration_text}
 
 -- the milliseconds from the start of day 0 of a value that isn't below zero, up to the end of the
 -- last day
@@ -28,7 +24,7 @@ moment_of is_1904 number = moment_in is_1904 (value_of number)
 -- the text of a number that is a date: out of range it stays a number
 abbrev pub IsDate : Bool → Number → List ℕ → Type 0
 IsDate is_1904 number text =
-    MatchOption (moment_of is_1904 number) (IsDecimal number text) (λ ms. IsMoment is_1904 ms text)
+    MatchOption (moment_of is_1904 number) (IsDecimal number text) (λ ms. text ≡ moment_text is_1904 ms)
 
 -- whether a duration is below zero, and its size in milliseconds, of less days than 9999-12-31 has
 -- in the 1900 system

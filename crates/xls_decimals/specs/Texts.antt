@@ -1,32 +1,8 @@
 -- The texts of dates, times of day and durations, as lists of ASCII codes.
-use Rattle.std.specs.Prelude.{◌≡◌, ℕ, ◌+◌, ◌/◌, ◌%◌, ◌==◌, ◌<◌, nat_lt, MatchBool, if◌then◌else◌, Bool, true, false, List, [], ◌∷◌, ◌++◌, codes, pos, ◌+ℤ◌}
+use Rattle.std.specs.Prelude.{ℕ, ◌/◌, ◌%◌, ◌==◌, nat_lt, if◌then◌else◌, Bool, List, [], ◌∷◌, ◌++◌, codes}
 use Rattle.std.specs.Fmt.{decimal}
-use Rattle.xls_dates.specs.SerialDays.{IsDayNumber, day_number}
+use Rattle.xls_lines.specs.Days.{date_text, digit, serial_date, two_digits}
 use Rattle.xls_decimals.specs.Fractions.{day}
-
--- a year, a month and a day
-abbrev pub Ymd : Type 0
-Ymd = ℕ × ℕ × ℕ
-
--- the date of a serial day, by the calendar. The 1900 system counts from 1899-12-31 and has a day
--- 60, 1900-02-29, which the calendar lacks; the 1904 system counts from 1904-01-01
-pub record IsSerialDate (is_1904 : Bool) (serial : ℕ) (date : Ymd) : Type 0 where
-  pub leap : is_1904 ≡ false → serial ≡ 60 → date ≡ (1900, 2, 29)
-  pub early : is_1904 ≡ false → serial < 60 → IsDayNumber (day_number 1899 12 31 +ℤ pos serial) date
-  pub late : is_1904 ≡ false → 60 < serial → IsDayNumber (day_number 1899 12 30 +ℤ pos serial) date
-  pub from_1904 : is_1904 ≡ true → IsDayNumber (day_number 1904 1 1 +ℤ pos serial) date
-
--- the last decimal digit of a number, and its last two
-abbrev pub digit : ℕ → ℕ
-digit n = 48 + n % 10
-
-abbrev pub two_digits : ℕ → List ℕ
-two_digits n = digit (n / 10) ∷ digit n ∷ []
-
--- the calendar date of ISO 8601: `2024-02-29`
-abbrev pub date_text : Ymd → List ℕ
-date_text d =
-    two_digits (d.0 / 100) ++ (two_digits d.0 ++ (codes "-" ++ (two_digits d.1 ++ (codes "-" ++ two_digits d.2))))
 
 -- milliseconds below a second: a point and three digits, without zeros at the end; nothing for none
 abbrev pub fraction_text : ℕ → List ℕ
@@ -51,11 +27,10 @@ time_after_day ms = if ms == 0 then [] else codes "T" ++ clock_text ms
 
 -- a day and a time of day, counted in milliseconds from the start of day 0: below one day a time
 -- alone, at midnight a day alone
-abbrev pub IsMoment : Bool → ℕ → List ℕ → Type 0
-IsMoment is_1904 ms text =
-    MatchBool (nat_lt ms day) (text ≡ clock_text ms)
-    ((date : Ymd) × IsSerialDate is_1904 (ms / day) date
-    × (text ≡ date_text date ++ time_after_day (ms % day)))
+abbrev pub moment_text : Bool → ℕ → List ℕ
+moment_text is_1904 ms =
+    if nat_lt ms day then clock_text ms
+    else date_text (serial_date is_1904 (ms / day)) ++ time_after_day (ms % day)
 
 -- the sign of a duration
 abbrev pub sign_of : Bool → ℕ → List ℕ

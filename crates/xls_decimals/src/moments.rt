@@ -3,17 +3,18 @@
 ghost use Rattle.std.specs.Prelude.{◌≡◌, ◌/◌, ◌≤◌, OnOk, OnErr};
 ghost use Rattle.std.specs.String.{string_bytes};
 ghost use Rattle.xls_output.specs.Added.{AddsText};
+ghost use Rattle.xls_lines.specs.Days.{last_day_in};
 ghost use Rattle.xls_decimals.specs.Fractions.{day};
-ghost use Rattle.xls_decimals.specs.Texts.{IsMoment};
-ghost use Rattle.xls_decimals.specs.Moments.{IsDate, IsDateOrDuration, last_day_in, moment_of};
+ghost use Rattle.xls_decimals.specs.Texts.{moment_text};
+ghost use Rattle.xls_decimals.specs.Moments.{IsDate, IsDateOrDuration, moment_of};
 
 use crate::decimals::push_decimal;
 use crate::durations::push_duration;
 use crate::fractions::{DAY, LAST_DAY, days_of};
-use crate::short_texts::{push_ascii, put_clock, put_date};
+use crate::short_texts::{push_ascii, put_clock};
 use std::alloc::AllocError;
-use xls_data::{ExcelDateTime, Number, ymd_of_serial_day};
-use xls_lines::Short;
+use xls_data::{ExcelDateTime, Number};
+use xls_lines::{Short, put_day};
 
 /// The last day that has a date in the 1904 system, 9999-12-31.
 const LAST_DAY_OF_1904: u64 = 2_957_003;
@@ -36,7 +37,7 @@ fn moment_of(number: Number, is_1904: bool) -> Option<u64>
 // The text of a day and a time of day.
 fn moment_text(ms: u64, is_1904: bool) -> Short
     requires { ms / day ≤ last_day_in is_1904 }
-    ensures { IsMoment is_1904 ms result }
+    ensures { result ≡ moment_text is_1904 ms }
 {
     let mut text = Short::new();
     if ms < DAY {
@@ -48,8 +49,7 @@ fn moment_text(ms: u64, is_1904: bool) -> Short
         put_clock(time, &mut text);
         text.put_byte(b'T');
     }
-    let (year, month, day) = ymd_of_serial_day(ms / DAY, is_1904);
-    put_date(year, month, day, &mut text);
+    put_day(ms / DAY, is_1904, &mut text);
     text
 }
 

@@ -5,11 +5,11 @@ ghost use Rattle.std.specs.String.{string_bytes};
 ghost use Rattle.std.specs.Str.{IsAscii};
 ghost use Rattle.xls_dates.specs.Numbers.{decimals_text, hundredths_text};
 ghost use Rattle.xls_decimals.specs.Decimals.{decimal_of_bits};
-ghost use Rattle.xls_decimals.specs.Texts.{digit, two_digits, fraction_text, minutes_text, clock_text, date_text};
+ghost use Rattle.xls_decimals.specs.Texts.{fraction_text, minutes_text, clock_text};
 
 use std::alloc::AllocError;
 use std::str::from_utf8;
-use xls_lines::Short;
+use xls_lines::{Short, digit, put_two_digits};
 
 // Appends ASCII, which is text as it stands.
 pub(crate) fn push_ascii(text: &[u8], buf: &mut String) -> Result<(), AllocError>
@@ -18,23 +18,6 @@ pub(crate) fn push_ascii(text: &[u8], buf: &mut String) -> Result<(), AllocError
     ensures err { OnErr result (string_bytes buf.new ≡ string_bytes buf.old) }
 {
     buf.push_str(from_utf8(text).unwrap())
-}
-
-// The last decimal digit of a number.
-fn digit(n: u64) -> u8
-    ensures value { result ≡ digit n }
-    ensures ascii { result < 128 }
-{
-    b'0' + (n % 10) as u8
-}
-
-// Puts the last two digits of a number before a text.
-pub(crate) fn put_two_digits(n: u64, text: &mut Short)
-    requires { length text.old + 2 ≤ 96 }
-    ensures { text.new ≡ two_digits n ++ text.old }
-{
-    text.put_byte(digit(n));
-    text.put_byte(digit(n / 10));
 }
 
 // Puts milliseconds below a second before a text: a point and digits, or nothing for none.
@@ -78,19 +61,6 @@ pub(crate) fn put_clock(ms: u64, text: &mut Short)
 {
     put_minutes(ms, text);
     put_two_digits(ms / 3_600_000, text);
-}
-
-// Puts a calendar date before a text.
-pub(crate) fn put_date(year: u16, month: u8, day: u8, text: &mut Short)
-    requires { length text.old + 10 ≤ 96 }
-    ensures { text.new ≡ date_text (year, month, day) ++ text.old }
-{
-    put_two_digits(day as u64, text);
-    text.put_byte(b'-');
-    put_two_digits(month as u64, text);
-    text.put_byte(b'-');
-    put_two_digits(year as u64, text);
-    put_two_digits(year as u64 / 100, text);
 }
 
 // Puts hundredths below one before a text: nothing, a point and one digit, or two.

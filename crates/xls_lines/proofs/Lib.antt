@@ -1,3 +1,4 @@
+pub mod DayLemmas
 pub mod ShortLemmas
 pub mod StandardFacts
 pub mod HexLemmas

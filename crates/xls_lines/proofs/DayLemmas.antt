@@ -7,7 +7,7 @@ use Rattle.jiff_core.proofs.CalendarLemmas.{days_from_civil-day_count, days_in_m
 use Rattle.jiff_core.specs.Calendar.{day_count, days_in_month, IsCivilDate}
 use Rattle.xls_dates.proofs.DayLemmas.{known}
 use Rattle.xls_dates.specs.SerialDays.{IsDayNumber, day_number, last_day, last_day_of_1904}
-use Rattle.xls_csv.specs.Dates.{Ymd, next_day, days_after, serial_date, last_day_in}
+use Rattle.xls_lines.specs.Days.{Ymd, next_day, days_after, serial_date, last_day_in}
 
 -- the calendar has the date, and so many days lie before it
 pub record IsCounted (n : ℕ) (d : Ymd) : Type 0 where
@@ -164,3 +164,45 @@ serial_is true day b last leap early late from =
     date_is 1904 1 1 day b civil_1904 (omega (arith, counts.2)) (from refl last)
 serial_is false day b last leap early late from =
     from_1900 day b last (leap refl) (early refl) (late refl) (cases_lt day 60) (cases_lt 60 day)
+
+-- ---- the number of the date of a serial day
+
+numbered : (y m d k : ℕ) → IsCivilDate (pos y) m d → day_count (pos y) m d + k ≤ 7_304_849
+    → IsDayNumber (day_number y m d +ℤ pos k) (days_after (y, m, d) k)
+numbered y m d k civil last =
+    let b = days_after (y, m, d) k in
+    let h : IsCounted (day_count (pos y) m d + k) b = later (y, m, d) (day_count (pos y) m d) k (record { civil = civil; counted = refl }) last in
+    record {
+      civil = h.civil;
+      counted = omega (arith, signed_arith, h.counted, days_from_civil-day_count (pos b.0) b.1 b.2, days_from_civil-day_count (pos y) m d);
+    }
+
+-- by its system, and in the 1900 system by which side of day 60 it stands on
+pub record IsSerialDate (is_1904 : Bool) (serial : ℕ) (date : Ymd) : Type 0 where
+  pub leap : is_1904 ≡ false → serial ≡ 60 → date ≡ (1900, 2, 29)
+  pub early : is_1904 ≡ false → serial < 60 → IsDayNumber (day_number 1899 12 31 +ℤ pos serial) date
+  pub late : is_1904 ≡ false → 60 < serial → IsDayNumber (day_number 1899 12 30 +ℤ pos serial) date
+  pub from_1904 : is_1904 ≡ true → IsDayNumber (day_number 1904 1 1 +ℤ pos serial) date
+
+dated_1900 : (day : ℕ) → day ≤ last_day → IsSerialDate false day (serial_date false day)
+dated_1900 day last = record {
+  leap = λ e here. rw here refl;
+  early = λ e l.
+      let other : (day == 60) ≡ false = grind arith in
+      let before : nat_lt day 60 ≡ true = grind arith in
+      rw (other, before) (numbered 1899 12 31 day civil_31 (omega (arith, counts.0)));
+  late = λ e r.
+      let other : (day == 60) ≡ false = grind arith in
+      let following : nat_lt day 60 ≡ false = grind arith in
+      rw (other, following) (numbered 1899 12 30 day civil_30 (omega (arith, counts.1)));
+  from_1904 = λ e. absurd cc;
+}
+
+pub serial_dated : (is_1904 : Bool) (day : ℕ) → day ≤ last_day_in is_1904 → IsSerialDate is_1904 day (serial_date is_1904 day)
+serial_dated true day last = record {
+  leap = λ e. absurd cc;
+  early = λ e. absurd cc;
+  late = λ e. absurd cc;
+  from_1904 = λ e. numbered 1904 1 1 day civil_1904 (omega (arith, counts.2));
+}
+serial_dated false day last = dated_1900 day last
