@@ -1,91 +1,115 @@
--- Counts that grow, and marks.
-use Rattle.std.proofs.Common.{◌≡◌, ℕ, ◌+◌, ◌-◌, ◌^◌, ◌<◌, List, [], ◌∷◌, ◌++◌, map, length, take, get_or, refl, sym, ap, ◌∙◌, arith, inl, inr, zero-add, slice_set, slice_get, Bool, true, false, cond, Some}
-use Rattle.std.specs.Prelude.{min, ◌||◌, ◌==◌}
-use Rattle.std.specs.List.{count_by, range_with_len}
-use Rattle.std.proofs.lemmas.List.{take_more, map_push, get_or-set_same, get_or-set_other}
-use Rattle.std.proofs.lemmas.Bool.Decides.{eqb_tells}
+-- The count so far, and what is counted in the table of the globals.
+use Rattle.std.proofs.Common.{◌≡◌, ℕ, ◌+◌, ◌≤◌, List, [], ◌∷◌, ◌++◌, length, refl, sym, ap, ◌∙◌, arith, add-zero, inl, inr, Bool, true, false, cond, Some, None, Result, Ok, Err}
+use Rattle.std.specs.Prelude.{◌==◌, ◌&&◌, not, nat_le, take, drop}
+use Rattle.std.specs.List.{count_by}
+use Rattle.std.proofs.lemmas.List.{length-append}
 use Rattle.std.proofs.lemmas.List.Sums.{sum_by-append}
-use Rattle.std.proofs.lemmas.List.FromFn.{map-range_with_len_more}
-use Rattle.std.proofs.lemmas.Option.{slice_get-get_or}
-use Rattle.std.proofs.lemmas.Grind.{common_steps}
-use Rattle.xls_stream.specs.Listing.{is_among}
-use Rattle.xls_formats.specs.Uncounted.{is_touched, touched_count}
+use Rattle.std.proofs.lemmas.Bool.Decides.{eqb_tells}
+use Rattle.xls_bytes.specs.Numbers.{le}
+use Rattle.xls_dates.specs.Classes.{class_of}
+use Rattle.xls_stream.specs.Stream.{Group, Begins, group_bytes}
+use Rattle.xls_stream.specs.Walks.{IsBytes}
+use Rattle.xls_stream.specs.Listing.{is_globals_type, Item, plain_item, table_item, sheet_item, IsItem}
+use Rattle.xls_stream.specs.declared.part.Part.TheVariants as parts
+use Rattle.xls_stream.proofs.HoldingLemmas.{has_item}
+use Rattle.xls_record.specs.declared.error.XlsError.{XlsError}
+use Rattle.xls_record.specs.Reading.{◌>>=◌, ◌>>◌, at_least}
+use Rattle.xls_biff.specs.Records.Format.{format_id, format_text_at, is_format_id}
+use Rattle.xls_biff.specs.Walking.{Steps}
+use Rattle.xls_open.proofs.CheckWalkLemmas.{Passed, passed_nothing, passed_item, passed_other, passed_end, passed_cut, passed_eof}
+use Rattle.xls_meaning.specs.GlobalsTable.{other_record, unless_refused}
+use Rattle.xls_formats.specs.Uncounted.{is_uncounted_format, is_uncounted, CountsUncounted, UncountedAreRefused}
 
-pub count-append : {X : Type 0} (p : X → Bool) (xs ys : List X) → count_by p (xs ++ ys) ≡ count_by p xs + count_by p ys
-count-append p xs ys = sum_by-append (λ x. cond (p x) 1 0) xs ys
+-- ---- a record and its item
 
--- the numbers of a range, and the next one
-pub count_next : (p : ℕ → Bool) (f : ℕ → ℕ) (i : ℕ)
-    → count_by p (map f (range_with_len 0 (i + 1))) ≡ count_by p (map f (range_with_len 0 i)) + cond (p (f i)) 1 0
-count_next p f i =
-    let push : map f (range_with_len 0 (i + 1)) ≡ map f (range_with_len 0 i) ++ f i ∷ [] = map-range_with_len_more f 0 i i (zero-add i) in
-    let sum = count-append p (map f (range_with_len 0 i)) (f i ∷ []) in
-    ap (count_by p) push ∙ omega (arith, sum)
+uncounted_item : (bytes : List ℕ) (g : Group) (i : Item) → IsItem bytes g i → is_uncounted i ≡ is_uncounted_format g.typ g.body
+uncounted_item bytes g (plain_item typ body) k = rw (k.1, k.2) refl
+uncounted_item bytes g (table_item body shared) k = rw k.0 refl
+uncounted_item bytes g (sheet_item body kept cut) k = rw k.0 refl
 
--- a count that stops at the greatest number of 64 bits
-pub touched-append : (touched : List Bool) (xs ys : List ℕ)
-    → min (touched_count touched xs + touched_count touched ys) (2 ^ 64 - 1) ≡ touched_count touched (xs ++ ys)
-touched-append touched xs ys = let sum = count-append (is_touched touched) xs ys in omega (arith, sum)
+-- a Format is a record of the globals
+uncounted_other : (g : Group) → is_globals_type g ≡ false → is_uncounted_format g.typ g.body ≡ false
+uncounted_other g t =
+    elim (eqb_tells g.typ 1054) [
+      | inl e ↦ absurd (let f : is_globals_type (record g { typ = 1054 }) ≡ false = (rw e.1 at t) in cc)
+      | inr d ↦ rw d.0 refl
+    ]
 
--- one more record's cells
-pub touched_push : (touched : List Bool) (xs ys : List ℕ) (had more : ℕ) → had ≡ touched_count touched xs
-    → more ≡ count_by (is_touched touched) ys → min (had + more) (2 ^ 64 - 1) ≡ touched_count touched (xs ++ ys)
-touched_push touched xs ys had more h m = let sum = count-append (is_touched touched) xs ys in omega (arith, sum, h, m)
+-- ---- the count so far
 
--- ---- marks
+pub record CountedSoFar (stream rest : List ℕ) (count : ℕ) : Type 0 where
+  pub items : List Item
+  pub passed : Passed stream rest items
+  pub counted : count ≡ count_by is_uncounted items
+  pub room : count + length rest ≤ length stream
 
-or_true : (b c : Bool) → c ≡ true → (b || c) ≡ true
-or_true true c e = refl
-or_true false c e = e
+pub counted_nothing : (stream : List ℕ) → IsBytes stream → CountedSoFar stream stream 0
+counted_nothing stream fits = record { items = []; passed = passed_nothing stream fits; counted = refl; room = omega arith }
 
-or_false : (b c : Bool) → c ≡ false → (b || c) ≡ b
-or_false true c e = refl
-or_false false c e = e
+one_more : (items : List Item) (i : Item) → count_by is_uncounted (items ++ i ∷ []) ≡ count_by is_uncounted items + cond (is_uncounted i) 1 0
+one_more items i = let sum = sum_by-append (λ x. cond (is_uncounted x) 1 0) items (i ∷ []) in omega (arith, sum)
 
-or_swap : (a b c : Bool) → (a || (b || c)) ≡ ((a || b) || c)
-or_swap true b c = refl
-or_swap false b c = refl
+one_at_most : (u : Bool) → cond u 1 0 ≤ 1
+one_at_most true = omega arith
+one_at_most false = omega arith
 
-among_push : (n : ℕ) (xs : List ℕ) (y : ℕ) → is_among n (xs ++ y ∷ []) ≡ (is_among n xs || n == y)
-among_push n [] y = or_false (n == y) false refl
-among_push n (x ∷ xs) y = ap (λ (b : Bool). (n == x) || b) (among_push n xs y) ∙ or_swap (n == x) (is_among n xs) (n == y)
+pub counted_more : (stream rest after : List ℕ) (count : ℕ) (g : Group) → CountedSoFar stream rest count → Begins rest g after → (g.typ ≡ 0x000A → ⊥)
+    → CountedSoFar stream after (count + cond (is_uncounted_format g.typ g.body) 1 0)
+counted_more stream rest after count g s b n = by_type (is_globals_type g) refl
+  where
+    fits : count + cond (is_uncounted_format g.typ g.body) 1 0 + length after ≤ length stream
+    fits = let split : length rest ≡ length (group_bytes g) + length after = ap length b.whole ∙ length-append (group_bytes g) after in omega (arith, split, s.room, one_at_most (is_uncounted_format g.typ g.body))
 
-some_same : (a b : Bool) → Some a ≡ Some b → a ≡ b
-some_same a b e = cc
+    by_type : (t : Bool) → is_globals_type g ≡ t → CountedSoFar stream after (count + cond (is_uncounted_format g.typ g.body) 1 0)
+    by_type true t =
+        let i = has_item stream g s.passed.whole in
+        let same = uncounted_item stream g i.0 i.1 in
+        record {
+          items = s.items ++ i.0 ∷ [];
+          passed = passed_item stream rest after s.items g s.passed b n i.0 t i.1;
+          counted = ap (λ (k : ℕ). k + cond (is_uncounted_format g.typ g.body) 1 0) s.counted
+              ∙ ap (λ (u : Bool). count_by is_uncounted s.items + cond u 1 0) (sym same) ∙ sym (one_more s.items i.0);
+          room = fits;
+        }
+    by_type false t = record {
+      items = s.items;
+      passed = passed_other stream rest after s.items g s.passed b n t;
+      counted = ap (λ (u : Bool). count + cond u 1 0) (uncounted_other g t) ∙ add-zero count ∙ s.counted;
+      room = fits;
+    }
 
--- after one more mark
-pub mark_more : (size : ℕ) (marks : List Bool) (numbers : List ℕ) (i y : ℕ) → i < length numbers → y ≡ get_or numbers i 0
-    → length marks ≡ size → y < size → ((n : ℕ) → n < size → slice_get marks n ≡ Some (is_among n (take i numbers)))
-    → (n : ℕ) → n < size → slice_get (slice_set marks y true) n ≡ Some (is_among n (take (i + 1) numbers))
-mark_more size marks numbers i y within is whole fits so_far n l =
-    let more : take (i + 1) numbers ≡ take i numbers ++ y ∷ [] =
-    take_more numbers i 0 within ∙ ap (λ (x : ℕ). take i numbers ++ x ∷ []) (sym is) in
-    let among : is_among n (take (i + 1) numbers) ≡ (is_among n (take i numbers) || n == y) =
-    ap (is_among n) more ∙ among_push n (take i numbers) y in
-    let there : n < length marks = omega (arith, l, whole) in
-    let kept : n < length (slice_set marks y true) = grind (arith, common_steps, there) in
-    let was : get_or marks n false ≡ is_among n (take i numbers) =
-    some_same (get_or marks n false) (is_among n (take i numbers)) (sym (slice_get-get_or marks n false there) ∙ so_far n l) in
-    let now : get_or (slice_set marks y true) n false ≡ (is_among n (take i numbers) || n == y) =
-    elim (eqb_tells n y) [
-      | inl e ↦
-          let here : y < length marks = omega (arith, fits, whole) in
-          ap (λ (x : ℕ). get_or (slice_set marks y true) x false) e.1 ∙ get_or-set_same marks y true false here
-          ∙ sym (or_true (is_among n (take i numbers)) (n == y) e.0)
-      | inr d ↦ get_or-set_other marks y n true false d.1 ∙ was ∙ sym (or_false (is_among n (take i numbers)) (n == y) d.0)
-    ] in
-    slice_get-get_or (slice_set marks y true) n false kept ∙ ap (λ (b : Bool). Some b) (now ∙ sym among)
+-- ---- at the end of the globals, in a cut, and at their EOF
 
--- after one more XF
-pub touched_more : (size : ℕ) (marks done now : List Bool) (ids xfs : List ℕ) (i x : ℕ) (b : Bool) → i < length xfs
-    → x ≡ get_or xfs i 0 → length marks ≡ size → ((n : ℕ) → n < size → slice_get marks n ≡ Some (is_among n ids)) → x < size
-    → done ≡ map (λ n. is_among n ids) (take i xfs) → b ≡ get_or marks x b → now ≡ done ++ b ∷ []
-    → now ≡ map (λ n. is_among n ids) (take (i + 1) xfs)
-touched_more size marks done now ids xfs i x b within is whole fits small so_far read push =
-    let there : x < length marks = omega (arith, small, whole) in
-    let value : b ≡ is_among x ids =
-    read ∙ some_same (get_or marks x b) (is_among x ids) (sym (slice_get-get_or marks x b there) ∙ fits x small) in
-    push ∙ ap (λ (l : List Bool). l ++ b ∷ []) so_far
-    ∙ ap (λ (c : Bool). map (λ n. is_among n ids) (take i xfs) ++ c ∷ []) (value ∙ ap (λ (n : ℕ). is_among n ids) is)
-    ∙ sym (map_push (λ n. is_among n ids) (take i xfs) (get_or xfs i 0))
-    ∙ ap (map (λ n. is_among n ids)) (sym (take_more xfs i 0 within))
+module _ (stream rest after : List ℕ) (count : ℕ) (s : CountedSoFar stream rest count) where
+  pub counted_end : Steps rest None after → CountsUncounted stream count
+  counted_end k = (s.items, None, passed_end stream rest s.items s.passed k.0, s.counted)
+
+  pub counted_cut : (e : XlsError) → Steps rest (Some (Err e)) after → CountsUncounted stream count
+  counted_cut e k = (s.items, Some k.0, passed_cut stream rest s.items s.passed k.0 k.2, s.counted)
+
+  pub counted_eof : (g : Group) → Begins rest g after → g.typ ≡ 0x000A → CountsUncounted stream count
+  counted_eof g b e = (s.items, None, passed_eof stream rest s.items s.passed g after b e, s.counted)
+
+-- ---- the table of the globals
+
+gated : (n : ℕ) (a : Result (Unit {0}) XlsError) (t : Result (List ℕ) XlsError) → is_format_id n ≡ false
+    → unless_refused (a >> (format_id n >> (t >>= (λ cs. Ok (n, class_of cs))))) ≡ Ok other_record
+gated n (Err e) t h = refl
+gated n (Ok u) t h = rw h refl
+
+parts_of : (a b c : Bool) → (a && b && not c) ≡ true → (a ≡ true) × (c ≡ false)
+parts_of true true false h = (refl, refl)
+parts_of true true true h = absurd cc
+parts_of true false c h = absurd cc
+parts_of false b c h = absurd cc
+
+pub uncounted_are_refused : UncountedAreRefused
+uncounted_are_refused forced page version (plain_item typ body) h =
+    let n = le (take 2 body) in
+    let k = parts_of (typ == 0x041E) (nat_le 2 (length body)) (is_format_id n) h in
+    elim (eqb_tells typ 0x041E) [
+      | inl e ↦ rw e.1 (gated n (at_least 2 parts.Format body) (format_text_at page version (drop 2 body)) k.1)
+      | inr d ↦ absurd (let a = k.0 in let b = d.0 in cc)
+    ]
+uncounted_are_refused forced page version (table_item body shared) h = absurd cc
+uncounted_are_refused forced page version (sheet_item body kept cut) h = absurd cc

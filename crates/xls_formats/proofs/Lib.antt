@@ -1,5 +1,2 @@
 pub mod CountLemmas
-pub mod IdentifierLemmas
-pub mod SheetLemmas
 pub mod StandardFacts
-pub mod ClassLemmas

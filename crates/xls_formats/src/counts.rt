@@ -1,39 +1,45 @@
 //! The count of a stream.
 
-ghost use Rattle.std.specs.Prelude.{IfOk};
-ghost use Rattle.xls_formats.specs.Uncounted.{CountsUncounted};
+ghost use Rattle.std.specs.Prelude.{◌≡◌};
+ghost use Rattle.xls_biff.specs.Records.Format.{is_format_id};
+ghost use Rattle.xls_formats.specs.Uncounted.{CountsUncounted, is_uncounted_format};
 
-use crate::globals::{identifiers_of, touched_xfs};
-use crate::sheets::cells_of_sheets;
-use std::alloc::{AllocError, Global};
+use xls_biff::{Record, RecordIter};
+use xls_bytes::read_u16;
+use xls_stream::types::{EOF, FORMAT};
 
-/// The Format records of a stream that don't count, and the cells under them.
-#[derive(Debug, Clone, Copy, PartialEq, Eq)]
-pub struct Uncounted {
-    /// How many Format records have an identifier that doesn't count.
-    pub formats: u64,
-    /// How many cells have an XF of such an identifier; a number past 64 bits is `u64::MAX`.
-    pub cells: u64,
+/// Whether a workbook's own format counts under this identifier.
+fn is_format_id(ifmt: u16) -> bool
+    ensures { result ≡ is_format_id ifmt }
+{
+    matches!(ifmt, 5..=8 | 23..=26 | 41..=44 | 63..=66 | 164..=382)
 }
 
-/// How many Format records of a workbook stream have an identifier under which no format of a workbook's own
-/// counts, and how many cells have an XF that names the identifier of one of them. `None` exactly where each
-/// Format's identifier counts, which is 5 to 8, 23 to 26, 41 to 44, 63 to 66 or 164 to 382.
-///
-/// The cells are those of the records of each sheet's part in the stream, a MulRk with each of its own, whether
-/// or not a later record stands at the same position. Where the stream or a part is cut, what stands before the
-/// cut counts. Refuses only when memory runs out: it takes two bytes for each XF and each such Format, and where
-/// there is one 64 KiB and a byte for each XF.
-pub fn uncounted_formats(alloc: Global, bytes: &[u8]) -> Result<Option<Uncounted>, AllocError>
-    ensures { IfOk result (CountsUncounted bytes.now) }
+/// Whether a record of the globals is a Format that doesn't count.
+fn is_uncounted_format(r: &Record<'_>) -> bool
+    ensures { result ≡ is_uncounted_format r.now.typ r.now.body.now }
 {
-    let identifiers = identifiers_of(alloc, bytes)?;
-    if identifiers.uncounted.is_empty() {
-        return Ok(None);
+    r.typ == FORMAT && r.body.len() >= 2 && !is_format_id(read_u16(r.body))
+}
+
+/// How many Format records in the globals of a workbook stream have an identifier under which no format of a
+/// workbook's own counts: one other than 5 to 8, 23 to 26, 41 to 44, 63 to 66 and 164 to 382. Where the globals are
+/// cut, what stands before the cut counts. Takes no memory.
+pub fn uncounted_formats(bytes: &[u8]) -> u64
+    ensures { CountsUncounted bytes.now result }
+{
+    let mut count = 0;
+    for record in RecordIter::new(bytes) {
+        let record = match record {
+            Ok(record) => record,
+            Err(_) => return count,
+        };
+        if record.typ == EOF {
+            return count;
+        }
+        if is_uncounted_format(&record) {
+            count += 1;
+        }
     }
-    let touched = touched_xfs(alloc, &identifiers.uncounted, &identifiers.of_xfs)?;
-    Ok(Some(Uncounted {
-        formats: identifiers.uncounted.len() as u64,
-        cells: cells_of_sheets(bytes, &touched),
-    }))
+    count
 }

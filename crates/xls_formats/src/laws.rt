@@ -1,8 +1,8 @@
-//! A law over the count and the reading, on a function with an empty body.
+//! A law over the count and the table of the globals, on a function with an empty body.
 
-ghost use Rattle.xls_formats.specs.Laws.{TouchedAreBuiltIn};
+ghost use Rattle.xls_formats.specs.Uncounted.{UncountedAreRefused};
 
-/// In the reading of a stream, a touched XF has the class of the built-in format of its identifier.
-pub fn touched_are_built_in()
-    ensures { TouchedAreBuiltIn }
+/// What is counted gives nothing to a workbook, whatever the page, the version and the text of the format.
+pub fn uncounted_are_refused()
+    ensures { UncountedAreRefused }
 {}

@@ -1,11 +1,8 @@
-//! The number formats of a workbook stream that don't count, and how many cells they touch.
+//! The number formats of a workbook's own that don't count.
 #![tactic(auto)]
 
-mod cells;
 mod counts;
-mod globals;
 mod laws;
-mod sheets;
 
-pub use counts::{Uncounted, uncounted_formats};
-pub use laws::touched_are_built_in;
+pub use counts::uncounted_formats;
+pub use laws::uncounted_are_refused;

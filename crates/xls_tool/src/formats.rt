@@ -7,7 +7,7 @@ use crate::say::say_of;
 use std::alloc::{AllocError, Global};
 use xls_answers::Answer;
 use xls_files::Host;
-use xls_formats::{Uncounted, uncounted_formats};
+use xls_formats::uncounted_formats;
 use xls_readable::Listing;
 
 /// Whether values are written, which formats make dates and durations.
@@ -24,14 +24,11 @@ fn tell_uncounted<H: Host>(
     alloc: Global,
     host: &mut H,
     path: &str,
-    found: Uncounted,
+    count: u64,
 ) -> Result<(), AllocError>
     ensures { H.files host.new ≡ H.files host.old }
 {
-    let text = format!(in alloc;
-        "formats of its own that don't count: {}; cells that have one: {}",
-        found.formats, found.cells
-    )?;
+    let text = format!(in alloc; "formats of its own that don't count: {count}")?;
     say_of(alloc, host, path, text.as_str())
 }
 
@@ -47,8 +44,9 @@ pub(crate) fn tell_formats<H: Host>(
     if !has_values(answer) {
         return Ok(());
     }
-    if let Some(found) = uncounted_formats(alloc, book.stream)? {
-        tell_uncounted(alloc, host, book.path, found)?;
+    let count = uncounted_formats(book.stream);
+    if count == 0 {
+        return Ok(());
     }
-    Ok(())
+    tell_uncounted(alloc, host, book.path, count)
 }
