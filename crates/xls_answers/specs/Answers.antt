@@ -12,7 +12,7 @@ use Rattle.xls_output.specs.SinkState.{SinkState}
 use Rattle.xls_output.specs.Gathering.{Stops, Wrote}
 use Rattle.xls_output.specs.declared.stop.Stop.TheVariants.{Memory}
 use Rattle.xls_report.specs.Endings.{IsUntouched}
-use Rattle.xls_report.specs.Report.{report, sound_line}
+use Rattle.xls_report.specs.Faults.{sound_line}
 use Rattle.xls_container.specs.Files.{WorkbookBytes, RefusesFile}
 use Rattle.xls_container.specs.Obfuscation.{IsObfuscated}
 use Rattle.xls_answers.specs.declared.answer.Answer.{Answer}
@@ -20,7 +20,7 @@ use Rattle.xls_answers.specs.declared.answer.Answer.TheVariants as answers
 use Rattle.xls_answers.specs.declared.failure.Failure.{Failure}
 use Rattle.xls_answers.specs.declared.failure.Failure.TheVariants as failures
 use Rattle.xls_readable.specs.Choices.{IsNumbered}
-use Rattle.xls_answers.specs.Views.{OfView, AreLines, BeginLines, MissesNone, rules_shown}
+use Rattle.xls_answers.specs.Views.{OfView, AreLines, BeginLines, IsDump, MissesNone, rules_shown}
 use Rattle.xls_answers.specs.Sheets.{IsTableOf, BeginsTableOf, MissesSheet}
 
 -- ---- of a workbook's stream
@@ -59,8 +59,7 @@ OfBytes bytes before after (Err other) = ⊥
 abbrev pub OfStream : Answer → XlsOptions → List ℕ → SinkState → SinkState → Result (Unit {0}) Failure → Type 0
 OfStream (answers.Lines lines form) options bytes =
     OfView (rules_shown form options) bytes (AreLines lines form) (BeginLines lines form) MissesNone
-OfStream answers.Exact options bytes =
-    OfView (rules_of options) bytes (λ view text. text ≡ report view.book) (λ view text. text ≡ report view.book) MissesNone
+OfStream answers.Exact options bytes = OfView (rules_of options) bytes IsDump IsDump MissesNone
 OfStream (answers.Sheet choice table) options bytes =
     OfView (rules_of options) bytes (IsTableOf choice table) (BeginsTableOf choice table) (MissesSheet choice)
 OfStream answers.Check options bytes = OfCheck options bytes

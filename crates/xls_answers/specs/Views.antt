@@ -17,7 +17,7 @@ use Rattle.xls_output.specs.Each.{Concatenates}
 use Rattle.xls_readable.specs.declared.forms.Form.{Form}
 use Rattle.xls_readable.specs.declared.forms.Form.TheVariants.{Text, Json, Exact}
 use Rattle.xls_refs.specs.Views.{cited_in}
-use Rattle.xls_listing.specs.Listing.{Line, IsDisplayedLine, dump_lines, sheet_lines, formula_lines, ref_lines}
+use Rattle.xls_listing.specs.Listing.{Line, IsDisplayedLine, exact_lines, dump_lines, sheet_lines, formula_lines, ref_lines}
 use Rattle.xls_report.specs.Endings.{IsUntouched}
 use Rattle.xls_readable.specs.declared.choices.Listing.{Listing}
 use Rattle.xls_readable.specs.declared.choices.Listing.TheVariants as listing
@@ -63,6 +63,10 @@ AreLines lines form view text = Concatenates (IsDisplayedLine form) (lines_liste
 
 abbrev pub BeginLines : Listing → Form → Viewed → List ℕ → Type 0
 BeginLines lines form view text = (count : ℕ) × Concatenates (IsDisplayedLine form) (take count (lines_listed lines view)) text
+
+-- all that a workbook holds, exactly
+abbrev pub IsDump : Viewed → List ℕ → Type 0
+IsDump view text = text ≡ exact_lines (dump_lines view.book)
 
 -- no sheet is asked for
 abbrev pub MissesNone : Missing → Viewed → Type 0

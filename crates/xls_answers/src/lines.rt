@@ -35,10 +35,10 @@ fn write_view<K: Sink>(
     ensures { DeliversEach (IsDisplayedLine form) (lines_listed lines view.now) (K.state sink.old) (K.state sink.new) result }
 {
     match lines {
-        Listing::Dump => write_listing(alloc, sink, form, view),
-        Listing::Sheets => write_sheet_list(alloc, sink, form, view),
-        Listing::Formulas => write_formula_list(alloc, sink, form, view),
-        Listing::Refs => write_ref_list(alloc, sink, form, view),
+        Listing::Dump => write_listing(alloc, sink, &form, view),
+        Listing::Sheets => write_sheet_list(alloc, sink, &form, view),
+        Listing::Formulas => write_formula_list(alloc, sink, &form, view),
+        Listing::Refs => write_ref_list(alloc, sink, &form, view),
     }
 }
 

@@ -2,8 +2,7 @@
 
 ghost use Rattle.std.specs.Prelude.{◌≡◌, IfErr, IfOk, length};
 ghost use Rattle.xls_answers.specs.Answers.{HasNumber, OfFile, OfReadable, OfStream};
-ghost use Rattle.xls_report.specs.Report.{report};
-ghost use Rattle.xls_answers.specs.Views.{MissesNone, OfView, RefusesView};
+ghost use Rattle.xls_answers.specs.Views.{IsDump, MissesNone, OfView, RefusesView};
 ghost use Rattle.xls_open.specs.Workbook.{rules_of};
 ghost use Rattle.xls_view.specs.Viewing.{IsViewed};
 
@@ -28,8 +27,7 @@ fn write_exact<K: Sink>(
     options: &XlsOptions,
     bytes: &[u8],
 ) -> Result<(), Failure>
-    ensures { OfView (rules_of options.now) bytes.now (λ view text. text ≡ report view.book) (λ view text. text ≡ report view.book) MissesNone
-        (K.state sink.old) (K.state sink.new) result }
+    ensures { OfView (rules_of options.now) bytes.now IsDump IsDump MissesNone (K.state sink.old) (K.state sink.new) result }
 {
     let view = View::new(alloc, bytes, options, NumberStyle::Bits)?;
     write_report(alloc, sink, &view)?;

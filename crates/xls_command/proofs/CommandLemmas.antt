@@ -12,7 +12,7 @@ use Rattle.xls_open.specs.Opening.{IsOpened, default_options, default_rules}
 use Rattle.xls_record.specs.Bounded.{ReadCause}
 use Rattle.xls_record.specs.SourceState.{SourceState}
 use Rattle.xls_output.specs.SinkState.{SinkState, TakesEach}
-use Rattle.xls_report.specs.Report.{fault_line}
+use Rattle.xls_report.specs.Faults.{fault_line}
 use Rattle.xls_command.specs.Outputs.{IsOutput, IsRefusalText, MayWrite, ReadsNothing, EndsBy, Spec, reading, accepting_sound, spec_of, IsNameLine, HasSheet, HasCanonical}
 use Rattle.xls_report.specs.Texts.{IsFirstLine, IsUnremadeLine}
 use Rattle.xls_report.specs.Endings.{IsStreamFault, EndsWithError, EndsWithEither}

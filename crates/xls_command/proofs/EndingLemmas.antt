@@ -3,7 +3,7 @@ use Rattle.std.proofs.Common.{◌≡◌, ℕ, List, [], Option, Result, Ok, Err,
 use Rattle.xls_record.specs.declared.error.XlsError.{XlsError}
 use Rattle.xls_output.specs.SinkState.{SinkState, TakesEach}
 use Rattle.xls_output.specs.Gathering.{Stops, Wrote}
-use Rattle.xls_report.specs.Report.{fault_line}
+use Rattle.xls_report.specs.Faults.{fault_line}
 use Rattle.xls_command.specs.Outputs.{IsOutput, IsRefusalText, MayWrite, EndsWell}
 use Rattle.xls_report.specs.Endings.{IsStreamFault, EndsWithError, EndsWithEither}
 use Rattle.xls_command.specs.Endings.{Ends}

@@ -1,24 +1,13 @@
--- Exact lines that were written, or a prefix of them.
+-- Exact lines of what stands beside a workbook that were written, or a prefix of them.
 use Rattle.std.proofs.Common.{List, []}
 use Rattle.xls_documents.specs.Lines as documents
 use Rattle.xls_output.specs.SinkState.{SinkState}
 use Rattle.xls_output.specs.Gathering.{Stops, Wrote}
 use Rattle.xls_output.specs.declared.stop.Stop.{Stop}
-use Rattle.xls_listing.specs.Listing.{Line, IsDisplayedLine, exact_lines}
 use Rattle.xls_output.specs.Each.{StopsEach, WroteEach}
 use Rattle.xls_readable.proofs.ExactLemmas.{exact-stops, exact-wrote}
 use Rattle.xls_readable.specs.Lines.{exact_line}
 use Rattle.xls_readable.specs.declared.forms.Form.TheVariants.{Exact}
-
--- ---- of a workbook
-
-pub lines-wrote : (ls : List Line) (a b : SinkState) → WroteEach (IsDisplayedLine Exact) ls a b → Wrote a b (exact_lines ls)
-lines-wrote = exact-wrote (IsDisplayedLine Exact) (λ l. exact_line l.word l.members) (λ l out e. e)
-
-pub lines-stop : (ls : List Line) (a b : SinkState) (e : Stop) → StopsEach (IsDisplayedLine Exact) ls a b e → Stops a [] b (exact_lines ls) e
-lines-stop = exact-stops (IsDisplayedLine Exact) (λ l. exact_line l.word l.members) (λ l out e. e)
-
--- ---- of what stands beside it
 
 pub documents-wrote : (ls : List documents.Line) (a b : SinkState) → WroteEach (documents.IsLineText Exact) ls a b
     → Wrote a b (documents.exact_lines ls)

@@ -16,11 +16,11 @@ use Rattle.xls_refs.specs.Cited.{BookCited}
 use Rattle.xls_refs.specs.Citing.{IsBookCited}
 use Rattle.xls_documents.specs.Lines as documents
 use Rattle.xls_documents.specs.Properties.{property_lines}
-use Rattle.xls_listing.specs.Listing.{exact_lines, ref_lines}
+use Rattle.xls_listing.specs.Listing.{exact_lines, dump_lines, sheet_lines, ref_lines}
 use Rattle.xls_report.specs.Texts.{IsFirstLine, IsRemadeText, IsUnremadeLine, IsCsvOf, IsMissingOf}
 use Rattle.xls_meaning.specs.Faults.{IsSound}
 use Rattle.xls_open.specs.Opening.{IsOpened, default_options, default_rules}
-use Rattle.xls_report.specs.Report.{report, sheet_report, sound_line, fault_line}
+use Rattle.xls_report.specs.Faults.{sound_line, fault_line}
 use Rattle.xls_command.specs.Summary.{summary_text}
 use Rattle.xls_command.specs.declared.command.Command.{Command}
 use Rattle.xls_command.specs.declared.command.Command.TheVariants.{Dump, Sheets, Props, Check, Refs, Remake, Csv, Generate}
@@ -133,8 +133,8 @@ HasCanonical bytes = IsSound default_rules bytes
 -- ---- the commands
 
 abbrev pub spec_of : Command → Spec
-spec_of Dump = accepting_sound (OfBytes (IsOutputOf report))
-spec_of Sheets = accepting_sound (OfBytes (IsOutputOf sheet_report))
+spec_of Dump = accepting_sound (OfBytes (IsOutputOf (λ book. exact_lines (dump_lines book))))
+spec_of Sheets = accepting_sound (OfBytes (IsOutputOf (λ book. exact_lines (sheet_lines book))))
 spec_of Props = reading (OfBytes IsPropertyOutput) IsLengthLine
     (λ bytes. length bytes ≤ property_limit) (λ bytes. property_limit < length bytes)
 spec_of Check = accepting_sound IsSoundText

@@ -89,7 +89,7 @@ fn write_cited<K: Sink>(alloc: Global, sink: &mut K, bytes: &[u8]) -> Result<End
 {
     match view_of(alloc, bytes) {
         Ok(view) => {
-            write_ref_list(alloc, sink, Form::Exact, &view)?;
+            write_ref_list(alloc, sink, &Form::Exact, &view)?;
             Ok(Ending::Done)
         }
         Err(error) => write_refusal(alloc, sink, &error),

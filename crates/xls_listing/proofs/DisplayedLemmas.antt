@@ -10,11 +10,9 @@ use Rattle.xls_meaning.specs.Reading.{SheetView}
 use Rattle.xls_meaning.specs.SheetTable.{FormulaEntry, nonempty_formulas}
 use Rattle.xls_formula.specs.Context.{Context}
 use Rattle.xls_view.specs.Formulas.{Formula, text_entry}
-use Rattle.xls_output.specs.Added.{AddsText}
 use Rattle.xls_data.specs.declared.regions.Dimensions.{Dimensions}
-use Rattle.xls_readable.specs.Lines.{IsLine, name_members, ref_members}
-use Rattle.xls_readable.specs.declared.forms.Form.{Form}
-use Rattle.xls_listing.specs.Listing.{Line, IsDisplayedLine, cited_line, name_line, each_sheet, formula_line, sheet_line, displayed_at}
+use Rattle.xls_readable.specs.Lines.{name_members, sheet_members, formula_members, ref_members}
+use Rattle.xls_listing.specs.Listing.{Line, cited_line, name_line, each_sheet, formula_line, sheet_line, displayed_at}
 
 -- ---- lists by their index
 
@@ -147,20 +145,25 @@ some_characters bytes fits e none =
     filled [] e f = grind arith
     filled (b ∷ bs) e f = cc
 
--- ---- lines of two texts
+-- ---- lines by their characters
 
--- the line of a name and its text, by their characters
-pub named_added : (form : Form) (a b name text : List ℕ) (old new : List ℕ) → a ≡ encode_utf8_all name → b ≡ encode_utf8_all text
-    → AddsText (IsLine form (codes "name") (name_members a b)) old new → AddsText (IsDisplayedLine form (name_line (name, text))) old new
-named_added form a b name text old new p q added =
-    subst (λ (t : List ℕ). AddsText (IsLine form (codes "name") (name_members (encode_utf8_all name) t)) old new) q
-    (subst (λ (t : List ℕ). AddsText (IsLine form (codes "name") (name_members t b)) old new) p added)
+-- the line of a name and its text
+pub named_line : (a b name text : List ℕ) → a ≡ encode_utf8_all name → b ≡ encode_utf8_all text
+    → record { word = codes "name"; members = name_members a b } ∷ [] ≡ name_line (name, text) ∷ []
+named_line a b name text p q = rw (p, q) refl
+
+-- that of a sheet
+pub sheet_named_line : (a : List ℕ) (s : SheetContent) → a ≡ encode_utf8_all s.name
+    → record { word = codes "sheet"; members = sheet_members a s.typ s.visible } ∷ [] ≡ sheet_line s ∷ []
+sheet_named_line a s p = rw p refl
+
+-- that of a formula
+pub spelled_line : (p : Position) (text : List ℕ) → IsUtf8 text
+    → record { word = codes "formula"; members = formula_members p.0 p.1 text } ∷ [] ≡ formula_line (p, chars text) ∷ []
+spelled_line p text fits =
+    ap (λ (t : List ℕ). record { word = codes "formula"; members = formula_members p.0 p.1 t } ∷ []) (encoded text fits)
 
 -- that of cells that are cited
-pub cited_added : (form : Form) (a b name sheet : List ℕ) (formula : Position) (cells : Dimensions) (old new : List ℕ)
-    → a ≡ encode_utf8_all name → b ≡ encode_utf8_all sheet
-    → AddsText (IsLine form (codes "ref") (ref_members a formula b cells)) old new
-    → AddsText (IsDisplayedLine form (cited_line name formula sheet cells)) old new
-cited_added form a b name sheet formula cells old new p q added =
-    subst (λ (t : List ℕ). AddsText (IsLine form (codes "ref") (ref_members (encode_utf8_all name) formula t cells)) old new) q
-    (subst (λ (t : List ℕ). AddsText (IsLine form (codes "ref") (ref_members t formula b cells)) old new) p added)
+pub cited_named_line : (a b name sheet : List ℕ) (formula : Position) (cells : Dimensions) → a ≡ encode_utf8_all name → b ≡ encode_utf8_all sheet
+    → record { word = codes "ref"; members = ref_members a formula b cells } ∷ [] ≡ cited_line name formula sheet cells ∷ []
+cited_named_line a b name sheet formula cells p q = rw (p, q) refl

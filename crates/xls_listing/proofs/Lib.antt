@@ -1,7 +1,8 @@
 pub mod LineLemmas
 pub mod DisplayedLemmas
-pub mod RefLemmas
 pub mod CellLemmas
+pub mod RefLemmas
 pub mod SheetLemmas
 pub mod StandardFacts
 pub mod ExactFacts
+pub mod ExactLemmas

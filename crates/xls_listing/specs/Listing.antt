@@ -9,12 +9,16 @@ use Rattle.xls_biff.specs.Cells.{CellEntry}
 use Rattle.xls_meaning.specs.Reading.{SheetView, BookView}
 use Rattle.xls_meaning.specs.SheetTable.{FormulaEntry, nonempty_formulas}
 use Rattle.xls_refs.specs.Cited.{BookCitation, BookCited}
-use Rattle.xls_output.specs.Output.{Output}
+use Rattle.xls_output.specs.SinkState.{SinkState}
+use Rattle.xls_output.specs.Output.{output_of}
+use Rattle.xls_output.specs.declared.writer.Writer.{Writer}
 use Rattle.xls_output.specs.declared.stop.Stop.{Stop}
 use Rattle.xls_readable.specs.Items as item
 use Rattle.xls_readable.specs.Items.{NamedItem}
 use Rattle.xls_readable.specs.Lines.{IsLine, exact_line, dates_members, name_members, sheet_members, cell_members, moment_kind, formula_members, merge_members, ref_members}
 use Rattle.xls_readable.specs.declared.forms.Form.{Form}
+use Rattle.xls_listing.specs.declared.lines.BookLine.{BookLine}
+use Rattle.xls_listing.specs.declared.lines.BookLine.TheVariants as lines
 use Rattle.xls_output.specs.Each.{PutsEach}
 
 -- a line by its word and by its fields, each under its name
@@ -87,6 +91,16 @@ abbrev pub ref_line : List (List ℕ) → BookCitation → Line
 ref_line names c =
     cited_line (unwrap_or (slice_get names c.sheet) []) (c.row, c.col) (unwrap_or c.cite.sheet []) (area c.cite.first c.cite.last)
 
+-- each of them but that of a cell, by its texts in UTF-8
+abbrev pub line_of : BookLine → Line
+line_of (lines.Dates is_1904) = dates_line is_1904
+line_of (lines.Name name displayed) = record { word = codes "name"; members = name_members name.now displayed.now }
+line_of (lines.Sheet name kind visible) = record { word = codes "sheet"; members = sheet_members name.now kind visible }
+line_of (lines.Formula row column displayed) =
+    record { word = codes "formula"; members = formula_members row column displayed.now }
+line_of (lines.Merge region) = merge_line region
+line_of (lines.Ref name cell sheet cells) = record { word = codes "ref"; members = ref_members name.now cell sheet.now cells }
+
 -- ---- a workbook
 
 -- the lines of a sheet's cells
@@ -130,9 +144,12 @@ ref_lines book = map (ref_line book.names) book.cites
 
 -- ---- for the contracts of one step
 
--- these lines were gathered; or, where it was given up, a prefix of those of the first so many was written
-abbrev pub PutsLines : {X : Type 0} → Form → List Line → Output → Output → Result X Stop → Type 0
-PutsLines form lines before after result = PutsEach (IsDisplayedLine form) lines before after result
+-- a writer whose buffer keeps what is gathered was given these lines: they were gathered; or, where it was given up, a
+-- prefix of those of the first so many was written
+abbrev pub PutsLines : {K B X : Type 0} → (K → SinkState) → (B → List ℕ) → (Line → List ℕ → Type 0) → List Line
+    → Writer K B → Writer K B → Result X Stop → Type 0
+PutsLines state kept IsText lines before after result =
+    PutsEach IsText lines (output_of state kept before) (output_of state kept after) result
 
 -- the lines of what stands at an index, if there is anything
 abbrev pub displayed_at : {X : Type 0} → (X → List Line) → Option X → List Line

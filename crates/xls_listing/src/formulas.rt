@@ -6,48 +6,39 @@ ghost use Rattle.xls_meaning.specs.SheetTable.{nonempty_formulas};
 ghost use Rattle.xls_view.specs.Formulas.{text_entry};
 ghost use Rattle.xls_view.specs.Displayed.{sheet_view_of};
 ghost use Rattle.xls_view.specs.Walking.{formula_seen};
-ghost use Rattle.xls_listing.specs.Listing.{IsDisplayedLine, PutsLines, each_sheet, formula_line, formula_lines, lines_of_formulas, displayed_at};
-ghost use Rattle.xls_output.specs.Each.{DeliversEach, text_output};
+ghost use Rattle.xls_listing.specs.Listing.{PutsLines, each_sheet, formula_line, formula_lines, lines_of_formulas, displayed_at};
+ghost use Rattle.xls_output.specs.Each.{DeliversEach};
 
+use crate::lines::{BookLine, LineForm};
 use crate::sheets::put_sheet;
 use std::alloc::Global;
-use xls_output::{OutputText, Sink, Stop, Writer};
-use xls_readable::{Form, push_formula_line};
+use xls_output::{Sink, Stop, Writer};
 use xls_view::{FormulaBuffer, FormulaCell, SheetFormulas, View, ViewSheet};
 
 /// Puts the line of a formula.
-fn put_formula<K: Sink>(
-    form: Form,
-    out: &mut Writer<'_, K, OutputText>,
+fn put_formula<K: Sink, F: LineForm>(
+    form: &F,
+    out: &mut Writer<'_, K, F::Buffer>,
     row: u32,
     column: u32,
     text: &str,
 ) -> Result<(), Stop>
-    ensures { PutsLines form (formula_line ((row, column), chars text.now) ∷ [])
-        (text_output K.state out.old) (text_output K.state out.new) result }
+    ensures { PutsLines K.state F.Buffer.kept (F.is_text form.now) (formula_line ((row, column), chars text.now) ∷ [])
+        out.old out.new result }
 {
-    let buffer = &mut *out.buffer;
-    push_formula_line(
-        form,
-        row,
-        column,
-        text,
-        &mut buffer.scratch,
-        &mut buffer.text,
-    )?;
-    out.pass()
+    form.put_line(out, BookLine::Formula { row, column, text })
 }
 
 /// Puts the line of a formula, unless its text is empty.
-fn put_displayed_formula<K: Sink>(
-    form: Form,
-    out: &mut Writer<'_, K, OutputText>,
+fn put_displayed_formula<K: Sink, F: LineForm>(
+    form: &F,
+    out: &mut Writer<'_, K, F::Buffer>,
     row: u32,
     column: u32,
     text: &str,
 ) -> Result<(), Stop>
-    ensures { PutsLines form (map formula_line (nonempty_formulas (((row, column), chars text.now) ∷ [])))
-        (text_output K.state out.old) (text_output K.state out.new) result }
+    ensures { PutsLines K.state F.Buffer.kept (F.is_text form.now) (map formula_line (nonempty_formulas (((row, column), chars text.now) ∷ [])))
+        out.old out.new result }
 {
     if text.is_empty() {
         return Ok(());
@@ -56,31 +47,31 @@ fn put_displayed_formula<K: Sink>(
 }
 
 /// Puts the line of a formula of a sheet, unless its text is empty.
-fn put_formula_of<K: Sink>(
-    form: Form,
-    out: &mut Writer<'_, K, OutputText>,
+fn put_formula_of<K: Sink, F: LineForm>(
+    form: &F,
+    out: &mut Writer<'_, K, F::Buffer>,
     texts: &mut FormulaBuffer,
     formulas: &SheetFormulas<'_>,
     formula: FormulaCell<'_>,
 ) -> Result<(), Stop>
-    ensures { PutsLines form
+    ensures { PutsLines K.state F.Buffer.kept (F.is_text form.now)
         (map formula_line (nonempty_formulas (text_entry formulas.now.context (formula_seen formula.entry) ∷ [])))
-        (text_output K.state out.old) (text_output K.state out.new) result }
+        out.old out.new result }
 {
     let text = formulas.text_in(texts, formula)?;
     put_displayed_formula(form, out, formula.row, formula.column, text)
 }
 
 /// Puts the lines of a sheet's formulas.
-fn put_formulas<K: Sink>(
-    form: Form,
-    out: &mut Writer<'_, K, OutputText>,
+fn put_formulas<K: Sink, F: LineForm>(
+    form: &F,
+    out: &mut Writer<'_, K, F::Buffer>,
     texts: &mut FormulaBuffer,
     formulas: &SheetFormulas<'_>,
 ) -> Result<(), Stop>
-    ensures { PutsLines form
+    ensures { PutsLines K.state F.Buffer.kept (F.is_text form.now)
         (map formula_line (nonempty_formulas (map (text_entry formulas.now.context) formulas.now.left)))
-        (text_output K.state out.old) (text_output K.state out.new) result }
+        out.old out.new result }
 {
     for formula in formulas.iter() {
         put_formula_of(form, out, texts, formulas, formula)?;
@@ -89,29 +80,29 @@ fn put_formulas<K: Sink>(
 }
 
 /// Puts the lines of the formulas that a sheet shows.
-pub(crate) fn put_displayed_formulas<K: Sink>(
-    form: Form,
-    out: &mut Writer<'_, K, OutputText>,
+pub(crate) fn put_displayed_formulas<K: Sink, F: LineForm>(
+    form: &F,
+    out: &mut Writer<'_, K, F::Buffer>,
     texts: &mut FormulaBuffer,
     sheet: &ViewSheet<'_>,
 ) -> Result<(), Stop>
-    ensures { PutsLines form (lines_of_formulas (sheet_view_of sheet.now))
-        (text_output K.state out.old) (text_output K.state out.new) result }
+    ensures { PutsLines K.state F.Buffer.kept (F.is_text form.now) (lines_of_formulas (sheet_view_of sheet.now))
+        out.old out.new result }
 {
     let formulas = sheet.formulas()?;
     put_formulas(form, out, texts, &formulas)
 }
 
 /// Puts the lines of the formulas of the sheet at an index.
-fn put_formulas_at<K: Sink>(
-    form: Form,
-    out: &mut Writer<'_, K, OutputText>,
+fn put_formulas_at<K: Sink, F: LineForm>(
+    form: &F,
+    out: &mut Writer<'_, K, F::Buffer>,
     texts: &mut FormulaBuffer,
     view: &View<'_>,
     n: usize,
 ) -> Result<(), Stop>
-    ensures { PutsLines form (displayed_at lines_of_formulas (slice_get view.now.book.contents n))
-        (text_output K.state out.old) (text_output K.state out.new) result }
+    ensures { PutsLines K.state F.Buffer.kept (F.is_text form.now) (displayed_at lines_of_formulas (slice_get view.now.book.contents n))
+        out.old out.new result }
 {
     match view.sheet_at(n) {
         Some(sheet) => put_displayed_formulas(form, out, texts, &sheet),
@@ -120,14 +111,14 @@ fn put_formulas_at<K: Sink>(
 }
 
 /// Puts the sheets in workbook order, each with its formulas.
-fn put_all_formulas<K: Sink>(
-    form: Form,
-    out: &mut Writer<'_, K, OutputText>,
+fn put_all_formulas<K: Sink, F: LineForm>(
+    form: &F,
+    out: &mut Writer<'_, K, F::Buffer>,
     texts: &mut FormulaBuffer,
     view: &View<'_>,
 ) -> Result<(), Stop>
-    ensures { PutsLines form (each_sheet lines_of_formulas view.now.book.sheets view.now.book.contents)
-        (text_output K.state out.old) (text_output K.state out.new) result }
+    ensures { PutsLines K.state F.Buffer.kept (F.is_text form.now) (each_sheet lines_of_formulas view.now.book.sheets view.now.book.contents)
+        out.old out.new result }
 {
     let sheets = view.sheets();
     for i in 0..sheets.len() {
@@ -139,16 +130,16 @@ fn put_all_formulas<K: Sink>(
 
 /// Writes the line of each sheet in workbook order, and after it those of its formulas whose text isn't
 /// empty. Beside what the view takes for a sheet, one piece of text is held, and the text of one formula.
-pub fn write_formula_list<K: Sink>(
+pub fn write_formula_list<K: Sink, F: LineForm>(
     alloc: Global,
     sink: &mut K,
-    form: Form,
+    form: &F,
     view: &View<'_>,
 ) -> Result<(), Stop>
-    ensures { DeliversEach (IsDisplayedLine form) (formula_lines view.now.book)
+    ensures { DeliversEach (F.is_text form.now) (formula_lines view.now.book)
         (K.state sink.old) (K.state sink.new) result }
 {
-    let mut buffer = OutputText::new(alloc);
+    let mut buffer = F::buffer(alloc);
     let mut out = Writer::new(&mut buffer, sink);
     let mut texts = FormulaBuffer::new(alloc);
     put_all_formulas(form, &mut out, &mut texts, view)?;

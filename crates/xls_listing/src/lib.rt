@@ -2,16 +2,20 @@
 #![tactic(auto)]
 
 mod cells;
+mod forms;
 mod formulas;
 mod laws;
+mod lines;
 mod listing;
 mod merges;
 mod refs;
 mod sheets;
 mod values;
 
+pub use forms::FormBuffer;
 pub use formulas::write_formula_list;
 pub use laws::exact_is_given;
+pub use lines::{BookLine, LineForm};
 pub use listing::write_listing;
 pub use refs::write_ref_list;
 pub use sheets::write_sheet_list;

@@ -3,61 +3,43 @@
 ghost use Rattle.std.specs.Prelude.{◌≡◌, ◌∷◌, [], map, slice_get};
 ghost use Rattle.xls_open.specs.Workbook.{name_texts};
 ghost use Rattle.xls_view.specs.Displayed.{sheet_view_of};
-ghost use Rattle.xls_listing.specs.Listing.{IsDisplayedLine, PutsLines, dates_line, dump_lines, each_sheet, lines_of_sheet, name_line, displayed_at};
-ghost use Rattle.xls_output.specs.Each.{DeliversEach, text_output};
+ghost use Rattle.xls_listing.specs.Listing.{PutsLines, dump_lines, each_sheet, lines_of_sheet, name_line, displayed_at};
+ghost use Rattle.xls_output.specs.Each.{DeliversEach};
 
 use crate::cells::put_displayed_cells;
 use crate::formulas::put_displayed_formulas;
+use crate::lines::{BookLine, LineForm};
 use crate::merges::put_merges;
 use crate::sheets::put_sheet;
 use std::alloc::Global;
-use xls_output::{OutputText, Sink, Stop, Writer};
-use xls_readable::{Form, push_dates, push_name};
+use xls_output::{Sink, Stop, Writer};
 use xls_view::{FormulaBuffer, View, ViewSheet};
 
-/// Puts the line of the date system.
-fn put_dates<K: Sink>(
-    form: Form,
-    out: &mut Writer<'_, K, OutputText>,
-    is_1904: bool,
-) -> Result<(), Stop>
-    ensures { PutsLines form (dates_line is_1904 ∷ [])
-        (text_output K.state out.old) (text_output K.state out.new) result }
-{
-    let buffer = &mut *out.buffer;
-    push_dates(form, is_1904, &mut buffer.scratch, &mut buffer.text)?;
-    out.pass()
-}
-
 /// Puts the line of a defined name.
-fn put_name<K: Sink>(
-    form: Form,
-    out: &mut Writer<'_, K, OutputText>,
+fn put_name<K: Sink, F: LineForm>(
+    form: &F,
+    out: &mut Writer<'_, K, F::Buffer>,
     name: &(String, String),
 ) -> Result<(), Stop>
-    ensures { PutsLines form (name_line (name_texts name.now) ∷ [])
-        (text_output K.state out.old) (text_output K.state out.new) result }
+    ensures { PutsLines K.state F.Buffer.kept (F.is_text form.now) (name_line (name_texts name.now) ∷ [])
+        out.old out.new result }
 {
     let (name, text) = name;
-    let buffer = &mut *out.buffer;
-    push_name(
-        form,
-        name.as_str(),
-        text.as_str(),
-        &mut buffer.scratch,
-        &mut buffer.text,
-    )?;
-    out.pass()
+    let line = BookLine::Name {
+        name: name.as_str(),
+        text: text.as_str(),
+    };
+    form.put_line(out, line)
 }
 
 /// Puts the lines of defined names.
-fn put_names<K: Sink>(
-    form: Form,
-    out: &mut Writer<'_, K, OutputText>,
+fn put_names<K: Sink, F: LineForm>(
+    form: &F,
+    out: &mut Writer<'_, K, F::Buffer>,
     names: &[(String, String)],
 ) -> Result<(), Stop>
-    ensures { PutsLines form (map (λ n. name_line (name_texts n)) names.now)
-        (text_output K.state out.old) (text_output K.state out.new) result }
+    ensures { PutsLines K.state F.Buffer.kept (F.is_text form.now) (map (λ n. name_line (name_texts n)) names.now)
+        out.old out.new result }
 {
     for name in names {
         put_name(form, out, name)?;
@@ -66,14 +48,14 @@ fn put_names<K: Sink>(
 }
 
 /// Puts the lines of what a sheet shows.
-fn put_displayed<K: Sink>(
+fn put_displayed<K: Sink, F: LineForm>(
     alloc: Global,
-    form: Form,
-    out: &mut Writer<'_, K, OutputText>,
+    form: &F,
+    out: &mut Writer<'_, K, F::Buffer>,
     sheet: &ViewSheet<'_>,
 ) -> Result<(), Stop>
-    ensures { PutsLines form (lines_of_sheet (sheet_view_of sheet.now))
-        (text_output K.state out.old) (text_output K.state out.new) result }
+    ensures { PutsLines K.state F.Buffer.kept (F.is_text form.now) (lines_of_sheet (sheet_view_of sheet.now))
+        out.old out.new result }
 {
     put_displayed_cells(alloc, form, out, sheet)?;
     let mut texts = FormulaBuffer::new(alloc);
@@ -82,15 +64,15 @@ fn put_displayed<K: Sink>(
 }
 
 /// Puts the lines of what the sheet at an index shows.
-fn put_displayed_at<K: Sink>(
+fn put_displayed_at<K: Sink, F: LineForm>(
     alloc: Global,
-    form: Form,
-    out: &mut Writer<'_, K, OutputText>,
+    form: &F,
+    out: &mut Writer<'_, K, F::Buffer>,
     view: &View<'_>,
     n: usize,
 ) -> Result<(), Stop>
-    ensures { PutsLines form (displayed_at lines_of_sheet (slice_get view.now.book.contents n))
-        (text_output K.state out.old) (text_output K.state out.new) result }
+    ensures { PutsLines K.state F.Buffer.kept (F.is_text form.now) (displayed_at lines_of_sheet (slice_get view.now.book.contents n))
+        out.old out.new result }
 {
     match view.sheet_at(n) {
         Some(sheet) => put_displayed(alloc, form, out, &sheet),
@@ -99,14 +81,14 @@ fn put_displayed_at<K: Sink>(
 }
 
 /// Puts the sheets in workbook order, each with what it shows.
-fn put_all_sheets<K: Sink>(
+fn put_all_sheets<K: Sink, F: LineForm>(
     alloc: Global,
-    form: Form,
-    out: &mut Writer<'_, K, OutputText>,
+    form: &F,
+    out: &mut Writer<'_, K, F::Buffer>,
     view: &View<'_>,
 ) -> Result<(), Stop>
-    ensures { PutsLines form (each_sheet lines_of_sheet view.now.book.sheets view.now.book.contents)
-        (text_output K.state out.old) (text_output K.state out.new) result }
+    ensures { PutsLines K.state F.Buffer.kept (F.is_text form.now) (each_sheet lines_of_sheet view.now.book.sheets view.now.book.contents)
+        out.old out.new result }
 {
     let sheets = view.sheets();
     for i in 0..sheets.len() {
@@ -117,16 +99,17 @@ fn put_all_sheets<K: Sink>(
 }
 
 /// Puts the date system, the defined names, and the sheets with what they show.
-fn put_book<K: Sink>(
+fn put_book<K: Sink, F: LineForm>(
     alloc: Global,
-    form: Form,
-    out: &mut Writer<'_, K, OutputText>,
+    form: &F,
+    out: &mut Writer<'_, K, F::Buffer>,
     view: &View<'_>,
 ) -> Result<(), Stop>
-    ensures { PutsLines form (dump_lines view.now.book)
-        (text_output K.state out.old) (text_output K.state out.new) result }
+    ensures { PutsLines K.state F.Buffer.kept (F.is_text form.now) (dump_lines view.now.book)
+        out.old out.new result }
 {
-    put_dates(form, out, view.has_1904_epoch())?;
+    let is_1904 = view.has_1904_epoch();
+    form.put_line(out, BookLine::Dates { is_1904 })?;
     put_names(form, out, view.defined_names())?;
     put_all_sheets(alloc, form, out, view)
 }
@@ -135,16 +118,16 @@ fn put_book<K: Sink>(
 /// sheet in workbook order its line and those of its cells, of its formulas whose text isn't empty and of
 /// its merged regions. A blank has no line. Beside what the view takes for a sheet, one piece of text is
 /// held, and the text of one cell or formula.
-pub fn write_listing<K: Sink>(
+pub fn write_listing<K: Sink, F: LineForm>(
     alloc: Global,
     sink: &mut K,
-    form: Form,
+    form: &F,
     view: &View<'_>,
 ) -> Result<(), Stop>
-    ensures { DeliversEach (IsDisplayedLine form) (dump_lines view.now.book)
+    ensures { DeliversEach (F.is_text form.now) (dump_lines view.now.book)
         (K.state sink.old) (K.state sink.new) result }
 {
-    let mut buffer = OutputText::new(alloc);
+    let mut buffer = F::buffer(alloc);
     let mut out = Writer::new(&mut buffer, sink);
     put_book(alloc, form, &mut out, view)?;
     out.finish()

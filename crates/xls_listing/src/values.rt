@@ -11,6 +11,7 @@ use xls_data::DataRef;
 use xls_readable::Value;
 
 /// A text, by its characters.
+#[inline(always)]
 fn displayed_text(text: &str) -> Value<'_>
     ensures { kind_and_item result ≡ kind_and_value (content.text (chars text.now)) }
 {
@@ -18,6 +19,7 @@ fn displayed_text(text: &str) -> Value<'_>
 }
 
 /// The value of a cell, with its text lent.
+#[inline(always)]
 pub(crate) fn displayed_value<'v>(value: &'v DataRef<'v>) -> Value<'v>
     ensures { kind_and_item result ≡ kind_and_value (ref_content_of value.now) }
 {

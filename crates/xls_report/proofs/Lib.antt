@@ -1,4 +1,4 @@
-pub mod TextLemmas
+pub mod ExactLemmas
 pub mod NamedLemmas
 pub mod CheckLemmas
 pub mod EndingLemmas

@@ -5,7 +5,7 @@ use Rattle.xls_record.specs.declared.error.XlsError.{XlsError}
 use Rattle.xls_record.specs.declared.error.XlsError.TheVariants as errors
 use Rattle.xls_output.specs.SinkState.{SinkState}
 use Rattle.xls_output.specs.Gathering.{Stops, Wrote}
-use Rattle.xls_report.specs.Report.{fault_line}
+use Rattle.xls_report.specs.Faults.{fault_line}
 use Rattle.xls_report.specs.declared.ending.Ending.{Ending}
 use Rattle.xls_report.specs.declared.ending.Ending.TheVariants.{Done, Refused}
 use Rattle.xls_output.specs.declared.stop.Stop.{Stop}

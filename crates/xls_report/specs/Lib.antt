@@ -1,4 +1,4 @@
-pub mod Report
+pub mod Faults
 pub mod Remaking
 pub mod Texts
 pub mod Endings

@@ -7,7 +7,7 @@ use Rattle.xls_meaning.specs.Faults.{FirstFault, IsSound}
 use Rattle.xls_open.specs.Opening.{default_rules}
 use Rattle.xls_lay.specs.Writing.{canonical_bytes, canonical_size}
 use Rattle.xls_lay.specs.declared.error.LayError.TheVariants.{TooLong}
-use Rattle.xls_report.specs.Report.{unwritten_line}
+use Rattle.xls_report.specs.Faults.{unwritten_line}
 
 -- its canonical bytes, which have offsets of 32 bits
 abbrev pub IsWrittenOf : List ListEntry → List ℕ → Type 0

@@ -11,7 +11,7 @@ use Rattle.xls_stream.specs.Listing.{ListEntry, Carries}
 use Rattle.xls_report.specs.Remaking.{IsWrittenOf, IsUnwrittenOf}
 use Rattle.xls_meaning.specs.Faults.{FirstFault, IsSound}
 use Rattle.xls_open.specs.Opening.{default_rules}
-use Rattle.xls_report.specs.Report.{sound_line, fault_line}
+use Rattle.xls_report.specs.Faults.{sound_line, fault_line}
 
 -- the line of bytes of which no place has a fault
 abbrev pub IsSoundLine : List ℕ → List ℕ → Type 0

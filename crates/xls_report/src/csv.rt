@@ -4,7 +4,7 @@ ghost use Rattle.xls_report.specs.Endings.{EndsWithEither};
 ghost use Rattle.xls_report.specs.Texts.{IsCsvOf, IsMissingLine, IsMissingOf};
 
 use crate::ending::Ending;
-use crate::report::write_fault;
+use crate::faults::write_fault;
 use std::alloc::Global;
 use xls_biff::XlsError;
 use xls_csv::write_rows;

@@ -1,12 +1,16 @@
-//! What is written of a workbook: its report, its CSV, and its canonical stream.
+//! What is written of a workbook: its dump, its CSV, and its canonical stream.
 #![tactic(auto)]
 
 mod csv;
+mod dump;
 mod ending;
+mod exact;
+mod faults;
 mod remake;
-mod report;
 
 pub use csv::write_csv;
+pub use dump::{write_report, write_sheets};
 pub use ending::Ending;
+pub use exact::ExactLines;
+pub use faults::{write_fault, write_refusal, write_sound};
 pub use remake::write_remake;
-pub use report::{write_fault, write_refusal, write_report, write_sheets, write_sound};

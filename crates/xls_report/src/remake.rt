@@ -7,7 +7,7 @@ ghost use Rattle.xls_report.specs.Texts.{IsRemadeText, IsUnremadeLine};
 ghost use Rattle.xls_report.specs.Remaking.{IsUnwrittenOf, IsWrittenOf, TellsList};
 
 use crate::ending::Ending;
-use crate::report::{write_refusal, write_unwritten};
+use crate::faults::{write_refusal, write_unwritten};
 use std::alloc::Global;
 use xls_biff::XlsError;
 use xls_book::StreamBytes;

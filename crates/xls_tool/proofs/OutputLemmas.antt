@@ -3,7 +3,7 @@ use Rattle.std.proofs.Common.{◌≡◌, ℕ, Bool, true, List, [], Some, Result
 use Rattle.std.specs.Io.KnownBytes.{Appends}
 use Rattle.std.specs.Result.{IsOk}
 use Rattle.xls_answers.specs.Sheets.{BeginsTableOf, IsTableOf, MissesSheet, WritesSheetAt, chosen_index}
-use Rattle.xls_answers.specs.Views.{AreLines, BeginLines, MissesNone, OfView, rules_shown}
+use Rattle.xls_answers.specs.Views.{AreLines, BeginLines, IsDump, MissesNone, OfView, rules_shown}
 use Rattle.xls_answers.specs.declared.answer.Answer.{Answer}
 use Rattle.xls_answers.specs.declared.answer.Answer.TheVariants as answers
 use Rattle.xls_answers.specs.declared.failure.Missing.{Missing}
@@ -18,7 +18,6 @@ use Rattle.xls_output.specs.Each.{WroteEach}
 use Rattle.xls_output.specs.Gathering.{Wrote}
 use Rattle.xls_output.specs.SinkState.{SinkState}
 use Rattle.xls_output.specs.declared.stop.Stop.{Stop}
-use Rattle.xls_report.specs.Report.{report}
 use Rattle.xls_tool.specs.Asked.{asked_by}
 use Rattle.xls_tool.specs.Beside.{OfContainer, as_failure, as_problem}
 use Rattle.xls_tool.specs.Outputs.{HoldsText, KeepsOutputs, MayMake, TakesAll, unwritten}
@@ -55,7 +54,7 @@ module _ (a b : SinkState) (empty : a.written ≡ Some []) where
   workbook-written (answers.Lines lines form) options stream h =
       view-written (rules_shown form options) stream (AreLines lines form) (BeginLines lines form) MissesNone h
   workbook-written answers.Exact options stream h =
-      let is = λ (view : Viewed) (text : List ℕ). text ≡ report view.book in view-written (rules_of options) stream is is MissesNone h
+      view-written (rules_of options) stream IsDump IsDump MissesNone h
   workbook-written (answers.Sheet choice table) options stream h =
       view-written (rules_of options) stream (IsTableOf choice table) (BeginsTableOf choice table) (MissesSheet choice) h
   workbook-written answers.Check options stream (sound, wrote) = (sound, text-written _ wrote)

@@ -1,5 +1,5 @@
 use Rattle.std.proofs.Common.{inl, inr, refl}
-use Rattle.xls_report.specs.Report.{sound_line, fault_line}
+use Rattle.xls_report.specs.Faults.{sound_line, fault_line}
 use Rattle.xls_report.specs.Texts.{IsSoundLine, IsFirstLine}
 use Rattle.xls_report.proofs.CheckLemmas.{first_checked, none_checked}
 use Rattle.xls_report.proofs.EndingLemmas.{either-stopped}

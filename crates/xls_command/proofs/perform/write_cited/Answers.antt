@@ -4,7 +4,7 @@ use Rattle.xls_refs.specs.Views.{cited_in}
 use Rattle.xls_report.proofs.EndingLemmas.{either-as, either-stopped}
 use Rattle.xls_command.specs.Outputs.{IsOutput, IsRefusalText}
 use Rattle.xls_command.specs.declared.command.Command.TheVariants.{Refs}
-use Rattle.xls_command.proofs.ExactLemmas.{lines-stop, lines-wrote}
+use Rattle.xls_listing.proofs.ExactLemmas.{lines-stop, lines-wrote}
 use Rattle.xls_command.proofs.perform.write_cited.Goals as goal
 
 pub returns-in_err-write_ref_list-in-Ok : goal.returns-in_err-write_ref_list-in-Ok

@@ -1,5 +1,6 @@
 use Rattle.std.proofs.Common.{ap, inl, sym, Some}
-use Rattle.xls_report.specs.Report.{sheet_report}
+use Rattle.xls_meaning.specs.Reading.{BookView}
+use Rattle.xls_listing.specs.Listing.{exact_lines, sheet_lines}
 use Rattle.xls_report.proofs.EndingLemmas.{either-as, either-stopped}
 use Rattle.xls_command.specs.Outputs.{IsOutput, IsRefusalText}
 use Rattle.xls_command.specs.declared.command.Command.TheVariants.{Sheets}
@@ -9,12 +10,12 @@ pub returns-in_err-write_sheets-in-Ok : goal.returns-in_err-write_sheets-in-Ok
 returns-in_err-write_sheets-in-Ok g c =
     let opened = c.in-Ok.ensures.opened in
     either-stopped (IsOutput Sheets (Some c.args.bytes.now)) (IsRefusalText Sheets (Some c.args.bytes.now)) c.from_residual.result c.from_residual.ensures.1
-    (inl (opened.0, opened.1, ap sheet_report (sym opened.2))) c.in_err-write_sheets-in-Ok.ensures
+    (inl (opened.0, opened.1, ap (λ (book : BookView). exact_lines (sheet_lines book)) (sym opened.2))) c.in_err-write_sheets-in-Ok.ensures
 
 pub returns-in_ok-write_sheets-in-Ok : goal.returns-in_ok-write_sheets-in-Ok
 returns-in_ok-write_sheets-in-Ok g c =
     let opened = c.in-Ok.ensures.opened in
-    (_, (opened.0, opened.1, ap sheet_report (sym opened.2)), c.in_ok-write_sheets-in-Ok.ensures)
+    (_, (opened.0, opened.1, ap (λ (book : BookView). exact_lines (sheet_lines book)) (sym opened.2)), c.in_ok-write_sheets-in-Ok.ensures)
 
 pub returns-in-Err : goal.returns-in-Err
 returns-in-Err g c =

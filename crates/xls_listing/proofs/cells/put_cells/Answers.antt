@@ -1,13 +1,13 @@
 use Rattle.std.proofs.Common.{ap}
 use Rattle.std.specs.List.{flat_map}
-use Rattle.xls_listing.specs.Listing.{IsDisplayedLine, cell_lines}
+use Rattle.xls_listing.specs.Listing.{cell_lines}
 use Rattle.xls_listing.proofs.LineLemmas.{some-all, some-first, some-next, some-stopped}
 use Rattle.xls_output.proofs.EachLemmas.{puts-each-stop}
 use Rattle.xls_listing.proofs.cells.put_cells.Goals as goal
 
 pub loop-cell-init : goal.loop-cell-init
 loop-cell-init g c =
-    (tt, tt, some-first (IsDisplayedLine c.args.form) _ _ _ (ap (flat_map cell_lines) c.into_iter-cell-iterator.ensures.into_iter_gives))
+    (tt, tt, some-first (g.F.LineForm.is_text c.args.form.now) _ _ _ (ap (flat_map cell_lines) c.into_iter-cell-iterator.ensures.into_iter_gives))
 
 pub loop-cell-preserved : goal.loop-cell-preserved
 loop-cell-preserved g c =

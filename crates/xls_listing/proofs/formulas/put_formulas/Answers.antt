@@ -1,5 +1,4 @@
 use Rattle.std.proofs.Common.{ap, ◌∙◌}
-use Rattle.xls_listing.specs.Listing.{IsDisplayedLine}
 use Rattle.xls_listing.proofs.LineLemmas.{some-all, some-first, some-next, some-stopped}
 use Rattle.xls_listing.proofs.DisplayedLemmas.{formulas_step, token_lines}
 use Rattle.xls_output.proofs.EachLemmas.{puts-each-stop}
@@ -9,7 +8,7 @@ pub loop-formula-init : goal.loop-formula-init
 loop-formula-init g c = (
   tt,
   tt,
-  some-first (IsDisplayedLine c.args.form) _ _ _
+  some-first (g.F.LineForm.is_text c.args.form.now) _ _ _
       (ap (token_lines c.args.formulas.now.context) (c.into_iter-formula-iterator.ensures.into_iter_gives ∙ c.iter-formula-items.ensures)),
 )
 

@@ -1,11 +1,11 @@
 use Rattle.std.proofs.Common.{◌≤◌, length, arith}
 use Rattle.xls_output.proofs.EachLemmas.{puts-each-stop}
-use Rattle.xls_listing.specs.Listing.{IsDisplayedLine, lines_of_sheet}
+use Rattle.xls_listing.specs.Listing.{lines_of_sheet}
 use Rattle.xls_listing.proofs.SheetLemmas.{sheets-all, sheets-first, sheets-line-stopped, sheets-next, sheets-stopped}
 use Rattle.xls_listing.proofs.listing.put_all_sheets.Goals as goal
 
 pub loop-i-init : goal.loop-i-init
-loop-i-init g c = sheets-first (IsDisplayedLine c.args.form) lines_of_sheet c.args.view.now.book _
+loop-i-init g c = sheets-first (g.F.LineForm.is_text c.args.form.now) lines_of_sheet c.args.view.now.book _
 
 pub loop-i-preserved : goal.loop-i-preserved
 loop-i-preserved g c =

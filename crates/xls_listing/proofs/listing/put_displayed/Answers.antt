@@ -1,7 +1,7 @@
 use Rattle.std.proofs.Common.{◌++◌, append_assoc, ap, map}
 use Rattle.xls_view.specs.Displayed.{sheet_view_of}
-use Rattle.xls_output.specs.Each.{text_output}
-use Rattle.xls_listing.specs.Listing.{IsDisplayedLine, lines_of_cells, lines_of_formulas, lines_of_merges, merge_line}
+use Rattle.xls_output.specs.Output.{output_of}
+use Rattle.xls_listing.specs.Listing.{lines_of_cells, lines_of_formulas, lines_of_merges, merge_line}
 use Rattle.xls_output.proofs.EachLemmas.{each-stops-more, each-stops-then, each-then, puts-as, puts-each-stop, puts-then}
 use Rattle.xls_listing.proofs.listing.put_displayed.Goals as goal
 
@@ -20,12 +20,12 @@ returns-in_err-put_displayed_formulas g c =
 
 pub returns : goal.returns
 returns g c =
-    let state = g.K.Sink.state in
+    let out = output_of g.K.Sink.state g.F.Buffer.Gathers.kept in
     let v = sheet_view_of c.args.sheet.now in
-    let is = IsDisplayedLine c.args.form in
+    let is = g.F.LineForm.is_text c.args.form.now in
     let before = each-then c.in_ok-put_displayed_cells.ensures c.in_ok-put_displayed_formulas.ensures in
-    puts-as is (text_output state c.args.out.now) (text_output state c.put_merges.new.out) c.put_merges.result
+    puts-as is (out c.args.out.now) (out c.put_merges.new.out) c.put_merges.result
     (append_assoc (lines_of_cells v) (lines_of_formulas v) (lines_of_merges v))
     (puts-then is (lines_of_cells v ++ lines_of_formulas v) (lines_of_merges v)
-    (text_output state c.put_merges.new.out) c.put_merges.result before
-    (puts-as is _ (text_output state c.put_merges.new.out) c.put_merges.result (ap (map merge_line) c.merges.ensures) c.put_merges.ensures))
+    (out c.put_merges.new.out) c.put_merges.result before
+    (puts-as is _ (out c.put_merges.new.out) c.put_merges.result (ap (map merge_line) c.merges.ensures) c.put_merges.ensures))

@@ -1,13 +1,13 @@
 use Rattle.std.proofs.Common.{refl}
 use Rattle.xls_open.specs.Workbook.{name_texts}
-use Rattle.xls_listing.specs.Listing.{IsDisplayedLine, name_line}
+use Rattle.xls_listing.specs.Listing.{name_line}
 use Rattle.xls_listing.proofs.LineLemmas.{some-first, some-next, some-stopped}
 use Rattle.xls_listing.proofs.DisplayedLemmas.{Reported, drop_step}
 use Rattle.xls_output.proofs.EachLemmas.{puts-each-stop}
 use Rattle.xls_listing.proofs.listing.put_names.Goals as goal
 
 pub loop-name-init : goal.loop-name-init
-loop-name-init g c = some-first (IsDisplayedLine c.args.form) _ _ _ refl
+loop-name-init g c = some-first (g.F.LineForm.is_text c.args.form.now) _ _ _ refl
 
 pub loop-name-preserved : goal.loop-name-preserved
 loop-name-preserved g c =

@@ -1,5 +1,5 @@
 use Rattle.std.proofs.Common.{refl, arith, ◌≤◌, length}
-use Rattle.xls_listing.specs.Listing.{IsDisplayedLine, ref_line}
+use Rattle.xls_listing.specs.Listing.{ref_line}
 use Rattle.xls_listing.proofs.LineLemmas.{some-all, some-first, some-next, some-stopped}
 use Rattle.xls_listing.proofs.RefLemmas.{cites_step}
 use Rattle.xls_listing.proofs.DisplayedLemmas.{map_end}
@@ -7,7 +7,7 @@ use Rattle.xls_output.proofs.EachLemmas.{puts-each-stop}
 use Rattle.xls_listing.proofs.refs.put_cites.Goals as goal
 
 pub loop-i-init : goal.loop-i-init
-loop-i-init g c = some-first (IsDisplayedLine c.args.form) _ _ _ refl
+loop-i-init g c = some-first (g.F.LineForm.is_text c.args.form.now) _ _ _ refl
 
 pub loop-i-preserved : goal.loop-i-preserved
 loop-i-preserved g c =

@@ -1,14 +1,13 @@
 use Rattle.std.proofs.Common.{◌≤◌, arith, ap, length, refl, ◌∙◌}
 use Rattle.xls_formula.specs.Context.{Context}
 use Rattle.xls_refs.specs.Views.{sheets_cited}
-use Rattle.xls_listing.specs.Listing.{IsDisplayedLine}
 use Rattle.xls_listing.proofs.LineLemmas.{some-all, some-first, some-next, some-stopped}
 use Rattle.xls_listing.proofs.RefLemmas.{sheets_cited_end, sheets_cited_step}
 use Rattle.xls_output.proofs.EachLemmas.{puts-each-stop}
 use Rattle.xls_listing.proofs.refs.put_refs.Goals as goal
 
 pub loop-sheet-init : goal.loop-sheet-init
-loop-sheet-init g c = some-first (IsDisplayedLine c.args.form) _ _ _ refl
+loop-sheet-init g c = some-first (g.F.LineForm.is_text c.args.form.now) _ _ _ refl
 
 pub returns-in_err-put_refs_at : goal.returns-in_err-put_refs_at
 returns-in_err-put_refs_at g c =

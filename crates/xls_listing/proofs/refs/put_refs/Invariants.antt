@@ -1,7 +1,6 @@
 use Rattle.std.proofs.Common.{drop}
 use Rattle.xls_refs.specs.Views.{sheets_cited}
-use Rattle.xls_output.specs.Each.{text_output}
-use Rattle.xls_listing.specs.Listing.{IsDisplayedLine}
+use Rattle.xls_output.specs.Output.{output_of}
 use Rattle.xls_listing.proofs.LineLemmas.{PutsSome}
 use Rattle.xls_listing.proofs.RefLemmas.{all_cited_lines}
 use Rattle.xls_listing.proofs.refs.put_refs.Given as goal
@@ -10,5 +9,5 @@ use Rattle.xls_listing.proofs.refs.put_refs.Given as goal
 abbrev pub invariant-loop-sheet : goal.invariant-loop-sheet
 invariant-loop-sheet g l =
     let lines = all_cited_lines l.view.context.sheets in
-    PutsSome (IsDisplayedLine l.form) (lines (sheets_cited l.view)) (lines (drop l.sheet (sheets_cited l.view)))
-    (text_output g.K.Sink.state l.fn.out) (text_output g.K.Sink.state l.out)
+    PutsSome (g.F.LineForm.is_text l.form) (lines (sheets_cited l.view)) (lines (drop l.sheet (sheets_cited l.view)))
+    (output_of g.K.Sink.state g.F.Buffer.Gathers.kept l.fn.out) (output_of g.K.Sink.state g.F.Buffer.Gathers.kept l.out)

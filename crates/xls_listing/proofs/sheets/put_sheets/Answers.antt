@@ -1,14 +1,14 @@
 use Rattle.std.proofs.Common.{refl}
 use Rattle.xls_data.specs.Sheets.{sheet_content}
 use Rattle.xls_data.specs.declared.sheets.Sheet.{Sheet}
-use Rattle.xls_listing.specs.Listing.{IsDisplayedLine, sheet_line}
+use Rattle.xls_listing.specs.Listing.{sheet_line}
 use Rattle.xls_listing.proofs.LineLemmas.{some-first, some-next, some-stopped}
 use Rattle.xls_listing.proofs.DisplayedLemmas.{drop_step}
 use Rattle.xls_output.proofs.EachLemmas.{puts-each-stop}
 use Rattle.xls_listing.proofs.sheets.put_sheets.Goals as goal
 
 pub loop-sheet-init : goal.loop-sheet-init
-loop-sheet-init g c = some-first (IsDisplayedLine c.args.form) _ _ _ refl
+loop-sheet-init g c = some-first (g.F.LineForm.is_text c.args.form.now) _ _ _ refl
 
 pub loop-sheet-preserved : goal.loop-sheet-preserved
 loop-sheet-preserved g c =

@@ -1,6 +1,6 @@
 use Rattle.std.proofs.Common.{refl, inr}
 use Rattle.xls_record.specs.declared.error.XlsError.TheVariants.{WorksheetNotFound}
-use Rattle.xls_report.specs.Report.{fault_line}
+use Rattle.xls_report.specs.Faults.{fault_line}
 use Rattle.xls_report.specs.Texts.{IsMissingLine}
 use Rattle.xls_report.proofs.EndingLemmas.{either-memory, either-stopped}
 use Rattle.xls_report.proofs.csv.write_missing.Goals as goal

@@ -3,7 +3,7 @@ use Rattle.xls_stream.specs.Listing.{ListEntry}
 use Rattle.xls_lay.specs.Writing.{canonical_bytes, canonical_size}
 use Rattle.xls_lay.specs.declared.error.LayError.TheVariants.{TooLong}
 use Rattle.xls_report.specs.Remaking.{IsUnwrittenOf, IsWrittenOf}
-use Rattle.xls_report.specs.Report.{unwritten_line}
+use Rattle.xls_report.specs.Faults.{unwritten_line}
 use Rattle.xls_report.proofs.EndingLemmas.{either-stopped}
 use Rattle.xls_report.proofs.remake.write_list.Goals as goal
 

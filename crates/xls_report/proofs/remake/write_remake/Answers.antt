@@ -2,7 +2,7 @@ use Rattle.std.proofs.Common.{◌≡◌, ℕ, List, inl, inr, refl, subst, Err}
 use Rattle.xls_stream.specs.Listing.{ListEntry}
 use Rattle.xls_record.specs.declared.error.XlsError.{XlsError}
 use Rattle.xls_record.specs.declared.error.XlsError.TheVariants as errors
-use Rattle.xls_report.specs.Report.{fault_line}
+use Rattle.xls_report.specs.Faults.{fault_line}
 use Rattle.xls_report.specs.Texts.{IsOfList, IsUnremadeLine}
 use Rattle.xls_report.specs.Remaking.{IsListOf, TellsList}
 use Rattle.xls_report.proofs.EndingLemmas.{either-as}

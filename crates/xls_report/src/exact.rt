@@ -1,0 +1,220 @@
+//! Lines as `xls_dump` writes them.
+
+ghost use Rattle.std.specs.Prelude.{◌≡◌, ◌≤◌, ℕ, List, length, codes, if◌then◌else◌, IfSome};
+ghost use Rattle.std.specs.Option.{option_map};
+ghost use Rattle.xls_data.specs.Data.{bool_text};
+ghost use Rattle.xls_lines.specs.Lines.{field_text};
+ghost use Rattle.xls_output.specs.Output.{Puts, output};
+ghost use Rattle.xls_readable.specs.Items.{exact_text};
+ghost use Rattle.xls_readable.specs.Lines.{exact_line, formula_members, kind_and_item, merge_members, ref_members, sheet_members, type_text, visible_text, year_text};
+ghost use Rattle.xls_listing.specs.Listing.{line_of};
+
+use std::alloc::Global;
+use xls_data::{Dimensions, SheetType, SheetVisible};
+use xls_lines::{Buffer, Field, put_line};
+use xls_listing::{BookLine, LineForm};
+use xls_output::{Sink, Stop, Writer};
+use xls_readable::Value;
+
+/// The word for a date or a span.
+fn date_kind(is_span: bool) -> &'static str
+    ensures word { result.now ≡ (if is_span then codes "span" else codes "date") }
+    ensures short { length result.now ≤ 5 }
+{
+    if is_span { "span" } else { "date" }
+}
+
+/// The word for a truth value.
+fn truth_word(is_true: bool) -> &'static str
+    ensures { result.now ≡ bool_text is_true }
+{
+    if is_true { "true" } else { "false" }
+}
+
+/// The kind of a value, and what it prints. A blank has none.
+#[inline(always)]
+fn fields_of<'v>(value: &'v Value<'v>) -> Option<(&'static str, Field<'v>)>
+    ensures fields { option_map {U = List ℕ × List ℕ} (λ x. (x.0.now, field_text x.1)) result
+        ≡ option_map (λ k. (k.0, exact_text k.1)) (kind_and_item value.now) }
+    ensures short { IfSome result (λ x. length x.0.now ≤ 5) }
+{
+    match value {
+        Value::Int(n) => Some(("int", Field::Int(*n))),
+        Value::Float(n) => Some(("float", Field::Fraction(*n))),
+        Value::Text(text) => Some(("text", Field::Text(text))),
+        Value::Truth(b) => Some(("bool", Field::Word(truth_word(*b)))),
+        Value::Moment(d) => Some((date_kind(d.is_duration()), Field::Fraction(d.number()))),
+        Value::IsoDate(text) => Some(("date", Field::Text(text))),
+        Value::IsoDuration(text) => Some(("span", Field::Text(text))),
+        Value::Failure(e) => Some(("error", Field::Failure(*e))),
+        Value::Empty => None,
+    }
+}
+
+/// The word for the year that dates count from.
+fn year_word(is_1904: bool) -> &'static str
+    ensures { result.now ≡ year_text is_1904 }
+{
+    if is_1904 { "1904" } else { "1900" }
+}
+
+/// The word for a kind of sheets.
+fn type_word(typ: SheetType) -> &'static str
+    ensures { result.now ≡ type_text typ }
+{
+    match typ {
+        SheetType::WorkSheet => "worksheet",
+        SheetType::DialogSheet => "dialog",
+        SheetType::MacroSheet => "macro",
+        SheetType::ChartSheet => "chart",
+        SheetType::Vba => "vba",
+    }
+}
+
+/// The word for a sheet's visibility.
+fn visible_word(visible: SheetVisible) -> &'static str
+    ensures { result.now ≡ visible_text visible }
+{
+    match visible {
+        SheetVisible::Visible => "visible",
+        SheetVisible::Hidden => "hidden",
+        SheetVisible::VeryHidden => "veryhidden",
+    }
+}
+
+/// Puts the line of a formula's row, column and text.
+fn put_formula<K: Sink>(
+    out: &mut Writer<'_, K, Buffer>,
+    row: u32,
+    column: u32,
+    text: &str,
+) -> Result<(), Stop>
+    ensures { Puts (output K.state out.old) (output K.state out.new)
+        (exact_line (codes "formula") (formula_members row column text.now)) result }
+{
+    let row = Field::Number(u64::from(row));
+    let column = Field::Number(u64::from(column));
+    put_line(out, "formula", &[row, column, Field::Text(text)])
+}
+
+/// Puts the line of a merged region.
+fn put_merge<K: Sink>(out: &mut Writer<'_, K, Buffer>, region: Dimensions) -> Result<(), Stop>
+    ensures { Puts (output K.state out.old) (output K.state out.new)
+        (exact_line (codes "merge") (merge_members region)) result }
+{
+    let (first_row, first_column) = region.start;
+    let (last_row, last_column) = region.end;
+    let fields = [
+        Field::Number(u64::from(first_row)),
+        Field::Number(u64::from(first_column)),
+        Field::Number(u64::from(last_row)),
+        Field::Number(u64::from(last_column)),
+    ];
+    put_line(out, "merge", &fields)
+}
+
+/// Puts the line of cells that a formula cites.
+fn put_ref<'x, K: Sink>(
+    out: &mut Writer<'_, K, Buffer>,
+    sheet: &'x str,
+    cell: (u32, u32),
+    cited_sheet: &'x str,
+    cells: Dimensions,
+) -> Result<(), Stop>
+    ensures { Puts (output K.state out.old) (output K.state out.new)
+        (exact_line (codes "ref") (ref_members sheet.now cell cited_sheet.now cells)) result }
+{
+    let (row, column) = cell;
+    let (first_row, first_column) = cells.start;
+    let (last_row, last_column) = cells.end;
+    let fields = [
+        Field::Text(sheet),
+        Field::Number(u64::from(row)),
+        Field::Number(u64::from(column)),
+        Field::Text(cited_sheet),
+        Field::Number(u64::from(first_row)),
+        Field::Number(u64::from(first_column)),
+        Field::Number(u64::from(last_row)),
+        Field::Number(u64::from(last_column)),
+    ];
+    put_line(out, "ref", &fields)
+}
+
+/// Puts the line of a sheet.
+fn put_sheet<K: Sink>(
+    out: &mut Writer<'_, K, Buffer>,
+    name: &str,
+    kind: SheetType,
+    visible: SheetVisible,
+) -> Result<(), Stop>
+    ensures { Puts (output K.state out.old) (output K.state out.new)
+        (exact_line (codes "sheet") (sheet_members name.now kind visible)) result }
+{
+    let kind = Field::Word(type_word(kind));
+    let visible = Field::Word(visible_word(visible));
+    put_line(out, "sheet", &[Field::Text(name), kind, visible])
+}
+
+/// Puts a line.
+fn put_book_line<K: Sink>(out: &mut Writer<'_, K, Buffer>, line: BookLine<'_>) -> Result<(), Stop>
+    ensures { let l = line_of line.entry in
+        Puts (output K.state out.old) (output K.state out.new) (exact_line l.word l.members) result }
+{
+    match line {
+        BookLine::Dates { is_1904 } => put_line(out, "dates", &[Field::Word(year_word(is_1904))]),
+        BookLine::Name { name, text } => {
+            put_line(out, "name", &[Field::Text(name), Field::Text(text)])
+        }
+        BookLine::Sheet {
+            name,
+            kind,
+            visible,
+        } => put_sheet(out, name, kind, visible),
+        BookLine::Formula { row, column, text } => put_formula(out, row, column, text),
+        BookLine::Merge(region) => put_merge(out, region),
+        BookLine::Ref {
+            sheet,
+            cell,
+            cited_sheet,
+            cells,
+        } => put_ref(out, sheet, cell, cited_sheet, cells),
+    }
+}
+
+/// Lines as `xls_dump` writes them: exact, with numbers as the workbook has them.
+#[derive(Clone, Copy, Debug, PartialEq, Eq)]
+pub struct ExactLines;
+
+impl LineForm for ExactLines {
+    ghost use Rattle.xls_readable.specs.declared.forms.Form.TheVariants.{Exact};
+    ghost use Rattle.xls_listing.specs.Listing.{IsDisplayedLine};
+
+    ghost is_text = { λ _. IsDisplayedLine Exact };
+
+    type Buffer = Buffer;
+
+    fn buffer(alloc: Global) -> Buffer {
+        Buffer::new(alloc)
+    }
+
+    fn put_line<K: Sink>(
+        &self,
+        out: &mut Writer<'_, K, Buffer>,
+        line: BookLine<'_>,
+    ) -> Result<(), Stop> {
+        put_book_line(out, line)
+    }
+
+    fn put_cell<K: Sink>(
+        &self,
+        out: &mut Writer<'_, K, Buffer>,
+        position: (u32, u32),
+        value: &Value<'_>,
+    ) -> Result<(), Stop> {
+        let (row, column) = position;
+        match fields_of(value) {
+            Some((kind, displayed)) => xls_lines::put_cell(out, row, column, kind, displayed),
+            None => Ok(()),
+        }
+    }
+}
