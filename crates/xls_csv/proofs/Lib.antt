@@ -6,4 +6,5 @@ pub mod BoxLemmas
 pub mod LineLemmas
 pub mod BareLemmas
 pub mod RowLemmas
+pub mod CsvLemmas
 pub mod StandardFacts

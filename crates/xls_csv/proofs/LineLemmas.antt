@@ -1,13 +1,10 @@
 -- A row of CSV, byte by byte and field by field.
-use Rattle.std.proofs.Common.{◌≡◌, ℕ, suc, ◌+◌, ◌-◌, ◌<◌, ◌≤◌, Bool, true, false, List, [], ◌∷◌, ◌++◌, length, map, drop, get_or, append_assoc, drop-cons, refl, sym, ap, ◌∙◌, arith}
+use Rattle.std.proofs.Common.{◌≡◌, ℕ, suc, ◌+◌, ◌<◌, ◌≤◌, Bool, true, false, List, [], ◌∷◌, ◌++◌, length, drop, get_or, append_assoc, drop-cons, refl, sym, ap, ◌∙◌, arith}
 use Rattle.std.specs.Prelude.{◌==◌, if◌then◌else◌}
 use Rattle.std.proofs.lemmas.List.{append-nil, length-append}
 use Rattle.std.proofs.Math.ListN.{drop_of_length-le}
-use Rattle.csv.specs.Writing.{default_writer, escaped, field_text, fields_text, is_blank, next_sep, row_body, row_text}
-use Rattle.xls_biff.specs.Cells.{CellEntry}
-use Rattle.xls_csv.specs.Fields.{field}
-use Rattle.xls_csv.specs.Steps.{field_placed, row_end}
-use Rattle.xls_csv.specs.Walk.{take_at, row_over, left_over}
+use Rattle.csv.specs.Writing.{default_writer, escaped, field_text, fields_text, is_blank, row_body, row_text}
+use Rattle.xls_csv.specs.Boxes.{row_end}
 
 -- ---- bytes between quotes
 
@@ -50,24 +47,7 @@ quoted_end bytes whole text i l h =
     let none : drop i text ≡ [] = drop_of_length-le text l in
     rw none at h
 
--- ---- fields
-
--- what is left of a row: all fields of it, or those after the first, each after a comma
-abbrev pub rest_text : Bool → List (List ℕ) → List ℕ
-rest_text true fields = row_body default_writer fields
-rest_text false fields = fields_text default_writer fields
-
--- the next field, after what stands before it
-rest_next : (i : ℕ) (f : List ℕ) (fs : List (List ℕ))
-    → rest_text (i == 0) (f ∷ fs) ≡ next_sep default_writer i ++ (field_text default_writer f ++ fields_text default_writer fs)
-unfolding fields_text
-rest_next i f fs = by_test (i == 0)
-  where
-    by_test : (t : Bool)
-        → rest_text t (f ∷ fs)
-        ≡ (if t then [] else 44 ∷ []) ++ (field_text default_writer f ++ fields_text default_writer fs)
-    by_test true = refl
-    by_test false = refl
+-- ---- the end of a row
 
 -- no field shows a byte exactly where the row has none
 blank_row : (fields : List (List ℕ)) → is_blank default_writer fields ≡ (length (row_body default_writer fields) == 0)
@@ -80,47 +60,6 @@ blank_row (f ∷ g ∷ fs) =
     grind (arith, size)
 
 -- the fields of a row and its end are the row
-pub row_ended : (fields : List (List ℕ)) (is_bare : Bool) → is_bare ≡ (length (row_body default_writer fields) == 0)
-    → row_body default_writer fields ++ row_end is_bare ≡ row_text default_writer fields
-row_ended fields is_bare e = rw (e, blank_row fields) refl
-
--- ---- a row, column by column
-
-not_first : (i : ℕ) → (i + 1 == 0) ≡ false
-not_first i = grind arith
-
--- no column is left
-pub fields_end : (line whole : List ℕ) (row column width i : ℕ) (cells : List CellEntry) → width ≤ i
-    → line ++ rest_text (i == 0) (map field (row_over row (column + i) (width - i) cells)) ≡ whole → line ≡ whole
-unfolding fields_text
-fields_end line whole row column width i cells l h =
-    let none : width - i ≡ 0 = omega arith in
-    by_test (i == 0) (rw none at h)
-  where
-    by_test : (t : Bool) → line ++ rest_text t [] ≡ whole → line ≡ whole
-    by_test true h = sym (append-nil line) ∙ h
-    by_test false h = sym (append-nil line) ∙ h
-
--- the first of the columns that are left, and those after it
-pub row_more : (line whole : List ℕ) (row column width i : ℕ) (cells : List CellEntry) → i < width
-    → line ++ rest_text (i == 0) (map field (row_over row (column + i) (width - i) cells)) ≡ whole
-    → (line ++ field_placed i (take_at row (column + i) cells).0)
-    ++ rest_text (i + 1 == 0) (map field (row_over row (column + (i + 1)) (width - (i + 1)) (take_at row (column + i) cells).1)) ≡ whole
-row_more line whole row column width i cells l h =
-    let e : width - i ≡ suc (width - (i + 1)) = omega arith in
-    let place : column + (i + 1) ≡ column + i + 1 = omega arith in
-    let first = field (take_at row (column + i) cells).0 in
-    let others = map field (row_over row (column + i + 1) (width - (i + 1)) (take_at row (column + i) cells).1) in
-    rw (not_first i, place)
-    (append_assoc line (next_sep default_writer i ++ field_text default_writer first) (fields_text default_writer others)
-    ∙ ap (λ (t : List ℕ). line ++ t)
-    (append_assoc (next_sep default_writer i) (field_text default_writer first) (fields_text default_writer others)
-    ∙ sym (rest_next i first others)) ∙ rw e at h)
-
-pub left_more : (whole : List CellEntry) (row column width i : ℕ) (cells : List CellEntry) → i < width
-    → left_over row (column + i) (width - i) cells ≡ whole
-    → left_over row (column + (i + 1)) (width - (i + 1)) (take_at row (column + i) cells).1 ≡ whole
-left_more whole row column width i cells l h =
-    let e : width - i ≡ suc (width - (i + 1)) = omega arith in
-    let place : column + (i + 1) ≡ column + i + 1 = omega arith in
-    rw place (rw e at h)
+pub row_ended : (fields : List (List ℕ))
+    → row_body default_writer fields ++ row_end (length (row_body default_writer fields) == 0) ≡ row_text default_writer fields
+row_ended fields = rw (blank_row fields) refl

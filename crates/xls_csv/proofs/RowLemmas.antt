@@ -1,100 +1,243 @@
--- The fields of a row, one after another, that are gathered before they are written.
-use Rattle.std.proofs.Common.{◌≡◌, ℕ, ◌+◌, ◌-◌, ◌<◌, ◌≤◌, Bool, true, List, [], ◌++◌, length, map, length-append, arith, refl, ap, ◌∙◌}
+-- A box that is put row by row, and a row field by field.
+use Rattle.std.proofs.Common.{◌≡◌, inl, inr, ℕ, zero, suc, ◌+◌, ◌-◌, ◌<◌, ◌≤◌, Bool, true, false, List, [], ◌∷◌, ◌++◌, length, take, Result, Ok, Err, append_assoc, append-nil, length-append, arith, refl, sym, ap, subst, ◌∙◌}
 use Rattle.std.specs.Prelude.{◌==◌, ◌&&◌}
-use Rattle.csv.specs.Writing.{default_writer, row_body}
+use Rattle.std.specs.List.{flat_map}
+use Rattle.std.specs.Result.{IsErrAnd}
+use Rattle.std.proofs.lemmas.List.{take_all}
+use Rattle.xls_data.specs.Content.{Content}
 use Rattle.xls_biff.specs.Cells.{CellEntry}
+use Rattle.xls_output.specs.Added.{AddsText}
+use Rattle.xls_output.specs.Each.{Concatenates, GathersEach, GivesUpEach}
+use Rattle.xls_output.specs.SinkState.{SinkState}
 use Rattle.xls_output.specs.Output.{Buffers, GivesUp, Output}
 use Rattle.xls_output.specs.declared.stop.Stop.{Stop}
-use Rattle.xls_output.proofs.OutputLemmas.{gathers-as, gathers-nothing, gathers-then, stops-as, stops-more, stops-then}
-use Rattle.xls_csv.specs.Dense.{box_of}
-use Rattle.xls_csv.specs.Fields.{field}
-use Rattle.xls_csv.specs.Steps.{field_placed}
-use Rattle.xls_csv.specs.Walk.{left_over, row_over, rows_over, take_at, walk_rows}
-use Rattle.xls_csv.specs.declared.extent.Extent.{Extent}
-use Rattle.xls_csv.proofs.LineLemmas.{fields_end, left_more, rest_text, row_more}
+use Rattle.xls_output.specs.declared.stop.Stop.TheVariants.{Memory}
+use Rattle.xls_output.proofs.EachLemmas.{EachSome, each-as, each-some-all, each-some-first, each-some-next, each-some-stopped, each-stops-as}
+use Rattle.xls_output.proofs.OutputLemmas.{gathers-added, gathers-after, gathers-then, stops-as, stops-memory, stops-then}
+use Rattle.xls_csv.specs.Boxes.{BeginsBox, BeginsRow, FieldForm, GivesUpBox, IsBox, IsFields, IsRow, IsSeparated, PutsBox, row_end}
+use Rattle.xls_csv.specs.Steps.{PutsFields}
+use Rattle.xls_csv.specs.Walk.{left_over, row_over, rows_over, take_at}
+use Rattle.xls_csv.proofs.WalkLemmas.{rows_from}
 
--- the bytes of a row's fields
-abbrev pub body : ℕ → ℕ → ℕ → List CellEntry → List ℕ
-body row left width cells = row_body default_writer (map field (row_over row left width cells))
+-- ---- items one by one
 
--- with these cells left at a place, the fields before it are gathered
-pub record FieldsSoFar (row left width : ℕ) (all : List CellEntry) (a : Output) (place : ℕ) (is_bare : Bool)
+abbrev pub one : {X : Type 0} → X → List X
+one x = x ∷ []
+
+pub singles : {X : Type 0} (xs : List X) → flat_map one xs ≡ xs
+singles [] = refl
+singles (x ∷ xs) = ap (λ (l : List _). x ∷ l) (singles xs)
+
+-- ---- a field after a delimiter
+
+pub separated_added : (form : FieldForm) (content : Content) (g : List ℕ) {h k : List ℕ} → h ≡ g ++ form.delimiter ∷ []
+    → AddsText (form.IsField content) h k → AddsText (IsSeparated form content) g k
+separated_added form content g e (field, is, f) = (
+  form.delimiter ∷ field,
+  (field, is, refl),
+  f ∙ ap (λ (t : List ℕ). t ++ field) e ∙ append_assoc g (form.delimiter ∷ []) field,
+)
+
+-- ---- the fields after the first, up to a column
+
+-- with these cells left at a column, the fields before it are gathered
+pub record FieldsSoFar (form : FieldForm) (row left width : ℕ) (all : List CellEntry) (a : Output) (column : ℕ)
     (cells : List CellEntry) (b : Output) : Type 0 where
-  pub text : List ℕ
-  pub whole : text ++ rest_text (place == 0) (map field (row_over row (left + place) (width - place) cells)) ≡ body row left width all
-  pub rest : left_over row (left + place) (width - place) cells ≡ left_over row left width all
-  pub bare : is_bare ≡ (length text == 0)
-  pub gathers : Buffers a b text
+  pub fields : EachSome (IsSeparated form) one (row_over row (left + 1) (width - 1) all) (row_over row column (left + width - column) cells) a b
+  pub rest : left_over row column (left + width - column) cells ≡ left_over row (left + 1) (width - 1) all
 
-pub fields_first : (row left width : ℕ) (all : List CellEntry) (a : Output) → FieldsSoFar row left width all a 0 true all a
-fields_first row left width all a =
-    let here : left + 0 ≡ left = omega arith in
-    let all_of : width - 0 ≡ width = omega arith in
+pub fields_none : (form : FieldForm) (row left width : ℕ) (all : List CellEntry) (a : Output)
+    → FieldsSoFar form row left width all a (left + 1) all a
+fields_none form row left width all a =
+    let same : left + width - (left + 1) ≡ width - 1 = omega arith in
     record {
-      text = [];
-      whole = rw (here, all_of) refl;
-      rest = rw (here, all_of) refl;
-      bare = refl;
-      gathers = gathers-nothing a;
+      fields = each-some-first (IsSeparated form) one _ _ a (rw same refl);
+      rest = rw same refl;
     }
 
-both_none : (xs ys : List ℕ) (a b : Bool) → a ≡ (length xs == 0) → b ≡ (length ys == 0)
-    → (a && b) ≡ (length (xs ++ ys) == 0)
-both_none xs ys a b e f = rw (e, f, length-append xs ys) (sums (length xs) (length ys))
+row_next : (row column end : ℕ) (cells : List CellEntry) → column < end
+    → (row_over row column (end - column) cells
+    ≡ (take_at row column cells).0 ∷ row_over row (column + 1) (end - (column + 1)) (take_at row column cells).1)
+    × (left_over row column (end - column) cells ≡ left_over row (column + 1) (end - (column + 1)) (take_at row column cells).1)
+row_next row column end cells l =
+    let more : end - column ≡ suc (end - (column + 1)) = omega arith in
+    rw more (refl, refl)
+
+pub fields_more : {form : FieldForm} {row left width column : ℕ} {all cells cells' : List CellEntry} {a b c : Output}
+    → column < left + width → FieldsSoFar form row left width all a column cells b
+    → GathersEach (IsSeparated form) ((take_at row column cells).0 ∷ []) b c → cells' ≡ (take_at row column cells).1
+    → FieldsSoFar form row left width all a (column + 1) cells' c
+fields_more {row = row} {left = left} {width = width} {column = column} {cells = cells} l so gathers left_is =
+    let next = row_next row column (left + width) cells l in
+    rw left_is (record {
+      fields = each-some-next one so.fields next.0 gathers;
+      rest = sym next.1 ∙ so.rest;
+    })
+
+pub fields_stop : {form : FieldForm} {row left width column : ℕ} {all cells : List CellEntry} {a b c : Output} {e : Stop}
+    → column < left + width → FieldsSoFar form row left width all a column cells b
+    → GivesUpEach (IsSeparated form) ((take_at row column cells).0 ∷ []) b c e
+    → GivesUpEach (IsSeparated form) (row_over row (left + 1) (width - 1) all) a c e
+fields_stop {row = row} {left = left} {width = width} {column = column} {cells = cells} l so stops =
+    each-stops-as (each-some-stopped one so.fields (row_next row column (left + width) cells l).0 stops) (singles _)
+
+pub fields_all : {form : FieldForm} {row left width column : ℕ} {all cells : List CellEntry} {a b : Output}
+    → left + width ≤ column → FieldsSoFar form row left width all a column cells b
+    → GathersEach (IsSeparated form) (row_over row (left + 1) (width - 1) all) a b
+    × (cells ≡ left_over row (left + 1) (width - 1) all)
+fields_all {row = row} {left = left} {width = width} {column = column} {cells = cells} l so =
+    let none : left + width - column ≡ 0 = omega arith in
+    let no_field : row_over row column (left + width - column) cells ≡ [] = rw none refl in
+    let no_cell : left_over row column (left + width - column) cells ≡ cells = rw none refl in
+    (each-as (each-some-all one so.fields no_field) (singles _), sym no_cell ∙ so.rest)
+
+-- ---- a row
+
+length-row_over : (row column n : ℕ) (cells : List CellEntry) → length (row_over row column n cells) ≡ n
+length-row_over row column zero cells = refl
+length-row_over row column (suc n) cells = ap suc (length-row_over row (column + 1) n (take_at row column cells).1)
+
+-- a row that has a column: what stands in the first, and those after it
+pub row_first : (row left width : ℕ) (cells rest : List CellEntry) (content : Content) → take_at row left cells ≡ (content, rest)
+    → (width ≡ 0 → ⊥)
+    → (row_over row left width cells ≡ content ∷ row_over row (left + 1) (width - 1) rest)
+    × (width ≡ suc (length (row_over row (left + 1) (width - 1) rest)))
+row_first row left width cells rest content taken some =
+    let more : width ≡ suc (width - 1) = omega (arith, some) in
+    (by_count width (width - 1) more, more ∙ ap suc (sym (length-row_over row (left + 1) (width - 1) rest)))
   where
-    sums : (m n : ℕ) → ((m == 0) && (n == 0)) ≡ (m + n == 0)
-    sums m n = grind arith
+    by_count : (n m : ℕ) → n ≡ suc m → row_over row left n cells ≡ content ∷ row_over row (left + 1) m rest
+    by_count n m e = rw (e, taken) refl
 
-pub fields_more : {row left width place : ℕ} {all cells cells' : List CellEntry} {a b c : Output}
-    {is_bare none now : Bool} → place < width
-    → FieldsSoFar row left width all a place is_bare cells b
-    → Buffers b c (field_placed place (take_at row (left + place) cells).0)
-    → none ≡ (length (field_placed place (take_at row (left + place) cells).0) == 0)
-    → cells' ≡ (take_at row (left + place) cells).1 → now ≡ (is_bare && none)
-    → FieldsSoFar row left width all a (place + 1) now cells' c
-fields_more {row} {left} {width} {place} {all} {cells} {cells'} {a} {b} {c} {is_bare} {none} l so gathers none_is left_is now_is =
-    let next = field_placed place (take_at row (left + place) cells).0 in
+-- out of memory before a field was put, whatever is kept then
+pub row_memory : (form : FieldForm) (row : List Content) {w : SinkState} {n : ℕ} {g h : List ℕ} (a : Output)
+    → Buffers a (record { sink = w; kept = g; lender = n }) []
+    → (text : List ℕ) × BeginsRow form row text × GivesUp a (record { sink = w; kept = h; lender = n }) text Memory
+row_memory form row a p = ([], (0, refl), stops-memory [] p)
+
+-- the first field was put, and then it was given up
+pub row_stop_first : (form : FieldForm) {row : List Content} (content : Content) (contents : List Content) {a b c : Output} {field : List ℕ} {e : Stop}
+    → row ≡ content ∷ contents → form.IsField content field → Buffers a b field → GivesUp b c [] e
+    → (text : List ℕ) × BeginsRow form row text × GivesUp a c text e
+row_stop_first form content contents {field = field} is f p q =
+    let begins : BeginsRow form (content ∷ contents) (field ++ []) = (1, (field, [], f, refl, refl)) in
+    (field ++ [], subst (λ (r : List Content). BeginsRow form r (field ++ [])) (sym is) begins, stops-then p q)
+
+-- the first field was put, and of the others some
+pub row_stop_others : (form : FieldForm) {row : List Content} (content : Content) (contents : List Content) {a b c : Output} {field : List ℕ} {e : Stop}
+    → row ≡ content ∷ contents → form.IsField content field → Buffers a b field
+    → GivesUpEach (IsSeparated form) contents b c e
+    → (text : List ℕ) × BeginsRow form row text × GivesUp a c text e
+row_stop_others form content contents {field = field} is f p q =
+    let begins : BeginsRow form (content ∷ contents) (field ++ q.text) = (suc q.count, (field, q.text, f, q.texts, refl)) in
+    (field ++ q.text, subst (λ (r : List Content). BeginsRow form r (field ++ q.text)) (sym is) begins, stops-then p q.stops)
+
+-- a row is no byte where it is one field that is none
+bare : (form : FieldForm) (contents : List Content) (field others : List ℕ) (width : ℕ) (is_empty : Bool)
+    → Concatenates (IsSeparated form) contents others → width ≡ suc (length contents) → is_empty ≡ (length field == 0)
+    → (is_empty && (width == 1)) ≡ (length (field ++ others) == 0)
+bare form [] field others width is_empty none e f = rw (none, e, f, append-nil field) (same (length field == 0))
+  where
+    same : (b : Bool) → (b && true) ≡ b
+    same true = refl
+    same false = refl
+bare form (x ∷ xs) field others width is_empty (first, rest, (f, _, is), _, e) w t =
+    rw (w, t, length-append field others, e, length-append first rest, is) (more (length field == 0) (length xs) (length field) (length f) (length rest))
+  where
+    more : (b : Bool) (n m k j : ℕ) → (b && (suc (suc n) == 1)) ≡ (m + (suc k + j) == 0)
+    more true n m k j = grind arith
+    more false n m k j = grind arith
+
+-- all fields were put
+pub row_all : (form : FieldForm) {row : List Content} (content : Content) (contents : List Content) (width : ℕ) {is_empty is_bare : Bool} {a b c : Output} {field : List ℕ}
+    → row ≡ content ∷ contents → width ≡ suc (length contents) → form.IsField content field → is_empty ≡ (length field == 0)
+    → is_bare ≡ (is_empty && (width == 1)) → Buffers a b field → GathersEach (IsSeparated form) contents b c
+    → (text : List ℕ) × (IsFields form row text × (is_bare ≡ (length text == 0))) × Buffers a c text
+row_all form content contents width {is_empty} {field = field} is w f t now p q =
+    let fields : IsFields form (content ∷ contents) (field ++ q.text) = (field, q.text, f, q.texts, refl) in (
+      field ++ q.text,
+      (
+        subst (λ (r : List Content). IsFields form r (field ++ q.text)) (sym is) fields,
+        now ∙ bare form contents field q.text width is_empty q.texts w t,
+      ),
+      gathers-then p q.gathers,
+    )
+
+pub puts_fields_stop : (form : FieldForm) (row : List Content) {a b : Output} {e : Stop} (r : Result Bool Stop) → IsErrAnd r (λ d. d ≡ e)
+    → (text : List ℕ) × BeginsRow form row text × GivesUp a b text e → PutsFields form row a b r
+puts_fields_stop form row (Ok x) none p = absurd none
+puts_fields_stop form row {a = a} {b = b} (Err d) is (text, begins, stops) = (text, begins, subst (GivesUp a b text) (sym is) stops)
+
+-- ---- the end of a row
+
+whole_row : (form : FieldForm) (row : List Content) (text : List ℕ) → IsFields form row text → BeginsRow form row text
+whole_row form row text is =
+    (length row, subst (λ (r : List Content). IsFields form r text) (sym (take_all (length row) row (omega arith))) is)
+
+pub end_put : {form : FieldForm} {row : List Content} {is_bare : Bool} {a : Output} {w : SinkState} {n : ℕ} {g h : List ℕ}
+    → (text : List ℕ) × (IsFields form row text × (is_bare ≡ (length text == 0))) × Buffers a (record { sink = w; kept = g; lender = n }) text
+    → h ≡ g ++ row_end is_bare → GathersEach (IsRow form) (row ∷ []) a (record { sink = w; kept = h; lender = n })
+end_put {form} {row} {is_bare} {g = g} {h = h} (fields, (is, bare), p) e =
+    let text = fields ++ row_end is_bare in
     record {
-      text = so.text ++ next;
-      whole = rw left_is (row_more so.text _ row left width place cells l so.whole);
-      rest = rw left_is (left_more _ row left width place cells l so.rest);
-      bare = now_is ∙ both_none so.text next is_bare none so.bare none_is;
-      gathers = gathers-then so.gathers gathers;
+      text = text;
+      texts = (text, [], (fields, is, ap (λ (t : Bool). fields ++ row_end t) bare), refl, sym (append-nil text));
+      gathers = gathers-then p (gathers-added g h (row_end is_bare) e);
     }
 
--- all fields are gathered
-pub row_whole : {row left width place : ℕ} {all cells : List CellEntry} {a b : Output} {is_bare : Bool}
-    → width ≤ place → (so : FieldsSoFar row left width all a place is_bare cells b)
-    → so.text ≡ body row left width all
-row_whole {row} {left} {width} {place} {all} {cells} l so = fields_end so.text _ row left width place cells l so.whole
+-- out of memory after all fields
+pub end_memory : {form : FieldForm} {row : List Content} {is_bare : Bool} {a : Output} {w : SinkState} {n : ℕ} {g h : List ℕ}
+    → (text : List ℕ) × (IsFields form row text × (is_bare ≡ (length text == 0))) × Buffers a (record { sink = w; kept = g; lender = n }) text
+    → GivesUpBox form (row ∷ []) a (record { sink = w; kept = h; lender = n }) Memory
+end_memory {form} {row} (fields, (is, _), p) =
+    (fields, inl (whole_row form row fields is), stops-as (stops-memory [] p) (append-nil fields))
 
-pub row_gathered : {row left width place : ℕ} {all cells : List CellEntry} {a b : Output} {is_bare : Bool}
-    → width ≤ place → FieldsSoFar row left width all a place is_bare cells b
-    → Buffers a b (body row left width all)
-row_gathered l so = gathers-as so.gathers (row_whole l so)
+-- ---- a part of some rows
 
-pub row_bare : {row left width place : ℕ} {all cells : List CellEntry} {a b : Output} {is_bare : Bool}
-    → width ≤ place → FieldsSoFar row left width all a place is_bare cells b
-    → is_bare ≡ (length (body row left width all) == 0)
-row_bare l so = so.bare ∙ ap (λ (t : List ℕ). length t == 0) (row_whole l so)
+pub begins_nothing : (form : FieldForm) (rows : List (List Content)) → BeginsBox form rows []
+begins_nothing form [] = refl
+begins_nothing form (row ∷ rows) = inl (0, refl)
 
-pub row_left : {row left width place : ℕ} {all cells : List CellEntry} {a b : Output} {is_bare : Bool}
-    → width ≤ place → FieldsSoFar row left width all a place is_bare cells b
-    → cells ≡ left_over row left width all
-row_left {row} {left} {width} {place} {all} {cells} l so =
-    let none : width - place ≡ 0 = omega arith in
-    rw none at so.rest
+pub begins_all : (form : FieldForm) (rows : List (List Content)) (text : List ℕ) → IsBox form rows text → BeginsBox form rows text
+begins_all form [] text is = is
+begins_all form (row ∷ rows) text (first, others, is, rest, e) = inr (first, others, is, begins_all form rows others rest, e)
 
--- it was given up at a field
-pub fields_stop : {row left width place : ℕ} {all cells : List CellEntry} {a b c : Output} {is_bare : Bool} {e : Stop}
-    → place < width → FieldsSoFar row left width all a place is_bare cells b
-    → GivesUp b c (field_placed place (take_at row (left + place) cells).0) e
-    → GivesUp a c (body row left width all) e
-fields_stop {row} {left} {width} {place} {all} {cells} l so stops =
-    let others = rest_text (place + 1 == 0) (map field (row_over row (left + (place + 1)) (width - (place + 1)) (take_at row (left + place) cells).1)) in
-    stops-as (stops-more others (stops-then so.gathers stops)) (row_more so.text _ row left width place cells l so.whole)
+-- a part of the first rows is one of all
+begins_more : (form : FieldForm) (xs ys : List (List Content)) (text : List ℕ) → BeginsBox form xs text → BeginsBox form (xs ++ ys) text
+begins_more form [] ys text none = rw none (begins_nothing form ys)
+begins_more form (x ∷ xs) ys text (inl begins) = inl begins
+begins_more form (x ∷ xs) ys text (inr (first, others, is, rest, e)) = inr (first, others, is, begins_more form xs ys others rest, e)
 
--- the rows that are put are those of the cells
-pub walked : (cells seen ahead : List CellEntry) {extent : Extent} → seen ≡ cells → ahead ≡ seen → extent ≡ box_of cells
-    → rows_over extent.height extent.top extent.left extent.width ahead ≡ walk_rows cells
-walked cells seen ahead {extent} e f is = rw (f, is, e) refl
+-- all of the first rows, and a part of the others
+begins_then : (form : FieldForm) (xs ys : List (List Content)) (t u : List ℕ) → IsBox form xs t → BeginsBox form ys u
+    → BeginsBox form (xs ++ ys) (t ++ u)
+begins_then form [] ys t u none begins = rw none begins
+begins_then form (x ∷ xs) ys t u (first, others, is, rest, e) begins = inr (
+  first,
+  others ++ u,
+  is,
+  begins_then form xs ys others u rest begins,
+  ap (λ (l : List ℕ). l ++ u) e ∙ append_assoc first others u,
+)
+
+-- ---- rows one after another
+
+pub box_stop : {form : FieldForm} {all old left : List (List Content)} {row : List Content} {a b c : Output} {e : Stop}
+    → EachSome (IsRow form) one all old a b → old ≡ row ∷ left → GivesUpBox form (row ∷ []) b c e → GivesUpBox form all a c e
+box_stop {form} {all} {old} {left} {row} so is (text, begins, stops) =
+    let whole : so.out ++ row ∷ left ≡ all =
+    ap (λ (l : List _). so.out ++ l) (sym is ∙ sym (singles old)) ∙ so.whole ∙ singles all in (
+      so.gathers.text ++ text,
+      subst (λ (l : List (List Content)). BeginsBox form l (so.gathers.text ++ text)) whole
+          (begins_then form so.out (row ∷ left) so.gathers.text text so.gathers.texts (begins_more form (row ∷ []) left text begins)),
+      stops-then so.gathers.gathers stops,
+    )
+
+pub box_all : {form : FieldForm} {all left : List (List Content)} {a b : Output}
+    → EachSome (IsRow form) one all left a b → left ≡ [] → GathersEach (IsRow form) all a b
+box_all so none = each-as (each-some-all one so none) (singles _)
+
+pub puts_box_stop : {X : Type 0} (form : FieldForm) (rows : List (List Content)) {a b : Output} {e : Stop} (r : Result X Stop)
+    → IsErrAnd r (λ d. d ≡ e) → GivesUpBox form rows a b e → PutsBox form rows a b r
+puts_box_stop form rows (Ok x) none p = absurd none
+puts_box_stop form rows {a = a} {b = b} (Err d) is p = subst (GivesUpBox form rows a b) (sym is) p

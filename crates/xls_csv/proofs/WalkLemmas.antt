@@ -9,9 +9,10 @@ use Rattle.xls_data.specs.Content.{Content, nothing}
 use Rattle.xls_biff.specs.Cells.{CellEntry}
 use Rattle.xls_csv.specs.Text.{rows_csv}
 use Rattle.xls_csv.proofs.DenseLemmas.{rows_of_dense}
-use Rattle.xls_csv.specs.Walk.{take_at, row_over, left_over, rows_over}
+use Rattle.xls_csv.specs.Walk.{take_at, row_over, left_over, rows_over, walk_rows}
 use Rattle.xls_range.specs.Bounds.{least, greatest, rows_at, columns_at}
-use Rattle.xls_csv.specs.Dense.{dense_value}
+use Rattle.xls_csv.specs.Dense.{box_of, dense_value}
+use Rattle.xls_csv.specs.declared.extent.Extent.{Extent}
 use Rattle.xls_csv.specs.Laws.{JoinsToCsv, WalksDense, positions_of}
 
 -- ---- where the cells that are left stand
@@ -218,6 +219,11 @@ walks_dense (c ∷ cs) h =
       stand = stand_all c.0.0 c.0.1 c.0.1 top left (left + width) (c ∷ cs) (omega (arith, high_row)) (omega (arith, low)) (omega (arith, low, high));
       same = λ r k from. refl;
     })
+
+-- the rows over the box of the cells are all rows of them
+pub walked : (cells seen ahead : List CellEntry) {extent : Extent} → seen ≡ cells → ahead ≡ seen → extent ≡ box_of cells
+    → rows_over extent.height extent.top extent.left extent.width ahead ≡ walk_rows cells
+walked cells seen ahead {extent} e f is = rw (f, is, e) refl
 
 -- so the rows joined are the CSV of the dense box
 pub joins_to_csv : JoinsToCsv

@@ -3,5 +3,6 @@ pub mod Fields
 pub mod Text
 pub mod Dense
 pub mod Walk
+pub mod Boxes
 pub mod Steps
 pub mod Laws

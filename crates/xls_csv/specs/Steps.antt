@@ -1,15 +1,18 @@
 -- Words of private calls, for the proofs.
-use Rattle.std.specs.Prelude.{◌≡◌, ℕ, ◌≤◌, Bool, List, [], ◌∷◌, Option, Some, None, Vec, false, ◌++◌, if◌then◌else◌}
+use Rattle.std.specs.Prelude.{◌≡◌, ℕ, ◌≤◌, ◌==◌, Bool, List, [], Option, Some, None, Result, Ok, Err, Vec, false, ◌++◌, length}
 use Rattle.std.specs.Global.{Global}
-use Rattle.csv.specs.Writing.{default_writer, field_text, next_sep, writer_setup, fields_written, has_written, writer_under, writer_pending}
+use Rattle.csv.specs.Writing.{default_writer, field_text, writer_setup, fields_written, has_written, writer_under, writer_pending}
 use Rattle.csv.specs.declared.writer.Writer.{Writer}
 use Rattle.xls_data.specs.Content.{Content}
 use Rattle.xls_data.specs.Refs.{ref_content_of, ref_text}
 use Rattle.xls_data.specs.declared.refs.DataRef.{DataRef}
 use Rattle.xls_biff.specs.Cells.{CellEntry}
+use Rattle.xls_output.specs.Output.{Buffers, GivesUp, Output}
+use Rattle.xls_output.specs.declared.stop.Stop.{Stop}
 use Rattle.xls_view.specs.declared.value.SheetCell.{SheetCell}
 use Rattle.xls_lines.specs.Days.{date_text, last_day_in, serial_date}
 use Rattle.xls_csv.specs.Fields.{field}
+use Rattle.xls_csv.specs.Boxes.{BeginsRow, FieldForm, IsFields}
 
 -- ---- cells
 
@@ -36,12 +39,16 @@ pub record IsBetweenRecords (w : Writer (Vec ℕ Global)) : Type 0 where
 abbrev pub written : Writer (Vec ℕ Global) → List ℕ
 written w = (writer_under w).items ++ writer_pending w
 
--- ---- fields in their places
+-- ---- fields
 
--- a field with what stands before it in its row
-abbrev pub field_placed : ℕ → Content → List ℕ
-field_placed place content = next_sep default_writer place ++ field_text default_writer (field content)
+-- fields as the default writer of `csv` writes them
+abbrev pub csv_fields : FieldForm
+csv_fields =
+    record { delimiter = 44; IsField = λ content text. text ≡ field_text default_writer (field content) }
 
--- what ends a row; one without a byte has two quotes before it
-abbrev pub row_end : Bool → List ℕ
-row_end is_bare = (if is_bare then 34 ∷ 34 ∷ [] else []) ++ 10 ∷ []
+-- the fields of a row were gathered, and it is told whether they are no byte; or a prefix of what was kept and
+-- of the first fields was written, and then it was given up
+abbrev pub PutsFields : FieldForm → List Content → Output → Output → Result Bool Stop → Type 0
+PutsFields form row before after (Ok is_bare) =
+    (text : List ℕ) × (IsFields form row text × (is_bare ≡ (length text == 0))) × Buffers before after text
+PutsFields form row before after (Err e) = (text : List ℕ) × BeginsRow form row text × GivesUp before after text e

@@ -15,14 +15,6 @@ pub struct Extent {
     pub width: u64,
 }
 
-/// A row of a box: its number, its first column, and how many columns it has.
-#[derive(Clone, Copy, Debug, PartialEq, Eq)]
-pub struct BoxRow {
-    pub number: u64,
-    pub left: u64,
-    pub width: u64,
-}
-
 /// The box from one position to another, both included.
 fn extent_between(bounds: Dimensions) -> Extent
     requires rows { bounds.start.0 ≤ bounds.end.0 }

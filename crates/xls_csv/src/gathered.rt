@@ -1,12 +1,12 @@
 //! The rows that are gathered before they are written.
 
-ghost use Rattle.std.specs.Prelude.{◌≡◌, ◌++◌, ◌==◌, [], length, encode_utf8_all, IfOk, OnOk};
-ghost use Rattle.csv.specs.Writing.{default_writer, field_text, next_sep};
+ghost use Rattle.std.specs.Prelude.{◌≡◌, ◌++◌, [], encode_utf8_all, OnOk};
+ghost use Rattle.csv.specs.Writing.{default_writer, field_text};
 ghost use Rattle.xls_view.specs.Values.{value_text, lent_content};
 ghost use Rattle.xls_csv.specs.Fields.{field};
-ghost use Rattle.xls_csv.specs.Walk.{value_in};
-ghost use Rattle.xls_csv.specs.Steps.{field_placed, row_end};
+ghost use Rattle.xls_csv.specs.Steps.{csv_fields};
 
+use crate::boxes::BoxBuffer;
 use crate::line::{push_error, push_text, push_truth};
 use crate::numbers::push_number;
 use std::alloc::{AllocError, Global};
@@ -43,17 +43,6 @@ impl Gathered {
         }
     }
 
-    /// Appends what stands before the field at a place of a row: a comma, but at the first.
-    #[inline(always)]
-    fn separate(&mut self, place: u64) -> Result<(), AllocError>
-        ensures { OnOk result (self.new ≡ self.old ++ next_sep default_writer place) }
-    {
-        if place > 0 {
-            self.bytes.push(b',')?;
-        }
-        Ok(())
-    }
-
     /// Appends the field of a text that stands in a record.
     #[inline(never)]
     fn push_encoded(&mut self, value: CellValue<'_>) -> Result<(), AllocError>
@@ -80,43 +69,6 @@ impl Gathered {
             CellValue::Empty => Ok(()),
         }
     }
-
-    /// Appends the field of a value, an empty one where there is none.
-    #[inline(always)]
-    fn push_displayed(&mut self, value: Option<CellValue<'_>>) -> Result<(), AllocError>
-        ensures { OnOk result (self.new ≡ self.old ++ field_text default_writer (field (value_in value.entry))) }
-    {
-        match value {
-            Some(value) => self.push_value(value),
-            None => Ok(()),
-        }
-    }
-
-    /// Appends the field at a place of a row, and tells whether that is no byte.
-    #[inline(always)]
-    pub(crate) fn push_field(
-        &mut self,
-        place: u64,
-        value: Option<CellValue<'_>>,
-    ) -> Result<bool, AllocError>
-        ensures field { OnOk result (self.new ≡ self.old ++ field_placed place (value_in value.entry)) }
-        ensures bare { IfOk result (λ is_bare. is_bare ≡ (length (field_placed place (value_in value.entry)) == 0)) }
-    {
-        let before = self.bytes.len();
-        self.separate(place)?;
-        self.push_displayed(value)?;
-        Ok(self.bytes.len() == before)
-    }
-
-    /// Appends the end of a row. A row without a byte has two quotes before it.
-    pub(crate) fn push_end(&mut self, is_bare: bool) -> Result<(), AllocError>
-        ensures { OnOk result (self.new ≡ self.old ++ row_end is_bare) }
-    {
-        if is_bare {
-            return self.bytes.extend_from_slice(b"\"\"\n");
-        }
-        self.bytes.extend_from_slice(b"\n")
-    }
 }
 
 impl Gathers for Gathered {
@@ -129,5 +81,30 @@ impl Gathers for Gathered {
 
     fn clear(&mut self) {
         self.bytes.clear();
+    }
+}
+
+impl BoxBuffer for Gathered {
+    type Form = ();
+
+    ghost fields = { λ _. csv_fields };
+
+    #[inline(always)]
+    fn push_delimiter(&mut self, _: ()) -> Result<(), AllocError> {
+        self.bytes.push(b',')?;
+        Ok(())
+    }
+
+    #[inline(always)]
+    fn push_field(&mut self, _: (), value: Option<CellValue<'_>>) -> Result<(), AllocError> {
+        match value {
+            Some(value) => self.push_value(value),
+            None => Ok(()),
+        }
+    }
+
+    #[inline(always)]
+    fn push_str(&mut self, text: &str) -> Result<(), AllocError> {
+        self.bytes.extend_from_slice(text.as_bytes())
     }
 }

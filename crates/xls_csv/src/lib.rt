@@ -2,6 +2,7 @@
 #![tactic(auto)]
 
 mod ahead;
+mod boxes;
 mod dates;
 mod export;
 mod extent;
@@ -14,8 +15,9 @@ mod record;
 mod rows;
 
 pub use ahead::Ahead;
+pub use boxes::{BoxBuffer, put_box};
 pub use export::export_csv;
-pub use extent::{BoxRow, Extent, extent_of};
+pub use extent::{Extent, extent_of};
 pub use fields::field_text;
 pub use laws::{dense_boxes, printed_fields, rows_of_sheet};
 pub use rows::write_rows;

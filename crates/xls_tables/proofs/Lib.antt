@@ -1,5 +1,5 @@
 pub mod FieldLemmas
-pub mod RowLemmas
+pub mod TableLemmas
 pub mod NameLemmas
 pub mod StandardFacts
 pub mod NumberLemmas

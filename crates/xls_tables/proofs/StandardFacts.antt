@@ -3,9 +3,10 @@ use Rattle.std.proofs.Common.{◌≡◌, [], ◌∷◌, ◌++◌, true, false, r
 use Rattle.std.specs.Prelude.{codes, encode_utf8_all}
 use Rattle.std.specs.Fmt.{digits}
 use Rattle.xls_data.specs.Content.{int, nothing, text, truth}
+use Rattle.xls_csv.specs.Boxes.{BeginsBox, IsRow}
 use Rattle.xls_tables.specs.FileNames.{file_name, fitting}
-use Rattle.xls_tables.specs.Rows.{IsContentRow, IsContentText}
-use Rattle.xls_tables.specs.Tables.{BeginsRows, byte_order_mark}
+use Rattle.xls_tables.specs.Rows.{IsContentText, content_fields}
+use Rattle.xls_tables.specs.Tables.{byte_order_mark}
 
 -- U+FEFF
 pub known_mark : byte_order_mark true ≡ encode_utf8_all (0xFEFF ∷ [])
@@ -18,21 +19,43 @@ unfolding lib.Utf8.encode
 known_text = refl
 
 -- a number, a blank, a text with the delimiter, a truth value
-pub known_row : IsContentRow 0x2C (int (pos 10) ∷ nothing ∷ text (codes "a,b") ∷ truth true ∷ []) (codes "10,,\"a,b\",TRUE\n")
+pub known_row : IsRow (content_fields 0x2C) (int (pos 10) ∷ nothing ∷ text (codes "a,b") ∷ truth true ∷ []) (codes "10,,\"a,b\",TRUE\n")
 unfolding digits lib.Utf8.encode
-known_row = (codes "10" ∷ [] ∷ codes "a,b" ∷ codes "TRUE" ∷ [], (refl, (refl, (refl, (refl, tt)))), refl)
+known_row = (
+  codes "10,,\"a,b\",TRUE",
+  (
+    codes "10",
+    codes ",,\"a,b\",TRUE",
+    (codes "10", refl, refl),
+    (
+      codes ",",
+      codes ",\"a,b\",TRUE",
+      ([], ([], refl, refl), refl),
+      (
+        codes ",\"a,b\"",
+        codes ",TRUE",
+        (codes "\"a,b\"", (codes "a,b", refl, refl), refl),
+        (codes ",TRUE", [], (codes "TRUE", (codes "TRUE", refl, refl), refl), refl, refl),
+        refl,
+      ),
+      refl,
+    ),
+    refl,
+  ),
+  refl,
+)
 
 -- a blank alone
-pub known_blank : IsContentRow 0x2C (nothing ∷ []) (codes "\"\"\n")
-known_blank = ([] ∷ [], (refl, tt), refl)
+pub known_blank : IsRow (content_fields 0x2C) (nothing ∷ []) (codes "\"\"\n")
+known_blank = ([], ([], [], ([], refl, refl), refl, refl), refl)
 
 -- a whole row, and the first of the two fields of the next one
-pub known_part : BeginsRows 0x2C ((nothing ∷ []) ∷ (truth false ∷ nothing ∷ []) ∷ []) (codes "\"\"\nFALSE")
+pub known_part : BeginsBox (content_fields 0x2C) ((nothing ∷ []) ∷ (truth false ∷ nothing ∷ []) ∷ []) (codes "\"\"\nFALSE")
 known_part = inr (
   codes "\"\"\n",
   codes "FALSE",
   known_blank,
-  inl (truth false ∷ [], nothing ∷ [], refl, (codes "FALSE" ∷ [], (refl, tt), refl)),
+  inl (1, (codes "FALSE", [], (codes "FALSE", refl, refl), refl, refl)),
   refl,
 )
 

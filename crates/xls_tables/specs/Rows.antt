@@ -1,12 +1,13 @@
--- A row of CSV of what cells contain, as people read it, by RFC 4180.
-use Rattle.std.specs.Prelude.{◌≡◌, ℕ, List, [], ◌∷◌}
+-- The fields of what cells contain, as people read it, by RFC 4180.
+use Rattle.std.specs.Prelude.{◌≡◌, ℕ, List, []}
 use Rattle.std.specs.Fmt.{signed_decimal}
 use Rattle.std.specs.Str.{encode_utf8_all}
 use Rattle.xls_data.specs.Content.{Content, int, float, text, truth, date, iso_date, iso_duration, failure, nothing}
 use Rattle.xls_data.specs.Errors.{error_text}
 use Rattle.xls_decimals.specs.Decimals.{IsDecimal}
 use Rattle.xls_decimals.specs.Moments.{IsDateOrDuration}
-use Rattle.xls_readable.specs.Csv.{csv_field, csv_row, joined}
+use Rattle.xls_csv.specs.Boxes.{FieldForm}
+use Rattle.xls_readable.specs.Csv.{csv_field}
 use Rattle.xls_readable.specs.Values.{truth_text}
 
 -- the text of a content in UTF-8: numbers in decimal, texts as they are, dates and durations as
@@ -22,24 +23,11 @@ IsContentText (iso_duration cs) bytes = bytes ≡ encode_utf8_all cs
 IsContentText (failure e) bytes = bytes ≡ error_text e
 IsContentText nothing bytes = bytes ≡ []
 
--- the texts of contents, in their order
-abbrev pub AreContentTexts : List Content → List (List ℕ) → Type 0
-AreContentTexts [] [] = Unit {0}
-AreContentTexts (content ∷ contents) (bytes ∷ texts) =
-    IsContentText content bytes × AreContentTexts contents texts
-AreContentTexts contents texts = ⊥
-
 -- the field of a content
 abbrev pub IsContentField : ℕ → Content → List ℕ → Type 0
 IsContentField delimiter content field =
     (bytes : List ℕ) × IsContentText content bytes × (field ≡ csv_field delimiter bytes)
 
--- the fields of contents, with a delimiter between two
-abbrev pub IsContentFields : ℕ → List Content → List ℕ → Type 0
-IsContentFields delimiter contents fields =
-    (texts : List (List ℕ)) × AreContentTexts contents texts × (fields ≡ joined delimiter texts)
-
--- the row of contents, with its end
-abbrev pub IsContentRow : ℕ → List Content → List ℕ → Type 0
-IsContentRow delimiter contents row =
-    (texts : List (List ℕ)) × AreContentTexts contents texts × (row ≡ csv_row delimiter texts)
+-- the fields of a box with this delimiter
+abbrev pub content_fields : ℕ → FieldForm
+content_fields delimiter = record { delimiter = delimiter; IsField = IsContentField delimiter }

@@ -1,43 +1,26 @@
--- Rows of CSV one after another, and how far they were written.
-use Rattle.std.specs.Prelude.{◌≡◌, ◌⊎◌, ℕ, Bool, true, false, List, [], ◌∷◌, ◌++◌, Result, MatchResult}
+-- Tables, and how far they were written.
+use Rattle.std.specs.Prelude.{◌≡◌, ℕ, Bool, true, false, List, [], ◌∷◌, ◌++◌, Result, MatchResult}
 use Rattle.xls_data.specs.Content.{Content}
 use Rattle.xls_output.specs.Gathering.{Stops, Wrote}
 use Rattle.xls_output.specs.SinkState.{SinkState}
 use Rattle.xls_output.specs.declared.stop.Stop.{Stop}
-use Rattle.xls_output.specs.Each.{Concatenates}
-use Rattle.xls_tables.specs.Rows.{IsContentFields, IsContentRow}
+use Rattle.xls_csv.specs.Boxes.{BeginsBox, IsBox}
+use Rattle.xls_tables.specs.Rows.{content_fields}
 
 -- the byte order mark U+FEFF in UTF-8, where it is asked for
 abbrev pub byte_order_mark : Bool → List ℕ
 byte_order_mark true = 0xEF ∷ 0xBB ∷ 0xBF ∷ []
 byte_order_mark false = []
 
--- ---- a part of the rows
-
--- the first fields of a row, all of them or some
-abbrev pub BeginsRow : ℕ → List Content → List ℕ → Type 0
-BeginsRow delimiter row text =
-    (prefix others : List Content) × (row ≡ prefix ++ others) × IsContentFields delimiter prefix text
-
--- the first rows, all of them or some, and the first fields of the next one
-abbrev pub BeginsRows : ℕ → List (List Content) → List ℕ → Type 0
-BeginsRows delimiter [] text = text ≡ []
-BeginsRows delimiter (row ∷ rows) text =
-    BeginsRow delimiter row text
-    ⊎ ((first others : List ℕ) × IsContentRow delimiter row first × BeginsRows delimiter rows others
-    × (text ≡ first ++ others))
-
--- ---- tables
-
--- a table: the mark, where it is asked for, and all rows
+-- a table: the mark, where it is asked for, and the box of the rows
 abbrev pub IsTable : ℕ → Bool → List (List Content) → List ℕ → Type 0
 IsTable delimiter is_marked rows text =
-    (body : List ℕ) × Concatenates (IsContentRow delimiter) rows body × (text ≡ byte_order_mark is_marked ++ body)
+    (body : List ℕ) × IsBox (content_fields delimiter) rows body × (text ≡ byte_order_mark is_marked ++ body)
 
--- the mark likewise, and a part of the rows
+-- the mark likewise, and a part of the box
 abbrev pub BeginsTable : ℕ → Bool → List (List Content) → List ℕ → Type 0
 BeginsTable delimiter is_marked rows text =
-    (body : List ℕ) × BeginsRows delimiter rows body × (text ≡ byte_order_mark is_marked ++ body)
+    (body : List ℕ) × BeginsBox (content_fields delimiter) rows body × (text ≡ byte_order_mark is_marked ++ body)
 
 -- the table was written
 pub record WroteTable (delimiter : ℕ) (is_marked : Bool) (rows : List (List Content)) (before after : SinkState) : Type 0 where

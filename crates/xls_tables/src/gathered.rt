@@ -1,19 +1,17 @@
 //! The rows that are gathered before they are written.
 
-ghost use Rattle.std.specs.Prelude.{◌≡◌, ◌++◌, ◌==◌, [], length, IfOk, OnOk};
+ghost use Rattle.std.specs.Prelude.{◌≡◌, ◌++◌, [], OnOk};
 ghost use Rattle.std.specs.Str.{chars};
 ghost use Rattle.xls_data.specs.Content.{text};
 ghost use Rattle.xls_data.specs.Numeric.{numeric_content};
 ghost use Rattle.xls_output.specs.Added.{AddsText};
-ghost use Rattle.xls_readable.specs.Csv.{row_end};
 ghost use Rattle.xls_view.specs.Values.{lent_content, value_text};
-ghost use Rattle.xls_csv.specs.Walk.{value_in};
-ghost use Rattle.xls_tables.specs.Rows.{IsContentField};
+ghost use Rattle.xls_tables.specs.Rows.{IsContentField, content_fields};
 ghost use Rattle.xls_tables.specs.Tables.{byte_order_mark};
-ghost use Rattle.xls_tables.specs.Steps.{AddsPlaced, separator};
 
 use std::alloc::{AllocError, Global};
 use std::marker::Model;
+use xls_csv::BoxBuffer;
 use xls_data::{ExcelDateTime, ExcelDateTimeType, Numeric};
 use xls_output::Gathers;
 use xls_readable::{
@@ -57,17 +55,6 @@ impl Gathered {
     {
         if is_marked {
             return self.text.push_str("\u{FEFF}");
-        }
-        Ok(())
-    }
-
-    /// Appends what stands before the field at a place of a row: a delimiter, but at the first.
-    #[inline(always)]
-    fn separate(&mut self, delimiter: Delimiter, place: u64) -> Result<(), AllocError>
-        ensures { OnOk result (self.new ≡ self.old ++ separator delimiter (place == 0)) }
-    {
-        if place > 0 {
-            return push_separator(delimiter, &mut self.text);
         }
         Ok(())
     }
@@ -126,47 +113,6 @@ impl Gathered {
             CellValue::Empty => Ok(()),
         }
     }
-
-    /// Appends the field of a value, an empty one where there is none.
-    #[inline(always)]
-    fn push_displayed(
-        &mut self,
-        delimiter: Delimiter,
-        value: Option<CellValue<'_>>,
-    ) -> Result<(), AllocError>
-        ensures { OnOk result (AddsText (IsContentField delimiter (value_in value.entry)) self.old self.new) }
-    {
-        match value {
-            Some(value) => self.push_value(delimiter, value),
-            None => Ok(()),
-        }
-    }
-
-    /// Appends the field at a place of a row, and tells whether that is no byte.
-    #[inline(always)]
-    pub(crate) fn push_field(
-        &mut self,
-        delimiter: Delimiter,
-        place: u64,
-        value: Option<CellValue<'_>>,
-    ) -> Result<bool, AllocError>
-        ensures { IfOk result (λ is_bare. AddsPlaced delimiter (place == 0) (value_in value.entry) is_bare self.old self.new) }
-    {
-        let before = self.text.len();
-        self.separate(delimiter, place)?;
-        self.push_displayed(delimiter, value)?;
-        Ok(self.text.len() == before)
-    }
-
-    /// Appends the end of a row. A row without a byte has two quotes before it.
-    pub(crate) fn push_end(&mut self, is_bare: bool) -> Result<(), AllocError>
-        ensures { OnOk result (self.new ≡ self.old ++ row_end is_bare) }
-    {
-        if is_bare {
-            return self.text.push_str("\"\"\n");
-        }
-        self.text.push_str("\n")
-    }
 }
 
 impl Gathers for Gathered {
@@ -179,5 +125,33 @@ impl Gathers for Gathered {
 
     fn clear(&mut self) {
         self.text.clear();
+    }
+}
+
+impl BoxBuffer for Gathered {
+    type Form = Delimiter;
+
+    ghost fields = { content_fields };
+
+    #[inline(always)]
+    fn push_delimiter(&mut self, delimiter: Delimiter) -> Result<(), AllocError> {
+        push_separator(delimiter, &mut self.text)
+    }
+
+    #[inline(always)]
+    fn push_field(
+        &mut self,
+        delimiter: Delimiter,
+        value: Option<CellValue<'_>>,
+    ) -> Result<(), AllocError> {
+        match value {
+            Some(value) => self.push_value(delimiter, value),
+            None => Ok(()),
+        }
+    }
+
+    #[inline(always)]
+    fn push_str(&mut self, text: &str) -> Result<(), AllocError> {
+        self.text.push_str(text)
     }
 }

@@ -1,100 +1,18 @@
 //! The dense box of a sheet's cells as CSV.
 
-ghost use Rattle.std.specs.Prelude.{◌≡◌, ◌≤◌, ◌^◌, ◌+◌, ◌==◌, ◌++◌, map, OnOk};
+ghost use Rattle.std.specs.Prelude.{map};
 ghost use Rattle.xls_biff.specs.Cells.{CellEntry};
 ghost use Rattle.xls_range.specs.Positions.{IsAscending};
 ghost use Rattle.xls_csv.specs.Dense.{dense_rows};
-ghost use Rattle.xls_output.specs.Output.{output};
-ghost use Rattle.xls_csv.specs.Walk.{left_over, row_over, rows_over, take_at, walk_rows};
-ghost use Rattle.xls_tables.specs.Steps.{PutsField, PutsFields, PutsRow, PutsRows};
+ghost use Rattle.xls_csv.specs.Walk.{walk_rows};
 ghost use Rattle.xls_tables.specs.Tables.{DeliversTable};
 
 use crate::gathered::Gathered;
 use std::alloc::Global;
-use xls_csv::{Ahead, BoxRow, Extent, extent_of};
+use xls_csv::{Ahead, extent_of, put_box};
 use xls_output::{Sink, Stop, Writer};
 use xls_readable::Delimiter;
 use xls_view::SheetCells;
-
-/// Puts the field at a place of a row, and tells whether that is no byte.
-#[inline(always)]
-fn put_field<K: Sink>(
-    out: &mut Writer<'_, K, Gathered>,
-    cells: &mut Ahead<'_>,
-    delimiter: Delimiter,
-    row: BoxRow,
-    place: u64,
-) -> Result<bool, Stop>
-    requires { row.left + place ≤ 2 ^ 32 }
-    ensures puts { PutsField delimiter (place == 0) (take_at row.number (row.left + place) cells.old).0
-        (output K.state out.old) (output K.state out.new) result }
-    ensures cells { OnOk result (cells.new ≡ (take_at row.number (row.left + place) cells.old).1) }
-{
-    out.pass()?;
-    let value = cells.take_at(row.number, row.left + place);
-    let is_bare = out.buffer.push_field(delimiter, place, value)?;
-    Ok(is_bare)
-}
-
-/// Puts the fields of a row, and tells whether they are no byte.
-fn put_fields<K: Sink>(
-    out: &mut Writer<'_, K, Gathered>,
-    cells: &mut Ahead<'_>,
-    delimiter: Delimiter,
-    row: BoxRow,
-) -> Result<bool, Stop>
-    requires { row.left + row.width ≤ 2 ^ 32 }
-    ensures puts { PutsFields delimiter (row_over row.number row.left row.width cells.old)
-        (output K.state out.old) (output K.state out.new) result }
-    ensures cells { OnOk result (cells.new ≡ left_over row.number row.left row.width cells.old) }
-{
-    let mut is_bare = true;
-    for place in 0..row.width {
-        let adds_none = put_field(out, cells, delimiter, row, place)?;
-        is_bare = is_bare && adds_none;
-    }
-    Ok(is_bare)
-}
-
-/// Puts a row.
-fn put_row<K: Sink>(
-    out: &mut Writer<'_, K, Gathered>,
-    cells: &mut Ahead<'_>,
-    delimiter: Delimiter,
-    row: BoxRow,
-) -> Result<(), Stop>
-    requires { row.left + row.width ≤ 2 ^ 32 }
-    ensures puts { PutsRow delimiter (row_over row.number row.left row.width cells.old)
-        (output K.state out.old) (output K.state out.new) result }
-    ensures cells { OnOk result (cells.new ≡ left_over row.number row.left row.width cells.old) }
-{
-    let is_bare = put_fields(out, cells, delimiter, row)?;
-    out.buffer.push_end(is_bare)?;
-    Ok(())
-}
-
-/// Puts all rows of a box.
-fn put_rows<K: Sink>(
-    out: &mut Writer<'_, K, Gathered>,
-    mut cells: Ahead<'_>,
-    delimiter: Delimiter,
-    extent: Extent,
-) -> Result<(), Stop>
-    requires rows { extent.top + extent.height ≤ 2 ^ 32 }
-    requires columns { extent.left + extent.width ≤ 2 ^ 32 }
-    ensures { PutsRows delimiter (rows_over extent.height extent.top extent.left extent.width cells.entry)
-        (output K.state out.old) (output K.state out.new) result }
-{
-    for i in 0..extent.height {
-        let row = BoxRow {
-            number: extent.top + i,
-            left: extent.left,
-            width: extent.width,
-        };
-        put_row(out, &mut cells, delimiter, row)?;
-    }
-    Ok(())
-}
 
 /// Writes the rows of these cells.
 fn write_rows<K: Sink>(
@@ -110,7 +28,7 @@ fn write_rows<K: Sink>(
     let mut out = Writer::new(&mut gathered, sink);
     out.buffer.push_mark(begins_with_mark)?;
     let extent = extent_of(cells);
-    put_rows(&mut out, Ahead::new(cells.iter()), delimiter, extent)?;
+    put_box(&mut out, Ahead::new(cells.iter()), extent, delimiter)?;
     out.finish()?;
     Ok(())
 }
