@@ -35,21 +35,20 @@ fn push_parts(form: Form, room: &mut String, text: &mut String) -> Result<(), Al
 fn push_cells(form: Form, lines: &mut CellLines, text: &mut String) -> Result<(), AllocError> {
     let day = ExcelDateTime::new(Number::Whole(43831), ExcelDateTimeType::DateTime, false);
     let span = ExcelDateTime::new(Number::Hundredths(125), ExcelDateTimeType::TimeDelta, false);
-    let values = [
-        Value::Int(-7),
-        Value::Float(Number::Hundredths(450)),
-        Value::Float(Number::Bits(0x7FF0_0000_0000_0000)),
-        Value::Text("é\"\n"),
-        Value::Truth(true),
-        Value::Moment(day),
-        Value::Moment(span),
-        Value::IsoDate("2020-01-01"),
-        Value::IsoDuration("P1D"),
-        Value::Failure(CellErrorType::NA),
-        Value::Empty,
+    let cells = [
+        ("int", Field::Int(-7)),
+        ("float", Field::Number(Number::Hundredths(450))),
+        ("float", Field::Number(Number::Bits(0x7FF0_0000_0000_0000))),
+        ("text", Field::Text("é\"\n")),
+        ("bool", Field::Truth(true)),
+        ("date", Field::Moment(day)),
+        ("span", Field::Moment(span)),
+        ("date", Field::Text("2020-01-01")),
+        ("span", Field::Text("P1D")),
+        ("error", Field::Failure(CellErrorType::NA)),
     ];
-    for value in values.iter() {
-        push_cell(form, lines, (1, 0), value, text)?;
+    for (kind, field) in cells.iter() {
+        push_cell(form, lines, (1, 0), kind, field, text)?;
     }
     Ok(())
 }

@@ -1,6 +1,5 @@
 pub mod LineLemmas
 pub mod DisplayedLemmas
-pub mod CellLemmas
 pub mod RefLemmas
 pub mod SheetLemmas
 pub mod StandardFacts

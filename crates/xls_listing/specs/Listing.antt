@@ -60,10 +60,14 @@ kind_and_value (iso_duration cs) = Some (codes "span", item.text (encode_utf8_al
 kind_and_value (failure e) = Some (codes "error", item.failure e)
 kind_and_value nothing = None
 
--- row, column, kind and value of a cell, if there is a value
+-- row and column of a cell, the kind of its value and what is shown of that
+abbrev pub cell_line : Position → NamedItem → Line
+cell_line p k = record { word = codes "cell"; members = cell_members p.0 p.1 k.0 k.1 }
+
+-- if there is a value
 abbrev pub valued_lines : Position → Option NamedItem → List Line
 valued_lines p None = []
-valued_lines p (Some k) = record { word = codes "cell"; members = cell_members p.0 p.1 k.0 k.1 } ∷ []
+valued_lines p (Some k) = cell_line p k ∷ []
 
 -- the line of a cell; a blank has none
 abbrev pub cell_lines : CellEntry → List Line

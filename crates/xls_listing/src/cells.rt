@@ -7,7 +7,7 @@ ghost use Rattle.xls_view.specs.Displayed.{sheet_view_of};
 ghost use Rattle.xls_listing.specs.Listing.{PutsLines, cell_lines, lines_of_cells};
 
 use crate::lines::LineForm;
-use crate::values::displayed_value;
+use crate::values::shown;
 use std::alloc::Global;
 use xls_output::{Sink, Stop, Writer};
 use xls_view::{Cells, SheetCell, TextBuffer, ViewSheet};
@@ -24,7 +24,10 @@ fn put_cell<K: Sink, F: LineForm>(
 {
     let SheetCell { row, column, value } = cell;
     let value = text.value_of(value)?;
-    form.put_cell(out, (row, column), &displayed_value(&value))
+    match shown(&value) {
+        Some((kind, field)) => form.put_cell(out, (row, column), kind, &field),
+        None => Ok(()),
+    }
 }
 
 /// Puts the lines of a sheet's cells.

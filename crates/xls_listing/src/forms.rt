@@ -9,7 +9,7 @@ use crate::lines::{BookLine, LineForm};
 use std::alloc::{AllocError, Global};
 use xls_output::{Gathers, Sink, Stop, Writer};
 use xls_readable::{
-    CellLines, Form, Value, push_cell, push_dates, push_formula_line, push_merge, push_name,
+    CellLines, Field, Form, push_cell, push_dates, push_formula_line, push_merge, push_name,
     push_ref, push_sheet,
 };
 
@@ -97,10 +97,12 @@ impl LineForm for Form {
         &self,
         out: &mut Writer<'_, K, FormBuffer>,
         position: (u32, u32),
-        value: &Value<'_>,
+        kind: &'static str,
+        field: &Field<'_>,
     ) -> Result<(), Stop> {
         let buffer = &mut *out.buffer;
-        push_cell(*self, &mut buffer.cells, position, value, &mut buffer.text)?;
+        let text = &mut buffer.text;
+        push_cell(*self, &mut buffer.cells, position, kind, field, text)?;
         out.pass()
     }
 }

@@ -1,13 +1,13 @@
 //! The lines of a workbook, and what writes them.
 
-ghost use Rattle.std.specs.Prelude.{◌≡◌, ◌∷◌, []};
-ghost use Rattle.xls_readable.specs.Lines.{kind_and_item};
-ghost use Rattle.xls_listing.specs.Listing.{Line, PutsLines, line_of, valued_lines};
+ghost use Rattle.std.specs.Prelude.{◌≡◌, ◌≤◌, ◌∷◌, [], length};
+ghost use Rattle.xls_readable.specs.Items.{item_of};
+ghost use Rattle.xls_listing.specs.Listing.{Line, PutsLines, cell_line, line_of};
 
 use std::alloc::Global;
 use xls_data::{Dimensions, SheetType, SheetVisible};
 use xls_output::{Gathers, Sink, Stop, Writer};
-use xls_readable::Value;
+use xls_readable::Field;
 
 /// A line of a workbook, other than that of a cell.
 #[derive(Clone, Copy, Drop)]
@@ -46,9 +46,9 @@ pub enum BookLine<'a> {
 
 /// A form in which the lines of a workbook are written.
 pub trait LineForm {
-    ghost use Rattle.std.specs.Prelude.{◌≡◌, ◌∷◌, ℕ, List, []};
-    ghost use Rattle.xls_readable.specs.Lines.{kind_and_item};
-    ghost use Rattle.xls_listing.specs.Listing.{Line, PutsLines, line_of, valued_lines};
+    ghost use Rattle.std.specs.Prelude.{◌≡◌, ◌≤◌, ◌∷◌, ℕ, List, [], length};
+    ghost use Rattle.xls_readable.specs.Items.{item_of};
+    ghost use Rattle.xls_listing.specs.Listing.{Line, PutsLines, cell_line, line_of};
 
     /// Which texts a line may have.
     ghost is_text: { Self → Line → List ℕ → Type 0 };
@@ -68,12 +68,14 @@ pub trait LineForm {
     ) -> Result<(), Stop>
         ensures { PutsLines K.state Self.Buffer.kept (is_text self.now) (line_of line.entry ∷ []) out.old out.new result };
 
-    /// Puts the line of a value at a position; a blank has none.
+    /// Puts the line of a cell at a position, of a value's kind and what is shown of it.
     fn put_cell<K: Sink>(
         &self,
         out: &mut Writer<'_, K, Self::Buffer>,
         position: (u32, u32),
-        value: &Value<'_>,
+        kind: &'static str,
+        field: &Field<'_>,
     ) -> Result<(), Stop>
-        ensures { PutsLines K.state Self.Buffer.kept (is_text self.now) (valued_lines position (kind_and_item value.now)) out.old out.new result };
+        requires { length kind.now ≤ 5 }
+        ensures { PutsLines K.state Self.Buffer.kept (is_text self.now) (cell_line position (kind.now, item_of field.now) ∷ []) out.old out.new result };
 }

@@ -16,7 +16,6 @@ use Rattle.xls_dates.specs.declared.numbers.Number.TheVariants.{Bits, Whole, Hun
 use Rattle.xls_data.specs.declared.regions.Dimensions.{Dimensions}
 use Rattle.xls_data.specs.declared.sheets.SheetType.TheVariants as types
 use Rattle.xls_data.specs.declared.sheets.SheetVisible.TheVariants as states
-use Rattle.xls_readable.specs.declared.values.Value.TheVariants as value
 use Rattle.xls_readable.specs.declared.forms.Form.TheVariants.{Text, Json, Exact}
 use Rattle.xls_readable.specs.declared.properties.Property.TheVariants as property
 use Rattle.xls_output.specs.Each.{Concatenates}
@@ -30,7 +29,6 @@ use Rattle.xls_readable.specs.Lines.{
   type_text,
   visible_text,
   moment_kind,
-  kind_and_item,
   dates_members,
   name_members,
   sheet_members,
@@ -123,13 +121,6 @@ pub known_properties : map property_word (property.Title ∷ property.Subject �
     ∷ codes "last_modified_by" ∷ codes "revision" ∷ codes "created" ∷ codes "modified" ∷ codes "application"
     ∷ codes "category" ∷ codes "manager" ∷ codes "company" ∷ codes "content_status" ∷ codes "version" ∷ codes "app_version" ∷ []
 known_properties = refl
-
--- the kinds of values that are no texts
-pub known_kinds : (n : ℤ) → (x : Number) → (b : Bool) → (d : DateParts) → (e : CellErrorType) →
-    map kind_and_item (value.Int n ∷ value.Float x ∷ value.Truth b ∷ value.Moment d ∷ value.Failure e ∷ value.Empty ∷ [])
-    ≡ Some (codes "int", int n) ∷ Some (codes "float", number x) ∷ Some (codes "bool", truth b) ∷ Some (moment_kind d.kind, moment d)
-    ∷ Some (codes "error", failure e) ∷ None ∷ []
-known_kinds n x b d e = refl
 
 -- ---- whole lines, as text and as JSON
 

@@ -7,8 +7,6 @@ use Rattle.xls_data.specs.declared.sheets.SheetType.{SheetType}
 use Rattle.xls_data.specs.declared.sheets.SheetType.TheVariants as types
 use Rattle.xls_data.specs.declared.sheets.SheetVisible.{SheetVisible}
 use Rattle.xls_data.specs.declared.sheets.SheetVisible.TheVariants as states
-use Rattle.xls_readable.specs.declared.values.Value.{Value}
-use Rattle.xls_readable.specs.declared.values.Value.TheVariants as value
 use Rattle.xls_readable.specs.Json.{IsJsonLine}
 use Rattle.xls_readable.specs.declared.forms.Form.{Form}
 use Rattle.xls_readable.specs.declared.forms.Form.TheVariants.{Text, Json, Exact}
@@ -64,23 +62,6 @@ cell_members row column kind displayed =
 abbrev pub moment_kind : ExcelDateTimeType → List ℕ
 moment_kind DateTime = codes "date"
 moment_kind TimeDelta = codes "span"
-
--- the kind of a value, and what is shown of it; a blank has none
-abbrev pub kind_and_item : Value → Option NamedItem
-kind_and_item (value.Int n) = Some (codes "int", int n)
-kind_and_item (value.Float n) = Some (codes "float", number n)
-kind_and_item (value.Text t) = Some (codes "text", text t.now)
-kind_and_item (value.Truth b) = Some (codes "bool", truth b)
-kind_and_item (value.Moment d) = Some (moment_kind d.kind, moment d)
-kind_and_item (value.IsoDate t) = Some (codes "date", text t.now)
-kind_and_item (value.IsoDuration t) = Some (codes "span", text t.now)
-kind_and_item (value.Failure e) = Some (codes "error", failure e)
-kind_and_item value.Empty = None
-
--- the line of a cell; a blank has none
-abbrev pub IsCellLine : Form → ℕ → ℕ → Value → List ℕ → Type 0
-IsCellLine form row column v out =
-    MatchOption (kind_and_item v) (out ≡ []) (λ k. IsLine form (codes "cell") (cell_members row column k.0 k.1) out)
 
 -- row, column and text of a formula
 abbrev pub formula_members : ℕ → ℕ → List ℕ → List NamedItem

@@ -1,17 +1,16 @@
 //! The lines of cells, of which a workbook has most.
 
-ghost use Rattle.std.specs.Prelude.{◌≡◌, ◌++◌, ◌∷◌, ◌+◌, ◌<◌, Some, None, [], option_map, IfOk, OnOk, OnErr, codes};
+ghost use Rattle.std.specs.Prelude.{◌≡◌, ◌++◌, ◌∷◌, ◌+◌, ◌<◌, Some, None, [], IfOk, OnOk, OnErr, codes};
 ghost use Rattle.std.specs.Fmt.{decimal};
 ghost use Rattle.std.specs.String.{string_bytes};
 ghost use Rattle.xls_output.specs.Added.{AddsText};
 ghost use Rattle.xls_readable.specs.Growth.{GrowsText, cell_head, row_head};
 ghost use Rattle.xls_readable.specs.Items.{IsTextLine, exact_line, item_of};
-ghost use Rattle.xls_readable.specs.Lines.{IsCellLine, cell_members, kind_and_item};
+ghost use Rattle.xls_readable.specs.Lines.{IsLine, cell_members};
 
 use crate::exact_lines::push_exact_item;
 use crate::forms::{Form, push_line};
 use crate::items::{Field, Member, push_count, push_item};
-use crate::values::Value;
 use std::alloc::{AllocError, Global};
 use std::marker::Model;
 
@@ -199,48 +198,18 @@ impl CellLines {
     }
 }
 
-// The kind of a value, and the field that shows it. A blank has none.
-#[inline(always)]
-fn kind_and_field<'a>(value: &'a Value<'a>) -> Option<(&'static str, Field<'a>)>
-    ensures { option_map (λ p. (p.0.now, item_of p.1)) result ≡ kind_and_item value.now }
-{
-    match value {
-        Value::Int(n) => Some(("int", Field::Int(*n))),
-        Value::Float(n) => Some(("float", Field::Number(*n))),
-        Value::Text(text) => Some(("text", Field::Text(text))),
-        Value::Truth(b) => Some(("bool", Field::Truth(*b))),
-        Value::Moment(moment) if moment.is_duration() => Some(("span", Field::Moment(*moment))),
-        Value::Moment(moment) => Some(("date", Field::Moment(*moment))),
-        Value::IsoDate(text) => Some(("date", Field::Text(text))),
-        Value::IsoDuration(text) => Some(("span", Field::Text(text))),
-        Value::Failure(failure) => Some(("error", Field::Failure(*failure))),
-        Value::Empty => None,
-    }
-}
-
-/// Appends the line of a cell's row, column, kind and value, `cell`; of a blank nothing. The kinds are
-/// `int`, `float`, `text`, `bool`, `date`, `span` and `error`. Only running out of memory refuses, and then `buf` is
-/// as it was.
-pub fn push_cell(
-    form: Form,
-    lines: &mut CellLines,
+// Appends the line of a cell as JSON.
+fn push_json(
     position: (u32, u32),
-    value: &Value<'_>,
+    kind: &'static str,
+    field: &Field<'_>,
+    room: &mut String,
     buf: &mut String,
 ) -> Result<(), AllocError>
-    ensures ok { OnOk result (AddsText (IsCellLine form position.0 position.1 value.now)
+    ensures ok { OnOk result (AddsText (IsLine Form.Json (codes "cell") (cell_members position.0 position.1 kind.now (item_of field.now)))
         (string_bytes buf.old) (string_bytes buf.new)) }
     ensures err { OnErr result (string_bytes buf.new ≡ string_bytes buf.old) }
 {
-    let (kind, field) = match kind_and_field(value) {
-        Some(displayed) => displayed,
-        None => return Ok(()),
-    };
-    match form {
-        Form::Text => return lines.push_text(position, kind, &field, buf),
-        Form::Exact => return lines.push_exact(position, kind, &field, buf),
-        Form::Json => {}
-    }
     let (row, column) = position;
     let row = Member {
         name: "row",
@@ -256,8 +225,28 @@ pub fn push_cell(
     };
     let value = Member {
         name: "value",
-        field,
+        field: field.again(),
     };
-    let members = [row, column, kind, value];
-    push_line(form, "cell", &members, &mut lines.room, buf)
+    push_line(Form::Json, "cell", &[row, column, kind, value], room, buf)
+}
+
+/// Appends the line of a cell's row, column, kind and value, `cell`. Only running out of memory refuses, and then `buf`
+/// is as it was.
+pub fn push_cell(
+    form: Form,
+    lines: &mut CellLines,
+    position: (u32, u32),
+    kind: &'static str,
+    field: &Field<'_>,
+    buf: &mut String,
+) -> Result<(), AllocError>
+    ensures ok { OnOk result (AddsText (IsLine form (codes "cell") (cell_members position.0 position.1 kind.now (item_of field.now)))
+        (string_bytes buf.old) (string_bytes buf.new)) }
+    ensures err { OnErr result (string_bytes buf.new ≡ string_bytes buf.old) }
+{
+    match form {
+        Form::Text => lines.push_text(position, kind, field, buf),
+        Form::Json => push_json(position, kind, field, &mut lines.room, buf),
+        Form::Exact => lines.push_exact(position, kind, field, buf),
+    }
 }

@@ -35,6 +35,24 @@ pub enum Field<'a> {
     Failure(CellErrorType),
 }
 
+impl<'a> Field<'a> {
+    /// The same once more, which borrows what this does.
+    pub(crate) fn again(&self) -> Field<'a>
+        ensures { item_of result ≡ item_of self.now }
+    {
+        match self {
+            Field::Word(word) => Field::Word(word),
+            Field::Text(text) => Field::Text(text),
+            Field::Count(n) => Field::Count(*n),
+            Field::Int(n) => Field::Int(*n),
+            Field::Number(n) => Field::Number(*n),
+            Field::Truth(b) => Field::Truth(*b),
+            Field::Moment(d) => Field::Moment(*d),
+            Field::Failure(e) => Field::Failure(*e),
+        }
+    }
+}
+
 /// A field with its name.
 #[derive(Drop)]
 pub struct Member<'a> {

@@ -5,8 +5,8 @@ ghost use Rattle.std.specs.Option.{option_map};
 ghost use Rattle.xls_data.specs.Data.{bool_text};
 ghost use Rattle.xls_lines.specs.Lines.{field_text};
 ghost use Rattle.xls_output.specs.Output.{Puts, output};
-ghost use Rattle.xls_readable.specs.Items.{exact_text};
-ghost use Rattle.xls_readable.specs.Lines.{exact_line, formula_members, kind_and_item, merge_members, ref_members, sheet_members, type_text, visible_text, year_text};
+ghost use Rattle.xls_readable.specs.Items.{exact_text, item_of};
+ghost use Rattle.xls_readable.specs.Lines.{exact_line, formula_members, merge_members, ref_members, sheet_members, type_text, visible_text, year_text};
 ghost use Rattle.xls_listing.specs.Listing.{line_of};
 
 use std::alloc::Global;
@@ -14,15 +14,7 @@ use xls_data::{Dimensions, SheetType, SheetVisible};
 use xls_lines::{Buffer, Field, put_line};
 use xls_listing::{BookLine, LineForm};
 use xls_output::{Sink, Stop, Writer};
-use xls_readable::Value;
-
-/// The word for a date or a span.
-fn date_kind(is_span: bool) -> &'static str
-    ensures word { result.now ≡ (if is_span then codes "span" else codes "date") }
-    ensures short { length result.now ≤ 5 }
-{
-    if is_span { "span" } else { "date" }
-}
+use xls_readable as items;
 
 /// The word for a truth value.
 fn truth_word(is_true: bool) -> &'static str
@@ -31,23 +23,20 @@ fn truth_word(is_true: bool) -> &'static str
     if is_true { "true" } else { "false" }
 }
 
-/// The kind of a value, and what it prints. A blank has none.
+/// A field as it is printed exactly.
 #[inline(always)]
-fn fields_of<'v>(value: &'v Value<'v>) -> Option<(&'static str, Field<'v>)>
-    ensures fields { option_map {U = List ℕ × List ℕ} (λ x. (x.0.now, field_text x.1)) result
-        ≡ option_map (λ k. (k.0, exact_text k.1)) (kind_and_item value.now) }
-    ensures short { IfSome result (λ x. length x.0.now ≤ 5) }
+fn exact_field<'v>(field: &'v items::Field<'v>) -> Field<'v>
+    ensures { field_text result ≡ exact_text (item_of field.now) }
 {
-    match value {
-        Value::Int(n) => Some(("int", Field::Int(*n))),
-        Value::Float(n) => Some(("float", Field::Fraction(*n))),
-        Value::Text(text) => Some(("text", Field::Text(text))),
-        Value::Truth(b) => Some(("bool", Field::Word(truth_word(*b)))),
-        Value::Moment(d) => Some((date_kind(d.is_duration()), Field::Fraction(d.number()))),
-        Value::IsoDate(text) => Some(("date", Field::Text(text))),
-        Value::IsoDuration(text) => Some(("span", Field::Text(text))),
-        Value::Failure(e) => Some(("error", Field::Failure(*e))),
-        Value::Empty => None,
+    match field {
+        items::Field::Word(word) => Field::Word(word),
+        items::Field::Text(text) => Field::Text(text),
+        items::Field::Count(n) => Field::Number(*n),
+        items::Field::Int(n) => Field::Int(*n),
+        items::Field::Number(n) => Field::Fraction(*n),
+        items::Field::Truth(b) => Field::Word(truth_word(*b)),
+        items::Field::Moment(d) => Field::Fraction(d.number()),
+        items::Field::Failure(e) => Field::Failure(*e),
     }
 }
 
@@ -209,12 +198,10 @@ impl LineForm for ExactLines {
         &self,
         out: &mut Writer<'_, K, Buffer>,
         position: (u32, u32),
-        value: &Value<'_>,
+        kind: &'static str,
+        field: &items::Field<'_>,
     ) -> Result<(), Stop> {
         let (row, column) = position;
-        match fields_of(value) {
-            Some((kind, displayed)) => xls_lines::put_cell(out, row, column, kind, displayed),
-            None => Ok(()),
-        }
+        xls_lines::put_cell(out, row, column, kind, exact_field(field))
     }
 }

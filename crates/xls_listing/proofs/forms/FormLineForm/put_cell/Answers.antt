@@ -1,10 +1,9 @@
 use Rattle.xls_listing.specs.Listing.{IsDisplayedLine}
-use Rattle.xls_output.proofs.EachLemmas.{puts-memory}
-use Rattle.xls_listing.proofs.CellLemmas.{puts-cell}
+use Rattle.xls_output.proofs.EachLemmas.{puts-memory, puts-one}
 use Rattle.xls_listing.proofs.forms.FormLineForm.put_cell.Goals as goal
 
 pub returns-in_err-push_cell : goal.returns-in_err-push_cell
 returns-in_err-push_cell g c = puts-memory (IsDisplayedLine c.args.self.now) _ _ _ _ _ c.from_residual.result c.from_residual.ensures.1
 
 pub returns : goal.returns
-returns g c = puts-cell c.args.self.now c.args.position _ _ _ _ _ _ c.pass.result c.in_ok-push_cell.ensures.ok c.pass.ensures.puts
+returns g c = puts-one (IsDisplayedLine c.args.self.now) _ _ _ _ _ _ c.pass.result c.in_ok-push_cell.ensures.ok c.pass.ensures.puts
