@@ -14,7 +14,7 @@ use Rattle.xls_dates.specs.Numbers.{decimals_text, hundredths_text, minus_if_neg
 use Rattle.xls_dates.specs.declared.dates.ExcelDateTimeType.TheVariants as kind
 use Rattle.xls_dates.specs.declared.numbers.Number.{Number}
 use Rattle.xls_dates.specs.declared.numbers.Number.TheVariants.{Bits, Whole, Hundredths, BitsOver100}
-use Rattle.xls_lines.specs.Days.{Ymd, date_text, digit, serial_date}
+use Rattle.xls_lines.specs.Days.{Ymd, date_text, digit, serial_date, two_digits}
 use Rattle.xls_csv.specs.Dates.{day_of}
 use Rattle.xls_csv.specs.Fields.{field, displayed_date}
 
@@ -119,21 +119,21 @@ bare_number (BitsOver100 bits) = zero_or (bits == 2 ^ 63) (whole_over_100_text (
 
 -- ---- dates
 
-digit_cons : (n : ℕ) (text : List ℕ) → IsBare text → IsBare (digit n ∷ text)
-digit_cons n text bare = bare-cons (digit n) text (omega arith) bare
+bare_digit : (n : ℕ) (text : List ℕ) → IsBare text → IsBare (digit n ∷ text)
+bare_digit n text bare = bare-cons (digit n) text (omega arith) bare
 
-two_digits : (n : ℕ) (text : List ℕ) → IsBare text → IsBare (digit (n / 10) ∷ digit n ∷ text)
-two_digits n text bare = digit_cons (n / 10) (digit n ∷ text) (digit_cons n text bare)
+bare_two : (n : ℕ) (text : List ℕ) → IsBare text → IsBare (two_digits n ++ text)
+bare_two n text bare = bare_digit (n / 10) (digit n ∷ text) (bare_digit n text bare)
+
+bare_dash : (text : List ℕ) → IsBare text → IsBare (codes "-" ++ text)
+bare_dash text bare = bare-append (codes "-") text refl bare
 
 bare_date : (d : Ymd) → IsBare (date_text d)
 bare_date d =
-    let day : List ℕ = digit (d.2 / 10) ∷ digit d.2 ∷ [] in
-    let month : List ℕ = digit (d.1 / 10) ∷ digit d.1 ∷ 45 ∷ day in
-    let decade : List ℕ = digit (d.0 / 10) ∷ digit d.0 ∷ 45 ∷ month in
-    digit_cons (d.0 / 1000) (digit (d.0 / 100) ∷ decade)
-    (digit_cons (d.0 / 100) decade
-    (two_digits d.0 (45 ∷ month) (bare-cons 45 month (omega arith)
-    (two_digits d.1 (45 ∷ day) (bare-cons 45 day (omega arith) (two_digits d.2 [] refl))))))
+    let day = two_digits d.2 in
+    let month = two_digits d.1 ++ (codes "-" ++ day) in
+    bare_two (d.0 / 100) (two_digits d.0 ++ (codes "-" ++ month))
+    (bare_two d.0 (codes "-" ++ month) (bare_dash month (bare_two d.1 (codes "-" ++ day) (bare_dash day (bare_two d.2 [] refl)))))
 
 bare_displayed : (d : DateParts) (day : Option ℕ) → IsBare (displayed_date d day)
 bare_displayed d (Some day) = bare_date (serial_date d.is_1904 day)

@@ -1,5 +1,5 @@
 -- A box that is put row by row, and a row field by field.
-use Rattle.std.proofs.Common.{◌≡◌, inl, inr, ℕ, zero, suc, ◌+◌, ◌-◌, ◌<◌, ◌≤◌, Bool, true, false, List, [], ◌∷◌, ◌++◌, length, take, Result, Ok, Err, append_assoc, append-nil, length-append, arith, refl, sym, ap, subst, ◌∙◌}
+use Rattle.std.proofs.Common.{◌≡◌, inl, inr, ℕ, zero, suc, ◌+◌, ◌-◌, ◌<◌, ◌≤◌, Bool, true, false, List, [], ◌∷◌, ◌++◌, length, Result, Ok, Err, append_assoc, append-nil, length-append, arith, refl, sym, ap, subst, ◌∙◌}
 use Rattle.std.specs.Prelude.{◌==◌, ◌&&◌}
 use Rattle.std.specs.List.{flat_map}
 use Rattle.std.specs.Result.{IsErrAnd}
@@ -13,11 +13,10 @@ use Rattle.xls_output.specs.Output.{Buffers, GivesUp, Output}
 use Rattle.xls_output.specs.declared.stop.Stop.{Stop}
 use Rattle.xls_output.specs.declared.stop.Stop.TheVariants.{Memory}
 use Rattle.xls_output.proofs.EachLemmas.{EachSome, each-as, each-some-all, each-some-first, each-some-next, each-some-stopped, each-stops-as}
-use Rattle.xls_output.proofs.OutputLemmas.{gathers-added, gathers-after, gathers-then, stops-as, stops-memory, stops-then}
+use Rattle.xls_output.proofs.OutputLemmas.{gathers-added, gathers-then, stops-as, stops-memory, stops-then}
 use Rattle.xls_csv.specs.Boxes.{BeginsBox, BeginsRow, FieldForm, GivesUpBox, IsBox, IsFields, IsRow, IsSeparated, PutsBox, row_end}
 use Rattle.xls_csv.specs.Steps.{PutsFields}
-use Rattle.xls_csv.specs.Walk.{left_over, row_over, rows_over, take_at}
-use Rattle.xls_csv.proofs.WalkLemmas.{rows_from}
+use Rattle.xls_csv.specs.Walk.{left_over, row_over, take_at}
 
 -- ---- items one by one
 

@@ -1,6 +1,4 @@
-use Rattle.std.proofs.Common.{[], ◌∷◌, ap}
 use Rattle.xls_csv.specs.Boxes.{IsSeparated}
-use Rattle.xls_csv.specs.Walk.{take_at}
 use Rattle.xls_output.proofs.EachLemmas.{puts-one}
 use Rattle.xls_csv.proofs.RowLemmas.{separated_added}
 use Rattle.xls_csv.proofs.boxes.put_separated.Goals as goal
