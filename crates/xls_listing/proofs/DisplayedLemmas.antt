@@ -1,5 +1,5 @@
 -- The lines of sheets, formulas and citations, one after another.
-use Rattle.std.proofs.Common.{◌≡◌, ℕ, zero, suc, ◌+◌, ◌<◌, ◌≤◌, List, [], ◌∷◌, ◌++◌, length, map, get_or, drop, drop-cons, add-one, refl, sym, ap, subst, codes, ◌∙◌, arith, Some, None, true, false}
+use Rattle.std.proofs.Common.{◌≡◌, ℕ, zero, suc, ◌+◌, ◌<◌, ◌≤◌, List, [], ◌∷◌, ◌++◌, length, map, get_or, drop, drop-cons, add-one, refl, sym, ap, codes, ◌∙◌, arith, Some, None, true, false}
 use Rattle.std.specs.Prelude.{slice_get, encode_utf8_all, ◌==◌, String}
 use Rattle.std.specs.Global.{Global}
 use Rattle.std.specs.Str.{chars, IsUtf8}
