@@ -1,4 +1,5 @@
 mod ExponentFacts
+mod ExponentLemmas
 mod GeneralFacts
 mod GeneralLemmas
 mod LawLemmas

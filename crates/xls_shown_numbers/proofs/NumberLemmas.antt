@@ -50,9 +50,9 @@ over_zeros d z p q = ap (λ t. d * 10 ^ z / t) (split z p q) ∙ mul-div-mul_rig
 pub digit_before_zeros : (d z p : ℕ) → z ≤ p → 48 + d / 10 ^ (p - z) % 10 ≡ digit (d * 10 ^ z) p
 digit_before_zeros d z p q = sym (ap (λ t. 48 + t % 10) (over_zeros d z p q))
 
-pub digit_far : (d z p : ℕ) → d < 2 ^ 64 → z ≤ p → 19 < p - z → 48 ≡ digit (d * 10 ^ z) p
+pub digit_far : (d z p : ℕ) → d < 2 ^ 128 → z ≤ p → 38 < p - z → 48 ≡ digit (d * 10 ^ z) p
 digit_far d z p q r s =
-    let far : 10 ^ 20 ≤ 10 ^ (p - z) = ten_le 20 (p - z) s in
+    let far : 10 ^ 39 ≤ 10 ^ (p - z) = ten_le 39 (p - z) s in
     let none : d / 10 ^ (p - z) ≡ 0 = div-eq_of_lt (omega arith) in
     rw (over_zeros d z p r, none)
 
@@ -64,7 +64,7 @@ zeros_within d z k p =
     let none : d * 10 ^ z % 10 ^ k ≡ 0 = ap (λ t. t % 10 ^ k) whole ∙ mod-mul-add (d * 10 ^ (z - k)) (10 ^ k) 0 (ten_pos k) in
     rw none
 
-times_none : (r b : ℕ) → 0 < b → (r == 0) ≡ (r * b == 0)
+pub times_none : (r b : ℕ) → 0 < b → (r == 0) ≡ (r * b == 0)
 times_none zero b p = let none : 0 * b ≡ 0 = omega arith in rw none
 times_none (suc r) b p =
     let some : 1 * b ≤ suc r * b = mul-le-mul_right b (omega arith) in
@@ -80,9 +80,9 @@ zeros_beyond d z k p =
     let rest : d * 10 ^ z % 10 ^ k ≡ d % 10 ^ (k - z) * 10 ^ z = ap (λ t. t % 10 ^ k) whole ∙ mod-mul-add (d / 10 ^ (k - z)) (10 ^ k) (d % 10 ^ (k - z) * 10 ^ z) low in
     times_none (d % 10 ^ (k - z)) (10 ^ z) (ten_pos z) ∙ ap (λ t. t == 0) (sym rest)
 
-pub zeros_far : (d z k : ℕ) → d < 2 ^ 64 → z ≤ k → 19 < k - z → (d == 0) ≡ (d * 10 ^ z % 10 ^ k == 0)
+pub zeros_far : (d z k : ℕ) → d < 2 ^ 128 → z ≤ k → 38 < k - z → (d == 0) ≡ (d * 10 ^ z % 10 ^ k == 0)
 zeros_far d z k p q r =
-    let far : 10 ^ 20 ≤ 10 ^ (k - z) = ten_le 20 (k - z) r in
+    let far : 10 ^ 39 ≤ 10 ^ (k - z) = ten_le 39 (k - z) r in
     let all : d % 10 ^ (k - z) ≡ d = mod-eq_of_lt (omega arith) in
     ap (λ t. t == 0) (sym all) ∙ zeros_beyond d z k q
 
@@ -118,10 +118,16 @@ pub above : (k : ℕ) → k < 10 ^ k
 above zero = omega arith
 above (suc k) = let up : 10 ^ suc k ≡ 10 ^ k * 10 = pow-suc 10 k in let less = above k in omega arith
 
-pub size_is : (d z : ℕ) → 0 < d → d < 2 ^ 64 → places d + z ≡ size (d * 10 ^ z)
+few_digits : (n k : ℕ) → 10 ^ k ≤ n → n < 10 ^ 39 → k < 39
+few_digits n k p q = elim (cases_lt k 39) [
+  | inl less ↦ less
+  | inr more ↦ let far = ten_le 39 k more in absurd (omega arith)
+]
+
+pub size_is : (d z : ℕ) → 0 < d → d < 2 ^ 128 → places d + z ≡ size (d * 10 ^ z)
 unfolding places
 size_is d z p q =
-    let most : 10 ^ 20 ≤ 10 ^ 640 = ten_le 20 640 (omega arith) in
+    let most : 10 ^ 39 ≤ 10 ^ 640 = ten_le 39 640 (omega arith) in
     let h = has_digits 640 d p (omega arith) in
     let low : 10 ^ (h.more + z) ≤ d * 10 ^ z = rw (pow-add 10 h.more z) (mul-le-mul_right (10 ^ z) h.low) in
     let top : 10 ^ (h.more + z + 1) ≡ 10 ^ (h.more + 1) * 10 ^ z = (let e : h.more + z + 1 ≡ h.more + 1 + z = omega arith in ap (λ t. 10 ^ t) e ∙ pow-add 10 (h.more + 1) z) in
@@ -132,3 +138,21 @@ size_is d z p q =
 
 pub size_none : (z : ℕ) → 0 ≡ size (0 * 10 ^ z)
 size_none z = let none : 0 * 10 ^ z ≡ 0 = omega arith in rw none (sym (places_none 0))
+
+-- 19 digits more
+pub places_19 : (n : ℕ) → 10 ^ 19 ≤ n → n < 2 ^ 128 → places (n / 10 ^ 19) + 19 ≡ places n
+unfolding places
+places_19 n p q =
+    let far : 10 ^ 39 ≤ 10 ^ 640 = ten_le 39 640 (omega arith) in
+    let h = has_digits 640 (n / 10 ^ 19) (omega arith) (omega arith) in
+    let short : h.more < 39 = few_digits (n / 10 ^ 19) h.more h.low (omega arith) in
+    let low : 10 ^ (h.more + 19) ≡ 10 ^ h.more * 10 ^ 19 = pow-add 10 h.more 19 in
+    let high : 10 ^ (h.more + 19 + 1) ≡ 10 ^ (h.more + 1) * 10 ^ 19 = (let e : h.more + 19 + 1 ≡ h.more + 1 + 19 = omega arith in ap (λ t. 10 ^ t) e ∙ pow-add 10 (h.more + 1) 19) in
+    let all = places_between (h.more + 19) 640 n (omega (arith, short)) (omega (arith, low, h.low)) (omega (arith, high, h.high)) in
+    omega (arith, h.is)
+
+pub two_steps : (n : ℕ) → 10 ^ 19 ≤ n / 10 ^ 19 → n < 2 ^ 128 → places (n / 10 ^ 19 / 10 ^ 19) + 38 ≡ places n
+two_steps n p q =
+    let one = places_19 (n / 10 ^ 19) p (omega arith) in
+    let two = places_19 n (omega arith) q in
+    omega (arith, one, two)

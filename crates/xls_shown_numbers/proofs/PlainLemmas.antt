@@ -47,7 +47,7 @@ pub record IsWithin (s : Seen) (left all : ℕ) : Type 0 where
 pub within_none : (all : ℕ) → IsWithin none_seen all all
 within_none all = record { whole = omega arith; decimals = omega arith; percents = omega arith }
 
-one_within : (counts : Bool) (n left all : ℕ) → n + suc left ≤ all → one_more counts n + left ≤ all
+pub one_within : (counts : Bool) (n left all : ℕ) → n + suc left ≤ all → one_more counts n + left ≤ all
 one_within true n left all p = omega arith
 one_within false n left all p = omega arith
 

@@ -1,11 +1,12 @@
 -- What is appended to a text, by its characters.
-use Rattle.std.proofs.Common.{◌≡◌, ℕ, suc, ◌+◌, ◌-◌, ◌<◌, Bool, List, [], ◌∷◌, ◌++◌, IsUtf8, Result, Ok, Err, OnOk, refl, arith, ap, sym, ◌∙◌, append_assoc, codes, is_ok, if◌then◌else◌}
+use Rattle.std.proofs.Common.{◌≡◌, ℕ, suc, ◌+◌, ◌-◌, ◌<◌, ◌==◌, ◌&&◌, Bool, true, false, List, [], ◌∷◌, ◌++◌, IsUtf8, Result, Ok, Err, OnOk, refl, arith, ap, sym, ◌∙◌, append_assoc, codes, is_ok, if◌then◌else◌}
 use Rattle.std.specs.Str.{chars}
 use Rattle.std.proofs.lemmas.Str.{chars-append}
 use Rattle.std.proofs.lemmas.Bool.Decides.{nat_tests}
-use Rattle.xls_shown_numbers.specs.Plain.{digit, separator, whole_digits, seen_after, item_text, text_from, none_seen, plain_of, number_shown, plain_text}
+use Rattle.xls_shown_numbers.specs.Plain.{digit, whole_place, written_place, separator, whole_digits, seen_after, item_text, text_from, none_seen, plain_of, number_shown, plain_text}
 use Rattle.xls_number_formats.specs.Sections.{kinds}
 use Rattle.xls_rounding.specs.declared.decimals.Decimal.{Decimal}
+use Rattle.xls_number_formats.specs.declared.items.Place.{Place}
 use Rattle.xls_number_formats.specs.Grammar.{Token}
 use Rattle.xls_shown_numbers.specs.declared.plain.Seen.{Seen}
 use Rattle.xls_shown_numbers.specs.declared.plain.Plain.{Plain}
@@ -33,6 +34,14 @@ two_blanks = refl
 pub one_blank : chars (codes " ") ≡ codes " "
 unfolding chars
 one_blank = refl
+
+pub plus_alone : chars (codes "+") ≡ codes "+"
+unfolding chars
+plus_alone = refl
+
+pub minus_alone : chars (codes "-") ≡ codes "-"
+unfolding chars
+minus_alone = refl
 
 pub comma_alone : chars (codes ",") ≡ codes ","
 unfolding chars
@@ -76,3 +85,10 @@ text_more p n s old now whole t ts left e f all =
 -- a section's counts and the number that it shows make its text
 pub plain_is : (p : Plain) (ts : List Token) (d : Decimal) (n : ℕ) → p ≡ plain_of (kinds ts) → n ≡ number_shown p d → text_from p n none_seen ts ≡ plain_text ts d
 plain_is p ts d n e f = ap (λ k. text_from p k none_seen ts) f ∙ ap (λ q. text_from q (number_shown q d) none_seen ts) e
+
+-- where 0 is written, and where it isn't
+pub zero_written : (is_written : Bool) (n : ℕ) (leftmost : Bool) (kind : Place) (i : ℕ) → (is_written && ((n == 0) && (i == 0))) ≡ true → codes "0" ≡ written_place is_written n leftmost kind i
+zero_written is_written n leftmost kind i is = sym (ap (λ b. if b then codes "0" else whole_place false n 0 leftmost kind i) is)
+
+pub none_written : (is_written : Bool) (n : ℕ) (leftmost : Bool) (kind : Place) (i : ℕ) → (is_written && ((n == 0) && (i == 0))) ≡ false → whole_place false n 0 leftmost kind i ≡ written_place is_written n leftmost kind i
+none_written is_written n leftmost kind i is = sym (ap (λ b. if b then codes "0" else whole_place false n 0 leftmost kind i) is)

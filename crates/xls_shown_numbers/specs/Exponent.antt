@@ -1,18 +1,18 @@
 -- Numbers under a section with an exponent, as `0.00E+00` (ECMA-376 part 1, 18.8.31; what it leaves open is
 -- this project's rule, after Excel), as lists of characters. Places before the exponent show the mantissa, as
 -- a section of places shows a number; those behind it the exponent.
-use Rattle.std.specs.Prelude.{ℕ, zero, suc, ◌+◌, ◌-◌, ◌*◌, ◌/◌, Bool, true, false, not, ◌&&◌, ◌==◌, nat_lt, if◌then◌else◌, ℤ, pos, negsuc, ◌+ℤ◌, ◌-ℤ◌, neg_ℤ, unsigned_abs, List, [], ◌∷◌, ◌++◌, take, codes}
+use Rattle.std.specs.Prelude.{ℕ, ◌+◌, ◌*◌, ◌/◌, Bool, true, false, not, ◌||◌, ◌==◌, nat_lt, if◌then◌else◌, ℤ, pos, negsuc, ◌+ℤ◌, ◌-ℤ◌, neg_ℤ, unsigned_abs, List, [], ◌∷◌, ◌++◌, take, codes}
 use Rattle.xls_rounding.specs.declared.decimals.Decimal.{Decimal}
 use Rattle.xls_rounding.specs.Rounding.{rounded_at, magnitude_of}
-use Rattle.xls_number_formats.specs.declared.items.Place.{Place}
 use Rattle.xls_number_formats.specs.declared.items.Place.TheVariants as place
 use Rattle.xls_number_formats.specs.declared.items.Item.{Item}
 use Rattle.xls_number_formats.specs.declared.items.Item.TheVariants as item
 use Rattle.xls_number_formats.specs.Grammar.{Token, is_place}
-use Rattle.xls_number_formats.specs.Sections.{kinds}
+use Rattle.xls_number_formats.specs.Sections.{is_exponent, kinds}
 use Rattle.xls_shown_numbers.specs.declared.plain.Seen.{Seen}
 use Rattle.xls_shown_numbers.specs.declared.plain.Plain.{Plain}
-use Rattle.xls_shown_numbers.specs.Plain.{none_seen, seen_after, plain_of, size, whole_place, item_text, text_from}
+use Rattle.xls_shown_numbers.specs.declared.exponent.Exponent.{Exponent}
+use Rattle.xls_shown_numbers.specs.Plain.{none_seen, seen_after, plain_of, size, written_place, text_from}
 
 -- the items before the first exponent
 abbrev pub mantissa : List Token → List Token
@@ -69,15 +69,20 @@ abbrev pub places_in : List Token → ℕ
 places_in [] = 0
 places_in (t ∷ ts) = if is_place t.0 then places_in ts + 1 else places_in ts
 
--- exponent place i from the right: as a whole place, but 0 has the digit 0
-abbrev pub exponent_place : ℕ → Bool → Place → ℕ → List ℕ
-exponent_place n leftmost place i = if (n == 0) && (i == 0) then codes "0" else whole_place false n 0 leftmost place i
+-- those behind the first exponent
+abbrev pub places_behind : List Token → ℕ
+places_behind [] = 0
+places_behind (t ∷ ts) = if is_exponent t.0 then places_in ts else places_behind ts
+
+-- what a section with an exponent needs of its items
+abbrev pub needs_of : List Token → Exponent
+needs_of ts = record { mantissa = plain_of (kinds (mantissa ts)); places = places_behind ts }
 
 -- an item behind the exponent: a place takes digits of it as a whole place does; commas, `@` and elapsed time
 -- show nothing, every other item stands for itself. Whether it has had a place, and how many follow
 abbrev pub behind_text : Bool → ℤ → Bool → ℕ → Item → List ℕ → List ℕ
 behind_text plus e placed left (item.Place place) own =
-    (if placed then [] else sign_text plus e) ++ exponent_place (unsigned_abs e) (not placed) place left
+    (if placed then [] else sign_text plus e) ++ written_place true (unsigned_abs e) (not placed) place left
 behind_text plus e placed left item.Comma own = []
 behind_text plus e placed left item.Text own = []
 behind_text plus e placed left (item.Elapsed letter) own = []
@@ -87,7 +92,7 @@ abbrev pub behind_from : Bool → ℤ → Bool → List Token → List ℕ
 behind_from plus e placed [] = []
 behind_from plus e placed (t ∷ ts) =
     behind_text plus e placed (places_in ts) t.0 t.1
-    ++ behind_from plus e (if is_place t.0 then true else placed) ts
+    ++ behind_from plus e (placed || is_place t.0) ts
 
 -- the letter as it is written, and what follows the first exponent
 abbrev pub exponent_from : ℤ → List Token → List ℕ

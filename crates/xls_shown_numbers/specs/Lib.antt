@@ -3,3 +3,4 @@ pub mod General
 pub mod Plain
 pub mod Exponent
 pub mod Numbers
+pub mod Parts

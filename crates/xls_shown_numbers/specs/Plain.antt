@@ -127,6 +127,11 @@ whole_place grouping n decimals leftmost place i =
     if nat_le (size n) (decimals + i) then filler grouping place i
     else whole_digits grouping n decimals i (if leftmost then size n - (decimals + i) else 1)
 
+-- whole place i from the right, without groups; where it is written, 0 has the digit 0
+abbrev pub written_place : Bool → ℕ → Bool → Place → ℕ → List ℕ
+written_place is_written n leftmost place i =
+    if is_written && ((n == 0) && (i == 0)) then codes "0" else whole_place false n 0 leftmost place i
+
 -- without a digit behind the point
 abbrev pub no_decimal : Place → List ℕ
 no_decimal place.Zero = codes "0"

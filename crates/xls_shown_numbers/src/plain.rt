@@ -1,12 +1,14 @@
 //! What a section of places needs of its items.
 
-ghost use Rattle.std.specs.Prelude.{◌≡◌, ◌<◌, ◌^◌, ◌&&◌};
+ghost use Rattle.std.specs.Prelude.{◌≡◌, ◌<◌, ◌^◌, ◌&&◌, length};
 ghost use Rattle.std.specs.Str.{chars};
 ghost use Rattle.xls_number_formats.specs.Grammar.{is_place, items};
 ghost use Rattle.xls_number_formats.specs.Sections.{is_shown, kinds};
+ghost use Rattle.xls_shown_numbers.specs.Parts.{part_of, tokens_left};
 ghost use Rattle.xls_shown_numbers.specs.Plain.{is_point, is_comma, is_percent, is_zero, one_more, seen_after, follows, is_placed, groups, divides, seen_all, none_seen, plain_of};
 
-use xls_number_formats::{Item, Items, Place};
+use crate::parts::{Part, PartItems};
+use xls_number_formats::{Item, Place};
 
 /// The items of a section up to one of them.
 #[derive(Clone, Copy, Debug, PartialEq, Eq)]
@@ -84,7 +86,7 @@ fn is_shown(item: Item) -> bool
 }
 
 // A count after an item that may count.
-fn one_more(counts: bool, n: u64) -> u64
+pub(crate) fn one_more(counts: bool, n: u64) -> u64
     requires { n < 2 ^ 63 }
     ensures { result ≡ one_more counts n }
 {
@@ -157,27 +159,27 @@ fn divides_as(all: Seen, seen: Seen, item: Item) -> bool
     is_comma(item) && divides(all, seen)
 }
 
-// All items of a section.
-fn seen_all(code: &str) -> Seen
-    ensures { result ≡ seen_all none_seen (kinds (items (chars code.now))) }
+// All items of a part of a section.
+fn seen_all(mut items: PartItems<'_>) -> Seen
+    requires { length (tokens_left items) < 2 ^ 63 }
+    ensures { result ≡ seen_all none_seen (kinds (tokens_left items.entry)) }
 {
     let mut seen = NONE_SEEN;
-    let mut items = Items::new(code);
     'items: while let Some((item, _)) = items.next() {
         seen = seen_after(seen, item);
     }
     seen
 }
 
-/// What the first section of a code needs of its items. Takes no memory.
-pub fn read_plain(code: &str) -> Plain
-    ensures { result ≡ plain_of (kinds (items (chars code.now))) }
+// What a part of the first section of a code needs of its items.
+pub(crate) fn read_part(code: &str, part: Part) -> Plain
+    ensures { result ≡ plain_of (kinds (part_of part (items (chars code.now)))) }
 {
-    let all = seen_all(code);
+    let all = seen_all(PartItems::new(code, part));
     let mut thousands = 0;
     let mut grouping = false;
     let mut seen = NONE_SEEN;
-    let mut items = Items::new(code);
+    let mut items = PartItems::new(code, part);
     'items: while let Some((item, _)) = items.next() {
         thousands = one_more(divides_as(all, seen, item), thousands);
         grouping = grouping | groups_as(all, seen, item);
@@ -188,4 +190,11 @@ pub fn read_plain(code: &str) -> Plain
         thousands,
         grouping,
     }
+}
+
+/// What the first section of a code needs of its items. Takes no memory.
+pub fn read_plain(code: &str) -> Plain
+    ensures { result ≡ plain_of (kinds (items (chars code.now))) }
+{
+    read_part(code, Part::Whole)
 }

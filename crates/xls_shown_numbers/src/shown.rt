@@ -1,18 +1,21 @@
 //! The text of a number under a section of places.
 
-ghost use Rattle.std.specs.Prelude.{◌≡◌, ◌<◌, ◌≤◌, ◌+◌, ◌-◌, ◌*◌, ◌^◌, ◌==◌, ◌&&◌, nat_lt, [], ◌∷◌, ◌++◌, OnOk, OnErr};
+ghost use Rattle.std.specs.Prelude.{◌≡◌, ◌<◌, ◌≤◌, ◌+◌, ◌-◌, ◌*◌, ◌^◌, ◌==◌, ◌&&◌, nat_lt, if◌then◌else◌, length, [], ◌∷◌, ◌++◌, OnOk, OnErr};
 ghost use Rattle.std.specs.String.{string_bytes};
 ghost use Rattle.std.specs.Str.{chars};
 ghost use Rattle.xls_bytes.specs.Growth.{IsGrown};
 ghost use Rattle.xls_number_formats.specs.Grammar.{items};
 ghost use Rattle.xls_number_formats.specs.Sections.{kinds};
 ghost use Rattle.xls_shown_numbers.specs.Numbers.{value};
-ghost use Rattle.xls_shown_numbers.specs.Plain.{digit, size, separates, separator, filler, whole_digits, whole_place, no_decimal, decimal_place, place_text, whole_before, comma_text, item_text, text_from, number_shown, is_placed, none_seen, plain_of, plain_text};
+ghost use Rattle.xls_shown_numbers.specs.Parts.{tokens_left, filled};
+ghost use Rattle.xls_shown_numbers.specs.Exponent.{zeroed};
+ghost use Rattle.xls_shown_numbers.specs.Plain.{digit, size, separates, separator, filler, whole_digits, whole_place, written_place, no_decimal, decimal_place, place_text, whole_before, comma_text, item_text, text_from, number_shown, is_placed, none_seen, plain_of, plain_text};
 
-use crate::number::{Number, digit, ends_in_zeros, number_under, size};
+use crate::number::{Number, digit, ends_in_zeros, is_zero, number_under, size};
+use crate::parts::{Part, PartItems};
 use crate::plain::{NONE_SEEN, Plain, Seen, divides, groups, seen_after};
 use std::alloc::AllocError;
-use xls_number_formats::{Item, Items, Place};
+use xls_number_formats::{Item, Place};
 use xls_rounding::Decimal;
 
 // Appends a digit.
@@ -25,7 +28,7 @@ fn push_digit(digit: u8, text: &mut String) -> Result<(), AllocError>
 }
 
 // Appends a text.
-fn push_own(own: &str, text: &mut String) -> Result<(), AllocError>
+pub(crate) fn push_own(own: &str, text: &mut String) -> Result<(), AllocError>
     ensures ok { OnOk result (chars (string_bytes text.new) ≡ chars (string_bytes text.old) ++ chars own.now) }
     ensures grown { IsGrown (string_bytes text.old) (string_bytes text.new) }
 {
@@ -119,6 +122,39 @@ fn push_whole_place(
     } else {
         push_whole_digits(n, plain, i as u128, 1, text)
     }
+}
+
+fn is_zero_written(n: Number, is_written: bool, i: u64) -> bool
+    ensures { result ≡ (is_written && ((value n == 0) && (i == 0))) }
+{
+    is_written && (is_zero(n) && i == 0)
+}
+
+/// Appends what whole place i from the right shows of a natural, without groups: a digit, and the
+/// leftmost place all that are left; without a digit it shows 0, a blank or nothing, by its kind. Where
+/// `is_written`, 0 has the digit 0. Only running out of memory refuses, and may leave a part.
+pub fn append_place(
+    n: Number,
+    is_written: bool,
+    leftmost: bool,
+    place: Place,
+    i: u64,
+    text: &mut String,
+) -> Result<(), AllocError>
+    requires { n.zeros ≤ 2 ^ 100 }
+    ensures ok { OnOk result (chars (string_bytes text.new) ≡ chars (string_bytes text.old)
+        ++ written_place is_written (value n) leftmost place i) }
+    ensures grown { IsGrown (string_bytes text.old) (string_bytes text.new) }
+{
+    if is_zero_written(n, is_written, i) {
+        return push_digit(b'0', text);
+    }
+    let plain = Plain {
+        seen: NONE_SEEN,
+        thousands: 0,
+        grouping: false,
+    };
+    push_whole_place(n, &plain, leftmost, place, i, text)
 }
 
 // Appends what a decimal place shows.
@@ -262,17 +298,44 @@ fn number_shown(plain: &Plain, decimal: Decimal) -> Number
     }
 }
 
-// Appends what the items of a section show of a number; an error may leave a part.
-fn append_plain(code: &str, plain: &Plain, n: Number, text: &mut String) -> Result<(), AllocError>
-    requires { n.zeros ≤ 2 ^ 100 }
+// Of 0 each whole place of a mantissa shows a 0.
+fn zeroed(point: bool, item: Item) -> Item
+    ensures { result ≡ zeroed point item }
+{
+    match item {
+        Item::Place(_) if !point => Item::Place(Place::Zero),
+        other => other,
+    }
+}
+
+fn filled(fills: bool, seen: Seen, item: Item) -> Item
+    ensures { result ≡ (if fills then zeroed seen.point item else item) }
+{
+    if fills {
+        zeroed(seen.point, item)
+    } else {
+        item
+    }
+}
+
+// Appends what items show of a number, with zeros in all whole places if it fills them; an error may
+// leave a part.
+pub(crate) fn append_items(
+    mut items: PartItems<'_>,
+    fills: bool,
+    plain: &Plain,
+    n: Number,
+    text: &mut String,
+) -> Result<(), AllocError>
+    requires zeros { n.zeros ≤ 2 ^ 100 }
+    requires few { length (tokens_left items) < 2 ^ 63 }
     ensures ok { OnOk result (chars (string_bytes text.new) ≡ chars (string_bytes text.old)
-        ++ text_from plain.now (value n) none_seen (items (chars code.now))) }
+        ++ text_from plain.now (value n) none_seen (filled fills none_seen (tokens_left items.entry))) }
     ensures grown { IsGrown (string_bytes text.old) (string_bytes text.new) }
 {
     let mut seen = NONE_SEEN;
-    let mut items = Items::new(code);
     'items: while let Some((item, own)) = items.next() {
-        push_item(n, plain, seen, item, own, text)?;
+        push_item(n, plain, seen, filled(fills, seen, item), own, text)?;
         seen = seen_after(seen, item);
     }
     Ok(())
@@ -290,7 +353,8 @@ fn append_number(
         ≡ chars (string_bytes text.old) ++ plain_text (items (chars code.now)) decimal) }
     ensures grown { IsGrown (string_bytes text.old) (string_bytes text.new) }
 {
-    append_plain(code, plain, number_shown(plain, decimal), text)
+    let items = PartItems::new(code, Part::Whole);
+    append_items(items, false, plain, number_shown(plain, decimal), text)
 }
 
 /// Appends the size of a number as the first section of a code shows it, a section of places such as

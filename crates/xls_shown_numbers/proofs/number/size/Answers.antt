@@ -10,4 +10,4 @@ returns-then-n-eq0-clause-value c = size_none c.args.n.zeros ∙ sym (ap (λ d. 
 pub returns-else-n-eq0-clause-value : goal.returns-else-n-eq0-clause-value
 returns-else-n-eq0-clause-value c =
     let some : 0 < c.args.n.digits = omega (arith, c.if-n-eq0.false) in
-    ap (λ t. t + c.args.n.zeros) c.places.ensures.value ∙ size_is c.args.n.digits c.args.n.zeros some (omega arith)
+    ap (λ t. t + c.args.n.zeros) c.long_places.ensures.value ∙ size_is c.args.n.digits c.args.n.zeros some (omega arith)
