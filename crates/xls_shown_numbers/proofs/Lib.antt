@@ -5,5 +5,5 @@ mod GeneralLemmas
 mod LawLemmas
 mod NumberLemmas
 mod PlainFacts
-mod PlainLemmas
-mod ShownLemmas
+pub mod PlainLemmas
+pub mod ShownLemmas

@@ -1,6 +1,6 @@
 //! Naturals of many digits.
 
-ghost use Rattle.std.specs.Prelude.{◌≡◌, ◌<◌, ◌≤◌, ◌^◌, ◌%◌, ◌==◌, pos, ◌≤ℤ◌};
+ghost use Rattle.std.specs.Prelude.{◌≡◌, ◌<◌, ◌≤◌, ◌+◌, ◌^◌, ◌%◌, ◌==◌, pos, ◌≤ℤ◌};
 ghost use Rattle.xls_rounding.specs.Fractions.{places};
 ghost use Rattle.xls_rounding.specs.Rounding.{rounded};
 ghost use Rattle.xls_shown_numbers.specs.Numbers.{value};
@@ -63,17 +63,18 @@ fn long_places(n: u128) -> u128
     places((high / TEN_TO_19) as u64) as u128 + 38
 }
 
-pub(crate) fn is_zero(n: Number) -> bool
+/// Whether a natural is 0.
+pub fn is_zero(n: Number) -> bool
     ensures { result ≡ (value n == 0) }
 {
     n.digits == 0
 }
 
-// How many digits it has, none of 0.
-pub(crate) fn size(n: Number) -> u128
+/// How many digits a natural has, none of 0.
+pub fn size(n: Number) -> u128
     requires { n.zeros ≤ 2 ^ 100 }
     ensures value { result ≡ size (value n) }
-    ensures within { result ≤ 2 ^ 101 }
+    ensures within { result ≤ n.zeros + 60 }
 {
     if n.digits == 0 {
         0

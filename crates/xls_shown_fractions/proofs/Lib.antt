@@ -1,0 +1,3 @@
+mod RoleLemmas
+mod RatioLemmas
+mod TextLemmas
