@@ -1,3 +1,4 @@
+mod FractionFacts
 mod RoleLemmas
 mod RatioLemmas
 mod TextLemmas

@@ -79,12 +79,13 @@ denominator_place n zeros kind i =
     if nat_lt i (max (size n) zeros) then written_place false n false place.Zero (max (size n) zeros - i - 1)
     else no_digit kind
 
--- a place of each part; those of a fixed denominator stand for themselves, and a further place shows nothing
+-- a place of each part, where a numerator of 0 has the digit 0; those of a fixed denominator stand for
+-- themselves, and a further place shows nothing
 abbrev pub place_text : Fraction → Mixed → Bool → Spot → Role → Place → List ℕ → List ℕ
 place_text f m writes_zero s role.Front place own =
     written_place writes_zero m.whole (s.placed == 0) place (f.whole - s.placed - 1)
 place_text f m writes_zero s role.Numerator place own =
-    written_place false m.numerator (s.run == 0) place (f.numerator - s.run - 1)
+    written_place true m.numerator (s.run == 0) place (f.numerator - s.run - 1)
 place_text f m writes_zero s role.Denominator place own =
     if s.fixed then own else denominator_place m.denominator f.zeros place s.run
 place_text f m writes_zero s other place own = []

@@ -183,7 +183,7 @@ fn append_place_of(
                 .numerator
                 .saturating_sub(spot.run)
                 .saturating_sub(1);
-            append_place(ratio.numerator, false, spot.run == 0, place, i, text)
+            append_place(ratio.numerator, true, spot.run == 0, place, i, text)
         }
         Role::Denominator => {
             if spot.fixed {
