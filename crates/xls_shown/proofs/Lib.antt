@@ -1,0 +1,3 @@
+mod GeneralLemmas
+mod SignLemmas
+mod TextLemmas

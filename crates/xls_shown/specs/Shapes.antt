@@ -1,0 +1,22 @@
+-- For the proofs: what a section needs of its items, and texts that have gained what is shown.
+use Rattle.std.specs.Prelude.{◌≡◌, ℕ, ◌++◌, List}
+use Rattle.xls_number_formats.specs.declared.sections.Kind.TheVariants as kind
+use Rattle.xls_number_formats.specs.Grammar.{Token}
+use Rattle.xls_number_formats.specs.Sections.{kinds, kind_of}
+use Rattle.xls_shown_dates.specs.Fields.{fields, clock_of}
+use Rattle.xls_shown_numbers.specs.Plain.{plain_of}
+use Rattle.xls_shown_numbers.specs.Exponent as exponent
+use Rattle.xls_shown_fractions.specs.Needs as fraction
+use Rattle.xls_shown.specs.declared.sections.Shape.{Shape}
+use Rattle.xls_shown.specs.declared.sections.Shape.TheVariants as shape
+
+abbrev pub IsShapeOf : Shape → List Token → Type 0
+IsShapeOf (shape.Date clock) ts = (kind_of (kinds ts) ≡ kind.Date) × (clock ≡ clock_of (fields ts))
+IsShapeOf shape.General ts = kind_of (kinds ts) ≡ kind.General
+IsShapeOf (shape.Fraction f) ts = (kind_of (kinds ts) ≡ kind.Fraction) × (f ≡ fraction.needs_of ts)
+IsShapeOf (shape.Exponent e) ts = (kind_of (kinds ts) ≡ kind.Exponent) × (e ≡ exponent.needs_of ts)
+IsShapeOf (shape.Plain p) ts = (kind_of (kinds ts) ≡ kind.Plain) × (p ≡ plain_of (kinds ts))
+
+-- a text has gained characters of which this holds
+abbrev pub Gains : (List ℕ → Type 0) → List ℕ → List ℕ → Type 0
+Gains P old new = (shown : List ℕ) × P shown × (new ≡ old ++ shown)
