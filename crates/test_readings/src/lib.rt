@@ -13,3 +13,5 @@ mod numbers;
 mod pages;
 #[cfg(test)]
 mod rounding;
+#[cfg(test)]
+mod shown;

@@ -1,3 +1,4 @@
 mod GeneralLemmas
 mod SignLemmas
 mod TextLemmas
+mod ShownFacts

@@ -1,6 +1,6 @@
 -- What Excel shows of a finite double under a number format's code (ECMA-376 part 1, 18.8.31; what it leaves
 -- open is this project's rule, after Excel).
-use Rattle.std.specs.Prelude.{◌≡◌, ℕ, Bool, true, false, ◌++◌, min, if◌then◌else◌, List, [], Option, Some, None, codes}
+use Rattle.std.specs.Prelude.{◌≡◌, ℕ, Bool, true, false, ◌++◌, min, if◌then◌else◌, List, [], ◌∷◌, Option, Some, None, codes}
 use Rattle.std.specs.List.{flat_map, slice_get}
 use Rattle.xls_rounding.specs.declared.decimals.Decimal.{Decimal}
 use Rattle.xls_rounding.specs.Rounding.{decimal_of}
@@ -14,7 +14,7 @@ use Rattle.xls_number_formats.specs.Grammar.{Token, items}
 use Rattle.xls_number_formats.specs.Sections.{kinds, kind_of, sections_of}
 use Rattle.xls_number_formats.specs.Choices.{choice_of, counted}
 use Rattle.xls_number_formats.specs.Formats.{first_codes}
-use Rattle.xls_number_formats.specs.Texts.{shown_by}
+use Rattle.xls_number_formats.specs.Texts.{shown_by, shown_text}
 use Rattle.xls_shown_dates.specs.declared.clocks.Clock.{Clock}
 use Rattle.xls_shown_dates.specs.declared.moments.Moment.{Moment}
 use Rattle.xls_shown_dates.specs.Fields.{fields, clock_of, precision_of}
@@ -86,3 +86,10 @@ IsChosenShown (choice.Section place, minus) cs is_1904 bits text =
 -- a code shows a double as this text
 abbrev pub IsShown : List ℕ → Bool → ℕ → List ℕ → Type 0
 IsShown cs is_1904 bits text = IsChosenShown (choice_of (sections_of cs) (counted bits)) cs is_1904 bits text
+
+-- ---- a text
+
+-- by the section for texts; an empty text is shown as it is
+abbrev pub text_shown : List ℕ → List ℕ → List ℕ
+text_shown cs [] = []
+text_shown cs (c ∷ text) = shown_text cs (c ∷ text)

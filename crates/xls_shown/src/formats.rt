@@ -6,14 +6,14 @@ ghost use Rattle.std.specs.Str.{chars};
 ghost use Rattle.xls_bytes.specs.Doubles.{exponent_of};
 ghost use Rattle.xls_bytes.specs.Growth.{IsGrown};
 ghost use Rattle.xls_number_formats.specs.Formats.{parts_of};
-ghost use Rattle.xls_number_formats.specs.Texts.{shown_text};
-ghost use Rattle.xls_shown.specs.Shown.{code_at, IsShown};
+ghost use Rattle.xls_shown.specs.Shown.{code_at, IsShown, text_shown};
 ghost use Rattle.xls_shown.specs.Shapes.{Gains};
 
 use crate::numbers::{append_general, append_hashes};
 use crate::sections::ShownSection;
 use std::alloc::AllocError;
 use std::marker::Model;
+use xls_bytes::first_char;
 use xls_number_formats::{Choice, Format, push_shown_text};
 
 /// A number format's code, of which what it needs of its items is read once. It borrows the code and
@@ -116,12 +116,16 @@ impl<'a> ShownFormat<'a> {
         done
     }
 
-    /// Appends what the code shows of a text, or of `TRUE` and `FALSE`, as `push_shown_text` does.
+    /// Appends what the code shows of a text, or of the words `TRUE` and `FALSE` for a truth, as
+    /// `push_shown_text` does; of an empty text nothing.
     pub fn push_text(&self, shown: &str, text: &mut String) -> Result<(), AllocError>
         ensures ok { OnOk result (chars (string_bytes text.new)
-            ≡ chars (string_bytes text.old) ++ shown_text self.now (chars shown.now)) }
+            ≡ chars (string_bytes text.old) ++ text_shown self.now (chars shown.now)) }
         ensures err { OnErr result (string_bytes text.new ≡ string_bytes text.old) }
     {
-        push_shown_text(self.code, shown, text)
+        match first_char(shown) {
+            Some(_) => push_shown_text(self.code, shown, text),
+            None => Ok(()),
+        }
     }
 }
