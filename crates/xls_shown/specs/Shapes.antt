@@ -1,5 +1,5 @@
--- For the proofs: what a section needs of its items, and texts that have gained what is shown.
-use Rattle.std.specs.Prelude.{◌≡◌, ℕ, ◌++◌, List}
+-- For the proofs: what a section needs of its items.
+use Rattle.std.specs.Prelude.{◌≡◌, List}
 use Rattle.xls_number_formats.specs.declared.sections.Kind.TheVariants as kind
 use Rattle.xls_number_formats.specs.Grammar.{Token}
 use Rattle.xls_number_formats.specs.Sections.{kinds, kind_of}
@@ -16,7 +16,3 @@ IsShapeOf shape.General ts = kind_of (kinds ts) ≡ kind.General
 IsShapeOf (shape.Fraction f) ts = (kind_of (kinds ts) ≡ kind.Fraction) × (f ≡ fraction.needs_of ts)
 IsShapeOf (shape.Exponent e) ts = (kind_of (kinds ts) ≡ kind.Exponent) × (e ≡ exponent.needs_of ts)
 IsShapeOf (shape.Plain p) ts = (kind_of (kinds ts) ≡ kind.Plain) × (p ≡ plain_of (kinds ts))
-
--- a text has gained characters of which this holds
-abbrev pub Gains : (List ℕ → Type 0) → List ℕ → List ℕ → Type 0
-Gains P old new = (shown : List ℕ) × P shown × (new ≡ old ++ shown)

@@ -87,6 +87,10 @@ IsChosenShown (choice.Section place, minus) cs is_1904 bits text =
 abbrev pub IsShown : List ℕ → Bool → ℕ → List ℕ → Type 0
 IsShown cs is_1904 bits text = IsChosenShown (choice_of (sections_of cs) (counted bits)) cs is_1904 bits text
 
+-- a text has gained characters of which this holds
+abbrev pub Gains : (List ℕ → Type 0) → List ℕ → List ℕ → Type 0
+Gains P old new = (shown : List ℕ) × P shown × (new ≡ old ++ shown)
+
 -- ---- a text
 
 -- by the section for texts; an empty text is shown as it is

@@ -6,8 +6,7 @@ ghost use Rattle.std.specs.Str.{chars};
 ghost use Rattle.xls_bytes.specs.Doubles.{exponent_of};
 ghost use Rattle.xls_bytes.specs.Growth.{IsGrown};
 ghost use Rattle.xls_number_formats.specs.Formats.{parts_of};
-ghost use Rattle.xls_shown.specs.Shown.{code_at, IsShown, text_shown};
-ghost use Rattle.xls_shown.specs.Shapes.{Gains};
+ghost use Rattle.xls_shown.specs.Shown.{Gains, code_at, IsShown, text_shown};
 
 use crate::numbers::{append_general, append_hashes};
 use crate::sections::ShownSection;

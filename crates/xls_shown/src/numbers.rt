@@ -18,8 +18,7 @@ ghost use Rattle.xls_shown_numbers.specs.Exponent as exponents;
 ghost use Rattle.xls_shown_numbers.specs.Exponent.{exponent_text};
 ghost use Rattle.xls_shown_fractions.specs.Needs as fractions;
 ghost use Rattle.xls_shown_fractions.specs.Texts.{fraction_text};
-ghost use Rattle.xls_shown.specs.Shown.{sign, hashes, general_item, general_token, general_text, IsDateShown};
-ghost use Rattle.xls_shown.specs.Shapes.{Gains};
+ghost use Rattle.xls_shown.specs.Shown.{Gains, sign, hashes, general_item, general_token, general_text, IsDateShown};
 
 use std::alloc::AllocError;
 use xls_number_formats::{Item, Items};

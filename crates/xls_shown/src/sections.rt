@@ -7,8 +7,8 @@ ghost use Rattle.xls_bytes.specs.Doubles.{exponent_of};
 ghost use Rattle.xls_bytes.specs.Growth.{IsGrown};
 ghost use Rattle.xls_number_formats.specs.Grammar.{items};
 ghost use Rattle.xls_number_formats.specs.Sections.{kinds, kind_of};
-ghost use Rattle.xls_shown.specs.Shown.{IsSectionShown};
-ghost use Rattle.xls_shown.specs.Shapes.{IsShapeOf, Gains};
+ghost use Rattle.xls_shown.specs.Shown.{Gains, IsSectionShown};
+ghost use Rattle.xls_shown.specs.Shapes.{IsShapeOf};
 
 use crate::numbers::{
     append_date, append_exponent, append_fraction, append_general_section, append_plain,

@@ -1,4 +1,4 @@
--- For the proofs: a natural as digits with zeros behind them.
+-- Naturals of many digits: digits with zeros behind them.
 use Rattle.std.specs.Prelude.{ℕ, ◌*◌, ◌^◌}
 use Rattle.xls_shown_numbers.specs.declared.number.Number.{Number}
 
