@@ -106,6 +106,7 @@ def build_wheel(wheel_directory, config_settings=None, metadata_directory=None):
     folder, files = dist_info()
     contents = {f"gaflwened/{name}": read(f"{HERE}/gaflwened/{name}") for name in sorted(os.listdir(f"{HERE}/gaflwened"))
                 if name.endswith(".py") or name == "py.typed"}
+    contents["gaflwened/_version.py"] = f'"""The version."""\n\n__version__ = "{version()}"\n'.encode("ascii")
     with tempfile.TemporaryDirectory() as room:
         link(f"{room}/libgaflwened.so")
         contents["gaflwened/libgaflwened.so"] = read(f"{room}/libgaflwened.so")

@@ -196,6 +196,15 @@ def sheets():
     yield "Café", 0, 0, [label(0, 0, "b")]
 
 
+def chart_first():
+    """Sheets that pandas doesn't count stand before and between worksheets."""
+    yield "Chart", 0, 2, []
+    yield "First", 0, 0, [label(0, 0, "a"), whole(1, 0, 1)]
+    yield "Macro", 0, 1, [whole(0, 0, 7)]
+    yield "Module", 0, 6, []
+    yield "Second", 1, 0, [label(0, 0, "b"), whole(1, 0, 2), whole(2, 0, 3)]
+
+
 def out_of_order():
     cells = [(5, 5, 1), (0, 9, 2), (5, 5, 3), (2, 0, 4), (0, 0, 5), (5, 4, 6), (2, 0, 7), (9, 1, 8)]
     yield from (whole(*each) for each in cells)
@@ -219,6 +228,7 @@ def books():
     yield "dates_1904", moments(record(0x0022, b"\1\0"))
     yield "columns", stream([("A", 0, 0, list(mixed_columns()))], formats((14, ""), (46, "")))
     yield "sheets", stream(list(sheets()))
+    yield "chart_first", stream(list(chart_first()))
     yield "order", plain(*out_of_order())
     yield "no_sheets", stream([])
     yield "no_cells", plain()

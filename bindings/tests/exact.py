@@ -21,7 +21,7 @@ def bits(number):
 
 def fields_of(cell, raw):
     """The kind and the text of a value; the numbers of dates are those of the array."""
-    (_, _, kind, _, value, _), _ = raw
+    _, _, kind, _, value, _ = raw
     if kind in WORDS:
         if kind == _raw.NUMBER and bits(cell.value) != f"0x{value:016x}":
             raise AssertionError(f"{cell} and not {value:x}")

@@ -3,18 +3,26 @@
 What wants numpy or pandas is left out where it isn't there.
 """
 
+import array
+import contextlib
+import copy
 import datetime
+import gc
 import glob
+import importlib.metadata
+import inspect
 import io
+import multiprocessing
 import os
 import pickle
 import subprocess
 import sys
 import unittest
+import weakref
 
 import gaflwened
 from gaflwened import CellError, FaultCode, _raw
-from gaflwened._book import duration_of, moment_of
+from gaflwened._values import duration_of, moment_of
 
 try:
     import numpy
@@ -29,6 +37,17 @@ DAY = datetime.datetime(2020, 1, 1)
 
 def book(name):
     return gaflwened.open_workbook(f"{FOLDER}/{name}.xls")
+
+
+@contextlib.contextmanager
+def as_if(module, name, value):
+    """A name of a module with another value."""
+    kept = getattr(module, name)
+    setattr(module, name, value)
+    try:
+        yield
+    finally:
+        setattr(module, name, kept)
 
 
 def readable():
@@ -62,6 +81,8 @@ class Reading(unittest.TestCase):
     def test_sheets_by_name_and_index(self):
         read = book("sheets")
         self.assertEqual(len(read), len(read.sheets))
+        self.assertEqual([sheet.number for sheet in read], list(range(len(read))))
+        self.assertEqual([sheet.name for sheet in read.worksheets], ["Plain", "Hidden", "Twice", "Twice", "Café"])
         self.assertIn("Hidden", read)
         self.assertNotIn("hidden", read)
         self.assertEqual(read["Twice"].visibility, "hidden")
@@ -71,14 +92,137 @@ class Reading(unittest.TestCase):
             with self.assertRaises(gaflwened.SheetNotFound) as caught:
                 read[wanted]
             self.assertEqual(caught.exception.wanted, wanted)
-            self.assertIsInstance(caught.exception, LookupError)
+            for kind in (LookupError, KeyError, IndexError, ValueError):
+                self.assertIsInstance(caught.exception, kind)
+            self.assertEqual(pickle.loads(pickle.dumps(caught.exception)).wanted, wanted)
+        with self.assertRaisesRegex(TypeError, "by its name or its index"):
+            read[1.5]
 
     def test_ways_to_give_a_file(self):
         with open(LEDGER, "rb") as file:
             data = file.read()
-        for given in (data, bytearray(data), memoryview(data)):
+        words = array.array("I", data)
+        self.assertEqual(len(words) * 4, len(data))
+        for given in (data, bytearray(data), memoryview(data), words, memoryview(words), memoryview(data[::-1])[::-1]):
             self.assertEqual(gaflwened.Workbook.from_bytes(given).sheet_names, ["Data", "Log", "Old"])
         self.assertEqual(gaflwened.open_workbook(io.BytesIO(data))["Data"][1, 1], 4.5)
+        with self.assertRaises(TypeError):
+            gaflwened.Workbook.from_bytes("text")
+        with self.assertRaisesRegex(TypeError, "Workbook.from_bytes takes the bytes"):
+            gaflwened.open_workbook(data)
+
+    def test_open_files(self):
+        """One is read from its beginning where it can go there, else from where it stands, and stays open."""
+        with open(LEDGER, "rb") as file:
+            file.seek(100)
+            for _ in range(2):
+                self.assertEqual(gaflwened.open_workbook(file).sheet_names, ["Data", "Log", "Old"])
+            self.assertFalse(file.closed)
+        with subprocess.Popen(["cat", LEDGER], stdout=subprocess.PIPE) as process:
+            self.assertEqual(gaflwened.open_workbook(process.stdout).sheet_names, ["Data", "Log", "Old"])
+        with open(LEDGER, encoding="latin-1") as file, self.assertRaisesRegex(TypeError, "mode 'rb'"):
+            gaflwened.open_workbook(file)
+
+    def test_rows_are_a_sequence(self):
+        sheet = book("samples_ledger_xls")["Data"]
+        rows = [["Item", "Café €", None], ["Sum", 4.5, None], [2, 2.5, DAY]]
+        self.assertEqual((list(sheet), len(sheet), list(reversed(sheet))), (rows, 3, rows[::-1]))
+        self.assertEqual([sheet[at] for at in (0, 2, -1, -3)], [rows[at] for at in (0, 2, -1, -3)])
+        for wanted in (slice(1, 3), slice(None), slice(None, None, -1), slice(-2, None), slice(0, 9, 2), slice(5, 9), slice(2, 0, -1)):
+            self.assertEqual(sheet[wanted], rows[wanted], wanted)
+        self.assertEqual([sheet[text] for text in ("A1", "b2", "$C$3", "Z99", "IV65536")], ["Item", 4.5, DAY, None, None])
+        self.assertEqual([sheet[place] for place in ((-1, -1), (-3, 0), (7, 7), (2, -2))], [DAY, "Item", None, 2.5])
+        for wanted in (3, -4, 10**30, (-4, 0), (0, -4), (65_536, 0), (0, 65_536)):
+            with self.assertRaisesRegex(IndexError, "(row|column) .* is out of range: the sheet 'Data' has 3 (row|column)s"):
+                sheet[wanted]
+        for wanted in ("", "A", "1", "A0", "A1:B2", "Data", "A65537", "ZZZZ1", "A-1", " A1", "\u00c41", "A\u0661"):
+            with self.assertRaises(KeyError):
+                sheet[wanted]
+        for wanted in (1.5, None, (1,), (1, 2, 3), (1, None), ("A", 1)):
+            with self.assertRaisesRegex(TypeError, "is asked for by"):
+                sheet[wanted]
+        empty = book("no_cells")[0]
+        self.assertEqual((list(empty), len(empty), empty[:], empty["A1"]), ([], 0, [], None))
+        with self.assertRaises(IndexError):
+            empty[0]
+        for path, read in readable():
+            for sheet in read:
+                if sheet.nrows * sheet.ncols < 1_000_000:
+                    rows = list(sheet.rows())
+                    for at in {0, len(sheet) // 2, len(sheet) - 1} & set(range(len(sheet))):
+                        self.assertEqual(repr([sheet[at], sheet[at - len(sheet)]]), repr([rows[at]] * 2), path)
+                    self.assertEqual(repr(sheet[3:-3]), repr(rows[3:-3]), path)
+
+    def test_goes_with_its_last_reference(self):
+        """Without a collector: a workbook and its sheets don't refer to one another."""
+        gc.collect()
+        gc.disable()
+        try:
+            read = book("many_rows")
+            sheet = read[0]
+            self.assertEqual((len(list(sheet)), len(sheet.to_dict()), sheet.formulas, read.names), (3000, 15_000, (), ()))
+            of_book, of_sheet, of_store = weakref.ref(read), weakref.ref(sheet), weakref.ref(read._store)
+            del read
+            self.assertIsNone(of_book())
+            self.assertEqual((len(sheet), of_store() is sheet._store), (3000, True))
+            del sheet
+            self.assertEqual((of_sheet(), of_store()), (None, None))
+        finally:
+            gc.enable()
+
+    def test_close(self):
+        with book("samples_ledger_xls") as read:
+            sheet, texts = read["Data"], read.texts
+            self.assertFalse(read.closed)
+        self.assertTrue(read.closed)
+        self.assertIn("closed", repr(read) + repr(sheet))
+        self.assertIn("Item", str(texts, "utf-8"))
+        asked = [lambda: read.names, lambda: read["Data"], lambda: read.texts, lambda: read.is_1904, lambda: sheet.name, lambda: sheet[0, 0],
+                 lambda: sheet[0], lambda: list(sheet), lambda: sheet.to_dict(), lambda: sheet.formulas, lambda: pickle.dumps(read),
+                 read.__enter__]
+        for ask in asked:
+            with self.assertRaisesRegex(ValueError, "the workbook is closed"):
+                ask()
+        read.close()
+        with self.assertRaises(ZeroDivisionError), book("samples_ledger_xls") as read:
+            raise ZeroDivisionError
+        self.assertTrue(read.closed)
+
+    def test_pickles(self):
+        """Also where the arrays are mapped, as those of large workbooks are."""
+        for mapped in (_raw.MAPPED, 0):
+            with as_if(_raw, "MAPPED", mapped):
+                for path, read in readable():
+                    if len(read.texts) > 1_000_000:
+                        continue
+                    for protocol in (2, pickle.HIGHEST_PROTOCOL):
+                        again = pickle.loads(pickle.dumps(read, protocol))
+                        self.assertEqual((again.names, again.sheet_names, again.is_1904), (read.names, read.sheet_names, read.is_1904))
+                        for sheet, other in zip(read, again):
+                            self.assertEqual(repr(list(sheet.cells())), repr(list(other.cells())), path)
+                            self.assertEqual((sheet.formulas, sheet.merged_regions), (other.formulas, other.merged_regions))
+        read = book("sheets")
+        sheet, again = pickle.loads(pickle.dumps([read[4], read]))
+        self.assertEqual((sheet.number, sheet.to_dict(), again[4].to_dict()), (4, {(9, 9): 6}, {(9, 9): 6}))
+        self.assertIs(sheet._store, again._store)
+        self.assertEqual(copy.deepcopy(read)[0].to_dict(), copy.copy(read)[0].to_dict())
+        buffers = []
+        data = pickle.dumps(read, 5, buffer_callback=buffers.append)
+        self.assertEqual(len(buffers), 6)
+        self.assertEqual(pickle.loads(data, buffers=buffers)[0].to_dict(), {(0, 0): 1})
+
+    def test_other_processes(self):
+        with multiprocessing.get_context("fork").Pool(1) as pool, as_if(_raw, "MAPPED", 0):
+            for name in ("samples_ledger_xls", "many_texts"):
+                read = pool.apply(gaflwened.open_workbook, (f"{FOLDER}/{name}.xls",))
+                self.assertEqual(read.sheet_names, book(name).sheet_names)
+                self.assertEqual(pool.apply(list, (book(name)[0],)), list(read[0]))
+
+    def test_version(self):
+        self.assertEqual(gaflwened.__version__, importlib.metadata.version("gaflwened"))
+        self.assertEqual(gaflwened.__version__, os.environ.get("GAFLWENED_VERSION", gaflwened.__version__))
+        done = subprocess.run([sys.executable, "-m", "gaflwened", "--version"], stdout=subprocess.PIPE, check=True, text=True)
+        self.assertEqual(done.stdout, f"gaflwened {gaflwened.__version__}\n")
 
     def test_rows_dict_and_cells_agree(self):
         for path, read in readable():
@@ -111,6 +255,26 @@ class Reading(unittest.TestCase):
             gaflwened.open_workbook(LEDGER, sheet=3)
         self.assertEqual((caught.exception.code, caught.exception.first), (FaultCode.NO_SUCH_SHEET, 3))
         self.assertEqual(len(gaflwened.open_workbook(f"{FOLDER}/page.xls", code_page=1252)), 1)
+        self.assertEqual(gaflwened.open_workbook(LEDGER, sheet="Log")[0].to_dict(), one[0].to_dict())
+        self.assertEqual(gaflwened.open_workbook(f"{FOLDER}/sheets.xls", sheet="Twice").sheets[0].to_dict(), {(9, 9): 6})
+        with self.assertRaises(gaflwened.SheetNotFound):
+            gaflwened.open_workbook(LEDGER, sheet="log")
+        self.assertEqual(len(gaflwened.open_workbook(LEDGER, max_cells=2**64 - 1, max_bytes=2**64 - 1)), 3)
+
+    def test_options_are_looked_at(self):
+        with open(LEDGER, "rb") as file:
+            data = file.read()
+        wrong = [({"code_page": 66_788}, ValueError, "code_page"), ({"code_page": -1}, ValueError, "code_page"),
+                 ({"code_page": "1252"}, TypeError, "code_page"), ({"sheet": -1}, ValueError, "sheet"), ({"sheet": 1.0}, TypeError, "sheet"),
+                 ({"sheet": True}, TypeError, "sheet"), ({"max_cells": 0}, ValueError, "max_cells"), ({"max_bytes": 2**64}, ValueError, "max_bytes"),
+                 ({"max_bytes": 1e9}, TypeError, "max_bytes"), ({"sheet": 0, "content": False}, ValueError, "content=False"),
+                 ({"no_such_option": 1}, TypeError, "no_such_option")]
+        for options, kind, text in wrong:
+            for read, given in (gaflwened.open_workbook, LEDGER), (gaflwened.Workbook.from_bytes, data):
+                with self.assertRaisesRegex(kind, text):
+                    read(given, **options)
+        for read in (gaflwened.open_workbook, gaflwened.Workbook.from_bytes):
+            self.assertIn("code_page", inspect.signature(read).parameters)
 
     def test_refusals(self):
         with self.assertRaises(OSError):
@@ -140,6 +304,20 @@ class Reading(unittest.TestCase):
         self.assertEqual(column[8:12], [60.0, 60.75, datetime.datetime(1900, 3, 1), datetime.datetime(1900, 3, 1)])
         self.assertEqual(column[15], datetime.datetime(2020, 1, 1, 18))
         self.assertEqual(book("dates_1904")[0][15, 1], datetime.datetime(2024, 1, 2, 18))
+
+    def test_dates_are_those_of_the_library(self):
+        """Also those that aren't made from its text."""
+        for name in ("dates_1900", "dates_1904"):
+            read, reckoned = book(name), 0
+            for _, _, kind, _, bits, _ in read[0]._raw_cells():
+                if kind in (_raw.DATE_TIME, _raw.DURATION):
+                    is_duration = kind == _raw.DURATION
+                    number = _raw.CELL_NUMBER.unpack(bytes(16) + bits.to_bytes(8, sys.byteorder) + bytes(8))[0]
+                    text = _raw.serial(bits, read.is_1904, is_duration)
+                    wanted = duration_of(text) if is_duration else moment_of(text)
+                    self.assertEqual(repr(read._store.reckoned(bits, number, is_duration)), repr(number if wanted is None else wanted), text)
+                    reckoned += wanted is not None
+            self.assertGreater(reckoned, 50)
 
     def test_main(self):
         done = subprocess.run([sys.executable, "-m", "gaflwened", LEDGER], stdout=subprocess.PIPE, check=True)
@@ -172,7 +350,9 @@ class Frames(unittest.TestCase):
             for sheet in read:
                 array = sheet.to_numpy()
                 self.assertEqual(len(array), sum(1 for _ in sheet.cells()), path)
-                self.assertFalse(array.flags.writeable or array.flags.owndata and len(array))
+                self.assertFalse(array.flags.writeable or array.flags.owndata)
+                with self.assertRaises(ValueError):
+                    array.flags.writeable = True
                 for item, cell in zip(array[:2000], sheet.cells()):
                     self.assertEqual((item["row"], item["column"]), cell[:2])
                     if item["kind"] == _raw.TEXT:
@@ -237,6 +417,105 @@ class Frames(unittest.TestCase):
         self.assertEqual(gaflwened.read_excel(path, index_col=[0, 2]).index.tolist()[1:3], [(2, 2), (3, 2)])
         with self.assertRaises(TypeError):
             gaflwened.read_excel(path, no_such_argument=1)
+
+    def test_arrays_outlive_their_workbook(self):
+        with as_if(_raw, "MAPPED", 0), book("many_rows") as read:
+            cells = read[0].to_numpy()
+        self.assertTrue(read.closed)
+        self.assertEqual(cells["number"].sum(), sum(row * column for row in range(3000) for column in range(5)))
+        with self.assertRaisesRegex(ValueError, "closed"):
+            read[0].to_numpy()
+        self.assertEqual(book("many_rows")[0][numpy.int64(2)], [0, 2, 4, 6, 8])
+
+    def test_long(self):
+        words = {int: "int", float: "float", datetime.datetime: "date", datetime.time: "date", datetime.timedelta: "span", str: "text",
+                 bool: "bool", CellError: "error"}
+        for path, read in readable():
+            for sheet in read:
+                table = sheet.to_long()
+                self.assertEqual(list(table.columns), ["row", "column", "kind", "value"])
+                self.assertEqual([str(kind) for kind in table.dtypes], ["int64", "int64", "category", "object"], path)
+                cells = list(sheet.cells())
+                self.assertEqual(list(zip(table["row"], table["column"])), [cell[:2] for cell in cells])
+                found = list(table["value"])
+                self.assertEqual([repr(value) for value in found], [repr(cell.value) for cell in cells], path)
+                for word, cell in zip(table["kind"], cells):
+                    if type(cell.value) is not float or word == "float":
+                        self.assertEqual(word, words[type(cell.value)], path)
+
+    def test_sheets_are_counted_as_pandas_does(self):
+        path = f"{FOLDER}/chart_first.xls"
+        self.assertEqual(gaflwened.read_excel(path)["a"].tolist(), [1])
+        self.assertEqual(gaflwened.read_excel(path, 1)["b"].tolist(), [2, 3])
+        self.assertEqual(gaflwened.read_excel(path, -1)["b"].tolist(), [2, 3])
+        self.assertEqual(list(gaflwened.read_excel(path, None)), ["First", "Second"])
+        self.assertEqual(list(gaflwened.read_excel(path, [1, "First"])), [1, "First"])
+        self.assertEqual(gaflwened.read_excel(path, "Macro", header=None).shape, (1, 1))
+        for wanted in (2, -3, "second"):
+            with self.assertRaises(ValueError):
+                gaflwened.read_excel(path, wanted)
+        with self.assertRaisesRegex(TypeError, "sheet_name"):
+            gaflwened.read_excel(path, 1.5)
+
+    def test_engine(self):
+        gaflwened.register_pandas()
+        gaflwened.register_pandas()
+        path = f"{FOLDER}/chart_first.xls"
+        for name in ("columns", "values", "samples_ledger_xls", "dates_1900"):
+            ours = gaflwened.read_excel(f"{FOLDER}/{name}.xls")
+            pandas.testing.assert_frame_equal(ours, pandas.read_excel(f"{FOLDER}/{name}.xls", engine="gaflwened"), obj=name)
+        self.assertEqual(pandas.read_excel(path, sheet_name=1, engine="gaflwened")["b"].tolist(), [2, 3])
+        self.assertEqual(pandas.read_excel(path, sheet_name="Second", nrows=1, engine="gaflwened")["b"].tolist(), [2])
+        self.assertEqual(list(pandas.read_excel(path, sheet_name=None, engine="gaflwened")), ["First", "Second"])
+        with pandas.ExcelFile(path, engine="gaflwened") as file:
+            self.assertEqual(file.sheet_names, ["First", "Second"])
+        with open(path, "rb") as file:
+            file.seek(7)
+            self.assertEqual(pandas.read_excel(file, engine="gaflwened").shape, (1, 1))
+        with open(path, "rb") as file:
+            self.assertEqual(pandas.read_excel(io.BytesIO(file.read()), engine="gaflwened").shape, (1, 1))
+        read = book("chart_first")
+        self.assertEqual(pandas.read_excel(read, engine="gaflwened").shape, (1, 1))
+        self.assertFalse(read.closed)
+        for wanted in (2, "Chart"):
+            with self.assertRaisesRegex(ValueError, "Worksheet"):
+                pandas.read_excel(path, sheet_name=wanted, engine="gaflwened")
+        with self.assertRaises(gaflwened.Error):
+            pandas.read_excel(f"{FOLDER}/zip.xls", engine="gaflwened")
+
+    def test_engine_over_either_form_of_pandas(self):
+        """The calls of pandas 1.5 and those of 2.1 and later, which the pandas that is here may not make."""
+        from gaflwened import _engine
+
+        class Base:
+            def __init__(self, *load):
+                with open(LEDGER, "rb") as file:
+                    self.handles, self.book = io.BytesIO(), self.load_workbook(file, *load)
+
+            def raise_if_bad_sheet_by_name(self, name):
+                pass
+
+            def raise_if_bad_sheet_by_index(self, index):
+                pass
+
+        reader = _engine.reader_of(Base)
+        for load, calls in ((), [(True, None), (True, 2), (False, 2)]), (({},), [(None,), (2,), ()]), (({"sheet": "Data"},), [(3,)]):
+            made = reader(*load)
+            self.assertEqual(made.sheet_names, ["Data", "Log", "Old"][: 1 if load and load[0] else 3])
+            for sheet in made.get_sheet_by_name("Data"), made.get_sheet_by_index(0):
+                for call in calls:
+                    rows = made.get_sheet_data(sheet, *call)
+                    wanted = [["Item", "Café €", ""], ["Sum", 4.5, ""], [2, 2.5, DAY]][: call[-1] if call else None]
+                    self.assertEqual(rows, wanted)
+            made.close()
+        with self.assertRaises(TypeError):
+            reader({"no_such_option": 1})
+
+    def test_pandas_that_takes_no_engine(self):
+        from pandas.io.excel import _base
+
+        with as_if(_base.ExcelFile, "_engines", ()), self.assertRaisesRegex(ImportError, "takes no engine from outside"):
+            gaflwened.register_pandas()
 
     def test_sheets(self):
         self.assertEqual(list(gaflwened.read_excel(LEDGER, sheet_name=None)), ["Data", "Log", "Old"])

@@ -8,11 +8,12 @@ line `file` and its name.
 from __future__ import annotations
 
 import datetime
+import io
 import os
 import sys
-from typing import Iterator
+from typing import Any, Iterator
 
-from . import Error, Value, Workbook, open_workbook
+from . import Error, Value, Workbook, __version__, open_workbook
 
 ESCAPES = str.maketrans({"\\": "\\\\", "\n": "\\n", "\r": "\\r", "\t": "\\t"})
 
@@ -48,12 +49,12 @@ def fields_of(value: Value) -> tuple[str, str]:
     return "error", str(value)
 
 
-def lines_of(book: Workbook) -> Iterator[tuple]:
+def lines_of(book: Workbook) -> Iterator[tuple[Any, ...]]:
     """The fields of each line."""
     yield "dates", 1904 if book.is_1904 else 1900
     for name in book.names:
         yield ("name", *name)
-    for sheet in book:
+    for sheet in book.sheets:
         yield "sheet", sheet.name, sheet.kind, sheet.visibility
         for row, column, value in sheet.cells():
             yield ("cell", row, column, *fields_of(value))
@@ -66,10 +67,14 @@ def lines_of(book: Workbook) -> Iterator[tuple]:
 
 def main(words: list[str]) -> int:
     """Writes the lines of each file; answers 1 where one is refused."""
+    if words == ["--version"]:
+        print("gaflwened", __version__)
+        return 0
     if not words or words[0].startswith("-"):
-        print(__doc__.strip(), file=sys.stderr)
+        print((__doc__ or "").strip(), file=sys.stderr)
         return 2
-    sys.stdout.reconfigure(encoding="utf-8", newline="\n")
+    if isinstance(sys.stdout, io.TextIOWrapper):
+        sys.stdout.reconfigure(encoding="utf-8", newline="\n")
     status = 0
     for word in words:
         try:

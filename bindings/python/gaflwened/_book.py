@@ -1,122 +1,55 @@
-"""A workbook, its sheets and its defined names."""
+"""A workbook and its sheets."""
 
 from __future__ import annotations
 
-import datetime
-import enum
+import functools
+import operator
 import os
-import struct
-from typing import TYPE_CHECKING, Any, BinaryIO, Iterator, NamedTuple, Optional, Union
+from typing import TYPE_CHECKING, Any, BinaryIO, Iterator, Optional, Union, overload
 
 from . import _raw
 from ._errors import SheetNotFound
+from ._store import CELL, Store
+from ._values import KINDS, PLACES, VISIBILITIES, Cell, DefinedName, Formula, Region, Value, place_of
 
 if TYPE_CHECKING:
     import numpy
     import pandas
+    from numpy.typing import NDArray
 
-KINDS = ("worksheet", "dialog", "macro", "chart", "vba")
-VISIBILITIES = ("visible", "hidden", "veryhidden")
+    # What open_workbook takes.
+    File = Union[str, os.PathLike[Any], BinaryIO]
 
-
-class CellError(enum.Enum):
-    """An error value of a cell; `str` is its text."""
-
-    NULL = "#NULL!"
-    DIV_0 = "#DIV/0!"
-    VALUE = "#VALUE!"
-    REF = "#REF!"
-    NAME = "#NAME?"
-    NUM = "#NUM!"
-    NA = "#N/A"
-    GETTING_DATA = "#DATA!"
-
-    def __str__(self) -> str:
-        return self.value
-
-
-ERRORS = {
-    0x00: CellError.NULL, 0x07: CellError.DIV_0, 0x0F: CellError.VALUE, 0x17: CellError.REF,
-    0x1D: CellError.NAME, 0x24: CellError.NUM, 0x2A: CellError.NA, 0x2B: CellError.GETTING_DATA,
-}
-
-Value = Union[None, int, float, str, bool, datetime.datetime, datetime.time, datetime.timedelta, CellError]
-
-
-class Cell(NamedTuple):
-    """A cell: its row and column, from 0, and its value."""
-
-    row: int
-    column: int
-    value: Value
-
-
-class Formula(NamedTuple):
-    """A formula: its row and column, from 0, and its text without `=`, in which rows count from 1."""
-
-    row: int
-    column: int
-    text: str
-
-
-class Region(NamedTuple):
-    """A merged region: its first and its last row and column, from 0, both included."""
-
-    first_row: int
-    first_column: int
-    last_row: int
-    last_column: int
-
-
-class DefinedName(NamedTuple):
-    """A defined name and the text of its formula."""
-
-    name: str
-    formula: str
-
-
-def moment_of(text: str) -> Union[datetime.datetime, datetime.time, None]:
-    """The date, or the time of day, of a text that the library writes of a number of days; None of what datetime doesn't have."""
-    date, mark, time = text.partition("T")
-    if not mark and ":" in date:
-        date, time = "", date
-    if time:
-        clock, _, fraction = time.partition(".")
-        hour, minute, second = map(int, clock.split(":"))
-        of_day = datetime.time(hour, minute, second, int(fraction.ljust(6, "0")))
-        if not date:
-            return of_day
-    else:
-        of_day = datetime.time()
-    parts = date.split("-")
-    if [len(part) for part in parts] != [4, 2, 2] or date == "1900-02-29":
-        return None
-    return datetime.datetime.combine(datetime.date(*map(int, parts)), of_day)
-
-
-def duration_of(text: str) -> Optional[datetime.timedelta]:
-    """The duration of a text that the library writes of a number of days; None of a number."""
-    clock, _, fraction = text.lstrip("-").partition(".")
-    if ":" not in clock:
-        return None
-    hours, minutes, seconds = map(int, clock.split(":"))
-    found = datetime.timedelta(hours=hours, minutes=minutes, seconds=seconds, microseconds=int(fraction.ljust(6, "0")))
-    return -found if text.startswith("-") else found
+# How many cells are looked at together.
+TOGETHER = 8192
+MOST = (1 << 64) - 1
+# (Cell._make, without its look at how many fields there are)
+AS_CELL = functools.partial(tuple.__new__, Cell)
 
 
 class Workbook:
-    """What a workbook holds. `open_workbook` and `Workbook.from_bytes` make one; it keeps no file open."""
+    """What a workbook holds. `open_workbook` and `Workbook.from_bytes` make one; it keeps no file open.
 
-    def __init__(self, content: _raw.Content):
-        self._content = content
-        self._texts: Union[str, bytes, None] = None
-        self._moments: dict[tuple[int, bool], Value] = {}
-        self._sheets = tuple(Sheet(self, *fields) for fields in _items(_raw.SHEET, content.sheets, content.sizes.sheets))
+    It has its sheets as a sequence and by their names: `book[0]`, `book["Data"]`, `len(book)`, `for sheet in book`. It may be pickled, and so
+    be handed to another process. Its memory goes with the last reference to it, its sheets and what `to_numpy` and `texts` gave, or of the
+    first two by `close`, which the end of a `with` calls.
+    """
+
+    def __init__(self, store: Store):
+        self._store = store
+        self._sheets = tuple(Sheet(store, number) for number in range(store.arrays.counts.sheets))
 
     @classmethod
-    def from_bytes(cls, file: Union[bytes, bytearray, memoryview], **options: Any) -> Workbook:
-        """Reads the workbook of a file's bytes: a compound file, or a workbook's stream alone. The options are those of `open_workbook`."""
-        return _read(_raw.stream(bytes(file), len(file)), **options)
+    def from_bytes(cls, file: Any, *, code_page: Optional[int] = None, sheet: Union[None, int, str] = None, content: bool = True,
+                   few_functions: bool = False, max_bytes: Optional[int] = None, max_cells: Optional[int] = None) -> Workbook:
+        """Reads the workbook of a file's bytes: a compound file, or a workbook's stream alone.
+
+        The bytes are all those of an object with the buffer protocol: bytes, a bytearray, a memoryview or an array of any type. The options
+        and the errors are those of `open_workbook`; TypeError where it has no buffer.
+        """
+        options = Options(code_page, sheet, content, few_functions, max_bytes, max_cells)
+        data = file if isinstance(file, bytes) else memoryview(file).tobytes()
+        return options.read(_raw.stream(data, len(data)))
 
     @property
     def sheets(self) -> tuple[Sheet, ...]:
@@ -129,36 +62,62 @@ class Workbook:
         return [sheet.name for sheet in self._sheets]
 
     @property
+    def worksheets(self) -> tuple[Sheet, ...]:
+        """The sheets that pandas counts: all but those of charts, macros and VBA."""
+        return tuple(sheet for sheet in self._sheets if sheet.kind in ("worksheet", "dialog"))
+
+    @property
     def names(self) -> tuple[DefinedName, ...]:
         """The defined names in the order of the workbook. Two sheets may each have one of the same name."""
-        text = self._text
-        items = _items(_raw.NAME, self._content.names, self._content.sizes.names)
+        text, arrays = self._store.text, self._store.arrays
+        items = self._store.items(_raw.NAME, arrays.names, arrays.counts.names)
         return tuple(DefinedName(text(a, b), text(c, d)) for a, b, c, d in items)
 
     @property
     def is_1904(self) -> bool:
         """Whether days count from 1904-01-01. Else they count from 1899-12-31."""
-        return self._content.sizes.is_1904 != 0
+        return self._store.is_1904
 
     @property
     def texts(self) -> memoryview:
-        """All texts in UTF-8. The arrays of `Sheet.to_numpy` have offsets into it."""
-        return memoryview(self._content.texts)[: self._content.sizes.text_bytes].toreadonly()
+        """All texts in UTF-8, as bytes that can't be written. The arrays of `Sheet.to_numpy` have offsets into it."""
+        return self._store.view()
+
+    def close(self) -> None:
+        """Gives the memory back; it and its sheets then answer nothing but ValueError. What `to_numpy` and `texts` gave stays as it is."""
+        self._store.close()
+
+    @property
+    def closed(self) -> bool:
+        """Whether `close` was called."""
+        return self._store.is_closed
+
+    def __enter__(self) -> Workbook:
+        self._store.arrays  # (ValueError where it is closed)
+        return self
+
+    def __exit__(self, *_: object) -> None:
+        self.close()
 
     def __getitem__(self, wanted: Union[str, int]) -> Sheet:
-        """The last sheet of a name, spelled in the same case, or the sheet of an index."""
+        """The last sheet of a name, spelled in the same case, or the sheet of an index, from 0 or, below 0, from the end.
+
+        SheetNotFound where there is none.
+        """
         if isinstance(wanted, str):
             for sheet in reversed(self._sheets):
                 if sheet.name == wanted:
                     return sheet
             raise SheetNotFound(wanted)
         try:
-            return self._sheets[wanted]
+            return self._sheets[operator.index(wanted)]
         except IndexError:
             raise SheetNotFound(wanted) from None
+        except TypeError:
+            raise TypeError(f"a sheet is asked for by its name or its index, and not by {wanted!r}") from None
 
     def __contains__(self, name: object) -> bool:
-        return any(sheet.name == name for sheet in self._sheets)
+        return any(sheet is name or sheet.name == name for sheet in self._sheets)
 
     def __iter__(self) -> Iterator[Sheet]:
         return iter(self._sheets)
@@ -166,83 +125,36 @@ class Workbook:
     def __len__(self) -> int:
         return len(self._sheets)
 
+    def __reduce__(self) -> tuple[Any, ...]:
+        return Workbook, (self._store,)
+
     def __repr__(self) -> str:
+        if self.closed:
+            return "<gaflwened.Workbook, closed>"
         return f"<gaflwened.Workbook of {', '.join(map(repr, self.sheet_names)) or 'no sheets'}>"
 
-    def _lent(self) -> Union[str, bytes]:
-        """All texts, as a text where all is ASCII: then offsets in bytes are offsets in characters."""
-        if self._texts is None:
-            try:
-                self._texts = str(self.texts, "ascii")
-            except UnicodeDecodeError:
-                self._texts = bytes(self.texts)
-        return self._texts
 
-    def _text(self, offset: int, length: int) -> str:
-        """The text of so many bytes from an offset on."""
-        found = self._lent()[offset : offset + length]
-        return found if isinstance(found, str) else found.decode("utf-8")
-
-    def _words(self) -> numpy.ndarray:
-        """The eight bytes from each offset of the texts on, and eight offsets more."""
-        import numpy
-
-        return numpy.ndarray(self._content.sizes.text_bytes + 9, "<u8", self._content.texts, strides=(1,))
-
-    def _texts_of(self, begins: list[int], ends: list[int]) -> list[str]:
-        """The texts from so many offsets to others."""
-        texts = self._lent()
-        if isinstance(texts, str):
-            return [texts[begin:end] for begin, end in zip(begins, ends)]
-        return [texts[begin:end].decode("utf-8") for begin, end in zip(begins, ends)]
-
-    def _moment(self, bits: int, number: float, is_duration: bool) -> Value:
-        """The date, time or duration of a number of days, or the number where it is none."""
-        found = self._moments.get((bits, is_duration))
-        if found is None:
-            text = _raw.serial(bits, self.is_1904, is_duration)
-            found = duration_of(text) if is_duration else moment_of(text)
-            found = self._moments[bits, is_duration] = number if found is None else found
-        return found
-
-    def _value(self, kind: int, value: int, length: int, number: float) -> Value:
-        """The value of a cell by the fields of its struct, and by the number that its bits are."""
-        if kind == _raw.TEXT:
-            return self._text(value, length)
-        if kind == _raw.NUMBER:
-            return number
-        if kind == _raw.WHOLE_NUMBER:
-            return int(number)
-        if kind == _raw.DATE_TIME:
-            return self._moment(value, number, False)
-        if kind == _raw.BOOLEAN:
-            return value != 0
-        if kind == _raw.ERROR:
-            return ERRORS[value]
-        if kind == _raw.DURATION:
-            return self._moment(value, number, True)
-        return None if kind == 0 else self._text(value, length)
-
-
-def _numpy_cell() -> numpy.dtype:
+def _numpy_cell() -> numpy.dtype[Any]:
     """The struct of a cell; its value is there twice, as bits and as a number."""
     import numpy
 
     names = ["row", "column", "kind", "form", "value", "number", "length"]
     formats = ["<u4", "<u4", "<u4", "<u4", "<u8", "<f8", "<u8"]
-    return numpy.dtype({"names": names, "formats": formats, "offsets": [0, 4, 8, 12, 16, 16, 24], "itemsize": _raw.CELL.size})
-
-
-def _items(item: struct.Struct, buffer: _raw.Buffer, count: int, first: int = 0) -> Iterator[tuple]:
-    """The structs of an array from one on, as tuples."""
-    return item.iter_unpack(memoryview(buffer)[first * item.size : (first + count) * item.size])
+    return numpy.dtype({"names": names, "formats": formats, "offsets": [0, 4, 8, 12, 16, 16, 24], "itemsize": CELL})
 
 
 class Sheet:
-    """A sheet of a workbook. Several sheets of one name all show the content of the last of them."""
+    """A sheet of a workbook. Several sheets of one name all show the content of the last of them.
 
-    def __init__(self, book: Workbook, *fields: int):
-        self._book = book
+    It is a sequence of its rows: `sheet[0]` and `sheet[-1]` are the first and the last, `sheet[2:5]` three of them, `len(sheet)` how many
+    there are, `for row in sheet` and `list(sheet)` all of them. `sheet[2, 1]` and `sheet["B3"]` are the value of one cell. A sheet may be
+    pickled; its whole workbook goes with it.
+    """
+
+    def __init__(self, store: Store, number: int):
+        self._store = store
+        self._number = number
+        fields = _raw.SHEET.unpack_from(store.arrays.sheets, number * _raw.SHEET.size)
         self._name = fields[:2]
         self._first_cell, self._cells, self._first_formula, self._formulas, self._first_region, self._regions = fields[2:8]
         self._kind, self._visibility = fields[8:]
@@ -251,7 +163,12 @@ class Sheet:
     @property
     def name(self) -> str:
         """The name."""
-        return self._book._text(*self._name)
+        return self._store.text(*self._name)
+
+    @property
+    def number(self) -> int:
+        """The index of the sheet in its workbook, from 0."""
+        return self._number
 
     @property
     def kind(self) -> str:
@@ -263,86 +180,164 @@ class Sheet:
         """'visible', 'hidden' or 'veryhidden'."""
         return VISIBILITIES[self._visibility]
 
-    def _raw_cells(self) -> Iterator[tuple[tuple, tuple[float]]]:
-        """The fields of each cell's struct, and the number that its bits are."""
-        place = self._book._content.cells, self._cells, self._first_cell
-        return zip(_items(_raw.CELL, *place), _items(_raw.CELL_NUMBER, *place))
+    def _raw_cells(self) -> Iterator[tuple[Any, ...]]:
+        """The fields of each cell's struct."""
+        return self._store.items(_raw.CELL, self._store.arrays.cells, self._cells, self._first_cell)
 
-    def _raw_cell(self, index: int) -> tuple[tuple, tuple[float]]:
-        """The same of one cell."""
-        place = self._book._content.cells, (self._first_cell + index) * _raw.CELL.size
-        return _raw.CELL.unpack_from(*place), _raw.CELL_NUMBER.unpack_from(*place)
+    def _raw_cell(self, index: int) -> tuple[int, int, int, int, int, int, float]:
+        """The fields of a cell's struct, and the number that its bits are."""
+        place = self._store.arrays.cells, (self._first_cell + index) * CELL
+        row, column, kind, form, bits, length = _raw.CELL.unpack_from(*place)
+        return row, column, kind, form, bits, length, _raw.CELL_NUMBER.unpack_from(*place)[0]
 
     @property
     def nrows(self) -> int:
         """One more than the last row with a cell, 0 where there is none."""
-        return self._raw_cell(self._cells - 1)[0][0] + 1 if self._cells else 0
+        return self._raw_cell(self._cells - 1)[0] + 1 if self._cells else 0
 
     @property
     def ncols(self) -> int:
         """One more than the last column with a cell, 0 where there is none."""
         if self._width is None:
-            columns = _items(_raw.CELL_COLUMN, self._book._content.cells, self._cells, self._first_cell)
-            self._width = max(columns, default=(-1,))[0] + 1
+            columns = self._store.cells(self._first_cell, self._cells).cast("I")[1::8]
+            self._width = max(columns.tolist(), default=-1) + 1
         return self._width
+
+    def _parts(self) -> Iterator[tuple[list[int], list[int], list[Value]]]:
+        """The rows, the columns and the values of cells, so many together."""
+        for first in range(0, self._cells, TOGETHER):
+            cells = self._store.cells(self._first_cell + first, min(TOGETHER, self._cells - first))
+            words = cells.cast("I")
+            yield words[0::8].tolist(), words[1::8].tolist(), self._store.values(cells)
 
     def cells(self) -> Iterator[Cell]:
         """The cells that the file has, by row and then by column, each position once."""
-        value = self._book._value
-        for (row, column, kind, _, held, length), (number,) in self._raw_cells():
-            yield Cell(row, column, value(kind, held, length, number))
+        for part in self._parts():
+            yield from map(AS_CELL, zip(*part))
 
     def rows(self) -> Iterator[list[Value]]:
         """The rows from row 0 to the last with a cell, each as a list of `ncols` values, None where no cell stands."""
-        width, value = self.ncols, self._book._value
-        at, values = 0, [None] * width
-        for (row, column, kind, _, held, length), (number,) in self._raw_cells():
-            while at < row:
-                yield values
-                at, values = at + 1, [None] * width
-            values[column] = value(kind, held, length, number)
-        if self._cells:
-            yield values
+        return self._rows(0, self.nrows)
+
+    def _rows(self, first: int, last: int) -> Iterator[list[Value]]:
+        """The rows from one to before another."""
+        width, end = self.ncols, self._place(first, 0)
+        together = max(TOGETHER // max(width, 1), 1)
+        for row in range(first, last, together):
+            height = min(together, last - row)
+            begin, end = end, self._place(row + height, 0)
+            cells = self._store.cells(self._first_cell + begin, end - begin)
+            if end - begin == height * width:
+                # (cells stand at different places in order, so these are all places)
+                columns = [self._store.values(cells, column, width) for column in range(width)]
+                yield from map(list, zip(*columns))
+            else:
+                rows: list[list[Value]] = [[None] * width for _ in range(height)]
+                words = cells.cast("I")
+                for at, column, value in zip(words[0::8].tolist(), words[1::8].tolist(), self._store.values(cells)):
+                    rows[at - row][column] = value
+                yield from rows
 
     def to_dict(self) -> dict[tuple[int, int], Value]:
         """The values of the cells by row and column, from 0."""
-        return {(row, column): value for row, column, value in self.cells()}
+        found: dict[tuple[int, int], Value] = {}
+        for rows, columns, values in self._parts():
+            found.update(zip(zip(rows, columns), values))
+        return found
 
     def _place(self, row: int, column: int) -> int:
         """How many cells stand before a row and a column."""
+        cells, item, size = self._store.arrays.cells, _raw.CELL, CELL
         begin, end = 0, self._cells
         while begin < end:
             middle = (begin + end) // 2
-            if self._raw_cell(middle)[0][:2] < (row, column):
+            if item.unpack_from(cells, (self._first_cell + middle) * size)[:2] < (row, column):
                 begin = middle + 1
             else:
                 end = middle
         return begin
 
-    def __getitem__(self, place: tuple[int, int]) -> Value:
-        """The value of the cell at a row and a column, from 0; None where none stands."""
-        at = self._place(*place)
+    def _index(self, wanted: Any, count: int, end: int, what: str) -> int:
+        """An index from 0; where it is below 0 it counts from the end."""
+        try:
+            found = operator.index(wanted)
+        except TypeError:
+            raise TypeError(f"a {what} is asked for by its index, and not by {wanted!r}") from None
+        found += count if found < 0 else 0
+        if not 0 <= found < end:
+            raise IndexError(f"{what} {wanted} is out of range: the sheet {self.name!r} has {count} {what}s")
+        return found
+
+    @overload
+    def __getitem__(self, place: int) -> list[Value]: ...
+
+    @overload
+    def __getitem__(self, place: slice) -> list[list[Value]]: ...
+
+    @overload
+    def __getitem__(self, place: Union[str, tuple[int, int]]) -> Value: ...
+
+    def __getitem__(self, place: Union[int, slice, str, tuple[int, int]]) -> Any:
+        """A row, several rows, or the value of a cell.
+
+        sheet[row]            the row as a list of `ncols` values
+        sheet[first:last]     a list of rows, as of any slice
+        sheet[row, column]    the value of the cell, None where no cell stands
+        sheet["B3"]           the same by its reference, also as "$B$3"
+
+        Rows and columns count from 0, and below 0 from the last. IndexError for a row that the sheet doesn't have and, of one cell, for a place
+        that no .xls has (65,536 and more); KeyError for a text that is no reference to a cell.
+        """
+        if isinstance(place, slice):
+            return self._slice(place)
+        if isinstance(place, str):
+            return self._cell(*place_of(place))
+        if not isinstance(place, tuple):
+            row = self._index(place, self.nrows, self.nrows, "row")
+            return next(self._rows(row, row + 1))
+        if len(place) != 2:
+            raise TypeError(f"a cell is asked for by its row and its column, and not by {place!r}")
+        return self._cell(self._index(place[0], self.nrows, PLACES, "row"), self._index(place[1], self.ncols, PLACES, "column"))
+
+    def _slice(self, wanted: slice) -> list[list[Value]]:
+        rows = range(self.nrows)[wanted]
+        if not rows:
+            return []
+        first = min(rows[0], rows[-1])
+        if abs(rows.step) == 1:
+            return list(self._rows(first, first + len(rows)))[:: rows.step]
+        return [next(self._rows(row, row + 1)) for row in rows]
+
+    def _cell(self, row: int, column: int) -> Value:
+        """The value of the cell at a row and a column; None where none stands."""
+        at = self._place(row, column)
         if at < self._cells:
-            (row, column, kind, _, held, length), (number,) = self._raw_cell(at)
-            if (row, column) == place:
-                return self._book._value(kind, held, length, number)
+            found_row, found_column, kind, _, bits, length, number = self._raw_cell(at)
+            if (found_row, found_column) == (row, column):
+                return self._store.value(kind, bits, length, number)
         return None
+
+    def __iter__(self) -> Iterator[list[Value]]:
+        return self.rows()
+
+    def __len__(self) -> int:
+        return self.nrows
 
     @property
     def formulas(self) -> tuple[Formula, ...]:
         """The formulas, by row and then by column. One that can't be spelled says so; the text of a shared formula is empty."""
-        text = self._book._text
-        items = _items(_raw.FORMULA, self._book._content.formulas, self._formulas, self._first_formula)
+        text = self._store.text
+        items = self._store.items(_raw.FORMULA, self._store.arrays.formulas, self._formulas, self._first_formula)
         return tuple(Formula(row, column, text(offset, length)) for row, column, offset, length in items)
 
     @property
     def merged_regions(self) -> tuple[Region, ...]:
         """The merged regions in the order of the file."""
-        items = _items(_raw.REGION, self._book._content.regions, self._regions, self._first_region)
+        items = self._store.items(_raw.REGION, self._store.arrays.regions, self._regions, self._first_region)
         return tuple(Region(*fields) for fields in items)
 
-    def to_numpy(self) -> numpy.ndarray:
-        """The cells as one structured array, without a copy and not to be written: by row and then by column.
+    def to_numpy(self) -> NDArray[Any]:
+        """The cells as one structured array of shape (cells,), without a copy and never to be written: by row and then by column.
 
         row, column    from 0
         kind           1 number, 2 date or time, 3 duration, 4 truth value, 5 error, 6 text, 9 whole number in short form
@@ -350,50 +345,118 @@ class Sheet:
         number         of kinds 1, 2, 3 and 9: the number, of days for 2 and 3
         value          the same 64 bits as a whole number: of 4 it is 0 or 1, of 5 the error's code, of 6 an offset into `Workbook.texts`
         length         of a text: its bytes
+
+        ImportError where numpy isn't there.
         """
         import numpy
 
-        cell = _numpy_cell()
-        place = self._book._content.cells, cell, self._cells, self._first_cell * cell.itemsize
-        found = numpy.frombuffer(*place) if self._cells else numpy.empty(0, cell)
-        found.flags.writeable = False
-        return found
+        # (frombuffer keeps the view that can't be written; numpy.ndarray would keep what is below it)
+        view = memoryview(self._store.arrays.cells).toreadonly()
+        return numpy.frombuffer(view, _numpy_cell(), self._cells, self._first_cell * CELL)
+
+    def to_long(self) -> pandas.DataFrame:
+        """The cells as a DataFrame of pandas, a line for each that the file has, by row and then by column.
+
+        row, column    from 0 (int64)
+        kind           int, float, date, span, text, bool or error, as in the lines of `xls dump` (a category)
+        value          the value as `cells` gives it: int, float, datetime or time, timedelta, str, bool, CellError (objects)
+
+        ImportError where numpy or pandas isn't there.
+        """
+        from . import _frame
+
+        return _frame.long_of(self)
 
     def to_dataframe(self, header: Any = 0, **options: Any) -> pandas.DataFrame:
         """The sheet as a DataFrame of pandas, whose columns are named by row `header` (None: by numbers).
 
-        The options are those of `pandas.read_excel`, as far as they are of one sheet: `gaflwened.read_excel` names them.
+        The options are those of `pandas.read_excel`, as far as they are of one sheet: `gaflwened.read_excel` names them. TypeError of any
+        other; ImportError where numpy or pandas isn't there.
         """
         from . import _frame
 
         return _frame.frame_of(self, header=header, **options)
 
+    def __reduce__(self) -> tuple[Any, ...]:
+        return Sheet, (self._store, self._number)
+
     def __repr__(self) -> str:
+        if self._store.is_closed:
+            return f"<gaflwened.Sheet {self._number} of a closed workbook>"
         return f"<gaflwened.Sheet {self.name!r} of {self._cells} cells>"
 
 
-def _read(stream: tuple[Union[bytes, _raw.Buffer], int], *, code_page: Optional[int] = None, sheet: Optional[int] = None,
-          content: bool = True, few_functions: bool = False, max_bytes: Optional[int] = None,
-          max_cells: Optional[int] = None) -> Workbook:
-    """The workbook of a stream."""
-    which = 2 if not content else 0 if sheet is None else 1
-    options = _raw.Options(max_bytes or 0, max_cells or 0, sheet or 0, which, code_page or 0, not few_functions)
-    return Workbook(_raw.read(*stream, options))
+def _whole(name: str, value: Any, least: int, most: int, what: str) -> int:
+    """A whole number that an option is."""
+    try:
+        if isinstance(value, bool):
+            raise TypeError
+        found = operator.index(value)
+    except TypeError:
+        raise TypeError(f"{name} is {what}, and not {value!r}") from None
+    if not least <= found <= most:
+        raise ValueError(f"{name} is {what}, and not {value!r}")
+    return found
 
 
-def open_workbook(path: Union[str, os.PathLike, BinaryIO], **options: Any) -> Workbook:
+class Options:
+    """The options of `open_workbook`, looked at."""
+
+    def __init__(self, code_page: Optional[int], sheet: Union[None, int, str], content: bool, few_functions: bool, max_bytes: Optional[int],
+                 max_cells: Optional[int]):
+        page = 0 if code_page is None else _whole("code_page", code_page, 1, 65_535, "the number of a code page")
+        most = [0 if value is None else _whole(name, value, 1, MOST, "a number from 1 on, of 64 bits")
+                for name, value in (("max_bytes", max_bytes), ("max_cells", max_cells))]
+        if sheet is not None and not content:
+            raise ValueError("with content=False all sheets are told, so that `sheet` chooses none")
+        if sheet is not None and not isinstance(sheet, str):
+            sheet = _whole("sheet", sheet, 0, MOST, "a name, or an index from 0")
+        self.sheet = sheet
+        self.raw = _raw.Options(*most, 0, 0 if content else 2, page, not few_functions)
+
+    def read(self, stream: tuple[Union[bytes, _raw.Buffer], int]) -> Workbook:
+        """The workbook of a stream."""
+        number = self.sheet
+        if isinstance(number, str):
+            self.raw.which = 2
+            number = Workbook(Store(_raw.read(*stream, self.raw)))[number].number
+        if number is not None:
+            self.raw.which, self.raw.sheet = 1, number
+        return Workbook(Store(_raw.read(*stream, self.raw)))
+
+
+def _file_bytes(file: Any) -> bytes:
+    """What an open file has, from its beginning where it can go there."""
+    can_seek = file.seekable() if hasattr(file, "seekable") else hasattr(file, "seek")
+    if can_seek:
+        file.seek(0)
+    data = file.read()
+    if isinstance(data, str) or data is None:
+        raise TypeError(f"the file gives {type(data).__name__} and not bytes: open it with mode 'rb'")
+    return data if isinstance(data, bytes) else memoryview(data).tobytes()
+
+
+def open_workbook(path: File, *, code_page: Optional[int] = None, sheet: Union[None, int, str] = None, content: bool = True,
+                  few_functions: bool = False, max_bytes: Optional[int] = None, max_cells: Optional[int] = None) -> Workbook:
     """Reads the workbook of a file, by its path or from an open file.
 
+    An open file gives bytes (mode 'rb'). It is read from its beginning where it can seek, else from where it stands, and is left open.
+
     code_page       read texts of single bytes by this page and not by the one that the file names: 1200, 1252, 28591 or 65001
-    sheet           read the sheet of this index alone, from 0; the workbook has no other then
+    sheet           read this sheet alone, by its index from 0 or by its name; the workbook has no other then
     content         False: read of each sheet its name, kind and visibility alone
     few_functions   True: formulas have the names of the first 72 functions alone, as in `xls dump --exact`
     max_bytes       how many bytes the workbook's stream may have, 268,435,456 without it
     max_cells       how many cells the records of one sheet may give, 33,554,432 without it
 
-    OSError where the file can't be read; Error, with the first thing that is wrong with it; MemoryError.
+    OSError where the file can't be read; Error, with the first thing that is wrong with it; SheetNotFound where no sheet has the name;
+    MemoryError; ValueError and TypeError of options that mean nothing.
     """
+    options = Options(code_page, sheet, content, few_functions, max_bytes, max_cells)
     if hasattr(path, "read"):
-        return Workbook.from_bytes(path.read(), **options)
+        data = _file_bytes(path)
+        return options.read(_raw.stream(data, len(data)))
+    if isinstance(path, (bytes, bytearray, memoryview)):
+        raise TypeError("open_workbook takes a path or an open file; Workbook.from_bytes takes the bytes of one")
     # (the file's bytes are given back before the arrays are made)
-    return _read(_raw.stream(*_raw.file_bytes(path)), **options)
+    return options.read(_raw.stream(*_raw.file_bytes(path)))

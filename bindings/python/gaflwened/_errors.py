@@ -70,8 +70,8 @@ class Error(Exception):
         return self.text
 
 
-class SheetNotFound(LookupError):
-    """No sheet has this name or index, which is `wanted`."""
+class SheetNotFound(KeyError, IndexError, ValueError):
+    """No sheet has this name or index, which is `wanted`. It is a LookupError, and a ValueError as pandas raises it."""
 
     def __init__(self, wanted: Union[str, int]):
         super().__init__(wanted)

@@ -2,16 +2,25 @@
 
 from __future__ import annotations
 
-import datetime
-from typing import Any, Iterator, Optional
+import operator
+from typing import TYPE_CHECKING, Any, Iterator, Optional
 
-import numpy
-import pandas
+try:
+    import numpy
+    import pandas
+except ImportError as error:
+    raise ImportError(f"gaflwened makes DataFrames with numpy and pandas ({error}): pip install numpy pandas") from error
 from pandas.errors import EmptyDataError
 from pandas.io.parsers import TextParser
 
 from . import _raw
-from ._book import CellError, Sheet, Value, Workbook, duration_of, moment_of, open_workbook
+from ._book import Sheet, Workbook, open_workbook
+from ._errors import SheetNotFound
+from ._store import RECKONED, Store
+from ._values import ERRORS, CellError, Value
+
+if TYPE_CHECKING:
+    from numpy.typing import NDArray
 
 # The texts that pandas takes for no value, by its documents.
 NO_VALUE = frozenset(
@@ -41,8 +50,8 @@ MASKS = numpy.array([(1 << 8 * count) - 1 for count in range(9)], numpy.uint64)
 class Column:
     """The cells of one column from a row on, and how many rows there are."""
 
-    def __init__(self, book: Workbook, cells: numpy.ndarray, first: int, height: int):
-        self.book = book
+    def __init__(self, store: Store, cells: NDArray[Any], first: int, height: int):
+        self.store = store
         self.cells = cells
         self.first = first
         self.height = height
@@ -52,15 +61,17 @@ class Column:
     def is_full(self) -> bool:
         return len(self.cells) == self.height
 
-    def filled(self, values: Any, dtype: Any, blank: Any) -> numpy.ndarray:
+    def filled(self, values: Any, dtype: Any, blank: Any) -> NDArray[Any]:
         """The values, one a cell, and a blank in the rows without a cell."""
+        found: NDArray[Any]
         if self.is_full():
-            return values.astype(dtype, copy=False)
+            found = values.astype(dtype, copy=False)
+            return found
         found = numpy.full(self.height, blank, dtype)
         found[self.cells["row"] - self.first] = values
         return found
 
-    def values(self) -> numpy.ndarray:
+    def values(self) -> NDArray[Any]:
         """What pandas has as the column: numbers, dates or truth values where it is made of these alone, and else objects."""
         found = None
         if set(self.kinds) <= {_raw.NUMBER, _raw.WHOLE_NUMBER, _raw.ERROR}:
@@ -73,7 +84,7 @@ class Column:
             found = self.durations()
         return self.inferred() if found is None else found
 
-    def numbers(self) -> numpy.ndarray:
+    def numbers(self) -> NDArray[Any]:
         """Whole numbers where all are whole and no row is without one, else doubles; an error is no number."""
         found = self.cells["number"].copy()
         if _raw.ERROR in self.kinds:
@@ -82,13 +93,13 @@ class Column:
             return found.astype(numpy.int64)
         return self.filled(found, numpy.float64, numpy.nan)
 
-    def dates(self) -> Optional[numpy.ndarray]:
+    def dates(self) -> Optional[NDArray[Any]]:
         """The dates; None where there is a time of day alone, or a number that is no date of pandas."""
         days = self.cells["number"]
         if not ((days >= 1) & (days < LAST_DAY)).all():
             return None
-        found = milliseconds_of(self.cells, self.book.is_1904, False)
-        if self.book.is_1904:
+        found = milliseconds_of(self.cells, self.store.is_1904, False)
+        if self.store.is_1904:
             found += since_1970("1904-01-01")
         else:
             # Day 60 is 1900-02-29, which the calendar lacks.
@@ -100,53 +111,49 @@ class Column:
                 return self.filled(values, object, numpy.nan)
         return self.filled((found * 1_000_000).view("M8[ns]"), "M8[ns]", numpy.datetime64("NaT"))
 
-    def durations(self) -> Optional[numpy.ndarray]:
+    def durations(self) -> Optional[NDArray[Any]]:
         """The durations; None where there is a number that is none of pandas."""
         if not (numpy.abs(self.cells["number"]) < LONGEST_DURATION).all():
             return None
-        found = milliseconds_of(self.cells, self.book.is_1904, True)
+        found = milliseconds_of(self.cells, self.store.is_1904, True)
         return self.filled((found * 1_000_000).view("m8[ns]"), "m8[ns]", numpy.timedelta64("NaT"))
 
-    def texts(self) -> numpy.ndarray:
+    def texts(self) -> NDArray[Any]:
         """The texts of a column that has no other cells, those for no value as NaN."""
-        offsets, lengths = (self.cells[name].astype(numpy.int64) for name in ("value", "length"))
-        places, which = repeated(self.book, offsets, lengths)
-        if which is not None:
-            offsets, lengths = offsets[places], lengths[places]
-        found = numpy.empty(len(offsets), object)
-        found[:] = self.book._texts_of(offsets.tolist(), (offsets + lengths).tolist())
+        found, lengths, which = distinct(self.store, self.cells)
         for at in numpy.flatnonzero(lengths <= LONGEST).tolist():
             if found[at] in NO_VALUE:
                 found[at] = numpy.nan
         return self.filled(found if which is None else found[which], object, numpy.nan)
 
-    def inferred(self) -> numpy.ndarray:
+    def inferred(self) -> NDArray[Any]:
         """A column with texts, or of several kinds, as `pandas.read_excel` has it."""
         if self.kinds == [_raw.TEXT]:
             values = self.texts()
             first = next((value for value in values if type(value) is str), None)
             if first is not None and first not in TRUTHS and not is_number(first):
                 return values
-        return parsed([[value] for value in self.objects()], header=None)[0].to_numpy()
+        column: NDArray[Any] = parsed([[value] for value in self.objects()], header=None)[0].to_numpy()
+        return column
 
     def objects(self) -> list[Any]:
         """The values as pandas' own readers give them: a blank as an empty text, an error as NaN, whole numbers as such."""
         found = [""] * self.height
         fields = (self.cells[name].tolist() for name in ("kind", "value", "length", "number"))
-        value = self.book._value
+        value = self.store.value
         for row, *held in zip((self.cells["row"] - self.first).tolist(), *fields):
             found[row] = given(value(*held))
         return found
 
 
-def repeated(book: Workbook, offsets: numpy.ndarray, lengths: numpy.ndarray) -> tuple[Any, Any]:
+def repeated(store: Store, offsets: NDArray[Any], lengths: NDArray[Any]) -> tuple[Any, Any]:
     """Of short texts that stand there again and again: the places of the different ones, and which of them each text is. Nothing of others.
 
     So a text that many cells show is made once.
     """
     if len(lengths) < SAMPLE or lengths.max() > 16:
         return None, None
-    words = book._words()
+    words = store.words()
     first = words[offsets] & MASKS[numpy.minimum(lengths, 8)]
     second = words[offsets + 8] & MASKS[numpy.maximum(lengths - 8, 0)]
     keys = (first * MULTIPLIER ^ second) * MULTIPLIER ^ lengths.view(numpy.uint64)
@@ -160,6 +167,17 @@ def repeated(book: Workbook, offsets: numpy.ndarray, lengths: numpy.ndarray) -> 
     return (places, which) if same else (None, None)
 
 
+def distinct(store: Store, cells: NDArray[Any]) -> tuple[NDArray[Any], NDArray[Any], Any]:
+    """The texts of cells, their lengths in bytes, and which of them each cell shows; None where it is one a cell."""
+    offsets, lengths = (cells[name].astype(numpy.int64) for name in ("value", "length"))
+    places, which = repeated(store, offsets, lengths)
+    if which is not None:
+        offsets, lengths = offsets[places], lengths[places]
+    found = numpy.empty(len(offsets), object)
+    found[:] = store.texts(offsets.tolist(), lengths.tolist())
+    return found, lengths, which
+
+
 def given(value: Value) -> Any:
     """A value as pandas' own readers give it."""
     if value is None:
@@ -169,9 +187,10 @@ def given(value: Value) -> Any:
     return numpy.nan if type(value) is CellError else value
 
 
-def is_whole(numbers: numpy.ndarray) -> numpy.ndarray:
+def is_whole(numbers: NDArray[Any]) -> NDArray[Any]:
     """Which numbers are whole and fit into 64 bits."""
-    return (numpy.abs(numbers) < 2.0**63) & (numbers == numpy.floor(numbers))
+    found: NDArray[Any] = (numpy.abs(numbers) < 2.0**63) & (numbers == numpy.floor(numbers))
+    return found
 
 
 def is_number(text: str) -> bool:
@@ -188,12 +207,13 @@ def since_1970(moment: Any) -> int:
     return int(numpy.datetime64(moment, "ms").astype(numpy.int64))
 
 
-def milliseconds_of(cells: numpy.ndarray, is_1904: bool, is_duration: bool) -> numpy.ndarray:
+def milliseconds_of(cells: NDArray[Any], is_1904: bool, is_duration: bool) -> NDArray[Any]:
     """The nearest milliseconds of the cells' numbers of days, which are those that the library says.
 
     The part of a day is exact here, and its milliseconds are less than 1e-7 from the exact ones. So where they aren't in the middle of two
     they are rounded as the exact ones are, and else the library is asked.
     """
+    found: NDArray[Any]
     days = cells["number"]
     whole = numpy.floor(days)
     parts = (days - whole) * DAY
@@ -214,19 +234,70 @@ def width_of(sheet: Sheet) -> int:
     return sheet.ncols
 
 
-def columns_of(sheet: Sheet, first: int, last: int) -> Iterator[numpy.ndarray]:
+# The words for kinds of cells, and which of them each kind has (of a blank, which no sheet lists, none).
+WORDS = ["int", "float", "date", "span", "text", "bool", "error"]
+WORD_OF = numpy.array([-1, 1, 2, 3, 5, 6, 4, 4, 4, 0], numpy.int8)
+
+
+def moments(store: Store, cells: NDArray[Any], is_duration: bool) -> NDArray[Any]:
+    """The dates or durations of cells, as `Store.moment` has them."""
+    days = cells["number"]
+    first, end, epoch = (0.0, LONGEST_DURATION, None) if is_duration else RECKONED[store.is_1904]
+    plain = (days >= first) & (days < end)
+    found = numpy.empty(len(cells), object)
+    milliseconds = milliseconds_of(cells[plain], store.is_1904, is_duration)
+    unit = "m8[ms]" if epoch is None else "M8[ms]"
+    found[plain] = (milliseconds + (0 if epoch is None else since_1970(epoch))).view(unit).astype(object)
+    for at in numpy.flatnonzero(~plain).tolist():
+        found[at] = store.moment(int(cells["value"][at]), float(days[at]), is_duration)
+    return found
+
+
+def objects_of(store: Store, cells: NDArray[Any], kind: int) -> NDArray[Any]:
+    """The values of cells that are all of one kind."""
+    found: NDArray[Any]
+    if kind == _raw.NUMBER:
+        found = cells["number"].astype(object)
+    elif kind == _raw.WHOLE_NUMBER:
+        found = cells["number"].astype(numpy.int64).astype(object)
+    elif kind == _raw.BOOLEAN:
+        found = (cells["value"] != 0).astype(object)
+    elif kind in (_raw.DATE_TIME, _raw.DURATION):
+        found = moments(store, cells, kind == _raw.DURATION)
+    elif kind == _raw.ERROR:
+        found = numpy.array([ERRORS.get(code) for code in range(256)], object)[cells["value"].astype(numpy.intp)]
+    else:
+        texts, _, which = distinct(store, cells)
+        found = texts if which is None else texts[which]
+    return found
+
+
+def long_of(sheet: Sheet) -> pandas.DataFrame:
+    """The cells, a line for each."""
+    cells = sheet.to_numpy()
+    kinds = numpy.ascontiguousarray(cells["kind"])
+    values = numpy.empty(len(cells), object)
+    for kind in numpy.flatnonzero(numpy.bincount(kinds)).tolist():
+        which = kinds == kind
+        values[which] = objects_of(sheet._store, cells[which], kind)
+    places = {name: cells[name].astype(numpy.int64) for name in ("row", "column")}
+    kind_words = pandas.Categorical.from_codes(WORD_OF[kinds], WORDS)
+    return pandas.DataFrame({**places, "kind": kind_words, "value": pandas.Series(values, dtype=object)}, copy=False)
+
+
+def columns_of(sheet: Sheet, first: int, last: int) -> Iterator[NDArray[Any]]:
     """Each column of a sheet, from a row to before another."""
     cells, height, width = sheet.to_numpy(), last - first, width_of(sheet)
     cells = cells[sheet._place(first, 0) : sheet._place(last, 0)]
     if len(cells) == height * width:
         for column in range(width):
-            yield Column(sheet._book, cells[column::width], first, height).values()
+            yield Column(sheet._store, cells[column::width], first, height).values()
         return
     order = numpy.argsort(cells["column"].astype(numpy.uint16), kind="stable")
     ends = numpy.cumsum(numpy.bincount(cells["column"], minlength=width))
     begin = 0
     for end in ends.tolist():
-        yield Column(sheet._book, cells[order[begin:end]], first, height).values()
+        yield Column(sheet._store, cells[order[begin:end]], first, height).values()
         begin = end
 
 
@@ -309,7 +380,19 @@ def frame_by_rows(sheet: Sheet, header: Any, usecols: Any = None, index_col: Any
 
 def first_row(header: Any) -> int:
     """The first row below the header."""
-    return 0 if header is None else header + 1 if isinstance(header, int) else max(header) + 1
+    return 0 if header is None else int(header if isinstance(header, int) else max(header)) + 1
+
+
+def sheet_of(book: Workbook, wanted: Any) -> Sheet:
+    """The sheet of a name, or of an index among the worksheets, as pandas counts them."""
+    if isinstance(wanted, str):
+        return book[wanted]
+    try:
+        return book.worksheets[operator.index(wanted)]
+    except IndexError:
+        raise SheetNotFound(wanted) from None
+    except TypeError:
+        raise TypeError(f"sheet_name is a name, an index, a list of these or None, and not {wanted!r}") from None
 
 
 def read_excel(io: Any, sheet_name: Any, **options: Any) -> Any:
@@ -321,7 +404,7 @@ def read_excel(io: Any, sheet_name: Any, **options: Any) -> Any:
     else:
         book = open_workbook(io)
     if sheet_name is None:
-        return {sheet.name: frame_of(sheet, **options) for sheet in book.sheets}
+        return {sheet.name: frame_of(sheet, **options) for sheet in book.worksheets}
     if isinstance(sheet_name, (list, tuple)):
-        return {name: frame_of(book[name], **options) for name in dict.fromkeys(sheet_name)}
-    return frame_of(book[sheet_name], **options)
+        return {name: frame_of(sheet_of(book, name), **options) for name in dict.fromkeys(sheet_name)}
+    return frame_of(sheet_of(book, sheet_name), **options)

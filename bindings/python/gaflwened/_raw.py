@@ -7,11 +7,13 @@ import ctypes
 import mmap
 import os
 import struct
-from typing import NamedTuple, Union
+from typing import Any, Callable, NamedTuple, Union
 
 from ._errors import Error, FaultCode
 
 Buffer = Union[bytearray, mmap.mmap]
+# What is read from alone may also come out of a pickle.
+Array = Union[bytes, Buffer, memoryview]
 
 OK, OUT_OF_MEMORY, TOO_SHORT = 0, 1, 2
 
@@ -32,35 +34,51 @@ MAPPED = 1 << 20
 SLACK = 16
 
 
+def _fields(*groups: tuple[str, Any]) -> list[tuple[str, Any]]:
+    return [(name, kind) for names, kind in groups for name in names.split()]
+
+
 class Fault(ctypes.Structure):
-    _fields_ = [(name, ctypes.c_uint32) for name in ("code", "part", "table", "reserved")]
-    _fields_ += [(name, ctypes.c_uint64) for name in ("first", "second", "third")]
+    _fields_ = _fields(("code part table reserved", ctypes.c_uint32), ("first second third", ctypes.c_uint64))
 
 
 class Options(ctypes.Structure):
-    _fields_ = [(name, ctypes.c_uint64) for name in ("max_bytes", "max_cells", "sheet")]
-    _fields_ += [("which", ctypes.c_uint32), ("code_page", ctypes.c_uint16), ("all_functions", ctypes.c_uint16)]
+    _fields_ = _fields(("max_bytes max_cells sheet", ctypes.c_uint64), ("which", ctypes.c_uint32), ("code_page all_functions", ctypes.c_uint16))
 
 
 class Sizes(ctypes.Structure):
-    _fields_ = [(name, ctypes.c_uint64) for name in ("sheets", "names", "cells", "formulas", "regions", "text_bytes")]
-    _fields_ += [("is_1904", ctypes.c_uint32), ("reserved", ctypes.c_uint32)]
+    _fields_ = _fields(("sheets names cells formulas regions text_bytes", ctypes.c_uint64), ("is_1904 reserved", ctypes.c_uint32))
+
+
+class Counts(NamedTuple):
+    """How many there are of each in the arrays of `Content`."""
+
+    sheets: int
+    names: int
+    cells: int
+    formulas: int
+    regions: int
+    text_bytes: int
 
 
 class Content(NamedTuple):
-    """What a stream holds: arrays of the structs of the header, the texts, and how many there are of each."""
+    """What a stream holds: arrays of the structs of the header, and the texts. Each has some bytes more."""
 
-    sheets: Buffer
-    names: Buffer
-    cells: Buffer
-    formulas: Buffer
-    regions: Buffer
-    texts: Buffer
-    sizes: Sizes
+    sheets: Array
+    names: Array
+    cells: Array
+    formulas: Array
+    regions: Array
+    texts: Array
+    counts: Counts
+    is_1904: bool
 
 
 def _library() -> ctypes.CDLL:
-    library = ctypes.CDLL(os.path.join(os.path.dirname(os.path.realpath(__file__)), "libgaflwened.so"))
+    path = os.path.join(os.path.dirname(os.path.realpath(__file__)), "libgaflwened.so")
+    if not os.path.exists(path):
+        raise ImportError(f"gaflwened: {path} isn't there: `pip install bindings/python` makes it")
+    library = ctypes.CDLL(path)
     pointer, size, number = ctypes.c_void_p, ctypes.c_size_t, ctypes.c_uint32
     array = [pointer, size]
     library.gaflwened_version.argtypes = []
@@ -107,7 +125,7 @@ def _address(buffer: Union[bytes, Buffer]) -> Union[int, ctypes.c_char_p]:
     return ctypes.c_char_p(buffer) if isinstance(buffer, bytes) else ctypes.addressof(ctypes.c_char.from_buffer(buffer))
 
 
-def _text(call) -> str:
+def _text(call: Callable[[Any, int, Any], Any]) -> str:
     """The text that a call writes, where there is room for it."""
     length = 400
     while True:
@@ -137,7 +155,7 @@ def _refusal(fault: Fault) -> Exception:
     return Error(fault_text(fault), FaultCode.of(fault.code), *numbers)
 
 
-def file_bytes(path: Union[str, os.PathLike]) -> tuple[Union[bytes, Buffer], int]:
+def file_bytes(path: Union[str, os.PathLike[Any]]) -> tuple[Union[bytes, Buffer], int]:
     """The bytes of a file: a buffer, and how many of its bytes they are."""
     with open(path, "rb") as file:
         buffer = _buffer(os.fstat(file.fileno()).st_size)
@@ -190,5 +208,7 @@ def read(stream: Union[bytes, Buffer], length: int, options: Options) -> Content
             raise _refusal(fault)
         counts = [sizes.sheets, sizes.names, sizes.cells, sizes.formulas, sizes.regions, sizes.text_bytes]
         if code == OK:
-            return Content(*(_shortened(*each) for each in zip(buffers, map(int.__mul__, counts, WIDTHS))), sizes)
+            lengths = [count * width for count, width in zip(counts, WIDTHS)]
+            sheets, names, cells, formulas, regions, texts = map(_shortened, buffers, lengths)
+            return Content(sheets, names, cells, formulas, regions, texts, Counts(*counts), bool(sizes.is_1904))
         buffers = [_buffer(count * width) for count, width in zip(counts, WIDTHS)]

@@ -1,0 +1,202 @@
+"""The arrays of what a workbook holds, and the values that they tell."""
+
+from __future__ import annotations
+
+import datetime
+import pickle
+import struct
+import sys
+from typing import TYPE_CHECKING, Any, Iterator, Optional, Union
+
+from . import _raw
+from ._values import ERRORS, Value, duration_of, moment_of, span_of
+
+if TYPE_CHECKING:
+    from numpy.typing import NDArray
+
+CELL = _raw.CELL.size
+# Where the byte of a cell's kind stands in its struct.
+KIND_BYTE = 8 if sys.byteorder == "little" else 11
+# The first day that is reckoned here and not by the library, the one after the last, and the date of day 0, by whether days count from 1904.
+# (Day 60 of the 1900 system is 1900-02-29, which the calendar lacks.)
+RECKONED = {
+    False: (61.0, 2_958_465.0, datetime.datetime(1899, 12, 30)),
+    True: (1.0, 2_957_003.0, datetime.datetime(1904, 1, 1)),
+}
+LONGEST = 100_000.0  # of the durations that are
+
+
+class Store:
+    """What a workbook and its sheets share. It knows neither, so that each goes with its last reference."""
+
+    def __init__(self, arrays: _raw.Content):
+        self._arrays: Optional[_raw.Content] = arrays
+        self._lent: Union[str, bytes, None] = None
+        self._moments: tuple[dict[int, Value], dict[int, Value]] = ({}, {})
+
+    @property
+    def arrays(self) -> _raw.Content:
+        """The arrays; ValueError where the workbook is closed."""
+        if self._arrays is None:
+            raise ValueError("the workbook is closed")
+        return self._arrays
+
+    @property
+    def is_closed(self) -> bool:
+        return self._arrays is None
+
+    @property
+    def is_1904(self) -> bool:
+        return self.arrays.is_1904
+
+    def close(self) -> None:
+        self._arrays = self._lent = None
+        self._moments = ({}, {})
+
+    def __reduce_ex__(self, protocol: Any) -> tuple[Any, ...]:
+        *buffers, counts, is_1904 = self.arrays
+        views = [memoryview(buffer).toreadonly() for buffer in buffers]
+        # (protocol 5 takes them without a copy)
+        return restored, (*(pickle.PickleBuffer(view) if protocol >= 5 else view.tobytes() for view in views), counts, is_1904)
+
+    # ---- texts
+
+    def view(self) -> memoryview:
+        """All texts in UTF-8."""
+        return memoryview(self.arrays.texts)[: self.arrays.counts.text_bytes].toreadonly()
+
+    def lent(self) -> Union[str, bytes]:
+        """All texts, as a text where all is ASCII: then offsets in bytes are offsets in characters."""
+        found = self._lent
+        if found is None:
+            try:
+                found = str(self.view(), "ascii")
+            except UnicodeDecodeError:
+                found = bytes(self.view())
+            self._lent = found
+        return found
+
+    def text(self, offset: int, length: int) -> str:
+        """The text of so many bytes from an offset on."""
+        found = self.lent()[offset : offset + length]
+        return found if isinstance(found, str) else found.decode("utf-8")
+
+    def texts(self, offsets: list[int], lengths: list[int]) -> list[str]:
+        """The texts of so many bytes from offsets on."""
+        texts = self.lent()
+        if isinstance(texts, str):
+            return [texts[offset : offset + length] for offset, length in zip(offsets, lengths)]
+        return [texts[offset : offset + length].decode("utf-8") for offset, length in zip(offsets, lengths)]
+
+    def words(self) -> NDArray[Any]:
+        """The eight bytes from each offset of the texts on, and eight offsets more."""
+        import numpy
+
+        view = memoryview(self.arrays.texts).toreadonly()
+        return numpy.ndarray(self.arrays.counts.text_bytes + 9, "<u8", view, strides=(1,))
+
+    # ---- cells
+
+    def items(self, item: struct.Struct, buffer: _raw.Array, count: int, first: int = 0) -> Iterator[tuple[Any, ...]]:
+        """The structs of an array from one on, as tuples."""
+        return item.iter_unpack(memoryview(buffer)[first * item.size : (first + count) * item.size])
+
+    def cells(self, first: int, count: int) -> memoryview:
+        """The bytes of so many cells from one on."""
+        return memoryview(self.arrays.cells)[first * CELL : (first + count) * CELL]
+
+    def moment(self, bits: int, number: float, is_duration: bool) -> Value:
+        """The date, time or duration of a number of days, or the number where it is none."""
+        known = self._moments[is_duration]
+        found = known.get(bits)
+        if found is None:
+            found = known[bits] = self.reckoned(bits, number, is_duration)
+        return found
+
+    def moments(self, all_bits: list[int], numbers: list[float], is_duration: bool) -> list[Value]:
+        """The same of several numbers."""
+        found = list(map(self._moments[is_duration].get, all_bits))
+        if None in found:
+            for at, value in enumerate(found):
+                if value is None:
+                    found[at] = self.moment(all_bits[at], numbers[at], is_duration)
+        return found
+
+    def reckoned(self, bits: int, number: float, is_duration: bool) -> Value:
+        """The same. The library writes it, and what it writes of most numbers is plain."""
+        first, end, epoch = (0.0, LONGEST, None) if is_duration else RECKONED[self.is_1904]
+        if first <= number < end:
+            span = span_of(number)
+            if span is not None:
+                return span if epoch is None else epoch + span
+        text = _raw.serial(bits, self.is_1904, is_duration)
+        found = duration_of(text) if is_duration else moment_of(text)
+        return number if found is None else found
+
+    def value(self, kind: int, bits: int, length: int, number: float) -> Value:
+        """The value of a cell by the fields of its struct, and by the number that its bits are."""
+        if kind == _raw.TEXT:
+            return self.text(bits, length)
+        if kind == _raw.NUMBER:
+            return number
+        if kind == _raw.WHOLE_NUMBER:
+            return int(number)
+        if kind == _raw.DATE_TIME:
+            return self.moment(bits, number, False)
+        if kind == _raw.BOOLEAN:
+            return bits != 0
+        if kind == _raw.ERROR:
+            return ERRORS[bits]
+        if kind == _raw.DURATION:
+            return self.moment(bits, number, True)
+        return None if kind == 0 else self.text(bits, length)
+
+    def values(self, cells: memoryview, first: int = 0, step: int = 1) -> list[Value]:
+        """The values of one cell and of each so many after it."""
+        kinds = cells[CELL * first + KIND_BYTE :: CELL * step].tobytes()
+        if not kinds:
+            return []
+        numbers: list[Any] = cells.cast("d")[4 * first + 2 :: 4 * step].tolist()
+        kind = kinds[0]
+        is_one_kind = kinds.count(kind) == len(kinds)
+        if is_one_kind and kind == _raw.NUMBER:
+            return numbers
+        if is_one_kind and kind == _raw.WHOLE_NUMBER:
+            return list(map(int, numbers))
+        fields = cells.cast("Q")
+        bits: list[int] = fields[4 * first + 2 :: 4 * step].tolist()
+        if is_one_kind and kind in (_raw.DATE_TIME, _raw.DURATION):
+            return self.moments(bits, numbers, kind == _raw.DURATION)
+        if is_one_kind and kind == _raw.BOOLEAN:
+            return list(map(bool, bits))
+        if is_one_kind and kind == _raw.ERROR:
+            return list(map(ERRORS.__getitem__, bits))
+        lengths: list[int] = fields[4 * first + 3 :: 4 * step].tolist()
+        if is_one_kind and kind == _raw.TEXT:
+            return list(self.texts(bits, lengths))
+        return self.mixed(kinds, bits, lengths, numbers)
+
+    def mixed(self, kinds: bytes, bits: list[int], lengths: list[int], numbers: list[Any]) -> list[Value]:
+        """The values of cells of several kinds, the frequent ones first."""
+        text, number, whole, date = _raw.TEXT, _raw.NUMBER, _raw.WHOLE_NUMBER, _raw.DATE_TIME
+        texts, known, other = self.lent(), self._moments[False], self.value
+        is_ascii = isinstance(texts, str)
+        for at, kind in enumerate(kinds):
+            if kind == number:
+                continue
+            if kind == text:
+                begin = bits[at]
+                found = texts[begin : begin + lengths[at]]
+                numbers[at] = found if is_ascii else str(found, "utf-8")  # type: ignore[arg-type]
+            elif kind == whole:
+                numbers[at] = int(numbers[at])
+            elif kind == date and bits[at] in known:
+                numbers[at] = known[bits[at]]
+            else:
+                numbers[at] = other(kind, bits[at], lengths[at], numbers[at])
+        return numbers
+
+
+def restored(*fields: Any) -> Store:
+    """The store of the buffers that a pickle holds."""
+    return Store(_raw.Content(*fields))
