@@ -70,7 +70,8 @@ def version():
 
 
 def metadata():
-    lines = ["Metadata-Version: 2.1", "Name: gaflwened", f"Version: {version()}", f"Summary: {SUMMARY}", "Requires-Python: >=3.9"]
+    lines = ["Metadata-Version: 2.1", "Name: gaflwened", f"Version: {version()}", f"Summary: {SUMMARY}", "License: MIT"]
+    lines += ["Requires-Python: >=3.9", "Classifier: License :: OSI Approved :: MIT License", "Classifier: Typing :: Typed"]
     lines += ["Provides-Extra: pandas"]
     lines += [f'Requires-Dist: {name}; extra == "pandas"' for name in ("numpy", "pandas")]
     lines += ["Description-Content-Type: text/markdown", "", read(f"{HERE}/README.md").decode("utf-8")]
@@ -88,7 +89,7 @@ def digest(data):
 def dist_info():
     """The name of the wheel's folder of metadata, and its files."""
     wheel = f"Wheel-Version: 1.0\nGenerator: gaflwened\nRoot-Is-Purelib: false\nTag: {tag()}\n"
-    return f"gaflwened-{version()}.dist-info", {"METADATA": metadata(), "WHEEL": wheel.encode("ascii")}
+    return f"gaflwened-{version()}.dist-info", {"METADATA": metadata(), "WHEEL": wheel.encode("ascii"), "LICENSE": read(f"{TOP}/LICENSE")}
 
 
 def prepare_metadata_for_build_wheel(metadata_directory, config_settings=None):

@@ -21,7 +21,7 @@ if TYPE_CHECKING:
     File = Union[str, os.PathLike[Any], BinaryIO]
 
 # How many cells are looked at together.
-TOGETHER = 8192
+TOGETHER = 4096
 MOST = (1 << 64) - 1
 # (Cell._make, without its look at how many fields there are)
 AS_CELL = functools.partial(tuple.__new__, Cell)
@@ -148,7 +148,7 @@ class Sheet:
 
     It is a sequence of its rows: `sheet[0]` and `sheet[-1]` are the first and the last, `sheet[2:5]` three of them, `len(sheet)` how many
     there are, `for row in sheet` and `list(sheet)` all of them. `sheet[2, 1]` and `sheet["B3"]` are the value of one cell. A sheet may be
-    pickled; its whole workbook goes with it.
+    pickled; its whole workbook goes with it. All but its number is refused with ValueError once the workbook is closed.
     """
 
     def __init__(self, store: Store, number: int):
@@ -216,7 +216,10 @@ class Sheet:
             yield from map(AS_CELL, zip(*part))
 
     def rows(self) -> Iterator[list[Value]]:
-        """The rows from row 0 to the last with a cell, each as a list of `ncols` values, None where no cell stands."""
+        """The rows from row 0 to the last with a cell, `nrows` lists of `ncols` values each, None where no cell stands.
+
+        They are made while one goes through them: `list(sheet)` has all.
+        """
         return self._rows(0, self.nrows)
 
     def _rows(self, first: int, last: int) -> Iterator[list[Value]]:
@@ -263,6 +266,8 @@ class Sheet:
             found = operator.index(wanted)
         except TypeError:
             raise TypeError(f"a {what} is asked for by its index, and not by {wanted!r}") from None
+        if found >= end > count:
+            raise IndexError(f"{what} {wanted} is out of range: no .xls has more than {end} {what}s")
         found += count if found < 0 else 0
         if not 0 <= found < end:
             raise IndexError(f"{what} {wanted} is out of range: the sheet {self.name!r} has {count} {what}s")
@@ -355,7 +360,7 @@ class Sheet:
         return numpy.frombuffer(view, _numpy_cell(), self._cells, self._first_cell * CELL)
 
     def to_long(self) -> pandas.DataFrame:
-        """The cells as a DataFrame of pandas, a line for each that the file has, by row and then by column.
+        """The cells as a DataFrame of pandas of shape (cells, 4), a line for each that the file has, by row and then by column.
 
         row, column    from 0 (int64)
         kind           int, float, date, span, text, bool or error, as in the lines of `xls dump` (a category)
@@ -368,7 +373,9 @@ class Sheet:
         return _frame.long_of(self)
 
     def to_dataframe(self, header: Any = 0, **options: Any) -> pandas.DataFrame:
-        """The sheet as a DataFrame of pandas, whose columns are named by row `header` (None: by numbers).
+        """The sheet as a DataFrame of pandas of shape (nrows - header - 1, ncols), whose columns are named by row `header`.
+
+        None instead of a row: all `nrows` rows, and the columns are named by numbers.
 
         The options are those of `pandas.read_excel`, as far as they are of one sheet: `gaflwened.read_excel` names them. TypeError of any
         other; ImportError where numpy or pandas isn't there.
@@ -404,7 +411,7 @@ class Options:
 
     def __init__(self, code_page: Optional[int], sheet: Union[None, int, str], content: bool, few_functions: bool, max_bytes: Optional[int],
                  max_cells: Optional[int]):
-        page = 0 if code_page is None else _whole("code_page", code_page, 1, 65_535, "the number of a code page")
+        page = 0 if code_page is None else _whole("code_page", code_page, 1, 65_535, "the number of a code page, at most 65535")
         most = [0 if value is None else _whole(name, value, 1, MOST, "a number from 1 on, of 64 bits")
                 for name, value in (("max_bytes", max_bytes), ("max_cells", max_cells))]
         if sheet is not None and not content:

@@ -176,25 +176,26 @@ class Store:
             return list(self.texts(bits, lengths))
         return self.mixed(kinds, bits, lengths, numbers)
 
-    def mixed(self, kinds: bytes, bits: list[int], lengths: list[int], numbers: list[Any]) -> list[Value]:
+    def mixed(self, kinds: bytes, all_bits: list[int], lengths: list[int], numbers: list[float]) -> list[Value]:
         """The values of cells of several kinds, the frequent ones first."""
-        text, number, whole, date = _raw.TEXT, _raw.NUMBER, _raw.WHOLE_NUMBER, _raw.DATE_TIME
-        texts, known, other = self.lent(), self._moments[False], self.value
-        is_ascii = isinstance(texts, str)
-        for at, kind in enumerate(kinds):
-            if kind == number:
-                continue
-            if kind == text:
-                begin = bits[at]
-                found = texts[begin : begin + lengths[at]]
-                numbers[at] = found if is_ascii else str(found, "utf-8")  # type: ignore[arg-type]
-            elif kind == whole:
-                numbers[at] = int(numbers[at])
-            elif kind == date and bits[at] in known:
-                numbers[at] = known[bits[at]]
+        number_kind, text_kind, whole_kind, date_kind = _raw.NUMBER, _raw.TEXT, _raw.WHOLE_NUMBER, _raw.DATE_TIME
+        text, known, other = self.text, self._moments[False], self.value
+        texts = self.lent()
+        ascii_texts = texts if isinstance(texts, str) else None
+        found: list[Value] = []
+        append = found.append
+        for kind, bits, length, number in zip(kinds, all_bits, lengths, numbers):
+            if kind == number_kind:
+                append(number)
+            elif kind == text_kind:
+                append(text(bits, length) if ascii_texts is None else ascii_texts[bits : bits + length])
+            elif kind == whole_kind:
+                append(int(number))
+            elif kind == date_kind and bits in known:
+                append(known[bits])
             else:
-                numbers[at] = other(kind, bits[at], lengths[at], numbers[at])
-        return numbers
+                append(other(kind, bits, length, number))
+        return found
 
 
 def restored(*fields: Any) -> Store:
