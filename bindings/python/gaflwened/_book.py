@@ -76,7 +76,7 @@ class Workbook:
     @property
     def is_1904(self) -> bool:
         """Whether days count from 1904-01-01. Else they count from 1899-12-31."""
-        return self._store.is_1904
+        return self._store.arrays.is_1904
 
     @property
     def texts(self) -> memoryview:

@@ -31,6 +31,7 @@ class Store:
 
     def __init__(self, arrays: _raw.Content):
         self._arrays: Optional[_raw.Content] = arrays
+        self.is_1904 = arrays.is_1904
         self._lent: Union[str, bytes, None] = None
         self._moments: tuple[dict[int, Value], dict[int, Value]] = ({}, {})
 
@@ -44,10 +45,6 @@ class Store:
     @property
     def is_closed(self) -> bool:
         return self._arrays is None
-
-    @property
-    def is_1904(self) -> bool:
-        return self.arrays.is_1904
 
     def close(self) -> None:
         self._arrays = self._lent = None
@@ -115,12 +112,14 @@ class Store:
 
     def moments(self, all_bits: list[int], numbers: list[float], is_duration: bool) -> list[Value]:
         """The same of several numbers."""
-        found = list(map(self._moments[is_duration].get, all_bits))
-        if None in found:
-            for at, value in enumerate(found):
-                if value is None:
-                    found[at] = self.moment(all_bits[at], numbers[at], is_duration)
-        return found
+        known = self._moments[is_duration]
+        try:
+            return list(map(known.__getitem__, all_bits))
+        except KeyError:
+            for bits, number in zip(all_bits, numbers):
+                if bits not in known:
+                    known[bits] = self.reckoned(bits, number, is_duration)
+            return list(map(known.__getitem__, all_bits))
 
     def reckoned(self, bits: int, number: float, is_duration: bool) -> Value:
         """The same. The library writes it, and what it writes of most numbers is plain."""
