@@ -17,11 +17,11 @@ if TYPE_CHECKING:
     import pandas
     from numpy.typing import NDArray
 
-    # What open_workbook takes.
-    File = Union[str, os.PathLike[Any], BinaryIO]
-
+# What open_workbook takes.
+File = Union[str, os.PathLike[Any], BinaryIO]
 # How many cells are looked at together.
 TOGETHER = 4096
+FEW = 8  # rows, of which columns aren't made
 MOST = (1 << 64) - 1
 # (Cell._make, without its look at how many fields there are)
 AS_CELL = functools.partial(tuple.__new__, Cell)
@@ -31,8 +31,8 @@ class Workbook:
     """What a workbook holds. `open_workbook` and `Workbook.from_bytes` make one; it keeps no file open.
 
     It has its sheets as a sequence and by their names: `book[0]`, `book["Data"]`, `len(book)`, `for sheet in book`. It may be pickled, and so
-    be handed to another process. Its memory goes with the last reference to it, its sheets and what `to_numpy` and `texts` gave, or of the
-    first two by `close`, which the end of a `with` calls.
+    be handed to another process. Its memory is given back with the last reference to it, to its sheets and to what `to_numpy` and `texts`
+    gave; or, where none has what these gave, by `close`, which the end of a `with` calls.
     """
 
     def __init__(self, store: Store):
@@ -225,13 +225,18 @@ class Sheet:
     def _rows(self, first: int, last: int) -> Iterator[list[Value]]:
         """The rows from one to before another."""
         width, end = self.ncols, self._place(first, 0)
-        together = max(TOGETHER // max(width, 1), 1)
+        # (a sheet of Excel has at most 256 columns, so that more rows stay little)
+        together = max(TOGETHER // max(width, 1), 64 if width <= 256 else 1)
         for row in range(first, last, together):
             height = min(together, last - row)
             begin, end = end, self._place(row + height, 0)
             cells = self._store.cells(self._first_cell + begin, end - begin)
-            if end - begin == height * width:
-                # (cells stand at different places in order, so these are all places)
+            # (cells stand at different places in order, so these are all places where they are as many)
+            is_full = end - begin == height * width
+            if is_full and height < FEW:
+                values = self._store.values(cells)
+                yield from (values[at : at + width] for at in range(0, len(values), width))
+            elif is_full:
                 columns = [self._store.values(cells, column, width) for column in range(width)]
                 yield from map(list, zip(*columns))
             else:
@@ -260,18 +265,19 @@ class Sheet:
                 end = middle
         return begin
 
-    def _index(self, wanted: Any, count: int, end: int, what: str) -> int:
+    def _index(self, wanted: Any, end: int, what: str) -> int:
         """An index from 0; where it is below 0 it counts from the end."""
         try:
             found = operator.index(wanted)
         except TypeError:
             raise TypeError(f"a {what} is asked for by its index, and not by {wanted!r}") from None
-        if found >= end > count:
-            raise IndexError(f"{what} {wanted} is out of range: no .xls has more than {end} {what}s")
-        found += count if found < 0 else 0
-        if not 0 <= found < end:
-            raise IndexError(f"{what} {wanted} is out of range: the sheet {self.name!r} has {count} {what}s")
-        return found
+        if 0 <= found < end:
+            return found
+        count = self.nrows if what == "row" else self.ncols
+        if -count <= found < 0:
+            return found + count
+        why = f"no .xls has more than {end}" if found >= end > count else f"the sheet {self.name!r} has {count}"
+        raise IndexError(f"{what} {wanted} is out of range: {why} {what}s")
 
     @overload
     def __getitem__(self, place: int) -> list[Value]: ...
@@ -298,11 +304,11 @@ class Sheet:
         if isinstance(place, str):
             return self._cell(*place_of(place))
         if not isinstance(place, tuple):
-            row = self._index(place, self.nrows, self.nrows, "row")
+            row = self._index(place, self.nrows, "row")
             return next(self._rows(row, row + 1))
         if len(place) != 2:
             raise TypeError(f"a cell is asked for by its row and its column, and not by {place!r}")
-        return self._cell(self._index(place[0], self.nrows, PLACES, "row"), self._index(place[1], self.ncols, PLACES, "column"))
+        return self._cell(self._index(place[0], PLACES, "row"), self._index(place[1], PLACES, "column"))
 
     def _slice(self, wanted: slice) -> list[list[Value]]:
         rows = range(self.nrows)[wanted]
