@@ -173,6 +173,25 @@ class Reading(unittest.TestCase):
         finally:
             gc.enable()
 
+    def test_in_a_cycle(self):
+        """A collector that finds a cycle with a workbook in it, and with iterators that haven't ended, collects it."""
+
+        def unpickled():
+            buffers = []
+            data = pickle.dumps(book("many_rows"), 5, buffer_callback=buffers.append)
+            return pickle.loads(data, buffers=buffers)
+
+        for mapped in (_raw.MAPPED, 0):
+            for make in (lambda: book("many_rows"), unpickled):
+                with as_if(_raw, "MAPPED", mapped):
+                    read = make()
+                ring = [read, read[0].rows(), read[0].cells(), read[0].to_numpy() if numpy else read.texts]
+                ring += [next(ring[1]), next(ring[2]), ring]
+                dead = weakref.ref(read._store)
+                del read, ring
+                gc.collect()
+                self.assertIsNone(dead())
+
     def test_close(self):
         with book("samples_ledger_xls") as read:
             sheet, texts = read["Data"], read.texts
@@ -519,6 +538,7 @@ class Frames(unittest.TestCase):
                     rows = made.get_sheet_data(sheet, *call)
                     wanted = [["Item", "Café €", ""], ["Sum", 4.5, ""], [2, 2.5, DAY]][: call[-1] if call else None]
                     self.assertEqual(rows, wanted)
+            self.assertEqual([type(made.get_sheet_data(sheet, *call)[2][0]) for call in ((True, None), (False, None))], [int, float])
             made.close()
         with self.assertRaises(TypeError):
             reader({"no_such_option": 1})

@@ -54,7 +54,7 @@ def reader_of(base: Any) -> Any:
             rows = sheet.rows() if wanted is None else sheet[: max(wanted, 0)]
             if is_converted:
                 return [[given(value) for value in row] for row in rows]
-            return [[value if type(value) is float else given(value) for value in row] for row in rows]
+            return [[float(value) if type(value) is int or type(value) is float else given(value) for value in row] for row in rows]
 
     return Reader
 

@@ -52,9 +52,9 @@ class Store:
 
     def __reduce_ex__(self, protocol: Any) -> tuple[Any, ...]:
         *buffers, counts, is_1904 = self.arrays
-        views = [memoryview(buffer).toreadonly() for buffer in buffers]
-        # (protocol 5 takes them without a copy)
-        return restored, (*(pickle.PickleBuffer(view) if protocol >= 5 else view.tobytes() for view in views), counts, is_1904)
+        # (protocol 5 takes them without a copy; no view stands between, since one that is in use may not be in a cycle that is collected)
+        given = [pickle.PickleBuffer(buffer) if protocol >= 5 else memoryview(buffer).tobytes() for buffer in buffers]
+        return restored, (*given, counts, is_1904)
 
     # ---- texts
 
