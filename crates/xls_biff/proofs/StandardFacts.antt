@@ -6,7 +6,7 @@ use Rattle.xls_text.specs.declared.encoding.XlsEncoding.TheVariants.{Utf16, Wind
 use Rattle.xls_text.specs.declared.error.CfbError.TheVariants.{CodePageNotFound}
 use Rattle.xls_data.specs.Content.{int, float, text, truth, failure}
 use Rattle.xls_dates.specs.declared.numbers.Number.TheVariants.{Bits, Hundredths, BitsOver100}
-use Rattle.xls_dates.specs.declared.formats.CellFormat.TheVariants.{Other, TimeDelta}
+use Rattle.xls_dates.specs.declared.formats.CellFormat.TheVariants.{Other, DateTime, TimeDelta}
 use Rattle.xls_data.specs.declared.errors.CellErrorType.TheVariants as failures
 use Rattle.xls_data.specs.declared.sheets.SheetType.TheVariants as kinds
 use Rattle.xls_data.specs.declared.sheets.SheetVisible.TheVariants as states
@@ -23,7 +23,7 @@ use Rattle.xls_biff.specs.Records.DateMode.{date_mode_at}
 use Rattle.xls_biff.specs.Records.Dimensions.{bounds, dimensions_at}
 use Rattle.xls_biff.specs.Records.ExternSheet.{refs_at}
 use Rattle.xls_biff.specs.Records.FilePass.{file_pass_at}
-use Rattle.xls_biff.specs.Records.Format.{format_at}
+use Rattle.xls_biff.specs.Records.Format.{format_at, format_code_at, class_from}
 use Rattle.xls_biff.specs.Records.Formula.{formula_at, formula_value_at}
 use Rattle.xls_biff.specs.Records.Label.{label_at, label_prefix}
 use Rattle.xls_biff.specs.Records.LabelSst.{label_sst_at}
@@ -61,6 +61,17 @@ pub known_format : map (format_at Windows1252 Biff5) ((0xA4 ∷ 0x00 ∷ 0x03 �
     ∷ (0x00 ∷ 0x00 ∷ []) ∷ [])
     ≡ Ok (164, TimeDelta) ∷ Err (errors.InvalidFormat 0) ∷ []
 known_format = refl
+
+-- with their texts, also of an identifier that no Format may have: in BIFF8, and before
+pub known_format_codes : format_code_at Utf16 Biff8 (0x32 ∷ 0x00 ∷ 0x03 ∷ 0x00 ∷ 0x00 ∷ 0x5B ∷ 0x68 ∷ 0x5D ∷ []) ∷ format_code_at Windows1252 Biff5 (0xA4 ∷ 0x00 ∷ 0x01 ∷ 0x80 ∷ [])
+    ∷ format_code_at Windows1252 Biff5 (0xA4 ∷ []) ∷ []
+    ≡ Ok (0x32, codes "[h]") ∷ Ok (0xA4, 0x20AC ∷ []) ∷ Err (errors.Len 2 1 parts.Format) ∷ []
+known_format_codes = refl
+
+-- the class of a code counts for some identifiers alone
+pub known_format_classes : map class_from ((0xA4, codes "[h]") ∷ (0x32, codes "[h]") ∷ (0x0E, codes "yyyy") ∷ (0x17E, codes "yyyy") ∷ (0x17F, codes "yyyy") ∷ [])
+    ≡ Some (0xA4, TimeDelta) ∷ None ∷ None ∷ Some (0x17E, DateTime) ∷ None ∷ []
+known_format_classes = refl
 
 pub known_xf : xf_at (0x05 ∷ 0x00 ∷ 0xA4 ∷ 0x00 ∷ []) ≡ Ok 164
 known_xf = refl

@@ -18,7 +18,7 @@ pub use records::date_mode::parse_date_mode;
 pub use records::dimensions::parse_dimensions;
 pub use records::extern_sheet::{check_extern_sheet, parse_extern_sheet};
 pub use records::file_pass::parse_file_pass;
-pub use records::format::parse_format;
+pub use records::format::{is_format_id, parse_format, parse_format_code};
 pub use records::formula::{
     FormulaParts, FormulaRecord, FormulaValue, formula_position, parse_formula_record,
     parse_formula_value, read_formula,

@@ -94,7 +94,7 @@ versions = refl
 
 -- ---- the table of the globals
 
--- BOF, FilePass, CodePage, DateMode, Format, one that is refused, XF, ExternSheet, Lbl, a type that
+-- BOF, FilePass, CodePage, DateMode, Format, one of an identifier that counts for no class, XF, ExternSheet, Lbl, a type that
 -- isn't read, a string table and a sheet
 abbrev each_type : List ListEntry
 each_type =
@@ -105,7 +105,7 @@ each_type =
 
 pub input : map (entry_record_at None Windows1252 Biff8) each_type
     ≡ Ok (version_record Biff5) ∷ Ok other_record ∷ Ok (page_record Windows1252) ∷ Ok (date_record true)
-    ∷ Ok (format_record 0xA4 TimeDelta) ∷ Ok other_record ∷ Ok (xf_record 0x0E)
+    ∷ Ok (format_record 0xA4 (codes "[h]")) ∷ Ok (format_record 0x0E (codes "[h]")) ∷ Ok (xf_record 0x0E)
     ∷ Ok (references_record (pos 1 ∷ negsuc 0 ∷ [])) ∷ Ok (name_record (0x80 ∷ [], (None, codes "empty rgce")))
     ∷ Ok other_record ∷ Ok (strings_record (codes "a" ∷ (0x1F600 ∷ []) ∷ []))
     ∷ Ok (sheet_record (record { name = 0x80 ∷ []; typ = Vba; visible = VeryHidden })) ∷ []
@@ -119,7 +119,7 @@ forced_lines = refl
 
 -- before BIFF8 a Format, a name of a sheet and that of an Lbl are bytes in the page, and no reference is read
 pub early_lines : map (entry_record_at None Windows1252 Biff5) (plain_entry 0x041E (0xA4 ∷ 0x00 ∷ 0x03 ∷ codes "[h]") ∷ sheet (0x01 ∷ 0x80 ∷ []) ∷ lbl (0x80 ∷ []) ∷ two_refs ∷ [])
-    ≡ Ok (format_record 0xA4 TimeDelta)
+    ≡ Ok (format_record 0xA4 (codes "[h]"))
     ∷ Ok (sheet_record (record { name = 0x20AC ∷ []; typ = WorkSheet; visible = Visible }))
     ∷ Ok (name_record (0x20AC ∷ [], (None, codes "empty rgce"))) ∷ Ok (references_record []) ∷ []
 early_lines = refl

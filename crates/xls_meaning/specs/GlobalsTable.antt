@@ -8,7 +8,6 @@ use Rattle.xls_stream.specs.Listing.{Shared, no_table, table_of, table_without, 
 use Rattle.xls_stream.specs.declared.part.Part.TheVariants as parts
 use Rattle.xls_stream.specs.declared.types.TheConstants as types
 use Rattle.xls_data.specs.Sheets.{SheetContent}
-use Rattle.xls_dates.specs.declared.formats.CellFormat.{CellFormat}
 use Rattle.xls_record.specs.declared.error.XlsError.{XlsError}
 use Rattle.xls_record.specs.declared.error.XlsError.TheVariants.{Len, Cfb}
 use Rattle.xls_record.specs.declared.version.Biff.{Biff}
@@ -17,7 +16,7 @@ use Rattle.xls_biff.specs.Lines.{line_of}
 use Rattle.xls_biff.specs.Records.Bof.{bof_at}
 use Rattle.xls_biff.specs.Records.Xf.{xf_at}
 use Rattle.xls_biff.specs.Records.ExternSheet.{refs_at}
-use Rattle.xls_biff.specs.Records.Format.{format_at}
+use Rattle.xls_biff.specs.Records.Format.{format_code_at}
 use Rattle.xls_strings.specs.Sst.{error_of}
 use Rattle.xls_formula.specs.Defined.{Located, lbl_at}
 use Rattle.xls_record.specs.Reading.{gives}
@@ -36,7 +35,7 @@ pub data GlobalsRecord : Type 0 where
   version_record : (version : Biff) → GlobalsRecord
   page_record : (page : XlsEncoding) → GlobalsRecord
   date_record : (is_1904 : Bool) → GlobalsRecord
-  format_record : (ifmt : ℕ) (class : CellFormat) → GlobalsRecord
+  format_record : (ifmt : ℕ) (code : List ℕ) → GlobalsRecord
   xf_record : (ifmt : ℕ) → GlobalsRecord
   references_record : (firsts : List ℤ) → GlobalsRecord
   name_record : (name : NamedPlace) → GlobalsRecord
@@ -50,8 +49,8 @@ abbrev pub unless_forced : Option ℕ → Result GlobalsRecord XlsError → Resu
 unless_forced None line = line
 unless_forced (Some n) line = Ok other_record
 
--- a Format ([MS-XLS] 2.4.126) that its reader refuses is passed over
-abbrev pub unless_refused : Result (ℕ × CellFormat) XlsError → Result GlobalsRecord XlsError
+-- a Format ([MS-XLS] 2.4.126) that is too short for its code is passed over
+abbrev pub unless_refused : Result (ℕ × List ℕ) XlsError → Result GlobalsRecord XlsError
 unless_refused (Ok f) = Ok (format_record f.0 f.1)
 unless_refused (Err e) = Ok other_record
 
@@ -79,7 +78,7 @@ globals_table =
     ∷ (types.FILE_PASS, λ forced page version body. gives (λ (u : Unit {0}). other_record) (file_pass_at body))
     ∷ (types.CODE_PAGE, λ forced page version body. unless_forced forced (gives page_record (code_page_at body)))
     ∷ (types.DATE_MODE, λ forced page version body. gives date_record (date_mode_at body))
-    ∷ (types.FORMAT, λ forced page version body. unless_refused (format_at page version body))
+    ∷ (types.FORMAT, λ forced page version body. unless_refused (format_code_at page version body))
     ∷ (types.XF, λ forced page version body. gives xf_record (xf_at body))
     ∷ (types.LBL, λ forced page version body. gives name_record (lbl_at page version body))
     ∷ (types.EXTERN_SHEET, λ forced page version body. gives references_record (refs_at version body))
@@ -134,9 +133,9 @@ abbrev pub date_from : GlobalsLine → Option Bool
 date_from (Ok (date_record is_1904)) = Some is_1904
 date_from line = None
 
-abbrev pub format_from : GlobalsLine → Option (ℕ × CellFormat)
-format_from (Ok (format_record ifmt class)) = Some (ifmt, class)
-format_from line = None
+abbrev pub code_from : GlobalsLine → Option (ℕ × List ℕ)
+code_from (Ok (format_record ifmt code)) = Some (ifmt, code)
+code_from line = None
 
 abbrev pub xf_from : GlobalsLine → Option ℕ
 xf_from (Ok (xf_record ifmt)) = Some ifmt

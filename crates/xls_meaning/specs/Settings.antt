@@ -14,11 +14,12 @@ use Rattle.xls_dates.specs.declared.formats.CellFormat.{CellFormat}
 use Rattle.xls_record.specs.declared.version.Biff.{Biff}
 use Rattle.xls_record.specs.declared.version.Biff.TheVariants.{Biff8}
 use Rattle.xls_record.specs.Version.{is_biff8}
+use Rattle.xls_biff.specs.Records.Format.{class_from}
 use Rattle.xls_biff.specs.SheetTable.{CellContext}
 use Rattle.xls_formula.specs.Context.{Context, numbered_sheet}
 use Rattle.xls_formula.specs.Defined.{Located}
 use Rattle.xls_meaning.specs.Order.{map_with_earlier, last_of, somes}
-use Rattle.xls_meaning.specs.GlobalsTable.{NamedPlace, GlobalsLine, entry_record_at, version_from, page_from, date_from, format_from, xf_from, references_from, name_from, strings_from, sheet_from}
+use Rattle.xls_meaning.specs.GlobalsTable.{NamedPlace, GlobalsLine, entry_record_at, version_from, page_from, date_from, code_from, xf_from, references_from, name_from, strings_from, sheet_from}
 use Rattle.xls_meaning.specs.Rules.{Rules}
 
 -- ---- page and version
@@ -63,11 +64,19 @@ sets_1904 (line ∷ lines) = unwrap_or (date_from line) false || sets_1904 lines
 abbrev pub is_1904_in : Rules → List ListEntry → Bool
 is_1904_in rules es = sets_1904 (lines_in rules es)
 
--- ---- format classes
+-- ---- formats
 
--- the identifier and the class of each Format
+-- the identifier and the code of each Format
+abbrev pub codes_in : Rules → List ListEntry → List (ℕ × List ℕ)
+codes_in rules es = somes (map code_from (lines_in rules es))
+
+-- the identifier and the class of each of these formats that a class hangs on
+abbrev pub classed : List (ℕ × List ℕ) → List (ℕ × CellFormat)
+classed codes = somes (map class_from codes)
+
+-- of each Format
 abbrev pub formats_in : Rules → List ListEntry → List (ℕ × CellFormat)
-formats_in rules es = somes (map format_from (lines_in rules es))
+formats_in rules es = classed (codes_in rules es)
 
 -- the class of the last of these formats that has the identifier
 abbrev pub last_class : List (ℕ × CellFormat) → ℕ → Option CellFormat

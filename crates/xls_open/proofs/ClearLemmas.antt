@@ -11,7 +11,6 @@ use Rattle.xls_text.specs.declared.error.CfbError.{CfbError}
 use Rattle.xls_stream.specs.Listing.{Kept, Shared, no_table, table_of, table_without, Item, plain_item, table_item, sheet_item, entry_of}
 use Rattle.xls_stream.specs.StringTable.{Missing, short_head, no_units, no_tail}
 use Rattle.xls_stream.specs.declared.part.Part.{Part}
-use Rattle.xls_dates.specs.declared.formats.CellFormat.{CellFormat}
 use Rattle.xls_record.specs.declared.error.XlsError.{XlsError}
 use Rattle.xls_record.specs.declared.error.XlsError.TheVariants as errors
 use Rattle.xls_record.specs.declared.version.Biff.{Biff}
@@ -98,7 +97,7 @@ unless_clear : (forced : Option ℕ) (line : GlobalsLine) → Clear line → Cle
 unless_clear None line h = h
 unless_clear (Some n) line h = tt
 
-format_clear : (r : Result (ℕ × CellFormat) XlsError) → Clear (unless_refused r)
+format_clear : (r : Result (ℕ × List ℕ) XlsError) → Clear (unless_refused r)
 format_clear (Ok f) = tt
 format_clear (Err e) = tt
 

@@ -14,9 +14,8 @@ use Rattle.xls_record.specs.declared.error.XlsError.TheVariants as errors
 use Rattle.xls_record.specs.declared.version.Biff.{Biff}
 use Rattle.xls_record.specs.Reading.{gives}
 use Rattle.xls_record.specs.declared.version.Biff.TheVariants.{Biff8}
-use Rattle.xls_dates.specs.declared.formats.CellFormat.{CellFormat}
 use Rattle.xls_biff.specs.Records.ExternSheet.{refs_at}
-use Rattle.xls_biff.specs.Records.Format.{format_at}
+use Rattle.xls_biff.specs.Records.Format.{format_code_at}
 use Rattle.xls_formula.specs.Defined.{lbl_at}
 use Rattle.xls_biff.specs.Records.BoundSheet.{bound_sheet_at}
 use Rattle.xls_meaning.specs.Order.{map_with_earlier, first_of}
@@ -205,9 +204,9 @@ version_stands page version body read.Other l h = ap version_from h
 version_stands page version body (read.Version v) l h = ap version_from h
 version_stands page version body (read.Page p) l h = ap version_from h
 version_stands page version body (read.Date b) l h = ap version_from h
-version_stands page version body (read.Format r) l h = ap version_from h ∙ by_format (format_at page version r.now.body.now)
+version_stands page version body (read.Format r) l h = ap version_from h ∙ by_format (format_code_at page version r.now.body.now)
   where
-    by_format : (f : Result (ℕ × CellFormat) XlsError) → version_from (unless_refused f) ≡ None
+    by_format : (f : Result (ℕ × List ℕ) XlsError) → version_from (unless_refused f) ≡ None
     by_format (Ok f) = refl
     by_format (Err e) = refl
 version_stands page version body (read.Xf n) l h = ap version_from h

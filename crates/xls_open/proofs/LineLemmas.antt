@@ -7,7 +7,6 @@ use Rattle.xls_text.specs.declared.encoding.XlsEncoding.{XlsEncoding}
 use Rattle.xls_stream.specs.Listing.{no_table, table_of, table_without, ListEntry, plain_entry, table_entry, sheet_entry, Item, plain_item, table_item, sheet_item, entry_of}
 use Rattle.xls_stream.specs.declared.part.Part.TheVariants as parts
 use Rattle.xls_data.specs.Sheets.{SheetContent}
-use Rattle.xls_dates.specs.declared.formats.CellFormat.{CellFormat}
 use Rattle.xls_record.specs.declared.error.XlsError.{XlsError}
 use Rattle.xls_record.specs.declared.error.XlsError.TheVariants as errors
 use Rattle.xls_record.specs.declared.version.Biff.{Biff}
@@ -79,7 +78,7 @@ no_sheet_unforced : (o : Option ℕ) (line : GlobalsLine) → sheet_from line �
 no_sheet_unforced None line h = h
 no_sheet_unforced (Some n) line h = refl
 
-no_sheet_unrefused : (r : Result (ℕ × CellFormat) XlsError) → sheet_from (unless_refused r) ≡ None
+no_sheet_unrefused : (r : Result (ℕ × List ℕ) XlsError) → sheet_from (unless_refused r) ≡ None
 no_sheet_unrefused (Ok f) = refl
 no_sheet_unrefused (Err e) = refl
 
@@ -97,14 +96,14 @@ no_sheet forced p v typ body = every_type other_line HasNoSheet globals_table ty
 
 -- pages and versions hang on nothing that is in force
 module _ {X : Type 0} (f : GlobalsLine → Option X) (fails : (e : XlsError) → f (Err e) ≡ None)
-    (format : (n : ℕ) (c : CellFormat) → f (Ok (format_record n c)) ≡ None) (other : f (Ok other_record) ≡ None)
+    (format : (n : ℕ) (c : List ℕ) → f (Ok (format_record n c)) ≡ None) (other : f (Ok other_record) ≡ None)
     (references : (rs : List ℤ) → f (Ok (references_record rs)) ≡ None)
     (name : (n : NamedPlace) → f (Ok (name_record n)) ≡ None) (sheet : (s : SheetContent) → f (Ok (sheet_record s)) ≡ None) where
-  no_format : (r : Result (ℕ × CellFormat) XlsError) → f (unless_refused r) ≡ None
+  no_format : (r : Result (ℕ × List ℕ) XlsError) → f (unless_refused r) ≡ None
   no_format (Ok q) = format q.0 q.1
   no_format (Err e) = other
 
-  same_format : (r s : Result (ℕ × CellFormat) XlsError) → f (unless_refused r) ≡ f (unless_refused s)
+  same_format : (r s : Result (ℕ × List ℕ) XlsError) → f (unless_refused r) ≡ f (unless_refused s)
   same_format r s = no_format r ∙ sym (no_format s)
 
   same_references : (r s : Result (List ℤ) XlsError) → f (gives references_record r) ≡ f (gives references_record s)

@@ -17,7 +17,7 @@ use Rattle.xls_record.specs.declared.error.XlsError.TheVariants as errors
 use Rattle.xls_record.specs.declared.version.Biff.{Biff}
 use Rattle.xls_formula.specs.Context.{Context}
 use Rattle.xls_meaning.specs.Order.{map_with_earlier, first_of, somes}
-use Rattle.xls_meaning.specs.Settings.{page_in, version_in, is_1904_in, formats_in, class_in, classes_in, texts_in, context_of, Settings, settings_of, sheets_of}
+use Rattle.xls_meaning.specs.Settings.{page_in, version_in, is_1904_in, formats_in, classed, class_in, classes_in, texts_in, context_of, Settings, settings_of, sheets_of}
 use Rattle.xls_record.specs.Reading.{◌>>=◌}
 use Rattle.xls_biff.specs.Records.BoundSheet.{sheet_by, bound_sheet_at}
 use Rattle.xls_meaning.specs.GlobalsTable.{sheet_from, forced_fault}
@@ -114,7 +114,7 @@ same_settings p q v w c d ss ts x y n m e f g h i j = rw (e, f, g, h, i, j) refl
 
 -- what the code reads the sheets under is what the items give
 pub settings_are : (rules : Rules) (items : List Item) (t : State) (classes : List CellFormat) (context : Context)
-    → IsState rules items t → classes ≡ map (class_in t.formats) t.identifiers
+    → IsState rules items t → classes ≡ map (class_in (classed t.codes)) t.identifiers
     → context ≡ context_of rules (map entry_of items)
     → ◌≡◌ {A = Settings} (record {
       cells = record { page = t.page; version = t.version; classes = classes; strings = t.strings; is_1904 = t.is_1904 };
@@ -123,7 +123,7 @@ pub settings_are : (rules : Rules) (items : List Item) (t : State) (classes : Li
 settings_are rules items t classes context h e c =
     let es = map entry_of items in
     same_settings t.page (page_in rules es) t.version (version_in rules es) classes (classes_in rules es) t.strings (texts_in rules es) t.is_1904 (is_1904_in rules es) context (context_of rules es) h.page h.version
-    (e ∙ ap (λ (fs : List (ℕ × CellFormat)). map (class_in fs) t.identifiers) h.formats
+    (e ∙ ap (λ (fs : List (ℕ × List ℕ)). map (class_in (classed fs)) t.identifiers) h.codes
     ∙ ap (map (class_in (formats_in rules es))) h.identifiers)
     h.strings h.is_1904 c
 

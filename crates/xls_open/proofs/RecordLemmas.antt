@@ -8,7 +8,6 @@ use Rattle.xls_stream.specs.StringTable.{Mark, Missing, marked, Table, TableFaul
 use Rattle.xls_stream.specs.declared.part.Part.TheVariants.{Sst}
 use Rattle.xls_stream.proofs.TableReadings.{one_reading}
 use Rattle.xls_data.specs.Sheets.{SheetContent}
-use Rattle.xls_dates.specs.declared.formats.CellFormat.{CellFormat}
 use Rattle.xls_record.specs.declared.error.XlsError.{XlsError}
 use Rattle.xls_record.specs.declared.error.XlsError.TheVariants as errors
 use Rattle.xls_record.specs.Reading.{Fails, Gives, fault_in, gives}
@@ -31,7 +30,7 @@ module _ {X Y : Type 0} (f : X → GlobalsRecord) (h : X → Y) where
   refused (Err d) e g = let same : d ≡ e = cc in ap (λ (y : XlsError). Err y) same
 
 -- a Format has none
-pub format_fine : (r : Result (ℕ × CellFormat) XlsError) → fault_of (unless_refused r) ≡ None
+pub format_fine : (r : Result (ℕ × List ℕ) XlsError) → fault_of (unless_refused r) ≡ None
 format_fine (Ok q) = refl
 format_fine (Err e) = refl
 
@@ -144,14 +143,14 @@ module _ (s : State) (body : List ℕ) (g : GlobalsRecord) where
       let e = line_is (λ (q : ℕ × SheetContent). sheet_record q.1) (bound_sheet_at s.page s.version body) (o, c) g h k in
       ap (λ (x : ℕ). record s { sheets = s.sheets ++ (x, c) ∷ [] }) (bound_offset s.page s.version body (o, c) h) ∙ ap (after s body) (sym e)
 
-  pub format_taken : (r : Result (ℕ × CellFormat) XlsError) (f : ℕ × CellFormat) → r ≡ Ok f
-      → ◌≡◌ {A = GlobalsLine} (Ok g) (unless_refused r) → record s { formats = s.formats ++ f ∷ [] } ≡ after s body g
+  pub format_taken : (r : Result (ℕ × List ℕ) XlsError) (f : ℕ × List ℕ) → r ≡ Ok f
+      → ◌≡◌ {A = GlobalsLine} (Ok g) (unless_refused r) → record s { codes = s.codes ++ f ∷ [] } ≡ after s body g
   format_taken r f h k =
       let e : ◌≡◌ {A = GlobalsLine} (Ok g) (Ok (format_record f.0 f.1)) = k ∙ ap unless_refused h in
       let same : g ≡ format_record f.0 f.1 = cc in
       ap (after s body) (sym same)
 
-  pub format_passed : (r : Result (ℕ × CellFormat) XlsError) (e : XlsError) → Fails e r → (e ≡ errors.Memory → ⊥)
+  pub format_passed : (r : Result (ℕ × List ℕ) XlsError) (e : XlsError) → Fails e r → (e ≡ errors.Memory → ⊥)
       → ◌≡◌ {A = GlobalsLine} (Ok g) (unless_refused r) → s ≡ after s body g
   format_passed r errors.Memory h n k = absurd (n refl)
   format_passed r e h n k =

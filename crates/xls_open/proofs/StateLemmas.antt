@@ -8,11 +8,10 @@ use Rattle.xls_text.specs.declared.encoding.XlsEncoding.{XlsEncoding}
 use Rattle.xls_text.specs.declared.encoding.XlsEncoding.TheVariants.{Utf16}
 use Rattle.xls_stream.specs.Listing.{offset_at, no_table, table_of, table_without, ListEntry, Item, plain_item, table_item, sheet_item, entry_of}
 use Rattle.xls_data.specs.Sheets.{SheetContent}
-use Rattle.xls_dates.specs.declared.formats.CellFormat.{CellFormat}
 use Rattle.xls_record.specs.declared.version.Biff.{Biff}
 use Rattle.xls_record.specs.declared.version.Biff.TheVariants.{Biff8}
 use Rattle.xls_meaning.specs.Order.{map_with_earlier, last_of, somes}
-use Rattle.xls_meaning.specs.GlobalsTable.{NamedPlace, GlobalsRecord, item_record_at, GlobalsLine, version_from, page_from, date_from, format_from, xf_from, references_from, name_from, strings_from, sheet_from}
+use Rattle.xls_meaning.specs.GlobalsTable.{NamedPlace, GlobalsRecord, item_record_at, GlobalsLine, version_from, page_from, date_from, code_from, xf_from, references_from, name_from, strings_from, sheet_from}
 use Rattle.xls_meaning.specs.Settings.{said_by, first_page, page_in, version_in, line_in, lines_in, sets_1904}
 use Rattle.xls_meaning.specs.Faults.{item_line}
 use Rattle.xls_open.specs.Globals.{Sheets, State, pair_of, sheets_at, IsState}
@@ -59,7 +58,7 @@ nothing_yielded rules page h = record {
   page = h;
   version = refl;
   is_1904 = refl;
-  formats = refl;
+  codes = refl;
   identifiers = refl;
   strings = refl;
   refs = refl;
@@ -98,9 +97,9 @@ module _ (rules : Rules) (is : List Item) (s : State) (h : IsState rules is s) (
             ∙ ap (version_in rules) (sym push);
         is_1904 = ap (λ (b : Bool). or_also b (date_from (Ok g))) h.is_1904
             ∙ sym (date_push (lines_in rules es) (Ok g)) ∙ ap sets_1904 (sym lines);
-        formats = ap (λ (l : List (ℕ × CellFormat)). with_one l (format_from (Ok g))) h.formats
-            ∙ sym (somes_push format_from (lines_in rules es) (Ok g))
-            ∙ ap (λ (l : List GlobalsLine). somes (map format_from l)) (sym lines);
+        codes = ap (λ (l : List (ℕ × List ℕ)). with_one l (code_from (Ok g))) h.codes
+            ∙ sym (somes_push code_from (lines_in rules es) (Ok g))
+            ∙ ap (λ (l : List GlobalsLine). somes (map code_from l)) (sym lines);
         identifiers = ap (λ (l : List ℕ). with_one l (xf_from (Ok g))) h.identifiers
             ∙ sym (somes_push xf_from (lines_in rules es) (Ok g))
             ∙ ap (λ (l : List GlobalsLine). somes (map xf_from l)) (sym lines);

@@ -4,12 +4,11 @@ use Rattle.xls_text.specs.declared.encoding.XlsEncoding.{XlsEncoding}
 use Rattle.xls_stream.specs.Listing.{Item, entry_of, Holds}
 use Rattle.xls_stream.specs.declared.part.Part.{Part}
 use Rattle.xls_data.specs.Sheets.{SheetContent, sheet_content}
-use Rattle.xls_dates.specs.declared.formats.CellFormat.{CellFormat}
 use Rattle.xls_record.specs.declared.error.XlsError.{XlsError}
 use Rattle.xls_record.specs.declared.error.XlsError.TheVariants as errors
 use Rattle.xls_record.specs.declared.version.Biff.{Biff}
 use Rattle.xls_meaning.specs.Order.{map_with_earlier, first_of}
-use Rattle.xls_meaning.specs.Settings.{page_in, version_in, is_1904_in, formats_in, identifiers_in, texts_in, extern_refs, lbls_in, known_refs, resolved_name}
+use Rattle.xls_meaning.specs.Settings.{page_in, version_in, is_1904_in, codes_in, identifiers_in, texts_in, extern_refs, lbls_in, known_refs, resolved_name}
 use Rattle.xls_meaning.specs.GlobalsTable.{NamedPlace}
 use Rattle.xls_open.specs.Workbook.{name_texts}
 use Rattle.xls_meaning.specs.Faults.{item_fault, globals_places}
@@ -30,7 +29,7 @@ pub record State : Type 0 where
   pub page : XlsEncoding
   pub version : Biff
   pub is_1904 : Bool
-  pub formats : List (ℕ × CellFormat)
+  pub codes : List (ℕ × List ℕ)
   pub identifiers : List ℕ
   pub strings : List (List ℕ)
   pub refs : List ℤ
@@ -49,7 +48,7 @@ pub record IsState (rules : Rules) (items : List Item) (s : State) : Type 0 wher
   pub page : s.page ≡ page_in rules (map entry_of items)
   pub version : s.version ≡ version_in rules (map entry_of items)
   pub is_1904 : s.is_1904 ≡ is_1904_in rules (map entry_of items)
-  pub formats : s.formats ≡ formats_in rules (map entry_of items)
+  pub codes : s.codes ≡ codes_in rules (map entry_of items)
   pub identifiers : s.identifiers ≡ identifiers_in rules (map entry_of items)
   pub strings : s.strings ≡ texts_in rules (map entry_of items)
   pub refs : s.refs ≡ extern_refs rules (map entry_of items)

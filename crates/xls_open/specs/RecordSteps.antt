@@ -11,7 +11,7 @@ use Rattle.xls_record.specs.Reading.{gives}
 use Rattle.xls_biff.specs.Walking.{group_of}
 use Rattle.xls_biff.specs.Records.BoundSheet.{bound_sheet_at}
 use Rattle.xls_biff.specs.Records.ExternSheet.{refs_at}
-use Rattle.xls_biff.specs.Records.Format.{format_at}
+use Rattle.xls_biff.specs.Records.Format.{format_code_at}
 use Rattle.xls_formula.specs.Defined.{lbl_at}
 use Rattle.xls_meaning.specs.GlobalsTable.{other_record, version_record, page_record, date_record, xf_record, references_record, name_record, strings_record, sheet_record, unless_refused, shared_texts, plain_record_at, GlobalsLine, fault_of}
 use Rattle.xls_meaning.specs.GlobalsTable as table
@@ -26,7 +26,7 @@ Stands page version body read.Other line = line ≡ Ok other_record
 Stands page version body (read.Version v) line = line ≡ Ok (version_record v)
 Stands page version body (read.Page p) line = line ≡ Ok (page_record p)
 Stands page version body (read.Date b) line = line ≡ Ok (date_record b)
-Stands page version body (read.Format r) line = line ≡ unless_refused (format_at page version r.now.body.now)
+Stands page version body (read.Format r) line = line ≡ unless_refused (format_code_at page version r.now.body.now)
 Stands page version body (read.Xf n) line = line ≡ Ok (xf_record n)
 Stands page version body (read.References r) line = line ≡ gives references_record (refs_at version r.now.body.now)
 Stands page version body (read.Name r) line = line ≡ gives name_record (lbl_at page version r.now.body.now)

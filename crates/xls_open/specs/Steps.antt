@@ -12,7 +12,7 @@ use Rattle.xls_record.specs.declared.error.XlsError.TheVariants as errors
 use Rattle.xls_record.specs.declared.version.Biff.TheVariants.{Biff8}
 use Rattle.xls_meaning.specs.Order.{map_with_earlier, first_of}
 use Rattle.xls_meaning.specs.Settings.{Settings, SheetRecords}
-use Rattle.xls_meaning.specs.GlobalsTable.{GlobalsRecord, version_from, page_from, date_from, format_from, xf_from, references_from, name_from, strings_from, sheet_from}
+use Rattle.xls_meaning.specs.GlobalsTable.{GlobalsRecord, version_from, page_from, date_from, code_from, xf_from, references_from, name_from, strings_from, sheet_from}
 use Rattle.xls_meaning.specs.Reading.{SheetView, BookView, IsContent, IsReading}
 use Rattle.xls_meaning.specs.Faults.{kept_fault, FirstAfter, IsFull}
 use Rattle.xls_meaning.specs.Rules.{Rules}
@@ -28,7 +28,7 @@ first_state page = record {
   page = page;
   version = Biff8;
   is_1904 = false;
-  formats = [];
+  codes = [];
   identifiers = [];
   strings = [];
   refs = [];
@@ -59,7 +59,7 @@ after s body g = record {
   page = unwrap_or (page_from (Ok g)) s.page;
   version = unwrap_or (version_from (Ok g)) s.version;
   is_1904 = or_also s.is_1904 (date_from (Ok g));
-  formats = with_one s.formats (format_from (Ok g));
+  codes = with_one s.codes (code_from (Ok g));
   identifiers = with_one s.identifiers (xf_from (Ok g));
   strings = unwrap_or (strings_from (Ok g)) s.strings;
   refs = with_all s.refs (references_from (Ok g));

@@ -80,6 +80,10 @@ cell_content c = cells.cell_entry_of c
 abbrev pub formula_content : Position × String Global → FormulaEntry
 formula_content c = (c.0, text_of c.1)
 
+-- the identifier and the code of a format, by its characters
+abbrev pub code_texts : ℕ × String Global → ℕ × List ℕ
+code_texts f = (f.0, text_of f.1)
+
 -- a name and its text, by their characters
 abbrev pub name_texts : String Global × String Global → List ℕ × List ℕ
 name_texts n = (text_of n.0, text_of n.1)

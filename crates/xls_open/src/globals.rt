@@ -13,10 +13,9 @@ use crate::options::XlsOptions;
 use std::alloc::{AllocError, Global};
 use std::marker::Model;
 use xls_biff::{
-    Biff, Record, RecordIter, Refs, Strings, XlsError, parse_extern_sheet, parse_format,
+    Biff, Record, RecordIter, Refs, Strings, XlsError, parse_extern_sheet, parse_format_code,
     parse_sheet_metadata, parse_sst,
 };
-use xls_data::CellFormat;
 use xls_formula::parse_lbl;
 use xls_stream::types::EOF;
 use xls_text::XlsEncoding;
@@ -29,8 +28,8 @@ pub struct Globals {
     /// The version in force.
     pub version: Biff,
     pub is_1904: bool,
-    /// The identifier and the class of each Format.
-    pub formats: Vec<(u16, CellFormat)>,
+    /// The identifier and the code of each Format.
+    pub codes: Vec<(u16, String)>,
     /// The format identifier of each XF.
     pub identifiers: Vec<u16>,
     /// The last string table.
@@ -47,6 +46,7 @@ impl Model for Globals {
     ghost use Rattle.std.specs.Prelude.{map};
     ghost use Rattle.xls_formula.specs.Defined.{named_of};
     ghost use Rattle.xls_open.specs.Globals.{State, listed_of};
+    ghost use Rattle.xls_open.specs.Workbook.{code_texts};
 
     ghost Value = { State };
 
@@ -54,7 +54,7 @@ impl Model for Globals {
       page = g.page;
       version = g.version;
       is_1904 = g.is_1904;
-      formats = g.formats.items;
+      codes = map code_texts g.codes.items;
       identifiers = g.identifiers.items;
       strings = g.strings;
       refs = g.refs;
@@ -83,7 +83,7 @@ impl Globals {
             page,
             version: Biff::Biff8,
             is_1904: false,
-            formats: Vec::new(alloc),
+            codes: Vec::new(alloc),
             identifiers: Vec::new(alloc),
             strings: Strings::new(alloc),
             refs: Refs::new(alloc),
@@ -92,13 +92,13 @@ impl Globals {
         }
     }
 
-    /// Keeps a format, unless its reader refuses it for another cause than memory.
+    /// Keeps a format, unless its record is too short for its code.
     fn take_format(&mut self, alloc: Global, r: &Record<'_>) -> Result<(), AllocError>
         ensures { OnOk result (IsTaken self.old (GlobalsRecord.Format r.entry) self.new) }
     {
-        match parse_format(alloc, r, &self.page, self.version) {
+        match parse_format_code(alloc, r, &self.page, self.version) {
             Ok(format) => {
-                self.formats.push(format)?;
+                self.codes.push(format)?;
                 Ok(())
             }
             Err(error) if error.is_memory() => Err(AllocError),

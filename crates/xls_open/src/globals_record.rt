@@ -30,7 +30,7 @@ pub(crate) enum GlobalsRecord<'a> {
     Page(XlsEncoding),
     /// Whether it sets the date system of 1904.
     Date(bool),
-    /// A Format, which its reader may refuse.
+    /// A Format, which may be too short for its code.
     Format(&'a Record<'a>),
     /// The format identifier of an XF.
     Xf(u16),
@@ -151,7 +151,7 @@ impl<'a> RecordUnder<'a> {
 }
 
 /// What a record of the globals is under a version and a forced page, or its fault. A CodePage has none
-/// under a forced page, and a Format that its reader refuses is none.
+/// under a forced page, and a Format that is too short for its code is none.
 pub(crate) fn read_globals_record<'a>(
     r: &'a Record<'a>,
     biff: Biff,

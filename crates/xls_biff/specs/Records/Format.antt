@@ -1,5 +1,5 @@
 -- Format ([MS-XLS] 2.4.126): an identifier (ifmt) in bytes 0 and 1, and the format's text.
-use Rattle.std.specs.Prelude.{ℕ, List, Bool, ◌||◌, if◌then◌else◌, take, drop, Result, Ok, Err}
+use Rattle.std.specs.Prelude.{ℕ, List, Bool, ◌||◌, if◌then◌else◌, take, drop, Option, Some, None, Result, Ok, Err}
 use Rattle.xls_bytes.specs.Numbers.{le}
 use Rattle.xls_text.specs.declared.encoding.XlsEncoding.{XlsEncoding}
 use Rattle.xls_stream.specs.declared.part.Part.TheVariants as parts
@@ -25,6 +25,17 @@ format_id n = if is_format_id n then Ok tt else Err (InvalidFormat n)
 abbrev pub format_text_at : XlsEncoding → Biff → List ℕ → Result (List ℕ) XlsError
 format_text_at page biff bytes =
     if is_biff8 biff then string_at page biff bytes else short_string_at page biff bytes
+
+-- the identifier, whichever it is, and the text, which is the format's code
+abbrev pub format_code_at : XlsEncoding → Biff → List ℕ → Result (ℕ × List ℕ) XlsError
+format_code_at page biff body = do
+  at_least 2 parts.Format body
+  cs ← format_text_at page biff (drop 2 body)
+  Ok (le (take 2 body), cs)
+
+-- the class of a format's code, where a Format may have the identifier
+abbrev pub class_from : ℕ × List ℕ → Option (ℕ × CellFormat)
+class_from f = if is_format_id f.0 then Some (f.0, class_of f.1) else None
 
 -- the identifier and the class of the text
 abbrev pub format_at : XlsEncoding → Biff → List ℕ → Result (ℕ × CellFormat) XlsError

@@ -2,6 +2,7 @@ use Rattle.std.proofs.Common.{map, ap, ◌∙◌, ◌∷◌, []}
 use Rattle.std.proofs.lemmas.List.{map-append}
 use Rattle.xls_formula.specs.Defined.{named_of}
 use Rattle.xls_open.specs.Globals.{State, listed_of}
+use Rattle.xls_open.specs.Workbook.{code_texts}
 use Rattle.xls_open.proofs.RecordLemmas.{sheet_taken}
 use Rattle.xls_open.proofs.globals.Globals.take_sheet.Goals as goal
 
@@ -11,7 +12,7 @@ returns c =
       page = c.self.inside.page;
       version = c.self.inside.version;
       is_1904 = c.self.inside.is_1904;
-      formats = c.self.inside.formats.items;
+      codes = map code_texts c.self.inside.codes.items;
       identifiers = c.self.inside.identifiers.items;
       strings = c.self.inside.strings;
       refs = c.self.inside.refs;
