@@ -22,7 +22,12 @@ fn put_cell<K: Sink, F: LineForm>(
     ensures { PutsLines K.state F.Buffer.kept (F.is_text form.now) (cell_lines (cell_entry cell.entry))
         out.old out.new result }
 {
-    let SheetCell { row, column, value } = cell;
+    let SheetCell {
+        row,
+        column,
+        value,
+        ..
+    } = cell;
     let value = text.value_of(value)?;
     match shown(&value) {
         Some((kind, field)) => form.put_cell(out, (row, column), kind, &field),

@@ -19,6 +19,7 @@ use Rattle.xls_meaning.specs.Order.{somes}
 use Rattle.xls_meaning.proofs.OrderLemmas.{somes-append}
 use Rattle.xls_view.specs.Formulas.{Formula, formula_of, formulas_kept}
 use Rattle.xls_view.specs.SheetContents.{IsReadable, cells_after, kept_in, moved, regions_at, regions_of}
+use Rattle.xls_view.specs.Formats.{FormattedCell, FormulaPlace, formatted_after, formula_after, with_formats, xf_in}
 use Rattle.xls_view.specs.Walking.{IsSoundPart, Left}
 use Rattle.xls_view.proofs.WalkLemmas.{kept_next, kept_over, kept_cut, kept_nothing}
 
@@ -55,6 +56,20 @@ module _ (s : Settings) (before : Left) (g : Group) (after : Left) (sound : IsSo
       ∙ ap (λ (p : Position). cells ++ cells_after s p (kept_in after.0 after.1))
       (ap (λ (r : Result SheetRecord XlsError). unwrap_or (position_in r) at) is ∙ sym (moves line is))
 
+  -- likewise with the XF indices
+  pub formatted_next : (last following : FormulaPlace) (cells : List FormattedCell)
+      → ((line : SheetRecord) → kept_line s.cells (kept_group g) ≡ Ok line
+      → cells ≡ with_formats (xf_in last.1 (kept_group g)) 0 (adds s.formulas last.0 line).cells)
+      → ((line : SheetRecord) → kept_line s.cells (kept_group g) ≡ Ok line → following ≡ formula_after s.cells last (kept_group g))
+      → formatted_after s last (kept_in before.0 before.1) ≡ cells ++ formatted_after s following (kept_in after.0 after.1)
+  formatted_next last following cells gives_it moves =
+      let line = line_next.0 in
+      let is = line_next.1 in
+      ap (formatted_after s last) left_is
+      ∙ ap (λ (l : List FormattedCell). l ++ formatted_after s (formula_after s.cells last (kept_group g)) (kept_in after.0 after.1))
+      (ap (with_formats (xf_in last.1 (kept_group g)) 0) (record_gives last.0 line is) ∙ sym (gives_it line is))
+      ∙ ap (λ (p : FormulaPlace). cells ++ formatted_after s p (kept_in after.0 after.1)) (sym (moves line is))
+
 -- ---- the end
 
 -- the bytes that are left have no more records
@@ -71,6 +86,9 @@ nothing_left s after e =
 
 pub no_cells : (s : Settings) (before : Left) (at : Position) → kept_in before.0 before.1 ≡ [] → cells_after s at (kept_in before.0 before.1) ≡ []
 no_cells s before at e = ap (cells_after s at) e
+
+pub no_formatted : (s : Settings) (before : Left) (last : FormulaPlace) → kept_in before.0 before.1 ≡ [] → formatted_after s last (kept_in before.0 before.1) ≡ []
+no_formatted s before last e = ap (formatted_after s last) e
 
 -- ---- the cells of a run
 

@@ -13,3 +13,7 @@ pub mod AscentLemmas
 pub mod BoundsLemmas
 pub mod SurveyLemmas
 pub mod PlainLemmas
+pub mod FormatLemmas
+pub mod FormatFacts
+pub mod CodeLemmas
+pub mod CountLemmas

@@ -31,7 +31,9 @@ use Rattle.xls_view.specs.Formulas.{Formula, formula_of}
 use Rattle.xls_view.specs.Groups.{groups_in}
 use Rattle.xls_view.specs.Values.{lent_content}
 use Rattle.xls_view.specs.declared.value.CellValue.{CellValue}
-use Rattle.xls_view.specs.Placed.{Place, cell_in, cell_number, cell_placed, first_kept, formula_placed, record_at, tokens_in}
+use Rattle.xls_view.specs.Formats.{FormattedCell, with_format, with_formats}
+use Rattle.xls_view.specs.Formatting.{place_of}
+use Rattle.xls_view.specs.Placed.{FormattedPlace, cell_in, cell_number, cell_placed, first_kept, formula_placed, record_at, tokens_in, value_at}
 use Rattle.xls_view.specs.SheetPlacing.{value_or_blank}
 use Rattle.xls_view.proofs.SettledLemmas.{is_settled, seen, settled_seen}
 use Rattle.xls_view.proofs.WalkLemmas.{are_groups, drop_bytes}
@@ -153,20 +155,6 @@ pub sorted_seen : {X Y : Type 0} (content : Position → X → Y) (xs found : Li
     → ((p : Position) → last_at found p ≡ last_at xs p) → map (seen content) found ≡ settled (map (seen content) xs)
 sorted_seen content xs found a h = ap (map (seen content)) (is_settled xs found a h) ∙ settled_seen content xs
 
--- ---- what is read at a place
-
-map_both : {X Y Z : Type 0} (f : X → Y) (g : Y → Z) (xs : List X) → map g (map f xs) ≡ map (λ (x : X). g (f x)) xs
-map_both f g [] = refl
-map_both {X} {Y} {Z} f g (x ∷ xs) = ap (λ (l : List Z). g (f x) ∷ l) (map_both f g xs)
-
-abbrev pub place_of : ℕ → CellEntry → Place
-place_of at c = (c.0, at)
-
--- the places of the cells of a MulRk
-pub run_places : (f : ℕ → CellEntry) (at n : ℕ) (cells : List CellEntry) → cells ≡ map f (range_with_len 0 n)
-    → map (place_of at) cells ≡ map (λ (i : ℕ). place_of at (f i)) (range_with_len 0 n)
-run_places f at n cells e = ap (map (place_of at)) e ∙ map_both f (place_of at) (range_with_len 0 n)
-
 -- ---- the value of a cell of a record
 
 abbrev pub value_of : Option CellEntry → Content
@@ -229,28 +217,21 @@ one_of o c e = ap listed_cell e
 -- a record with one cell
 pub place_one : (s : Settings) (part : List ℕ) (at : ℕ) (last : Position) (k : Kept) (g : SheetRecord) (c : CellEntry) → record_at part at ≡ k
     → (k.typ == types.MUL_RK) ≡ false → kept_line s.cells k ≡ Ok g → c ∷ [] ≡ (adds s.formulas last g).cells
-    → cell_placed s part (c.0, at) ≡ c
+    → value_at s part c.0 at ≡ c.1
 place_one s part at last k g c here typ line one =
     let again : yield_of (yield_at s c.0 k) ≡ adds s.formulas c.0 g = ap (λ (r : Result SheetRecord XlsError). yield_of (gives (adds s.formulas c.0) r)) line in
     let cells : (yield_of (yield_at s c.0 k)).cells ≡ c ∷ [] = ap (λ (x : Yield). x.cells) again ∙ same_adds s last g c (sym one) in
     let n : cell_number c.0 k ≡ 0 = ap (λ (b : Bool). if b then c.0.1 - first_column k.body else 0) typ in
-    let value : cell_in s c.0 k ≡ c.1 =
-    ap (λ (xs : List CellEntry). (unwrap_or (slice_get xs (cell_number c.0 k)) (c.0, nothing)).1) cells
-    ∙ ap (λ (m : ℕ). (unwrap_or (slice_get (c ∷ []) m) (c.0, nothing)).1) n in
-    ap (λ (j : Kept). placed c.0 (cell_in s c.0 j)) here ∙ ap (placed c.0) value
-  where
-    placed : Position → Content → CellEntry
-    placed p v = (p, v)
+    ap (λ (j : Kept). cell_in s c.0 j) here
+    ∙ ap (λ (xs : List CellEntry). (unwrap_or (slice_get xs (cell_number c.0 k)) (c.0, nothing)).1) cells
+    ∙ ap (λ (m : ℕ). (unwrap_or (slice_get (c ∷ []) m) (c.0, nothing)).1) n
 
--- the cells of a MulRk
-pub run_each : (s : Settings) (part : List ℕ) (at : ℕ) (k : Kept) (a n count : ℕ) → record_at part at ≡ k → k.typ ≡ types.MUL_RK
-    → mul_rk_at s.cells.classes s.cells.is_1904 k.body ≡ Ok (map (rk_cell s.cells.classes s.cells.is_1904 k.body) (range_with_len 0 count)) → a + n ≡ count
-    → map (cell_placed s part) (map (place_of at) (map (rk_cell s.cells.classes s.cells.is_1904 k.body) (range_with_len a n)))
-    ≡ map (rk_cell s.cells.classes s.cells.is_1904 k.body) (range_with_len a n)
-run_each s part at k a zero count here typ read len = refl
-run_each s part at k a (suc n) count here typ read len =
+-- a cell of a MulRk by its number
+run_value : (s : Settings) (part : List ℕ) (at : ℕ) (k : Kept) (a count : ℕ) → record_at part at ≡ k → k.typ ≡ types.MUL_RK
+    → mul_rk_at s.cells.classes s.cells.is_1904 k.body ≡ Ok (map (rk_cell s.cells.classes s.cells.is_1904 k.body) (range_with_len 0 count)) → a < count
+    → value_at s part (rk_cell s.cells.classes s.cells.is_1904 k.body a).0 at ≡ (rk_cell s.cells.classes s.cells.is_1904 k.body a).1
+run_value s part at k a count here typ read within =
     let f = rk_cell s.cells.classes s.cells.is_1904 k.body in
-    let others = run_each s part at k (a + 1) n count here typ read (omega (arith, len)) in
     let p = (f a).0 in
     let t : (k.typ == types.MUL_RK) ≡ true = rw typ refl in
     let over : first_column k.body + a - first_column k.body ≡ a = omega arith in
@@ -259,44 +240,50 @@ run_each s part at k a (suc n) count here typ read len =
     let cells : (yield_of (yield_at s p k)).cells ≡ map f (range_with_len 0 count) =
     ap (λ (r : Result SheetRecord XlsError). (yield_of (gives (adds s.formulas p) r)).cells) line in
     let zero_add : 0 + a ≡ a = omega arith in
-    let value : cell_in s p k ≡ (f a).1 =
-    ap (λ (xs : List CellEntry). (unwrap_or (slice_get xs (cell_number p k)) (p, nothing)).1) cells
+    ap (λ (j : Kept). cell_in s p j) here
+    ∙ ap (λ (xs : List CellEntry). (unwrap_or (slice_get xs (cell_number p k)) (p, nothing)).1) cells
     ∙ ap (λ (m : ℕ). (unwrap_or (slice_get (map f (range_with_len 0 count)) m) (p, nothing)).1) number
-    ∙ ap (λ (o : Option CellEntry). (unwrap_or o (p, nothing)).1) (get_run f 0 count a (omega (arith, len)))
-    ∙ ap (λ (i : ℕ). (f i).1) zero_add in
-    ap (λ (j : Kept). placed p (cell_in s p j) ∷ map (cell_placed s part) (map (place_of at) (map f (range_with_len (a + 1) n)))) here
-    ∙ ap (λ (v : Content). placed p v ∷ map (cell_placed s part) (map (place_of at) (map f (range_with_len (a + 1) n)))) value
-    ∙ ap (λ (l : List CellEntry). f a ∷ l) others
-  where
-    placed : Position → Content → CellEntry
-    placed p v = (p, v)
+    ∙ ap (λ (o : Option CellEntry). (unwrap_or o (p, nothing)).1) (get_run f 0 count a within)
+    ∙ ap (λ (i : ℕ). (f i).1) zero_add
+
+-- its cells, at their places
+pub run_each : (s : Settings) (part : List ℕ) (at : ℕ) (k : Kept) (xf : ℕ → ℕ) (a n count : ℕ) → record_at part at ≡ k → k.typ ≡ types.MUL_RK
+    → mul_rk_at s.cells.classes s.cells.is_1904 k.body ≡ Ok (map (rk_cell s.cells.classes s.cells.is_1904 k.body) (range_with_len 0 count)) → a + n ≡ count
+    → map (cell_placed s part) (map (place_of at) (with_formats xf a (map (rk_cell s.cells.classes s.cells.is_1904 k.body) (range_with_len a n))))
+    ≡ with_formats xf a (map (rk_cell s.cells.classes s.cells.is_1904 k.body) (range_with_len a n))
+run_each s part at k xf a zero count here typ read len = refl
+run_each s part at k xf a (suc n) count here typ read len =
+    let f = rk_cell s.cells.classes s.cells.is_1904 k.body in
+    let others = with_formats xf (a + 1) (map f (range_with_len (a + 1) n)) in
+    ap (λ (v : Content). with_format ((f a).0, v) (xf a) ∷ map (cell_placed s part) (map (place_of at) others)) (run_value s part at k a count here typ read (omega (arith, len)))
+    ∙ ap (λ (l : List FormattedCell). with_format (f a) (xf a) ∷ l) (run_each s part at k xf (a + 1) n count here typ read (omega (arith, len)))
 
 -- ---- the places of any record
 
 -- the cells of a MulRk without a fault, at their places
-pub run_placed : (s : Settings) (part : List ℕ) (at : ℕ) (last : Position) (k : Kept) (g : SheetRecord) → record_at part at ≡ k → k.typ ≡ types.MUL_RK
+pub run_placed : (s : Settings) (part : List ℕ) (at : ℕ) (last : Position) (k : Kept) (xf : ℕ → ℕ) (g : SheetRecord) → record_at part at ≡ k → k.typ ≡ types.MUL_RK
     → gives cells_record (mul_rk_at s.cells.classes s.cells.is_1904 k.body) ≡ Ok g
-    → map (cell_placed s part) (map (place_of at) (adds s.formulas last g).cells) ≡ (adds s.formulas last g).cells
-run_placed s part at last k g here typ line = by_count (mul_rk_count k.body) refl line
+    → map (cell_placed s part) (map (place_of at) (with_formats xf 0 (adds s.formulas last g).cells)) ≡ with_formats xf 0 (adds s.formulas last g).cells
+run_placed s part at last k xf g here typ line = by_count (mul_rk_count k.body) refl line
   where
     by_count : (r : Result ℕ XlsError) → mul_rk_count k.body ≡ r → gives cells_record (results_listed (rk_cell s.cells.classes s.cells.is_1904 k.body) r) ≡ Ok g
-        → map (cell_placed s part) (map (place_of at) (adds s.formulas last g).cells) ≡ (adds s.formulas last g).cells
+        → map (cell_placed s part) (map (place_of at) (with_formats xf 0 (adds s.formulas last g).cells)) ≡ with_formats xf 0 (adds s.formulas last g).cells
     by_count (Err e) c h = absurd cc
     by_count (Ok count) c h =
         let f = rk_cell s.cells.classes s.cells.is_1904 k.body in
         let same : cells_record (map f (range_with_len 0 count)) ≡ g = cc in
-        subst (λ (x : SheetRecord). map (cell_placed s part) (map (place_of at) (adds s.formulas last x).cells) ≡ (adds s.formulas last x).cells) same
-        (run_each s part at k 0 count count here typ (ap (results_listed f) c) (omega arith))
+        subst (λ (x : SheetRecord). map (cell_placed s part) (map (place_of at) (with_formats xf 0 (adds s.formulas last x).cells)) ≡ with_formats xf 0 (adds s.formulas last x).cells) same
+        (run_each s part at k xf 0 count count here typ (ap (results_listed f) c) (omega arith))
 
 -- what was put
 pub on_ok : {E P Q : Type 0} (r : Result (Unit {0}) E) → (P → Q) → OnOk r P → OnOk r Q
 on_ok (Ok u) f h = f h
 on_ok (Err e) f h = tt
 
-pub put_all : (s : Settings) (part : List ℕ) (old new more : List Place) (cells : List CellEntry) → new ≡ old ++ more → map (cell_placed s part) more ≡ cells
+pub put_all : (s : Settings) (part : List ℕ) (old new more : List FormattedPlace) (cells : List FormattedCell) → new ≡ old ++ more → map (cell_placed s part) more ≡ cells
     → map (cell_placed s part) new ≡ map (cell_placed s part) old ++ cells
 put_all s part old new more cells e h =
-    ap (map (cell_placed s part)) e ∙ map-append (cell_placed s part) old more ∙ ap (λ (l : List CellEntry). map (cell_placed s part) old ++ l) h
+    ap (map (cell_placed s part)) e ∙ map-append (cell_placed s part) old more ∙ ap (λ (l : List FormattedCell). map (cell_placed s part) old ++ l) h
 
 pub same_ok : (a b : SheetRecord) → ◌≡◌ {A = Result SheetRecord XlsError} (Ok a) (Ok b) → a ≡ b
 same_ok a b e = cc

@@ -17,7 +17,7 @@ use Rattle.xls_record.specs.declared.error.XlsError.TheVariants as errors
 use Rattle.xls_biff.specs.SheetTable.{CellContext}
 use Rattle.xls_meaning.specs.Order.{map_with_earlier, first_of}
 use Rattle.xls_meaning.specs.GlobalsTable.{forced_fault}
-use Rattle.xls_meaning.specs.Settings.{Settings, SheetRecords, sheets_of, context_of, cells_of, settings_of}
+use Rattle.xls_meaning.specs.Settings.{Settings, SheetRecords, sheets_of, context_of, cells_of, codes_in, identifiers_in, settings_of}
 use Rattle.xls_meaning.specs.Reading.{SheetView, IsReading, paired, last_named, kept_named, displayed_of}
 use Rattle.xls_meaning.specs.Faults.{kept_fault, cut_fault, sheet_places, globals_places, places, FirstAfter}
 use Rattle.xls_meaning.specs.Held.{OpenedSheet, opened_of, no_view}
@@ -34,10 +34,12 @@ use Rattle.xls_open.specs.declared.options.XlsOptions.{XlsOptions}
 use Rattle.xls_formula.specs.declared.numbers.NumberStyle.{NumberStyle}
 use Rattle.xls_open.proofs.AlikeLemmas.{places_same, checked_alike}
 use Rattle.xls_open.proofs.OpenLemmas.{stands, opened_under}
-use Rattle.xls_view.specs.SheetContents.{IsReadable, content_by, formulas_at, kept_at, settled}
+use Rattle.xls_range.specs.Positions.{Position}
+use Rattle.xls_view.specs.Formats.{FormattedCell, formatted_after, no_formula}
+use Rattle.xls_view.specs.SheetContents.{IsReadable, content_by, formatted_at, formulas_at, kept_at, settled}
 use Rattle.xls_view.specs.Contents.{AreReadable, by_name, viewed}
 use Rattle.xls_view.specs.Formulas.{AreLast, Formula, formulas_kept}
-use Rattle.xls_view.specs.Viewing.{IsViewFault, IsViewed, ShowsFormulas, ViewCause, Viewed, formulas_named}
+use Rattle.xls_view.specs.Viewing.{IsViewFault, IsViewed, ShowsFormatted, ShowsFormulas, ViewCause, Viewed, formatted_named, formulas_named}
 use Rattle.xls_view.specs.Placing.{IsPartOf}
 use Rattle.xls_view.proofs.WalkLemmas.{sheet_kept, drop_bytes}
 use Rattle.xls_view.proofs.SettledLemmas.{ascending_settled, last_settled}
@@ -57,19 +59,8 @@ named_map {X} {Y} f (q ∷ qs) name =
     both None true = refl
     both None false = refl
 
--- the formulas of some kept records
-abbrev tokens_of : List Kept → List Formula
-tokens_of kept = settled (formulas_kept kept)
-
-tokens_last : (kept : List Kept) → AreLast (formulas_kept kept) (tokens_of kept)
-tokens_last kept = record {
-  ascending = ascending_settled (formulas_kept kept);
-  last = λ p. last_settled (formulas_kept kept) p;
-}
-
-named_tokens : (o : Option (List Kept)) → unwrap_or (option_map tokens_of o) [] ≡ tokens_of (unwrap_or o [])
-named_tokens None = refl
-named_tokens (Some kept) = refl
+are_last : {X : Type 0} (values : List (Position × X)) → AreLast values (settled values)
+are_last values = record { ascending = ascending_settled values; last = λ p. last_settled values p }
 
 -- ---- the sheets
 
@@ -104,26 +95,45 @@ module _ (bytes : List ℕ) (fits : IsBytes bytes) where
     all_readable rules s os st.1 fine.1,
   )
 
-  tokens_paired : (os : List OpenedSheet) → AllByRecursion Stands os
-      → paired (heads_of os) (map (formulas_at bytes) (offsets_of os)) ≡ map (λ (q : SheetRecords). (q.0, tokens_of q.1)) (map sheet_view os)
-  tokens_paired [] st = refl
-  tokens_paired (o ∷ os) st =
-      ap (λ (k : List Kept). (o.head, tokens_of k) ∷ paired (heads_of os) (map (formulas_at bytes) (offsets_of os))) (sheet_kept bytes o.offset o.kept o.cut fits st.0)
-      ∙ ap (λ (l : List (SheetContent × List Formula)). (o.head, tokens_of o.kept) ∷ l) (tokens_paired os st.1)
+  -- values of the kept records of each sheet
+  module _ {X : Type 0} (given : List Kept → List (Position × X)) (none : given [] ≡ []) where
+    abbrev values_at : ℕ → List (Position × X)
+    values_at offset = settled (given (kept_at bytes offset))
 
-  -- what each index shows of these formulas by name
-  all_tokens : (all : List (SheetContent × List Formula)) (sheets : List SheetRecords) (os : List OpenedSheet)
-      → all ≡ map (λ (q : SheetRecords). (q.0, tokens_of q.1)) sheets
-      → AllZip (ShowsFormulas sheets) (map (λ (h : SheetContent). unwrap_or (last_named all h.name) []) (heads_of os)) (map sheet_view os)
-  all_tokens all sheets [] e = tt
-  all_tokens all sheets (o ∷ os) e = (
-    rw (e, named_map tokens_of sheets o.head.name, named_tokens (last_named sheets o.head.name)) (tokens_last (kept_named sheets o.head.name)),
-    all_tokens all sheets os e,
-  )
+    values_paired : (os : List OpenedSheet) → AllByRecursion Stands os
+        → paired (heads_of os) (map values_at (offsets_of os)) ≡ map (λ (q : SheetRecords). (q.0, settled (given q.1))) (map sheet_view os)
+    values_paired [] st = refl
+    values_paired (o ∷ os) st =
+        ap (λ (k : List Kept). (o.head, settled (given k)) ∷ paired (heads_of os) (map values_at (offsets_of os))) (sheet_kept bytes o.offset o.kept o.cut fits st.0)
+        ∙ ap (λ (l : List (SheetContent × List (Position × X))). (o.head, settled (given o.kept)) ∷ l) (values_paired os st.1)
+
+    named_values : (o : Option (List Kept)) → unwrap_or (option_map (λ (kept : List Kept). settled (given kept)) o) [] ≡ settled (given (unwrap_or o []))
+    named_values None = sym (ap settled none)
+    named_values (Some kept) = refl
+
+    -- what each index shows of these by name
+    all_values : (all : List (SheetContent × List (Position × X))) (sheets : List SheetRecords) (os : List OpenedSheet)
+        → all ≡ map (λ (q : SheetRecords). (q.0, settled (given q.1))) sheets
+        → AllZip (λ (values : List (Position × X)) (q : SheetRecords). AreLast (given (kept_named sheets q.0.name)) values)
+        (map (λ (h : SheetContent). unwrap_or (last_named all h.name) []) (heads_of os)) (map sheet_view os)
+    all_values all sheets [] e = tt
+    all_values all sheets (o ∷ os) e = (
+      rw (e, named_map (λ (kept : List Kept). settled (given kept)) sheets o.head.name, named_values (last_named sheets o.head.name)) (are_last (given (kept_named sheets o.head.name))),
+      all_values all sheets os e,
+    )
+
+    values_displayed : (os : List OpenedSheet) → AllByRecursion Stands os
+        → AllZip (λ (values : List (Position × X)) (q : SheetRecords). AreLast (given (kept_named (map sheet_view os) q.0.name)) values)
+        (by_name [] (heads_of os) (map values_at (offsets_of os))) (map sheet_view os)
+    values_displayed os st = all_values (paired (heads_of os) (map values_at (offsets_of os))) (map sheet_view os) os (values_paired os st)
 
   pub tokens_displayed : (os : List OpenedSheet) → AllByRecursion Stands os
       → AllZip (ShowsFormulas (map sheet_view os)) (by_name [] (heads_of os) (map (formulas_at bytes) (offsets_of os))) (map sheet_view os)
-  tokens_displayed os st = all_tokens (paired (heads_of os) (map (formulas_at bytes) (offsets_of os))) (map sheet_view os) os (tokens_paired os st)
+  tokens_displayed os st = values_displayed formulas_kept refl os st
+
+  pub cells_displayed : (s : Settings) (os : List OpenedSheet) → AllByRecursion Stands os
+      → AllZip (ShowsFormatted s (map sheet_view os)) (by_name [] (heads_of os) (map (formatted_at s bytes) (offsets_of os))) (map sheet_view os)
+  cells_displayed s os st = values_displayed (formatted_after s no_formula) refl os st
 
 -- ---- the whole
 
@@ -138,7 +148,7 @@ globals_alike style options bytes t a = record {
     page = a.state.page;
     version = a.state.version;
     is_1904 = a.state.is_1904;
-    formats = a.state.formats;
+    codes = a.state.codes;
     identifiers = a.state.identifiers;
     strings = a.state.strings;
     refs = a.state.refs;
@@ -218,16 +228,17 @@ module _ (rules : Rules) (bytes : List ℕ) (fits : IsBytes bytes) where
 
       -- the view shows the reading of every list
       pub viewed_under : (s : Settings) (heads : List SheetContent) (offsets : List ℕ) (reported : List (List ℕ × List ℕ))
-          → s ≡ settings → heads ≡ map (λ (q : ℕ × SheetContent). q.1) t.sheets → offsets ≡ map (λ (q : ℕ × SheetContent). q.0) t.sheets
-          → reported ≡ s.formulas.names → IsViewed rules bytes (viewed bytes s heads offsets reported)
-      viewed_under s heads offsets reported same named at reported_is =
+          (identifiers : List ℕ) (codes : List (ℕ × List ℕ)) → s ≡ settings → heads ≡ map (λ (q : ℕ × SheetContent). q.1) t.sheets → offsets ≡ map (λ (q : ℕ × SheetContent). q.0) t.sheets
+          → reported ≡ s.formulas.names → identifiers ≡ t.identifiers → codes ≡ t.codes
+          → IsViewed rules bytes (viewed bytes s heads offsets reported identifiers codes)
+      viewed_under s heads offsets reported identifiers codes same named at reported_is identified coded =
           let at_opened : offsets ≡ offsets_of opened = at ∙ ap (map (λ (q : ℕ × SheetContent). q.0)) a.state.sheets in
           let heads_opened : heads ≡ heads_of opened = named ∙ ap (map (λ (q : ℕ × SheetContent). q.1)) a.state.sheets in
           let read : AreContents rules s bytes t.sheets (map (λ (offset : ℕ). content_by s (kept_at bytes offset)) offsets) =
           subst (λ (x : Settings). AreContents rules x bytes t.sheets (map (λ (offset : ℕ). content_by x (kept_at bytes offset)) offsets)) (sym same)
           (subst (λ (l : List ℕ). AreContents rules settings bytes t.sheets (map (λ (offset : ℕ). content_by settings (kept_at bytes offset)) l)) (sym at_opened) contents) in
           let o = (opened_under rules bytes fits t a s t.sheets heads (map (λ (offset : ℕ). content_by s (kept_at bytes offset)) offsets) s.cells.is_1904 s.cells.classes reported same refl named forced read refl refl reported_is).0 in
-          let view = viewed bytes s heads offsets reported in
+          let view = viewed bytes s heads offsets reported identifiers codes in
           let g = good rules settings.cells a.items [] a.faultless fine in
           let carried = (carries_full bytes rules a.items forced a.holds a.faultless fine).0 in
           record {
@@ -245,6 +256,15 @@ module _ (rules : Rules) (bytes : List ℕ) (fits : IsBytes bytes) where
                 (subst (λ (hs : List SheetContent). AllZip (ShowsFormulas (map sheet_view opened)) (by_name [] hs (map (formulas_at bytes) offsets)) (map sheet_view opened)) (sym heads_opened)
                 (subst (λ (l : List ℕ). AllZip (ShowsFormulas (map sheet_view opened)) (by_name [] (heads_of opened) (map (formulas_at bytes) l)) (map sheet_view opened)) (sym at_opened)
                 (tokens_displayed bytes fits opened parts))));
+            formatted = λ others c.
+                subst (λ (l : List ListEntry). AllZip (ShowsFormatted (settings_of rules l) (sheets_of rules l)) view.formatted (sheets_of rules l)) (one_list bytes fits entries others carried c)
+                (subst (λ (x : Settings). AllZip (ShowsFormatted x (sheets_of rules entries)) view.formatted (sheets_of rules entries)) same
+                (subst (λ (qs : List SheetRecords). AllZip (ShowsFormatted s qs) view.formatted qs) (sym g.sheets)
+                (subst (λ (hs : List SheetContent). AllZip (ShowsFormatted s (map sheet_view opened)) (by_name [] hs (map (formatted_at s bytes) offsets)) (map sheet_view opened)) (sym heads_opened)
+                (subst (λ (l : List ℕ). AllZip (ShowsFormatted s (map sheet_view opened)) (by_name [] (heads_of opened) (map (formatted_at s bytes) l)) (map sheet_view opened)) (sym at_opened)
+                (cells_displayed bytes fits s opened parts)))));
+            identifiers = λ others c. identified ∙ a.state.identifiers ∙ ap (identifiers_in rules) (one_list bytes fits entries others carried c);
+            codes = λ others c. coded ∙ a.state.codes ∙ ap (codes_in rules) (one_list bytes fits entries others carried c);
           }
 
 -- ---- the part of a sheet
@@ -269,9 +289,10 @@ all_named {X} P (h ∷ hs) (y ∷ xs) name x a e =
     by_cases None f true h k = let same : y ≡ x = cc in subst P same a.0
     by_cases None f false h k = absurd cc
 
-module _ (bytes : List ℕ) (s : Settings) (heads : List SheetContent) (offsets : List ℕ) (reported : List (List ℕ × List ℕ)) (many : length offsets ≡ length heads) where
+module _ (bytes : List ℕ) (s : Settings) (heads : List SheetContent) (offsets : List ℕ) (reported : List (List ℕ × List ℕ)) (identifiers : List ℕ)
+    (codes : List (ℕ × List ℕ)) (many : length offsets ≡ length heads) where
   abbrev whole : Viewed
-  whole = viewed bytes s heads offsets reported
+  whole = viewed bytes s heads offsets reported identifiers codes
 
   abbrev content_of : ℕ → SheetView
   content_of offset = content_by s (kept_at bytes offset)
@@ -285,6 +306,12 @@ module _ (bytes : List ℕ) (s : Settings) (heads : List SheetContent) (offsets 
       ∙ ap (λ (l : List (SheetContent × SheetView)). last_named l name) (paired_map content_of heads offsets)
       ∙ named_map content_of (paired heads offsets) name
 
+  cells_named : (name : List ℕ) → formatted_named whole name ≡ option_map (formatted_at s bytes) (last_named (paired heads offsets) name)
+  cells_named name =
+      named_displayed [] heads (map (formatted_at s bytes) offsets) name (as_many (formatted_at s bytes))
+      ∙ ap (λ (l : List (SheetContent × List FormattedCell)). last_named l name) (paired_map (formatted_at s bytes) heads offsets)
+      ∙ named_map (formatted_at s bytes) (paired heads offsets) name
+
   tokens_named : (name : List ℕ) → formulas_named whole name ≡ option_map (formulas_at bytes) (last_named (paired heads offsets) name)
   tokens_named name =
       named_displayed [] heads (map (formulas_at bytes) offsets) name (as_many (formulas_at bytes))
@@ -293,18 +320,20 @@ module _ (bytes : List ℕ) (s : Settings) (heads : List SheetContent) (offsets 
 
   pub part_is : (name : List ℕ) (offset : ℕ) (part : Bor (List ℕ)) → IsBytes bytes → AreReadable s.cells bytes offsets
       → Some offset ≡ last_named (paired heads offsets) name → part.now ≡ drop offset bytes
-      → IsPartOf whole (displayed_of whole.book name) (formulas_named whole name) (Some part)
+      → IsPartOf whole (displayed_of whole.book name) (formulas_named whole name) (formatted_named whole name) (Some part)
   part_is name offset part fits readable found at = (
     rw at (drop_bytes bytes offset fits, all_named (λ (o : ℕ). AllByRecursion (IsReadable s.cells) (kept_at bytes o)) heads offsets name offset readable (sym found)),
     rw at (displayed_named name ∙ ap (option_map content_of) (sym found)),
     rw at (tokens_named name ∙ ap (option_map (formulas_at bytes)) (sym found)),
+    rw at (cells_named name ∙ ap (option_map (formatted_at s bytes)) (sym found)),
   )
 
   pub no_part : (name : List ℕ) → None ≡ last_named (paired heads offsets) name
-      → IsPartOf whole (displayed_of whole.book name) (formulas_named whole name) None
+      → IsPartOf whole (displayed_of whole.book name) (formulas_named whole name) (formatted_named whole name) None
   no_part name found = (
     displayed_named name ∙ ap (option_map content_of) (sym found),
     tokens_named name ∙ ap (option_map (formulas_at bytes)) (sym found),
+    cells_named name ∙ ap (option_map (formatted_at s bytes)) (sym found),
   )
 
   -- at an index
@@ -318,16 +347,22 @@ module _ (bytes : List ℕ) (s : Settings) (heads : List SheetContent) (offsets 
       ∙ sym (named_displayed d heads xs t.name len)
 
   pub part_at_index : (n : ℕ) (t : SheetContent) (r : Option (Bor (List ℕ))) → slice_get heads n ≡ Some t
-      → IsPartOf whole (displayed_of whole.book t.name) (formulas_named whole t.name) r
-      → IsPartOf whole (slice_get whole.book.contents n) (slice_get whole.formulas n) r
+      → IsPartOf whole (displayed_of whole.book t.name) (formulas_named whole t.name) (formatted_named whole t.name) r
+      → IsPartOf whole (slice_get whole.book.contents n) (slice_get whole.formulas n) (slice_get whole.formatted n) r
   part_at_index n t r at h =
-      rw (at_index no_view (map content_of offsets) n t (as_many content_of) at, at_index [] (map (formulas_at bytes) offsets) n t (as_many (formulas_at bytes)) at) h
+      rw (
+        at_index no_view (map content_of offsets) n t (as_many content_of) at,
+        at_index [] (map (formulas_at bytes) offsets) n t (as_many (formulas_at bytes)) at,
+        at_index [] (map (formatted_at s bytes) offsets) n t (as_many (formatted_at s bytes)) at,
+      ) h
 
   pub no_part_at_index : (n : ℕ) → slice_get heads n ≡ None
-      → IsPartOf whole (slice_get whole.book.contents n) (slice_get whole.formulas n) None
+      → IsPartOf whole (slice_get whole.book.contents n) (slice_get whole.formulas n) (slice_get whole.formatted n) None
   no_part_at_index n at = (
     slice_get-map (λ (h : SheetContent). unwrap_or (last_named (paired heads (map content_of offsets)) h.name) no_view) heads n
         ∙ ap (option_map (λ (h : SheetContent). unwrap_or (last_named (paired heads (map content_of offsets)) h.name) no_view)) at,
     slice_get-map (λ (h : SheetContent). unwrap_or (last_named (paired heads (map (formulas_at bytes) offsets)) h.name) []) heads n
         ∙ ap (option_map (λ (h : SheetContent). unwrap_or (last_named (paired heads (map (formulas_at bytes) offsets)) h.name) [])) at,
+    slice_get-map (λ (h : SheetContent). unwrap_or (last_named (paired heads (map (formatted_at s bytes) offsets)) h.name) []) heads n
+        ∙ ap (option_map (λ (h : SheetContent). unwrap_or (last_named (paired heads (map (formatted_at s bytes) offsets)) h.name) [])) at,
   )

@@ -7,7 +7,7 @@ use Rattle.xls_meaning.specs.Settings.{Settings}
 use Rattle.xls_meaning.specs.Reading.{last_named, paired}
 use Rattle.xls_open.specs.Workbook.{views_listed}
 use Rattle.xls_view.specs.Viewing.{Viewed}
-use Rattle.xls_view.specs.SheetContents.{IsReadable, content_by, formulas_at, kept_at}
+use Rattle.xls_view.specs.SheetContents.{IsReadable, content_by, formatted_at, formulas_at, kept_at}
 
 -- each kept record of the parts at these offsets has no fault
 abbrev pub AreReadable : CellContext → List ℕ → List ℕ → Type 0
@@ -20,10 +20,10 @@ AreReadable s bytes offsets =
 abbrev pub by_name : {X : Type 0} → X → List SheetContent → List X → List X
 by_name none sheets xs = map (λ (s : SheetContent). unwrap_or (last_named (paired sheets xs) s.name) none) sheets
 
--- the view of these bytes, where this is in force, of these sheets whose parts are at these offsets, and of
--- these defined names
-abbrev pub viewed : List ℕ → Settings → List SheetContent → List ℕ → List (List ℕ × List ℕ) → Viewed
-viewed bytes s sheets offsets names =
+-- the view of these bytes, where this is in force, of these sheets whose parts are at these offsets, of
+-- these defined names, and of the formats of these XFs with these codes
+abbrev pub viewed : List ℕ → Settings → List SheetContent → List ℕ → List (List ℕ × List ℕ) → List ℕ → List (ℕ × List ℕ) → Viewed
+viewed bytes s sheets offsets names identifiers codes =
     record {
       book = record {
         sheets = sheets;
@@ -35,4 +35,7 @@ viewed bytes s sheets offsets names =
       cells = s.cells;
       context = s.formulas;
       formulas = by_name [] sheets (map (formulas_at bytes) offsets);
+      formatted = by_name [] sheets (map (formatted_at s bytes) offsets);
+      identifiers = identifiers;
+      codes = codes;
     }

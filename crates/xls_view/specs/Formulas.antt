@@ -33,10 +33,10 @@ formula_from line = None
 abbrev pub formulas_kept : List Kept → List Formula
 formulas_kept kept = somes (map formula_of kept)
 
--- by row, then column, and of these formulas at each position the last one alone
-pub record AreLast (input formulas : List Formula) : Type 0 where
-  pub ascending : IsAscending (map (λ (f : Formula). f.0) formulas)
-  pub last : (p : Position) → last_at formulas p ≡ last_at input p
+-- by row, then column, and of these values at each position the last one alone
+pub record AreLast {X : Type 0} (input values : List (Position × X)) : Type 0 where
+  pub ascending : IsAscending (map (λ (x : Position × X). x.0) values)
+  pub last : (p : Position) → last_at values p ≡ last_at input p
 
 -- its text, or why it is refused, at its position
 abbrev pub text_entry : Context → Formula → FormulaEntry

@@ -7,6 +7,9 @@ pub mod Formulas
 pub mod Displayed
 pub mod Walking
 pub mod Values
+pub mod Formats
+pub mod Codes
+pub mod Formatting
 pub mod Groups
 pub mod SheetContents
 pub mod Placed

@@ -6,13 +6,14 @@ use Rattle.xls_stream.specs.Stream.{Group}
 use Rattle.xls_stream.specs.Listing.{Kept, kept_group}
 use Rattle.xls_stream.specs.declared.types.TheConstants as types
 use Rattle.xls_data.specs.Content.{Content, nothing}
-use Rattle.xls_biff.specs.Cells.{CellEntry}
 use Rattle.xls_biff.specs.Records.Rk.{first_column}
 use Rattle.xls_meaning.specs.SheetTable.{yield_at}
 use Rattle.xls_meaning.specs.Reading.{yield_of}
 use Rattle.xls_view.specs.Groups.{groups_in}
-use Rattle.xls_view.specs.SheetContents.{cells_after, kept_in}
+use Rattle.xls_view.specs.SheetContents.{kept_in}
+use Rattle.xls_view.specs.Formats.{FormattedCell, formatted_after, no_formula}
 use Rattle.xls_view.specs.Formulas.{Formula, formula_of, formulas_kept}
+use Rattle.xls_view.specs.declared.cell_place.CellPlace.{CellPlace}
 
 -- ---- the record at an offset
 
@@ -40,8 +41,12 @@ cell_in s p k = (unwrap_or (slice_get (yield_of (yield_at s p k)).cells (cell_nu
 abbrev pub value_at : Settings → List ℕ → Position → ℕ → Content
 value_at s part p at = cell_in s p (record_at part at)
 
-abbrev pub cell_placed : Settings → List ℕ → Place → CellEntry
-cell_placed s part c = (c.0, value_at s part c.0 c.1)
+-- a cell's position, where its record is, and its XF index, which a String record hasn't
+abbrev pub FormattedPlace : Type 0
+FormattedPlace = Position × CellPlace
+
+abbrev pub cell_placed : Settings → List ℕ → FormattedPlace → FormattedCell
+cell_placed s part c = (c.0, (value_at s part c.0 c.1.offset, c.1.xf))
 
 abbrev pub tokens_in : Option Formula → List ℕ
 tokens_in None = []
@@ -54,8 +59,8 @@ abbrev pub formula_placed : List ℕ → Place → Formula
 formula_placed part c = (c.0, placed_tokens part c.0 c.1)
 
 -- what a part has: as it stands, or by its places in order
-abbrev pub cells_held : Settings → List ℕ → Option (List Place) → List CellEntry
-cells_held s part None = cells_after s (0, 0) (kept_in part 0)
+abbrev pub cells_held : Settings → List ℕ → Option (List FormattedPlace) → List FormattedCell
+cells_held s part None = formatted_after s no_formula (kept_in part 0)
 cells_held s part (Some places) = map (cell_placed s part) places
 
 abbrev pub formulas_held : List ℕ → Option (List Place) → List Formula

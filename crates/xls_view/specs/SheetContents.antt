@@ -13,6 +13,7 @@ use Rattle.xls_biff.specs.SheetTable.{CellContext, SheetRecord, position_in}
 use Rattle.xls_meaning.specs.Settings.{Settings}
 use Rattle.xls_meaning.specs.SheetTable.{yield_at, kept_line}
 use Rattle.xls_meaning.specs.Reading.{SheetView, yield_of}
+use Rattle.xls_view.specs.Formats.{FormattedCell, formatted_after, no_formula}
 use Rattle.xls_view.specs.Formulas.{Formula, formulas_kept, text_entry}
 use Rattle.xls_view.specs.Groups.{groups_in}
 use Rattle.xls_view.specs.Displayed.{DisplayedSheet}
@@ -76,6 +77,14 @@ kept_at bytes offset = kept_in (drop offset bytes) 0
 abbrev pub formulas_at : List ℕ → ℕ → List Formula
 formulas_at bytes offset = settled (formulas_kept (kept_at bytes offset))
 
+-- the cells of a sheet of these kept records with their XF indices
+abbrev pub formatted_by : Settings → List Kept → List FormattedCell
+formatted_by s kept = settled (formatted_after s no_formula kept)
+
+-- those of the part at an offset
+abbrev pub formatted_at : Settings → List ℕ → ℕ → List FormattedCell
+formatted_at s bytes offset = formatted_by s (kept_at bytes offset)
+
 -- what a sheet of these kept records shows
 abbrev pub content_by : Settings → List Kept → SheetView
 content_by s kept =
@@ -85,11 +94,12 @@ content_by s kept =
       merges = regions_of kept;
     }
 
--- likewise with the formulas by their tokens
+-- what it shows with the formulas by their tokens, and the cells with their XF indices too
 abbrev pub shows : Settings → List Kept → DisplayedSheet
 shows s kept =
     record {
       cells = settled (cells_after s (0, 0) kept);
+      formatted = formatted_by s kept;
       formulas = settled (formulas_kept kept);
       merges = regions_of kept;
       context = s.formulas;

@@ -8,6 +8,8 @@ use Rattle.xls_biff.specs.Cells.{CellEntry, characters_in}
 use Rattle.xls_view.specs.declared.value.CellValue.{CellValue}
 use Rattle.xls_view.specs.declared.value.CellValue.TheVariants as variant
 use Rattle.xls_view.specs.declared.value.EncodedText.{EncodedText}
+use Rattle.xls_view.specs.Formats.{FormattedCell}
+use Rattle.xls_view.specs.declared.value.BareCell.{BareCell}
 use Rattle.xls_view.specs.declared.value.SheetCell.{SheetCell}
 
 -- the characters of a string that isn't decoded
@@ -31,3 +33,11 @@ value_text other = []
 -- a cell by its content
 abbrev pub cell_entry : SheetCell → CellEntry
 cell_entry c = ((c.row, c.column), lent_content c.value)
+
+-- likewise with its XF index
+abbrev pub formatted_entry : SheetCell → FormattedCell
+formatted_entry c = ((c.row, c.column), (lent_content c.value, c.xf))
+
+-- or before it has one
+abbrev pub bare_entry : BareCell → CellEntry
+bare_entry c = (c.position, lent_content c.value)

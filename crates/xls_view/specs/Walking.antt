@@ -11,7 +11,8 @@ use Rattle.xls_formula.specs.Context.{Context}
 use Rattle.xls_meaning.specs.Settings.{Settings}
 use Rattle.xls_view.specs.SheetContents.{IsReadable, kept_in, regions_of}
 use Rattle.xls_view.specs.Formulas.{Formula, formulas_kept}
-use Rattle.xls_view.specs.Values.{cell_entry}
+use Rattle.xls_view.specs.Formats.{FormattedCell}
+use Rattle.xls_view.specs.Values.{cell_entry, formatted_entry}
 use Rattle.xls_view.specs.declared.value.SheetCell.{SheetCell}
 use Rattle.xls_view.specs.declared.value.FormulaCell.{FormulaCell}
 
@@ -24,6 +25,10 @@ LendsNext seen before (Some c) after = before ≡ seen c ∷ after
 
 abbrev pub CellSteps : List CellEntry → Option SheetCell → List CellEntry → Type 0
 CellSteps = LendsNext cell_entry
+
+-- likewise with its XF index
+abbrev pub FormattedSteps : List FormattedCell → Option SheetCell → List FormattedCell → Type 0
+FormattedSteps = LendsNext formatted_entry
 
 -- a formula by its position and its tokens
 abbrev pub formula_seen : FormulaCell → Formula

@@ -3,7 +3,11 @@
 #![tactic(auto)]
 
 mod ascent;
+mod cell_place;
 mod cells;
+mod codes;
+mod formats;
+mod formatted;
 mod formulas;
 mod index;
 mod merges;
@@ -20,6 +24,7 @@ mod view;
 mod walk;
 
 pub use cells::{Cells, SheetCells};
+pub use formatted::{FormattedCells, FormattedSheet};
 pub use formulas::{FormulaCells, SheetFormulas};
 pub use index::{find_named, index_of};
 pub use merges::Merges;

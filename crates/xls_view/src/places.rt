@@ -9,22 +9,26 @@ ghost use Rattle.xls_stream.specs.Listing.{kept_group};
 ghost use Rattle.xls_meaning.specs.SheetTable.{adds, kept_line};
 ghost use Rattle.xls_biff.specs.Records.Rk.{first_column, mul_rk_at};
 ghost use Rattle.xls_biff.specs.Cells.{CellEntry};
-ghost use Rattle.xls_range.specs.Positions.{numbered_entry};
-ghost use Rattle.xls_view.specs.Placed.{cell_in, cell_placed, first_kept, formula_placed, record_at, value_at, Place};
+ghost use Rattle.xls_range.specs.Positions.{Entry, numbered_entry};
+ghost use Rattle.xls_view.specs.Formats.{with_formats, xf_at, xf_in};
+ghost use Rattle.xls_view.specs.Formatting.{place_of};
+ghost use Rattle.xls_view.specs.Placed.{cell_in, cell_placed, first_kept, formula_placed, record_at, value_at};
 ghost use Rattle.xls_view.specs.SheetPlacing.{found_kept, value_or_blank};
 ghost use Rattle.xls_view.specs.Walking.{LendsNext};
 ghost use Rattle.xls_stream.specs.Walks.{IsBytes};
 ghost use Rattle.xls_view.specs.Groups.{groups_in};
 ghost use Rattle.xls_view.specs.Walking.{formula_seen};
-ghost use Rattle.xls_view.specs.Values.{cell_entry, lent_content};
+ghost use Rattle.xls_view.specs.Values.{formatted_entry, lent_content};
 
+use crate::cell_place::CellPlace;
+use crate::formats::{LastFormula, xf_at, xf_in};
 use crate::formulas::formula_of;
 use crate::record::cell_of;
-use crate::value::{CellValue, FormulaCell, SheetCell, cell_at, position_of};
+use crate::value::{BareCell, CellValue, FormulaCell, SheetCell};
 use std::alloc::AllocError;
 use xls_biff::{Record, RecordIter, check_sheet_record, count_mul_rk, read_mul_rk};
 use xls_bytes::read_u16;
-use xls_data::Cell;
+use xls_data::{Cell, CellType};
 use xls_open::Settings;
 use xls_range::{Numbered, Unsettled};
 use xls_stream::types::MUL_RK;
@@ -46,6 +50,7 @@ fn first_of<'c>(records: &mut RecordIter<'c>) -> Option<Record<'c>>
 }
 
 /// The bytes from an offset on, and none past the end.
+#[inline]
 pub fn part_at(bytes: &[u8], offset: usize) -> &[u8]
     ensures { result.now ≡ drop offset bytes.now }
 {
@@ -127,25 +132,25 @@ fn placed_value<'c>(
     }
 }
 
-/// The cell at a position whose record begins at an offset of a part; blank where the record has none.
+/// The cell at a position whose record stands at a place of a part; blank where the record has none.
 pub(crate) fn placed_cell<'c>(
     part: &'c [u8],
     position: (u32, u32),
-    at: usize,
+    place: CellPlace,
     settings: &Settings<'c>,
 ) -> SheetCell<'c>
-    ensures { cell_entry result ≡ cell_placed settings.now part.now (position, at) }
+    ensures { formatted_entry result ≡ cell_placed settings.now part.now (position, place) }
 {
-    let value = match placed_value(part, position, at, settings) {
+    let value = match placed_value(part, position, place.offset, settings) {
         Some(value) => value,
         None => CellValue::Empty,
     };
-    cell_at(position, value)
+    BareCell { position, value }.with_format(place.xf)
 }
 
 /// The next of some places.
-pub(crate) fn next_place(places: &mut &[Numbered<usize>]) -> Option<((u32, u32), usize)>
-    ensures { LendsNext (λ (c : Place). c) (map numbered_entry places.old.now) result (map numbered_entry places.new.now) }
+pub(crate) fn next_place<T: CellType + Copy>(places: &mut &[Numbered<T>]) -> Option<((u32, u32), T)>
+    ensures { LendsNext (λ (c : Entry T). c) (map numbered_entry places.old.now) result (map numbered_entry places.new.now) }
 {
     if places.is_empty() {
         return None;
@@ -174,13 +179,13 @@ pub(crate) fn placed_formula<'c>(part: &'c [u8], position: (u32, u32), at: usize
 
 /// Puts a place after those so far.
 fn push_place(
-    places: &mut Unsettled<usize>,
+    places: &mut Unsettled<CellPlace>,
     position: (u32, u32),
-    at: usize,
+    place: CellPlace,
 ) -> Result<(), AllocError>
-    ensures { OnOk result (places.new ≡ places.old ++ (position, at) ∷ []) }
+    ensures { OnOk result (places.new ≡ places.old ++ (position, place) ∷ []) }
 {
-    places.push(Cell::new(position, at))?;
+    places.push(Cell::new(position, place))?;
     Ok(())
 }
 
@@ -195,43 +200,46 @@ pub(crate) fn run_position(body: &[u8], i: usize) -> (u32, u32)
 
 /// Puts the places of the cells of a MulRk record without a fault.
 fn push_run(
-    places: &mut Unsettled<usize>,
+    places: &mut Unsettled<CellPlace>,
     body: &[u8],
-    at: usize,
+    offset: usize,
     settings: &Settings<'_>,
 ) -> Result<(), AllocError>
     ensures { (cells : List CellEntry) → mul_rk_at settings.now.cells.classes settings.now.cells.is_1904 body.now ≡ Ok cells
-        → OnOk result (places.new ≡ places.old ++ map (λ (c : CellEntry). (c.0, at)) cells) }
+        → OnOk result (places.new ≡ places.old ++ map (place_of offset) (with_formats (xf_at body.now) 0 cells)) }
 {
     let count = match count_mul_rk(body) {
         Ok(count) => count,
         Err(_) => return Ok(()),
     };
     for i in 0..count {
-        push_place(places, run_position(body, i), at)?;
+        let xf = xf_at(body, i);
+        push_place(places, run_position(body, i), CellPlace { offset, xf })?;
     }
     Ok(())
 }
 
 /// Puts the places of the cells of a record without a fault, which begins at this offset of its part, where
-/// the last Formula before it stands here.
+/// this is the last Formula before it.
 pub(crate) fn push_cells(
-    places: &mut Unsettled<usize>,
+    places: &mut Unsettled<CellPlace>,
     r: &Record<'_>,
-    last: (u32, u32),
-    at: usize,
+    last: LastFormula,
+    offset: usize,
     settings: &Settings<'_>,
 ) -> Result<(), AllocError>
     ensures { (g : SheetRecord) (part : List ℕ) → kept_line settings.now.cells (kept_group (group_of r.now)) ≡ Ok g
-        → record_at part at ≡ kept_group (group_of r.now)
+        → record_at part offset ≡ kept_group (group_of r.now)
         → OnOk result (map (cell_placed settings.now part) places.new
-        ≡ map (cell_placed settings.now part) places.old ++ (adds settings.now.formulas last g).cells) }
+        ≡ map (cell_placed settings.now part) places.old
+        ++ with_formats (xf_in last.xf (kept_group (group_of r.now))) 0 (adds settings.now.formulas last.at g).cells) }
 {
     if r.typ == MUL_RK {
-        return push_run(places, r.body, at, settings);
+        return push_run(places, r.body, offset, settings);
     }
-    match cell_of(r, last, settings) {
-        Some(cell) => push_place(places, position_of(cell), at),
+    let xf = xf_in(r, last.xf);
+    match cell_of(r, last.at, settings) {
+        Some(cell) => push_place(places, cell.position, CellPlace { offset, xf }),
         None => Ok(()),
     }
 }

@@ -2,8 +2,9 @@
 
 ghost use Rattle.std.specs.Prelude.{◌≡◌, ◌+◌, ◌*◌, ◌≤◌, ◌^◌, [], length, map};
 ghost use Rattle.std.specs.List.{range_with_len};
-ghost use Rattle.xls_biff.specs.Records.Rk.{rk_cell};
+ghost use Rattle.xls_view.specs.Formats.{formatted_rk};
 
+use crate::formats::xf_at;
 use crate::value::{SheetCell, number_cell};
 use std::marker::Model;
 use xls_biff::read_mul_rk;
@@ -22,19 +23,18 @@ pub(crate) struct Run<'c> {
 impl<'c> Model for Run<'c> {
     ghost use Rattle.std.specs.Prelude.{◌≤◌, ◌<◌, ◌+◌, ◌-◌, ◌*◌, ◌^◌, ℕ, List, map, length};
     ghost use Rattle.std.specs.List.{range_with_len};
-    ghost use Rattle.xls_biff.specs.Cells.{CellEntry};
-    ghost use Rattle.xls_biff.specs.Records.Rk.{rk_cell};
+    ghost use Rattle.xls_view.specs.Formats.{FormattedCell, formatted_rk};
 
-    ghost Value = { List CellEntry };
+    ghost Value = { List FormattedCell };
 
-    ghost view = { λ r. map (rk_cell r.classes.now r.is_1904 r.body.now) (range_with_len r.next (r.count - r.next)) };
+    ghost view = { λ r. map (formatted_rk r.classes.now r.is_1904 r.body.now) (range_with_len r.next (r.count - r.next)) };
 
     ghost invariant = { λ r. (r.next ≤ r.count) × (r.count ≤ 2 ^ 16)
         × ((i : ℕ) → i < r.count → 10 + 6 * i ≤ length r.body.now) };
 }
 
 impl<'c> Run<'c> {
-    ghost use Rattle.xls_view.specs.Walking.{CellSteps};
+    ghost use Rattle.xls_view.specs.Walking.{FormattedSteps};
 
     /// No cells.
     pub(crate) fn none() -> Run<'c>
@@ -58,7 +58,7 @@ impl<'c> Run<'c> {
     ) -> Run<'c>
         requires sized { length body.now ≡ 6 + 6 * count }
         requires few { count ≤ 2 ^ 16 }
-        ensures { result ≡ map (rk_cell classes.entry.now is_1904 body.entry.now) (range_with_len 0 count) }
+        ensures { result ≡ map (formatted_rk classes.entry.now is_1904 body.entry.now) (range_with_len 0 count) }
     {
         Run {
             body,
@@ -85,13 +85,14 @@ impl<'c> Run<'c> {
     /// The next cell.
     #[inline(always)]
     pub(crate) fn next(&mut self) -> Option<SheetCell<'c>>
-        ensures { CellSteps self.old result self.new }
+        ensures { FormattedSteps self.old result self.new }
     {
         if self.next == self.count {
             return None;
         }
         let cell = read_mul_rk(self.body, self.next, self.classes, self.is_1904);
+        let xf = xf_at(self.body, self.next);
         self.next += 1;
-        Some(number_cell(cell))
+        Some(number_cell(cell).with_format(xf))
     }
 }

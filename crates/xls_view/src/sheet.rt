@@ -4,10 +4,12 @@ ghost use Rattle.std.specs.Prelude.{◌≡◌, IfOk, map};
 ghost use Rattle.xls_biff.specs.Cells.{CellEntry};
 ghost use Rattle.xls_range.specs.Bounds.{bounds_of};
 ghost use Rattle.xls_range.specs.Positions.{IsAscending};
+ghost use Rattle.xls_view.specs.Formats.{FormattedCell, plain};
 ghost use Rattle.xls_view.specs.SheetContents.{kept_in, shows};
 ghost use Rattle.xls_view.specs.Walking.{IsSoundPart};
 
 use crate::cells::SheetCells;
+use crate::formatted::FormattedSheet;
 use crate::formulas::SheetFormulas;
 use crate::merges::Merges;
 use crate::survey::{Survey, survey_of};
@@ -65,18 +67,28 @@ impl<'v> ViewSheet<'v> {
         self.survey.cells().bounds()
     }
 
-    /// The cells. Takes memory, 24 bytes a cell, only where they don't stand in order; running out of it is the
-    /// one refusal.
-    pub fn cells(&self) -> Result<SheetCells<'v>, AllocError>
-        ensures cells { IfOk result (λ cells. cells ≡ self.now.cells) }
-        ensures ordered { IfOk result (λ cells. IsAscending (map (λ (c : CellEntry). c.0) cells)) }
+    /// The cells, of which contracts see the XF indices too. Takes memory, 32 bytes a cell, only where they don't
+    /// stand in order; running out of it is the one refusal.
+    pub fn formatted(&self) -> Result<FormattedSheet<'v>, AllocError>
+        ensures cells { IfOk result (λ cells. cells ≡ self.now.formatted) }
+        ensures plain { IfOk result (λ cells. map plain cells ≡ self.now.cells) }
+        ensures ordered { IfOk result (λ cells. IsAscending (map (λ (c : FormattedCell). c.0) cells)) }
     {
-        SheetCells::new(
+        FormattedSheet::new(
             self.alloc,
             self.settings.again(),
             self.part,
             self.survey.cells(),
         )
+    }
+
+    /// The cells. Takes memory, 32 bytes a cell, only where they don't stand in order; running out of it is the
+    /// one refusal.
+    pub fn cells(&self) -> Result<SheetCells<'v>, AllocError>
+        ensures cells { IfOk result (λ cells. cells ≡ self.now.cells) }
+        ensures ordered { IfOk result (λ cells. IsAscending (map (λ (c : CellEntry). c.0) cells)) }
+    {
+        Ok(SheetCells::new(self.formatted()?))
     }
 
     /// The formulas. Takes memory, 24 bytes a formula, only where they don't stand in order; running out of it is

@@ -24,7 +24,6 @@ ghost use Rattle.xls_view.specs.Walking.{IsReadRecord, IsSoundPart, run_of};
 use crate::ascent::Ascent;
 use crate::places::run_position;
 use crate::record::{run_of, single_cell};
-use crate::value::position_of;
 use xls_biff::{
     Record, SheetRecord, SheetRecords, cell_position, formula_position, read_label_sst,
     read_sheet_record,
@@ -155,7 +154,7 @@ fn other_place(
         → IsCellAt result (adds settings.now.formulas last (stands_for settings.now.cells read.now)).cells }
 {
     match single_cell(read, last, settings) {
-        Some(cell) => Some(position_of(cell)),
+        Some(cell) => Some(cell.position),
         None => None,
     }
 }

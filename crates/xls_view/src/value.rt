@@ -2,8 +2,9 @@
 
 ghost use Rattle.std.specs.Prelude.{◌≡◌};
 ghost use Rattle.xls_biff.specs.Cells.{numeric_entry};
-ghost use Rattle.xls_biff.specs.Records.BoolErr.{bes_entry};
-ghost use Rattle.xls_view.specs.Values.{cell_entry, lent_content};
+ghost use Rattle.xls_biff.specs.Records.BoolErr.{bes_entry, bes_value};
+ghost use Rattle.xls_view.specs.Formats.{with_format};
+ghost use Rattle.xls_view.specs.Values.{bare_entry, formatted_entry, lent_content};
 
 use xls_biff::{Bes, Biff};
 use xls_data::{CellErrorType, Numeric};
@@ -35,12 +36,22 @@ pub enum CellValue<'v> {
     Empty,
 }
 
-/// A cell: row and column from 0, and its value.
+/// A cell: row and column from 0, its XF index, and its value.
 #[derive(Clone, Copy)]
 pub struct SheetCell<'v> {
     pub row: u32,
     pub column: u32,
+    /// Which XF record of the globals formats it, counted from 0 (ixfe). A text that a String record gives a
+    /// formula has that of the Formula record.
+    pub xf: u16,
     pub value: CellValue<'v>,
+}
+
+/// A cell without its XF index.
+#[derive(Clone, Copy)]
+pub(crate) struct BareCell<'v> {
+    pub(crate) position: (u32, u32),
+    pub(crate) value: CellValue<'v>,
 }
 
 /// A formula: row and column from 0, and its tokens, with their length before them.
@@ -51,40 +62,53 @@ pub struct FormulaCell<'v> {
     pub rgce: &'v [u8],
 }
 
-/// The cell at a position.
-#[inline(always)]
-pub(crate) fn cell_at<'v>(position: (u32, u32), value: CellValue<'v>) -> SheetCell<'v>
-    ensures { cell_entry result ≡ (position, lent_content value.entry) }
-{
-    let (row, column) = position;
-    SheetCell { row, column, value }
+impl<'v> BareCell<'v> {
+    /// With its XF index.
+    #[inline(always)]
+    pub(crate) fn with_format(self, xf: u16) -> SheetCell<'v>
+        ensures { formatted_entry result ≡ with_format (bare_entry self.entry) xf }
+    {
+        let (row, column) = self.position;
+        SheetCell {
+            row,
+            column,
+            xf,
+            value: self.value,
+        }
+    }
 }
 
 /// The cell of a number that was read from a record.
 #[inline(always)]
-pub(crate) fn number_cell<'v>(read: ((u32, u32), Numeric)) -> SheetCell<'v>
-    ensures { cell_entry result ≡ numeric_entry read }
+pub(crate) fn number_cell<'v>(read: ((u32, u32), Numeric)) -> BareCell<'v>
+    ensures { bare_entry result ≡ numeric_entry read }
 {
     let (position, value) = read;
-    cell_at(position, CellValue::Number(value))
+    BareCell {
+        position,
+        value: CellValue::Number(value),
+    }
+}
+
+/// The value of a truth value or an error value.
+#[inline(always)]
+fn bes_value<'v>(value: Bes) -> CellValue<'v>
+    ensures { lent_content result ≡ bes_value value }
+{
+    match value {
+        Bes::Bool(truth) => CellValue::Bool(truth),
+        Bes::Error(error) => CellValue::Error(error),
+    }
 }
 
 /// The cell of a truth value or an error value that was read from a record.
 #[inline(always)]
-pub(crate) fn bes_cell<'v>(read: ((u32, u32), Bes)) -> SheetCell<'v>
-    ensures { cell_entry result ≡ bes_entry read }
+pub(crate) fn bes_cell<'v>(read: ((u32, u32), Bes)) -> BareCell<'v>
+    ensures { bare_entry result ≡ bes_entry read }
 {
     let (position, value) = read;
-    match value {
-        Bes::Bool(truth) => cell_at(position, CellValue::Bool(truth)),
-        Bes::Error(error) => cell_at(position, CellValue::Error(error)),
+    BareCell {
+        position,
+        value: bes_value(value),
     }
-}
-
-/// Where a cell stands.
-#[inline(always)]
-pub(crate) fn position_of(cell: SheetCell<'_>) -> (u32, u32)
-    ensures { result ≡ (cell.entry.row, cell.entry.column) }
-{
-    (cell.row, cell.column)
 }

@@ -1,6 +1,6 @@
 //! The view of a stream.
 
-ghost use Rattle.std.specs.Prelude.{◌≡◌, ℕ, Err, IfErr, IfOk, IfSome, List, None, map, slice_get};
+ghost use Rattle.std.specs.Prelude.{◌≡◌, ℕ, Err, IfErr, IfOk, IfSome, List, None, map, slice_get, count_by};
 ghost use Rattle.std.specs.Option.{option_map};
 ghost use Rattle.std.specs.Str.{chars};
 ghost use Rattle.xls_data.specs.Sheets.{sheet_content};
@@ -11,7 +11,8 @@ ghost use Rattle.xls_biff.specs.Cells.{CellEntry};
 ghost use Rattle.xls_range.specs.Positions.{IsAscending};
 ghost use Rattle.xls_meaning.specs.Reading.{SheetView, displayed_of};
 ghost use Rattle.xls_view.specs.Displayed.{DisplayedSheet, sheet_view_of};
-ghost use Rattle.xls_view.specs.Viewing.{IsViewFault, IsViewed, ViewCause, formulas_named};
+ghost use Rattle.xls_view.specs.Codes.{identifier_at, is_uncounted, last_code};
+ghost use Rattle.xls_view.specs.Viewing.{IsViewFault, IsViewed, ViewCause, formatted_named, formulas_named};
 ghost use Rattle.xls_view.specs.Walking.{NamedContext};
 ghost use Rattle.xls_view.specs.Placing.{IsPartOf, settings_viewed};
 ghost use Rattle.xls_view.specs.Formulas.{text_entry};
@@ -21,6 +22,7 @@ ghost use Rattle.xls_record.specs.declared.error.XlsError.{XlsError};
 ghost use Rattle.xls_data.specs.Sheets.{SheetContent};
 ghost use Rattle.xls_open.specs.Globals.{listed_of};
 
+use crate::codes::{count_uncounted, last_code};
 use crate::index::{find_named, index_of};
 use crate::naming::ViewNaming;
 use crate::{Merges, SheetCells, SheetFormulas, ViewSheet, part_at};
@@ -48,6 +50,10 @@ pub struct View<'a> {
     is_1904: bool,
     /// The class of each XF.
     classes: Vec<CellFormat>,
+    /// The format identifier of each XF.
+    identifiers: Vec<u16>,
+    /// The identifier and the code of each Format.
+    codes: Vec<(u16, String)>,
     strings: Strings,
     naming: Naming,
     functions: FunctionTable,
@@ -63,7 +69,7 @@ impl<'a> Model for View<'a> {
     ghost use Rattle.std.specs.Prelude.{◌≡◌, length, map};
     ghost use Rattle.xls_data.specs.Sheets.{sheet_content};
     ghost use Rattle.xls_stream.specs.Walks.{IsBytes};
-    ghost use Rattle.xls_open.specs.Workbook.{name_texts};
+    ghost use Rattle.xls_open.specs.Workbook.{code_texts, name_texts};
     ghost use Rattle.xls_view.specs.Contents.{AreReadable, viewed};
     ghost use Rattle.xls_view.specs.Index.{IsIndex};
     ghost use Rattle.xls_view.specs.Viewing.{Viewed};
@@ -87,7 +93,8 @@ impl<'a> Model for View<'a> {
         functions = v.functions;
         numbers = v.numbers;
       };
-    }) (map sheet_content v.sheets.items) v.offsets.items (map name_texts v.naming.reported.items) };
+    }) (map sheet_content v.sheets.items) v.offsets.items (map name_texts v.naming.reported.items)
+        v.identifiers.items (map code_texts v.codes.items) };
 
     ghost invariant = { λ v. IsBytes v.bytes.now × (length v.offsets.items ≡ length v.sheets.items)
         × IsIndex v.index v.sheets.items
@@ -146,14 +153,14 @@ fn view_of<'a>(
         page,
         version,
         is_1904,
-        formats,
+        codes,
         identifiers,
         strings,
         refs,
         names,
         listed,
     } = globals;
-    let classes = classes_of(alloc, &formats, &identifiers)?;
+    let classes = classes_of(alloc, &codes, &identifiers)?;
     let naming = naming_of(alloc, version, &listed, refs, names)?;
     let functions = options.functions.try_copy()?;
     let (sheets, offsets) = split_listed(alloc, listed)?;
@@ -165,6 +172,8 @@ fn view_of<'a>(
         version,
         is_1904,
         classes,
+        identifiers,
+        codes,
         strings,
         naming,
         functions,
@@ -261,6 +270,33 @@ impl<'a> View<'a> {
         &self.classes
     }
 
+    /// The format identifier of the XF record of an index, as cells have it, and 0, which is General, where no XF
+    /// record has the index. Takes no memory.
+    pub fn identifier_of(&self, xf: u16) -> u16
+        ensures { result ≡ identifier_at self.now.identifiers xf }
+    {
+        match self.identifiers.get(usize::from(xf)) {
+            Some(identifier) => *identifier,
+            None => 0,
+        }
+    }
+
+    /// The code of the last Format record of an identifier; `None` where no Format record has it, as where it is
+    /// built in. Takes no memory; the records are gone through.
+    pub fn code_of(&self, identifier: u16) -> Option<&str>
+        ensures { option_map (λ code. chars code.now) result ≡ last_code self.now.codes identifier }
+    {
+        last_code(&self.codes, identifier)
+    }
+
+    /// How many Format records have an identifier under which a workbook's own code decides no class of numbers: one
+    /// other than those that `is_format_id` tells. Takes no memory.
+    pub fn uncounted_formats(&self) -> usize
+        ensures { result ≡ count_by is_uncounted self.now.codes }
+    {
+        count_uncounted(&self.codes)
+    }
+
     /// What formulas may name. Takes no memory.
     pub fn naming(&self) -> ViewNaming<'_>
         ensures { context_in result ≡ self.now.context }
@@ -296,7 +332,8 @@ impl<'a> View<'a> {
 
     /// The bytes from the part of the last sheet of a name on.
     fn part_named(&self, name: &str) -> Option<&[u8]>
-        ensures { IsPartOf self.now (displayed_of self.now.book (chars name.now)) (formulas_named self.now (chars name.now)) result }
+        ensures { IsPartOf self.now (displayed_of self.now.book (chars name.now)) (formulas_named self.now (chars name.now))
+            (formatted_named self.now (chars name.now)) result }
     {
         match find_named(&self.sheets, &self.offsets, &self.index, name) {
             Some(offset) => Some(part_at(self.bytes, *offset)),
@@ -306,7 +343,8 @@ impl<'a> View<'a> {
 
     /// Likewise of the name that the sheet at an index has.
     fn part_at(&self, n: usize) -> Option<&[u8]>
-        ensures { IsPartOf self.now (slice_get self.now.book.contents n) (slice_get self.now.formulas n) result }
+        ensures { IsPartOf self.now (slice_get self.now.book.contents n) (slice_get self.now.formulas n)
+            (slice_get self.now.formatted n) result }
     {
         match self.sheets.get(n) {
             Some(sheet) => self.part_named(sheet.name.as_str()),
@@ -319,6 +357,7 @@ impl<'a> View<'a> {
     pub fn sheet_named(&self, name: &str) -> Option<ViewSheet<'_>>
         ensures content { option_map sheet_view_of result ≡ displayed_of self.now.book (chars name.now) }
         ensures formulas { option_map (λ (s : DisplayedSheet). s.formulas) result ≡ formulas_named self.now (chars name.now) }
+        ensures formatted { option_map (λ (s : DisplayedSheet). s.formatted) result ≡ formatted_named self.now (chars name.now) }
         ensures context { IfSome result (λ s. s.context ≡ self.now.context) }
     {
         match self.part_named(name) {
@@ -332,6 +371,7 @@ impl<'a> View<'a> {
     pub fn sheet_at(&self, n: usize) -> Option<ViewSheet<'_>>
         ensures content { option_map sheet_view_of result ≡ slice_get self.now.book.contents n }
         ensures formulas { option_map (λ (s : DisplayedSheet). s.formulas) result ≡ slice_get self.now.formulas n }
+        ensures formatted { option_map (λ (s : DisplayedSheet). s.formatted) result ≡ slice_get self.now.formatted n }
         ensures context { IfSome result (λ s. s.context ≡ self.now.context) }
     {
         match self.part_at(n) {

@@ -4,7 +4,7 @@ use Rattle.std.specs.Option.{option_copied, option_map}
 use Rattle.std.proofs.lemmas.List.{length-map}
 use Rattle.std.proofs.lemmas.Option.{slice_get-map}
 use Rattle.xls_data.specs.Sheets.{sheet_content}
-use Rattle.xls_open.specs.Workbook.{name_texts}
+use Rattle.xls_open.specs.Workbook.{code_texts, name_texts}
 use Rattle.xls_meaning.specs.Settings.{Settings}
 use Rattle.xls_view.proofs.IndexLemmas.{looked}
 use Rattle.xls_view.proofs.ViewLemmas.{part_at_index, no_part_at_index}
@@ -32,13 +32,14 @@ returns-in-Some c =
       };
     } in
     let reported = map name_texts v.naming.reported.items in
+    let codes = map code_texts v.codes.items in
     let heads = map sheet_content v.sheets.items in
     let at = c.get.ensures.lookup in
     let sheet = ap (λ ss. slice_get ss c.args.n) (sym c.deref.ensures.value)
     ∙ sym (looked c.deref.result.now c.args.n c.get.result at.0 at.1) ∙ ap option_copied c.in-Some.is in
     let head = slice_get-map sheet_content v.sheets.items c.args.n ∙ ap (option_map sheet_content) sheet in
     rw (← c.self.view_is)
-    (part_at_index v.bytes.now s heads v.offsets.items reported (c.self.invariant.1 ∙ sym (length-map v.sheets.items sheet_content)) c.args.n (sheet_content c.in-Some.sheet.now) c.part_named.result head
+    (part_at_index v.bytes.now s heads v.offsets.items reported v.identifiers.items codes (c.self.invariant.1 ∙ sym (length-map v.sheets.items sheet_content)) c.args.n (sheet_content c.in-Some.sheet.now) c.part_named.result head
     (rw (c.as_str.ensures.value, sym c.self.view_is) at c.part_named.ensures))
 
 pub returns-in-None : goal.returns-in-None
@@ -63,9 +64,10 @@ returns-in-None c =
       };
     } in
     let reported = map name_texts v.naming.reported.items in
+    let codes = map code_texts v.codes.items in
     let heads = map sheet_content v.sheets.items in
     let at = c.get.ensures.lookup in
     let nothing = ap (λ ss. slice_get ss c.args.n) (sym c.deref.ensures.value)
     ∙ sym (looked c.deref.result.now c.args.n c.get.result at.0 at.1) ∙ ap option_copied c.in-None.is in
     let none = slice_get-map sheet_content v.sheets.items c.args.n ∙ ap (option_map sheet_content) nothing in
-    rw (← c.self.view_is) (no_part_at_index v.bytes.now s heads v.offsets.items reported (c.self.invariant.1 ∙ sym (length-map v.sheets.items sheet_content)) c.args.n none)
+    rw (← c.self.view_is) (no_part_at_index v.bytes.now s heads v.offsets.items reported v.identifiers.items codes (c.self.invariant.1 ∙ sym (length-map v.sheets.items sheet_content)) c.args.n none)

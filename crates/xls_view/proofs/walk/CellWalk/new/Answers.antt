@@ -5,4 +5,4 @@ pub invariant_of-result : goal.invariant_of-result
 invariant_of-result c = rw c.new.ensures c.requires
 
 pub returns : goal.returns
-returns c = rw (c.new.ensures, c.none.ensures) refl
+returns c = rw (c.new.ensures, c.none.ensures, c.none-2.ensures) refl

@@ -1,8 +1,9 @@
 use Rattle.std.proofs.Common.{◌≡◌, ◌++◌, ℕ, List, map}
-use Rattle.xls_view.specs.SheetContents.{cells_after, kept_in}
+use Rattle.xls_view.specs.SheetContents.{kept_in}
+use Rattle.xls_view.specs.Formats.{formatted_after, last_formula, no_formula}
 use Rattle.xls_view.specs.Placed.{cell_placed}
 use Rattle.xls_view.specs.Walking.{IsSoundPart}
-use Rattle.xls_view.proofs.cells.places_of.Given as goal
+use Rattle.xls_view.proofs.formatted.places_of.Given as goal
 
 -- what is left is a tail of the part, and the cells of the others have their places
 abbrev pub invariant-loop-item : goal.invariant-loop-item
@@ -11,5 +12,5 @@ invariant-loop-item l =
     (goal.iterator-loop-item).is_finite l.item-iterator ×
     IsSoundPart l.settings l.item-iterator ×
     ((prefix : List ℕ) × (l.part ≡ prefix ++ l.item-iterator.0)) ×
-    (cells_after l.settings (0, 0) (kept_in l.part 0)
-    ≡ map (cell_placed l.settings l.part) l.places ++ cells_after l.settings l.last (kept_in l.item-iterator.0 l.item-iterator.1))
+    (formatted_after l.settings no_formula (kept_in l.part 0)
+    ≡ map (cell_placed l.settings l.part) l.places ++ formatted_after l.settings (last_formula l.last) (kept_in l.item-iterator.0 l.item-iterator.1))
