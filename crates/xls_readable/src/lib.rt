@@ -14,6 +14,7 @@ mod lines;
 mod properties;
 mod rows;
 mod values;
+mod words;
 
 pub use cell_lines::{CellLines, push_cell};
 pub use choices::{Listing, SheetChoice, Table};
@@ -32,3 +33,4 @@ pub use lines::{
 pub use properties::{Property, push_custom, push_property};
 pub use rows::push_row;
 pub use values::Value;
+pub use words::{truth_word, type_word, visible_word, year_word};

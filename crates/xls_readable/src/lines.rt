@@ -5,19 +5,13 @@ ghost use Rattle.std.specs.String.{string_bytes};
 ghost use Rattle.xls_output.specs.Added.{AddsText};
 ghost use Rattle.xls_readable.specs.Items.{count, named_of, text};
 ghost use Rattle.xls_readable.specs.Lines.{IsLine};
-ghost use Rattle.xls_readable.specs.Lines.{dates_members, name_members, sheet_members, formula_members, merge_members, ref_members, text_members, item_of, type_text, visible_text, year_text};
+ghost use Rattle.xls_readable.specs.Lines.{dates_members, name_members, sheet_members, formula_members, merge_members, ref_members, text_members, item_of};
 
 use crate::forms::{Form, push_line};
 use crate::items::{Field, Member};
+use crate::words::{type_word, visible_word, year_word};
 use std::alloc::AllocError;
 use xls_data::{Dimensions, SheetType, SheetVisible};
-
-// The year that dates count from.
-fn year_word(is_1904: bool) -> &'static str
-    ensures { result.now ≡ year_text is_1904 }
-{
-    if is_1904 { "1904" } else { "1900" }
-}
 
 /// Appends the line of the date system, `dates`. Of this call and those below: only running out of memory
 /// refuses, and then `buf` is as it was; what is printed first is printed into `room`, whose text is lost.
@@ -77,30 +71,6 @@ pub fn push_name(
 {
     let members = [text_member("name", name), text_member("text", text)];
     push_line(form, "name", &members, room, buf)
-}
-
-// The word of a sheet's kind.
-fn type_word(kind: SheetType) -> &'static str
-    ensures { result.now ≡ type_text kind }
-{
-    match kind {
-        SheetType::WorkSheet => "worksheet",
-        SheetType::DialogSheet => "dialog",
-        SheetType::MacroSheet => "macro",
-        SheetType::ChartSheet => "chart",
-        SheetType::Vba => "vba",
-    }
-}
-
-// The word of a sheet's visibility.
-fn visible_word(visible: SheetVisible) -> &'static str
-    ensures { result.now ≡ visible_text visible }
-{
-    match visible {
-        SheetVisible::Visible => "visible",
-        SheetVisible::Hidden => "hidden",
-        SheetVisible::VeryHidden => "veryhidden",
-    }
 }
 
 /// Appends the line of a sheet's name, kind and visibility, `sheet`.

@@ -1,12 +1,10 @@
 //! Lines as `xls_dump` writes them.
 
-ghost use Rattle.std.specs.Prelude.{◌≡◌, ◌≤◌, ℕ, List, length, codes, if◌then◌else◌, IfSome};
-ghost use Rattle.std.specs.Option.{option_map};
-ghost use Rattle.xls_data.specs.Data.{bool_text};
+ghost use Rattle.std.specs.Prelude.{◌≡◌, codes};
 ghost use Rattle.xls_lines.specs.Lines.{field_text};
 ghost use Rattle.xls_output.specs.Output.{Puts, output};
 ghost use Rattle.xls_readable.specs.Items.{exact_text, item_of};
-ghost use Rattle.xls_readable.specs.Lines.{exact_line, formula_members, merge_members, ref_members, sheet_members, type_text, visible_text, year_text};
+ghost use Rattle.xls_readable.specs.Lines.{exact_line, formula_members, merge_members, ref_members, sheet_members};
 ghost use Rattle.xls_listing.specs.Listing.{line_of};
 
 use std::alloc::Global;
@@ -15,13 +13,7 @@ use xls_lines::{Buffer, Field, put_line};
 use xls_listing::{BookLine, LineForm};
 use xls_output::{Sink, Stop, Writer};
 use xls_readable as items;
-
-/// The word for a truth value.
-fn truth_word(is_true: bool) -> &'static str
-    ensures { result.now ≡ bool_text is_true }
-{
-    if is_true { "true" } else { "false" }
-}
+use xls_readable::{truth_word, type_word, visible_word, year_word};
 
 /// A field as it is printed exactly.
 #[inline(always)]
@@ -37,37 +29,6 @@ fn exact_field<'v>(field: &'v items::Field<'v>) -> Field<'v>
         items::Field::Truth(b) => Field::Word(truth_word(*b)),
         items::Field::Moment(d) => Field::Fraction(d.number()),
         items::Field::Failure(e) => Field::Failure(*e),
-    }
-}
-
-/// The word for the year that dates count from.
-fn year_word(is_1904: bool) -> &'static str
-    ensures { result.now ≡ year_text is_1904 }
-{
-    if is_1904 { "1904" } else { "1900" }
-}
-
-/// The word for a kind of sheets.
-fn type_word(typ: SheetType) -> &'static str
-    ensures { result.now ≡ type_text typ }
-{
-    match typ {
-        SheetType::WorkSheet => "worksheet",
-        SheetType::DialogSheet => "dialog",
-        SheetType::MacroSheet => "macro",
-        SheetType::ChartSheet => "chart",
-        SheetType::Vba => "vba",
-    }
-}
-
-/// The word for a sheet's visibility.
-fn visible_word(visible: SheetVisible) -> &'static str
-    ensures { result.now ≡ visible_text visible }
-{
-    match visible {
-        SheetVisible::Visible => "visible",
-        SheetVisible::Hidden => "hidden",
-        SheetVisible::VeryHidden => "veryhidden",
     }
 }
 
