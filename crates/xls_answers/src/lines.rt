@@ -6,6 +6,7 @@ ghost use Rattle.xls_output.specs.Each.{DeliversEach};
 ghost use Rattle.xls_answers.specs.Views.{AreLines, BeginLines, MissesNone, OfView, lines_listed, numbers_in, rules_shown};
 
 use crate::failure::Failure;
+use crate::notes::Notes;
 use std::alloc::Global;
 use xls_formula::NumberStyle;
 use xls_listing::{write_formula_list, write_listing, write_ref_list, write_sheet_list};
@@ -43,7 +44,7 @@ fn write_view<K: Sink>(
 }
 
 /// Writes the lines of the workbook that a stream's bytes hold. Nothing is written before all of the stream is
-/// checked.
+/// checked. What a dump doesn't tell of the workbook is put into `notes`.
 pub fn write_lines<K: Sink>(
     alloc: Global,
     sink: &mut K,
@@ -51,11 +52,15 @@ pub fn write_lines<K: Sink>(
     form: Form,
     options: &XlsOptions,
     bytes: &[u8],
+    notes: &mut Notes,
 ) -> Result<(), Failure>
     ensures { OfView (rules_shown form options.now) bytes.now (AreLines lines form) (BeginLines lines form) MissesNone
         (K.state sink.old) (K.state sink.new) result }
 {
     let view = View::new(alloc, bytes, options, numbers_in(form))?;
+    if lines == Listing::Dump {
+        notes.uncounted_formats = view.uncounted_formats();
+    }
     write_view(alloc, sink, lines, form, &view)?;
     Ok(())
 }

@@ -10,6 +10,7 @@ use crate::answer::Answer;
 use crate::check::write_check;
 use crate::failure::Failure;
 use crate::lines::write_lines;
+use crate::notes::Notes;
 use crate::remake::{write_remade, write_whole};
 use crate::tables::write_sheet_of;
 use std::alloc::Global;
@@ -26,30 +27,36 @@ fn write_exact<K: Sink>(
     sink: &mut K,
     options: &XlsOptions,
     bytes: &[u8],
+    notes: &mut Notes,
 ) -> Result<(), Failure>
     ensures { OfView (rules_of options.now) bytes.now IsDump IsDump MissesNone (K.state sink.old) (K.state sink.new) result }
 {
     let view = View::new(alloc, bytes, options, NumberStyle::Bits)?;
+    notes.uncounted_formats = view.uncounted_formats();
     write_report(alloc, sink, &view)?;
     Ok(())
 }
 
-/// Writes what is asked for of a workbook's stream. Nothing is written before all of it is checked.
+/// Writes what is asked for of a workbook's stream. Nothing is written before all of it is checked. What the text
+/// doesn't tell of the workbook's values is put into `notes`.
 pub fn write_stream<K: Sink>(
     alloc: Global,
     sink: &mut K,
     answer: &Answer<'_>,
     options: &XlsOptions,
     bytes: &[u8],
+    notes: &mut Notes,
 ) -> Result<(), Failure>
     requires { HasNumber answer.now }
     ensures { OfStream answer.now options.now bytes.now (K.state sink.old) (K.state sink.new) result }
 {
     match answer {
-        Answer::Lines(lines, form) => write_lines(alloc, sink, *lines, *form, options, bytes),
-        Answer::Exact => write_exact(alloc, sink, options, bytes),
+        Answer::Lines(lines, form) => {
+            write_lines(alloc, sink, *lines, *form, options, bytes, notes)
+        }
+        Answer::Exact => write_exact(alloc, sink, options, bytes, notes),
         Answer::Sheet(choice, table) => {
-            write_sheet_of(alloc, sink, choice, table, options, bytes)
+            write_sheet_of(alloc, sink, choice, table, options, bytes, notes)
         }
         Answer::Check => write_check(alloc, sink, options, bytes),
         Answer::Remade => write_remade(alloc, sink, bytes),
@@ -74,13 +81,14 @@ pub fn view_of<'s>(
 }
 
 /// Writes what is asked for of a workbook's stream. One whose records are obfuscated with a password is refused, and
-/// nothing is written before all of it is checked.
+/// nothing is written before all of it is checked. `notes` as `write_stream` puts them.
 pub fn write_workbook<K: Sink>(
     alloc: Global,
     sink: &mut K,
     answer: &Answer<'_>,
     options: &XlsOptions,
     bytes: &[u8],
+    notes: &mut Notes,
 ) -> Result<(), Failure>
     requires { HasNumber answer.now }
     ensures { OfReadable answer.now options.now bytes.now (K.state sink.old) (K.state sink.new) result }
@@ -88,7 +96,7 @@ pub fn write_workbook<K: Sink>(
     if is_obfuscated(bytes) {
         return Err(Failure::Obfuscated);
     }
-    write_stream(alloc, sink, answer, options, bytes)
+    write_stream(alloc, sink, answer, options, bytes, notes)
 }
 
 /// Writes what is asked for of the workbook that a file holds: a compound file, or a workbook's stream alone.
@@ -105,5 +113,12 @@ pub fn write_file<K: Sink>(
 {
     let container = Container::open(alloc, file)?;
     let bytes = container.workbook(alloc)?;
-    write_workbook(alloc, sink, answer, options, bytes.as_slice())
+    write_workbook(
+        alloc,
+        sink,
+        answer,
+        options,
+        bytes.as_slice(),
+        &mut Notes::default(),
+    )
 }

@@ -12,6 +12,7 @@ ghost use Rattle.xls_answers.specs.Sheets.{BeginsTableOf, HasNoSheet, IsMissing,
 ghost use Rattle.xls_answers.specs.Views.{OfView};
 
 use crate::failure::{Failure, Missing};
+use crate::notes::Notes;
 use std::alloc::{AllocError, Global};
 use xls_csv::write_rows;
 use xls_data::{Sheet, SheetType};
@@ -145,7 +146,7 @@ pub fn write_sheet_at<K: Sink>(
 }
 
 /// Writes the sheet that is chosen of the workbook that a stream's bytes hold. Nothing is written where there is no
-/// such sheet.
+/// such sheet. What it doesn't tell of the workbook is put into `notes`.
 pub(crate) fn write_sheet_of<K: Sink>(
     alloc: Global,
     sink: &mut K,
@@ -153,12 +154,14 @@ pub(crate) fn write_sheet_of<K: Sink>(
     table: &Table,
     options: &XlsOptions,
     bytes: &[u8],
+    notes: &mut Notes,
 ) -> Result<(), Failure>
     requires { IsNumbered choice.now }
     ensures { OfView (rules_of options.now) bytes.now (IsTableOf choice.now table.now) (BeginsTableOf choice.now table.now) (MissesSheet choice.now)
         (K.state sink.old) (K.state sink.new) result }
 {
     let view = View::new(alloc, bytes, options, NumberStyle::Bits)?;
+    notes.uncounted_formats = view.uncounted_formats();
     let index = chosen(alloc, &view, choice)?;
     write_sheet_at(alloc, sink, table, &view, index)?;
     Ok(())

@@ -19,12 +19,13 @@ use crate::sheets::{write_beside_file, write_workbook_files};
 use crate::unlock::plain_of;
 use crate::work::{write_beside, write_text};
 use std::alloc::Global;
-use xls_answers::Answer;
+use xls_answers::{Answer, Notes};
 use xls_container::Container;
 use xls_files::Host;
 use xls_output::Sink;
 
-/// Writes what is asked for of a workbook to the sink, or into files below the folder, if there is one.
+/// Writes what is asked for of a workbook to the sink, or into files below the folder, if there is one,
+/// and puts into `notes` what the text doesn't tell of its values.
 fn write_answer<H: Host, K: Sink>(
     alloc: Global,
     host: &mut H,
@@ -32,6 +33,7 @@ fn write_answer<H: Host, K: Sink>(
     job: &Job<'_>,
     answer: &Answer<'_>,
     book: &Workbook<'_>,
+    notes: &mut Notes,
 ) -> Result<(), Problem>
     requires number { HasNumber answer.now }
     requires asked { asked_by job.now.request.command ≡ asked.Workbook answer.now }
@@ -40,8 +42,15 @@ fn write_answer<H: Host, K: Sink>(
     ensures outputs { KeepsOutputs H.tells H.File.state job.now.request job.now.reading.options (H.files host.old) (H.files host.new) }
 {
     match &job.request.out {
-        Some(folder) => write_workbook_files(alloc, host, job, folder, answer, book),
-        None => write_text(alloc, sink, answer, &job.reading.options, book.stream),
+        Some(folder) => write_workbook_files(alloc, host, job, folder, answer, book, notes),
+        None => write_text(
+            alloc,
+            sink,
+            answer,
+            &job.reading.options,
+            book.stream,
+            notes,
+        ),
     }
 }
 
@@ -67,8 +76,9 @@ fn do_workbook<H: Host, K: Sink>(
         path: file.path,
         stream: stream.as_slice(),
     };
-    write_answer(alloc, host, sink, job, answer, &book)?;
-    tell_formats(alloc, host, answer, &book)?;
+    let mut notes = Notes::default();
+    write_answer(alloc, host, sink, job, answer, &book, &mut notes)?;
+    tell_formats(alloc, host, file.path, notes)?;
     Ok(())
 }
 

@@ -17,7 +17,7 @@ use crate::problem::Problem;
 use crate::say::say_of;
 use crate::work::{write_beside, write_text, written};
 use std::alloc::{AllocError, Global};
-use xls_answers::{Answer, Failure, chosen, view_of, write_sheet_at};
+use xls_answers::{Answer, Failure, Notes, chosen, view_of, write_sheet_at};
 use xls_data::{Sheet, SheetType, SheetVisible};
 use xls_files::{Host, Reason, file_path, folder_of};
 use xls_output::Stop;
@@ -82,6 +82,7 @@ fn write_text_file<H: Host>(
     folder: &Folder<'_>,
     answer: &Answer<'_>,
     book: &Workbook<'_>,
+    notes: &mut Notes,
 ) -> Result<(), Problem>
     requires number { HasNumber answer.now }
     requires out { job.now.request.out ≡ Some folder.now }
@@ -93,7 +94,14 @@ fn write_text_file<H: Host>(
         Ok(file) => file,
         Err(reason) => return Err(Problem::Unwritten(path, reason)),
     };
-    let done = write_text(alloc, &mut file, answer, &job.reading.options, book.stream);
+    let done = write_text(
+        alloc,
+        &mut file,
+        answer,
+        &job.reading.options,
+        book.stream,
+        notes,
+    );
     end(host, path, file, done)
 }
 
@@ -265,6 +273,7 @@ pub(crate) fn write_workbook_files<H: Host>(
     out: &Folder<'_>,
     answer: &Answer<'_>,
     book: &Workbook<'_>,
+    notes: &mut Notes,
 ) -> Result<(), Problem>
     requires number { HasNumber answer.now }
     requires out { job.now.request.out ≡ Some out.now }
@@ -274,6 +283,7 @@ pub(crate) fn write_workbook_files<H: Host>(
     match answer {
         Answer::Sheet(choice, table) => {
             let view = view_of(alloc, &job.reading.options, book.stream)?;
+            notes.uncounted_formats = view.uncounted_formats();
             let folder = folder_of(alloc, out.path, book.path)?;
             let files = SheetFiles {
                 job,
@@ -286,7 +296,7 @@ pub(crate) fn write_workbook_files<H: Host>(
             write_sheet_files(alloc, host, &files, &view)
         }
         Answer::Lines(..) | Answer::Exact | Answer::Check | Answer::Remade | Answer::Bytes => {
-            write_text_file(alloc, host, job, out, answer, book)
+            write_text_file(alloc, host, job, out, answer, book, notes)
         }
     }
 }
