@@ -3,9 +3,10 @@
 use std::alloc::{AllocError, Global};
 use std::test::Fail;
 use xls_arrays::{
-    CellItem, Fault, FormulaItem, NameItem, Options, RegionItem, SheetItem, Sizes, Span, bits_of,
-    fault_of, fault_text, form_of, measure, read, refusal_of, serial, stream,
+    CellItem, Fault, FormulaItem, NameItem, Options, RegionItem, SheetItem, Sizes, Span, fault_of,
+    fault_text, form_of, measure, read, refusal_of, serial, stream,
 };
+use xls_cell_formats::bits_of;
 use xls_data::Number;
 
 const BOF_OF_GLOBALS: [u8; 8] = [0x09, 0x08, 0x04, 0x00, 0x00, 0x06, 0x05, 0x00];

@@ -1,31 +1,15 @@
 -- Values that IEEE 754, BIFF and the header give, so that a wrong rule in the specs does not check.
-use Rattle.std.proofs.Common.{◌≡◌, ◌∷◌, [], ◌++◌, List, map, true, false, refl, pos, negsuc, codes}
+use Rattle.std.proofs.Common.{◌≡◌, ◌∷◌, [], ◌++◌, List, map, true, false, refl, pos, codes}
 use Rattle.xls_data.specs.Content as content
-use Rattle.xls_dates.specs.declared.numbers.Number.TheVariants.{Bits, Whole, Hundredths, BitsOver100}
+use Rattle.xls_dates.specs.declared.numbers.Number.TheVariants.{Bits}
 use Rattle.xls_dates.specs.declared.dates.ExcelDateTimeType.TheVariants.{DateTime, TimeDelta}
 use Rattle.xls_data.specs.declared.errors.CellErrorType.TheVariants as failures
 use Rattle.xls_data.specs.declared.sheets.SheetType.TheVariants as sheets
 use Rattle.xls_data.specs.declared.sheets.SheetVisible.TheVariants as visible
 use Rattle.xls_arrays.specs.Arrays.{Reported, arrays_of, sheet_kind_number, laid, visibility_number}
-use Rattle.xls_arrays.specs.Numbers.{bits_of}
 use Rattle.xls_arrays.specs.Options.{max_bytes_in, options_by}
 use Rattle.xls_arrays.specs.Values.{error_code, content_kind}
 use Rattle.xls_arrays.specs.declared.options.Options.{Options}
-
--- ---- numbers
-
--- 0, 1, -2, 2 ^ 53 + 1; 2.5, 0.1 and -123.45 of hundredths; 0.01, -0 and infinity of a double over 100; what is no number
-pub known_doubles : map bits_of ((Whole (pos 0)) ∷ (Whole (pos 1)) ∷ (Whole (negsuc 1))
-    ∷ (Whole (pos 0x0020_0000_0000_0001)) ∷ (Hundredths (pos 250)) ∷ (Hundredths (pos 10))
-    ∷ (Hundredths (negsuc 12344)) ∷ (BitsOver100 0x3ff0_0000_0000_0000)
-    ∷ (BitsOver100 0x8000_0000_0000_0000) ∷ (BitsOver100 0x7ff0_0000_0000_0000)
-    ∷ (Bits 0x7ff8_0000_0000_0001) ∷ [])
-    ≡ 0x0000_0000_0000_0000 ∷ 0x3ff0_0000_0000_0000 ∷ 0xc000_0000_0000_0000
-    ∷ 0x4340_0000_0000_0000 ∷ 0x4004_0000_0000_0000 ∷ 0x3fb9_9999_9999_999a
-    ∷ 0xc05e_dccc_cccc_cccd ∷ 0x3f84_7ae1_47ae_147b ∷ 0x8000_0000_0000_0000
-    ∷ 0x7ff0_0000_0000_0000 ∷ 0x7ff8_0000_0000_0001 ∷ []
-unfolding lib.Ieee.to_bits lib.Ieee.of_int lib.Ieee.div lib.Ieee.of_bits
-known_doubles = refl
 
 -- ---- cells
 

@@ -7,7 +7,8 @@ use Rattle.xls_dates.specs.declared.dates.ExcelDateTimeType.TheVariants.{DateTim
 use Rattle.xls_data.specs.declared.errors.CellErrorType.{CellErrorType}
 use Rattle.xls_data.specs.declared.errors.CellErrorType.TheVariants as errors
 use Rattle.xls_biff.specs.Cells.{CellEntry}
-use Rattle.xls_arrays.specs.Numbers.{bits_of, number_form, whole_bits}
+use Rattle.xls_cell_formats.specs.Doubles.{bits_of, whole_bits}
+use Rattle.xls_arrays.specs.Numbers.{number_form}
 use Rattle.xls_arrays.specs.declared.items.CellItem.{CellItem}
 
 -- the code of an error value ([MS-XLS] BErr)

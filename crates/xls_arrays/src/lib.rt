@@ -28,7 +28,7 @@ pub use decoding::refusal_of;
 pub use faults::{Fault, fault_of, plain};
 pub use items::{CellItem, FormulaItem, NameItem, RegionItem, SheetItem, Sizes, Span};
 pub use laws::arrays_are_reported;
-pub use numbers::{bits_of, form_of};
+pub use numbers::form_of;
 pub use options::Options;
 pub use reading::{measure, read};
 pub use refusal::{Chain, Refusal};

@@ -1,12 +1,14 @@
 //! The value of a cell as an item of the array.
 
 ghost use Rattle.std.specs.Prelude.{◌≡◌};
-ghost use Rattle.xls_arrays.specs.Numbers.{bits_of, number_form};
+ghost use Rattle.xls_cell_formats.specs.Doubles.{bits_of};
+ghost use Rattle.xls_arrays.specs.Numbers.{number_form};
 ghost use Rattle.xls_arrays.specs.Values.{error_code, form_in, content_kind, value_in};
 ghost use Rattle.xls_view.specs.Values.{lent_content};
 
 use crate::items::{CellItem, Span};
-use crate::numbers::{bits_of, form_of};
+use crate::numbers::form_of;
+use xls_cell_formats::bits_of;
 use xls_data::{CellErrorType, Number, Numeric};
 use xls_view::CellValue;
 

@@ -5,6 +5,7 @@ ghost use Rattle.std.specs.String.{string_bytes};
 ghost use Rattle.std.specs.Str.{chars};
 ghost use Rattle.xls_bytes.specs.Doubles.{exponent_of};
 ghost use Rattle.xls_bytes.specs.Growth.{IsGrown};
+ghost use Rattle.xls_number_formats.specs.Classes.{class_of};
 ghost use Rattle.xls_number_formats.specs.Formats.{parts_of};
 ghost use Rattle.xls_shown.specs.Shown.{Gains, code_at, IsShown, text_shown};
 
@@ -13,7 +14,7 @@ use crate::sections::ShownSection;
 use std::alloc::AllocError;
 use std::marker::Model;
 use xls_bytes::first_char;
-use xls_number_formats::{Choice, Format, push_shown_text};
+use xls_number_formats::{Choice, Class, Format, push_shown_text};
 
 /// A number format's code, of which what it needs of its items is read once. It borrows the code and
 /// takes no memory. Contracts see the characters of the code.
@@ -68,6 +69,14 @@ impl<'a> ShownFormat<'a> {
             second,
             third,
         }
+    }
+
+    /// Whether the code shows the double with these bits as a date, as an elapsed time, or as a number, as
+    /// `class_of` tells it. Takes no memory.
+    pub fn class(&self, bits: u64) -> Class
+        ensures { result ≡ class_of self.now bits }
+    {
+        self.format.class(bits)
     }
 
     // The section for numbers at this place, of which there are at most three.

@@ -1,0 +1,8 @@
+//! Cells under their number formats: which code a cell has, what its number is under it, and how it is shown.
+#![tactic(auto)]
+
+mod doubles;
+mod numbers;
+
+pub use doubles::bits_of;
+pub use numbers::{class_under, numeric_under, push_number};
