@@ -1,0 +1,2 @@
+pub mod PartRecordsLemmas
+pub mod RunLemmas

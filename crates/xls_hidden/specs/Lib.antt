@@ -1,0 +1,6 @@
+pub mod PartRecords
+pub mod Fields
+pub mod Said
+pub mod States
+pub mod Runs
+pub mod Lines

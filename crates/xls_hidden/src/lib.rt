@@ -1,0 +1,15 @@
+//! What is hidden in a sheet: its rows and columns, frozen panes and zeros, by the records of its part.
+#![tactic(auto)]
+
+mod damage;
+mod fields;
+mod lines;
+mod part_records;
+mod said;
+pub mod types;
+
+pub use damage::{Damage, DamagedRecord, Flaw};
+pub use fields::{ColumnMarks, Mark, Pane, RowMark, Window};
+pub use lines::{FilterArea, Run, Runs, Why};
+pub use part_records::{PartRecord, PartRecords};
+pub use said::{Said, row_count, said_of};
