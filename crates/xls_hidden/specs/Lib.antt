@@ -4,3 +4,4 @@ pub mod Said
 pub mod States
 pub mod Runs
 pub mod Lines
+pub mod Windows

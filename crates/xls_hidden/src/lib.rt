@@ -7,6 +7,7 @@ mod lines;
 mod part_records;
 mod said;
 pub mod types;
+mod window;
 
 pub use damage::{Damage, DamagedRecord, Flaw};
 pub use fields::{ColumnMarks, Mark, Pane, RowMark, Window};
