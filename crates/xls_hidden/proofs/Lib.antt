@@ -1,2 +1,3 @@
 pub mod PartRecordsLemmas
 pub mod RunLemmas
+pub mod HiddenLemmas

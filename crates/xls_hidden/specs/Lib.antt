@@ -5,3 +5,5 @@ pub mod States
 pub mod Runs
 pub mod Lines
 pub mod Windows
+pub mod Reading
+pub mod Hidden

@@ -5,7 +5,9 @@ mod damage;
 mod fields;
 mod lines;
 mod part_records;
+mod reading;
 mod said;
+mod sheet;
 pub mod types;
 mod window;
 
@@ -14,3 +16,4 @@ pub use fields::{ColumnMarks, Mark, Pane, RowMark, Window};
 pub use lines::{FilterArea, Run, Runs, Why};
 pub use part_records::{PartRecord, PartRecords};
 pub use said::{Said, row_count, said_of};
+pub use sheet::{HiddenItem, HiddenItems, HiddenSheet, read_hidden};

@@ -77,7 +77,7 @@ fn is_same(a: Why, b: Why) -> bool
     }
 }
 
-/// The rows or the columns of a sheet, with a mark for each.
+/// The rows or the columns of a sheet, with a mark for each. Contracts see the marks as a list.
 #[derive(Drop)]
 pub(crate) struct Lines {
     pub(crate) marks: Vec<Mark>,
@@ -85,6 +85,18 @@ pub(crate) struct Lines {
     pub(crate) hides_unsaid: bool,
     /// The area of a filter that hides rows.
     pub(crate) area: Option<FilterArea>,
+}
+
+impl Model for Lines {
+    ghost use Rattle.xls_hidden.specs.Lines.{Table};
+
+    ghost Value = { Table };
+
+    ghost view = { λ s. record {
+      marks = s.marks.items;
+      hides_unsaid = s.hides_unsaid;
+      area = s.area;
+    } };
 }
 
 impl Lines {
