@@ -1,3 +1,4 @@
 pub mod PartRecordsLemmas
 pub mod RunLemmas
 pub mod HiddenLemmas
+pub mod StandardFacts

@@ -7,3 +7,4 @@ pub mod Lines
 pub mod Windows
 pub mod Reading
 pub mod Hidden
+pub mod Texts

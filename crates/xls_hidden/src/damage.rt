@@ -1,5 +1,7 @@
 //! Records that say what is hidden, and are damaged.
 
+use std::fmt;
+
 /// The record that is damaged, by its name in [MS-XLS].
 #[derive(Clone, Copy, Debug, PartialEq, Eq)]
 pub enum DamagedRecord {
@@ -28,4 +30,35 @@ pub struct Damage {
     /// The first column of a ColInfo record, where its two bytes are there.
     pub column: Option<u16>,
     pub flaw: Flaw,
+}
+
+/// The record's name.
+impl fmt::Display for DamagedRecord {
+    ghost use Rattle.std.specs.Prelude.{Some};
+    ghost use Rattle.xls_hidden.specs.Texts.{record_text};
+
+    ghost output = { λ record_name. Some (record_text record_name) };
+
+    fn fmt<W: fmt::Write>(&self, f: &mut fmt::Formatter<W>) -> fmt::Result {
+        f.write_str(match self {
+            DamagedRecord::Row => "Row",
+            DamagedRecord::ColInfo => "ColInfo",
+            DamagedRecord::DefaultRowHeight => "DefaultRowHeight",
+        })
+    }
+}
+
+/// A sentence that says what is wrong.
+impl fmt::Display for Flaw {
+    ghost use Rattle.std.specs.Prelude.{Some};
+    ghost use Rattle.xls_hidden.specs.Texts.{flaw_text};
+
+    ghost output = { λ flaw. Some (flaw_text flaw) };
+
+    fn fmt<W: fmt::Write>(&self, f: &mut fmt::Formatter<W>) -> fmt::Result {
+        match self {
+            Flaw::Short { least, found } => write!(f, "shorter than {least} bytes: {found}"),
+            Flaw::PastLastRow => f.write_str("it is past the last row"),
+        }
+    }
 }

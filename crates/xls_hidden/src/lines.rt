@@ -6,6 +6,7 @@ ghost use Rattle.xls_hidden.specs.Runs.{is_same, runs_from, IsFirstUnseen};
 ghost use Rattle.xls_hidden.specs.Lines.{why_at};
 
 use crate::fields::Mark;
+use std::fmt;
 use std::marker::Model;
 
 /// The rows of a filter's area, from its first row, which has the arrows, to its last.
@@ -209,6 +210,22 @@ impl<'s> Iterator for Runs<'s> {
             first,
             last: end - 1,
             why,
+        })
+    }
+}
+
+/// The word for a reason.
+impl fmt::Display for Why {
+    ghost use Rattle.std.specs.Prelude.{Some};
+    ghost use Rattle.xls_hidden.specs.Texts.{why_text};
+
+    ghost output = { λ why. Some (why_text why) };
+
+    fn fmt<W: fmt::Write>(&self, f: &mut fmt::Formatter<W>) -> fmt::Result {
+        f.write_str(match self {
+            Why::Hidden => "hidden",
+            Why::Filtered => "filtered",
+            Why::Flat => "flat",
         })
     }
 }
