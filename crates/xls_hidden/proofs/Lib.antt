@@ -2,3 +2,4 @@ pub mod PartRecordsLemmas
 pub mod RunLemmas
 pub mod HiddenLemmas
 pub mod StandardFacts
+pub mod FilterAreaLemmas

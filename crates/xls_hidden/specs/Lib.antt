@@ -8,3 +8,4 @@ pub mod Windows
 pub mod Reading
 pub mod Hidden
 pub mod Texts
+pub mod FilterAreas

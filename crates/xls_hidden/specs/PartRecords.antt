@@ -47,6 +47,11 @@ records_within (suc n) offset bytes =
 abbrev pub records_at : ℕ → List ℕ → List Placed
 records_at offset bytes = records_within (length bytes) offset bytes
 
+-- those before the first EOF
+unfoldable pub until_eof : List Placed → List Placed
+until_eof [] = []
+until_eof (r ∷ rs) = if r.typ == EOF then [] else r ∷ until_eof rs
+
 -- ---- those of the sheet's own
 
 -- The records outside nested substreams, up to the EOF of the part, where so many BOF records are open: none, the

@@ -48,7 +48,7 @@ pub struct Pane {
 }
 
 /// The 16-bit number at a place.
-fn u16_at(body: &[u8], place: usize) -> u16
+pub(crate) fn u16_at(body: &[u8], place: usize) -> u16
     requires { place + 2 ≤ length body.now }
     ensures { result ≡ fields.u16_at place body.now }
 {

@@ -3,6 +3,7 @@
 
 mod damage;
 mod fields;
+mod filter_areas;
 mod lines;
 mod part_records;
 mod reading;
@@ -13,6 +14,7 @@ mod window;
 
 pub use damage::{Damage, DamagedRecord, Flaw};
 pub use fields::{ColumnMarks, Mark, Pane, RowMark, Window};
+pub use filter_areas::read_filter_areas;
 pub use lines::{FilterArea, Run, Runs, Why};
 pub use part_records::{PartRecord, PartRecords};
 pub use said::{Said, row_count, said_of};

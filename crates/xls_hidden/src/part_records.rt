@@ -39,7 +39,7 @@ fn split_record(bytes: &[u8]) -> Option<(u16, &[u8], &[u8])>
 /// The records of some bytes one after another, up to the first that isn't whole. A Continue is one as all others.
 /// Contracts see the list of the records that are left.
 #[derive(Drop)]
-struct WholeRecords<'a> {
+pub(crate) struct WholeRecords<'a> {
     bytes: &'a [u8],
     offset: u64,
 }
@@ -56,7 +56,7 @@ impl<'a> Model for WholeRecords<'a> {
 }
 
 impl<'a> WholeRecords<'a> {
-    fn new(bytes: &'a [u8], offset: u64) -> WholeRecords<'a>
+    pub(crate) fn new(bytes: &'a [u8], offset: u64) -> WholeRecords<'a>
         requires { offset + length bytes.now < 2 ^ 64 }
         ensures value { result ≡ records_at offset bytes.now }
         ensures few { length result ≤ length bytes.now }
