@@ -12,6 +12,7 @@ use Rattle.xls_hidden.specs.declared.fields.Mark.TheVariants.{Unsaid, Shown, Hid
 use Rattle.xls_hidden.specs.declared.fields.Pane.{Pane}
 use Rattle.xls_hidden.specs.declared.fields.RowMark.{RowMark}
 use Rattle.xls_hidden.specs.declared.fields.Window.{Window}
+use Rattle.xls_hidden.specs.declared.filter_areas.SheetArea.{SheetArea}
 use Rattle.xls_hidden.specs.declared.lines.FilterArea.{FilterArea}
 use Rattle.xls_hidden.specs.declared.lines.Run.{Run}
 use Rattle.xls_hidden.specs.declared.lines.Why.{Why}
@@ -20,12 +21,13 @@ use Rattle.xls_hidden.specs.declared.said.Said.{Said}
 use Rattle.xls_hidden.specs.declared.said.Said.TheVariants as says
 use Rattle.xls_hidden.specs.declared.sheet.HiddenItem.TheVariants as items
 use Rattle.xls_hidden.specs.declared.types.TheConstants as types
-use Rattle.xls_hidden.specs.PartRecords.{Placed, records_at, own_records, records_within, outer_from, own_from}
+use Rattle.xls_hidden.specs.PartRecords.{Placed, records_at, own_records, records_within, outer_from, own_from, until_eof}
 use Rattle.xls_hidden.specs.Fields.{row_at, columns_at, default_hides_at, window_at, pane_at}
 use Rattle.xls_hidden.specs.Said.{said_of}
 use Rattle.xls_hidden.specs.States.{row_mark, column_mark, hides_others, filters, why_of, row_why, column_why}
 use Rattle.xls_hidden.specs.Runs.{runs_from}
 use Rattle.xls_hidden.specs.Windows.{first_window, frozen_by, hides_zeros_by}
+use Rattle.xls_hidden.specs.FilterAreas.{lbl_area, first_area}
 use Rattle.xls_hidden.specs.Hidden.{damages_in, items_of}
 
 -- the numbers of the record types and of the rows and columns
@@ -250,3 +252,53 @@ pub known_damages : damages_in (says.Nothing ∷ row_damage None (flaws.Short 16
     ≡ record { record_name = names.Row; offset = 9; row = None; column = None; flaw = flaws.Short 16 1 }
     ∷ record { record_name = names.Row; offset = 9; row = Some 16384; column = None; flaw = flaws.PastLastRow } ∷ []
 known_damages = refl
+
+-- ---- areas of filters
+
+-- the bits, the count of the name's units, that of the tokens' bytes, the sheet's number, and name and tokens
+abbrev lbl : ℕ → ℕ → ℕ → ℕ → List ℕ → List ℕ
+lbl bits units size number rest = le16 bits ++ 0 ∷ units ∷ le16 size ++ 0 ∷ 0 ∷ le16 number ++ 0 ∷ 0 ∷ 0 ∷ 0 ∷ rest
+
+-- a token, a reference, rows 2 and 8, columns 0 and 3
+abbrev area_token : ℕ → List ℕ
+area_token token = token ∷ 9 ∷ 9 ∷ 2 ∷ 0 ∷ 8 ∷ 0 ∷ 0 ∷ 0 ∷ 3 ∷ 0 ∷ []
+
+-- the same of BIFF5: two bits of each row don't count
+abbrev area_token_5 : ℕ → List ℕ
+area_token_5 token = token ∷ replicate 14 9 ++ 0x02 ∷ 0xC0 ∷ 0x08 ∷ 0x40 ∷ 0 ∷ 3 ∷ []
+
+abbrev rows_2_to_8 : ℕ → Option SheetArea
+rows_2_to_8 number = Some (record { number = number; area = record { first = 2; last = 8 } })
+
+-- each class of the token; a place alone, and areas of the own sheet, are no areas
+pub known_tokens : map (λ token. lbl_area Biff8 (lbl 0x0021 1 11 7 (0x00 ∷ 0x0D ∷ area_token token))) (0x3B ∷ 0x5B ∷ 0x7B ∷ 0x3A ∷ 0x25 ∷ 0x1B ∷ 0x9B ∷ [])
+    ≡ rows_2_to_8 7 ∷ rows_2_to_8 7 ∷ rows_2_to_8 7 ∷ None ∷ None ∷ None ∷ None ∷ []
+known_tokens = refl
+
+pub known_tokens_5 : map (λ token. lbl_area Biff5 (lbl 0x0020 1 21 7 (0x0D ∷ area_token_5 token))) (0x3B ∷ 0x5B ∷ 0x7B ∷ 0x3A ∷ [])
+    ≡ rows_2_to_8 7 ∷ rows_2_to_8 7 ∷ rows_2_to_8 7 ∷ None ∷ []
+known_tokens_5 = refl
+
+-- a name in units of two bytes; then one that isn't built in, one of two units, and another one
+pub known_names : lbl_area Biff8 (lbl 0x0020 1 11 1 (0x01 ∷ 0x0D ∷ 0x00 ∷ area_token 0x3B)) ∷ lbl_area Biff8 (lbl 0xFFDF 1 11 1 (0x00 ∷ 0x0D ∷ area_token 0x3B))
+    ∷ lbl_area Biff8 (lbl 0x0020 2 11 1 (0x00 ∷ 0x0D ∷ 0x0D ∷ area_token 0x3B)) ∷ lbl_area Biff8 (lbl 0x0020 1 11 1 (0x00 ∷ 0x06 ∷ area_token 0x3B)) ∷ []
+    ≡ rows_2_to_8 1 ∷ None ∷ None ∷ None ∷ []
+known_names = refl
+
+-- tokens that are cut, tokens that aren't all there, and no tokens
+pub known_cut_tokens : lbl_area Biff8 (lbl 0x0020 1 10 1 (0x00 ∷ 0x0D ∷ take 10 (area_token 0x3B))) ∷ lbl_area Biff5 (lbl 0x0020 1 20 1 (0x0D ∷ take 20 (area_token_5 0x3B)))
+    ∷ lbl_area Biff8 (lbl 0x0020 1 99 1 (0x00 ∷ 0x0D ∷ area_token 0x3B)) ∷ lbl_area Biff8 (lbl 0x0020 1 0 1 (0x00 ∷ 0x0D ∷ [])) ∷ lbl_area Biff8 (0x20 ∷ 0 ∷ []) ∷ []
+    ≡ None ∷ None ∷ None ∷ None ∷ None ∷ []
+known_cut_tokens = refl
+
+-- of a sheet's areas the first that is told counts; a record of another type tells none
+pub known_first_area : map (λ sheet. first_area Biff8 sheet
+    (at_9 0x018 (lbl 0x0020 1 11 1 (0x00 ∷ 0x0D ∷ area_token 0x3A)) ∷ at_9 0x218 (lbl 0x0020 1 11 2 (0x00 ∷ 0x0D ∷ area_token 0x3B)) ∷ at_9 0x018 (lbl 0x0020 1 11 1 (0x00 ∷ 0x0D ∷ area_token 0x3B))
+    ∷ at_9 0x018 (lbl 0x0020 1 11 1 (0x00 ∷ 0x0D ∷ 0x3B ∷ 9 ∷ 9 ∷ 4 ∷ 0 ∷ 5 ∷ 0 ∷ 0 ∷ 0 ∷ 3 ∷ 0 ∷ [])) ∷ [])) (0 ∷ 1 ∷ [])
+    ≡ Some (record { first = 2; last = 8 }) ∷ None ∷ []
+known_first_area = refl
+
+-- names stand before the EOF of the globals
+pub known_globals : until_eof (at_9 0x018 [] ∷ at_9 0x00A [] ∷ at_9 0x018 [] ∷ []) ≡ at_9 0x018 [] ∷ []
+unfolding until_eof
+known_globals = refl

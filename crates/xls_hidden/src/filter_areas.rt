@@ -131,7 +131,6 @@ pub fn read_filter_areas(
     version: Biff,
     sheets: usize,
 ) -> Result<Vec<Option<FilterArea>>, AllocError>
-    requires { length stream.now < 2 ^ 64 }
     ensures { IfOk result (λ areas. AreAreas version (until_eof (records_at 0 stream.now)) sheets areas.items) }
 {
     let mut areas: Vec<Option<FilterArea>> = vec![in alloc; None; sheets]?;

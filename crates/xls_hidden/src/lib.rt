@@ -19,3 +19,6 @@ pub use lines::{FilterArea, Run, Runs, Why};
 pub use part_records::{PartRecord, PartRecords};
 pub use said::{Said, row_count, said_of};
 pub use sheet::{HiddenItem, HiddenItems, HiddenSheet, read_hidden};
+
+#[cfg(test)]
+mod tests;
