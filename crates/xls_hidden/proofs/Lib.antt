@@ -3,3 +3,4 @@ pub mod RunLemmas
 pub mod HiddenLemmas
 pub mod StandardFacts
 pub mod FilterAreaLemmas
+pub mod LongestLemmas

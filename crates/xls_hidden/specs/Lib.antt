@@ -9,3 +9,4 @@ pub mod Reading
 pub mod Hidden
 pub mod Texts
 pub mod FilterAreas
+pub mod Laws

@@ -4,6 +4,7 @@
 mod damage;
 mod fields;
 mod filter_areas;
+mod laws;
 mod lines;
 mod part_records;
 mod reading;
@@ -15,6 +16,7 @@ mod window;
 pub use damage::{Damage, DamagedRecord, Flaw};
 pub use fields::{ColumnMarks, Mark, Pane, RowMark, Window};
 pub use filter_areas::read_filter_areas;
+pub use laws::runs_are_longest;
 pub use lines::{FilterArea, Run, Runs, Why};
 pub use part_records::{PartRecord, PartRecords};
 pub use said::{Said, row_count, said_of};
