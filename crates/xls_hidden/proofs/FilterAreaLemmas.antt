@@ -1,5 +1,5 @@
 -- The areas of filters, record by record.
-use Rattle.std.proofs.Common.{◌≡◌, ◌≢◌, ℕ, ◌<◌, List, [], ◌∷◌, length, refl, sym, ap, ◌∙◌, subst, arith, Option, Some, None, slice_index_or, ne_eqb}
+use Rattle.std.proofs.Common.{◌≡◌, ◌≢◌, ℕ, List, [], ◌∷◌, refl, sym, ap, ◌∙◌, subst, arith, Option, Some, None, slice_index_or, ne_eqb}
 use Rattle.xls_record.specs.declared.version.Biff.{Biff}
 use Rattle.xls_hidden.specs.declared.lines.FilterArea.{FilterArea}
 use Rattle.xls_hidden.specs.PartRecords.{Placed, until_eof}

@@ -6,7 +6,7 @@ use Rattle.std.proofs.lemmas.Bool.Decides.{eqb_tells}
 use Rattle.xls_hidden.specs.declared.lines.Run.{Run}
 use Rattle.xls_hidden.specs.declared.lines.Why.{Why}
 use Rattle.xls_hidden.specs.declared.lines.Why.TheVariants.{Hidden, Filtered, Flat}
-use Rattle.xls_hidden.specs.Runs.{is_same, join, with_line, runs_from, IsFirstUnseen}
+use Rattle.xls_hidden.specs.Runs.{is_same, join, with_line, runs_from}
 
 pub one_run_fewer : (before after : List Run) (r : Run) → before ≡ r ∷ after → length after < length before
 one_run_fewer before after r e = rw e (omega arith)

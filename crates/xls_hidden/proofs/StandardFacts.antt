@@ -1,5 +1,5 @@
 -- Known values, in the bytes of records, so that a wrong rule in the definitions does not check.
-use Rattle.std.proofs.Common.{◌≡◌, ℕ, ◌+◌, List, [], ◌∷◌, ◌++◌, map, replicate, take, drop, refl, Bool, true, false, Option, Some, None, get_or}
+use Rattle.std.proofs.Common.{◌≡◌, ℕ, List, [], ◌∷◌, ◌++◌, map, replicate, take, drop, refl, Bool, true, false, Option, Some, None, get_or}
 use Rattle.xls_bytes.specs.Numbers.{le16}
 use Rattle.xls_record.specs.declared.version.Biff.TheVariants.{Biff5, Biff8}
 use Rattle.xls_stream.specs.Stream.{record_bytes}
@@ -8,7 +8,7 @@ use Rattle.xls_hidden.specs.declared.damage.Flaw.{Flaw}
 use Rattle.xls_hidden.specs.declared.damage.Flaw.TheVariants as flaws
 use Rattle.xls_hidden.specs.declared.fields.ColumnMarks.{ColumnMarks}
 use Rattle.xls_hidden.specs.declared.fields.Mark.{Mark}
-use Rattle.xls_hidden.specs.declared.fields.Mark.TheVariants.{Unsaid, Shown, Hidden, Flat}
+use Rattle.xls_hidden.specs.declared.fields.Mark.TheVariants.{Shown, Hidden, Flat}
 use Rattle.xls_hidden.specs.declared.fields.Pane.{Pane}
 use Rattle.xls_hidden.specs.declared.fields.RowMark.{RowMark}
 use Rattle.xls_hidden.specs.declared.fields.Window.{Window}
@@ -24,7 +24,7 @@ use Rattle.xls_hidden.specs.declared.types.TheConstants as types
 use Rattle.xls_hidden.specs.PartRecords.{Placed, records_at, own_records, records_within, outer_from, own_from, until_eof}
 use Rattle.xls_hidden.specs.Fields.{row_at, columns_at, default_hides_at, window_at, pane_at}
 use Rattle.xls_hidden.specs.Said.{said_of}
-use Rattle.xls_hidden.specs.States.{row_mark, column_mark, hides_others, filters, why_of, row_why, column_why}
+use Rattle.xls_hidden.specs.States.{row_why, column_why}
 use Rattle.xls_hidden.specs.Runs.{runs_from}
 use Rattle.xls_hidden.specs.Windows.{first_window, frozen_by, hides_zeros_by}
 use Rattle.xls_hidden.specs.FilterAreas.{lbl_area, first_area}

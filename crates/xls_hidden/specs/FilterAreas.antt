@@ -1,7 +1,7 @@
 -- The areas of the filters of sheets. A filter's area has the built-in name 0D of its sheet, in the globals: Lbl
 -- (2.4.150) has among the bits at 0 fBuiltin, 0020, the count of the name's units (cch) at 3, the count of the bytes of
 -- its tokens (cce) at 4, the number of its sheet from 1 (itab) at 8, its name at 14, and its tokens last.
-use Rattle.std.specs.Prelude.{◌≡◌, ℕ, ◌+◌, ◌-◌, ◌<◌, ◌%◌, List, [], ◌∷◌, take, drop, length, slice_index, slice_index_or, Bool, true, false, not, ◌&&◌, ◌||◌, nat_le, nat_lt, ◌==◌, if◌then◌else◌, Option, Some, None}
+use Rattle.std.specs.Prelude.{◌≡◌, ℕ, ◌+◌, ◌-◌, ◌<◌, ◌%◌, List, [], ◌∷◌, drop, length, slice_index, slice_index_or, Bool, not, ◌&&◌, ◌||◌, nat_le, nat_lt, ◌==◌, if◌then◌else◌, Option, Some, None}
 use Rattle.xls_record.specs.declared.version.Biff.{Biff}
 use Rattle.xls_record.specs.Version.{is_biff8}
 use Rattle.xls_stream.specs.declared.types.TheConstants.{LBL}

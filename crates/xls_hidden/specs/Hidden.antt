@@ -7,7 +7,6 @@ use Rattle.xls_hidden.specs.declared.damage.Damage.{Damage}
 use Rattle.xls_hidden.specs.declared.fields.Pane.{Pane}
 use Rattle.xls_hidden.specs.declared.lines.FilterArea.{FilterArea}
 use Rattle.xls_hidden.specs.declared.lines.Run.{Run}
-use Rattle.xls_hidden.specs.declared.lines.Why.{Why}
 use Rattle.xls_hidden.specs.declared.said.Said.{Said}
 use Rattle.xls_hidden.specs.declared.said.Said.TheVariants as says
 use Rattle.xls_hidden.specs.declared.sheet.HiddenItem.{HiddenItem}

@@ -1,5 +1,5 @@
 -- For the proofs: what is known while the records are read.
-use Rattle.std.specs.Prelude.{◌≡◌, ℕ, ◌<◌, ◌≤◌, List, [], ◌∷◌, length, false, slice_index_or}
+use Rattle.std.specs.Prelude.{◌≡◌, ℕ, ◌<◌, ◌≤◌, List, ◌∷◌, length, false, slice_index_or}
 use Rattle.xls_record.specs.declared.version.Biff.{Biff}
 use Rattle.xls_hidden.specs.declared.types.TheConstants.{COLUMNS}
 use Rattle.xls_hidden.specs.declared.fields.Mark.{Mark}

@@ -1,5 +1,5 @@
 -- Runs of rows or columns that can't be seen.
-use Rattle.std.specs.Prelude.{◌≡◌, ℕ, zero, suc, ◌+◌, ◌-◌, ◌<◌, ◌≤◌, List, [], ◌∷◌, Bool, true, false, ◌&&◌, ◌==◌, if◌then◌else◌, Option, Some, None}
+use Rattle.std.specs.Prelude.{◌≡◌, ℕ, zero, suc, ◌+◌, ◌-◌, ◌<◌, List, [], ◌∷◌, Bool, true, false, ◌&&◌, ◌==◌, if◌then◌else◌, Option, Some, None}
 use Rattle.xls_hidden.specs.declared.lines.Run.{Run}
 use Rattle.xls_hidden.specs.declared.lines.Why.{Why}
 use Rattle.xls_hidden.specs.declared.lines.Why.TheVariants.{Hidden, Filtered, Flat}

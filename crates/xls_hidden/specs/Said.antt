@@ -4,8 +4,6 @@ use Rattle.xls_bytes.specs.Numbers.{le}
 use Rattle.xls_record.specs.declared.version.Biff.{Biff}
 use Rattle.xls_record.specs.Version.{is_biff8}
 use Rattle.xls_hidden.specs.declared.types.TheConstants as types
-use Rattle.xls_hidden.specs.declared.damage.Damage.{Damage}
-use Rattle.xls_hidden.specs.declared.damage.DamagedRecord.{DamagedRecord}
 use Rattle.xls_hidden.specs.declared.damage.DamagedRecord.TheVariants as names
 use Rattle.xls_hidden.specs.declared.damage.Flaw.{Flaw}
 use Rattle.xls_hidden.specs.declared.damage.Flaw.TheVariants as flaws

@@ -1,5 +1,5 @@
 -- The first window of a sheet: frozen panes, and zeros that aren't shown.
-use Rattle.std.specs.Prelude.{ℕ, List, [], ◌∷◌, Bool, true, false, not, ◌&&◌, ◌==◌, if◌then◌else◌, Option, Some, None}
+use Rattle.std.specs.Prelude.{List, [], ◌∷◌, Bool, false, not, ◌&&◌, ◌==◌, if◌then◌else◌, Option, Some, None}
 use Rattle.xls_hidden.specs.declared.fields.Pane.{Pane}
 use Rattle.xls_hidden.specs.declared.fields.Window.{Window}
 use Rattle.xls_hidden.specs.declared.said.Said.{Said}

@@ -1,4 +1,4 @@
-use Rattle.std.proofs.Common.{◌≡◌, List, [], map, sym, subst}
+use Rattle.std.proofs.Common.{◌≡◌, List, [], map, subst}
 use Rattle.xls_hidden.specs.PartRecords.{Placed, own_records}
 use Rattle.xls_hidden.specs.Said.{said_of}
 use Rattle.xls_hidden.specs.Reading.{IsRead}

@@ -1,4 +1,4 @@
-use Rattle.std.proofs.Common.{rules, sym, ap, ◌∙◌, length, ◌≡◌, ◌∷◌}
+use Rattle.std.proofs.Common.{rules, sym, ap, ◌∙◌}
 use Rattle.xls_hidden.specs.PartRecords.{placed_of, own_from}
 use Rattle.xls_hidden.proofs.PartRecordsLemmas.{own_end, own_begin, own_leave, own_inside, own_kept, one_fewer}
 use Rattle.xls_hidden.proofs.part_records.PartRecordsIterator.next.Goals as goal
