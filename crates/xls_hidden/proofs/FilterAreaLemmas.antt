@@ -1,9 +1,10 @@
 -- The areas of filters, record by record.
 use Rattle.std.proofs.Common.{◌≡◌, ◌≢◌, ℕ, List, [], ◌∷◌, refl, sym, ap, ◌∙◌, subst, arith, Option, Some, None, slice_index_or, ne_eqb}
 use Rattle.xls_record.specs.declared.version.Biff.{Biff}
+use Rattle.xls_hidden.specs.Walking.{GainsArea, AreAreasSoFar}
 use Rattle.xls_hidden.specs.declared.lines.FilterArea.{FilterArea}
 use Rattle.xls_hidden.specs.PartRecords.{Placed, until_eof}
-use Rattle.xls_hidden.specs.FilterAreas.{record_area, area_for, or_else, first_area, AreAreas, GainsArea, AreAreasSoFar}
+use Rattle.xls_hidden.specs.FilterAreas.{record_area, area_for, or_else, first_area, AreAreas}
 
 pub until_end : until_eof [] ≡ []
 unfolding until_eof

@@ -1,6 +1,7 @@
 -- What was read is what the records say.
 use Rattle.std.proofs.Common.{◌≡◌, ℕ, zero, suc, ◌+◌, ◌<◌, ◌≤◌, List, [], refl, ap, ap₂, ◌∙◌, arith, Bool, false, if◌then◌else◌, Option, None}
 use Rattle.xls_record.specs.declared.version.Biff.{Biff}
+use Rattle.xls_hidden.specs.Walking.{at_the_end}
 use Rattle.xls_hidden.specs.declared.types.TheConstants.{COLUMNS}
 use Rattle.xls_hidden.specs.declared.fields.Mark.{Mark}
 use Rattle.xls_hidden.specs.declared.lines.FilterArea.{FilterArea}
@@ -12,7 +13,7 @@ use Rattle.xls_hidden.specs.Said.{row_count}
 use Rattle.xls_hidden.specs.States.{why_of, row_why, column_why}
 use Rattle.xls_hidden.specs.Runs.{with_line, runs_from}
 use Rattle.xls_hidden.specs.Lines.{Table, why_at}
-use Rattle.xls_hidden.specs.Windows.{at_the_end, frozen_by, hides_zeros_by}
+use Rattle.xls_hidden.specs.Windows.{frozen_by, hides_zeros_by}
 use Rattle.xls_hidden.specs.Reading.{IsRead}
 use Rattle.xls_hidden.specs.Hidden.{IsHiddenIn, items_of, damages_in}
 

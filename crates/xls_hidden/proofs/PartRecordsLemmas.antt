@@ -1,7 +1,8 @@
 -- The records of some bytes, one at a time; and those of a sheet's own.
 use Rattle.std.proofs.Common.{◌≡◌, ◌≢◌, ℕ, zero, suc, ◌+◌, ◌-◌, ◌≤◌, ◌<◌, List, [], ◌∷◌, length, drop, refl, sym, ap, ◌∙◌, arith, Bool, true, false, length-drop, ne_eqb}
 use Rattle.std.proofs.lemmas.Bool.{leb-true, le-leb, lt-leb}
-use Rattle.xls_hidden.specs.PartRecords.{Placed, size_at, starts_whole, first_at, records_within, records_at, outer_from, own_from, SplitsFirst}
+use Rattle.xls_hidden.specs.Walking.{SplitsFirst}
+use Rattle.xls_hidden.specs.PartRecords.{Placed, size_at, starts_whole, first_at, records_within, records_at, outer_from, own_from}
 
 -- a list that begins with something is longer than the rest
 pub one_fewer : (before after : List Placed) (r : Placed) → before ≡ r ∷ after → length after < length before

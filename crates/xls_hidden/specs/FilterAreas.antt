@@ -79,14 +79,3 @@ first_area version sheet (r ∷ rs) = or_else (area_for sheet (record_area versi
 pub record AreAreas (version : Biff) (records : List Placed) (sheets : ℕ) (areas : List (Option FilterArea)) : Type 0 where
   pub count : length areas ≡ sheets
   pub each : (sheet : ℕ) → sheet < sheets → slice_index_or areas sheet None ≡ first_area version sheet records
-
--- ---- for the proofs
-
-pub record GainsArea (old : List (Option FilterArea)) (found : Option SheetArea) (new : List (Option FilterArea)) : Type 0 where
-  pub same_length : length new ≡ length old
-  pub each : (sheet : ℕ) → sheet < length old → slice_index_or new sheet None ≡ or_else (slice_index_or old sheet None) (area_for sheet found)
-
--- what is there and what the records that are left tell are together what all tell
-pub record AreAreasSoFar (version : Biff) (all left : List Placed) (sheets : ℕ) (areas : List (Option FilterArea)) : Type 0 where
-  pub count : length areas ≡ sheets
-  pub each : (sheet : ℕ) → sheet < sheets → or_else (slice_index_or areas sheet None) (first_area version sheet left) ≡ first_area version sheet all

@@ -1,5 +1,5 @@
 -- What is hidden in a sheet, by all records of its own.
-use Rattle.std.specs.Prelude.{◌≡◌, ℕ, ◌<◌, List, [], ◌∷◌, ◌++◌, map, Bool, true, false, Option, Some, None}
+use Rattle.std.specs.Prelude.{◌≡◌, ℕ, ◌<◌, List, [], ◌∷◌, ◌++◌, map, Bool, true, false, Option}
 use Rattle.std.specs.Option.{option_to_list}
 use Rattle.xls_record.specs.declared.version.Biff.{Biff}
 use Rattle.xls_hidden.specs.declared.types.TheConstants.{COLUMNS}
@@ -54,14 +54,3 @@ pub record IsHiddenIn (version : Biff) (area : Option FilterArea) (said : List S
   pub rows : (row : ℕ) → row < row_count version → why_at hidden.rows row ≡ row_why area said row
   pub columns : (column : ℕ) → column < COLUMNS → why_at hidden.columns column ≡ column_why said column
   pub items : hidden.items ≡ hidden_items version area said
-
--- ---- for the proofs
-
--- a step gives the first of a list, if there is one, and leaves the others
-abbrev pub DamageSteps : List Damage → Option Damage → List Damage → Type 0
-DamageSteps before None after = (before ≡ []) × (after ≡ [])
-DamageSteps before (Some d) after = before ≡ d ∷ after
-
-abbrev pub ItemSteps : List HiddenItem → Option HiddenItem → List HiddenItem → Type 0
-ItemSteps before None after = (before ≡ []) × (after ≡ [])
-ItemSteps before (Some i) after = before ≡ i ∷ after

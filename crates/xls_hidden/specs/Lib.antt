@@ -5,8 +5,10 @@ pub mod States
 pub mod Runs
 pub mod Lines
 pub mod Windows
-pub mod Reading
 pub mod Hidden
-pub mod Texts
 pub mod FilterAreas
+pub mod Texts
 pub mod Laws
+pub mod Steps
+pub mod Walking
+pub mod Reading

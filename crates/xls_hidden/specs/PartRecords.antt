@@ -1,7 +1,7 @@
 -- The records of a sheet's own, with their places in the stream: those of its part ([MS-XLS] 2.1.7.20.5) up to the
 -- part's EOF (2.4.103), outside nested substreams, which begin with a BOF (2.4.21), and outside custom views, from
 -- UserSViewBegin (2.4.325) to UserSViewEnd (2.4.327).
-use Rattle.std.specs.Prelude.{◌≡◌, ℕ, zero, suc, ◌+◌, ◌-◌, List, [], ◌∷◌, length, take, drop, Bool, true, false, nat_le, ◌==◌, if◌then◌else◌, Option, Some, None}
+use Rattle.std.specs.Prelude.{ℕ, zero, suc, ◌+◌, ◌-◌, List, [], ◌∷◌, length, take, drop, Bool, true, false, nat_le, ◌==◌, if◌then◌else◌}
 use Rattle.xls_bytes.specs.Numbers.{le}
 use Rattle.xls_stream.specs.declared.types.TheConstants.{BOF, EOF}
 use Rattle.xls_hidden.specs.declared.types.TheConstants.{USER_S_VIEW_BEGIN, USER_S_VIEW_END}
@@ -76,18 +76,3 @@ own_from inside (r ∷ rs) =
 -- the records of a sheet's own, where its part begins with the first byte
 abbrev pub own_records : ℕ → List ℕ → List Placed
 own_records offset part = own_from false (outer_from 0 (records_at offset part))
-
--- ---- a step over them
-
--- the bytes begin with a whole record of this type and body, and then the rest
-pub record SplitsFirst (bytes : List ℕ) (typ : ℕ) (body rest : List ℕ) : Type 0 where
-  pub whole : starts_whole bytes ≡ true
-  pub typ_is : typ ≡ le (take 2 bytes)
-  pub body_is : body ≡ take (size_at bytes) (drop 4 bytes)
-  pub size_is : length body ≡ size_at bytes
-  pub rest_is : rest ≡ drop (4 + size_at bytes) bytes
-
--- a step gives the first record of a list, if there is one, and leaves the others
-abbrev pub Steps : List Placed → Option PartRecord → List Placed → Type 0
-Steps before None after = (before ≡ []) × (after ≡ [])
-Steps before (Some r) after = before ≡ placed_of r ∷ after

@@ -1,6 +1,7 @@
 -- For the proofs: what is known while the records are read.
 use Rattle.std.specs.Prelude.{◌≡◌, ℕ, ◌<◌, ◌≤◌, List, ◌∷◌, length, false, slice_index_or}
 use Rattle.xls_record.specs.declared.version.Biff.{Biff}
+use Rattle.xls_hidden.specs.Walking.{completed}
 use Rattle.xls_hidden.specs.declared.types.TheConstants.{COLUMNS}
 use Rattle.xls_hidden.specs.declared.fields.Mark.{Mark}
 use Rattle.xls_hidden.specs.declared.fields.Mark.TheVariants.{Unsaid, Shown}
@@ -8,7 +9,7 @@ use Rattle.xls_hidden.specs.declared.reading.Reading.{Reading}
 use Rattle.xls_hidden.specs.declared.said.Said.{Said}
 use Rattle.xls_hidden.specs.Said.{row_count}
 use Rattle.xls_hidden.specs.States.{row_after, column_after, hides_after, filters_after, row_mark, column_mark, hides_others, filters}
-use Rattle.xls_hidden.specs.Windows.{completed, first_window}
+use Rattle.xls_hidden.specs.Windows.{first_window}
 
 -- the mark of a row or a column; of one past the last it doesn't matter
 abbrev pub mark_at : List Mark → ℕ → Mark

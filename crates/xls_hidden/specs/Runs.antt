@@ -1,5 +1,5 @@
 -- Runs of rows or columns that can't be seen.
-use Rattle.std.specs.Prelude.{◌≡◌, ℕ, zero, suc, ◌+◌, ◌-◌, ◌<◌, List, [], ◌∷◌, Bool, true, false, ◌&&◌, ◌==◌, if◌then◌else◌, Option, Some, None}
+use Rattle.std.specs.Prelude.{ℕ, zero, suc, ◌+◌, List, [], ◌∷◌, Bool, true, false, ◌&&◌, ◌==◌, if◌then◌else◌, Option, Some, None}
 use Rattle.xls_hidden.specs.declared.lines.Run.{Run}
 use Rattle.xls_hidden.specs.declared.lines.Why.{Why}
 use Rattle.xls_hidden.specs.declared.lines.Why.TheVariants.{Hidden, Filtered, Flat}
@@ -27,16 +27,3 @@ with_line line (Some why) runs = join line why runs
 unfoldable pub runs_from : (ℕ → Option Why) → ℕ → ℕ → List Run
 runs_from why line zero = []
 runs_from why line (suc n) = with_line line (why line) (runs_from why (line + 1) n)
-
--- ---- for the proofs
-
--- from this line on the first that can't be seen is that one, for this reason
-pub record IsFirstUnseen (why : ℕ → Option Why) (from count line : ℕ) (reason : Why) : Type 0 where
-  pub below : line < count
-  pub reason_is : why line ≡ Some reason
-  pub same : runs_from why from (count - from) ≡ runs_from why line (count - line)
-
--- a step gives the first run of a list, if there is one, and leaves the others
-abbrev pub Steps : List Run → Option Run → List Run → Type 0
-Steps before None after = (before ≡ []) × (after ≡ [])
-Steps before (Some r) after = before ≡ r ∷ after

@@ -4,8 +4,6 @@ use Rattle.xls_hidden.specs.declared.fields.Pane.{Pane}
 use Rattle.xls_hidden.specs.declared.fields.Window.{Window}
 use Rattle.xls_hidden.specs.declared.said.Said.{Said}
 use Rattle.xls_hidden.specs.declared.said.Said.TheVariants as says
-use Rattle.xls_hidden.specs.declared.window.WindowSoFar.{WindowSoFar}
-use Rattle.xls_hidden.specs.declared.window.WindowSoFar.TheVariants.{Before, Begun, Whole}
 
 -- the Pane before the next Window2
 abbrev pub pane_in : List Said → Option Pane
@@ -36,14 +34,3 @@ frozen_by (Some x) = frozen_at x.0 x.1
 abbrev pub hides_zeros_by : FirstWindow → Bool
 hides_zeros_by None = false
 hides_zeros_by (Some x) = not x.0.shows_zeros
-
--- ---- for the proofs
-
--- what comes of that which is known and the records behind it
-abbrev pub completed : WindowSoFar → List Said → FirstWindow
-completed Before said = first_window said
-completed (Begun w) said = Some (w, pane_in said)
-completed (Whole w p) said = Some (w, p)
-
-abbrev pub at_the_end : WindowSoFar → FirstWindow
-at_the_end window = completed window []

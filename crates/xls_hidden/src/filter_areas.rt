@@ -3,7 +3,8 @@
 ghost use Rattle.std.specs.Prelude.{◌≡◌, ◌<◌, ◌≤◌, ◌+◌, ◌^◌, ℕ, None, IfOk, length, slice_index_or};
 ghost use Rattle.xls_hidden.specs.PartRecords.{placed_of, until_eof, records_at};
 ghost use Rattle.xls_hidden.specs.FilterAreas as areas;
-ghost use Rattle.xls_hidden.specs.FilterAreas.{first_area, GainsArea, AreAreas};
+ghost use Rattle.xls_hidden.specs.FilterAreas.{AreAreas};
+ghost use Rattle.xls_hidden.specs.Walking.{GainsArea};
 
 use crate::fields::u16_at;
 use crate::lines::FilterArea;

@@ -2,7 +2,8 @@
 
 ghost use Rattle.std.specs.Prelude.{◌≡◌, ◌↔◌, ◌+◌, ◌-◌, ◌<◌, ◌≤◌, ◌^◌, [], ◌∷◌, Some, IsTrue, MatchOption, length};
 ghost use Rattle.xls_hidden.specs.States as states;
-ghost use Rattle.xls_hidden.specs.Runs.{is_same, runs_from, IsFirstUnseen};
+ghost use Rattle.xls_hidden.specs.Runs.{is_same, runs_from};
+ghost use Rattle.xls_hidden.specs.Walking.{IsFirstUnseen};
 ghost use Rattle.xls_hidden.specs.Lines.{why_at};
 
 use crate::fields::Mark;
@@ -191,7 +192,7 @@ impl<'s> Runs<'s> {
 impl<'s> Iterator for Runs<'s> {
     ghost use Rattle.std.specs.Prelude.{length};
     ghost use Rattle.std.specs.Iterator.{at_most};
-    ghost use Rattle.xls_hidden.specs.Runs.{Steps};
+    ghost use Rattle.xls_hidden.specs.Steps.{Steps};
 
     type Item = Run;
 

@@ -1,7 +1,8 @@
 //! The records of a sheet's own, with their places: outside nested substreams and custom views.
 
 ghost use Rattle.std.specs.Prelude.{◌≡◌, ◌<◌, ◌≤◌, ◌+◌, ◌^◌, false, length, MatchOption};
-ghost use Rattle.xls_hidden.specs.PartRecords.{own_records, records_at, starts_whole, SplitsFirst};
+ghost use Rattle.xls_hidden.specs.PartRecords.{own_records, records_at, starts_whole};
+ghost use Rattle.xls_hidden.specs.Walking.{SplitsFirst};
 
 use crate::types::{USER_S_VIEW_BEGIN, USER_S_VIEW_END};
 use std::marker::Model;
@@ -68,11 +69,12 @@ impl<'a> WholeRecords<'a> {
 impl<'a> Iterator for WholeRecords<'a> {
     ghost use Rattle.std.specs.Prelude.{length};
     ghost use Rattle.std.specs.Iterator.{at_most};
-    ghost use Rattle.xls_hidden.specs.PartRecords.{Steps};
+    ghost use Rattle.xls_hidden.specs.PartRecords.{placed_of};
+    ghost use Rattle.xls_hidden.specs.Steps.{StepsBy};
 
     type Item = PartRecord<'a>;
 
-    ghost next_gives = { Steps };
+    ghost next_gives = { StepsBy placed_of };
 
     ghost remaining = { λ records. at_most (length records) };
 
@@ -114,11 +116,12 @@ impl<'a> Model for OuterRecords<'a> {
 impl<'a> Iterator for OuterRecords<'a> {
     ghost use Rattle.std.specs.Prelude.{length};
     ghost use Rattle.std.specs.Iterator.{at_most};
-    ghost use Rattle.xls_hidden.specs.PartRecords.{Steps};
+    ghost use Rattle.xls_hidden.specs.PartRecords.{placed_of};
+    ghost use Rattle.xls_hidden.specs.Steps.{StepsBy};
 
     type Item = PartRecord<'a>;
 
-    ghost next_gives = { Steps };
+    ghost next_gives = { StepsBy placed_of };
 
     ghost remaining = { λ records. at_most (length records) };
 
@@ -178,11 +181,12 @@ impl<'a> PartRecords<'a> {
 impl<'a> Iterator for PartRecords<'a> {
     ghost use Rattle.std.specs.Prelude.{length};
     ghost use Rattle.std.specs.Iterator.{at_most};
-    ghost use Rattle.xls_hidden.specs.PartRecords.{Steps};
+    ghost use Rattle.xls_hidden.specs.PartRecords.{placed_of};
+    ghost use Rattle.xls_hidden.specs.Steps.{StepsBy};
 
     type Item = PartRecord<'a>;
 
-    ghost next_gives = { Steps };
+    ghost next_gives = { StepsBy placed_of };
 
     ghost remaining = { λ records. at_most (length records) };
 

@@ -154,11 +154,11 @@ impl<'a> Model for Damages<'a> {
 impl<'a> Iterator for Damages<'a> {
     ghost use Rattle.std.specs.Prelude.{length};
     ghost use Rattle.std.specs.Iterator.{at_most};
-    ghost use Rattle.xls_hidden.specs.Hidden.{DamageSteps};
+    ghost use Rattle.xls_hidden.specs.Steps.{Steps};
 
     type Item = Damage;
 
-    ghost next_gives = { DamageSteps };
+    ghost next_gives = { Steps };
 
     ghost remaining = { λ damages. at_most (length damages) };
 
@@ -195,11 +195,11 @@ impl<'s, 'a> Model for HiddenItems<'s, 'a> {
 impl<'s, 'a> Iterator for HiddenItems<'s, 'a> {
     ghost use Rattle.std.specs.Prelude.{length};
     ghost use Rattle.std.specs.Iterator.{at_most};
-    ghost use Rattle.xls_hidden.specs.Hidden.{ItemSteps};
+    ghost use Rattle.xls_hidden.specs.Steps.{Steps};
 
     type Item = HiddenItem;
 
-    ghost next_gives = { ItemSteps };
+    ghost next_gives = { Steps };
 
     ghost remaining = { λ items. at_most (length items) };
 

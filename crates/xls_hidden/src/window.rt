@@ -2,6 +2,7 @@
 
 ghost use Rattle.std.specs.Prelude.{◌≡◌, List, ◌∷◌};
 ghost use Rattle.xls_hidden.specs.Windows as windows;
+ghost use Rattle.xls_hidden.specs.Walking.{completed, at_the_end};
 
 use crate::fields::{Pane, Window};
 use crate::said::Said;
@@ -18,7 +19,7 @@ pub(crate) enum WindowSoFar {
 }
 
 fn begun(said: Said) -> WindowSoFar
-    ensures { (more : List Said) → windows.completed result more ≡ windows.completed WindowSoFar.Before (said ∷ more) }
+    ensures { (more : List Said) → completed result more ≡ completed WindowSoFar.Before (said ∷ more) }
 {
     match said {
         Said::Window(window) => WindowSoFar::Begun(window),
@@ -27,7 +28,7 @@ fn begun(said: Said) -> WindowSoFar
 }
 
 fn went_on(window: Window, said: Said) -> WindowSoFar
-    ensures { (more : List Said) → windows.completed result more ≡ windows.completed (WindowSoFar.Begun window) (said ∷ more) }
+    ensures { (more : List Said) → completed result more ≡ completed (WindowSoFar.Begun window) (said ∷ more) }
 {
     match said {
         Said::Window(_) => WindowSoFar::Whole(window, None),
@@ -39,7 +40,7 @@ fn went_on(window: Window, said: Said) -> WindowSoFar
 impl WindowSoFar {
     /// What is known after one more record.
     pub(crate) fn after(self, said: Said) -> WindowSoFar
-        ensures { (more : List Said) → windows.completed result more ≡ windows.completed self (said ∷ more) }
+        ensures { (more : List Said) → completed result more ≡ completed self (said ∷ more) }
     {
         match self {
             WindowSoFar::Before => begun(said),
@@ -50,7 +51,7 @@ impl WindowSoFar {
 
     /// The panes that are frozen, where there are any: so many rows and columns, not both 0.
     pub(crate) fn frozen(self) -> Option<Pane>
-        ensures { result ≡ windows.frozen_by (windows.at_the_end self) }
+        ensures { result ≡ windows.frozen_by (at_the_end self) }
     {
         match self {
             WindowSoFar::Whole(window, Some(pane)) => {
@@ -66,7 +67,7 @@ impl WindowSoFar {
 
     /// Whether cells that are zero are shown as empty.
     pub(crate) fn hides_zeros(self) -> bool
-        ensures { result ≡ windows.hides_zeros_by (windows.at_the_end self) }
+        ensures { result ≡ windows.hides_zeros_by (at_the_end self) }
     {
         match self {
             WindowSoFar::Before => false,

@@ -1,6 +1,6 @@
 use Rattle.std.proofs.Common.{length}
+use Rattle.xls_hidden.specs.Walking.{AreAreasSoFar}
 use Rattle.xls_hidden.specs.PartRecords.{until_eof, records_at}
-use Rattle.xls_hidden.specs.FilterAreas.{AreAreasSoFar}
 use Rattle.xls_hidden.proofs.filter_areas.read_filter_areas.Given as goal
 
 abbrev pub invariant-loop-r : goal.invariant-loop-r
