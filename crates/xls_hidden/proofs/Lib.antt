@@ -4,3 +4,4 @@ pub mod HiddenLemmas
 pub mod StandardFacts
 pub mod FilterAreaLemmas
 pub mod LongestLemmas
+pub mod PartLemmas

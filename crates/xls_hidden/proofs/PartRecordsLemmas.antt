@@ -17,15 +17,15 @@ first_fits bytes e = leb-true (4 + size_at bytes) (length bytes) e
 within_empty : (bytes : List ℕ) → length bytes ≤ 0 → starts_whole bytes ≡ false
 within_empty bytes h = lt-leb (4 + size_at bytes) (length bytes) (omega (arith, h))
 
-fewer : (bytes : List ℕ) → starts_whole bytes ≡ true → length (drop (4 + size_at bytes) bytes) + (4 + size_at bytes) ≡ length bytes
+pub fewer : (bytes : List ℕ) → starts_whole bytes ≡ true → length (drop (4 + size_at bytes) bytes) + (4 + size_at bytes) ≡ length bytes
 fewer bytes e = let h = first_fits bytes e in let d = length-drop (4 + size_at bytes) bytes in omega (arith, h, d)
 
-within_none : (n offset : ℕ) (bytes : List ℕ) → starts_whole bytes ≡ false → records_within n offset bytes ≡ []
+pub within_none : (n offset : ℕ) (bytes : List ℕ) → starts_whole bytes ≡ false → records_within n offset bytes ≡ []
 unfolding records_within
 within_none zero offset bytes e = refl
 within_none (suc n) offset bytes e = rw e refl
 
-within_first : (n offset : ℕ) (bytes : List ℕ) → starts_whole bytes ≡ true
+pub within_first : (n offset : ℕ) (bytes : List ℕ) → starts_whole bytes ≡ true
     → records_within (suc n) offset bytes ≡ first_at offset bytes ∷ records_within n (offset + (4 + size_at bytes)) (drop (4 + size_at bytes) bytes)
 unfolding records_within
 within_first n offset bytes e = rw e refl

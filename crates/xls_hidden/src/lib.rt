@@ -16,7 +16,7 @@ mod window;
 pub use damage::{Damage, DamagedRecord, Flaw};
 pub use fields::{ColumnMarks, Mark, Pane, RowMark, Window};
 pub use filter_areas::read_filter_areas;
-pub use laws::runs_are_longest;
+pub use laws::{outer_are_those, runs_are_longest};
 pub use lines::{FilterArea, Run, Runs, Why};
 pub use part_records::{PartRecord, PartRecords};
 pub use said::{Said, row_count, said_of};
