@@ -41,5 +41,5 @@ pub static FILES: [(&str, &[&[u8]]); 7] = [
     ("d/e/f.xlt", &[&GLOBALS, &EOF]),
     ("d/p.xla", &[&GLOBALS, &FILE_PASS, &EOF]),
     ("z.zip", &[b"PK\x03\x04"]),
-    ("out/a.xls/sheets.txt", &[b"older"]),
+    ("out/a.xls.out/sheets.txt", &[b"older"]),
 ];

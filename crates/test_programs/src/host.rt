@@ -2,14 +2,13 @@
 
 use crate::files::FILES;
 use std::alloc::{AllocError, Global};
-use xls_tool::{Host, Listed, Name, Place, Reason, Sink, WriteFault};
+use xls_tool::{Host, Kind, Listed, Name, Place, Reason, Sink, WriteFault};
 
 /// A file that is written.
 #[derive(Drop)]
 pub struct MemoryFile {
     path: String,
     text: Vec<u8>,
-    writes_over: bool,
     faults: u64,
 }
 
@@ -70,13 +69,13 @@ fn below<'p>(path: &'p str, folder: &str) -> Option<&'p str> {
 
 /// What a path from a folder on says of the folder.
 fn listed(alloc: Global, rest: &str) -> Result<Listed, AllocError> {
-    let (name, is_folder) = match rest.split_once('/') {
-        Some((folder, _)) => (folder, true),
-        None => (rest, false),
+    let (name, kind) = match rest.split_once('/') {
+        Some((folder, _)) => (folder, Kind::Folder),
+        None => (rest, Kind::File),
     };
     Ok(Listed {
         name: Some(String::from_str(alloc, name)?),
-        is_folder,
+        kind,
     })
 }
 
@@ -102,9 +101,13 @@ impl MemoryHost {
         }
     }
 
-    /// Keeps what was written into a file.
-    fn keep(&mut self, file: &MemoryFile) -> Result<(), AllocError> {
-        self.written.push_str(file.path.as_str())?;
+    /// Keeps what was written into a file: its path, from that of its part on where it has one.
+    fn keep(&mut self, file: &MemoryFile, path: &str) -> Result<(), AllocError> {
+        self.written.push_str(path)?;
+        if file.path.as_str().strip_suffix(".part") != Some(path) {
+            self.written.push_str(" from ")?;
+            self.written.push_str(file.path.as_str())?;
+        }
         self.written.push('=')?;
         self.written
             .push_str(String::from_utf8_lossy(self.alloc, &file.text)?.as_str())?;
@@ -122,7 +125,7 @@ impl Host for MemoryHost {
 
     ghost reads = { λ _ _ _. Unit {0} };
 
-    ghost files = { λ _. record { created = []; ended = [] } };
+    ghost files = { λ _. record { begun = []; placed = [] } };
 
     ghost tells = { false };
 
@@ -167,20 +170,23 @@ impl Host for MemoryHost {
         }
     }
 
-    fn create(&mut self, path: &str, writes_over: bool) -> Result<MemoryFile, Reason> {
+    fn is_taken(&mut self, path: &str) -> bool {
+        self.place(path).is_ok()
+    }
+
+    fn create(&mut self, path: &str) -> Result<MemoryFile, Reason> {
         Ok(MemoryFile {
             path: String::from_str(self.alloc, path)?,
             text: Vec::new(self.alloc),
-            writes_over,
             faults: 0,
         })
     }
 
-    fn close(&mut self, file: MemoryFile) -> Result<(), Reason> {
-        if !file.writes_over && self.place(file.path.as_str()).is_ok() {
-            return Err(reason(self.alloc, "it exists"));
+    fn close(&mut self, file: MemoryFile, path: &str, writes_over: bool) -> Result<(), Reason> {
+        if !writes_over && self.is_taken(path) {
+            return Err(Reason::Exists);
         }
-        self.keep(&file)?;
+        self.keep(&file, path)?;
         Ok(())
     }
 

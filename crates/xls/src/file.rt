@@ -2,6 +2,7 @@
 
 ghost use Rattle.std.specs.Prelude.{◌≡◌};
 
+use crate::folder::is_taken;
 use crate::reason::reason_of;
 use std::alloc::AllocError;
 use std::fs::{File, OpenOptions};
@@ -17,25 +18,36 @@ fn make_folders(rt: &HostRuntime, path: &str) -> io::Result<()> {
     }
 }
 
-/// Opens a file to be written. One that exists is written over only where that is said.
-fn open(rt: &HostRuntime, path: &str, writes_over: bool) -> io::Result<File> {
+/// Opens a new file to be written.
+fn open(rt: &HostRuntime, path: &str) -> io::Result<File> {
     let mut options = OpenOptions::new();
     options.write(true);
-    options.create(writes_over);
-    options.truncate(writes_over);
-    options.create_new(!writes_over);
+    options.create_new(true);
     options.open(rt, path)
 }
 
-/// Makes a file. Folders that aren't there are made with it.
-fn make(rt: &HostRuntime, path: &str, writes_over: bool) -> io::Result<File> {
-    match open(rt, path, writes_over) {
+/// Makes a file. Folders that aren't there are made with it; a file that is there is taken away, as a run may have left
+/// it that was killed.
+fn make(rt: &HostRuntime, path: &str) -> io::Result<File> {
+    match open(rt, path) {
         // Most files go into the folder of the file before, so a folder is looked for only where it is missed.
-        Err(error) if error.kind() == ErrorKind::NotFound => {}
+        Err(error) if error.kind() == ErrorKind::NotFound => make_folders(rt, path)?,
+        Err(error) if error.kind() == ErrorKind::AlreadyExists => fs::remove_file(rt, path)?,
         answer => return answer,
     }
-    make_folders(rt, path)?;
-    open(rt, path, writes_over)
+    open(rt, path)
+}
+
+/// Moves a file to a path at which nothing stands. Where it can't have two paths for a moment, nothing tells whether
+/// something comes to stand there meanwhile.
+fn move_beside(rt: &HostRuntime, from: &str, to: &str) -> io::Result<()> {
+    match fs::hard_link(rt, from, to) {
+        Ok(()) => fs::remove_file(rt, from),
+        Err(error) if error.kind() == ErrorKind::AlreadyExists || is_taken(rt, to) => {
+            Err(io::Error::from(ErrorKind::AlreadyExists))
+        }
+        Err(_) => fs::rename(rt, from, to),
+    }
 }
 
 /// How often an interrupted write is tried again.
@@ -52,12 +64,11 @@ fn write_on(file: &mut File, piece: &[u8]) -> io::Result<usize> {
     file.write(piece)
 }
 
-/// A file that is made by its first write.
+/// A file that is made by its first write, or by its end.
 #[derive(Drop)]
 pub(crate) struct OutFile<'r> {
     rt: &'r HostRuntime,
     path: String,
-    writes_over: bool,
     file: Option<File>,
     /// What the system said of the last write that failed.
     said: Option<Reason>,
@@ -66,15 +77,10 @@ pub(crate) struct OutFile<'r> {
 
 impl<'r> OutFile<'r> {
     /// A file that isn't made yet.
-    pub(crate) fn new(
-        rt: &'r HostRuntime,
-        path: &str,
-        writes_over: bool,
-    ) -> Result<OutFile<'r>, AllocError> {
+    pub(crate) fn new(rt: &'r HostRuntime, path: &str) -> Result<OutFile<'r>, AllocError> {
         Ok(OutFile {
             rt,
             path: String::from_str(rt.alloc(), path)?,
-            writes_over,
             file: None,
             said: None,
             faults: 0,
@@ -88,20 +94,32 @@ impl<'r> OutFile<'r> {
         if let Some(file) = &mut self.file {
             return write_on(file, piece);
         }
-        let mut file = make(self.rt, self.path.as_str(), self.writes_over)?;
+        let mut file = make(self.rt, self.path.as_str())?;
         let written = write_on(&mut file, piece);
         self.file = Some(file);
         written
     }
 
-    /// Makes the file where nothing was written.
-    pub(crate) fn close(self) -> Result<(), Reason> {
-        if self.file.is_some() {
-            return Ok(());
+    /// Moves the file to a path; it is made where nothing was written.
+    fn move_to(&self, path: &str, writes_over: bool) -> io::Result<()> {
+        if self.file.is_none() {
+            make(self.rt, self.path.as_str())?;
         }
-        match make(self.rt, self.path.as_str(), self.writes_over) {
-            Ok(_) => Ok(()),
-            Err(error) => Err(reason_of(self.rt.alloc(), &error)),
+        if writes_over {
+            fs::rename(self.rt, self.path.as_str(), path)
+        } else {
+            move_beside(self.rt, self.path.as_str(), path)
+        }
+    }
+
+    /// Moves the file to a path, or takes it away.
+    pub(crate) fn close(self, path: &str, writes_over: bool) -> Result<(), Reason> {
+        match self.move_to(path, writes_over) {
+            Ok(()) => Ok(()),
+            Err(error) => {
+                let _ = fs::remove_file(self.rt, self.path.as_str());
+                Err(reason_of(self.rt.alloc(), &error))
+            }
         }
     }
 
@@ -115,7 +133,7 @@ impl<'r> OutFile<'r> {
             ..
         } = self;
         if file.is_some() {
-            // A part would be in the way of the next run. Where it can't be taken away, it stays.
+            // Where it can't be taken away, it stays until the next run.
             let _ = fs::remove_file(rt, path.as_str());
         }
         said.unwrap_or(Reason::Memory)

@@ -1,7 +1,7 @@
 //! The files of the system as a host.
 
 use crate::file::OutFile;
-use crate::folder::{list_at, place_at};
+use crate::folder::{is_taken, list_at, place_at};
 use crate::list::List;
 use crate::reason::reason_of;
 use std::alloc::Global;
@@ -88,7 +88,7 @@ impl<'r> Host for StdHost<'r> {
     ghost reads = { λ _ _ _. Unit {0} };
 
     // Nor is it told which files were made.
-    ghost files = { λ _. record { created = []; ended = [] } };
+    ghost files = { λ _. record { begun = []; placed = [] } };
 
     ghost tells = { false };
 
@@ -116,12 +116,16 @@ impl<'r> Host for StdHost<'r> {
         self.reported(name)
     }
 
-    fn create(&mut self, path: &str, writes_over: bool) -> Result<OutFile<'r>, Reason> {
-        Ok(OutFile::new(self.rt, path, writes_over)?)
+    fn is_taken(&mut self, path: &str) -> bool {
+        is_taken(self.rt, path)
     }
 
-    fn close(&mut self, file: OutFile<'r>) -> Result<(), Reason> {
-        file.close()
+    fn create(&mut self, path: &str) -> Result<OutFile<'r>, Reason> {
+        Ok(OutFile::new(self.rt, path)?)
+    }
+
+    fn close(&mut self, file: OutFile<'r>, path: &str, writes_over: bool) -> Result<(), Reason> {
+        file.close(path, writes_over)
     }
 
     fn give_up(&mut self, file: OutFile<'r>) -> Reason {

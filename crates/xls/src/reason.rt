@@ -16,8 +16,10 @@ fn text_of(alloc: Global, error: &io::Error) -> Result<String, AllocError> {
 
 /// Why something can't be read or written.
 pub(crate) fn reason_of(alloc: Global, error: &io::Error) -> Reason {
-    if error.kind() == ErrorKind::OutOfMemory {
-        return Reason::Memory;
+    match error.kind() {
+        ErrorKind::OutOfMemory => return Reason::Memory,
+        ErrorKind::AlreadyExists => return Reason::Exists,
+        _ => {}
     }
     match text_of(alloc, error) {
         Ok(text) => Reason::Reported(text),

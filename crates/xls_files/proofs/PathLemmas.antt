@@ -1,5 +1,5 @@
 -- The folder for a file's texts lies inside the folder for all.
-use Rattle.std.proofs.Common.{◌≡◌, ◌≢◌, ℕ, suc, ◌+◌, ◌≤◌, Bool, true, false, List, [], ◌∷◌, ◌++◌, length, take, map, Bor, codes, append_assoc, append-nil, length-append, refl, sym, ap, subst, arith, rules}
+use Rattle.std.proofs.Common.{◌≡◌, ◌≢◌, ℕ, suc, ◌+◌, ◌≤◌, Bool, true, false, List, [], ◌∷◌, ◌++◌, length, take, map, Bor, codes, append_assoc, append-nil, length-append, ◌∙◌, lit≤, refl, sym, ap, subst, arith, rules}
 use Rattle.std.specs.Prelude.{◌==◌, ◌||◌, if◌then◌else◌, All, Option, None, Some, IfOk, IfSome, Result, Ok, Err}
 use Rattle.std.specs.List.{AllByRecursion, flat_map, onto_first}
 use Rattle.std.specs.Str.{bytes_eq}
@@ -8,12 +8,12 @@ use Rattle.std.proofs.lemmas.Grind.{flat_map-append}
 use Rattle.std.proofs.lemmas.List.Elements.{All-append, All-nil, All-cons}
 use Rattle.std.proofs.lemmas.List.Folds.{flat_map-map}
 use Rattle.std.proofs.lemmas.Slice.Eq.{bytes_eq-Decides}
-use Rattle.xls_files.specs.Paths.{HasNoSlash, IsInside, LeadsDown, below, file_called, file_path, folder_path, kept_name, names_in}
+use Rattle.xls_files.specs.Paths.{HasNoSlash, IsInside, LeadsDown, below, beside, file_called, file_path, folder_path, kept_name, names_below, names_in}
 
 -- what the loop appended
 pub folder_whole : (out file path : List ℕ) (names : List (Bor (List ℕ))) (index : ℕ)
     → map (λ n. n.now) names ≡ names_in (file_called file) → length names ≤ index
-    → path ≡ out ++ flat_map (λ n. below (kept_name n.now)) (take index names) → path ≡ folder_path out file
+    → path ≡ out ++ flat_map (λ n. below (kept_name n.now)) (take index names) → path ≡ out ++ names_below file
 folder_whole out file path names index e l h =
     rw (h, take_all index names l, ← flat_map-map (λ name. below (kept_name name)) (λ (n : Bor (List ℕ)). n.now) names, e) refl
 
@@ -43,20 +43,18 @@ kept_down name free = by_tests (bytes_eq name []) (bytes_eq name (codes ".")) (b
 
 -- all that is kept of names leads down
 kept_names : (parts : List (List ℕ)) → AllByRecursion HasNoSlash parts
-    → (names : List (List ℕ)) × All LeadsDown names × (flat_map (λ name. below (kept_name name)) parts ≡ flat_map (λ name. 47 ∷ name) names)
-kept_names [] all = ([], All-nil LeadsDown, refl)
+    → (names : List (List ℕ)) × AllByRecursion LeadsDown names
+    × (flat_map (λ name. below (kept_name name)) parts ≡ flat_map (λ name. 47 ∷ name) names)
+kept_names [] all = ([], tt, refl)
 kept_names (part ∷ parts) all = by_kept (kept_name part) (kept_down part all.0) (kept_names parts all.1)
   where
     by_kept : (kept : Option (List ℕ)) → IfSome kept LeadsDown
-        → ((names : List (List ℕ)) × All LeadsDown names × (flat_map (λ name. below (kept_name name)) parts ≡ flat_map (λ name. 47 ∷ name) names))
-        → (names : List (List ℕ)) × All LeadsDown names × (below kept ++ flat_map (λ name. below (kept_name name)) parts ≡ flat_map (λ name. 47 ∷ name) names)
+        → ((names : List (List ℕ)) × AllByRecursion LeadsDown names
+        × (flat_map (λ name. below (kept_name name)) parts ≡ flat_map (λ name. 47 ∷ name) names))
+        → (names : List (List ℕ)) × AllByRecursion LeadsDown names
+        × (below kept ++ flat_map (λ name. below (kept_name name)) parts ≡ flat_map (λ name. 47 ∷ name) names)
     by_kept None down rest = rest
-    by_kept (Some name) down rest = (name ∷ rest.0, All-cons LeadsDown name rest.0 down rest.1, ap (λ t. (47 ∷ name) ++ t) rest.2)
-
-pub folder_inside : (out file : List ℕ) → IsInside out (folder_path out file)
-folder_inside out file =
-    let kept = kept_names (names_in (file_called file)) (names_without_slash (file_called file)) in
-    (kept.0, kept.1, ap (λ t. out ++ t) kept.2)
+    by_kept (Some name) down rest = (name ∷ rest.0, (down, rest.1), ap (λ t. (47 ∷ name) ++ t) rest.2)
 
 -- ---- a file in a folder
 
@@ -69,6 +67,32 @@ leads_down name ending free free' long =
       λ e. let two : length (name ++ 46 ∷ ending) ≡ 2 = ap length e in omega (arith, whole, two, long),
       All-append (λ b. b ≢ 47) name (46 ∷ ending) free (All-cons (λ b. b ≢ 47) 46 ending (search rules) free'),
     )
+
+-- the last of names with an ending of its own
+ended_names : (first : List ℕ) (names : List (List ℕ)) → LeadsDown first → AllByRecursion LeadsDown names
+    → (ended : List (List ℕ)) × All LeadsDown ended
+    × (flat_map (λ name. 47 ∷ name) (first ∷ names) ++ codes ".out" ≡ flat_map (λ name. 47 ∷ name) ended)
+ended_names first [] down all =
+    let last : LeadsDown (first ++ codes ".out") = leads_down first (codes "out") down.3 (search rules) (lit≤ tt) in
+    ((first ++ codes ".out") ∷ [], All-cons LeadsDown _ [] last (All-nil LeadsDown), simp (append_assoc, append-nil) refl)
+ended_names first (second ∷ names) down all =
+    let others = ended_names second names all.0 all.1 in (
+      first ∷ others.0,
+      All-cons LeadsDown first others.0 down others.1,
+      append_assoc (47 ∷ first) (flat_map (λ name. 47 ∷ name) (second ∷ names)) (codes ".out") ∙ ap (λ t. (47 ∷ first) ++ t) others.2,
+    )
+
+beside_names : (names : List (List ℕ)) → AllByRecursion LeadsDown names
+    → (ended : List (List ℕ)) × All LeadsDown ended
+    × (beside (flat_map (λ name. 47 ∷ name) names) ≡ flat_map (λ name. 47 ∷ name) ended)
+beside_names [] all = ([], All-nil LeadsDown, refl)
+beside_names (first ∷ names) all = ended_names first names all.0 all.1
+
+pub folder_inside : (out file : List ℕ) → IsInside out (folder_path out file)
+folder_inside out file =
+    let kept = kept_names (names_in (file_called file)) (names_without_slash (file_called file)) in
+    let ended = beside_names kept.0 kept.1 in
+    (ended.0, ended.1, ap (λ t. out ++ t) (ap beside kept.2 ∙ ended.2))
 
 -- it lies where the folder does
 pub file_inside : (out folder name ending : List ℕ) → IsInside out folder → HasNoSlash name → HasNoSlash ending → 2 ≤ length ending

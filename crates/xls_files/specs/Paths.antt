@@ -25,9 +25,18 @@ below (Some name) = 0x2F ∷ name
 abbrev pub file_called : List ℕ → List ℕ
 file_called file = if bytes_eq file (codes "-") then codes "stdin" else file
 
+-- the names of the file, each after a slash
+abbrev pub names_below : List ℕ → List ℕ
+names_below file = flat_map (λ name. below (kept_name name)) (names_in (file_called file))
+
+-- a folder beside a file isn't called as the file is
+abbrev pub beside : List ℕ → List ℕ
+beside [] = []
+beside (b ∷ bs) = b ∷ (bs ++ codes ".out")
+
 -- the folder for all, and below it the names of the file
 abbrev pub folder_path : List ℕ → List ℕ → List ℕ
-folder_path out file = out ++ flat_map (λ name. below (kept_name name)) (names_in (file_called file))
+folder_path out file = out ++ beside (names_below file)
 
 -- no byte of a name is a slash
 abbrev pub HasNoSlash : List ℕ → Type 0

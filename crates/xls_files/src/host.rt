@@ -1,7 +1,7 @@
 //! What the program reads and writes by.
 
 ghost use Rattle.std.specs.Prelude.{◌≡◌, ◌≢◌, ℕ, Bool, List, Option, Some, None, IfOk, IfErr, codes};
-ghost use Rattle.xls_files.specs.Files.{Creates, EndsFile, HostFiles, IsEmpty};
+ghost use Rattle.xls_files.specs.Files.{Begins, HostFiles, IsEmpty, Places};
 ghost use Rattle.xls_files.specs.Reads.{Stays};
 ghost use Rattle.xls_files.specs.declared.host.Place.TheVariants.{File};
 ghost use Rattle.xls_files.specs.declared.host.Reason.TheVariants.{Memory};
@@ -15,6 +15,8 @@ use xls_output::Sink;
 pub enum Reason {
     /// Memory ran out.
     Memory,
+    /// Something stands there that isn't to be replaced.
+    Exists,
     /// What the system says.
     Reported(String),
 }
@@ -28,6 +30,7 @@ impl fmt::Display for Reason {
     fn fmt<W: fmt::Write>(&self, f: &mut fmt::Formatter<W>) -> fmt::Result {
         match self {
             Reason::Memory => f.write_str("out of memory"),
+            Reason::Exists => f.write_str("File exists"),
             Reason::Reported(text) => write!(f, "{text}"),
         }
     }
@@ -51,13 +54,23 @@ pub enum Place {
     Other,
 }
 
+/// What is known of a name in a folder.
+#[derive(Clone, Copy, Debug, PartialEq, Eq, PartialOrd, Ord)]
+pub enum Kind {
+    /// A regular file, or a link to one.
+    File,
+    /// A folder, and no link to one.
+    Folder,
+    /// It can't be looked at.
+    Unseen,
+}
+
 /// What stands in a folder. Its order is by name.
 #[derive(Debug, PartialEq, Eq, PartialOrd, Ord, Drop)]
 pub struct Listed {
     /// None where it isn't UTF-8.
     pub name: Option<String>,
-    /// A folder, and no link to one. Else it is a regular file, or a link to one.
-    pub is_folder: bool,
+    pub kind: Kind,
 }
 
 /// The name of a file in a list.
@@ -80,7 +93,7 @@ pub trait Host {
     /// Whether its files tell what they hold.
     ghost tells: { Bool };
 
-    /// A file that is written. Its first write makes it.
+    /// A file that is written. Its first write makes it, or its end.
     type File: Sink + Drop;
 
     /// What stands at a path.
@@ -90,7 +103,7 @@ pub trait Host {
         ensures stays { Stays (reads self.old) (reads self.new) }
         ensures files { files self.new ≡ files self.old };
 
-    /// The folders and regular files in a folder, in any order.
+    /// The folders and regular files in a folder, and what can't be looked at, in any order.
     fn list(&mut self, folder: &str) -> Result<Vec<Listed>, Reason>
         ensures { files self.new ≡ files self.old };
 
@@ -110,18 +123,22 @@ pub trait Host {
     fn next_name(&mut self, list: &str, by_nul: bool) -> Result<Option<Name>, Reason>
         ensures { files self.new ≡ files self.old };
 
-    /// A file to be written, in folders that are made with it. One that exists is written over only where that is
-    /// said.
-    fn create(&mut self, path: &str, writes_over: bool) -> Result<Self::File, Reason>
+    /// Whether anything stands at a path. A link does, whatever it leads to.
+    fn is_taken(&mut self, path: &str) -> bool
+        ensures { files self.new ≡ files self.old };
+
+    /// Begins a file of this path, in folders that are made with it. What stands there is lost.
+    fn create(&mut self, path: &str) -> Result<Self::File, Reason>
         ensures empty { IfOk result (λ file. IsEmpty tells (Self.File.state file)) }
-        ensures files { Creates path.now writes_over (files self.old) (files self.new) };
+        ensures files { Begins path.now (files self.old) (files self.new) result };
 
-    /// Ends a file, no write of which failed: it is made where nothing was written, and all of it is written; or why
-    /// not.
-    fn close(&mut self, file: Self::File) -> Result<(), Reason>
-        ensures { EndsFile file (files self.old) (files self.new) result };
+    /// Ends a file, no write of which failed, and moves it to this path at once: either all of it stands there, or what
+    /// stood there before, and the file is taken away. What stands there is replaced only where that is said, else it
+    /// is `Exists`.
+    fn close(&mut self, file: Self::File, path: &str, writes_over: bool) -> Result<(), Reason>
+        ensures { Places (record { file = file; path = path.now; over = writes_over }) (files self.old) (files self.new) result };
 
-    /// Takes a file away, a write of which failed, as far as that can be done. Why the last write failed.
+    /// Takes a file away, as far as that can be done. Why its last write failed, if one did.
     fn give_up(&mut self, file: Self::File) -> Reason
         ensures { files self.new ≡ files self.old };
 

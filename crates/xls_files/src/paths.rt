@@ -3,7 +3,7 @@
 ghost use Rattle.std.specs.Prelude.{◌≡◌, ◌≤◌, ◌++◌, ◌↔◌, ℕ, List, length, map, IsTrue, IfOk, OnOk};
 ghost use Rattle.std.specs.Option.{option_map};
 ghost use Rattle.std.specs.String.{string_bytes};
-ghost use Rattle.xls_files.specs.Paths.{HasNoSlash, IsInside, IsWorkbookName, below, file_called, file_path, folder_path, joined, kept_name, names_in};
+ghost use Rattle.xls_files.specs.Paths.{HasNoSlash, IsInside, IsWorkbookName, below, file_called, file_path, folder_path, joined, kept_name, names_below, names_in};
 
 use std::alloc::{AllocError, Global};
 
@@ -45,11 +45,9 @@ fn called(file: &str) -> &str
     if file == "-" { "stdin" } else { file }
 }
 
-/// The folder for the texts of a file: the folder for all, and in it the file's own path, without the slashes
-/// before it, `.` left out and `..` as `__`. Standard input is `stdin`.
-pub fn folder_of(alloc: Global, out: &str, file: &str) -> Result<String, AllocError>
-    ensures path { IfOk result (λ s. string_bytes s ≡ folder_path out.now file.now) }
-    ensures inside { IfOk result (λ s. IsInside out.now (string_bytes s)) }
+/// The folder for all, and in it the names of a file's path.
+fn path_below(alloc: Global, out: &str, file: &str) -> Result<String, AllocError>
+    ensures { IfOk result (λ s. string_bytes s ≡ out.now ++ names_below file.now) }
 {
     let mut path = String::from_str(alloc, out)?;
     let names = names_of(alloc, called(file))?;
@@ -57,6 +55,28 @@ pub fn folder_of(alloc: Global, out: &str, file: &str) -> Result<String, AllocEr
         push_name(&mut path, name)?;
     }
     Ok(path)
+}
+
+/// The same, with `.out` behind the names, if there are any.
+fn path_beside(alloc: Global, out: &str, file: &str) -> Result<String, AllocError>
+    ensures { IfOk result (λ s. string_bytes s ≡ folder_path out.now file.now) }
+{
+    let mut path = path_below(alloc, out, file)?;
+    if path.len() == out.len() {
+        return Ok(path);
+    }
+    path.push_str(".out")?;
+    Ok(path)
+}
+
+/// The folder for the texts of a file: the folder for all, and in it the file's own path, without the slashes
+/// before it, `.` left out, `..` as `__`, and `.out` behind it, so that the folder for all may be the file's own.
+/// Standard input is `stdin`.
+pub fn folder_of(alloc: Global, out: &str, file: &str) -> Result<String, AllocError>
+    ensures path { IfOk result (λ s. string_bytes s ≡ folder_path out.now file.now) }
+    ensures inside { IfOk result (λ s. IsInside out.now (string_bytes s)) }
+{
+    path_beside(alloc, out, file)
 }
 
 /// A folder, a slash, a name, a dot and an ending.

@@ -2,19 +2,28 @@
 
 ghost use Rattle.std.specs.Prelude.{◌≡◌};
 
-use crate::host::{Host, Listed, Place, Reason, place_of};
+use crate::host::{Host, Kind, Listed, Place, Reason, place_of};
 use crate::paths::{is_workbook, joined};
 use std::alloc::{AllocError, Global};
 
 /// What is still to be answered.
 #[derive(Drop)]
 enum Item {
-    /// As it was given: what stands there isn't known yet.
+    /// What stands there isn't known yet.
     Unseen(String),
     File(String),
     Folder(String),
     /// A name in this folder that isn't UTF-8.
     Unnamed(String),
+}
+
+/// What stands at the path of a name in a folder.
+fn item_of(kind: Kind, path: String) -> Item {
+    match kind {
+        Kind::File => Item::File(path),
+        Kind::Folder => Item::Folder(path),
+        Kind::Unseen => Item::Unseen(path),
+    }
 }
 
 /// What comes next.
@@ -52,15 +61,13 @@ impl Queue {
         Ok(())
     }
 
-    /// Puts what stands in a folder before what is left, if it is a workbook, a folder, or has no name.
+    /// Puts what stands in a folder before what is left, if it is a workbook, a folder, or isn't known.
     fn put(&mut self, folder: &str, listed: Listed) -> Result<(), AllocError> {
-        let item = match listed.name {
+        let Listed { name, kind } = listed;
+        let item = match name {
             None => Item::Unnamed(String::from_str(self.alloc, folder)?),
-            Some(name) if listed.is_folder => {
-                Item::Folder(joined(self.alloc, folder, name.as_str())?)
-            }
-            Some(name) if is_workbook(name.as_str()) => {
-                Item::File(joined(self.alloc, folder, name.as_str())?)
+            Some(name) if kind != Kind::File || is_workbook(name.as_str()) => {
+                item_of(kind, joined(self.alloc, folder, name.as_str())?)
             }
             Some(_) => return Ok(()),
         };

@@ -1,5 +1,5 @@
 -- Texts that are written into files of their own, and which files are made.
-use Rattle.std.proofs.Common.{◌≡◌, ℕ, Bool, true, List, [], Some, Result, Ok, Err, inl, inr, sym, subst}
+use Rattle.std.proofs.Common.{◌≡◌, ℕ, Bool, true, List, [], Some, Result, Ok, Err, inl, inr, refl, sym, subst}
 use Rattle.std.specs.Io.KnownBytes.{Appends}
 use Rattle.std.specs.Result.{IsOk}
 use Rattle.xls_answers.specs.Sheets.{BeginsTableOf, IsTableOf, MissesSheet, WritesSheetAt, chosen_index}
@@ -8,8 +8,8 @@ use Rattle.xls_answers.specs.declared.answer.Answer.{Answer}
 use Rattle.xls_answers.specs.declared.answer.Answer.TheVariants as answers
 use Rattle.xls_answers.specs.declared.failure.Missing.{Missing}
 use Rattle.xls_container.specs.Files.{Container}
-use Rattle.xls_files.proofs.FileLemmas.{created_one, ended_one}
-use Rattle.xls_files.specs.Files.{Creates, EndsFile, HostFiles}
+use Rattle.xls_files.proofs.FileLemmas.{begun_one, placed_one}
+use Rattle.xls_files.specs.Files.{Begins, HostFiles, Places, part_path}
 use Rattle.xls_files.specs.Paths.{IsInside}
 use Rattle.xls_meaning.specs.Rules.{Rules}
 use Rattle.xls_open.specs.Workbook.{rules_of}
@@ -20,7 +20,7 @@ use Rattle.xls_output.specs.SinkState.{SinkState}
 use Rattle.xls_output.specs.declared.stop.Stop.{Stop}
 use Rattle.xls_tool.specs.Asked.{asked_by}
 use Rattle.xls_tool.specs.Beside.{OfContainer, as_failure, as_problem}
-use Rattle.xls_tool.specs.Outputs.{HoldsText, KeepsOutputs, MayMake, TakesAll, unwritten}
+use Rattle.xls_tool.specs.Outputs.{HoldsText, IsOutput, KeepsOutputs, MayBegin, MayMake, TakesAll, unwritten}
 use Rattle.xls_tool.specs.SheetFiles.{AreSheetFiles, IsAskedSheet}
 use Rattle.xls_tool.specs.Texts.{OfWorkbook}
 use Rattle.xls_tool.specs.declared.job.Asked.TheVariants.{Workbook, Other}
@@ -134,20 +134,21 @@ module _ (a b : SinkState) (empty : a.written ≡ Some []) where
 -- ---- the host's files
 
 module _ {F : Type 0} (tells : Bool) (state : F → SinkState) (request : Request) (options : XlsOptions) where
-  Holds : F → Type 0
-  Holds file = tells ≡ true → HoldsText request.out (asked_by request.command) options (state file)
+  -- a part was begun of a file inside the folder
+  pub begun : {X E : Type 0} (folder : Folder) (path : List ℕ) (before after : HostFiles F) (r : Result X E)
+      → request.out ≡ Some folder → IsInside folder.path.now path
+      → Begins (part_path path) before after r → KeepsOutputs tells state request options before after
+  begun folder path before after r out inside begins h =
+      begun_one (MayBegin request.out) (IsOutput tells state request options) (part_path path) before after r begins
+      (subst (λ o. MayBegin o (part_path path)) (sym out) (path, inside, refl)) h
 
-  -- a file was made inside the folder
-  pub made : (folder : Folder) (path : List ℕ) (before after : HostFiles F) → request.out ≡ Some folder → IsInside folder.path.now path
-      → Creates path folder.writes_over before after → KeepsOutputs tells state request options before after
-  unfolding Holds
-  made folder path before after out inside creates h =
-      created_one (MayMake request.out) Holds path folder.writes_over before after creates
-      (subst (λ o. MayMake o (path, folder.writes_over)) (sym out) (inside, λ e. e)) h
-
-  -- one was ended that holds the whole text
-  pub ended : (file : F) (before after : HostFiles F) (done : Result (Unit {0}) Problem)
+  -- a file that holds the whole text was given its path
+  pub ended : (folder : Folder) (file : F) (path : List ℕ) (before after : HostFiles F) (done : Result (Unit {0}) Problem)
+      → request.out ≡ Some folder → IsInside folder.path.now path
       → (IsOk done → tells ≡ true → HoldsText request.out (asked_by request.command) options (state file))
-      → EndsFile file before after done → KeepsOutputs tells state request options before after
-  unfolding Holds
-  ended file before after done holds ends h = ended_one (MayMake request.out) Holds file before after done ends holds h
+      → Places (record { file = file; path = path; over = folder.writes_over }) before after done
+      → KeepsOutputs tells state request options before after
+  ended folder file path before after done out inside holds places h =
+      placed_one (MayBegin request.out) (IsOutput tells state request options)
+      (record { file = file; path = path; over = folder.writes_over }) before after done places
+      (λ ok. (subst (λ o. MayMake o path folder.writes_over) (sym out) (inside, λ e. e), holds ok)) h

@@ -7,7 +7,7 @@ use Rattle.xls_answers.specs.Views.{options_under}
 use Rattle.xls_container.specs.Files.{Container}
 use Rattle.xls_data.specs.declared.sheets.SheetType.{SheetType}
 use Rattle.xls_data.specs.declared.sheets.SheetType.TheVariants as types
-use Rattle.xls_files.specs.Files.{AreAllowed, HostFiles}
+use Rattle.xls_files.specs.Files.{AreAllowed, HostFiles, Placed, part_path}
 use Rattle.xls_files.specs.Paths.{IsInside}
 use Rattle.xls_open.specs.Workbook.{rules_of}
 use Rattle.xls_open.specs.declared.options.XlsOptions.{XlsOptions}
@@ -25,9 +25,14 @@ use Rattle.xls_words.specs.declared.request.Request.{Request}
 -- ---- which files
 
 -- a file inside the folder; one that exists is written over only where that is asked for
-abbrev pub MayMake : Option Folder → List ℕ × Bool → Type 0
-MayMake None file = ⊥
-MayMake (Some folder) (path, over) = IsInside folder.path.now path × (over ≡ true → folder.writes_over ≡ true)
+abbrev pub MayMake : Option Folder → List ℕ → Bool → Type 0
+MayMake None path over = ⊥
+MayMake (Some folder) path over = IsInside folder.path.now path × (over ≡ true → folder.writes_over ≡ true)
+
+-- the part of a file inside the folder
+abbrev pub MayBegin : Option Folder → List ℕ → Type 0
+MayBegin None part = ⊥
+MayBegin (Some folder) part = (path : List ℕ) × IsInside folder.path.now path × (part ≡ part_path path)
 
 -- ---- what they hold
 
@@ -62,10 +67,16 @@ HoldsText out (Other beside) options state = (container : Container) × OfContai
 
 -- ---- both
 
--- all files are such ones, as far as the host tells of them
+-- such a file, and the whole text in it
+abbrev pub IsOutput : {F : Type 0} → Bool → (F → SinkState) → Request → XlsOptions → Placed F → Type 0
+IsOutput tells state request options placed =
+    MayMake request.out placed.path placed.over
+    × (tells ≡ true → HoldsText request.out (asked_by request.command) options (state placed.file))
+
+-- only parts of such files are begun, and only such ones are given their paths, as far as the host tells of them: each
+-- other path has what it had before, or a whole text (`IsOldOrWhole`)
 abbrev pub AreOutputs : {F : Type 0} → Bool → (F → SinkState) → Request → XlsOptions → HostFiles F → Type 0
-AreOutputs tells state request options =
-    AreAllowed (MayMake request.out) (λ file. tells ≡ true → HoldsText request.out (asked_by request.command) options (state file))
+AreOutputs tells state request options = AreAllowed (MayBegin request.out) (IsOutput tells state request options)
 
 -- they are after it, if they were before
 abbrev pub KeepsOutputs : {F : Type 0} → Bool → (F → SinkState) → Request → XlsOptions → HostFiles F → HostFiles F → Type 0

@@ -6,7 +6,7 @@ use Rattle.xls_documents.specs.declared.fault.ProjectFault.{ProjectFault}
 use Rattle.xls_documents.specs.declared.fault.ProjectFault.TheVariants as faults
 use Rattle.xls_output.specs.declared.stop.Stop.{Stop}
 use Rattle.xls_output.specs.declared.stop.Stop.TheVariants as stop
-use Rattle.xls_files.specs.declared.host.Reason.TheVariants.{Memory, Reported}
+use Rattle.xls_files.specs.declared.host.Reason.TheVariants.{Memory, Exists, Reported}
 use Rattle.xls_passwords.specs.declared.opening.Refusal.TheVariants as refusal
 use Rattle.xls_passwords.specs.declared.scheme.FilePassFault.TheVariants as pass
 use Rattle.xls_tool.specs.declared.problem.Outcome.{Outcome}
@@ -16,6 +16,7 @@ use Rattle.xls_tool.specs.declared.problem.Problem.TheVariants as problems
 
 abbrev pub problem_status : Problem → ℕ
 problem_status (problems.Unread Memory) = 5
+problem_status (problems.Unread Exists) = 10
 problem_status (problems.Unread (Reported t)) = 10
 problem_status problems.Folder = 10
 problem_status problems.Irregular = 10
@@ -27,6 +28,7 @@ problem_status (problems.Encrypted (refusal.FilePass pass.Unread)) = 17
 problem_status (problems.Encrypted refusal.PasswordWanted) = 17
 problem_status (problems.Encrypted refusal.NoneFits) = 17
 problem_status (problems.Unwritten path Memory) = 5
+problem_status (problems.Unwritten path Exists) = 16
 problem_status (problems.Unwritten path (Reported t)) = 16
 
 -- the exit status of a file whose text was to be written

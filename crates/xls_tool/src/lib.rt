@@ -18,5 +18,5 @@ mod work;
 
 pub use problem::Problem;
 pub use runs::run;
-pub use xls_files::{Host, Listed, Name, Place, Reason};
+pub use xls_files::{Host, Kind, Listed, Name, Place, Reason};
 pub use xls_output::{MemorySink, Sink, StdSink, WriteFault};

@@ -3,7 +3,7 @@
 ghost use Rattle.std.specs.Prelude.{◌≡◌, ◌<◌, true, Some, length, IfOk};
 ghost use Rattle.std.specs.String.{string_bytes};
 ghost use Rattle.xls_answers.specs.Answers.{HasNumber};
-ghost use Rattle.xls_files.specs.Files.{Creates, EndsFile, IsEmpty};
+ghost use Rattle.xls_files.specs.Files.{Places};
 ghost use Rattle.xls_files.specs.Paths.{IsInside};
 ghost use Rattle.xls_tool.specs.Asked.{asked_by};
 ghost use Rattle.xls_tool.specs.Outputs.{KeepsOutputs, is_table};
@@ -19,39 +19,35 @@ use crate::work::{write_beside, write_text, written};
 use std::alloc::{AllocError, Global};
 use xls_answers::{Answer, Failure, Notes, chosen, view_of, write_sheet_at};
 use xls_data::{Sheet, SheetType, SheetVisible};
-use xls_files::{Host, Reason, file_path, folder_of};
+use xls_files::{Host, begin, file_path, folder_of};
 use xls_output::Stop;
 use xls_readable::{SheetChoice, Table};
 use xls_tables::file_name;
 use xls_view::View;
 use xls_words::Folder;
 
-/// A file to be written.
-fn create<H: Host>(host: &mut H, path: &str, writes_over: bool) -> Result<H::File, Reason>
-    ensures empty { IfOk result (λ file. IsEmpty H.tells (H.File.state file)) }
-    ensures files { Creates path.now writes_over (H.files host.old) (H.files host.new) }
-{
-    host.create(path, writes_over)
-}
-
-/// Ends a file into which a text was written, or a part of it.
+/// Ends a file into which a text was written, or a part of it: it is given its path, or taken away.
 fn end<H: Host>(
     host: &mut H,
     path: String,
+    writes_over: bool,
     file: H::File,
     done: Result<(), Problem>,
 ) -> Result<(), Problem>
-    ensures { EndsFile file (H.files host.old) (H.files host.new) done }
+    ensures { Places (record { file = file; path = string_bytes path; over = writes_over }) (H.files host.old) (H.files host.new) done }
 {
     match done {
-        Ok(()) => match host.close(file) {
+        Ok(()) => match host.close(file, path.as_str(), writes_over) {
             Ok(()) => Ok(()),
             Err(reason) => Err(Problem::Unwritten(path, reason)),
         },
         Err(Problem::Failure(Failure::Stopped(Stop::Write))) => {
             Err(Problem::Unwritten(path, host.give_up(file)))
         }
-        Err(problem) => Err(problem),
+        Err(problem) => {
+            host.give_up(file);
+            Err(problem)
+        }
     }
 }
 
@@ -90,7 +86,7 @@ fn write_text_file<H: Host>(
     ensures outputs { KeepsOutputs H.tells H.File.state job.now.request job.now.reading.options (H.files host.old) (H.files host.new) }
 {
     let path = text_path(alloc, job, folder, book.path)?;
-    let mut file = match create(host, path.as_str(), folder.writes_over) {
+    let mut file = match begin(alloc, host, path.as_str(), folder.writes_over) {
         Ok(file) => file,
         Err(reason) => return Err(Problem::Unwritten(path, reason)),
     };
@@ -102,7 +98,7 @@ fn write_text_file<H: Host>(
         book.stream,
         notes,
     );
-    end(host, path, file, done)
+    end(host, path, folder.writes_over, file, done)
 }
 
 /// Writes what stands beside the workbook into a file of its own.
@@ -119,7 +115,7 @@ pub(crate) fn write_beside_file<H: Host>(
     ensures outputs { KeepsOutputs H.tells H.File.state job.now.request job.now.reading.options (H.files host.old) (H.files host.new) }
 {
     let path = text_path(alloc, job, folder, file.path)?;
-    let mut out = match create(host, path.as_str(), folder.writes_over) {
+    let mut out = match begin(alloc, host, path.as_str(), folder.writes_over) {
         Ok(out) => out,
         Err(reason) => return Err(Problem::Unwritten(path, reason)),
     };
@@ -130,7 +126,7 @@ pub(crate) fn write_beside_file<H: Host>(
         &job.reading.options,
         &file.container,
     );
-    end(host, path, out, done)
+    end(host, path, folder.writes_over, out, done)
 }
 
 /// The files that the sheets of a workbook are written into.
@@ -177,12 +173,12 @@ fn write_sheet_file<H: Host>(
     ensures outputs { KeepsOutputs H.tells H.File.state files.now.job.now.request files.now.job.now.reading.options (H.files host.old) (H.files host.new) }
 {
     let path = sheet_path(alloc, files, view, index)?;
-    let mut file = match create(host, path.as_str(), files.out.writes_over) {
+    let mut file = match begin(alloc, host, path.as_str(), files.out.writes_over) {
         Ok(file) => file,
         Err(reason) => return Err(Problem::Unwritten(path, reason)),
     };
     let done = written(write_sheet_at(alloc, &mut file, files.table, view, index));
-    end(host, path, file, done)
+    end(host, path, files.out.writes_over, file, done)
 }
 
 /// Tells that a sheet is hidden.
