@@ -5,10 +5,10 @@ _xls_commands='dump sheets check formulas refs props vba csv remake stream strea
 
 _xls_options() {
     case $1 in
-        dump | sheets | refs) echo '--files-from --null --out --force --json --exact --codepage --password-file --password --help' ;;
-        check | formulas) echo '--files-from --null --out --force --json --codepage --password-file --password --help' ;;
-        props | vba) echo '--files-from --null --out --force --help' ;;
-        csv) echo '--files-from --null --out --force --sheet --number --all --delimiter --bom --exact --codepage --password-file --password --help' ;;
+        dump | sheets | refs) echo '--files-from --null --out --force --skip-existing --json --exact --codepage --password-file --password --help' ;;
+        check | formulas) echo '--files-from --null --out --force --skip-existing --json --codepage --password-file --password --help' ;;
+        props | vba) echo '--files-from --null --out --force --skip-existing --help' ;;
+        csv) echo '--files-from --null --out --force --skip-existing --sheet --number --all --delimiter --bom --exact --codepage --password-file --password --help' ;;
         remake | stream) echo '--password-file --password --help' ;;
         streams) echo '--help' ;;
     esac

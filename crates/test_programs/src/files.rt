@@ -29,7 +29,7 @@ const NOWHERE: [u8; 13] = [0x85, 0, 9, 0, 99, 0, 0, 0, 0, 0, 1, 0, 0x41];
 const FILE_PASS: [u8; 10] = [0x2F, 0, 6, 0, 0, 0, 1, 2, 3, 4];
 
 /// Each file by its path and the pieces of its bytes.
-pub static FILES: [(&str, &[&[u8]]); 7] = [
+pub static FILES: [(&str, &[&[u8]]); 8] = [
     (
         "a.xls",
         &[
@@ -42,4 +42,5 @@ pub static FILES: [(&str, &[&[u8]]); 7] = [
     ("d/p.xla", &[&GLOBALS, &FILE_PASS, &EOF]),
     ("z.zip", &[b"PK\x03\x04"]),
     ("out/a.xls.out/sheets.txt", &[b"older"]),
+    ("older/a.xls.out/01-A.csv", &[b"older"]),
 ];

@@ -28,7 +28,7 @@ const DUMP: &str =
 
 const SHEETS: &str = "sheet\tA\tworksheet\tvisible\nsheet\tB/\tworksheet\thidden\n";
 
-static RUNS: [Run; 37] = [
+static RUNS: [Run; 49] = [
     // One file.
     (&["a.xls"], 0, DUMP, "", ""),
     (
@@ -176,35 +176,35 @@ static RUNS: [Run; 37] = [
     (
         &["check", "d"],
         17,
-        "refused\td/b.XLS\tEnd of stream 'sheet offset'\nok\td/e/f.xlt\nunread\td/p.xla\tits password is wanted: --password-file FILE\nfiles\t3\t1 ok\t1 refused\t1 unread\t0 failed\n",
+        "refused\td/b.XLS\tEnd of stream 'sheet offset'\nok\td/e/f.xlt\nunread\td/p.xla\tits password is wanted: --password-file FILE\nfiles\t3\t1 ok\t1 refused\t1 unread\t0 failed\t0 exists\n",
         "",
         "",
     ),
     (
         &["check", "a.xls", "missing", "z.zip"],
         11,
-        "ok\ta.xls\nunread\tmissing\tnot found\nunread\tz.zip\tno workbook: it is a ZIP file, as .xlsx, .xlsb and .ods are\nfiles\t3\t1 ok\t0 refused\t2 unread\t0 failed\n",
+        "ok\ta.xls\nunread\tmissing\tnot found\nunread\tz.zip\tno workbook: it is a ZIP file, as .xlsx, .xlsb and .ods are\nfiles\t3\t1 ok\t0 refused\t2 unread\t0 failed\t0 exists\n",
         "",
         "",
     ),
     (
         &["check", "--json", "a.xls", "d/b.XLS"],
         1,
-        "{\"line\":\"ok\",\"file\":\"a.xls\"}\n{\"line\":\"refused\",\"file\":\"d/b.XLS\",\"why\":\"End of stream 'sheet offset'\"}\n{\"line\":\"files\",\"count\":2,\"ok\":1,\"refused\":1,\"unread\":0,\"failed\":0}\n",
+        "{\"line\":\"ok\",\"file\":\"a.xls\"}\n{\"line\":\"refused\",\"file\":\"d/b.XLS\",\"why\":\"End of stream 'sheet offset'\"}\n{\"line\":\"files\",\"count\":2,\"ok\":1,\"refused\":1,\"unread\":0,\"failed\":0,\"exists\":0}\n",
         "",
         "",
     ),
     (
         &["csv", "--out", "new", "a.xls", "d/../a.xls"],
         10,
-        "ok\ta.xls\nunread\td/../a.xls\tnot found\nfiles\t2\t1 ok\t0 refused\t1 unread\t0 failed\n",
+        "ok\ta.xls\nunread\td/../a.xls\tnot found\nfiles\t2\t1 ok\t0 refused\t1 unread\t0 failed\t0 exists\n",
         "",
         "new/a.xls.out/01-A.csv=4.5\n",
     ),
     (
         &["sheets", "--out", "out", "a.xls", "d/e"],
         16,
-        "failed\ta.xls\tout/a.xls/sheets.txt: File exists\nok\td/e/f.xlt\nfiles\t2\t1 ok\t0 refused\t0 unread\t1 failed\n",
+        "exists\ta.xls\tout/a.xls.out/sheets.txt: File exists\nok\td/e/f.xlt\nfiles\t2\t1 ok\t0 refused\t0 unread\t0 failed\t1 exists\n",
         "",
         "out/d/e/f.xlt.out/sheets.txt=",
     ),
@@ -212,7 +212,7 @@ static RUNS: [Run; 37] = [
         &["check", "--files-from", "list"],
         11,
         "ok\ta.xls\nunread\tz.zip\tno workbook: it is a ZIP file, as .xlsx, .xlsb and .ods are\n",
-        "files\t2\t1 ok\t0 refused\t1 unread\t0 failed\n",
+        "files\t2\t1 ok\t0 refused\t1 unread\t0 failed\t0 exists\n",
         "",
     ),
     // Wrong words.
@@ -230,6 +230,84 @@ static RUNS: [Run; 37] = [
         "error: --all wants --out DIR\n",
         "",
     ),
+    (
+        &["sheets", "--out", "out", "--skip-existing", "a.xls", "d/e"],
+        0,
+        "exists\ta.xls\tout/a.xls.out/sheets.txt: File exists\nok\td/e/f.xlt\nfiles\t2\t1 ok\t0 refused\t0 unread\t0 failed\t1 exists\n",
+        "",
+        "out/d/e/f.xlt.out/sheets.txt=",
+    ),
+    (
+        &["sheets", "--out", "out", "--skip-existing", "a.xls"],
+        0,
+        "",
+        "",
+        "",
+    ),
+    (
+        &["csv", "--all", "--out", "older", "--skip-existing", "a.xls"],
+        0,
+        "",
+        "xls: a.xls: sheet 'B/' is hidden\n",
+        "older/a.xls.out/02-B_.csv=a;b\n",
+    ),
+    (
+        &["csv", "--all", "--out", "older", "a.xls"],
+        16,
+        "",
+        "xls: a.xls: older/a.xls.out/01-A.csv: File exists\n",
+        "",
+    ),
+    (
+        &["dump", "--out", "", "a.xls"],
+        2,
+        "",
+        "error: --out wants the name of a folder; . is this one\n",
+        "",
+    ),
+    (
+        &["dump", "--force", "a.xls"],
+        2,
+        "",
+        "error: --force and --skip-existing want --out DIR\n",
+        "",
+    ),
+    (
+        &["check", "-0", "a.xls"],
+        2,
+        "",
+        "error: -0 wants --files-from LIST\n",
+        "",
+    ),
+    (&["version"], 0, "xls 0.45.0\n", "", ""),
+    (
+        &["help", "cvs"],
+        2,
+        "",
+        "error: help is of one command: xls help [COMMAND]\n",
+        "",
+    ),
+    (
+        &["chek"],
+        10,
+        "",
+        "xls: chek: not found\nxls: chek: the command check stands before its files\n",
+        "",
+    ),
+    (
+        &["a.xls", "csv"],
+        2,
+        "",
+        "xls: csv: there is no such file\nxls: csv: the command csv stands before its files\n",
+        "",
+    ),
+    (
+        &["csv", "a.xls", "Data"],
+        2,
+        "",
+        "xls: Data: there is no such file; --sheet NAME chooses a sheet\n",
+        "",
+    ),
     (&["--version"], 0, "xls 0.45.0\n", "", ""),
     (&["remake", "d"], 10, "", "xls: d: it is a folder\n", ""),
 ];
@@ -245,6 +323,7 @@ struct Reported {
 fn outcome(alloc: Global, words: &[&str], room: usize) -> Result<Reported, AllocError> {
     let mut host = MemoryHost::new(alloc);
     host.names.push("z.zip")?;
+    host.names.push("")?;
     host.names.push("a.xls")?;
     let mut sink = MemorySink::new(alloc, room, 64, Vec::new(alloc))?;
     let status = run(alloc, &mut host, &mut sink, &words_of(alloc, words)?);

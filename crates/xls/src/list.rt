@@ -49,13 +49,17 @@ impl List {
         })
     }
 
-    /// The next name, which ends before this byte or at the end of the list. None at its end.
+    /// The next name, which ends before this byte or at the end of the list; a line may end by a return and a newline.
+    /// None at its end.
     pub(crate) fn next(&mut self, rt: &HostRuntime, end: u8) -> io::Result<Option<Name>> {
         let mut bytes = Vec::new(rt.alloc());
         if self.lines.read_until(end, &mut bytes)? == 0 {
             return Ok(None);
         }
         if bytes.last() == Some(&end) {
+            bytes.pop();
+        }
+        if end == b'\n' && bytes.last() == Some(&b'\r') {
             bytes.pop();
         }
         Ok(Some(name_of(bytes)))

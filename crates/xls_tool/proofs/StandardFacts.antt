@@ -1,12 +1,12 @@
 -- What users are told of a file's problem, as docs/xls.md has it, so that a wrong text in the definitions does not check.
-use Rattle.std.proofs.Common.{◌≡◌, ℕ, [], ◌∷◌, Some, None, Ok, Err, map, refl, codes}
+use Rattle.std.proofs.Common.{◌≡◌, ℕ, true, false, [], ◌∷◌, Some, None, Ok, Err, map, refl, codes}
 use Rattle.xls_documents.specs.declared.fault.ProjectFault.{ProjectFault}
 use Rattle.xls_files.specs.declared.host.Reason.TheVariants as reasons
 use Rattle.xls_output.specs.declared.stop.Stop.TheVariants as stop
 use Rattle.xls_passwords.specs.declared.opening.Refusal.TheVariants as refusal
 use Rattle.xls_passwords.specs.declared.scheme.FilePassFault.TheVariants as pass
 use Rattle.xls_tool.specs.Displayed.{absent_text, problem_text}
-use Rattle.xls_tool.specs.Problems.{outcome_for, problem_status, status_of_work}
+use Rattle.xls_tool.specs.Problems.{counted_status, outcome_for, outcome_of, problem_status, status_of_work}
 use Rattle.xls_tool.specs.declared.problem.Outcome.TheVariants as outcome
 use Rattle.xls_tool.specs.declared.problem.Absent.TheVariants.{Properties, Project, Stream, Compound}
 use Rattle.xls_tool.specs.declared.problem.Problem.TheVariants as problems
@@ -32,9 +32,10 @@ known_problems = refl
 -- ---- exit statuses, as docs/xls.md has them
 
 pub known_statuses : (text : _) (fault : ProjectFault) → map problem_status
-    (problems.Unread reasons.Memory ∷ problems.Unread (reasons.Reported text) ∷ problems.Folder ∷ problems.Irregular ∷ problems.Absent Stream
-    ∷ problems.Project fault ∷ problems.Unwritten text reasons.Memory ∷ problems.Unwritten text (reasons.Reported text) ∷ [])
-    ≡ 5 ∷ 10 ∷ 10 ∷ 10 ∷ 12 ∷ 11 ∷ 5 ∷ 16 ∷ []
+    (problems.Unread reasons.Memory ∷ problems.Unread reasons.Exists ∷ problems.Unread (reasons.Reported text) ∷ problems.Folder ∷ problems.Irregular ∷ problems.Absent Stream
+    ∷ problems.Project fault ∷ problems.Unwritten text reasons.Memory ∷ problems.Unwritten text reasons.Exists
+    ∷ problems.Unwritten text (reasons.Reported text) ∷ [])
+    ≡ 5 ∷ 10 ∷ 10 ∷ 10 ∷ 10 ∷ 12 ∷ 11 ∷ 5 ∷ 16 ∷ 16 ∷ []
 known_statuses text fault = refl
 
 pub known_locks : map problem_status
@@ -49,6 +50,18 @@ known_ends n = refl
 pub known_outcomes : map outcome_for (1 ∷ 4 ∷ 5 ∷ 10 ∷ 11 ∷ 12 ∷ 16 ∷ 17 ∷ [])
     ≡ outcome.Refused ∷ outcome.Failed ∷ outcome.Failed ∷ outcome.Unread ∷ outcome.Unread ∷ outcome.Unread ∷ outcome.Failed ∷ outcome.Unread ∷ []
 known_outcomes = refl
+
+-- a file for the text exists: a word of its own, and no fault where such ones are to be skipped
+pub known_existing : (text : _) → map outcome_of (problems.Unwritten text reasons.Exists ∷ problems.Unwritten text reasons.Memory ∷ [])
+    ≡ outcome.Exists ∷ outcome.Failed ∷ []
+known_existing text = refl
+
+pub known_counts : (text : _) → map (λ skips. counted_status skips (Err (problems.Unwritten text reasons.Exists))) (true ∷ false ∷ []) ≡ 0 ∷ 16 ∷ []
+known_counts text = refl
+
+pub known_other_counts : (text : _) → map (λ skips. counted_status skips (Err (problems.Unwritten text (reasons.Reported text)))) (true ∷ false ∷ [])
+    ≡ 16 ∷ 16 ∷ []
+known_other_counts text = refl
 
 -- ---- what each command writes, whole
 

@@ -1,5 +1,5 @@
 -- What a command writes of a file.
-use Rattle.std.specs.Prelude.{Bool, true, false, Some, None}
+use Rattle.std.specs.Prelude.{Bool, true, false, Option, Some, None}
 use Rattle.xls_answers.specs.Answers.{HasNumber}
 use Rattle.xls_answers.specs.declared.answer.Answer.{Answer}
 use Rattle.xls_answers.specs.declared.answer.Answer.TheVariants as answers
@@ -9,6 +9,7 @@ use Rattle.xls_readable.specs.declared.forms.Form.{Form}
 use Rattle.xls_readable.specs.declared.forms.Form.TheVariants.{Text, Json, Exact}
 use Rattle.xls_words.specs.declared.request.Command.{Command}
 use Rattle.xls_words.specs.declared.request.Command.TheVariants as commands
+use Rattle.xls_words.specs.declared.request.Folder.{Folder}
 use Rattle.xls_tool.specs.declared.job.Asked.{Asked}
 use Rattle.xls_tool.specs.declared.job.Asked.TheVariants.{Workbook, Other}
 use Rattle.xls_tool.specs.declared.job.Beside.TheVariants as beside
@@ -41,6 +42,11 @@ asked_by commands.Streams = Other beside.Streams
 abbrev pub AskedHasNumber : Asked → Type 0
 AskedHasNumber (Workbook answer) = HasNumber answer
 AskedHasNumber (Other beside) = Unit {0}
+
+-- files that exist are left as they are, and that is no fault
+abbrev pub skips_existing : Option Folder → Bool
+skips_existing None = false
+skips_existing (Some folder) = folder.skips_existing
 
 -- the form of the lines that tell of many files
 abbrev pub form_of_many : Bool → Form

@@ -39,4 +39,5 @@ abbrev pub outcome_word : Outcome → List ℕ
 outcome_word outcome.Ok = codes "ok"
 outcome_word outcome.Refused = codes "refused"
 outcome_word outcome.Unread = codes "unread"
+outcome_word outcome.Exists = codes "exists"
 outcome_word outcome.Failed = codes "failed"

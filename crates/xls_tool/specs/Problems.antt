@@ -1,5 +1,5 @@
 -- The exit status of each problem, and how many files are told of it.
-use Rattle.std.specs.Prelude.{◌≡◌, ◌⊎◌, ℕ, ◌==◌, Bool, true, ◌||◌, if◌then◌else◌, Result, Ok, Err}
+use Rattle.std.specs.Prelude.{◌≡◌, ◌⊎◌, ℕ, ◌==◌, Bool, true, false, ◌||◌, ◌&&◌, if◌then◌else◌, Result, Ok, Err}
 use Rattle.xls_answers.specs.Failures as failures
 use Rattle.xls_answers.specs.declared.failure.Failure.TheVariants.{Stopped}
 use Rattle.xls_documents.specs.declared.fault.ProjectFault.{ProjectFault}
@@ -51,8 +51,18 @@ is_unread n = (n == 10) || ((n == 11) || ((n == 12) || (n == 17)))
 abbrev pub outcome_for : ℕ → Outcome
 outcome_for n = if n == 1 then outcome.Refused else if is_unread n then outcome.Unread else outcome.Failed
 
+-- a file for the text exists, and is left as it was
+abbrev pub is_existing : Problem → Bool
+is_existing (problems.Unwritten path Exists) = true
+is_existing p = false
+
 abbrev pub outcome_of : Problem → Outcome
-outcome_of p = outcome_for (problem_status p)
+outcome_of p = if is_existing p then outcome.Exists else outcome_for (problem_status p)
+
+-- the exit status that a file's line counts with: where files that exist are to be skipped, such a one is no fault
+abbrev pub counted_status : Bool → Result (Unit {0}) Problem → ℕ
+counted_status skips (Ok x) = 0
+counted_status skips (Err p) = if skips && is_existing p then 0 else problem_status p
 
 -- a fault of the file, and out of memory, are told alike, wherever they were
 abbrev pub problem_of_project : ProjectFault → Problem

@@ -5,7 +5,7 @@ ghost use Rattle.xls_words.specs.Requests as requests;
 ghost use Rattle.xls_words.specs.Requests.{is_exact};
 ghost use Rattle.xls_answers.specs.Answers.{HasNumber};
 ghost use Rattle.xls_answers.specs.Views.{options_under};
-ghost use Rattle.xls_tool.specs.Asked.{AskedHasNumber, asked_by, form_of_many, exact_lines, lines_of};
+ghost use Rattle.xls_tool.specs.Asked.{AskedHasNumber, asked_by, form_of_many, exact_lines, lines_of, skips_existing};
 
 use crate::unlock::PasswordList;
 use std::alloc::{AllocError, Global};
@@ -38,6 +38,16 @@ impl Job<'_> {
             Form::Json
         } else {
             Form::Text
+        }
+    }
+
+    /// Whether files that exist are left as they are, and that is no fault.
+    pub(crate) fn skips_existing(&self) -> bool
+        ensures { result ≡ skips_existing self.now.request.out }
+    {
+        match &self.request.out {
+            Some(folder) => folder.skips_existing,
+            None => false,
         }
     }
 }

@@ -6,6 +6,7 @@ mod file;
 mod formats;
 mod job;
 mod many;
+mod misplaced;
 mod one;
 mod opened;
 mod problem;

@@ -2,7 +2,7 @@
 
 ghost use Rattle.std.specs.Prelude.{◌≡◌, max, IfOk, None};
 ghost use Rattle.xls_tool.specs.Outputs.{KeepsOutputs};
-ghost use Rattle.xls_tool.specs.Problems.{IsStatus, problem_status, status_of_file};
+ghost use Rattle.xls_tool.specs.Problems.{IsStatus, counted_status, problem_status};
 ghost use Rattle.xls_tool.specs.Steps.{EndsPath};
 ghost use Rattle.xls_words.specs.Requests as requests;
 
@@ -63,7 +63,7 @@ fn tell<H: Host, K: Sink>(
     done: &Result<(), Problem>,
 ) -> Result<(), Stop>
     ensures files { H.files host.new ≡ H.files host.old }
-    ensures status { report.new.counts ≡ max report.old.counts (status_of_file done.now) }
+    ensures status { report.new.counts ≡ max report.old.counts (counted_status report.old.skips done.now) }
 {
     host.show("");
     report.tell(alloc, file, done)
@@ -209,7 +209,7 @@ pub(crate) fn do_many<H: Host, K: Sink>(
 {
     let all = displayed_count(alloc, host, paths)?;
     let mut queue = queue_of(alloc, paths)?;
-    let mut report = Report::new(out, job.form(), all);
+    let mut report = Report::new(out, job.form(), all, job.skips_existing());
     do_queue(alloc, host, &mut report, job, &mut queue)?;
     host.show("");
     report.write_last_line(alloc)?;
@@ -252,6 +252,7 @@ fn do_names<H: Host, K: Sink>(
 {
     for _ in 0..u64::MAX {
         match host.next_name(list.path, list.by_nul) {
+            Ok(Some(Name::Text(path))) if path.is_empty() => {}
             Ok(Some(Name::Text(path))) => do_name(alloc, host, report, job, path.as_str())?,
             Ok(Some(Name::Unnamed)) => tell_unnamed(alloc, host, report, list.path)?,
             Ok(None) => return Ok(()),
@@ -274,7 +275,7 @@ pub(crate) fn do_list<H: Host, K: Sink>(
     ensures status { IfOk result IsStatus }
     ensures outputs { KeepsOutputs H.tells H.File.state job.now.request job.now.reading.options (H.files host.old) (H.files host.new) }
 {
-    let mut report = Report::new(out, job.form(), None);
+    let mut report = Report::new(out, job.form(), None, job.skips_existing());
     do_names(alloc, host, &mut report, job, list)?;
     let line = report.last_line(alloc)?;
     host.say(line.trim_end());

@@ -11,6 +11,7 @@ ghost use Rattle.xls_words.specs.Requests as requests;
 
 use crate::job::Job;
 use crate::many::do_file;
+use crate::misplaced::say_near;
 use crate::problem::Problem;
 use crate::say::say_problem;
 use std::alloc::Global;
@@ -63,6 +64,9 @@ fn tell_problem<H: Host>(
         return Err(Stop::Write);
     }
     say_problem(alloc, host, path, problem)?;
+    if let Problem::Unread(Reason::Reported(_)) = problem {
+        say_near(alloc, host, path)?;
+    }
     Ok(problem.status())
 }
 
@@ -86,6 +90,7 @@ pub(crate) fn do_one<H: Host, K: Sink>(
     let path = placed.path;
     match do_placed(alloc, host, out, job, placed) {
         Ok(()) => Ok(0),
+        Err(problem) if job.skips_existing() && problem.is_existing() => Ok(0),
         Err(problem) => tell_problem(alloc, host, path, &problem),
     }
 }

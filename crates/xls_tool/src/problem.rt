@@ -1,7 +1,7 @@
 //! Why the text of a file isn't written.
 
 ghost use Rattle.std.specs.Prelude.{◌≡◌, ◌≢◌};
-ghost use Rattle.xls_tool.specs.Problems.{IsStatus, outcome_of, problem_of_project, problem_status};
+ghost use Rattle.xls_tool.specs.Problems.{IsStatus, is_existing, outcome_of, problem_of_project, problem_status};
 ghost use Rattle.xls_answers.specs.Failures.{failure_of_fault};
 ghost use Rattle.xls_tool.specs.declared.problem.Problem.TheVariants as problems;
 ghost use Rattle.xls_answers.specs.declared.failure.Failure.TheVariants.{Stopped};
@@ -24,6 +24,8 @@ pub enum Outcome {
     Refused,
     /// It can't be read, or gives no workbook.
     Unread,
+    /// A file for its text exists, which is left as it was.
+    Exists,
     /// Its text can't be written, or memory ran out.
     Failed,
 }
@@ -79,10 +81,20 @@ impl Problem {
         }
     }
 
+    /// Whether it is that a file for the text exists.
+    pub(crate) fn is_existing(&self) -> bool
+        ensures { result ≡ is_existing self.now }
+    {
+        matches!(self, Problem::Unwritten(_, Reason::Exists))
+    }
+
     /// How it went with a file that has the problem.
     pub(crate) fn outcome(&self) -> Outcome
         ensures { result ≡ outcome_of self.now }
     {
+        if self.is_existing() {
+            return Outcome::Exists;
+        }
         match self.status() {
             1 => Outcome::Refused,
             10 | 11 | 12 | 17 => Outcome::Unread,

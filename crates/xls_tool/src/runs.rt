@@ -17,6 +17,7 @@ ghost use Rattle.xls_words.specs.declared.word.Word.TheVariants as names;
 
 use crate::job::{Job, job_of};
 use crate::many::{NameList, do_list, do_many};
+use crate::misplaced::{WANTS_FOLDER, say_many};
 use crate::one::{Placed, do_one};
 use crate::problem::Problem;
 use crate::say::say_problem;
@@ -25,9 +26,6 @@ use std::alloc::Global;
 use xls_files::{Host, Place, place_of};
 use xls_output::{Sink, Stop, write_all};
 use xls_words::{Command, Displayed, Files, Request, request_of};
-
-/// What is told of many files without a folder for their texts.
-const WANTS_FOLDER: &str = "error: many files want --out DIR (but for check)";
 
 /// Whether the texts of many files have a place: a folder, or for `check` none is needed.
 fn takes_many_files(job: &Job<'_>) -> bool
@@ -79,7 +77,7 @@ fn do_paths<H: Host, K: Sink>(
         return do_path(alloc, host, out, job, path);
     }
     if !takes_many_files(job) {
-        host.say(WANTS_FOLDER);
+        say_many(alloc, host, &job.request.command, paths)?;
         return Ok(2);
     }
     do_many(alloc, host, out, job, paths)

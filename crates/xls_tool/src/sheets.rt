@@ -204,7 +204,20 @@ fn is_table(sheet: &Sheet) -> bool
     matches!(sheet.typ, SheetType::WorkSheet | SheetType::MacroSheet)
 }
 
-/// Writes each worksheet and each macro sheet into a file of its own.
+/// How it went with files so far, where a file that exists ends the work only at its end, if it is to be left.
+fn unless_passed(
+    folder: &Folder<'_>,
+    done: Result<(), Problem>,
+    written: Result<(), Problem>,
+) -> Result<Result<(), Problem>, Problem> {
+    match written {
+        Ok(()) => Ok(done),
+        Err(problem) if folder.skips_existing && problem.is_existing() => Ok(Err(problem)),
+        Err(problem) => Err(problem),
+    }
+}
+
+/// Writes each worksheet and each macro sheet into a file of its own, or finds one that exists and is to be left.
 fn write_all_sheets<H: Host>(
     alloc: Global,
     host: &mut H,
@@ -217,14 +230,16 @@ fn write_all_sheets<H: Host>(
     ensures outputs { KeepsOutputs H.tells H.File.state files.now.job.now.request files.now.job.now.reading.options (H.files host.old) (H.files host.new) }
 {
     let sheets = view.sheets();
+    let mut done = Ok(());
     for index in 0..sheets.len() {
         let sheet = &sheets[index];
         if is_table(sheet) {
-            write_sheet_file(alloc, host, files, view, index)?;
+            let written = write_sheet_file(alloc, host, files, view, index);
+            done = unless_passed(files.out, done, written)?;
             tell_hidden(alloc, host, files.book.path, sheet)?;
         }
     }
-    Ok(())
+    done
 }
 
 /// Writes the sheet that is chosen into a file of its own.

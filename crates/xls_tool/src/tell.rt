@@ -1,12 +1,12 @@
 //! The lines that tell of many files.
 
-ghost use Rattle.std.specs.Prelude.{◌≡◌, map, max, IfOk};
+ghost use Rattle.std.specs.Prelude.{◌≡◌, map, max, Err, IfOk};
 ghost use Rattle.std.specs.String.{string_bytes};
 ghost use Rattle.xls_readable.specs.Items as items;
 ghost use Rattle.xls_readable.specs.Items.{named_of};
 ghost use Rattle.xls_readable.specs.Lines.{IsLine};
 ghost use Rattle.xls_tool.specs.Displayed.{outcome_word};
-ghost use Rattle.xls_tool.specs.Problems.{IsStatus, status_of_file};
+ghost use Rattle.xls_tool.specs.Problems.{IsStatus, counted_status};
 
 use crate::problem::{Outcome, Problem};
 use std::alloc::{AllocError, Global};
@@ -21,6 +21,7 @@ struct Counts {
     refused: u64,
     unread: u64,
     failed: u64,
+    existing: u64,
     status: u8,
 }
 
@@ -43,6 +44,7 @@ fn word_of(outcome: Outcome) -> &'static str
         Outcome::Ok => "ok",
         Outcome::Refused => "refused",
         Outcome::Unread => "unread",
+        Outcome::Exists => "exists",
         Outcome::Failed => "failed",
     }
 }
@@ -57,6 +59,7 @@ impl Counts {
             refused: 0,
             unread: 0,
             failed: 0,
+            existing: 0,
             status: 0,
         }
     }
@@ -71,6 +74,7 @@ impl Counts {
             Outcome::Refused => self.refused = self.refused.saturating_add(1),
             Outcome::Unread => self.unread = self.unread.saturating_add(1),
             Outcome::Failed => self.failed = self.failed.saturating_add(1),
+            Outcome::Exists => self.existing = self.existing.saturating_add(1),
         }
         if self.status < status {
             self.status = status;
@@ -91,6 +95,7 @@ impl Counts {
             .saturating_add(self.refused)
             .saturating_add(self.unread)
             .saturating_add(self.failed)
+            .saturating_add(self.existing)
     }
 }
 
@@ -137,6 +142,7 @@ fn counts_json(alloc: Global, counts: &Counts) -> Result<String, AllocError> {
         count("refused", counts.refused),
         count("unread", counts.unread),
         count("failed", counts.failed),
+        count("exists", counts.existing),
     ];
     line_of(alloc, Form::Json, "files", &members)
 }
@@ -144,12 +150,13 @@ fn counts_json(alloc: Global, counts: &Counts) -> Result<String, AllocError> {
 /// The counts as a line of text.
 fn counts_text(alloc: Global, counts: &Counts) -> Result<String, AllocError> {
     format!(in alloc;
-        "files\t{}\t{} ok\t{} refused\t{} unread\t{} failed\n",
+        "files\t{}\t{} ok\t{} refused\t{} unread\t{} failed\t{} exists\n",
         counts.all(),
         counts.ok,
         counts.refused,
         counts.unread,
-        counts.failed
+        counts.failed,
+        counts.existing
     )
 }
 
@@ -161,6 +168,17 @@ fn counts_line(alloc: Global, form: Form, counts: &Counts) -> Result<String, All
     }
 }
 
+/// The exit status that the line of a problem counts with.
+fn counted_status(skips: bool, problem: &Problem) -> u8
+    ensures exact { result ≡ counted_status skips (Err problem.now) }
+    ensures status { IsStatus result }
+{
+    if skips && problem.is_existing() {
+        return 0;
+    }
+    problem.status()
+}
+
 /// What is told of many files.
 #[derive(Drop)]
 pub(crate) struct Report<'r, K> {
@@ -169,19 +187,23 @@ pub(crate) struct Report<'r, K> {
     form: Form,
     /// How many files there are, where that is known.
     all: Option<u64>,
+    /// Files that exist are no fault.
+    skips: bool,
     /// Of the files that were told of.
     counts: Counts,
 }
 
 impl<'r, K: Sink> Report<'r, K> {
     /// No file was told of.
-    pub(crate) fn new(out: &'r mut K, form: Form, all: Option<u64>) -> Report<'r, K>
-        ensures { result.counts ≡ 0 }
+    pub(crate) fn new(out: &'r mut K, form: Form, all: Option<u64>, skips: bool) -> Report<'r, K>
+        ensures counts { result.counts ≡ 0 }
+        ensures skips { result.skips ≡ skips }
     {
         Report {
             out,
             form,
             all,
+            skips,
             counts: Counts::new(),
         }
     }
@@ -231,7 +253,7 @@ impl<'r, K: Sink> Report<'r, K> {
         file: &str,
         done: &Result<(), Problem>,
     ) -> Result<(), Stop>
-        ensures { self.new.counts ≡ max self.old.counts (status_of_file done.now) }
+        ensures { self.new.counts ≡ max self.old.counts (counted_status self.old.skips done.now) }
     {
         match done {
             Ok(()) => {
@@ -239,7 +261,8 @@ impl<'r, K: Sink> Report<'r, K> {
                 self.tell_ok(alloc, file)
             }
             Err(problem) => {
-                self.counts.count(problem.outcome(), problem.status());
+                self.counts
+                    .count(problem.outcome(), counted_status(self.skips, problem));
                 self.tell_problem(alloc, file, problem)
             }
         }

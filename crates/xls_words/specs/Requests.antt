@@ -57,6 +57,10 @@ abbrev pub ending_of : Command → List ℕ
 ending_of (commands.Lines lines form) = ending_in form (ending_text (words.Lines lines))
 ending_of command = ending_text (word_of command)
 
+-- the words that ask for help or the version in the place of a command
+abbrev pub IsAsking : List ℕ → Type 0
+IsAsking first = (first ≡ codes "help") ⊎ (first ≡ codes "version")
+
 -- the first word names the command, or it names none and the command is dump
 abbrev pub IsAsked : List (List ℕ) → Word → Type 0
 IsAsked [] word = ⊥
@@ -80,13 +84,14 @@ IsPage n = (n ≡ 1200) ⊎ ((n ≡ 1252) ⊎ ((n ≡ 28_591) ⊎ (n ≡ 65_001)
 
 -- ---- words without options
 
--- the words that a command is asked by: those after its name, or all, where the first is no name and
+-- the words that a command is asked by: those after its name, or all, where the first is no name, asks for no help, and
 -- the command is dump
 abbrev pub AreWordsOf : Word → List (List ℕ) → List (List ℕ) → Type 0
 AreWordsOf word others [] = ⊥
 AreWordsOf word others (first ∷ rest) =
     ((word_text word ≡ first) × (others ≡ rest))
-    ⊎ (((other : Word) → word_text other ≡ first → ⊥) × ((word ≡ words.Lines listing.Dump) × (others ≡ first ∷ rest)))
+    ⊎ (((other : Word) → word_text other ≡ first → ⊥) × (IsAsking first → ⊥)
+    × (word ≡ words.Lines listing.Dump) × (others ≡ first ∷ rest))
 
 -- a `-` with something after it; `-` alone is standard input
 abbrev pub is_option : List ℕ → Bool

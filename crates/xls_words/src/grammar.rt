@@ -74,7 +74,7 @@ const NULL: Argument = Argument {
 const OUT: Argument = Argument {
     name: "out",
     kind: ArgumentKind::Value("DIR"),
-    help: "Write into DIR/FILE, a folder for each file",
+    help: "Write into DIR/FILE.out, a folder for each file",
     without: &[],
 };
 
@@ -82,6 +82,13 @@ const FORCE: Argument = Argument {
     name: "force",
     kind: ArgumentKind::Flag,
     help: "Write over files that exist",
+    without: &["skip-existing"],
+};
+
+const SKIP: Argument = Argument {
+    name: "skip-existing",
+    kind: ArgumentKind::Flag,
+    help: "Leave files that exist as they are: only what is missing is written",
     without: &[],
 };
 
@@ -163,7 +170,7 @@ const MARK: Argument = Argument {
 };
 
 /// The files of a command that reads many, and what it takes for them.
-static MANY_FILES: [Argument; 5] = [FILES, LIST, NULL, OUT, FORCE];
+static MANY_FILES: [Argument; 6] = [FILES, LIST, NULL, OUT, FORCE, SKIP];
 
 static ONE_FILE: [Argument; 1] = [FILE];
 
@@ -297,7 +304,7 @@ pub(crate) fn overview<'a>(alloc: Global) -> Result<Command<'a>, AllocError> {
     let commands = summaries(alloc)?;
     Command::new(alloc, "xls")
         .version(VERSION)
-        .about("Reads old Excel workbooks (.xls): xls [COMMAND] FILE..")
+        .about("Reads old Excel workbooks (.xls): xls [COMMAND] FILE.. | help [COMMAND] | version")
         .arg_required_else_help(true)
         .disable_help_subcommand(true)
         .subcommands(commands)

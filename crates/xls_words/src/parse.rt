@@ -78,6 +78,12 @@ enum Refusal {
     Page,
     /// All sheets are asked for, and no folder for them is given.
     NoFolder,
+    /// The folder has no name.
+    EmptyFolder,
+    /// Files that exist are to be written over, or left, and no folder for them is given.
+    NothingWritten,
+    /// The names in a list are ended by NUL, and there is no list.
+    NoList,
 }
 
 impl Refusal {
@@ -92,6 +98,9 @@ impl Refusal {
             Refusal::FilesAndList => "give files, or --files-from, and not both",
             Refusal::Page => "the pages are 1200, 1252, 28591 and 65001",
             Refusal::NoFolder => "error: --all wants --out DIR",
+            Refusal::EmptyFolder => "error: --out wants the name of a folder; . is this one",
+            Refusal::NothingWritten => "error: --force and --skip-existing want --out DIR",
+            Refusal::NoList => "error: -0 wants --files-from LIST",
         }
     }
 }
@@ -123,10 +132,11 @@ fn mistake(alloc: Global, text: &str) -> Displayed {
     }
 }
 
-/// What a user is shown of a refusal. How the command is used is shown with it, but where a folder is missing.
+/// What a user is shown of a refusal. How the command is used is shown with it, but where an option is missing.
 fn refused(alloc: Global, grammar: &mut clap::Command<'_>, refusal: Refusal) -> Displayed {
     match refusal {
-        Refusal::NoFolder => mistake(alloc, refusal.text()),
+        Refusal::NoFolder | Refusal::EmptyFolder | Refusal::NothingWritten | Refusal::NoList =>
+            mistake(alloc, refusal.text()),
         Refusal::Memory
         | Refusal::Delimiter
         | Refusal::NoFile
@@ -171,8 +181,12 @@ fn command_in<'w>(word: Word, matches: &ArgMatches<'w>) -> Option<Command<'w>>
 
 /// The files of some words.
 fn files_in<'w>(alloc: Global, matches: &ArgMatches<'w>) -> Result<Files<'w>, Refusal> {
+    let list = matches.get_str("files-from");
+    if list.is_none() && matches.get_flag("null") {
+        return Err(Refusal::NoList);
+    }
     let names = matches.get_strs("FILE").unwrap_or(&[]);
-    match (matches.get_str("files-from"), names) {
+    match (list, names) {
         (None, []) => Err(Refusal::NoFile),
         (None, names) => Ok(Files::Named(Vec::from_slice(alloc, names)?)),
         (Some(list), []) => Ok(Files::Listed {
@@ -226,12 +240,17 @@ fn folder_in<'w>(matches: &ArgMatches<'w>, words: &[String]) -> Result<Option<Fo
     ensures { IfOk result (λ out. IfSome out (IsNamedFolder (map string_bytes words.now))) }
 {
     let takes_all_sheets = matches.get_flag("all");
+    let writes_over = matches.get_flag("force");
+    let skips_existing = matches.get_flag("skip-existing");
     match matches.get_str("out") {
+        Some("") => Err(Refusal::EmptyFolder),
         Some(path) if ends_one(words, path) => Ok(Some(Folder {
             path,
-            writes_over: matches.get_flag("force") && is_among(words, "--force"),
+            writes_over: writes_over && is_among(words, "--force"),
+            skips_existing,
             takes_all_sheets,
         })),
+        None if writes_over || skips_existing => Err(Refusal::NothingWritten),
         None if !takes_all_sheets => Ok(None),
         _ => Err(Refusal::NoFolder),
     }
@@ -289,15 +308,38 @@ fn request_in<'w>(alloc: Global, word: Word, words: &'w [String]) -> Result<Requ
     }
 }
 
-/// Help, the version, or that there are no words.
-fn help_of(alloc: Global, words: &[String]) -> Displayed {
-    let grammar = match overview(alloc) {
-        Ok(grammar) => grammar.no_binary_name(true),
-        Err(_) => return Displayed::Memory,
-    };
-    match grammar.try_get_matches_from(words) {
+/// What a grammar answers to words that ask for help or the version, or to none.
+fn answer_of(alloc: Global, grammar: clap::Command<'_>, words: &[&str]) -> Displayed {
+    match grammar.no_binary_name(true).try_get_matches_from(words) {
         Ok(_) => Displayed::Memory,
         Err(error) => displayed_of(alloc, &error),
+    }
+}
+
+/// Help of all commands, the version, or that there are no words.
+fn help_of(alloc: Global, words: &[&str]) -> Displayed {
+    match overview(alloc) {
+        Ok(grammar) => answer_of(alloc, grammar, words),
+        Err(_) => Displayed::Memory,
+    }
+}
+
+/// Help of a command.
+fn command_help(alloc: Global, word: Word) -> Displayed {
+    match grammar_of(alloc, word.row()) {
+        Ok(grammar) => answer_of(alloc, grammar, &["--help"]),
+        Err(_) => Displayed::Memory,
+    }
+}
+
+/// Help of the command that the words behind `help` name, or of all.
+fn help_for(alloc: Global, words: &[String]) -> Displayed {
+    let Some((name, others)) = words.split_first() else {
+        return help_of(alloc, &["--help"]);
+    };
+    match Word::of(name.as_str()) {
+        Some(word) if others.is_empty() => command_help(alloc, word),
+        _ => mistake(alloc, "error: help is of one command: xls help [COMMAND]"),
     }
 }
 
@@ -329,10 +371,12 @@ pub fn request_of<'w>(alloc: Global, words: &'w [String]) -> Result<Request<'w>,
         → are_plain word paths ≡ true → MatchResult result (IsPlainRequest word paths) (λ s. s ≡ displayed.Memory) }
 {
     let Some((first, others)) = words.split_first() else {
-        return Err(help_of(alloc, words));
+        return Err(help_of(alloc, &[]));
     };
     match first.as_str() {
-        "-h" | "--help" | "-V" | "--version" => Err(help_of(alloc, words)),
+        "-h" | "--help" => Err(help_of(alloc, &["--help"])),
+        "-V" | "--version" | "version" => Err(help_of(alloc, &["--version"])),
+        "help" => Err(help_for(alloc, others)),
         name => match Word::of(name) {
             Some(word) => request_for(alloc, word, others),
             None => request_for(alloc, Word::Lines(Listing::Dump), words),

@@ -84,6 +84,8 @@ pub struct Folder<'w> {
     pub path: &'w str,
     /// Files that exist are written over.
     pub writes_over: bool,
+    /// Files that exist are left as they are, and that is no fault.
+    pub skips_existing: bool,
     /// Of a workbook whose sheet is asked for each worksheet and each macro sheet is written.
     pub takes_all_sheets: bool,
 }

@@ -5,6 +5,8 @@ ghost use Rattle.xls_words.specs.declared.word.Word.{Word};
 ghost use Rattle.xls_words.specs.Words.{ending_text, file_count, takes_many, word_text};
 
 use crate::grammar::{Argument, SHEET_OPTIONS, STREAM_OPTIONS, THREE_FORMS, TWO_FORMS};
+use std::alloc::{AllocError, Global};
+use strsim::osa_distance;
 use xls_readable::Listing;
 
 /// A command by its name.
@@ -35,6 +37,9 @@ pub(crate) const ALL: [Word; 11] = [
     Word::Stream,
     Word::Streams,
 ];
+
+/// No text of more bytes is near a command's name.
+const LONGEST_NEAR: usize = 16;
 
 /// How many files a command reads.
 #[derive(Clone, Copy, Debug, PartialEq, Eq)]
@@ -179,6 +184,20 @@ impl Word {
             "streams" => Some(Word::Streams),
             _ => None,
         }
+    }
+
+    /// The command whose name a text nearly is: at most one letter is missing, is too many or another one, or has
+    /// changed places with the next.
+    pub fn near(alloc: Global, text: &str) -> Result<Option<Word>, AllocError> {
+        if text.len() > LONGEST_NEAR {
+            return Ok(None);
+        }
+        for word in ALL {
+            if osa_distance(alloc, word.name(), text)? <= 1 {
+                return Ok(Some(word));
+            }
+        }
+        Ok(None)
     }
 
     /// Its name.
