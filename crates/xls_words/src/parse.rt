@@ -309,7 +309,7 @@ fn request_in<'w>(alloc: Global, word: Word, words: &'w [String]) -> Result<Requ
 }
 
 /// What a grammar answers to words that ask for help or the version, or to none.
-fn answer_of(alloc: Global, grammar: clap::Command<'_>, words: &[&str]) -> Displayed {
+fn answer_of<'w>(alloc: Global, grammar: clap::Command<'w>, words: &'w [&'w str]) -> Displayed {
     match grammar.no_binary_name(true).try_get_matches_from(words) {
         Ok(_) => Displayed::Memory,
         Err(error) => displayed_of(alloc, &error),
