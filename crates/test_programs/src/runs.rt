@@ -76,7 +76,7 @@ static RUNS: [Run; 49] = [
         &["csv", "--sheet", "C", "a.xls"],
         1,
         "",
-        "xls: a.xls: Worksheet 'C' not found\n",
+        "xls: a.xls: Worksheet 'C' not found\nxls: a.xls: xls sheets tells the names, in which case counts; --number N chooses a sheet by its number\n",
         "",
     ),
     (

@@ -11,7 +11,7 @@ ghost use Rattle.xls_words.specs.Requests as requests;
 
 use crate::job::Job;
 use crate::many::do_file;
-use crate::misplaced::say_near;
+use crate::misplaced::say_advice;
 use crate::problem::Problem;
 use crate::say::say_problem;
 use std::alloc::Global;
@@ -64,9 +64,7 @@ fn tell_problem<H: Host>(
         return Err(Stop::Write);
     }
     say_problem(alloc, host, path, problem)?;
-    if let Problem::Unread(Reason::Reported(_)) = problem {
-        say_near(alloc, host, path)?;
-    }
+    say_advice(alloc, host, path, problem)?;
     Ok(problem.status())
 }
 
