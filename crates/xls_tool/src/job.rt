@@ -1,6 +1,6 @@
 //! What is done with each file.
 
-ghost use Rattle.std.specs.Prelude.{◌≡◌, IfOk};
+ghost use Rattle.std.specs.Prelude.{◌≡◌, false, None, IfOk};
 ghost use Rattle.xls_words.specs.Requests as requests;
 ghost use Rattle.xls_words.specs.Requests.{is_exact};
 ghost use Rattle.xls_answers.specs.Answers.{HasNumber};
@@ -43,7 +43,8 @@ impl Job<'_> {
 
     /// Whether files that exist are left as they are, and that is no fault.
     pub(crate) fn skips_existing(&self) -> bool
-        ensures { result ≡ skips_existing self.now.request.out }
+        ensures exact { result ≡ skips_existing self.now.request.out }
+        ensures none { self.now.request.out ≡ None → result ≡ false }
     {
         match &self.request.out {
             Some(folder) => folder.skips_existing,

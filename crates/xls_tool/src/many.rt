@@ -224,7 +224,7 @@ pub(crate) struct NameList<'l> {
     pub by_nul: bool,
 }
 
-/// Does the work of the files of a path.
+/// Does the work of the files of a path. An empty line of a list names none.
 fn do_name<H: Host, K: Sink>(
     alloc: Global,
     host: &mut H,
@@ -235,6 +235,9 @@ fn do_name<H: Host, K: Sink>(
     requires number { requests.CommandHasNumber job.now.request.command }
     ensures { KeepsOutputs H.tells H.File.state job.now.request job.now.reading.options (H.files host.old) (H.files host.new) }
 {
+    if path.is_empty() {
+        return Ok(());
+    }
     let mut queue = queue_of(alloc, &[path])?;
     do_queue(alloc, host, report, job, &mut queue)
 }
@@ -252,7 +255,6 @@ fn do_names<H: Host, K: Sink>(
 {
     for _ in 0..u64::MAX {
         match host.next_name(list.path, list.by_nul) {
-            Ok(Some(Name::Text(path))) if path.is_empty() => {}
             Ok(Some(Name::Text(path))) => do_name(alloc, host, report, job, path.as_str())?,
             Ok(Some(Name::Unnamed)) => tell_unnamed(alloc, host, report, list.path)?,
             Ok(None) => return Ok(()),
