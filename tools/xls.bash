@@ -68,7 +68,7 @@ _xls() {
     fi
     _xls_files "$word"
     if ((COMP_CWORD == 1)); then
-        mapfile -t -O "${#COMPREPLY[@]}" COMPREPLY < <(compgen -W "$_xls_commands" -- "$word")
+        mapfile -t -O "${#COMPREPLY[@]}" COMPREPLY < <(compgen -W "$_xls_commands help version" -- "$word")
     fi
 }
 
