@@ -3,6 +3,7 @@ use xls_biff::XlsError;
 use xls_book::*;
 use xls_data::HeaderRow;
 
+mod formats;
 mod formulas;
 mod globals;
 mod lookups;

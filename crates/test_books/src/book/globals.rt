@@ -7,14 +7,14 @@ const SET: [u8; 6] = [0x22, 0, 2, 0, 1, 0];
 const UNSET: [u8; 6] = [0x22, 0, 2, 0, 0, 0];
 
 // XF records of the formats 164 and 14, and Format 164, which is `yyyy`.
-const XF_OWN: [u8; 8] = [0xE0, 0, 4, 0, 0, 0, 164, 0];
+pub(super) const XF_OWN: [u8; 8] = [0xE0, 0, 4, 0, 0, 0, 164, 0];
 
-const XF_BUILT_IN: [u8; 8] = [0xE0, 0, 4, 0, 0, 0, 14, 0];
+pub(super) const XF_BUILT_IN: [u8; 8] = [0xE0, 0, 4, 0, 0, 0, 14, 0];
 
-const YEARS: [u8; 13] = [0x1E, 0x04, 9, 0, 164, 0, 4, 0, 0, 0x79, 0x79, 0x79, 0x79];
+pub(super) const YEARS: [u8; 13] = [0x1E, 0x04, 9, 0, 164, 0, 4, 0, 0, 0x79, 0x79, 0x79, 0x79];
 
 // Format 164, which is `0000`, and one without its text.
-const DIGITS: [u8; 13] = [0x1E, 0x04, 9, 0, 164, 0, 4, 0, 0, 0x30, 0x30, 0x30, 0x30];
+pub(super) const DIGITS: [u8; 13] = [0x1E, 0x04, 9, 0, 164, 0, 4, 0, 0, 0x30, 0x30, 0x30, 0x30];
 
 const NO_TEXT: [u8; 6] = [0x1E, 0x04, 2, 0, 164, 0];
 

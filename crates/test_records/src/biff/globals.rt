@@ -255,6 +255,54 @@ static FORMATS: [Row; 23] = [
     ),
 ];
 
+static CODES: [Row; 4] = [
+    (
+        "before BIFF8",
+        Reader::FormatCode(WINDOWS, Biff::Biff5),
+        &[0xA4, 0, 3, 0x5B, 0x68, 0x5D],
+        "Ok((164, \"[h]\"))",
+    ),
+    (
+        "of an identifier that a Format record may not have",
+        Reader::FormatCode(WINDOWS, Biff::Biff8),
+        &[0x32, 0, 2, 0, 0, 0x64, 0x64],
+        "Ok((50, \"dd\"))",
+    ),
+    (
+        "half an identifier",
+        Reader::FormatCode(WINDOWS, Biff::Biff8),
+        &[0x32],
+        "Err(Len { expected: 2, found: 1, typ: Format })",
+    ),
+    (
+        "no text",
+        Reader::FormatCode(WINDOWS, Biff::Biff5),
+        &[0x32, 0],
+        "Err(Len { expected: 1, found: 0, typ: ShortString })",
+    ),
+];
+
+#[test]
+fn reads_the_codes_of_formats(rt: HostRuntime) -> Result<(), Fail> {
+    rows_hold(&rt, rt.alloc(), &CODES)
+}
+
+#[test]
+fn tells_the_identifiers_that_count(rt: HostRuntime) {
+    for (identifier, counts) in [
+        (4, false),
+        (5, true),
+        (8, true),
+        (9, false),
+        (50, false),
+        (164, true),
+        (382, true),
+        (383, false),
+    ] {
+        assert_eq!(rt; is_format_id(identifier), counts, "{identifier}");
+    }
+}
+
 #[test]
 fn reads_formats_of_the_ranges(rt: HostRuntime) -> Result<(), Fail> {
     rows_hold(&rt, rt.alloc(), &FORMATS)

@@ -17,6 +17,7 @@ pub enum Reader {
     ExternSheet(Biff),
     Xf,
     Format(XlsEncoding, Biff),
+    FormatCode(XlsEncoding, Biff),
     Sheet(Biff),
     SheetCheck(Biff),
     Number,
@@ -90,6 +91,12 @@ pub fn answer_of(alloc: Global, reader: Reader, body: &[u8]) -> Result<String, A
             displayed(
                 alloc,
                 parse_format(alloc, &record(FORMAT, body), &page, biff),
+            )
+        }
+        Reader::FormatCode(page, biff) => {
+            displayed(
+                alloc,
+                parse_format_code(alloc, &record(FORMAT, body), &page, biff),
             )
         }
         Reader::Sheet(biff) => {
