@@ -13,37 +13,37 @@ use Rattle.xls_words.specs.declared.word.Word.TheVariants as words
 
 -- in the order of help
 abbrev every_word : List Word
-every_word = words.Lines Dump ∷ words.Lines Sheets ∷ words.Check ∷ words.Lines Formulas ∷ words.Lines Refs ∷ words.Props ∷ words.Vba
-    ∷ words.Csv ∷ words.Remake ∷ words.Stream ∷ words.Streams ∷ []
+every_word = words.Lines Dump ∷ words.Lines Sheets ∷ words.Check ∷ words.Lines Formulas ∷ words.Lines Refs ∷ words.Hidden
+    ∷ words.Props ∷ words.Vba ∷ words.Csv ∷ words.Remake ∷ words.Stream ∷ words.Streams ∷ []
 
 pub known_words : map word_text every_word
-    ≡ codes "dump" ∷ codes "sheets" ∷ codes "check" ∷ codes "formulas" ∷ codes "refs" ∷ codes "props" ∷ codes "vba" ∷ codes "csv"
+    ≡ codes "dump" ∷ codes "sheets" ∷ codes "check" ∷ codes "formulas" ∷ codes "refs" ∷ codes "hidden" ∷ codes "props" ∷ codes "vba" ∷ codes "csv"
     ∷ codes "remake" ∷ codes "stream" ∷ codes "streams" ∷ []
 known_words = refl
 
 -- ---- how many files: none, one, two
 
 pub known_many : map takes_many every_word
-    ≡ true ∷ true ∷ true ∷ true ∷ true ∷ true ∷ true ∷ true ∷ false ∷ false ∷ false ∷ []
+    ≡ true ∷ true ∷ true ∷ true ∷ true ∷ true ∷ true ∷ true ∷ true ∷ false ∷ false ∷ false ∷ []
 known_many = refl
 
 pub known_none : map (λ w. takes w 0) every_word
-    ≡ false ∷ false ∷ false ∷ false ∷ false ∷ false ∷ false ∷ false ∷ false ∷ false ∷ false ∷ []
+    ≡ false ∷ false ∷ false ∷ false ∷ false ∷ false ∷ false ∷ false ∷ false ∷ false ∷ false ∷ false ∷ []
 known_none = refl
 
 pub known_one : map (λ w. takes w 1) every_word
-    ≡ true ∷ true ∷ true ∷ true ∷ true ∷ true ∷ true ∷ true ∷ true ∷ false ∷ true ∷ []
+    ≡ true ∷ true ∷ true ∷ true ∷ true ∷ true ∷ true ∷ true ∷ true ∷ true ∷ false ∷ true ∷ []
 known_one = refl
 
 pub known_two : map (λ w. takes w 2) every_word
-    ≡ true ∷ true ∷ true ∷ true ∷ true ∷ true ∷ true ∷ true ∷ false ∷ false ∷ false ∷ []
+    ≡ true ∷ true ∷ true ∷ true ∷ true ∷ true ∷ true ∷ true ∷ true ∷ false ∷ false ∷ false ∷ []
 known_two = refl
 
 -- ---- without options
 
 pub known_plain : map plain_command every_word
     ≡ commands.Lines Dump Text ∷ commands.Lines Sheets Text ∷ commands.Check ∷ commands.Lines Formulas Text ∷ commands.Lines Refs Text
-    ∷ commands.Props ∷ commands.Vba ∷ commands.Csv First (record { delimiter = 0x2C; begins_with_mark = false; is_exact = false })
+    ∷ commands.Hidden Text ∷ commands.Props ∷ commands.Vba ∷ commands.Csv First (record { delimiter = 0x2C; begins_with_mark = false; is_exact = false })
     ∷ commands.Remake ∷ commands.Stream None ∷ commands.Streams ∷ []
 known_plain = refl
 
@@ -63,15 +63,17 @@ known_exact s d m = refl
 pub known_readable : (s : SheetChoice) (d : ℕ) (m : Bool) (path : _) → map is_exact
     (commands.Lines Dump Json ∷ commands.Lines Sheets Text ∷ commands.Lines Formulas Json ∷ commands.Lines Refs Text
     ∷ commands.Csv s (record { delimiter = d; begins_with_mark = m; is_exact = false })
-    ∷ commands.Check ∷ commands.Props ∷ commands.Vba ∷ commands.Remake ∷ commands.Stream path ∷ commands.Streams ∷ [])
-    ≡ false ∷ false ∷ false ∷ false ∷ false ∷ false ∷ false ∷ false ∷ false ∷ false ∷ false ∷ []
+    ∷ commands.Check ∷ commands.Hidden Text ∷ commands.Hidden Json ∷ commands.Props ∷ commands.Vba ∷ commands.Remake
+    ∷ commands.Stream path ∷ commands.Streams ∷ [])
+    ≡ false ∷ false ∷ false ∷ false ∷ false ∷ false ∷ false ∷ false ∷ false ∷ false ∷ false ∷ false ∷ false ∷ []
 known_readable s d m path = refl
 
 -- ---- endings of files
 
 pub known_endings : (s : SheetChoice) (t : Table) (path : _) → map ending_of
     (commands.Lines Dump Text ∷ commands.Lines Sheets Exact ∷ commands.Lines Formulas Json ∷ commands.Lines Refs Json
-    ∷ commands.Check ∷ commands.Props ∷ commands.Vba ∷ commands.Csv s t ∷ commands.Remake ∷ commands.Stream path ∷ commands.Streams ∷ [])
-    ≡ codes "txt" ∷ codes "txt" ∷ codes "json" ∷ codes "json" ∷ codes "txt" ∷ codes "txt" ∷ codes "txt" ∷ codes "csv"
+    ∷ commands.Hidden Text ∷ commands.Hidden Json ∷ commands.Check ∷ commands.Props ∷ commands.Vba ∷ commands.Csv s t ∷ commands.Remake ∷ commands.Stream path ∷ commands.Streams ∷ [])
+    ≡ codes "txt" ∷ codes "txt" ∷ codes "json" ∷ codes "json" ∷ codes "txt" ∷ codes "json"
+    ∷ codes "txt" ∷ codes "txt" ∷ codes "txt" ∷ codes "csv"
     ∷ codes "txt" ∷ codes "txt" ∷ codes "txt" ∷ []
 known_endings s t path = refl

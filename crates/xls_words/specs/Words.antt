@@ -18,6 +18,7 @@ command (words.Lines Sheets) = record { name = codes "sheets"; files = Many; end
 command words.Check = record { name = codes "check"; files = Many; ending = codes "txt" }
 command (words.Lines Formulas) = record { name = codes "formulas"; files = Many; ending = codes "txt" }
 command (words.Lines Refs) = record { name = codes "refs"; files = Many; ending = codes "txt" }
+command words.Hidden = record { name = codes "hidden"; files = Many; ending = codes "txt" }
 command words.Props = record { name = codes "props"; files = Many; ending = codes "txt" }
 command words.Vba = record { name = codes "vba"; files = Many; ending = codes "txt" }
 command words.Csv = record { name = codes "csv"; files = Many; ending = codes "csv" }

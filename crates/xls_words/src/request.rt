@@ -12,6 +12,8 @@ pub enum Command<'w> {
     /// Lines of the workbook, in a form.
     Lines(Listing, Form),
     Check,
+    /// What is hidden in the sheets, in a form.
+    Hidden(Form),
     Props,
     Vba,
     Csv(SheetChoice<'w>, Table),
@@ -29,6 +31,7 @@ impl Command<'_> {
         match self {
             Command::Lines(listing, _) => Word::Lines(*listing),
             Command::Check => Word::Check,
+            Command::Hidden(_) => Word::Hidden,
             Command::Props => Word::Props,
             Command::Vba => Word::Vba,
             Command::Csv(..) => Word::Csv,
@@ -46,6 +49,7 @@ impl Command<'_> {
             Command::Lines(_, form) => *form == Form::Exact,
             Command::Csv(_, table) => table.is_exact,
             Command::Check
+            | Command::Hidden(_)
             | Command::Props
             | Command::Vba
             | Command::Remake
@@ -59,7 +63,7 @@ impl Command<'_> {
         ensures { result.now ≡ ending_of self.now }
     {
         match self {
-            Command::Lines(_, Form::Json) => "json",
+            Command::Lines(_, Form::Json) | Command::Hidden(Form::Json) => "json",
             _ => self.word().row().ending,
         }
     }

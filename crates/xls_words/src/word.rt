@@ -15,6 +15,8 @@ pub enum Word {
     /// Lines of the workbook.
     Lines(Listing),
     Check,
+    /// What is hidden in its sheets.
+    Hidden,
     Props,
     Vba,
     Csv,
@@ -24,12 +26,13 @@ pub enum Word {
 }
 
 /// All commands, in the order of help.
-pub(crate) const ALL: [Word; 11] = [
+pub(crate) const ALL: [Word; 12] = [
     Word::Lines(Listing::Dump),
     Word::Lines(Listing::Sheets),
     Word::Check,
     Word::Lines(Listing::Formulas),
     Word::Lines(Listing::Refs),
+    Word::Hidden,
     Word::Props,
     Word::Vba,
     Word::Csv,
@@ -115,6 +118,14 @@ impl Word {
                 options: &THREE_FORMS,
                 ending: "txt",
             },
+            Word::Hidden => Row {
+                name: "hidden",
+                title: "xls hidden",
+                about: "Rows and columns that can't be seen, frozen panes, zeros that aren't shown",
+                files: FileCount::Many,
+                options: &TWO_FORMS,
+                ending: "txt",
+            },
             Word::Props => Row {
                 name: "props",
                 title: "xls props",
@@ -176,6 +187,7 @@ impl Word {
             "check" => Some(Word::Check),
             "formulas" => Some(Word::Lines(Listing::Formulas)),
             "refs" => Some(Word::Lines(Listing::Refs)),
+            "hidden" => Some(Word::Hidden),
             "props" => Some(Word::Props),
             "vba" => Some(Word::Vba),
             "csv" => Some(Word::Csv),
