@@ -39,6 +39,7 @@ no-file-fault (answers.Lines lines form) options bytes a b fault p = p
 no-file-fault answers.Exact options bytes a b fault p = p
 no-file-fault (answers.Sheet choice table) options bytes a b fault p = p
 no-file-fault answers.Check options bytes a b fault p = p
+no-file-fault (answers.Hidden form) options bytes a b fault p = p
 no-file-fault answers.Remade options bytes a b fault p = p
 no-file-fault answers.Bytes options bytes a b fault p = p
 

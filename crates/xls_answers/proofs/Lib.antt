@@ -1,4 +1,5 @@
 pub mod FailureLemmas
 pub mod FileLemmas
+pub mod HiddenLemmas
 pub mod SheetLemmas
 pub mod StandardFacts

@@ -3,12 +3,14 @@ use Rattle.std.specs.Prelude.{◌≡◌, ◌⊎◌, ℕ, ◌<◌, List, [], leng
 use Rattle.xls_stream.specs.Listing.{ListEntry}
 use Rattle.xls_record.specs.declared.error.XlsError.TheVariants.{TooLarge}
 use Rattle.xls_open.specs.declared.options.XlsOptions.{XlsOptions}
+use Rattle.xls_open.specs.Globals.{AreGlobals, State}
 use Rattle.xls_open.specs.Opening.{default_options}
 use Rattle.xls_open.specs.Workbook.{rules_of}
 use Rattle.xls_view.specs.Viewing.{IsViewFault}
 use Rattle.xls_lay.specs.Reading.{ReadsList, IsFirst}
 use Rattle.xls_lay.specs.Writing.{WritesList}
 use Rattle.xls_output.specs.SinkState.{SinkState}
+use Rattle.xls_output.specs.Each.{StopsEach, WroteEach}
 use Rattle.xls_output.specs.Gathering.{Stops, Wrote}
 use Rattle.xls_output.specs.declared.stop.Stop.TheVariants.{Memory}
 use Rattle.xls_report.specs.Endings.{IsUntouched}
@@ -20,6 +22,9 @@ use Rattle.xls_answers.specs.declared.answer.Answer.TheVariants as answers
 use Rattle.xls_answers.specs.declared.failure.Failure.{Failure}
 use Rattle.xls_answers.specs.declared.failure.Failure.TheVariants as failures
 use Rattle.xls_readable.specs.Choices.{IsNumbered}
+use Rattle.xls_readable.specs.declared.forms.Form.{Form}
+use Rattle.xls_beside.specs.Hidden.{hidden_lines}
+use Rattle.xls_beside.specs.Lines.{IsLineText}
 use Rattle.xls_answers.specs.Views.{OfView, AreLines, BeginLines, IsDump, MissesNone, rules_shown}
 use Rattle.xls_answers.specs.Sheets.{IsTableOf, BeginsTableOf, MissesSheet}
 
@@ -32,6 +37,22 @@ OfCheck options bytes before after (Err (failures.Stream e)) = IsViewFault (rule
 OfCheck options bytes before after (Err (failures.Stopped s)) =
     ((s ≡ Memory) × IsUntouched before after) ⊎ (((e : _) → IsViewFault (rules_of options) bytes e → ⊥) × Stops before [] after sound_line s)
 OfCheck options bytes before after (Err other) = ⊥
+
+-- what is in force at the end of the globals, of bytes without a fault
+abbrev pub HasGlobals : XlsOptions → List ℕ → State → Type 0
+HasGlobals options bytes globals = ((e : _) → IsViewFault (rules_of options) bytes e → ⊥) × AreGlobals (rules_of options) bytes globals
+
+-- the lines of what is hidden in the sheets that the globals list, or a prefix of them, or the first fault of the bytes
+abbrev pub OfHidden : Form → XlsOptions → List ℕ → SinkState → SinkState → Result (Unit {0}) Failure → Type 0
+OfHidden form options bytes before after (Ok x) =
+    (globals : State) × HasGlobals options bytes globals
+    × WroteEach (IsLineText form) (hidden_lines globals.version globals.sheets bytes) before after
+OfHidden form options bytes before after (Err (failures.Stream e)) = IsViewFault (rules_of options) bytes e × IsUntouched before after
+OfHidden form options bytes before after (Err (failures.Stopped s)) =
+    ((s ≡ Memory) × IsUntouched before after)
+    ⊎ ((globals : State) × HasGlobals options bytes globals
+    × StopsEach (IsLineText form) (hidden_lines globals.version globals.sheets bytes) before after s)
+OfHidden form options bytes before after (Err other) = ⊥
 
 -- how many bytes a stream may have that is written once more
 abbrev pub remade_limit : ℕ
@@ -63,6 +84,7 @@ OfStream answers.Exact options bytes = OfView (rules_of options) bytes IsDump Is
 OfStream (answers.Sheet choice table) options bytes =
     OfView (rules_of options) bytes (IsTableOf choice table) (BeginsTableOf choice table) (MissesSheet choice)
 OfStream answers.Check options bytes = OfCheck options bytes
+OfStream (answers.Hidden form) options bytes = OfHidden form options bytes
 OfStream answers.Remade options bytes = OfRemade bytes
 OfStream answers.Bytes options bytes = OfBytes bytes
 
@@ -77,6 +99,7 @@ HasNumber (answers.Sheet choice table) = IsNumbered choice
 HasNumber (answers.Lines lines form) = Unit {0}
 HasNumber answers.Exact = Unit {0}
 HasNumber answers.Check = Unit {0}
+HasNumber (answers.Hidden form) = Unit {0}
 HasNumber answers.Remade = Unit {0}
 HasNumber answers.Bytes = Unit {0}
 

@@ -13,6 +13,8 @@ pub enum Answer<'w> {
     Sheet(SheetChoice<'w>, Table),
     /// That its stream has no fault.
     Check,
+    /// What is hidden in its sheets, in a form.
+    Hidden(Form),
     /// Its stream once more in canonical form.
     Remade,
     /// The bytes of its stream.

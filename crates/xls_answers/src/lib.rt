@@ -4,6 +4,7 @@
 mod answer;
 mod check;
 mod failure;
+mod hidden;
 mod lines;
 mod notes;
 mod options;

@@ -9,6 +9,7 @@ ghost use Rattle.xls_view.specs.Viewing.{IsViewed};
 use crate::answer::Answer;
 use crate::check::write_check;
 use crate::failure::Failure;
+use crate::hidden::write_hidden_lines;
 use crate::lines::write_lines;
 use crate::notes::Notes;
 use crate::remake::{write_remade, write_whole};
@@ -59,6 +60,7 @@ pub fn write_stream<K: Sink>(
             write_sheet_of(alloc, sink, choice, table, options, bytes, notes)
         }
         Answer::Check => write_check(alloc, sink, options, bytes),
+        Answer::Hidden(form) => write_hidden_lines(alloc, sink, *form, options, bytes),
         Answer::Remade => write_remade(alloc, sink, bytes),
         Answer::Bytes => write_whole(sink, bytes),
     }
