@@ -1,2 +1,3 @@
 pub mod Doubles
 pub mod Numbers
+pub mod Contents
