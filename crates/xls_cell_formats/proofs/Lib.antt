@@ -1,2 +1,4 @@
 mod TextLemmas
+mod KeptLemmas
+mod CodeFacts
 mod CellFormatFacts

@@ -3,8 +3,11 @@
 
 mod contents;
 mod doubles;
+mod formats;
+mod kept;
 mod numbers;
 
 pub use contents::push_content;
 pub use doubles::bits_of;
+pub use formats::CellFormats;
 pub use numbers::{class_under, numeric_under, push_number};
