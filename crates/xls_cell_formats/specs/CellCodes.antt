@@ -1,6 +1,5 @@
 -- The code of a cell's format ([MS-XLS] 2.4.353 XF, 2.4.126 Format).
 use Rattle.std.specs.Prelude.{ℕ, List, unwrap_or, codes}
-use Rattle.std.specs.Option.{option_map, option_or}
 use Rattle.std.specs.Str.{chars}
 use Rattle.xls_number_formats.specs.Builtins.{built_in_code}
 use Rattle.xls_view.specs.Codes.{identifier_at, last_code}
