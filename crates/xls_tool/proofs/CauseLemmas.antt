@@ -26,6 +26,7 @@ use Rattle.xls_words.specs.declared.word.Word.TheVariants as words
 -- what a host can't read
 pub unread : (finds : Option (List ℕ) → Type 0) (reason : Reason) → (reason ≢ reasons.Memory → finds None) → IsUnread finds (problems.Unread reason)
 unread finds reasons.Memory lacks = inl refl
+unread finds reasons.Exists lacks = inr (refl, lacks (λ e. cc e))
 unread finds (reasons.Reported text) lacks = inr (refl, lacks (λ e. cc e))
 
 -- so nothing was answered
