@@ -306,8 +306,11 @@ pub(crate) fn write_workbook_files<H: Host>(
             };
             write_sheet_files(alloc, host, &files, &view)
         }
-        Answer::Lines(..) | Answer::Exact | Answer::Check | Answer::Remade | Answer::Bytes => {
-            write_text_file(alloc, host, job, out, answer, book, notes)
-        }
+        Answer::Lines(..)
+        | Answer::Exact
+        | Answer::Check
+        | Answer::Hidden(_)
+        | Answer::Remade
+        | Answer::Bytes => { write_text_file(alloc, host, job, out, answer, book, notes) }
     }
 }
