@@ -28,7 +28,7 @@ const DUMP: &str =
 
 const SHEETS: &str = "sheet\tA\tworksheet\tvisible\nsheet\tB/\tworksheet\thidden\n";
 
-static RUNS: [Run; 49] = [
+static RUNS: [Run; 50] = [
     // One file.
     (&["a.xls"], 0, DUMP, "", ""),
     (
@@ -55,6 +55,7 @@ static RUNS: [Run; 49] = [
     (&["sheets", "a.xls"], 0, SHEETS, "", ""),
     (&["formulas", "a.xls"], 0, SHEETS, "", ""),
     (&["refs", "a.xls"], 0, "", "", ""),
+    (&["hidden", "a.xls"], 0, SHEETS, "", ""),
     (&["check", "a.xls"], 0, "ok\n", "", ""),
     (&["csv", "a.xls"], 0, "4.5\n", "", ""),
     (
