@@ -10,7 +10,7 @@ use Rattle.std.proofs.lemmas.Slice.Eq.{bytes_eq-Decides}
 use Rattle.std.proofs.lemmas.Str.{encodes-chars, IsUtf8-string_bytes}
 use Rattle.xls_record.specs.declared.version.Biff.{Biff}
 use Rattle.xls_hidden.specs.FilterAreas.{first_area}
-use Rattle.xls_hidden.specs.PartRecords.{Placed}
+use Rattle.xls_parts.specs.PartRecords.{Placed}
 use Rattle.xls_hidden.specs.declared.lines.FilterArea.{FilterArea}
 use Rattle.xls_meaning.specs.Reading.{last_named}
 use Rattle.xls_open.specs.Globals.{listed_of}

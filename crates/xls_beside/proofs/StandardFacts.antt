@@ -5,7 +5,7 @@ use Rattle.xls_data.specs.Sheets.{SheetContent}
 use Rattle.xls_data.specs.declared.sheets.SheetType.TheVariants.{WorkSheet}
 use Rattle.xls_data.specs.declared.sheets.SheetVisible.TheVariants.{Visible}
 use Rattle.xls_record.specs.declared.version.Biff.TheVariants.{Biff8}
-use Rattle.xls_hidden.specs.PartRecords.{Placed}
+use Rattle.xls_parts.specs.PartRecords.{Placed}
 use Rattle.xls_hidden.specs.declared.damage.DamagedRecord.TheVariants as names
 use Rattle.xls_hidden.specs.declared.damage.Damage.{Damage}
 use Rattle.xls_hidden.specs.declared.damage.Flaw.TheVariants.{Short, PastLastRow}

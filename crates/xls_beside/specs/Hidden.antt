@@ -8,16 +8,12 @@ use Rattle.xls_data.specs.Sheets.{SheetContent}
 use Rattle.xls_record.specs.declared.version.Biff.{Biff}
 use Rattle.xls_hidden.specs.FilterAreas.{first_area}
 use Rattle.xls_hidden.specs.Hidden.{hidden_items, said_in}
-use Rattle.xls_hidden.specs.PartRecords.{Placed, until_eof, records_at}
+use Rattle.xls_parts.specs.PartRecords.{Placed, globals_records}
 use Rattle.xls_hidden.specs.declared.sheet.HiddenItem.{HiddenItem}
 use Rattle.xls_meaning.specs.Reading.{last_named}
 use Rattle.xls_open.specs.Globals.{Sheets}
 use Rattle.xls_beside.specs.declared.parts.SheetPart.{SheetPart}
 use Rattle.xls_beside.specs.Lines.{Line, sheet, hidden}
-
--- the records of the globals, which a stream begins with
-abbrev pub globals_records : List ℕ → List Placed
-globals_records stream = until_eof (records_at 0 stream)
 
 -- each sheet with the offset of its part and the area of its filter, where the first has this index from 0
 abbrev pub parts_from : Biff → List Placed → ℕ → Sheets → List (SheetContent × SheetPart)

@@ -5,9 +5,9 @@ ghost use Rattle.std.specs.BTreeMap.{get_by_text};
 ghost use Rattle.std.specs.Map.{update};
 ghost use Rattle.std.specs.Str.{bytes_eq};
 ghost use Rattle.xls_hidden.specs.FilterAreas.{AreAreas};
-ghost use Rattle.xls_hidden.specs.PartRecords.{Placed};
+ghost use Rattle.xls_parts.specs.PartRecords.{Placed, globals_records};
 ghost use Rattle.xls_open.specs.Globals.{listed_of};
-ghost use Rattle.xls_beside.specs.Hidden.{IsPartIndex, globals_records, parts_from, parts_of};
+ghost use Rattle.xls_beside.specs.Hidden.{IsPartIndex, parts_from, parts_of};
 
 use std::alloc::{AllocError, Global};
 use std::collections::BTreeMap;

@@ -3,20 +3,8 @@ use Rattle.std.proofs.Common.{◌≡◌, ◌≢◌, ℕ, List, [], ◌∷◌, re
 use Rattle.xls_record.specs.declared.version.Biff.{Biff}
 use Rattle.xls_hidden.specs.Walking.{GainsArea, AreAreasSoFar}
 use Rattle.xls_hidden.specs.declared.lines.FilterArea.{FilterArea}
-use Rattle.xls_hidden.specs.PartRecords.{Placed, until_eof}
+use Rattle.xls_parts.specs.PartRecords.{Placed, until_eof}
 use Rattle.xls_hidden.specs.FilterAreas.{record_area, area_for, or_else, first_area, AreAreas}
-
-pub until_end : until_eof [] ≡ []
-unfolding until_eof
-until_end = refl
-
-pub until_stop : (r : Placed) (rs : List Placed) → r.typ ≡ 0x000A → until_eof (r ∷ rs) ≡ []
-unfolding until_eof
-until_stop r rs e = rw e refl
-
-pub until_more : (r : Placed) (rs : List Placed) → r.typ ≢ 0x000A → until_eof (r ∷ rs) ≡ r ∷ until_eof rs
-unfolding until_eof
-until_more r rs n = rw (ne_eqb r.typ 0x000A n) refl
 
 or_none : (x : Option FilterArea) → or_else x None ≡ x
 or_none None = refl

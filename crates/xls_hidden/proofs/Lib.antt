@@ -1,7 +1,5 @@
-pub mod PartRecordsLemmas
 pub mod RunLemmas
 pub mod HiddenLemmas
 pub mod StandardFacts
 pub mod FilterAreaLemmas
 pub mod LongestLemmas
-pub mod PartLemmas

@@ -2,7 +2,6 @@
 use Rattle.std.proofs.Common.{◌≡◌, ℕ, List, [], ◌∷◌, ◌++◌, map, replicate, take, drop, refl, Bool, true, false, Option, Some, None, get_or}
 use Rattle.xls_bytes.specs.Numbers.{le16}
 use Rattle.xls_record.specs.declared.version.Biff.TheVariants.{Biff5, Biff8}
-use Rattle.xls_stream.specs.Stream.{record_bytes}
 use Rattle.xls_hidden.specs.declared.damage.DamagedRecord.TheVariants as names
 use Rattle.xls_hidden.specs.declared.damage.Flaw.{Flaw}
 use Rattle.xls_hidden.specs.declared.damage.Flaw.TheVariants as flaws
@@ -21,7 +20,7 @@ use Rattle.xls_hidden.specs.declared.said.Said.{Said}
 use Rattle.xls_hidden.specs.declared.said.Said.TheVariants as says
 use Rattle.xls_hidden.specs.declared.sheet.HiddenItem.TheVariants as items
 use Rattle.xls_hidden.specs.declared.types.TheConstants as types
-use Rattle.xls_hidden.specs.PartRecords.{Placed, records_at, own_records, records_within, outer_from, own_from, until_eof}
+use Rattle.xls_parts.specs.PartRecords.{Placed}
 use Rattle.xls_hidden.specs.Fields.{row_at, columns_at, default_hides_at, window_at, pane_at}
 use Rattle.xls_hidden.specs.Said.{said_of}
 use Rattle.xls_hidden.specs.States.{row_why, column_why}
@@ -31,34 +30,12 @@ use Rattle.xls_hidden.specs.FilterAreas.{lbl_area, first_area}
 use Rattle.xls_hidden.specs.Hidden.{damages_in, items_of}
 
 -- the numbers of the record types and of the rows and columns
-pub known_types : types.PANE ∷ types.COL_INFO ∷ types.FILTER_MODE ∷ types.USER_S_VIEW_BEGIN ∷ types.USER_S_VIEW_END ∷ types.ROW ∷ types.DEFAULT_ROW_HEIGHT ∷ types.WINDOW_2 ∷ []
-    ≡ 0x41 ∷ 0x7D ∷ 0x9B ∷ 0x1AA ∷ 0x1AB ∷ 0x208 ∷ 0x225 ∷ 0x23E ∷ []
+pub known_types : types.PANE ∷ types.COL_INFO ∷ types.FILTER_MODE ∷ types.ROW ∷ types.DEFAULT_ROW_HEIGHT ∷ types.WINDOW_2 ∷ []
+    ≡ 0x41 ∷ 0x7D ∷ 0x9B ∷ 0x208 ∷ 0x225 ∷ 0x23E ∷ []
 known_types = refl
 
 pub known_sizes : types.COLUMNS ∷ types.ROWS ∷ types.ROWS_BEFORE_BIFF8 ∷ [] ≡ 256 ∷ 65536 ∷ 16384 ∷ []
 known_sizes = refl
-
--- ---- records
-
--- a BOF, a Row of one byte, a nested substream with one, a view with one, an empty ColInfo, the EOF, and a Row behind it
-abbrev part : List ℕ
-part = record_bytes 0x809 [] ++ record_bytes 0x208 (1 ∷ []) ++ record_bytes 0x809 [] ++ record_bytes 0x208 (2 ∷ []) ++ record_bytes 0x00A []
-    ++ record_bytes 0x1AA [] ++ record_bytes 0x208 (3 ∷ []) ++ record_bytes 0x1AB [] ++ record_bytes 0x07D [] ++ record_bytes 0x00A [] ++ record_bytes 0x208 (4 ∷ [])
-
-pub known_own : own_records 100 part ≡ record { offset = 104; typ = 0x208; body = 1 ∷ [] } ∷ record { offset = 135; typ = 0x07D; body = [] } ∷ []
-unfolding records_within outer_from own_from
-known_own = refl
-
--- records up to one that is cut, and a Continue as a record of its own
-pub known_cut : records_at 7 (record_bytes 0x208 (1 ∷ 2 ∷ []) ++ record_bytes 0x03C (3 ∷ []) ++ 0x08 ∷ 0x02 ∷ 0x02 ∷ 0x00 ∷ 0x05 ∷ [])
-    ≡ record { offset = 7; typ = 0x208; body = 1 ∷ 2 ∷ [] } ∷ record { offset = 13; typ = 0x03C; body = 3 ∷ [] } ∷ []
-unfolding records_within
-known_cut = refl
-
--- without a BOF of its own a part ends at its first EOF
-pub known_bare : own_records 0 (record_bytes 0x208 [] ++ record_bytes 0x00A [] ++ record_bytes 0x208 []) ≡ record { offset = 0; typ = 0x208; body = [] } ∷ []
-unfolding records_within outer_from own_from
-known_bare = refl
 
 -- ---- fields
 
@@ -297,8 +274,3 @@ pub known_first_area : map (λ sheet. first_area Biff8 sheet
     ∷ at_9 0x018 (lbl 0x0020 1 11 1 (0x00 ∷ 0x0D ∷ 0x3B ∷ 9 ∷ 9 ∷ 4 ∷ 0 ∷ 5 ∷ 0 ∷ 0 ∷ 0 ∷ 3 ∷ 0 ∷ [])) ∷ [])) (0 ∷ 1 ∷ [])
     ≡ Some (record { first = 2; last = 8 }) ∷ None ∷ []
 known_first_area = refl
-
--- names stand before the EOF of the globals
-pub known_globals : until_eof (at_9 0x018 [] ∷ at_9 0x00A [] ∷ at_9 0x018 [] ∷ []) ≡ at_9 0x018 [] ∷ []
-unfolding until_eof
-known_globals = refl

@@ -8,7 +8,7 @@ use Rattle.xls_stream.specs.declared.types.TheConstants.{LBL}
 use Rattle.xls_hidden.specs.declared.filter_areas.SheetArea.{SheetArea}
 use Rattle.xls_hidden.specs.declared.lines.FilterArea.{FilterArea}
 use Rattle.xls_hidden.specs.Fields.{u16_at, has_bit}
-use Rattle.xls_hidden.specs.PartRecords.{Placed}
+use Rattle.xls_parts.specs.PartRecords.{Placed}
 
 -- ---- the name
 

@@ -12,7 +12,7 @@ use Rattle.xls_hidden.specs.declared.said.Said.TheVariants as says
 use Rattle.xls_hidden.specs.declared.sheet.HiddenItem.{HiddenItem}
 use Rattle.xls_hidden.specs.declared.sheet.HiddenItem.TheVariants.{Rows, Columns, Frozen, Zeros, Damaged}
 use Rattle.xls_hidden.specs.Lines.{Table, why_at}
-use Rattle.xls_hidden.specs.PartRecords.{own_records}
+use Rattle.xls_parts.specs.PartRecords.{own_records}
 use Rattle.xls_hidden.specs.Said.{said_of, row_count}
 use Rattle.xls_hidden.specs.States.{row_why, column_why}
 use Rattle.xls_hidden.specs.Runs.{runs_from}

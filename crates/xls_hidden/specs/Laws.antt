@@ -1,11 +1,5 @@
--- Laws over runs, and over the records of a part.
+-- A law over runs.
 use Rattle.std.specs.Prelude.{◌≡◌, ◌≢◌, ℕ, ◌+◌, ◌<◌, ◌≤◌, List, [], ◌∷◌, map, Bool, not, ◌&&◌, ◌==◌, nat_le, if◌then◌else◌, Option, Some, None}
-use Rattle.std.specs.List.{filter}
-use Rattle.xls_stream.specs.Stream.{Group}
-use Rattle.xls_stream.specs.Substreams.{SheetPart, outer_in}
-use Rattle.xls_stream.specs.Listing.{Kept, kept_group}
-use Rattle.xls_stream.specs.declared.types.TheConstants.{CONTINUE}
-use Rattle.xls_hidden.specs.PartRecords.{Placed, records_at, outer_from}
 use Rattle.xls_hidden.specs.declared.lines.Run.{Run}
 use Rattle.xls_hidden.specs.declared.lines.Why.{Why}
 use Rattle.xls_hidden.specs.Runs.{runs_from}
@@ -36,21 +30,3 @@ pub record Tell (why : ℕ → Option Why) (line n : ℕ) (runs : List Run) : Ty
 
 abbrev pub RunsAreLongest : Type 0
 RunsAreLongest = (why : ℕ → Option Why) (line n : ℕ) → Tell why line n (runs_from why line n)
-
--- ---- the records of a part
-
--- a record without its place
-abbrev pub kept_of : Placed → Kept
-kept_of r = record { typ = r.typ; body = r.body }
-
-abbrev pub is_no_continue : Kept → Bool
-is_no_continue k = not (k.typ == CONTINUE)
-
--- those of some records that are no Continue records, without their places
-abbrev pub kinds_of : List Placed → List Kept
-kinds_of rs = filter is_no_continue (map kept_of rs)
-
--- of a sheet part that isn't cut the records outside nested substreams are those that its grammar finds
-abbrev pub OuterAreThose : Type 0
-OuterAreThose = (part : List ℕ) (kept : List Group) (p : SheetPart part kept None) (offset : ℕ)
-    → kinds_of (outer_from 0 (records_at offset part)) ≡ filter is_no_continue (map kept_group (outer_in p.outline))

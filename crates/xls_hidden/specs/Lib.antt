@@ -1,4 +1,3 @@
-pub mod PartRecords
 pub mod Fields
 pub mod Said
 pub mod States
@@ -9,6 +8,5 @@ pub mod Hidden
 pub mod FilterAreas
 pub mod Texts
 pub mod Laws
-pub mod Steps
 pub mod Walking
 pub mod Reading

@@ -10,7 +10,7 @@ use Rattle.xls_hidden.specs.declared.damage.Flaw.TheVariants as flaws
 use Rattle.xls_hidden.specs.declared.fields.RowMark.{RowMark}
 use Rattle.xls_hidden.specs.declared.said.Said.{Said}
 use Rattle.xls_hidden.specs.declared.said.Said.TheVariants.{Nothing, Row, Columns, OtherRows, Filter, Window, Pane, Damaged}
-use Rattle.xls_hidden.specs.PartRecords.{Placed}
+use Rattle.xls_parts.specs.PartRecords.{Placed}
 use Rattle.xls_hidden.specs.Fields.{row_at, columns_at, default_hides_at, window_at, pane_at}
 
 -- a sheet has 65,536 rows, and 16,384 before BIFF8

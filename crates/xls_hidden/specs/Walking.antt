@@ -1,6 +1,5 @@
--- For the proofs: what the walks over bytes, lines and records say on their way.
+-- For the proofs: what the walks over lines and records say on their way.
 use Rattle.std.specs.Prelude.{◌≡◌, ℕ, ◌+◌, ◌-◌, ◌<◌, List, [], take, drop, length, true, Option, Some, None, slice_index_or}
-use Rattle.xls_bytes.specs.Numbers.{le}
 use Rattle.xls_record.specs.declared.version.Biff.{Biff}
 use Rattle.xls_hidden.specs.declared.filter_areas.SheetArea.{SheetArea}
 use Rattle.xls_hidden.specs.declared.lines.FilterArea.{FilterArea}
@@ -8,18 +7,10 @@ use Rattle.xls_hidden.specs.declared.lines.Why.{Why}
 use Rattle.xls_hidden.specs.declared.said.Said.{Said}
 use Rattle.xls_hidden.specs.declared.window.WindowSoFar.{WindowSoFar}
 use Rattle.xls_hidden.specs.declared.window.WindowSoFar.TheVariants.{Before, Begun, Whole}
-use Rattle.xls_hidden.specs.PartRecords.{Placed, size_at, starts_whole}
+use Rattle.xls_parts.specs.PartRecords.{Placed}
 use Rattle.xls_hidden.specs.Runs.{runs_from}
 use Rattle.xls_hidden.specs.Windows.{FirstWindow, pane_in, first_window}
 use Rattle.xls_hidden.specs.FilterAreas.{area_for, or_else, first_area}
-
--- the bytes begin with a whole record of this type and body, and then the rest
-pub record SplitsFirst (bytes : List ℕ) (typ : ℕ) (body rest : List ℕ) : Type 0 where
-  pub whole : starts_whole bytes ≡ true
-  pub typ_is : typ ≡ le (take 2 bytes)
-  pub body_is : body ≡ take (size_at bytes) (drop 4 bytes)
-  pub size_is : length body ≡ size_at bytes
-  pub rest_is : rest ≡ drop (4 + size_at bytes) bytes
 
 -- from this line on the first that can't be seen is that one, for this reason
 pub record IsFirstUnseen (why : ℕ → Option Why) (from count line : ℕ) (reason : Why) : Type 0 where

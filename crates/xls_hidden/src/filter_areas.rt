@@ -1,17 +1,17 @@
 //! The areas of the filters of a workbook's sheets, by the names of its globals.
 
 ghost use Rattle.std.specs.Prelude.{◌≡◌, ◌<◌, ◌≤◌, ◌+◌, ◌^◌, ℕ, None, IfOk, length, slice_index_or};
-ghost use Rattle.xls_hidden.specs.PartRecords.{placed_of, until_eof, records_at};
+ghost use Rattle.xls_parts.specs.PartRecords.{globals_records, placed_of};
 ghost use Rattle.xls_hidden.specs.FilterAreas as areas;
 ghost use Rattle.xls_hidden.specs.FilterAreas.{AreAreas};
 ghost use Rattle.xls_hidden.specs.Walking.{GainsArea};
 
 use crate::fields::u16_at;
 use crate::lines::FilterArea;
-use crate::part_records::{PartRecord, WholeRecords};
+use xls_parts::{GlobalsRecords, PartRecord};
 use std::alloc::{AllocError, Global};
 use xls_record::{Biff, is_biff8};
-use xls_stream::types::{EOF, LBL};
+use xls_stream::types::LBL;
 
 /// The area of a filter, and the number of its sheet from 1.
 #[derive(Clone, Copy)]
@@ -132,14 +132,10 @@ pub fn read_filter_areas(
     version: Biff,
     sheets: usize,
 ) -> Result<Vec<Option<FilterArea>>, AllocError>
-    ensures { IfOk result (λ areas. AreAreas version (until_eof (records_at 0 stream.now)) sheets areas.items) }
+    ensures { IfOk result (λ areas. AreAreas version (globals_records stream.now) sheets areas.items) }
 {
     let mut areas: Vec<Option<FilterArea>> = vec![in alloc; None; sheets]?;
-    let mut records = WholeRecords::new(stream, 0);
-    while let Some(r) = records.next() {
-        if r.typ == EOF {
-            return Ok(areas);
-        }
+    'records: for r in GlobalsRecords::new(stream) {
         put_area(&mut areas, record_area(version, &r));
     }
     Ok(areas)

@@ -6,7 +6,6 @@ mod fields;
 mod filter_areas;
 mod laws;
 mod lines;
-mod part_records;
 mod reading;
 mod said;
 mod sheet;
@@ -16,9 +15,8 @@ mod window;
 pub use damage::{Damage, DamagedRecord, Flaw};
 pub use fields::{ColumnMarks, Mark, Pane, RowMark, Window};
 pub use filter_areas::read_filter_areas;
-pub use laws::{outer_are_those, runs_are_longest};
+pub use laws::runs_are_longest;
 pub use lines::{FilterArea, Run, Runs, Why};
-pub use part_records::{PartRecord, PartRecords};
 pub use said::{Said, row_count, said_of};
 pub use sheet::{HiddenItem, HiddenItems, HiddenSheet, read_hidden};
 

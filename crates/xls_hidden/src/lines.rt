@@ -192,7 +192,7 @@ impl<'s> Runs<'s> {
 impl<'s> Iterator for Runs<'s> {
     ghost use Rattle.std.specs.Prelude.{length};
     ghost use Rattle.std.specs.Iterator.{at_most};
-    ghost use Rattle.xls_hidden.specs.Steps.{Steps};
+    ghost use Rattle.xls_parts.specs.Steps.{Steps};
 
     type Item = Run;
 

@@ -6,7 +6,7 @@ ghost use Rattle.xls_hidden.specs.Said.{row_count, said_of};
 ghost use Rattle.xls_hidden.specs.Reading.{Goes, IsRead, MarksLines};
 
 use crate::fields::Mark;
-use crate::part_records::PartRecords;
+use xls_parts::PartRecords;
 use crate::said::{Said, row_count, said_of};
 use crate::types::COLUMNS;
 use crate::window::WindowSoFar;

@@ -1,14 +1,14 @@
 //! What one record of a sheet's own says.
 
 ghost use Rattle.std.specs.Prelude.{◌≡◌};
-ghost use Rattle.xls_hidden.specs.PartRecords.{placed_of};
+ghost use Rattle.xls_parts.specs.PartRecords.{placed_of};
 ghost use Rattle.xls_hidden.specs.Said as said;
 
 use crate::damage::{Damage, DamagedRecord, Flaw};
 use crate::fields::{
     ColumnMarks, Pane, RowMark, Window, columns_at, default_hides_at, pane_at, row_at, window_at,
 };
-use crate::part_records::PartRecord;
+use xls_parts::PartRecord;
 use crate::types::{
     COL_INFO, DEFAULT_ROW_HEIGHT, FILTER_MODE, PANE, ROW, ROWS, ROWS_BEFORE_BIFF8, WINDOW_2,
 };

@@ -7,7 +7,7 @@ ghost use Rattle.xls_hidden.specs.Lines.{why_at};
 use crate::damage::Damage;
 use crate::fields::Pane;
 use crate::lines::{FilterArea, Lines, Run, Runs, Why};
-use crate::part_records::PartRecords;
+use xls_parts::PartRecords;
 use crate::reading::read_records;
 use crate::said::{Said, row_count, said_of};
 use crate::types::COLUMNS;
@@ -154,7 +154,7 @@ impl<'a> Model for Damages<'a> {
 impl<'a> Iterator for Damages<'a> {
     ghost use Rattle.std.specs.Prelude.{length};
     ghost use Rattle.std.specs.Iterator.{at_most};
-    ghost use Rattle.xls_hidden.specs.Steps.{Steps};
+    ghost use Rattle.xls_parts.specs.Steps.{Steps};
 
     type Item = Damage;
 
@@ -195,7 +195,7 @@ impl<'s, 'a> Model for HiddenItems<'s, 'a> {
 impl<'s, 'a> Iterator for HiddenItems<'s, 'a> {
     ghost use Rattle.std.specs.Prelude.{length};
     ghost use Rattle.std.specs.Iterator.{at_most};
-    ghost use Rattle.xls_hidden.specs.Steps.{Steps};
+    ghost use Rattle.xls_parts.specs.Steps.{Steps};
 
     type Item = HiddenItem;
 

@@ -6,10 +6,6 @@ pub const COL_INFO: u16 = 0x007D;
 
 pub const FILTER_MODE: u16 = 0x009B;
 
-pub const USER_S_VIEW_BEGIN: u16 = 0x01AA;
-
-pub const USER_S_VIEW_END: u16 = 0x01AB;
-
 pub const ROW: u16 = 0x0208;
 
 pub const DEFAULT_ROW_HEIGHT: u16 = 0x0225;

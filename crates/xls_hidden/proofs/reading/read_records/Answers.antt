@@ -1,5 +1,5 @@
 use Rattle.std.proofs.Common.{◌≡◌, List, map, sym, subst}
-use Rattle.xls_hidden.specs.PartRecords.{Placed}
+use Rattle.xls_parts.specs.PartRecords.{Placed}
 use Rattle.xls_hidden.specs.Said.{said_of}
 use Rattle.xls_hidden.specs.Reading.{IsRead}
 use Rattle.xls_hidden.proofs.reading.read_records.Goals as goal

@@ -1,5 +1,5 @@
 use Rattle.std.proofs.Common.{◌≡◌, List, [], map, subst}
-use Rattle.xls_hidden.specs.PartRecords.{Placed, own_records}
+use Rattle.xls_parts.specs.PartRecords.{Placed, own_records}
 use Rattle.xls_hidden.specs.Said.{said_of}
 use Rattle.xls_hidden.specs.Reading.{IsRead}
 use Rattle.xls_hidden.specs.Hidden.{said_in}

@@ -1,7 +1,7 @@
 use Rattle.std.proofs.Common.{rules, sym, ap, ◌∙◌}
-use Rattle.xls_hidden.specs.PartRecords.{placed_of, own_from}
-use Rattle.xls_hidden.proofs.PartRecordsLemmas.{own_end, own_begin, own_leave, own_inside, own_kept, one_fewer}
-use Rattle.xls_hidden.proofs.part_records.PartRecordsIterator.next.Goals as goal
+use Rattle.xls_parts.specs.PartRecords.{placed_of, own_from}
+use Rattle.xls_parts.proofs.PartRecordsLemmas.{own_end, own_begin, own_leave, own_inside, own_kept, one_fewer}
+use Rattle.xls_parts.proofs.part_records.PartRecordsIterator.next.Goals as goal
 
 pub loop-record-preserved-then-record-eq-USER_S_VIEW_BEGIN : goal.loop-record-preserved-then-record-eq-USER_S_VIEW_BEGIN
 loop-record-preserved-then-record-eq-USER_S_VIEW_BEGIN c =

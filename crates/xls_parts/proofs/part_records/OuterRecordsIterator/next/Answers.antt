@@ -1,7 +1,7 @@
 use Rattle.std.proofs.Common.{rules, sym, ap, ◌∙◌, arith, length, ◌≡◌, ◌∷◌}
-use Rattle.xls_hidden.specs.PartRecords.{placed_of, outer_from}
-use Rattle.xls_hidden.proofs.PartRecordsLemmas.{records_empty, outer_end, outer_bof, outer_eof, outer_eof_inside, outer_kept, outer_inside, one_fewer}
-use Rattle.xls_hidden.proofs.part_records.OuterRecordsIterator.next.Goals as goal
+use Rattle.xls_parts.specs.PartRecords.{placed_of, outer_from}
+use Rattle.xls_parts.proofs.PartRecordsLemmas.{records_empty, outer_end, outer_bof, outer_eof, outer_eof_inside, outer_kept, outer_inside, one_fewer}
+use Rattle.xls_parts.proofs.part_records.OuterRecordsIterator.next.Goals as goal
 
 pub loop-record-preserved-then-record-eq-BOF : goal.loop-record-preserved-then-record-eq-BOF
 loop-record-preserved-then-record-eq-BOF c =

@@ -1,6 +1,6 @@
 use Rattle.std.proofs.Common.{rules, sym, ◌∙◌}
-use Rattle.xls_hidden.proofs.PartRecordsLemmas.{records_none, records_empty, records_lent, one_fewer}
-use Rattle.xls_hidden.proofs.part_records.WholeRecordsIterator.next.Goals as goal
+use Rattle.xls_parts.proofs.PartRecordsLemmas.{records_none, records_empty, records_lent, one_fewer}
+use Rattle.xls_parts.proofs.part_records.WholeRecordsIterator.next.Goals as goal
 
 pub returns-in_default-clause-steps : goal.returns-in_default-clause-steps
 returns-in_default-clause-steps c =

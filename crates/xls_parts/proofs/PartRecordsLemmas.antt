@@ -1,8 +1,8 @@
--- The records of some bytes, one at a time; and those of a sheet's own.
+-- The records of some bytes, one at a time; those up to an EOF; and those of a sheet's own.
 use Rattle.std.proofs.Common.{◌≡◌, ◌≢◌, ℕ, zero, suc, ◌+◌, ◌-◌, ◌≤◌, ◌<◌, List, [], ◌∷◌, length, drop, refl, sym, ap, ◌∙◌, arith, Bool, true, false, length-drop, ne_eqb}
 use Rattle.std.proofs.lemmas.Bool.{leb-true, le-leb, lt-leb}
-use Rattle.xls_hidden.specs.Walking.{SplitsFirst}
-use Rattle.xls_hidden.specs.PartRecords.{Placed, size_at, starts_whole, first_at, records_within, records_at, outer_from, own_from}
+use Rattle.xls_parts.specs.Walking.{SplitsFirst}
+use Rattle.xls_parts.specs.PartRecords.{Placed, size_at, starts_whole, first_at, records_within, records_at, until_eof, outer_from, own_from}
 
 -- a list that begins with something is longer than the rest
 pub one_fewer : (before after : List Placed) (r : Placed) → before ≡ r ∷ after → length after < length before
@@ -73,6 +73,20 @@ records_none offset bytes e = within_none (length bytes) offset bytes e
 pub records_empty : (offset : ℕ) → records_at offset [] ≡ []
 unfolding records_within
 records_empty offset = refl
+
+-- ---- up to an EOF
+
+pub until_end : until_eof [] ≡ []
+unfolding until_eof
+until_end = refl
+
+pub until_stop : (r : Placed) (rs : List Placed) → r.typ ≡ 0x000A → until_eof (r ∷ rs) ≡ []
+unfolding until_eof
+until_stop r rs e = rw e refl
+
+pub until_more : (r : Placed) (rs : List Placed) → r.typ ≢ 0x000A → until_eof (r ∷ rs) ≡ r ∷ until_eof rs
+unfolding until_eof
+until_more r rs n = rw (ne_eqb r.typ 0x000A n) refl
 
 -- ---- outside nested substreams
 

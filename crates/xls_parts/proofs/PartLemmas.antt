@@ -9,10 +9,10 @@ use Rattle.xls_stream.specs.Stream.{record_bytes, continues, Group, IsBody, Begi
 use Rattle.xls_stream.specs.Substreams.{IsBof, IsEof, IsPlain, Items, none, plain, nested, AreItems, groups_of, outer_of, Open, no_more, open_at, IsOpen, open_groups, Outline, bare_closed, bare_open, own_closed, own_open, IsOutline, groups_of_outline, outer_in, EndsSo}
 use Rattle.xls_stream.specs.Listing.{Kept, kept_group}
 use Rattle.xls_stream.proofs.Records.{le_le16}
-use Rattle.xls_hidden.specs.PartRecords.{Placed, size_at, starts_whole, first_at, records_within, records_at, outer_from}
-use Rattle.xls_hidden.specs.Laws.{kept_of, is_no_continue, kinds_of, OuterAreThose}
-use Rattle.xls_hidden.proofs.PartRecordsLemmas.{within_none, within_first, records_lent}
-use Rattle.xls_hidden.proofs.PartRecordsLemmas as records
+use Rattle.xls_parts.specs.PartRecords.{Placed, size_at, starts_whole, first_at, records_within, records_at, outer_from}
+use Rattle.xls_parts.specs.Laws.{kept_of, is_no_continue, kinds_of, OuterAreThose}
+use Rattle.xls_parts.proofs.PartRecordsLemmas.{within_none, within_first, records_lent}
+use Rattle.xls_parts.proofs.PartRecordsLemmas as records
 
 -- ---- a record at the beginning
 

@@ -4,8 +4,8 @@
 use Rattle.std.specs.Prelude.{ℕ, zero, suc, ◌+◌, ◌-◌, List, [], ◌∷◌, length, take, drop, Bool, true, false, nat_le, ◌==◌, if◌then◌else◌}
 use Rattle.xls_bytes.specs.Numbers.{le}
 use Rattle.xls_stream.specs.declared.types.TheConstants.{BOF, EOF}
-use Rattle.xls_hidden.specs.declared.types.TheConstants.{USER_S_VIEW_BEGIN, USER_S_VIEW_END}
-use Rattle.xls_hidden.specs.declared.part_records.PartRecord.{PartRecord}
+use Rattle.xls_parts.specs.declared.types.TheConstants.{USER_S_VIEW_BEGIN, USER_S_VIEW_END}
+use Rattle.xls_parts.specs.declared.part_records.PartRecord.{PartRecord}
 
 -- a record ([MS-XLS] 2.1.4): the place of its header in the stream, its type and its body
 pub record Placed : Type 0 where
@@ -51,6 +51,10 @@ records_at offset bytes = records_within (length bytes) offset bytes
 unfoldable pub until_eof : List Placed → List Placed
 until_eof [] = []
 until_eof (r ∷ rs) = if r.typ == EOF then [] else r ∷ until_eof rs
+
+-- the records of the globals, which a stream begins with
+abbrev pub globals_records : List ℕ → List Placed
+globals_records stream = until_eof (records_at 0 stream)
 
 -- ---- those of the sheet's own
 

@@ -1,8 +1,8 @@
-//! The records of a sheet's own, with their places: outside nested substreams and custom views.
+//! The records of the globals, and those of a sheet's own, with their places: outside nested substreams and custom views.
 
 ghost use Rattle.std.specs.Prelude.{◌≡◌, ◌<◌, ◌≤◌, ◌+◌, ◌^◌, false, length, MatchOption};
-ghost use Rattle.xls_hidden.specs.PartRecords.{own_records, records_at, starts_whole};
-ghost use Rattle.xls_hidden.specs.Walking.{SplitsFirst};
+ghost use Rattle.xls_parts.specs.PartRecords.{globals_records, own_records, records_at, starts_whole};
+ghost use Rattle.xls_parts.specs.Walking.{SplitsFirst};
 
 use crate::types::{USER_S_VIEW_BEGIN, USER_S_VIEW_END};
 use std::marker::Model;
@@ -40,14 +40,14 @@ fn split_record(bytes: &[u8]) -> Option<(u16, &[u8], &[u8])>
 /// The records of some bytes one after another, up to the first that isn't whole. A Continue is one as all others.
 /// Contracts see the list of the records that are left.
 #[derive(Drop)]
-pub(crate) struct WholeRecords<'a> {
+pub struct WholeRecords<'a> {
     bytes: &'a [u8],
     offset: u64,
 }
 
 impl<'a> Model for WholeRecords<'a> {
     ghost use Rattle.std.specs.Prelude.{List, ◌+◌, ◌<◌, ◌^◌, length};
-    ghost use Rattle.xls_hidden.specs.PartRecords.{Placed, records_at};
+    ghost use Rattle.xls_parts.specs.PartRecords.{Placed, records_at};
 
     ghost Value = { List Placed };
 
@@ -57,7 +57,8 @@ impl<'a> Model for WholeRecords<'a> {
 }
 
 impl<'a> WholeRecords<'a> {
-    pub(crate) fn new(bytes: &'a [u8], offset: u64) -> WholeRecords<'a>
+    /// The records of these bytes, the first of which stands at this offset of the stream. Takes no memory.
+    pub fn new(bytes: &'a [u8], offset: u64) -> WholeRecords<'a>
         requires { offset + length bytes.now < 2 ^ 64 }
         ensures value { result ≡ records_at offset bytes.now }
         ensures few { length result ≤ length bytes.now }
@@ -69,8 +70,8 @@ impl<'a> WholeRecords<'a> {
 impl<'a> Iterator for WholeRecords<'a> {
     ghost use Rattle.std.specs.Prelude.{length};
     ghost use Rattle.std.specs.Iterator.{at_most};
-    ghost use Rattle.xls_hidden.specs.PartRecords.{placed_of};
-    ghost use Rattle.xls_hidden.specs.Steps.{StepsBy};
+    ghost use Rattle.xls_parts.specs.PartRecords.{placed_of};
+    ghost use Rattle.xls_parts.specs.Steps.{StepsBy};
 
     type Item = PartRecord<'a>;
 
@@ -94,6 +95,58 @@ impl<'a> Iterator for WholeRecords<'a> {
     }
 }
 
+/// The records of the globals, which a workbook's stream begins with: those before the first EOF. Takes no memory.
+///
+/// Contracts see the list of the records that are left.
+#[derive(Drop)]
+pub struct GlobalsRecords<'a> {
+    records: WholeRecords<'a>,
+}
+
+impl<'a> Model for GlobalsRecords<'a> {
+    ghost use Rattle.std.specs.Prelude.{List};
+    ghost use Rattle.xls_parts.specs.PartRecords.{Placed, until_eof};
+
+    ghost Value = { List Placed };
+
+    ghost view = { λ s. until_eof s.records };
+}
+
+impl<'a> GlobalsRecords<'a> {
+    /// Those of a stream.
+    pub fn new(stream: &'a [u8]) -> GlobalsRecords<'a>
+        ensures { result ≡ globals_records stream.now }
+    {
+        GlobalsRecords {
+            records: WholeRecords::new(stream, 0),
+        }
+    }
+}
+
+impl<'a> Iterator for GlobalsRecords<'a> {
+    ghost use Rattle.std.specs.Prelude.{length};
+    ghost use Rattle.std.specs.Iterator.{at_most};
+    ghost use Rattle.xls_parts.specs.PartRecords.{placed_of};
+    ghost use Rattle.xls_parts.specs.Steps.{StepsBy};
+
+    type Item = PartRecord<'a>;
+
+    ghost next_gives = { StepsBy placed_of };
+
+    ghost remaining = { λ records. at_most (length records) };
+
+    fn next(&mut self) -> Option<PartRecord<'a>> {
+        let Some(record) = self.records.next() else {
+            return None;
+        };
+        if record.typ == EOF {
+            self.records = WholeRecords::new(&[], 0);
+            return None;
+        }
+        Some(record)
+    }
+}
+
 /// The records outside nested substreams, up to the EOF of the part, where so many BOF records are open. Contracts
 /// see the list of those that are left.
 #[derive(Drop)]
@@ -104,7 +157,7 @@ struct OuterRecords<'a> {
 
 impl<'a> Model for OuterRecords<'a> {
     ghost use Rattle.std.specs.Prelude.{List, ◌+◌, ◌<◌, ◌^◌, length};
-    ghost use Rattle.xls_hidden.specs.PartRecords.{Placed, outer_from};
+    ghost use Rattle.xls_parts.specs.PartRecords.{Placed, outer_from};
 
     ghost Value = { List Placed };
 
@@ -116,8 +169,8 @@ impl<'a> Model for OuterRecords<'a> {
 impl<'a> Iterator for OuterRecords<'a> {
     ghost use Rattle.std.specs.Prelude.{length};
     ghost use Rattle.std.specs.Iterator.{at_most};
-    ghost use Rattle.xls_hidden.specs.PartRecords.{placed_of};
-    ghost use Rattle.xls_hidden.specs.Steps.{StepsBy};
+    ghost use Rattle.xls_parts.specs.PartRecords.{placed_of};
+    ghost use Rattle.xls_parts.specs.Steps.{StepsBy};
 
     type Item = PartRecord<'a>;
 
@@ -155,7 +208,7 @@ pub struct PartRecords<'a> {
 
 impl<'a> Model for PartRecords<'a> {
     ghost use Rattle.std.specs.Prelude.{List};
-    ghost use Rattle.xls_hidden.specs.PartRecords.{Placed, own_from};
+    ghost use Rattle.xls_parts.specs.PartRecords.{Placed, own_from};
 
     ghost Value = { List Placed };
 
@@ -181,8 +234,8 @@ impl<'a> PartRecords<'a> {
 impl<'a> Iterator for PartRecords<'a> {
     ghost use Rattle.std.specs.Prelude.{length};
     ghost use Rattle.std.specs.Iterator.{at_most};
-    ghost use Rattle.xls_hidden.specs.PartRecords.{placed_of};
-    ghost use Rattle.xls_hidden.specs.Steps.{StepsBy};
+    ghost use Rattle.xls_parts.specs.PartRecords.{placed_of};
+    ghost use Rattle.xls_parts.specs.Steps.{StepsBy};
 
     type Item = PartRecord<'a>;
 

@@ -1,6 +1,6 @@
 use Rattle.std.proofs.Common.{◌≡◌, ◌+◌, ◌<◌, ◌^◌, length}
-use Rattle.xls_hidden.specs.PartRecords.{outer_from}
-use Rattle.xls_hidden.proofs.part_records.OuterRecordsIterator.next.Given as goal
+use Rattle.xls_parts.specs.PartRecords.{outer_from}
+use Rattle.xls_parts.proofs.part_records.OuterRecordsIterator.next.Given as goal
 
 abbrev pub invariant-loop-record : goal.invariant-loop-record
 invariant-loop-record l =

@@ -1,0 +1,3 @@
+pub mod PartRecordsLemmas
+pub mod PartLemmas
+pub mod StandardFacts
