@@ -1,9 +1,9 @@
 -- The areas of filters, record by record.
-use Rattle.std.proofs.Common.{◌≡◌, ◌≢◌, ℕ, List, [], ◌∷◌, refl, sym, ap, ◌∙◌, subst, arith, Option, Some, None, slice_index_or, ne_eqb}
+use Rattle.std.proofs.Common.{◌≡◌, ℕ, List, [], ◌∷◌, refl, sym, ap, ◌∙◌, subst, arith, Option, Some, None, slice_index_or}
 use Rattle.xls_record.specs.declared.version.Biff.{Biff}
 use Rattle.xls_hidden.specs.Walking.{GainsArea, AreAreasSoFar}
 use Rattle.xls_hidden.specs.declared.lines.FilterArea.{FilterArea}
-use Rattle.xls_parts.specs.PartRecords.{Placed, until_eof}
+use Rattle.xls_parts.specs.PartRecords.{Placed}
 use Rattle.xls_hidden.specs.FilterAreas.{record_area, area_for, or_else, first_area, AreAreas}
 
 or_none : (x : Option FilterArea) → or_else x None ≡ x

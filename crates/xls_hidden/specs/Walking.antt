@@ -1,5 +1,5 @@
 -- For the proofs: what the walks over lines and records say on their way.
-use Rattle.std.specs.Prelude.{◌≡◌, ℕ, ◌+◌, ◌-◌, ◌<◌, List, [], take, drop, length, true, Option, Some, None, slice_index_or}
+use Rattle.std.specs.Prelude.{◌≡◌, ℕ, ◌-◌, ◌<◌, List, [], length, Option, Some, None, slice_index_or}
 use Rattle.xls_record.specs.declared.version.Biff.{Biff}
 use Rattle.xls_hidden.specs.declared.filter_areas.SheetArea.{SheetArea}
 use Rattle.xls_hidden.specs.declared.lines.FilterArea.{FilterArea}

@@ -8,8 +8,8 @@ ghost use Rattle.xls_hidden.specs.Walking.{GainsArea};
 
 use crate::fields::u16_at;
 use crate::lines::FilterArea;
-use xls_parts::{GlobalsRecords, PartRecord};
 use std::alloc::{AllocError, Global};
+use xls_parts::{GlobalsRecords, PartRecord};
 use xls_record::{Biff, is_biff8};
 use xls_stream::types::LBL;
 

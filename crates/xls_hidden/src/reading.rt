@@ -6,11 +6,11 @@ ghost use Rattle.xls_hidden.specs.Said.{row_count, said_of};
 ghost use Rattle.xls_hidden.specs.Reading.{Goes, IsRead, MarksLines};
 
 use crate::fields::Mark;
-use xls_parts::PartRecords;
 use crate::said::{Said, row_count, said_of};
 use crate::types::COLUMNS;
 use crate::window::WindowSoFar;
 use std::alloc::{AllocError, Global};
+use xls_parts::PartRecords;
 use xls_record::Biff;
 
 /// What is known of a sheet while its records are read.

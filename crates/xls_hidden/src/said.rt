@@ -8,11 +8,11 @@ use crate::damage::{Damage, DamagedRecord, Flaw};
 use crate::fields::{
     ColumnMarks, Pane, RowMark, Window, columns_at, default_hides_at, pane_at, row_at, window_at,
 };
-use xls_parts::PartRecord;
 use crate::types::{
     COL_INFO, DEFAULT_ROW_HEIGHT, FILTER_MODE, PANE, ROW, ROWS, ROWS_BEFORE_BIFF8, WINDOW_2,
 };
 use xls_bytes::read_u16;
+use xls_parts::PartRecord;
 use xls_record::{Biff, is_biff8};
 
 /// What one record says.

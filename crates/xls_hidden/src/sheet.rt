@@ -7,12 +7,12 @@ ghost use Rattle.xls_hidden.specs.Lines.{why_at};
 use crate::damage::Damage;
 use crate::fields::Pane;
 use crate::lines::{FilterArea, Lines, Run, Runs, Why};
-use xls_parts::PartRecords;
 use crate::reading::read_records;
 use crate::said::{Said, row_count, said_of};
 use crate::types::COLUMNS;
 use std::alloc::{AllocError, Global};
 use std::marker::Model;
+use xls_parts::PartRecords;
 use xls_record::Biff;
 
 /// Something hidden in a sheet, or a record that would say so and is damaged.
