@@ -1,10 +1,11 @@
 //! Durations.
 
 ghost use Rattle.std.specs.Prelude.{◌≡◌, ◌<◌, ◌^◌, OnOk, OnErr};
+ghost use Rattle.std.specs.Option.{is_some};
 ghost use Rattle.std.specs.String.{string_bytes};
 ghost use Rattle.xls_output.specs.Added.{AddsText};
 ghost use Rattle.xls_decimals.specs.Texts.{duration_text};
-ghost use Rattle.xls_decimals.specs.Moments.{IsDuration};
+ghost use Rattle.xls_decimals.specs.Moments.{IsDuration, span_of};
 
 use crate::decimals::push_decimal;
 use crate::fractions::days_of;
@@ -24,6 +25,14 @@ fn duration_text(is_negative: bool, ms: u64) -> Short
         text.put_byte(b'-');
     }
     text
+}
+
+/// Whether a number of days is shown as a duration: one of less than 2,958,466 days in size, as `push_duration` shows
+/// it. Takes no memory.
+pub fn is_span(number: Number) -> bool
+    ensures { result ≡ is_some (span_of number) }
+{
+    days_of(number).is_some()
 }
 
 /// Appends a number of days as the number format `[h]:mm:ss` shows a duration, with its fraction of

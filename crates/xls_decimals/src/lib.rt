@@ -11,7 +11,7 @@ mod numbers;
 mod short_texts;
 
 pub use decimals::{push_decimal, push_double};
-pub use durations::push_duration;
+pub use durations::{is_span, push_duration};
 pub use laws::dates_differ;
-pub use moments::{push_date, push_date_or_duration};
+pub use moments::{is_moment, push_date, push_date_or_duration};
 pub use numbers::push_number;

@@ -1,6 +1,7 @@
 //! Dates and times of day.
 
 ghost use Rattle.std.specs.Prelude.{◌≡◌, ◌/◌, ◌≤◌, OnOk, OnErr};
+ghost use Rattle.std.specs.Option.{is_some};
 ghost use Rattle.std.specs.String.{string_bytes};
 ghost use Rattle.xls_output.specs.Added.{AddsText};
 ghost use Rattle.xls_lines.specs.Days.{last_day_in};
@@ -32,6 +33,14 @@ fn moment_of(number: Number, is_1904: bool) -> Option<u64>
         return None;
     }
     Some(days.milliseconds)
+}
+
+/// Whether a number of days has a date and time in the 1900 or the 1904 system: one from 0 to 9999-12-31, as
+/// `push_date` shows it. Takes no memory.
+pub fn is_moment(number: Number, is_1904: bool) -> bool
+    ensures { result ≡ is_some (moment_of is_1904 number) }
+{
+    moment_of(number, is_1904).is_some()
 }
 
 // The text of a day and a time of day.
