@@ -15,5 +15,3 @@ pub mod SurveyLemmas
 pub mod PlainLemmas
 pub mod FormatLemmas
 pub mod FormatFacts
-pub mod CodeLemmas
-pub mod CountLemmas

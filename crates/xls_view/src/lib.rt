@@ -5,7 +5,6 @@
 mod ascent;
 mod cell_place;
 mod cells;
-mod codes;
 mod formats;
 mod formatted;
 mod formulas;

@@ -1,17 +1,17 @@
 //! The view of a stream.
 
-ghost use Rattle.std.specs.Prelude.{◌≡◌, ℕ, Err, IfErr, IfOk, IfSome, List, None, map, slice_get, count_by};
+ghost use Rattle.std.specs.Prelude.{◌≡◌, ℕ, Err, IfErr, IfOk, IfSome, List, None, map, slice_get};
 ghost use Rattle.std.specs.Option.{option_map};
 ghost use Rattle.std.specs.Str.{chars};
 ghost use Rattle.xls_data.specs.Sheets.{sheet_content};
-ghost use Rattle.xls_open.specs.Workbook.{rules_of, rules_under, name_texts};
+ghost use Rattle.xls_open.specs.Workbook.{code_texts, rules_of, rules_under, name_texts};
 ghost use Rattle.xls_open.specs.Globals.{AreGlobals};
 ghost use Rattle.xls_meaning.specs.GlobalsTable.{forced_fault};
 ghost use Rattle.xls_biff.specs.Cells.{CellEntry};
 ghost use Rattle.xls_range.specs.Positions.{IsAscending};
 ghost use Rattle.xls_meaning.specs.Reading.{SheetView, displayed_of};
 ghost use Rattle.xls_view.specs.Displayed.{DisplayedSheet, sheet_view_of};
-ghost use Rattle.xls_view.specs.Codes.{identifier_at, is_uncounted, last_code};
+ghost use Rattle.xls_view.specs.Codes.{identifier_at};
 ghost use Rattle.xls_view.specs.Viewing.{IsViewFault, IsViewed, ViewCause, formatted_named, formulas_named};
 ghost use Rattle.xls_view.specs.Walking.{NamedContext};
 ghost use Rattle.xls_view.specs.Placing.{IsPartOf, settings_viewed};
@@ -22,7 +22,6 @@ ghost use Rattle.xls_record.specs.declared.error.XlsError.{XlsError};
 ghost use Rattle.xls_data.specs.Sheets.{SheetContent};
 ghost use Rattle.xls_open.specs.Globals.{listed_of};
 
-use crate::codes::{count_uncounted, last_code};
 use crate::index::{find_named, index_of};
 use crate::naming::ViewNaming;
 use crate::{Merges, SheetCells, SheetFormulas, ViewSheet, part_at};
@@ -281,20 +280,19 @@ impl<'a> View<'a> {
         }
     }
 
-    /// The code of the last Format record of an identifier; `None` where no Format record has it, as where it is
-    /// built in. Takes no memory; the records are gone through.
-    pub fn code_of(&self, identifier: u16) -> Option<&str>
-        ensures { option_map (λ code. chars code.now) result ≡ last_code self.now.codes identifier }
+    /// The format identifier of each XF record, in order. Takes no memory.
+    pub fn identifiers(&self) -> &[u16]
+        ensures { result.now ≡ self.now.identifiers }
     {
-        last_code(&self.codes, identifier)
+        &self.identifiers
     }
 
-    /// How many Format records have an identifier under which a workbook's own code decides no class of numbers: one
-    /// other than those that `is_format_id` tells. Takes no memory.
-    pub fn uncounted_formats(&self) -> usize
-        ensures { result ≡ count_by is_uncounted self.now.codes }
+    /// Identifier and code of each Format record, in order; of those with one identifier the last counts. Takes no
+    /// memory.
+    pub fn codes(&self) -> &[(u16, String)]
+        ensures { map code_texts result.now ≡ self.now.codes }
     {
-        count_uncounted(&self.codes)
+        &self.codes
     }
 
     /// What formulas may name. Takes no memory.
