@@ -21,7 +21,7 @@ use Rattle.xls_readable.specs.declared.properties.Property.TheVariants as proper
 use Rattle.xls_output.specs.Each.{Concatenates}
 use Rattle.xls_readable.specs.Values.{truth_text}
 use Rattle.xls_readable.specs.Csv.{is_delimiter, is_marked, csv_field, csv_row}
-use Rattle.xls_readable.specs.Items.{FieldItem, NamedItem, IsItemText, IsTabbed, exact_text, word, text, count, int, number, truth, moment, failure}
+use Rattle.xls_readable.specs.Items.{FieldItem, NamedItem, IsItemText, IsTabbed, exact_text, word, text, count, int, number, truth, moment, failure, unknown}
 use Rattle.xls_readable.specs.Json.{IsItemJson, IsMember}
 use Rattle.xls_readable.specs.Lines.{
   IsLine,
@@ -33,6 +33,7 @@ use Rattle.xls_readable.specs.Lines.{
   name_members,
   sheet_members,
   cell_members,
+  shown_cell_members,
   formula_members,
   merge_members,
   ref_members,
@@ -183,11 +184,11 @@ pub known_exact : map exact_text (word (codes "a\t") ∷ text (0xC3 ∷ 0xA9 ∷
     ∷ number (Bits 0x3ff8_0000_0000_0000) ∷ number (Bits 0x4008_0000_0000_0000) ∷ number (Whole (pos 3)) ∷ number (Hundredths (negsuc 4))
     ∷ number (BitsOver100 0x4004_0000_0000_0000) ∷ truth true ∷ truth false
     ∷ moment (record { number = Whole (pos 43831); kind = DateTime; is_1904 = false })
-    ∷ moment (record { number = Bits 0x3fe0_0000_0000_0000; kind = TimeDelta; is_1904 = true }) ∷ failure NA ∷ [])
+    ∷ moment (record { number = Bits 0x3fe0_0000_0000_0000; kind = TimeDelta; is_1904 = true }) ∷ failure NA ∷ unknown ∷ [])
     ≡ codes "a\t" ∷ (0xC3 ∷ 0xA9 ∷ codes "a\\t\\n\\r\\\\") ∷ codes "7" ∷ codes "-12"
     ∷ codes "0x3ff8000000000000" ∷ codes "3" ∷ codes "3" ∷ codes "-0.05"
     ∷ codes "0x4004000000000000/100" ∷ codes "true" ∷ codes "false"
-    ∷ codes "43831" ∷ codes "0x3fe0000000000000" ∷ codes "#N/A" ∷ []
+    ∷ codes "43831" ∷ codes "0x3fe0000000000000" ∷ codes "#N/A" ∷ [] ∷ []
 unfolding digits sixteen_digits size_of_parts chars lib.Utf8.encode
 known_exact = refl
 
@@ -199,6 +200,29 @@ pub known_cell_exact : IsLine Exact (codes "cell") (cell_members 4 1 (codes "flo
     (codes "cell\t4\t1\tfloat\t0x3ff8000000000000\n")
 unfolding digits sixteen_digits size_of_parts
 known_cell_exact = refl
+
+-- a place that isn't known, and a text that is shown
+abbrev damaged : List NamedItem
+damaged = (codes "row", unknown) ∷ (codes "column", count 3) ∷ []
+
+pub known_unknown : IsLine Text (codes "damaged") damaged (codes "damaged\t\t3\n")
+    × IsLine Json (codes "damaged") damaged (codes "{\"line\":\"damaged\",\"row\":null,\"column\":3}\n")
+unfolding digits escape_byte
+known_unknown = (
+  text_line (codes "damaged") damaged ([] ∷ codes "3" ∷ []) (refl, (refl, tt)),
+  json_line (codes "damaged") damaged (codes "null" ∷ codes "3" ∷ []) (refl, (refl, tt)),
+)
+
+abbrev shown : List NamedItem
+shown = shown_cell_members 4 1 (codes "int") (int (pos 12)) (codes "00012")
+
+pub known_shown : IsLine Text (codes "cell") shown (codes "cell\t4\t1\tint\t12\t00012\n")
+    × IsLine Json (codes "cell") shown (codes "{\"line\":\"cell\",\"row\":4,\"column\":1,\"kind\":\"int\",\"value\":12,\"shown\":\"00012\"}\n")
+unfolding digits chars lib.Utf8.encode escape_byte
+known_shown = (
+  text_line (codes "cell") shown (codes "4" ∷ codes "1" ∷ codes "int" ∷ codes "12" ∷ codes "00012" ∷ []) (refl, (refl, (refl, (refl, (refl, tt))))),
+  json_line (codes "cell") shown (codes "4" ∷ codes "1" ∷ codes "\"int\"" ∷ codes "12" ∷ codes "\"00012\"" ∷ []) (refl, (refl, (refl, (refl, (refl, tt))))),
+)
 
 pub known_ok : IsLine Text (codes "ok") [] (codes "ok\n") × IsLine Json (codes "ok") [] (codes "{\"line\":\"ok\"}\n")
 unfolding escape_byte

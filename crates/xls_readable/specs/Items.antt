@@ -1,5 +1,5 @@
 -- The fields of a line, and lines of them as text: exact, and as people read them. In UTF-8.
-use Rattle.std.specs.Prelude.{◌≡◌, ℕ, ℤ, Bool, List, ◌++◌, codes}
+use Rattle.std.specs.Prelude.{◌≡◌, ℕ, ℤ, Bool, List, [], ◌++◌, codes}
 use Rattle.std.specs.Fmt.{decimal, signed_decimal}
 use Rattle.std.specs.List.{flat_map}
 use Rattle.std.specs.Str.{chars}
@@ -18,7 +18,7 @@ use Rattle.xls_readable.specs.declared.items.Member.{Member}
 use Rattle.xls_output.specs.Each.{Concatenates}
 
 -- what a field holds: a word as it is, a text, a count, a whole number, a number, a
--- truth value, a date or a duration, an error value
+-- truth value, a date or a duration, an error value, or what isn't known
 pub data FieldItem : Type 0 where
   word : List ℕ → FieldItem
   text : List ℕ → FieldItem
@@ -28,6 +28,7 @@ pub data FieldItem : Type 0 where
   truth : Bool → FieldItem
   moment : DateParts → FieldItem
   failure : CellErrorType → FieldItem
+  unknown : FieldItem
 
 abbrev pub item_of : Field → FieldItem
 item_of (field.Word w) = word w.now
@@ -38,6 +39,7 @@ item_of (field.Number n) = number n
 item_of (field.Truth b) = truth b
 item_of (field.Moment d) = moment d
 item_of (field.Failure e) = failure e
+item_of field.Unknown = unknown
 
 -- a name and what the field of that name holds
 abbrev pub NamedItem : Type 0
@@ -59,6 +61,7 @@ exact_text (number n) = number_text n
 exact_text (truth b) = bool_text b
 exact_text (moment d) = number_text d.number
 exact_text (failure e) = error_text e
+exact_text unknown = []
 
 -- the same after a tab
 abbrev pub exact_tabbed : NamedItem → List ℕ

@@ -7,7 +7,7 @@ use Rattle.xls_data.specs.Errors.{error_text}
 use Rattle.xls_decimals.specs.Decimals.{IsDecimal}
 use Rattle.xls_decimals.specs.Moments.{IsDateOrDuration}
 use Rattle.xls_output.specs.Each.{Concatenates}
-use Rattle.xls_readable.specs.Items.{FieldItem, NamedItem, word, text, count, int, number, truth, moment, failure}
+use Rattle.xls_readable.specs.Items.{FieldItem, NamedItem, word, text, count, int, number, truth, moment, failure, unknown}
 
 -- a byte of a string that stands for itself
 abbrev pub is_plain : ℕ → Bool
@@ -17,8 +17,8 @@ is_plain b = if nat_lt 0 (escape_letter b) then false else nat_le 32 b
 abbrev pub IsBare : List ℕ → List ℕ → Type 0
 IsBare plain out = (IsNumber plain × (out ≡ plain)) ⊎ ((IsNumber plain → ⊥) × (out ≡ quoted plain))
 
--- a field: numbers as they are, where they are numbers of JSON; truth values; every other one as a
--- string
+-- a field: numbers as they are, where they are numbers of JSON; truth values; `null` for what isn't known; every other
+-- one as a string
 abbrev pub IsItemJson : FieldItem → List ℕ → Type 0
 IsItemJson (word w) out = out ≡ quoted w
 IsItemJson (text t) out = out ≡ quoted t
@@ -28,6 +28,7 @@ IsItemJson (number n) out = (plain : List ℕ) × IsDecimal n plain × IsBare pl
 IsItemJson (truth b) out = out ≡ bool_text b
 IsItemJson (moment d) out = (plain : List ℕ) × IsDateOrDuration d plain × (out ≡ quoted plain)
 IsItemJson (failure e) out = out ≡ quoted (error_text e)
+IsItemJson unknown out = out ≡ codes "null"
 
 -- a member of an object, after a comma
 abbrev pub IsMember : NamedItem → List ℕ → Type 0

@@ -1,5 +1,5 @@
 -- The lines of a workbook: the fields of each kind, by their names, in their order.
-use Rattle.std.specs.Prelude.{◌≡◌, ℕ, Bool, true, false, List, [], ◌∷◌, Option, Some, None, MatchOption, codes}
+use Rattle.std.specs.Prelude.{◌≡◌, ℕ, Bool, true, false, List, [], ◌∷◌, ◌++◌, Option, Some, None, MatchOption, codes}
 use Rattle.xls_dates.specs.declared.dates.ExcelDateTimeType.{ExcelDateTimeType}
 use Rattle.xls_dates.specs.declared.dates.ExcelDateTimeType.TheVariants.{DateTime, TimeDelta}
 use Rattle.xls_data.specs.declared.regions.Dimensions.{Dimensions}
@@ -12,7 +12,7 @@ use Rattle.xls_readable.specs.declared.forms.Form.{Form}
 use Rattle.xls_readable.specs.declared.forms.Form.TheVariants.{Text, Json, Exact}
 use Rattle.xls_readable.specs.declared.properties.Property.{Property}
 use Rattle.xls_readable.specs.declared.properties.Property.TheVariants as property
-pub use Rattle.xls_readable.specs.Items.{FieldItem, NamedItem, IsTextLine, exact_line, item_of, word, text, count, int, number, truth, moment, failure}
+pub use Rattle.xls_readable.specs.Items.{FieldItem, NamedItem, IsTextLine, exact_line, item_of, word, text, count, int, number, truth, moment, failure, unknown}
 
 -- a line of a word and fields, as text, as JSON, or exact
 abbrev pub IsLine : Form → List ℕ → List NamedItem → List ℕ → Type 0
@@ -57,6 +57,11 @@ sheet_members name kind visible =
 abbrev pub cell_members : ℕ → ℕ → List ℕ → FieldItem → List NamedItem
 cell_members row column kind displayed =
     (codes "row", count row) ∷ (codes "column", count column) ∷ (codes "kind", word kind) ∷ (codes "value", displayed) ∷ []
+
+-- and after them a text that is shown
+abbrev pub shown_cell_members : ℕ → ℕ → List ℕ → FieldItem → List ℕ → List NamedItem
+shown_cell_members row column kind displayed shown =
+    cell_members row column kind displayed ++ (codes "shown", text shown) ∷ []
 
 -- a day or a time of day, or a duration
 abbrev pub moment_kind : ExcelDateTimeType → List ℕ

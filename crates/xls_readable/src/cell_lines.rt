@@ -6,7 +6,7 @@ ghost use Rattle.std.specs.String.{string_bytes};
 ghost use Rattle.xls_output.specs.Added.{AddsText};
 ghost use Rattle.xls_readable.specs.Growth.{GrowsText, cell_head, row_head};
 ghost use Rattle.xls_readable.specs.Items.{IsTextLine, exact_line, item_of};
-ghost use Rattle.xls_readable.specs.Lines.{IsLine, cell_members};
+ghost use Rattle.xls_readable.specs.Lines.{IsLine, cell_members, shown_cell_members};
 
 use crate::exact_lines::push_exact_item;
 use crate::forms::{Form, push_line};
@@ -249,4 +249,44 @@ pub fn push_cell(
         Form::Json => push_json(position, kind, field, &mut lines.room, buf),
         Form::Exact => lines.push_exact(position, kind, field, buf),
     }
+}
+
+/// Appends the line of a cell's row, column, kind and value, `cell`, with a last field `shown`. What has to be printed
+/// first is printed into `room`, whose text is lost. Only running out of memory refuses, and then `buf` is as it was.
+pub fn push_shown_cell<'x>(
+    form: Form,
+    position: (u32, u32),
+    kind: &'static str,
+    field: &Field<'x>,
+    shown: &'x str,
+    room: &mut String,
+    buf: &mut String,
+) -> Result<(), AllocError>
+    ensures ok { OnOk result (AddsText (IsLine form (codes "cell") (shown_cell_members position.0 position.1 kind.now (item_of field.now) shown.now))
+        (string_bytes buf.old) (string_bytes buf.new)) }
+    ensures err { OnErr result (string_bytes buf.new ≡ string_bytes buf.old) }
+{
+    let (row, column) = position;
+    let row = Member {
+        name: "row",
+        field: Field::Count(u64::from(row)),
+    };
+    let column = Member {
+        name: "column",
+        field: Field::Count(u64::from(column)),
+    };
+    let kind = Member {
+        name: "kind",
+        field: Field::Word(kind),
+    };
+    let value = Member {
+        name: "value",
+        field: field.again(),
+    };
+    let shown = Member {
+        name: "shown",
+        field: Field::Text(shown),
+    };
+    let members = [row, column, kind, value, shown];
+    push_line(form, "cell", &members, room, buf)
 }

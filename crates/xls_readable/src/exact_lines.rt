@@ -27,6 +27,7 @@ pub(crate) fn push_exact_item(field: &Field<'_>, buf: &mut String) -> Result<(),
         Field::Truth(false) => buf.push_str("false"),
         Field::Moment(moment) => push_number(moment.number(), buf),
         Field::Failure(failure) => buf.push_str(failure_text(*failure)),
+        Field::Unknown => Ok(()),
     }
 }
 

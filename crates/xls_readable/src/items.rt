@@ -33,6 +33,8 @@ pub enum Field<'a> {
     Moment(ExcelDateTime),
     /// An error value.
     Failure(CellErrorType),
+    /// What isn't known: nothing, and `null` in JSON.
+    Unknown,
 }
 
 impl<'a> Field<'a> {
@@ -49,6 +51,7 @@ impl<'a> Field<'a> {
             Field::Truth(b) => Field::Truth(*b),
             Field::Moment(d) => Field::Moment(*d),
             Field::Failure(e) => Field::Failure(*e),
+            Field::Unknown => Field::Unknown,
         }
     }
 }

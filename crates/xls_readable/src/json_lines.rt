@@ -209,6 +209,7 @@ fn push_item(field: &Field<'_>, room: &mut String, buf: &mut String) -> Result<(
         Field::Truth(false) => buf.push_str("false"),
         Field::Moment(moment) => push_moment(*moment, room, buf),
         Field::Failure(failure) => push_string(failure_text(*failure), buf),
+        Field::Unknown => buf.push_str("null"),
     }
 }
 

@@ -16,7 +16,7 @@ mod rows;
 mod values;
 mod words;
 
-pub use cell_lines::{CellLines, push_cell};
+pub use cell_lines::{CellLines, push_cell, push_shown_cell};
 pub use choices::{Listing, SheetChoice, Table};
 pub use delimited::{
     Delimiter, end_row, push_failure_field, push_field, push_int_field, push_moment_field,
