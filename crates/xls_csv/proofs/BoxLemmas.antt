@@ -143,22 +143,22 @@ rows_joined (suc n) width xs e =
     ap (λ (l : List Content). take width xs ++ l) (rows_joined n width (drop width xs) left) ∙ take-append-drop width xs
 
 row_displayed : (xs : List Content) (cells : List CellEntry) (left width i row : ℕ) → i * width + width ≤ length xs
-    → ((j : ℕ) → j < width → get_or xs (i * width + j) nothing ≡ dense_value cells row (left + j))
-    → take width (drop (i * width) xs) ≡ map (dense_value cells row) (range_with_len left width)
+    → ((j : ℕ) → j < width → get_or xs (i * width + j) nothing ≡ dense_value nothing cells row (left + j))
+    → take width (drop (i * width) xs) ≡ map (dense_value nothing cells row) (range_with_len left width)
 row_displayed xs cells left width i row near h =
     let size : length (take width (drop (i * width) xs)) ≡ width =
     omega (arith, length-take width (drop (i * width) xs), length-drop (i * width) xs) in
-    let other : length (map (dense_value cells row) (range_with_len left width)) ≡ width =
-    length-map-range_with_len (dense_value cells row) left width in
+    let other : length (map (dense_value nothing cells row) (range_with_len left width)) ≡ width =
+    length-map-range_with_len (dense_value nothing cells row) left width in
     ext_get_or nothing _ _ (size ∙ sym other) (λ j l.
     let within : j < width = omega (arith, size, l) in
     get_or-take width (drop (i * width) xs) j nothing within ∙ get_or-drop (i * width) xs j nothing
-    ∙ h j within ∙ sym (get_or-map-range_with_len (dense_value cells row) left width j (left + j) nothing within refl))
+    ∙ h j within ∙ sym (get_or-map-range_with_len (dense_value nothing cells row) left width j (left + j) nothing within refl))
 
 rows_displayed : (xs : List Content) (cells : List CellEntry) (top left width n i : ℕ) → (i + n) * width ≤ length xs
-    → ((k j : ℕ) → k < i + n → j < width → get_or xs (k * width + j) nothing ≡ dense_value cells (top + k) (left + j))
+    → ((k j : ℕ) → k < i + n → j < width → get_or xs (k * width + j) nothing ≡ dense_value nothing cells (top + k) (left + j))
     → rows_of n width (drop (i * width) xs)
-    ≡ map (λ r. map (dense_value cells r) (range_with_len left width)) (range_with_len (top + i) n)
+    ≡ map (λ r. map (dense_value nothing cells r) (range_with_len left width)) (range_with_len (top + i) n)
 rows_displayed xs cells top left width zero i near h = refl
 rows_displayed xs cells top left width (suc n) i near h =
     let split : (i + suc n) * width ≡ i * width + width + n * width = omega arith in
@@ -167,7 +167,7 @@ rows_displayed xs cells top left width (suc n) i near h =
     let count : i + suc n ≡ i + 1 + n = omega arith in
     let others = rows_displayed xs cells top left width n (i + 1) (rw count at near) (λ k j l m. h k j (omega (arith, l, count)) m) in
     let place : top + (i + 1) ≡ top + i + 1 = omega arith in
-    rw (first, drop-drop width (i * width) xs, next) (ap (λ l. map (dense_value cells (top + i)) (range_with_len left width) ∷ l) (rw place at others))
+    rw (first, drop-drop width (i * width) xs, next) (ap (λ l. map (dense_value nothing cells (top + i)) (range_with_len left width) ∷ l) (rw place at others))
 
 -- ---- the box
 
@@ -195,7 +195,7 @@ by_last eq same (Some x) y h = sym (same x y h)
 cell_displayed : (eq : Data → Data → Bool) → TellsContents eq → (cells : List DataCell) (g : Grid Data) → IsRange g
     → Shows eq is_nothing (λ row column. last_at cells (row, column)) g
     → (k j : ℕ) → k < g.height → j < g.width
-    → get_or (map content_of g.cells) (k * g.width + j) nothing ≡ dense_value (map cell_entry_of cells) (g.top + k) (g.left + j)
+    → get_or (map content_of g.cells) (k * g.width + j) nothing ≡ dense_value nothing (map cell_entry_of cells) (g.top + k) (g.left + j)
 cell_displayed eq same cells g is shows k j l m =
     let y = get_or g.cells (k * g.width + j) variant.Empty in
     let near : k * g.width + j < length g.cells = omega (arith, is.count, mul-add-lt k g.width j g.height l m) in
@@ -225,9 +225,9 @@ dense_box eq same (c ∷ cs) g is h =
     let none : 0 * g.width ≡ 0 = omega arith in
     let start : g.top + 0 ≡ g.top = omega arith in
     let all : 0 + g.height ≡ g.height = omega arith in
-    let rows : rows_of g.height g.width xs ≡ map (λ r. map (dense_value entries r) (range_with_len g.left g.width)) (range_with_len g.top g.height) =
+    let rows : rows_of g.height g.width xs ≡ map (λ r. map (dense_value nothing entries r) (range_with_len g.left g.width)) (range_with_len g.top g.height) =
     rw (none, start) at (rows_displayed xs entries g.top g.left g.width g.height 0 (omega (arith, count, all))
     (λ k j l m. cell_displayed eq same (c ∷ cs) g is h.shows k j (omega (arith, l)) m)) in
-    let joined : xs ≡ flat_map (λ (r : List Content). r) (map (λ r. map (dense_value entries r) (range_with_len g.left g.width)) (range_with_len g.top g.height)) =
+    let joined : xs ≡ flat_map (λ (r : List Content). r) (map (λ r. map (dense_value nothing entries r) (range_with_len g.left g.width)) (range_with_len g.top g.height)) =
     sym (rows_joined g.height g.width xs count) ∙ ap (flat_map (λ (r : List Content). r)) rows in
     rw (joined, top, left, height, width) refl

@@ -2,7 +2,7 @@
 use Rattle.std.proofs.Common.{◌≡◌, ℕ, ◌≤◌, List, [], ◌∷◌, ap, subst, arith, Option, Some}
 use Rattle.std.specs.Prelude.{unwrap_or}
 use Rattle.xls_data.specs.declared.regions.Dimensions.{Dimensions}
-use Rattle.xls_biff.specs.Cells.{CellEntry}
+use Rattle.xls_view.specs.Formats.{FormattedCell}
 use Rattle.xls_range.specs.Bounds.{bounds_of, columns_at, greatest, least, rows_at}
 
 least_le : (n : ℕ) (ms : List ℕ) → least n ms ≤ n
@@ -14,7 +14,7 @@ le_greatest n [] = omega arith
 le_greatest n (m ∷ ms) = omega (arith, le_greatest n ms)
 
 -- the corners are ordered
-pub corners_ordered : (cells : List CellEntry) (bounds : Dimensions) → bounds_of cells ≡ Some bounds
+pub corners_ordered : (cells : List FormattedCell) (bounds : Dimensions) → bounds_of cells ≡ Some bounds
     → (bounds.start.0 ≤ bounds.end.0) × (bounds.start.1 ≤ bounds.end.1)
 corners_ordered [] bounds h = absurd cc
 corners_ordered (c ∷ cs) bounds h =

@@ -6,6 +6,7 @@ use Rattle.xls_data.specs.declared.regions.Dimensions.{Dimensions}
 use Rattle.xls_range.specs.Grid.{Grid}
 use Rattle.xls_range.specs.Sparse.{last_at}
 use Rattle.xls_range.specs.Bounds.{bounds_of}
+use Rattle.xls_range.specs.Positions.{Entry}
 use Rattle.xls_biff.specs.Cells.{CellEntry}
 use Rattle.xls_csv.specs.Text.{csv_text}
 use Rattle.xls_csv.specs.declared.extent.Extent.{Extent}
@@ -29,23 +30,23 @@ box_in None = no_box
 box_in (Some bounds) = box_between bounds.start bounds.end
 
 -- the smallest box that holds all of these cells
-abbrev pub box_of : List CellEntry → Extent
+abbrev pub box_of : {T : Type 0} → List (Entry T) → Extent
 box_of cells = box_in (bounds_of cells)
 
--- the value that was given to a position last, and nothing where none was
-abbrev pub dense_value : List CellEntry → ℕ → ℕ → Content
-dense_value cells row column = unwrap_or (last_at cells (row, column)) nothing
+-- the value that was given to a position last, and a blank where none was
+abbrev pub dense_value : {T : Type 0} → T → List (Entry T) → ℕ → ℕ → T
+dense_value blank cells row column = unwrap_or (last_at cells (row, column)) blank
 
 -- the values of a box, row by row
-abbrev pub row_in : List CellEntry → Extent → ℕ → List Content
-row_in cells box row = map (dense_value cells row) (range_with_len box.left box.width)
+abbrev pub row_in : {T : Type 0} → T → List (Entry T) → Extent → ℕ → List T
+row_in blank cells box row = map (dense_value blank cells row) (range_with_len box.left box.width)
 
-abbrev pub rows_in : List CellEntry → Extent → List (List Content)
-rows_in cells box = map (row_in cells box) (range_with_len box.top box.height)
+abbrev pub rows_in : {T : Type 0} → T → List (Entry T) → Extent → List (List T)
+rows_in blank cells box = map (row_in blank cells box) (range_with_len box.top box.height)
 
 -- the rows of the dense box
-abbrev pub dense_rows : List CellEntry → List (List Content)
-dense_rows cells = rows_in cells (box_of cells)
+abbrev pub dense_rows : {T : Type 0} → T → List (Entry T) → List (List T)
+dense_rows blank cells = rows_in blank cells (box_of cells)
 
 -- the dense box: the smallest one that holds all cells, with the value that was given last for each
 -- position, and nothing elsewhere
@@ -56,7 +57,7 @@ dense cells =
       left = (box_of cells).left;
       height = (box_of cells).height;
       width = (box_of cells).width;
-      cells = flat_map (λ row. row) (dense_rows cells);
+      cells = flat_map (λ row. row) (dense_rows nothing cells);
     }
 
 -- the CSV of a sheet with these cells

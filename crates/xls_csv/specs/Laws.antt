@@ -1,6 +1,6 @@
 -- Laws of the CSV, each over the definitions alone.
 use Rattle.std.specs.Prelude.{◌≡◌, Bool, List, map}
-use Rattle.xls_data.specs.Content.{date}
+use Rattle.xls_data.specs.Content.{date, nothing}
 use Rattle.xls_data.specs.Data.{content_of, data_text}
 use Rattle.xls_dates.specs.Dates.{DateParts}
 use Rattle.xls_data.specs.declared.values.Data.{Data}
@@ -18,12 +18,12 @@ positions_of cells = map (λ (c : CellEntry). c.0) cells
 
 -- cells that ascend, gone through once, give the rows of the dense box
 abbrev pub WalksDense : Type 0
-WalksDense = (cells : List CellEntry) → IsAscending (positions_of cells) → walk_rows cells ≡ dense_rows cells
+WalksDense = (cells : List CellEntry) → IsAscending (positions_of cells) → walk_rows nothing cells ≡ dense_rows nothing cells
 
 -- so the rows joined are the CSV of the dense box
 abbrev pub JoinsToCsv : Type 0
 JoinsToCsv =
-    (cells : List CellEntry) → IsAscending (positions_of cells) → rows_csv (walk_rows cells) ≡ sheet_csv cells
+    (cells : List CellEntry) → IsAscending (positions_of cells) → rows_csv (walk_rows nothing cells) ≡ sheet_csv cells
 
 -- the range that a dense box of values is has the contents of the dense box, whatever its values are
 -- copied by, if equal values have equal contents

@@ -3,21 +3,21 @@ use Rattle.std.specs.Prelude.{◌≡◌, ℕ, ◌≤◌, ◌==◌, Bool, List, [
 use Rattle.std.specs.Global.{Global}
 use Rattle.csv.specs.Writing.{default_writer, field_text, writer_setup, fields_written, has_written, writer_under, writer_pending}
 use Rattle.csv.specs.declared.writer.Writer.{Writer}
-use Rattle.xls_data.specs.Content.{Content}
 use Rattle.xls_data.specs.Refs.{ref_content_of, ref_text}
 use Rattle.xls_data.specs.declared.refs.DataRef.{DataRef}
-use Rattle.xls_biff.specs.Cells.{CellEntry}
+use Rattle.xls_view.specs.Formats.{FormattedCell}
 use Rattle.xls_output.specs.Output.{Buffers, GivesUp, Output}
 use Rattle.xls_output.specs.declared.stop.Stop.{Stop}
 use Rattle.xls_view.specs.declared.value.SheetCell.{SheetCell}
 use Rattle.xls_lines.specs.Days.{date_text, last_day_in, serial_date}
 use Rattle.xls_csv.specs.Fields.{field}
 use Rattle.xls_csv.specs.Boxes.{BeginsRow, FieldForm, IsFields}
+use Rattle.xls_csv.specs.Walk.{Formatted, content_in}
 
 -- ---- cells
 
 -- without a next cell there are no others
-abbrev pub IsEnded : Option SheetCell → List CellEntry → Type 0
+abbrev pub IsEnded : Option SheetCell → List FormattedCell → Type 0
 IsEnded None others = others ≡ []
 IsEnded (Some cell) others = Unit {0}
 
@@ -41,14 +41,14 @@ written w = (writer_under w).items ++ writer_pending w
 
 -- ---- fields
 
--- fields as the default writer of `csv` writes them
+-- the fields of contents, whatever their formats are, as the default writer of `csv` writes them
 abbrev pub csv_fields : FieldForm
 csv_fields =
-    record { delimiter = 44; IsField = λ content text. text ≡ field_text default_writer (field content) }
+    record { delimiter = 44; IsField = λ value text. text ≡ field_text default_writer (field (content_in value)) }
 
 -- the fields of a row were gathered, and it is told whether they are no byte; or a prefix of what was kept and
 -- of the first fields was written, and then it was given up
-abbrev pub PutsFields : FieldForm → List Content → Output → Output → Result Bool Stop → Type 0
+abbrev pub PutsFields : FieldForm → List Formatted → Output → Output → Result Bool Stop → Type 0
 PutsFields form row before after (Ok is_bare) =
     (text : List ℕ) × (IsFields form row text × (is_bare ≡ (length text == 0))) × Buffers before after text
 PutsFields form row before after (Err e) = (text : List ℕ) × BeginsRow form row text × GivesUp before after text e

@@ -1,26 +1,26 @@
 //! The cells of a sheet, with a look at the next one.
 
 ghost use Rattle.std.specs.Prelude.{◌≡◌};
-ghost use Rattle.xls_csv.specs.Walk.{TakesValue};
+ghost use Rattle.xls_csv.specs.Walk.{TakesCell};
 
 use std::marker::Model;
-use xls_view::{CellValue, Cells, SheetCell};
+use xls_view::{FormattedCells, SheetCell};
 
-/// The cells that are left. Contracts see their list.
+/// The cells that are left. Contracts see the list of them, each with its XF index.
 #[derive(Drop)]
 pub struct Ahead<'c> {
     /// The first of them, and those after it.
     next: Option<SheetCell<'c>>,
-    others: Cells<'c>,
+    others: FormattedCells<'c>,
 }
 
 impl<'c> Model for Ahead<'c> {
     ghost use Rattle.std.specs.Prelude.{List};
-    ghost use Rattle.xls_biff.specs.Cells.{CellEntry};
+    ghost use Rattle.xls_view.specs.Formats.{FormattedCell};
     ghost use Rattle.xls_csv.specs.Walk.{cells_ahead};
     ghost use Rattle.xls_csv.specs.Steps.{IsEnded};
 
-    ghost Value = { List CellEntry };
+    ghost Value = { List FormattedCell };
 
     ghost view = { λ a. cells_ahead a.next a.others };
 
@@ -28,7 +28,7 @@ impl<'c> Model for Ahead<'c> {
 }
 
 impl<'c> Ahead<'c> {
-    pub fn new(mut cells: Cells<'c>) -> Ahead<'c>
+    pub fn new(mut cells: FormattedCells<'c>) -> Ahead<'c>
         ensures { result ≡ cells.entry }
     {
         let next = cells.next();
@@ -38,16 +38,16 @@ impl<'c> Ahead<'c> {
         }
     }
 
-    /// The value of the next cell, if that stands at this position; then the cell is taken.
+    /// The next cell, if that stands at this position; then it is taken.
     #[inline(always)]
-    pub fn take_at(&mut self, row: u64, column: u64) -> Option<CellValue<'c>>
-        ensures { TakesValue self.old row column result self.new }
+    pub fn take_at(&mut self, row: u64, column: u64) -> Option<SheetCell<'c>>
+        ensures { TakesCell self.old row column result self.new }
     {
         let cell = match self.next {
             Some(cell) if u64::from(cell.row) == row && u64::from(cell.column) == column => cell,
             _ => return None,
         };
         self.next = self.others.next();
-        Some(cell.value)
+        Some(cell)
     }
 }

@@ -6,13 +6,13 @@ ghost use Rattle.xls_output.specs.Each.{PutsEach};
 ghost use Rattle.xls_output.specs.Output.{output_of};
 ghost use Rattle.xls_csv.specs.Boxes.{IsSeparated, PutsBox, row_end};
 ghost use Rattle.xls_csv.specs.Steps.{PutsFields};
-ghost use Rattle.xls_csv.specs.Walk.{left_over, row_over, rows_over, take_at, value_in};
+ghost use Rattle.xls_csv.specs.Walk.{left_over, no_cell, row_over, rows_over, take_at, value_in};
 
 use crate::ahead::Ahead;
 use crate::extent::Extent;
 use std::alloc::AllocError;
 use xls_output::{Gathers, Sink, Stop, Writer};
-use xls_view::CellValue;
+use xls_view::SheetCell;
 
 /// A buffer that gathers the fields of a box.
 pub trait BoxBuffer: Gathers {
@@ -24,20 +24,20 @@ pub trait BoxBuffer: Gathers {
     /// What the fields may look like.
     type Form: Copy;
 
-    /// What stands between two fields in a form, and which text is a cell's field.
+    /// What stands between two fields in a form, and which text is the field of what a cell shows.
     ghost fields: { Self.Form → FieldForm };
 
     /// Appends what stands between two fields.
     fn push_delimiter(&mut self, form: Self::Form) -> Result<(), AllocError>
         ensures { OnOk result (Self.kept self.new ≡ Self.kept self.old ++ (fields form).delimiter ∷ []) };
 
-    /// Appends the field of a value, or that of a place where no cell stands.
+    /// Appends the field of a cell, or that of a place where none stands.
     fn push_field(
         &mut self,
         form: Self::Form,
-        value: Option<CellValue<'_>>,
+        cell: Option<SheetCell<'_>>,
     ) -> Result<(), AllocError>
-        ensures { OnOk result (AddsText ((fields form).IsField (value_in value.entry)) (Self.kept self.old) (Self.kept self.new)) };
+        ensures { OnOk result (AddsText ((fields form).IsField (value_in cell.entry)) (Self.kept self.old) (Self.kept self.new)) };
 
     /// Appends a text as it is.
     fn push_str(&mut self, text: &str) -> Result<(), AllocError>
@@ -49,14 +49,14 @@ pub trait BoxBuffer: Gathers {
 fn push_first<B: BoxBuffer>(
     buffer: &mut B,
     form: B::Form,
-    value: Option<CellValue<'_>>,
+    cell: Option<SheetCell<'_>>,
 ) -> Result<bool, AllocError>
     ensures { IfOk result (λ is_empty. AddsText
-        (λ field. (B.fields form).IsField (value_in value.entry) field × (is_empty ≡ (length field == 0)))
+        (λ field. (B.fields form).IsField (value_in cell.entry) field × (is_empty ≡ (length field == 0)))
         (B.kept buffer.old) (B.kept buffer.new)) }
 {
     let before = buffer.bytes().len();
-    buffer.push_field(form, value)?;
+    buffer.push_field(form, cell)?;
     Ok(buffer.bytes().len() == before)
 }
 
@@ -69,9 +69,9 @@ fn put_separated<K: Sink, B: BoxBuffer>(
     row: u64,
     column: u64,
 ) -> Result<(), Stop>
-    ensures puts { PutsEach (IsSeparated (B.fields form)) ((take_at row column cells.old).0 ∷ [])
+    ensures puts { PutsEach (IsSeparated (B.fields form)) ((take_at no_cell row column cells.old).0 ∷ [])
         (output_of K.state B.kept out.old) (output_of K.state B.kept out.new) result }
-    ensures cells { OnOk result (cells.new ≡ (take_at row column cells.old).1) }
+    ensures cells { OnOk result (cells.new ≡ (take_at no_cell row column cells.old).1) }
 {
     out.buffer.push_delimiter(form)?;
     out.buffer.push_field(form, cells.take_at(row, column))?;
@@ -87,9 +87,9 @@ fn put_others<K: Sink, B: BoxBuffer>(
     row: u64,
 ) -> Result<(), Stop>
     requires { extent.left + extent.width ≤ 2 ^ 32 }
-    ensures puts { PutsEach (IsSeparated (B.fields form)) (row_over row (extent.left + 1) (extent.width - 1) cells.old)
+    ensures puts { PutsEach (IsSeparated (B.fields form)) (row_over no_cell row (extent.left + 1) (extent.width - 1) cells.old)
         (output_of K.state B.kept out.old) (output_of K.state B.kept out.new) result }
-    ensures cells { OnOk result (cells.new ≡ left_over row (extent.left + 1) (extent.width - 1) cells.old) }
+    ensures cells { OnOk result (cells.new ≡ left_over no_cell row (extent.left + 1) (extent.width - 1) cells.old) }
 {
     for column in extent.left + 1..extent.left + extent.width {
         put_separated(out, cells, form, row, column)?;
@@ -106,9 +106,9 @@ fn put_fields<K: Sink, B: BoxBuffer>(
     row: u64,
 ) -> Result<bool, Stop>
     requires { extent.left + extent.width ≤ 2 ^ 32 }
-    ensures puts { PutsFields (B.fields form) (row_over row extent.left extent.width cells.old)
+    ensures puts { PutsFields (B.fields form) (row_over no_cell row extent.left extent.width cells.old)
         (output_of K.state B.kept out.old) (output_of K.state B.kept out.new) result }
-    ensures cells { OnOk result (cells.new ≡ left_over row extent.left extent.width cells.old) }
+    ensures cells { OnOk result (cells.new ≡ left_over no_cell row extent.left extent.width cells.old) }
 {
     if extent.width == 0 {
         return Ok(true);
@@ -138,9 +138,9 @@ fn put_row<K: Sink, B: BoxBuffer>(
     row: u64,
 ) -> Result<(), Stop>
     requires { extent.left + extent.width ≤ 2 ^ 32 }
-    ensures puts { PutsBox (B.fields form) (row_over row extent.left extent.width cells.old ∷ [])
+    ensures puts { PutsBox (B.fields form) (row_over no_cell row extent.left extent.width cells.old ∷ [])
         (output_of K.state B.kept out.old) (output_of K.state B.kept out.new) result }
-    ensures cells { OnOk result (cells.new ≡ left_over row extent.left extent.width cells.old) }
+    ensures cells { OnOk result (cells.new ≡ left_over no_cell row extent.left extent.width cells.old) }
 {
     let is_bare = put_fields(out, cells, form, extent, row)?;
     push_end(out.buffer, is_bare)?;
@@ -157,7 +157,7 @@ pub fn put_box<K: Sink, B: BoxBuffer>(
 ) -> Result<(), Stop>
     requires rows { extent.top + extent.height ≤ 2 ^ 32 }
     requires columns { extent.left + extent.width ≤ 2 ^ 32 }
-    ensures { PutsBox (B.fields form) (rows_over extent.height extent.top extent.left extent.width cells.entry)
+    ensures { PutsBox (B.fields form) (rows_over no_cell extent.height extent.top extent.left extent.width cells.entry)
         (output_of K.state B.kept out.old) (output_of K.state B.kept out.new) result }
 {
     for i in 0..extent.height {

@@ -4,7 +4,7 @@ ghost use Rattle.std.specs.Prelude.{◌≡◌, ◌≤◌, ◌^◌, ◌+◌};
 ghost use Rattle.xls_csv.specs.Dense.{box_between, box_of};
 
 use xls_data::Dimensions;
-use xls_view::SheetCells;
+use xls_view::FormattedSheet;
 
 /// A box: its first row and column, and how many rows and columns it has.
 #[derive(Clone, Copy, Debug, PartialEq, Eq)]
@@ -34,7 +34,7 @@ fn extent_between(bounds: Dimensions) -> Extent
 }
 
 /// The smallest box that holds all of these cells, or the one without a position. Takes no memory.
-pub fn extent_of(cells: &SheetCells<'_>) -> Extent
+pub fn extent_of(cells: &FormattedSheet<'_>) -> Extent
     ensures smallest { result ≡ box_of cells.now }
     ensures rows { result.top + result.height ≤ 2 ^ 32 }
     ensures columns { result.left + result.width ≤ 2 ^ 32 }

@@ -12,7 +12,7 @@ use crate::numbers::push_number;
 use std::alloc::{AllocError, Global};
 use std::marker::Model;
 use xls_output::Gathers;
-use xls_view::{CellValue, TextBuffer};
+use xls_view::{CellValue, SheetCell, TextBuffer};
 
 /// The bytes that are gathered, and memory for the text of one cell. Contracts see what is gathered.
 #[derive(Drop)]
@@ -96,9 +96,9 @@ impl BoxBuffer for Gathered {
     }
 
     #[inline(always)]
-    fn push_field(&mut self, _: (), value: Option<CellValue<'_>>) -> Result<(), AllocError> {
-        match value {
-            Some(value) => self.push_value(value),
+    fn push_field(&mut self, _: (), cell: Option<SheetCell<'_>>) -> Result<(), AllocError> {
+        match cell {
+            Some(cell) => self.push_value(cell.value),
             None => Ok(()),
         }
     }

@@ -3,6 +3,7 @@
 ghost use Rattle.std.specs.Prelude.{map};
 ghost use Rattle.xls_biff.specs.Cells.{CellEntry};
 ghost use Rattle.xls_range.specs.Positions.{IsAscending};
+ghost use Rattle.xls_data.specs.Content.{nothing};
 ghost use Rattle.xls_output.specs.Gathering.{Delivers};
 ghost use Rattle.xls_csv.specs.Dense.{sheet_csv};
 ghost use Rattle.xls_csv.specs.Text.{rows_csv};
@@ -18,12 +19,13 @@ use xls_view::SheetCells;
 
 /// Writes the rows of these cells.
 fn write_walk<K: Sink>(alloc: Global, sink: &mut K, cells: &SheetCells<'_>) -> Result<(), Stop>
-    ensures { Delivers (K.state sink.old) (K.state sink.new) (rows_csv (walk_rows cells.now)) result }
+    ensures { Delivers (K.state sink.old) (K.state sink.new) (rows_csv (walk_rows nothing cells.now)) result }
 {
     let mut gathered = Gathered::new(alloc);
     let mut out = Writer::new(&mut gathered, sink);
-    let extent = extent_of(cells);
-    put_box(&mut out, Ahead::new(cells.iter()), extent, ())?;
+    let sheet = cells.formatted();
+    let extent = extent_of(sheet);
+    put_box(&mut out, Ahead::new(sheet.iter()), extent, ())?;
     out.finish()?;
     Ok(())
 }
@@ -33,7 +35,7 @@ fn write_walk<K: Sink>(alloc: Global, sink: &mut K, cells: &SheetCells<'_>) -> R
 /// most 64 KiB and one field are gathered; neither the box nor a row is ever made. Only a write that fails,
 /// or running out of memory, stops it.
 pub fn write_rows<K: Sink>(alloc: Global, sink: &mut K, cells: &SheetCells<'_>) -> Result<(), Stop>
-    ensures walk_rows { Delivers (K.state sink.old) (K.state sink.new) (rows_csv (walk_rows cells.now)) result }
+    ensures walk_rows { Delivers (K.state sink.old) (K.state sink.new) (rows_csv (walk_rows nothing cells.now)) result }
     ensures dense { IsAscending (map (λ (c : CellEntry). c.0) cells.now)
         → Delivers (K.state sink.old) (K.state sink.new) (sheet_csv cells.now) result }
 {
