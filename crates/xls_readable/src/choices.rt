@@ -26,6 +26,15 @@ pub enum SheetChoice<'w> {
     Number(u32),
 }
 
+/// What the field of a cell is.
+#[derive(Clone, Copy, Debug, PartialEq, Eq)]
+pub enum FieldStyle {
+    /// Its value: a number in decimal, or as the date or duration that its number format makes of it.
+    Values,
+    /// What Excel shows of it by its number format.
+    Shown,
+}
+
 /// How a sheet is written as CSV.
 #[derive(Clone, Copy, Debug, PartialEq, Eq)]
 pub struct Table {
@@ -34,4 +43,6 @@ pub struct Table {
     pub begins_with_mark: bool,
     /// With numbers as the workbook has them; then the delimiter is a comma, and there is no mark.
     pub is_exact: bool,
+    /// What the fields are, where they are not exact.
+    pub style: FieldStyle,
 }
