@@ -6,6 +6,7 @@ mod doubles;
 mod formats;
 mod kept;
 mod numbers;
+mod places;
 
 pub use contents::push_content;
 pub use doubles::bits_of;

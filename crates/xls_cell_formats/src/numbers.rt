@@ -5,12 +5,12 @@ ghost use Rattle.std.specs.String.{string_bytes};
 ghost use Rattle.std.specs.Str.{chars};
 ghost use Rattle.xls_data.specs.Numeric.{numeric_content};
 ghost use Rattle.xls_shown.specs.Shown.{Gains};
-ghost use Rattle.xls_cell_formats.specs.Numbers.{IsInDecimal, IsNumberShown, class_under, content_of_number, content_under, format_of_class};
+ghost use Rattle.xls_cell_formats.specs.Numbers.{IsInDecimal, IsNumberShown, class_in_range, class_under, content_of_number, content_under, format_of_class};
 
 use crate::doubles::{bits_of, is_finite};
 use std::alloc::AllocError;
 use xls_data::{CellFormat, Number, Numeric};
-use xls_decimals::push_decimal;
+use xls_decimals::{is_moment, is_span, push_decimal};
 use xls_number_formats::Class;
 use xls_shown::ShownFormat;
 
@@ -30,6 +30,18 @@ pub fn class_under(format: &ShownFormat<'_>, number: Number) -> CellFormat
     ensures { result ≡ class_under format.now number }
 {
     format_of_class(format.class(bits_of(number)))
+}
+
+/// The class of a number that a code shows as one of this class: a date that none is, and a duration out of range are
+/// plain numbers.
+fn class_in_range(class: CellFormat, number: Number, is_1904: bool) -> CellFormat
+    ensures { result ≡ class_in_range class number is_1904 }
+{
+    match class {
+        CellFormat::DateTime if !is_moment(number, is_1904) => CellFormat::Other,
+        CellFormat::TimeDelta if !is_span(number) => CellFormat::Other,
+        class => class,
+    }
 }
 
 /// A number of a class, in either date system.
@@ -53,7 +65,8 @@ pub fn numeric_under(format: &ShownFormat<'_>, value: Numeric, is_1904: bool) ->
         Numeric::DateTime(number, _) => number,
         Numeric::TimeDelta(number, _) => number,
     };
-    numeric_of(class_under(format, number), number, is_1904)
+    let class = class_in_range(class_under(format, number), number, is_1904);
+    numeric_of(class, number, is_1904)
 }
 
 /// Appends a number in decimal.
