@@ -23,6 +23,10 @@ use Rattle.xls_csv.proofs.WalkLemmas.{walk_plain, walked}
 abbrev pub contents : List Formatted → List Content
 contents row = map content_in row
 
+-- their fields
+abbrev fields_in : List Formatted → List (List ℕ)
+fields_in row = map field (contents row)
+
 -- rows by their contents
 abbrev row_shown : List Formatted → List ℕ
 row_shown row = row_csv (contents row)
@@ -32,21 +36,21 @@ rows_shown rows = rows_csv (map contents rows)
 
 -- the fields after the first
 others_are : (values : List Formatted) (text : List ℕ) → Concatenates (IsSeparated csv_fields) values text
-    → text ≡ fields_text default_writer (map field (contents values))
+    → text ≡ fields_text default_writer (fields_in values)
 unfolding fields_text
 others_are [] text none = none
 others_are (c ∷ cs) text (first, others, (f, is, e), rest, whole) =
     rw (whole, e, is, others_are cs others rest) refl
 
 fields_are : (values : List Formatted) (text : List ℕ) → IsFields csv_fields values text
-    → text ≡ row_body default_writer (map field (contents values))
+    → text ≡ row_body default_writer (fields_in values)
 fields_are [] text none = none
 fields_are (c ∷ cs) text (first, others, is, rest, whole) = rw (whole, is, others_are cs others rest) refl
 
 row_is : (row : List Formatted) (text : List ℕ) → IsRow csv_fields row text → text ≡ row_shown row
 row_is row text (fields, are, e) =
     let body = fields_are row fields are in
-    e ∙ ap (λ (t : List ℕ). t ++ row_end (length t == 0)) body ∙ row_ended (map field (contents row))
+    e ∙ ap (λ (t : List ℕ). t ++ row_end (length t == 0)) body ∙ row_ended (fields_in row)
 
 box_is : (rows : List (List Formatted)) (text : List ℕ) → IsBox csv_fields rows text → text ≡ rows_shown rows
 box_is [] text none = none
@@ -56,23 +60,23 @@ box_is (row ∷ rows) text (first, others, is, rest, e) =
 -- ---- a part of it, and what is missing
 
 others_split : (n : ℕ) (values : List Formatted)
-    → fields_text default_writer (map field (contents (take n values))) ++ fields_text default_writer (map field (contents (drop n values)))
-    ≡ fields_text default_writer (map field (contents values))
+    → fields_text default_writer (fields_in (take n values)) ++ fields_text default_writer (fields_in (drop n values))
+    ≡ fields_text default_writer (fields_in values)
 unfolding fields_text
 others_split zero values = refl
 others_split (suc n) [] = refl
 others_split (suc n) (c ∷ cs) =
     ap (λ (t : List ℕ). 44 ∷ t)
-    (append_assoc (field_text default_writer (field (content_in c))) (fields_text default_writer (map field (contents (take n cs)))) (fields_text default_writer (map field (contents (drop n cs))))
+    (append_assoc (field_text default_writer (field (content_in c))) (fields_text default_writer (fields_in (take n cs))) (fields_text default_writer (fields_in (drop n cs)))
     ∙ ap (λ (t : List ℕ). field_text default_writer (field (content_in c)) ++ t) (others_split n cs))
 
 fields_split : (n : ℕ) (values : List Formatted)
-    → (more : List ℕ) × (row_body default_writer (map field (contents (take n values))) ++ more ≡ row_body default_writer (map field (contents values)))
-fields_split zero values = (row_body default_writer (map field (contents values)), refl)
+    → (more : List ℕ) × (row_body default_writer (fields_in (take n values)) ++ more ≡ row_body default_writer (fields_in values))
+fields_split zero values = (row_body default_writer (fields_in values), refl)
 fields_split (suc n) [] = ([], refl)
 fields_split (suc n) (c ∷ cs) = (
-  fields_text default_writer (map field (contents (drop n cs))),
-  append_assoc (field_text default_writer (field (content_in c))) (fields_text default_writer (map field (contents (take n cs)))) (fields_text default_writer (map field (contents (drop n cs))))
+  fields_text default_writer (fields_in (drop n cs)),
+  append_assoc (field_text default_writer (field (content_in c))) (fields_text default_writer (fields_in (take n cs))) (fields_text default_writer (fields_in (drop n cs)))
       ∙ ap (λ (t : List ℕ). field_text default_writer (field (content_in c)) ++ t) (others_split n cs),
 )
 
@@ -80,11 +84,11 @@ row_part : (row : List Formatted) (text : List ℕ) → BeginsRow csv_fields row
     → (more : List ℕ) × (text ++ more ≡ row_shown row)
 row_part row text (n, is) =
     let (more, whole) = fields_split n row in
-    let end = row_end (length (row_body default_writer (map field (contents row))) == 0) in (
+    let end = row_end (length (row_body default_writer (fields_in row)) == 0) in (
       more ++ end,
       ap (λ (t : List ℕ). t ++ (more ++ end)) (fields_are (take n row) text is)
-          ∙ sym (append_assoc (row_body default_writer (map field (contents (take n row)))) more end)
-          ∙ ap (λ (t : List ℕ). t ++ end) whole ∙ row_ended (map field (contents row)),
+          ∙ sym (append_assoc (row_body default_writer (fields_in (take n row))) more end)
+          ∙ ap (λ (t : List ℕ). t ++ end) whole ∙ row_ended (fields_in row),
     )
 
 box_part : (rows : List (List Formatted)) (text : List ℕ) → BeginsBox csv_fields rows text
