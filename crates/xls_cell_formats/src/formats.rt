@@ -119,6 +119,13 @@ impl<'v> CellFormats<'v> {
         Ok(CellFormats { view, places, kept })
     }
 
+    /// The view whose cells they are of. Takes no memory.
+    pub fn view(&self) -> &'v View<'v>
+        ensures { result.now ≡ self.now }
+    {
+        self.view
+    }
+
     /// The code of an XF index: that of the last Format record with the format identifier of its XF record, else the
     /// built-in one, else `General`. An index without an XF record has identifier 0. Takes no memory.
     pub fn code(&self, xf: u16) -> &'v str

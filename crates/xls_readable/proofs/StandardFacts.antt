@@ -1,17 +1,14 @@
 -- Values that RFC 4180, RFC 8259 and the manual of xls_dump give, so that a wrong rule in the specs
 -- does not check.
-use Rattle.std.proofs.Common.{◌≡◌, ℕ, ℤ, pos, negsuc, Bool, List, ◌∷◌, ◌++◌, [], map, true, false, refl}
-use Rattle.std.specs.Prelude.{Some, None, codes}
+use Rattle.std.proofs.Common.{◌≡◌, ℕ, pos, negsuc, List, ◌∷◌, ◌++◌, [], map, true, false, refl}
+use Rattle.std.specs.Prelude.{codes}
 use Rattle.std.specs.Fmt.{digits}
 use Rattle.std.specs.Str.{chars}
 use Rattle.json.specs.Print.{escape_byte, quoted}
-use Rattle.xls_dates.specs.Dates.{DateParts}
 use Rattle.xls_dates.specs.declared.dates.ExcelDateTimeType.TheVariants.{DateTime, TimeDelta}
-use Rattle.xls_data.specs.declared.errors.CellErrorType.{CellErrorType}
 use Rattle.xls_data.specs.declared.errors.CellErrorType.TheVariants.{NA}
 use Rattle.xls_bytes.specs.Doubles.{size_of_parts}
 use Rattle.xls_dates.specs.Numbers.{sixteen_digits}
-use Rattle.xls_dates.specs.declared.numbers.Number.{Number}
 use Rattle.xls_dates.specs.declared.numbers.Number.TheVariants.{Bits, Whole, Hundredths, BitsOver100}
 use Rattle.xls_data.specs.declared.regions.Dimensions.{Dimensions}
 use Rattle.xls_data.specs.declared.sheets.SheetType.TheVariants as types
