@@ -1,9 +1,16 @@
 -- The text of a box: the fields of a row with a delimiter between two, and the rows one after another.
-use Rattle.std.specs.Prelude.{◌≡◌, ◌⊎◌, ℕ, ◌==◌, if◌then◌else◌, Bool, List, [], ◌∷◌, ◌++◌, length, take, codes, Result, MatchResult}
+use Rattle.std.specs.Prelude.{◌≡◌, ◌⊎◌, ℕ, ◌==◌, if◌then◌else◌, Bool, List, [], ◌∷◌, ◌++◌, length, take, codes, Option, Some, None, Result, MatchResult}
+use Rattle.std.specs.Borrow.{Bor}
 use Rattle.xls_output.specs.Each.{Concatenates, GathersEach}
 use Rattle.xls_output.specs.Output.{GivesUp, Output}
 use Rattle.xls_output.specs.declared.stop.Stop.{Stop}
+use Rattle.xls_view.specs.Viewing.{Viewed}
 use Rattle.xls_csv.specs.Walk.{Formatted}
+
+-- the workbook whose formats are lent
+abbrev pub lent_view : Option (Bor Viewed) → Option Viewed
+lent_view None = None
+lent_view (Some formats) = Some formats.now
 
 -- a form of fields: the byte between two, and which text is the field of what a cell shows
 pub record FieldForm : Type 1 where

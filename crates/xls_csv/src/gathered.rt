@@ -11,6 +11,7 @@ use crate::line::{push_error, push_text, push_truth};
 use crate::numbers::push_number;
 use std::alloc::{AllocError, Global};
 use std::marker::Model;
+use xls_cell_formats::CellFormats;
 use xls_output::Gathers;
 use xls_view::{CellValue, SheetCell, TextBuffer};
 
@@ -87,16 +88,21 @@ impl Gathers for Gathered {
 impl BoxBuffer for Gathered {
     type Form = ();
 
-    ghost fields = { λ _. csv_fields };
+    ghost fields = { λ _ _. csv_fields };
 
     #[inline(always)]
-    fn push_delimiter(&mut self, _: ()) -> Result<(), AllocError> {
+    fn push_delimiter(&mut self, _: (), _: Option<&CellFormats<'_>>) -> Result<(), AllocError> {
         self.bytes.push(b',')?;
         Ok(())
     }
 
     #[inline(always)]
-    fn push_field(&mut self, _: (), cell: Option<SheetCell<'_>>) -> Result<(), AllocError> {
+    fn push_field(
+        &mut self,
+        _: (),
+        _: Option<&CellFormats<'_>>,
+        cell: Option<SheetCell<'_>>,
+    ) -> Result<(), AllocError> {
         match cell {
             Some(cell) => self.push_value(cell.value),
             None => Ok(()),

@@ -25,7 +25,7 @@ fn write_walk<K: Sink>(alloc: Global, sink: &mut K, cells: &SheetCells<'_>) -> R
     let mut out = Writer::new(&mut gathered, sink);
     let sheet = cells.formatted();
     let extent = extent_of(sheet);
-    put_box(&mut out, Ahead::new(sheet.iter()), extent, ())?;
+    put_box(&mut out, Ahead::new(sheet.iter()), extent, (), None)?;
     out.finish()?;
     Ok(())
 }

@@ -1,7 +1,7 @@
 use Rattle.std.proofs.Common.{◌+◌, ◌-◌}
 use Rattle.xls_output.specs.Output.{output_of}
 use Rattle.xls_output.proofs.EachLemmas.{EachSome}
-use Rattle.xls_csv.specs.Boxes.{IsRow}
+use Rattle.xls_csv.specs.Boxes.{lent_view, IsRow}
 use Rattle.xls_csv.specs.Walk.{no_cell, rows_over}
 use Rattle.xls_csv.proofs.RowLemmas.{one}
 use Rattle.xls_csv.proofs.boxes.put_box.Given as goal
@@ -11,5 +11,5 @@ abbrev pub invariant-loop-i : goal.invariant-loop-i
 invariant-loop-i g l =
     let state = output_of g.K.Sink.state g.B.Gathers.kept in
     let box = l.extent in
-    EachSome (IsRow (g.B.BoxBuffer.fields l.form)) one (rows_over no_cell box.height box.top box.left box.width l.fn.cells)
+    EachSome (IsRow (g.B.BoxBuffer.fields l.form (lent_view l.formats))) one (rows_over no_cell box.height box.top box.left box.width l.fn.cells)
     (rows_over no_cell (box.height - l.i) (box.top + l.i) box.left box.width l.cells) (state l.fn.out) (state l.out)
