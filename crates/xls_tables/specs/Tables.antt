@@ -1,11 +1,10 @@
 -- Tables, and how far they were written.
 use Rattle.std.specs.Prelude.{◌≡◌, ℕ, Bool, true, false, List, [], ◌∷◌, ◌++◌, Result, MatchResult}
-use Rattle.xls_data.specs.Content.{Content}
 use Rattle.xls_output.specs.Gathering.{Stops, Wrote}
 use Rattle.xls_output.specs.SinkState.{SinkState}
 use Rattle.xls_output.specs.declared.stop.Stop.{Stop}
-use Rattle.xls_csv.specs.Boxes.{BeginsBox, IsBox}
-use Rattle.xls_tables.specs.Rows.{content_fields}
+use Rattle.xls_csv.specs.Boxes.{BeginsBox, FieldForm, IsBox}
+use Rattle.xls_csv.specs.Walk.{Formatted}
 
 -- the byte order mark U+FEFF in UTF-8, where it is asked for
 abbrev pub byte_order_mark : Bool → List ℕ
@@ -13,28 +12,30 @@ byte_order_mark true = 0xEF ∷ 0xBB ∷ 0xBF ∷ []
 byte_order_mark false = []
 
 -- a table: the mark, where it is asked for, and the box of the rows
-abbrev pub IsTable : ℕ → Bool → List (List Content) → List ℕ → Type 0
-IsTable delimiter is_marked rows text =
-    (body : List ℕ) × IsBox (content_fields delimiter) rows body × (text ≡ byte_order_mark is_marked ++ body)
+abbrev pub IsTable : FieldForm → Bool → List (List Formatted) → List ℕ → Type 0
+IsTable form is_marked rows text =
+    (body : List ℕ) × IsBox form rows body × (text ≡ byte_order_mark is_marked ++ body)
 
 -- the mark likewise, and a part of the box
-abbrev pub BeginsTable : ℕ → Bool → List (List Content) → List ℕ → Type 0
-BeginsTable delimiter is_marked rows text =
-    (body : List ℕ) × BeginsBox (content_fields delimiter) rows body × (text ≡ byte_order_mark is_marked ++ body)
+abbrev pub BeginsTable : FieldForm → Bool → List (List Formatted) → List ℕ → Type 0
+BeginsTable form is_marked rows text =
+    (body : List ℕ) × BeginsBox form rows body × (text ≡ byte_order_mark is_marked ++ body)
 
 -- the table was written
-pub record WroteTable (delimiter : ℕ) (is_marked : Bool) (rows : List (List Content)) (before after : SinkState) : Type 0 where
+pub record WroteTable (form : FieldForm) (is_marked : Bool) (rows : List (List Formatted))
+    (before after : SinkState) : Type 0 where
   pub text : List ℕ
-  pub table : IsTable delimiter is_marked rows text
+  pub table : IsTable form is_marked rows text
   pub wrote : Wrote before after text
 
 -- a prefix of a part of it was written, and then it was given up
-pub record StopsTable (delimiter : ℕ) (is_marked : Bool) (rows : List (List Content)) (before after : SinkState) (e : Stop) : Type 0 where
+pub record StopsTable (form : FieldForm) (is_marked : Bool) (rows : List (List Formatted))
+    (before after : SinkState) (e : Stop) : Type 0 where
   pub text : List ℕ
-  pub part : BeginsTable delimiter is_marked rows text
+  pub part : BeginsTable form is_marked rows text
   pub stops : Stops before [] after text e
 
 -- either of them
-abbrev pub DeliversTable : {X : Type 0} → ℕ → Bool → List (List Content) → SinkState → SinkState → Result X Stop → Type 0
-DeliversTable delimiter is_marked rows before after result =
-    MatchResult result (λ _. WroteTable delimiter is_marked rows before after) (StopsTable delimiter is_marked rows before after)
+abbrev pub DeliversTable : {X : Type 0} → FieldForm → Bool → List (List Formatted) → SinkState → SinkState → Result X Stop → Type 0
+DeliversTable form is_marked rows before after result =
+    MatchResult result (λ _. WroteTable form is_marked rows before after) (StopsTable form is_marked rows before after)

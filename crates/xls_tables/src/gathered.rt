@@ -2,23 +2,34 @@
 
 ghost use Rattle.std.specs.Prelude.{◌≡◌, ◌++◌, [], OnOk};
 ghost use Rattle.std.specs.Str.{chars};
+ghost use Rattle.std.specs.String.{string_bytes};
 ghost use Rattle.xls_data.specs.Content.{text};
 ghost use Rattle.xls_data.specs.Numeric.{numeric_content};
 ghost use Rattle.xls_output.specs.Added.{AddsText};
-ghost use Rattle.xls_view.specs.Values.{lent_content, value_text};
-ghost use Rattle.xls_tables.specs.Rows.{IsContentField, content_fields};
+ghost use Rattle.xls_readable.specs.declared.choices.FieldStyle.TheVariants.{Shown, Values};
+ghost use Rattle.xls_view.specs.Values.{formatted_entry, lent_content, value_text};
+ghost use Rattle.xls_shown.specs.Shown.{Gains};
+ghost use Rattle.xls_tables.specs.Rows.{IsCellField, IsCellShown, IsContentField, table_fields};
 ghost use Rattle.xls_tables.specs.Tables.{byte_order_mark};
 
 use std::alloc::{AllocError, Global};
 use std::marker::Model;
+use xls_cell_formats::CellFormats;
 use xls_csv::BoxBuffer;
 use xls_data::{ExcelDateTime, ExcelDateTimeType, Numeric};
 use xls_output::Gathers;
 use xls_readable::{
-    Delimiter, push_failure_field, push_int_field, push_moment_field, push_number_field,
-    push_separator, push_text_field, push_truth_field,
+    Delimiter, FieldStyle, push_failure_field, push_int_field, push_moment_field,
+    push_number_field, push_separator, push_text_field, push_truth_field,
 };
-use xls_view::{CellValue, TextBuffer};
+use xls_view::{CellValue, SheetCell, TextBuffer};
+
+/// What the fields of a table look like: their style, and the byte between two.
+#[derive(Clone, Copy)]
+pub(crate) struct TableForm {
+    pub(crate) style: FieldStyle,
+    pub(crate) delimiter: Delimiter,
+}
 
 /// The text that is gathered, and memory for what has to be printed or decoded first. Contracts see what is
 /// gathered.
@@ -36,6 +47,20 @@ impl Model for Gathered {
     ghost Value = { List ℕ };
 
     ghost view = { λ g. string_bytes g.text };
+}
+
+/// Puts what Excel shows of a cell into a text that is used again.
+fn put_shown(
+    room: &mut String,
+    decoded: &mut TextBuffer,
+    formats: &CellFormats<'_>,
+    cell: SheetCell<'_>,
+) -> Result<(), AllocError>
+    ensures { OnOk result (Gains (IsCellShown formats.now (formatted_entry cell.entry).1) [] (chars (string_bytes room.new))) }
+{
+    room.clear();
+    let value = decoded.value_of(cell.value)?;
+    formats.push_shown(cell.xf, &value, room)
 }
 
 impl Gathered {
@@ -113,6 +138,49 @@ impl Gathered {
             CellValue::Empty => Ok(()),
         }
     }
+
+    /// Appends the field of a cell's value under its format.
+    #[inline(always)]
+    fn push_classed(
+        &mut self,
+        delimiter: Delimiter,
+        formats: &CellFormats<'_>,
+        cell: SheetCell<'_>,
+    ) -> Result<(), AllocError>
+        ensures { OnOk result (AddsText (IsCellField Values delimiter formats.now (formatted_entry cell.entry).1) self.old self.new) }
+    {
+        self.push_value(delimiter, formats.classed(cell).value)
+    }
+
+    /// Appends the field of what Excel shows of a cell.
+    #[inline(never)]
+    fn push_shown(
+        &mut self,
+        delimiter: Delimiter,
+        formats: &CellFormats<'_>,
+        cell: SheetCell<'_>,
+    ) -> Result<(), AllocError>
+        ensures { OnOk result (AddsText (IsCellField Shown delimiter formats.now (formatted_entry cell.entry).1) self.old self.new) }
+    {
+        put_shown(&mut self.room, &mut self.decoded, formats, cell)?;
+        push_text_field(self.room.as_str(), delimiter, &mut self.text)
+    }
+
+    /// Appends the field of a cell in a style.
+    #[inline(always)]
+    fn push_cell(
+        &mut self,
+        form: TableForm,
+        formats: &CellFormats<'_>,
+        cell: SheetCell<'_>,
+    ) -> Result<(), AllocError>
+        ensures { OnOk result (AddsText (IsCellField form.style form.delimiter formats.now (formatted_entry cell.entry).1) self.old self.new) }
+    {
+        match form.style {
+            FieldStyle::Values => self.push_classed(form.delimiter, formats, cell),
+            FieldStyle::Shown => self.push_shown(form.delimiter, formats, cell),
+        }
+    }
 }
 
 impl Gathers for Gathered {
@@ -129,24 +197,30 @@ impl Gathers for Gathered {
 }
 
 impl BoxBuffer for Gathered {
-    type Form = Delimiter;
+    type Form = TableForm;
 
-    ghost fields = { content_fields };
+    ghost fields = { table_fields };
 
     #[inline(always)]
-    fn push_delimiter(&mut self, delimiter: Delimiter) -> Result<(), AllocError> {
-        push_separator(delimiter, &mut self.text)
+    fn push_delimiter(
+        &mut self,
+        form: TableForm,
+        _: Option<&CellFormats<'_>>,
+    ) -> Result<(), AllocError> {
+        push_separator(form.delimiter, &mut self.text)
     }
 
     #[inline(always)]
     fn push_field(
         &mut self,
-        delimiter: Delimiter,
-        value: Option<CellValue<'_>>,
+        form: TableForm,
+        formats: Option<&CellFormats<'_>>,
+        cell: Option<SheetCell<'_>>,
     ) -> Result<(), AllocError> {
-        match value {
-            Some(value) => self.push_value(delimiter, value),
-            None => Ok(()),
+        match (cell, formats) {
+            (Some(cell), Some(formats)) => self.push_cell(form, formats, cell),
+            (Some(cell), None) => self.push_value(form.delimiter, cell.value),
+            (None, _) => Ok(()),
         }
     }
 
