@@ -6,13 +6,12 @@ use Rattle.std.specs.Str.{chars, IsUtf8}
 use Rattle.std.proofs.lemmas.Str.{chars-nil, encodes-chars}
 use Rattle.xls_data.specs.Sheets.{SheetContent}
 use Rattle.xls_range.specs.Positions.{Position}
-use Rattle.xls_meaning.specs.Reading.{SheetView}
 use Rattle.xls_meaning.specs.SheetTable.{FormulaEntry, nonempty_formulas}
 use Rattle.xls_formula.specs.Context.{Context}
 use Rattle.xls_view.specs.Formulas.{Formula, text_entry}
 use Rattle.xls_data.specs.declared.regions.Dimensions.{Dimensions}
 use Rattle.xls_readable.specs.Lines.{name_members, sheet_members, formula_members, ref_members}
-use Rattle.xls_listing.specs.Listing.{Line, cited_line, name_line, each_sheet, formula_line, sheet_line, displayed_at}
+use Rattle.xls_listing.specs.Listing.{Line, line, cited_line, name_line, each_sheet, formula_line, sheet_line, displayed_at}
 
 -- ---- lists by their index
 
@@ -75,7 +74,7 @@ Reported = String Global × String Global
 
 -- ---- sheets
 
-sheets_from : (displayed : SheetView → List Line) (ss : List SheetContent) (vs : List SheetView) (i : ℕ) (s : SheetContent)
+sheets_from : {V : Type 0} (displayed : V → List Line) (ss : List SheetContent) (vs : List V) (i : ℕ) (s : SheetContent)
     → slice_get ss i ≡ Some s
     → each_sheet displayed (drop i ss) (drop i vs)
     ≡ (sheet_line s ∷ displayed_at displayed (slice_get vs i)) ++ each_sheet displayed (drop (suc i) ss) (drop (suc i) vs)
@@ -85,12 +84,12 @@ sheets_from displayed (t ∷ ss) [] zero s e =
 sheets_from displayed (t ∷ ss) (v ∷ vs) zero s e =
     let same : t ≡ s = cc in ap (λ (x : SheetContent). sheet_line x ∷ displayed v ++ each_sheet displayed ss vs) same
 sheets_from displayed (t ∷ ss) [] (suc i) s e =
-    ap (λ (l : List SheetView). each_sheet displayed (drop i ss) l) (sym (drop_nothing i))
+    ap (λ (l : List _). each_sheet displayed (drop i ss) l) (sym (drop_nothing i))
     ∙ sheets_from displayed ss [] i s e
 sheets_from displayed (t ∷ ss) (v ∷ vs) (suc i) s e = sheets_from displayed ss vs i s e
 
 -- the sheets from an index on
-pub sheets_step : (displayed : SheetView → List Line) (ss : List SheetContent) (vs : List SheetView) (i : ℕ) (s : SheetContent)
+pub sheets_step : {V : Type 0} (displayed : V → List Line) (ss : List SheetContent) (vs : List V) (i : ℕ) (s : SheetContent)
     → slice_get ss i ≡ Some s
     → each_sheet displayed (drop i ss) (drop i vs)
     ≡ (sheet_line s ∷ displayed_at displayed (slice_get vs i)) ++ each_sheet displayed (drop (i + 1) ss) (drop (i + 1) vs)
@@ -98,7 +97,7 @@ sheets_step displayed ss vs i s e =
     sheets_from displayed ss vs i s e
     ∙ ap (λ (n : ℕ). (sheet_line s ∷ displayed_at displayed (slice_get vs i)) ++ each_sheet displayed (drop n ss) (drop n vs)) (sym (add-one i))
 
-pub sheets_end : (displayed : SheetView → List Line) (ss : List SheetContent) (vs : List SheetView) (i : ℕ) → length ss ≤ i
+pub sheets_end : {V : Type 0} (displayed : V → List Line) (ss : List SheetContent) (vs : List V) (i : ℕ) → length ss ≤ i
     → each_sheet displayed (drop i ss) (drop i vs) ≡ []
 sheets_end displayed ss vs i l = ap (λ (x : List SheetContent). each_sheet displayed x (drop i vs)) (drop_all ss i l)
 
@@ -149,21 +148,21 @@ some_characters bytes fits e none =
 
 -- the line of a name and its text
 pub named_line : (a b name text : List ℕ) → a ≡ encode_utf8_all name → b ≡ encode_utf8_all text
-    → record { word = codes "name"; members = name_members a b } ∷ [] ≡ name_line (name, text) ∷ []
+    → line (codes "name") (name_members a b) ∷ [] ≡ name_line (name, text) ∷ []
 named_line a b name text p q = rw (p, q) refl
 
 -- that of a sheet
 pub sheet_named_line : (a : List ℕ) (s : SheetContent) → a ≡ encode_utf8_all s.name
-    → record { word = codes "sheet"; members = sheet_members a s.typ s.visible } ∷ [] ≡ sheet_line s ∷ []
+    → line (codes "sheet") (sheet_members a s.typ s.visible) ∷ [] ≡ sheet_line s ∷ []
 sheet_named_line a s p = rw p refl
 
 -- that of a formula
 pub spelled_line : (p : Position) (text : List ℕ) → IsUtf8 text
-    → record { word = codes "formula"; members = formula_members p.0 p.1 text } ∷ [] ≡ formula_line (p, chars text) ∷ []
+    → line (codes "formula") (formula_members p.0 p.1 text) ∷ [] ≡ formula_line (p, chars text) ∷ []
 spelled_line p text fits =
-    ap (λ (t : List ℕ). record { word = codes "formula"; members = formula_members p.0 p.1 t } ∷ []) (encoded text fits)
+    ap (λ (t : List ℕ). line (codes "formula") (formula_members p.0 p.1 t) ∷ []) (encoded text fits)
 
 -- that of cells that are cited
 pub cited_named_line : (a b name sheet : List ℕ) (formula : Position) (cells : Dimensions) → a ≡ encode_utf8_all name → b ≡ encode_utf8_all sheet
-    → record { word = codes "ref"; members = ref_members a formula b cells } ∷ [] ≡ cited_line name formula sheet cells ∷ []
+    → line (codes "ref") (ref_members a formula b cells) ∷ [] ≡ cited_line name formula sheet cells ∷ []
 cited_named_line a b name sheet formula cells p q = rw (p, q) refl

@@ -1,5 +1,5 @@
 -- Known exact texts, so that a wrong rule in the specs does not check.
-use Rattle.std.proofs.Common.{◌≡◌, [], ◌∷◌, ◌++◌, map, true, false, refl, pos, negsuc, Some, codes}
+use Rattle.std.proofs.Common.{◌≡◌, [], ◌∷◌, ◌++◌, map, true, false, refl, pos, negsuc, Some, None, codes}
 use Rattle.std.specs.Fmt.{digits}
 use Rattle.std.specs.Str.{chars}
 use Rattle.xls_data.specs.Content.{int, float, text, truth, date, iso_date, iso_duration, failure, nothing}
@@ -35,7 +35,7 @@ unfolding chars lib.Utf8.encode
 known_sheets = refl
 
 -- each kind of value, and a blank, which has no line
-pub known_kinds : map (λ c. exact_lines (cell_lines ((2, 3), c))) (
+pub known_kinds : map (λ c. exact_lines (cell_lines (((2, 3), c), None))) (
     int (negsuc 0) ∷ float (Hundredths (pos 150)) ∷ text (codes "a\t\n\\") ∷ truth true ∷ truth false
     ∷ date (record { number = Whole (pos 43831); kind = DateTime; is_1904 = false })
     ∷ date (record { number = Hundredths (pos 50); kind = TimeDelta; is_1904 = true })

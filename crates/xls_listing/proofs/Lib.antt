@@ -1,4 +1,5 @@
 pub mod LineLemmas
+pub mod ReadingLemmas
 pub mod DisplayedLemmas
 pub mod RefLemmas
 pub mod SheetLemmas

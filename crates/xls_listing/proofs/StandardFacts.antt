@@ -33,6 +33,7 @@ first_line = record {
   word = codes "sheet";
   members = (codes "name", item.text (codes "A")) ∷ (codes "kind", item.word (codes "worksheet"))
       ∷ (codes "visibility", item.word (codes "visible")) ∷ [];
+  shown = None;
 }
 
 abbrev second_line : Line
@@ -40,12 +41,14 @@ second_line = record {
   word = codes "sheet";
   members = (codes "name", item.text (195 ∷ 169 ∷ [])) ∷ (codes "kind", item.word (codes "chart"))
       ∷ (codes "visibility", item.word (codes "veryhidden")) ∷ [];
+  shown = None;
 }
 
 abbrev known_formula : Line
 known_formula = record {
   word = codes "formula";
   members = (codes "row", item.count 0) ∷ (codes "column", item.count 0) ∷ (codes "text", item.text (codes "B1")) ∷ [];
+  shown = None;
 }
 
 pub known_sheets : sheet_lines book ≡ first_line ∷ second_line ∷ []
@@ -57,19 +60,21 @@ unfolding lib.Utf8.encode
 known_formulas = refl
 
 pub known_dump : dump_lines book ≡
-    record { word = codes "dates"; members = (codes "year", item.word (codes "1904")) ∷ [] }
-    ∷ record { word = codes "name"; members = (codes "name", item.text (codes "N")) ∷ (codes "text", item.text (codes "A!$B$2")) ∷ [] }
+    record { word = codes "dates"; members = (codes "year", item.word (codes "1904")) ∷ []; shown = None }
+    ∷ record { word = codes "name"; members = (codes "name", item.text (codes "N")) ∷ (codes "text", item.text (codes "A!$B$2")) ∷ []; shown = None }
     ∷ first_line
     ∷ record {
       word = codes "cell";
       members = (codes "row", item.count 0) ∷ (codes "column", item.count 0) ∷ (codes "kind", item.word (codes "float"))
           ∷ (codes "value", item.number (Whole (pos 1))) ∷ [];
+      shown = None;
     }
     ∷ known_formula
     ∷ record {
       word = codes "merge";
       members = (codes "first_row", item.count 0) ∷ (codes "first_column", item.count 1)
           ∷ (codes "last_row", item.count 2) ∷ (codes "last_column", item.count 3) ∷ [];
+      shown = None;
     }
     ∷ second_line ∷ []
 unfolding lib.Utf8.encode
@@ -106,11 +111,13 @@ pub known_refs : ref_lines (record {
   members = (codes "sheet", item.text (codes "B")) ∷ (codes "row", item.count 4) ∷ (codes "column", item.count 2)
       ∷ (codes "cited_sheet", item.text (codes "A")) ∷ (codes "first_row", item.count 0) ∷ (codes "first_column", item.count 2)
       ∷ (codes "last_row", item.count 1) ∷ (codes "last_column", item.count 3) ∷ [];
+  shown = None;
 } ∷ record {
   word = codes "ref";
   members = (codes "sheet", item.text []) ∷ (codes "row", item.count 0) ∷ (codes "column", item.count 0)
       ∷ (codes "cited_sheet", item.text []) ∷ (codes "first_row", item.count 0) ∷ (codes "first_column", item.count 0)
       ∷ (codes "last_row", item.count 0) ∷ (codes "last_column", item.count 0) ∷ [];
+  shown = None;
 } ∷ []
 unfolding lib.Utf8.encode
 known_refs = refl
@@ -130,5 +137,5 @@ pub known_kinds : map kind_and_value (
 unfolding lib.Utf8.encode
 known_kinds = refl
 
-pub known_blank : cell_lines ((0, 0), nothing) ≡ []
+pub known_blank : cell_lines (((0, 0), nothing), None) ≡ []
 known_blank = refl

@@ -1,8 +1,13 @@
-//! A law over the definitions, the contract of a call that does nothing.
+//! Laws over the definitions, the contracts of calls that do nothing.
 
-ghost use Rattle.xls_listing.specs.Laws.{ExactIsGiven};
+ghost use Rattle.xls_listing.specs.Laws.{ExactIsGiven, RecordedIsDump};
 
 /// Lines that are written exactly have one text, `exact_lines`.
 pub fn exact_is_given()
     ensures { ExactIsGiven }
+{}
+
+/// The lines of a workbook whose cells are read as their records have them are those of its dump.
+pub fn recorded_is_dump()
+    ensures { RecordedIsDump }
 {}

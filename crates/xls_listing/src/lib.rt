@@ -8,14 +8,16 @@ mod laws;
 mod lines;
 mod listing;
 mod merges;
+mod readings;
 mod refs;
 mod sheets;
 mod values;
 
 pub use forms::FormBuffer;
 pub use formulas::write_formula_list;
-pub use laws::exact_is_given;
+pub use laws::{exact_is_given, recorded_is_dump};
 pub use lines::{BookLine, LineForm};
 pub use listing::write_listing;
+pub use readings::CellReading;
 pub use refs::write_ref_list;
 pub use sheets::write_sheet_list;

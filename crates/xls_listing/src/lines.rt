@@ -1,8 +1,8 @@
 //! The lines of a workbook, and what writes them.
 
-ghost use Rattle.std.specs.Prelude.{◌≡◌, ◌≤◌, ◌∷◌, [], length};
+ghost use Rattle.std.specs.Prelude.{◌≡◌, ◌≤◌, ◌∷◌, [], Option, length};
 ghost use Rattle.xls_readable.specs.Items.{item_of};
-ghost use Rattle.xls_listing.specs.Listing.{Line, PutsLines, cell_line, line_of};
+ghost use Rattle.xls_listing.specs.Listing.{Line, PutsLines, ShownAs, TellsShown, cell_line, line_of};
 
 use std::alloc::Global;
 use xls_data::{Dimensions, SheetType, SheetVisible};
@@ -46,9 +46,9 @@ pub enum BookLine<'a> {
 
 /// A form in which the lines of a workbook are written.
 pub trait LineForm {
-    ghost use Rattle.std.specs.Prelude.{◌≡◌, ◌≤◌, ◌∷◌, ℕ, List, [], length};
+    ghost use Rattle.std.specs.Prelude.{◌≡◌, ◌≤◌, ◌∷◌, ℕ, List, [], Option, length};
     ghost use Rattle.xls_readable.specs.Items.{item_of};
-    ghost use Rattle.xls_listing.specs.Listing.{Line, PutsLines, cell_line, line_of};
+    ghost use Rattle.xls_listing.specs.Listing.{Line, PutsLines, ShownAs, TellsShown, cell_line, line_of};
 
     /// Which texts a line may have.
     ghost is_text: { Self → Line → List ℕ → Type 0 };
@@ -68,14 +68,17 @@ pub trait LineForm {
     ) -> Result<(), Stop>
         ensures { PutsLines K.state Self.Buffer.kept (is_text self.now) (line_of line.entry ∷ []) out.old out.new result };
 
-    /// Puts the line of a cell at a position, of a value's kind and what is shown of it.
+    /// Puts the line of a cell at a position, of a value's kind and its field, and of what Excel shows of it, if that is
+    /// told.
     fn put_cell<K: Sink>(
         &self,
         out: &mut Writer<'_, K, Self::Buffer>,
         position: (u32, u32),
         kind: &'static str,
         field: &Field<'_>,
+        shown: Option<&str>,
     ) -> Result<(), Stop>
         requires { length kind.now ≤ 5 }
-        ensures { PutsLines K.state Self.Buffer.kept (is_text self.now) (cell_line position (kind.now, item_of field.now) ∷ []) out.old out.new result };
+        ensures { (s : Option ShownAs) → TellsShown s shown.entry
+            → PutsLines K.state Self.Buffer.kept (is_text self.now) (cell_line position (kind.now, item_of field.now) s ∷ []) out.old out.new result };
 }

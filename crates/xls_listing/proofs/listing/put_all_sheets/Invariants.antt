@@ -1,10 +1,10 @@
 use Rattle.xls_output.specs.Output.{output_of}
-use Rattle.xls_listing.specs.Listing.{lines_of_sheet}
+use Rattle.xls_listing.specs.Listing.{lines_of_sheet, listed_sheets}
 use Rattle.xls_listing.proofs.SheetLemmas.{PutsSheets}
 use Rattle.xls_listing.proofs.listing.put_all_sheets.Given as goal
 
 -- the sheets so far are put
 abbrev pub invariant-loop-i : goal.invariant-loop-i
 invariant-loop-i g l =
-    PutsSheets (g.F.LineForm.is_text l.form) lines_of_sheet l.view.book l.i
+    PutsSheets (g.F.LineForm.is_text l.form) lines_of_sheet l.view.book.sheets (listed_sheets l.reader l.view.book.contents l.view.formatted) l.i
     (output_of g.K.Sink.state g.F.Buffer.Gathers.kept l.fn.out) (output_of g.K.Sink.state g.F.Buffer.Gathers.kept l.out)

@@ -1,32 +1,14 @@
-use Rattle.std.proofs.Common.{[], ◌∷◌, ◌++◌, ap, map}
-use Rattle.xls_open.specs.Workbook.{name_texts}
+use Rattle.std.proofs.Common.{ap}
 use Rattle.xls_output.specs.Output.{output_of}
-use Rattle.xls_listing.specs.Listing.{dates_line, each_sheet, lines_of_sheet, name_line}
-use Rattle.xls_listing.proofs.DisplayedLemmas.{map_again}
-use Rattle.xls_output.proofs.EachLemmas.{each-as, each-stops-as, each-stops-more, each-stops-then, each-then, puts-each-stop, puts-then}
+use Rattle.xls_output.proofs.EachLemmas.{puts-as, puts-memory}
+use Rattle.xls_listing.specs.Listing.{lines_by}
 use Rattle.xls_listing.proofs.listing.put_book.Goals as goal
 
-pub returns-in_err-put_line : goal.returns-in_err-put_line
-returns-in_err-put_line g c =
-    let book = c.args.view.now.book in
-    puts-each-stop c.from_residual.result c.from_residual.ensures.1
-    (each-stops-more (map name_line book.names ++ each_sheet lines_of_sheet book.sheets book.contents)
-    (each-stops-as c.in_err-put_line.ensures (ap (λ b. dates_line b ∷ []) c.has_1904_epoch-is_1904.ensures)))
-
-pub returns-in_err-put_names : goal.returns-in_err-put_names
-returns-in_err-put_names g c =
-    let a = c.from_residual-in_err-put_names in
-    let book = c.args.view.now.book in
-    let dates = each-as c.in_ok-put_line.ensures (ap (λ b. dates_line b ∷ []) c.has_1904_epoch-is_1904.ensures) in
-    let names = each-stops-as c.in_err-put_names.ensures (map_again name_line name_texts _ book.names c.defined_names.ensures) in
-    puts-each-stop a.result a.ensures.1
-    (each-stops-then dates (each-stops-more (each_sheet lines_of_sheet book.sheets book.contents) names))
+pub returns-in_err-reader : goal.returns-in_err-reader
+returns-in_err-reader g c = puts-memory (g.F.LineForm.is_text c.args.form.now) _ _ _ _ _ c.from_residual.result c.from_residual.ensures.1
 
 pub returns : goal.returns
 returns g c =
-    let book = c.args.view.now.book in
-    let is = g.F.LineForm.is_text c.args.form.now in
-    let dates = each-as c.in_ok-put_line.ensures (ap (λ b. dates_line b ∷ []) c.has_1904_epoch-is_1904.ensures) in
-    let names = each-as c.in_ok-put_names.ensures (map_again name_line name_texts _ book.names c.defined_names.ensures) in
-    puts-then is ((dates_line book.is_1904 ∷ []) ++ map name_line book.names) (each_sheet lines_of_sheet book.sheets book.contents)
-    (output_of g.K.Sink.state g.F.Buffer.Gathers.kept c.put_all_sheets.new.out) c.put_all_sheets.result (each-then dates names) c.put_all_sheets.ensures
+    let out = output_of g.K.Sink.state g.F.Buffer.Gathers.kept in
+    puts-as (g.F.LineForm.is_text c.args.form.now) (out c.args.out.now) (out c.put_book_by.new.out) c.put_book_by.result
+    (ap (λ r. lines_by r c.args.view.now) c.in_ok-reader.ensures) c.put_book_by.ensures
