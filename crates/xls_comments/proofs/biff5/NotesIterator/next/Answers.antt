@@ -1,0 +1,17 @@
+use Rattle.std.proofs.Common.{rules, sym, ap, ◌∙◌}
+use Rattle.xls_comments.specs.Biff5.{items_5}
+use Rattle.xls_comments.proofs.LastLemmas.{no_records}
+use Rattle.xls_comments.proofs.NoteLemmas.{one_item_fewer}
+use Rattle.xls_comments.proofs.biff5.NotesIterator.next.Goals as goal
+
+pub returns-in-Err-clause-steps : goal.returns-in-Err-clause-steps
+returns-in-Err-clause-steps c =
+    let s = c.self.inside in
+    (_, _, sym c.self.view_is ∙ c.in-Some.ensures s.page, ap (items_5 s.page) (c.new-self-inside.ensures ∙ c.new.ensures ∙ no_records))
+
+pub returns-in-Err-clause-goes : goal.returns-in-Err-clause-goes
+returns-in-Err-clause-goes c =
+    let steps = returns-in-Err-clause-steps c in
+    let none = steps.3 in
+    let fewer = one_item_fewer _ _ _ steps.2 in
+    search rules

@@ -1,0 +1,10 @@
+pub mod Fields
+pub mod Units
+pub mod Items
+pub mod Objects
+pub mod Biff8
+pub mod Biff5
+pub mod Comments
+pub mod Texts
+pub mod Notes
+pub mod Walking
