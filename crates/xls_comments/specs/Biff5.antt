@@ -18,6 +18,7 @@ use Rattle.std.specs.Prelude.{None}
 abbrev pub note_bytes : List ℕ → List ℕ
 note_bytes body = take (u16_at 4 body) (drop 6 body)
 
+-- its row says that it goes on with a text
 abbrev pub is_rest : List ℕ → Bool
 is_rest body = u16_at 0 body == 0xFFFF
 
@@ -27,6 +28,7 @@ pub record Rest : Type 0 where
   pub place : ℕ
   pub missing : ℕ
 
+-- nothing; what the first Note of a text lacks; and whether a record has more of it
 abbrev pub rest_none : Rest
 rest_none = record { place = 0; missing = 0 }
 
@@ -36,6 +38,7 @@ rest_behind r = record { place = end_of r; missing = u16_at 4 r.body - length (n
 abbrev pub goes_on : Rest → Placed → Bool
 goes_on rest r = nat_lt 0 rest.missing && (r.typ == NOTE && (r.offset == rest.place && (nat_le 6 (length r.body) && is_rest r.body)))
 
+-- what is missing behind that record
 abbrev pub rest_after : Rest → Placed → Rest
 rest_after rest r = record { place = end_of r; missing = rest.missing - length (note_bytes r.body) }
 
@@ -46,6 +49,7 @@ bytes_behind rest (r ∷ rs) = if goes_on rest r then take rest.missing (note_by
 
 -- ---- Notes
 
+-- the comment of a Note, with the bytes of its whole text
 abbrev pub comment_5 : XlsEncoding → Placed → List ℕ → Item
 comment_5 page r bytes = comment (record {
   row = u16_at 0 r.body;
@@ -78,6 +82,7 @@ note_5 page r rs =
     else if is_rest r.body then lone_rest r
     else if_joined page r (note_bytes r.body ++ bytes_behind (rest_behind r) rs)
 
+-- what is missing of a text behind it
 abbrev pub rest_of : Placed → Rest
 rest_of r = if nat_lt (length r.body) 6 then rest_none else if is_rest r.body then rest_none else rest_behind r
 

@@ -1,5 +1,5 @@
--- The comments of BIFF8. Note (2.4.179): row at 0, col at 2, bits at 4, the identifier of an object at 6, and the
--- author, a string, at 8. TxO (2.4.329): the count of the units of the text (cchText) at 10.
+-- The comments of BIFF8. Note ([MS-XLS]): row at 0, col at 2, bits at 4, the identifier of an object at 6, and the
+-- author, a string, at 8. TxO: the count of the units of the text (cchText) at 10.
 use Rattle.std.specs.Prelude.{ℕ, List, [], ◌∷◌, take, drop, length, nat_lt, ◌==◌, if◌then◌else◌}
 use Rattle.std.specs.Char.Utf16.{utf16_lossy_chars}
 use Rattle.xls_parts.specs.PartRecords.{Placed}
@@ -36,16 +36,19 @@ comment_8 r units = comment (record {
 abbrev pub if_whole : Placed → ℕ → List ℕ → Item
 if_whole r count units = if nat_lt (length units) count then damaged_note r (flaws.UnitsEnd (length units) count) else comment_8 r units
 
+-- by the body of the TxO, and the pieces
 abbrev pub with_text : Placed → List ℕ → List (List ℕ) → Item
 with_text r text_body text_pieces =
     if nat_lt (length text_body) 12 then damaged_note r (flaws.ShortText (length text_body))
     else if_whole r (u16_at 10 text_body) (take (u16_at 10 text_body) (text_units text_pieces))
 
+-- by what is known of the object
 abbrev pub with_object : Placed → Found → Item
 with_object r NoObject = damaged_note r (flaws.NoObject (u16_at 6 r.body))
 with_object r NoText = damaged_note r (flaws.NoText (u16_at 6 r.body))
 with_object r (HasText text_body text_pieces) = with_text r text_body text_pieces
 
+-- by what is known of all objects
 abbrev pub note_8 : (ℕ → Found) → Placed → Item
 note_8 found r =
     if nat_lt (length r.body) 8 then damaged_note r (flaws.Short 8 (length r.body))

@@ -13,15 +13,15 @@ u16_at place body = le (take 2 (drop place body))
 abbrev pub has_bit : ℕ → ℕ → Bool
 has_bit mask bits = bits / mask % 2 == 1
 
--- a number of the cell of a Note (2.4.179), row at 0 and col at 2, where all four bytes are there
+-- a number of the cell of a Note, row at 0 and col at 2, where all four bytes are there
 abbrev pub cell_number : ℕ → List ℕ → Option ℕ
 cell_number place body = if nat_lt (length body) 4 then None else Some (u16_at place body)
 
--- NoteSh (2.5.186): among the bits at 4 fShow, 0002: the comment is always shown
+-- NoteSh: among the bits at 4 fShow, 0002: the comment is always shown
 abbrev pub visibility_of : ℕ → Visibility
 visibility_of bits = if has_bit 0x0002 bits then Visible else Hidden
 
--- Obj (2.4.181) begins with FtCmo (2.5.143): ft, 0015, at 0, and the object's identifier (id) at 6; none where it
+-- Obj begins with FtCmo: ft, 0015, at 0, and the object's identifier (id) at 6; none where it
 -- has fewer than 8 bytes or begins otherwise
 abbrev pub identifier_at : List ℕ → Option ℕ
 identifier_at body =

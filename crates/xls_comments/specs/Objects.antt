@@ -1,4 +1,4 @@
--- The texts of objects ([MS-XLS] 2.4.181 Obj, 2.4.329 TxO). A TxO belongs to the last Obj before it, if no other TxO
+-- The texts of objects ([MS-XLS] Obj, TxO). A TxO belongs to the last Obj before it, if no other TxO
 -- came in between; its text stands in the Continue records directly behind it.
 use Rattle.std.specs.Prelude.{ℕ, List, [], ◌∷◌, length, Bool, false, not, ◌&&◌, ◌==◌, if◌then◌else◌, Option, Some, None}
 use Rattle.xls_stream.specs.declared.types.TheConstants.{CONTINUE}
@@ -30,6 +30,7 @@ text_in (r ∷ rs) =
     else if r.typ == TXO then HasText r.body (pieces (end_of r) rs)
     else text_in rs
 
+-- a record that is an Obj of an identifier
 abbrev pub is_some_of : ℕ → Option ℕ → Bool
 is_some_of id None = false
 is_some_of id (Some other) = other == id
@@ -42,5 +43,6 @@ abbrev pub object_from : Found → ℕ → List Placed → Found
 object_from before id [] = before
 object_from before id (r ∷ rs) = object_from (if is_object id r then text_in rs else before) id rs
 
+-- what all records say of it
 abbrev pub object_in : List Placed → ℕ → Found
 object_in records id = object_from NoObject id records

@@ -40,7 +40,7 @@ impl<'a> Model for Comments<'a> {
 
 impl<'a> Comments<'a> {
     /// Those of the sheet whose part begins with the first byte, which stands at this offset of the stream; under a
-    /// version, and before BIFF8 with texts in a page. [MS-XLS] 2.4.179, 2.4.181, 2.4.329. Refused where memory runs out.
+    /// version, and before BIFF8 with texts in a page. [MS-XLS] Note, Obj and TxO. Refused where memory runs out.
     pub fn read(
         alloc: Global,
         part: &'a [u8],
