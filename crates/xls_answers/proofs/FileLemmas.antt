@@ -36,6 +36,7 @@ workbook-refused answer options bytes w c fault (Err d) is opens p =
 no-file-fault : (answer : Answer) (options : XlsOptions) (bytes : List ℕ) (a b : SinkState) (fault : FileFault)
     → OfStream answer options bytes a b (Err (failures.File fault)) → ⊥
 no-file-fault (answers.Lines lines form) options bytes a b fault p = p
+no-file-fault (answers.Shown form) options bytes a b fault p = p
 no-file-fault answers.Exact options bytes a b fault p = p
 no-file-fault (answers.Sheet choice table) options bytes a b fault p = p
 no-file-fault answers.Check options bytes a b fault p = p

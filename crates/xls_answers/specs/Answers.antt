@@ -25,7 +25,7 @@ use Rattle.xls_readable.specs.Choices.{IsNumbered}
 use Rattle.xls_readable.specs.declared.forms.Form.{Form}
 use Rattle.xls_beside.specs.Hidden.{hidden_lines}
 use Rattle.xls_beside.specs.Lines.{IsLineText}
-use Rattle.xls_answers.specs.Views.{OfView, AreLines, BeginLines, IsDump, MissesNone, rules_shown}
+use Rattle.xls_answers.specs.Views.{OfView, AreLines, BeginLines, AreShownLines, BeginShownLines, IsDump, MissesNone, rules_shown}
 use Rattle.xls_answers.specs.Sheets.{IsTableOf, BeginsTableOf, MissesSheet}
 
 -- ---- of a workbook's stream
@@ -80,6 +80,8 @@ OfBytes bytes before after (Err other) = ⊥
 abbrev pub OfStream : Answer → XlsOptions → List ℕ → SinkState → SinkState → Result (Unit {0}) Failure → Type 0
 OfStream (answers.Lines lines form) options bytes =
     OfView (rules_shown form options) bytes (AreLines lines form) (BeginLines lines form) MissesNone
+OfStream (answers.Shown form) options bytes =
+    OfView (rules_shown form options) bytes (AreShownLines form) (BeginShownLines form) MissesNone
 OfStream answers.Exact options bytes = OfView (rules_of options) bytes IsDump IsDump MissesNone
 OfStream (answers.Sheet choice table) options bytes =
     OfView (rules_of options) bytes (IsTableOf choice table) (BeginsTableOf choice table) (MissesSheet choice)
@@ -97,6 +99,7 @@ OfReadable answer options bytes before after result = OfStream answer options by
 abbrev pub HasNumber : Answer → Type 0
 HasNumber (answers.Sheet choice table) = IsNumbered choice
 HasNumber (answers.Lines lines form) = Unit {0}
+HasNumber (answers.Shown form) = Unit {0}
 HasNumber answers.Exact = Unit {0}
 HasNumber answers.Check = Unit {0}
 HasNumber (answers.Hidden form) = Unit {0}

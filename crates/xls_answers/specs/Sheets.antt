@@ -10,7 +10,10 @@ use Rattle.xls_data.specs.declared.sheets.SheetType.TheVariants as types
 use Rattle.xls_biff.specs.Cells.{CellEntry}
 use Rattle.xls_meaning.specs.Reading.{SheetView, BookView}
 use Rattle.xls_view.specs.Viewing.{Viewed}
+use Rattle.xls_view.specs.Formats.{FormattedCell}
 use Rattle.xls_csv.specs.Dense.{dense_rows, sheet_csv}
+use Rattle.xls_csv.specs.Walk.{no_cell}
+use Rattle.xls_tables.specs.Rows.{form_fields}
 use Rattle.xls_tables.specs.Tables.{IsTable, BeginsTable}
 use Rattle.xls_output.specs.SinkState.{SinkState}
 use Rattle.xls_output.specs.Gathering.{Stops, Wrote}
@@ -55,11 +58,6 @@ chosen_index First sheets = first_worksheet_from 0 sheets
 chosen_index (Named name) sheets = last_named_from 0 (chars name.now) sheets
 chosen_index (Number number) sheets = index_of_number number (length sheets)
 
--- what a workbook shows of the sheet that is chosen
-abbrev pub IsChosen : SheetChoice → BookView → SheetView → Type 0
-IsChosen choice book sheet =
-    (n : ℕ) × (Some n ≡ chosen_index choice book.sheets) × (slice_get book.contents n ≡ Some sheet)
-
 -- how it is told that there is none
 abbrev pub IsMissing : SheetChoice → Missing → Type 0
 IsMissing (Named name) (missing.Name s) = string_bytes s ≡ name.now
@@ -78,41 +76,54 @@ HasNoSheet choice book other = ⊥
 
 -- ---- its text
 
--- the dense box of its cells, by whether it is exact: as people read it, or as xls_dump writes it
-abbrev pub IsCellsText : Bool → Table → List CellEntry → List ℕ → Type 0
-IsCellsText false table cells text = IsTable table.delimiter table.begins_with_mark (dense_rows cells) text
-IsCellsText true table cells text = text ≡ sheet_csv cells
+-- the dense box of its cells, by whether it is exact: as people read it, of the cells with their XF indices, or as
+-- xls_dump writes it
+abbrev pub IsCellsText : Bool → Table → Viewed → List CellEntry → List FormattedCell → List ℕ → Type 0
+IsCellsText false table view entries cells text =
+    IsTable (form_fields table.style table.delimiter view) table.begins_with_mark (dense_rows no_cell cells) text
+IsCellsText true table view entries cells text = text ≡ sheet_csv entries
 
 -- a part of it
-abbrev pub BeginsCellsText : Bool → Table → List CellEntry → List ℕ → Type 0
-BeginsCellsText false table cells text = BeginsTable table.delimiter table.begins_with_mark (dense_rows cells) text
-BeginsCellsText true table cells text = text ≡ sheet_csv cells
+abbrev pub BeginsCellsText : Bool → Table → Viewed → List CellEntry → List FormattedCell → List ℕ → Type 0
+BeginsCellsText false table view entries cells text =
+    BeginsTable (form_fields table.style table.delimiter view) table.begins_with_mark (dense_rows no_cell cells) text
+BeginsCellsText true table view entries cells text = text ≡ sheet_csv entries
 
--- the text of the sheet that is chosen, and a part of it
+-- the text of the sheet at an index, and a part of it
+abbrev pub IsTextAt : Table → Viewed → ℕ → List ℕ → Type 0
+IsTextAt table view n text =
+    (sheet : SheetView) × (cells : List FormattedCell)
+    × (slice_get view.book.contents n ≡ Some sheet) × (slice_get view.formatted n ≡ Some cells)
+    × IsCellsText table.is_exact table view sheet.cells cells text
+
+abbrev pub BeginsTextAt : Table → Viewed → ℕ → List ℕ → Type 0
+BeginsTextAt table view n text =
+    (sheet : SheetView) × (cells : List FormattedCell)
+    × (slice_get view.book.contents n ≡ Some sheet) × (slice_get view.formatted n ≡ Some cells)
+    × BeginsCellsText table.is_exact table view sheet.cells cells text
+
+-- of the sheet that is chosen
 abbrev pub IsTableOf : SheetChoice → Table → Viewed → List ℕ → Type 0
 IsTableOf choice table view text =
-    (sheet : SheetView) × IsChosen choice view.book sheet × IsCellsText table.is_exact table sheet.cells text
+    (n : ℕ) × (Some n ≡ chosen_index choice view.book.sheets) × IsTextAt table view n text
 
 abbrev pub BeginsTableOf : SheetChoice → Table → Viewed → List ℕ → Type 0
 BeginsTableOf choice table view text =
-    (sheet : SheetView) × IsChosen choice view.book sheet × BeginsCellsText table.is_exact table sheet.cells text
+    (n : ℕ) × (Some n ≡ chosen_index choice view.book.sheets) × BeginsTextAt table view n text
 
 -- ---- what is written
 
 -- the text of these cells was written, a prefix of a part of it, or nothing where memory ran out
-abbrev pub WritesCells : Table → List CellEntry → SinkState → SinkState → Result (Unit {0}) Stop → Type 0
-WritesCells table cells before after (Ok x) =
-    (text : List ℕ) × IsCellsText table.is_exact table cells text × Wrote before after text
-WritesCells table cells before after (Err s) =
+abbrev pub WritesCells : Table → Viewed → List CellEntry → List FormattedCell → SinkState → SinkState → Result (Unit {0}) Stop → Type 0
+WritesCells table view entries cells before after (Ok x) =
+    (text : List ℕ) × IsCellsText table.is_exact table view entries cells text × Wrote before after text
+WritesCells table view entries cells before after (Err s) =
     ((s ≡ Memory) × IsUntouched before after)
-    ⊎ ((text : List ℕ) × BeginsCellsText table.is_exact table cells text × Stops before [] after text s)
+    ⊎ ((text : List ℕ) × BeginsCellsText table.is_exact table view entries cells text × Stops before [] after text s)
 
 -- the text of the sheet at an index likewise
-abbrev pub WritesSheetAt : Table → BookView → ℕ → SinkState → SinkState → Result (Unit {0}) Stop → Type 0
-WritesSheetAt table book n before after (Ok x) =
-    (sheet : SheetView) × (slice_get book.contents n ≡ Some sheet)
-    × (text : List ℕ) × IsCellsText table.is_exact table sheet.cells text × Wrote before after text
-WritesSheetAt table book n before after (Err s) =
+abbrev pub WritesSheetAt : Table → Viewed → ℕ → SinkState → SinkState → Result (Unit {0}) Stop → Type 0
+WritesSheetAt table view n before after (Ok x) = (text : List ℕ) × IsTextAt table view n text × Wrote before after text
+WritesSheetAt table view n before after (Err s) =
     ((s ≡ Memory) × IsUntouched before after)
-    ⊎ ((sheet : SheetView) × (slice_get book.contents n ≡ Some sheet)
-    × (text : List ℕ) × BeginsCellsText table.is_exact table sheet.cells text × Stops before [] after text s)
+    ⊎ ((text : List ℕ) × BeginsTextAt table view n text × Stops before [] after text s)

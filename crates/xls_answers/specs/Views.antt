@@ -17,7 +17,9 @@ use Rattle.xls_output.specs.Each.{Concatenates}
 use Rattle.xls_readable.specs.declared.forms.Form.{Form}
 use Rattle.xls_readable.specs.declared.forms.Form.TheVariants.{Text, Json, Exact}
 use Rattle.xls_refs.specs.Views.{cited_in}
-use Rattle.xls_listing.specs.Listing.{Line, IsDisplayedLine, exact_lines, dump_lines, sheet_lines, formula_lines, ref_lines}
+use Rattle.xls_listing.specs.Listing.{Line, IsDisplayedLine, exact_lines, dump_lines, listed_lines, sheet_lines, formula_lines, ref_lines}
+use Rattle.xls_listing.specs.declared.readings.CellReading.{CellReading}
+use Rattle.xls_listing.specs.declared.readings.CellReading.TheVariants.{Recorded, ByCode, Shown}
 use Rattle.xls_report.specs.Endings.{IsUntouched}
 use Rattle.xls_readable.specs.declared.choices.Listing.{Listing}
 use Rattle.xls_readable.specs.declared.choices.Listing.TheVariants as listing
@@ -51,18 +53,38 @@ RefusesView options bytes other = ⊥
 
 -- ---- lines
 
-abbrev pub lines_listed : Listing → Viewed → List Line
-lines_listed listing.Dump view = dump_lines view.book
-lines_listed listing.Sheets view = sheet_lines view.book
-lines_listed listing.Formulas view = formula_lines view.book
-lines_listed listing.Refs view = ref_lines (cited_in view)
+-- how cells are read for the lines of a form
+abbrev pub reading_in : Form → CellReading
+reading_in Text = ByCode
+reading_in Json = ByCode
+reading_in Exact = Recorded
 
--- the lines of a view, all of them, and the first so many
+abbrev pub lines_listed : Listing → Form → Viewed → List Line
+lines_listed listing.Dump form view = listed_lines (reading_in form) view
+lines_listed listing.Sheets form view = sheet_lines view.book
+lines_listed listing.Formulas form view = formula_lines view.book
+lines_listed listing.Refs form view = ref_lines (cited_in view)
+
+-- lines in a form, all of them, and the first so many
+abbrev pub AreTexts : Form → List Line → List ℕ → Type 0
+AreTexts form lines text = Concatenates (IsDisplayedLine form) lines text
+
+abbrev pub BeginTexts : Form → List Line → List ℕ → Type 0
+BeginTexts form lines text = (count : ℕ) × Concatenates (IsDisplayedLine form) (take count lines) text
+
+-- the lines of a view
 abbrev pub AreLines : Listing → Form → Viewed → List ℕ → Type 0
-AreLines lines form view text = Concatenates (IsDisplayedLine form) (lines_listed lines view) text
+AreLines lines form view text = AreTexts form (lines_listed lines form view) text
 
 abbrev pub BeginLines : Listing → Form → Viewed → List ℕ → Type 0
-BeginLines lines form view text = (count : ℕ) × Concatenates (IsDisplayedLine form) (take count (lines_listed lines view)) text
+BeginLines lines form view text = BeginTexts form (lines_listed lines form view) text
+
+-- those of all that it holds, each cell with what Excel shows
+abbrev pub AreShownLines : Form → Viewed → List ℕ → Type 0
+AreShownLines form view text = AreTexts form (listed_lines Shown view) text
+
+abbrev pub BeginShownLines : Form → Viewed → List ℕ → Type 0
+BeginShownLines form view text = BeginTexts form (listed_lines Shown view) text
 
 -- all that a workbook holds, exactly
 abbrev pub IsDump : Viewed → List ℕ → Type 0

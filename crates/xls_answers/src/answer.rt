@@ -7,6 +7,8 @@ use xls_readable::{Form, Listing, SheetChoice, Table};
 pub enum Answer<'w> {
     /// Its lines as people read them.
     Lines(Listing, Form),
+    /// All that it holds, each cell with what Excel shows, in a form.
+    Shown(Form),
     /// All that it holds, as `xls_dump` writes it.
     Exact,
     /// One of its sheets as CSV.

@@ -10,8 +10,7 @@ use crate::answer::Answer;
 use crate::check::write_check;
 use crate::failure::Failure;
 use crate::hidden::write_hidden_lines;
-use crate::lines::write_lines;
-use crate::notes::Notes;
+use crate::lines::{write_lines, write_shown};
 use crate::remake::{write_remade, write_whole};
 use crate::tables::write_sheet_of;
 use std::alloc::Global;
@@ -28,36 +27,31 @@ fn write_exact<K: Sink>(
     sink: &mut K,
     options: &XlsOptions,
     bytes: &[u8],
-    notes: &mut Notes,
 ) -> Result<(), Failure>
     ensures { OfView (rules_of options.now) bytes.now IsDump IsDump MissesNone (K.state sink.old) (K.state sink.new) result }
 {
     let view = View::new(alloc, bytes, options, NumberStyle::Bits)?;
-    notes.uncounted_formats = view.uncounted_formats();
     write_report(alloc, sink, &view)?;
     Ok(())
 }
 
-/// Writes what is asked for of a workbook's stream. Nothing is written before all of it is checked. What the text
-/// doesn't tell of the workbook's values is put into `notes`.
+/// Writes what is asked for of a workbook's stream. Nothing is written before all of it is checked.
 pub fn write_stream<K: Sink>(
     alloc: Global,
     sink: &mut K,
     answer: &Answer<'_>,
     options: &XlsOptions,
     bytes: &[u8],
-    notes: &mut Notes,
 ) -> Result<(), Failure>
     requires { HasNumber answer.now }
     ensures { OfStream answer.now options.now bytes.now (K.state sink.old) (K.state sink.new) result }
 {
     match answer {
-        Answer::Lines(lines, form) => {
-            write_lines(alloc, sink, *lines, *form, options, bytes, notes)
-        }
-        Answer::Exact => write_exact(alloc, sink, options, bytes, notes),
+        Answer::Lines(lines, form) => { write_lines(alloc, sink, *lines, *form, options, bytes) }
+        Answer::Shown(form) => write_shown(alloc, sink, *form, options, bytes),
+        Answer::Exact => write_exact(alloc, sink, options, bytes),
         Answer::Sheet(choice, table) => {
-            write_sheet_of(alloc, sink, choice, table, options, bytes, notes)
+            write_sheet_of(alloc, sink, choice, table, options, bytes)
         }
         Answer::Check => write_check(alloc, sink, options, bytes),
         Answer::Hidden(form) => write_hidden_lines(alloc, sink, *form, options, bytes),
@@ -83,14 +77,13 @@ pub fn view_of<'s>(
 }
 
 /// Writes what is asked for of a workbook's stream. One whose records are obfuscated with a password is refused, and
-/// nothing is written before all of it is checked. `notes` as `write_stream` puts them.
+/// nothing is written before all of it is checked.
 pub fn write_workbook<K: Sink>(
     alloc: Global,
     sink: &mut K,
     answer: &Answer<'_>,
     options: &XlsOptions,
     bytes: &[u8],
-    notes: &mut Notes,
 ) -> Result<(), Failure>
     requires { HasNumber answer.now }
     ensures { OfReadable answer.now options.now bytes.now (K.state sink.old) (K.state sink.new) result }
@@ -98,7 +91,7 @@ pub fn write_workbook<K: Sink>(
     if is_obfuscated(bytes) {
         return Err(Failure::Obfuscated);
     }
-    write_stream(alloc, sink, answer, options, bytes, notes)
+    write_stream(alloc, sink, answer, options, bytes)
 }
 
 /// Writes what is asked for of the workbook that a file holds: a compound file, or a workbook's stream alone.
@@ -115,12 +108,5 @@ pub fn write_file<K: Sink>(
 {
     let container = Container::open(alloc, file)?;
     let bytes = container.workbook(alloc)?;
-    write_workbook(
-        alloc,
-        sink,
-        answer,
-        options,
-        bytes.as_slice(),
-        &mut Notes::default(),
-    )
+    write_workbook(alloc, sink, answer, options, bytes.as_slice())
 }

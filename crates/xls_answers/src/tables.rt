@@ -4,16 +4,14 @@ ghost use Rattle.std.specs.Prelude.{◌≡◌, ◌<◌, ◌==◌, IfErr, IfOk, I
 ghost use Rattle.std.specs.Cmp.Lexicographic.{pointwise};
 ghost use Rattle.std.specs.Str.{chars};
 ghost use Rattle.xls_data.specs.Sheets.{sheet_content};
-ghost use Rattle.xls_range.specs.Positions.{IsAscending};
-ghost use Rattle.xls_biff.specs.Cells.{CellEntry};
 ghost use Rattle.xls_readable.specs.Choices.{IsNumbered};
 ghost use Rattle.xls_open.specs.Workbook.{rules_of};
 ghost use Rattle.xls_answers.specs.Sheets.{BeginsTableOf, HasNoSheet, IsMissing, IsTableOf, MissesSheet, WritesCells, WritesSheetAt, chosen_index, first_worksheet_from, index_of_number, is_worksheet, last_named_from};
 ghost use Rattle.xls_answers.specs.Views.{OfView};
 
 use crate::failure::{Failure, Missing};
-use crate::notes::Notes;
 use std::alloc::{AllocError, Global};
+use xls_cell_formats::CellFormats;
 use xls_csv::write_rows;
 use xls_data::{Sheet, SheetType};
 use xls_formula::NumberStyle;
@@ -21,7 +19,7 @@ use xls_open::XlsOptions;
 use xls_output::{Sink, Stop};
 use xls_readable::{SheetChoice, Table};
 use xls_tables::write_table;
-use xls_view::{SheetCells, View};
+use xls_view::{View, ViewSheet};
 
 /// Whether a sheet is a worksheet.
 fn is_worksheet(sheet: &Sheet) -> bool
@@ -117,36 +115,45 @@ fn write_cells<K: Sink>(
     alloc: Global,
     sink: &mut K,
     table: &Table,
-    cells: &SheetCells<'_>,
+    formats: &CellFormats<'_>,
+    sheet: &ViewSheet<'_>,
 ) -> Result<(), Stop>
-    requires { IsAscending (map (λ (c : CellEntry). c.0) cells.now) }
-    ensures { WritesCells table.now cells.now (K.state sink.old) (K.state sink.new) result }
+    ensures { WritesCells table.now formats.now sheet.now.cells sheet.now.formatted (K.state sink.old) (K.state sink.new) result }
 {
     if table.is_exact {
-        return write_rows(alloc, sink, cells);
+        return write_rows(alloc, sink, &sheet.cells()?);
     }
-    write_table(alloc, sink, table.delimiter, table.begins_with_mark, cells)
+    let cells = sheet.formatted()?;
+    write_table(
+        alloc,
+        sink,
+        table.delimiter,
+        table.begins_with_mark,
+        table.style,
+        formats,
+        &cells,
+    )
 }
 
-/// Writes the sheet of an index as CSV.
+/// Writes the sheet of an index as CSV, of the workbook whose formats are these.
 pub fn write_sheet_at<K: Sink>(
     alloc: Global,
     sink: &mut K,
     table: &Table,
-    view: &View<'_>,
+    formats: &CellFormats<'_>,
     index: usize,
 ) -> Result<(), Stop>
-    requires { index < length view.now.book.contents }
-    ensures { WritesSheetAt table.now view.now.book index (K.state sink.old) (K.state sink.new) result }
+    requires { index < length formats.now.book.contents }
+    ensures { WritesSheetAt table.now formats.now index (K.state sink.old) (K.state sink.new) result }
 {
-    match view.cells_at(index)? {
-        Some(cells) => write_cells(alloc, sink, table, &cells),
+    match formats.view().sheet_at(index) {
+        Some(sheet) => write_cells(alloc, sink, table, formats, &sheet),
         None => unreachable!(),
     }
 }
 
 /// Writes the sheet that is chosen of the workbook that a stream's bytes hold. Nothing is written where there is no
-/// such sheet. What it doesn't tell of the workbook is put into `notes`.
+/// such sheet.
 pub(crate) fn write_sheet_of<K: Sink>(
     alloc: Global,
     sink: &mut K,
@@ -154,15 +161,14 @@ pub(crate) fn write_sheet_of<K: Sink>(
     table: &Table,
     options: &XlsOptions,
     bytes: &[u8],
-    notes: &mut Notes,
 ) -> Result<(), Failure>
     requires { IsNumbered choice.now }
     ensures { OfView (rules_of options.now) bytes.now (IsTableOf choice.now table.now) (BeginsTableOf choice.now table.now) (MissesSheet choice.now)
         (K.state sink.old) (K.state sink.new) result }
 {
     let view = View::new(alloc, bytes, options, NumberStyle::Bits)?;
-    notes.uncounted_formats = view.uncounted_formats();
     let index = chosen(alloc, &view, choice)?;
-    write_sheet_at(alloc, sink, table, &view, index)?;
+    let formats = CellFormats::new(alloc, &view)?;
+    write_sheet_at(alloc, sink, table, &formats, index)?;
     Ok(())
 }
