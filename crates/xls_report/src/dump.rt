@@ -5,7 +5,7 @@ ghost use Rattle.xls_listing.specs.Listing.{dump_lines, exact_lines, sheet_lines
 
 use crate::exact::ExactLines;
 use std::alloc::Global;
-use xls_listing::{write_listing, write_sheet_list};
+use xls_listing::{CellReading, write_listing, write_sheet_list};
 use xls_output::{Sink, Stop};
 use xls_view::View;
 
@@ -15,7 +15,7 @@ use xls_view::View;
 pub fn write_report<K: Sink>(alloc: Global, sink: &mut K, view: &View<'_>) -> Result<(), Stop>
     ensures { Delivers (K.state sink.old) (K.state sink.new) (exact_lines (dump_lines view.now.book)) result }
 {
-    write_listing(alloc, sink, &ExactLines, view)
+    write_listing(alloc, sink, &ExactLines, CellReading::Recorded, view)
 }
 
 /// Writes the lines of the sheets alone, in workbook order.

@@ -29,6 +29,7 @@ fn exact_field<'v>(field: &'v items::Field<'v>) -> Field<'v>
         items::Field::Truth(b) => Field::Word(truth_word(*b)),
         items::Field::Moment(d) => Field::Fraction(d.number()),
         items::Field::Failure(e) => Field::Failure(*e),
+        items::Field::Unknown => Field::Word(""),
     }
 }
 
@@ -161,6 +162,7 @@ impl LineForm for ExactLines {
         position: (u32, u32),
         kind: &'static str,
         field: &items::Field<'_>,
+        _shown: Option<&str>,
     ) -> Result<(), Stop> {
         let (row, column) = position;
         xls_lines::put_cell(out, row, column, kind, exact_field(field))
