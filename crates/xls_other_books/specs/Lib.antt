@@ -1,0 +1,9 @@
+pub mod Texts
+pub mod Paths
+pub mod Strings
+pub mod Names
+pub mod Books
+pub mod SupBooks
+pub mod SheetRefs
+pub mod Links
+pub mod Walking
