@@ -1,3 +1,4 @@
 pub mod PathLemmas
 pub mod BookLemmas
+pub mod CiteLemmas
 pub mod StandardFacts

@@ -7,3 +7,7 @@ pub mod SupBooks
 pub mod SheetRefs
 pub mod Links
 pub mod Walking
+pub mod Cites
+pub mod Entries
+pub mod Outside
+pub mod Formulas

@@ -2,11 +2,14 @@
 #![tactic(auto)]
 
 mod books;
+mod cites;
 mod cursor;
 mod damage;
+mod entries;
 mod links;
 mod marked;
 mod names;
+mod outside;
 mod paths;
 mod sheet_refs;
 mod sup_books;
@@ -15,7 +18,8 @@ pub mod types;
 
 pub use books::{Book, Linked, kind_word};
 pub use damage::{Damage, DamagedRecord, Flaw};
-pub use links::read_books;
+pub use links::{OtherBooks, Outside};
+pub use outside::Cited;
 
 #[cfg(test)]
 mod tests;

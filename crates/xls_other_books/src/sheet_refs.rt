@@ -2,7 +2,7 @@
 
 ghost use Rattle.std.specs.Prelude.{◌≡◌, ◌++◌, None, map, IfOk, OnOk};
 ghost use Rattle.std.specs.Option.{option_map};
-ghost use Rattle.std.specs.Str.{bytes_eq, chars};
+ghost use Rattle.std.specs.Str.{chars};
 ghost use Rattle.xls_parts.specs.PartRecords.{globals_records, placed_of};
 ghost use Rattle.xls_strings.specs.Texts.{text_of};
 ghost use Rattle.xls_other_books.specs.Books.{book_view, books_view, view_if};
@@ -14,7 +14,7 @@ use crate::books::{Book, Linked, is_book};
 use crate::damage::{Damage, DamagedRecord, Flaw};
 use crate::names::short_text;
 use crate::paths::{Target, target_of};
-use crate::texts::{copied, no_text, push_text};
+use crate::texts::{copied, is_same, no_text, push_text};
 use std::alloc::{AllocError, Global};
 use xls_bytes::{first_char, split_at_first};
 use xls_parts::{GlobalsRecords, PartRecord};
@@ -139,12 +139,6 @@ fn ref_of(alloc: Global, encoding: &XlsEncoding, r: &PartRecord<'_>) -> Result<B
     ref_by(alloc, encoding, r.body, r.body[1])
 }
 
-fn is_same(a: &str, b: &str) -> bool
-    ensures { result ≡ bytes_eq (chars a.now) (chars b.now) }
-{
-    a == b
-}
-
 /// Whether two records are of one path.
 fn goes_on(last: &Book, next: &Book) -> bool
     ensures { result ≡ sheet_refs.goes_on (book_view last.now) (book_view next.now) }
@@ -197,6 +191,23 @@ pub(crate) fn read_sheet_refs(
     }
     if let Some(book) = last {
         books.push(book)?;
+    }
+    Ok(books)
+}
+
+/// What each ExternSheet record of the globals links.
+pub(crate) fn read_refs(
+    alloc: Global,
+    stream: &[u8],
+    encoding: &XlsEncoding,
+) -> Result<Vec<Book>, AllocError>
+    ensures { IfOk result (λ books. books_view books.items ≡ sheet_refs.refs encoding.now (globals_records stream.now)) }
+{
+    let mut books = Vec::new(alloc);
+    'records: for r in GlobalsRecords::new(stream) {
+        if r.typ == EXTERN_SHEET {
+            books.push(ref_of(alloc, encoding, &r)?)?;
+        }
     }
     Ok(books)
 }

@@ -1,4 +1,4 @@
-use crate::{Book, Linked, kind_word, read_books};
+use crate::{Book, Linked, OtherBooks, kind_word};
 use std::alloc::{AllocError, Global};
 use xls_record::Biff;
 use xls_text::XlsEncoding;
@@ -62,7 +62,8 @@ fn told(alloc: Global, books: &[Book]) -> Result<String, AllocError> {
 // The expected lines follow from the bytes by [MS-XLS]; the damaged SupBook is told behind its names.
 #[test]
 fn tells_what_sup_books_link(rt: HostRuntime) -> Result<(), AllocError> {
-    let books = read_books(rt.alloc(), &GLOBALS, Biff::Biff8, &XlsEncoding::Windows1252)?;
+    let other = OtherBooks::read(rt.alloc(), &GLOBALS, Biff::Biff8, &XlsEncoding::Windows1252)?;
+    let books = other.books();
     assert!(rt; books.len() == 4 && books[0].linked == Linked::Nothing);
     let whole = told(rt.alloc(), &books[..2])?;
     let hurt = told(rt.alloc(), &books[2..])?;
@@ -83,8 +84,9 @@ fn tells_what_sup_books_link(rt: HostRuntime) -> Result<(), AllocError> {
 
 #[test]
 fn tells_what_external_sheets_link(rt: HostRuntime) -> Result<(), AllocError> {
-    let books = read_books(rt.alloc(), &EARLY, Biff::Biff5, &XlsEncoding::Windows1252)?;
-    let text = told(rt.alloc(), &books)?;
+    let other = OtherBooks::read(rt.alloc(), &EARLY, Biff::Biff5, &XlsEncoding::Windows1252)?;
+    let books = other.books();
+    let text = told(rt.alloc(), books)?;
     assert!(rt; text.as_str() == "book C:\\d\\b ;sheet S 1;sheet S 2;ExternSheet 55 it is empty;");
     Ok(())
 }

@@ -1,7 +1,7 @@
 //! Texts, and how they grow by characters and by texts.
 
 ghost use Rattle.std.specs.Prelude.{◌≡◌, ◌++◌, ◌∷◌, [], IfOk, OnOk};
-ghost use Rattle.std.specs.Str.{chars};
+ghost use Rattle.std.specs.Str.{bytes_eq, chars};
 ghost use Rattle.xls_strings.specs.Texts.{text_of};
 
 use std::alloc::{AllocError, Global};
@@ -32,4 +32,11 @@ pub(crate) fn push_text(text: &str, out: &mut String) -> Result<(), AllocError>
     ensures { OnOk result (text_of out.new ≡ text_of out.old ++ chars text.now) }
 {
     out.push_str(text)
+}
+
+/// Whether two texts have the same characters.
+pub(crate) fn is_same(a: &str, b: &str) -> bool
+    ensures { result ≡ bytes_eq (chars a.now) (chars b.now) }
+{
+    a == b
 }

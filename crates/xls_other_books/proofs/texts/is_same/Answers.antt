@@ -1,6 +1,6 @@
 use Rattle.std.proofs.Common.{◌∙◌, rules}
 use Rattle.xls_other_books.proofs.BookLemmas.{same_text}
-use Rattle.xls_other_books.proofs.sheet_refs.is_same.Goals as goal
+use Rattle.xls_other_books.proofs.texts.is_same.Goals as goal
 
 pub returns : goal.returns
 returns c = c.eq.ensures ∙ same_text c.args.a.now c.args.b.now (search rules) (search rules)
