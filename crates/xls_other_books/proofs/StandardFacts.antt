@@ -13,6 +13,12 @@ use Rattle.xls_other_books.specs.declared.damage.DamagedRecord.TheVariants as na
 use Rattle.xls_other_books.specs.declared.damage.Flaw.{Flaw}
 use Rattle.xls_other_books.specs.declared.damage.Flaw.TheVariants as flaws
 use Rattle.xls_other_books.specs.declared.types.TheConstants as types
+use Rattle.xls_other_books.specs.declared.cites.Cite.{Cite}
+use Rattle.xls_other_books.specs.declared.entries.Entry.{Entry}
+use Rattle.xls_other_books.specs.Cites.{cite_at, cites_in, token_more}
+use Rattle.xls_other_books.specs.Entries.{entries_of}
+use Rattle.xls_other_books.specs.Formulas.{Formula, formula_at}
+use Rattle.xls_other_books.specs.Outside.{Cited, cited_before, cited_by, cited_through, distinct}
 use Rattle.xls_other_books.specs.Books.{Book}
 use Rattle.xls_other_books.specs.Links.{books_of}
 use Rattle.xls_other_books.specs.Names.{Name, name_of}
@@ -172,3 +178,99 @@ known_program = refl
 pub known_grouped : books_of Biff5 Windows1252 (counted (codes "[a]S") ∷ at 0 0x23 [] ∷ counted (codes "[a]T") ∷ counted (codes "[b]S") ∷ counted (3 ∷ codes "S") ∷ counted (codes "[b]T") ∷ [])
     ≡ book links.Book (codes "a") (codes "S" ∷ codes "T" ∷ []) [] None ∷ book links.Book (codes "b") (codes "S" ∷ []) [] None ∷ book links.Nothing [] [] [] None ∷ book links.Book (codes "b") (codes "T" ∷ []) [] None ∷ []
 known_grouped = refl
+
+-- ---- entries of ExternSheet
+
+abbrev entry : ℕ → ℕ → ℕ → Entry
+entry book first last = record { book = book; first = first; last = last }
+
+-- at most the count, and the whole ones that are there, of all records one behind the other
+pub known_entries : entries_of (at 0 0x17 (1 ∷ 0 ∷ 2 ∷ 1 ∷ 3 ∷ 0 ∷ 0xFE ∷ 0xFF ∷ replicate 6 9) ∷ at 1 0x18 [] ∷ at 2 0x17 (3 ∷ 0 ∷ 0 ∷ 0 ∷ 4 ∷ 0 ∷ 5 ∷ 0 ∷ 9 ∷ 9 ∷ 9 ∷ 9 ∷ 9 ∷ []) ∷ at 3 0x17 (1 ∷ []) ∷ [])
+    ≡ entry 0x0102 3 0xFFFE ∷ entry 0 4 5 ∷ []
+known_entries = refl
+
+-- ---- tokens
+
+-- a token and so many bytes behind it
+abbrev token : ℕ → ℕ → List ℕ
+token t n = t ∷ replicate n 9
+
+-- the tokens that are known besides those of formulas, with all their bytes, and with one fewer
+pub known_sizes : map (λ (x : ℕ × ℕ). token_more Biff8 (token x.0 x.1)) ((0x02, 4) ∷ (0x1C, 1) ∷ (0x26, 6) ∷ (0x27, 6) ∷ (0x28, 6) ∷ (0x29, 2) ∷ (0x2C, 4) ∷ (0x2D, 8) ∷ (0x39, 6) ∷ (0x59, 6) ∷ (0x79, 6) ∷ (0x6D, 8) ∷ (0x2E, 8) ∷ (0x80, 8) ∷ (0x06, 8) ∷ [])
+    ≡ map Some (4 ∷ 1 ∷ 6 ∷ 6 ∷ 6 ∷ 2 ∷ 4 ∷ 8 ∷ 6 ∷ 6 ∷ 6 ∷ 8 ∷ []) ++ None ∷ None ∷ Some 0 ∷ []
+known_sizes = refl
+
+pub known_cut_sizes : map (λ (x : ℕ × ℕ). token_more Biff8 (token x.0 x.1)) ((0x02, 3) ∷ (0x1C, 0) ∷ (0x26, 5) ∷ (0x27, 5) ∷ (0x28, 5) ∷ (0x29, 1) ∷ (0x2C, 3) ∷ (0x2D, 7) ∷ (0x79, 5) ∷ []) ≡ replicate 9 None
+known_cut_sizes = refl
+
+pub known_early_sizes : map (λ (x : ℕ × ℕ). token_more Biff5 (token x.0 x.1)) ((0x02, 4) ∷ (0x26, 6) ∷ (0x29, 2) ∷ (0x2C, 3) ∷ (0x2D, 6) ∷ (0x79, 24) ∷ (0x2C, 2) ∷ (0x2D, 5) ∷ (0x79, 23) ∷ [])
+    ≡ map Some (4 ∷ 6 ∷ 2 ∷ 3 ∷ 6 ∷ 24 ∷ []) ++ None ∷ None ∷ None ∷ []
+known_early_sizes = refl
+
+-- each attribute has two bytes, but for 04, which has a count and so many words and one
+pub known_attributes : map (λ a. token_more Biff8 (0x19 ∷ a)) ((0x00 ∷ 9 ∷ 9 ∷ []) ∷ (0x40 ∷ 9 ∷ 9 ∷ []) ∷ (0xFF ∷ 9 ∷ 9 ∷ []) ∷ (0x10 ∷ 9 ∷ []) ∷ [] ∷ (0x04 ∷ 1 ∷ 0 ∷ 9 ∷ 9 ∷ 9 ∷ 9 ∷ []) ∷ (0x04 ∷ 1 ∷ 0 ∷ 9 ∷ 9 ∷ 9 ∷ []) ∷ [])
+    ≡ Some 3 ∷ Some 3 ∷ Some 3 ∷ None ∷ None ∷ Some 7 ∷ None ∷ []
+known_attributes = refl
+
+abbrev cite : ℕ → Option ℕ → Cite
+cite reference name = record { reference = reference; name = name }
+
+-- the tokens that cite, in each class, and those beside them
+pub known_cites : map (λ t. cite_at Biff8 t (2 ∷ 1 ∷ 4 ∷ 3 ∷ [])) (0x38 ∷ 0x39 ∷ 0x3A ∷ 0x3B ∷ 0x3C ∷ 0x3D ∷ 0x3E ∷ 0x59 ∷ 0x5A ∷ 0x5D ∷ 0x79 ∷ 0x7B ∷ 0x7C ∷ 0x19 ∷ 0x1A ∷ 0x99 ∷ 0x9A ∷ [])
+    ≡ None ∷ Some (cite 0x0102 (Some 0x0304)) ∷ Some (cite 0x0102 None) ∷ Some (cite 0x0102 None) ∷ Some (cite 0x0102 None) ∷ Some (cite 0x0102 None) ∷ None
+    ∷ Some (cite 0x0102 (Some 0x0304)) ∷ Some (cite 0x0102 None) ∷ Some (cite 0x0102 None) ∷ Some (cite 0x0102 (Some 0x0304)) ∷ Some (cite 0x0102 None) ∷ Some (cite 0x0102 None) ∷ None ∷ None ∷ None ∷ None ∷ []
+known_cites = refl
+
+-- from left to right, up to a token that isn't known, and up to one that is cut
+abbrev place : ℕ → List ℕ
+place reference = 0x5A ∷ reference ∷ 0 ∷ 4 ∷ 0 ∷ 0 ∷ 0 ∷ []
+
+pub known_walks : map (cites_in Biff8) ((place 1 ++ place 2 ++ 0x03 ∷ place 3) ∷ (place 1 ++ 0x7E ∷ place 2) ∷ take 13 (place 1 ++ place 2) ∷ [])
+    ≡ (cite 1 None ∷ cite 2 None ∷ cite 3 None ∷ []) ∷ (cite 1 None ∷ []) ∷ (cite 1 None ∷ []) ∷ []
+known_walks = refl
+
+-- ---- what is cited
+
+abbrev jan : Book
+jan = book links.Book (codes "B") (codes "J" ∷ codes "F" ∷ []) (Ok (codes "R") ∷ hurt_name 3 ∷ []) None
+
+abbrev cites_of : List ℕ → List ℕ → Option Cited
+cites_of sheet name = Some (record { book = codes "B"; sheet = sheet; name = name })
+
+-- one sheet, two, one that isn't there first or last, or neither
+pub known_sheets : map (λ (x : ℕ × ℕ). cited_through (jan ∷ []) (entry 0 x.0 x.1) None) ((1, 1) ∷ (0, 1) ∷ (2, 1) ∷ (0, 2) ∷ (2, 2) ∷ (0xFFFE, 0xFFFE) ∷ [])
+    ≡ cites_of (codes "F") [] ∷ cites_of (codes "J:F") [] ∷ cites_of [] [] ∷ cites_of (codes "J") [] ∷ cites_of [] [] ∷ cites_of [] [] ∷ []
+known_sheets = refl
+
+-- a name by its number from 1, without a sheet; a damaged one, and those that aren't there
+pub known_name_numbers : map (λ n. cited_through (jan ∷ []) (entry 0 1 1) (Some n)) (0 ∷ 1 ∷ 2 ∷ 3 ∷ []) ≡ cites_of [] [] ∷ cites_of [] (codes "R") ∷ cites_of [] [] ∷ cites_of [] [] ∷ []
+known_name_numbers = refl
+
+-- workbooks and programs alone are cited
+pub known_outside : map (λ linked. cited_by (book linked (codes "B") [] [] None ∷ []) (entry 0 0 0 ∷ entry 1 0 0 ∷ []) (cite 0 None)) (links.Nothing ∷ links.Functions ∷ links.Book ∷ links.Program ∷ [])
+    ≡ None ∷ None ∷ cites_of [] [] ∷ cites_of [] [] ∷ []
+known_outside = refl
+
+-- an entry that isn't there, and one of a SupBook that isn't
+pub known_missing : map (λ n. cited_by (jan ∷ []) (entry 0 0 0 ∷ entry 1 0 0 ∷ []) (cite n None)) (0 ∷ 1 ∷ 2 ∷ []) ≡ cites_of (codes "J") [] ∷ None ∷ None ∷ []
+known_missing = refl
+
+-- before BIFF8 by a signed number from 1
+pub known_early_numbers : map (λ n. cited_before (jan ∷ []) (cite n (Some 1))) (0 ∷ 1 ∷ 2 ∷ 0x7FFF ∷ 0x8000 ∷ 0xFFFF ∷ []) ≡ None ∷ cites_of (codes "J") [] ∷ None ∷ None ∷ None ∷ None ∷ []
+known_early_numbers = refl
+
+-- each once
+pub known_distinct : distinct [] (cites_of (codes "J") [] ∷ None ∷ cites_of (codes "F") [] ∷ cites_of (codes "J") [] ∷ cites_of (codes "J") (codes "R") ∷ [])
+    ≡ record { book = codes "B"; sheet = codes "J"; name = [] } ∷ record { book = codes "B"; sheet = codes "F"; name = [] } ∷ record { book = codes "B"; sheet = codes "J"; name = codes "R" } ∷ []
+known_distinct = refl
+
+-- the cell and the tokens; a count that passes the bytes; one byte fewer; another record
+abbrev formula_body : ℕ → List ℕ
+formula_body count = 2 ∷ 1 ∷ 4 ∷ 3 ∷ replicate 16 9 ++ le16 count ++ 0x1E ∷ 1 ∷ 0 ∷ 8 ∷ []
+
+abbrev formula : List ℕ → Option Formula
+formula tokens = Some (record { row = 0x0102; column = 0x0304; tokens = tokens })
+
+pub known_formulas : map formula_at (at 0 6 (formula_body 3) ∷ at 0 6 (formula_body 0x0104) ∷ at 0 6 (take 22 (formula_body 3)) ∷ at 0 6 (take 21 (formula_body 3)) ∷ at 0 0x206 (formula_body 3) ∷ [])
+    ≡ formula (0x1E ∷ 1 ∷ 0 ∷ []) ∷ formula (0x1E ∷ 1 ∷ 0 ∷ 8 ∷ []) ∷ formula [] ∷ None ∷ None ∷ []
+known_formulas = refl

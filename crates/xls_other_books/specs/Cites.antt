@@ -1,8 +1,7 @@
 -- What the tokens of a formula cite through references ([MS-XLS] 2.5.198): PtgNameX, PtgRef3d, PtgArea3d, PtgRefErr3d and
 -- PtgAreaErr3d in each class. Sizes before BIFF8 are this project's rule.
-use Rattle.std.specs.Prelude.{ℕ, zero, suc, ◌%◌, List, [], ◌∷◌, ◌++◌, drop, take, length, slice_index, Bool, false, not, ◌&&◌, ◌||◌, nat_lt, nat_le, ◌==◌, if◌then◌else◌, Option, Some, None, Result, Ok, Err}
+use Rattle.std.specs.Prelude.{ℕ, zero, suc, ◌%◌, List, [], ◌∷◌, ◌++◌, drop, length, slice_index, Bool, false, not, ◌&&◌, ◌||◌, nat_lt, nat_le, ◌==◌, if◌then◌else◌, Option, Some, None, Ok, Err}
 use Rattle.std.specs.Option.{option_to_list}
-use Rattle.xls_bytes.specs.Numbers.{le}
 use Rattle.xls_record.specs.Version.{is_biff8}
 use Rattle.xls_record.specs.declared.version.Biff.{Biff}
 use Rattle.xls_ptg.specs.Fields.{word_at}

@@ -64,6 +64,6 @@ name_view (Ok name) = Ok (text_of name)
 name_view (Err damage) = Err damage
 
 -- the names were read, where they are wanted, and their records passed
-pub record TakesNames (page : XlsEncoding) (is_wanted : Bool) (before : List Placed) (names : List NameFields) (after : List Placed) : Type 0 where
-  pub are : map name_view names ≡ (if is_wanted then names_behind page before else [])
-  pub passed : after ≡ from_sup_book before
+pub record TakesNames (page : XlsEncoding) (wanted : Bool) (old : List Placed) (names : List NameFields) (new : List Placed) : Type 0 where
+  pub are : map name_view names ≡ (if wanted then names_behind page old else [])
+  pub passed : new ≡ from_sup_book old

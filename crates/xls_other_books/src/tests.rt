@@ -1,20 +1,29 @@
 use crate::{Book, Linked, OtherBooks, kind_word};
 use std::alloc::{AllocError, Global};
+use xls_parts::PartRecord;
 use xls_record::Biff;
+use xls_stream::types::FORMULA;
 use xls_text::XlsEncoding;
 
 // The globals of a workbook of BIFF8: a SupBook of this workbook; one of `C:\old\led.xls` with the sheets Jan, Feb and
 // one with a letter above 7F, and the name Rate; one of a program, with a short ExternName; one that is cut in its
-// sheets, with the name Name; behind the EOF another.
-static GLOBALS: [u8; 156] = [
+// sheets, with the name Name; two entries of ExternSheet; behind the EOF another SupBook.
+static GLOBALS: [u8; 174] = [
     9, 8, 4, 0, 0, 6, 5, 0, 0xAE, 1, 4, 0, 1, 0, 1, 4, 0xAE, 1, 0x26, 0, 3, 0, 0x0E, 0, 0, 1, 1,
     b'C', b'o', b'l', b'd', 3, b'l', b'e', b'd', 0x2E, b'x', b'l', b's', 3, 0, 0, b'J', b'a', b'n',
     3, 0, 0, b'F', b'e', b'b', 4, 0, 0, b'M', 0xE4, b'r', b'z', 0x23, 0, 0x0C, 0, 0, 0, 0, 0, 0, 0,
     4, 0, b'R', b'a', b't', b'e', 0xAE, 1, 0x13, 0, 0, 0, 0x0E, 0, 0, b'E', b'x', b'c', b'e', b'l',
     3, 0x5B, b'b', 0x2E, b'x', b'l', b's', 0x5D, b'S', 0x23, 0, 6, 0, 0, 0, 0, 0, 0, 0, 0xAE, 1,
     0x11, 0, 2, 0, 6, 0, 0, 1, b'a', 0x2E, b'x', b'l', b's', 3, 0, 0, b'O', b'n', b'e', 0x23, 0,
-    0x0C, 0, 0, 0, 0, 0, 0, 0, 4, 0, b'N', b'a', b'm', b'e', 0x0A, 0, 0, 0, 0xAE, 1, 4, 0, 1, 0, 1,
-    4,
+    0x0C, 0, 0, 0, 0, 0, 0, 0, 4, 0, b'N', b'a', b'm', b'e', 0x17, 0, 0x0E, 0, 2, 0, 1, 0, 0, 0, 2,
+    0, 1, 0, 1, 0, 1, 0, 0x0A, 0, 0, 0, 0xAE, 1, 4, 0, 1, 0, 1, 4,
+];
+
+// A formula in the fourth row and the third column: a place in Jan to the last sheet, the name Rate, and another place
+// in the same sheets.
+static FORMULA_BODY: [u8; 43] = [
+    3, 0, 2, 0, 0, 0, 0, 0, 0, 0, 0, 0, 0, 0, 0, 0, 0, 0, 0, 0, 0x15, 0, b'Z', 0, 0, 0, 0, 0, 0,
+    b'Y', 1, 0, 1, 0, 0, 0, b'Z', 0, 0, 4, 0, 0, 0,
 ];
 
 // The globals of BIFF5: a sheet of this workbook, two sheets of one workbook, added functions, and one that is empty.
@@ -88,5 +97,33 @@ fn tells_what_external_sheets_link(rt: HostRuntime) -> Result<(), AllocError> {
     let books = other.books();
     let text = told(rt.alloc(), books)?;
     assert!(rt; text.as_str() == "book C:\\d\\b ;sheet S 1;sheet S 2;ExternSheet 55 it is empty;");
+    Ok(())
+}
+
+#[test]
+fn tells_what_a_formula_cites(rt: HostRuntime) -> Result<(), AllocError> {
+    let other = OtherBooks::read(rt.alloc(), &GLOBALS, Biff::Biff8, &XlsEncoding::Windows1252)?;
+    let formula = PartRecord {
+        offset: 0,
+        typ: FORMULA,
+        body: &FORMULA_BODY,
+    };
+    let outside = other.outside(rt.alloc(), &formula)?;
+    match outside {
+        Some(outside) => {
+            assert!(rt; outside.row == 3 && outside.column == 2 && outside.cited.len() == 2);
+            let first = &outside.cited[0];
+            let second = &outside.cited[1];
+            assert!(rt;
+                first.book == "C:\\old\\led.xls"
+                    && first.sheet.as_str() == "Jan:M\u{E4}rz"
+                    && first.name == ""
+            );
+            assert!(rt;
+                second.book == first.book && second.sheet.as_str() == "" && second.name == "Rate"
+            );
+        }
+        None => assert!(rt; false),
+    }
     Ok(())
 }
