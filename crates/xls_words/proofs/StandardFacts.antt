@@ -1,11 +1,13 @@
 -- The commands of `xls`, as docs/xls.md has them, so that a wrong row in the definitions does not check.
 use Rattle.std.proofs.Common.{◌≡◌, ℕ, Bool, true, false, List, [], ◌∷◌, None, map, refl, codes}
+use Rattle.xls_readable.specs.declared.choices.FieldStyle.{FieldStyle}
+use Rattle.xls_readable.specs.declared.choices.FieldStyle.TheVariants.{Values}
 use Rattle.xls_readable.specs.declared.choices.Listing.TheVariants.{Dump, Sheets, Formulas, Refs}
 use Rattle.xls_readable.specs.declared.choices.SheetChoice.{SheetChoice}
 use Rattle.xls_readable.specs.declared.choices.SheetChoice.TheVariants.{First}
 use Rattle.xls_readable.specs.declared.choices.Table.{Table}
 use Rattle.xls_readable.specs.declared.forms.Form.TheVariants.{Text, Json, Exact}
-use Rattle.xls_words.specs.Requests.{ending_of, is_exact, is_option, plain_command, takes}
+use Rattle.xls_words.specs.Requests.{ending_of, is_exact, is_option, plain_command, takes, word_of}
 use Rattle.xls_words.specs.Words.{takes_many, word_text}
 use Rattle.xls_words.specs.declared.request.Command.TheVariants as commands
 use Rattle.xls_words.specs.declared.word.Word.{Word}
@@ -43,7 +45,7 @@ known_two = refl
 
 pub known_plain : map plain_command every_word
     ≡ commands.Lines Dump Text ∷ commands.Lines Sheets Text ∷ commands.Check ∷ commands.Lines Formulas Text ∷ commands.Lines Refs Text
-    ∷ commands.Hidden Text ∷ commands.Props ∷ commands.Vba ∷ commands.Csv First (record { delimiter = 0x2C; begins_with_mark = false; is_exact = false })
+    ∷ commands.Hidden Text ∷ commands.Props ∷ commands.Vba ∷ commands.Csv First (record { delimiter = 0x2C; begins_with_mark = false; is_exact = false; style = Values })
     ∷ commands.Remake ∷ commands.Stream None ∷ commands.Streams ∷ []
 known_plain = refl
 
@@ -54,26 +56,31 @@ known_options = refl
 
 -- ---- forms
 
-pub known_exact : (s : SheetChoice) (d : ℕ) (m : Bool) → map is_exact
+pub known_exact : (s : SheetChoice) (d : ℕ) (m : Bool) (f : FieldStyle) → map is_exact
     (commands.Lines Dump Exact ∷ commands.Lines Sheets Exact ∷ commands.Lines Formulas Exact ∷ commands.Lines Refs Exact
-    ∷ commands.Csv s (record { delimiter = d; begins_with_mark = m; is_exact = true }) ∷ [])
+    ∷ commands.Csv s (record { delimiter = d; begins_with_mark = m; is_exact = true; style = f }) ∷ [])
     ≡ true ∷ true ∷ true ∷ true ∷ true ∷ []
-known_exact s d m = refl
+known_exact s d m f = refl
 
-pub known_readable : (s : SheetChoice) (d : ℕ) (m : Bool) (path : _) → map is_exact
+pub known_readable : (s : SheetChoice) (d : ℕ) (m : Bool) (f : FieldStyle) (path : _) → map is_exact
     (commands.Lines Dump Json ∷ commands.Lines Sheets Text ∷ commands.Lines Formulas Json ∷ commands.Lines Refs Text
-    ∷ commands.Csv s (record { delimiter = d; begins_with_mark = m; is_exact = false })
+    ∷ commands.Csv s (record { delimiter = d; begins_with_mark = m; is_exact = false; style = f }) ∷ commands.Shown Text ∷ commands.Shown Json
     ∷ commands.Check ∷ commands.Hidden Text ∷ commands.Hidden Json ∷ commands.Props ∷ commands.Vba ∷ commands.Remake
     ∷ commands.Stream path ∷ commands.Streams ∷ [])
-    ≡ false ∷ false ∷ false ∷ false ∷ false ∷ false ∷ false ∷ false ∷ false ∷ false ∷ false ∷ false ∷ false ∷ []
-known_readable s d m path = refl
+    ≡ false ∷ false ∷ false ∷ false ∷ false ∷ false ∷ false ∷ false ∷ false ∷ false ∷ false ∷ false ∷ false ∷ false ∷ false ∷ []
+known_readable s d m f path = refl
 
 -- ---- endings of files
 
 pub known_endings : (s : SheetChoice) (t : Table) (path : _) → map ending_of
     (commands.Lines Dump Text ∷ commands.Lines Sheets Exact ∷ commands.Lines Formulas Json ∷ commands.Lines Refs Json
-    ∷ commands.Hidden Text ∷ commands.Hidden Json ∷ commands.Check ∷ commands.Props ∷ commands.Vba ∷ commands.Csv s t ∷ commands.Remake ∷ commands.Stream path ∷ commands.Streams ∷ [])
+    ∷ commands.Hidden Text ∷ commands.Hidden Json ∷ commands.Check ∷ commands.Props ∷ commands.Vba ∷ commands.Csv s t ∷ commands.Remake ∷ commands.Stream path ∷ commands.Streams
+    ∷ commands.Shown Text ∷ commands.Shown Json ∷ [])
     ≡ codes "txt" ∷ codes "txt" ∷ codes "json" ∷ codes "json" ∷ codes "txt" ∷ codes "json"
     ∷ codes "txt" ∷ codes "txt" ∷ codes "txt" ∷ codes "csv"
-    ∷ codes "txt" ∷ codes "txt" ∷ codes "txt" ∷ []
+    ∷ codes "txt" ∷ codes "txt" ∷ codes "txt" ∷ codes "txt" ∷ codes "json" ∷ []
 known_endings s t path = refl
+
+-- a dump with what Excel shows is a dump, and has no sheet's number
+pub known_shown : map word_of (commands.Shown Text ∷ commands.Shown Json ∷ []) ≡ words.Lines Dump ∷ words.Lines Dump ∷ []
+known_shown = refl

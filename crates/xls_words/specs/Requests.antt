@@ -1,6 +1,7 @@
 -- What the words of the command line ask for.
 use Rattle.std.specs.Prelude.{◌≡◌, ◌⊎◌, ◌==◌, nat_lt, ℕ, Bool, true, false, None, List, [], ◌∷◌, length, map, codes, not, ◌&&◌, ◌||◌}
 use Rattle.xls_readable.specs.Choices.{IsNumbered}
+use Rattle.xls_readable.specs.declared.choices.FieldStyle.TheVariants.{Values}
 use Rattle.xls_readable.specs.declared.choices.Listing.TheVariants as listing
 use Rattle.xls_readable.specs.declared.choices.SheetChoice.TheVariants.{First}
 use Rattle.xls_readable.specs.declared.forms.Form.{Form}
@@ -23,6 +24,7 @@ use Rattle.xls_words.specs.declared.request.Command.TheVariants as commands
 -- the name of a command
 abbrev pub word_of : Command → Word
 word_of (commands.Lines lines form) = words.Lines lines
+word_of (commands.Shown form) = words.Lines listing.Dump
 word_of commands.Check = words.Check
 word_of (commands.Hidden form) = words.Hidden
 word_of commands.Props = words.Props
@@ -40,6 +42,7 @@ is_exact_form Exact = true
 
 abbrev pub is_exact : Command → Bool
 is_exact (commands.Lines lines form) = is_exact_form form
+is_exact (commands.Shown form) = false
 is_exact (commands.Csv choice t) = t.is_exact
 is_exact commands.Check = false
 is_exact (commands.Hidden form) = false
@@ -57,6 +60,7 @@ ending_in Exact ending = ending
 
 abbrev pub ending_of : Command → List ℕ
 ending_of (commands.Lines lines form) = ending_in form (ending_text (words.Lines lines))
+ending_of (commands.Shown form) = ending_in form (ending_text (words.Lines listing.Dump))
 ending_of (commands.Hidden form) = ending_in form (ending_text words.Hidden)
 ending_of command = ending_text (word_of command)
 
@@ -74,6 +78,7 @@ IsAsked (first ∷ others) word =
 abbrev pub CommandHasNumber : Command → Type 0
 CommandHasNumber (commands.Csv choice t) = IsNumbered choice
 CommandHasNumber (commands.Lines lines form) = Unit {0}
+CommandHasNumber (commands.Shown form) = Unit {0}
 CommandHasNumber commands.Check = Unit {0}
 CommandHasNumber (commands.Hidden form) = Unit {0}
 CommandHasNumber commands.Props = Unit {0}
@@ -126,7 +131,7 @@ plain_command words.Check = commands.Check
 plain_command words.Hidden = commands.Hidden Text
 plain_command words.Props = commands.Props
 plain_command words.Vba = commands.Vba
-plain_command words.Csv = commands.Csv First (record { delimiter = 0x2C; begins_with_mark = false; is_exact = false })
+plain_command words.Csv = commands.Csv First (record { delimiter = 0x2C; begins_with_mark = false; is_exact = false; style = Values })
 plain_command words.Remake = commands.Remake
 plain_command words.Stream = commands.Stream None
 plain_command words.Streams = commands.Streams

@@ -134,6 +134,18 @@ const EXACT_CSV: Argument = Argument {
     ..EXACT
 };
 
+const AS_SHOWN: Argument = Argument {
+    name: "as-shown",
+    kind: ArgumentKind::Flag,
+    help: "Tell of each cell what Excel shows, as the last field",
+    without: &["exact"],
+};
+
+const AS_SHOWN_CSV: Argument = Argument {
+    help: "Write each field as Excel shows it",
+    ..AS_SHOWN
+};
+
 const SHEET: Argument = Argument {
     name: "sheet",
     kind: ArgumentKind::Value("NAME"),
@@ -179,6 +191,16 @@ static ONE_STREAM: [Argument; 2] = [FILE, PATH];
 /// The options of a command whose lines have all three forms.
 pub(crate) static THREE_FORMS: [Argument; 5] = [JSON, EXACT, PAGE, PASSWORD_FILE, PASSWORD];
 
+/// Those of one that tells of cells too.
+pub(crate) static DUMP_OPTIONS: [Argument; 6] = [
+    JSON,
+    EXACT,
+    AS_SHOWN,
+    PAGE,
+    PASSWORD_FILE,
+    PASSWORD,
+];
+
 /// Those of one whose lines have two.
 pub(crate) static TWO_FORMS: [Argument; 4] = [JSON, PAGE, PASSWORD_FILE, PASSWORD];
 
@@ -186,12 +208,13 @@ pub(crate) static TWO_FORMS: [Argument; 4] = [JSON, PAGE, PASSWORD_FILE, PASSWOR
 pub(crate) static STREAM_OPTIONS: [Argument; 2] = [PASSWORD_FILE, PASSWORD];
 
 /// Those of a sheet as CSV.
-pub(crate) static SHEET_OPTIONS: [Argument; 9] = [
+pub(crate) static SHEET_OPTIONS: [Argument; 10] = [
     SHEET,
     NUMBER,
     ALL_SHEETS,
     DELIMITER,
     MARK,
+    AS_SHOWN_CSV,
     EXACT_CSV,
     PAGE,
     PASSWORD_FILE,

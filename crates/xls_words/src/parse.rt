@@ -7,6 +7,7 @@ ghost use Rattle.xls_words.specs.Requests.{AreWordsOf, CommandHasNumber, IsAsked
 ghost use Rattle.xls_words.specs.declared.displayed.Displayed.TheVariants as displayed;
 ghost use Rattle.xls_words.specs.declared.parse.Refusal.TheVariants as refusals;
 ghost use Rattle.xls_words.specs.declared.word.Word.{Word};
+ghost use Rattle.xls_words.specs.declared.word.Word.TheVariants as words;
 
 use crate::displayed::{Displayed, displayed_of};
 use crate::grammar::{grammar_of, overview};
@@ -16,7 +17,7 @@ use crate::word::Word;
 use clap::error::ErrorKind;
 use clap::{ArgMatches, Error};
 use std::alloc::{AllocError, Global};
-use xls_readable::{Delimiter, Form, Listing, SheetChoice, Table};
+use xls_readable::{Delimiter, FieldStyle, Form, Listing, SheetChoice, Table};
 
 /// How the lines of a command are written.
 fn form_in(matches: &ArgMatches<'_>) -> Form {
@@ -153,13 +154,34 @@ fn delimiter_in(matches: &ArgMatches<'_>) -> Option<Delimiter> {
     }
 }
 
+/// What the fields of a table are.
+fn style_in(matches: &ArgMatches<'_>) -> FieldStyle {
+    if matches.get_flag("as-shown") {
+        FieldStyle::Shown
+    } else {
+        FieldStyle::Values
+    }
+}
+
 /// How a sheet is written as CSV. None where the delimiter is none.
 fn table_in(matches: &ArgMatches<'_>) -> Option<Table> {
     Some(Table {
         delimiter: delimiter_in(matches)?,
         begins_with_mark: matches.get_flag("bom"),
         is_exact: matches.get_flag("exact"),
+        style: style_in(matches),
     })
+}
+
+/// The command whose lines are asked for.
+fn lines_in<'w>(listing: Listing, matches: &ArgMatches<'_>) -> Command<'w>
+    ensures named { word_of result ≡ words.Lines listing }
+    ensures numbered { CommandHasNumber result }
+{
+    if listing == Listing::Dump && matches.get_flag("as-shown") {
+        return Command::Shown(form_in(matches));
+    }
+    Command::Lines(listing, form_in(matches))
 }
 
 /// The command of some words. None where the delimiter is none.
@@ -168,7 +190,7 @@ fn command_in<'w>(word: Word, matches: &ArgMatches<'w>) -> Option<Command<'w>>
     ensures numbered { IfSome result (λ c. CommandHasNumber c) }
 {
     Some(match word {
-        Word::Lines(listing) => Command::Lines(listing, form_in(matches)),
+        Word::Lines(listing) => lines_in(listing, matches),
         Word::Check => Command::Check,
         Word::Hidden => Command::Hidden(form_in(matches)),
         Word::Props => Command::Props,

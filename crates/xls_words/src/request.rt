@@ -11,6 +11,8 @@ use xls_readable::{Form, Listing, SheetChoice, Table};
 pub enum Command<'w> {
     /// Lines of the workbook, in a form.
     Lines(Listing, Form),
+    /// All that the workbook holds, each cell with what Excel shows, in a form.
+    Shown(Form),
     Check,
     /// What is hidden in the sheets, in a form.
     Hidden(Form),
@@ -30,6 +32,7 @@ impl Command<'_> {
     {
         match self {
             Command::Lines(listing, _) => Word::Lines(*listing),
+            Command::Shown(_) => Word::Lines(Listing::Dump),
             Command::Check => Word::Check,
             Command::Hidden(_) => Word::Hidden,
             Command::Props => Word::Props,
@@ -48,7 +51,8 @@ impl Command<'_> {
         match self {
             Command::Lines(_, form) => *form == Form::Exact,
             Command::Csv(_, table) => table.is_exact,
-            Command::Check
+            Command::Shown(_)
+            | Command::Check
             | Command::Hidden(_)
             | Command::Props
             | Command::Vba
@@ -63,7 +67,9 @@ impl Command<'_> {
         ensures { result.now ≡ ending_of self.now }
     {
         match self {
-            Command::Lines(_, Form::Json) | Command::Hidden(Form::Json) => "json",
+            Command::Lines(_, Form::Json)
+            | Command::Shown(Form::Json)
+            | Command::Hidden(Form::Json) => "json",
             _ => self.word().row().ending,
         }
     }

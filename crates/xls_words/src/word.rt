@@ -4,7 +4,9 @@ ghost use Rattle.std.specs.Prelude.{◌≡◌, true, MatchOption};
 ghost use Rattle.xls_words.specs.declared.word.Word.{Word};
 ghost use Rattle.xls_words.specs.Words.{ending_text, file_count, takes_many, word_text};
 
-use crate::grammar::{Argument, SHEET_OPTIONS, STREAM_OPTIONS, THREE_FORMS, TWO_FORMS};
+use crate::grammar::{
+    Argument, DUMP_OPTIONS, SHEET_OPTIONS, STREAM_OPTIONS, THREE_FORMS, TWO_FORMS,
+};
 use std::alloc::{AllocError, Global};
 use strsim::osa_distance;
 use xls_readable::Listing;
@@ -83,7 +85,7 @@ impl Word {
                 title: "xls dump",
                 about: "What each workbook holds, line by line: sheets, cells, formulas, merged regions, names",
                 files: FileCount::Many,
-                options: &THREE_FORMS,
+                options: &DUMP_OPTIONS,
                 ending: "txt",
             },
             Word::Lines(Listing::Sheets) => Row {
