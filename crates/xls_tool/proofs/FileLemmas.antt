@@ -34,6 +34,7 @@ use Rattle.xls_words.specs.declared.request.Command.{Command}
 no-file-fault : (answer : Answer) (options : XlsOptions) (stream : List ℕ) (a b : SinkState) (fault : _)
     → OfWorkbook answer options stream a b (Err (problems.Failure (failures.File fault))) → ⊥
 no-file-fault (answers.Lines lines form) options stream a b fault p = p
+no-file-fault (answers.Shown form) options stream a b fault p = p
 no-file-fault answers.Exact options stream a b fault p = p
 no-file-fault (answers.Sheet choice table) options stream a b fault p = p
 no-file-fault answers.Check options stream a b fault p = p

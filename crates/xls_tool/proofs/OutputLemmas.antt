@@ -3,7 +3,7 @@ use Rattle.std.proofs.Common.{◌≡◌, ℕ, Bool, true, List, [], Some, Result
 use Rattle.std.specs.Io.KnownBytes.{Appends}
 use Rattle.std.specs.Result.{IsOk}
 use Rattle.xls_answers.specs.Sheets.{BeginsTableOf, IsTableOf, MissesSheet, WritesSheetAt, chosen_index}
-use Rattle.xls_answers.specs.Views.{AreLines, BeginLines, IsDump, MissesNone, OfView, rules_shown}
+use Rattle.xls_answers.specs.Views.{AreLines, AreShownLines, BeginLines, BeginShownLines, IsDump, MissesNone, OfView, rules_shown}
 use Rattle.xls_answers.specs.declared.answer.Answer.{Answer}
 use Rattle.xls_answers.specs.declared.answer.Answer.TheVariants as answers
 use Rattle.xls_answers.specs.declared.failure.Missing.{Missing}
@@ -53,6 +53,8 @@ module _ (a b : SinkState) (empty : a.written ≡ Some []) where
       → OfWorkbook answer options stream a b (Ok tt) → OfWorkbook answer options stream unwritten b (Ok tt)
   workbook-written (answers.Lines lines form) options stream h =
       view-written (rules_shown form options) stream (AreLines lines form) (BeginLines lines form) MissesNone h
+  workbook-written (answers.Shown form) options stream h =
+      view-written (rules_shown form options) stream (AreShownLines form) (BeginShownLines form) MissesNone h
   workbook-written answers.Exact options stream h =
       view-written (rules_of options) stream IsDump IsDump MissesNone h
   workbook-written (answers.Sheet choice table) options stream h =
@@ -103,21 +105,21 @@ module _ (a b : SinkState) (empty : a.written ≡ Some []) where
 
   -- a sheet: where all are asked for, or the chosen one
   all-sheets : (files : SheetFiles) (view : Viewed) (n : ℕ) → AreSheetFiles files view → files.out.now.takes_all_sheets ≡ true
-      → WritesSheetAt files.table.now view.book n a b (Ok tt)
+      → WritesSheetAt files.table.now view n a b (Ok tt)
       → HoldsText files.job.now.request.out (Workbook (answers.Sheet files.choice.now files.table.now)) files.job.now.reading.options b
-  all-sheets files view n are all (sheet, is, text, cells, wrote) = (
+  all-sheets files view n are all (text, is, wrote) = (
     files.book.now.stream.now,
-    inr (subst TakesAll (sym are.out) all, (view, are.viewed, n, (sheet, is, text, cells, text-written text wrote))),
+    inr (subst TakesAll (sym are.out) all, (view, are.viewed, n, (text, is, text-written text wrote))),
   )
 
   chosen-sheet : (files : SheetFiles) (view : Viewed) (n : ℕ) → AreSheetFiles files view
-      → Some n ≡ chosen_index files.choice.now view.book.sheets → WritesSheetAt files.table.now view.book n a b (Ok tt)
+      → Some n ≡ chosen_index files.choice.now view.book.sheets → WritesSheetAt files.table.now view n a b (Ok tt)
       → HoldsText files.job.now.request.out (Workbook (answers.Sheet files.choice.now files.table.now)) files.job.now.reading.options b
-  chosen-sheet files view n are chosen (sheet, is, text, cells, wrote) =
-      (files.book.now.stream.now, inl (view, are.viewed, text, (sheet, (n, chosen, is), cells), text-written text wrote))
+  chosen-sheet files view n are chosen (text, is, wrote) =
+      (files.book.now.stream.now, inl (view, are.viewed, text, (n, chosen, is), text-written text wrote))
 
   asked-sheet : (files : SheetFiles) (view : Viewed) (n : ℕ) → AreSheetFiles files view → IsAskedSheet files view n
-      → WritesSheetAt files.table.now view.book n a b (Ok tt)
+      → WritesSheetAt files.table.now view n a b (Ok tt)
       → HoldsText files.job.now.request.out (asked_by files.job.now.request.command) files.job.now.reading.options b
   asked-sheet files view n are (inl all) h =
       subst (λ asked. HoldsText files.job.now.request.out asked files.job.now.reading.options b) (sym are.asked) (all-sheets files view n are all h)
@@ -125,7 +127,7 @@ module _ (a b : SinkState) (empty : a.written ≡ Some []) where
       subst (λ asked. HoldsText files.job.now.request.out asked files.job.now.reading.options b) (sym are.asked) (chosen-sheet files view n are chosen h)
 
   pub holds-sheet : (files : SheetFiles) (view : Viewed) (n : ℕ) (done : Result (Unit {0}) Stop) (r : Result (Unit {0}) Problem)
-      → AreSheetFiles files view → IsAskedSheet files view n → WritesSheetAt files.table.now view.book n a b done
+      → AreSheetFiles files view → IsAskedSheet files view n → WritesSheetAt files.table.now view n a b done
       → r ≡ as_problem (as_failure done) → IsOk r
       → HoldsText files.job.now.request.out (asked_by files.job.now.request.command) files.job.now.reading.options b
   holds-sheet files view n (Ok x) r are asked h is ok = asked-sheet files view n are asked h

@@ -69,12 +69,14 @@ pub known_asked : (s : SheetChoice) (t : Table) → map asked_by
     (commands.Lines Dump Text ∷ commands.Lines Sheets Text ∷ commands.Lines Formulas Text ∷ commands.Lines Refs Text
     ∷ commands.Lines Dump Json ∷ commands.Lines Sheets Json ∷ commands.Lines Formulas Json ∷ commands.Lines Refs Json
     ∷ commands.Lines Dump Exact ∷ commands.Lines Sheets Exact ∷ commands.Lines Formulas Exact ∷ commands.Lines Refs Exact
-    ∷ commands.Check ∷ commands.Hidden Text ∷ commands.Hidden Json ∷ commands.Csv s t ∷ commands.Remake ∷ commands.Stream None ∷ [])
+    ∷ commands.Check ∷ commands.Hidden Text ∷ commands.Hidden Json ∷ commands.Csv s t ∷ commands.Remake ∷ commands.Stream None
+    ∷ commands.Shown Text ∷ commands.Shown Json ∷ [])
     ≡ map Workbook
     (answers.Lines Dump Text ∷ answers.Lines Sheets Text ∷ answers.Lines Formulas Text ∷ answers.Lines Refs Text
     ∷ answers.Lines Dump Json ∷ answers.Lines Sheets Json ∷ answers.Lines Formulas Json ∷ answers.Lines Refs Json
     ∷ answers.Exact ∷ answers.Lines Sheets Text ∷ answers.Lines Formulas Text ∷ answers.Lines Refs Text
-    ∷ answers.Check ∷ answers.Hidden Text ∷ answers.Hidden Json ∷ answers.Sheet s t ∷ answers.Remade ∷ answers.Bytes ∷ [])
+    ∷ answers.Check ∷ answers.Hidden Text ∷ answers.Hidden Json ∷ answers.Sheet s t ∷ answers.Remade ∷ answers.Bytes
+    ∷ answers.Shown Text ∷ answers.Shown Json ∷ [])
 known_asked s t = refl
 
 pub known_others : (path : _) → map asked_by (commands.Props ∷ commands.Vba ∷ commands.Stream (Some path) ∷ commands.Streams ∷ [])

@@ -29,6 +29,7 @@ lines_of lines Exact = exact_lines lines
 -- a text of the workbook, or of what stands beside it
 abbrev pub asked_by : Command → Asked
 asked_by (commands.Lines lines form) = Workbook (lines_of lines form)
+asked_by (commands.Shown form) = Workbook (answers.Shown form)
 asked_by commands.Check = Workbook answers.Check
 asked_by (commands.Hidden form) = Workbook (answers.Hidden form)
 asked_by (commands.Csv choice t) = Workbook (answers.Sheet choice t)

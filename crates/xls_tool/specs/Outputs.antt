@@ -55,7 +55,7 @@ TakesAll (Some folder) = folder.takes_all_sheets ≡ true
 -- the cells of one sheet of a workbook's stream
 abbrev pub HoldsSheet : Answer → XlsOptions → List ℕ → SinkState → Type 0
 HoldsSheet (answers.Sheet choice table) options stream state =
-    (view : Viewed) × IsViewed (rules_of options) stream view × (n : ℕ) × WritesSheetAt table view.book n unwritten state (Ok tt)
+    (view : Viewed) × IsViewed (rules_of options) stream view × (n : ℕ) × WritesSheetAt table view n unwritten state (Ok tt)
 HoldsSheet other options stream state = ⊥
 
 -- the whole text that else is written to standard output; or one of its sheets, where all are asked for

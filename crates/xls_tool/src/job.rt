@@ -103,6 +103,7 @@ pub(crate) fn asked_by<'w>(command: &Command<'w>) -> Asked<'w>
 {
     match command {
         Command::Lines(listing, form) => Asked::Workbook(lines_of(*listing, *form)),
+        Command::Shown(form) => Asked::Workbook(Answer::Shown(*form)),
         Command::Check => Asked::Workbook(Answer::Check),
         Command::Hidden(form) => Asked::Workbook(Answer::Hidden(*form)),
         Command::Csv(choice, table) => Asked::Workbook(Answer::Sheet(*choice, *table)),

@@ -3,7 +3,6 @@
 #![tactic(auto)]
 
 mod file;
-mod formats;
 mod job;
 mod many;
 mod misplaced;

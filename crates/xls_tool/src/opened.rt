@@ -12,20 +12,18 @@ ghost use Rattle.xls_tool.specs.Steps.{EndsAnswer, EndsText};
 ghost use Rattle.xls_tool.specs.declared.job.Asked.TheVariants as asked;
 
 use crate::file::{OpenedFile, Workbook};
-use crate::formats::tell_formats;
 use crate::job::{Asked, Beside, Job, asked_by};
 use crate::problem::Problem;
 use crate::sheets::{write_beside_file, write_workbook_files};
 use crate::unlock::plain_of;
 use crate::work::{write_beside, write_text};
 use std::alloc::Global;
-use xls_answers::{Answer, Notes};
+use xls_answers::Answer;
 use xls_container::Container;
 use xls_files::Host;
 use xls_output::Sink;
 
-/// Writes what is asked for of a workbook to the sink, or into files below the folder, if there is one,
-/// and puts into `notes` what the text doesn't tell of its values.
+/// Writes what is asked for of a workbook to the sink, or into files below the folder, if there is one.
 fn write_answer<H: Host, K: Sink>(
     alloc: Global,
     host: &mut H,
@@ -33,7 +31,6 @@ fn write_answer<H: Host, K: Sink>(
     job: &Job<'_>,
     answer: &Answer<'_>,
     book: &Workbook<'_>,
-    notes: &mut Notes,
 ) -> Result<(), Problem>
     requires number { HasNumber answer.now }
     requires asked { asked_by job.now.request.command ≡ asked.Workbook answer.now }
@@ -42,20 +39,12 @@ fn write_answer<H: Host, K: Sink>(
     ensures outputs { KeepsOutputs H.tells H.File.state job.now.request job.now.reading.options (H.files host.old) (H.files host.new) }
 {
     match &job.request.out {
-        Some(folder) => write_workbook_files(alloc, host, job, folder, answer, book, notes),
-        None => write_text(
-            alloc,
-            sink,
-            answer,
-            &job.reading.options,
-            book.stream,
-            notes,
-        ),
+        Some(folder) => write_workbook_files(alloc, host, job, folder, answer, book),
+        None => write_text(alloc, sink, answer, &job.reading.options, book.stream),
     }
 }
 
-/// Does the work of a file's workbook, which is made plain where it is encrypted: its text is written, and its
-/// formats are told of.
+/// Does the work of a file's workbook, which is made plain where it is encrypted: its text is written.
 fn do_workbook<H: Host, K: Sink>(
     alloc: Global,
     host: &mut H,
@@ -76,10 +65,7 @@ fn do_workbook<H: Host, K: Sink>(
         path: file.path,
         stream: stream.as_slice(),
     };
-    let mut notes = Notes::default();
-    write_answer(alloc, host, sink, job, answer, &book, &mut notes)?;
-    tell_formats(alloc, host, file.path, notes)?;
-    Ok(())
+    write_answer(alloc, host, sink, job, answer, &book)
 }
 
 /// Writes what stands beside the workbook to the sink, or into a file below the folder, if there is one.

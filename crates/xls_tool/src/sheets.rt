@@ -17,7 +17,8 @@ use crate::problem::Problem;
 use crate::say::say_of;
 use crate::work::{write_beside, write_text, written};
 use std::alloc::{AllocError, Global};
-use xls_answers::{Answer, Failure, Notes, chosen, view_of, write_sheet_at};
+use xls_answers::{Answer, Failure, chosen, view_of, write_sheet_at};
+use xls_cell_formats::CellFormats;
 use xls_data::{Sheet, SheetType, SheetVisible};
 use xls_files::{Host, begin, file_path, folder_of};
 use xls_output::Stop;
@@ -78,7 +79,6 @@ fn write_text_file<H: Host>(
     folder: &Folder<'_>,
     answer: &Answer<'_>,
     book: &Workbook<'_>,
-    notes: &mut Notes,
 ) -> Result<(), Problem>
     requires number { HasNumber answer.now }
     requires out { job.now.request.out ≡ Some folder.now }
@@ -90,14 +90,7 @@ fn write_text_file<H: Host>(
         Ok(file) => file,
         Err(reason) => return Err(Problem::Unwritten(path, reason)),
     };
-    let done = write_text(
-        alloc,
-        &mut file,
-        answer,
-        &job.reading.options,
-        book.stream,
-        notes,
-    );
+    let done = write_text(alloc, &mut file, answer, &job.reading.options, book.stream);
     end(host, path, folder.writes_over, file, done)
 }
 
@@ -163,21 +156,21 @@ fn write_sheet_file<H: Host>(
     alloc: Global,
     host: &mut H,
     files: &SheetFiles<'_>,
-    view: &View<'_>,
+    formats: &CellFormats<'_>,
     index: usize,
 ) -> Result<(), Problem>
-    requires within { index < length view.now.book.sheets }
-    requires sheets { length view.now.book.contents ≡ length view.now.book.sheets }
-    requires files { AreSheetFiles files.now view.now }
-    requires asked { IsAskedSheet files.now view.now index }
+    requires within { index < length formats.now.book.sheets }
+    requires sheets { length formats.now.book.contents ≡ length formats.now.book.sheets }
+    requires files { AreSheetFiles files.now formats.now }
+    requires asked { IsAskedSheet files.now formats.now index }
     ensures outputs { KeepsOutputs H.tells H.File.state files.now.job.now.request files.now.job.now.reading.options (H.files host.old) (H.files host.new) }
 {
-    let path = sheet_path(alloc, files, view, index)?;
+    let path = sheet_path(alloc, files, formats.view(), index)?;
     let mut file = match begin(alloc, host, path.as_str(), files.out.writes_over) {
         Ok(file) => file,
         Err(reason) => return Err(Problem::Unwritten(path, reason)),
     };
-    let done = written(write_sheet_at(alloc, &mut file, files.table, view, index));
+    let done = written(write_sheet_at(alloc, &mut file, files.table, formats, index));
     end(host, path, files.out.writes_over, file, done)
 }
 
@@ -222,19 +215,19 @@ fn write_all_sheets<H: Host>(
     alloc: Global,
     host: &mut H,
     files: &SheetFiles<'_>,
-    view: &View<'_>,
+    formats: &CellFormats<'_>,
 ) -> Result<(), Problem>
-    requires sheets { length view.now.book.contents ≡ length view.now.book.sheets }
-    requires files { AreSheetFiles files.now view.now }
+    requires sheets { length formats.now.book.contents ≡ length formats.now.book.sheets }
+    requires files { AreSheetFiles files.now formats.now }
     requires asked { files.now.out.now.takes_all_sheets ≡ true }
     ensures outputs { KeepsOutputs H.tells H.File.state files.now.job.now.request files.now.job.now.reading.options (H.files host.old) (H.files host.new) }
 {
-    let sheets = view.sheets();
+    let sheets = formats.view().sheets();
     let mut done = Ok(());
     for index in 0..sheets.len() {
         let sheet = &sheets[index];
         if is_table(sheet) {
-            let written = write_sheet_file(alloc, host, files, view, index);
+            let written = write_sheet_file(alloc, host, files, formats, index);
             done = unless_passed(files.out, done, written)?;
             tell_hidden(alloc, host, files.book.path, sheet)?;
         }
@@ -247,15 +240,15 @@ fn write_chosen_sheet<H: Host>(
     alloc: Global,
     host: &mut H,
     files: &SheetFiles<'_>,
-    view: &View<'_>,
+    formats: &CellFormats<'_>,
 ) -> Result<(), Problem>
     requires number { IsNumbered files.now.choice.now }
-    requires sheets { length view.now.book.contents ≡ length view.now.book.sheets }
-    requires files { AreSheetFiles files.now view.now }
+    requires sheets { length formats.now.book.contents ≡ length formats.now.book.sheets }
+    requires files { AreSheetFiles files.now formats.now }
     ensures outputs { KeepsOutputs H.tells H.File.state files.now.job.now.request files.now.job.now.reading.options (H.files host.old) (H.files host.new) }
 {
-    let index = chosen(alloc, view, files.choice)?;
-    write_sheet_file(alloc, host, files, view, index)
+    let index = chosen(alloc, formats.view(), files.choice)?;
+    write_sheet_file(alloc, host, files, formats, index)
 }
 
 /// Writes the sheet that is chosen into a file of its own, or all sheets where they are asked for.
@@ -263,17 +256,17 @@ fn write_sheet_files<H: Host>(
     alloc: Global,
     host: &mut H,
     files: &SheetFiles<'_>,
-    view: &View<'_>,
+    formats: &CellFormats<'_>,
 ) -> Result<(), Problem>
     requires number { IsNumbered files.now.choice.now }
-    requires sheets { length view.now.book.contents ≡ length view.now.book.sheets }
-    requires files { AreSheetFiles files.now view.now }
+    requires sheets { length formats.now.book.contents ≡ length formats.now.book.sheets }
+    requires files { AreSheetFiles files.now formats.now }
     ensures outputs { KeepsOutputs H.tells H.File.state files.now.job.now.request files.now.job.now.reading.options (H.files host.old) (H.files host.new) }
 {
     if files.out.takes_all_sheets {
-        return write_all_sheets(alloc, host, files, view);
+        return write_all_sheets(alloc, host, files, formats);
     }
-    write_chosen_sheet(alloc, host, files, view)
+    write_chosen_sheet(alloc, host, files, formats)
 }
 
 /// Writes what is asked for of a workbook into files below a folder.
@@ -284,7 +277,6 @@ pub(crate) fn write_workbook_files<H: Host>(
     out: &Folder<'_>,
     answer: &Answer<'_>,
     book: &Workbook<'_>,
-    notes: &mut Notes,
 ) -> Result<(), Problem>
     requires number { HasNumber answer.now }
     requires out { job.now.request.out ≡ Some out.now }
@@ -294,7 +286,7 @@ pub(crate) fn write_workbook_files<H: Host>(
     match answer {
         Answer::Sheet(choice, table) => {
             let view = view_of(alloc, &job.reading.options, book.stream)?;
-            notes.uncounted_formats = view.uncounted_formats();
+            let formats = CellFormats::new(alloc, &view)?;
             let folder = folder_of(alloc, out.path, book.path)?;
             let files = SheetFiles {
                 job,
@@ -304,13 +296,14 @@ pub(crate) fn write_workbook_files<H: Host>(
                 table,
                 book,
             };
-            write_sheet_files(alloc, host, &files, &view)
+            write_sheet_files(alloc, host, &files, &formats)
         }
         Answer::Lines(..)
+        | Answer::Shown(_)
         | Answer::Exact
         | Answer::Check
         | Answer::Hidden(_)
         | Answer::Remade
-        | Answer::Bytes => { write_text_file(alloc, host, job, out, answer, book, notes) }
+        | Answer::Bytes => { write_text_file(alloc, host, job, out, answer, book) }
     }
 }

@@ -15,7 +15,7 @@ ghost use Rattle.xls_tool.specs.declared.problem.Problem.TheVariants as problems
 use crate::job::Beside;
 use crate::problem::{Absent, Problem};
 use std::alloc::Global;
-use xls_answers::{Answer, Notes, write_stream, write_workbook};
+use xls_answers::{Answer, write_stream, write_workbook};
 use xls_compound::{Compound, Entry};
 use xls_container::{Container, FileFault};
 use xls_documents::{project_of, properties_of, write_project, write_properties, write_streams};
@@ -114,15 +114,7 @@ fn write_stream_in<K: Sink>(
         Ok(bytes) => bytes,
         Err(error) => return Err(Problem::from(FileFault::from(error))),
     };
-    let mut notes = Notes::default();
-    match write_stream(
-        alloc,
-        sink,
-        &Answer::Bytes,
-        options,
-        bytes.as_slice(),
-        &mut notes,
-    ) {
+    match write_stream(alloc, sink, &Answer::Bytes, options, bytes.as_slice()) {
         Ok(()) => Ok(()),
         Err(failure) => Err(Problem::from(failure)),
     }
@@ -167,10 +159,9 @@ pub(crate) fn write_text<K: Sink>(
     answer: &Answer<'_>,
     options: &XlsOptions,
     stream: &[u8],
-    notes: &mut Notes,
 ) -> Result<(), Problem>
     requires { HasNumber answer.now }
     ensures { OfWorkbook answer.now options.now stream.now (K.state sink.old) (K.state sink.new) result }
 {
-    Ok(write_workbook(alloc, sink, answer, options, stream, notes)?)
+    Ok(write_workbook(alloc, sink, answer, options, stream)?)
 }

@@ -1,6 +1,7 @@
 use super::globals::{DIGITS, XF_BUILT_IN, XF_OWN, YEARS};
 use super::*;
 use std::test::*;
+use xls_cell_formats::CellFormats;
 use xls_formula::NumberStyle;
 use xls_view::View;
 
@@ -67,11 +68,13 @@ fn a_view_tells_identifiers_and_codes(rt: HostRuntime) -> Result<(), Fail> {
         ),
         (164, 14, 0)
     );
-    // Of two codes of one identifier the last counts; a built-in one stands in no record.
+    assert_eq!(rt; view.identifiers(), [164_u16, 14].as_slice());
+    assert_eq!(rt; view.codes().len(), 3);
+    // Of two codes of one identifier the last counts; a built-in one stands in no record, and 0 is General.
+    let formats = CellFormats::new(alloc, &view)?;
     assert_eq!(rt;
-        (view.code_of(164), view.code_of(50), view.code_of(14)),
-        (Some("0000"), Some("0%"), None)
+        (formats.code(0), formats.code(1), formats.code(2)),
+        ("0000", "m/d/yyyy", "General")
     );
-    assert_eq!(rt; view.uncounted_formats(), 1);
     Ok(())
 }

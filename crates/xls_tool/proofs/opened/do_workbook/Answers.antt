@@ -1,5 +1,5 @@
-use Rattle.std.proofs.Common.{Ok, Err, ◌∙◌, ap, sym}
-use Rattle.xls_tool.proofs.FileLemmas.{locked, no-workbook, of-stream, passed, ran-out}
+use Rattle.std.proofs.Common.{Ok, ◌∙◌, ap, sym}
+use Rattle.xls_tool.proofs.FileLemmas.{locked, no-workbook, of-stream}
 use Rattle.xls_tool.proofs.opened.do_workbook.Goals as goal
 
 pub returns-in_err-stream-clause-written : goal.returns-in_err-stream-clause-written
@@ -13,19 +13,7 @@ returns-in_err-stream-2-clause-written g c out file opens =
     locked c.args.answer.now c.args.job.now.reading file _ _ _ c.in_err-stream-2.field-0.0 r.result r.ensures.1 opens
     c.in_ok-stream.ensures.ok c.in_err-stream-2.ensures.err
 
-pub returns-in_err-write_answer-clause-written : goal.returns-in_err-write_answer-clause-written
-returns-in_err-write_answer-clause-written g c out file opens =
-    let r = c.from_residual-in_err-write_answer in
-    passed c.args.answer.now c.args.job.now.reading file _ _ c.in_err-write_answer.field-0.0 r.result r.ensures.1
-    (of-stream c.args.answer.now c.args.job.now.reading file _ _ _ _ _ (Err c.in_err-write_answer.field-0.0) opens
-    c.in_ok-stream.ensures.ok (c.in_ok-stream-2.ensures.ok ∙ ap Ok (sym c.as_slice.ensures.value)) (c.in_err-write_answer.ensures.written out))
-
-pub returns-in_err-tell_formats-clause-written : goal.returns-in_err-tell_formats-clause-written
-returns-in_err-tell_formats-clause-written g c out file opens =
-    let r = c.from_residual-in_err-tell_formats in
-    ran-out c.args.answer.now c.args.job.now.reading file _ _ r.result r.ensures.1
-
 pub returns-clause-written : goal.returns-clause-written
 returns-clause-written g c out file opens =
-    of-stream c.args.answer.now c.args.job.now.reading file _ _ _ _ _ (Ok _) opens
-    c.in_ok-stream.ensures.ok (c.in_ok-stream-2.ensures.ok ∙ ap Ok (sym c.as_slice.ensures.value)) (c.in_ok-write_answer.ensures.written out)
+    of-stream c.args.answer.now c.args.job.now.reading file _ _ _ _ _ c.write_answer.result opens
+    c.in_ok-stream.ensures.ok (c.in_ok-stream-2.ensures.ok ∙ ap Ok (sym c.as_slice.ensures.value)) (c.write_answer.ensures.written out)
