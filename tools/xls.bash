@@ -5,10 +5,11 @@ _xls_commands='dump sheets check formulas refs hidden props vba csv remake strea
 
 _xls_options() {
     case $1 in
-        dump | sheets | refs) echo '--files-from --null --out --force --skip-existing --json --exact --codepage --password-file --password --help' ;;
+        dump) echo '--files-from --null --out --force --skip-existing --json --exact --as-shown --codepage --password-file --password --help' ;;
+        sheets | refs) echo '--files-from --null --out --force --skip-existing --json --exact --codepage --password-file --password --help' ;;
         check | formulas | hidden) echo '--files-from --null --out --force --skip-existing --json --codepage --password-file --password --help' ;;
         props | vba) echo '--files-from --null --out --force --skip-existing --help' ;;
-        csv) echo '--files-from --null --out --force --skip-existing --sheet --number --all --delimiter --bom --exact --codepage --password-file --password --help' ;;
+        csv) echo '--files-from --null --out --force --skip-existing --sheet --number --all --delimiter --bom --as-shown --exact --codepage --password-file --password --help' ;;
         remake | stream) echo '--password-file --password --help' ;;
         streams) echo '--help' ;;
     esac
