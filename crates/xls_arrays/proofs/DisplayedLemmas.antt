@@ -1,9 +1,13 @@
 -- Sheets with what their indexes show.
 use Rattle.std.proofs.Common.{◌≡◌, ℕ, zero, suc, ◌+◌, ◌<◌, ◌≤◌, List, [], ◌∷◌, length, map, get_or, drop, drop-cons, add-one, refl, sym, ap, ◌∙◌, arith, slice_get, Option, Some, None, if◌then◌else◌, ◌==◌, rules}
 use Rattle.std.proofs.lemmas.List.{drop_all}
+use Rattle.std.specs.List.{zip}
 use Rattle.xls_data.specs.Sheets.{SheetContent}
 use Rattle.xls_meaning.specs.Reading.{BookView, SheetView}
+use Rattle.xls_view.specs.Formats.{FormattedCell}
+use Rattle.xls_view.specs.Viewing.{Viewed}
 use Rattle.xls_arrays.specs.Arrays.{Reported}
+use Rattle.xls_arrays.specs.Classed.{classed_book, classed_content}
 use Rattle.xls_arrays.specs.Displayed.{alone, asked_for, content_in, each_with, no_content}
 use Rattle.xls_arrays.specs.declared.options.Options.{Options}
 
@@ -28,6 +32,11 @@ map-drop f xs k x l is =
 
 pub map-drop_all : {X Y : Type 0} (f : X → Y) (xs : List X) (k : ℕ) → length xs ≤ k → map f (drop k xs) ≡ []
 map-drop_all f xs k l = ap (map f) (drop_all k xs l)
+
+-- the next thing of a list that is mapped
+pub map-next : {X Y : Type 0} (f : X → Y) {xs rest : List X} {x : X} {y : Y} → xs ≡ x ∷ rest → f x ≡ y
+    → map f xs ≡ y ∷ map f rest
+map-next f {rest = rest} is same = ap (map f) is ∙ ap (λ z. z ∷ map f rest) same
 
 -- ---- sheets
 
@@ -86,3 +95,31 @@ neither n x y z not_all not_one = search (rules, not_all, not_one)
 pub asked-bare : (o : Options) (book : BookView) → (o.which ≡ 0 → ⊥) → (o.which ≡ 1 → ⊥)
     → asked_for o book ≡ Some (each_with book.sheets [])
 asked-bare o book not_all not_one = neither o.which _ _ _ not_all not_one
+
+-- ---- what the sheets show under the codes of their cells
+
+pairs-at : (f : SheetView × List FormattedCell → SheetView) (vs : List SheetView) (cs : List (List FormattedCell)) (i : ℕ)
+    (v : SheetView) (c : List FormattedCell) → slice_get vs i ≡ Some v → slice_get cs i ≡ Some c
+    → slice_get (map f (zip vs cs)) i ≡ Some (f (v, c))
+pairs-at f [] cs i v c e d = absurd (let n : None ≡ Some v = e in cc)
+pairs-at f (w ∷ vs) [] i v c e d = absurd (let n : None ≡ Some c = d in cc)
+pairs-at f (w ∷ vs) (x ∷ cs) zero v c e d =
+    let same : w ≡ v = cc in let too : x ≡ c = cc in rw (same, too) refl
+pairs-at f (w ∷ vs) (x ∷ cs) (suc i) v c e d = pairs-at f vs cs i v c e d
+
+pairs-missing : (f : SheetView × List FormattedCell → SheetView) (vs : List SheetView) (cs : List (List FormattedCell)) (i : ℕ)
+    → None ≡ slice_get vs i → None ≡ slice_get (map f (zip vs cs)) i
+pairs-missing f [] cs i e = refl
+pairs-missing f (w ∷ vs) [] i e = refl
+pairs-missing f (w ∷ vs) (x ∷ cs) zero e = absurd (let n : None ≡ Some w = e in cc)
+pairs-missing f (w ∷ vs) (x ∷ cs) (suc i) e = pairs-missing f vs cs i e
+
+-- what an index shows
+pub classed-at : (view : Viewed) (i : ℕ) (v : SheetView) (c : List FormattedCell) → Some v ≡ slice_get view.book.contents i
+    → Some c ≡ slice_get view.formatted i → Some (classed_content view (v, c)) ≡ slice_get (classed_book view).contents i
+classed-at view i v c e d = sym (pairs-at (classed_content view) view.book.contents view.formatted i v c (sym e) (sym d))
+
+-- and nothing where there is no such sheet
+pub classed-missing : (view : Viewed) (i : ℕ) → None ≡ slice_get view.book.contents i
+    → None ≡ slice_get (classed_book view).contents i
+classed-missing view i e = pairs-missing (classed_content view) view.book.contents view.formatted i e

@@ -9,6 +9,7 @@ use Rattle.xls_arrays.specs.declared.refusal.Refusal.{Refusal}
 use Rattle.xls_arrays.specs.declared.refusal.Refusal.TheVariants as refusals
 use Rattle.xls_arrays.specs.Arrays.{Arrays, Reported, arrays_of}
 use Rattle.xls_arrays.specs.Options.{max_bytes_in, options_by}
+use Rattle.xls_arrays.specs.Classed.{classed_book}
 use Rattle.xls_arrays.specs.Displayed.{asked_for}
 use Rattle.xls_arrays.specs.declared.options.Options.{Options}
 
@@ -22,12 +23,13 @@ pub record ShowsStream (options : Options) (stream : List ℕ) (view : Viewed) :
   pub plain : IsPlainStream options stream
   pub viewed : IsViewed (rules_of (options_by options)) stream view
 
--- these are the arrays of the sheets that are asked for, and this is the date system
+-- these are the arrays of the sheets that are asked for, whose numbers are what the codes of the cells say, and this
+-- is the date system
 pub record IsHeld (options : Options) (stream : List ℕ) (is_1904 : Bool) (a : Arrays) : Type 0 where
   pub view : Viewed
   pub shows : ShowsStream options stream view
   pub sheets : List Reported
-  pub asked : asked_for options view.book ≡ Some sheets
+  pub asked : asked_for options (classed_book view) ≡ Some sheets
   pub arrays : a ≡ arrays_of view.book.names sheets
   pub epoch : is_1904 ≡ view.book.is_1904
 

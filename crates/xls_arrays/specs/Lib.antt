@@ -1,6 +1,7 @@
 pub use Rattle.xls_arrays.specs.Telling
 pub mod Answers
 pub mod Arrays
+pub mod Classed
 pub mod Filled
 pub mod Held
 pub mod Laws

@@ -4,6 +4,7 @@ ghost use Rattle.std.specs.Prelude.{◌≡◌, IfOk, IfErr, OnOk, Some, None, ma
 ghost use Rattle.std.specs.Str.{chars};
 ghost use Rattle.xls_open.specs.Workbook.{name_texts};
 ghost use Rattle.xls_arrays.specs.Arrays.{Arrays, empty, laid, with_name};
+ghost use Rattle.xls_arrays.specs.Classed.{classed_book};
 ghost use Rattle.xls_arrays.specs.Filled.{RoomsHold, KeepsRooms, Lays};
 ghost use Rattle.xls_arrays.specs.Held.{IsHeld, IsPlainStream, RefusesStream};
 ghost use Rattle.xls_arrays.specs.Laying.{LaysAskedFor, LaysOne, LaysView, MissesIndex, MissesSheet};
@@ -14,6 +15,7 @@ use crate::options::{ALL_SHEETS, ONE_SHEET, Options, limit_or, options_of};
 use crate::rooms::{Rooms, lay_name_item, lay_text};
 use crate::sheets::{lay_bare_sheets, lay_whole_sheet, lay_whole_sheets};
 use std::alloc::{AllocError, Global};
+use xls_cell_formats::CellFormats;
 use xls_container::is_obfuscated;
 use xls_formula::NumberStyle;
 use xls_open::MAX_BYTES;
@@ -52,7 +54,7 @@ fn lay_names(rooms: &mut Rooms<'_>, names: &[(String, String)]) -> Result<(), Al
 /// Lays the sheet of an index, with its content.
 fn lay_one(alloc: Global, rooms: &mut Rooms<'_>, view: &View<'_>, index: u64) -> Result<(), Refusal>
     ensures same { KeepsRooms rooms.old rooms.new }
-    ensures ok { OnOk result (LaysOne view.now.book index rooms.old rooms.new) }
+    ensures ok { OnOk result (LaysOne (classed_book view.now) index rooms.old rooms.new) }
     ensures err { IfErr result (MissesIndex view.now.book index) }
 {
     let sheets = view.sheets();
@@ -60,7 +62,8 @@ fn lay_one(alloc: Global, rooms: &mut Rooms<'_>, view: &View<'_>, index: u64) ->
         return Err(Refusal::NoSheet(index));
     }
     let n = index as usize;
-    lay_whole_sheet(alloc, rooms, view, &sheets[n], n)?;
+    let formats = CellFormats::new(alloc, view)?;
+    lay_whole_sheet(alloc, rooms, &formats, &sheets[n], n)?;
     Ok(())
 }
 
@@ -72,7 +75,7 @@ fn lay_asked_for(
     options: &Options,
 ) -> Result<(), Refusal>
     ensures same { KeepsRooms rooms.old rooms.new }
-    ensures ok { OnOk result (LaysAskedFor options.now view.now.book rooms.old rooms.new) }
+    ensures ok { OnOk result (LaysAskedFor options.now (classed_book view.now) rooms.old rooms.new) }
     ensures err { IfErr result (MissesSheet options.now view.now.book) }
 {
     if options.which == ALL_SHEETS {
@@ -94,7 +97,7 @@ fn lay_view(
     options: &Options,
 ) -> Result<(), Refusal>
     ensures same { KeepsRooms rooms.old rooms.new }
-    ensures ok { OnOk result (LaysView options.now view.now.book rooms.old rooms.new) }
+    ensures ok { OnOk result (LaysView options.now (classed_book view.now) rooms.old rooms.new) }
     ensures err { IfErr result (MissesSheet options.now view.now.book) }
 {
     lay_names(rooms, view.defined_names())?;

@@ -4,6 +4,7 @@ ghost use Rattle.std.specs.Prelude.{◌≡◌, ◌-◌, [], OnOk, slice_get};
 ghost use Rattle.xls_data.specs.Sheets.{sheet_content};
 ghost use Rattle.xls_view.specs.Displayed.{sheet_view_of};
 ghost use Rattle.xls_arrays.specs.Arrays.{sheet_kind_number, laid, visibility_number, with_content, with_sheet};
+ghost use Rattle.xls_arrays.specs.Classed.{classed_book, classed_content};
 ghost use Rattle.xls_arrays.specs.Filled.{KeepsRooms, Lays};
 ghost use Rattle.xls_arrays.specs.Displayed.{content_in, each_with, item_between, no_content};
 
@@ -13,6 +14,7 @@ use crate::items::{SheetItem, Sizes, Span};
 use crate::regions::lay_regions;
 use crate::rooms::{Rooms, lay_sheet_item, lay_text};
 use std::alloc::{AllocError, Global};
+use xls_cell_formats::CellFormats;
 use xls_data::{Sheet, SheetType, SheetVisible};
 use xls_view::{View, ViewSheet};
 
@@ -44,13 +46,15 @@ fn visibility_number(visible: SheetVisible) -> u32
 fn lay_displayed(
     alloc: Global,
     rooms: &mut Rooms<'_>,
+    formats: &CellFormats<'_>,
     sheet: &ViewSheet<'_>,
 ) -> Result<(), AllocError>
     ensures same { KeepsRooms rooms.old rooms.new }
-    ensures ok { OnOk result (Lays rooms.old rooms.new (λ a. with_content a (sheet_view_of sheet.now))) }
+    ensures ok { OnOk result (Lays rooms.old rooms.new
+        (λ a. with_content a (classed_content formats.now (sheet_view_of sheet.now, sheet.now.formatted)))) }
 {
-    let cells = sheet.cells()?;
-    lay_cells(alloc, rooms, cells.iter())?;
+    let cells = sheet.formatted()?;
+    lay_cells(alloc, rooms, formats, cells.iter())?;
     let formulas = sheet.formulas()?;
     lay_formulas(alloc, rooms, &formulas)?;
     lay_regions(rooms, sheet.merges())
@@ -60,15 +64,15 @@ fn lay_displayed(
 fn lay_content(
     alloc: Global,
     rooms: &mut Rooms<'_>,
-    view: &View<'_>,
+    formats: &CellFormats<'_>,
     n: usize,
 ) -> Result<(), AllocError>
     ensures same { KeepsRooms rooms.old rooms.new }
     ensures ok { OnOk result (Lays rooms.old rooms.new
-        (λ a. with_content a (content_in (slice_get view.now.book.contents n)))) }
+        (λ a. with_content a (content_in (slice_get (classed_book formats.now).contents n)))) }
 {
-    match view.sheet_at(n) {
-        Some(sheet) => lay_displayed(alloc, rooms, &sheet),
+    match formats.view().sheet_at(n) {
+        Some(sheet) => lay_displayed(alloc, rooms, formats, &sheet),
         None => Ok(()),
     }
 }
@@ -101,17 +105,17 @@ fn sheet_item(sheet: &Sheet, name: Span, before: Sizes, after: Sizes) -> SheetIt
 pub(crate) fn lay_whole_sheet(
     alloc: Global,
     rooms: &mut Rooms<'_>,
-    view: &View<'_>,
+    formats: &CellFormats<'_>,
     sheet: &Sheet,
     n: usize,
 ) -> Result<(), AllocError>
     ensures same { KeepsRooms rooms.old rooms.new }
     ensures ok { OnOk result (Lays rooms.old rooms.new
-        (λ a. with_sheet a (sheet_content sheet.now, content_in (slice_get view.now.book.contents n)))) }
+        (λ a. with_sheet a (sheet_content sheet.now, content_in (slice_get (classed_book formats.now).contents n)))) }
 {
     let before = rooms.laid;
     let name = lay_text(rooms, sheet.name.as_str())?;
-    lay_content(alloc, rooms, view, n)?;
+    lay_content(alloc, rooms, formats, n)?;
     let after = rooms.laid;
     lay_sheet_item(rooms, sheet_item(sheet, name, before, after))
 }
@@ -135,11 +139,12 @@ pub(crate) fn lay_whole_sheets(
 ) -> Result<(), AllocError>
     ensures same { KeepsRooms rooms.old rooms.new }
     ensures ok { OnOk result (Lays rooms.old rooms.new
-        (λ a. laid with_sheet a (each_with view.now.book.sheets view.now.book.contents))) }
+        (λ a. laid with_sheet a (each_with view.now.book.sheets (classed_book view.now).contents))) }
 {
+    let formats = CellFormats::new(alloc, view)?;
     let sheets = view.sheets();
     for i in 0..sheets.len() {
-        lay_whole_sheet(alloc, rooms, view, &sheets[i], i)?;
+        lay_whole_sheet(alloc, rooms, &formats, &sheets[i], i)?;
     }
     Ok(())
 }
