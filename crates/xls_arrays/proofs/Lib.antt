@@ -2,6 +2,7 @@ pub mod AnswerLemmas
 pub mod FilledLemmas
 pub mod HeldLemmas
 pub mod LaidLemmas
+pub mod ShownLemmas
 pub mod DisplayedLemmas
 pub mod StandardFacts
 pub mod TextLemmas

@@ -14,8 +14,10 @@ use Rattle.xls_arrays.specs.Values.{truth_bit}
 use Rattle.xls_arrays.specs.Arrays.{Arrays, empty, sizes_of}
 use Rattle.xls_arrays.specs.Filled.{FitsBefore, RoomsHold}
 use Rattle.xls_arrays.specs.Held.{IsHeld, RefusesStream}
+use Rattle.xls_arrays.specs.Shown.{IsShownHeld, one_sheet}
 use Rattle.xls_arrays.specs.Whole.{PutsWhole}
 use Rattle.xls_arrays.specs.declared.options.Options.{Options}
+use Rattle.xls_arrays.specs.declared.items.CellItem.{CellItem}
 use Rattle.xls_arrays.specs.declared.items.Sizes.{Sizes}
 use Rattle.xls_arrays.specs.declared.rooms.Rooms.{Rooms}
 
@@ -40,10 +42,10 @@ abbrev pub AreSizes : Options → List ℕ → Sizes → Type 0
 AreSizes options stream sizes =
     (is_1904 : Bool) × (a : Arrays) × IsHeld options stream is_1904 a × (sizes ≡ sizes_of a (truth_bit is_1904))
 
--- these were laid, and have these sizes
-abbrev pub AreLaid : Options → List ℕ → Rooms → Sizes → Type 0
-AreLaid options stream rooms sizes =
-    (is_1904 : Bool) × (a : Arrays) × IsHeld options stream is_1904 a × (sizes ≡ sizes_of a (truth_bit is_1904)) × RoomsHold rooms a
+-- these were laid, as they are held so, and have these sizes
+abbrev pub AreLaid : (Options → List ℕ → Bool → Arrays → Type 0) → Options → List ℕ → Rooms → Sizes → Type 0
+AreLaid Held options stream rooms sizes =
+    (is_1904 : Bool) × (a : Arrays) × Held options stream is_1904 a × (sizes ≡ sizes_of a (truth_bit is_1904)) × RoomsHold rooms a
 
 -- they are told, or none
 abbrev pub Measures : Options → List ℕ → Sizes → Fault → ℕ → Type 0
@@ -62,22 +64,31 @@ pub record Begin (after a : Arrays) : Type 0 where
   pub regions : take (length a.regions) after.regions ≡ a.regions
   pub texts : take (length a.texts) after.texts ≡ a.texts
 
--- the arrays begin with what the stream holds, which has these sizes
-abbrev pub AreFilled : Options → List ℕ → Arrays → Sizes → Type 0
-AreFilled options stream after sizes =
-    (is_1904 : Bool) × (a : Arrays) × IsHeld options stream is_1904 a × (sizes ≡ sizes_of a (truth_bit is_1904)) × Begin after a
+-- the arrays begin with what the stream holds so, which has these sizes
+abbrev pub AreFilled : (Options → List ℕ → Bool → Arrays → Type 0) → Options → List ℕ → Arrays → Sizes → Type 0
+AreFilled Held options stream after sizes =
+    (is_1904 : Bool) × (a : Arrays) × Held options stream is_1904 a × (sizes ≡ sizes_of a (truth_bit is_1904)) × Begin after a
 
 -- why they aren't filled: one is too short for what the stream holds, which has these sizes, or the stream isn't
 -- read, and the sizes are none
-abbrev pub RefusesToFill : Options → List ℕ → Arrays → Sizes → Refusal → Type 0
-RefusesToFill options stream after sizes refusals.TooShort =
-    (is_1904 : Bool) × (a : Arrays) × IsHeld options stream is_1904 a × (sizes ≡ sizes_of a (truth_bit is_1904)) × (FitsBefore after a → ⊥)
-RefusesToFill options stream after sizes other = RefusesStream options stream other × (sizes ≡ sizes_of empty 0)
+abbrev pub RefusesToFill : (Options → List ℕ → Bool → Arrays → Type 0) → Options → List ℕ → Arrays → Sizes → Refusal → Type 0
+RefusesToFill Held options stream after sizes refusals.TooShort =
+    (is_1904 : Bool) × (a : Arrays) × Held options stream is_1904 a × (sizes ≡ sizes_of a (truth_bit is_1904)) × (FitsBefore after a → ⊥)
+RefusesToFill Held options stream after sizes other = RefusesStream options stream other × (sizes ≡ sizes_of empty 0)
 
 -- an array keeps its length, so these are those that the caller gave
+abbrev pub ReadsAs : (Options → List ℕ → Bool → Arrays → Type 0) → Options → List ℕ → Arrays → Sizes → Fault → ℕ → Type 0
+ReadsAs Held options stream after sizes fault code =
+    Answers (AreFilled Held options stream after sizes) (RefusesToFill Held options stream after sizes) fault code
+
 abbrev pub Reads : Options → List ℕ → Arrays → Sizes → Fault → ℕ → Type 0
-Reads options stream after sizes fault code =
-    Answers (AreFilled options stream after sizes) (RefusesToFill options stream after sizes) fault code
+Reads = ReadsAs IsHeld
+
+-- likewise of what is shown of the cells of one sheet: cells and texts, and nothing of the other arrays
+abbrev pub ReadsShown : Options → List ℕ → List CellItem → List ℕ → Sizes → Fault → ℕ → Type 0
+ReadsShown options stream cells texts sizes fault code =
+    (after : Arrays) × (after.cells ≡ cells) × (after.texts ≡ texts)
+    × ReadsAs IsShownHeld (one_sheet options) stream after sizes fault code
 
 -- ---- the workbook's stream of a file
 

@@ -9,6 +9,7 @@ pub mod Laying
 pub mod Numbers
 pub mod Options
 pub mod Displayed
+pub mod Shown
 pub mod Values
 pub mod Whole
 pub mod Codes

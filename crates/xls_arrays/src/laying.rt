@@ -106,7 +106,7 @@ fn lay_view(
 
 /// The first refusal of a stream that its bytes alone tell: records that are obfuscated, and then more bytes
 /// than the limit.
-fn refuse_bytes(stream: &[u8], options: &Options) -> Result<(), Refusal>
+pub(crate) fn refuse_bytes(stream: &[u8], options: &Options) -> Result<(), Refusal>
     ensures ok { OnOk result (IsPlainStream options.now stream.now) }
     ensures err { IfErr result (RefusesStream options.now stream.now) }
 {

@@ -19,6 +19,7 @@ mod regions;
 mod rooms;
 mod serials;
 mod sheets;
+mod shown;
 mod streams;
 mod telling;
 mod values;
@@ -30,7 +31,7 @@ pub use items::{CellItem, FormulaItem, NameItem, RegionItem, SheetItem, Sizes, S
 pub use laws::arrays_are_reported;
 pub use numbers::form_of;
 pub use options::Options;
-pub use reading::{measure, read};
+pub use reading::{measure, read, read_shown};
 pub use refusal::{Chain, Refusal};
 pub use refusal_laws::refusals_are_reported;
 pub use refusal_texts::sentence_of;
