@@ -6,6 +6,7 @@
  *   1. gaflwened_stream   the workbook's stream in a file (call it twice: first for its size)
  *   2. gaflwened_measure  how many sheets, names, cells, formulas, regions and bytes of text the stream holds
  *   3. gaflwened_read     fills arrays that are as long as that
+ *   4. gaflwened_shown    on demand: what Excel shows of the cells of one sheet, as text
  *
  * Link libxls_c.a and, by which it asks for memory, liblibc_c.a of the folder c of the Rattle kit. A call takes memory for its
  * own work and gives it back before it returns; where none is left it answers GAFLWENED_OUT_OF_MEMORY.
@@ -197,8 +198,8 @@ typedef struct gaflwened_name {
 enum {
     GAFLWENED_BLANK = 0,           /* nothing; value 0 */
     GAFLWENED_NUMBER = 1,          /* a number: value: the bits of a double */
-    GAFLWENED_DATE_TIME = 2,       /* likewise: a number of days (gaflwened_serial) */
-    GAFLWENED_DURATION = 3,        /* likewise, in a format of durations */
+    GAFLWENED_DATE_TIME = 2,       /* likewise: a number of days (gaflwened_serial), where the code of the cell's format says so */
+    GAFLWENED_DURATION = 3,        /* likewise a duration */
     GAFLWENED_BOOLEAN = 4,         /* value: 0 or 1 */
     GAFLWENED_ERROR = 5,           /* value: GAFLWENED_ERROR_.. */
     GAFLWENED_TEXT = 6,            /* value: the offset of the text in `texts`, of `length` bytes */
@@ -282,6 +283,16 @@ uint32_t gaflwened_read(const uint8_t *stream, size_t stream_length, const gaflw
                         gaflwened_region *regions, size_t regions_length,
                         uint8_t *texts, size_t texts_length,
                         gaflwened_sizes *sizes, gaflwened_fault *fault);
+
+/* What Excel shows of the cells of one sheet: that of the index `sheet` of the options, whatever their `which` is. `cells` becomes
+ * the cells that gaflwened_read gives for the sheet, in the same order, each of the kind GAFLWENED_TEXT: its `value` and `length`
+ * cite the text in `texts` that its number format makes of what it holds, in a column of any width, in the English of the United
+ * States; a blank has an empty one. `texts` has those texts alone, one after the other. *sizes says how long both arrays must be,
+ * and the counts of others are 0; a call with two empty arrays counts. Arrays that are longer or shorter, *sizes and the answer are
+ * as of gaflwened_read. */
+uint32_t gaflwened_shown(const uint8_t *stream, size_t stream_length, const gaflwened_options *options,
+                         gaflwened_cell *cells, size_t cells_length, uint8_t *texts, size_t texts_length,
+                         gaflwened_sizes *sizes, gaflwened_fault *fault);
 
 /* A sentence in English that tells a fault. *size becomes its length in bytes. Where out_length is enough, out begins with it;
  * else the answer is GAFLWENED_TOO_SHORT, and out is as it was. */

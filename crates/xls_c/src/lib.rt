@@ -3,14 +3,14 @@
 #![tactic(auto)]
 
 ghost use Rattle.std.specs.Prelude.{◌≡◌};
-ghost use Rattle.xls_arrays.specs.Answers.{IsSerialText, Measures, PutsStream, PutsText, Reads};
+ghost use Rattle.xls_arrays.specs.Answers.{IsSerialText, Measures, PutsStream, PutsText, Reads, ReadsShown};
 ghost use Rattle.xls_arrays.specs.Telling.{sentence};
 ghost use Rattle.xls_arrays.specs.Values.{is_set};
 
 use std::alloc::Global;
 use xls_arrays::{
     CellItem, Fault, FormulaItem, NameItem, Options, RegionItem, SheetItem, Sizes, fault_text,
-    measure, read, serial, stream,
+    measure, read, read_shown, serial, stream,
 };
 
 /// The version of the interface.
@@ -86,6 +86,25 @@ pub extern "C" fn gaflwened_read(
     read(
         alloc, stream, options, sheets, names, cells, formulas, regions, texts, sizes, fault,
     )
+}
+
+/// Fills arrays with what Excel shows of the cells of one sheet, that at `sheet` of the options, whatever their `which`
+/// is: each cell of `gaflwened_read` for that sheet, in the same order, as a text of `texts`. `sizes` says how long the
+/// two arrays must be, and the others are 0; a call with two empty arrays counts. Where one is too short, and where a
+/// call isn't done for another cause, it answers as `gaflwened_read` does.
+#[unsafe(no_mangle)]
+pub extern "C" fn gaflwened_shown(
+    alloc: Global,
+    stream: &[u8],
+    options: &Options,
+    cells: &mut [CellItem],
+    texts: &mut [u8],
+    sizes: &mut Sizes,
+    fault: &mut Fault,
+) -> u32
+    ensures { ReadsShown options.now stream.now cells.new texts.new sizes.new fault.new result }
+{
+    read_shown(alloc, stream, options, cells, texts, sizes, fault)
 }
 
 /// Puts the sentence of a fault into `out`, and its length into `size`. Answers 0, 1 where memory ran out, `size`
