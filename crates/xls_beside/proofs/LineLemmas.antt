@@ -1,5 +1,5 @@
 -- Lines that are put one after another.
-use Rattle.std.proofs.Common.{◌≡◌, ℕ, List, [], ◌∷◌, ◌++◌, ◌≤◌, length, take, map, refl, sym, ap, subst, ◌∙◌, codes}
+use Rattle.std.proofs.Common.{◌≡◌, ℕ, List, [], ◌∷◌, ◌++◌, ◌≤◌, length, take, map, refl, sym, ap, subst, ◌∙◌, codes, Result}
 use Rattle.std.proofs.lemmas.List.{take_all}
 use Rattle.std.specs.List.{flat_map}
 use Rattle.std.specs.Prelude.{encode_utf8_all}
@@ -7,15 +7,17 @@ use Rattle.std.specs.Str.{chars, IsUtf8}
 use Rattle.std.proofs.lemmas.Str.{encodes-chars}
 use Rattle.xls_data.specs.Sheets.{SheetContent}
 use Rattle.xls_output.specs.Added.{AddsText}
+use Rattle.xls_output.specs.Each.{DeliversEach}
+use Rattle.xls_output.specs.SinkState.{SinkState}
+use Rattle.xls_output.specs.declared.stop.Stop.{Stop}
 use Rattle.xls_readable.specs.Lines.{IsLine, sheet_members}
 use Rattle.xls_readable.specs.declared.forms.Form.{Form}
-use Rattle.xls_hidden.specs.declared.sheet.HiddenItem.{HiddenItem}
-use Rattle.xls_beside.specs.Lines.{Line, IsLineText, hidden, sheet}
+use Rattle.xls_beside.specs.Lines.{Line, IsLineText, sheet}
 
 -- the lines of items, one by one
-pub item_lines : (items : List HiddenItem) → flat_map (λ (x : HiddenItem). hidden x ∷ []) items ≡ map hidden items
-item_lines [] = refl
-item_lines (x ∷ xs) = ap (λ (l : List Line). hidden x ∷ l) (item_lines xs)
+pub item_lines : {X : Type 0} (f : X → Line) (items : List X) → flat_map (λ (x : X). f x ∷ []) items ≡ map f items
+item_lines f [] = refl
+item_lines f (x ∷ xs) = ap (λ (l : List Line). f x ∷ l) (item_lines f xs)
 
 -- the line of a sheet, by the bytes of its name
 pub sheet_added : (form : Form) (s : SheetContent) (lent bytes old new : List ℕ) → IsUtf8 lent → lent ≡ bytes → s.name ≡ chars bytes
@@ -34,3 +36,19 @@ pub lines_by : {X Y : Type 0} (lines : Y → List Line) (view : X → Y) (xs : L
     → flat_map (λ x. lines (view x)) xs ≡ flat_map lines (map view xs)
 lines_by lines view [] = refl
 lines_by lines view (x ∷ xs) = ap (λ (l : List Line). lines (view x) ++ l) (lines_by lines view xs)
+
+-- the characters of a text in UTF-8
+pub encoded : (lent bytes : List ℕ) → IsUtf8 lent → lent ≡ bytes → lent ≡ encode_utf8_all (chars bytes)
+encoded lent bytes fits same = sym (encodes-chars lent fits) ∙ ap (λ (l : List ℕ). encode_utf8_all (chars l)) same
+
+-- lists of equal things
+pub each_same : {A : Type 0} {x y : A} {xs ys : List A} → x ≡ y → xs ≡ ys → x ∷ xs ≡ y ∷ ys
+each_same {A} {x} {y} {xs} {ys} e es = ap (λ (a : A). a ∷ xs) e ∙ ap (λ (l : List A). y ∷ l) es
+
+pub none_same : {A : Type 0} → ◌≡◌ {A = List A} [] []
+none_same = refl
+
+-- the same lines, spelled otherwise
+pub delivers_as : {X : Type 0} (form : Form) {xs ys : List Line} (a b : SinkState) (r : Result X Stop)
+    → xs ≡ ys → DeliversEach (IsLineText form) xs a b r → DeliversEach (IsLineText form) ys a b r
+delivers_as form a b r e p = subst (λ (l : List Line). DeliversEach (IsLineText form) l a b r) e p

@@ -15,7 +15,7 @@ use Rattle.xls_hidden.specs.declared.lines.FilterArea.{FilterArea}
 use Rattle.xls_meaning.specs.Reading.{last_named}
 use Rattle.xls_open.specs.Globals.{listed_of}
 use Rattle.xls_open.specs.declared.listed.Listed.{Listed}
-use Rattle.xls_beside.specs.Hidden.{parts_from}
+use Rattle.xls_beside.specs.Parts.{parts_from}
 use Rattle.xls_beside.specs.declared.parts.SheetPart.{SheetPart}
 
 -- texts have the same bytes exactly where they have the same characters

@@ -14,10 +14,23 @@ use Rattle.xls_hidden.specs.declared.lines.Run.{Run}
 use Rattle.xls_hidden.specs.declared.lines.Why.{Why}
 use Rattle.xls_hidden.specs.declared.lines.Why.TheVariants as whys
 use Rattle.xls_meaning.specs.Reading.{last_named}
-use Rattle.xls_readable.specs.Items.{NamedItem, count, word}
-use Rattle.xls_readable.specs.declared.forms.Form.TheVariants.{Text, Json}
-use Rattle.xls_beside.specs.Hidden.{lines_of_sheet, parts_from}
-use Rattle.xls_beside.specs.Lines.{damage_text, frozen_members, run_members, sheet}
+use Rattle.xls_hidden.specs.declared.sheet.HiddenItem.{HiddenItem}
+use Rattle.xls_hidden.specs.declared.sheet.HiddenItem.TheVariants.{Rows, Columns, Frozen, Zeros, Damaged}
+use Rattle.xls_comments.specs.Items as comments
+use Rattle.xls_comments.specs.declared.damage.DamagedRecord.TheVariants as notes
+use Rattle.xls_comments.specs.declared.damage.Flaw.TheVariants.{NoObject}
+use Rattle.xls_comments.specs.declared.items.Visibility.TheVariants as visibilities
+use Rattle.xls_links.specs.Items as links
+use Rattle.xls_links.specs.declared.damage.DamagedRecord.TheVariants as h_links
+use Rattle.xls_links.specs.declared.damage.Flaw.TheVariants.{EndsIn}
+use Rattle.xls_links.specs.declared.damage.Part.TheVariants as parts_of_link
+use Rattle.xls_links.specs.declared.items.LinkKind.TheVariants as kinds
+use Rattle.xls_readable.specs.Items.{FieldItem, NamedItem, count, text, unknown, word}
+use Rattle.xls_beside.specs.Comments.{comment}
+use Rattle.xls_beside.specs.Hidden.{frozen_members, hidden, run_members}
+use Rattle.xls_beside.specs.Lines.{Line, sheet}
+use Rattle.xls_beside.specs.Links.{link}
+use Rattle.xls_beside.specs.Parts.{lines_of_sheet, parts_from, sheet_lines}
 use Rattle.xls_beside.specs.declared.parts.SheetPart.{SheetPart}
 
 -- ---- lines
@@ -47,17 +60,84 @@ late_row = record { record_name = names.Row; offset = 59; row = Some 16_384; col
 abbrev short_columns : Damage
 short_columns = record { record_name = names.ColInfo; offset = 7; row = None; column = Some 3; flaw = Short 10 8 }
 
-pub damaged : map (damage_text Text) (short_row ∷ late_row ∷ short_columns ∷ [])
-    ≡ codes "damaged\tRow\t68\t1\t\tshorter than 16 bytes: 15\n" ∷ codes "damaged\tRow\t59\t16384\t\tit is past the last row\n"
-    ∷ codes "damaged\tColInfo\t7\t\t3\tshorter than 10 bytes: 8\n" ∷ []
-unfolding digits
-damaged = refl
+-- all damaged records have the same members
+abbrev said : List ℕ → ℕ → FieldItem → FieldItem → List ℕ → Line
+said name offset row column why = record {
+  word = codes "damaged";
+  members = (codes "record", word name) ∷ (codes "offset", count offset) ∷ (codes "row", row) ∷ (codes "column", column)
+      ∷ (codes "why", word why) ∷ [];
+}
 
-pub damaged_json : map (damage_text Json) (short_row ∷ short_columns ∷ [])
-    ≡ codes "{\"line\":\"damaged\",\"record\":\"Row\",\"offset\":68,\"row\":1,\"column\":null,\"why\":\"shorter than 16 bytes: 15\"}\n"
-    ∷ codes "{\"line\":\"damaged\",\"record\":\"ColInfo\",\"offset\":7,\"row\":null,\"column\":3,\"why\":\"shorter than 10 bytes: 8\"}\n" ∷ []
+pub damaged_rows : map (λ (d : Damage). hidden (Damaged d)) (short_row ∷ late_row ∷ short_columns ∷ [])
+    ≡ said (codes "Row") 68 (count 1) unknown (codes "shorter than 16 bytes: 15")
+    ∷ said (codes "Row") 59 (count 16_384) unknown (codes "it is past the last row")
+    ∷ said (codes "ColInfo") 7 unknown (count 3) (codes "shorter than 10 bytes: 8") ∷ []
 unfolding digits
-damaged_json = refl
+damaged_rows = refl
+
+-- a word for each kind of thing that is hidden
+pub hidden_words : map (λ (item : HiddenItem). (hidden item).word)
+    (Rows (run whys.Flat) ∷ Columns (run whys.Flat) ∷ Frozen pane ∷ Zeros ∷ Damaged late_row ∷ [])
+    ≡ codes "rows" ∷ codes "columns" ∷ codes "frozen" ∷ codes "zeros" ∷ codes "damaged" ∷ []
+hidden_words = refl
+
+pub no_members : (hidden Zeros).members ≡ []
+no_members = refl
+
+-- texts in UTF-8
+pub known_comment : comment (comments.comment (record {
+  row = 4;
+  column = 2;
+  visibility = visibilities.Visible;
+  author = 0x42 ∷ 0xF6 ∷ [];
+  text = codes "hello";
+})) ≡ record {
+  word = codes "comment";
+  members = (codes "row", count 4) ∷ (codes "column", count 2) ∷ (codes "visibility", word (codes "visible"))
+      ∷ (codes "author", text (0x42 ∷ 0xC3 ∷ 0xB6 ∷ [])) ∷ (codes "text", text (codes "hello")) ∷ [];
+}
+unfolding lib.Utf8.encode
+known_comment = refl
+
+pub damaged_note : comment (comments.damaged (record {
+  record_name = notes.Note;
+  offset = 165;
+  row = Some 1;
+  column = Some 2;
+  flaw = NoObject 8;
+}))
+    ≡ said (codes "Note") 165 (count 1) (count 2) (codes "no object has its identifier, 8")
+unfolding digits
+damaged_note = refl
+
+pub known_link : link (links.link (record {
+  first_row = 3;
+  last_row = 4;
+  first_column = 5;
+  last_column = 6;
+  kind = kinds.Url;
+  target = codes "http://a.example";
+  place = codes "top";
+  shown = codes "here";
+  tip = codes "look";
+})) ≡ record {
+  word = codes "link";
+  members = (codes "first_row", count 3) ∷ (codes "first_column", count 5) ∷ (codes "last_row", count 4) ∷ (codes "last_column", count 6)
+      ∷ (codes "kind", word (codes "url")) ∷ (codes "target", text (codes "http://a.example")) ∷ (codes "place", text (codes "top"))
+      ∷ (codes "shown", text (codes "here")) ∷ (codes "tip", text (codes "look")) ∷ [];
+}
+unfolding lib.Utf8.encode
+known_link = refl
+
+pub damaged_link : link (links.damaged (record {
+  record_name = h_links.HLink;
+  offset = 68;
+  row = None;
+  column = None;
+  flaw = EndsIn parts_of_link.Head;
+}))
+    ≡ said (codes "HLink") 68 unknown unknown (codes "it ends in its head")
+damaged_link = refl
 
 -- ---- sheets
 
@@ -89,5 +169,13 @@ pub areas : map (λ (p : SheetContent × SheetPart). p.1.area) (parts_from Biff8
 areas = refl
 
 -- a sheet whose part isn't there has its line alone
-pub alone : lines_of_sheet Biff8 [] [] (named 65) ≡ sheet (named 65) ∷ []
+pub alone : lines_of_sheet (λ part. []) [] (named 65) ≡ sheet (named 65) ∷ []
 alone = refl
+
+-- each sheet is begun by its line, and sheets of one name have the lines of the last part
+abbrev told : ℕ → Line
+told n = record { word = codes "at"; members = (codes "offset", count n) ∷ [] }
+
+pub in_order : sheet_lines (λ (part : SheetPart). told part.offset ∷ []) parts ((80, named 65) ∷ (124, named 65) ∷ (212, named 66) ∷ [])
+    ≡ sheet (named 65) ∷ told 124 ∷ sheet (named 65) ∷ told 124 ∷ sheet (named 66) ∷ told 212 ∷ []
+in_order = refl

@@ -1,2 +1,5 @@
 pub mod Lines
+pub mod Parts
 pub mod Hidden
+pub mod Comments
+pub mod Links

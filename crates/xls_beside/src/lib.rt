@@ -1,9 +1,14 @@
-//! What a workbook has beside its values, line by line, written to a sink: what is hidden in its sheets.
+//! What a workbook has beside its values, line by line, written to a sink: what is hidden in its sheets, their
+//! comments, and their links.
 #![tactic(auto)]
 
-mod damage_lines;
-mod items;
+mod comments;
+mod hidden;
+mod lines;
+mod links;
 mod parts;
 mod sheets;
 
-pub use sheets::write_hidden;
+pub use comments::write_comments;
+pub use hidden::write_hidden;
+pub use links::write_links;

@@ -7,7 +7,7 @@ ghost use Rattle.std.specs.Str.{bytes_eq};
 ghost use Rattle.xls_hidden.specs.FilterAreas.{AreAreas};
 ghost use Rattle.xls_parts.specs.PartRecords.{Placed, globals_records};
 ghost use Rattle.xls_open.specs.Globals.{listed_of};
-ghost use Rattle.xls_beside.specs.Hidden.{IsPartIndex, parts_from, parts_of};
+ghost use Rattle.xls_beside.specs.Parts.{IsPartIndex, parts_from, parts_of};
 
 use std::alloc::{AllocError, Global};
 use std::collections::BTreeMap;

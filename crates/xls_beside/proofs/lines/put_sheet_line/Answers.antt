@@ -4,7 +4,7 @@ use Rattle.xls_data.specs.Sheets.{sheet_content}
 use Rattle.xls_output.proofs.EachLemmas.{puts-memory, puts-one}
 use Rattle.xls_beside.specs.Lines.{IsLineText, sheet}
 use Rattle.xls_beside.proofs.LineLemmas.{sheet_added}
-use Rattle.xls_beside.proofs.sheets.put_sheet_line.Goals as goal
+use Rattle.xls_beside.proofs.lines.put_sheet_line.Goals as goal
 
 pub returns-in_err-push_sheet : goal.returns-in_err-push_sheet
 returns-in_err-push_sheet g c = puts-memory (IsLineText c.args.form) _ _ _ _ _ c.from_residual.result c.from_residual.ensures.1

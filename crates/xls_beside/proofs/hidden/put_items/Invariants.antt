@@ -1,8 +1,9 @@
 use Rattle.std.proofs.Common.{◌∷◌, []}
 use Rattle.xls_output.specs.Each.{text_output}
 use Rattle.xls_output.proofs.EachLemmas.{EachSome}
-use Rattle.xls_beside.specs.Lines.{IsLineText, hidden}
-use Rattle.xls_beside.proofs.items.put_items.Given as goal
+use Rattle.xls_beside.specs.Hidden.{hidden}
+use Rattle.xls_beside.specs.Lines.{IsLineText}
+use Rattle.xls_beside.proofs.hidden.put_items.Given as goal
 
 -- the lines of some items are put, and the others are left
 abbrev pub invariant-loop-item : goal.invariant-loop-item

@@ -1,0 +1,14 @@
+use Rattle.std.proofs.Common.{◌∷◌, []}
+use Rattle.xls_output.specs.Each.{text_output}
+use Rattle.xls_output.proofs.EachLemmas.{EachSome}
+use Rattle.xls_beside.specs.Links.{link}
+use Rattle.xls_beside.specs.Lines.{IsLineText}
+use Rattle.xls_beside.proofs.links.put_items.Given as goal
+
+-- the lines of some items are put, and the others are left
+abbrev pub invariant-loop-next : goal.invariant-loop-next
+invariant-loop-next g l =
+    (goal.iterator-loop-next g).can_next l.next-iterator ×
+    (goal.iterator-loop-next g).is_finite l.next-iterator ×
+    EachSome (IsLineText l.form) (λ item. link item ∷ []) l.fn.links l.next-iterator
+    (text_output g.K.Sink.state l.fn.out) (text_output g.K.Sink.state l.out)

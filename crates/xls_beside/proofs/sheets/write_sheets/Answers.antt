@@ -1,0 +1,31 @@
+use Rattle.std.proofs.Common.{rules, List, ap, map, ◌∙◌}
+use Rattle.xls_output.proofs.EachLemmas.{delivers-each, delivers-each-back, delivers-each-stop, each-as, each-stops-as, kept-none}
+use Rattle.xls_open.specs.Globals.{State, Sheets, listed_of}
+use Rattle.xls_open.specs.declared.listed.Listed.{Listed}
+use Rattle.xls_record.specs.declared.version.Biff.{Biff}
+use Rattle.xls_beside.specs.Parts.{parts_of, sheet_lines}
+use Rattle.xls_beside.specs.Lines.{IsLineText, Line}
+use Rattle.xls_beside.proofs.sheets.write_sheets.Goals as goal
+
+pub returns-in_err-put_listed : goal.returns-in_err-put_listed
+returns-in_err-put_listed g c =
+    let r = c.from_residual in
+    let stream = c.args.stream.now in
+    let globals = c.args.globals.now in
+    let lines : Biff → Sheets → List Line = λ v s. sheet_lines (g.T.Tells.lines c.args.things.now) (parts_of v s stream) s in
+    let listed = ap (λ (l : List Listed). lines c.globals.inside.version (map listed_of l)) c.deref.ensures.value in
+    let same = ap (λ (s : State). lines s.version s.sheets) c.globals.view_is in
+    delivers-each-back g.K.Sink.state (IsLineText c.args.form) (lines globals.version globals.sheets) r.result c.new-out.ensures.sink (search rules)
+    (delivers-each-stop r.result r.ensures.1 (kept-none c.new-out.ensures.kept c.new-buffer.ensures)
+    (each-stops-as c.in_err-put_listed.ensures (listed ∙ same)))
+
+pub returns : goal.returns
+returns g c =
+    let stream = c.args.stream.now in
+    let globals = c.args.globals.now in
+    let lines : Biff → Sheets → List Line = λ v s. sheet_lines (g.T.Tells.lines c.args.things.now) (parts_of v s stream) s in
+    let listed = ap (λ (l : List Listed). lines c.globals.inside.version (map listed_of l)) c.deref.ensures.value in
+    let same = ap (λ (s : State). lines s.version s.sheets) c.globals.view_is in
+    delivers-each-back g.K.Sink.state (IsLineText c.args.form) (lines globals.version globals.sheets) c.finish.result c.new-out.ensures.sink (search rules)
+    (delivers-each _ c.finish.result (kept-none c.new-out.ensures.kept c.new-buffer.ensures)
+    (each-as c.in_ok-put_listed.ensures (listed ∙ same)) c.finish.ensures.puts c.finish.ensures.none)
