@@ -37,6 +37,10 @@ pub lines_by : {X Y : Type 0} (lines : Y → List Line) (view : X → Y) (xs : L
 lines_by lines view [] = refl
 lines_by lines view (x ∷ xs) = ap (λ (l : List Line). lines (view x) ++ l) (lines_by lines view xs)
 
+-- the lines of what the things of a list hold, one by one
+pub viewed_lines : {X Y : Type 0} (f : Y → Line) (view : X → Y) (xs : List X) → flat_map (λ (x : X). f (view x) ∷ []) xs ≡ map f (map view xs)
+viewed_lines {X} {Y} f view xs = lines_by (λ (y : Y). f y ∷ []) view xs ∙ item_lines f (map view xs)
+
 -- the characters of a text in UTF-8
 pub encoded : (lent bytes : List ℕ) → IsUtf8 lent → lent ≡ bytes → lent ≡ encode_utf8_all (chars bytes)
 encoded lent bytes fits same = sym (encodes-chars lent fits) ∙ ap (λ (l : List ℕ). encode_utf8_all (chars l)) same

@@ -3,3 +3,4 @@ pub mod Parts
 pub mod Hidden
 pub mod Comments
 pub mod Links
+pub mod Books

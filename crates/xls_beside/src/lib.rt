@@ -1,7 +1,8 @@
 //! What a workbook has beside its values, line by line, written to a sink: what is hidden in its sheets, their
-//! comments, and their links.
+//! comments and links, and the other workbooks that it refers to.
 #![tactic(auto)]
 
+mod books;
 mod comments;
 mod hidden;
 mod lines;
@@ -9,6 +10,7 @@ mod links;
 mod parts;
 mod sheets;
 
+pub use books::write_books;
 pub use comments::write_comments;
 pub use hidden::write_hidden;
 pub use links::write_links;

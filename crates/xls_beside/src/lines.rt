@@ -1,6 +1,7 @@
 //! Lines of words and members.
 
 ghost use Rattle.std.specs.Prelude.{◌≡◌, ◌∷◌, [], map};
+ghost use Rattle.std.specs.Str.{chars};
 ghost use Rattle.xls_data.specs.Sheets.{sheet_content};
 ghost use Rattle.xls_output.specs.Each.{text_output};
 ghost use Rattle.xls_readable.specs.Items as fields;
@@ -40,6 +41,16 @@ pub(crate) fn text_member<'a>(name: &'a str, text: &'a String) -> Member<'a>
     Member {
         name,
         field: Field::Text(text.as_str()),
+    }
+}
+
+/// A text that is lent, under a name.
+pub(crate) fn lent_member<'a>(name: &'a str, text: &'a str) -> Member<'a>
+    ensures { named_of result ≡ (name.now, characters (chars text.now)) }
+{
+    Member {
+        name,
+        field: Field::Text(text),
     }
 }
 

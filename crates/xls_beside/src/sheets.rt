@@ -97,7 +97,7 @@ fn put_sheets<K: Sink, T: Tells>(
 }
 
 /// Puts the lines of sheets, by the version in force and the list of the sheets.
-fn put_listed<K: Sink, T: Tells>(
+pub(crate) fn put_listed<K: Sink, T: Tells>(
     form: Form,
     alloc: Global,
     out: &mut Writer<'_, K, OutputText>,

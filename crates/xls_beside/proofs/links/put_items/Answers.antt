@@ -1,6 +1,5 @@
 use Rattle.std.proofs.Common.{◌∷◌, []}
 use Rattle.xls_output.proofs.EachLemmas.{each-as, each-memory, each-some-all, each-some-first, each-some-next, each-some-stopped, each-stops-as, puts-each-stop}
-use Rattle.xls_links.specs.Items.{item_of}
 use Rattle.xls_beside.specs.Links.{link}
 use Rattle.xls_beside.specs.Lines.{IsLineText}
 use Rattle.xls_beside.proofs.LineLemmas.{item_lines}
