@@ -4,3 +4,4 @@ pub mod Hidden
 pub mod Comments
 pub mod Links
 pub mod Books
+pub mod Topics

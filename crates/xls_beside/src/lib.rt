@@ -9,8 +9,10 @@ mod lines;
 mod links;
 mod parts;
 mod sheets;
+mod topics;
 
 pub use books::write_books;
 pub use comments::write_comments;
 pub use hidden::write_hidden;
 pub use links::write_links;
+pub use topics::{Topic, write_beside};
