@@ -1,7 +1,8 @@
-/* exact.c: writes what a workbook holds with each number by the bits of its double, and tries arrays that are too short.
+/* exact.c: writes what a workbook holds with each number by the bits of its double, and tries arrays that are too short and
+ * what Excel shows.
  *
- *     exact FILE    the lines of `xls dump --exact`, but that all numbers other than `int` are bits; of a file that is refused a line
- *                   `fault` with its numbers, and status 1
+ *     exact FILE    the lines of `xls dump --exact` under the kinds of `xls dump`, but that all numbers other than `int` are bits;
+ *                   of a file that is refused a line `fault` with its numbers, and status 1
  */
 #define main list_cells_main
 #include "../../examples/c/list_cells.c"
@@ -105,6 +106,55 @@ static void short_texts(const uint8_t *file, size_t length, uint64_t stream_size
     want(gaflwened_serial(bits, 0, 0, out, 19, &size) == GAFLWENED_OK && memcmp(out, "1900-02-29T12:00:00", 19) == 0, "a date");
 }
 
+/* What Excel shows of each sheet's cells: texts in their places, one after the other. A shorter array is refused. */
+static void shown(const uint8_t *stream, size_t length, const struct book *book)
+{
+    gaflwened_options options = {0};
+    gaflwened_fault fault;
+    for (uint64_t i = 0; i < book->sizes.sheets; i++) {
+        gaflwened_sizes sizes, again;
+        gaflwened_cell *cells = array(0, sizeof *cells);
+        uint8_t *texts = array(0, 1);
+        options.sheet = i;
+        options.which = i % 3; /* (whichever) */
+        uint32_t code = gaflwened_shown(stream, length, &options, cells, 0, texts, 0, &sizes, &fault);
+        const gaflwened_cell *first = book->cells + book->sheets[i].first_cell;
+        uint64_t at = 0;
+        want(code == (sizes.cells == 0 ? GAFLWENED_OK : GAFLWENED_TOO_SHORT), "the count of what is shown");
+        want(sizes.cells == book->sheets[i].cells && sizes.sheets == 0 && sizes.names == 0 && sizes.formulas == 0 && sizes.regions == 0
+                 && sizes.is_1904 == book->sizes.is_1904, "the sizes of what is shown");
+        free(cells);
+        free(texts);
+        cells = array(sizes.cells, sizeof *cells);
+        texts = array(sizes.text_bytes, 1);
+        code = gaflwened_shown(stream, length, &options, cells, (size_t)sizes.cells, texts, (size_t)sizes.text_bytes, &again, &fault);
+        want(code == GAFLWENED_OK && memcmp(&sizes, &again, sizeof sizes) == 0, "what is shown");
+        for (uint64_t k = 0; code == GAFLWENED_OK && k < sizes.cells; k++) {
+            want(cells[k].row == first[k].row && cells[k].column == first[k].column, "the place of what is shown");
+            want(cells[k].kind == GAFLWENED_TEXT && cells[k].form == 0 && cells[k].value == at, "a text that is shown");
+            at += cells[k].length;
+        }
+        want(at == sizes.text_bytes, "the bytes of what is shown");
+        const size_t lengths[] = {(size_t)sizes.cells, (size_t)sizes.text_bytes};
+        for (size_t which = 0; which < 2; which++) {
+            if (lengths[which] == 0)
+                continue;
+            code = gaflwened_shown(stream, length, &options, cells, lengths[0] - (which == 0), texts, lengths[1] - (which == 1),
+                                   &again, &fault);
+            want(code == GAFLWENED_TOO_SHORT && fault.code == code, "a short array of what is shown");
+            want(memcmp(&sizes, &again, sizeof sizes) == 0, "the sizes beside it");
+        }
+        free(cells);
+        free(texts);
+    }
+    gaflwened_cell cell;
+    uint8_t byte;
+    gaflwened_sizes sizes;
+    options.sheet = book->sizes.sheets;
+    uint32_t code = gaflwened_shown(stream, length, &options, &cell, 0, &byte, 0, &sizes, &fault);
+    want(code == GAFLWENED_NO_SUCH_SHEET && fault.code == code && fault.first == options.sheet && sizes.cells == 0, "no sheet to show");
+}
+
 /* The sheets one by one, and all of them without content. */
 static void by_sheet(const uint8_t *stream, size_t length, const struct book *book)
 {
@@ -151,6 +201,7 @@ int main(int count, char **words)
         for (int which = 0; which < 6; which++)
             too_short(stream, (size_t)size, &book, which);
         by_sheet(stream, (size_t)size, &book);
+        shown(stream, (size_t)size, &book);
     } else {
         want(fault.code == code, "the code of a fault");
         printf("fault\t%" PRIu32 "\t%" PRIu32 "\t%" PRIu32 "\t%" PRIu64 "\t%" PRIu64 "\t%" PRIu64 "\n", fault.code, fault.part,

@@ -1,5 +1,5 @@
-"""Writes into NAME.found what is read of each NAME.xls of a folder: the lines of `xls dump --exact` with numbers by their bits, or the
-numbers of the fault.
+"""Writes into NAME.found what is read of each NAME.xls of a folder: the lines of `xls dump --exact` with numbers by their bits and the
+kinds of `xls dump`, or the numbers of the fault.
 
     exact.py FOLDER
 """

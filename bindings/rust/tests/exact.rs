@@ -1,5 +1,6 @@
 //! What is read of the files in the folder GAFLWENED_BOOKS, beside what stands in NAME.exact for each: the lines of `xls dump --exact` with
-//! numbers by their bits, or the numbers of the fault. `tools/test_bindings` makes that folder; without it nothing is tested.
+//! numbers by their bits and the kinds of `xls dump`, or the numbers of the fault. `tools/test_bindings` makes that folder; without it
+//! nothing is tested.
 
 use std::fmt::Write;
 use std::path::Path;
