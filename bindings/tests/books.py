@@ -43,9 +43,13 @@ def row_of_wholes(row, column, values):
     return record(0x00BD, body + struct.pack("<H", column + len(values) - 1))
 
 
-def label(row, column, text):
+def label(row, column, text, xf=0):
     units = text.encode("utf-16-le")
-    return cell(0x0204, row, column, struct.pack("<HB", len(units) // 2, 1) + units)
+    return cell(0x0204, row, column, struct.pack("<HB", len(units) // 2, 1) + units, xf)
+
+
+def blank(row, column, xf=0):
+    return cell(0x0201, row, column, b"", xf)
 
 
 def shared(row, column, index):
@@ -163,6 +167,21 @@ def moments(globals=b""):
     return plain(*items, globals=globals + shown)
 
 
+def shown():
+    """Cells under codes of their own, of which Excel shows another text than they hold; on a second sheet others in the same places.
+
+    XF 1 has `#,##0.00`, XF 2 `0%`, XF 3 `yyyy\\-mm\\-dd`, XF 4 `[h]:mm`, XF 5 `"<"@">"`, XF 0 no code.
+    """
+    codes = formats((164, "#,##0.00"), (165, "0%"), (166, "yyyy\\-mm\\-dd"), (167, "[h]:mm"), (168, '"<"@">"'))
+    first = [number(0, 0, 1234.5, 1), number(0, 1, 0.125, 2), number(0, 2, 45351.75, 3), number(0, 3, 1.25, 4), label(0, 4, "a", 5),
+             truth_or_error(0, 5, 0x2A, 1), blank(0, 6, 1),
+             number(1, 0, -1234567.891, 1), number(1, 1, -0.125, 2), whole(1, 2, 60, 3), number(1, 3, 0.5, 4), label(1, 4, "é", 5),
+             truth_or_error(1, 5, 1, 0),
+             whole(3, 0, 7), number(3, 1, 0.1), label(3, 2, "NA"), number(3, 3, 1e21), number(3, 4, 2.5, 5)]
+    second = [number(0, 0, 0.5, 2), label(0, 1, "b")]
+    return stream([("First", 0, 0, first), ("Second", 0, 0, second)], codes)
+
+
 def mixed_columns():
     """Columns of one kind, and with blanks, errors, texts and truths between, for pandas."""
     heads = ["a", "a", "", "7", "b", "c", "d", "e", "f", "g", "h", "i"]
@@ -226,6 +245,7 @@ def books():
     yield "names", plain(globals=inner + name("Total", three) + name("Gone", b"\x3c" + bytes(6)) + name("\x06", b"") + name("Total", three))
     yield "dates_1900", moments()
     yield "dates_1904", moments(record(0x0022, b"\1\0"))
+    yield "shown", compound_file({"Workbook": shown()})
     yield "columns", stream([("A", 0, 0, list(mixed_columns()))], formats((14, ""), (46, "")))
     yield "sheets", stream(list(sheets()))
     yield "chart_first", stream(list(chart_first()))

@@ -230,8 +230,61 @@ class Reading(unittest.TestCase):
         self.assertEqual(copy.deepcopy(read)[0].to_dict(), copy.copy(read)[0].to_dict())
         buffers = []
         data = pickle.dumps(read, 5, buffer_callback=buffers.append)
-        self.assertEqual(len(buffers), 6)
+        self.assertEqual(len(buffers), 7)
         self.assertEqual(pickle.loads(data, buffers=buffers)[0].to_dict(), {(0, 0): 1})
+
+    def test_shown(self):
+        """The texts are by the rules of Excel's number formats; books.py has the codes."""
+        first = ["1,234.50", "13%", "2024-02-29", "30:00", "<a>", "#N/A"]
+        second = ["-1,234,567.89", "-13%", "1900-02-29", "12:00", "<é>", "TRUE"]
+        # (a code that has a section for texts alone shows a number as General does)
+        rows = [first, second, [None] * 6, ["7", "0.1", "NA", "1E+21", "2.5", None]]
+        read = book("shown")
+        sheet = read["First"]
+        self.assertEqual(list(sheet.shown_rows()), rows)
+        self.assertEqual([sheet.shown(*place) for place in ((0, 0), (1, 4), (-1, 0), (-4, -1), (2, 0), (0, 6), (65_535, 9))],
+                         ["1,234.50", "<é>", "7", "#N/A", None, None, None])
+        self.assertEqual(sheet[0, 1], 0.125)
+        self.assertEqual(list(read["Second"].shown_rows()), [["50%", "b"]])
+        for options in ({"sheet": 1}, {"sheet": "Second"}):
+            one = gaflwened.open_workbook(f"{FOLDER}/shown.xls", **options)
+            self.assertEqual(list(one[0].shown_rows()), [["50%", "b"]])
+            self.assertEqual(pickle.loads(pickle.dumps(one))[0].shown(0, 0), "50%")
+        for wanted in ((0, 65_536), (65_536, 0), (-5, 0)):
+            with self.assertRaises(IndexError):
+                sheet.shown(*wanted)
+        with self.assertRaises(TypeError):
+            sheet.shown("A", 1)
+        bare = gaflwened.open_workbook(f"{FOLDER}/shown.xls", content=False)
+        self.assertEqual((bare[0].shown(0, 0), list(bare[0].shown_rows())), (None, []))
+        read.close()
+        for ask in (lambda: sheet.shown(0, 0), lambda: list(sheet.shown_rows())):
+            with self.assertRaisesRegex(ValueError, "the workbook is closed"):
+                ask()
+
+    def test_shown_in_the_places_of_the_cells(self):
+        """Also out of pickles, and where the arrays are mapped."""
+        for path, read in readable():
+            for sheet in read:
+                cells = list(sheet._as_shown().cells())
+                self.assertEqual([cell[:2] for cell in cells], [cell[:2] for cell in sheet.cells()], path)
+                self.assertEqual({type(cell.value) for cell in cells} - {str}, set())
+                for shown, (row, column, value) in zip(cells[:50], sheet.cells()):
+                    self.assertEqual(sheet.shown(row, column), shown.value)
+        wanted = list(book("shown")[0].shown_rows())
+        for mapped in (_raw.MAPPED, 0):
+            with as_if(_raw, "MAPPED", mapped):
+                read = book("shown")
+                with open(f"{FOLDER}/shown.xls", "rb") as file:
+                    other = gaflwened.Workbook.from_bytes(file.read())
+                for protocol in (2, pickle.HIGHEST_PROTOCOL):
+                    self.assertEqual(list(pickle.loads(pickle.dumps(read, protocol))[0].shown_rows()), wanted)
+                buffers = []
+                data = pickle.dumps(read, 5, buffer_callback=buffers.append)
+                for given in (buffers, [bytes(buffer) for buffer in buffers], [memoryview(bytes(buffer)) for buffer in buffers]):
+                    self.assertEqual(list(pickle.loads(data, buffers=given)[0].shown_rows()), wanted)
+                for again in (read, other, copy.deepcopy(read)):
+                    self.assertEqual(list(again[0].shown_rows()), wanted)
 
     def test_other_processes(self):
         with multiprocessing.get_context("fork").Pool(1) as pool, as_if(_raw, "MAPPED", 0):
@@ -362,7 +415,7 @@ class Reading(unittest.TestCase):
     def test_little_memory(self):
         """Each call ends, by MemoryError where memory runs out."""
         script = "import gaflwened, resource, sys; resource.setrlimit(resource.RLIMIT_AS, (int(sys.argv[2]),) * 2)\n"
-        script += "try: gaflwened.open_workbook(sys.argv[1])\nexcept MemoryError: sys.exit(7)"
+        script += "try: gaflwened.open_workbook(sys.argv[1])[0].shown(0, 0)\nexcept MemoryError: sys.exit(7)"
         ends = set()
         for path in (f"{FOLDER}/many_texts.xls", os.environ.get("GAFLWENED_HOSTILE")):
             for limit in (40_000_000, 60_000_000, 80_000_000, 200_000_000):
@@ -448,6 +501,24 @@ class Frames(unittest.TestCase):
         self.assertEqual(gaflwened.read_excel(path, index_col=[0, 2]).index.tolist()[1:3], [(2, 2), (3, 2)])
         with self.assertRaises(TypeError):
             gaflwened.read_excel(path, no_such_argument=1)
+
+    def test_as_shown(self):
+        path, nan = f"{FOLDER}/shown.xls", numpy.nan
+        frame = gaflwened.read_excel(path, header=None, as_shown=True)
+        rows = [["1,234.50", "13%", "2024-02-29", "30:00", "<a>", "#N/A"], ["-1,234,567.89", "-13%", "1900-02-29", "12:00", "<é>", "TRUE"],
+                [nan] * 6, ["7", "0.1", "NA", "1E+21", "2.5", nan]]
+        pandas.testing.assert_frame_equal(frame, pandas.DataFrame(rows, dtype=object))
+        frame = gaflwened.read_excel(path, as_shown=True, usecols=["1,234.50", "13%"], na_values="7")
+        self.assertEqual(list(frame.columns), ["1,234.50", "13%"])
+        self.assertEqual(frame["13%"].tolist()[::2], ["-13%", "0.1"])
+        self.assertEqual(frame["1,234.50"].isna().tolist(), [False, True, True])
+        frames = gaflwened.read_excel(path, None, header=None, as_shown=True)
+        self.assertEqual(frames["Second"].to_numpy().tolist(), [["50%", "b"]])
+        self.assertEqual(book("shown")["Second"].to_dataframe(header=None, as_shown=True).to_numpy().tolist(), [["50%", "b"]])
+        self.assertEqual(gaflwened.read_excel(path, header=None, as_shown=True, dtype={0: object}, skipfooter=3).shape, (1, 6))
+        self.assertTrue(gaflwened.read_excel(f"{FOLDER}/no_cells.xls", as_shown=True).empty)
+        with self.assertRaisesRegex(TypeError, "no dict"):
+            gaflwened.read_excel(path, as_shown=True, na_values={0: ["7"]})
 
     def test_arrays_outlive_their_workbook(self):
         with as_if(_raw, "MAPPED", 0), book("many_rows") as read:

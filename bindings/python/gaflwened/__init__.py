@@ -30,7 +30,8 @@ __all__ = [
 def read_excel(io: Any, sheet_name: Any = 0, *, header: Any = 0, names: Any = None, index_col: Any = None, usecols: Any = None,
                dtype: Any = None, converters: Any = None, true_values: Any = None, false_values: Any = None, skiprows: Any = None,
                nrows: Any = None, na_values: Any = None, keep_default_na: bool = True, na_filter: bool = True, parse_dates: Any = False,
-               thousands: Any = None, decimal: str = ".", comment: Any = None, skipfooter: int = 0) -> Any:
+               thousands: Any = None, decimal: str = ".", comment: Any = None, skipfooter: int = 0,
+               as_shown: bool = False) -> Any:
     """Reads sheets of a workbook into DataFrames, with the arguments of `pandas.read_excel` (but for `engine` and `storage_options`).
 
     io            a path, an open file (read from its beginning where it can seek), the bytes of a file, or a Workbook
@@ -38,9 +39,11 @@ def read_excel(io: Any, sheet_name: Any = 0, *, header: Any = 0, names: Any = No
                   worksheets; of a list or None the answer is a dict
     header, names, index_col, usecols, dtype, converters, true_values, false_values, skiprows, nrows, na_values, keep_default_na,
     na_filter, parse_dates, thousands, decimal, comment, skipfooter    as of pandas
+    as_shown      True: each cell is the text that Excel shows, as of `Sheet.shown`, an error too; NaN where no cell stands or the text is
+                  empty, or one of na_values (no dict), whatever keep_default_na is. dtype is str then, unless dtype or converters are given
 
-    An error value is NaN. A duration is a timedelta, and what a date can't be stays a number. SheetNotFound where no sheet has the name or
-    index, ImportError where numpy or pandas isn't there, and what `open_workbook` raises.
+    Without as_shown an error value is NaN, a duration is a timedelta, and what a date can't be stays a number. SheetNotFound where no sheet
+    has the name or index, ImportError where numpy or pandas isn't there, and what `open_workbook` raises.
     """
     from . import _frame
 
@@ -48,7 +51,7 @@ def read_excel(io: Any, sheet_name: Any = 0, *, header: Any = 0, names: Any = No
         io, sheet_name, header=header, names=names, index_col=index_col, usecols=usecols, dtype=dtype, converters=converters,
         true_values=true_values, false_values=false_values, skiprows=skiprows, nrows=nrows, na_values=na_values,
         keep_default_na=keep_default_na, na_filter=na_filter, parse_dates=parse_dates, thousands=thousands, decimal=decimal,
-        comment=comment, skipfooter=skipfooter,
+        comment=comment, skipfooter=skipfooter, as_shown=as_shown,
     )
 
 

@@ -5,11 +5,11 @@ from __future__ import annotations
 import functools
 import operator
 import os
-from typing import TYPE_CHECKING, Any, BinaryIO, Iterator, Optional, Union, overload
+from typing import TYPE_CHECKING, Any, BinaryIO, Iterator, Optional, Union, cast, overload
 
 from . import _raw
 from ._errors import SheetNotFound
-from ._store import CELL, Store
+from ._store import CELL, Source, Store
 from ._values import KINDS, PLACES, VISIBILITIES, Cell, DefinedName, Formula, Region, Value, place_of
 
 if TYPE_CHECKING:
@@ -32,7 +32,8 @@ class Workbook:
 
     It has its sheets as a sequence and by their names: `book[0]`, `book["Data"]`, `len(book)`, `for sheet in book`. It may be pickled, and so
     be handed to another process. Its memory is given back with the last reference to it, to its sheets and to what `to_numpy` and `texts`
-    gave; or, where none has what these gave, by `close`, which the end of a `with` calls.
+    gave; or, where none has what these gave, by `close`, which the end of a `with` calls. The workbook's stream is a part of it, about as
+    large as the file: `Sheet.shown` reads it again.
     """
 
     def __init__(self, store: Store):
@@ -328,6 +329,25 @@ class Sheet:
                 return self._store.value(kind, bits, length, number)
         return None
 
+    def _as_shown(self) -> Sheet:
+        """What Excel shows of the cells, as a sheet of texts in the same places."""
+        return Sheet(self._store.shown(self._number, self._cells), 0)
+
+    def shown(self, row: int, column: int) -> Optional[str]:
+        """What Excel shows of the cell at a row and a column, in a column of any width; None where no cell stands.
+
+        It is the text that the number format of the cell makes of its value, in the English of the United States: `1,234.50` or `13%`. The
+        first call for a sheet makes the texts of all its cells, which are kept until the workbook is closed. Rows and columns count as in
+        `sheet[row, column]`. IndexError for a place that no .xls has, MemoryError.
+        """
+        place = self._index(row, PLACES, "row"), self._index(column, PLACES, "column")
+        found = self._as_shown()._cell(*place)
+        return found if isinstance(found, str) else None
+
+    def shown_rows(self) -> Iterator[list[Optional[str]]]:
+        """The rows with what Excel shows, `nrows` lists of `ncols` texts each, None where no cell stands. They are as of `shown`."""
+        return cast("Iterator[list[Optional[str]]]", self._as_shown().rows())
+
     def __iter__(self) -> Iterator[list[Value]]:
         return self.rows()
 
@@ -383,8 +403,8 @@ class Sheet:
 
         None instead of a row: all `nrows` rows, and the columns are named by numbers.
 
-        The options are those of `pandas.read_excel`, as far as they are of one sheet: `gaflwened.read_excel` names them. TypeError of any
-        other; ImportError where numpy or pandas isn't there.
+        The options are those of `pandas.read_excel`, as far as they are of one sheet, and `as_shown`: `gaflwened.read_excel` names them.
+        TypeError of any other; ImportError where numpy or pandas isn't there.
         """
         from . import _frame
 
@@ -425,17 +445,19 @@ class Options:
         if sheet is not None and not isinstance(sheet, str):
             sheet = _whole("sheet", sheet, 0, MOST, "a name, or an index from 0")
         self.sheet = sheet
-        self.raw = _raw.Options(*most, 0, 0 if content else 2, page, not few_functions)
+        self.raw = _raw.Options(*most, 0, _raw.ALL_SHEETS if content else _raw.NO_CONTENT, page, not few_functions)
 
     def read(self, stream: tuple[Union[bytes, _raw.Buffer], int]) -> Workbook:
         """The workbook of a stream."""
         number = self.sheet
         if isinstance(number, str):
-            self.raw.which = 2
+            self.raw.which = _raw.NO_CONTENT
             number = Workbook(Store(_raw.read(*stream, self.raw)))[number].number
         if number is not None:
-            self.raw.which, self.raw.sheet = 1, number
-        return Workbook(Store(_raw.read(*stream, self.raw)))
+            self.raw.which, self.raw.sheet = _raw.ONE_SHEET, number
+        arrays = _raw.read(*stream, self.raw)
+        # (without cells nothing is shown)
+        return Workbook(Store(arrays, Source(*stream, bytes(self.raw)) if arrays.counts.cells else None))
 
 
 def _file_bytes(file: Any) -> bytes:

@@ -345,12 +345,26 @@ ARGUMENTS = {
 }
 
 
-def frame_of(sheet: Sheet, header: Any = 0, skiprows: Any = None, nrows: Any = None, **options: Any) -> pandas.DataFrame:
+def of_texts(options: dict[str, Any]) -> dict[str, Any]:
+    """The options by which pandas' parser leaves texts as they are, and takes the empty one and those of na_values alone for no value."""
+    words = options.get("na_values", [])
+    if isinstance(words, dict):
+        raise TypeError("with as_shown the na_values are those of all columns, and no dict")
+    found = {**options, "keep_default_na": False, "na_values": ["", *(words if pandas.api.types.is_list_like(words) else [words])]}
+    if "converters" not in found:
+        found.setdefault("dtype", str)
+    return found
+
+
+def frame_of(sheet: Sheet, header: Any = 0, skiprows: Any = None, nrows: Any = None, as_shown: bool = False,
+             **options: Any) -> pandas.DataFrame:
     """The sheet as a DataFrame, the same that pandas makes of its rows."""
     for name in options:
         if name not in ARGUMENTS:
             raise TypeError(f"unexpected argument {name!r}")
     options = {name: value for name, value in options.items() if value is not ARGUMENTS[name]}
+    if as_shown:
+        return frame_by_rows(sheet._as_shown(), header=header, skiprows=skiprows, nrows=nrows, **of_texts(options))
     if options or not (is_plain(header) and is_plain(skiprows) and is_plain(nrows)):
         return frame_by_rows(sheet, header=header, skiprows=skiprows, nrows=nrows, **options)
     at = skiprows or 0

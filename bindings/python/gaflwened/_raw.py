@@ -16,6 +16,8 @@ Buffer = Union[bytearray, mmap.mmap]
 Array = Union[bytes, Buffer, memoryview]
 
 OK, OUT_OF_MEMORY, TOO_SHORT = 0, 1, 2
+# Which sheets are read.
+ALL_SHEETS, ONE_SHEET, NO_CONTENT = 0, 1, 2
 
 # Kinds of cells.
 NUMBER, DATE_TIME, DURATION, BOOLEAN, ERROR, TEXT, DATE_TEXT, DURATION_TEXT, WHOLE_NUMBER = range(1, 10)
@@ -84,9 +86,10 @@ def _library() -> ctypes.CDLL:
     library.gaflwened_version.argtypes = []
     library.gaflwened_stream.argtypes = [*array, *array, pointer, pointer]
     library.gaflwened_read.argtypes = [*array, pointer, *array * 6, pointer, pointer]
+    library.gaflwened_shown.argtypes = [*array, pointer, *array * 2, pointer, pointer]
     library.gaflwened_fault_text.argtypes = [pointer, *array, pointer]
     library.gaflwened_serial.argtypes = [ctypes.c_uint64, number, number, *array, pointer]
-    for name in ("version", "stream", "read", "fault_text", "serial"):
+    for name in ("version", "stream", "read", "shown", "fault_text", "serial"):
         getattr(library, f"gaflwened_{name}").restype = number
     return library
 
@@ -190,25 +193,47 @@ def _likely(length: int) -> list[int]:
     return [64, 256, 64 + length // 8, 64 + length // 64, 1024, 4096 + length]
 
 
-def read(stream: Union[bytes, Buffer], length: int, options: Options) -> Content:
-    """What the first bytes of a buffer hold as a workbook's stream."""
+def _filled(call: Callable[..., Any], stream: Union[bytes, Buffer], length: int, options: Options, wanted: dict[str, int],
+            likely: list[int]) -> tuple[list[Buffer], Sizes]:
+    """The arrays that a call fills, and how long they are.
+
+    `wanted` are the names of their lengths and the bytes of an item; arrays of `likely` lengths are tried first.
+    """
+    widths = list(wanted.values())
     try:
-        counts = _likely(length)
-        buffers = [_buffer(count * width) for count, width in zip(counts, WIDTHS)]
+        counts = likely
+        buffers = [_buffer(count * width) for count, width in zip(counts, widths)]
     except MemoryError:
         # The first call fills nothing then, and says how much is needed.
-        counts = [0] * len(WIDTHS)
-        buffers = [_buffer(0) for _ in WIDTHS]
+        counts = [0] * len(widths)
+        buffers = [_buffer(0) for _ in widths]
     while True:
         sizes, fault = Sizes(), Fault()
         arrays = [word for buffer, count in zip(buffers, counts) for word in (_address(buffer), count)]
         places = ctypes.byref(options), *arrays, ctypes.byref(sizes), ctypes.byref(fault)
-        code = _LIBRARY.gaflwened_read(_address(stream), length, *places)
+        code = call(_address(stream), length, *places)
         if code not in (OK, TOO_SHORT):
             raise _refusal(fault)
-        counts = [sizes.sheets, sizes.names, sizes.cells, sizes.formulas, sizes.regions, sizes.text_bytes]
+        counts = [getattr(sizes, name) for name in wanted]
+        lengths = [count * width for count, width in zip(counts, widths)]
         if code == OK:
-            lengths = [count * width for count, width in zip(counts, WIDTHS)]
-            sheets, names, cells, formulas, regions, texts = map(_shortened, buffers, lengths)
-            return Content(sheets, names, cells, formulas, regions, texts, Counts(*counts), bool(sizes.is_1904))
-        buffers = [_buffer(count * width) for count, width in zip(counts, WIDTHS)]
+            return list(map(_shortened, buffers, lengths)), sizes
+        buffers = list(map(_buffer, lengths))
+
+
+def read(stream: Union[bytes, Buffer], length: int, options: Options) -> Content:
+    """What the first bytes of a buffer hold as a workbook's stream."""
+    wanted = dict(zip(Counts._fields, WIDTHS))
+    buffers, sizes = _filled(_LIBRARY.gaflwened_read, stream, length, options, wanted, _likely(length))
+    sheets, names, cells, formulas, regions, texts = buffers
+    counts = Counts(*(getattr(sizes, name) for name in wanted))
+    return Content(sheets, names, cells, formulas, regions, texts, counts, bool(sizes.is_1904))
+
+
+def shown(stream: Union[bytes, Buffer], length: int, options: Options, cells: int) -> Content:
+    """What Excel shows of the cells of the sheet at `options.sheet`, of which there are so many: a sheet of texts alone, without a name."""
+    wanted = {"cells": CELL.size, "text_bytes": 1}
+    buffers, sizes = _filled(_LIBRARY.gaflwened_shown, stream, length, options, wanted, [cells, 64 + 16 * cells])
+    counts = Counts(1, 0, sizes.cells, 0, 0, sizes.text_bytes)
+    sheet = SHEET.pack(0, 0, 0, sizes.cells, 0, 0, 0, 0, 0, 0)
+    return Content(sheet, b"", buffers[0], b"", b"", buffers[1], counts, bool(sizes.is_1904))

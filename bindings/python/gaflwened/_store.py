@@ -3,10 +3,11 @@
 from __future__ import annotations
 
 import datetime
+import mmap
 import pickle
 import struct
 import sys
-from typing import TYPE_CHECKING, Any, Iterator, Optional, Union
+from typing import TYPE_CHECKING, Any, Iterator, NamedTuple, Optional, Union
 
 from . import _raw
 from ._values import ERRORS, Value, duration_of, moment_of, span_of
@@ -26,11 +27,37 @@ RECKONED = {
 LONGEST = 100_000.0  # of the durations that are
 
 
-class Store:
-    """What a workbook and its sheets share. It knows neither, so that each goes with its last reference."""
+class Source(NamedTuple):
+    """What a workbook was read from: a buffer, how many of its bytes are the stream, and the bytes of the options."""
 
-    def __init__(self, arrays: _raw.Content):
+    stream: _raw.Array
+    length: int
+    options: bytes
+
+    def shown(self, number: int, cells: int) -> _raw.Content:
+        """What Excel shows of the cells of the workbook's sheet with this index, of which there are so many."""
+        options = _raw.Options.from_buffer_copy(self.options)
+        if options.which != _raw.ONE_SHEET:
+            # (else the index is that of the sheet which was asked for)
+            options.sheet = number
+        stream = self.stream
+        if not isinstance(stream, (bytes, bytearray, mmap.mmap)):
+            # (out of a pickle)
+            stream = bytes(stream)
+        # (the buffers of a pickle may be given by anyone)
+        return _raw.shown(stream, min(self.length, len(stream)), options, cells)
+
+
+class Store:
+    """What a workbook and its sheets share. It knows neither, so that each goes with its last reference.
+
+    Of a workbook whose cells weren't read, and of what Excel shows of a sheet, it has no source.
+    """
+
+    def __init__(self, arrays: _raw.Content, source: Optional[Source] = None):
         self._arrays: Optional[_raw.Content] = arrays
+        self._source = source
+        self._shown: dict[int, Store] = {}
         self.is_1904 = arrays.is_1904
         self._lent: Union[str, bytes, None] = None
         self._moments: tuple[dict[int, Value], dict[int, Value]] = ({}, {})
@@ -47,14 +74,33 @@ class Store:
         return self._arrays is None
 
     def close(self) -> None:
-        self._arrays = self._lent = None
+        self._arrays = self._lent = self._source = None
+        self._shown = {}
         self._moments = ({}, {})
 
     def __reduce_ex__(self, protocol: Any) -> tuple[Any, ...]:
         *buffers, counts, is_1904 = self.arrays
+        source = self._source
+        if source is not None:
+            buffers.append(source.stream)
         # (protocol 5 takes them without a copy; no view stands between, since one that is in use may not be in a cycle that is collected)
         given = [pickle.PickleBuffer(buffer) if protocol >= 5 else memoryview(buffer).tobytes() for buffer in buffers]
-        return restored, (*given, counts, is_1904)
+        fields = *given[:6], counts, is_1904
+        return restored, fields if source is None else (*fields, given[6], source.length, source.options)
+
+    # ---- what Excel shows
+
+    def shown(self, number: int, cells: int) -> Store:
+        """What Excel shows of the cells of the sheet with this index, of which there are so many: a store with a sheet of texts.
+
+        It is kept, so that the next call finds it.
+        """
+        self.arrays  # (ValueError where it is closed)
+        found = self._shown.get(number)
+        if found is None:
+            content = NO_CELLS if self._source is None or cells == 0 else self._source.shown(number, cells)
+            found = self._shown[number] = Store(content)
+        return found
 
     # ---- texts
 
@@ -197,6 +243,10 @@ class Store:
         return found
 
 
+# (no library is asked what is shown of no cells)
+NO_CELLS = _raw.Content(bytes(_raw.SHEET.size), b"", b"", b"", b"", b"", _raw.Counts(1, 0, 0, 0, 0, 0), False)
+
+
 def restored(*fields: Any) -> Store:
     """The store of the buffers that a pickle holds."""
-    return Store(_raw.Content(*fields))
+    return Store(_raw.Content(*fields[:8]), Source(*fields[8:]) if fields[8:] else None)

@@ -51,11 +51,11 @@ impl Options {
     pub fn open(&self, path: impl AsRef<Path>) -> Result<Workbook, Error> {
         let file = raw::read_file(path.as_ref())?;
         match raw::stream(&file)? {
-            None => self.read(&file),
+            None => self.read(file),
             Some(stream) => {
                 // The file's bytes are given back before the arrays are made.
                 drop(file);
-                self.read(&stream)
+                self.read(stream)
             }
         }
     }
@@ -67,16 +67,21 @@ impl Options {
     /// [`Error::Fault`] with the first thing that is wrong with the file, [`Error::OutOfMemory`].
     pub fn from_bytes(&self, file: &[u8]) -> Result<Workbook, Error> {
         match raw::stream(file)? {
-            None => self.read(file),
-            Some(stream) => self.read(&stream),
+            None => self.read(raw::copy(file)?),
+            Some(stream) => self.read(stream),
         }
     }
 
     /// The workbook of a stream.
-    fn read(&self, stream: &[u8]) -> Result<Workbook, Error> {
-        let content = raw::read(stream, &self.raw())?;
+    fn read(&self, stream: Vec<u8>) -> Result<Workbook, Error> {
+        let options = self.raw();
+        let content = raw::read(&stream, &options)?;
         let texts = String::from_utf8(content.texts).expect("the library writes UTF-8");
+        // (without cells nothing is shown)
+        let stream = if content.cells.is_empty() { Vec::new() } else { stream };
         Ok(Workbook {
+            stream,
+            options,
             sheets: content.sheets,
             names: content.names,
             cells: content.cells,
@@ -105,7 +110,11 @@ impl Options {
 }
 
 /// What a workbook holds. It owns all texts, and lends them.
+///
+/// It keeps the workbook's stream too, which takes about as much memory as the file: [`Sheet::shown`] reads it again.
 pub struct Workbook {
+    stream: Vec<u8>,
+    options: raw::Options,
     pub(crate) sheets: Vec<raw::Sheet>,
     names: Vec<raw::Name>,
     pub(crate) cells: Vec<raw::Cell>,
@@ -136,7 +145,7 @@ impl Workbook {
 
     /// The sheets in the order of the workbook.
     pub fn sheets(&self) -> impl DoubleEndedIterator<Item = Sheet<'_>> + ExactSizeIterator + Clone {
-        self.sheets.iter().map(|sheet| Sheet::new(self, sheet))
+        self.sheets.iter().enumerate().map(|(index, sheet)| Sheet::new(self, index, sheet))
     }
 
     /// The last sheet of this name, spelled in the same case.
@@ -157,6 +166,14 @@ impl Workbook {
     /// Whether days count from 1904-01-01. Else they count from 1899-12-31.
     pub fn is_1904(&self) -> bool {
         self.is_1904
+    }
+
+    /// What Excel shows of the cells of the sheet of an index, of which there are so many.
+    pub(crate) fn shown(&self, index: usize, cells: u64) -> Result<raw::Shown, raw::Fault> {
+        const ONE_SHEET: u32 = 1;
+        // Where one sheet alone was read, the options have its index in the file.
+        let sheet = if self.options.which == ONE_SHEET { self.options.sheet } else { index as u64 };
+        raw::shown(&self.stream, &raw::Options { sheet, ..self.options }, cells)
     }
 
     pub(crate) fn text(&self, span: raw::Span) -> &str {

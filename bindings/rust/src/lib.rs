@@ -31,4 +31,4 @@ pub use book::{Options, Which, Workbook};
 pub use data::{CellErrorType, Data};
 pub use date::ExcelDateTime;
 pub use error::{Error, Fault, FaultCode};
-pub use sheet::{Cell, Dimensions, Formula, Row, RowValues, Rows, Sheet, SheetType, SheetVisible};
+pub use sheet::{Cell, Dimensions, Formula, Row, RowValues, Rows, Sheet, SheetType, SheetVisible, Shown, ShownCell};

@@ -146,6 +146,17 @@ mod c {
             sizes: &mut Sizes,
             fault: &mut Fault,
         ) -> u32;
+        pub fn gaflwened_shown(
+            stream: *const u8,
+            stream_length: usize,
+            options: &Options,
+            cells: *mut Cell,
+            cells_length: usize,
+            texts: *mut u8,
+            texts_length: usize,
+            sizes: &mut Sizes,
+            fault: &mut Fault,
+        ) -> u32;
         pub fn gaflwened_fault_text(fault: &Fault, out: *mut u8, out_length: usize, size: &mut u64) -> u32;
         pub fn gaflwened_serial(bits: u64, is_1904: u32, is_duration: u32, out: *mut u8, out_length: usize, size: &mut u64) -> u32;
     }
@@ -177,6 +188,13 @@ fn room<T>(length: u64) -> Result<Vec<T>, Fault> {
     items.try_reserve_exact(length).map_err(|_| MEMORY)?;
     ask_for_large_pages(items.as_mut_ptr().cast(), items.capacity() * std::mem::size_of::<T>());
     Ok(items)
+}
+
+/// A copy of some bytes.
+pub fn copy(bytes: &[u8]) -> Result<Vec<u8>, Fault> {
+    let mut copy = room(bytes.len() as u64)?;
+    copy.extend_from_slice(bytes);
+    Ok(copy)
 }
 
 /// The bytes of a file.
@@ -315,6 +333,72 @@ pub fn read(stream: &[u8], options: &Options) -> Result<Content, Fault> {
         }
         drop(content);
         content = Content::with_room(&sizes)?;
+    }
+}
+
+/// The texts that Excel shows of a sheet's cells: a cell cites its own in `texts`.
+pub struct Shown {
+    pub cells: Vec<Cell>,
+    pub texts: Vec<u8>,
+}
+
+impl Shown {
+    /// Empty arrays with room for so many cells and bytes.
+    fn with_room(cells: u64, text_bytes: u64) -> Result<Shown, Fault> {
+        Ok(Shown { cells: room(cells)?, texts: room(text_bytes)? })
+    }
+
+    /// Has the arrays filled as far as they have room: what the call answers, and how much there is.
+    fn fill(&mut self, stream: &[u8], options: &Options) -> Result<(u32, Sizes), Fault> {
+        let (mut sizes, mut fault) = (Sizes::default(), Fault::default());
+        // SAFETY: both arrays have room for as many items as are handed over with them, and nothing of them is read; no pointer is null,
+        // each is aligned for its type, and nothing overlaps.
+        let code = unsafe {
+            c::gaflwened_shown(
+                stream.as_ptr(),
+                stream.len(),
+                options,
+                self.cells.as_mut_ptr(),
+                self.cells.capacity(),
+                self.texts.as_mut_ptr(),
+                self.texts.capacity(),
+                &mut sizes,
+                &mut fault,
+            )
+        };
+        match code {
+            OK | TOO_SHORT => Ok((code, sizes)),
+            _ => Err(fault),
+        }
+    }
+
+    /// The arrays with as many items as were filled, and no room for more.
+    ///
+    /// # Safety
+    ///
+    /// [`Shown::fill`] answered `OK` and these sizes.
+    unsafe fn filled(mut self, sizes: &Sizes) -> Shown {
+        self.cells.set_len(sizes.cells as usize);
+        self.texts.set_len(sizes.text_bytes as usize);
+        self.cells.shrink_to_fit();
+        self.texts.shrink_to_fit();
+        self
+    }
+}
+
+/// What Excel shows of the cells of the sheet at `options.sheet`, of which there are likely so many.
+pub fn shown(stream: &[u8], options: &Options, cells: u64) -> Result<Shown, Fault> {
+    // (as in `read`)
+    let likely = Shown::with_room(cells, cells.saturating_mul(16));
+    let mut shown = likely.or_else(|_| Shown::with_room(0, 0))?;
+    loop {
+        let (code, sizes) = shown.fill(stream, options)?;
+        if code == OK {
+            // SAFETY: the answer says that the arrays are filled so far.
+            return Ok(unsafe { shown.filled(&sizes) });
+        }
+        drop(shown);
+        shown = Shown::with_room(sizes.cells, sizes.text_bytes)?;
     }
 }
 

@@ -3,12 +3,14 @@
 use std::fmt;
 
 use crate::raw;
-use crate::{CellErrorType, Data, ExcelDateTime, Workbook};
+use crate::{CellErrorType, Data, Error, ExcelDateTime, Workbook};
 
 /// A sheet of a workbook. Several sheets of one name all show the content of the last of them.
 #[derive(Clone, Copy)]
 pub struct Sheet<'a> {
     book: &'a Workbook,
+    /// The index among the sheets of `book`.
+    index: usize,
     sheet: &'a raw::Sheet,
 }
 
@@ -76,8 +78,8 @@ fn part<T>(items: &[T], first: u64, count: u64) -> &[T] {
 }
 
 impl<'a> Sheet<'a> {
-    pub(crate) fn new(book: &'a Workbook, sheet: &'a raw::Sheet) -> Self {
-        Sheet { book, sheet }
+    pub(crate) fn new(book: &'a Workbook, index: usize, sheet: &'a raw::Sheet) -> Self {
+        Sheet { book, index, sheet }
     }
 
     /// The name.
@@ -145,6 +147,22 @@ impl<'a> Sheet<'a> {
         }
     }
 
+    /// What Excel shows of the cells: of each the text that its number format makes of what it holds, in a column of any width, in the
+    /// English of the United States.
+    ///
+    /// Each call makes the texts of all cells anew, and what it answers owns them.
+    ///
+    /// # Errors
+    ///
+    /// [`Error::OutOfMemory`].
+    pub fn shown(&self) -> Result<Shown, Error> {
+        if self.sheet.cells == 0 {
+            return Ok(Shown { cells: Vec::new(), texts: String::new() });
+        }
+        let raw::Shown { cells, texts } = self.book.shown(self.index, self.sheet.cells)?;
+        Ok(Shown { cells, texts: String::from_utf8(texts).expect("the library writes UTF-8") })
+    }
+
     /// The formulas, by row and then by column. The text of a formula that can't be spelled says so, and that of a shared formula is empty.
     pub fn formulas(&self) -> impl DoubleEndedIterator<Item = Formula<'a>> + ExactSizeIterator + Clone + 'a {
         let book = self.book;
@@ -169,6 +187,59 @@ impl fmt::Debug for Sheet<'_> {
             .field("visible", &self.visible())
             .field("cells", &self.sheet.cells)
             .finish_non_exhaustive()
+    }
+}
+
+/// What Excel shows of the cells of a sheet. [`Sheet::shown`] makes it.
+///
+/// ```
+/// # fn main() -> Result<(), gaflwened::Error> {
+/// # let path = concat!(env!("CARGO_MANIFEST_DIR"), "/../../samples/ledger.xls");
+/// let book = gaflwened::Workbook::open(path)?;
+/// let shown = book.sheet("Data")?.shown()?;
+/// assert_eq!(shown.get(1, 1), Some("4.5"));
+/// assert_eq!(shown.get(9, 9), None);
+/// # Ok(())
+/// # }
+/// ```
+#[derive(Clone)]
+pub struct Shown {
+    cells: Vec<raw::Cell>,
+    texts: String,
+}
+
+/// The text that Excel shows of a cell, and the cell's row and column, from 0.
+#[derive(Clone, Copy, Debug, PartialEq, Eq)]
+pub struct ShownCell<'a> {
+    /// The row, from 0.
+    pub row: u32,
+    /// The column, from 0.
+    pub column: u32,
+    /// The text.
+    pub text: &'a str,
+}
+
+impl Shown {
+    fn text(&self, cell: &raw::Cell) -> &str {
+        let begin = cell.value as usize;
+        &self.texts[begin..begin + cell.length as usize]
+    }
+
+    /// The text of the cell at a row and a column, counted from 0; None where none stands.
+    pub fn get(&self, row: u32, column: u32) -> Option<&str> {
+        let found = self.cells.binary_search_by_key(&(row, column), |cell| (cell.row, cell.column));
+        found.ok().map(|at| self.text(&self.cells[at]))
+    }
+
+    /// The texts of the cells, which are those of [`Sheet::cells`] in the same order.
+    pub fn cells(&self) -> impl DoubleEndedIterator<Item = ShownCell<'_>> + ExactSizeIterator + Clone {
+        self.cells.iter().map(|cell| ShownCell { row: cell.row, column: cell.column, text: self.text(cell) })
+    }
+}
+
+impl fmt::Debug for Shown {
+    fn fmt(&self, f: &mut fmt::Formatter<'_>) -> fmt::Result {
+        f.debug_list().entries(self.cells()).finish()
     }
 }
 
