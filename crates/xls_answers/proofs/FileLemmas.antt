@@ -40,7 +40,7 @@ no-file-fault (answers.Shown form) options bytes a b fault p = p
 no-file-fault answers.Exact options bytes a b fault p = p
 no-file-fault (answers.Sheet choice table) options bytes a b fault p = p
 no-file-fault answers.Check options bytes a b fault p = p
-no-file-fault (answers.Hidden form) options bytes a b fault p = p
+no-file-fault (answers.Beside topic form) options bytes a b fault p = p
 no-file-fault answers.Remade options bytes a b fault p = p
 no-file-fault answers.Bytes options bytes a b fault p = p
 

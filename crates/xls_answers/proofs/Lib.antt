@@ -1,5 +1,5 @@
 pub mod FailureLemmas
 pub mod FileLemmas
-pub mod HiddenLemmas
+pub mod BesideLemmas
 pub mod SheetLemmas
 pub mod StandardFacts

@@ -23,8 +23,9 @@ use Rattle.xls_answers.specs.declared.failure.Failure.{Failure}
 use Rattle.xls_answers.specs.declared.failure.Failure.TheVariants as failures
 use Rattle.xls_readable.specs.Choices.{IsNumbered}
 use Rattle.xls_readable.specs.declared.forms.Form.{Form}
-use Rattle.xls_beside.specs.Hidden.{hidden_lines}
-use Rattle.xls_beside.specs.Lines.{IsLineText}
+use Rattle.xls_beside.specs.Topics.{beside_lines}
+use Rattle.xls_beside.specs.declared.topics.Topic.{Topic}
+use Rattle.xls_beside.specs.Lines.{IsLineText, Line}
 use Rattle.xls_answers.specs.Views.{OfView, AreLines, BeginLines, AreShownLines, BeginShownLines, IsDump, MissesNone, rules_shown}
 use Rattle.xls_answers.specs.Sheets.{IsTableOf, BeginsTableOf, MissesSheet}
 
@@ -42,17 +43,21 @@ OfCheck options bytes before after (Err other) = ⊥
 abbrev pub HasGlobals : XlsOptions → List ℕ → State → Type 0
 HasGlobals options bytes globals = ((e : _) → IsViewFault (rules_of options) bytes e → ⊥) × AreGlobals (rules_of options) bytes globals
 
--- the lines of what is hidden in the sheets that the globals list, or a prefix of them, or the first fault of the bytes
-abbrev pub OfHidden : Form → XlsOptions → List ℕ → SinkState → SinkState → Result (Unit {0}) Failure → Type 0
-OfHidden form options bytes before after (Ok x) =
+-- the lines of what stands beside the values, by what is in force at the end of the globals
+abbrev pub lines_beside : Topic → State → List ℕ → List Line
+lines_beside topic globals bytes = beside_lines topic globals.version globals.page globals.sheets bytes
+
+-- those lines, or a prefix of them, or the first fault of the bytes
+abbrev pub OfBeside : Topic → Form → XlsOptions → List ℕ → SinkState → SinkState → Result (Unit {0}) Failure → Type 0
+OfBeside topic form options bytes before after (Ok x) =
     (globals : State) × HasGlobals options bytes globals
-    × WroteEach (IsLineText form) (hidden_lines globals.version globals.sheets bytes) before after
-OfHidden form options bytes before after (Err (failures.Stream e)) = IsViewFault (rules_of options) bytes e × IsUntouched before after
-OfHidden form options bytes before after (Err (failures.Stopped s)) =
+    × WroteEach (IsLineText form) (lines_beside topic globals bytes) before after
+OfBeside topic form options bytes before after (Err (failures.Stream e)) = IsViewFault (rules_of options) bytes e × IsUntouched before after
+OfBeside topic form options bytes before after (Err (failures.Stopped s)) =
     ((s ≡ Memory) × IsUntouched before after)
     ⊎ ((globals : State) × HasGlobals options bytes globals
-    × StopsEach (IsLineText form) (hidden_lines globals.version globals.sheets bytes) before after s)
-OfHidden form options bytes before after (Err other) = ⊥
+    × StopsEach (IsLineText form) (lines_beside topic globals bytes) before after s)
+OfBeside topic form options bytes before after (Err other) = ⊥
 
 -- how many bytes a stream may have that is written once more
 abbrev pub remade_limit : ℕ
@@ -86,7 +91,7 @@ OfStream answers.Exact options bytes = OfView (rules_of options) bytes IsDump Is
 OfStream (answers.Sheet choice table) options bytes =
     OfView (rules_of options) bytes (IsTableOf choice table) (BeginsTableOf choice table) (MissesSheet choice)
 OfStream answers.Check options bytes = OfCheck options bytes
-OfStream (answers.Hidden form) options bytes = OfHidden form options bytes
+OfStream (answers.Beside topic form) options bytes = OfBeside topic form options bytes
 OfStream answers.Remade options bytes = OfRemade bytes
 OfStream answers.Bytes options bytes = OfBytes bytes
 
@@ -102,7 +107,7 @@ HasNumber (answers.Lines lines form) = Unit {0}
 HasNumber (answers.Shown form) = Unit {0}
 HasNumber answers.Exact = Unit {0}
 HasNumber answers.Check = Unit {0}
-HasNumber (answers.Hidden form) = Unit {0}
+HasNumber (answers.Beside topic form) = Unit {0}
 HasNumber answers.Remade = Unit {0}
 HasNumber answers.Bytes = Unit {0}
 

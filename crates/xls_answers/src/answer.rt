@@ -1,5 +1,6 @@
 //! What is written of a workbook.
 
+use xls_beside::Topic;
 use xls_readable::{Form, Listing, SheetChoice, Table};
 
 /// What is written of a workbook.
@@ -15,8 +16,8 @@ pub enum Answer<'w> {
     Sheet(SheetChoice<'w>, Table),
     /// That its stream has no fault.
     Check,
-    /// What is hidden in its sheets, in a form.
-    Hidden(Form),
+    /// What stands beside its values, in a form.
+    Beside(Topic, Form),
     /// Its stream once more in canonical form.
     Remade,
     /// The bytes of its stream.

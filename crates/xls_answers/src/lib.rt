@@ -2,9 +2,9 @@
 #![tactic(auto)]
 
 mod answer;
+mod beside;
 mod check;
 mod failure;
-mod hidden;
 mod lines;
 mod options;
 mod remake;

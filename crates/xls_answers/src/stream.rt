@@ -7,9 +7,9 @@ ghost use Rattle.xls_open.specs.Workbook.{rules_of};
 ghost use Rattle.xls_view.specs.Viewing.{IsViewed};
 
 use crate::answer::Answer;
+use crate::beside::write_beside_lines;
 use crate::check::write_check;
 use crate::failure::Failure;
-use crate::hidden::write_hidden_lines;
 use crate::lines::{write_lines, write_shown};
 use crate::remake::{write_remade, write_whole};
 use crate::tables::write_sheet_of;
@@ -54,7 +54,9 @@ pub fn write_stream<K: Sink>(
             write_sheet_of(alloc, sink, choice, table, options, bytes)
         }
         Answer::Check => write_check(alloc, sink, options, bytes),
-        Answer::Hidden(form) => write_hidden_lines(alloc, sink, *form, options, bytes),
+        Answer::Beside(topic, form) => {
+            write_beside_lines(alloc, sink, *topic, *form, options, bytes)
+        }
         Answer::Remade => write_remade(alloc, sink, bytes),
         Answer::Bytes => write_whole(sink, bytes),
     }

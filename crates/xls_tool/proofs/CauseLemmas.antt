@@ -110,7 +110,7 @@ read-so reading options passwords o p =
 readable : (word : Word) → is_exact (plain_command word) ≡ false
 readable (words.Lines lines) = refl
 readable words.Check = refl
-readable words.Hidden = refl
+readable (words.Beside topic) = refl
 readable words.Props = refl
 readable words.Vba = refl
 readable words.Csv = refl
@@ -121,7 +121,7 @@ readable words.Streams = refl
 checks : (word : Word) → plain_command word ≡ Check → word ≡ words.Check
 checks (words.Lines lines) e = absurd (cc e)
 checks words.Check e = refl
-checks words.Hidden e = absurd (cc e)
+checks (words.Beside topic) e = absurd (cc e)
 checks words.Props e = absurd (cc e)
 checks words.Vba e = absurd (cc e)
 checks words.Csv e = absurd (cc e)

@@ -38,7 +38,7 @@ no-file-fault (answers.Shown form) options stream a b fault p = p
 no-file-fault answers.Exact options stream a b fault p = p
 no-file-fault (answers.Sheet choice table) options stream a b fault p = p
 no-file-fault answers.Check options stream a b fault p = p
-no-file-fault (answers.Hidden form) options stream a b fault p = p
+no-file-fault (answers.Beside topic form) options stream a b fault p = p
 no-file-fault answers.Remade options stream a b fault p = p
 no-file-fault answers.Bytes options stream a b fault p = p
 

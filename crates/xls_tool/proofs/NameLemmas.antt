@@ -2,6 +2,7 @@
 use Rattle.std.proofs.Common.{◌≡◌, ◌≢◌, ◌≤◌, ℕ, ◌==◌, ◌||◌, Bool, true, false, List, [], ◌∷◌, length, refl, rules, subst}
 use Rattle.std.proofs.lemmas.List.Elements.{All-cons, All-nil, All-weaker}
 use Rattle.xls_files.specs.Paths.{HasNoSlash}
+use Rattle.xls_beside.specs.declared.topics.Topic.TheVariants.{Hidden, Books, Comments, Links}
 use Rattle.xls_readable.specs.declared.choices.Listing.TheVariants.{Dump, Sheets, Formulas, Refs}
 use Rattle.xls_readable.specs.declared.forms.Form.TheVariants.{Text, Json, Exact}
 use Rattle.xls_tables.specs.FileNames.{IsSafeByte, IsSafeName}
@@ -33,7 +34,10 @@ word-has-no-slash (words.Lines Sheets) = no_slash (word_text (words.Lines Sheets
 word-has-no-slash (words.Lines Formulas) = no_slash (word_text (words.Lines Formulas)) refl
 word-has-no-slash (words.Lines Refs) = no_slash (word_text (words.Lines Refs)) refl
 word-has-no-slash words.Check = no_slash (word_text words.Check) refl
-word-has-no-slash words.Hidden = no_slash (word_text words.Hidden) refl
+word-has-no-slash (words.Beside Hidden) = no_slash (word_text (words.Beside Hidden)) refl
+word-has-no-slash (words.Beside Books) = no_slash (word_text (words.Beside Books)) refl
+word-has-no-slash (words.Beside Comments) = no_slash (word_text (words.Beside Comments)) refl
+word-has-no-slash (words.Beside Links) = no_slash (word_text (words.Beside Links)) refl
 word-has-no-slash words.Props = no_slash (word_text words.Props) refl
 word-has-no-slash words.Vba = no_slash (word_text words.Vba) refl
 word-has-no-slash words.Csv = no_slash (word_text words.Csv) refl
@@ -62,9 +66,18 @@ ending-is-good (commands.Shown Text) = good (ending_of (commands.Shown Text)) re
 ending-is-good (commands.Shown Json) = good (ending_of (commands.Shown Json)) refl (search rules)
 ending-is-good (commands.Shown Exact) = good (ending_of (commands.Shown Exact)) refl (search rules)
 ending-is-good commands.Check = good (ending_of commands.Check) refl (search rules)
-ending-is-good (commands.Hidden Text) = good (ending_of (commands.Hidden Text)) refl (search rules)
-ending-is-good (commands.Hidden Json) = good (ending_of (commands.Hidden Json)) refl (search rules)
-ending-is-good (commands.Hidden Exact) = good (ending_of (commands.Hidden Exact)) refl (search rules)
+ending-is-good (commands.Beside Hidden Text) = good (ending_of (commands.Beside Hidden Text)) refl (search rules)
+ending-is-good (commands.Beside Books Text) = good (ending_of (commands.Beside Books Text)) refl (search rules)
+ending-is-good (commands.Beside Comments Text) = good (ending_of (commands.Beside Comments Text)) refl (search rules)
+ending-is-good (commands.Beside Links Text) = good (ending_of (commands.Beside Links Text)) refl (search rules)
+ending-is-good (commands.Beside Hidden Json) = good (ending_of (commands.Beside Hidden Json)) refl (search rules)
+ending-is-good (commands.Beside Books Json) = good (ending_of (commands.Beside Books Json)) refl (search rules)
+ending-is-good (commands.Beside Comments Json) = good (ending_of (commands.Beside Comments Json)) refl (search rules)
+ending-is-good (commands.Beside Links Json) = good (ending_of (commands.Beside Links Json)) refl (search rules)
+ending-is-good (commands.Beside Hidden Exact) = good (ending_of (commands.Beside Hidden Exact)) refl (search rules)
+ending-is-good (commands.Beside Books Exact) = good (ending_of (commands.Beside Books Exact)) refl (search rules)
+ending-is-good (commands.Beside Comments Exact) = good (ending_of (commands.Beside Comments Exact)) refl (search rules)
+ending-is-good (commands.Beside Links Exact) = good (ending_of (commands.Beside Links Exact)) refl (search rules)
 ending-is-good commands.Props = good (ending_of commands.Props) refl (search rules)
 ending-is-good commands.Vba = good (ending_of commands.Vba) refl (search rules)
 ending-is-good (commands.Csv choice table) = good (ending_of (commands.Csv choice table)) refl (search rules)

@@ -60,7 +60,7 @@ module _ (a b : SinkState) (empty : a.written ≡ Some []) where
   workbook-written (answers.Sheet choice table) options stream h =
       view-written (rules_of options) stream (IsTableOf choice table) (BeginsTableOf choice table) (MissesSheet choice) h
   workbook-written answers.Check options stream (sound, wrote) = (sound, text-written _ wrote)
-  workbook-written (answers.Hidden form) options stream (globals, has, wrote) = (globals, has, each-written _ _ wrote)
+  workbook-written (answers.Beside topic form) options stream (globals, has, wrote) = (globals, has, each-written _ _ wrote)
   workbook-written answers.Remade options stream (list, reads, text, writes, wrote) = (list, reads, text, writes, text-written text wrote)
   workbook-written answers.Bytes options stream wrote = text-written _ wrote
 

@@ -31,7 +31,7 @@ abbrev pub asked_by : Command → Asked
 asked_by (commands.Lines lines form) = Workbook (lines_of lines form)
 asked_by (commands.Shown form) = Workbook (answers.Shown form)
 asked_by commands.Check = Workbook answers.Check
-asked_by (commands.Hidden form) = Workbook (answers.Hidden form)
+asked_by (commands.Beside topic form) = Workbook (answers.Beside topic form)
 asked_by (commands.Csv choice t) = Workbook (answers.Sheet choice t)
 asked_by commands.Remake = Workbook answers.Remade
 asked_by (commands.Stream None) = Workbook answers.Bytes

@@ -105,7 +105,7 @@ pub(crate) fn asked_by<'w>(command: &Command<'w>) -> Asked<'w>
         Command::Lines(listing, form) => Asked::Workbook(lines_of(*listing, *form)),
         Command::Shown(form) => Asked::Workbook(Answer::Shown(*form)),
         Command::Check => Asked::Workbook(Answer::Check),
-        Command::Hidden(form) => Asked::Workbook(Answer::Hidden(*form)),
+        Command::Beside(topic, form) => Asked::Workbook(Answer::Beside(*topic, *form)),
         Command::Csv(choice, table) => Asked::Workbook(Answer::Sheet(*choice, *table)),
         Command::Remake => Asked::Workbook(Answer::Remade),
         Command::Stream(None) => Asked::Workbook(Answer::Bytes),

@@ -302,7 +302,7 @@ pub(crate) fn write_workbook_files<H: Host>(
         | Answer::Shown(_)
         | Answer::Exact
         | Answer::Check
-        | Answer::Hidden(_)
+        | Answer::Beside(..)
         | Answer::Remade
         | Answer::Bytes => { write_text_file(alloc, host, job, out, answer, book) }
     }

@@ -26,7 +26,7 @@ abbrev pub word_of : Command → Word
 word_of (commands.Lines lines form) = words.Lines lines
 word_of (commands.Shown form) = words.Lines listing.Dump
 word_of commands.Check = words.Check
-word_of (commands.Hidden form) = words.Hidden
+word_of (commands.Beside topic form) = words.Beside topic
 word_of commands.Props = words.Props
 word_of commands.Vba = words.Vba
 word_of (commands.Csv choice t) = words.Csv
@@ -45,7 +45,7 @@ is_exact (commands.Lines lines form) = is_exact_form form
 is_exact (commands.Shown form) = false
 is_exact (commands.Csv choice t) = t.is_exact
 is_exact commands.Check = false
-is_exact (commands.Hidden form) = false
+is_exact (commands.Beside topic form) = false
 is_exact commands.Props = false
 is_exact commands.Vba = false
 is_exact commands.Remake = false
@@ -61,7 +61,7 @@ ending_in Exact ending = ending
 abbrev pub ending_of : Command → List ℕ
 ending_of (commands.Lines lines form) = ending_in form (ending_text (words.Lines lines))
 ending_of (commands.Shown form) = ending_in form (ending_text (words.Lines listing.Dump))
-ending_of (commands.Hidden form) = ending_in form (ending_text words.Hidden)
+ending_of (commands.Beside topic form) = ending_in form (ending_text (words.Beside topic))
 ending_of command = ending_text (word_of command)
 
 -- the words that ask for help or the version in the place of a command
@@ -80,7 +80,7 @@ CommandHasNumber (commands.Csv choice t) = IsNumbered choice
 CommandHasNumber (commands.Lines lines form) = Unit {0}
 CommandHasNumber (commands.Shown form) = Unit {0}
 CommandHasNumber commands.Check = Unit {0}
-CommandHasNumber (commands.Hidden form) = Unit {0}
+CommandHasNumber (commands.Beside topic form) = Unit {0}
 CommandHasNumber commands.Props = Unit {0}
 CommandHasNumber commands.Vba = Unit {0}
 CommandHasNumber commands.Remake = Unit {0}
@@ -128,7 +128,7 @@ are_plain word paths = has_no_option paths && takes word (length paths)
 abbrev pub plain_command : Word → Command
 plain_command (words.Lines lines) = commands.Lines lines Text
 plain_command words.Check = commands.Check
-plain_command words.Hidden = commands.Hidden Text
+plain_command (words.Beside topic) = commands.Beside topic Text
 plain_command words.Props = commands.Props
 plain_command words.Vba = commands.Vba
 plain_command words.Csv = commands.Csv First (record { delimiter = 0x2C; begins_with_mark = false; is_exact = false; style = Values })

@@ -192,7 +192,7 @@ fn command_in<'w>(word: Word, matches: &ArgMatches<'w>) -> Option<Command<'w>>
     Some(match word {
         Word::Lines(listing) => lines_in(listing, matches),
         Word::Check => Command::Check,
-        Word::Hidden => Command::Hidden(form_in(matches)),
+        Word::Beside(topic) => Command::Beside(topic, form_in(matches)),
         Word::Props => Command::Props,
         Word::Vba => Command::Vba,
         Word::Csv => Command::Csv(choice_in(matches), table_in(matches)?),

@@ -49,7 +49,7 @@ fn plain_command<'w>(word: Word) -> Command<'w>
     match word {
         Word::Lines(listing) => Command::Lines(listing, Form::Text),
         Word::Check => Command::Check,
-        Word::Hidden => Command::Hidden(Form::Text),
+        Word::Beside(topic) => Command::Beside(topic, Form::Text),
         Word::Props => Command::Props,
         Word::Vba => Command::Vba,
         Word::Csv => Command::Csv(

@@ -4,6 +4,7 @@ ghost use Rattle.std.specs.Prelude.{◌≡◌};
 ghost use Rattle.xls_words.specs.Requests.{ending_of, is_exact, word_of};
 
 use crate::word::Word;
+use xls_beside::Topic;
 use xls_readable::{Form, Listing, SheetChoice, Table};
 
 /// What is done with each file.
@@ -14,8 +15,8 @@ pub enum Command<'w> {
     /// All that the workbook holds, each cell with what Excel shows, in a form.
     Shown(Form),
     Check,
-    /// What is hidden in the sheets, in a form.
-    Hidden(Form),
+    /// What stands beside the workbook's values, in a form.
+    Beside(Topic, Form),
     Props,
     Vba,
     Csv(SheetChoice<'w>, Table),
@@ -34,7 +35,7 @@ impl Command<'_> {
             Command::Lines(listing, _) => Word::Lines(*listing),
             Command::Shown(_) => Word::Lines(Listing::Dump),
             Command::Check => Word::Check,
-            Command::Hidden(_) => Word::Hidden,
+            Command::Beside(topic, _) => Word::Beside(*topic),
             Command::Props => Word::Props,
             Command::Vba => Word::Vba,
             Command::Csv(..) => Word::Csv,
@@ -53,7 +54,7 @@ impl Command<'_> {
             Command::Csv(_, table) => table.is_exact,
             Command::Shown(_)
             | Command::Check
-            | Command::Hidden(_)
+            | Command::Beside(..)
             | Command::Props
             | Command::Vba
             | Command::Remake
@@ -69,7 +70,7 @@ impl Command<'_> {
         match self {
             Command::Lines(_, Form::Json)
             | Command::Shown(Form::Json)
-            | Command::Hidden(Form::Json) => "json",
+            | Command::Beside(_, Form::Json) => "json",
             _ => self.word().row().ending,
         }
     }

@@ -9,6 +9,7 @@ use crate::grammar::{
 };
 use std::alloc::{AllocError, Global};
 use strsim::osa_distance;
+use xls_beside::Topic;
 use xls_readable::Listing;
 
 /// A command by its name.
@@ -17,8 +18,8 @@ pub enum Word {
     /// Lines of the workbook.
     Lines(Listing),
     Check,
-    /// What is hidden in its sheets.
-    Hidden,
+    /// What stands beside its values.
+    Beside(Topic),
     Props,
     Vba,
     Csv,
@@ -28,13 +29,16 @@ pub enum Word {
 }
 
 /// All commands, in the order of help.
-pub(crate) const ALL: [Word; 12] = [
+pub(crate) const ALL: [Word; 15] = [
     Word::Lines(Listing::Dump),
     Word::Lines(Listing::Sheets),
     Word::Check,
     Word::Lines(Listing::Formulas),
     Word::Lines(Listing::Refs),
-    Word::Hidden,
+    Word::Beside(Topic::Hidden),
+    Word::Beside(Topic::Books),
+    Word::Beside(Topic::Comments),
+    Word::Beside(Topic::Links),
     Word::Props,
     Word::Vba,
     Word::Csv,
@@ -120,10 +124,34 @@ impl Word {
                 options: &THREE_FORMS,
                 ending: "txt",
             },
-            Word::Hidden => Row {
+            Word::Beside(Topic::Hidden) => Row {
                 name: "hidden",
                 title: "xls hidden",
                 about: "Rows and columns that can't be seen, frozen panes, zeros that aren't shown",
+                files: FileCount::Many,
+                options: &TWO_FORMS,
+                ending: "txt",
+            },
+            Word::Beside(Topic::Books) => Row {
+                name: "books",
+                title: "xls books",
+                about: "The other workbooks that a workbook refers to, and the formulas that cite them",
+                files: FileCount::Many,
+                options: &TWO_FORMS,
+                ending: "txt",
+            },
+            Word::Beside(Topic::Comments) => Row {
+                name: "comments",
+                title: "xls comments",
+                about: "The comments of each sheet's cells",
+                files: FileCount::Many,
+                options: &TWO_FORMS,
+                ending: "txt",
+            },
+            Word::Beside(Topic::Links) => Row {
+                name: "links",
+                title: "xls links",
+                about: "The hyperlinks of each sheet",
                 files: FileCount::Many,
                 options: &TWO_FORMS,
                 ending: "txt",
@@ -189,7 +217,10 @@ impl Word {
             "check" => Some(Word::Check),
             "formulas" => Some(Word::Lines(Listing::Formulas)),
             "refs" => Some(Word::Lines(Listing::Refs)),
-            "hidden" => Some(Word::Hidden),
+            "hidden" => Some(Word::Beside(Topic::Hidden)),
+            "books" => Some(Word::Beside(Topic::Books)),
+            "comments" => Some(Word::Beside(Topic::Comments)),
+            "links" => Some(Word::Beside(Topic::Links)),
             "props" => Some(Word::Props),
             "vba" => Some(Word::Vba),
             "csv" => Some(Word::Csv),

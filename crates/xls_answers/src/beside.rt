@@ -1,13 +1,13 @@
-//! What is hidden in the sheets of a workbook.
+//! What stands beside the values of a workbook.
 
 ghost use Rattle.std.specs.Prelude.{◌≡◌, IfErr, IfOk};
-ghost use Rattle.xls_answers.specs.Answers.{HasGlobals, OfHidden};
+ghost use Rattle.xls_answers.specs.Answers.{HasGlobals, OfBeside};
 ghost use Rattle.xls_open.specs.Workbook.{rules_of};
 ghost use Rattle.xls_view.specs.Viewing.{ViewCause};
 
 use crate::failure::Failure;
 use std::alloc::Global;
-use xls_beside::write_hidden;
+use xls_beside::{Topic, write_beside};
 use xls_biff::XlsError;
 use xls_open::{Globals, XlsOptions, check_stream, read_globals};
 use xls_output::Sink;
@@ -23,18 +23,19 @@ fn globals_of(alloc: Global, options: &XlsOptions, bytes: &[u8]) -> Result<Globa
     read_globals(alloc, bytes, page, options)
 }
 
-/// Writes what is hidden in the sheets of the workbook that a stream's bytes hold. Nothing is written before all of the
-/// stream is checked.
-pub(crate) fn write_hidden_lines<K: Sink>(
+/// Writes what stands beside the values of the workbook that a stream's bytes hold. Nothing is written before all of
+/// the stream is checked.
+pub(crate) fn write_beside_lines<K: Sink>(
     alloc: Global,
     sink: &mut K,
+    topic: Topic,
     form: Form,
     options: &XlsOptions,
     bytes: &[u8],
 ) -> Result<(), Failure>
-    ensures { OfHidden form options.now bytes.now (K.state sink.old) (K.state sink.new) result }
+    ensures { OfBeside topic form options.now bytes.now (K.state sink.old) (K.state sink.new) result }
 {
     let globals = globals_of(alloc, options, bytes)?;
-    write_hidden(alloc, sink, form, bytes, &globals)?;
+    write_beside(alloc, sink, topic, form, bytes, &globals)?;
     Ok(())
 }
