@@ -1,11 +1,12 @@
 -- Known values, so that a wrong rule in the specs does not check.
-use Rattle.std.proofs.Common.{◌≡◌, ℕ, List, [], ◌∷◌, map, codes, Option, Some, None, refl}
+use Rattle.std.proofs.Common.{◌≡◌, ℕ, List, [], ◌∷◌, ◌++◌, map, codes, Option, Some, None, Ok, Err, refl}
 use Rattle.std.specs.Fmt.{digits}
 use Rattle.xls_data.specs.Sheets.{SheetContent}
 use Rattle.xls_data.specs.declared.sheets.SheetType.TheVariants.{WorkSheet}
 use Rattle.xls_data.specs.declared.sheets.SheetVisible.TheVariants.{Visible}
 use Rattle.xls_record.specs.declared.version.Biff.TheVariants.{Biff8}
 use Rattle.xls_parts.specs.PartRecords.{Placed}
+use Rattle.xls_parts.specs.PartRecords as records
 use Rattle.xls_hidden.specs.declared.damage.DamagedRecord.TheVariants as names
 use Rattle.xls_hidden.specs.declared.damage.Damage.{Damage}
 use Rattle.xls_hidden.specs.declared.damage.Flaw.TheVariants.{Short, PastLastRow}
@@ -25,7 +26,17 @@ use Rattle.xls_links.specs.declared.damage.DamagedRecord.TheVariants as h_links
 use Rattle.xls_links.specs.declared.damage.Flaw.TheVariants.{EndsIn}
 use Rattle.xls_links.specs.declared.damage.Part.TheVariants as parts_of_link
 use Rattle.xls_links.specs.declared.items.LinkKind.TheVariants as kinds
+use Rattle.xls_other_books.specs.Books.{Book}
+use Rattle.xls_other_books.specs.Links.{Links}
+use Rattle.xls_other_books.specs.declared.books.Linked.{Linked}
+use Rattle.xls_other_books.specs.declared.books.Linked.TheVariants as linked
+use Rattle.xls_other_books.specs.declared.damage.Damage.{Damage as BookDamage}
+use Rattle.xls_other_books.specs.declared.damage.DamagedRecord.{DamagedRecord as BookRecord}
+use Rattle.xls_other_books.specs.declared.damage.DamagedRecord.TheVariants as book_records
+use Rattle.xls_other_books.specs.declared.damage.Flaw.{Flaw as BookFlaw}
+use Rattle.xls_other_books.specs.declared.damage.Flaw.TheVariants as book_flaws
 use Rattle.xls_readable.specs.Items.{FieldItem, NamedItem, count, text, unknown, word}
+use Rattle.xls_beside.specs.Books.{book_lines, linked_lines, outside_lines}
 use Rattle.xls_beside.specs.Comments.{comment}
 use Rattle.xls_beside.specs.Hidden.{frozen_members, hidden, run_members}
 use Rattle.xls_beside.specs.Lines.{Line, sheet}
@@ -139,6 +150,67 @@ pub damaged_link : link (links.damaged (record {
     ≡ said (codes "HLink") 68 unknown unknown (codes "it ends in its head")
 damaged_link = refl
 
+-- ---- other workbooks
+
+abbrev hurt : BookRecord → ℕ → BookFlaw → BookDamage
+hurt name offset flaw = record { record_name = name; offset = offset; flaw = flaw }
+
+abbrev late_names : BookDamage
+late_names = hurt book_records.SupBook 80 book_flaws.NamesMissing
+
+abbrev short_name : BookDamage
+short_name = hurt book_records.ExternName 120 (book_flaws.Short 7 6)
+
+-- with a sheet, a name, a name that is damaged, and a record that is
+abbrev book_of : Linked → Book
+book_of kind = record {
+  linked = kind;
+  path = 0x42 ∷ 0xF6 ∷ [];
+  topic = codes "T";
+  sheets = codes "S" ∷ [];
+  names = Ok (codes "N") ∷ Err short_name ∷ [];
+  damage = Some late_names;
+}
+
+abbrev under_name : List ℕ → List ℕ → Line
+under_name w name = record { word = w; members = (codes "name", text name) ∷ [] }
+
+abbrev book_line : List ℕ → Line
+book_line kind = record {
+  word = codes "book";
+  members = (codes "kind", word kind) ∷ (codes "path", text (0x42 ∷ 0xC3 ∷ 0xB6 ∷ [])) ∷ (codes "topic", text (codes "T")) ∷ [];
+}
+
+-- the lines behind that of the book
+abbrev behind : List ℕ → List Line
+behind w =
+    under_name (codes "book_sheet") (codes "S") ∷ under_name w (codes "N")
+    ∷ said (codes "ExternName") 120 unknown unknown (codes "shorter than 7 bytes: 6")
+    ∷ said (codes "SupBook") 80 unknown unknown (codes "it ends before its names do") ∷ []
+
+pub known_books : map (λ (kind : Linked). book_lines (book_of kind))
+    (linked.Nothing ∷ linked.Functions ∷ linked.Book ∷ linked.Program ∷ [])
+    ≡ behind (codes "book_name") ∷ behind (codes "function") ∷ (book_line (codes "book") ∷ behind (codes "book_name"))
+    ∷ (book_line (codes "dde") ∷ behind (codes "book_name")) ∷ []
+unfolding digits lib.Utf8.encode
+known_books = refl
+
+abbrev cited_line_of : List ℕ → List ℕ → List ℕ → Line
+cited_line_of book sheet name = record {
+  word = codes "outside";
+  members = (codes "row", count 4) ∷ (codes "column", count 2) ∷ (codes "book", text book) ∷ (codes "sheet", text sheet)
+      ∷ (codes "name", text name) ∷ [];
+}
+
+pub known_outside : outside_lines None ++ outside_lines (Some (record {
+  row = 4;
+  column = 2;
+  cited = record { book = 0x42 ∷ 0xF6 ∷ []; sheet = codes "S:T"; name = [] }
+      ∷ record { book = codes "b"; sheet = []; name = codes "N" } ∷ [];
+})) ≡ cited_line_of (0x42 ∷ 0xC3 ∷ 0xB6 ∷ []) (codes "S:T") [] ∷ cited_line_of (codes "b") [] (codes "N") ∷ []
+unfolding lib.Utf8.encode
+known_outside = refl
+
 -- ---- sheets
 
 abbrev named : ℕ → SheetContent
@@ -179,3 +251,22 @@ told n = record { word = codes "at"; members = (codes "offset", count n) ∷ [] 
 pub in_order : sheet_lines (λ (part : SheetPart). told part.offset ∷ []) parts ((80, named 65) ∷ (124, named 65) ∷ (212, named 66) ∷ [])
     ≡ sheet (named 65) ∷ told 124 ∷ sheet (named 65) ∷ told 124 ∷ sheet (named 66) ∷ told 212 ∷ []
 in_order = refl
+
+-- first all that is linked, then the sheets
+abbrev links_with : List Book → Links
+links_with books = record { version = Biff8; books = books; entries = []; refs = [] }
+
+abbrev bare_book : List ℕ → Book
+bare_book path = record { linked = linked.Book; path = path; topic = []; sheets = []; names = []; damage = None }
+
+abbrev bare_line : List ℕ → Line
+bare_line path = record {
+  word = codes "book";
+  members = (codes "kind", word (codes "book")) ∷ (codes "path", text path) ∷ (codes "topic", text []) ∷ [];
+}
+
+pub books_first : linked_lines (links_with (bare_book (codes "a") ∷ bare_book (codes "b") ∷ [])) Biff8
+    ((80, named 65) ∷ (124, named 66) ∷ []) []
+    ≡ bare_line (codes "a") ∷ bare_line (codes "b") ∷ sheet (named 65) ∷ sheet (named 66) ∷ []
+unfolding lib.Utf8.encode records.own_from records.outer_from records.records_within
+books_first = refl

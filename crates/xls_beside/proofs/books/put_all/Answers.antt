@@ -11,5 +11,6 @@ returns-in_err-other g c = puts-memory (IsLineText c.args.form) _ _ _ _ _ c.from
 
 pub returns : goal.returns
 returns g c =
-    let same = ap (λ (l : Links). linked_lines l c.args.version (map listed_of c.args.listed.now) c.args.stream.now) c.in_ok-other.ensures in
+    let sheets = map listed_of c.args.listed.now in
+    let same = ap (λ (l : Links). linked_lines l c.args.version sheets c.args.stream.now) c.in_ok-other.ensures in
     puts-as (IsLineText c.args.form) _ _ c.put_linked_and_sheets.result same c.put_linked_and_sheets.ensures

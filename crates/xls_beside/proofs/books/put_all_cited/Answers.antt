@@ -12,16 +12,18 @@ loop-next-init g c = each-none (IsLineText c.args.form) _
 
 pub loop-next-preserved : goal.loop-next-preserved
 loop-next-preserved g c =
-    each-item (λ (x : Cited). cited_line c.args.row c.args.column (cited_view x) ∷ []) c.args.cited.now c.loop-next.next-index _ c.loop-next-test.true
-    c.loop-next.invariant (rw c.next-item.is at c.in_ok-put_cited.ensures)
+    each-item (λ (x : Cited). cited_line c.args.row c.args.column (cited_view x) ∷ []) c.args.cited.now
+    c.loop-next.next-index _ c.loop-next-test.true c.loop-next.invariant (rw c.next-item.is at c.in_ok-put_cited.ensures)
 
 pub returns-in_err-put_cited : goal.returns-in_err-put_cited
 returns-in_err-put_cited g c =
     puts-each-stop c.from_residual.result c.from_residual.ensures.1
-    (each-stops-as (each-item-stopped (λ (x : Cited). cited_line c.args.row c.args.column (cited_view x) ∷ []) c.args.cited.now c.loop-next.next-index _ c.loop-next-test.true
-    c.loop-next.invariant (rw c.next-item.is at c.in_err-put_cited.ensures)) (viewed_lines (cited_line c.args.row c.args.column) cited_view c.args.cited.now))
+    (each-stops-as (each-item-stopped (λ (x : Cited). cited_line c.args.row c.args.column (cited_view x) ∷ []) c.args.cited.now
+    c.loop-next.next-index _ c.loop-next-test.true c.loop-next.invariant (rw c.next-item.is at c.in_err-put_cited.ensures))
+    (viewed_lines (cited_line c.args.row c.args.column) cited_view c.args.cited.now))
 
 pub returns : goal.returns
 returns g c =
     each-as c.loop-next.invariant
-    (whole_lines (λ (x : Cited). cited_line c.args.row c.args.column (cited_view x) ∷ []) c.args.cited.now _ c.loop-next-test.false ∙ viewed_lines (cited_line c.args.row c.args.column) cited_view c.args.cited.now)
+    (whole_lines (λ (x : Cited). cited_line c.args.row c.args.column (cited_view x) ∷ []) c.args.cited.now _ c.loop-next-test.false
+    ∙ viewed_lines (cited_line c.args.row c.args.column) cited_view c.args.cited.now)

@@ -19,10 +19,12 @@ loop-name-preserved g c =
 pub returns-in_err-put_named : goal.returns-in_err-put_named
 returns-in_err-put_named g c =
     puts-each-stop c.from_residual.result c.from_residual.ensures.1
-    (each-stops-as (each-item-stopped (λ (s : String Global). book_sheet (text_of s) ∷ []) c.args.sheets.now c.loop-name.name-index _ c.loop-name-test.true
-    c.loop-name.invariant (rw c.name-item.is at c.in_err-put_named.ensures)) (viewed_lines book_sheet text_of c.args.sheets.now))
+    (each-stops-as (each-item-stopped (λ (s : String Global). book_sheet (text_of s) ∷ []) c.args.sheets.now c.loop-name.name-index _
+    c.loop-name-test.true c.loop-name.invariant (rw c.name-item.is at c.in_err-put_named.ensures))
+    (viewed_lines book_sheet text_of c.args.sheets.now))
 
 pub returns : goal.returns
 returns g c =
     each-as c.loop-name.invariant
-    (whole_lines (λ (s : String Global). book_sheet (text_of s) ∷ []) c.args.sheets.now _ c.loop-name-test.false ∙ viewed_lines book_sheet text_of c.args.sheets.now)
+    (whole_lines (λ (s : String Global). book_sheet (text_of s) ∷ []) c.args.sheets.now _ c.loop-name-test.false
+    ∙ viewed_lines book_sheet text_of c.args.sheets.now)

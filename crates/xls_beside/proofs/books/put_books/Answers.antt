@@ -12,16 +12,18 @@ loop-book-init g c = each-none (IsLineText c.args.form) _
 
 pub loop-book-preserved : goal.loop-book-preserved
 loop-book-preserved g c =
-    each-item (λ (b : Book). book_lines (book_view b)) c.args.books.now c.loop-book.book-index _ c.loop-book-test.true
-    c.loop-book.invariant (rw c.book-item.is at c.in_ok-put_book.ensures)
+    each-item (λ (b : Book). book_lines (book_view b)) c.args.books.now c.loop-book.book-index _
+    c.loop-book-test.true c.loop-book.invariant (rw c.book-item.is at c.in_ok-put_book.ensures)
 
 pub returns-in_err-put_book : goal.returns-in_err-put_book
 returns-in_err-put_book g c =
     puts-each-stop c.from_residual.result c.from_residual.ensures.1
-    (each-stops-as (each-item-stopped (λ (b : Book). book_lines (book_view b)) c.args.books.now c.loop-book.book-index _ c.loop-book-test.true
-    c.loop-book.invariant (rw c.book-item.is at c.in_err-put_book.ensures)) (lines_by book_lines book_view c.args.books.now))
+    (each-stops-as (each-item-stopped (λ (b : Book). book_lines (book_view b)) c.args.books.now c.loop-book.book-index _
+    c.loop-book-test.true c.loop-book.invariant (rw c.book-item.is at c.in_err-put_book.ensures))
+    (lines_by book_lines book_view c.args.books.now))
 
 pub returns : goal.returns
 returns g c =
     each-as c.loop-book.invariant
-    (whole_lines (λ (b : Book). book_lines (book_view b)) c.args.books.now _ c.loop-book-test.false ∙ lines_by book_lines book_view c.args.books.now)
+    (whole_lines (λ (b : Book). book_lines (book_view b)) c.args.books.now _ c.loop-book-test.false
+    ∙ lines_by book_lines book_view c.args.books.now)

@@ -11,4 +11,5 @@ returns g c =
     let column = c.count_member-2.ensures ∙ ap (λ (n : ℕ). (codes "column", count n)) c.from-2.ensures in
     let texts = each_same c.lent_member.ensures (each_same c.text_member.ensures (each_same c.lent_member-2.ensures none_same)) in
     let members = each_same row (each_same column texts) in
-    puts-as (IsLineText c.args.form) _ _ c.put_line.result (ap (λ (ms : List NamedItem). line (codes "outside") ms ∷ []) members) c.put_line.ensures
+    puts-as (IsLineText c.args.form) _ _ c.put_line.result
+    (ap (λ (ms : List NamedItem). line (codes "outside") ms ∷ []) members) c.put_line.ensures

@@ -11,4 +11,5 @@ pub returns : goal.returns
 returns g c =
     let members = each_same c.word_member.ensures (each_same c.text_member.ensures (each_same c.text_member-2.ensures none_same)) in
     let by_kind = ap (λ (kind : Option (List ℕ)). book_if kind (book_view c.args.book.now)) c.in-Some.ensures in
-    puts-as (IsLineText c.args.form) _ _ c.put_line.result (ap (λ (ms : List NamedItem). line (codes "book") ms ∷ []) members ∙ by_kind) c.put_line.ensures
+    puts-as (IsLineText c.args.form) _ _ c.put_line.result
+    (ap (λ (ms : List NamedItem). line (codes "book") ms ∷ []) members ∙ by_kind) c.put_line.ensures

@@ -7,16 +7,19 @@ use Rattle.xls_beside.proofs.books.put_records.Goals as goal
 
 pub loop-r-init : goal.loop-r-init
 loop-r-init g c =
-    (tt, tt, each-some-first (IsLineText c.args.form) (λ (r : Placed). outside_lines (outside_of c.args.other.now r)) _ _ _ c.into_iter-r-iterator.ensures.into_iter_gives)
+    let lines = λ (r : Placed). outside_lines (outside_of c.args.other.now r) in
+    (tt, tt, each-some-first (IsLineText c.args.form) lines _ _ _ c.into_iter-r-iterator.ensures.into_iter_gives)
 
 pub loop-r-preserved : goal.loop-r-preserved
 loop-r-preserved g c =
-    (tt, tt, each-some-next (λ (r : Placed). outside_lines (outside_of c.args.other.now r)) c.loop-r.invariant.2 c.in-Some.ensures.steps c.in_ok-put_outside.ensures)
+    let lines = λ (r : Placed). outside_lines (outside_of c.args.other.now r) in
+    (tt, tt, each-some-next lines c.loop-r.invariant.2 c.in-Some.ensures.steps c.in_ok-put_outside.ensures)
 
 pub returns-in_err-put_outside : goal.returns-in_err-put_outside
 returns-in_err-put_outside g c =
     puts-each-stop c.from_residual.result c.from_residual.ensures.1
-    (each-some-stopped (λ (r : Placed). outside_lines (outside_of c.args.other.now r)) c.loop-r.invariant.2 c.in-Some.ensures.steps c.in_err-put_outside.ensures)
+    (each-some-stopped (λ (r : Placed). outside_lines (outside_of c.args.other.now r)) c.loop-r.invariant.2
+    c.in-Some.ensures.steps c.in_err-put_outside.ensures)
 
 pub returns : goal.returns
 returns g c =

@@ -13,10 +13,11 @@ returns-in_err-put_all g c =
     let r = c.from_residual in
     let globals = c.args.globals.now in
     let lines : Biff → XlsEncoding → Sheets → List Line = λ v p s. books_lines v p s c.args.stream.now in
-    let listed = ap (λ (l : List Listed). lines c.globals.inside.version c.globals.inside.page (map listed_of l)) c.deref.ensures.value in
+    let inside = c.globals.inside in
+    let listed = ap (λ (l : List Listed). lines inside.version inside.page (map listed_of l)) c.deref.ensures.value in
     let same = ap (λ (s : State). lines s.version s.page s.sheets) c.globals.view_is in
-    delivers-each-back g.K.Sink.state (IsLineText c.args.form) (lines globals.version globals.page globals.sheets) r.result c.new-out.ensures.sink
-    (search rules)
+    let all = lines globals.version globals.page globals.sheets in
+    delivers-each-back g.K.Sink.state (IsLineText c.args.form) all r.result c.new-out.ensures.sink (search rules)
     (delivers-each-stop r.result r.ensures.1 (kept-none c.new-out.ensures.kept c.new-buffer.ensures)
     (each-stops-as c.in_err-put_all.ensures (listed ∙ same)))
 
@@ -24,9 +25,10 @@ pub returns : goal.returns
 returns g c =
     let globals = c.args.globals.now in
     let lines : Biff → XlsEncoding → Sheets → List Line = λ v p s. books_lines v p s c.args.stream.now in
-    let listed = ap (λ (l : List Listed). lines c.globals.inside.version c.globals.inside.page (map listed_of l)) c.deref.ensures.value in
+    let inside = c.globals.inside in
+    let listed = ap (λ (l : List Listed). lines inside.version inside.page (map listed_of l)) c.deref.ensures.value in
     let same = ap (λ (s : State). lines s.version s.page s.sheets) c.globals.view_is in
-    delivers-each-back g.K.Sink.state (IsLineText c.args.form) (lines globals.version globals.page globals.sheets) c.finish.result c.new-out.ensures.sink
-    (search rules)
+    let all = lines globals.version globals.page globals.sheets in
+    delivers-each-back g.K.Sink.state (IsLineText c.args.form) all c.finish.result c.new-out.ensures.sink (search rules)
     (delivers-each _ c.finish.result (kept-none c.new-out.ensures.kept c.new-buffer.ensures)
     (each-as c.in_ok-put_all.ensures (listed ∙ same)) c.finish.ensures.puts c.finish.ensures.none)

@@ -9,6 +9,7 @@ use Rattle.xls_beside.proofs.books.SheetFormulasTells.put.Goals as goal
 
 pub returns : goal.returns
 returns g c =
+    let linked = c.args.self.now.other.now in
     let records = c.new-records.ensures ∙ ap (λ (b : List ℕ). own_records c.args.part.offset b) c.part_at-bytes.ensures.bytes in
     puts-as (IsLineText c.args.form) _ _ c.put_records.result
-    (ap (λ (rs : List Placed). flat_map (λ (r : Placed). outside_lines (outside_of c.args.self.now.other.now r)) rs) records) c.put_records.ensures
+    (ap (λ (rs : List Placed). flat_map (λ (r : Placed). outside_lines (outside_of linked r)) rs) records) c.put_records.ensures
