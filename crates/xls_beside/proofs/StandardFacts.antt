@@ -1,5 +1,5 @@
 -- Known values, so that a wrong rule in the specs does not check.
-use Rattle.std.proofs.Common.{◌≡◌, ℕ, List, [], ◌∷◌, ◌++◌, map, codes, Option, Some, None, Ok, Err, refl}
+use Rattle.std.proofs.Common.{◌≡◌, ℕ, List, [], ◌∷◌, ◌++◌, map, replicate, codes, Option, Some, None, Ok, Err, refl}
 use Rattle.std.specs.Fmt.{digits}
 use Rattle.xls_data.specs.Sheets.{SheetContent}
 use Rattle.xls_data.specs.declared.sheets.SheetType.TheVariants.{WorkSheet}
@@ -252,21 +252,36 @@ pub in_order : sheet_lines (λ (part : SheetPart). told part.offset ∷ []) part
     ≡ sheet (named 65) ∷ told 124 ∷ sheet (named 65) ∷ told 124 ∷ sheet (named 66) ∷ told 212 ∷ []
 in_order = refl
 
--- first all that is linked, then the sheets
-abbrev links_with : List Book → Links
-links_with books = record { version = Biff8; books = books; entries = []; refs = [] }
+-- a stream of one part: BOF, a Formula in row 4 and column 2 whose token, PtgRef3d, cites through the first entry, and EOF
+abbrev bof : List ℕ
+bof = 9 ∷ 8 ∷ 0 ∷ 0 ∷ []
 
-abbrev bare_book : List ℕ → Book
-bare_book path = record { linked = linked.Book; path = path; topic = []; sheets = []; names = []; damage = None }
+abbrev formula : List ℕ
+formula = 6 ∷ 0 ∷ 29 ∷ 0 ∷ 4 ∷ 0 ∷ 2 ∷ 0 ∷ replicate 16 0 ++ 7 ∷ 0 ∷ 0x5A ∷ 0 ∷ 0 ∷ 0 ∷ 0 ∷ 0 ∷ 0 ∷ []
 
-abbrev bare_line : List ℕ → Line
-bare_line path = record {
+abbrev eof : List ℕ
+eof = 10 ∷ 0 ∷ 0 ∷ 0 ∷ []
+
+abbrev book_with : List (List ℕ) → List ℕ → Book
+book_with sheets path = record { linked = linked.Book; path = path; topic = []; sheets = sheets; names = []; damage = None }
+
+abbrev linked_books : Links
+linked_books = record {
+  version = Biff8;
+  books = book_with [] (codes "a") ∷ book_with (codes "S" ∷ []) (codes "b") ∷ [];
+  entries = record { book = 1; first = 0; last = 0 } ∷ [];
+  refs = [];
+}
+
+abbrev line_of_book : List ℕ → Line
+line_of_book path = record {
   word = codes "book";
   members = (codes "kind", word (codes "book")) ∷ (codes "path", text path) ∷ (codes "topic", text []) ∷ [];
 }
 
-pub books_first : linked_lines (links_with (bare_book (codes "a") ∷ bare_book (codes "b") ∷ [])) Biff8
-    ((80, named 65) ∷ (124, named 66) ∷ []) []
-    ≡ bare_line (codes "a") ∷ bare_line (codes "b") ∷ sheet (named 65) ∷ sheet (named 66) ∷ []
+-- first all that is linked, then the sheets, of which the second has no part
+pub books_first : linked_lines linked_books Biff8 ((0, named 65) ∷ (100, named 66) ∷ []) (bof ++ formula ++ eof)
+    ≡ line_of_book (codes "a") ∷ line_of_book (codes "b") ∷ under_name (codes "book_sheet") (codes "S")
+    ∷ sheet (named 65) ∷ cited_line_of (codes "b") (codes "S") [] ∷ sheet (named 66) ∷ []
 unfolding lib.Utf8.encode records.own_from records.outer_from records.records_within
 books_first = refl
