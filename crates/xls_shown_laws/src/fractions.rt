@@ -1,0 +1,20 @@
+//! Laws of fractions, each the contract of a call that does nothing.
+
+ghost use Rattle.std.specs.Prelude.{◌≡◌, ℕ, ◌<◌, ◌^◌, min, Option, Some, None};
+ghost use Rattle.std.specs.Float.{Float};
+ghost use Rattle.xls_shown_fractions.specs.declared.needs.Fraction.{Fraction};
+ghost use Rattle.xls_shown_fractions.specs.Ratios.{nearest_fraction, ratio_of};
+
+/// Under a code with n places for the denominator, of which 9 count, both parts of the nearest fraction
+/// have at most n digits, and the denominator that is shown has.
+pub fn fractions_keep_their_places()
+    ensures nearest { (places : ℕ) (x : Float) → 0 < places
+        → ((nearest_fraction places x).0 < 10 ^ min places 9) × ((nearest_fraction places x).1 < 10 ^ min places 9) }
+    ensures shown { (f : Fraction) (bits : ℕ) → f.fixed ≡ None → 0 < f.places
+        → (ratio_of f bits).denominator < 10 ^ min f.places 9 }
+{}
+
+/// Under a code with a fixed denominator it is the one that is shown.
+pub fn fractions_keep_their_denominator()
+    ensures { (f : Fraction) (bits d : ℕ) → f.fixed ≡ Some d → (ratio_of f bits).denominator ≡ d }
+{}

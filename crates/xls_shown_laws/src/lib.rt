@@ -1,0 +1,6 @@
+//! Laws of what Excel shows of a number.
+#![tactic(auto)]
+
+mod fractions;
+
+pub use fractions::{fractions_keep_their_denominator, fractions_keep_their_places};
