@@ -41,7 +41,7 @@ placed_denominator : (f : Fraction) (m : Mixed) → (placed f m).denominator ≡
 placed_denominator f m = elim (f.whole == 0) as (λ b. (if b then improper m else proper m).denominator ≡ m.denominator) [ true ↦ refl | false ↦ proper_denominator m ]
 
 -- of a large number, or of a small one
-either : (f : Fraction) (bits : ℕ) (b : Bool) (P : Mixed → Type 0) → P (large_of f bits) → P (small_of f (size_of bits))
+pub either : (f : Fraction) (bits : ℕ) (b : Bool) (P : Mixed → Type 0) → P (large_of f bits) → P (small_of f (size_of bits))
     → P (if b then large_of f bits else small_of f (size_of bits))
 either f bits true P large small = large
 either f bits false P large small = small

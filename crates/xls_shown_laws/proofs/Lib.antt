@@ -1,1 +1,2 @@
 mod FractionLemmas
+mod LowestLemmas

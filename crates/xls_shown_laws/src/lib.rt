@@ -3,4 +3,6 @@
 
 mod fractions;
 
-pub use fractions::{fractions_keep_their_denominator, fractions_keep_their_places};
+pub use fractions::{
+    fractions_are_in_lowest_terms, fractions_keep_their_denominator, fractions_keep_their_places,
+};
