@@ -1,2 +1,4 @@
+mod DecimalLemmas
+mod DigitLemmas
 mod FractionLemmas
 mod LowestLemmas

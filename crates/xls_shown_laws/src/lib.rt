@@ -1,8 +1,10 @@
 //! Laws of what Excel shows of a number.
 #![tactic(auto)]
 
+mod decimals;
 mod fractions;
 
+pub use decimals::shows_decimals;
 pub use fractions::{
     fractions_are_in_lowest_terms, fractions_keep_their_denominator, fractions_keep_their_places,
 };
