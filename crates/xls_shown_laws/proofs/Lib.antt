@@ -1,4 +1,5 @@
 mod DecimalLemmas
 mod DigitLemmas
 mod FractionLemmas
+mod GeneralLemmas
 mod LowestLemmas
