@@ -78,18 +78,18 @@ below_power j k p = elim (cases_lt j k) [
   | inr more ↦ absurd (omega (arith, ten_le k j more))
 ]
 
--- 10 ^ z times q is n, which has at most ten digits
-few : (q n c : ℕ) (z : ℤ) → 10 ^ c ≤ q → n < 10 ^ 10 → IsNatural n (ten_to z (whole q)) → (pos c +ℤ z) ≤ℤ pos 9
-few q n c (pos j) p r e =
+-- 10 ^ z times q is n, which has at most b digits
+few : (q n c b : ℕ) (z : ℤ) → 10 ^ c ≤ q → n < 10 ^ b → IsNatural n (ten_to z (whole q)) → (pos c +ℤ z +ℤ pos 1) ≤ℤ pos b
+few q n c b (pos j) p r e =
     let most : 10 ^ c * 10 ^ j ≤ q * 10 ^ j = mul-le-mul_right (10 ^ j) p in
-    let all : 10 ^ (c + j) < 10 ^ 10 = omega (arith, pow-add 10 c j, most, e) in
-    let less = below_power (c + j) 10 all in
+    let all : 10 ^ (c + j) < 10 ^ b = omega (arith, pow-add 10 c j, most, e) in
+    let less = below_power (c + j) b all in
     omega (arith, ints)
-few q n c (negsuc j) p r e =
+few q n c b (negsuc j) p r e =
     let some = ten_pos (j + 1) in
-    let most : n * 10 ^ (j + 1) < 10 ^ 10 * 10 ^ (j + 1) = mul-lt-mul_of_pos_right r some in
-    let all : 10 ^ c < 10 ^ (10 + (j + 1)) = omega (arith, pow-add 10 10 (j + 1), most, e) in
-    let less = below_power c (10 + (j + 1)) all in
+    let most : n * 10 ^ (j + 1) < 10 ^ b * 10 ^ (j + 1) = mul-lt-mul_of_pos_right r some in
+    let all : 10 ^ c < 10 ^ (b + (j + 1)) = omega (arith, pow-add 10 b (j + 1), most, e) in
+    let less = below_power c (b + (j + 1)) all in
     omega (arith, ints)
 
 -- ---- equal fractions
@@ -233,8 +233,14 @@ at d (negsuc k) n p some h few e =
     ∙ ap (λ b. if b then fixed_form d 9 else exponent_form d (negsuc k)) (or_true (nat_lt k 4))
     ∙ fixed_shown d n p (9 - p) 9 e (omega arith)
 
-pub general_shows : (d : Decimal) (n p : ℕ) → n < 10 ^ 10 → p ≤ 9 → IsNatural n (ten_to (d.exponent +ℤ pos p) (whole d.digits)) → general d ≡ fixed n p
-general_shows d n p r h e = elim (cases_eq d.digits 0) [
+record Known (d : Decimal) (n p : ℕ) : Type 0 where
+  some : 0 < d.digits
+  is : IsNatural n (ten_to (d.exponent +ℤ pos p) (whole d.digits))
+
+-- 0 apart; of other numbers of b digits the first counts less than 10 ^ (b - p)
+by_place : (d : Decimal) (n p b : ℕ) → n < 10 ^ b → IsNatural n (ten_to (d.exponent +ℤ pos p) (whole d.digits))
+    → (Known d n p → (magnitude_of d +ℤ pos p +ℤ pos 1) ≤ℤ pos b → general_at d (magnitude_of d) ≡ fixed n p) → general d ≡ fixed n p
+by_place d n p b r e go = elim (cases_eq d.digits 0) [
   | inl none ↦
       let test : (d.digits == 0) ≡ true = grind (arith, nat_tests) in
       let zero_is : n ≡ 0 = is_none d.digits n (d.exponent +ℤ pos p) none e in
@@ -244,7 +250,34 @@ general_shows d n p r h e = elim (cases_eq d.digits 0) [
       let test : (d.digits == 0) ≡ false = grind (arith, nat_tests) in
       let c = places d.digits - 1 in
       let count : places d.digits ≡ suc c = some_places d.digits some in
-      let all = few d.digits n c (d.exponent +ℤ pos p) (first_digit d.digits c count) r e in
+      let all = few d.digits n c b (d.exponent +ℤ pos p) (first_digit d.digits c count) r e in
       ap (λ b. if b then codes "0" else general_at d (magnitude_of d)) test
-      ∙ at d (magnitude_of d) n p some h (omega (arith, ints, all, count)) e
+      ∙ go (record { some = some; is = e }) (omega (arith, ints, all, count))
 ]
+
+pub general_shows : (d : Decimal) (n p : ℕ) → n < 10 ^ 10 → p ≤ 9 → IsNatural n (ten_to (d.exponent +ℤ pos p) (whole d.digits)) → general d ≡ fixed n p
+general_shows d n p r h e = by_place d n p 10 r e (λ known all. at d (magnitude_of d) n p known.some h (omega (arith, ints, all)) known.is)
+
+-- ---- whole numbers
+
+whole_at : (d : Decimal) (k : ℤ) (n : ℕ) → n < 10 ^ 11 → Known d n 0 → (k +ℤ pos 0 +ℤ pos 1) ≤ℤ pos 11 → general_at d k ≡ fixed n 0
+whole_at d (pos k) n r known few = elim (cases_lt k 10) [
+  | inl less ↦ at d (pos k) n 0 known.some (omega arith) (omega (arith, ints)) known.is
+  | inr more ↦
+      let ten : k ≡ 10 = omega (arith, ints) in
+      let is : rounded_at d (pos 0) ≡ n * 10 ^ 0 = rounded_is d n 0 0 0 known.is (omega arith) in
+      let same : n * 10 ^ 0 ≡ n = omega arith in
+      let test : (rounded_at d (pos 0) == 10 ^ 11) ≡ false = grind (arith, nat_tests) in
+      ap (λ t. general_at d (pos t)) ten
+      ∙ ap (λ b. if not b then fixed_form d 0 else exponent_form d (pos 10)) test
+      ∙ fixed_shown d n 0 0 0 known.is (omega arith)
+]
+whole_at d (negsuc k) n r known few = at d (negsuc k) n 0 known.some (omega arith) (omega (arith, ints)) known.is
+
+pub general_whole : (d : Decimal) (n : ℕ) → n < 10 ^ 11 → IsNatural n (ten_to d.exponent (whole d.digits)) → general d ≡ decimal n
+unfolding last_digits
+general_whole d n r e =
+    let z : d.exponent ≡ d.exponent +ℤ pos 0 = omega (arith, ints) in
+    let is = subst (λ t. IsNatural n (ten_to t (whole d.digits))) z e in
+    let one : n / 10 ^ 0 ≡ n = omega arith in
+    by_place d n 0 11 r is (λ known all. whole_at d (magnitude_of d) n r known all) ∙ ap decimal one

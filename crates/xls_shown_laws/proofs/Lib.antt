@@ -2,4 +2,5 @@ mod DecimalLemmas
 mod DigitLemmas
 mod FractionLemmas
 mod GeneralLemmas
+mod KnownFacts
 mod LowestLemmas

@@ -6,8 +6,8 @@ ghost use Rattle.xls_shown_fractions.specs.declared.needs.Fraction.{Fraction};
 ghost use Rattle.xls_shown_fractions.specs.Ratios.{nearest_fraction, ratio_of};
 ghost use Rattle.xls_shown_laws.specs.Fractions.{IsLowest};
 
-/// Under a code with n places for the denominator, of which 9 count, both parts of the nearest fraction
-/// have at most n digits, and the denominator that is shown has.
+/// Under a code with n places for the denominator, of which at most 9 count, both parts of the nearest
+/// fraction have at most n digits, and so has the denominator that is shown.
 pub fn fractions_keep_their_places()
     ensures nearest { (places : ℕ) (x : Float) → 0 < places
         → ((nearest_fraction places x).0 < 10 ^ min places 9) × ((nearest_fraction places x).1 < 10 ^ min places 9) }
@@ -15,7 +15,7 @@ pub fn fractions_keep_their_places()
         → (ratio_of f bits).denominator < 10 ^ min f.places 9 }
 {}
 
-/// Under a code with a fixed denominator it is the one that is shown.
+/// Under a code with a fixed denominator, that denominator is shown, whatever the number.
 pub fn fractions_keep_their_denominator()
     ensures { (f : Fraction) (bits d : ℕ) → f.fixed ≡ Some d → (ratio_of f bits).denominator ≡ d }
 {}
