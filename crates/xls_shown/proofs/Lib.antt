@@ -1,3 +1,4 @@
+mod FormatLemmas
 mod GeneralLemmas
 mod SignLemmas
 mod TextLemmas

@@ -1,5 +1,6 @@
 -- For the proofs: what a section needs of its items.
-use Rattle.std.specs.Prelude.{◌≡◌, List}
+use Rattle.std.specs.Prelude.{◌≡◌, ℕ, List, [], ◌∷◌}
+use Rattle.xls_number_formats.specs.declared.items.Item.TheVariants as item
 use Rattle.xls_number_formats.specs.declared.sections.Kind.TheVariants as kind
 use Rattle.xls_number_formats.specs.Grammar.{Token}
 use Rattle.xls_number_formats.specs.Sections.{kinds, kind_of}
@@ -10,8 +11,13 @@ use Rattle.xls_shown_fractions.specs.Needs as fraction
 use Rattle.xls_shown.specs.declared.sections.Shape.{Shape}
 use Rattle.xls_shown.specs.declared.sections.Shape.TheVariants as shape
 
+-- the word `General` is the only item
+abbrev pub IsGeneralAlone : List Token → Type 0
+IsGeneralAlone ts = (own : List ℕ) × (ts ≡ (item.General, own) ∷ [])
+
 abbrev pub IsShapeOf : Shape → List Token → Type 0
 IsShapeOf (shape.Date clock) ts = (kind_of (kinds ts) ≡ kind.Date) × (clock ≡ clock_of (fields ts))
+IsShapeOf shape.GeneralAlone ts = (kind_of (kinds ts) ≡ kind.General) × IsGeneralAlone ts
 IsShapeOf shape.General ts = kind_of (kinds ts) ≡ kind.General
 IsShapeOf (shape.Fraction f) ts = (kind_of (kinds ts) ≡ kind.Fraction) × (f ≡ fraction.needs_of ts)
 IsShapeOf (shape.Exponent e) ts = (kind_of (kinds ts) ≡ kind.Exponent) × (e ≡ exponent.needs_of ts)

@@ -1,15 +1,16 @@
 //! A code, and what it shows.
 
-ghost use Rattle.std.specs.Prelude.{◌≡◌, ◌<◌, ◌++◌, min, OnOk, OnErr};
+ghost use Rattle.std.specs.Prelude.{◌≡◌, ◌<◌, ◌++◌, min, false, None, OnOk, OnErr};
 ghost use Rattle.std.specs.String.{string_bytes};
 ghost use Rattle.std.specs.Str.{chars};
 ghost use Rattle.xls_bytes.specs.Doubles.{exponent_of};
 ghost use Rattle.xls_bytes.specs.Growth.{IsGrown};
 ghost use Rattle.xls_number_formats.specs.Classes.{class_of};
 ghost use Rattle.xls_number_formats.specs.Formats.{parts_of};
+ghost use Rattle.xls_number_formats.specs.Texts.{texts_code};
 ghost use Rattle.xls_shown.specs.Shown.{Gains, code_at, IsShown, text_shown};
 
-use crate::numbers::{append_general, append_hashes};
+use crate::numbers::{append_general, append_hashes, push_own};
 use crate::sections::ShownSection;
 use std::alloc::AllocError;
 use std::marker::Model;
@@ -25,12 +26,15 @@ pub struct ShownFormat<'a> {
     first: ShownSection<'a>,
     second: ShownSection<'a>,
     third: ShownSection<'a>,
+    // Whether a section is for texts.
+    has_texts: bool,
 }
 
 impl<'a> Model for ShownFormat<'a> {
-    ghost use Rattle.std.specs.Prelude.{◌≡◌, ℕ, List};
+    ghost use Rattle.std.specs.Prelude.{◌≡◌, ℕ, List, false, None};
     ghost use Rattle.std.specs.Str.{chars};
     ghost use Rattle.xls_number_formats.specs.Formats.{parts_of};
+    ghost use Rattle.xls_number_formats.specs.Texts.{texts_code};
     ghost use Rattle.xls_shown.specs.Shown.{code_at};
 
     ghost Value = { List ℕ };
@@ -38,7 +42,8 @@ impl<'a> Model for ShownFormat<'a> {
     ghost view = { λ f. chars f.code.now };
 
     ghost invariant = { λ f. (f.format ≡ parts_of (chars f.code.now)) × (f.first ≡ code_at (chars f.code.now) 0)
-        × (f.second ≡ code_at (chars f.code.now) 1) × (f.third ≡ code_at (chars f.code.now) 2) };
+        × (f.second ≡ code_at (chars f.code.now) 1) × (f.third ≡ code_at (chars f.code.now) 2)
+        × (f.has_texts ≡ false → texts_code (chars f.code.now) ≡ None) };
 }
 
 // The code from a section on; an empty one without that section.
@@ -53,6 +58,14 @@ fn code_at<'a>(format: &Format<'a>, code: &'a str, place: usize) -> &'a str
     }
 }
 
+// Whether a section of the code is for texts.
+fn has_texts(format: &Format<'_>, code: &str) -> bool
+    requires { format.now ≡ parts_of (chars code.now) }
+    ensures { result ≡ false → texts_code (chars code.now) ≡ None }
+{
+    format.texts_at().is_some()
+}
+
 impl<'a> ShownFormat<'a> {
     /// Every code has a meaning.
     pub fn new(code: &'a str) -> ShownFormat<'a>
@@ -62,12 +75,14 @@ impl<'a> ShownFormat<'a> {
         let first = ShownSection::new(code_at(&format, code, 0));
         let second = ShownSection::new(code_at(&format, code, 1));
         let third = ShownSection::new(code_at(&format, code, 2));
+        let has_texts = has_texts(&format, code);
         ShownFormat {
             code,
             format,
             first,
             second,
             third,
+            has_texts,
         }
     }
 
@@ -131,6 +146,9 @@ impl<'a> ShownFormat<'a> {
             ≡ chars (string_bytes text.old) ++ text_shown self.now (chars shown.now)) }
         ensures err { OnErr result (string_bytes text.new ≡ string_bytes text.old) }
     {
+        if !self.has_texts {
+            return push_own(shown, text);
+        }
         match first_char(shown) {
             Some(_) => push_shown_text(self.code, shown, text),
             None => Ok(()),

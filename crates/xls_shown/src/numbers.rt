@@ -1,6 +1,6 @@
 //! The texts of sections, with their signs.
 
-ghost use Rattle.std.specs.Prelude.{◌≡◌, ◌<◌, [], ◌++◌, OnOk};
+ghost use Rattle.std.specs.Prelude.{◌≡◌, ◌<◌, [], ◌++◌, OnOk, OnErr};
 ghost use Rattle.std.specs.String.{string_bytes};
 ghost use Rattle.std.specs.Str.{chars};
 ghost use Rattle.std.specs.List.{flat_map};
@@ -28,8 +28,9 @@ use xls_shown_fractions::{Fraction, push_fraction};
 use xls_shown_numbers::{Exponent, Plain, push_exponent, push_general_double, push_plain};
 
 // Appends a text.
-fn push_own(own: &str, text: &mut String) -> Result<(), AllocError>
+pub(crate) fn push_own(own: &str, text: &mut String) -> Result<(), AllocError>
     ensures ok { OnOk result (chars (string_bytes text.new) ≡ chars (string_bytes text.old) ++ chars own.now) }
+    ensures err { OnErr result (string_bytes text.new ≡ string_bytes text.old) }
     ensures grown { IsGrown (string_bytes text.old) (string_bytes text.new) }
 {
     text.push_str(own)
