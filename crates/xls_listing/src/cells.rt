@@ -77,7 +77,8 @@ pub(crate) fn put_displayed_cells<K: Sink, F: LineForm>(
     reader: &CellReader<'_>,
     sheet: &ViewSheet<'_>,
 ) -> Result<(), Stop>
-    ensures { PutsLines K.state F.Buffer.kept (F.is_text form.now) (lines_of_cells (listed_sheet reader.now (sheet_view_of sheet.now) sheet.now.formatted).cells)
+    ensures { PutsLines K.state F.Buffer.kept (F.is_text form.now)
+        (lines_of_cells (listed_sheet reader.now (sheet_view_of sheet.now) sheet.now.formatted).cells)
         out.old out.new result }
 {
     let cells = sheet.formatted()?;

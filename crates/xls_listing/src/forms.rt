@@ -110,7 +110,8 @@ fn push_listed_cell(
     buf: &mut String,
 ) -> Result<(), AllocError>
     ensures ok { (s : Option ShownAs) → TellsShown s shown.entry
-        → OnOk result (AddsText (IsDisplayedLine form (cell_line position (kind.now, item_of field.now) s)) (string_bytes buf.old) (string_bytes buf.new)) }
+        → OnOk result (AddsText (IsDisplayedLine form (cell_line position (kind.now, item_of field.now) s))
+        (string_bytes buf.old) (string_bytes buf.new)) }
     ensures err { OnErr result (string_bytes buf.new ≡ string_bytes buf.old) }
 {
     match shown {

@@ -37,7 +37,8 @@ fn put_displayed_formula<K: Sink, F: LineForm>(
     column: u32,
     text: &str,
 ) -> Result<(), Stop>
-    ensures { PutsLines K.state F.Buffer.kept (F.is_text form.now) (map formula_line (nonempty_formulas (((row, column), chars text.now) ∷ [])))
+    ensures { PutsLines K.state F.Buffer.kept (F.is_text form.now)
+        (map formula_line (nonempty_formulas (((row, column), chars text.now) ∷ [])))
         out.old out.new result }
 {
     if text.is_empty() {
@@ -117,7 +118,8 @@ fn put_all_formulas<K: Sink, F: LineForm>(
     texts: &mut FormulaBuffer,
     view: &View<'_>,
 ) -> Result<(), Stop>
-    ensures { PutsLines K.state F.Buffer.kept (F.is_text form.now) (each_sheet lines_of_formulas view.now.book.sheets view.now.book.contents)
+    ensures { PutsLines K.state F.Buffer.kept (F.is_text form.now)
+        (each_sheet lines_of_formulas view.now.book.sheets view.now.book.contents)
         out.old out.new result }
 {
     let sheets = view.sheets();

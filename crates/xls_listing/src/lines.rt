@@ -80,5 +80,6 @@ pub trait LineForm {
     ) -> Result<(), Stop>
         requires { length kind.now ≤ 5 }
         ensures { (s : Option ShownAs) → TellsShown s shown.entry
-            → PutsLines K.state Self.Buffer.kept (is_text self.now) (cell_line position (kind.now, item_of field.now) s ∷ []) out.old out.new result };
+            → PutsLines K.state Self.Buffer.kept (is_text self.now) (cell_line position (kind.now, item_of field.now) s ∷ [])
+            out.old out.new result };
 }

@@ -56,7 +56,8 @@ fn put_displayed<K: Sink, F: LineForm>(
     reader: &CellReader<'_>,
     sheet: &ViewSheet<'_>,
 ) -> Result<(), Stop>
-    ensures { PutsLines K.state F.Buffer.kept (F.is_text form.now) (lines_of_sheet (listed_sheet reader.now (sheet_view_of sheet.now) sheet.now.formatted))
+    ensures { PutsLines K.state F.Buffer.kept (F.is_text form.now)
+        (lines_of_sheet (listed_sheet reader.now (sheet_view_of sheet.now) sheet.now.formatted))
         out.old out.new result }
 {
     put_displayed_cells(alloc, form, out, reader, sheet)?;

@@ -116,7 +116,8 @@ fn put_refs_at<K: Sink, F: LineForm>(
     view: &View<'_>,
     sheet: usize,
 ) -> Result<(), Stop>
-    ensures { PutsLines K.state F.Buffer.kept (F.is_text form.now) (displayed_at (λ cites. map (ref_line view.now.context.sheets) (each_cited cites)) (slice_get (sheets_cited view.now) sheet))
+    ensures { PutsLines K.state F.Buffer.kept (F.is_text form.now)
+        (displayed_at (λ cites. map (ref_line view.now.context.sheets) (each_cited cites)) (slice_get (sheets_cited view.now) sheet))
         out.old out.new result }
 {
     match cites_of_sheet(alloc, view, sheet)? {

@@ -262,7 +262,8 @@ pub fn push_shown_cell<'x>(
     room: &mut String,
     buf: &mut String,
 ) -> Result<(), AllocError>
-    ensures ok { OnOk result (AddsText (IsLine form (codes "cell") (shown_cell_members position.0 position.1 kind.now (item_of field.now) shown.now))
+    ensures ok { OnOk result (AddsText
+        (IsLine form (codes "cell") (shown_cell_members position.0 position.1 kind.now (item_of field.now) shown.now))
         (string_bytes buf.old) (string_bytes buf.new)) }
     ensures err { OnErr result (string_bytes buf.new ≡ string_bytes buf.old) }
 {

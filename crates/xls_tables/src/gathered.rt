@@ -174,7 +174,8 @@ impl Gathered {
         formats: &CellFormats<'_>,
         cell: SheetCell<'_>,
     ) -> Result<(), AllocError>
-        ensures { OnOk result (AddsText (IsCellField form.style form.delimiter formats.now (formatted_entry cell.entry).1) self.old self.new) }
+        ensures { OnOk result (AddsText (IsCellField form.style form.delimiter formats.now (formatted_entry cell.entry).1)
+            self.old self.new) }
     {
         match form.style {
             FieldStyle::Values => self.push_classed(form.delimiter, formats, cell),

@@ -163,7 +163,8 @@ fn write_sheet_file<H: Host>(
     requires sheets { length formats.now.book.contents ≡ length formats.now.book.sheets }
     requires files { AreSheetFiles files.now formats.now }
     requires asked { IsAskedSheet files.now formats.now index }
-    ensures outputs { KeepsOutputs H.tells H.File.state files.now.job.now.request files.now.job.now.reading.options (H.files host.old) (H.files host.new) }
+    ensures outputs { KeepsOutputs H.tells H.File.state files.now.job.now.request files.now.job.now.reading.options
+        (H.files host.old) (H.files host.new) }
 {
     let path = sheet_path(alloc, files, formats.view(), index)?;
     let mut file = match begin(alloc, host, path.as_str(), files.out.writes_over) {
@@ -220,7 +221,8 @@ fn write_all_sheets<H: Host>(
     requires sheets { length formats.now.book.contents ≡ length formats.now.book.sheets }
     requires files { AreSheetFiles files.now formats.now }
     requires asked { files.now.out.now.takes_all_sheets ≡ true }
-    ensures outputs { KeepsOutputs H.tells H.File.state files.now.job.now.request files.now.job.now.reading.options (H.files host.old) (H.files host.new) }
+    ensures outputs { KeepsOutputs H.tells H.File.state files.now.job.now.request files.now.job.now.reading.options
+        (H.files host.old) (H.files host.new) }
 {
     let sheets = formats.view().sheets();
     let mut done = Ok(());
@@ -245,7 +247,8 @@ fn write_chosen_sheet<H: Host>(
     requires number { IsNumbered files.now.choice.now }
     requires sheets { length formats.now.book.contents ≡ length formats.now.book.sheets }
     requires files { AreSheetFiles files.now formats.now }
-    ensures outputs { KeepsOutputs H.tells H.File.state files.now.job.now.request files.now.job.now.reading.options (H.files host.old) (H.files host.new) }
+    ensures outputs { KeepsOutputs H.tells H.File.state files.now.job.now.request files.now.job.now.reading.options
+        (H.files host.old) (H.files host.new) }
 {
     let index = chosen(alloc, formats.view(), files.choice)?;
     write_sheet_file(alloc, host, files, formats, index)
@@ -261,7 +264,8 @@ fn write_sheet_files<H: Host>(
     requires number { IsNumbered files.now.choice.now }
     requires sheets { length formats.now.book.contents ≡ length formats.now.book.sheets }
     requires files { AreSheetFiles files.now formats.now }
-    ensures outputs { KeepsOutputs H.tells H.File.state files.now.job.now.request files.now.job.now.reading.options (H.files host.old) (H.files host.new) }
+    ensures outputs { KeepsOutputs H.tells H.File.state files.now.job.now.request files.now.job.now.reading.options
+        (H.files host.old) (H.files host.new) }
 {
     if files.out.takes_all_sheets {
         return write_all_sheets(alloc, host, files, formats);
