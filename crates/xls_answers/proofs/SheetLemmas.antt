@@ -9,11 +9,9 @@ use Rattle.xls_answers.specs.declared.failure.Failure.TheVariants as failures
 use Rattle.xls_output.specs.SinkState.{SinkState}
 use Rattle.xls_meaning.specs.Rules.{Rules}
 use Rattle.xls_biff.specs.Cells.{CellEntry}
-use Rattle.xls_csv.specs.Dense.{dense_rows}
-use Rattle.xls_csv.specs.Walk.{no_cell}
 use Rattle.xls_output.specs.declared.stop.Stop.{Stop}
 use Rattle.xls_tables.specs.Rows.{form_fields}
-use Rattle.xls_tables.specs.Tables.{DeliversTable}
+use Rattle.xls_tables.specs.Tables.{DeliversTable, table_rows}
 use Rattle.xls_view.specs.Formats.{FormattedCell}
 use Rattle.xls_view.specs.Viewing.{IsViewed, Viewed}
 use Rattle.xls_readable.specs.declared.choices.SheetChoice.{SheetChoice}
@@ -43,7 +41,7 @@ module _ (rules : Rules) (bytes : List ℕ) (choice : SheetChoice) (table : Tabl
 -- the table of its cells
 pub cells-written : (table : Table) (view : Viewed) (entries : List CellEntry) (cells : List FormattedCell) (a b : SinkState) (r : Result (Unit {0}) Stop)
     → table.is_exact ≡ false
-    → DeliversTable (form_fields table.style table.delimiter view) table.begins_with_mark (dense_rows no_cell cells) a b r
+    → DeliversTable (form_fields table.style table.delimiter view) table.begins_with_mark (table_rows table.origin cells) a b r
     → WritesCells table view entries cells a b r
 cells-written table view entries cells a b (Ok x) readable p = rw readable (p.text, p.table, p.wrote)
 cells-written table view entries cells a b (Err s) readable p = rw readable (inr (p.text, p.part, p.stops))

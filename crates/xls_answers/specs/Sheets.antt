@@ -11,10 +11,9 @@ use Rattle.xls_biff.specs.Cells.{CellEntry}
 use Rattle.xls_meaning.specs.Reading.{SheetView, BookView}
 use Rattle.xls_view.specs.Viewing.{Viewed}
 use Rattle.xls_view.specs.Formats.{FormattedCell}
-use Rattle.xls_csv.specs.Dense.{dense_rows, sheet_csv}
-use Rattle.xls_csv.specs.Walk.{no_cell}
+use Rattle.xls_csv.specs.Dense.{sheet_csv}
 use Rattle.xls_tables.specs.Rows.{form_fields}
-use Rattle.xls_tables.specs.Tables.{IsTable, BeginsTable}
+use Rattle.xls_tables.specs.Tables.{IsTable, BeginsTable, table_rows}
 use Rattle.xls_output.specs.SinkState.{SinkState}
 use Rattle.xls_output.specs.Gathering.{Stops, Wrote}
 use Rattle.xls_output.specs.declared.stop.Stop.{Stop}
@@ -80,13 +79,13 @@ HasNoSheet choice book other = ⊥
 -- xls_dump writes it
 abbrev pub IsCellsText : Bool → Table → Viewed → List CellEntry → List FormattedCell → List ℕ → Type 0
 IsCellsText false table view entries cells text =
-    IsTable (form_fields table.style table.delimiter view) table.begins_with_mark (dense_rows no_cell cells) text
+    IsTable (form_fields table.style table.delimiter view) table.begins_with_mark (table_rows table.origin cells) text
 IsCellsText true table view entries cells text = text ≡ sheet_csv entries
 
 -- a part of it
 abbrev pub BeginsCellsText : Bool → Table → Viewed → List CellEntry → List FormattedCell → List ℕ → Type 0
 BeginsCellsText false table view entries cells text =
-    BeginsTable (form_fields table.style table.delimiter view) table.begins_with_mark (dense_rows no_cell cells) text
+    BeginsTable (form_fields table.style table.delimiter view) table.begins_with_mark (table_rows table.origin cells) text
 BeginsCellsText true table view entries cells text = text ≡ sheet_csv entries
 
 -- the text of the sheet at an index, and a part of it

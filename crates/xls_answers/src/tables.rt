@@ -124,15 +124,7 @@ fn write_cells<K: Sink>(
         return write_rows(alloc, sink, &sheet.cells()?);
     }
     let cells = sheet.formatted()?;
-    write_table(
-        alloc,
-        sink,
-        table.delimiter,
-        table.begins_with_mark,
-        table.style,
-        formats,
-        &cells,
-    )
+    write_table(alloc, sink, table, formats, &cells)
 }
 
 /// Writes the sheet of an index as CSV, of the workbook whose formats are these.
@@ -163,8 +155,8 @@ pub(crate) fn write_sheet_of<K: Sink>(
     bytes: &[u8],
 ) -> Result<(), Failure>
     requires { IsNumbered choice.now }
-    ensures { OfView (rules_of options.now) bytes.now (IsTableOf choice.now table.now) (BeginsTableOf choice.now table.now) (MissesSheet choice.now)
-        (K.state sink.old) (K.state sink.new) result }
+    ensures { OfView (rules_of options.now) bytes.now (IsTableOf choice.now table.now) (BeginsTableOf choice.now table.now)
+        (MissesSheet choice.now) (K.state sink.old) (K.state sink.new) result }
 {
     let view = View::new(alloc, bytes, options, NumberStyle::Bits)?;
     let index = chosen(alloc, &view, choice)?;

@@ -10,9 +10,9 @@ use Rattle.xls_range.specs.Positions.{Entry, Position}
 use Rattle.xls_csv.specs.Text.{rows_csv}
 use Rattle.xls_csv.proofs.DenseLemmas.{rows_of_dense}
 use Rattle.xls_view.specs.Formats.{FormattedCell, plain}
-use Rattle.xls_csv.specs.Walk.{Taken, content_in, no_cell, take_at, row_over, left_over, rows_over, walk_rows}
+use Rattle.xls_csv.specs.Walk.{Taken, content_in, no_cell, take_at, row_over, left_over, rows_over, walk_box, walk_rows}
 use Rattle.xls_range.specs.Bounds.{least, greatest, rows_at, columns_at}
-use Rattle.xls_csv.specs.Dense.{box_of, dense_rows, dense_value}
+use Rattle.xls_csv.specs.Dense.{box_of, dense_rows, dense_value, from_a1, rows_in}
 use Rattle.xls_csv.specs.declared.extent.Extent.{Extent}
 use Rattle.xls_csv.specs.Laws.{JoinsToCsv}
 
@@ -226,10 +226,27 @@ walks_dense blank (c ∷ cs) h =
       same = λ r k from. refl;
     })
 
--- the rows over the box of the cells are all rows of them
-pub walked : {T : Type 0} (blank : T) (cells ahead : List (Entry T)) {extent : Extent} → ahead ≡ cells → extent ≡ box_of cells
-    → rows_over blank extent.height extent.top extent.left extent.width ahead ≡ walk_rows blank cells
-walked blank cells ahead {extent} e is = rw (e, is) refl
+-- the same of the box from A1 on
+pub walks_from_a1 : {T : Type 0} (blank : T) (cells : List (Entry T)) → IsAscending (positions cells)
+    → walk_box blank (from_a1 (box_of cells)) cells ≡ rows_in blank cells (from_a1 (box_of cells))
+walks_from_a1 blank [] h = refl
+walks_from_a1 blank (c ∷ cs) h =
+    let top = least c.0.0 (rows_at cs) in
+    let left = least c.0.1 (columns_at cs) in
+    let right = greatest c.0.1 (columns_at cs) in
+    let width = left + (right + 1 - left) in
+    let high : c.0.1 ≤ right = le-greatest c.0.1 (columns_at cs) in
+    let low : left ≤ c.0.1 = least-le c.0.1 (columns_at cs) in
+    rows_are blank (c ∷ cs) 0 width (top + (greatest c.0.0 (rows_at cs) + 1 - top)) 0 (c ∷ cs) (record {
+      ascending = h;
+      stand = stand_all c.0.0 c.0.1 c.0.1 0 0 (0 + width) (c ∷ cs) (omega arith) (omega arith) (omega (arith, low, high));
+      same = λ r k from. refl;
+    })
+
+-- the rows over a box of the cells are its rows
+pub walked : {T : Type 0} (blank : T) (cells ahead : List (Entry T)) {extent box : Extent} → ahead ≡ cells → extent ≡ box
+    → rows_over blank extent.height extent.top extent.left extent.width ahead ≡ walk_box blank box cells
+walked blank cells ahead {extent} {box} e is = rw (e, is) refl
 
 -- so the rows joined are the CSV of the dense box
 pub joins_to_csv : JoinsToCsv

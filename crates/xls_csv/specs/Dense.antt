@@ -33,6 +33,16 @@ box_in (Some bounds) = box_between bounds.start bounds.end
 abbrev pub box_of : {T : Type 0} → List (Entry T) → Extent
 box_of cells = box_in (bounds_of cells)
 
+-- the same rows and columns, and those before them
+abbrev pub from_a1 : Extent → Extent
+from_a1 box =
+    record {
+      top = 0;
+      left = 0;
+      height = box.top + box.height;
+      width = box.left + box.width;
+    }
+
 -- the value that was given to a position last, and a blank where none was
 abbrev pub dense_value : {T : Type 0} → T → List (Entry T) → ℕ → ℕ → T
 dense_value blank cells row column = unwrap_or (last_at cells (row, column)) blank

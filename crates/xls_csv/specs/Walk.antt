@@ -7,6 +7,7 @@ use Rattle.xls_view.specs.Formats.{FormattedCell}
 use Rattle.xls_view.specs.Values.{formatted_entry}
 use Rattle.xls_view.specs.declared.value.SheetCell.{SheetCell}
 use Rattle.xls_csv.specs.Dense.{box_of}
+use Rattle.xls_csv.specs.declared.extent.Extent.{Extent}
 
 -- a value, and the cells that are left after it
 abbrev pub Taken : Type 0 → Type 0
@@ -36,10 +37,13 @@ rows_over blank (suc n) row left width cells =
     row_over blank row left width cells
     ∷ rows_over blank n (row + 1) left width (left_over blank row left width cells)
 
+-- the rows of a box
+abbrev pub walk_box : {T : Type 0} → T → Extent → List (Entry T) → List (List T)
+walk_box blank box cells = rows_over blank box.height box.top box.left box.width cells
+
 -- all rows of these cells
 abbrev pub walk_rows : {T : Type 0} → T → List (Entry T) → List (List T)
-walk_rows blank cells =
-    rows_over blank (box_of cells).height (box_of cells).top (box_of cells).left (box_of cells).width cells
+walk_rows blank cells = walk_box blank (box_of cells) cells
 
 -- ---- cells with their formats
 

@@ -6,7 +6,7 @@ ghost use Rattle.xls_output.specs.Each.{PutsEach};
 ghost use Rattle.xls_output.specs.Output.{output_of};
 ghost use Rattle.xls_csv.specs.Boxes.{IsSeparated, PutsBox, lent_view, row_end};
 ghost use Rattle.xls_csv.specs.Steps.{PutsFields};
-ghost use Rattle.xls_csv.specs.Walk.{left_over, no_cell, row_over, rows_over, take_at, value_in};
+ghost use Rattle.xls_csv.specs.Walk.{left_over, no_cell, row_over, take_at, value_in, walk_box};
 
 use crate::ahead::Ahead;
 use crate::extent::Extent;
@@ -45,7 +45,8 @@ pub trait BoxBuffer: Gathers {
         formats: Option<&CellFormats<'_>>,
         cell: Option<SheetCell<'_>>,
     ) -> Result<(), AllocError>
-        ensures { OnOk result (AddsText ((fields form (lent_view formats.entry)).IsField (value_in cell.entry)) (Self.kept self.old) (Self.kept self.new)) };
+        ensures { OnOk result (AddsText ((fields form (lent_view formats.entry)).IsField (value_in cell.entry))
+            (Self.kept self.old) (Self.kept self.new)) };
 
     /// Appends a text as it is.
     fn push_str(&mut self, text: &str) -> Result<(), AllocError>
@@ -99,7 +100,8 @@ fn put_others<K: Sink, B: BoxBuffer>(
     row: u64,
 ) -> Result<(), Stop>
     requires { extent.left + extent.width ≤ 2 ^ 32 }
-    ensures puts { PutsEach (IsSeparated (B.fields form (lent_view formats.entry))) (row_over no_cell row (extent.left + 1) (extent.width - 1) cells.old)
+    ensures puts { PutsEach (IsSeparated (B.fields form (lent_view formats.entry)))
+        (row_over no_cell row (extent.left + 1) (extent.width - 1) cells.old)
         (output_of K.state B.kept out.old) (output_of K.state B.kept out.new) result }
     ensures cells { OnOk result (cells.new ≡ left_over no_cell row (extent.left + 1) (extent.width - 1) cells.old) }
 {
@@ -173,7 +175,7 @@ pub fn put_box<K: Sink, B: BoxBuffer>(
 ) -> Result<(), Stop>
     requires rows { extent.top + extent.height ≤ 2 ^ 32 }
     requires columns { extent.left + extent.width ≤ 2 ^ 32 }
-    ensures { PutsBox (B.fields form (lent_view formats.entry)) (rows_over no_cell extent.height extent.top extent.left extent.width cells.entry)
+    ensures { PutsBox (B.fields form (lent_view formats.entry)) (walk_box no_cell extent cells.entry)
         (output_of K.state B.kept out.old) (output_of K.state B.kept out.new) result }
 {
     for i in 0..extent.height {

@@ -1,7 +1,7 @@
 //! The box of a sheet's cells.
 
 ghost use Rattle.std.specs.Prelude.{◌≡◌, ◌≤◌, ◌^◌, ◌+◌};
-ghost use Rattle.xls_csv.specs.Dense.{box_between, box_of};
+ghost use Rattle.xls_csv.specs.Dense.{box_between, box_of, from_a1};
 
 use xls_data::Dimensions;
 use xls_view::FormattedSheet;
@@ -13,6 +13,22 @@ pub struct Extent {
     pub left: u64,
     pub height: u64,
     pub width: u64,
+}
+
+impl Extent {
+    /// The same rows and columns, and those before them.
+    pub fn from_a1(self) -> Extent
+        requires rows { self.top + self.height ≤ 2 ^ 32 }
+        requires columns { self.left + self.width ≤ 2 ^ 32 }
+        ensures { result ≡ from_a1 self }
+    {
+        Extent {
+            top: 0,
+            left: 0,
+            height: self.top + self.height,
+            width: self.left + self.width,
+        }
+    }
 }
 
 /// The box from one position to another, both included.

@@ -35,6 +35,15 @@ pub enum FieldStyle {
     Shown,
 }
 
+/// Where the rows and columns of a table begin.
+#[derive(Clone, Copy, Debug, PartialEq, Eq)]
+pub enum Origin {
+    /// With the first row and the first column that hold a cell.
+    Box,
+    /// With row 1 and column A.
+    A1,
+}
+
 /// How a sheet is written as CSV.
 #[derive(Clone, Copy, Debug, PartialEq, Eq)]
 pub struct Table {
@@ -45,4 +54,6 @@ pub struct Table {
     pub is_exact: bool,
     /// What the fields are, where they are not exact.
     pub style: FieldStyle,
+    /// Where it begins, likewise.
+    pub origin: Origin,
 }

@@ -17,7 +17,7 @@ mod values;
 mod words;
 
 pub use cell_lines::{CellLines, push_cell, push_shown_cell};
-pub use choices::{FieldStyle, Listing, SheetChoice, Table};
+pub use choices::{FieldStyle, Listing, Origin, SheetChoice, Table};
 pub use delimited::{
     Delimiter, end_row, push_failure_field, push_field, push_int_field, push_moment_field,
     push_number_field, push_separator, push_text_field, push_truth_field,

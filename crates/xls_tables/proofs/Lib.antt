@@ -1,3 +1,4 @@
+pub mod BoxLemmas
 pub mod FieldLemmas
 pub mod TableLemmas
 pub mod NameLemmas

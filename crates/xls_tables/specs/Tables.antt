@@ -4,12 +4,27 @@ use Rattle.xls_output.specs.Gathering.{Stops, Wrote}
 use Rattle.xls_output.specs.SinkState.{SinkState}
 use Rattle.xls_output.specs.declared.stop.Stop.{Stop}
 use Rattle.xls_csv.specs.Boxes.{BeginsBox, FieldForm, IsBox}
-use Rattle.xls_csv.specs.Walk.{Formatted}
+use Rattle.xls_csv.specs.Dense.{box_of, from_a1, rows_in}
+use Rattle.xls_csv.specs.Walk.{Formatted, no_cell}
+use Rattle.xls_csv.specs.declared.extent.Extent.{Extent}
+use Rattle.xls_readable.specs.declared.choices.Origin.{Origin}
+use Rattle.xls_readable.specs.declared.choices.Origin.TheVariants as origins
+use Rattle.xls_readable.specs.declared.choices.Origin.TheVariants.{A1}
+use Rattle.xls_view.specs.Formats.{FormattedCell}
 
 -- the byte order mark U+FEFF in UTF-8, where it is asked for
 abbrev pub byte_order_mark : Bool → List ℕ
 byte_order_mark true = 0xEF ∷ 0xBB ∷ 0xBF ∷ []
 byte_order_mark false = []
+
+-- the box of a table, by where it begins
+abbrev pub table_box : Origin → Extent → Extent
+table_box origins.Box box = box
+table_box A1 box = from_a1 box
+
+-- its rows: the value that was given to each position last, and else none
+abbrev pub table_rows : Origin → List FormattedCell → List (List Formatted)
+table_rows origin cells = rows_in no_cell cells (table_box origin (box_of cells))
 
 -- a table: the mark, where it is asked for, and the box of the rows
 abbrev pub IsTable : FieldForm → Bool → List (List Formatted) → List ℕ → Type 0

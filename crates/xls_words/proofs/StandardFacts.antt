@@ -3,6 +3,8 @@ use Rattle.std.proofs.Common.{◌≡◌, ℕ, Bool, true, false, List, [], ◌�
 use Rattle.xls_beside.specs.declared.topics.Topic.TheVariants.{Hidden, Books, Comments, Links}
 use Rattle.xls_readable.specs.declared.choices.FieldStyle.{FieldStyle}
 use Rattle.xls_readable.specs.declared.choices.FieldStyle.TheVariants.{Values}
+use Rattle.xls_readable.specs.declared.choices.Origin.{Origin}
+use Rattle.xls_readable.specs.declared.choices.Origin.TheVariants.{Box}
 use Rattle.xls_readable.specs.declared.choices.Listing.TheVariants.{Dump, Sheets, Formulas, Refs}
 use Rattle.xls_readable.specs.declared.choices.SheetChoice.{SheetChoice}
 use Rattle.xls_readable.specs.declared.choices.SheetChoice.TheVariants.{First}
@@ -49,8 +51,8 @@ known_two = refl
 pub known_plain : map plain_command every_word
     ≡ commands.Lines Dump Text ∷ commands.Lines Sheets Text ∷ commands.Check ∷ commands.Lines Formulas Text ∷ commands.Lines Refs Text
     ∷ commands.Beside Hidden Text ∷ commands.Beside Books Text ∷ commands.Beside Comments Text ∷ commands.Beside Links Text
-    ∷ commands.Props ∷ commands.Vba ∷ commands.Csv First (record { delimiter = 0x2C; begins_with_mark = false; is_exact = false; style = Values })
-    ∷ commands.Remake ∷ commands.Stream None ∷ commands.Streams ∷ []
+    ∷ commands.Props ∷ commands.Vba
+    ∷ commands.Csv First (record { delimiter = 0x2C; begins_with_mark = false; is_exact = false; style = Values; origin = Box }) ∷ commands.Remake ∷ commands.Stream None ∷ commands.Streams ∷ []
 known_plain = refl
 
 -- only `-` makes an option of a word, and only with something after it
@@ -60,19 +62,20 @@ known_options = refl
 
 -- ---- forms
 
-pub known_exact : (s : SheetChoice) (d : ℕ) (m : Bool) (f : FieldStyle) → map is_exact
+pub known_exact : (s : SheetChoice) (d : ℕ) (m : Bool) (f : FieldStyle) (o : Origin) → map is_exact
     (commands.Lines Dump Exact ∷ commands.Lines Sheets Exact ∷ commands.Lines Formulas Exact ∷ commands.Lines Refs Exact
-    ∷ commands.Csv s (record { delimiter = d; begins_with_mark = m; is_exact = true; style = f }) ∷ [])
+    ∷ commands.Csv s (record { delimiter = d; begins_with_mark = m; is_exact = true; style = f; origin = o }) ∷ [])
     ≡ true ∷ true ∷ true ∷ true ∷ true ∷ []
-known_exact s d m f = refl
+known_exact s d m f o = refl
 
-pub known_readable : (s : SheetChoice) (d : ℕ) (m : Bool) (f : FieldStyle) (path : _) → map is_exact
+pub known_readable : (s : SheetChoice) (d : ℕ) (m : Bool) (f : FieldStyle) (o : Origin) (path : _) → map is_exact
     (commands.Lines Dump Json ∷ commands.Lines Sheets Text ∷ commands.Lines Formulas Json ∷ commands.Lines Refs Text
-    ∷ commands.Csv s (record { delimiter = d; begins_with_mark = m; is_exact = false; style = f }) ∷ commands.Shown Text ∷ commands.Shown Json
+    ∷ commands.Csv s (record { delimiter = d; begins_with_mark = m; is_exact = false; style = f; origin = o })
+    ∷ commands.Shown Text ∷ commands.Shown Json
     ∷ commands.Check ∷ commands.Beside Hidden Text ∷ commands.Beside Hidden Json ∷ commands.Props ∷ commands.Vba ∷ commands.Remake
     ∷ commands.Stream path ∷ commands.Streams ∷ [])
     ≡ false ∷ false ∷ false ∷ false ∷ false ∷ false ∷ false ∷ false ∷ false ∷ false ∷ false ∷ false ∷ false ∷ false ∷ false ∷ []
-known_readable s d m f path = refl
+known_readable s d m f o path = refl
 
 -- ---- endings of files
 

@@ -2,6 +2,7 @@
 use Rattle.std.specs.Prelude.{◌≡◌, ◌⊎◌, ◌==◌, nat_lt, ℕ, Bool, true, false, None, List, [], ◌∷◌, length, map, codes, not, ◌&&◌, ◌||◌}
 use Rattle.xls_readable.specs.Choices.{IsNumbered}
 use Rattle.xls_readable.specs.declared.choices.FieldStyle.TheVariants.{Values}
+use Rattle.xls_readable.specs.declared.choices.Origin.TheVariants.{Box}
 use Rattle.xls_readable.specs.declared.choices.Listing.TheVariants as listing
 use Rattle.xls_readable.specs.declared.choices.SheetChoice.TheVariants.{First}
 use Rattle.xls_readable.specs.declared.forms.Form.{Form}
@@ -131,7 +132,8 @@ plain_command words.Check = commands.Check
 plain_command (words.Beside topic) = commands.Beside topic Text
 plain_command words.Props = commands.Props
 plain_command words.Vba = commands.Vba
-plain_command words.Csv = commands.Csv First (record { delimiter = 0x2C; begins_with_mark = false; is_exact = false; style = Values })
+plain_command words.Csv =
+    commands.Csv First (record { delimiter = 0x2C; begins_with_mark = false; is_exact = false; style = Values; origin = Box })
 plain_command words.Remake = commands.Remake
 plain_command words.Stream = commands.Stream None
 plain_command words.Streams = commands.Streams

@@ -181,6 +181,13 @@ const MARK: Argument = Argument {
     without: &[],
 };
 
+const FROM_A1: Argument = Argument {
+    name: "from-a1",
+    kind: ArgumentKind::Flag,
+    help: "Begin with row 1 and column A, in place of the first that hold a cell",
+    without: &["exact"],
+};
+
 /// The files of a command that reads many, and what it takes for them.
 static MANY_FILES: [Argument; 6] = [FILES, LIST, NULL, OUT, FORCE, SKIP];
 
@@ -208,13 +215,14 @@ pub(crate) static TWO_FORMS: [Argument; 4] = [JSON, PAGE, PASSWORD_FILE, PASSWOR
 pub(crate) static STREAM_OPTIONS: [Argument; 2] = [PASSWORD_FILE, PASSWORD];
 
 /// Those of a sheet as CSV.
-pub(crate) static SHEET_OPTIONS: [Argument; 10] = [
+pub(crate) static SHEET_OPTIONS: [Argument; 11] = [
     SHEET,
     NUMBER,
     ALL_SHEETS,
     DELIMITER,
     MARK,
     AS_SHOWN_CSV,
+    FROM_A1,
     EXACT_CSV,
     PAGE,
     PASSWORD_FILE,

@@ -17,7 +17,7 @@ use crate::word::Word;
 use clap::error::ErrorKind;
 use clap::{ArgMatches, Error};
 use std::alloc::{AllocError, Global};
-use xls_readable::{Delimiter, FieldStyle, Form, Listing, SheetChoice, Table};
+use xls_readable::{Delimiter, FieldStyle, Form, Listing, Origin, SheetChoice, Table};
 
 /// How the lines of a command are written.
 fn form_in(matches: &ArgMatches<'_>) -> Form {
@@ -163,6 +163,15 @@ fn style_in(matches: &ArgMatches<'_>) -> FieldStyle {
     }
 }
 
+/// Where a table begins.
+fn origin_in(matches: &ArgMatches<'_>) -> Origin {
+    if matches.get_flag("from-a1") {
+        Origin::A1
+    } else {
+        Origin::Box
+    }
+}
+
 /// How a sheet is written as CSV. None where the delimiter is none.
 fn table_in(matches: &ArgMatches<'_>) -> Option<Table> {
     Some(Table {
@@ -170,6 +179,7 @@ fn table_in(matches: &ArgMatches<'_>) -> Option<Table> {
         begins_with_mark: matches.get_flag("bom"),
         is_exact: matches.get_flag("exact"),
         style: style_in(matches),
+        origin: origin_in(matches),
     })
 }
 

@@ -7,7 +7,7 @@ ghost use Rattle.xls_words.specs.Requests.{CommandHasNumber, IsPlainRequest, are
 use crate::request::{Command, Files, Passwords, Request};
 use crate::word::{FileCount, Word};
 use std::alloc::{AllocError, Global};
-use xls_readable::{Delimiter, FieldStyle, Form, SheetChoice, Table};
+use xls_readable::{Delimiter, FieldStyle, Form, Origin, SheetChoice, Table};
 
 // A `-` with something after it.
 fn is_option(word: &str) -> bool
@@ -59,6 +59,7 @@ fn plain_command<'w>(word: Word) -> Command<'w>
                 begins_with_mark: false,
                 is_exact: false,
                 style: FieldStyle::Values,
+                origin: Origin::Box,
             },
         ),
         Word::Remake => Command::Remake,

@@ -1,6 +1,6 @@
 use Rattle.std.proofs.Common.{List, subst}
-use Rattle.xls_csv.specs.Walk.{Formatted, no_cell}
-use Rattle.xls_csv.proofs.WalkLemmas.{walks_dense}
+use Rattle.xls_csv.specs.Walk.{Formatted}
+use Rattle.xls_tables.proofs.BoxLemmas.{walks_table}
 use Rattle.xls_tables.specs.Rows.{form_fields}
 use Rattle.xls_tables.specs.Tables.{DeliversTable}
 use Rattle.xls_tables.proofs.table.write_table.Goals as goal
@@ -8,6 +8,6 @@ use Rattle.xls_tables.proofs.table.write_table.Goals as goal
 pub returns-clause-dense : goal.returns-clause-dense
 returns-clause-dense g c = λ ascending.
     let state = g.K.Sink.state in
-    let Delivers = λ (rows : List (List Formatted)). DeliversTable (form_fields c.args.style c.args.delimiter c.args.formats.now) c.args.begins_with_mark rows
+    let Delivers = λ (rows : List (List Formatted)). DeliversTable (form_fields c.args.table.now.style c.args.table.now.delimiter c.args.formats.now) c.args.table.now.begins_with_mark rows
     (state c.args.sink.now) (state c.write_rows.new.sink) c.write_rows.result in
-    subst Delivers (walks_dense no_cell c.args.cells.now ascending) c.write_rows.ensures
+    subst Delivers (walks_table c.args.table.now.origin c.args.cells.now ascending) c.write_rows.ensures
