@@ -1,0 +1,4 @@
+pub mod HexLemmas
+pub mod PlaceLemmas
+pub mod ColorLemmas
+pub mod StandardFacts

@@ -1,0 +1,8 @@
+use Rattle.std.proofs.Common.{◌≡◌, ◌++◌}
+use Rattle.xls_parts.specs.PartRecords.{globals_records}
+use Rattle.xls_styles.specs.Xfs.{xfs_of}
+use Rattle.xls_styles.proofs.xfs.read_xfs.Given as goal
+
+-- those so far and those that are left are all
+abbrev pub invariant-records : goal.invariant-records
+invariant-records l = l.found.items ++ xfs_of l.version l.r-iterator ≡ xfs_of l.version (globals_records l.stream)

@@ -1,0 +1,13 @@
+pub mod Fields
+pub mod Texts
+pub mod Sizes
+pub mod Colors
+pub mod Fonts
+pub mod Xfs
+pub mod Formats
+pub mod Marks
+pub mod Fills
+pub mod Alignments
+pub mod Borders
+pub mod Damages
+pub mod Styles
