@@ -1,0 +1,5 @@
+pub mod AscendingLemmas
+pub mod SettledLemmas
+pub mod PlaceLemmas
+pub mod TableLemmas
+pub mod StandardFacts

@@ -1,0 +1,7 @@
+pub mod Fields
+pub mod Order
+pub mod Cells
+pub mod Places
+pub mod Runs
+pub mod Tables
+pub mod Walking
