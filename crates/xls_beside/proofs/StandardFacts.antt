@@ -1,5 +1,6 @@
 -- Known values, so that a wrong rule in the specs does not check.
-use Rattle.std.proofs.Common.{◌≡◌, ℕ, List, [], ◌∷◌, ◌++◌, map, replicate, codes, Option, Some, None, Ok, Err, refl}
+use Rattle.std.proofs.Common.{◌≡◌, ℕ, pos, List, [], ◌∷◌, ◌++◌, map, replicate, codes, true, false, Option, Some, None, Ok, Err, refl}
+use Rattle.xls_dates.specs.declared.numbers.Number.TheVariants.{Hundredths}
 use Rattle.std.specs.Fmt.{digits}
 use Rattle.xls_data.specs.Sheets.{SheetContent}
 use Rattle.xls_data.specs.declared.sheets.SheetType.TheVariants.{WorkSheet}
@@ -35,13 +36,24 @@ use Rattle.xls_other_books.specs.declared.damage.DamagedRecord.{DamagedRecord as
 use Rattle.xls_other_books.specs.declared.damage.DamagedRecord.TheVariants as book_records
 use Rattle.xls_other_books.specs.declared.damage.Flaw.{Flaw as BookFlaw}
 use Rattle.xls_other_books.specs.declared.damage.Flaw.TheVariants as book_flaws
-use Rattle.xls_readable.specs.Items.{FieldItem, NamedItem, count, text, unknown, word}
+use Rattle.xls_styles.specs.Styles.{CellStyle, FontStyle, Styles, no_border}
+use Rattle.xls_styles.specs.declared.borders.Border.{Border}
+use Rattle.xls_styles.specs.declared.colors.Color.TheVariants as colors
+use Rattle.xls_styles.specs.declared.damage.Damage.{Damage as StyleDamage}
+use Rattle.xls_styles.specs.declared.damage.DamagedRecord.TheVariants as style_records
+use Rattle.xls_styles.specs.declared.damage.Flaw.TheVariants as style_flaws
+use Rattle.xls_styles.specs.declared.fonts.Script.TheVariants as scripts
+use Rattle.xls_styles.specs.declared.fonts.Underline.TheVariants as underlines
+use Rattle.xls_style_cells.specs.Cells.{no_runs}
+use Rattle.xls_readable.specs.Items.{FieldItem, NamedItem, count, number, text, unknown, word}
 use Rattle.xls_beside.specs.Books.{book_lines, linked_lines, outside_lines}
 use Rattle.xls_beside.specs.Comments.{comment}
-use Rattle.xls_beside.specs.Hidden.{frozen_members, hidden, run_members}
+use Rattle.xls_beside.specs.Hidden.{frozen_members, hidden}
+use Rattle.xls_beside.specs.Hidden as hidden_things
 use Rattle.xls_beside.specs.Lines.{Line, sheet}
 use Rattle.xls_beside.specs.Links.{link}
 use Rattle.xls_beside.specs.Parts.{lines_of_sheet, parts_from, sheet_lines}
+use Rattle.xls_beside.specs.Styles.{cell_lines, damaged_style, run_members, style_members}
 use Rattle.xls_beside.specs.declared.parts.SheetPart.{SheetPart}
 
 -- ---- lines
@@ -52,7 +64,7 @@ run why = record { first = 2; last = 65_535; why = why }
 abbrev members : List ℕ → List NamedItem
 members why = (codes "first", count 2) ∷ (codes "last", count 65_535) ∷ (codes "why", word why) ∷ []
 
-pub runs : map (λ (why : Why). run_members (run why)) (whys.Hidden ∷ whys.Filtered ∷ whys.Flat ∷ [])
+pub runs : map (λ (why : Why). hidden_things.run_members (run why)) (whys.Hidden ∷ whys.Filtered ∷ whys.Flat ∷ [])
     ≡ map members (codes "hidden" ∷ codes "filtered" ∷ codes "flat" ∷ [])
 runs = refl
 
@@ -285,3 +297,67 @@ pub books_first : linked_lines linked_books Biff8 ((0, named 65) ∷ (100, named
     ∷ sheet (named 65) ∷ cited_line_of (codes "b") (codes "S") [] ∷ sheet (named 66) ∷ []
 unfolding lib.Utf8.encode records.own_from records.outer_from records.records_within
 books_first = refl
+
+-- ---- how cells look
+
+abbrev font : FontStyle
+font = record {
+  marks = record { is_bold = true; is_italic = false; is_strike = true; underline = underlines.NoLine; script = scripts.Normal };
+  name = 0x42 ∷ 0xF6 ∷ [];
+  size = Some (record { twentieths = 205 });
+  color = colors.Rgb 0xFF0000;
+}
+
+abbrev hair : Border
+hair = record { line = record { number = 7 }; color = colors.Auto }
+
+abbrev look : CellStyle
+look = record {
+  font = font;
+  protection = record { is_unlocked = true; is_concealed = false };
+  code = codes "0.00";
+  fill = record { pattern = 4; color = colors.Rgb 0x00FF00; back = colors.Auto };
+  alignment = record { across = 2; down = 0; is_wrapped = true; is_shrunk = false; indent = 0; turn = 90 };
+  borders = record { left = hair; right = no_border; top = no_border; bottom = no_border; diagonals = 0; diagonal = no_border };
+}
+
+pub known_style : style_members (4, 2) look
+    ≡ (codes "row", count 4) ∷ (codes "column", count 2) ∷ (codes "marks", word (codes "bold strike unlocked"))
+    ∷ (codes "format", text (codes "0.00")) ∷ (codes "font", text (0x42 ∷ 0xC3 ∷ 0xB6 ∷ []))
+    ∷ (codes "size", number (Hundredths (pos 1_025))) ∷ (codes "colour", word (codes "#ff0000"))
+    ∷ (codes "fill", word (codes "4 #00ff00 auto")) ∷ (codes "alignment", word (codes "center top wrap turn:90"))
+    ∷ (codes "borders", word (codes "left:hair:auto")) ∷ []
+unfolding digits lib.Utf8.encode
+known_style = refl
+
+pub known_run : run_members (4, 2) (record { unit = 3; font = 5 }) font
+    ≡ (codes "row", count 4) ∷ (codes "column", count 2) ∷ (codes "from", count 3) ∷ (codes "marks", word (codes "bold strike"))
+    ∷ (codes "font", text (0x42 ∷ 0xC3 ∷ 0xB6 ∷ [])) ∷ (codes "size", number (Hundredths (pos 1_025)))
+    ∷ (codes "colour", word (codes "#ff0000")) ∷ []
+unfolding digits lib.Utf8.encode
+known_run = refl
+
+-- a cell of an XF that isn't there
+abbrev bare : Styles
+bare = record { version = Biff8; fonts = []; xfs = []; formats = []; palette = []; damages = [] }
+
+pub known_bare : cell_lines Biff8 bare [] ((4, 2), (7, no_runs))
+    ≡ record {
+      word = codes "style";
+      members = (codes "row", count 4) ∷ (codes "column", count 2) ∷ (codes "marks", word []) ∷ (codes "format", text [])
+          ∷ (codes "font", text []) ∷ (codes "size", unknown) ∷ (codes "colour", word (codes "auto")) ∷ (codes "fill", word [])
+          ∷ (codes "alignment", word []) ∷ (codes "borders", word []) ∷ [];
+    } ∷ []
+known_bare = refl
+
+abbrev short_font : StyleDamage
+short_font = record { record_name = style_records.Font; offset = 68; flaw = style_flaws.Short 15 14 }
+
+abbrev short_xf : StyleDamage
+short_xf = record { record_name = style_records.Xf; offset = 90; flaw = style_flaws.Short 20 16 }
+
+pub damaged_styles : map damaged_style (short_font ∷ short_xf ∷ [])
+    ≡ said (codes "Font") 68 unknown unknown (codes "shorter than 15 bytes: 14")
+    ∷ said (codes "XF") 90 unknown unknown (codes "shorter than 20 bytes: 16") ∷ []
+unfolding digits
+damaged_styles = refl

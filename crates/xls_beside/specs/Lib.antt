@@ -4,4 +4,6 @@ pub mod Hidden
 pub mod Comments
 pub mod Links
 pub mod Books
+pub mod Styles
+pub mod Words
 pub mod Topics

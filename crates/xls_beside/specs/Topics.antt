@@ -8,6 +8,7 @@ use Rattle.xls_beside.specs.Comments.{comments_lines}
 use Rattle.xls_beside.specs.Hidden.{hidden_lines}
 use Rattle.xls_beside.specs.Lines.{Line}
 use Rattle.xls_beside.specs.Links.{links_lines}
+use Rattle.xls_beside.specs.Styles.{styles_lines}
 use Rattle.xls_beside.specs.declared.topics.Topic.{Topic}
 use Rattle.xls_beside.specs.declared.topics.Topic.TheVariants as topics
 
@@ -17,3 +18,4 @@ beside_lines topics.Hidden version page sheets stream = hidden_lines version she
 beside_lines topics.Books version page sheets stream = books_lines version page sheets stream
 beside_lines topics.Comments version page sheets stream = comments_lines version page sheets stream
 beside_lines topics.Links version page sheets stream = links_lines version page sheets stream
+beside_lines topics.Styles version page sheets stream = styles_lines version page sheets stream

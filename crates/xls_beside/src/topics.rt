@@ -8,6 +8,7 @@ use crate::books::write_books;
 use crate::comments::write_comments;
 use crate::hidden::write_hidden;
 use crate::links::write_links;
+use crate::styles::write_styles;
 use std::alloc::Global;
 use xls_open::Globals;
 use xls_output::{Sink, Stop};
@@ -24,6 +25,8 @@ pub enum Topic {
     Comments,
     /// The hyperlinks of its sheets.
     Links,
+    /// How the cells of its sheets look.
+    Styles,
 }
 
 /// Writes the lines of a topic, by the stream of a workbook and its globals. At a refusal of the sink, or where memory
@@ -45,5 +48,6 @@ pub fn write_beside<K: Sink>(
         Topic::Books => write_books(alloc, sink, form, stream, globals),
         Topic::Comments => write_comments(alloc, sink, form, stream, globals),
         Topic::Links => write_links(alloc, sink, form, stream, globals),
+        Topic::Styles => write_styles(alloc, sink, form, stream, globals),
     }
 }

@@ -2,7 +2,7 @@
 use Rattle.std.proofs.Common.{◌≡◌, ◌≢◌, ◌≤◌, ℕ, ◌==◌, ◌||◌, Bool, true, false, List, [], ◌∷◌, length, refl, rules, subst}
 use Rattle.std.proofs.lemmas.List.Elements.{All-cons, All-nil, All-weaker}
 use Rattle.xls_files.specs.Paths.{HasNoSlash}
-use Rattle.xls_beside.specs.declared.topics.Topic.TheVariants.{Hidden, Books, Comments, Links}
+use Rattle.xls_beside.specs.declared.topics.Topic.TheVariants.{Hidden, Books, Comments, Links, Styles}
 use Rattle.xls_readable.specs.declared.choices.Listing.TheVariants.{Dump, Sheets, Formulas, Refs}
 use Rattle.xls_readable.specs.declared.forms.Form.TheVariants.{Text, Json, Exact}
 use Rattle.xls_tables.specs.FileNames.{IsSafeByte, IsSafeName}
@@ -38,6 +38,7 @@ word-has-no-slash (words.Beside Hidden) = no_slash (word_text (words.Beside Hidd
 word-has-no-slash (words.Beside Books) = no_slash (word_text (words.Beside Books)) refl
 word-has-no-slash (words.Beside Comments) = no_slash (word_text (words.Beside Comments)) refl
 word-has-no-slash (words.Beside Links) = no_slash (word_text (words.Beside Links)) refl
+word-has-no-slash (words.Beside Styles) = no_slash (word_text (words.Beside Styles)) refl
 word-has-no-slash words.Props = no_slash (word_text words.Props) refl
 word-has-no-slash words.Vba = no_slash (word_text words.Vba) refl
 word-has-no-slash words.Csv = no_slash (word_text words.Csv) refl
@@ -70,14 +71,17 @@ ending-is-good (commands.Beside Hidden Text) = good (ending_of (commands.Beside 
 ending-is-good (commands.Beside Books Text) = good (ending_of (commands.Beside Books Text)) refl (search rules)
 ending-is-good (commands.Beside Comments Text) = good (ending_of (commands.Beside Comments Text)) refl (search rules)
 ending-is-good (commands.Beside Links Text) = good (ending_of (commands.Beside Links Text)) refl (search rules)
+ending-is-good (commands.Beside Styles Text) = good (ending_of (commands.Beside Styles Text)) refl (search rules)
 ending-is-good (commands.Beside Hidden Json) = good (ending_of (commands.Beside Hidden Json)) refl (search rules)
 ending-is-good (commands.Beside Books Json) = good (ending_of (commands.Beside Books Json)) refl (search rules)
 ending-is-good (commands.Beside Comments Json) = good (ending_of (commands.Beside Comments Json)) refl (search rules)
 ending-is-good (commands.Beside Links Json) = good (ending_of (commands.Beside Links Json)) refl (search rules)
+ending-is-good (commands.Beside Styles Json) = good (ending_of (commands.Beside Styles Json)) refl (search rules)
 ending-is-good (commands.Beside Hidden Exact) = good (ending_of (commands.Beside Hidden Exact)) refl (search rules)
 ending-is-good (commands.Beside Books Exact) = good (ending_of (commands.Beside Books Exact)) refl (search rules)
 ending-is-good (commands.Beside Comments Exact) = good (ending_of (commands.Beside Comments Exact)) refl (search rules)
 ending-is-good (commands.Beside Links Exact) = good (ending_of (commands.Beside Links Exact)) refl (search rules)
+ending-is-good (commands.Beside Styles Exact) = good (ending_of (commands.Beside Styles Exact)) refl (search rules)
 ending-is-good commands.Props = good (ending_of commands.Props) refl (search rules)
 ending-is-good commands.Vba = good (ending_of commands.Vba) refl (search rules)
 ending-is-good (commands.Csv choice table) = good (ending_of (commands.Csv choice table)) refl (search rules)

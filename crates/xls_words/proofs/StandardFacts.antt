@@ -1,6 +1,6 @@
 -- The commands of `xls`, as docs/xls.md has them, so that a wrong row in the definitions does not check.
 use Rattle.std.proofs.Common.{◌≡◌, ℕ, Bool, true, false, List, [], ◌∷◌, None, map, refl, codes}
-use Rattle.xls_beside.specs.declared.topics.Topic.TheVariants.{Hidden, Books, Comments, Links}
+use Rattle.xls_beside.specs.declared.topics.Topic.TheVariants.{Hidden, Books, Comments, Links, Styles}
 use Rattle.xls_readable.specs.declared.choices.FieldStyle.{FieldStyle}
 use Rattle.xls_readable.specs.declared.choices.FieldStyle.TheVariants.{Values}
 use Rattle.xls_readable.specs.declared.choices.Origin.{Origin}
@@ -19,31 +19,31 @@ use Rattle.xls_words.specs.declared.word.Word.TheVariants as words
 -- in the order of help
 abbrev every_word : List Word
 every_word = words.Lines Dump ∷ words.Lines Sheets ∷ words.Check ∷ words.Lines Formulas ∷ words.Lines Refs ∷ words.Beside Hidden
-    ∷ words.Beside Books ∷ words.Beside Comments ∷ words.Beside Links
+    ∷ words.Beside Books ∷ words.Beside Comments ∷ words.Beside Links ∷ words.Beside Styles
     ∷ words.Props ∷ words.Vba ∷ words.Csv ∷ words.Remake ∷ words.Stream ∷ words.Streams ∷ []
 
 pub known_words : map word_text every_word
     ≡ codes "dump" ∷ codes "sheets" ∷ codes "check" ∷ codes "formulas" ∷ codes "refs" ∷ codes "hidden" ∷ codes "books" ∷ codes "comments"
-    ∷ codes "links" ∷ codes "props" ∷ codes "vba" ∷ codes "csv"
+    ∷ codes "links" ∷ codes "styles" ∷ codes "props" ∷ codes "vba" ∷ codes "csv"
     ∷ codes "remake" ∷ codes "stream" ∷ codes "streams" ∷ []
 known_words = refl
 
 -- ---- how many files: none, one, two
 
 pub known_many : map takes_many every_word
-    ≡ true ∷ true ∷ true ∷ true ∷ true ∷ true ∷ true ∷ true ∷ true ∷ true ∷ true ∷ true ∷ false ∷ false ∷ false ∷ []
+    ≡ true ∷ true ∷ true ∷ true ∷ true ∷ true ∷ true ∷ true ∷ true ∷ true ∷ true ∷ true ∷ true ∷ false ∷ false ∷ false ∷ []
 known_many = refl
 
 pub known_none : map (λ w. takes w 0) every_word
-    ≡ false ∷ false ∷ false ∷ false ∷ false ∷ false ∷ false ∷ false ∷ false ∷ false ∷ false ∷ false ∷ false ∷ false ∷ false ∷ []
+    ≡ false ∷ false ∷ false ∷ false ∷ false ∷ false ∷ false ∷ false ∷ false ∷ false ∷ false ∷ false ∷ false ∷ false ∷ false ∷ false ∷ []
 known_none = refl
 
 pub known_one : map (λ w. takes w 1) every_word
-    ≡ true ∷ true ∷ true ∷ true ∷ true ∷ true ∷ true ∷ true ∷ true ∷ true ∷ true ∷ true ∷ true ∷ false ∷ true ∷ []
+    ≡ true ∷ true ∷ true ∷ true ∷ true ∷ true ∷ true ∷ true ∷ true ∷ true ∷ true ∷ true ∷ true ∷ true ∷ false ∷ true ∷ []
 known_one = refl
 
 pub known_two : map (λ w. takes w 2) every_word
-    ≡ true ∷ true ∷ true ∷ true ∷ true ∷ true ∷ true ∷ true ∷ true ∷ true ∷ true ∷ true ∷ false ∷ false ∷ false ∷ []
+    ≡ true ∷ true ∷ true ∷ true ∷ true ∷ true ∷ true ∷ true ∷ true ∷ true ∷ true ∷ true ∷ true ∷ false ∷ false ∷ false ∷ []
 known_two = refl
 
 -- ---- without options
@@ -51,8 +51,10 @@ known_two = refl
 pub known_plain : map plain_command every_word
     ≡ commands.Lines Dump Text ∷ commands.Lines Sheets Text ∷ commands.Check ∷ commands.Lines Formulas Text ∷ commands.Lines Refs Text
     ∷ commands.Beside Hidden Text ∷ commands.Beside Books Text ∷ commands.Beside Comments Text ∷ commands.Beside Links Text
+    ∷ commands.Beside Styles Text
     ∷ commands.Props ∷ commands.Vba
-    ∷ commands.Csv First (record { delimiter = 0x2C; begins_with_mark = false; is_exact = false; style = Values; origin = Box }) ∷ commands.Remake ∷ commands.Stream None ∷ commands.Streams ∷ []
+    ∷ commands.Csv First (record { delimiter = 0x2C; begins_with_mark = false; is_exact = false; style = Values; origin = Box })
+    ∷ commands.Remake ∷ commands.Stream None ∷ commands.Streams ∷ []
 known_plain = refl
 
 -- only `-` makes an option of a word, and only with something after it

@@ -1,6 +1,6 @@
 -- The commands, as a table.
 use Rattle.std.specs.Prelude.{ℕ, Bool, true, false, List, codes}
-use Rattle.xls_beside.specs.declared.topics.Topic.TheVariants.{Hidden, Books, Comments, Links}
+use Rattle.xls_beside.specs.declared.topics.Topic.TheVariants.{Hidden, Books, Comments, Links, Styles}
 use Rattle.xls_readable.specs.declared.choices.Listing.TheVariants.{Dump, Sheets, Formulas, Refs}
 use Rattle.xls_words.specs.declared.word.FileCount.{FileCount}
 use Rattle.xls_words.specs.declared.word.FileCount.TheVariants.{Many, One, OneAndPath}
@@ -23,6 +23,7 @@ command (words.Beside Hidden) = record { name = codes "hidden"; files = Many; en
 command (words.Beside Books) = record { name = codes "books"; files = Many; ending = codes "txt" }
 command (words.Beside Comments) = record { name = codes "comments"; files = Many; ending = codes "txt" }
 command (words.Beside Links) = record { name = codes "links"; files = Many; ending = codes "txt" }
+command (words.Beside Styles) = record { name = codes "styles"; files = Many; ending = codes "txt" }
 command words.Props = record { name = codes "props"; files = Many; ending = codes "txt" }
 command words.Vba = record { name = codes "vba"; files = Many; ending = codes "txt" }
 command words.Csv = record { name = codes "csv"; files = Many; ending = codes "csv" }

@@ -29,7 +29,7 @@ pub enum Word {
 }
 
 /// All commands, in the order of help.
-pub(crate) const ALL: [Word; 15] = [
+pub(crate) const ALL: [Word; 16] = [
     Word::Lines(Listing::Dump),
     Word::Lines(Listing::Sheets),
     Word::Check,
@@ -39,6 +39,7 @@ pub(crate) const ALL: [Word; 15] = [
     Word::Beside(Topic::Books),
     Word::Beside(Topic::Comments),
     Word::Beside(Topic::Links),
+    Word::Beside(Topic::Styles),
     Word::Props,
     Word::Vba,
     Word::Csv,
@@ -156,6 +157,14 @@ impl Word {
                 options: &TWO_FORMS,
                 ending: "txt",
             },
+            Word::Beside(Topic::Styles) => Row {
+                name: "styles",
+                title: "xls styles",
+                about: "How each cell looks: font, number format, fill, alignment, borders",
+                files: FileCount::Many,
+                options: &TWO_FORMS,
+                ending: "txt",
+            },
             Word::Props => Row {
                 name: "props",
                 title: "xls props",
@@ -221,6 +230,7 @@ impl Word {
             "books" => Some(Word::Beside(Topic::Books)),
             "comments" => Some(Word::Beside(Topic::Comments)),
             "links" => Some(Word::Beside(Topic::Links)),
+            "styles" => Some(Word::Beside(Topic::Styles)),
             "props" => Some(Word::Props),
             "vba" => Some(Word::Vba),
             "csv" => Some(Word::Csv),
