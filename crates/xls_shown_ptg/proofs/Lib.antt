@@ -1,0 +1,2 @@
+mod TokenFacts
+mod ArrayFacts
