@@ -1,0 +1,4 @@
+mod LeafLemmas
+mod NumberLemmas
+mod ArrayLemmas
+mod LeafFacts

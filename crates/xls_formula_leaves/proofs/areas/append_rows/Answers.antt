@@ -1,0 +1,9 @@
+use Rattle.xls_bytes.proofs.GrownLemmas.{IsGrown-trans}
+use Rattle.xls_formula_leaves.proofs.areas.append_rows.Goals as goal
+
+pub returns-in_err-append_colon-clause-grown : goal.returns-in_err-append_colon-clause-grown
+returns-in_err-append_colon-clause-grown c = IsGrown-trans _ _ _ c.append_row.ensures.grown c.append_colon.ensures.grown
+
+pub returns-clause-grown : goal.returns-clause-grown
+returns-clause-grown c = IsGrown-trans _ _ _ (IsGrown-trans _ _ _ c.append_row.ensures.grown c.append_colon.ensures.grown)
+    c.append_row-2.ensures.grown

@@ -1,0 +1,4 @@
+pub mod Operators
+pub mod Cells
+pub mod Constants
+pub mod Answers
