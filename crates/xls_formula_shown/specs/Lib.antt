@@ -1,0 +1,4 @@
+pub mod Scope
+pub mod State
+pub mod ShownEffects
+pub mod ShownFold
