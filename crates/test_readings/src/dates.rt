@@ -2,6 +2,7 @@
 
 use std::alloc::{AllocError, Global};
 use std::test::Fail;
+use xls_number_formats::SectionItems;
 use xls_shown_dates::{moment_of, one_moment, push_moment, read_clock};
 
 static DATES: [(&str, u64, bool, &str); 8] = [
@@ -32,12 +33,13 @@ fn is_date(
     is_1904: bool,
     expected: &str,
 ) -> Result<bool, AllocError> {
-    let clock = read_clock(code);
+    let section = SectionItems::new(alloc, code)?;
+    let clock = read_clock(&section);
     let Some(moment) = moment_of(bits, is_1904, clock.precision()) else {
         return Ok(expected == "none");
     };
     let mut text = String::from_str(alloc, "$")?;
-    push_moment(code, clock, &moment, &mut text)?;
+    push_moment(&section, clock, &moment, &mut text)?;
     Ok(text.as_str() == expected)
 }
 

@@ -3,8 +3,8 @@
 use std::alloc::{AllocError, Global};
 use std::test::Fail;
 use xls_number_formats::{
-    Choice, Class, Format, Item, Items, Kind, Place, built_in_code, class_of, items_spell_the_code,
-    push_shown_text, read_section,
+    Choice, Class, Format, Item, Items, Kind, Place, SectionItems, built_in_code, class_of,
+    items_spell_the_code, push_shown_text, read_section, texts_code,
 };
 
 const HALF: u64 = 0x3FE0_0000_0000_0000;
@@ -30,7 +30,10 @@ static TEXTS: [(&str, &str, &str); 4] = [
 
 fn is_text(alloc: Global, code: &str, text: &str, expected: &str) -> Result<bool, AllocError> {
     let mut shown = String::from_str(alloc, "$")?;
-    push_shown_text(code, text, &mut shown)?;
+    match texts_code(code) {
+        Some(section) => push_shown_text(&SectionItems::new(alloc, section)?, text, &mut shown)?,
+        None => shown.push_str(text)?,
+    }
     Ok(shown.as_str() == expected)
 }
 

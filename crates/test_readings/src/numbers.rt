@@ -2,6 +2,7 @@
 
 use std::alloc::{AllocError, Global};
 use std::test::Fail;
+use xls_number_formats::SectionItems;
 use xls_rounding::to_15_digits;
 use xls_shown_numbers::{push_general_double, push_plain, read_plain, shows_whole_numbers};
 
@@ -32,9 +33,10 @@ fn is_general(alloc: Global, bits: u64, expected: &str) -> Result<bool, AllocErr
 }
 
 fn is_plain(alloc: Global, code: &str, bits: u64, expected: &str) -> Result<bool, AllocError> {
-    let plain = read_plain(code);
+    let section = SectionItems::new(alloc, code)?;
+    let plain = read_plain(&section);
     let mut text = String::from_str(alloc, "$")?;
-    push_plain(code, &plain, to_15_digits(bits), &mut text)?;
+    push_plain(&section, &plain, to_15_digits(bits), &mut text)?;
     Ok(text.as_str() == expected)
 }
 

@@ -73,13 +73,13 @@ fn is_number(
         return Ok(false);
     }
     let mut text = String::from_str(alloc, "$")?;
-    ShownFormat::new(code).push(bits, is_1904, &mut text)?;
+    ShownFormat::new(alloc, code)?.push(bits, is_1904, &mut text)?;
     Ok(text.as_str() == expected)
 }
 
 fn is_text(alloc: Global, code: &str, shown: &str, expected: &str) -> Result<bool, AllocError> {
     let mut text = String::from_str(alloc, "$")?;
-    ShownFormat::new(code).push_text(shown, &mut text)?;
+    ShownFormat::new(alloc, code)?.push_text(shown, &mut text)?;
     Ok(text.as_str() == expected)
 }
 

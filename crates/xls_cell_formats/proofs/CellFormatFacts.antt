@@ -1,5 +1,5 @@
 -- Known values: doubles of numbers, and what contents are under codes.
-use Rattle.std.proofs.Common.{◌≡◌, ℕ, ℤ, Bool, refl, map, [], ◌∷◌, pos, negsuc, codes, true, false}
+use Rattle.std.proofs.Common.{◌≡◌, ℤ, Bool, refl, map, [], ◌∷◌, pos, negsuc, codes, true, false}
 use Rattle.std.specs.Float.{float_with_sign, round_with}
 use Rattle.std.specs.Float.Ieee.{of_bits, of_fields, odd, lt, le, eq, ne, sub, add, neg, sum, round, units, size, to_unsigned, of_int, to_bits}
 use Rattle.xls_dates.specs.declared.numbers.Number.TheVariants.{Bits, Whole, Hundredths, BitsOver100}

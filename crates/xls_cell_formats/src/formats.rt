@@ -15,7 +15,7 @@ ghost use Rattle.xls_cell_formats.specs.Numbers.{content_under};
 
 use crate::contents::push_content;
 use crate::kept::KeptFormats;
-use crate::numbers::numeric_under;
+use crate::numbers::{numeric_under, numeric_under_code};
 use crate::places::{last_code, last_places};
 use std::alloc::{AllocError, Global};
 use std::marker::Model;
@@ -53,9 +53,10 @@ fn places_of(alloc: Global, view: &View<'_>) -> Result<Vec<usize>, AllocError>
 }
 
 /// The number formats of a workbook's cells. The code of each that an XF record names is read once, and borrowed from
-/// the view: so much memory is taken as there are formats in use. Contracts see the view.
+/// the view: so much memory is taken as the codes in use have items. Contracts see the view.
 #[derive(Drop)]
 pub struct CellFormats<'v> {
+    alloc: Global,
     view: &'v View<'v>,
     /// The place of the last Format record of each identifier, from 1 on, and 0 where it has none.
     places: Vec<usize>,
@@ -77,6 +78,7 @@ impl<'v> Model for CellFormats<'v> {
 
 /// Keeps the format of an identifier, if it isn't kept yet.
 fn keep<'v>(
+    alloc: Global,
     kept: &mut KeptFormats<'v>,
     view: &'v View<'v>,
     places: &[usize],
@@ -88,7 +90,11 @@ fn keep<'v>(
 {
     match kept.get(identifier) {
         Some(_) => Ok(()),
-        None => kept.keep(identifier, code_of_identifier(view, places, identifier)),
+        None => kept.keep(
+            alloc,
+            identifier,
+            code_of_identifier(view, places, identifier),
+        ),
     }
 }
 
@@ -102,9 +108,9 @@ fn keep_all<'v>(
     ensures { IfOk result (λ kept. AreKept (code_of_identifier view.now.codes) kept.places.items kept.formats.items) }
 {
     let mut kept = KeptFormats::new(alloc);
-    keep(&mut kept, view, places, 0)?;
+    keep(alloc, &mut kept, view, places, 0)?;
     'identifiers: for identifier in view.identifiers() {
-        keep(&mut kept, view, places, *identifier)?;
+        keep(alloc, &mut kept, view, places, *identifier)?;
     }
     Ok(kept)
 }
@@ -116,7 +122,12 @@ impl<'v> CellFormats<'v> {
     {
         let places = places_of(alloc, view)?;
         let kept = keep_all(alloc, view, &places)?;
-        Ok(CellFormats { view, places, kept })
+        Ok(CellFormats {
+            alloc,
+            view,
+            places,
+            kept,
+        })
     }
 
     /// The view whose cells they are of. Takes no memory.
@@ -151,11 +162,8 @@ impl<'v> CellFormats<'v> {
         match self.kept.get(identifier) {
             Some(format) => push_content(format, value, is_1904, buf),
             None => {
-                let format = ShownFormat::new(code_of_identifier(
-                    self.view,
-                    &self.places,
-                    identifier,
-                ));
+                let code = code_of_identifier(self.view, &self.places, identifier);
+                let format = ShownFormat::new(self.alloc, code)?;
                 push_content(&format, value, is_1904, buf)
             }
         }
@@ -172,12 +180,8 @@ impl<'v> CellFormats<'v> {
         match self.kept.get(identifier) {
             Some(format) => numeric_under(format, number, is_1904),
             None => {
-                let format = ShownFormat::new(code_of_identifier(
-                    self.view,
-                    &self.places,
-                    identifier,
-                ));
-                numeric_under(&format, number, is_1904)
+                let code = code_of_identifier(self.view, &self.places, identifier);
+                numeric_under_code(code, number, is_1904)
             }
         }
     }

@@ -41,12 +41,17 @@ impl<'v> KeptFormats<'v> {
     }
 
     /// Reads the format of an identifier, which has this code.
-    pub(crate) fn keep(&mut self, identifier: u16, code: &'v str) -> Result<(), AllocError>
+    pub(crate) fn keep(
+        &mut self,
+        alloc: Global,
+        identifier: u16,
+        code: &'v str,
+    ) -> Result<(), AllocError>
         ensures { OnOk result ((c : ℕ → List ℕ) → c identifier ≡ chars code.now
             → AreKept c self.old.places.items self.old.formats.items → AreKept c self.new.places.items self.new.formats.items) }
     {
         let place = self.formats.len() + 1;
-        self.formats.push(ShownFormat::new(code))?;
+        self.formats.push(ShownFormat::new(alloc, code)?)?;
         put_place(&mut self.places, identifier, place)
     }
 }

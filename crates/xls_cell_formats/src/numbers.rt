@@ -1,17 +1,17 @@
 //! A number under a format.
 
-ghost use Rattle.std.specs.Prelude.{◌≡◌, OnOk, OnErr};
+ghost use Rattle.std.specs.Prelude.{◌≡◌, Some, OnOk, OnErr};
 ghost use Rattle.std.specs.String.{string_bytes};
 ghost use Rattle.std.specs.Str.{chars};
 ghost use Rattle.xls_data.specs.Numeric.{numeric_content};
 ghost use Rattle.xls_shown.specs.Shown.{Gains};
-ghost use Rattle.xls_cell_formats.specs.Numbers.{IsInDecimal, IsNumberShown, class_in_range, class_under, content_of_number, content_under, format_of_class};
+ghost use Rattle.xls_cell_formats.specs.Numbers.{IsInDecimal, IsNumberShown, class_in_range, class_under, content_of_number, content_under, format_of_class, number_in};
 
 use crate::doubles::{bits_of, is_finite};
 use std::alloc::AllocError;
 use xls_data::{CellFormat, Number, Numeric};
 use xls_decimals::{is_moment, is_span, push_decimal};
-use xls_number_formats::Class;
+use xls_number_formats::{Class, class_of};
 use xls_shown::ShownFormat;
 
 fn format_of_class(class: Class) -> CellFormat
@@ -54,19 +54,35 @@ fn numeric_of(class: CellFormat, number: Number, is_1904: bool) -> Numeric
     }
 }
 
+/// The number of a value.
+fn number_of(value: Numeric) -> Number
+    ensures { number_in (numeric_content value) ≡ Some result }
+{
+    match value {
+        Numeric::Int(n) => Number::Whole(n),
+        Numeric::Float(number) => number,
+        Numeric::DateTime(number, _) => number,
+        Numeric::TimeDelta(number, _) => number,
+    }
+}
+
 /// A number, whatever class it was given, with the class that it has under a format, in the 1900 or the 1904 date
 /// system. Takes no memory.
 pub fn numeric_under(format: &ShownFormat<'_>, value: Numeric, is_1904: bool) -> Numeric
     ensures { numeric_content result ≡ content_under format.now is_1904 (numeric_content value) }
 {
-    let number = match value {
-        Numeric::Int(n) => Number::Whole(n),
-        Numeric::Float(number) => number,
-        Numeric::DateTime(number, _) => number,
-        Numeric::TimeDelta(number, _) => number,
-    };
+    let number = number_of(value);
     let class = class_in_range(class_under(format, number), number, is_1904);
     numeric_of(class, number, is_1904)
+}
+
+/// The same under a format's code.
+pub(crate) fn numeric_under_code(code: &str, value: Numeric, is_1904: bool) -> Numeric
+    ensures { numeric_content result ≡ content_under (chars code.now) is_1904 (numeric_content value) }
+{
+    let number = number_of(value);
+    let class = format_of_class(class_of(code, bits_of(number)));
+    numeric_of(class_in_range(class, number, is_1904), number, is_1904)
 }
 
 /// Appends a number in decimal.

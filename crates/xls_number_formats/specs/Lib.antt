@@ -1,6 +1,7 @@
 pub mod Grammar
 pub mod Cuts
 pub mod Walk
+pub mod SectionItems
 pub mod Sections
 pub mod Scans
 pub mod Choices

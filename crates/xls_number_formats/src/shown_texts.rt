@@ -5,12 +5,11 @@ ghost use Rattle.std.specs.String.{string_bytes};
 ghost use Rattle.std.specs.Str.{chars};
 ghost use Rattle.std.specs.List.{flat_map};
 ghost use Rattle.xls_bytes.specs.Growth.{IsGrown};
-ghost use Rattle.xls_number_formats.specs.Grammar.{items};
-ghost use Rattle.xls_number_formats.specs.Texts.{shown_by, shown_token, texts_code, shown_text};
+ghost use Rattle.xls_number_formats.specs.Texts.{shown_by, shown_token, texts_code};
 
 use crate::formats::Format;
 use crate::items::Item;
-use crate::walk::Items;
+use crate::section_items::SectionItems;
 use std::alloc::AllocError;
 
 // What an item with its own text shows of the text of a cell.
@@ -26,20 +25,24 @@ fn shown_by<'a>(item: Item, own: &'a str, text: &'a str) -> &'a str
 }
 
 // Appends what the items of a section show of a text; an error may leave a part.
-fn append_section(section: &str, text: &str, buf: &mut String) -> Result<(), AllocError>
+fn append_section(
+    section: &SectionItems<'_>,
+    text: &str,
+    buf: &mut String,
+) -> Result<(), AllocError>
     ensures ok { OnOk result (chars (string_bytes buf.new)
-        ≡ chars (string_bytes buf.old) ++ flat_map (shown_token (chars text.now)) (items (chars section.now))) }
+        ≡ chars (string_bytes buf.old) ++ flat_map (shown_token (chars text.now)) section.now) }
     ensures grown { IsGrown (string_bytes buf.old) (string_bytes buf.new) }
 {
-    let mut items = Items::new(section);
+    let mut items = section.iter();
     'items: while let Some((item, own)) = items.next() {
         buf.push_str(shown_by(item, own, text))?;
     }
     Ok(())
 }
 
-// The code from the section for texts on.
-fn texts_code(code: &str) -> Option<&str>
+/// The code from the section for texts on, if there is one. Takes no memory.
+pub fn texts_code(code: &str) -> Option<&str>
     ensures { MatchOption result (texts_code (chars code.now) ≡ None)
         (λ section. texts_code (chars code.now) ≡ Some (chars section.now)) }
 {
@@ -48,18 +51,18 @@ fn texts_code(code: &str) -> Option<&str>
     format.code(place)
 }
 
-/// Appends what a text is shown as under a number format's code. In the section for texts each `@` is
-/// the text, a place and elapsed time are nothing, and every other item stands for itself; without
-/// such a section the text is shown as it is. Only running out of memory refuses, and then `buf` is as
-/// it was.
-pub fn push_shown_text(code: &str, text: &str, buf: &mut String) -> Result<(), AllocError>
+/// Appends what a text is shown as by a section for texts: each `@` is the text, a place and elapsed
+/// time are nothing, and every other item stands for itself. (Under a code without such a section a
+/// text is shown as it is.) Only running out of memory refuses, and then `buf` is as it was.
+pub fn push_shown_text(
+    section: &SectionItems<'_>,
+    text: &str,
+    buf: &mut String,
+) -> Result<(), AllocError>
     ensures ok { OnOk result (chars (string_bytes buf.new)
-        ≡ chars (string_bytes buf.old) ++ shown_text (chars code.now) (chars text.now)) }
+        ≡ chars (string_bytes buf.old) ++ flat_map (shown_token (chars text.now)) section.now) }
     ensures err { OnErr result (string_bytes buf.new ≡ string_bytes buf.old) }
 {
-    let Some(section) = texts_code(code) else {
-        return buf.push_str(text);
-    };
     let before = buf.len();
     let done = append_section(section, text, buf);
     if done.is_err() {

@@ -1,9 +1,10 @@
 -- For the proofs: what a section needs of its items.
-use Rattle.std.specs.Prelude.{◌≡◌, ℕ, List, [], ◌∷◌}
+use Rattle.std.specs.Prelude.{◌≡◌, ℕ, List, [], ◌∷◌, Option, Some, None}
 use Rattle.xls_number_formats.specs.declared.items.Item.TheVariants as item
 use Rattle.xls_number_formats.specs.declared.sections.Kind.TheVariants as kind
-use Rattle.xls_number_formats.specs.Grammar.{Token}
+use Rattle.xls_number_formats.specs.Grammar.{Token, items}
 use Rattle.xls_number_formats.specs.Sections.{kinds, kind_of}
+use Rattle.xls_number_formats.specs.Texts.{texts_code}
 use Rattle.xls_shown_dates.specs.Fields.{fields, clock_of}
 use Rattle.xls_shown_numbers.specs.Plain.{plain_of}
 use Rattle.xls_shown_numbers.specs.Exponent as exponent
@@ -22,3 +23,8 @@ IsShapeOf shape.General ts = kind_of (kinds ts) ≡ kind.General
 IsShapeOf (shape.Fraction f) ts = (kind_of (kinds ts) ≡ kind.Fraction) × (f ≡ fraction.needs_of ts)
 IsShapeOf (shape.Exponent e) ts = (kind_of (kinds ts) ≡ kind.Exponent) × (e ≡ exponent.needs_of ts)
 IsShapeOf (shape.Plain p) ts = (kind_of (kinds ts) ≡ kind.Plain) × (p ≡ plain_of (kinds ts))
+
+-- the items of a code's section for texts, if it has one
+abbrev pub IsTextsSection : List ℕ → Option (List Token) → Type 0
+IsTextsSection cs None = texts_code cs ≡ None
+IsTextsSection cs (Some ts) = (code : List ℕ) × (texts_code cs ≡ Some code) × (ts ≡ items code)

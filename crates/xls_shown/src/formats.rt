@@ -1,24 +1,25 @@
 //! A code, and what it shows.
 
-ghost use Rattle.std.specs.Prelude.{◌≡◌, ◌<◌, ◌++◌, min, false, None, OnOk, OnErr};
+ghost use Rattle.std.specs.Prelude.{◌≡◌, ◌<◌, ◌++◌, min, IfOk, OnOk, OnErr};
 ghost use Rattle.std.specs.String.{string_bytes};
 ghost use Rattle.std.specs.Str.{chars};
 ghost use Rattle.xls_bytes.specs.Doubles.{exponent_of};
 ghost use Rattle.xls_bytes.specs.Growth.{IsGrown};
 ghost use Rattle.xls_number_formats.specs.Classes.{class_of};
 ghost use Rattle.xls_number_formats.specs.Formats.{parts_of};
-ghost use Rattle.xls_number_formats.specs.Texts.{texts_code};
+ghost use Rattle.xls_number_formats.specs.Grammar.{items};
 ghost use Rattle.xls_shown.specs.Shown.{Gains, code_at, IsShown, text_shown};
+ghost use Rattle.xls_shown.specs.Shapes.{IsTextsSection};
 
 use crate::numbers::{append_general, append_hashes, push_own};
 use crate::sections::ShownSection;
-use std::alloc::AllocError;
+use std::alloc::{AllocError, Global};
 use std::marker::Model;
 use xls_bytes::first_char;
-use xls_number_formats::{Choice, Class, Format, push_shown_text};
+use xls_number_formats::{Choice, Class, Format, SectionItems, push_shown_text, texts_code};
 
-/// A number format's code, of which what it needs of its items is read once. It borrows the code and
-/// takes no memory. Contracts see the characters of the code.
+/// A number format's code, whose items are told apart once. It borrows the code, and takes memory for
+/// the items of four sections. Contracts see the characters of the code.
 #[derive(Drop)]
 pub struct ShownFormat<'a> {
     code: &'a str,
@@ -26,24 +27,25 @@ pub struct ShownFormat<'a> {
     first: ShownSection<'a>,
     second: ShownSection<'a>,
     third: ShownSection<'a>,
-    // Whether a section is for texts.
-    has_texts: bool,
+    // The section for texts.
+    texts: Option<SectionItems<'a>>,
 }
 
 impl<'a> Model for ShownFormat<'a> {
-    ghost use Rattle.std.specs.Prelude.{◌≡◌, ℕ, List, false, None};
+    ghost use Rattle.std.specs.Prelude.{◌≡◌, ℕ, List};
     ghost use Rattle.std.specs.Str.{chars};
     ghost use Rattle.xls_number_formats.specs.Formats.{parts_of};
-    ghost use Rattle.xls_number_formats.specs.Texts.{texts_code};
+    ghost use Rattle.xls_number_formats.specs.Grammar.{items};
     ghost use Rattle.xls_shown.specs.Shown.{code_at};
+    ghost use Rattle.xls_shown.specs.Shapes.{IsTextsSection};
 
     ghost Value = { List ℕ };
 
     ghost view = { λ f. chars f.code.now };
 
-    ghost invariant = { λ f. (f.format ≡ parts_of (chars f.code.now)) × (f.first ≡ code_at (chars f.code.now) 0)
-        × (f.second ≡ code_at (chars f.code.now) 1) × (f.third ≡ code_at (chars f.code.now) 2)
-        × (f.has_texts ≡ false → texts_code (chars f.code.now) ≡ None) };
+    ghost invariant = { λ f. (f.format ≡ parts_of (chars f.code.now)) × (f.first ≡ items (code_at (chars f.code.now) 0))
+        × (f.second ≡ items (code_at (chars f.code.now) 1)) × (f.third ≡ items (code_at (chars f.code.now) 2))
+        × IsTextsSection (chars f.code.now) f.texts };
 }
 
 // The code from a section on; an empty one without that section.
@@ -58,32 +60,34 @@ fn code_at<'a>(format: &Format<'a>, code: &'a str, place: usize) -> &'a str
     }
 }
 
-// Whether a section of the code is for texts.
-fn has_texts(format: &Format<'_>, code: &str) -> bool
-    requires { format.now ≡ parts_of (chars code.now) }
-    ensures { result ≡ false → texts_code (chars code.now) ≡ None }
+// The items of the section for texts, if there is one.
+fn read_texts(alloc: Global, code: &str) -> Result<Option<SectionItems<'_>>, AllocError>
+    ensures { IfOk result (IsTextsSection (chars code.now)) }
 {
-    format.texts_at().is_some()
+    match texts_code(code) {
+        Some(section) => Ok(Some(SectionItems::new(alloc, section)?)),
+        None => Ok(None),
+    }
 }
 
 impl<'a> ShownFormat<'a> {
-    /// Every code has a meaning.
-    pub fn new(code: &'a str) -> ShownFormat<'a>
-        ensures { result ≡ chars code.now }
+    /// Every code has a meaning. Only running out of memory refuses.
+    pub fn new(alloc: Global, code: &'a str) -> Result<ShownFormat<'a>, AllocError>
+        ensures { IfOk result (λ format. format ≡ chars code.now) }
     {
         let format = Format::new(code);
-        let first = ShownSection::new(code_at(&format, code, 0));
-        let second = ShownSection::new(code_at(&format, code, 1));
-        let third = ShownSection::new(code_at(&format, code, 2));
-        let has_texts = has_texts(&format, code);
-        ShownFormat {
+        let first = ShownSection::new(alloc, code_at(&format, code, 0))?;
+        let second = ShownSection::new(alloc, code_at(&format, code, 1))?;
+        let third = ShownSection::new(alloc, code_at(&format, code, 2))?;
+        let texts = read_texts(alloc, code)?;
+        Ok(ShownFormat {
             code,
             format,
             first,
             second,
             third,
-            has_texts,
-        }
+            texts,
+        })
     }
 
     /// Whether the code shows the double with these bits as a date, as an elapsed time, or as a number, as
@@ -96,7 +100,7 @@ impl<'a> ShownFormat<'a> {
 
     // The section for numbers at this place, of which there are at most three.
     fn section(&self, place: usize) -> &ShownSection<'a>
-        ensures { result.now ≡ code_at self.now (min place 2) }
+        ensures { result.now ≡ items (code_at self.now (min place 2)) }
     {
         match place {
             0 => &self.first,
@@ -140,17 +144,17 @@ impl<'a> ShownFormat<'a> {
     }
 
     /// Appends what the code shows of a text, or of the words `TRUE` and `FALSE` for a truth, as
-    /// `push_shown_text` does; of an empty text nothing.
+    /// `push_shown_text` does, and as it is where no section is for texts; of an empty text nothing.
     pub fn push_text(&self, shown: &str, text: &mut String) -> Result<(), AllocError>
         ensures ok { OnOk result (chars (string_bytes text.new)
             ≡ chars (string_bytes text.old) ++ text_shown self.now (chars shown.now)) }
         ensures err { OnErr result (string_bytes text.new ≡ string_bytes text.old) }
     {
-        if !self.has_texts {
+        let Some(section) = &self.texts else {
             return push_own(shown, text);
-        }
+        };
         match first_char(shown) {
-            Some(_) => push_shown_text(self.code, shown, text),
+            Some(_) => push_shown_text(section, shown, text),
             None => Ok(()),
         }
     }

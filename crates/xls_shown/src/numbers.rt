@@ -7,7 +7,6 @@ ghost use Rattle.std.specs.List.{flat_map};
 ghost use Rattle.xls_bytes.specs.Doubles.{exponent_of};
 ghost use Rattle.xls_bytes.specs.Growth.{IsGrown};
 ghost use Rattle.xls_rounding.specs.Rounding.{decimal_of};
-ghost use Rattle.xls_number_formats.specs.Grammar.{items};
 ghost use Rattle.xls_number_formats.specs.Sections.{kinds};
 ghost use Rattle.xls_number_formats.specs.Texts.{shown_by};
 ghost use Rattle.xls_shown_dates.specs.Fields.{fields, clock_of};
@@ -21,7 +20,7 @@ ghost use Rattle.xls_shown_fractions.specs.Texts.{fraction_text};
 ghost use Rattle.xls_shown.specs.Shown.{Gains, sign, hashes, general_item, general_token, general_text, IsDateShown};
 
 use std::alloc::AllocError;
-use xls_number_formats::{Item, Items};
+use xls_number_formats::{Item, SectionItems};
 use xls_rounding::to_15_digits;
 use xls_shown_dates::{Clock, Moment, moment_of, push_moment};
 use xls_shown_fractions::{Fraction, push_fraction};
@@ -110,12 +109,16 @@ fn append_general_item(
     }
 }
 
-fn append_general_items(code: &str, bits: u64, text: &mut String) -> Result<(), AllocError>
+fn append_general_items(
+    section: &SectionItems<'_>,
+    bits: u64,
+    text: &mut String,
+) -> Result<(), AllocError>
     ensures ok { OnOk result (chars (string_bytes text.new)
-        ≡ chars (string_bytes text.old) ++ general_text (items (chars code.now)) (decimal_of bits)) }
+        ≡ chars (string_bytes text.old) ++ general_text section.now (decimal_of bits)) }
     ensures grown { IsGrown (string_bytes text.old) (string_bytes text.new) }
 {
-    let mut items = Items::new(code);
+    let mut items = section.iter();
     'items: while let Some((item, own)) = items.next() {
         append_general_item(bits, item, own, text)?;
     }
@@ -124,103 +127,103 @@ fn append_general_items(code: &str, bits: u64, text: &mut String) -> Result<(), 
 
 // Appends a number under a section with `General`.
 pub(crate) fn append_general_section(
-    code: &str,
+    section: &SectionItems<'_>,
     minus: bool,
     bits: u64,
     text: &mut String,
 ) -> Result<(), AllocError>
     ensures ok { OnOk result (chars (string_bytes text.new)
-        ≡ chars (string_bytes text.old) ++ (sign minus ++ general_text (items (chars code.now)) (decimal_of bits))) }
+        ≡ chars (string_bytes text.old) ++ (sign minus ++ general_text section.now (decimal_of bits))) }
     ensures grown { IsGrown (string_bytes text.old) (string_bytes text.new) }
 {
     append_sign(minus, text)?;
-    append_general_items(code, bits, text)
+    append_general_items(section, bits, text)
 }
 
 // Appends a number under a section of places.
 pub(crate) fn append_plain(
-    code: &str,
+    section: &SectionItems<'_>,
     plain: &Plain,
     minus: bool,
     bits: u64,
     text: &mut String,
 ) -> Result<(), AllocError>
-    requires { plain.now ≡ plain_of (kinds (items (chars code.now))) }
+    requires { plain.now ≡ plain_of (kinds section.now) }
     ensures ok { OnOk result (chars (string_bytes text.new)
-        ≡ chars (string_bytes text.old) ++ (sign minus ++ plain_text (items (chars code.now)) (decimal_of bits))) }
+        ≡ chars (string_bytes text.old) ++ (sign minus ++ plain_text section.now (decimal_of bits))) }
     ensures grown { IsGrown (string_bytes text.old) (string_bytes text.new) }
 {
     append_sign(minus, text)?;
-    push_plain(code, plain, to_15_digits(bits), text)
+    push_plain(section, plain, to_15_digits(bits), text)
 }
 
 // Appends a number under a section with an exponent.
 pub(crate) fn append_exponent(
-    code: &str,
+    section: &SectionItems<'_>,
     exponent: &Exponent,
     minus: bool,
     bits: u64,
     text: &mut String,
 ) -> Result<(), AllocError>
-    requires { exponent.now ≡ exponents.needs_of (items (chars code.now)) }
+    requires { exponent.now ≡ exponents.needs_of section.now }
     ensures ok { OnOk result (chars (string_bytes text.new)
-        ≡ chars (string_bytes text.old) ++ (sign minus ++ exponent_text (items (chars code.now)) (decimal_of bits))) }
+        ≡ chars (string_bytes text.old) ++ (sign minus ++ exponent_text section.now (decimal_of bits))) }
     ensures grown { IsGrown (string_bytes text.old) (string_bytes text.new) }
 {
     append_sign(minus, text)?;
-    push_exponent(code, exponent, to_15_digits(bits), text)
+    push_exponent(section, exponent, to_15_digits(bits), text)
 }
 
 // Appends a number under a section with a fraction.
 pub(crate) fn append_fraction(
-    code: &str,
+    section: &SectionItems<'_>,
     fraction: &Fraction,
     minus: bool,
     bits: u64,
     text: &mut String,
 ) -> Result<(), AllocError>
     requires finite { exponent_of bits < 2047 }
-    requires fraction { fraction.now ≡ fractions.needs_of (items (chars code.now)) }
+    requires fraction { fraction.now ≡ fractions.needs_of section.now }
     ensures ok { OnOk result (chars (string_bytes text.new)
-        ≡ chars (string_bytes text.old) ++ (sign minus ++ fraction_text (items (chars code.now)) bits)) }
+        ≡ chars (string_bytes text.old) ++ (sign minus ++ fraction_text section.now bits)) }
     ensures grown { IsGrown (string_bytes text.old) (string_bytes text.new) }
 {
     append_sign(minus, text)?;
-    push_fraction(code, fraction, bits, text)
+    push_fraction(section, fraction, bits, text)
 }
 
 // Appends a moment under a date's section.
 fn append_moment(
-    code: &str,
+    section: &SectionItems<'_>,
     clock: Clock,
     minus: bool,
     moment: &Moment,
     text: &mut String,
 ) -> Result<(), AllocError>
     ensures ok { OnOk result (chars (string_bytes text.new)
-        ≡ chars (string_bytes text.old) ++ (sign minus ++ section_text clock moment.now (items (chars code.now)))) }
+        ≡ chars (string_bytes text.old) ++ (sign minus ++ section_text clock moment.now section.now)) }
     ensures grown { IsGrown (string_bytes text.old) (string_bytes text.new) }
 {
     append_sign(minus, text)?;
-    push_moment(code, clock, moment, text)
+    push_moment(section, clock, moment, text)
 }
 
 // Appends a number under a date's section.
 pub(crate) fn append_date(
-    code: &str,
+    section: &SectionItems<'_>,
     clock: Clock,
     minus: bool,
     bits: u64,
     is_1904: bool,
     text: &mut String,
 ) -> Result<(), AllocError>
-    requires { clock ≡ clock_of (fields (items (chars code.now))) }
-    ensures ok { OnOk result (Gains (λ shown. IsDateShown (items (chars code.now)) minus is_1904 bits shown)
+    requires { clock ≡ clock_of (fields section.now) }
+    ensures ok { OnOk result (Gains (λ shown. IsDateShown section.now minus is_1904 bits shown)
         (chars (string_bytes text.old)) (chars (string_bytes text.new))) }
     ensures grown { IsGrown (string_bytes text.old) (string_bytes text.new) }
 {
     match moment_of(bits, is_1904, clock.precision()) {
         None => append_hashes(text),
-        Some(moment) => append_moment(code, clock, minus, &moment, text),
+        Some(moment) => append_moment(section, clock, minus, &moment, text),
     }
 }

@@ -1,6 +1,6 @@
 //! A section of a code with what it needs of its items.
 
-ghost use Rattle.std.specs.Prelude.{◌≡◌, ◌<◌, true, OnOk};
+ghost use Rattle.std.specs.Prelude.{◌≡◌, ◌<◌, true, IfOk, OnOk};
 ghost use Rattle.std.specs.String.{string_bytes};
 ghost use Rattle.std.specs.Str.{chars};
 ghost use Rattle.xls_bytes.specs.Doubles.{exponent_of};
@@ -15,9 +15,9 @@ use crate::numbers::{
     append_date, append_exponent, append_fraction, append_general, append_general_section,
     append_plain,
 };
-use std::alloc::AllocError;
+use std::alloc::{AllocError, Global};
 use std::marker::Model;
-use xls_number_formats::{Item, Items, Kind, read_section};
+use xls_number_formats::{Item, Kind, SectionItems, read_section};
 use xls_shown_dates::{Clock, read_clock};
 use xls_shown_fractions::{Fraction, read_fraction};
 use xls_shown_numbers::{Exponent, Plain, read_exponent, read_plain};
@@ -34,24 +34,23 @@ enum Shape {
     Plain(Plain),
 }
 
-// The first section of a code.
+// A section's items, and how it shows numbers.
 #[derive(Drop)]
 pub(crate) struct ShownSection<'a> {
-    code: &'a str,
+    items: SectionItems<'a>,
     shape: Shape,
 }
 
 impl<'a> Model for ShownSection<'a> {
-    ghost use Rattle.std.specs.Prelude.{ℕ, List};
-    ghost use Rattle.std.specs.Str.{chars};
-    ghost use Rattle.xls_number_formats.specs.Grammar.{items};
+    ghost use Rattle.std.specs.Prelude.{List};
+    ghost use Rattle.xls_number_formats.specs.Grammar.{Token};
     ghost use Rattle.xls_shown.specs.Shapes.{IsShapeOf};
 
-    ghost Value = { List ℕ };
+    ghost Value = { List Token };
 
-    ghost view = { λ s. chars s.code.now };
+    ghost view = { λ s. s.items };
 
-    ghost invariant = { λ s. IsShapeOf s.shape (items (chars s.code.now)) };
+    ghost invariant = { λ s. IsShapeOf s.shape s.items };
 }
 
 fn kind_of(code: &str) -> Kind
@@ -62,10 +61,10 @@ fn kind_of(code: &str) -> Kind
 }
 
 // Whether the word is the only item.
-fn is_general_alone(code: &str) -> bool
-    ensures { result ≡ true → IsGeneralAlone (items (chars code.now)) }
+fn is_general_alone(section: &SectionItems<'_>) -> bool
+    ensures { result ≡ true → IsGeneralAlone section.now }
 {
-    let mut items = Items::new(code);
+    let mut items = section.iter();
     let Some((Item::General, _)) = items.next() else {
         return false;
     };
@@ -73,38 +72,39 @@ fn is_general_alone(code: &str) -> bool
 }
 
 // How a section with the word shows numbers.
-fn read_general(code: &str) -> Shape
-    requires { kind_of (kinds (items (chars code.now))) ≡ General }
-    ensures { IsShapeOf result (items (chars code.now)) }
+fn read_general(section: &SectionItems<'_>) -> Shape
+    requires { kind_of (kinds section.now) ≡ General }
+    ensures { IsShapeOf result section.now }
 {
-    if is_general_alone(code) {
+    if is_general_alone(section) {
         Shape::GeneralAlone
     } else {
         Shape::General
     }
 }
 
-fn read_shape(code: &str) -> Shape
-    ensures { IsShapeOf result (items (chars code.now)) }
+// How a section of this kind shows numbers.
+fn read_shape(kind: Kind, section: &SectionItems<'_>) -> Shape
+    requires { kind ≡ kind_of (kinds section.now) }
+    ensures { IsShapeOf result section.now }
 {
-    match kind_of(code) {
-        Kind::Date => Shape::Date(read_clock(code)),
-        Kind::General => read_general(code),
-        Kind::Fraction => Shape::Fraction(read_fraction(code)),
-        Kind::Exponent => Shape::Exponent(read_exponent(code)),
-        Kind::Plain => Shape::Plain(read_plain(code)),
+    match kind {
+        Kind::Date => Shape::Date(read_clock(section)),
+        Kind::General => read_general(section),
+        Kind::Fraction => Shape::Fraction(read_fraction(section)),
+        Kind::Exponent => Shape::Exponent(read_exponent(section)),
+        Kind::Plain => Shape::Plain(read_plain(section)),
     }
 }
 
 impl<'a> ShownSection<'a> {
-    // Takes no memory.
-    pub(crate) fn new(code: &'a str) -> ShownSection<'a>
-        ensures { result ≡ chars code.now }
+    // The first section of a code.
+    pub(crate) fn new(alloc: Global, code: &'a str) -> Result<ShownSection<'a>, AllocError>
+        ensures { IfOk result (λ section. section ≡ items (chars code.now)) }
     {
-        ShownSection {
-            code,
-            shape: read_shape(code),
-        }
+        let items = SectionItems::new(alloc, code)?;
+        let shape = read_shape(kind_of(code), &items);
+        Ok(ShownSection { items, shape })
     }
 
     // Appends what the section shows of a finite double; an error may leave a part.
@@ -117,17 +117,18 @@ impl<'a> ShownSection<'a> {
     ) -> Result<(), AllocError>
         requires { exponent_of bits < 2047 }
         ensures ok { OnOk result (Gains
-            (λ shown. IsSectionShown (kind_of (kinds (items self.now))) (items self.now) minus is_1904 bits shown)
+            (λ shown. IsSectionShown (kind_of (kinds self.now)) self.now minus is_1904 bits shown)
             (chars (string_bytes text.old)) (chars (string_bytes text.new))) }
         ensures grown { IsGrown (string_bytes text.old) (string_bytes text.new) }
     {
+        let items = &self.items;
         match &self.shape {
-            Shape::Date(clock) => append_date(self.code, *clock, minus, bits, is_1904, text),
+            Shape::Date(clock) => append_date(items, *clock, minus, bits, is_1904, text),
             Shape::GeneralAlone => append_general(minus, bits, text),
-            Shape::General => append_general_section(self.code, minus, bits, text),
-            Shape::Fraction(fraction) => append_fraction(self.code, fraction, minus, bits, text),
-            Shape::Exponent(exponent) => append_exponent(self.code, exponent, minus, bits, text),
-            Shape::Plain(plain) => append_plain(self.code, plain, minus, bits, text),
+            Shape::General => append_general_section(items, minus, bits, text),
+            Shape::Fraction(fraction) => append_fraction(items, fraction, minus, bits, text),
+            Shape::Exponent(exponent) => append_exponent(items, exponent, minus, bits, text),
+            Shape::Plain(plain) => append_plain(items, plain, minus, bits, text),
         }
     }
 }

@@ -2,13 +2,12 @@
 
 ghost use Rattle.std.specs.Prelude.{◌≡◌};
 ghost use Rattle.std.specs.Str.{chars};
-ghost use Rattle.xls_number_formats.specs.Grammar.{items};
 ghost use Rattle.xls_shown_dates.specs.Fields.{is_time, is_half_day, fields, clock_of, precision_of};
 ghost use Rattle.xls_shown_dates.specs.Scans.{scanned};
 
 use crate::fields::{Field, field_of, letter_after, look_ahead, next_letter, zeros_after};
 use crate::moments::Precision;
-use xls_number_formats::Items;
+use xls_number_formats::SectionItems;
 
 /// What a date's section needs of a time.
 #[derive(Clone, Copy, Debug, PartialEq, Eq)]
@@ -64,9 +63,9 @@ fn scanned(clock: Clock, field: Field) -> Clock
     }
 }
 
-/// What the first section of a code needs of a time. Takes no memory.
-pub fn read_clock(code: &str) -> Clock
-    ensures { result ≡ clock_of (fields (items (chars code.now))) }
+/// What a section needs of a time. Takes no memory.
+pub fn read_clock(section: &SectionItems<'_>) -> Clock
+    ensures { result ≡ clock_of (fields section.now) }
 {
     let mut clock = Clock {
         has_time: false,
@@ -78,8 +77,8 @@ pub fn read_clock(code: &str) -> Clock
         has_elapsed_minutes: false,
         has_elapsed_seconds: false,
     };
-    let mut items = Items::new(code);
-    let mut ahead = Items::new(code);
+    let mut items = section.iter();
+    let mut ahead = section.iter();
     let mut behind = next_letter(&mut ahead);
     let mut before = None;
     let mut zeros = None;

@@ -2,11 +2,10 @@
 
 ghost use Rattle.std.specs.Prelude.{◌≡◌, drop, length};
 ghost use Rattle.std.specs.Str.{chars};
-ghost use Rattle.xls_number_formats.specs.Walk.{items_left};
 ghost use Rattle.xls_shown_dates.specs.Fields.{letter_in, letters, first, letter_after, zeros_after, is_clock_letter, is_seconds_letter, month_or_minutes, letters_field, elapsed_field, zero_field, field_of};
 ghost use Rattle.xls_shown_dates.specs.Scans.{LooksAhead};
 
-use xls_number_formats::{Item, Items, Letter, Place};
+use xls_number_formats::{Item, Letter, Place, SectionIter};
 
 /// What an item of a date's section stands for.
 #[derive(Clone, Copy, Debug, PartialEq, Eq)]
@@ -50,9 +49,9 @@ pub(crate) fn letter_in(item: Item) -> Option<Letter>
 }
 
 // The first letters of the items left.
-pub(crate) fn next_letter(items: &mut Items<'_>) -> Option<Letter>
-    ensures letter { result ≡ first (letters (items_left items.old)) }
-    ensures rest { letters (items_left items.new) ≡ drop 1 (letters (items_left items.old)) }
+pub(crate) fn next_letter(items: &mut SectionIter<'_, '_>) -> Option<Letter>
+    ensures letter { result ≡ first (letters items.old) }
+    ensures rest { letters items.new ≡ drop 1 (letters items.old) }
 {
     'items: while let Some((item, _)) = items.next() {
         if let Some(letter) = letter_in(item) {
@@ -67,9 +66,9 @@ pub(crate) fn next_letter(items: &mut Items<'_>) -> Option<Letter>
 pub(crate) fn look_ahead(
     item: Item,
     behind: Option<Letter>,
-    ahead: &mut Items<'_>,
+    ahead: &mut SectionIter<'_, '_>,
 ) -> Option<Letter>
-    ensures { LooksAhead (letter_in item) behind (letters (items_left ahead.old)) result (letters (items_left ahead.new)) }
+    ensures { LooksAhead (letter_in item) behind (letters ahead.old) result (letters ahead.new) }
 {
     match letter_in(item) {
         Some(_) => next_letter(ahead),

@@ -6,7 +6,6 @@ ghost use Rattle.std.specs.String.{string_bytes};
 ghost use Rattle.std.specs.List.{list_any, before_first, after_first};
 ghost use Rattle.xls_bytes.specs.Growth.{IsGrown};
 ghost use Rattle.xls_bytes.specs.Characters.{is};
-ghost use Rattle.xls_number_formats.specs.Grammar.{items};
 ghost use Rattle.xls_shown_dates.specs.Texts.{padded, year_text, month_name, month_text, day_name, day_text, all_hours, all_minutes, all_seconds, time_text, hour_shown, is_morning, field_text, section_text};
 ghost use Rattle.xls_shown_dates.specs.Shown.{shown_text};
 
@@ -17,7 +16,7 @@ use crate::fields::{
 use crate::moments::Moment;
 use std::alloc::AllocError;
 use xls_bytes::split_at_first;
-use xls_number_formats::Items;
+use xls_number_formats::SectionItems;
 
 // A number in at least so many digits, or a text.
 #[derive(Clone, Copy)]
@@ -255,17 +254,17 @@ fn append_shown(shown: Shown<'_>, text: &mut String) -> Result<(), AllocError>
 
 // Appends what a section shows of a moment; an error may leave a part.
 fn append_section(
-    code: &str,
+    section: &SectionItems<'_>,
     clock: Clock,
     moment: &Moment,
     text: &mut String,
 ) -> Result<(), AllocError>
     ensures ok { OnOk result (chars (string_bytes text.new)
-        ≡ chars (string_bytes text.old) ++ section_text clock moment.now (items (chars code.now))) }
+        ≡ chars (string_bytes text.old) ++ section_text clock moment.now section.now) }
     ensures grown { IsGrown (string_bytes text.old) (string_bytes text.new) }
 {
-    let mut items = Items::new(code);
-    let mut ahead = Items::new(code);
+    let mut items = section.iter();
+    let mut ahead = section.iter();
     let mut behind = next_letter(&mut ahead);
     let mut before = None;
     let mut zeros = None;
@@ -279,20 +278,20 @@ fn append_section(
     Ok(())
 }
 
-/// Appends what the first section of a code, a date's, shows of a moment; `clock` is what the section
+/// Appends what a section, a date's, shows of a moment; `clock` is what the section
 /// needs, by `read_clock`. Only running out of memory refuses, and then `text` is as it was.
 pub fn push_moment(
-    code: &str,
+    section: &SectionItems<'_>,
     clock: Clock,
     moment: &Moment,
     text: &mut String,
 ) -> Result<(), AllocError>
     ensures ok { OnOk result (chars (string_bytes text.new)
-        ≡ chars (string_bytes text.old) ++ section_text clock moment.now (items (chars code.now))) }
+        ≡ chars (string_bytes text.old) ++ section_text clock moment.now section.now) }
     ensures err { OnErr result (string_bytes text.new ≡ string_bytes text.old) }
 {
     let before = text.len();
-    let done = append_section(code, clock, moment, text);
+    let done = append_section(section, clock, moment, text);
     if done.is_err() {
         text.truncate(before);
     }

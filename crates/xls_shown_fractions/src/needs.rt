@@ -2,7 +2,7 @@
 
 ghost use Rattle.std.specs.Prelude.{◌≡◌, ◌<◌, ◌≤◌, ◌^◌, ◌&&◌, length};
 ghost use Rattle.std.specs.Str.{chars};
-ghost use Rattle.xls_number_formats.specs.Grammar.{is_place, items};
+ghost use Rattle.xls_number_formats.specs.Grammar.{is_place};
 ghost use Rattle.xls_number_formats.specs.Sections.{kinds};
 ghost use Rattle.xls_shown_numbers.specs.Plain.{is_zero};
 ghost use Rattle.xls_shown_fractions.specs.Roles.{at_start, spot_all};
@@ -11,7 +11,7 @@ ghost use Rattle.xls_shown_fractions.specs.Scans.{scanned, no_items, needs_by, s
 
 use crate::roles::{AT_START, Role, Spot, is_place, is_zero, one_more, role_of, spot_after};
 use xls_bytes::first_char;
-use xls_number_formats::{Item, Items, Place};
+use xls_number_formats::{Item, Place, SectionItems};
 
 /// What a section with a fraction needs of its items.
 #[derive(Clone, Copy, Debug, PartialEq, Eq)]
@@ -139,11 +139,11 @@ fn scanned(scan: Scan, whole: u64, spot: Spot, item: Item, own: &str) -> Scan
 }
 
 // The items of a section.
-fn spot_all(code: &str) -> Spot
-    ensures { result ≡ spot_all at_start (kinds (items (chars code.now))) }
+fn spot_all(section: &SectionItems<'_>) -> Spot
+    ensures { result ≡ spot_all at_start (kinds section.now) }
 {
     let mut spot = AT_START;
-    let mut items = Items::new(code);
+    let mut items = section.iter();
     'items: while let Some((item, _)) = items.next() {
         spot = spot_after(spot, item);
     }
@@ -151,12 +151,12 @@ fn spot_all(code: &str) -> Spot
 }
 
 // What there is of the parts, where so many places are whole.
-fn scan_all(code: &str, whole: u64) -> Scan
-    ensures { result ≡ scan_of whole (items (chars code.now)) }
+fn scan_all(section: &SectionItems<'_>, whole: u64) -> Scan
+    ensures { result ≡ scan_of whole section.now }
 {
     let mut scan = NO_ITEMS;
     let mut spot = AT_START;
-    let mut items = Items::new(code);
+    let mut items = section.iter();
     'items: while let Some((item, own)) = items.next() {
         scan = scanned(scan, whole, spot, item, own);
         spot = spot_after(spot, item);
@@ -187,11 +187,11 @@ fn needs_by(all: Spot, whole: u64, scan: Scan) -> Fraction
     }
 }
 
-/// What the first section of a code, one with a fraction, needs of its items. Takes no memory.
-pub fn read_fraction(code: &str) -> Fraction
-    ensures { result ≡ needs_of (items (chars code.now)) }
+/// What a section, one with a fraction, needs of its items. Takes no memory.
+pub fn read_fraction(section: &SectionItems<'_>) -> Fraction
+    ensures { result ≡ needs_of section.now }
 {
-    let all = spot_all(code);
+    let all = spot_all(section);
     let whole = all.placed.saturating_sub(all.last);
-    needs_by(all, whole, scan_all(code, whole))
+    needs_by(all, whole, scan_all(section, whole))
 }

@@ -5,7 +5,6 @@ ghost use Rattle.std.specs.String.{string_bytes};
 ghost use Rattle.std.specs.Str.{chars};
 ghost use Rattle.xls_bytes.specs.Doubles.{exponent_of};
 ghost use Rattle.xls_bytes.specs.Growth.{IsGrown};
-ghost use Rattle.xls_number_formats.specs.Grammar.{items};
 ghost use Rattle.xls_number_formats.specs.Texts.{shown_by};
 ghost use Rattle.xls_shown_numbers.specs.Numbers.{value};
 ghost use Rattle.xls_shown_fractions.specs.Roles.{at_start, role_of};
@@ -18,7 +17,7 @@ use crate::ratios::{Ratio, ratio_of};
 use crate::roles::{AT_START, Role, Spot, role_of, spot_after};
 use std::alloc::AllocError;
 use xls_bytes::first_char;
-use xls_number_formats::{Item, Items, Place};
+use xls_number_formats::{Item, Place, SectionItems};
 use xls_shown_numbers::{Number, append_place, is_zero, size};
 
 // What is done with the text of an item.
@@ -284,7 +283,7 @@ fn append_token(
 
 // Appends what all items show; an error may leave a part.
 fn append_ratio(
-    code: &str,
+    section: &SectionItems<'_>,
     fraction: &Fraction,
     ratio: Ratio,
     look: Look,
@@ -293,11 +292,11 @@ fn append_ratio(
     requires whole { ratio.whole.zeros ≤ 2 ^ 100 }
     requires numerator { ratio.numerator.zeros ≤ 2 ^ 100 }
     ensures ok { OnOk result (chars (string_bytes text.new) ≡ chars (string_bytes text.old)
-        ++ text_from fraction.now (mixed ratio) look at_start (items (chars code.now))) }
+        ++ text_from fraction.now (mixed ratio) look at_start section.now) }
     ensures grown { IsGrown (string_bytes text.old) (string_bytes text.new) }
 {
     let mut spot = AT_START;
-    let mut items = Items::new(code);
+    let mut items = section.iter();
     'items: while let Some((item, own)) = items.next() {
         append_token(fraction, ratio, look, spot, item, own, text)?;
         spot = spot_after(spot, item);
@@ -307,41 +306,41 @@ fn append_ratio(
 
 // As `push_fraction`, but an error may leave a part.
 fn append_fraction(
-    code: &str,
+    section: &SectionItems<'_>,
     fraction: &Fraction,
     bits: u64,
     text: &mut String,
 ) -> Result<(), AllocError>
     requires finite { exponent_of bits < 2047 }
-    requires fraction { fraction.now ≡ needs_of (items (chars code.now)) }
+    requires fraction { fraction.now ≡ needs_of section.now }
     ensures ok { OnOk result (chars (string_bytes text.new)
-        ≡ chars (string_bytes text.old) ++ fraction_text (items (chars code.now)) bits) }
+        ≡ chars (string_bytes text.old) ++ fraction_text section.now bits) }
     ensures grown { IsGrown (string_bytes text.old) (string_bytes text.new) }
 {
     let ratio = ratio_of(fraction, bits);
     let look = look_of(fraction, is_zero(ratio.whole), is_zero(ratio.numerator));
-    append_ratio(code, fraction, ratio, look, text)
+    append_ratio(section, fraction, ratio, look, text)
 }
 
-/// Appends the size of the finite double with these bits as the first section of a code shows it, one
+/// Appends the size of the finite double with these bits as a section shows it, one
 /// with a fraction such as `# ??/??`: the nearest fraction whose denominator has as many digits as
 /// places, or that over a fixed denominator, as `# ?/8`, by doubles as Excel does it. No sign is shown.
-/// `fraction` is what `read_fraction` gives of the code. Only running out of memory refuses, and then
+/// `fraction` is what `read_fraction` gives of the section. Only running out of memory refuses, and then
 /// the text is as it was.
 pub fn push_fraction(
-    code: &str,
+    section: &SectionItems<'_>,
     fraction: &Fraction,
     bits: u64,
     text: &mut String,
 ) -> Result<(), AllocError>
     requires finite { exponent_of bits < 2047 }
-    requires fraction { fraction.now ≡ needs_of (items (chars code.now)) }
+    requires fraction { fraction.now ≡ needs_of section.now }
     ensures ok { OnOk result (chars (string_bytes text.new)
-        ≡ chars (string_bytes text.old) ++ fraction_text (items (chars code.now)) bits) }
+        ≡ chars (string_bytes text.old) ++ fraction_text section.now bits) }
     ensures err { OnErr result (string_bytes text.new ≡ string_bytes text.old) }
 {
     let before = text.len();
-    let done = append_fraction(code, fraction, bits, text);
+    let done = append_fraction(section, fraction, bits, text);
     if done.is_err() {
         text.truncate(before);
     }

@@ -5,7 +5,7 @@ use Rattle.std.proofs.lemmas.Bool.{false≢true}
 use Rattle.xls_number_formats.specs.declared.items.Place.TheVariants as place
 use Rattle.xls_number_formats.specs.declared.items.Item.{Item}
 use Rattle.xls_number_formats.specs.declared.items.Item.TheVariants as item
-use Rattle.xls_number_formats.specs.Grammar.{Token, is_place, items}
+use Rattle.xls_number_formats.specs.Grammar.{Token, is_place}
 use Rattle.xls_number_formats.specs.Sections.{is_exponent, kinds}
 use Rattle.xls_shown_numbers.specs.declared.parts.Part.{Part}
 use Rattle.xls_shown_numbers.specs.declared.parts.Part.TheVariants as part
@@ -14,8 +14,7 @@ use Rattle.xls_shown_numbers.specs.declared.plain.Plain.{Plain}
 use Rattle.xls_shown_numbers.specs.Plain.{one_more, none_seen, seen_after, seen_all, item_text, text_from}
 use Rattle.xls_shown_numbers.specs.Exponent.{mantissa, zeroed, zeroed_from, places_in, places_behind, needs_of, behind_text, behind_from, exponent_from}
 use Rattle.xls_shown_numbers.specs.Parts.{part_of, filled}
-use Rattle.std.specs.Str.{chars}
-use Rattle.xls_shown_numbers.proofs.PlainLemmas.{one_within, few_items}
+use Rattle.xls_shown_numbers.proofs.PlainLemmas.{one_within}
 use Rattle.xls_shown_numbers.proofs.ShownLemmas.{text_more}
 
 mantissa_len : (ts : List Token) → length (mantissa ts) ≤ length ts
@@ -100,9 +99,8 @@ seen_whole : (s : Seen) (ts : List Token) (all : ℕ) → s.whole + length ts �
 seen_whole s [] all p = omega (arith, p)
 seen_whole s (t ∷ ts) all p = seen_whole (seen_after s t.0) ts all (one_within _ s.whole (length ts) all (omega (arith, p)))
 
-pub few_whole : (bs : List ℕ) → length bs < 2 ^ 63 → (needs_of (items (chars bs))).mantissa.seen.whole < 2 ^ 63
-few_whole bs short =
-    let few = few_items bs short in
-    let less = mantissa_len (items (chars bs)) in
-    let whole = seen_whole none_seen (mantissa (items (chars bs))) (length (items (chars bs))) (omega (arith, less)) in
+pub few_whole : (ts : List Token) → length ts < 2 ^ 63 → (needs_of ts).mantissa.seen.whole < 2 ^ 63
+few_whole ts few =
+    let less = mantissa_len ts in
+    let whole = seen_whole none_seen (mantissa ts) (length ts) (omega (arith, less)) in
     omega (arith, few, whole)

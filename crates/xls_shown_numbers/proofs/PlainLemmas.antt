@@ -1,42 +1,10 @@
 -- Counts over the items of a section.
-use Rattle.std.proofs.Common.{◌≡◌, ℕ, zero, suc, ◌+◌, ◌^◌, ◌<◌, ◌≤◌, Bool, true, false, ◌&&◌, ◌||◌, ◌==◌, if◌then◌else◌, List, [], ◌∷◌, length, ◌*◌, ◌-◌, refl, arith, ap, sym, ◌∙◌}
-use Rattle.std.specs.Str.{chars, chars_after, continuation_len, lead_bits}
+use Rattle.std.proofs.Common.{◌≡◌, ℕ, suc, ◌+◌, ◌^◌, ◌<◌, ◌≤◌, Bool, true, false, ◌&&◌, ◌||◌, List, ◌∷◌, length, refl, arith, ap, sym, ◌∙◌}
 use Rattle.xls_number_formats.specs.declared.items.Item.{Item}
-use Rattle.xls_number_formats.specs.Grammar.{Token, is_place, head_of, items_from, items}
+use Rattle.xls_number_formats.specs.Grammar.{Token}
 use Rattle.xls_number_formats.specs.Sections.{kinds}
 use Rattle.xls_shown_numbers.specs.declared.plain.Seen.{Seen}
 use Rattle.xls_shown_numbers.specs.Plain.{one_more, seen_after, none_seen, seen_all, is_comma, groups, divides, grouping_from, thousands_from}
-
--- no more characters than bytes
-after_len : (n c : ℕ) (bs : List ℕ) → length (chars_after n c bs) ≤ suc (length bs)
-after_len zero c [] = omega arith
-after_len zero c (b ∷ bs) = let less = after_len (continuation_len b) (lead_bits b) bs in omega arith
-after_len (suc n) c [] = omega arith
-after_len (suc n) c (b ∷ bs) = let less = after_len n (c * 64 + (b - 128)) bs in omega arith
-
-chars_len : (bs : List ℕ) → length (chars bs) ≤ length bs
-unfolding chars
-chars_len [] = omega arith
-chars_len (b ∷ bs) = after_len (continuation_len b) (lead_bits b) bs
-
-item_len : (ends : Bool) (t : Token) (ts : List Token) (n : ℕ) → length ts ≤ n → length (if ends then [] else t ∷ ts) ≤ suc n
-item_len true t ts n p = omega arith
-item_len false t ts n p = omega arith
-
--- no more items than characters
-items_len : (more : ℕ) (placed : Bool) (cs : List ℕ) → length (items_from more placed cs) ≤ length cs
-items_len more placed [] = omega arith
-items_len (suc more) placed (c ∷ cs) = let less = items_len more placed cs in omega arith
-items_len zero placed (c ∷ cs) =
-    let first = head_of placed c cs in
-    item_len (c == 59) (first.item, first.text) (items_from first.more (placed || is_place first.item) cs) (length cs)
-    (items_len first.more (placed || is_place first.item) cs)
-
-pub few_items : (bs : List ℕ) → length bs < 2 ^ 63 → length (items (chars bs)) < 2 ^ 63
-few_items bs p =
-    let one = items_len 0 false (chars bs) in
-    let other = chars_len bs in
-    omega arith
 
 -- counts of no more than the items so far, with so many left
 pub record IsWithin (s : Seen) (left all : ℕ) : Type 0 where

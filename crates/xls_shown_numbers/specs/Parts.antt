@@ -4,7 +4,6 @@ use Rattle.std.specs.Str.{chars}
 use denote.Bor.{Bor}
 use Rattle.xls_number_formats.specs.declared.items.Item.{Item}
 use Rattle.xls_number_formats.specs.Grammar.{Token}
-use Rattle.xls_number_formats.specs.Walk.{Left, items_left}
 use Rattle.xls_shown_numbers.specs.declared.parts.Part.{Part}
 use Rattle.xls_shown_numbers.specs.declared.parts.Part.TheVariants as part
 use Rattle.xls_shown_numbers.specs.declared.plain.Seen.{Seen}
@@ -17,10 +16,10 @@ part_of part.Mantissa ts = mantissa ts
 
 pub record Rest : Type 0 where
   pub part : Part
-  pub left : Left
+  pub left : List Token
 
 abbrev pub tokens_left : Rest → List Token
-tokens_left rest = part_of rest.part (items_left rest.left)
+tokens_left rest = part_of rest.part rest.left
 
 abbrev pub Steps : Rest → Option (Item × Bor (List ℕ)) → Rest → Type 0
 Steps before given after =

@@ -5,9 +5,8 @@ ghost use Rattle.std.specs.String.{string_bytes};
 ghost use Rattle.std.specs.Str.{chars};
 ghost use Rattle.xls_bytes.specs.Growth.{IsGrown};
 ghost use Rattle.xls_rounding.specs.Rounding.{magnitude_of};
-ghost use Rattle.xls_number_formats.specs.Grammar.{items, is_place};
+ghost use Rattle.xls_number_formats.specs.Grammar.{is_place};
 ghost use Rattle.xls_number_formats.specs.Sections.{is_exponent};
-ghost use Rattle.xls_number_formats.specs.Walk.{items_left};
 ghost use Rattle.xls_shown_numbers.specs.Numbers.{value};
 ghost use Rattle.xls_shown_numbers.specs.Exponent.{mantissa, multiple, first_exponent, mantissa_at, grown, exponent_of, mantissa_text, sign_text, places_in, places_behind, needs_of, behind_text, behind_from, exponent_from, exponent_text};
 
@@ -17,7 +16,7 @@ use crate::plain::{Plain, one_more, read_part};
 use crate::shown::{append_items, append_place, push_own};
 use std::alloc::AllocError;
 use xls_bytes::first_char;
-use xls_number_formats::{Item, Items};
+use xls_number_formats::{Item, SectionItems, SectionIter};
 use xls_rounding::{Decimal, magnitude};
 
 /// What a section with an exponent needs of its items.
@@ -42,12 +41,12 @@ fn is_exponent(item: Item) -> bool
 }
 
 // The places behind the first exponent.
-fn places_behind(code: &str) -> u64
-    ensures { result ≡ places_behind (items (chars code.now)) }
+fn places_behind(section: &SectionItems<'_>) -> u64
+    ensures { result ≡ places_behind section.now }
 {
     let mut count = 0;
     let mut behind = false;
-    let mut items = Items::new(code);
+    let mut items = section.iter();
     'items: while let Some((item, _)) = items.next() {
         count = one_more(behind & is_place(item), count);
         behind = behind | is_exponent(item);
@@ -55,13 +54,13 @@ fn places_behind(code: &str) -> u64
     count
 }
 
-/// What the first section of a code, one with an exponent, needs of its items. Takes no memory.
-pub fn read_exponent(code: &str) -> Exponent
-    ensures { result ≡ needs_of (items (chars code.now)) }
+/// What a section, one with an exponent, needs of its items. Takes no memory.
+pub fn read_exponent(section: &SectionItems<'_>) -> Exponent
+    ensures { result ≡ needs_of section.now }
 {
     Exponent {
-        mantissa: read_part(code, Part::Mantissa),
-        places: places_behind(code),
+        mantissa: read_part(section, Part::Mantissa),
+        places: places_behind(section),
     }
 }
 
@@ -136,7 +135,7 @@ fn exponent_of(plain: &Plain, decimal: Decimal) -> i128
 
 // Appends what the items before the first exponent show; an error may leave a part.
 fn append_mantissa(
-    code: &str,
+    section: &SectionItems<'_>,
     plain: &Plain,
     decimal: Decimal,
     exponent: i128,
@@ -144,10 +143,10 @@ fn append_mantissa(
 ) -> Result<(), AllocError>
     requires { unsigned_abs exponent < 2 ^ 64 }
     ensures ok { OnOk result (chars (string_bytes text.new) ≡ chars (string_bytes text.old)
-        ++ mantissa_text (mantissa (items (chars code.now))) plain.now decimal exponent) }
+        ++ mantissa_text (mantissa section.now) plain.now decimal exponent) }
     ensures grown { IsGrown (string_bytes text.old) (string_bytes text.new) }
 {
-    let items = PartItems::new(code, Part::Mantissa);
+    let items = PartItems::new(section, Part::Mantissa);
     if decimal.digits == 0 {
         append_items(items, true, plain, NONE, text)
     } else {
@@ -224,13 +223,13 @@ fn append_all_behind(
     plus: bool,
     exponent: i128,
     places: u64,
-    mut items: Items<'_>,
+    mut items: SectionIter<'_, '_>,
     text: &mut String,
 ) -> Result<(), AllocError>
     requires exponent { unsigned_abs exponent < 2 ^ 64 }
-    requires places { places ≡ places_in (items_left items) }
+    requires places { places ≡ places_in items }
     ensures ok { OnOk result (chars (string_bytes text.new) ≡ chars (string_bytes text.old)
-        ++ behind_from plus exponent false (items_left items.entry)) }
+        ++ behind_from plus exponent false items.entry) }
     ensures grown { IsGrown (string_bytes text.old) (string_bytes text.new) }
 {
     let mut placed = false;
@@ -258,18 +257,17 @@ fn letter(own: &str) -> &str
 
 // Appends the letter of the first exponent, and what the items behind it show.
 fn append_exponent(
-    code: &str,
+    mut items: SectionIter<'_, '_>,
     places: u64,
     exponent: i128,
     text: &mut String,
 ) -> Result<(), AllocError>
     requires exponent { unsigned_abs exponent < 2 ^ 64 }
-    requires places { places ≡ places_behind (items (chars code.now)) }
+    requires places { places ≡ places_behind items }
     ensures ok { OnOk result (chars (string_bytes text.new) ≡ chars (string_bytes text.old)
-        ++ exponent_from exponent (items (chars code.now))) }
+        ++ exponent_from exponent items.entry) }
     ensures grown { IsGrown (string_bytes text.old) (string_bytes text.new) }
 {
-    let mut items = Items::new(code);
     'items: while let Some((item, own)) = items.next() {
         if let Item::Exponent(plus) = item {
             push_own(letter(own), text)?;
@@ -281,39 +279,40 @@ fn append_exponent(
 
 // As `push_exponent`, but an error may leave a part.
 fn append_number(
-    code: &str,
+    section: &SectionItems<'_>,
     needs: &Exponent,
     decimal: Decimal,
     text: &mut String,
 ) -> Result<(), AllocError>
-    requires { needs.now ≡ needs_of (items (chars code.now)) }
+    requires { needs.now ≡ needs_of section.now }
     ensures ok { OnOk result (chars (string_bytes text.new)
-        ≡ chars (string_bytes text.old) ++ exponent_text (items (chars code.now)) decimal) }
+        ≡ chars (string_bytes text.old) ++ exponent_text section.now decimal) }
     ensures grown { IsGrown (string_bytes text.old) (string_bytes text.new) }
 {
+    let items = section.iter();
     let exponent = exponent_of(&needs.mantissa, decimal);
-    append_mantissa(code, &needs.mantissa, decimal, exponent, text)?;
-    append_exponent(code, needs.places, exponent, text)
+    append_mantissa(section, &needs.mantissa, decimal, exponent, text)?;
+    append_exponent(items, needs.places, exponent, text)
 }
 
-/// Appends the size of a number as the first section of a code shows it, one with an exponent such as
+/// Appends the size of a number as a section shows it, one with an exponent such as
 /// `0.00E+00`: the exponent is a multiple of the number of places before the point, and the mantissa is
 /// rounded at the last decimal place from the 15 digits of `decimal`. No sign of the number is shown.
-/// `needs` is what `read_exponent` gives of the code. Only running out of memory refuses, and then the
+/// `needs` is what `read_exponent` gives of the section. Only running out of memory refuses, and then the
 /// text is as it was.
 pub fn push_exponent(
-    code: &str,
+    section: &SectionItems<'_>,
     needs: &Exponent,
     decimal: Decimal,
     text: &mut String,
 ) -> Result<(), AllocError>
-    requires { needs.now ≡ needs_of (items (chars code.now)) }
+    requires { needs.now ≡ needs_of section.now }
     ensures ok { OnOk result (chars (string_bytes text.new)
-        ≡ chars (string_bytes text.old) ++ exponent_text (items (chars code.now)) decimal) }
+        ≡ chars (string_bytes text.old) ++ exponent_text section.now decimal) }
     ensures err { OnErr result (string_bytes text.new ≡ string_bytes text.old) }
 {
     let before = text.len();
-    let done = append_number(code, needs, decimal, text);
+    let done = append_number(section, needs, decimal, text);
     if done.is_err() {
         text.truncate(before);
     }

@@ -1,12 +1,10 @@
 //! A walk over the items of a section, or over those before its exponent.
 
 ghost use Rattle.std.specs.Prelude.{◌≡◌, ◌<◌, ◌^◌, length};
-ghost use Rattle.std.specs.Str.{chars};
-ghost use Rattle.xls_number_formats.specs.Grammar.{items};
 ghost use Rattle.xls_shown_numbers.specs.Parts.{part_of, tokens_left};
 
 use std::marker::Model;
-use xls_number_formats::{Item, Items};
+use xls_number_formats::{Item, SectionItems, SectionIter};
 
 // What of a section shows a number.
 #[derive(Clone, Copy)]
@@ -19,12 +17,12 @@ pub(crate) enum Part {
 
 // The items of a part of a section, in order, each with its text.
 #[derive(Drop)]
-pub(crate) struct PartItems<'a> {
-    items: Items<'a>,
+pub(crate) struct PartItems<'s, 'a> {
+    items: SectionIter<'s, 'a>,
     part: Part,
 }
 
-impl<'a> Model for PartItems<'a> {
+impl<'s, 'a> Model for PartItems<'s, 'a> {
     ghost use Rattle.xls_shown_numbers.specs.Parts.{Rest};
 
     ghost Value = { Rest };
@@ -32,20 +30,20 @@ impl<'a> Model for PartItems<'a> {
     ghost view = { λ walk. record { part = walk.part; left = walk.items } };
 }
 
-impl<'a> PartItems<'a> {
-    // Those of the first section of a code.
-    pub(crate) fn new(code: &'a str, part: Part) -> PartItems<'a>
-        ensures items { tokens_left result ≡ part_of part (items (chars code.now)) }
+impl<'s, 'a> PartItems<'s, 'a> {
+    // Those of a section.
+    pub(crate) fn new(section: &'s SectionItems<'a>, part: Part) -> PartItems<'s, 'a>
+        ensures items { tokens_left result ≡ part_of part section.now }
         ensures few { length (tokens_left result) < 2 ^ 63 }
     {
         PartItems {
-            items: Items::new(code),
+            items: section.iter(),
             part,
         }
     }
 }
 
-impl<'a> Iterator for PartItems<'a> {
+impl<'s, 'a> Iterator for PartItems<'s, 'a> {
     ghost use Rattle.std.specs.Iterator.{item_count};
     ghost use Rattle.xls_shown_numbers.specs.Parts.{Steps, tokens_left};
 

@@ -2,13 +2,13 @@
 
 ghost use Rattle.std.specs.Prelude.{◌≡◌, ◌<◌, ◌^◌, ◌&&◌, length};
 ghost use Rattle.std.specs.Str.{chars};
-ghost use Rattle.xls_number_formats.specs.Grammar.{is_place, items};
+ghost use Rattle.xls_number_formats.specs.Grammar.{is_place};
 ghost use Rattle.xls_number_formats.specs.Sections.{is_shown, kinds};
 ghost use Rattle.xls_shown_numbers.specs.Parts.{part_of, tokens_left};
 ghost use Rattle.xls_shown_numbers.specs.Plain.{is_point, is_comma, is_percent, is_zero, one_more, seen_after, follows, is_placed, groups, divides, seen_all, none_seen, plain_of};
 
 use crate::parts::{Part, PartItems};
-use xls_number_formats::{Item, Place};
+use xls_number_formats::{Item, Place, SectionItems};
 
 /// The items of a section up to one of them.
 #[derive(Clone, Copy, Debug, PartialEq, Eq)]
@@ -160,7 +160,7 @@ fn divides_as(all: Seen, seen: Seen, item: Item) -> bool
 }
 
 // All items of a part of a section.
-fn seen_all(mut items: PartItems<'_>) -> Seen
+fn seen_all(mut items: PartItems<'_, '_>) -> Seen
     requires { length (tokens_left items) < 2 ^ 63 }
     ensures { result ≡ seen_all none_seen (kinds (tokens_left items.entry)) }
 {
@@ -171,15 +171,15 @@ fn seen_all(mut items: PartItems<'_>) -> Seen
     seen
 }
 
-// What a part of the first section of a code needs of its items.
-pub(crate) fn read_part(code: &str, part: Part) -> Plain
-    ensures { result ≡ plain_of (kinds (part_of part (items (chars code.now)))) }
+// What a part of a section needs of its items.
+pub(crate) fn read_part(section: &SectionItems<'_>, part: Part) -> Plain
+    ensures { result ≡ plain_of (kinds (part_of part section.now)) }
 {
-    let all = seen_all(PartItems::new(code, part));
+    let all = seen_all(PartItems::new(section, part));
     let mut thousands = 0;
     let mut grouping = false;
     let mut seen = NONE_SEEN;
-    let mut items = PartItems::new(code, part);
+    let mut items = PartItems::new(section, part);
     'items: while let Some((item, _)) = items.next() {
         thousands = one_more(divides_as(all, seen, item), thousands);
         grouping = grouping | groups_as(all, seen, item);
@@ -192,9 +192,9 @@ pub(crate) fn read_part(code: &str, part: Part) -> Plain
     }
 }
 
-/// What the first section of a code needs of its items. Takes no memory.
-pub fn read_plain(code: &str) -> Plain
-    ensures { result ≡ plain_of (kinds (items (chars code.now))) }
+/// What a section needs of its items. Takes no memory.
+pub fn read_plain(section: &SectionItems<'_>) -> Plain
+    ensures { result ≡ plain_of (kinds section.now) }
 {
-    read_part(code, Part::Whole)
+    read_part(section, Part::Whole)
 }

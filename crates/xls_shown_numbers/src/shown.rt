@@ -4,7 +4,6 @@ ghost use Rattle.std.specs.Prelude.{◌≡◌, ◌<◌, ◌≤◌, ◌+◌, ◌-
 ghost use Rattle.std.specs.String.{string_bytes};
 ghost use Rattle.std.specs.Str.{chars};
 ghost use Rattle.xls_bytes.specs.Growth.{IsGrown};
-ghost use Rattle.xls_number_formats.specs.Grammar.{items};
 ghost use Rattle.xls_number_formats.specs.Sections.{kinds};
 ghost use Rattle.xls_shown_numbers.specs.Numbers.{value};
 ghost use Rattle.xls_shown_numbers.specs.Parts.{tokens_left, filled};
@@ -15,7 +14,7 @@ use crate::number::{Number, digit, ends_in_zeros, is_zero, number_under, size};
 use crate::parts::{Part, PartItems};
 use crate::plain::{NONE_SEEN, Plain, Seen, divides, groups, seen_after};
 use std::alloc::AllocError;
-use xls_number_formats::{Item, Place};
+use xls_number_formats::{Item, Place, SectionItems};
 use xls_rounding::Decimal;
 
 // Appends a digit.
@@ -321,7 +320,7 @@ fn filled(fills: bool, seen: Seen, item: Item) -> Item
 // Appends what items show of a number, with zeros in all whole places if it fills them; an error may
 // leave a part.
 pub(crate) fn append_items(
-    mut items: PartItems<'_>,
+    mut items: PartItems<'_, '_>,
     fills: bool,
     plain: &Plain,
     n: Number,
@@ -343,38 +342,38 @@ pub(crate) fn append_items(
 
 // As `push_plain`, but an error may leave a part.
 fn append_number(
-    code: &str,
+    section: &SectionItems<'_>,
     plain: &Plain,
     decimal: Decimal,
     text: &mut String,
 ) -> Result<(), AllocError>
-    requires { plain.now ≡ plain_of (kinds (items (chars code.now))) }
+    requires { plain.now ≡ plain_of (kinds section.now) }
     ensures ok { OnOk result (chars (string_bytes text.new)
-        ≡ chars (string_bytes text.old) ++ plain_text (items (chars code.now)) decimal) }
+        ≡ chars (string_bytes text.old) ++ plain_text section.now decimal) }
     ensures grown { IsGrown (string_bytes text.old) (string_bytes text.new) }
 {
-    let items = PartItems::new(code, Part::Whole);
+    let items = PartItems::new(section, Part::Whole);
     append_items(items, false, plain, number_shown(plain, decimal), text)
 }
 
-/// Appends the size of a number as the first section of a code shows it, a section of places such as
+/// Appends the size of a number as a section shows it, a section of places such as
 /// `#,##0.00`: rounded at its last decimal place from the 15 digits of `decimal`, times 100 for each
 /// `%`, over 1000 for each comma behind its places. Every other item stands for itself; without a
 /// place nothing is shown of the number. No sign is shown. `plain` is what
-/// `read_plain` gives of the code. Only running out of memory refuses, and then the text is as it was.
+/// `read_plain` gives of the section. Only running out of memory refuses, and then the text is as it was.
 pub fn push_plain(
-    code: &str,
+    section: &SectionItems<'_>,
     plain: &Plain,
     decimal: Decimal,
     text: &mut String,
 ) -> Result<(), AllocError>
-    requires { plain.now ≡ plain_of (kinds (items (chars code.now))) }
+    requires { plain.now ≡ plain_of (kinds section.now) }
     ensures ok { OnOk result (chars (string_bytes text.new)
-        ≡ chars (string_bytes text.old) ++ plain_text (items (chars code.now)) decimal) }
+        ≡ chars (string_bytes text.old) ++ plain_text section.now decimal) }
     ensures err { OnErr result (string_bytes text.new ≡ string_bytes text.old) }
 {
     let before = text.len();
-    let done = append_number(code, plain, decimal, text);
+    let done = append_number(section, plain, decimal, text);
     if done.is_err() {
         text.truncate(before);
     }

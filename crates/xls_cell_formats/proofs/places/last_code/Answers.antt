@@ -1,4 +1,4 @@
-use Rattle.std.proofs.Common.{rules, ap, sym, ◌∙◌, arith, Some, List, ℕ}
+use Rattle.std.proofs.Common.{ap, sym, ◌∙◌, arith, Some, List, ℕ}
 use Rattle.std.specs.Option.{option_copied}
 use Rattle.std.specs.Str.{chars}
 use Rattle.xls_view.proofs.IndexLemmas.{looked}

@@ -1,4 +1,4 @@
-use Rattle.std.proofs.Common.{refl, ap, sym, rules}
+use Rattle.std.proofs.Common.{refl, ap, sym}
 use Rattle.xls_cell_formats.proofs.KeptLemmas.{last_more}
 use Rattle.xls_cell_formats.proofs.places.last_places.Goals as goal
 

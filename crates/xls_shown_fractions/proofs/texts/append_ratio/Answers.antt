@@ -1,10 +1,8 @@
-use Rattle.std.proofs.Common.{length, rules, ◌<◌, ◌^◌, ◌++◌, ap, sym, subst}
+use Rattle.std.proofs.Common.{length, ◌++◌, ap, sym, subst}
 use Rattle.std.specs.Str.{chars}
 use Rattle.std.specs.String.{string_bytes}
 use Rattle.xls_bytes.proofs.GrownLemmas.{IsGrown-refl, IsGrown-trans}
-use Rattle.xls_number_formats.specs.Grammar.{Token, items}
-use Rattle.xls_number_formats.specs.Walk.{items_left}
-use Rattle.xls_shown_numbers.proofs.PlainLemmas.{few_items}
+use Rattle.xls_number_formats.specs.Grammar.{Token}
 use Rattle.xls_shown_fractions.specs.Roles.{at_start}
 use Rattle.xls_shown_fractions.specs.Shown.{mixed}
 use Rattle.xls_shown_fractions.specs.Texts.{text_from}
@@ -14,23 +12,23 @@ use Rattle.xls_shown_fractions.proofs.texts.append_ratio.Goals as goal
 
 pub items-init : goal.items-init
 items-init c =
-    let all = items (chars c.args.code.now) in
+    let all = c.args.section.now in
     record {
-      shown = ap (λ ts. chars (string_bytes c.args.text.now) ++ text_from c.args.fraction.now (mixed c.args.ratio) c.args.look at_start ts) c.new-items.ensures.items;
+      shown = ap (λ ts. chars (string_bytes c.args.text.now) ++ text_from c.args.fraction.now (mixed c.args.ratio) c.args.look at_start ts) c.iter-items.ensures.items;
       grown = IsGrown-refl (string_bytes c.args.text.now);
-      within = subst (λ ts. IsWithin at_start (length ts) (length all)) (sym c.new-items.ensures.items) (within_none (length all));
+      within = subst (λ ts. IsWithin at_start (length ts) (length all)) (sym c.iter-items.ensures.items) (within_none (length all));
     }
 
 pub items-preserved : goal.items-preserved
 items-preserved c =
     let t : Token = (c.in-Some.item, chars c.in-Some.own.now) in
-    let left = items_left c.next.new.self in
+    let left = c.next.new.self in
     record {
       shown = text_more c.args.fraction.now (mixed c.args.ratio) c.args.look c.items.spot c.spot_after-spot.result (chars (string_bytes c.items.text)) (chars (string_bytes c.append_token.new.text)) _ t
-          left (items_left c.items.items) c.in-Some.ensures.steps.0 c.in_ok-append_token.ensures.ok c.spot_after-spot.ensures c.items.invariant.shown;
+          left c.items.items c.in-Some.ensures.steps c.in_ok-append_token.ensures.ok c.spot_after-spot.ensures c.items.invariant.shown;
       grown = IsGrown-trans _ _ _ c.items.invariant.grown c.append_token.ensures.grown;
-      within = subst (λ s. IsWithin s (length left) (length (items (chars c.args.code.now)))) (sym c.spot_after-spot.ensures)
-          (within_more c.items.spot t left _ _ c.in-Some.ensures.steps.0 c.items.invariant.within);
+      within = subst (λ s. IsWithin s (length left) (length c.args.section.now)) (sym c.spot_after-spot.ensures)
+          (within_more c.items.spot t left _ _ c.in-Some.ensures.steps c.items.invariant.within);
     }
 
 pub returns-in_err-append_token-clause-grown : goal.returns-in_err-append_token-clause-grown
@@ -38,10 +36,8 @@ returns-in_err-append_token-clause-grown c = IsGrown-trans _ _ _ c.items.invaria
 
 pub spot_after-spot-requires-clause-placed : goal.spot_after-spot-requires-clause-placed
 spot_after-spot-requires-clause-placed c =
-    let short : length c.args.code.now < 2 ^ 63 = search rules in
-    (within_small c.items.spot _ _ _ _ c.in-Some.ensures.steps.0 c.items.invariant.within (few_items c.args.code.now short)).0
+    (within_small c.items.spot _ _ _ _ c.in-Some.ensures.steps c.items.invariant.within c.iter-items.ensures.few).0
 
 pub spot_after-spot-requires-clause-run : goal.spot_after-spot-requires-clause-run
 spot_after-spot-requires-clause-run c =
-    let short : length c.args.code.now < 2 ^ 63 = search rules in
-    (within_small c.items.spot _ _ _ _ c.in-Some.ensures.steps.0 c.items.invariant.within (few_items c.args.code.now short)).1
+    (within_small c.items.spot _ _ _ _ c.in-Some.ensures.steps c.items.invariant.within c.iter-items.ensures.few).1
