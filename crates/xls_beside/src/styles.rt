@@ -361,7 +361,7 @@ fn put_all<K: Sink>(
 /// alignment and borders (`style`), and behind it of each formatting run of its text: row, column, the unit that it begins
 /// with, marks, font, size and colour (`run`). At a refusal of the sink, or where memory runs out, a prefix of these lines
 /// was written. Beside the globals the fonts, formats and codes are held, the place of each string with runs, and of one
-/// sheet 24 bytes for each cell.
+/// sheet whose cells don't ascend 24 bytes for each cell.
 pub fn write_styles<K: Sink>(
     alloc: Global,
     sink: &mut K,

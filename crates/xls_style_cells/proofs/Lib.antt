@@ -1,5 +1,6 @@
 pub mod AscendingLemmas
 pub mod SettledLemmas
 pub mod PlaceLemmas
+pub mod WalkLemmas
 pub mod TableLemmas
 pub mod StandardFacts

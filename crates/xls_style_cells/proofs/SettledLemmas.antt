@@ -5,7 +5,7 @@ use Rattle.std.specs.Option.{option_or, option_map}
 use Rattle.std.specs.List.{AllByRecursion}
 use Rattle.xls_range.specs.Positions.{Position, last_at, Precedes, IsAscending}
 use Rattle.xls_style_cells.proofs.AscendingLemmas.{same_cells}
-use Rattle.xls_style_cells.specs.Order.{precedes, put_under, settled}
+use Rattle.xls_style_cells.specs.Order.{ascends, follows, precedes, put_under, settled}
 
 -- ---- tests of positions
 
@@ -35,6 +35,40 @@ neither a b c d h k = by_test (nat_lt a c) refl (nat_lt c a) refl
 apart : (a b c d e f : ℕ) → (a < c) ⊎ ((a ≡ c) × (b < d)) → (a == e && b == f) ≡ true → (c == e && d == f) ≡ true → ⊥
 apart a b c d e f h t u = grind arith
 
+-- what comes after one position comes after those before it
+through : (p q : Position) (ps : List Position) → Precedes p q → AllByRecursion (Precedes q) ps → AllByRecursion (Precedes p) ps
+through p q [] h a = tt
+through p q (r ∷ ps) h a = (on p.0 p.1 q.0 q.1 r.0 r.1 h a.0, through p q ps h a.1)
+  where
+    on : (a b c d e f : ℕ) → (a < c) ⊎ ((a ≡ c) × (b < d)) → (c < e) ⊎ ((c ≡ e) × (d < f)) → (a < e) ⊎ ((a ≡ e) × (b < f))
+    on a b c d e f h k = grind arith
+
+-- ---- the test that positions ascend
+
+both_hold : (a b : Bool) → (a && b) ≡ true → (a ≡ true) × (b ≡ true)
+both_hold true b h = (refl, h)
+both_hold false b h = absurd (let e : false ≡ true = h in cc)
+
+-- what ascends behind a position comes after it
+behind : (p : Position) (ps : List Position) → ascends (Some p) ps ≡ true → AllByRecursion (Precedes p) ps × IsAscending ps
+behind p [] h = (tt, tt)
+behind p (q ∷ ps) h =
+    let holds = both_hold (precedes p q) (ascends (Some q) ps) h in
+    let first = before p.0 p.1 q.0 q.1 holds.0 in
+    let others = behind q ps holds.1 in
+    ((first, through p q ps first others.0), others)
+
+pub passed : (ps : List Position) → ascends None ps ≡ true → IsAscending ps
+passed [] h = tt
+passed (p ∷ ps) h = behind p ps h
+
+-- one more position that comes after the last one, or one that doesn't
+pub ascends_more : (last : Option Position) (p : Position) (ps : List Position) → follows last p ≡ true → ascends last (p ∷ ps) ≡ ascends (Some p) ps
+ascends_more last p ps h = rw h refl
+
+pub ascends_less : (last : Option Position) (p : Position) (ps : List Position) → follows last p ≡ false → ascends last (p ∷ ps) ≡ false
+ascends_less last p ps h = rw h refl
+
 module _ {X : Type 0} where
   abbrev at : Position × X → Position
   at x = x.0
@@ -52,13 +86,6 @@ module _ {X : Type 0} where
       by_test on false true = (a.0, on)
       by_test on false false = a
 
-  through : (p q : Position) (ys : List (Position × X)) → Precedes p q → AllByRecursion (Precedes q) (map at ys) → AllByRecursion (Precedes p) (map at ys)
-  through p q [] h a = tt
-  through p q (y ∷ ys) h a = (on p.0 p.1 q.0 q.1 y.0.0 y.0.1 h a.0, through p q ys h a.1)
-    where
-      on : (a b c d e f : ℕ) → (a < c) ⊎ ((a ≡ c) × (b < d)) → (c < e) ⊎ ((c ≡ e) × (d < f)) → (a < e) ⊎ ((a ≡ e) × (b < f))
-      on a b c d e f h k = grind arith
-
   ascending_under : (c : Position × X) (xs : List (Position × X)) → IsAscending (map at xs) → IsAscending (map at (put_under c xs))
   ascending_under c [] a = (tt, tt)
   ascending_under c (x ∷ xs) a = by_test (ascending_under c xs a.1) (precedes c.0 x.0) refl (precedes x.0 c.0) refl
@@ -66,7 +93,7 @@ module _ {X : Type 0} where
       by_test : IsAscending (map at (put_under c xs)) → (t : Bool) → precedes c.0 x.0 ≡ t → (u : Bool) → precedes x.0 c.0 ≡ u
           → IsAscending (map at (if t then c ∷ x ∷ xs else if u then x ∷ put_under c xs else x ∷ xs))
       by_test on true e u f =
-          let h = before c.0.0 c.0.1 x.0.0 x.0.1 e in ((h, through c.0 x.0 xs h a.0), a)
+          let h = before c.0.0 c.0.1 x.0.0 x.0.1 e in ((h, through c.0 x.0 (map at xs) h a.0), a)
       by_test on false e true f =
           let h = before x.0.0 x.0.1 c.0.0 c.0.1 f in (all_under x.0 c xs h a.0, on)
       by_test on false e false f = a

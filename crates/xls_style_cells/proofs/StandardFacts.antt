@@ -7,6 +7,7 @@ use Rattle.xls_parts.specs.PartRecords.{Placed}
 use Rattle.xls_stream.specs.StringTable.{Mark, marked, units_at, tail_at}
 use Rattle.xls_style_cells.specs.declared.types.TheConstants as types
 use Rattle.xls_style_cells.specs.declared.runs.Run.{Run}
+use Rattle.xls_style_cells.specs.Order.{ascends}
 use Rattle.xls_style_cells.specs.Runs.{runs_in, own_list}
 use Rattle.xls_style_cells.specs.Tables.{runs_of, string_runs, table_from}
 use Rattle.xls_style_cells.specs.Cells.{Cell, no_runs, shared_runs, own_runs, is_cell_type, is_run_type, cells_at, cells_of, source_of}
@@ -77,6 +78,11 @@ known_last_column = refl
 pub known_order : cells_of Biff8 (typed 0x201 (flat_map le16 (2 ∷ 1 ∷ 20 ∷ [])) ∷ typed 0x203 (flat_map le16 (1 ∷ 7 ∷ 21 ∷ [])) ∷ typed 0xBE (flat_map le16 (1 ∷ 6 ∷ 22 ∷ 23 ∷ 7 ∷ [])) ∷ typed 0x208 [] ∷ typed 0x201 (flat_map le16 (2 ∷ 0 ∷ 24 ∷ [])) ∷ [])
     ≡ ((1, 6), (22, no_runs)) ∷ ((1, 7), (23, no_runs)) ∷ ((2, 0), (24, no_runs)) ∷ ((2, 1), (20, no_runs)) ∷ []
 known_order = refl
+
+-- which positions ascend: none, and those of two rows; not equal ones, nor an earlier column or row
+pub known_ascents : map (ascends None) ([] ∷ ((1, 6) ∷ (1, 7) ∷ (2, 0) ∷ []) ∷ ((1, 6) ∷ (1, 6) ∷ []) ∷ ((1, 6) ∷ (1, 5) ∷ []) ∷ ((1, 6) ∷ (2, 0) ∷ (0, 9) ∷ []) ∷ [])
+    ≡ true ∷ true ∷ false ∷ false ∷ false ∷ []
+known_ascents = refl
 
 -- ---- runs
 

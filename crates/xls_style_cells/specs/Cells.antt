@@ -96,10 +96,16 @@ style_at version r p = (xf_at r p, source_of version r)
 abbrev pub Cell : Type 0
 Cell = Position × Style
 
+abbrev pub cell_position : Cell → Position
+cell_position c = c.0
+
+abbrev pub with_style : Biff → Placed → Position → Cell
+with_style version r p = (p, style_at version r p)
+
 -- ---- all of them
 
 abbrev pub cells_at : Biff → Placed → List Cell
-cells_at version r = map (λ (p : Position). (p, style_at version r p)) (positions_of r)
+cells_at version r = map (with_style version r) (positions_of r)
 
 -- in the order of the stream
 abbrev pub cells_in : Biff → List Placed → List Cell

@@ -1,5 +1,5 @@
 -- Values in order of their positions.
-use Rattle.std.specs.Prelude.{List, [], ◌∷◌, Bool, true, false, nat_lt, if◌then◌else◌}
+use Rattle.std.specs.Prelude.{List, [], ◌∷◌, Bool, true, false, ◌&&◌, nat_lt, if◌then◌else◌, Option, Some, None}
 use Rattle.xls_range.specs.Positions.{Position}
 
 -- one position comes before another
@@ -16,3 +16,15 @@ put_under c (x ∷ xs) =
 abbrev pub settled : {X : Type 0} → List (Position × X) → List (Position × X)
 settled [] = []
 settled (c ∷ cs) = put_under c (settled cs)
+
+-- ---- positions that ascend
+
+-- a position comes after the last one, if there is one
+abbrev pub follows : Option Position → Position → Bool
+follows None p = true
+follows (Some last) p = precedes last p
+
+-- each position comes after the one before it, the first after the last one of others, if there is one
+abbrev pub ascends : Option Position → List Position → Bool
+ascends last [] = true
+ascends last (p ∷ ps) = follows last p && ascends (Some p) ps

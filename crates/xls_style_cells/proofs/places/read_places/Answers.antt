@@ -2,7 +2,7 @@ use Rattle.std.proofs.Common.{◌++◌, List, sym, ap, ◌∙◌, append_assoc}
 use Rattle.std.proofs.lemmas.List.{append-nil}
 use Rattle.xls_parts.specs.PartRecords.{Placed, placed_of}
 use Rattle.xls_style_cells.specs.Places.{Place, places_in, places_of}
-use Rattle.xls_style_cells.proofs.cells.read_places.Goals as goal
+use Rattle.xls_style_cells.proofs.places.read_places.Goals as goal
 
 pub records-init : goal.records-init
 records-init c = (tt, tt, ap (λ (ps : List Place). ps ++ places_in c.into_iter-r-iterator.result) c.in_ok-found.ensures ∙ ap places_in (c.into_iter-r-iterator.ensures.into_iter_gives ∙ c.new-r-items.ensures))

@@ -1,7 +1,7 @@
 use Rattle.std.proofs.Common.{◌≡◌, ◌++◌}
 use Rattle.xls_parts.specs.PartRecords.{own_records}
 use Rattle.xls_style_cells.specs.Places.{places_in}
-use Rattle.xls_style_cells.proofs.cells.read_places.Given as goal
+use Rattle.xls_style_cells.proofs.places.read_places.Given as goal
 
 -- the places so far, and those of the records that are left
 abbrev pub invariant-records : goal.invariant-records

@@ -2,7 +2,7 @@ use Rattle.std.proofs.Common.{[], ◌∷◌, ◌++◌, ap, ◌∙◌, arith}
 use Rattle.xls_parts.specs.PartRecords.{placed_of}
 use Rattle.xls_style_cells.specs.Places.{Place}
 use Rattle.xls_style_cells.proofs.PlaceLemmas.{more_places, all_places}
-use Rattle.xls_style_cells.proofs.cells.push_places.Goals as goal
+use Rattle.xls_style_cells.proofs.places.push_places.Goals as goal
 
 pub cells-preserved : goal.cells-preserved
 cells-preserved c =
