@@ -6,5 +6,6 @@ pub mod BoxLemmas
 pub mod LineLemmas
 pub mod BareLemmas
 pub mod RowLemmas
+pub mod SeenLemmas
 pub mod CsvLemmas
 pub mod StandardFacts

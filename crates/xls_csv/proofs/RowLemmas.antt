@@ -53,7 +53,7 @@ fields_none form row left width all a =
       rest = rw same refl;
     }
 
-row_next : (row column end : ℕ) (cells : List FormattedCell) → column < end
+pub row_next : (row column end : ℕ) (cells : List FormattedCell) → column < end
     → (row_over no_cell row column (end - column) cells
     ≡ (take_at no_cell row column cells).0 ∷ row_over no_cell row (column + 1) (end - (column + 1)) (take_at no_cell row column cells).1)
     × (left_over no_cell row column (end - column) cells ≡ left_over no_cell row (column + 1) (end - (column + 1)) (take_at no_cell row column cells).1)

@@ -4,5 +4,6 @@ pub mod Text
 pub mod Dense
 pub mod Walk
 pub mod Boxes
+pub mod Seen
 pub mod Steps
 pub mod Laws

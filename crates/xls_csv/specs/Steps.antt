@@ -1,5 +1,5 @@
 -- Words of private calls, for the proofs.
-use Rattle.std.specs.Prelude.{◌≡◌, ℕ, ◌≤◌, ◌==◌, Bool, List, [], Option, Some, None, Result, Ok, Err, Vec, false, ◌++◌, length}
+use Rattle.std.specs.Prelude.{◌≡◌, ◌⊎◌, ℕ, ◌≤◌, ◌==◌, Bool, true, List, [], Option, Some, None, Result, Ok, Err, Vec, false, ◌++◌, length}
 use Rattle.std.specs.Global.{Global}
 use Rattle.csv.specs.Writing.{default_writer, field_text, writer_setup, fields_written, has_written, writer_under, writer_pending}
 use Rattle.csv.specs.declared.writer.Writer.{Writer}
@@ -11,7 +11,7 @@ use Rattle.xls_output.specs.declared.stop.Stop.{Stop}
 use Rattle.xls_view.specs.declared.value.SheetCell.{SheetCell}
 use Rattle.xls_lines.specs.Days.{date_text, last_day_in, serial_date}
 use Rattle.xls_csv.specs.Fields.{field}
-use Rattle.xls_csv.specs.Boxes.{BeginsRow, FieldForm, IsFields}
+use Rattle.xls_csv.specs.Boxes.{BeginsRow, FieldForm, IsFields, IsSeparated}
 use Rattle.xls_csv.specs.Walk.{Formatted, content_in}
 
 -- ---- cells
@@ -52,3 +52,16 @@ abbrev pub PutsFields : FieldForm → List Formatted → Output → Output → R
 PutsFields form row before after (Ok is_bare) =
     (text : List ℕ) × (IsFields form row text × (is_bare ≡ (length text == 0))) × Buffers before after text
 PutsFields form row before after (Err e) = (text : List ℕ) × BeginsRow form row text × GivesUp before after text e
+
+-- the next field of a row: the first alone, and each other one after a delimiter
+abbrev pub IsNextField : FieldForm → Bool → Formatted → List ℕ → Type 0
+IsNextField form true value text = form.IsField value text
+IsNextField form false value text = IsSeparated form value text
+
+-- it was gathered, and it is told whether it is no byte; or a prefix of what was kept, and of it or of nothing, was
+-- written, and then it was given up
+abbrev pub PutsNext : FieldForm → Bool → Formatted → Output → Output → Result Bool Stop → Type 0
+PutsNext form is_first value before after (Ok is_empty) =
+    (text : List ℕ) × (IsNextField form is_first value text × (is_empty ≡ (length text == 0))) × Buffers before after text
+PutsNext form is_first value before after (Err e) =
+    (text : List ℕ) × ((text ≡ []) ⊎ IsNextField form is_first value text) × GivesUp before after text e

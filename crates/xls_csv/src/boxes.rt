@@ -55,7 +55,7 @@ pub trait BoxBuffer: Gathers {
 
 /// Appends the first field of a row, and tells whether that is no byte.
 #[inline(always)]
-fn push_first<B: BoxBuffer>(
+pub(crate) fn push_first<B: BoxBuffer>(
     buffer: &mut B,
     form: B::Form,
     formats: Option<&CellFormats<'_>>,
@@ -135,7 +135,7 @@ fn put_fields<K: Sink, B: BoxBuffer>(
 }
 
 /// Appends the end of a row. A row without a byte has two quotes before it.
-fn push_end<B: BoxBuffer>(buffer: &mut B, is_bare: bool) -> Result<(), AllocError>
+pub(crate) fn push_end<B: BoxBuffer>(buffer: &mut B, is_bare: bool) -> Result<(), AllocError>
     ensures { OnOk result (B.kept buffer.new ≡ B.kept buffer.old ++ row_end is_bare) }
 {
     if is_bare {

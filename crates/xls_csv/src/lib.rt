@@ -13,6 +13,7 @@ mod line;
 mod numbers;
 mod record;
 mod rows;
+mod seen;
 
 pub use ahead::Ahead;
 pub use boxes::{BoxBuffer, put_box};
@@ -21,3 +22,4 @@ pub use extent::{Extent, extent_of};
 pub use fields::field_text;
 pub use laws::{dense_boxes, printed_fields, rows_of_sheet};
 pub use rows::write_rows;
+pub use seen::put_seen_box;
