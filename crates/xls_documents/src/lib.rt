@@ -11,7 +11,7 @@ mod property_streams;
 mod streams;
 
 pub use fault::ProjectFault;
-pub use macro_directory::project_of;
+pub use macro_directory::{directory_bytes, directory_entry, project_of};
 pub use project::write_project;
 pub use properties::write_properties;
 pub use property_streams::properties_of;

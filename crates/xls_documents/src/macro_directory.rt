@@ -47,8 +47,8 @@ fn is_directory(alloc: Global, entry: &Entry<'_>) -> Result<bool, AllocError>
     Ok(is_directory_path(&names))
 }
 
-// The first directory of a project.
-fn directory_entry<'c>(
+/// The first directory of a project, by its place in what a compound file lists.
+pub fn directory_entry<'c>(
     alloc: Global,
     compound: &'c Compound<'_>,
 ) -> Result<Option<Entry<'c>>, AllocError>
@@ -63,8 +63,9 @@ fn directory_entry<'c>(
     Ok(None)
 }
 
-// The bytes of the directory, compressed as they stand in the file.
-fn directory_bytes<'c>(
+/// The bytes of the first directory of a project, compressed as they stand in the file. Refused with the first fault
+/// of its chain.
+pub fn directory_bytes<'c>(
     alloc: Global,
     compound: &'c Compound<'_>,
 ) -> Result<Option<CowSlice<'c, u8>>, ProjectFault>

@@ -1,0 +1,9 @@
+pub mod Kinds
+pub mod Lines
+pub mod Macros
+pub mod ModuleTexts
+pub mod Newlines
+pub mod Page
+pub mod Sources
+pub mod Streams
+pub mod Texts
