@@ -1,7 +1,3 @@
-pub mod PrefixLemmas
-pub mod LeafLemmas
-pub mod GroupLemmas
-pub mod OperandLemmas
 pub mod TextLemmas
 mod NumberLemmas
 pub mod PutLemmas

@@ -1,15 +1,8 @@
 -- Steps over texts.
-use Rattle.std.proofs.Common.{suc, zero, ◌≡◌, ◌≢◌, ℕ, ◌+◌, ◌-◌, ◌<◌, List, [], ◌∷◌, length, Err, refl, ap, arith}
+use Rattle.std.proofs.Common.{suc, zero, ◌≡◌, ◌≢◌, ℕ, ◌+◌, ◌-◌, ◌<◌, List, [], ◌∷◌, length, refl, ap, arith}
 use Rattle.std.specs.Prelude.{codes}
-use Rattle.xls_record.specs.declared.error.XlsError.TheVariants as errors
-use Rattle.xls_formula.specs.buffer.Pieces.{with_prefix, with_suffix, with_join}
-use Rattle.xls_formula.specs.buffer.Put.{with_joins, with_call, one_text}
-
--- ---- marks
-
-pub with_prefix-none : (ts : List (List ℕ)) → with_prefix [] ts ≡ ts
-with_prefix-none [] = refl
-with_prefix-none (t ∷ ts) = refl
+use Rattle.xls_operands.specs.Pieces.{with_prefix, with_suffix, with_join}
+use Rattle.xls_formula.specs.buffer.Put.{with_joins, with_call}
 
 -- ---- commas
 
@@ -31,10 +24,3 @@ call_some zero name ts ne = absurd (ne refl)
 call_some (suc n) name ts ne =
     let e : n ≡ suc n - 1 = omega arith in
     ap (λ k. with_suffix (codes ")") (with_prefix name (with_prefix (codes "(") (with_joins k ts)))) e
-
--- ---- one text
-
-pub not_one : (ts : List (List ℕ)) → length ts ≢ 1 → one_text ts ≡ Err (errors.InvalidFormula (length ts))
-not_one [] ne = refl
-not_one (t ∷ []) ne = absurd (ne refl)
-not_one (t ∷ u ∷ us) ne = refl

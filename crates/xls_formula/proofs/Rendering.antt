@@ -10,8 +10,8 @@ use Rattle.xls_formula.specs.Context.{Context}
 use Rattle.xls_formula.specs.Tree.{Tree, Trees, wrap, pair, no_trees, tree, render, render_each, separated}
 use Rattle.xls_formula.specs.Effects.{Effect, pushes, wraps, pairs, calls, spaces, keeps}
 use Rattle.xls_formula.specs.Fold.{Folded, grow, gather, on_one, on_two, space_before, walk_tokens, fold_tokens, tokens_at, one_tree, fold, rendered}
-use Rattle.xls_formula.specs.buffer.Pieces.{Texts, with_prefix, with_suffix, with_join}
-use Rattle.xls_formula.specs.buffer.Put.{Put, needs, put, with_joins, with_call, with_wrap, one_text}
+use Rattle.xls_operands.specs.Pieces.{Texts, with_prefix, with_suffix, with_join, one_text}
+use Rattle.xls_formula.specs.buffer.Put.{Put, needs, put, with_joins, with_call, with_wrap}
 use Rattle.xls_formula.proofs.WalkLemmas.{fails_then, fails_over, walk_over}
 
 -- the operands by their texts

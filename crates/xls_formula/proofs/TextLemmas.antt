@@ -1,13 +1,12 @@
 -- Texts by their characters.
-use Rattle.std.proofs.Common.{suc, zero, ◌≡◌, ℕ, ◌+◌, ◌-◌, ◌/◌, ◌%◌, ◌<◌, List, [], ◌∷◌, ◌++◌, length, refl, sym, ◌∙◌, ap, arith, length-append, String, Global}
-use Rattle.std.proofs.Math.Utf8.{scalar, scalars}
-use Rattle.std.specs.Prelude.{IsUtf8, ◌&&◌, Bool, false, true, ℤ, pos, negsuc, Option, Some, None, codes, replicate, encode_utf8_all, if◌then◌else◌, ◌==◌, ◌^◌}
+use Rattle.std.proofs.Common.{suc, zero, ◌≡◌, ℕ, ◌+◌, ◌-◌, ◌/◌, ◌%◌, ◌<◌, List, [], ◌∷◌, ◌++◌, length, refl, sym, ◌∙◌, ap, arith, String, Global}
+use Rattle.std.specs.Prelude.{Bool, false, true, ℤ, pos, negsuc, Option, Some, None, codes, replicate, encode_utf8_all, if◌then◌else◌, ◌==◌, ◌^◌}
 use Rattle.std.specs.Fmt.{decimal, signed_decimal, digits, digits_onto, digit_glyph}
 use Rattle.std.specs.Str.{chars, IsAscii}
-use Rattle.std.specs.String.{string_bytes, string_len}
+use Rattle.std.specs.String.{string_bytes}
 use Rattle.std.proofs.lemmas.Bool.Decides.{nat_tests}
 use Rattle.std.proofs.lemmas.List.Elements.{All-replicate}
-use Rattle.std.proofs.lemmas.Str.{IsUtf8-string_bytes, scalars-chars, chars-encodes, chars-append, chars-IsAscii, chars_from_encodes, encodes-append, encodes-chars, IsAscii-append}
+use Rattle.std.proofs.lemmas.Str.{IsUtf8-string_bytes, chars-append, chars-IsAscii, chars_from_encodes, encodes-append, encodes-chars, IsAscii-append}
 use Rattle.std.proofs.lemmas.Str.Ascii.{IsAscii-nil, IsAscii-cons, IsAscii-push, IsAscii-from_all}
 use Rattle.xls_bytes.specs.Columns.{word_of, column_name}
 use Rattle.xls_bytes.specs.Doubles.{whole_of}
@@ -35,44 +34,6 @@ encoded_more old new cs e =
     (encodes-append (text_of old) cs
     ∙ (ap (λ (x : List ℕ). x ++ encode_utf8_all cs) (encodes-chars (string_bytes old) (IsUtf8-string_bytes old))
     ∙ sym e)))
-
--- the bytes of the characters that a text gained
-pub record IsAdded (old new text : List ℕ) : Type 0 where
-  pub bytes : List ℕ
-  pub is : new ≡ old ++ bytes
-  pub utf8 : IsUtf8 bytes
-  pub spells : chars bytes ≡ text
-
-both_right : (a b : Bool) → (a && b) ≡ true → b ≡ true
-both_right true b e = e
-both_right false b e = grind arith
-
-scalars_after : (cs ds : List ℕ) → scalars (cs ++ ds) ≡ true → scalars ds ≡ true
-scalars_after [] ds e = e
-scalars_after (c ∷ cs) ds e = scalars_after cs ds (both_right (scalar c) (scalars (cs ++ ds)) e)
-
-pub added_text : (old new : String Global) (text : List ℕ) → text_of new ≡ text_of old ++ text → IsAdded (string_bytes old) (string_bytes new) text
-added_text old new text e =
-    let all : scalars (text_of old ++ text) ≡ true = ap scalars (sym e) ∙ scalars-chars (string_bytes new) (IsUtf8-string_bytes new) in
-    let some : scalars text ≡ true = scalars_after (text_of old) text all in
-    record {
-      bytes = encode_utf8_all text;
-      is =
-          sym (encodes-chars (string_bytes new) (IsUtf8-string_bytes new))
-          ∙ (ap encode_utf8_all e
-          ∙ (encodes-append (text_of old) text
-          ∙ ap (λ (x : List ℕ). x ++ encode_utf8_all text) (encodes-chars (string_bytes old) (IsUtf8-string_bytes old))));
-      utf8 = (text, (some, refl));
-      spells = chars-encodes text some;
-    }
-
-string_length : (s : String Global) → string_len s ≡ length (string_bytes s)
-string_length s = omega (arith, s.bytes.ok.0)
-
-pub longer_text : (old new : String Global) (bytes : List ℕ) → string_bytes new ≡ string_bytes old ++ bytes → string_len new ≡ string_len old + length bytes
-longer_text old new bytes e =
-    let all : length (string_bytes new) ≡ length (string_bytes old) + length bytes = ap length e ∙ length-append (string_bytes old) bytes in
-    omega (arith, all, string_length old, string_length new)
 
 -- ---- numbers
 

@@ -1,7 +1,6 @@
 //! Formulas and defined names: from token bytes to text; the names of functions.
 #![tactic(auto)]
 
-mod buffer;
 mod defined;
 mod effect;
 mod ftab;
@@ -9,7 +8,6 @@ mod functions;
 mod names;
 mod numbers;
 mod parse;
-mod prefixes;
 mod push;
 mod put;
 mod scope;

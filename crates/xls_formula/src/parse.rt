@@ -9,7 +9,6 @@ ghost use Rattle.xls_formula.specs.Holding.{scope_context};
 ghost use Rattle.xls_formula.specs.buffer.Put.{put};
 ghost use Rattle.xls_formula.specs.buffer.Steps.{Leaves};
 
-use crate::buffer::Operands;
 use crate::effect::read_effect;
 use crate::functions::FunctionTable;
 use crate::names::Names;
@@ -20,6 +19,7 @@ use std::alloc::Global;
 use std::marker::Model;
 use std::str::from_utf8;
 use xls_biff::{Biff, Part, Refs, Strings, XlsError};
+use xls_operands::Operands;
 use xls_ptg::{short, word_at};
 use xls_text::XlsEncoding;
 

@@ -1,18 +1,17 @@
 //! What each effect leaves of the texts of the operands.
 
-ghost use Rattle.std.specs.Prelude.{◌≡◌, ◌≤◌, ◌<◌, length, replicate, MatchResult, Ok, OnOk};
+ghost use Rattle.std.specs.Prelude.{◌≡◌, ◌≤◌, ◌<◌, length, replicate, MatchResult, Ok};
 ghost use Rattle.std.specs.Str.{chars};
+ghost use Rattle.xls_operands.specs.Pieces.{with_join, with_prefix};
 ghost use Rattle.xls_formula.specs.Holding.{effect_of};
 ghost use Rattle.xls_formula.specs.Words.{space_mark};
-ghost use Rattle.xls_formula.specs.buffer.Pieces.{with_join, with_prefix};
 ghost use Rattle.xls_formula.specs.buffer.Put.{needs, put, with_call, with_wrap};
 ghost use Rattle.xls_formula.specs.buffer.Steps.{Leaves};
 
-use crate::buffer::Operands;
 use crate::effect::Effect;
 use crate::words::{Word, ascii, space_mark};
-use std::alloc::AllocError;
 use xls_biff::XlsError;
+use xls_operands::Operands;
 
 fn need(texts: &Operands, count: usize) -> Result<(), XlsError>
     ensures { MatchResult result (λ _. count ≤ length texts.now)
@@ -24,23 +23,13 @@ fn need(texts: &Operands, count: usize) -> Result<(), XlsError>
     Ok(())
 }
 
-/// Puts a mark before the last operand. One without characters takes no memory.
-fn put_mark(texts: &mut Operands, mark: &str) -> Result<(), AllocError>
-    ensures { OnOk result (texts.new ≡ with_prefix (chars mark.now) texts.old) }
-{
-    if mark.is_empty() {
-        return Ok(());
-    }
-    texts.put_before(mark)
-}
-
 fn put_wrap(texts: &mut Operands, before: &str, after: &str) -> Result<(), XlsError>
     ensures { Leaves result texts.new
         (needs 1 texts.old (with_wrap (chars before.now) (chars after.now) texts.old)) }
 {
     need(texts, 1)?; // what they stand around
-    put_mark(texts, before)?;
-    texts.put_after(Word::Plain(after))?;
+    texts.put_before(before)?;
+    texts.put_after(&Word::Plain(after))?;
     Ok(())
 }
 
@@ -60,8 +49,8 @@ fn put_call(texts: &mut Operands, name: &str, count: usize) -> Result<(), XlsErr
     ensures { Leaves result texts.new (Ok (with_call count (chars name.now) texts.old)) }
 {
     if count == 0 {
-        texts.push(Word::Plain(name))?;
-        texts.put_after(Word::Plain("()"))?;
+        texts.push(&Word::Plain(name))?;
+        texts.put_after(&Word::Plain("()"))?;
         return Ok(());
     }
     'commas: for i in 1..count {
@@ -69,7 +58,7 @@ fn put_call(texts: &mut Operands, name: &str, count: usize) -> Result<(), XlsErr
     }
     texts.put_before("(")?;
     texts.put_before(name)?;
-    texts.put_after(Word::Plain(")"))?;
+    texts.put_after(&Word::Plain(")"))?;
     Ok(())
 }
 
@@ -89,7 +78,7 @@ pub(crate) fn put(texts: &mut Operands, effect: Effect<'_>) -> Result<(), XlsErr
 {
     match effect {
         Effect::Pushes(word) => {
-            texts.push(word)?;
+            texts.push(&word)?;
             Ok(())
         }
         Effect::Wraps { before, after } => put_wrap(texts, before, after),

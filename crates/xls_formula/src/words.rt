@@ -19,6 +19,7 @@ use std::alloc::AllocError;
 use std::str::from_utf8;
 use xls_bytes::push_column;
 use xls_data::{CellErrorType, Number};
+use xls_operands::Appended;
 use xls_ptg::{Corner, Operator};
 use xls_rounding::push_formula_number;
 use xls_text::XlsEncoding;
@@ -284,7 +285,7 @@ fn push_err3d(out: &mut String, sheet: &str) -> Result<(), AllocError>
 }
 
 /// Appends the text of an operand.
-pub(crate) fn push_word(out: &mut String, word: Word<'_>) -> Result<(), AllocError>
+fn push_word(out: &mut String, word: Word<'_>) -> Result<(), AllocError>
     ensures { OnOk result (text_of out.new ≡ text_of out.old ++ render (tree_of word.entry)) }
 {
     match word {
@@ -301,5 +302,16 @@ pub(crate) fn push_word(out: &mut String, word: Word<'_>) -> Result<(), AllocErr
         Word::Ref { sheet, corner } => push_ref(out, sheet, corner),
         Word::Area { sheet, first, last } => push_range(out, sheet, first, last),
         Word::Err3d(sheet) => push_err3d(out, sheet),
+    }
+}
+
+impl Appended for Word<'_> {
+    ghost use Rattle.xls_formula.specs.Holding.{tree_of};
+    ghost use Rattle.xls_formula.specs.Tree.{render};
+
+    ghost text = { λ word. render (tree_of word) };
+
+    fn append(&self, out: &mut String) -> Result<(), AllocError> {
+        push_word(out, *self)
     }
 }

@@ -1,11 +1,11 @@
 -- What an effect leaves of the texts of the operands, the last one first. It is `grow` of the trees
 -- seen by `render`, which the proofs show.
-use Rattle.std.specs.Prelude.{ℕ, zero, suc, List, [], ◌∷◌, length, nat_lt, if◌then◌else◌, codes, Result, Ok, Err}
+use Rattle.std.specs.Prelude.{ℕ, zero, suc, List, ◌∷◌, length, nat_lt, if◌then◌else◌, codes, Result, Ok, Err}
 use Rattle.xls_record.specs.declared.error.XlsError.{XlsError}
 use Rattle.xls_record.specs.declared.error.XlsError.TheVariants as errors
+use Rattle.xls_operands.specs.Pieces.{Texts, with_prefix, with_suffix, with_join}
 use Rattle.xls_formula.specs.Effects.{Effect, pushes, wraps, pairs, calls, spaces, keeps}
 use Rattle.xls_formula.specs.Tree.{render}
-use Rattle.xls_formula.specs.buffer.Pieces.{Texts, with_prefix, with_suffix, with_join}
 
 abbrev pub Put : Type 0
 Put = Result Texts XlsError
@@ -32,8 +32,3 @@ put (pairs operator) ts = needs 2 ts (with_join operator ts)
 put (calls count name) ts = needs count ts (with_call count name ts)
 put (spaces marks) ts = Ok (with_prefix marks ts)
 put keeps ts = Ok ts
-
-abbrev pub one_text : Texts → Result (List ℕ) XlsError
-one_text [] = Err (errors.InvalidFormula 0)
-one_text (t ∷ []) = Ok t
-one_text (t ∷ u ∷ us) = Err (errors.InvalidFormula (length (t ∷ u ∷ us)))

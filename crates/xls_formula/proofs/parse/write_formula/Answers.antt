@@ -1,7 +1,7 @@
 use Rattle.std.proofs.lemmas.Result.{err_from_is_err_and}
 use Rattle.std.specs.Str.{chars}
 use Rattle.xls_formula.specs.Fold.{formula_text}
-use Rattle.xls_formula.specs.buffer.Put.{one_text}
+use Rattle.xls_operands.specs.Pieces.{one_text}
 use Rattle.xls_formula.specs.Holding.{scope_context}
 use Rattle.xls_formula.proofs.Rendering.{refused, read_whole}
 use Rattle.xls_formula.proofs.WalkLemmas.{gives_over}

@@ -1,7 +1,7 @@
 use Rattle.std.proofs.Common.{◌≡◌, ◌<◌, ℕ, ◌+◌, ◌-◌, List, ◌∙◌, ap, length, arith}
 use Rattle.std.specs.Prelude.{codes}
 use Rattle.std.specs.Str.{chars}
-use Rattle.xls_formula.specs.buffer.Pieces.{with_join}
+use Rattle.xls_operands.specs.Pieces.{with_join}
 use Rattle.xls_formula.specs.buffer.Put.{with_joins}
 use Rattle.xls_formula.proofs.PutLemmas.{length-with_join, joins_step}
 use Rattle.xls_formula.proofs.put.put_call.Goals as goal

@@ -3,7 +3,7 @@ use Rattle.std.specs.Prelude.{Bool}
 use Rattle.std.specs.Str.{IsAscii, chars}
 use Rattle.std.proofs.lemmas.List.{take-replicate}
 use Rattle.std.proofs.lemmas.Str.{chars-IsAscii}
-use Rattle.xls_formula.specs.buffer.Pieces.{with_prefix}
+use Rattle.xls_operands.specs.Pieces.{with_prefix}
 use Rattle.xls_formula.specs.Words.{space_mark}
 use Rattle.xls_formula.proofs.TextLemmas.{marks_ascii}
 use Rattle.xls_formula.proofs.put.put_space.Goals as goal

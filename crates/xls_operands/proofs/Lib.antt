@@ -1,0 +1,5 @@
+mod PrefixLemmas
+mod LeafLemmas
+mod GroupLemmas
+mod AddedLemmas
+mod OperandLemmas
