@@ -1,0 +1,4 @@
+pub mod FoundLemmas
+pub mod WalkLemmas
+pub mod TokenLemmas
+pub mod StandardFacts
