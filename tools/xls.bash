@@ -1,15 +1,17 @@
 # Completion of the command line of xls, for bash.
 
 # Of the table of commands, by tools/make_man.
-_xls_commands='dump sheets check formulas refs hidden books comments links styles props vba csv remake stream streams'
+_xls_commands='dump sheets check formulas refs hidden books comments links styles props vba macros csv remake stream streams'
 
 _xls_options() {
     case $1 in
-        dump) echo '--files-from --null --out --force --skip-existing --json --exact --as-shown --codepage --password-file --password --help' ;;
+        dump) echo '--files-from --null --out --force --skip-existing --json --exact --as-shown --quiet --codepage --password-file --password --help' ;;
         sheets | refs) echo '--files-from --null --out --force --skip-existing --json --exact --codepage --password-file --password --help' ;;
-        check | formulas | hidden | books | comments | links | styles) echo '--files-from --null --out --force --skip-existing --json --codepage --password-file --password --help' ;;
+        check | formulas) echo '--files-from --null --out --force --skip-existing --json --codepage --password-file --password --help' ;;
+        hidden | books | comments | links | styles) echo '--files-from --null --out --force --skip-existing --json --quiet --codepage --password-file --password --help' ;;
         props | vba) echo '--files-from --null --out --force --skip-existing --help' ;;
-        csv) echo '--files-from --null --out --force --skip-existing --sheet --number --all --delimiter --bom --as-shown --from-a1 --exact --codepage --password-file --password --help' ;;
+        macros) echo '--files-from --null --out --force --skip-existing --json --help' ;;
+        csv) echo '--files-from --null --out --force --skip-existing --sheet --number --all --delimiter --bom --as-shown --from-a1 --skip-hidden --exact --quiet --codepage --password-file --password --help' ;;
         remake | stream) echo '--password-file --password --help' ;;
         streams) echo '--help' ;;
     esac

@@ -38,7 +38,7 @@ no-file-fault : (answer : Answer) (options : XlsOptions) (bytes : List ℕ) (a b
 no-file-fault (answers.Lines lines form) options bytes a b fault p = p
 no-file-fault (answers.Shown form) options bytes a b fault p = p
 no-file-fault answers.Exact options bytes a b fault p = p
-no-file-fault (answers.Sheet choice table) options bytes a b fault p = p
+no-file-fault (answers.Sheet choice table sight) options bytes a b fault p = p
 no-file-fault answers.Check options bytes a b fault p = p
 no-file-fault (answers.Beside topic form) options bytes a b fault p = p
 no-file-fault answers.Remade options bytes a b fault p = p

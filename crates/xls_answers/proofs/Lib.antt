@@ -1,5 +1,6 @@
 pub mod FailureLemmas
 pub mod FileLemmas
-pub mod BesideLemmas
 pub mod SheetLemmas
+pub mod HiddenLemmas
 pub mod StandardFacts
+pub mod HiddenPartLemmas

@@ -3,7 +3,7 @@ use Rattle.std.specs.Prelude.{◌≡◌, ◌⊎◌, ℕ, ◌<◌, List, [], leng
 use Rattle.xls_stream.specs.Listing.{ListEntry}
 use Rattle.xls_record.specs.declared.error.XlsError.TheVariants.{TooLarge}
 use Rattle.xls_open.specs.declared.options.XlsOptions.{XlsOptions}
-use Rattle.xls_open.specs.Globals.{AreGlobals, State}
+use Rattle.xls_open.specs.Globals.{State}
 use Rattle.xls_open.specs.Opening.{default_options}
 use Rattle.xls_open.specs.Workbook.{rules_of}
 use Rattle.xls_view.specs.Viewing.{IsViewFault}
@@ -23,6 +23,7 @@ use Rattle.xls_answers.specs.declared.failure.Failure.{Failure}
 use Rattle.xls_answers.specs.declared.failure.Failure.TheVariants as failures
 use Rattle.xls_readable.specs.Choices.{IsNumbered}
 use Rattle.xls_readable.specs.declared.forms.Form.{Form}
+use Rattle.xls_beside.specs.Checked.{HasGlobals}
 use Rattle.xls_beside.specs.Topics.{beside_lines}
 use Rattle.xls_beside.specs.declared.topics.Topic.{Topic}
 use Rattle.xls_beside.specs.Lines.{IsLineText, Line}
@@ -38,10 +39,6 @@ OfCheck options bytes before after (Err (failures.Stream e)) = IsViewFault (rule
 OfCheck options bytes before after (Err (failures.Stopped s)) =
     ((s ≡ Memory) × IsUntouched before after) ⊎ (((e : _) → IsViewFault (rules_of options) bytes e → ⊥) × Stops before [] after sound_line s)
 OfCheck options bytes before after (Err other) = ⊥
-
--- what is in force at the end of the globals, of bytes without a fault
-abbrev pub HasGlobals : XlsOptions → List ℕ → State → Type 0
-HasGlobals options bytes globals = ((e : _) → IsViewFault (rules_of options) bytes e → ⊥) × AreGlobals (rules_of options) bytes globals
 
 -- the lines of what stands beside the values, by what is in force at the end of the globals
 abbrev pub lines_beside : Topic → State → List ℕ → List Line
@@ -88,8 +85,9 @@ OfStream (answers.Lines lines form) options bytes =
 OfStream (answers.Shown form) options bytes =
     OfView (rules_shown form options) bytes (AreShownLines form) (BeginShownLines form) MissesNone
 OfStream answers.Exact options bytes = OfView (rules_of options) bytes IsDump IsDump MissesNone
-OfStream (answers.Sheet choice table) options bytes =
-    OfView (rules_of options) bytes (IsTableOf choice table) (BeginsTableOf choice table) (MissesSheet choice)
+OfStream (answers.Sheet choice table sight) options bytes =
+    OfView (rules_of options) bytes (IsTableOf choice table sight options bytes) (BeginsTableOf choice table sight options bytes)
+    (MissesSheet choice)
 OfStream answers.Check options bytes = OfCheck options bytes
 OfStream (answers.Beside topic form) options bytes = OfBeside topic form options bytes
 OfStream answers.Remade options bytes = OfRemade bytes
@@ -102,7 +100,7 @@ OfReadable answer options bytes before after result = OfStream answer options by
 
 -- a sheet that is asked for by its number has one
 abbrev pub HasNumber : Answer → Type 0
-HasNumber (answers.Sheet choice table) = IsNumbered choice
+HasNumber (answers.Sheet choice table sight) = IsNumbered choice
 HasNumber (answers.Lines lines form) = Unit {0}
 HasNumber (answers.Shown form) = Unit {0}
 HasNumber answers.Exact = Unit {0}

@@ -1,5 +1,9 @@
 pub mod Answers
 pub mod Failures
+pub mod LastNamed
+pub mod HiddenParts
+pub mod Damaged
+pub mod HiddenCells
 pub mod Sheets
 pub mod Texts
 pub mod Views

@@ -13,7 +13,10 @@ use Rattle.xls_view.specs.Viewing.{Viewed}
 use Rattle.xls_view.specs.Formats.{FormattedCell}
 use Rattle.xls_csv.specs.Dense.{sheet_csv}
 use Rattle.xls_tables.specs.Rows.{form_fields}
-use Rattle.xls_tables.specs.Tables.{IsTable, BeginsTable, table_rows}
+use Rattle.xls_tables.specs.Tables.{IsTable, BeginsTable, seen_table}
+use Rattle.xls_hidden.specs.Hidden.{Hidden}
+use Rattle.xls_hidden_cells.specs.declared.sight.Sight.{Sight}
+use Rattle.xls_open.specs.declared.options.XlsOptions.{XlsOptions}
 use Rattle.xls_output.specs.SinkState.{SinkState}
 use Rattle.xls_output.specs.Gathering.{Stops, Wrote}
 use Rattle.xls_output.specs.declared.stop.Stop.{Stop}
@@ -22,6 +25,8 @@ use Rattle.xls_report.specs.Endings.{IsUntouched}
 use Rattle.xls_readable.specs.declared.choices.SheetChoice.{SheetChoice}
 use Rattle.xls_readable.specs.declared.choices.SheetChoice.TheVariants.{First, Named, Number}
 use Rattle.xls_readable.specs.declared.choices.Table.{Table}
+pub use Rattle.xls_answers.specs.LastNamed.{last_named_from}
+use Rattle.xls_answers.specs.HiddenParts.{SkipsBy}
 use Rattle.xls_answers.specs.declared.failure.Failure.{Failure}
 use Rattle.xls_answers.specs.declared.failure.Failure.TheVariants as failures
 use Rattle.xls_answers.specs.declared.failure.Missing.{Missing}
@@ -40,12 +45,6 @@ is_worksheet types.Vba = false
 abbrev pub first_worksheet_from : ℕ → List SheetContent → Option ℕ
 first_worksheet_from n [] = None
 first_worksheet_from n (s ∷ ss) = if is_worksheet s.typ then Some n else first_worksheet_from (n + 1) ss
-
--- the index of the last sheet of a name, likewise
-abbrev pub last_named_from : ℕ → List ℕ → List SheetContent → Option ℕ
-last_named_from n name [] = None
-last_named_from n name (s ∷ ss) =
-    option_or (last_named_from (n + 1) name ss) (if pointwise ◌==◌ s.name name then Some n else None)
 
 -- the index of the sheet of a number, of so many; sheets are numbered from 1
 abbrev pub index_of_number : ℕ → ℕ → Option ℕ
@@ -75,54 +74,57 @@ HasNoSheet choice book other = ⊥
 
 -- ---- its text
 
--- the dense box of its cells, by whether it is exact: as people read it, of the cells with their XF indices, or as
--- xls_dump writes it
-abbrev pub IsCellsText : Bool → Table → Viewed → List CellEntry → List FormattedCell → List ℕ → Type 0
-IsCellsText false table view entries cells text =
-    IsTable (form_fields table.style table.delimiter view) table.begins_with_mark (table_rows table.origin cells) text
-IsCellsText true table view entries cells text = text ≡ sheet_csv entries
+-- the dense box of its cells, by whether it is exact: as people read it, of the cells with their XF indices, without what
+-- is hidden, where that is given; or as xls_dump writes it
+abbrev pub IsCellsText : Bool → Table → Option Hidden → Viewed → List CellEntry → List FormattedCell → List ℕ → Type 0
+IsCellsText false table hidden view entries cells text =
+    IsTable (form_fields table.style table.delimiter view) table.begins_with_mark (seen_table hidden table.origin cells) text
+IsCellsText true table hidden view entries cells text = text ≡ sheet_csv entries
 
 -- a part of it
-abbrev pub BeginsCellsText : Bool → Table → Viewed → List CellEntry → List FormattedCell → List ℕ → Type 0
-BeginsCellsText false table view entries cells text =
-    BeginsTable (form_fields table.style table.delimiter view) table.begins_with_mark (table_rows table.origin cells) text
-BeginsCellsText true table view entries cells text = text ≡ sheet_csv entries
+abbrev pub BeginsCellsText : Bool → Table → Option Hidden → Viewed → List CellEntry → List FormattedCell → List ℕ → Type 0
+BeginsCellsText false table hidden view entries cells text =
+    BeginsTable (form_fields table.style table.delimiter view) table.begins_with_mark (seen_table hidden table.origin cells) text
+BeginsCellsText true table hidden view entries cells text = text ≡ sheet_csv entries
 
 -- the text of the sheet at an index, and a part of it
-abbrev pub IsTextAt : Table → Viewed → ℕ → List ℕ → Type 0
-IsTextAt table view n text =
+abbrev pub IsTextAt : Table → Option Hidden → Viewed → ℕ → List ℕ → Type 0
+IsTextAt table hidden view n text =
     (sheet : SheetView) × (cells : List FormattedCell)
     × (slice_get view.book.contents n ≡ Some sheet) × (slice_get view.formatted n ≡ Some cells)
-    × IsCellsText table.is_exact table view sheet.cells cells text
+    × IsCellsText table.is_exact table hidden view sheet.cells cells text
 
-abbrev pub BeginsTextAt : Table → Viewed → ℕ → List ℕ → Type 0
-BeginsTextAt table view n text =
+abbrev pub BeginsTextAt : Table → Option Hidden → Viewed → ℕ → List ℕ → Type 0
+BeginsTextAt table hidden view n text =
     (sheet : SheetView) × (cells : List FormattedCell)
     × (slice_get view.book.contents n ≡ Some sheet) × (slice_get view.formatted n ≡ Some cells)
-    × BeginsCellsText table.is_exact table view sheet.cells cells text
+    × BeginsCellsText table.is_exact table hidden view sheet.cells cells text
 
--- of the sheet that is chosen
-abbrev pub IsTableOf : SheetChoice → Table → Viewed → List ℕ → Type 0
-IsTableOf choice table view text =
-    (n : ℕ) × (Some n ≡ chosen_index choice view.book.sheets) × IsTextAt table view n text
+-- of the sheet that is chosen, and of that what is asked for
+abbrev pub IsTableOf : SheetChoice → Table → Sight → XlsOptions → List ℕ → Viewed → List ℕ → Type 0
+IsTableOf choice table sight options stream view text =
+    (n : ℕ) × (Some n ≡ chosen_index choice view.book.sheets)
+    × (hidden : Option Hidden) × SkipsBy sight options stream view n hidden × IsTextAt table hidden view n text
 
-abbrev pub BeginsTableOf : SheetChoice → Table → Viewed → List ℕ → Type 0
-BeginsTableOf choice table view text =
-    (n : ℕ) × (Some n ≡ chosen_index choice view.book.sheets) × BeginsTextAt table view n text
+abbrev pub BeginsTableOf : SheetChoice → Table → Sight → XlsOptions → List ℕ → Viewed → List ℕ → Type 0
+BeginsTableOf choice table sight options stream view text =
+    (n : ℕ) × (Some n ≡ chosen_index choice view.book.sheets)
+    × (hidden : Option Hidden) × SkipsBy sight options stream view n hidden × BeginsTextAt table hidden view n text
 
 -- ---- what is written
 
 -- the text of these cells was written, a prefix of a part of it, or nothing where memory ran out
-abbrev pub WritesCells : Table → Viewed → List CellEntry → List FormattedCell → SinkState → SinkState → Result (Unit {0}) Stop → Type 0
-WritesCells table view entries cells before after (Ok x) =
-    (text : List ℕ) × IsCellsText table.is_exact table view entries cells text × Wrote before after text
-WritesCells table view entries cells before after (Err s) =
+abbrev pub WritesCells : Table → Option Hidden → Viewed → List CellEntry → List FormattedCell
+    → SinkState → SinkState → Result (Unit {0}) Stop → Type 0
+WritesCells table hidden view entries cells before after (Ok x) =
+    (text : List ℕ) × IsCellsText table.is_exact table hidden view entries cells text × Wrote before after text
+WritesCells table hidden view entries cells before after (Err s) =
     ((s ≡ Memory) × IsUntouched before after)
-    ⊎ ((text : List ℕ) × BeginsCellsText table.is_exact table view entries cells text × Stops before [] after text s)
+    ⊎ ((text : List ℕ) × BeginsCellsText table.is_exact table hidden view entries cells text × Stops before [] after text s)
 
 -- the text of the sheet at an index likewise
-abbrev pub WritesSheetAt : Table → Viewed → ℕ → SinkState → SinkState → Result (Unit {0}) Stop → Type 0
-WritesSheetAt table view n before after (Ok x) = (text : List ℕ) × IsTextAt table view n text × Wrote before after text
-WritesSheetAt table view n before after (Err s) =
+abbrev pub WritesSheetAt : Table → Option Hidden → Viewed → ℕ → SinkState → SinkState → Result (Unit {0}) Stop → Type 0
+WritesSheetAt table hidden view n before after (Ok x) = (text : List ℕ) × IsTextAt table hidden view n text × Wrote before after text
+WritesSheetAt table hidden view n before after (Err s) =
     ((s ≡ Memory) × IsUntouched before after)
-    ⊎ ((text : List ℕ) × BeginsTextAt table view n text × Stops before [] after text s)
+    ⊎ ((text : List ℕ) × BeginsTextAt table hidden view n text × Stops before [] after text s)

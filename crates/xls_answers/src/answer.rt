@@ -1,6 +1,7 @@
 //! What is written of a workbook.
 
 use xls_beside::Topic;
+use xls_hidden_cells::Sight;
 use xls_readable::{Form, Listing, SheetChoice, Table};
 
 /// What is written of a workbook.
@@ -12,8 +13,8 @@ pub enum Answer<'w> {
     Shown(Form),
     /// All that it holds, as `xls_dump` writes it.
     Exact,
-    /// One of its sheets as CSV.
-    Sheet(SheetChoice<'w>, Table),
+    /// One of its sheets as CSV, or what can be seen of it.
+    Sheet(SheetChoice<'w>, Table, Sight),
     /// That its stream has no fault.
     Check,
     /// What stands beside its values, in a form.

@@ -50,8 +50,8 @@ pub fn write_stream<K: Sink>(
         Answer::Lines(lines, form) => { write_lines(alloc, sink, *lines, *form, options, bytes) }
         Answer::Shown(form) => write_shown(alloc, sink, *form, options, bytes),
         Answer::Exact => write_exact(alloc, sink, options, bytes),
-        Answer::Sheet(choice, table) => {
-            write_sheet_of(alloc, sink, choice, table, options, bytes)
+        Answer::Sheet(choice, table, sight) => {
+            write_sheet_of(alloc, sink, choice, table, *sight, options, bytes)
         }
         Answer::Check => write_check(alloc, sink, options, bytes),
         Answer::Beside(topic, form) => {

@@ -8,13 +8,17 @@ ghost use Rattle.xls_readable.specs.Choices.{IsNumbered};
 ghost use Rattle.xls_open.specs.Workbook.{rules_of};
 ghost use Rattle.xls_answers.specs.Sheets.{BeginsTableOf, HasNoSheet, IsMissing, IsTableOf, MissesSheet, WritesCells, WritesSheetAt, chosen_index, first_worksheet_from, index_of_number, is_worksheet, last_named_from};
 ghost use Rattle.xls_answers.specs.Views.{OfView};
+ghost use Rattle.std.specs.Option.{option_copied};
 
 use crate::failure::{Failure, Missing};
+use crate::hidden_parts::{skipped_at, skipped_parts};
 use std::alloc::{AllocError, Global};
 use xls_cell_formats::CellFormats;
 use xls_csv::write_rows;
 use xls_data::{Sheet, SheetType};
 use xls_formula::NumberStyle;
+use xls_hidden::HiddenSheet;
+use xls_hidden_cells::Sight;
 use xls_open::XlsOptions;
 use xls_output::{Sink, Stop};
 use xls_readable::{SheetChoice, Table};
@@ -49,7 +53,7 @@ fn first_worksheet(sheets: &[Sheet]) -> Option<usize>
 }
 
 /// The index of the last sheet of a name.
-fn last_named(sheets: &[Sheet], name: &str) -> Option<usize>
+pub(crate) fn last_named(sheets: &[Sheet], name: &str) -> Option<usize>
     ensures exact { result ≡ last_named_from 0 (chars name.now) (map sheet_content sheets.now) }
     ensures within { IfSome result (λ n. n < length sheets.now) }
 {
@@ -110,57 +114,65 @@ pub fn chosen(alloc: Global, view: &View<'_>, choice: &SheetChoice<'_>) -> Resul
     }
 }
 
-/// Writes the cells of a sheet as CSV.
+/// Writes the cells of a sheet as CSV, but for what is hidden, where that is given.
 fn write_cells<K: Sink>(
     alloc: Global,
     sink: &mut K,
     table: &Table,
     formats: &CellFormats<'_>,
+    hidden: Option<&HiddenSheet<'_>>,
     sheet: &ViewSheet<'_>,
 ) -> Result<(), Stop>
-    ensures { WritesCells table.now formats.now sheet.now.cells sheet.now.formatted (K.state sink.old) (K.state sink.new) result }
+    ensures { WritesCells table.now (option_copied hidden.entry) formats.now sheet.now.cells sheet.now.formatted
+        (K.state sink.old) (K.state sink.new) result }
 {
     if table.is_exact {
         return write_rows(alloc, sink, &sheet.cells()?);
     }
     let cells = sheet.formatted()?;
-    write_table(alloc, sink, table, formats, &cells)
+    write_table(alloc, sink, table, formats, hidden, &cells)
 }
 
-/// Writes the sheet of an index as CSV, of the workbook whose formats are these.
+/// Writes the sheet of an index as CSV, of the workbook whose formats are these, but for what is hidden in it, where that
+/// is given. An exact table has all.
 pub fn write_sheet_at<K: Sink>(
     alloc: Global,
     sink: &mut K,
     table: &Table,
     formats: &CellFormats<'_>,
+    hidden: Option<&HiddenSheet<'_>>,
     index: usize,
 ) -> Result<(), Stop>
     requires { index < length formats.now.book.contents }
-    ensures { WritesSheetAt table.now formats.now index (K.state sink.old) (K.state sink.new) result }
+    ensures { WritesSheetAt table.now (option_copied hidden.entry) formats.now index (K.state sink.old) (K.state sink.new) result }
 {
     match formats.view().sheet_at(index) {
-        Some(sheet) => write_cells(alloc, sink, table, formats, &sheet),
+        Some(sheet) => write_cells(alloc, sink, table, formats, hidden, &sheet),
         None => unreachable!(),
     }
 }
 
-/// Writes the sheet that is chosen of the workbook that a stream's bytes hold. Nothing is written where there is no
-/// such sheet.
+/// Writes the sheet that is chosen of the workbook that a stream's bytes hold, or what can be seen of it. Nothing is
+/// written where there is no such sheet.
 pub(crate) fn write_sheet_of<K: Sink>(
     alloc: Global,
     sink: &mut K,
     choice: &SheetChoice<'_>,
     table: &Table,
+    sight: Sight,
     options: &XlsOptions,
     bytes: &[u8],
 ) -> Result<(), Failure>
     requires { IsNumbered choice.now }
-    ensures { OfView (rules_of options.now) bytes.now (IsTableOf choice.now table.now) (BeginsTableOf choice.now table.now)
-        (MissesSheet choice.now) (K.state sink.old) (K.state sink.new) result }
+    ensures { OfView (rules_of options.now) bytes.now (IsTableOf choice.now table.now sight options.now bytes.now)
+        (BeginsTableOf choice.now table.now sight options.now bytes.now) (MissesSheet choice.now)
+        (K.state sink.old) (K.state sink.new) result }
 {
     let view = View::new(alloc, bytes, options, NumberStyle::Bits)?;
     let index = chosen(alloc, &view, choice)?;
     let formats = CellFormats::new(alloc, &view)?;
-    write_sheet_at(alloc, sink, table, &formats, index)?;
+    let parts = skipped_parts(alloc, sight, options, bytes)?;
+    let hidden = skipped_at(alloc, parts.as_ref(), &view, index)?;
+    write_sheet_at(alloc, sink, table, &formats, hidden.as_ref(), index)?;
     Ok(())
 }

@@ -48,6 +48,7 @@ use Rattle.xls_style_cells.specs.Cells.{no_runs}
 use Rattle.xls_readable.specs.Items.{FieldItem, NamedItem, count, number, text, unknown, word}
 use Rattle.xls_beside.specs.Books.{book_lines, linked_lines, outside_lines}
 use Rattle.xls_beside.specs.Comments.{comment}
+use Rattle.xls_beside.specs.Damaged.{at_most_counted, damaged_among}
 use Rattle.xls_beside.specs.Hidden.{frozen_members, hidden}
 use Rattle.xls_beside.specs.Hidden as hidden_things
 use Rattle.xls_beside.specs.Lines.{Line, sheet}
@@ -361,3 +362,65 @@ pub damaged_styles : map damaged_style (short_font ∷ short_xf ∷ [])
     ∷ said (codes "XF") 90 unknown unknown (codes "shorter than 20 bytes: 16") ∷ []
 unfolding digits
 damaged_styles = refl
+
+-- ---- how many things are damaged
+
+abbrev among : Line → ℕ
+among l = damaged_among (l ∷ [])
+
+-- by the whole word
+pub damaged_words : map (λ (w : List ℕ). among (record { word = w; members = [] }))
+    (codes "sheet" ∷ codes "style" ∷ codes "run" ∷ codes "outside" ∷ codes "damage" ∷ codes "damaged" ∷ codes "damaged " ∷ [] ∷ [])
+    ≡ 0 ∷ 0 ∷ 0 ∷ 0 ∷ 0 ∷ 1 ∷ 0 ∷ 0 ∷ []
+damaged_words = refl
+
+pub damaged_hidden : map (λ (item : HiddenItem). among (hidden item))
+    (Rows (run whys.Flat) ∷ Columns (run whys.Flat) ∷ Frozen pane ∷ Zeros ∷ Damaged late_row ∷ []) ≡ 0 ∷ 0 ∷ 0 ∷ 0 ∷ 1 ∷ []
+damaged_hidden = refl
+
+pub damaged_comments : map (λ (item : comments.Item). among (comment item)) (
+    comments.comment (record { row = 4; column = 2; visibility = visibilities.Visible; author = []; text = codes "damaged" })
+    ∷ comments.damaged (record { record_name = notes.Note; offset = 165; row = Some 1; column = Some 2; flaw = NoObject 8 }) ∷ []
+    ) ≡ 0 ∷ 1 ∷ []
+damaged_comments = refl
+
+pub damaged_links : map (λ (item : links.Item). among (link item)) (
+    links.link (record {
+      first_row = 3;
+      last_row = 4;
+      first_column = 5;
+      last_column = 6;
+      kind = kinds.Place;
+      target = [];
+      place = codes "damaged";
+      shown = [];
+      tip = [];
+    })
+    ∷ links.damaged (record { record_name = h_links.HLink; offset = 68; row = None; column = None; flaw = EndsIn parts_of_link.Head }) ∷ []
+    ) ≡ 0 ∷ 1 ∷ []
+damaged_links = refl
+
+-- a name and the record of a book, each whole and each damaged, whatever is linked
+abbrev books_of : Linked → List Book
+books_of kind =
+    record { linked = kind; path = []; topic = []; sheets = codes "S" ∷ []; names = Ok (codes "N") ∷ []; damage = None }
+    ∷ record { linked = kind; path = []; topic = []; sheets = []; names = Err short_name ∷ Ok (codes "N") ∷ []; damage = None }
+    ∷ record { linked = kind; path = []; topic = []; sheets = []; names = []; damage = Some late_names } ∷ book_of kind ∷ []
+
+pub damaged_books : map (λ (kind : Linked). map (λ (b : Book). damaged_among (book_lines b)) (books_of kind))
+    (linked.Nothing ∷ linked.Functions ∷ linked.Book ∷ linked.Program ∷ [])
+    ≡ (0 ∷ 1 ∷ 1 ∷ 2 ∷ []) ∷ (0 ∷ 1 ∷ 1 ∷ 2 ∷ []) ∷ (0 ∷ 1 ∷ 1 ∷ 2 ∷ []) ∷ (0 ∷ 1 ∷ 1 ∷ 2 ∷ []) ∷ []
+damaged_books = refl
+
+pub damaged_looks : damaged_among (damaged_style short_font ∷ damaged_style short_xf ∷ cell_lines Biff8 bare [] ((4, 2), (7, no_runs))) ≡ 2
+damaged_looks = refl
+
+-- lines of sheets between those of their parts
+pub damaged_in_sheets : damaged_among (sheet_lines (λ (part : SheetPart). hidden Zeros ∷ hidden (Damaged late_row) ∷ []) parts
+    ((80, named 65) ∷ (124, named 65) ∷ (212, named 66) ∷ (300, named 67) ∷ [])) ≡ 3
+damaged_in_sheets = refl
+
+pub greatest_counts : map at_most_counted
+    (0 ∷ 1 ∷ 18_446_744_073_709_551_614 ∷ 18_446_744_073_709_551_615 ∷ 18_446_744_073_709_551_616 ∷ 36_893_488_147_419_103_232 ∷ [])
+    ≡ 0 ∷ 1 ∷ 18_446_744_073_709_551_614 ∷ 18_446_744_073_709_551_615 ∷ 18_446_744_073_709_551_615 ∷ 18_446_744_073_709_551_615 ∷ []
+greatest_counts = refl

@@ -1,4 +1,6 @@
+pub mod Checked
 pub mod Lines
+pub mod Damaged
 pub mod Parts
 pub mod Hidden
 pub mod Comments

@@ -1,6 +1,6 @@
 //! The lines of other workbooks, and of the formulas that cite them.
 
-ghost use Rattle.std.specs.Prelude.{◌≡◌, ◌∷◌, [], map};
+ghost use Rattle.std.specs.Prelude.{◌≡◌, ◌∷◌, [], IfOk, map};
 ghost use Rattle.std.specs.List.{flat_map};
 ghost use Rattle.xls_open.specs.Globals.{listed_of};
 ghost use Rattle.xls_other_books.specs.Books.{book_view, books_view};
@@ -8,19 +8,22 @@ ghost use Rattle.xls_other_books.specs.Formulas.{outside_of};
 ghost use Rattle.xls_other_books.specs.Names.{name_view};
 ghost use Rattle.xls_other_books.specs.Outside.{cited_view, cited_views};
 ghost use Rattle.xls_other_books.specs.Texts.{kind_text};
+ghost use Rattle.xls_other_books.specs.declared.books.Linked.{Linked as LinkedKind};
 ghost use Rattle.xls_output.specs.Each.{DeliversEach, text_output};
 ghost use Rattle.xls_parts.specs.PartRecords.{placed_of};
 ghost use Rattle.xls_strings.specs.Texts.{text_of};
 ghost use Rattle.xls_beside.specs.Books as specs;
 ghost use Rattle.xls_beside.specs.Books.{books_lines};
+ghost use Rattle.xls_beside.specs.Damaged.{at_most_counted, damaged_among};
 ghost use Rattle.xls_beside.specs.Lines.{IsLineText, PutsLines};
 
+use crate::counting::counted;
 use crate::lines::{
     DamagePlace, count_member, lent_member, put_damaged, put_line, text_member, word_member,
 };
 use crate::parts::{SheetPart, part_at};
 use crate::sheets::{Tells, put_listed};
-use std::alloc::Global;
+use std::alloc::{AllocError, Global};
 use xls_open::{Globals, Listed};
 use xls_other_books::{Book, Cited, Damage, Linked, OtherBooks, kind_word};
 use xls_output::{OutputText, Sink, Stop, Writer};
@@ -351,4 +354,68 @@ pub fn write_books<K: Sink>(
         &globals.listed,
     )?;
     out.finish()
+}
+
+/// How many lines `damaged` a name of what is linked has: 1 or 0.
+fn name_damaged(name: &Result<String, Damage>) -> u64
+    ensures { (linked : LinkedKind) → result ≡ damaged_among (specs.book_name linked (name_view name.now) ∷ []) }
+{
+    match name {
+        Ok(_) => 0,
+        Err(_) => 1,
+    }
+}
+
+/// How many of the names of what is linked are damaged.
+fn names_damaged(names: &[Result<String, Damage>]) -> u64
+    ensures { (linked : LinkedKind) → result
+        ≡ at_most_counted (damaged_among (map (specs.book_name linked) (map name_view names.now))) }
+{
+    let mut count: u64 = 0;
+    for name in names {
+        count = counted(count, name_damaged(name));
+    }
+    count
+}
+
+/// How many lines `damaged` the record of what is linked has: 1 or 0.
+fn record_damaged(damage: Option<Damage>) -> u64
+    ensures { result ≡ damaged_among (specs.damage_if damage) }
+{
+    match damage {
+        Some(_) => 1,
+        None => 0,
+    }
+}
+
+/// How many records of what is linked are damaged: its own, and those of its names.
+fn book_damaged(book: &Book) -> u64
+    ensures { result ≡ at_most_counted (damaged_among (specs.book_lines (book_view book.now))) }
+{
+    counted(names_damaged(&book.names), record_damaged(book.damage))
+}
+
+/// How many records are damaged of all that is linked.
+fn books_damaged(books: &[Book]) -> u64
+    ensures { result ≡ at_most_counted (damaged_among (flat_map specs.book_lines (books_view books.now))) }
+{
+    let mut count: u64 = 0;
+    for book in books {
+        count = counted(count, book_damaged(book));
+    }
+    count
+}
+
+/// How many records of the globals that link something are damaged; 2^64 - 1 where they are more. What formulas cite isn't
+/// read: no line `damaged` tells of it.
+pub(crate) fn damaged_books(
+    alloc: Global,
+    stream: &[u8],
+    globals: &Globals,
+) -> Result<u64, AllocError>
+    ensures { IfOk result (λ n. n
+        ≡ at_most_counted (damaged_among (books_lines globals.now.version globals.now.page globals.now.sheets stream.now))) }
+{
+    let other = OtherBooks::read(alloc, stream, globals.version, &globals.page)?;
+    Ok(books_damaged(other.books()))
 }

@@ -1,18 +1,20 @@
 //! The lines of comments.
 
-ghost use Rattle.std.specs.Prelude.{◌≡◌, ◌∷◌, [], map};
+ghost use Rattle.std.specs.Prelude.{◌≡◌, ◌∷◌, [], IfOk, map};
 ghost use Rattle.xls_comments.specs.Items.{item_of};
 ghost use Rattle.xls_comments.specs.Texts.{visibility_text};
 ghost use Rattle.xls_comments.specs.declared.items.CommentItem.TheVariants as items;
 ghost use Rattle.xls_output.specs.Each.{DeliversEach, text_output};
 ghost use Rattle.xls_beside.specs.Comments as specs;
 ghost use Rattle.xls_beside.specs.Comments.{comments_lines};
+ghost use Rattle.xls_beside.specs.Damaged.{at_most_counted, damaged_among};
 ghost use Rattle.xls_beside.specs.Lines.{IsLineText, PutsLines};
 
+use crate::counting::{Damages, counted, damaged_in_sheets};
 use crate::lines::{DamagePlace, count_member, put_damaged, put_line, text_member, word_member};
 use crate::parts::{SheetPart, part_at};
 use crate::sheets::{Tells, write_sheets};
-use std::alloc::Global;
+use std::alloc::{AllocError, Global};
 use xls_comments::{Comment, CommentItem, Comments, Damage, Visibility};
 use xls_open::Globals;
 use xls_output::{OutputText, Sink, Stop, Writer};
@@ -148,4 +150,55 @@ pub fn write_comments<K: Sink>(
         page: globals.page,
     };
     write_sheets(alloc, sink, form, &comments, stream, globals)
+}
+
+/// How many lines `damaged` a comment or a damaged Note has: 1 or 0.
+fn item_damaged(item: &CommentItem) -> u64
+    ensures { result ≡ damaged_among (specs.comment (item_of item.now) ∷ []) }
+{
+    match item {
+        CommentItem::Damaged(_) => 1,
+        CommentItem::Comment(_) => 0,
+    }
+}
+
+/// How many of these items are damaged.
+fn items_damaged(comments: Comments<'_>) -> Result<u64, AllocError>
+    ensures { IfOk result (λ n. n ≡ at_most_counted (damaged_among (map specs.comment comments.entry))) }
+{
+    let mut count: u64 = 0;
+    for next in comments {
+        let item = next?;
+        count = counted(count, item_damaged(&item));
+    }
+    Ok(count)
+}
+
+impl<'a> Damages for SheetComments<'a> {
+    ghost use Rattle.xls_beside.specs.Comments.{comments_in};
+
+    ghost lines = { λ s. comments_in s.version s.page s.stream.now };
+
+    fn damaged(&self, alloc: Global, part: SheetPart) -> Result<u64, AllocError> {
+        let bytes = part_at(self.stream, part.offset);
+        let comments = Comments::read(alloc, bytes, part.offset as u64, self.version, self.page)?;
+        items_damaged(comments)
+    }
+}
+
+/// How many Notes are damaged in the sheets of a workbook; 2^64 - 1 where they are more.
+pub(crate) fn damaged_comments(
+    alloc: Global,
+    stream: &[u8],
+    globals: &Globals,
+) -> Result<u64, AllocError>
+    ensures { IfOk result (λ n. n
+        ≡ at_most_counted (damaged_among (comments_lines globals.now.version globals.now.page globals.now.sheets stream.now))) }
+{
+    let comments = SheetComments {
+        stream,
+        version: globals.version,
+        page: globals.page,
+    };
+    damaged_in_sheets(alloc, &comments, stream, globals)
 }

@@ -1,18 +1,20 @@
 //! The lines of what is hidden in sheets.
 
-ghost use Rattle.std.specs.Prelude.{◌≡◌, ◌∷◌, [], codes, map};
+ghost use Rattle.std.specs.Prelude.{◌≡◌, ◌∷◌, [], IfOk, codes, map};
 ghost use Rattle.xls_hidden.specs.Hidden.{hidden_items};
 ghost use Rattle.xls_hidden.specs.Texts.{why_text};
 ghost use Rattle.xls_hidden.specs.declared.sheet.HiddenItem.TheVariants.{Damaged};
 ghost use Rattle.xls_output.specs.Each.{DeliversEach, text_output};
+ghost use Rattle.xls_beside.specs.Damaged.{at_most_counted, damaged_among};
 ghost use Rattle.xls_beside.specs.Hidden as specs;
 ghost use Rattle.xls_beside.specs.Hidden.{frozen_members, hidden_lines, run_members};
 ghost use Rattle.xls_beside.specs.Lines.{IsLineText, PutsLines, line};
 
+use crate::counting::{Damages, counted, damaged_in_sheets};
 use crate::lines::{DamagePlace, count_member, put_damaged, put_line, word_member};
 use crate::parts::{SheetPart, part_at};
 use crate::sheets::{Tells, write_sheets};
-use std::alloc::Global;
+use std::alloc::{AllocError, Global};
 use xls_hidden::{Damage, HiddenItem, HiddenItems, Pane, Run, Why, read_hidden};
 use xls_open::Globals;
 use xls_output::{OutputText, Sink, Stop, Writer};
@@ -160,4 +162,54 @@ pub fn write_hidden<K: Sink>(
         version: globals.version,
     };
     write_sheets(alloc, sink, form, &hidden, stream, globals)
+}
+
+/// How many lines `damaged` something hidden has: 1 or 0.
+fn item_damaged(item: HiddenItem) -> u64
+    ensures { result ≡ damaged_among (specs.hidden item ∷ []) }
+{
+    match item {
+        HiddenItem::Damaged(_) => 1,
+        HiddenItem::Rows(_) | HiddenItem::Columns(_) | HiddenItem::Frozen(_) | HiddenItem::Zeros =>
+            0,
+    }
+}
+
+/// How many of these items are damaged.
+fn items_damaged(items: HiddenItems<'_, '_>) -> u64
+    ensures { result ≡ at_most_counted (damaged_among (map specs.hidden items.entry)) }
+{
+    let mut count: u64 = 0;
+    for item in items {
+        count = counted(count, item_damaged(item));
+    }
+    count
+}
+
+impl<'a> Damages for Hidden<'a> {
+    ghost use Rattle.xls_beside.specs.Hidden.{hidden_in};
+
+    ghost lines = { λ s. hidden_in s.version s.stream.now };
+
+    fn damaged(&self, alloc: Global, part: SheetPart) -> Result<u64, AllocError> {
+        let bytes = part_at(self.stream, part.offset);
+        let hidden = read_hidden(alloc, bytes, part.offset as u64, self.version, part.area)?;
+        Ok(items_damaged(hidden.items()))
+    }
+}
+
+/// How many records that may hide something are damaged in the sheets of a workbook; 2^64 - 1 where they are more.
+pub(crate) fn damaged_hidden(
+    alloc: Global,
+    stream: &[u8],
+    globals: &Globals,
+) -> Result<u64, AllocError>
+    ensures { IfOk result (λ n. n
+        ≡ at_most_counted (damaged_among (hidden_lines globals.now.version globals.now.sheets stream.now))) }
+{
+    let hidden = Hidden {
+        stream,
+        version: globals.version,
+    };
+    damaged_in_sheets(alloc, &hidden, stream, globals)
 }

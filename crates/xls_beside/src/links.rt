@@ -1,18 +1,20 @@
 //! The lines of links.
 
-ghost use Rattle.std.specs.Prelude.{◌≡◌, ◌∷◌, [], map};
+ghost use Rattle.std.specs.Prelude.{◌≡◌, ◌∷◌, [], IfOk, map};
 ghost use Rattle.xls_links.specs.Items.{item_of};
 ghost use Rattle.xls_links.specs.Texts.{kind_text};
 ghost use Rattle.xls_links.specs.declared.items.LinkItem.TheVariants as items;
 ghost use Rattle.xls_output.specs.Each.{DeliversEach, text_output};
+ghost use Rattle.xls_beside.specs.Damaged.{at_most_counted, damaged_among};
 ghost use Rattle.xls_beside.specs.Links as specs;
 ghost use Rattle.xls_beside.specs.Links.{links_lines};
 ghost use Rattle.xls_beside.specs.Lines.{IsLineText, PutsLines};
 
+use crate::counting::{Damages, counted, damaged_in_sheets};
 use crate::lines::{DamagePlace, count_member, put_damaged, put_line, text_member, word_member};
 use crate::parts::{SheetPart, part_at};
 use crate::sheets::{Tells, write_sheets};
-use std::alloc::Global;
+use std::alloc::{AllocError, Global};
 use xls_links::{Damage, Link, LinkItem, LinkKind, Links};
 use xls_open::Globals;
 use xls_output::{OutputText, Sink, Stop, Writer};
@@ -154,4 +156,55 @@ pub fn write_links<K: Sink>(
         page: globals.page,
     };
     write_sheets(alloc, sink, form, &links, stream, globals)
+}
+
+/// How many lines `damaged` a link or a damaged HLink has: 1 or 0.
+fn item_damaged(item: &LinkItem) -> u64
+    ensures { result ≡ damaged_among (specs.link (item_of item.now) ∷ []) }
+{
+    match item {
+        LinkItem::Damaged(_) => 1,
+        LinkItem::Link(_) => 0,
+    }
+}
+
+/// How many of these items are damaged.
+fn items_damaged(links: Links<'_>) -> Result<u64, AllocError>
+    ensures { IfOk result (λ n. n ≡ at_most_counted (damaged_among (map specs.link links.entry))) }
+{
+    let mut count: u64 = 0;
+    for next in links {
+        let item = next?;
+        count = counted(count, item_damaged(&item));
+    }
+    Ok(count)
+}
+
+impl<'a> Damages for SheetLinks<'a> {
+    ghost use Rattle.xls_beside.specs.Links.{links_in};
+
+    ghost lines = { λ s. links_in s.version s.page s.stream.now };
+
+    fn damaged(&self, alloc: Global, part: SheetPart) -> Result<u64, AllocError> {
+        let bytes = part_at(self.stream, part.offset);
+        let links = Links::new(alloc, bytes, part.offset as u64, self.version, self.page);
+        items_damaged(links)
+    }
+}
+
+/// How many HLinks are damaged in the sheets of a workbook; 2^64 - 1 where they are more.
+pub(crate) fn damaged_links(
+    alloc: Global,
+    stream: &[u8],
+    globals: &Globals,
+) -> Result<u64, AllocError>
+    ensures { IfOk result (λ n. n
+        ≡ at_most_counted (damaged_among (links_lines globals.now.version globals.now.page globals.now.sheets stream.now))) }
+{
+    let links = SheetLinks {
+        stream,
+        version: globals.version,
+        page: globals.page,
+    };
+    damaged_in_sheets(alloc, &links, stream, globals)
 }

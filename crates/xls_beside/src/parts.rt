@@ -15,15 +15,15 @@ use xls_hidden::{FilterArea, read_filter_areas};
 use xls_open::Listed;
 use xls_record::Biff;
 
-/// Where the part of a sheet begins in the stream, and the area of the sheet's filter.
+/// Where the part of a sheet begins in the stream, in bytes, and the area of the sheet's filter.
 #[derive(Clone, Copy)]
-pub(crate) struct SheetPart {
-    pub(crate) offset: usize,
-    pub(crate) area: Option<FilterArea>,
+pub struct SheetPart {
+    pub offset: usize,
+    pub area: Option<FilterArea>,
 }
 
 /// The bytes from an offset on; none past the end.
-pub(crate) fn part_at(stream: &[u8], offset: usize) -> &[u8]
+pub fn part_at(stream: &[u8], offset: usize) -> &[u8]
     ensures bytes { result.now ≡ drop offset stream.now }
     ensures fits { offset + length result.now < 2 ^ 64 }
 {
@@ -71,8 +71,9 @@ fn index_of(
     Ok(index)
 }
 
-/// The part of the last sheet of each name.
-pub(crate) fn read_parts(
+/// The part of the last sheet of each name, by the stream, the version in force and the sheets that its globals list. Only
+/// memory can run out.
+pub fn read_parts(
     alloc: Global,
     stream: &[u8],
     version: Biff,

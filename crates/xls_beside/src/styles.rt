@@ -8,6 +8,7 @@ ghost use Rattle.xls_readable.specs.Items.{item_of, named_of};
 ghost use Rattle.xls_style_cells.specs.Places.{cell_given};
 ghost use Rattle.xls_style_cells.specs.Tables.{string_table};
 ghost use Rattle.xls_styles.specs.Styles.{font_style_view, style_view};
+ghost use Rattle.xls_beside.specs.Damaged.{at_most_counted, damaged_among};
 ghost use Rattle.xls_beside.specs.Lines.{IsLineText, PutsLines, line};
 ghost use Rattle.xls_beside.specs.Styles as specs;
 ghost use Rattle.xls_beside.specs.Styles.{styles_lines};
@@ -385,4 +386,18 @@ pub fn write_styles<K: Sink>(
         &globals.listed,
     )?;
     out.finish()
+}
+
+/// How many records of the globals that tell how cells look are damaged; 2^64 - 1 where they are more. The cells aren't
+/// read: no line `damaged` tells of one.
+pub(crate) fn damaged_styles(
+    alloc: Global,
+    stream: &[u8],
+    globals: &Globals,
+) -> Result<u64, AllocError>
+    ensures { IfOk result (λ n. n
+        ≡ at_most_counted (damaged_among (styles_lines globals.now.version globals.now.page globals.now.sheets stream.now))) }
+{
+    let styles = Styles::read(alloc, stream, globals.version, &globals.page)?;
+    Ok(styles.damages().len() as u64)
 }

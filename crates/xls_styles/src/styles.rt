@@ -1,6 +1,6 @@
 //! How the cells of a workbook look.
 
-ghost use Rattle.std.specs.Prelude.{◌≡◌, IfOk, Some};
+ghost use Rattle.std.specs.Prelude.{◌≡◌, IfOk, Some, length};
 ghost use Rattle.std.specs.Option.{option_copied};
 ghost use Rattle.xls_parts.specs.PartRecords.{globals_records};
 ghost use Rattle.xls_styles.specs.Fonts.{font_view_if};
@@ -196,13 +196,27 @@ impl Styles {
         }
     }
 
+    /// How many XF records there are.
+    pub fn count(&self) -> usize
+        ensures { result ≡ length self.now.xfs }
+    {
+        self.xfs.len()
+    }
+
+    /// The style of the XF of an index, counted from 0. Of an index past the table nothing is told.
+    pub fn style(&self, index: usize) -> CellStyle<'_>
+        ensures { style_view result ≡ styles.style_of self.now index }
+    {
+        match self.xfs.get(index) {
+            Some(xf) => self.xf_style(xf),
+            None => no_style(),
+        }
+    }
+
     /// How a cell looks, by the index of its XF. Of an index past the table nothing is told.
     pub fn cell(&self, xf: u16) -> CellStyle<'_>
         ensures { style_view result ≡ styles.style_of self.now xf }
     {
-        match self.xfs.get(usize::from(xf)) {
-            Some(xf) => self.xf_style(xf),
-            None => no_style(),
-        }
+        self.style(usize::from(xf))
     }
 }

@@ -1,11 +1,13 @@
 -- Tables, and how far they were written.
-use Rattle.std.specs.Prelude.{◌≡◌, ℕ, Bool, true, false, List, [], ◌∷◌, ◌++◌, Result, MatchResult}
+use Rattle.std.specs.Prelude.{◌≡◌, ℕ, Bool, true, false, List, [], ◌∷◌, ◌++◌, Option, Result, MatchResult}
 use Rattle.xls_output.specs.Gathering.{Stops, Wrote}
 use Rattle.xls_output.specs.SinkState.{SinkState}
 use Rattle.xls_output.specs.declared.stop.Stop.{Stop}
 use Rattle.xls_csv.specs.Boxes.{BeginsBox, FieldForm, IsBox}
 use Rattle.xls_csv.specs.Dense.{box_of, from_a1, rows_in}
-use Rattle.xls_csv.specs.Walk.{Formatted, no_cell}
+use Rattle.xls_csv.specs.Seen.{seen_in}
+use Rattle.xls_csv.specs.Walk.{Formatted, no_cell, walk_box}
+use Rattle.xls_hidden.specs.Hidden.{Hidden}
 use Rattle.xls_csv.specs.declared.extent.Extent.{Extent}
 use Rattle.xls_readable.specs.declared.choices.Origin.{Origin}
 use Rattle.xls_readable.specs.declared.choices.Origin.TheVariants as origins
@@ -25,6 +27,15 @@ table_box A1 box = from_a1 box
 -- its rows: the value that was given to each position last, and else none
 abbrev pub table_rows : Origin → List FormattedCell → List (List Formatted)
 table_rows origin cells = rows_in no_cell cells (table_box origin (box_of cells))
+
+-- those that can be seen, where it is asked for what is hidden
+abbrev pub seen_table : Option Hidden → Origin → List FormattedCell → List (List Formatted)
+seen_table hidden origin cells = seen_in hidden (table_box origin (box_of cells)) (table_rows origin cells)
+
+-- the same of cells that are gone through once; where they ascend, both are the same rows
+abbrev pub table_walk : Option Hidden → Origin → List FormattedCell → List (List Formatted)
+table_walk hidden origin cells =
+    seen_in hidden (table_box origin (box_of cells)) (walk_box no_cell (table_box origin (box_of cells)) cells)
 
 -- a table: the mark, where it is asked for, and the box of the rows
 abbrev pub IsTable : FieldForm → Bool → List (List Formatted) → List ℕ → Type 0

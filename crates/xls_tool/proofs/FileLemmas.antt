@@ -36,7 +36,7 @@ no-file-fault : (answer : Answer) (options : XlsOptions) (stream : List ℕ) (a 
 no-file-fault (answers.Lines lines form) options stream a b fault p = p
 no-file-fault (answers.Shown form) options stream a b fault p = p
 no-file-fault answers.Exact options stream a b fault p = p
-no-file-fault (answers.Sheet choice table) options stream a b fault p = p
+no-file-fault (answers.Sheet choice table sight) options stream a b fault p = p
 no-file-fault answers.Check options stream a b fault p = p
 no-file-fault (answers.Beside topic form) options stream a b fault p = p
 no-file-fault answers.Remade options stream a b fault p = p

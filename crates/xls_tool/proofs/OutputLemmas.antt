@@ -1,7 +1,8 @@
 -- Texts that are written into files of their own, and which files are made.
-use Rattle.std.proofs.Common.{◌≡◌, ℕ, Bool, true, List, [], Some, Result, Ok, Err, inl, inr, refl, sym, subst}
+use Rattle.std.proofs.Common.{◌≡◌, ℕ, Bool, true, List, [], Option, Some, Result, Ok, Err, OnOk, inl, inr, refl, sym, subst}
 use Rattle.std.specs.Io.KnownBytes.{Appends}
 use Rattle.std.specs.Result.{IsOk}
+use Rattle.xls_answers.specs.HiddenParts.{IsSkippedAt}
 use Rattle.xls_answers.specs.Sheets.{BeginsTableOf, IsTableOf, MissesSheet, WritesSheetAt, chosen_index}
 use Rattle.xls_answers.specs.Views.{AreLines, AreShownLines, BeginLines, BeginShownLines, IsDump, MissesNone, OfView, rules_shown}
 use Rattle.xls_answers.specs.declared.answer.Answer.{Answer}
@@ -11,6 +12,7 @@ use Rattle.xls_container.specs.Files.{Container}
 use Rattle.xls_files.proofs.FileLemmas.{begun_one, placed_one}
 use Rattle.xls_files.specs.Files.{Begins, HostFiles, Places, part_path}
 use Rattle.xls_files.specs.Paths.{IsInside}
+use Rattle.xls_hidden.specs.Hidden.{Hidden}
 use Rattle.xls_meaning.specs.Rules.{Rules}
 use Rattle.xls_open.specs.Workbook.{rules_of}
 use Rattle.xls_open.specs.declared.options.XlsOptions.{XlsOptions}
@@ -18,9 +20,10 @@ use Rattle.xls_output.specs.Each.{WroteEach}
 use Rattle.xls_output.specs.Gathering.{Wrote}
 use Rattle.xls_output.specs.SinkState.{SinkState}
 use Rattle.xls_output.specs.declared.stop.Stop.{Stop}
+use Rattle.xls_readable.specs.declared.forms.Form.TheVariants.{Text}
 use Rattle.xls_tool.specs.Asked.{asked_by}
 use Rattle.xls_tool.specs.Beside.{OfContainer, as_failure, as_problem}
-use Rattle.xls_tool.specs.Outputs.{HoldsText, IsOutput, KeepsOutputs, MayBegin, MayMake, TakesAll, unwritten}
+use Rattle.xls_tool.specs.Outputs.{HoldsText, IsOutput, IsSourceIn, KeepsOutputs, MayBegin, MayMake, TakesAll, unwritten}
 use Rattle.xls_tool.specs.SheetFiles.{AreSheetFiles, IsAskedSheet}
 use Rattle.xls_tool.specs.Texts.{OfWorkbook}
 use Rattle.xls_tool.specs.declared.job.Asked.TheVariants.{Workbook, Other}
@@ -57,8 +60,9 @@ module _ (a b : SinkState) (empty : a.written ≡ Some []) where
       view-written (rules_shown form options) stream (AreShownLines form) (BeginShownLines form) MissesNone h
   workbook-written answers.Exact options stream h =
       view-written (rules_of options) stream IsDump IsDump MissesNone h
-  workbook-written (answers.Sheet choice table) options stream h =
-      view-written (rules_of options) stream (IsTableOf choice table) (BeginsTableOf choice table) (MissesSheet choice) h
+  workbook-written (answers.Sheet choice table sight) options stream h =
+      view-written (rules_of options) stream (IsTableOf choice table sight options stream) (BeginsTableOf choice table sight options stream)
+      (MissesSheet choice) h
   workbook-written answers.Check options stream (sound, wrote) = (sound, text-written _ wrote)
   workbook-written (answers.Beside topic form) options stream (globals, has, wrote) = (globals, has, each-written _ _ wrote)
   workbook-written answers.Remade options stream (list, reads, text, writes, wrote) = (list, reads, text, writes, text-written text wrote)
@@ -76,6 +80,11 @@ module _ (a b : SinkState) (empty : a.written ≡ Some []) where
   beside-written beside.Project container (inl (project, has, (Err s, delivers, is))) = absurd (cc is)
   beside-written beside.Project container (inr (inl (none, (is, same)))) = absurd (cc is)
   beside-written beside.Project container (inr (inr (fault, refuses, (is, same)))) = absurd (cc is)
+  beside-written (beside.Macros form) container (inl (macros, has, (Ok x, (parts, are, wrote), is))) =
+      inl (macros, has, (Ok x, (parts, are, each-written _ _ wrote), is))
+  beside-written (beside.Macros form) container (inl (macros, has, (Err s, delivers, is))) = absurd (cc is)
+  beside-written (beside.Macros form) container (inr (inl (none, (is, same)))) = absurd (cc is)
+  beside-written (beside.Macros form) container (inr (inr (fault, refuses, (is, same)))) = absurd (cc is)
   beside-written (beside.Stream path) container (inl (compound, in_it, inl (item, bytes, at, has, Ok x, wrote, is))) =
       inl (compound, in_it, inl (item, bytes, at, has, Ok x, text-written bytes wrote, is))
   beside-written (beside.Stream path) container (inl (compound, in_it, inl (item, bytes, at, has, Err f, stops, is))) = absurd (cc is)
@@ -100,38 +109,55 @@ module _ (a b : SinkState) (empty : a.written ≡ Some []) where
       → asked_by request.command ≡ Other what → OfContainer what container a b r → IsOk r
       → HoldsText request.out (asked_by request.command) options b
   holds-beside request what options container (Ok x) is h ok =
-      subst (λ asked. HoldsText request.out asked options b) (sym is) (container, beside-written what container h)
+      subst (λ asked. HoldsText request.out asked options b) (sym is) (container, inl (beside-written what container h))
   holds-beside request what options container (Err p) is h ok = absurd (cc ok)
 
+  pub holds-source : (request : Request) (options : XlsOptions) (container : Container) (source : List ℕ) (r : Result (Unit {0}) Problem)
+      → asked_by request.command ≡ Other (beside.Macros Text) → IsSourceIn container source → OnOk r (Wrote a b source) → IsOk r
+      → HoldsText request.out (asked_by request.command) options b
+  holds-source request options container source (Ok x) is in_it wrote ok =
+      subst (λ asked. HoldsText request.out asked options b) (sym is) (container, inr (source, in_it, text-written source wrote))
+  holds-source request options container source (Err p) is in_it wrote ok = absurd (cc ok)
+
   -- a sheet: where all are asked for, or the chosen one
-  all-sheets : (files : SheetFiles) (view : Viewed) (n : ℕ) → AreSheetFiles files view → files.out.now.takes_all_sheets ≡ true
-      → WritesSheetAt files.table.now view n a b (Ok tt)
-      → HoldsText files.job.now.request.out (Workbook (answers.Sheet files.choice.now files.table.now)) files.job.now.reading.options b
-  all-sheets files view n are all (text, is, wrote) = (
+  all-sheets : (files : SheetFiles) (view : Viewed) (n : ℕ) (hidden : Option Hidden) → AreSheetFiles files view
+      → files.out.now.takes_all_sheets ≡ true → IsSkippedAt files.parts.now view n hidden
+      → WritesSheetAt files.table.now hidden view n a b (Ok tt)
+      → HoldsText files.job.now.request.out (Workbook (answers.Sheet files.choice.now files.table.now files.sight)) files.job.now.reading.options b
+  all-sheets files view n hidden are all skipped (text, is, wrote) = (
     files.book.now.stream.now,
-    inr (subst TakesAll (sym are.out) all, (view, are.viewed, n, (text, is, text-written text wrote))),
+    inr (
+      subst TakesAll (sym are.out) all,
+      (view, are.viewed, n, hidden, (files.parts.now, are.skipped, skipped), (text, is, text-written text wrote)),
+    ),
   )
 
-  chosen-sheet : (files : SheetFiles) (view : Viewed) (n : ℕ) → AreSheetFiles files view
-      → Some n ≡ chosen_index files.choice.now view.book.sheets → WritesSheetAt files.table.now view n a b (Ok tt)
-      → HoldsText files.job.now.request.out (Workbook (answers.Sheet files.choice.now files.table.now)) files.job.now.reading.options b
-  chosen-sheet files view n are chosen (text, is, wrote) =
-      (files.book.now.stream.now, inl (view, are.viewed, text, (n, chosen, is), text-written text wrote))
+  chosen-sheet : (files : SheetFiles) (view : Viewed) (n : ℕ) (hidden : Option Hidden) → AreSheetFiles files view
+      → Some n ≡ chosen_index files.choice.now view.book.sheets → IsSkippedAt files.parts.now view n hidden
+      → WritesSheetAt files.table.now hidden view n a b (Ok tt)
+      → HoldsText files.job.now.request.out (Workbook (answers.Sheet files.choice.now files.table.now files.sight)) files.job.now.reading.options b
+  chosen-sheet files view n hidden are chosen skipped (text, is, wrote) = (
+    files.book.now.stream.now,
+    inl (view, are.viewed, text, (n, chosen, hidden, (files.parts.now, are.skipped, skipped), is), text-written text wrote),
+  )
 
-  asked-sheet : (files : SheetFiles) (view : Viewed) (n : ℕ) → AreSheetFiles files view → IsAskedSheet files view n
-      → WritesSheetAt files.table.now view n a b (Ok tt)
+  asked-sheet : (files : SheetFiles) (view : Viewed) (n : ℕ) (hidden : Option Hidden) → AreSheetFiles files view
+      → IsAskedSheet files view n → IsSkippedAt files.parts.now view n hidden
+      → WritesSheetAt files.table.now hidden view n a b (Ok tt)
       → HoldsText files.job.now.request.out (asked_by files.job.now.request.command) files.job.now.reading.options b
-  asked-sheet files view n are (inl all) h =
-      subst (λ asked. HoldsText files.job.now.request.out asked files.job.now.reading.options b) (sym are.asked) (all-sheets files view n are all h)
-  asked-sheet files view n are (inr chosen) h =
-      subst (λ asked. HoldsText files.job.now.request.out asked files.job.now.reading.options b) (sym are.asked) (chosen-sheet files view n are chosen h)
+  asked-sheet files view n hidden are (inl all) skipped h =
+      subst (λ asked. HoldsText files.job.now.request.out asked files.job.now.reading.options b) (sym are.asked) (all-sheets files view n hidden are all skipped h)
+  asked-sheet files view n hidden are (inr chosen) skipped h =
+      subst (λ asked. HoldsText files.job.now.request.out asked files.job.now.reading.options b) (sym are.asked) (chosen-sheet files view n hidden are chosen skipped h)
 
-  pub holds-sheet : (files : SheetFiles) (view : Viewed) (n : ℕ) (done : Result (Unit {0}) Stop) (r : Result (Unit {0}) Problem)
-      → AreSheetFiles files view → IsAskedSheet files view n → WritesSheetAt files.table.now view n a b done
+  pub holds-sheet : (files : SheetFiles) (view : Viewed) (n : ℕ) (hidden : Option Hidden) (done : Result (Unit {0}) Stop)
+      (r : Result (Unit {0}) Problem)
+      → AreSheetFiles files view → IsAskedSheet files view n → IsSkippedAt files.parts.now view n hidden
+      → WritesSheetAt files.table.now hidden view n a b done
       → r ≡ as_problem (as_failure done) → IsOk r
       → HoldsText files.job.now.request.out (asked_by files.job.now.request.command) files.job.now.reading.options b
-  holds-sheet files view n (Ok x) r are asked h is ok = asked-sheet files view n are asked h
-  holds-sheet files view n (Err s) r are asked h is ok =
+  holds-sheet files view n hidden (Ok x) r are asked skipped h is ok = asked-sheet files view n hidden are asked skipped h
+  holds-sheet files view n hidden (Err s) r are asked skipped h is ok =
       let none : IsOk (as_problem (as_failure (Err s))) = subst IsOk is ok in absurd (cc none)
 
 -- ---- the host's files

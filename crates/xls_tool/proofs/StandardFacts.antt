@@ -13,6 +13,7 @@ use Rattle.xls_tool.specs.declared.problem.Problem.TheVariants as problems
 use Rattle.xls_beside.specs.declared.topics.Topic.{Topic}
 use Rattle.xls_readable.specs.declared.choices.Listing.TheVariants.{Dump, Sheets, Formulas, Refs}
 use Rattle.xls_readable.specs.declared.choices.SheetChoice.{SheetChoice}
+use Rattle.xls_hidden_cells.specs.declared.sight.Sight.{Sight}
 use Rattle.xls_readable.specs.declared.choices.Table.{Table}
 use Rattle.xls_readable.specs.declared.forms.Form.TheVariants.{Text, Json, Exact}
 use Rattle.xls_answers.specs.declared.answer.Answer.TheVariants as answers
@@ -66,19 +67,19 @@ known_other_counts text = refl
 
 -- ---- what each command writes, whole
 
-pub known_asked : (s : SheetChoice) (t : Table) (b : Topic) → map asked_by
+pub known_asked : (s : SheetChoice) (t : Table) (sight : Sight) (b : Topic) → map asked_by
     (commands.Lines Dump Text ∷ commands.Lines Sheets Text ∷ commands.Lines Formulas Text ∷ commands.Lines Refs Text
     ∷ commands.Lines Dump Json ∷ commands.Lines Sheets Json ∷ commands.Lines Formulas Json ∷ commands.Lines Refs Json
     ∷ commands.Lines Dump Exact ∷ commands.Lines Sheets Exact ∷ commands.Lines Formulas Exact ∷ commands.Lines Refs Exact
-    ∷ commands.Check ∷ commands.Beside b Text ∷ commands.Beside b Json ∷ commands.Csv s t ∷ commands.Remake ∷ commands.Stream None
+    ∷ commands.Check ∷ commands.Beside b Text ∷ commands.Beside b Json ∷ commands.Csv s t sight ∷ commands.Remake ∷ commands.Stream None
     ∷ commands.Shown Text ∷ commands.Shown Json ∷ [])
     ≡ map Workbook
     (answers.Lines Dump Text ∷ answers.Lines Sheets Text ∷ answers.Lines Formulas Text ∷ answers.Lines Refs Text
     ∷ answers.Lines Dump Json ∷ answers.Lines Sheets Json ∷ answers.Lines Formulas Json ∷ answers.Lines Refs Json
     ∷ answers.Exact ∷ answers.Lines Sheets Text ∷ answers.Lines Formulas Text ∷ answers.Lines Refs Text
-    ∷ answers.Check ∷ answers.Beside b Text ∷ answers.Beside b Json ∷ answers.Sheet s t ∷ answers.Remade ∷ answers.Bytes
+    ∷ answers.Check ∷ answers.Beside b Text ∷ answers.Beside b Json ∷ answers.Sheet s t sight ∷ answers.Remade ∷ answers.Bytes
     ∷ answers.Shown Text ∷ answers.Shown Json ∷ [])
-known_asked s t b = refl
+known_asked s t sight b = refl
 
 pub known_others : (path : _) → map asked_by (commands.Props ∷ commands.Vba ∷ commands.Stream (Some path) ∷ commands.Streams ∷ [])
     ≡ map Other (beside.Properties ∷ beside.Project ∷ beside.Stream path ∷ beside.Streams ∷ [])

@@ -32,12 +32,13 @@ asked_by (commands.Lines lines form) = Workbook (lines_of lines form)
 asked_by (commands.Shown form) = Workbook (answers.Shown form)
 asked_by commands.Check = Workbook answers.Check
 asked_by (commands.Beside topic form) = Workbook (answers.Beside topic form)
-asked_by (commands.Csv choice t) = Workbook (answers.Sheet choice t)
+asked_by (commands.Csv choice t sight) = Workbook (answers.Sheet choice t sight)
 asked_by commands.Remake = Workbook answers.Remade
 asked_by (commands.Stream None) = Workbook answers.Bytes
 asked_by (commands.Stream (Some path)) = Other (beside.Stream path)
 asked_by commands.Props = Other beside.Properties
 asked_by commands.Vba = Other beside.Project
+asked_by (commands.Macros form) = Other (beside.Macros form)
 asked_by commands.Streams = Other beside.Streams
 
 -- a sheet that is asked for by its number has one

@@ -17,9 +17,12 @@ use Rattle.xls_documents.specs.Properties.{property_lines}
 use Rattle.xls_documents.specs.PropertyStreams.{HasProperties, RefusesInFile}
 use Rattle.xls_documents.specs.Streams.{IsEntryText}
 use Rattle.xls_documents.specs.declared.fault.ProjectFault.{ProjectFault}
+use Rattle.xls_macros.specs.Lines.{DeliversMacros}
+use Rattle.xls_macros.specs.Macros.{HasMacros, Macros}
 use Rattle.xls_output.specs.SinkState.{SinkState}
 use Rattle.xls_output.specs.declared.stop.Stop.{Stop}
 use Rattle.xls_output.specs.declared.stop.Stop.TheVariants.{Memory}
+use Rattle.xls_readable.specs.declared.forms.Form.{Form}
 use Rattle.xls_readable.specs.declared.forms.Form.TheVariants.{Text}
 use Rattle.xls_report.specs.Endings.{IsUntouched}
 use Rattle.xls_answers.specs.Answers.{OfBytes}
@@ -71,6 +74,13 @@ OfProject container before after result =
     ⊎ ((HasProject container None × IsRefused (problems.Absent absent.Project) before after result)
     ⊎ ((fault : ProjectFault) × RefusesProject container fault × IsRefused (problem_of_project fault) before after result))
 
+-- the sources of its macro project; or as of the project's lines
+abbrev pub OfMacros : Form → Container → SinkState → SinkState → Result (Unit {0}) Problem → Type 0
+OfMacros form container before after result =
+    ((macros : Macros) × HasMacros container (Some macros) × Delivered (DeliversMacros form macros before after) result)
+    ⊎ ((HasMacros container None × IsRefused (problems.Absent absent.Project) before after result)
+    ⊎ ((fault : ProjectFault) × RefusesProject container fault × IsRefused (problem_of_project fault) before after result))
+
 -- the lines of its streams; or it is a workbook's stream alone
 abbrev pub OfStreams : Container → SinkState → SinkState → Result (Unit {0}) Problem → Type 0
 OfStreams container before after result =
@@ -104,6 +114,7 @@ OfStreamAt path container before after result =
 abbrev pub OfContainer : Beside → Container → SinkState → SinkState → Result (Unit {0}) Problem → Type 0
 OfContainer asked.Properties = OfProperties
 OfContainer asked.Project = OfProject
+OfContainer (asked.Macros form) = OfMacros form
 OfContainer (asked.Stream path) = OfStreamAt path.now
 OfContainer asked.Streams = OfStreams
 

@@ -7,3 +7,4 @@ pub mod Outputs
 pub mod SheetFiles
 pub mod Displayed
 pub mod Steps
+pub mod ModuleFiles

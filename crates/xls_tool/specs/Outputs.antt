@@ -1,6 +1,8 @@
 -- The files that are made below a folder.
 use Rattle.std.specs.Prelude.{◌≡◌, ◌⊎◌, ℕ, Bool, true, false, List, [], Option, Some, None, IfSome, Ok}
+use Rattle.xls_answers.specs.HiddenParts.{SkipsBy}
 use Rattle.xls_answers.specs.Sheets.{WritesSheetAt}
+use Rattle.xls_hidden.specs.Hidden.{Hidden}
 use Rattle.xls_answers.specs.declared.answer.Answer.{Answer}
 use Rattle.xls_answers.specs.declared.answer.Answer.TheVariants as answers
 use Rattle.xls_answers.specs.Views.{options_under}
@@ -9,14 +11,21 @@ use Rattle.xls_data.specs.declared.sheets.SheetType.{SheetType}
 use Rattle.xls_data.specs.declared.sheets.SheetType.TheVariants as types
 use Rattle.xls_files.specs.Files.{AreAllowed, HostFiles, Placed, part_path}
 use Rattle.xls_files.specs.Paths.{IsInside}
+use Rattle.xls_macros.specs.Macros.{HasMacros, IsModuleSource, Macros}
 use Rattle.xls_open.specs.Workbook.{rules_of}
 use Rattle.xls_open.specs.declared.options.XlsOptions.{XlsOptions}
+use Rattle.xls_output.specs.Gathering.{Wrote}
 use Rattle.xls_output.specs.SinkState.{SinkState}
+use Rattle.xls_readable.specs.declared.forms.Form.TheVariants.{Text}
 use Rattle.xls_tool.specs.Asked.{asked_by}
 use Rattle.xls_tool.specs.Beside.{OfContainer}
 use Rattle.xls_tool.specs.Texts.{OfWorkbook}
 use Rattle.xls_tool.specs.declared.job.Asked.{Asked}
 use Rattle.xls_tool.specs.declared.job.Asked.TheVariants.{Workbook, Other}
+use Rattle.xls_tool.specs.declared.job.Beside.{Beside}
+use Rattle.xls_tool.specs.declared.job.Beside.TheVariants as beside
+use Rattle.xls_vba.specs.Modules.{Mod}
+use Rattle.xls_vba.specs.Project.{last_module}
 use Rattle.xls_view.specs.Viewing.{Viewed, IsViewed}
 use Rattle.xls_words.specs.Requests.{IsAsked, IsNamedFolder, is_exact, word_of}
 use Rattle.xls_words.specs.declared.request.Folder.{Folder}
@@ -54,16 +63,28 @@ TakesAll (Some folder) = folder.takes_all_sheets ≡ true
 
 -- the cells of one sheet of a workbook's stream
 abbrev pub HoldsSheet : Answer → XlsOptions → List ℕ → SinkState → Type 0
-HoldsSheet (answers.Sheet choice table) options stream state =
-    (view : Viewed) × IsViewed (rules_of options) stream view × (n : ℕ) × WritesSheetAt table view n unwritten state (Ok tt)
+HoldsSheet (answers.Sheet choice table sight) options stream state =
+    (view : Viewed) × IsViewed (rules_of options) stream view × (n : ℕ)
+    × (hidden : Option Hidden) × SkipsBy sight options stream view n hidden × WritesSheetAt table hidden view n unwritten state (Ok tt)
 HoldsSheet other options stream state = ⊥
 
--- the whole text that else is written to standard output; or one of its sheets, where all are asked for
+-- a source of the macro project of an opened file
+abbrev pub IsSourceIn : Container → List ℕ → Type 0
+IsSourceIn container source = (macros : Macros) × (name : List ℕ) × (m : Mod) × HasMacros container (Some macros)
+    × (last_module name macros.project.modules ≡ Some m) × IsModuleSource macros m source
+
+-- the source of one module, where sources are asked for as text
+abbrev pub HoldsSource : Beside → Container → SinkState → Type 0
+HoldsSource (beside.Macros Text) container state = (source : List ℕ) × IsSourceIn container source × Wrote unwritten state source
+HoldsSource other container state = ⊥
+
+-- the whole text that else is written to standard output; or one of its sheets, where all are asked for, or of its modules
 abbrev pub HoldsText : Option Folder → Asked → XlsOptions → SinkState → Type 0
 HoldsText out (Workbook answer) options state =
     (stream : List ℕ) × (OfWorkbook answer options stream unwritten state (Ok tt)
     ⊎ (TakesAll out × HoldsSheet answer options stream state))
-HoldsText out (Other beside) options state = (container : Container) × OfContainer beside container unwritten state (Ok tt)
+HoldsText out (Other beside) options state =
+    (container : Container) × (OfContainer beside container unwritten state (Ok tt) ⊎ HoldsSource beside container state)
 
 -- ---- both
 

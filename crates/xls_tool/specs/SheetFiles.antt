@@ -1,5 +1,6 @@
 -- The files of the sheets of a workbook, for the proofs.
 use Rattle.std.specs.Prelude.{◌≡◌, ◌⊎◌, ℕ, true, Some}
+use Rattle.xls_answers.specs.HiddenParts.{AreSkipped}
 use Rattle.xls_answers.specs.Sheets.{chosen_index}
 use Rattle.xls_answers.specs.declared.answer.Answer.TheVariants.{Sheet}
 use Rattle.xls_files.specs.Paths.{IsInside}
@@ -13,7 +14,8 @@ use Rattle.xls_view.specs.Viewing.{Viewed, IsViewed}
 pub record AreSheetFiles (files : SheetFiles) (view : Viewed) : Type 0 where
   pub out : files.job.now.request.out ≡ Some files.out.now
   pub inside : IsInside files.out.now.path.now files.folder.now
-  pub asked : asked_by files.job.now.request.command ≡ Workbook (Sheet files.choice.now files.table.now)
+  pub asked : asked_by files.job.now.request.command ≡ Workbook (Sheet files.choice.now files.table.now files.sight)
+  pub skipped : AreSkipped files.sight files.job.now.reading.options files.book.now.stream.now files.parts.now
   pub viewed : IsViewed (rules_of files.job.now.reading.options) files.book.now.stream.now view
 
 -- all sheets are asked for, or this one

@@ -41,6 +41,14 @@ impl Job<'_> {
         }
     }
 
+    /// Whether each worksheet and each macro sheet of a workbook is written.
+    pub(crate) fn takes_all_sheets(&self) -> bool {
+        match &self.request.out {
+            Some(folder) => folder.takes_all_sheets,
+            None => false,
+        }
+    }
+
     /// Whether files that exist are left as they are, and that is no fault.
     pub(crate) fn skips_existing(&self) -> bool
         ensures exact { result ≡ skips_existing self.now.request.out }
@@ -58,6 +66,8 @@ impl Job<'_> {
 pub enum Beside<'w> {
     Properties,
     Project,
+    /// The sources of the macro project, in a form.
+    Macros(Form),
     /// The stream of a path, its names separated by `/`.
     Stream(&'w str),
     Streams,
@@ -106,12 +116,15 @@ pub(crate) fn asked_by<'w>(command: &Command<'w>) -> Asked<'w>
         Command::Shown(form) => Asked::Workbook(Answer::Shown(*form)),
         Command::Check => Asked::Workbook(Answer::Check),
         Command::Beside(topic, form) => Asked::Workbook(Answer::Beside(*topic, *form)),
-        Command::Csv(choice, table) => Asked::Workbook(Answer::Sheet(*choice, *table)),
+        Command::Csv(choice, table, sight) => {
+            Asked::Workbook(Answer::Sheet(*choice, *table, *sight))
+        }
         Command::Remake => Asked::Workbook(Answer::Remade),
         Command::Stream(None) => Asked::Workbook(Answer::Bytes),
         Command::Stream(Some(path)) => Asked::Other(Beside::Stream(path)),
         Command::Props => Asked::Other(Beside::Properties),
         Command::Vba => Asked::Other(Beside::Project),
+        Command::Macros(form) => Asked::Other(Beside::Macros(*form)),
         Command::Streams => Asked::Other(Beside::Streams),
     }
 }

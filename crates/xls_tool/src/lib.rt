@@ -4,6 +4,7 @@
 
 mod file;
 mod job;
+mod macros;
 mod many;
 mod misplaced;
 mod one;
@@ -14,6 +15,7 @@ mod say;
 mod sheets;
 mod tell;
 mod unlock;
+mod unseen;
 mod work;
 
 pub use problem::Problem;

@@ -16,6 +16,7 @@ use crate::job::{Asked, Beside, Job, asked_by};
 use crate::problem::Problem;
 use crate::sheets::{write_beside_file, write_workbook_files};
 use crate::unlock::plain_of;
+use crate::unseen::tell_unseen;
 use crate::work::{write_beside, write_text};
 use std::alloc::Global;
 use xls_answers::Answer;
@@ -24,7 +25,7 @@ use xls_files::Host;
 use xls_output::Sink;
 
 /// Writes what is asked for of a workbook to the sink, or into files below the folder, if there is one.
-fn write_answer<H: Host, K: Sink>(
+fn put_answer<H: Host, K: Sink>(
     alloc: Global,
     host: &mut H,
     sink: &mut K,
@@ -42,6 +43,26 @@ fn write_answer<H: Host, K: Sink>(
         Some(folder) => write_workbook_files(alloc, host, job, folder, answer, book),
         None => write_text(alloc, sink, answer, &job.reading.options, book.stream),
     }
+}
+
+/// The same, and then it is told how many cells of the sheets that were written can't be seen.
+fn write_answer<H: Host, K: Sink>(
+    alloc: Global,
+    host: &mut H,
+    sink: &mut K,
+    job: &Job<'_>,
+    answer: &Answer<'_>,
+    book: &Workbook<'_>,
+) -> Result<(), Problem>
+    requires number { HasNumber answer.now }
+    requires asked { asked_by job.now.request.command ≡ asked.Workbook answer.now }
+    ensures written { job.now.request.out ≡ None → OfWorkbook answer.now job.now.reading.options book.now.stream.now
+        (K.state sink.old) (K.state sink.new) result }
+    ensures outputs { KeepsOutputs H.tells H.File.state job.now.request job.now.reading.options (H.files host.old) (H.files host.new) }
+{
+    let done = put_answer(alloc, host, sink, job, answer, book);
+    tell_unseen(alloc, host, job, answer, book, done.is_ok());
+    done
 }
 
 /// Does the work of a file's workbook, which is made plain where it is encrypted: its text is written.

@@ -3,6 +3,7 @@
 ghost use Rattle.std.specs.Prelude.{◌≡◌, ◌<◌, true, Some, length, IfOk};
 ghost use Rattle.std.specs.String.{string_bytes};
 ghost use Rattle.xls_answers.specs.Answers.{HasNumber};
+ghost use Rattle.xls_answers.specs.HiddenParts.{AreSkipped};
 ghost use Rattle.xls_files.specs.Files.{Places};
 ghost use Rattle.xls_files.specs.Paths.{IsInside};
 ghost use Rattle.xls_tool.specs.Asked.{asked_by};
@@ -13,22 +14,27 @@ ghost use Rattle.xls_readable.specs.Choices.{IsNumbered};
 
 use crate::file::{OpenedFile, Workbook};
 use crate::job::{Beside, Job};
+use crate::macros::write_macro_files;
 use crate::problem::Problem;
 use crate::say::say_of;
 use crate::work::{write_beside, write_text, written};
 use std::alloc::{AllocError, Global};
-use xls_answers::{Answer, Failure, chosen, view_of, write_sheet_at};
+use xls_answers::{
+    Answer, Failure, HiddenParts, chosen, skipped_at, skipped_parts, view_of, write_sheet_at,
+};
 use xls_cell_formats::CellFormats;
 use xls_data::{Sheet, SheetType, SheetVisible};
 use xls_files::{Host, begin, file_path, folder_of};
+use xls_hidden_cells::Sight;
+use xls_open::XlsOptions;
 use xls_output::Stop;
-use xls_readable::{SheetChoice, Table};
+use xls_readable::{Form, SheetChoice, Table};
 use xls_tables::file_name;
 use xls_view::View;
 use xls_words::Folder;
 
 /// Ends a file into which a text was written, or a part of it: it is given its path, or taken away.
-fn end<H: Host>(
+pub(crate) fn end<H: Host>(
     host: &mut H,
     path: String,
     writes_over: bool,
@@ -95,7 +101,7 @@ fn write_text_file<H: Host>(
 }
 
 /// Writes what stands beside the workbook into a file of its own.
-pub(crate) fn write_beside_file<H: Host>(
+fn write_whole_file<H: Host>(
     alloc: Global,
     host: &mut H,
     job: &Job<'_>,
@@ -122,9 +128,32 @@ pub(crate) fn write_beside_file<H: Host>(
     end(host, path, folder.writes_over, out, done)
 }
 
+/// Writes what stands beside the workbook into a file of its own, or each source of a macro project into one.
+pub(crate) fn write_beside_file<H: Host>(
+    alloc: Global,
+    host: &mut H,
+    job: &Job<'_>,
+    folder: &Folder<'_>,
+    beside: &Beside<'_>,
+    file: &OpenedFile<'_>,
+) -> Result<(), Problem>
+    requires out { job.now.request.out ≡ Some folder.now }
+    requires asked { asked_by job.now.request.command ≡ asked.Other beside.now }
+    ensures outputs { KeepsOutputs H.tells H.File.state job.now.request job.now.reading.options (H.files host.old) (H.files host.new) }
+{
+    match beside {
+        Beside::Macros(Form::Text) => write_macro_files(alloc, host, job, folder, file),
+        Beside::Properties
+        | Beside::Project
+        | Beside::Macros(Form::Json | Form::Exact)
+        | Beside::Stream(_)
+        | Beside::Streams => write_whole_file(alloc, host, job, folder, beside, file),
+    }
+}
+
 /// The files that the sheets of a workbook are written into.
 #[derive(Drop)]
-struct SheetFiles<'f> {
+struct SheetFiles<'f, 's> {
     job: &'f Job<'f>,
     /// The folder for all files, and the one for the files of this workbook.
     out: &'f Folder<'f>,
@@ -132,13 +161,16 @@ struct SheetFiles<'f> {
     /// Which sheet is asked for, where all aren't, and how the cells of each are written.
     choice: &'f SheetChoice<'f>,
     table: &'f Table,
+    /// How much of each sheet is written, and what is needed to leave out the rest.
+    sight: Sight,
+    parts: &'f Option<HiddenParts<'s>>,
     book: &'f Workbook<'f>,
 }
 
 /// The path of the file for the sheet of an index.
 fn sheet_path(
     alloc: Global,
-    files: &SheetFiles<'_>,
+    files: &SheetFiles<'_, '_>,
     view: &View<'_>,
     index: usize,
 ) -> Result<String, AllocError>
@@ -155,7 +187,7 @@ fn sheet_path(
 fn write_sheet_file<H: Host>(
     alloc: Global,
     host: &mut H,
-    files: &SheetFiles<'_>,
+    files: &SheetFiles<'_, '_>,
     formats: &CellFormats<'_>,
     index: usize,
 ) -> Result<(), Problem>
@@ -166,12 +198,15 @@ fn write_sheet_file<H: Host>(
     ensures outputs { KeepsOutputs H.tells H.File.state files.now.job.now.request files.now.job.now.reading.options
         (H.files host.old) (H.files host.new) }
 {
+    let parts = files.parts.as_ref();
+    let hidden = skipped_at(alloc, parts, formats.view(), index)?;
     let path = sheet_path(alloc, files, formats.view(), index)?;
     let mut file = match begin(alloc, host, path.as_str(), files.out.writes_over) {
         Ok(file) => file,
         Err(reason) => return Err(Problem::Unwritten(path, reason)),
     };
-    let done = written(write_sheet_at(alloc, &mut file, files.table, formats, index));
+    let left_out = hidden.as_ref();
+    let done = written(write_sheet_at(alloc, &mut file, files.table, formats, left_out, index));
     end(host, path, files.out.writes_over, file, done)
 }
 
@@ -192,14 +227,14 @@ fn tell_hidden<H: Host>(
 }
 
 /// Whether all sheets have it among them.
-fn is_table(sheet: &Sheet) -> bool
+pub(crate) fn is_table(sheet: &Sheet) -> bool
     ensures { result ≡ is_table sheet.now.typ }
 {
     matches!(sheet.typ, SheetType::WorkSheet | SheetType::MacroSheet)
 }
 
 /// How it went with files so far, where a file that exists ends the work only at its end, if it is to be left.
-fn unless_passed(
+pub(crate) fn unless_passed(
     folder: &Folder<'_>,
     done: Result<(), Problem>,
     written: Result<(), Problem>,
@@ -215,7 +250,7 @@ fn unless_passed(
 fn write_all_sheets<H: Host>(
     alloc: Global,
     host: &mut H,
-    files: &SheetFiles<'_>,
+    files: &SheetFiles<'_, '_>,
     formats: &CellFormats<'_>,
 ) -> Result<(), Problem>
     requires sheets { length formats.now.book.contents ≡ length formats.now.book.sheets }
@@ -241,7 +276,7 @@ fn write_all_sheets<H: Host>(
 fn write_chosen_sheet<H: Host>(
     alloc: Global,
     host: &mut H,
-    files: &SheetFiles<'_>,
+    files: &SheetFiles<'_, '_>,
     formats: &CellFormats<'_>,
 ) -> Result<(), Problem>
     requires number { IsNumbered files.now.choice.now }
@@ -258,7 +293,7 @@ fn write_chosen_sheet<H: Host>(
 fn write_sheet_files<H: Host>(
     alloc: Global,
     host: &mut H,
-    files: &SheetFiles<'_>,
+    files: &SheetFiles<'_, '_>,
     formats: &CellFormats<'_>,
 ) -> Result<(), Problem>
     requires number { IsNumbered files.now.choice.now }
@@ -271,6 +306,18 @@ fn write_sheet_files<H: Host>(
         return write_all_sheets(alloc, host, files, formats);
     }
     write_chosen_sheet(alloc, host, files, formats)
+}
+
+/// What is needed to leave out what is hidden, where that is asked for.
+fn parts_of<'s>(
+    alloc: Global,
+    sight: Sight,
+    options: &XlsOptions,
+    stream: &'s [u8],
+) -> Result<Option<HiddenParts<'s>>, Failure>
+    ensures { IfOk result (AreSkipped sight options.now stream.entry.now) }
+{
+    Ok(skipped_parts(alloc, sight, options, stream)?)
 }
 
 /// Writes what is asked for of a workbook into files below a folder.
@@ -288,9 +335,10 @@ pub(crate) fn write_workbook_files<H: Host>(
     ensures outputs { KeepsOutputs H.tells H.File.state job.now.request job.now.reading.options (H.files host.old) (H.files host.new) }
 {
     match answer {
-        Answer::Sheet(choice, table) => {
+        Answer::Sheet(choice, table, sight) => {
             let view = view_of(alloc, &job.reading.options, book.stream)?;
             let formats = CellFormats::new(alloc, &view)?;
+            let parts = parts_of(alloc, *sight, &job.reading.options, book.stream)?;
             let folder = folder_of(alloc, out.path, book.path)?;
             let files = SheetFiles {
                 job,
@@ -298,6 +346,8 @@ pub(crate) fn write_workbook_files<H: Host>(
                 folder: folder.as_str(),
                 choice,
                 table,
+                sight: *sight,
+                parts: &parts,
                 book,
             };
             write_sheet_files(alloc, host, &files, &formats)

@@ -7,7 +7,7 @@ ghost use Rattle.xls_container.specs.Files.{compound_in};
 ghost use Rattle.xls_output.specs.declared.stop.Stop.TheVariants.{Memory};
 ghost use Rattle.xls_answers.specs.declared.failure.Failure.TheVariants.{Stopped};
 ghost use Rattle.xls_answers.specs.Answers.{HasNumber};
-ghost use Rattle.xls_tool.specs.Beside.{IsStreamAt, OfContainer, OfProject, OfProperties, OfStreamAt, OfStreamIn, OfStreams, as_failure, as_problem};
+ghost use Rattle.xls_tool.specs.Beside.{IsStreamAt, OfContainer, OfMacros, OfProject, OfProperties, OfStreamAt, OfStreamIn, OfStreams, as_failure, as_problem};
 ghost use Rattle.xls_tool.specs.Texts.{OfWorkbook};
 ghost use Rattle.xls_tool.specs.declared.problem.Absent.TheVariants as absent;
 ghost use Rattle.xls_tool.specs.declared.problem.Problem.TheVariants as problems;
@@ -20,6 +20,7 @@ use xls_compound::{Compound, Entry};
 use xls_container::{Container, FileFault};
 use xls_documents::{project_of, properties_of, write_project, write_properties, write_streams};
 use xls_files::names_of;
+use xls_macros::{macros_of, write_macros};
 use xls_open::XlsOptions;
 use xls_output::{Sink, Stop};
 use xls_readable::Form;
@@ -55,6 +56,21 @@ fn write_project_of<K: Sink>(
 {
     match project_of(alloc, container)? {
         Some(project) => written(write_project(alloc, sink, Form::Text, &project)),
+        None => Err(Problem::Absent(Absent::Project)),
+    }
+}
+
+/// Writes the sources of the macro project of a compound file.
+fn write_macros_of<K: Sink>(
+    alloc: Global,
+    sink: &mut K,
+    form: Form,
+    container: &Container<'_>,
+) -> Result<(), Problem>
+    ensures { OfMacros form container.now (K.state sink.old) (K.state sink.new) result }
+{
+    match macros_of(alloc, container)? {
+        Some(macros) => written(write_macros(alloc, sink, form, &macros)),
         None => Err(Problem::Absent(Absent::Project)),
     }
 }
@@ -147,6 +163,7 @@ pub(crate) fn write_beside<K: Sink>(
     match beside {
         Beside::Properties => write_properties_of(alloc, sink, container),
         Beside::Project => write_project_of(alloc, sink, container),
+        Beside::Macros(form) => write_macros_of(alloc, sink, *form, container),
         Beside::Stream(path) => write_stream_at(alloc, sink, options, container, path),
         Beside::Streams => write_streams_of(alloc, sink, container),
     }

@@ -1,5 +1,6 @@
 -- What the words of the command line ask for.
 use Rattle.std.specs.Prelude.{◌≡◌, ◌⊎◌, ◌==◌, nat_lt, ℕ, Bool, true, false, None, List, [], ◌∷◌, length, map, codes, not, ◌&&◌, ◌||◌}
+use Rattle.xls_hidden_cells.specs.declared.sight.Sight.TheVariants.{All}
 use Rattle.xls_readable.specs.Choices.{IsNumbered}
 use Rattle.xls_readable.specs.declared.choices.FieldStyle.TheVariants.{Values}
 use Rattle.xls_readable.specs.declared.choices.Origin.TheVariants.{Box}
@@ -30,7 +31,8 @@ word_of commands.Check = words.Check
 word_of (commands.Beside topic form) = words.Beside topic
 word_of commands.Props = words.Props
 word_of commands.Vba = words.Vba
-word_of (commands.Csv choice t) = words.Csv
+word_of (commands.Macros form) = words.Macros
+word_of (commands.Csv choice t sight) = words.Csv
 word_of commands.Remake = words.Remake
 word_of (commands.Stream p) = words.Stream
 word_of commands.Streams = words.Streams
@@ -44,11 +46,12 @@ is_exact_form Exact = true
 abbrev pub is_exact : Command → Bool
 is_exact (commands.Lines lines form) = is_exact_form form
 is_exact (commands.Shown form) = false
-is_exact (commands.Csv choice t) = t.is_exact
+is_exact (commands.Csv choice t sight) = t.is_exact
 is_exact commands.Check = false
 is_exact (commands.Beside topic form) = false
 is_exact commands.Props = false
 is_exact commands.Vba = false
+is_exact (commands.Macros form) = false
 is_exact commands.Remake = false
 is_exact (commands.Stream path) = false
 is_exact commands.Streams = false
@@ -63,6 +66,7 @@ abbrev pub ending_of : Command → List ℕ
 ending_of (commands.Lines lines form) = ending_in form (ending_text (words.Lines lines))
 ending_of (commands.Shown form) = ending_in form (ending_text (words.Lines listing.Dump))
 ending_of (commands.Beside topic form) = ending_in form (ending_text (words.Beside topic))
+ending_of (commands.Macros form) = ending_in form (ending_text words.Macros)
 ending_of command = ending_text (word_of command)
 
 -- the words that ask for help or the version in the place of a command
@@ -77,13 +81,14 @@ IsAsked (first ∷ others) word =
 
 -- a sheet that is asked for by its number has one
 abbrev pub CommandHasNumber : Command → Type 0
-CommandHasNumber (commands.Csv choice t) = IsNumbered choice
+CommandHasNumber (commands.Csv choice t sight) = IsNumbered choice
 CommandHasNumber (commands.Lines lines form) = Unit {0}
 CommandHasNumber (commands.Shown form) = Unit {0}
 CommandHasNumber commands.Check = Unit {0}
 CommandHasNumber (commands.Beside topic form) = Unit {0}
 CommandHasNumber commands.Props = Unit {0}
 CommandHasNumber commands.Vba = Unit {0}
+CommandHasNumber (commands.Macros form) = Unit {0}
 CommandHasNumber commands.Remake = Unit {0}
 CommandHasNumber (commands.Stream p) = Unit {0}
 CommandHasNumber commands.Streams = Unit {0}
@@ -132,8 +137,9 @@ plain_command words.Check = commands.Check
 plain_command (words.Beside topic) = commands.Beside topic Text
 plain_command words.Props = commands.Props
 plain_command words.Vba = commands.Vba
+plain_command words.Macros = commands.Macros Text
 plain_command words.Csv =
-    commands.Csv First (record { delimiter = 0x2C; begins_with_mark = false; is_exact = false; style = Values; origin = Box })
+    commands.Csv First (record { delimiter = 0x2C; begins_with_mark = false; is_exact = false; style = Values; origin = Box }) All
 plain_command words.Remake = commands.Remake
 plain_command words.Stream = commands.Stream None
 plain_command words.Streams = commands.Streams
@@ -169,6 +175,7 @@ pub record IsPlainRequest (word : Word) (paths : List (List ℕ)) (request : Req
   pub command : request.command ≡ plain_command word
   pub files : AreNamed paths request.files
   pub json : request.tells_json ≡ false
+  pub quiet : request.is_quiet ≡ false
   pub page : request.page ≡ None
   pub out : request.out ≡ None
   pub passwords : request.passwords ≡ no_passwords

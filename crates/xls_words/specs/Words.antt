@@ -26,6 +26,7 @@ command (words.Beside Links) = record { name = codes "links"; files = Many; endi
 command (words.Beside Styles) = record { name = codes "styles"; files = Many; ending = codes "txt" }
 command words.Props = record { name = codes "props"; files = Many; ending = codes "txt" }
 command words.Vba = record { name = codes "vba"; files = Many; ending = codes "txt" }
+command words.Macros = record { name = codes "macros"; files = Many; ending = codes "txt" }
 command words.Csv = record { name = codes "csv"; files = Many; ending = codes "csv" }
 command words.Remake = record { name = codes "remake"; files = One; ending = codes "txt" }
 command words.Stream = record { name = codes "stream"; files = OneAndPath; ending = codes "txt" }

@@ -188,6 +188,20 @@ const FROM_A1: Argument = Argument {
     without: &["exact"],
 };
 
+const SKIP_HIDDEN: Argument = Argument {
+    name: "skip-hidden",
+    kind: ArgumentKind::Flag,
+    help: "Leave out the rows and columns that can't be seen",
+    without: &["exact"],
+};
+
+const QUIET: Argument = Argument {
+    name: "quiet",
+    kind: ArgumentKind::ShortFlag('q'),
+    help: "Don't say on standard error what is hidden or damaged",
+    without: &[],
+};
+
 /// The files of a command that reads many, and what it takes for them.
 static MANY_FILES: [Argument; 6] = [FILES, LIST, NULL, OUT, FORCE, SKIP];
 
@@ -199,10 +213,11 @@ static ONE_STREAM: [Argument; 2] = [FILE, PATH];
 pub(crate) static THREE_FORMS: [Argument; 5] = [JSON, EXACT, PAGE, PASSWORD_FILE, PASSWORD];
 
 /// Those of one that tells of cells too.
-pub(crate) static DUMP_OPTIONS: [Argument; 6] = [
+pub(crate) static DUMP_OPTIONS: [Argument; 7] = [
     JSON,
     EXACT,
     AS_SHOWN,
+    QUIET,
     PAGE,
     PASSWORD_FILE,
     PASSWORD,
@@ -211,11 +226,17 @@ pub(crate) static DUMP_OPTIONS: [Argument; 6] = [
 /// Those of one whose lines have two.
 pub(crate) static TWO_FORMS: [Argument; 4] = [JSON, PAGE, PASSWORD_FILE, PASSWORD];
 
+/// Those of one that tells of damaged things too.
+pub(crate) static BESIDE_OPTIONS: [Argument; 5] = [JSON, QUIET, PAGE, PASSWORD_FILE, PASSWORD];
+
+/// Those of one whose lines have two, and that reads no workbook.
+pub(crate) static JSON_FORM: [Argument; 1] = [JSON];
+
 /// Those of one that writes a workbook's stream.
 pub(crate) static STREAM_OPTIONS: [Argument; 2] = [PASSWORD_FILE, PASSWORD];
 
 /// Those of a sheet as CSV.
-pub(crate) static SHEET_OPTIONS: [Argument; 11] = [
+pub(crate) static SHEET_OPTIONS: [Argument; 13] = [
     SHEET,
     NUMBER,
     ALL_SHEETS,
@@ -223,7 +244,9 @@ pub(crate) static SHEET_OPTIONS: [Argument; 11] = [
     MARK,
     AS_SHOWN_CSV,
     FROM_A1,
+    SKIP_HIDDEN,
     EXACT_CSV,
+    QUIET,
     PAGE,
     PASSWORD_FILE,
     PASSWORD,

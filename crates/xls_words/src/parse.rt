@@ -17,6 +17,7 @@ use crate::word::Word;
 use clap::error::ErrorKind;
 use clap::{ArgMatches, Error};
 use std::alloc::{AllocError, Global};
+use xls_hidden_cells::Sight;
 use xls_readable::{Delimiter, FieldStyle, Form, Listing, Origin, SheetChoice, Table};
 
 /// How the lines of a command are written.
@@ -172,6 +173,15 @@ fn origin_in(matches: &ArgMatches<'_>) -> Origin {
     }
 }
 
+/// Which rows and columns of a table are written.
+fn sight_in(matches: &ArgMatches<'_>) -> Sight {
+    if matches.get_flag("skip-hidden") {
+        Sight::Seen
+    } else {
+        Sight::All
+    }
+}
+
 /// How a sheet is written as CSV. None where the delimiter is none.
 fn table_in(matches: &ArgMatches<'_>) -> Option<Table> {
     Some(Table {
@@ -205,7 +215,8 @@ fn command_in<'w>(word: Word, matches: &ArgMatches<'w>) -> Option<Command<'w>>
         Word::Beside(topic) => Command::Beside(topic, form_in(matches)),
         Word::Props => Command::Props,
         Word::Vba => Command::Vba,
-        Word::Csv => Command::Csv(choice_in(matches), table_in(matches)?),
+        Word::Macros => Command::Macros(form_in(matches)),
+        Word::Csv => Command::Csv(choice_in(matches), table_in(matches)?, sight_in(matches)),
         Word::Remake => Command::Remake,
         Word::Stream => Command::Stream(matches.get_str("NAME")),
         Word::Streams => Command::Streams,
@@ -317,6 +328,7 @@ fn request_taken<'w>(
         command,
         files,
         tells_json: matches.get_flag("json"),
+        is_quiet: matches.get_flag("quiet"),
         page: page_in(matches)?,
         out: folder_in(matches, words)?,
         passwords: passwords_in(matches),

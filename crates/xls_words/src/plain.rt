@@ -7,6 +7,7 @@ ghost use Rattle.xls_words.specs.Requests.{CommandHasNumber, IsPlainRequest, are
 use crate::request::{Command, Files, Passwords, Request};
 use crate::word::{FileCount, Word};
 use std::alloc::{AllocError, Global};
+use xls_hidden_cells::Sight;
 use xls_readable::{Delimiter, FieldStyle, Form, Origin, SheetChoice, Table};
 
 // A `-` with something after it.
@@ -52,6 +53,7 @@ fn plain_command<'w>(word: Word) -> Command<'w>
         Word::Beside(topic) => Command::Beside(topic, Form::Text),
         Word::Props => Command::Props,
         Word::Vba => Command::Vba,
+        Word::Macros => Command::Macros(Form::Text),
         Word::Csv => Command::Csv(
             SheetChoice::First,
             Table {
@@ -61,6 +63,7 @@ fn plain_command<'w>(word: Word) -> Command<'w>
                 style: FieldStyle::Values,
                 origin: Origin::Box,
             },
+            Sight::All,
         ),
         Word::Remake => Command::Remake,
         Word::Stream => Command::Stream(None),
@@ -93,6 +96,7 @@ pub(crate) fn plain_request<'w>(
         command: plain_command(word),
         files: Files::Named(names_in(alloc, words)?),
         tells_json: false,
+        is_quiet: false,
         page: None,
         out: None,
         passwords: Passwords {

@@ -5,6 +5,7 @@ ghost use Rattle.xls_words.specs.Requests.{ending_of, is_exact, word_of};
 
 use crate::word::Word;
 use xls_beside::Topic;
+use xls_hidden_cells::Sight;
 use xls_readable::{Form, Listing, SheetChoice, Table};
 
 /// What is done with each file.
@@ -19,7 +20,10 @@ pub enum Command<'w> {
     Beside(Topic, Form),
     Props,
     Vba,
-    Csv(SheetChoice<'w>, Table),
+    /// The sources of a macro project, in a form.
+    Macros(Form),
+    /// A sheet as CSV, or what can be seen of it.
+    Csv(SheetChoice<'w>, Table, Sight),
     Remake,
     /// The stream of a path, its names separated by `/`, or else the workbook's.
     Stream(Option<&'w str>),
@@ -38,6 +42,7 @@ impl Command<'_> {
             Command::Beside(topic, _) => Word::Beside(*topic),
             Command::Props => Word::Props,
             Command::Vba => Word::Vba,
+            Command::Macros(_) => Word::Macros,
             Command::Csv(..) => Word::Csv,
             Command::Remake => Word::Remake,
             Command::Stream(_) => Word::Stream,
@@ -51,12 +56,13 @@ impl Command<'_> {
     {
         match self {
             Command::Lines(_, form) => *form == Form::Exact,
-            Command::Csv(_, table) => table.is_exact,
+            Command::Csv(_, table, _) => table.is_exact,
             Command::Shown(_)
             | Command::Check
             | Command::Beside(..)
             | Command::Props
             | Command::Vba
+            | Command::Macros(_)
             | Command::Remake
             | Command::Stream(_)
             | Command::Streams => false,
@@ -70,7 +76,8 @@ impl Command<'_> {
         match self {
             Command::Lines(_, Form::Json)
             | Command::Shown(Form::Json)
-            | Command::Beside(_, Form::Json) => "json",
+            | Command::Beside(_, Form::Json)
+            | Command::Macros(Form::Json) => "json",
             _ => self.word().row().ending,
         }
     }
@@ -117,6 +124,8 @@ pub struct Request<'w> {
     pub files: Files<'w>,
     /// The lines that many files are told in are objects of JSON.
     pub tells_json: bool,
+    /// Nothing is said on standard error of what is hidden or damaged.
+    pub is_quiet: bool,
     /// The page that texts of single bytes are read by, in place of the one that a workbook says: 1200, 1252,
     /// 28591 or 65001.
     pub page: Option<u16>,

@@ -5,7 +5,8 @@ ghost use Rattle.xls_words.specs.declared.word.Word.{Word};
 ghost use Rattle.xls_words.specs.Words.{ending_text, file_count, takes_many, word_text};
 
 use crate::grammar::{
-    Argument, DUMP_OPTIONS, SHEET_OPTIONS, STREAM_OPTIONS, THREE_FORMS, TWO_FORMS,
+    Argument, BESIDE_OPTIONS, DUMP_OPTIONS, JSON_FORM, SHEET_OPTIONS, STREAM_OPTIONS, THREE_FORMS,
+    TWO_FORMS,
 };
 use std::alloc::{AllocError, Global};
 use strsim::osa_distance;
@@ -22,6 +23,8 @@ pub enum Word {
     Beside(Topic),
     Props,
     Vba,
+    /// The sources of a macro project.
+    Macros,
     Csv,
     Remake,
     Stream,
@@ -29,7 +32,7 @@ pub enum Word {
 }
 
 /// All commands, in the order of help.
-pub(crate) const ALL: [Word; 16] = [
+pub(crate) const ALL: [Word; 17] = [
     Word::Lines(Listing::Dump),
     Word::Lines(Listing::Sheets),
     Word::Check,
@@ -42,6 +45,7 @@ pub(crate) const ALL: [Word; 16] = [
     Word::Beside(Topic::Styles),
     Word::Props,
     Word::Vba,
+    Word::Macros,
     Word::Csv,
     Word::Remake,
     Word::Stream,
@@ -130,7 +134,7 @@ impl Word {
                 title: "xls hidden",
                 about: "Rows and columns that can't be seen, frozen panes, zeros that aren't shown",
                 files: FileCount::Many,
-                options: &TWO_FORMS,
+                options: &BESIDE_OPTIONS,
                 ending: "txt",
             },
             Word::Beside(Topic::Books) => Row {
@@ -138,7 +142,7 @@ impl Word {
                 title: "xls books",
                 about: "The other workbooks that a workbook refers to, and the formulas that cite them",
                 files: FileCount::Many,
-                options: &TWO_FORMS,
+                options: &BESIDE_OPTIONS,
                 ending: "txt",
             },
             Word::Beside(Topic::Comments) => Row {
@@ -146,7 +150,7 @@ impl Word {
                 title: "xls comments",
                 about: "The comments of each sheet's cells",
                 files: FileCount::Many,
-                options: &TWO_FORMS,
+                options: &BESIDE_OPTIONS,
                 ending: "txt",
             },
             Word::Beside(Topic::Links) => Row {
@@ -154,7 +158,7 @@ impl Word {
                 title: "xls links",
                 about: "The hyperlinks of each sheet",
                 files: FileCount::Many,
-                options: &TWO_FORMS,
+                options: &BESIDE_OPTIONS,
                 ending: "txt",
             },
             Word::Beside(Topic::Styles) => Row {
@@ -162,7 +166,7 @@ impl Word {
                 title: "xls styles",
                 about: "How each cell looks: font, number format, fill, alignment, borders",
                 files: FileCount::Many,
-                options: &TWO_FORMS,
+                options: &BESIDE_OPTIONS,
                 ending: "txt",
             },
             Word::Props => Row {
@@ -179,6 +183,14 @@ impl Word {
                 about: "What a macro project refers to, and its modules",
                 files: FileCount::Many,
                 options: &[],
+                ending: "txt",
+            },
+            Word::Macros => Row {
+                name: "macros",
+                title: "xls macros",
+                about: "The sources of a macro project, module by module",
+                files: FileCount::Many,
+                options: &JSON_FORM,
                 ending: "txt",
             },
             Word::Csv => Row {
@@ -233,6 +245,7 @@ impl Word {
             "styles" => Some(Word::Beside(Topic::Styles)),
             "props" => Some(Word::Props),
             "vba" => Some(Word::Vba),
+            "macros" => Some(Word::Macros),
             "csv" => Some(Word::Csv),
             "remake" => Some(Word::Remake),
             "stream" => Some(Word::Stream),

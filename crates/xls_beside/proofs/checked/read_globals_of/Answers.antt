@@ -1,7 +1,7 @@
 use Rattle.std.proofs.Common.{arith}
 use Rattle.xls_open.specs.Workbook.{rules_of}
-use Rattle.xls_answers.proofs.BesideLemmas.{unread_cause}
-use Rattle.xls_answers.proofs.beside.globals_of.Goals as goal
+use Rattle.xls_beside.proofs.CheckedLemmas.{unread_cause}
+use Rattle.xls_beside.proofs.checked.read_globals_of.Goals as goal
 
 pub returns-clause-err : goal.returns-clause-err
 returns-clause-err c =

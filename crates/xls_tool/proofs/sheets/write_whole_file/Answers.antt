@@ -1,7 +1,7 @@
 use Rattle.std.proofs.Common.{subst, sym}
 use Rattle.xls_files.specs.Paths.{IsInside}
 use Rattle.xls_tool.proofs.OutputLemmas.{begun, ended, holds-beside}
-use Rattle.xls_tool.proofs.sheets.write_beside_file.Goals as goal
+use Rattle.xls_tool.proofs.sheets.write_whole_file.Goals as goal
 
 pub returns : goal.returns
 returns g c = record {
