@@ -7,6 +7,8 @@
  *   2. gaflwened_measure  how many sheets, names, cells, formulas, regions and bytes of text the stream holds
  *   3. gaflwened_read     fills arrays that are as long as that
  *   4. gaflwened_shown    on demand: what Excel shows of the cells of one sheet, as text
+ *   5. gaflwened_hidden and six more, on demand: what stands beside the values (hidden rows and columns, how cells look,
+ *      comments, hyperlinks, other workbooks)
  *
  * Link libxls_c.a and, by which it asks for memory, liblibc_c.a of the folder c of the Rattle kit. A call takes memory for its
  * own work and gives it back before it returns; where none is left it answers GAFLWENED_OUT_OF_MEMORY.
@@ -253,6 +255,223 @@ typedef struct gaflwened_region {
     uint32_t last_column;
 } gaflwened_region;
 
+/* ---- What stands beside the values ---------------------------------------------------------------------------------- */
+
+/* A number that the file doesn't have. */
+#define GAFLWENED_NOT_KNOWN UINT32_C(0xFFFFFFFF)
+
+/* A colour is 00rrggbb: red, green and blue of 8 bits each; or one of these. */
+#define GAFLWENED_AUTO UINT32_C(0xFFFFFFFF) /* that of the window: of a font black as a rule, of a ground white */
+#define GAFLWENED_NONE UINT32_C(0xFFFFFFFE) /* there is nothing that would have a colour */
+
+/* How long the arrays are that one of these calls fills. An array that a call doesn't have counts 0. */
+typedef struct gaflwened_counts {
+    uint64_t items;                /* of its first array */
+    uint64_t damages;
+    uint64_t text_bytes;
+} gaflwened_counts;
+
+/* The record of a damage, by its number in a stream. */
+enum {
+    GAFLWENED_RECORD_EXTERN_SHEET = 0x0017,        /* of gaflwened_books */
+    GAFLWENED_RECORD_NOTE = 0x001C,                /* of gaflwened_comments */
+    GAFLWENED_RECORD_EXTERN_NAME = 0x0023,         /* of gaflwened_books */
+    GAFLWENED_RECORD_FONT = 0x0031,                /* of gaflwened_styles */
+    GAFLWENED_RECORD_COL_INFO = 0x007D,            /* of gaflwened_hidden */
+    GAFLWENED_RECORD_XF = 0x00E0,                  /* of gaflwened_styles */
+    GAFLWENED_RECORD_SUP_BOOK = 0x01AE,            /* of gaflwened_books */
+    GAFLWENED_RECORD_H_LINK = 0x01B8,              /* of gaflwened_links */
+    GAFLWENED_RECORD_ROW = 0x0208,                 /* of gaflwened_hidden */
+    GAFLWENED_RECORD_DEFAULT_ROW_HEIGHT = 0x0225   /* of gaflwened_hidden */
+};
+
+/* A record that is damaged. It gives no item (but a Font and an XF, which count without what is missing, and a SupBook, whose names
+ * before the damage count), and the workbook is read all the same. */
+typedef struct gaflwened_damage {
+    uint64_t offset;               /* where its header begins in the stream, in bytes */
+    gaflwened_span why;            /* a sentence in English without a full stop: `shorter than 16 bytes: 3` */
+    uint32_t row;                  /* the cell, where the record has one and these bytes are there; else GAFLWENED_NOT_KNOWN */
+    uint32_t column;               /* likewise */
+    uint32_t record;               /* GAFLWENED_RECORD_.. */
+    uint32_t reserved;             /* 0 */
+} gaflwened_damage;
+
+/* Why rows or columns can't be seen. A run has one of these. */
+enum {
+    GAFLWENED_WHY_HIDDEN = 1,      /* hidden by hand, or as all rows that the sheet doesn't speak of */
+    GAFLWENED_WHY_FILTERED = 2,    /* rows, hidden in the area of a filter that hides some: by it, or by hand */
+    GAFLWENED_WHY_FLAT = 4         /* not hidden, but of height or width 0 */
+};
+
+/* Rows or columns one after another that can't be seen, as long as it can be for one reason. Those of rows come first, and
+ * then those of columns; both ascend. */
+typedef struct gaflwened_hidden_run {
+    uint32_t first;
+    uint32_t last;                 /* included */
+    uint32_t why;                  /* GAFLWENED_WHY_.. */
+    uint32_t is_column;            /* 0: rows; 1: columns */
+} gaflwened_hidden_run;
+
+/* The marks of a style, one bit each. */
+enum {
+    GAFLWENED_MARK_BOLD = 0x0001,
+    GAFLWENED_MARK_ITALIC = 0x0002,
+    GAFLWENED_MARK_STRIKE = 0x0004,
+    GAFLWENED_MARK_UNDERLINE = 0x0008,
+    GAFLWENED_MARK_DOUBLE = 0x0010,     /* underlined twice; GAFLWENED_MARK_UNDERLINE isn't set then */
+    GAFLWENED_MARK_SUPERSCRIPT = 0x0020,
+    GAFLWENED_MARK_SUBSCRIPT = 0x0040,
+    GAFLWENED_MARK_UNLOCKED = 0x0080,   /* the cell may be edited in a protected sheet */
+    GAFLWENED_MARK_CONCEALED = 0x0100,  /* its formula isn't shown there */
+    GAFLWENED_MARK_WRAP = 0x0200,       /* the text goes on in further lines */
+    GAFLWENED_MARK_SHRINK = 0x0400      /* the text is made as small as the cell */
+};
+
+/* Where a text stands in its cell, across. */
+enum {
+    GAFLWENED_ACROSS_GENERAL = 0,  /* texts left, numbers right */
+    GAFLWENED_ACROSS_LEFT = 1,
+    GAFLWENED_ACROSS_CENTER = 2,
+    GAFLWENED_ACROSS_RIGHT = 3,
+    GAFLWENED_ACROSS_FILL = 4,
+    GAFLWENED_ACROSS_JUSTIFY = 5,
+    GAFLWENED_ACROSS_CENTER_CONTINUOUS = 6,
+    GAFLWENED_ACROSS_DISTRIBUTED = 7
+};
+
+/* Likewise down. Records may have other numbers, up to 7, which have no meaning. */
+enum {
+    GAFLWENED_DOWN_TOP = 0,
+    GAFLWENED_DOWN_CENTER = 1,
+    GAFLWENED_DOWN_BOTTOM = 2,
+    GAFLWENED_DOWN_JUSTIFY = 3,
+    GAFLWENED_DOWN_DISTRIBUTED = 4
+};
+
+/* The kind of a line of a border. */
+enum {
+    GAFLWENED_LINE_NONE = 0,
+    GAFLWENED_LINE_THIN = 1,
+    GAFLWENED_LINE_MEDIUM = 2,
+    GAFLWENED_LINE_DASHED = 3,
+    GAFLWENED_LINE_DOTTED = 4,
+    GAFLWENED_LINE_THICK = 5,
+    GAFLWENED_LINE_DOUBLE = 6,
+    GAFLWENED_LINE_HAIR = 7,
+    GAFLWENED_LINE_MEDIUM_DASHED = 8,
+    GAFLWENED_LINE_DASH_DOT = 9,
+    GAFLWENED_LINE_MEDIUM_DASH_DOT = 10,
+    GAFLWENED_LINE_DASH_DOT_DOT = 11,
+    GAFLWENED_LINE_MEDIUM_DASH_DOT_DOT = 12,
+    GAFLWENED_LINE_SLANT_DASH_DOT = 13
+};
+
+/* A line of a border. */
+typedef struct gaflwened_border {
+    uint32_t line;                 /* GAFLWENED_LINE_..; 14 and 15 have no name */
+    uint32_t colour;               /* GAFLWENED_NONE where `line` is 0 */
+} gaflwened_border;
+
+/* Which diagonals a cell has. */
+enum {
+    GAFLWENED_DIAGONAL_NONE = 0,
+    GAFLWENED_DIAGONAL_DOWN = 1,   /* from the upper left to the lower right */
+    GAFLWENED_DIAGONAL_UP = 2,     /* from the lower left to the upper right */
+    GAFLWENED_DIAGONAL_CROSS = 3   /* both */
+};
+
+/* How a cell looks: an XF record of the workbook, with its font, number format and colours. */
+typedef struct gaflwened_style {
+    gaflwened_span font;           /* the font's name; empty where the workbook doesn't have the font */
+    gaflwened_span format;         /* the code of the number format: `#,##0.00`; empty of a few that hang on the language of Excel */
+    uint32_t size;                 /* of the font, in twentieths of a point; GAFLWENED_NOT_KNOWN where the font isn't there */
+    uint32_t marks;                /* GAFLWENED_MARK_BOLD .., added up */
+    uint32_t colour;               /* of the font: a colour or GAFLWENED_AUTO */
+    uint32_t pattern;              /* 0: no fill; 1: filled with one colour; 2 to 63: the number of a pattern */
+    uint32_t fill;                 /* the colour of the fill or of the pattern; GAFLWENED_NONE where `pattern` is 0 */
+    uint32_t ground;               /* the colour behind the pattern; GAFLWENED_NONE where `pattern` is 0 or 1 */
+    uint32_t across;               /* GAFLWENED_ACROSS_.. */
+    uint32_t down;                 /* GAFLWENED_DOWN_.. */
+    uint32_t indent;               /* in steps of three blanks, 0 to 15 */
+    uint32_t turn;                 /* degrees: 0 to 90 counter-clockwise, 91 to 180 clockwise and 90 more; 255: letters below each other */
+    gaflwened_border left;
+    gaflwened_border right;
+    gaflwened_border top;
+    gaflwened_border bottom;
+    gaflwened_border diagonal;     /* it is there where `diagonals` isn't 0 either */
+    uint32_t diagonals;            /* GAFLWENED_DIAGONAL_.. */
+    uint32_t reserved;             /* 0 */
+} gaflwened_style;
+
+/* Which style a cell has: one for each cell of the sheet that has a record. So blank cells are there too, which gaflwened_read doesn't
+ * give; of several records of one cell the last counts. They ascend by row, then column, as the cells of gaflwened_read do. */
+typedef struct gaflwened_cell_style {
+    uint32_t row;
+    uint32_t column;
+    uint16_t style;                /* the index in the array of gaflwened_styles; past its end where the workbook doesn't have it */
+    uint16_t reserved;             /* 0 */
+} gaflwened_cell_style;
+
+/* The comment of a cell. They come in the order of the stream; two may belong to one cell. */
+typedef struct gaflwened_comment {
+    uint32_t row;
+    uint32_t column;
+    gaflwened_span author;         /* empty before BIFF8 */
+    gaflwened_span words;          /* its text */
+    uint32_t visible;              /* 1: always shown; 0: when the cell is pointed at */
+    uint32_t reserved;             /* 0 */
+} gaflwened_comment;
+
+/* Where a hyperlink leads. */
+enum {
+    GAFLWENED_LINK_URL = 0,
+    GAFLWENED_LINK_FILE = 1,
+    GAFLWENED_LINK_UNC = 2,        /* a file whose path begins with two backslashes */
+    GAFLWENED_LINK_PLACE = 3       /* a place in this workbook; `target` is empty */
+};
+
+/* A hyperlink and its cells. They come in the order of the stream. Formulas with HYPERLINK have none. */
+typedef struct gaflwened_link {
+    uint32_t first_row;
+    uint32_t first_column;
+    uint32_t last_row;             /* included */
+    uint32_t last_column;          /* included */
+    gaflwened_span target;         /* a URL or a path */
+    gaflwened_span place;          /* a place in the target: `Sheet2!A1` */
+    gaflwened_span shown;          /* the text that is shown for it */
+    gaflwened_span tip;            /* the text that is shown when it is pointed at */
+    uint32_t kind;                 /* GAFLWENED_LINK_URL .. */
+    uint32_t reserved;             /* 0 */
+} gaflwened_link;
+
+/* What an item of gaflwened_books is. */
+enum {
+    GAFLWENED_BOOK_WORKBOOK = 0,   /* another workbook */
+    GAFLWENED_BOOK_PROGRAM = 1,    /* a program that gives data (DDE) */
+    GAFLWENED_BOOK_SHEET = 2,      /* a sheet of the last workbook or program before it */
+    GAFLWENED_BOOK_NAME = 3,       /* a name of it */
+    GAFLWENED_BOOK_FUNCTION = 4    /* a function of an add-in, which belongs to no item before it */
+};
+
+/* Another workbook or a program that formulas cite, or one of its sheets or names, or a function of an add-in. They come in the order of
+ * the stream: behind each workbook its sheets, and then its names. */
+typedef struct gaflwened_book {
+    gaflwened_span path;           /* of a workbook the path, of a program its name; of others their name */
+    gaflwened_span topic;          /* of a program; else empty */
+    uint32_t kind;                 /* GAFLWENED_BOOK_WORKBOOK .. */
+    uint32_t reserved;             /* 0 */
+} gaflwened_book;
+
+/* A formula that cites another workbook or a program. They come in the order of the stream, what one formula cites from left to right, each
+ * once. Their texts stand in `texts` once for each. */
+typedef struct gaflwened_outside {
+    uint32_t row;
+    uint32_t column;
+    gaflwened_span book;           /* the path of the workbook, or the name of the program, as gaflwened_books has it */
+    gaflwened_span sheet;          /* `Sheet1` or `Sheet1:Sheet3`; empty where it cites a name, or where the sheet isn't there */
+    gaflwened_span name;           /* the name that it cites, else empty */
+} gaflwened_outside;
+
 /* ---- Calls ---------------------------------------------------------------------------------------------------------- */
 
 /* GAFLWENED_VERSION of the library. */
@@ -304,6 +523,68 @@ uint32_t gaflwened_fault_text(const gaflwened_fault *fault, uint8_t *out, size_t
  * *size, out and the answer are as of gaflwened_fault_text. */
 uint32_t gaflwened_serial(uint64_t bits, uint32_t is_1904, uint32_t is_duration, uint8_t *out, size_t out_length,
                           uint64_t *size);
+
+/* ---- Calls for what stands beside the values ------------------------------------------------------------------------ */
+
+/* These seven fill arrays from the same stream, each alone: nothing of them is read before it is asked for. What they have in common:
+ *
+ * Of the options max_bytes, max_cells and code_page count, and `sheet` for the five that read one sheet (hidden, style_of, comments, links,
+ * outside_of): the sheet of that index, whatever `which` is. Where several sheets have one name, each has the content of the last of them,
+ * as in gaflwened_read.
+ *
+ * The answer is GAFLWENED_OUT_OF_MEMORY, or GAFLWENED_OBFUSCATED or the first fault of the stream exactly where gaflwened_measure answers
+ * that, or GAFLWENED_NO_SUCH_SHEET where the workbook has no sheet of that index, or GAFLWENED_TOO_SHORT where an array is shorter than
+ * what it is to hold; nothing else, and no damage of what they read refuses. With GAFLWENED_OK and with GAFLWENED_TOO_SHORT *counts says
+ * how long the arrays must be; with any other code it is all zero. A call with empty arrays counts. Arrays that are longer begin with what
+ * is read; after any code but GAFLWENED_OK nothing is known of the arrays.
+ *
+ * `damages` has the damaged records in the order of the stream, but a SupBook behind its names. `texts` has the texts of both arrays. */
+
+/* The rows and columns of a sheet that can't be seen. */
+uint32_t gaflwened_hidden(const uint8_t *stream, size_t stream_length, const gaflwened_options *options,
+                          gaflwened_hidden_run *runs, size_t runs_length,
+                          gaflwened_damage *damages, size_t damages_length,
+                          uint8_t *texts, size_t texts_length,
+                          gaflwened_counts *counts, gaflwened_fault *fault);
+
+/* The styles of a workbook, one for each XF record in the order of the stream. */
+uint32_t gaflwened_styles(const uint8_t *stream, size_t stream_length, const gaflwened_options *options,
+                          gaflwened_style *styles, size_t styles_length,
+                          gaflwened_damage *damages, size_t damages_length,
+                          uint8_t *texts, size_t texts_length,
+                          gaflwened_counts *counts, gaflwened_fault *fault);
+
+/* Which style each cell of a sheet has. */
+uint32_t gaflwened_style_of(const uint8_t *stream, size_t stream_length, const gaflwened_options *options,
+                            gaflwened_cell_style *cells, size_t cells_length,
+                            gaflwened_counts *counts, gaflwened_fault *fault);
+
+/* The comments of a sheet. */
+uint32_t gaflwened_comments(const uint8_t *stream, size_t stream_length, const gaflwened_options *options,
+                            gaflwened_comment *comments, size_t comments_length,
+                            gaflwened_damage *damages, size_t damages_length,
+                            uint8_t *texts, size_t texts_length,
+                            gaflwened_counts *counts, gaflwened_fault *fault);
+
+/* The hyperlinks of a sheet. */
+uint32_t gaflwened_links(const uint8_t *stream, size_t stream_length, const gaflwened_options *options,
+                         gaflwened_link *links, size_t links_length,
+                         gaflwened_damage *damages, size_t damages_length,
+                         uint8_t *texts, size_t texts_length,
+                         gaflwened_counts *counts, gaflwened_fault *fault);
+
+/* The other workbooks, programs and added functions that a workbook refers to. */
+uint32_t gaflwened_books(const uint8_t *stream, size_t stream_length, const gaflwened_options *options,
+                         gaflwened_book *books, size_t books_length,
+                         gaflwened_damage *damages, size_t damages_length,
+                         uint8_t *texts, size_t texts_length,
+                         gaflwened_counts *counts, gaflwened_fault *fault);
+
+/* The formulas of a sheet that cite another workbook or a program. */
+uint32_t gaflwened_outside_of(const uint8_t *stream, size_t stream_length, const gaflwened_options *options,
+                              gaflwened_outside *outside, size_t outside_length,
+                              uint8_t *texts, size_t texts_length,
+                              gaflwened_counts *counts, gaflwened_fault *fault);
 
 #ifdef __cplusplus
 }

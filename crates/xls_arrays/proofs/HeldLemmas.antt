@@ -1,9 +1,9 @@
 -- What a stream holds, and why it isn't read.
-use Rattle.std.proofs.Common.{◌≡◌, ℕ, List, Result, Ok, Err, IfErr, IsErrAnd, sym, subst}
+use Rattle.std.proofs.Common.{◌≡◌, ℕ, List, Result, Ok, Err, IfErr, IsErrAnd, inl, sym, subst}
 use Rattle.xls_view.specs.Viewing.{Viewed}
 use Rattle.xls_arrays.specs.declared.refusal.Refusal.{Refusal}
 use Rattle.xls_arrays.specs.declared.refusal.Refusal.TheVariants as refusals
-use Rattle.xls_arrays.specs.Held.{RefusesStream, ShowsStream}
+use Rattle.xls_arrays.specs.Held.{RefusesBytes, RefusesStream, ShowsStream}
 use Rattle.xls_arrays.specs.Laying.{MissesSheet}
 use Rattle.xls_arrays.specs.declared.options.Options.{Options}
 
@@ -24,3 +24,15 @@ misses-refused options stream view shows (refusals.Kind k) p = p
 misses-refused options stream view shows refusals.NoWorkbook p = p
 misses-refused options stream view shows (refusals.Chain chain fault) p = p
 misses-refused options stream view shows (refusals.Directory fault) p = p
+
+-- what its bytes alone refuse is refused
+pub bytes-refused : (options : Options) (stream : List ℕ) (r : Refusal) → RefusesBytes options stream r → RefusesStream options stream r
+bytes-refused options stream refusals.Memory p = tt
+bytes-refused options stream refusals.TooShort p = p
+bytes-refused options stream (refusals.NoSheet index) p = absurd p
+bytes-refused options stream refusals.Obfuscated p = p
+bytes-refused options stream (refusals.Stream e) p = (p.0, inl (p.1, p.2))
+bytes-refused options stream (refusals.Kind k) p = p
+bytes-refused options stream refusals.NoWorkbook p = p
+bytes-refused options stream (refusals.Chain chain fault) p = p
+bytes-refused options stream (refusals.Directory fault) p = p

@@ -39,6 +39,13 @@ pub record Misses (options : Options) (book : BookView) (index : ℕ) : Type 0 w
   pub asked : index ≡ options.sheet
   pub past : length book.sheets ≤ index
 
+-- why its bytes alone refuse a stream: its records are obfuscated, or it has more bytes than the limit
+abbrev pub RefusesBytes : Options → List ℕ → Refusal → Type 0
+RefusesBytes options stream refusals.Obfuscated = IsObfuscated stream
+RefusesBytes options stream (refusals.Stream error) =
+    (IsObfuscated stream → ⊥) × (max_bytes_in options < length stream) × (error ≡ errors.TooLarge (max_bytes_in options))
+RefusesBytes options stream other = ⊥
+
 -- why a stream isn't read: its records are obfuscated, it has more bytes than the limit, its first fault, or no
 -- such sheet; unless memory ran out
 abbrev pub RefusesStream : Options → List ℕ → Refusal → Type 0

@@ -6,7 +6,7 @@ ghost use Rattle.xls_open.specs.Workbook.{name_texts};
 ghost use Rattle.xls_arrays.specs.Arrays.{Arrays, empty, laid, with_name};
 ghost use Rattle.xls_arrays.specs.Classed.{classed_book};
 ghost use Rattle.xls_arrays.specs.Filled.{RoomsHold, KeepsRooms, Lays};
-ghost use Rattle.xls_arrays.specs.Held.{IsHeld, IsPlainStream, RefusesStream};
+ghost use Rattle.xls_arrays.specs.Held.{IsHeld, IsPlainStream, RefusesBytes, RefusesStream};
 ghost use Rattle.xls_arrays.specs.Laying.{LaysAskedFor, LaysOne, LaysView, MissesIndex, MissesSheet};
 
 use crate::Refusal;
@@ -106,9 +106,9 @@ fn lay_view(
 
 /// The first refusal of a stream that its bytes alone tell: records that are obfuscated, and then more bytes
 /// than the limit.
-pub(crate) fn refuse_bytes(stream: &[u8], options: &Options) -> Result<(), Refusal>
+pub fn refuse_bytes(stream: &[u8], options: &Options) -> Result<(), Refusal>
     ensures ok { OnOk result (IsPlainStream options.now stream.now) }
-    ensures err { IfErr result (RefusesStream options.now stream.now) }
+    ensures err { IfErr result (RefusesBytes options.now stream.now) }
 {
     if is_obfuscated(stream) {
         return Err(Refusal::Obfuscated);

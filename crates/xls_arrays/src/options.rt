@@ -48,7 +48,7 @@ fn page_of(input: u16) -> Option<u16>
 }
 
 /// The options of the reader. Only running out of memory refuses.
-pub(crate) fn options_of(alloc: Global, input: &Options) -> Result<XlsOptions, AllocError>
+pub fn options_of(alloc: Global, input: &Options) -> Result<XlsOptions, AllocError>
     ensures { IfOk result (λ options. options ≡ options_by input.now) }
 {
     let mut options = XlsOptions::defaults(alloc)?;

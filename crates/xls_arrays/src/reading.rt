@@ -17,7 +17,7 @@ use crate::{Fault, Refusal, fault_of, plain};
 use std::alloc::Global;
 
 /// Puts the numbers of a refusal into `fault`, and gives its code; all 0 where what was asked for was done.
-pub(crate) fn answer(done: Result<(), Refusal>, fault: &mut Fault) -> u32
+pub fn answer(done: Result<(), Refusal>, fault: &mut Fault) -> u32
     ensures { IsAnswer done fault.new result }
 {
     *fault = match done {

@@ -35,7 +35,7 @@ pub(crate) const NOTHING: Sizes = Sizes {
 };
 
 /// A count and so many more. No array is as long as what doesn't fit 64 bits: no memory has the room.
-fn plus(count: u64, more: usize) -> Result<u64, AllocError>
+pub fn plus(count: u64, more: usize) -> Result<u64, AllocError>
     ensures { IfOk result (λ sum. sum ≡ count + more) }
 {
     match count.checked_add(more as u64) {
@@ -45,7 +45,7 @@ fn plus(count: u64, more: usize) -> Result<u64, AllocError>
 }
 
 /// Lays an item at a place, if the array goes that far.
-fn put<T: Copy>(room: &mut [T], place: u64, item: T)
+pub fn put<T: Copy>(room: &mut [T], place: u64, item: T)
     ensures { (items : List T) → IsFilled room.old place items → IsFilled room.new (place + 1) (items ++ item ∷ []) }
 {
     if place < room.len() as u64 {
@@ -63,7 +63,7 @@ fn write_at(room: &mut [u8], place: usize, bytes: &[u8])
 }
 
 /// Lays bytes from a place on, as far as the array goes.
-fn put_bytes(room: &mut [u8], place: u64, bytes: &[u8])
+pub fn put_bytes(room: &mut [u8], place: u64, bytes: &[u8])
     ensures { (items : List ℕ) → IsFilled room.old place items → IsFilled room.new (place + length bytes.now) (items ++ bytes.now) }
 {
     if place >= room.len() as u64 {

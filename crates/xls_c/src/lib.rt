@@ -1,16 +1,28 @@
-//! The reader of workbooks for C: one export for each call of `xls_arrays`, with its clauses again. The file
-//! `include/gaflwened.h` tells each to a caller in C.
+//! The reader of workbooks for C: one export for each call of `xls_arrays` and of `xls_beside_arrays`, with its clauses
+//! again. The file `include/gaflwened.h` tells each to a caller in C.
 #![tactic(auto)]
 
 ghost use Rattle.std.specs.Prelude.{◌≡◌};
 ghost use Rattle.xls_arrays.specs.Answers.{IsSerialText, Measures, PutsStream, PutsText, Reads, ReadsShown};
 ghost use Rattle.xls_arrays.specs.Telling.{sentence};
 ghost use Rattle.xls_arrays.specs.Values.{is_set};
+ghost use Rattle.xls_beside_arrays.specs.Books.{FillsBooks};
+ghost use Rattle.xls_beside_arrays.specs.CellStyles.{FillsCellStyles};
+ghost use Rattle.xls_beside_arrays.specs.Comments.{FillsComments};
+ghost use Rattle.xls_beside_arrays.specs.Hidden.{FillsRuns};
+ghost use Rattle.xls_beside_arrays.specs.Links.{FillsLinks};
+ghost use Rattle.xls_beside_arrays.specs.Outside.{FillsOutside};
+ghost use Rattle.xls_beside_arrays.specs.Styles.{FillsStyles};
 
 use std::alloc::Global;
 use xls_arrays::{
     CellItem, Fault, FormulaItem, NameItem, Options, RegionItem, SheetItem, Sizes, fault_text,
     measure, read, read_shown, serial, stream,
+};
+use xls_beside_arrays::{
+    BookItem, CellStyleItem, CommentItem, Counts, DamageItem, HiddenRunItem, LinkItem, OutsideItem,
+    StyleItem, read_books, read_cell_styles, read_comments, read_hidden_runs, read_links,
+    read_outside, read_styles,
 };
 
 /// The version of the interface.
@@ -136,4 +148,139 @@ pub extern "C" fn gaflwened_serial(
     ensures { PutsText (IsSerialText bits (is_set is_1904) (is_set is_duration)) out.old out.new size.new result }
 {
     serial(alloc, bits, is_1904, is_duration, out, size)
+}
+
+/// Fills arrays with the runs of rows and of columns that can't be seen in one sheet, that at `sheet` of the options, whatever
+/// their `which` is, and with the damaged records that would say so. `counts` says how long the arrays must be; a call with
+/// empty arrays counts. Where one is too short, and where a call isn't done for another cause, it answers the code of its
+/// fault, and nothing is known of the arrays; for another cause `counts` is all 0.
+#[unsafe(no_mangle)]
+pub extern "C" fn gaflwened_hidden(
+    alloc: Global,
+    stream: &[u8],
+    options: &Options,
+    runs: &mut [HiddenRunItem],
+    damages: &mut [DamageItem],
+    texts: &mut [u8],
+    counts: &mut Counts,
+    fault: &mut Fault,
+) -> u32
+    ensures { FillsRuns options.now stream.now
+        (record { items = runs.new; damages = damages.new; texts = texts.new }) counts.new fault.new result }
+{
+    read_hidden_runs(alloc, stream, options, runs, damages, texts, counts, fault)
+}
+
+/// Fills arrays with the style of each XF of a workbook, in the order of the stream, and with its damaged Font and XF
+/// records. `counts` and the answer are as of `gaflwened_hidden`; no sheet is asked for.
+#[unsafe(no_mangle)]
+pub extern "C" fn gaflwened_styles(
+    alloc: Global,
+    stream: &[u8],
+    options: &Options,
+    styles: &mut [StyleItem],
+    damages: &mut [DamageItem],
+    texts: &mut [u8],
+    counts: &mut Counts,
+    fault: &mut Fault,
+) -> u32
+    ensures { FillsStyles options.now stream.now
+        (record { items = styles.new; damages = damages.new; texts = texts.new }) counts.new fault.new result }
+{
+    read_styles(
+        alloc, stream, options, styles, damages, texts, counts, fault,
+    )
+}
+
+/// Fills an array with the style of each cell of one sheet that has a record, by row and column: the index in the array of
+/// `gaflwened_styles`. The sheet, `counts` and the answer are as of `gaflwened_hidden`.
+#[unsafe(no_mangle)]
+pub extern "C" fn gaflwened_style_of(
+    alloc: Global,
+    stream: &[u8],
+    options: &Options,
+    cells: &mut [CellStyleItem],
+    counts: &mut Counts,
+    fault: &mut Fault,
+) -> u32
+    ensures { FillsCellStyles options.now stream.now cells.new counts.new fault.new result }
+{
+    read_cell_styles(alloc, stream, options, cells, counts, fault)
+}
+
+/// Fills arrays with the comments of one sheet, and with its damaged Notes, in the order of the stream. The sheet, `counts`
+/// and the answer are as of `gaflwened_hidden`.
+#[unsafe(no_mangle)]
+pub extern "C" fn gaflwened_comments(
+    alloc: Global,
+    stream: &[u8],
+    options: &Options,
+    comments: &mut [CommentItem],
+    damages: &mut [DamageItem],
+    texts: &mut [u8],
+    counts: &mut Counts,
+    fault: &mut Fault,
+) -> u32
+    ensures { FillsComments options.now stream.now
+        (record { items = comments.new; damages = damages.new; texts = texts.new }) counts.new fault.new result }
+{
+    read_comments(
+        alloc, stream, options, comments, damages, texts, counts, fault,
+    )
+}
+
+/// Fills arrays with the links of one sheet, and with its damaged HLinks, in the order of the stream. The sheet, `counts` and
+/// the answer are as of `gaflwened_hidden`.
+#[unsafe(no_mangle)]
+pub extern "C" fn gaflwened_links(
+    alloc: Global,
+    stream: &[u8],
+    options: &Options,
+    links: &mut [LinkItem],
+    damages: &mut [DamageItem],
+    texts: &mut [u8],
+    counts: &mut Counts,
+    fault: &mut Fault,
+) -> u32
+    ensures { FillsLinks options.now stream.now
+        (record { items = links.new; damages = damages.new; texts = texts.new }) counts.new fault.new result }
+{
+    read_links(alloc, stream, options, links, damages, texts, counts, fault)
+}
+
+/// Fills arrays with the other workbooks, programs and added functions that a workbook refers to, in the order of the stream,
+/// behind each its sheets and then its names, and with the damaged records that would say so. `counts` and the answer are as
+/// of `gaflwened_hidden`; no sheet is asked for.
+#[unsafe(no_mangle)]
+pub extern "C" fn gaflwened_books(
+    alloc: Global,
+    stream: &[u8],
+    options: &Options,
+    books: &mut [BookItem],
+    damages: &mut [DamageItem],
+    texts: &mut [u8],
+    counts: &mut Counts,
+    fault: &mut Fault,
+) -> u32
+    ensures { FillsBooks options.now stream.now
+        (record { items = books.new; damages = damages.new; texts = texts.new }) counts.new fault.new result }
+{
+    read_books(alloc, stream, options, books, damages, texts, counts, fault)
+}
+
+/// Fills arrays with what the formulas of one sheet cite of other workbooks and programs, in the order of the stream, of one
+/// formula from left to right and each once. The sheet, `counts` and the answer are as of `gaflwened_hidden`.
+#[unsafe(no_mangle)]
+pub extern "C" fn gaflwened_outside_of(
+    alloc: Global,
+    stream: &[u8],
+    options: &Options,
+    outside: &mut [OutsideItem],
+    texts: &mut [u8],
+    counts: &mut Counts,
+    fault: &mut Fault,
+) -> u32
+    ensures { FillsOutside options.now stream.now outside.new texts.new counts.new fault.new result }
+{
+    read_outside(alloc, stream, options, outside, texts, counts, fault)
 }

@@ -4,8 +4,14 @@ use Rattle.xls_open.specs.Workbook.{rules_of}
 use Rattle.xls_open.specs.declared.options.XlsOptions.{XlsOptions}
 use Rattle.xls_arrays.specs.Arrays.{arrays_of, empty}
 use Rattle.xls_arrays.specs.Held.{IsHeld, RefusesStream, ShowsStream}
-use Rattle.xls_arrays.proofs.HeldLemmas.{err-as, misses-refused}
+use Rattle.xls_arrays.proofs.HeldLemmas.{bytes-refused, err-as, misses-refused}
 use Rattle.xls_arrays.proofs.laying.lay_stream.Goals as goal
+
+pub returns-in_err-refuse_bytes-clause-err : goal.returns-in_err-refuse_bytes-clause-err
+returns-in_err-refuse_bytes-clause-err c =
+    let stream = c.args.stream.now in
+    err-as (RefusesStream c.args.options.now stream) c.from_residual.result _ c.from_residual.ensures.1
+    (bytes-refused c.args.options.now stream _ c.in_err-refuse_bytes.ensures.err)
 
 pub returns-in_err-lay_view-clause-err : goal.returns-in_err-lay_view-clause-err
 returns-in_err-lay_view-clause-err c =

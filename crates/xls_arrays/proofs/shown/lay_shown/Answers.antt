@@ -5,9 +5,15 @@ use Rattle.xls_open.specs.declared.options.XlsOptions.{XlsOptions}
 use Rattle.xls_arrays.specs.Arrays.{empty, laid, with_cell_laid}
 use Rattle.xls_arrays.specs.Held.{RefusesStream, ShowsStream}
 use Rattle.xls_arrays.specs.Shown.{IsShownHeld}
-use Rattle.xls_arrays.proofs.HeldLemmas.{err-as}
+use Rattle.xls_arrays.proofs.HeldLemmas.{bytes-refused, err-as}
 use Rattle.xls_arrays.proofs.ShownLemmas.{index-refused}
 use Rattle.xls_arrays.proofs.shown.lay_shown.Goals as goal
+
+pub returns-in_err-refuse_bytes-clause-err : goal.returns-in_err-refuse_bytes-clause-err
+returns-in_err-refuse_bytes-clause-err c =
+    let stream = c.args.stream.now in
+    err-as (RefusesStream c.args.options.now stream) c.from_residual.result _ c.from_residual.ensures.1
+    (bytes-refused c.args.options.now stream _ c.in_err-refuse_bytes.ensures.err)
 
 pub returns-in_err-lay_shown_sheet-clause-err : goal.returns-in_err-lay_shown_sheet-clause-err
 returns-in_err-lay_shown_sheet-clause-err c =

@@ -1,0 +1,14 @@
+use Rattle.std.proofs.Common.{refl, rules}
+use Rattle.xls_beside_arrays.proofs.EndLemmas.{fills, fills-as}
+use Rattle.xls_beside_arrays.proofs.hidden.read_hidden_runs.Goals as goal
+use Rattle.xls_beside_arrays.specs.Hidden.{AreRuns}
+use Rattle.xls_beside_arrays.specs.Opened.{RefusesSheet}
+
+pub returns : goal.returns
+returns c =
+    let done = c.lay_sheet-done in
+    let Held = AreRuns c.args.options.now c.args.stream.now in
+    let Refuses = RefusesSheet c.args.options.now c.args.stream.now in
+    fills-as Held Refuses done.new.rooms
+    (fills Held Refuses _ done.new.rooms done.result (λ p. p) refl done.ensures.ok done.ensures.err c.end.ensures)
+    (search rules) (search rules) (search rules)

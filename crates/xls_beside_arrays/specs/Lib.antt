@@ -1,0 +1,13 @@
+pub mod Answers
+pub mod Arrays
+pub mod Books
+pub mod CellStyles
+pub mod Comments
+pub mod Damages
+pub mod Filled
+pub mod Hidden
+pub mod Links
+pub mod Opened
+pub mod Outside
+pub mod StyleNumbers
+pub mod Styles
