@@ -1,6 +1,6 @@
 """Makes the wheel of `gaflwened` (PEP 517) with nothing but Python and a C compiler.
 
-The shared object is linked from two archives: `libxls_c.a`, which `rt lib xls_c` makes in crates/xls_c/out, and `liblibc_c.a` of the Rattle
+The shared object is linked from two archives: `libxls_c.a`, which `tools/build xls_c` makes in crates/xls_c/out, and `liblibc_c.a` of the Rattle
 kit, through which it asks for memory. They are looked for in the folder GAFLWENED_LIB, where it is set, then in this repository and in the
 kit (the folder RATTLE_KIT, or that of `rt`, or /opt/rattle). CC is the compiler, `cc` where it isn't set.
 """
@@ -43,7 +43,7 @@ def archives():
         paths = [f"{folder}/{name}" for folder in folders if os.path.exists(f"{folder}/{name}")]
         if not paths:
             where = ", ".join(folders)
-            raise SystemExit(f"gaflwened: {name} isn't in {where}: make it by `rt lib xls_c`, or set GAFLWENED_LIB to its folder")
+            raise SystemExit(f"gaflwened: {name} isn't in {where}: make it by `tools/build xls_c`, or set GAFLWENED_LIB to its folder")
         found.append(paths[0])
     return found
 
@@ -122,4 +122,4 @@ def build_wheel(wheel_directory, config_settings=None, metadata_directory=None):
 
 
 def build_sdist(sdist_directory, config_settings=None):
-    raise SystemExit("gaflwened: there is no source archive, since the proved library is made by `rt lib xls_c`; build a wheel instead")
+    raise SystemExit("gaflwened: there is no source archive, since the proved library is made by `tools/build xls_c`; build a wheel instead")

@@ -1,4 +1,4 @@
-//! Links the proved library: `libxls_c.a`, which `rt lib xls_c` makes in crates/xls_c/out, and `liblibc_c.a` of the Rattle kit, through which it asks for memory.
+//! Links the proved library: `libxls_c.a`, which `tools/build xls_c` makes in crates/xls_c/out, and `liblibc_c.a` of the Rattle kit, through which it asks for memory.
 //!
 //! Both are looked for in the folder GAFLWENED_LIB, where it is set, then in this repository and in the kit: the folder RATTLE_KIT, or that
 //! of `rt`, or /opt/rattle.
@@ -30,7 +30,7 @@ fn main() {
     for name in ["xls_c", "libc_c"] {
         let archive = format!("lib{name}.a");
         let folder = folders.iter().find(|folder| folder.join(&archive).exists()).unwrap_or_else(|| {
-            eprintln!("{archive} is in none of {folders:?}: make it by `rt lib xls_c`, or set GAFLWENED_LIB to its folder");
+            eprintln!("{archive} is in none of {folders:?}: make it by `tools/build xls_c`, or set GAFLWENED_LIB to its folder");
             process::exit(1);
         });
         println!("cargo:rerun-if-changed={}", folder.join(&archive).display());

@@ -1,6 +1,7 @@
 """Workbooks for the tests of the bindings: `make(folder)` writes them, with the samples and the stored streams of this repository."""
 
 import glob
+import json
 import os
 import struct
 import sys
@@ -204,6 +205,106 @@ def mixed_columns():
         yield truth_or_error(row, 11, 0x07, 1) if row % 6 == 0 else number(row, 11, row / 2)
 
 
+# ---- what stands beside the values
+
+
+def units(text):
+    """A flags byte that says two bytes a unit, and the units."""
+    return b"\1" + text.encode("utf-16-le")
+
+
+def font(name, height=200, bits=0, colour=0x7FFF, weight=400, script=0, underline=0):
+    body = struct.pack("<HHHHHBxxxB", height, bits, colour, weight, script, underline, len(name))
+    return record(0x0031, body + units(name))
+
+
+def xf(font=0, number_format=0, bits=1, alignment=0x20, turn=0, indent=0, lines=0, colours=0, fill=0):
+    """An XF, by the fields of [MS-XLS]: one of a locked cell, below in its cell, without lines and fill."""
+    body = struct.pack("<HHHBBBxIIH", font, number_format, bits, alignment, turn, indent, lines, colours, fill)
+    return record(0x00E0, body)
+
+
+def row_info(row, bits, height=255):
+    return record(0x0208, struct.pack("<HHHHIHH", row, 0, 0, height, 0, bits | 0x100, 0))
+
+
+def column_info(first, last, bits, width=2048):
+    return record(0x007D, struct.pack("<HHHHHH", first, last, width, 0, bits, 0))
+
+
+def comment(row, column, identifier, author, text, bits=0):
+    """An object, its text, and its Note."""
+    found = record(0x005D, struct.pack("<HHHH", 0x15, 0x12, 0x19, identifier) + bytes(14))
+    found += record(0x01B6, bytes(10) + struct.pack("<HH", len(text), 16) + bytes(4)) + record(0x003C, units(text)) + record(0x003C, bytes(16))
+    return found + record(0x001C, struct.pack("<HHHHH", row, column, bits, identifier, len(author)) + units(author))
+
+
+URL = bytes.fromhex("e0c9ea79f9bace118c8200aa004ba90b")
+
+
+def link(first_row, first_column, last_row, last_column, flags, body):
+    return record(0x01B8, struct.pack("<HHHH16xII", first_row, last_row, first_column, last_column, 2, flags) + body)
+
+
+def link_string(text):
+    data = (text + "\0").encode("utf-16-le")
+    return struct.pack("<I", len(data) // 2) + data
+
+
+def link_tip(first_row, first_column, last_row, last_column, text):
+    place = struct.pack("<HHHHH", 0x0800, first_row, last_row, first_column, last_column)
+    return record(0x0800, place + (text + "\0").encode("utf-16-le"))
+
+
+def other_book(path, *sheets):
+    texts = b"".join(struct.pack("<H", len(text)) + units(text) for text in (path, *sheets))
+    return record(0x01AE, struct.pack("<H", len(sheets)) + texts)
+
+
+def other_name(text):
+    return record(0x0023, bytes(6) + bytes([len(text)]) + units(text) + bytes(2))
+
+
+def beside_values():
+    """Two sheets with something of all that stands beside values. The tests have what is wanted of it.
+
+    The globals: fonts Arial 10 and Arial 12.5 bold, struck out and red; a code `0.00 "kg"`; three XFs. Another workbook with two sheets and a
+    name, a program, an added function; an ExternName of three bytes.
+    """
+    globals = font("Arial") + font("Arial", 250, 0x8, 10, 700)
+    globals += record(0x041E, struct.pack("<HH", 164, 9) + units('0.00 "kg"'))
+    globals += xf()
+    # (of the second font, wrapped and in the middle, a thin black line on the left and a double automatic one from corner to corner)
+    globals += xf(1, 164, 0, 0x1A, 45, 3, 0x40080001, 6 << 21 | 64 << 14)
+    # (filled with yellow)
+    globals += xf(fill=13 | 64 << 7, colours=1 << 26)
+    globals += other_book("\1\1Cold\3led.xls", "Jan", "Feb") + other_name("Rate") + record(0x0023, bytes(3))
+    globals += other_book("Excel\3[b.xls]S") + record(0x01AE, struct.pack("<HH", 1, 0x3A01)) + other_name("EDATE")
+    globals += record(0x0017, struct.pack("<H", 1) + struct.pack("<HHH", 0, 1, 1))
+    data = [row_info(0, 0), row_info(1, 0), row_info(2, 0x20), row_info(3, 0), row_info(9, 0, 0), record(0x0208, b"\5\0\0"),
+            column_info(1, 1, 1), column_info(7, 8, 0, 0)]
+    data += [label(0, column, text) for column, text in enumerate(["id", "name", "sum", "out"])]
+    for row, text in enumerate("abc", 1):
+        data += [whole(row, 0, row, 1 if row == 3 else 0), label(row, 1, text), whole(row, 2, 10 * row)]
+    data += [formula(1, 3, struct.pack("<d", 2.5), b"\x5a\0\0\1\0\2\0"), blank(4, 0, 2), blank(4, 1, 77)]
+    data += [comment(1, 0, 1, "Ann", "hello\nthere", 2), comment(3, 2, 2, "Bö", "日本"), record(0x001C, b"\6\0\7")]
+    address = "http://a.example/é\0".encode("utf-16-le")
+    data += [link(3, 2, 4, 3, 0x17, link_string("here") + URL + struct.pack("<I", len(address)) + address), link_tip(3, 2, 4, 3, "look"),
+             link(0, 0, 0, 0, 8, link_string("Other!A1")), link(5, 6, 5, 6, 8, b"\xff")]
+    other = [whole(0, 0, 7), comment(0, 0, 1, "", "x")]
+    return stream([("Data", 0, 0, data), ("Other", 0, 0, other)], globals)
+
+
+def beside():
+    """Cases of what stands beside the values: the book's name, its stream, a topic, and what `xls TOPIC` writes of it.
+
+    The lines are those of a model that shares no code with the reader.
+    """
+    with open(f"{TOP}/bindings/tests/beside.jsonl", encoding="utf-8") as file:
+        for case in map(json.loads, file):
+            yield f"beside_{case['name']}", bytes.fromhex(case["input"]), case["topic"], case["output"]
+
+
 def sheets():
     yield "Plain", 0, 0, [whole(0, 0, 1)]
     yield "Hidden", 1, 0, [whole(0, 0, 2)]
@@ -246,6 +347,7 @@ def books():
     yield "dates_1900", moments()
     yield "dates_1904", moments(record(0x0022, b"\1\0"))
     yield "shown", compound_file({"Workbook": shown()})
+    yield "beside", compound_file({"Workbook": beside_values()})
     yield "columns", stream([("A", 0, 0, list(mixed_columns()))], formats((14, ""), (46, "")))
     yield "sheets", stream(list(sheets()))
     yield "chart_first", stream(list(chart_first()))
@@ -299,6 +401,14 @@ def hostile():
     return plain(*(shared(row, column, 0) for row in range(50_000) for column in range(4)), globals=table)
 
 
+def hostile_comments():
+    """A stream of 300 KB whose 20,000 comments have 1.3 GB of text: one of 65,535 letters, which all of them show."""
+    found = record(0x005D, struct.pack("<HHHH", 0x15, 0x12, 0x19, 1) + bytes(14))
+    found += record(0x01B6, bytes(10) + struct.pack("<H", 65_535) + bytes(6))
+    found += b"".join(record(0x003C, b"\0" + b"x" * count) for count in [8_000] * 8 + [1_535])
+    return plain(found, *(record(0x001C, struct.pack("<HHHH", row, 0, 0, 1)) for row in range(20_000)))
+
+
 def stored():
     """The samples and the stored streams of this repository, by name."""
     for path in sorted(glob.glob(f"{TOP}/samples/ledger*.xls*") + glob.glob(f"{TOP}/samples/three*") + glob.glob(f"{TOP}/crates/*/stdin")):
@@ -310,7 +420,7 @@ def stored():
 
 def make(folder):
     """Writes all books, and answers their names."""
-    found = {**dict(stored()), **dict(books())}
+    found = {**dict(stored()), **dict(books()), **{text: data for text, data, _, _ in beside()}}
     found.update(damaged(found["samples_ledger_xls"]))
     for text, data in found.items():
         with open(f"{folder}/{text}.xls", "wb") as file:

@@ -286,6 +286,110 @@ class Reading(unittest.TestCase):
                 for again in (read, other, copy.deepcopy(read)):
                     self.assertEqual(list(again[0].shown_rows()), wanted)
 
+    def test_hidden(self):
+        """books.py says what the book has that these tests of what stands beside the values read."""
+        read = book("beside")
+        sheet = read["Data"]
+        self.assertEqual(sheet.hidden_rows, ((2, 2, "hidden"), (9, 9, "flat")))
+        self.assertEqual(sheet.hidden_columns, ((1, 1, "hidden"), (7, 8, "flat")))
+        self.assertEqual(sheet.hidden_rows[0].why, "hidden")
+        self.assertEqual((read["Other"].hidden_rows, read["Other"].hidden_columns), ((), ()))
+        other = book("samples_ledger_xls")
+        self.assertEqual((other.other_books, other.added_functions, other.damaged), ((), (), ()))
+        for sheet in other:
+            nothing = sheet.hidden_rows, sheet.hidden_columns, sheet.links, sheet.outside, sheet.damaged
+            self.assertEqual((nothing, sheet.comments, sheet.style(9, 9)), (((),) * 5, {}, None))
+
+    def test_styles(self):
+        read = book("beside")
+        sheet = read["Data"]
+        plain = gaflwened.Style(font="Arial", size=10.0, format="General")
+        self.assertEqual(sheet.style(0, 0), plain)
+        style = sheet.style(3, 0)
+        wanted = plain._replace(size=12.5, colour="#ff0000", bold=True, strike=True, format='0.00 "kg"', unlocked=True, across="center",
+                                down="center", wrap=True, indent=3, turn=45, left=gaflwened.Border("thin", "#000000"),
+                                diagonal=gaflwened.Diagonal("down", "double", "auto"))
+        self.assertEqual(style, wanted)
+        self.assertIs(style.strike, True)
+        # (a cell without a value, and one of an XF that isn't there)
+        self.assertEqual(sheet.style(4, 0), plain._replace(fill=gaflwened.Fill(1, "#ffff00", None)))
+        self.assertEqual((sheet[4, 0] if sheet.nrows > 4 else None, sheet.style(4, 1)), (None, gaflwened.Style()))
+        self.assertEqual([sheet.style(*place) for place in ((4, 2), (9, 9), (65_535, 0))], [None] * 3)
+        self.assertEqual((sheet.style(-1, 0), sheet.style(0, -1)), (style, plain))
+        self.assertEqual(read.styles, (plain, wanted, sheet.style(4, 0)))
+        cells = list(sheet.styles())
+        self.assertEqual(len(cells), 16)
+        self.assertEqual([cell[:2] for cell in cells if cell.style.strike], [(3, 0)])
+        self.assertIs(cells[0].style, cells[1].style)
+        for wrong in ((0, 65_536), (-5, 0)):
+            with self.assertRaises(IndexError):
+                sheet.style(*wrong)
+        with self.assertRaises(TypeError):
+            sheet.style("A", 1)
+
+    def test_comments_and_links(self):
+        sheet = book("beside")["Data"]
+        wanted = {(1, 0): gaflwened.Comment("Ann", "hello\nthere", True), (3, 2): gaflwened.Comment("Bö", "日本", False)}
+        self.assertEqual(sheet.comments, wanted)
+        sheet.comments.clear()
+        self.assertEqual(sheet.comments[1, 0].text, "hello\nthere")
+        url = gaflwened.Link(3, 2, 4, 3, "url", "http://a.example/é", "", "here", "look")
+        self.assertEqual(sheet.links, (url, gaflwened.Link(0, 0, 0, 0, "place", "", "Other!A1", "", "")))
+
+    def test_other_books(self):
+        read = book("beside")
+        first = gaflwened.OtherBook("book", "C:\\old\\led.xls", "", ("Jan", "Feb"), ("Rate",))
+        self.assertEqual(read.other_books, (first, ("dde", "Excel", "[b.xls]S", (), ())))
+        self.assertEqual(read.added_functions, ("EDATE",))
+        self.assertEqual(read["Data"].outside, ((1, 3, "C:\\old\\led.xls", "Feb", ""),))
+        self.assertEqual(read["Other"].outside, ())
+
+    def test_damaged(self):
+        read = book("beside")
+        sheet = read["Data"]
+        stream, length = read._store._source.stream, read._store._source.length
+        numbers = {"Row": 0x0208, "Note": 0x001C, "HLink": 0x01B8, "ExternName": 0x0023}
+        for damage in sheet.damaged + read.damaged:
+            found = int.from_bytes(bytes(stream[damage.offset : damage.offset + 2]), "little")
+            self.assertEqual((found, damage.offset < length), (numbers[damage.record], True))
+        self.assertEqual([(damage.record, *damage[2:]) for damage in sheet.damaged],
+                         [("Row", 5, None, "shorter than 16 bytes: 3"), ("Note", None, None, "shorter than 8 bytes: 3"),
+                          ("HLink", 5, 6, "it ends in its place")])
+        self.assertEqual([(damage.record, *damage[2:]) for damage in read.damaged], [("ExternName", None, None, "shorter than 7 bytes: 3")])
+        self.assertEqual(read["Other"].damaged, ())
+
+    def test_beside_in_all_ways(self):
+        """Of one sheet alone, without the cells, out of pickles and where arrays are mapped it is the same; a closed workbook has none."""
+
+        def all_of(sheet, read):
+            return (sheet.hidden_rows, sheet.hidden_columns, sheet.comments, sheet.links, sheet.outside, sheet.damaged, list(sheet.styles()),
+                    sheet.style(3, 0), read.styles, read.other_books, read.added_functions, read.damaged)
+
+        path = f"{FOLDER}/beside.xls"
+        wanted = [all_of(sheet, book("beside")) for sheet in book("beside")]
+        self.assertNotEqual(*wanted)
+        for mapped in (_raw.MAPPED, 0):
+            with as_if(_raw, "MAPPED", mapped):
+                bare = gaflwened.open_workbook(path, content=False)
+                for read in (book("beside"), bare, copy.deepcopy(bare), pickle.loads(pickle.dumps(bare, 2)), pickle.loads(pickle.dumps(bare))):
+                    self.assertEqual([all_of(sheet, read) for sheet in read], wanted)
+                buffers = []
+                data = pickle.dumps(book("beside"), 5, buffer_callback=buffers.append)
+                for given in (buffers, [memoryview(bytes(buffer)) for buffer in buffers]):
+                    self.assertEqual([all_of(sheet, again) for again in [pickle.loads(data, buffers=given)] for sheet in again], wanted)
+                for number, name in enumerate(["Data", "Other"]):
+                    for chosen in (number, name):
+                        one = gaflwened.open_workbook(path, sheet=chosen)
+                        self.assertEqual(all_of(one[0], one), wanted[number])
+        read = book("beside")
+        sheet = read[0]
+        sheet.comments
+        read.close()
+        for ask in (lambda: sheet.hidden_rows, lambda: sheet.comments, lambda: sheet.style(0, 0), lambda: list(sheet.styles()),
+                    lambda: sheet.damaged, lambda: read.other_books, lambda: read.styles, lambda: read.damaged):
+            with self.assertRaisesRegex(ValueError, "the workbook is closed"):
+                ask()
+
     def test_other_processes(self):
         with multiprocessing.get_context("fork").Pool(1) as pool, as_if(_raw, "MAPPED", 0):
             for name in ("samples_ledger_xls", "many_texts"):
@@ -415,13 +519,19 @@ class Reading(unittest.TestCase):
     def test_little_memory(self):
         """Each call ends, by MemoryError where memory runs out."""
         script = "import gaflwened, resource, sys; resource.setrlimit(resource.RLIMIT_AS, (int(sys.argv[2]),) * 2)\n"
-        script += "try: gaflwened.open_workbook(sys.argv[1])[0].shown(0, 0)\nexcept MemoryError: sys.exit(7)"
+        script += "def sheet(**options): return gaflwened.open_workbook(sys.argv[1], **options)[0]\n"
+        script += "try: print(%s)\nexcept MemoryError: sys.exit(7)"
+        hostile, comments = os.environ.get("GAFLWENED_HOSTILE"), os.environ.get("GAFLWENED_HOSTILE_COMMENTS")
+        calls = [("sheet().shown(0, 0)", f"{FOLDER}/many_texts.xls", {0, 7}), ("sheet().shown(0, 0)", hostile, {0, 7}),
+                 ("len(list(sheet(content=False).styles()))", hostile, {0, 7}), ("len(sheet().comments)", f"{FOLDER}/beside.xls", {0}),
+                 ("len(sheet().comments)", comments, {7})]
         ends = set()
-        for path in (f"{FOLDER}/many_texts.xls", os.environ.get("GAFLWENED_HOSTILE")):
+        for call, path, wanted in calls:
             for limit in (40_000_000, 60_000_000, 80_000_000, 200_000_000):
                 if path:
-                    done = subprocess.run([sys.executable, "-c", script, path, str(limit)], stderr=subprocess.PIPE)
-                    self.assertIn(done.returncode, (0, 7), done.stderr)
+                    words = [sys.executable, "-c", script % call, path, str(limit)]
+                    done = subprocess.run(words, stdout=subprocess.PIPE, stderr=subprocess.PIPE)
+                    self.assertIn(done.returncode, wanted, done.stderr)
                     ends.add(done.returncode)
         self.assertIn(0, ends)
 
@@ -519,6 +629,50 @@ class Frames(unittest.TestCase):
         self.assertTrue(gaflwened.read_excel(f"{FOLDER}/no_cells.xls", as_shown=True).empty)
         with self.assertRaisesRegex(TypeError, "no dict"):
             gaflwened.read_excel(path, as_shown=True, na_values={0: ["7"]})
+
+    def test_skip_hidden(self):
+        """Row 2 and column 1 of the book can't be seen."""
+        path = f"{FOLDER}/beside.xls"
+        whole = gaflwened.read_excel(path)
+        self.assertEqual((list(whole.columns), whole["sum"].tolist()), (["id", "name", "sum", "out"], [10, 20, 30]))
+        seen = gaflwened.read_excel(path, skip_hidden=True)
+        wanted = pandas.DataFrame({"id": [1, 3], "sum": [10, 30], "out": [2.5, numpy.nan]})
+        pandas.testing.assert_frame_equal(seen, wanted)
+        pandas.testing.assert_frame_equal(book("beside")["Data"].to_dataframe(skip_hidden=True), wanted)
+        some = gaflwened.read_excel(path, skip_hidden=True, usecols="A:B", skiprows=[1])
+        pandas.testing.assert_frame_equal(some, wanted[["id", "sum"]][1:].reset_index(drop=True))
+        bare = gaflwened.read_excel(path, None, skip_hidden=True, header=None)
+        self.assertEqual((bare["Data"].shape, bare["Other"].to_numpy().tolist()), ((3, 3), [[7]]))
+        shown = gaflwened.read_excel(path, skip_hidden=True, as_shown=True, header=None)
+        rows = [["id", "sum", "out"], ["1", "10", "2.5"], ["3.00 kg", "30", numpy.nan]]
+        pandas.testing.assert_frame_equal(shown, pandas.DataFrame(rows, dtype=object))
+        for other, read in readable():
+            for sheet in read:
+                if not sheet.hidden_rows + sheet.hidden_columns and sheet.nrows * sheet.ncols < 100_000:
+                    for options in ({}, {"as_shown": True}):
+                        ours, theirs = sheet.to_dataframe(skip_hidden=True, **options), sheet.to_dataframe(**options)
+                        pandas.testing.assert_frame_equal(ours, theirs, obj=other)
+
+    def test_styles_of_an_array(self):
+        read = book("beside")
+        cells, styles = read["Data"].to_numpy(), read.styles
+        wanted = [0] * 11 + [1, 0, 0]
+        self.assertEqual((cells["style"].tolist(), cells["style"].dtype), (wanted, numpy.uint16))
+        self.assertIs(type(cells["row"]), numpy.ndarray)
+        self.assertEqual([styles[style].strike for style in cells[cells["number"] == 3]["style"]], [True])
+        self.assertEqual((cells[::-2]["style"].tolist(), cells[:0]["style"].tolist()), (wanted[::-2], []))
+        self.assertEqual(cells.reshape(2, 7)["style"].tolist(), [wanted[:7], wanted[7:]])
+        again = pickle.loads(pickle.dumps(cells))
+        self.assertEqual(again.tobytes(), cells.tobytes())
+        read.close()
+        with self.assertRaisesRegex(ValueError, "the workbook is closed"):
+            cells["style"]
+        for path, read in readable():
+            every = read.styles
+            for sheet in read:
+                cells, styles = sheet.to_numpy(), {cell[:2]: cell.style for cell in sheet.styles()}
+                for row, column, index in zip(cells["row"][:2000].tolist(), cells["column"].tolist(), cells["style"].tolist()):
+                    self.assertEqual(every[index] if index < len(every) else gaflwened.Style(), styles[row, column], path)
 
     def test_arrays_outlive_their_workbook(self):
         with as_if(_raw, "MAPPED", 0), book("many_rows") as read:

@@ -1,6 +1,6 @@
 /* list_cells.c: writes what a workbook holds, line by line, as `xls dump` does.
  *
- * From the top of the repository, after `rt lib xls_c`, with the folder of the Rattle kit for KIT:
+ * From the top of the repository, after `tools/build xls_c`, with the folder of the Rattle kit for KIT:
  *
  *     cc -Iinclude examples/c/list_cells.c crates/xls_c/out/libxls_c.a KIT/c/liblibc_c.a -o list_cells
  *     ./list_cells samples/ledger.xls

@@ -7,13 +7,13 @@ import operator
 import os
 from typing import TYPE_CHECKING, Any, BinaryIO, Iterator, Optional, Union, cast, overload
 
-from . import _raw
+from . import _beside, _raw
+from ._beside import CellStyle, Citation, Comment, Damage, HiddenRun, Link, OtherBook, Style
 from ._errors import SheetNotFound
 from ._store import CELL, Source, Store
 from ._values import KINDS, PLACES, VISIBILITIES, Cell, DefinedName, Formula, Region, Value, place_of
 
 if TYPE_CHECKING:
-    import numpy
     import pandas
     from numpy.typing import NDArray
 
@@ -33,7 +33,8 @@ class Workbook:
     It has its sheets as a sequence and by their names: `book[0]`, `book["Data"]`, `len(book)`, `for sheet in book`. It may be pickled, and so
     be handed to another process. Its memory is given back with the last reference to it, to its sheets and to what `to_numpy` and `texts`
     gave; or, where none has what these gave, by `close`, which the end of a `with` calls. The workbook's stream is a part of it, about as
-    large as the file: `Sheet.shown` reads it again.
+    large as the file: from it `Sheet.shown` and what stands beside the values (`Sheet.style`, `Sheet.comments`, `other_books`, ..) are read
+    when they are asked for first.
     """
 
     def __init__(self, store: Store):
@@ -78,6 +79,26 @@ class Workbook:
     def is_1904(self) -> bool:
         """Whether days count from 1904-01-01. Else they count from 1899-12-31."""
         return self._store.arrays.is_1904
+
+    @property
+    def styles(self) -> tuple[Style, ...]:
+        """How the cells look, one for each format of cells that the workbook has; `Sheet.to_numpy` has indexes into it."""
+        return tuple(_beside.styles(self._store.table("styles")))
+
+    @property
+    def other_books(self) -> tuple[OtherBook, ...]:
+        """The other workbooks and programs that this one refers to, in the order of the file; `Sheet.outside` has what formulas cite of them."""
+        return _beside.books(self._store.table("books"))[0]
+
+    @property
+    def added_functions(self) -> tuple[str, ...]:
+        """The names of the functions of add-ins that formulas call, in the order of the file."""
+        return _beside.books(self._store.table("books"))[1]
+
+    @property
+    def damaged(self) -> tuple[Damage, ...]:
+        """The damaged records of fonts, formats of cells and other workbooks, in the order of the file; `Sheet.damaged` has those of sheets."""
+        return _beside.damages(self._store.table("styles"), self._store.table("books"))
 
     @property
     def texts(self) -> memoryview:
@@ -133,15 +154,6 @@ class Workbook:
         if self.closed:
             return "<gaflwened.Workbook, closed>"
         return f"<gaflwened.Workbook of {', '.join(map(repr, self.sheet_names)) or 'no sheets'}>"
-
-
-def _numpy_cell() -> numpy.dtype[Any]:
-    """The struct of a cell; its value is there twice, as bits and as a number."""
-    import numpy
-
-    names = ["row", "column", "kind", "form", "value", "number", "length"]
-    formats = ["<u4", "<u4", "<u4", "<u4", "<u8", "<f8", "<u8"]
-    return numpy.dtype({"names": names, "formats": formats, "offsets": [0, 4, 8, 12, 16, 16, 24], "itemsize": CELL})
 
 
 class Sheet:
@@ -348,6 +360,60 @@ class Sheet:
         """The rows with what Excel shows, `nrows` lists of `ncols` texts each, None where no cell stands. They are as of `shown`."""
         return cast("Iterator[list[Optional[str]]]", self._as_shown().rows())
 
+    # ---- what stands beside the values, which is read when it is asked for
+
+    def _table(self, name: str) -> _raw.Table:
+        """What a call of `_raw.CALLS` reads of this sheet."""
+        return self._store.table(name, self._number, self._cells if name == "style_of" else 64)
+
+    @property
+    def hidden_rows(self) -> tuple[HiddenRun, ...]:
+        """The rows that can't be seen, as runs `(first, last, why)` from 0, the last included; `why` is 'hidden', 'filtered' or 'flat'.
+
+        Runs ascend, and each is as long as it can be for one reason.
+        """
+        return _beside.hidden_runs(self._table("hidden"), False)
+
+    @property
+    def hidden_columns(self) -> tuple[HiddenRun, ...]:
+        """The columns that can't be seen, as `hidden_rows` has the rows."""
+        return _beside.hidden_runs(self._table("hidden"), True)
+
+    def style(self, row: int, column: int) -> Optional[Style]:
+        """How the cell at a row and a column looks: `style.strike`, `style.fill`, `style.format`, .. None where the file has no cell.
+
+        A blank cell looks like something too. The first call reads which style each cell of the sheet has (12 bytes a cell), which is kept
+        until the workbook is closed. Rows and columns count as in `sheet[row, column]`. IndexError for a place that no .xls has,
+        MemoryError.
+        """
+        place = self._index(row, PLACES, "row"), self._index(column, PLACES, "column")
+        index = _beside.style_index(self._table("style_of"), *place)
+        return None if index is None else _beside.style_at(self._store.table("styles"), index)
+
+    def styles(self) -> Iterator[CellStyle]:
+        """How the cells look, by row and then by column, blank cells too: `(row, column, style)` each. Cells of one style share it."""
+        return _beside.cell_styles(self._table("style_of"), self._store.table("styles"))
+
+    @property
+    def comments(self) -> dict[tuple[int, int], Comment]:
+        """The comments by row and column from 0, in the order of the file; of several for one cell the last."""
+        return _beside.comments(self._table("comments"))
+
+    @property
+    def links(self) -> tuple[Link, ...]:
+        """The hyperlinks in the order of the file. Formulas with HYPERLINK aren't among them."""
+        return _beside.links(self._table("links"))
+
+    @property
+    def outside(self) -> tuple[Citation, ...]:
+        """What formulas cite of other workbooks, in the order of the file; of each formula from left to right, each once."""
+        return _beside.citations(self._table("outside_of"))
+
+    @property
+    def damaged(self) -> tuple[Damage, ...]:
+        """The damaged records of what is hidden, of comments and of hyperlinks, in the order of the file."""
+        return _beside.damages(*(self._table(name) for name in ("hidden", "comments", "links")))
+
     def __iter__(self) -> Iterator[list[Value]]:
         return self.rows()
 
@@ -376,14 +442,15 @@ class Sheet:
         number         of kinds 1, 2, 3 and 9: the number, of days for 2 and 3
         value          the same 64 bits as a whole number: of 4 it is 0 or 1, of 5 the error's code, of 6 an offset into `Workbook.texts`
         length         of a text: its bytes
+        style          which style, an index into `Workbook.styles`; a plain style where it is past the end. It is no field of the dtype:
+                       `cells["style"]` makes it when it is asked for, of all cells or of those that were chosen
 
         ImportError where numpy isn't there.
         """
-        import numpy
+        from . import _array
 
-        # (frombuffer keeps the view that can't be written; numpy.ndarray would keep what is below it)
-        view = memoryview(self._store.arrays.cells).toreadonly()
-        return numpy.frombuffer(view, _numpy_cell(), self._cells, self._first_cell * CELL)
+        found: NDArray[Any] = _array.with_style(self)
+        return found
 
     def to_long(self) -> pandas.DataFrame:
         """The cells as a DataFrame of pandas of shape (cells, 4), a line for each that the file has, by row and then by column.
@@ -455,9 +522,7 @@ class Options:
             number = Workbook(Store(_raw.read(*stream, self.raw)))[number].number
         if number is not None:
             self.raw.which, self.raw.sheet = _raw.ONE_SHEET, number
-        arrays = _raw.read(*stream, self.raw)
-        # (without cells nothing is shown)
-        return Workbook(Store(arrays, Source(*stream, bytes(self.raw)) if arrays.counts.cells else None))
+        return Workbook(Store(_raw.read(*stream, self.raw), Source(*stream, bytes(self.raw))))
 
 
 def _file_bytes(file: Any) -> bytes:

@@ -14,10 +14,12 @@ from pandas.errors import EmptyDataError
 from pandas.io.parsers import TextParser
 
 from . import _raw
+from ._array import cells_of
+from ._beside import HiddenRun
 from ._book import Sheet, Workbook, open_workbook
 from ._errors import SheetNotFound
 from ._store import RECKONED, Store
-from ._values import ERRORS, CellError, Value
+from ._values import ERRORS, PLACES, CellError, Value
 
 if TYPE_CHECKING:
     from numpy.typing import NDArray
@@ -230,7 +232,7 @@ def milliseconds_of(cells: NDArray[Any], is_1904: bool, is_duration: bool) -> ND
 def width_of(sheet: Sheet) -> int:
     """How many columns a sheet has."""
     if sheet._width is None and sheet._cells:
-        sheet._width = int(sheet.to_numpy()["column"].max()) + 1
+        sheet._width = int(cells_of(sheet)["column"].max()) + 1
     return sheet.ncols
 
 
@@ -274,7 +276,7 @@ def objects_of(store: Store, cells: NDArray[Any], kind: int) -> NDArray[Any]:
 
 def long_of(sheet: Sheet) -> pandas.DataFrame:
     """The cells, a line for each."""
-    cells = sheet.to_numpy()
+    cells = cells_of(sheet)
     kinds = numpy.ascontiguousarray(cells["kind"])
     values = numpy.empty(len(cells), object)
     for kind in numpy.flatnonzero(numpy.bincount(kinds)).tolist():
@@ -287,7 +289,7 @@ def long_of(sheet: Sheet) -> pandas.DataFrame:
 
 def columns_of(sheet: Sheet, first: int, last: int) -> Iterator[NDArray[Any]]:
     """Each column of a sheet, from a row to before another."""
-    cells, height, width = sheet.to_numpy(), last - first, width_of(sheet)
+    cells, height, width = cells_of(sheet), last - first, width_of(sheet)
     cells = cells[sheet._place(first, 0) : sheet._place(last, 0)]
     if len(cells) == height * width:
         for column in range(width):
@@ -356,15 +358,42 @@ def of_texts(options: dict[str, Any]) -> dict[str, Any]:
     return found
 
 
-def frame_of(sheet: Sheet, header: Any = 0, skiprows: Any = None, nrows: Any = None, as_shown: bool = False,
+def seen(cells: NDArray[Any], name: str, runs: tuple[HiddenRun, ...]) -> tuple[NDArray[Any], NDArray[Any]]:
+    """Which cells stand in a row, or a column, that isn't in these runs, and its index among those that aren't."""
+    is_seen = numpy.ones(PLACES, bool)
+    for first, last, _ in runs:
+        is_seen[first : last + 1] = False
+    indexes = numpy.cumsum(is_seen, dtype=numpy.uint32) - 1
+    return is_seen[cells[name]], indexes[cells[name]].astype(numpy.uint32)
+
+
+def without_hidden(sheet: Sheet, hidden: Sheet) -> Sheet:
+    """A sheet as it is without the rows and columns of another that can't be seen: what stands behind them moves up."""
+    cells = cells_of(sheet)
+    (in_rows, rows), (in_columns, columns) = seen(cells, "row", hidden.hidden_rows), seen(cells, "column", hidden.hidden_columns)
+    which = in_rows & in_columns
+    found = cells[which]
+    found["row"], found["column"] = rows[which], columns[which]
+    arrays, count = sheet._store.arrays, len(found)
+    counts = _raw.Counts(1, 0, count, 0, 0, arrays.counts.text_bytes)
+    fields = _raw.SHEET.pack(*sheet._name, 0, count, 0, 0, 0, 0, sheet._kind, sheet._visibility)
+    return Sheet(Store(_raw.Content(fields, b"", found.tobytes(), b"", b"", arrays.texts, counts, arrays.is_1904)), 0)
+
+
+def frame_of(sheet: Sheet, header: Any = 0, skiprows: Any = None, nrows: Any = None, as_shown: bool = False, skip_hidden: bool = False,
              **options: Any) -> pandas.DataFrame:
     """The sheet as a DataFrame, the same that pandas makes of its rows."""
     for name in options:
         if name not in ARGUMENTS:
             raise TypeError(f"unexpected argument {name!r}")
     options = {name: value for name, value in options.items() if value is not ARGUMENTS[name]}
+    whole = sheet
     if as_shown:
-        return frame_by_rows(sheet._as_shown(), header=header, skiprows=skiprows, nrows=nrows, **of_texts(options))
+        sheet = sheet._as_shown()
+    if skip_hidden:
+        sheet = without_hidden(sheet, whole)
+    if as_shown:
+        return frame_by_rows(sheet, header=header, skiprows=skiprows, nrows=nrows, **of_texts(options))
     if options or not (is_plain(header) and is_plain(skiprows) and is_plain(nrows)):
         return frame_by_rows(sheet, header=header, skiprows=skiprows, nrows=nrows, **options)
     at = skiprows or 0

@@ -7,7 +7,7 @@ import ctypes
 import mmap
 import os
 import struct
-from typing import Any, Callable, NamedTuple, Union
+from typing import Any, Callable, Iterator, NamedTuple, Union
 
 from ._errors import Error, FaultCode
 
@@ -29,6 +29,15 @@ CELL_NUMBER = struct.Struct("=16xd8x")
 CELL_COLUMN = struct.Struct("=4xI24x")
 FORMULA = struct.Struct("=2I2Q")
 REGION = struct.Struct("=4I")
+# What stands beside the values.
+DAMAGE = struct.Struct("=3Q4I")
+HIDDEN_RUN = struct.Struct("=4I")
+STYLE = struct.Struct("=4Q22I")
+CELL_STYLE = struct.Struct("=2I2H")
+COMMENT = struct.Struct("=2I4Q2I")
+LINK = struct.Struct("=4I8Q2I")
+BOOK = struct.Struct("=4Q2I")
+OUTSIDE = struct.Struct("=2I6Q")
 
 # Buffers of more bytes are mapped, so that no time goes into bytes that are written over.
 MAPPED = 1 << 20
@@ -50,6 +59,10 @@ class Options(ctypes.Structure):
 
 class Sizes(ctypes.Structure):
     _fields_ = _fields(("sheets names cells formulas regions text_bytes", ctypes.c_uint64), ("is_1904 reserved", ctypes.c_uint32))
+
+
+class TableSizes(ctypes.Structure):
+    _fields_ = _fields(("items damages text_bytes", ctypes.c_uint64))
 
 
 class Counts(NamedTuple):
@@ -76,6 +89,39 @@ class Content(NamedTuple):
     is_1904: bool
 
 
+class Table(NamedTuple):
+    """What a call reads that stands beside the values: structs of items and of damaged records, the texts of both, and their lengths."""
+
+    items: Array
+    damages: Array
+    texts: Array
+    counts: tuple[int, int, int]
+
+    def fields(self, item: struct.Struct) -> Iterator[tuple[Any, ...]]:
+        """The fields of each item."""
+        return item.iter_unpack(memoryview(self.items)[: self.counts[0] * item.size])
+
+    def damage_fields(self) -> Iterator[tuple[Any, ...]]:
+        """The fields of each damaged record."""
+        return DAMAGE.iter_unpack(memoryview(self.damages)[: self.counts[1] * DAMAGE.size])
+
+    def text(self, offset: int, length: int) -> str:
+        """The text of so many bytes from an offset on."""
+        return str(memoryview(self.texts)[offset : offset + length], "utf-8")
+
+
+# The calls that read one, the structs of their items, and whether they have arrays of damaged records and of texts.
+CALLS = {
+    "hidden": (HIDDEN_RUN, True, True),
+    "styles": (STYLE, True, True),
+    "style_of": (CELL_STYLE, False, False),
+    "comments": (COMMENT, True, True),
+    "links": (LINK, True, True),
+    "books": (BOOK, True, True),
+    "outside_of": (OUTSIDE, False, True),
+}
+
+
 def _library() -> ctypes.CDLL:
     path = os.path.join(os.path.dirname(os.path.realpath(__file__)), "libgaflwened.so")
     if not os.path.exists(path):
@@ -89,7 +135,9 @@ def _library() -> ctypes.CDLL:
     library.gaflwened_shown.argtypes = [*array, pointer, *array * 2, pointer, pointer]
     library.gaflwened_fault_text.argtypes = [pointer, *array, pointer]
     library.gaflwened_serial.argtypes = [ctypes.c_uint64, number, number, *array, pointer]
-    for name in ("version", "stream", "read", "shown", "fault_text", "serial"):
+    for name, (_, *others) in CALLS.items():
+        getattr(library, f"gaflwened_{name}").argtypes = [*array, pointer, *array * (1 + sum(others)), pointer, pointer]
+    for name in ("version", "stream", "read", "shown", "fault_text", "serial", *CALLS):
         getattr(library, f"gaflwened_{name}").restype = number
     return library
 
@@ -194,8 +242,8 @@ def _likely(length: int) -> list[int]:
 
 
 def _filled(call: Callable[..., Any], stream: Union[bytes, Buffer], length: int, options: Options, wanted: dict[str, int],
-            likely: list[int]) -> tuple[list[Buffer], Sizes]:
-    """The arrays that a call fills, and how long they are.
+            likely: list[int], kind: Callable[[], Any] = Sizes) -> tuple[list[Buffer], Any]:
+    """The arrays that a call fills, and how long they are: a struct of the kind.
 
     `wanted` are the names of their lengths and the bytes of an item; arrays of `likely` lengths are tried first.
     """
@@ -208,7 +256,7 @@ def _filled(call: Callable[..., Any], stream: Union[bytes, Buffer], length: int,
         counts = [0] * len(widths)
         buffers = [_buffer(0) for _ in widths]
     while True:
-        sizes, fault = Sizes(), Fault()
+        sizes, fault = kind(), Fault()
         arrays = [word for buffer, count in zip(buffers, counts) for word in (_address(buffer), count)]
         places = ctypes.byref(options), *arrays, ctypes.byref(sizes), ctypes.byref(fault)
         code = call(_address(stream), length, *places)
@@ -237,3 +285,15 @@ def shown(stream: Union[bytes, Buffer], length: int, options: Options, cells: in
     counts = Counts(1, 0, sizes.cells, 0, 0, sizes.text_bytes)
     sheet = SHEET.pack(0, 0, 0, sizes.cells, 0, 0, 0, 0, 0, 0)
     return Content(sheet, b"", buffers[0], b"", b"", buffers[1], counts, bool(sizes.is_1904))
+
+
+def table(name: str, stream: Union[bytes, Buffer], length: int, options: Options, likely: int = 64) -> Table:
+    """What a call of `CALLS` reads, of the sheet at `options.sheet` where it reads one; there are likely so many items."""
+    item, has_damages, has_texts = CALLS[name]
+    widths = {"items": (item.size, likely, True), "damages": (DAMAGE.size, 16, has_damages), "text_bytes": (1, 4096, has_texts)}
+    wanted = {word: width for word, (width, _, is_there) in widths.items() if is_there}
+    lengths = [count for _, count, is_there in widths.values() if is_there]
+    buffers, sizes = _filled(getattr(_LIBRARY, f"gaflwened_{name}"), stream, length, options, wanted, lengths, TableSizes)
+    found = dict(zip(wanted, buffers))
+    items, damages, texts = (found.get(word, b"") for word in widths)
+    return Table(items, damages, texts, (sizes.items, sizes.damages, sizes.text_bytes))

@@ -34,8 +34,8 @@ class Source(NamedTuple):
     length: int
     options: bytes
 
-    def shown(self, number: int, cells: int) -> _raw.Content:
-        """What Excel shows of the cells of the workbook's sheet with this index, of which there are so many."""
+    def given(self, number: int) -> tuple[Union[bytes, _raw.Buffer], int, _raw.Options]:
+        """What a call is given that reads the workbook's sheet with this index: the stream, its length and the options."""
         options = _raw.Options.from_buffer_copy(self.options)
         if options.which != _raw.ONE_SHEET:
             # (else the index is that of the sheet which was asked for)
@@ -45,19 +45,24 @@ class Source(NamedTuple):
             # (out of a pickle)
             stream = bytes(stream)
         # (the buffers of a pickle may be given by anyone)
-        return _raw.shown(stream, min(self.length, len(stream)), options, cells)
+        return stream, min(self.length, len(stream)), options
+
+    def shown(self, number: int, cells: int) -> _raw.Content:
+        """What Excel shows of the cells of the workbook's sheet with this index, of which there are so many."""
+        return _raw.shown(*self.given(number), cells)
 
 
 class Store:
     """What a workbook and its sheets share. It knows neither, so that each goes with its last reference.
 
-    Of a workbook whose cells weren't read, and of what Excel shows of a sheet, it has no source.
+    Where it is of what Excel shows of a sheet, or of the cells of one that can be seen, it has no source.
     """
 
     def __init__(self, arrays: _raw.Content, source: Optional[Source] = None):
         self._arrays: Optional[_raw.Content] = arrays
         self._source = source
         self._shown: dict[int, Store] = {}
+        self._tables: dict[tuple[str, int], _raw.Table] = {}
         self.is_1904 = arrays.is_1904
         self._lent: Union[str, bytes, None] = None
         self._moments: tuple[dict[int, Value], dict[int, Value]] = ({}, {})
@@ -76,6 +81,7 @@ class Store:
     def close(self) -> None:
         self._arrays = self._lent = self._source = None
         self._shown = {}
+        self._tables = {}
         self._moments = ({}, {})
 
     def __reduce_ex__(self, protocol: Any) -> tuple[Any, ...]:
@@ -100,6 +106,17 @@ class Store:
         if found is None:
             content = NO_CELLS if self._source is None or cells == 0 else self._source.shown(number, cells)
             found = self._shown[number] = Store(content)
+        return found
+
+    # ---- what stands beside the values
+
+    def table(self, name: str, number: int = 0, likely: int = 64) -> _raw.Table:
+        """What a call of `_raw.CALLS` reads, of the sheet with this index where it reads one. It is kept, so that the next call finds it."""
+        self.arrays  # (ValueError where it is closed)
+        found = self._tables.get((name, number))
+        if found is None:
+            found = NO_TABLE if self._source is None else _raw.table(name, *self._source.given(number), likely)
+            self._tables[name, number] = found
         return found
 
     # ---- texts
@@ -245,6 +262,7 @@ class Store:
 
 # (no library is asked what is shown of no cells)
 NO_CELLS = _raw.Content(bytes(_raw.SHEET.size), b"", b"", b"", b"", b"", _raw.Counts(1, 0, 0, 0, 0, 0), False)
+NO_TABLE = _raw.Table(b"", b"", b"", (0, 0, 0))
 
 
 def restored(*fields: Any) -> Store:

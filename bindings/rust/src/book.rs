@@ -2,9 +2,13 @@
 
 use std::fmt;
 use std::path::Path;
+use std::sync::Arc;
 
+use crate::beside::{Damages, OtherBooks};
 use crate::raw;
+use crate::raw::beside::{CellStyle, Table};
 use crate::sheet::Sheet;
+use crate::style::Kept;
 use crate::Error;
 
 /// Which sheets' cells, formulas and merged regions are read.
@@ -77,11 +81,14 @@ impl Options {
         let options = self.raw();
         let content = raw::read(&stream, &options)?;
         let texts = String::from_utf8(content.texts).expect("the library writes UTF-8");
-        // (without cells nothing is shown)
-        let stream = if content.cells.is_empty() { Vec::new() } else { stream };
+        let mut cell_styles = Vec::new();
+        raw::reserve(&mut cell_styles, content.sheets.len())?;
+        cell_styles.resize_with(content.sheets.len(), Kept::default);
         Ok(Workbook {
             stream,
             options,
+            styles: Kept::default(),
+            cell_styles,
             sheets: content.sheets,
             names: content.names,
             cells: content.cells,
@@ -111,10 +118,14 @@ impl Options {
 
 /// What a workbook holds. It owns all texts, and lends them.
 ///
-/// It keeps the workbook's stream too, which takes about as much memory as the file: [`Sheet::shown`] reads it again.
+/// It keeps the workbook's stream too, which takes about as much memory as the file. [`Sheet::shown`] reads it again, and so does each call
+/// for what stands beside the values: [`Workbook::other_books`], [`Sheet::hidden_rows`], [`Sheet::style`], [`Sheet::comments`] and others.
 pub struct Workbook {
     stream: Vec<u8>,
     options: raw::Options,
+    styles: Kept<Table<raw::beside::Style>>,
+    /// Of each sheet which style each of its cells has.
+    cell_styles: Vec<Kept<Vec<CellStyle>>>,
     pub(crate) sheets: Vec<raw::Sheet>,
     names: Vec<raw::Name>,
     pub(crate) cells: Vec<raw::Cell>,
@@ -168,17 +179,48 @@ impl Workbook {
         self.is_1904
     }
 
-    /// What Excel shows of the cells of the sheet of an index, of which there are so many.
-    pub(crate) fn shown(&self, index: usize, cells: u64) -> Result<raw::Shown, raw::Fault> {
+    /// The other workbooks, the programs and the added functions that it refers to. Each call reads them anew, whichever sheets were read.
+    ///
+    /// # Errors
+    ///
+    /// [`Error::OutOfMemory`].
+    pub fn other_books(&self) -> Result<OtherBooks, Error> {
+        Ok(OtherBooks::new(raw::beside::books(&self.stream, &self.options)?))
+    }
+
+    /// The damaged records that are of no sheet: those of fonts, of cell formats, and of other workbooks. Those of a sheet are in
+    /// [`Sheet::damaged`].
+    ///
+    /// # Errors
+    ///
+    /// [`Error::OutOfMemory`].
+    pub fn damaged(&self) -> Result<Damages, Error> {
+        let mut found = Damages::default();
+        found.add(&*self.styles()?)?;
+        found.add(&raw::beside::books(&self.stream, &self.options)?)?;
+        Ok(found.in_order())
+    }
+
+    /// The styles, which are read once and kept.
+    pub(crate) fn styles(&self) -> Result<Arc<Table<raw::beside::Style>>, raw::Fault> {
+        self.styles.get(|| raw::beside::styles(&self.stream, &self.options))
+    }
+
+    /// Which style each cell of the sheet of an index has, of which there are likely so many; they are read once and kept.
+    pub(crate) fn cell_styles(&self, index: usize, cells: u64) -> Result<Arc<Vec<CellStyle>>, raw::Fault> {
+        self.cell_styles[index].get(|| self.of_sheet(index, |stream, options| raw::beside::cell_styles(stream, options, cells)))
+    }
+
+    /// What a call reads of the sheet of an index.
+    pub(crate) fn of_sheet<T>(&self, index: usize, read: impl FnOnce(&[u8], &raw::Options) -> T) -> T {
         const ONE_SHEET: u32 = 1;
         // Where one sheet alone was read, the options have its index in the file.
         let sheet = if self.options.which == ONE_SHEET { self.options.sheet } else { index as u64 };
-        raw::shown(&self.stream, &raw::Options { sheet, ..self.options }, cells)
+        read(&self.stream, &raw::Options { sheet, ..self.options })
     }
 
     pub(crate) fn text(&self, span: raw::Span) -> &str {
-        let begin = span.offset as usize;
-        &self.texts[begin..begin + span.length as usize]
+        span.of(&self.texts)
     }
 }
 

@@ -19,6 +19,7 @@
 #![deny(missing_docs)]
 #![deny(unsafe_code)]
 
+mod beside;
 mod book;
 mod data;
 mod date;
@@ -26,9 +27,14 @@ mod error;
 #[allow(missing_docs)]
 mod raw;
 mod sheet;
+mod style;
 
+pub use beside::{
+    Citation, Comment, Comments, Damage, Damages, HiddenRun, Link, LinkKind, Links, OtherBook, OtherBookKind, OtherBooks, Outside, Why,
+};
 pub use book::{Options, Which, Workbook};
 pub use data::{CellErrorType, Data};
 pub use date::ExcelDateTime;
 pub use error::{Error, Fault, FaultCode};
 pub use sheet::{Cell, Dimensions, Formula, Row, RowValues, Rows, Sheet, SheetType, SheetVisible, Shown, ShownCell};
+pub use style::{Across, Border, CellStyle, CellStyles, Colour, Diagonals, Down, Fill, Line, Style, Underline};

@@ -5,6 +5,8 @@ use std::fs::File;
 use std::io::{self, Read};
 use std::path::Path;
 
+pub mod beside;
+
 /// A fault: its code, and what belongs to it.
 #[repr(C)]
 #[derive(Clone, Copy, Debug, Default, PartialEq, Eq)]
@@ -47,6 +49,14 @@ pub struct Sizes {
 pub struct Span {
     pub offset: u64,
     pub length: u64,
+}
+
+impl Span {
+    /// The text in these texts.
+    pub fn of(self, texts: &str) -> &str {
+        let begin = self.offset as usize;
+        &texts[begin..begin + self.length as usize]
+    }
 }
 
 #[repr(C)]
@@ -188,6 +198,17 @@ fn room<T>(length: u64) -> Result<Vec<T>, Fault> {
     items.try_reserve_exact(length).map_err(|_| MEMORY)?;
     ask_for_large_pages(items.as_mut_ptr().cast(), items.capacity() * std::mem::size_of::<T>());
     Ok(items)
+}
+
+/// Makes room for so many items more.
+pub fn reserve<T>(items: &mut Vec<T>, more: usize) -> Result<(), Fault> {
+    items.try_reserve(more).map_err(|_| MEMORY)
+}
+
+/// Makes room for so many bytes of text more.
+pub fn reserve_text(text: &mut String, more: u64) -> Result<(), Fault> {
+    let more = usize::try_from(more).map_err(|_| MEMORY)?;
+    text.try_reserve(more).map_err(|_| MEMORY)
 }
 
 /// A copy of some bytes.

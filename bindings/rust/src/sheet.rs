@@ -2,8 +2,9 @@
 
 use std::fmt;
 
+use crate::beside::{hidden_runs, Comments, Damages, HiddenRun, Links, Outside};
 use crate::raw;
-use crate::{CellErrorType, Data, Error, ExcelDateTime, Workbook};
+use crate::{CellErrorType, CellStyles, Data, Error, ExcelDateTime, Style, Workbook};
 
 /// A sheet of a workbook. Several sheets of one name all show the content of the last of them.
 #[derive(Clone, Copy)]
@@ -159,7 +160,8 @@ impl<'a> Sheet<'a> {
         if self.sheet.cells == 0 {
             return Ok(Shown { cells: Vec::new(), texts: String::new() });
         }
-        let raw::Shown { cells, texts } = self.book.shown(self.index, self.sheet.cells)?;
+        let count = self.sheet.cells;
+        let raw::Shown { cells, texts } = self.book.of_sheet(self.index, |stream, options| raw::shown(stream, options, count))?;
         Ok(Shown { cells, texts: String::from_utf8(texts).expect("the library writes UTF-8") })
     }
 
@@ -176,6 +178,106 @@ impl<'a> Sheet<'a> {
         regions
             .iter()
             .map(|region| Dimensions { start: (region.first_row, region.first_column), end: (region.last_row, region.last_column) })
+    }
+}
+
+/// What stands beside the values. It is read when it is asked for, whether or not the cells were. What is damaged there refuses nothing:
+/// [`Sheet::damaged`] tells it.
+impl Sheet<'_> {
+    fn hidden(&self, is_column: bool) -> Result<Vec<HiddenRun>, Error> {
+        Ok(hidden_runs(&self.book.of_sheet(self.index, raw::beside::hidden)?, is_column))
+    }
+
+    /// The rows that can't be seen, from 0: runs that ascend, each as long as it can be for one reason. Each call reads them anew.
+    ///
+    /// # Errors
+    ///
+    /// [`Error::OutOfMemory`].
+    pub fn hidden_rows(&self) -> Result<Vec<HiddenRun>, Error> {
+        self.hidden(false)
+    }
+
+    /// The columns that can't be seen, likewise.
+    ///
+    /// # Errors
+    ///
+    /// [`Error::OutOfMemory`].
+    pub fn hidden_columns(&self) -> Result<Vec<HiddenRun>, Error> {
+        self.hidden(true)
+    }
+
+    /// How the cells look, those of blank cells too.
+    ///
+    /// The first call reads the styles of the workbook and which style each cell of this sheet has (12 bytes a cell). The workbook keeps both.
+    ///
+    /// # Errors
+    ///
+    /// [`Error::OutOfMemory`].
+    pub fn styles(&self) -> Result<CellStyles, Error> {
+        let styles = self.book.styles()?;
+        Ok(CellStyles::new(styles, self.book.cell_styles(self.index, self.sheet.cells)?))
+    }
+
+    /// How the cell at a row and a column looks, counted from 0; None where the file has no cell. It is that of [`Sheet::styles`].
+    ///
+    /// ```
+    /// # fn main() -> Result<(), gaflwened::Error> {
+    /// # let path = concat!(env!("CARGO_MANIFEST_DIR"), "/../../samples/ledger.xls");
+    /// let book = gaflwened::Workbook::open(path)?;
+    /// let sheet = book.sheet("Data")?;
+    /// let struck = sheet.style(1, 1)?.map_or(false, |style| style.strike());
+    /// assert!(!struck);
+    /// assert!(sheet.style(9, 9)?.is_none());
+    /// # Ok(())
+    /// # }
+    /// ```
+    ///
+    /// # Errors
+    ///
+    /// [`Error::OutOfMemory`].
+    pub fn style(&self, row: u32, column: u32) -> Result<Option<Style>, Error> {
+        Ok(self.styles()?.get(row, column))
+    }
+
+    /// The comments in the order of the file. Each call reads them anew, and what it answers owns them.
+    ///
+    /// # Errors
+    ///
+    /// [`Error::OutOfMemory`].
+    pub fn comments(&self) -> Result<Comments, Error> {
+        Ok(Comments::new(self.book.of_sheet(self.index, raw::beside::comments)?))
+    }
+
+    /// The hyperlinks in the order of the file, likewise. Formulas with HYPERLINK aren't among them.
+    ///
+    /// # Errors
+    ///
+    /// [`Error::OutOfMemory`].
+    pub fn links(&self) -> Result<Links, Error> {
+        Ok(Links::new(self.book.of_sheet(self.index, raw::beside::links)?))
+    }
+
+    /// The formulas that cite another workbook or a program, likewise: what each cites from left to right, each once.
+    ///
+    /// # Errors
+    ///
+    /// [`Error::OutOfMemory`].
+    pub fn outside(&self) -> Result<Outside, Error> {
+        Ok(Outside::new(self.book.of_sheet(self.index, raw::beside::outside)?))
+    }
+
+    /// The damaged records of what is hidden, of comments and of hyperlinks, in the order of the file. Those that are of no sheet are in
+    /// [`Workbook::damaged`].
+    ///
+    /// # Errors
+    ///
+    /// [`Error::OutOfMemory`].
+    pub fn damaged(&self) -> Result<Damages, Error> {
+        let mut found = Damages::default();
+        found.add(&self.book.of_sheet(self.index, raw::beside::hidden)?)?;
+        found.add(&self.book.of_sheet(self.index, raw::beside::comments)?)?;
+        found.add(&self.book.of_sheet(self.index, raw::beside::links)?)?;
+        Ok(found.in_order())
     }
 }
 
