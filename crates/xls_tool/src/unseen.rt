@@ -13,7 +13,8 @@ use xls_answers::{Answer, Failure, HiddenParts, chosen, damaged_things, hidden_c
 use xls_beside::Topic;
 use xls_data::Sheet;
 use xls_files::Host;
-use xls_hidden::{HiddenItem, HiddenSheet};
+use xls_hidden::HiddenSheet;
+use xls_hidden::types::{COLUMNS, ROWS};
 use xls_readable::{Form, Listing, SheetChoice};
 use xls_view::View;
 
@@ -27,12 +28,20 @@ enum Told {
     One(usize),
 }
 
-/// Whether a row or a column can't be seen.
+/// Whether a row or a column can't be seen. (The first of its items would say so too, but looks for damaged records where
+/// there is none.)
 fn hides(hidden: &HiddenSheet<'_>) -> bool {
-    matches!(
-        hidden.items().next(),
-        Some(HiddenItem::Rows(_) | HiddenItem::Columns(_))
-    )
+    for row in 0..ROWS {
+        if hidden.row(row).is_some() {
+            return true;
+        }
+    }
+    for column in 0..COLUMNS {
+        if hidden.column(column).is_some() {
+            return true;
+        }
+    }
+    false
 }
 
 /// Whether a sheet has a row or a column that can't be seen.
