@@ -8,7 +8,7 @@ use Rattle.std.proofs.lemmas.List.Concat.{flat_map-append}
 use Rattle.std.proofs.lemmas.Str.{chars-append, chars-nil, chars_past_char, IsUtf8-encode, IsUtf8-nil}
 use Rattle.xls_bytes.specs.Growth.{IsGrown}
 use Rattle.xls_formula_names.specs.Parts.{joined}
-use Rattle.xls_formula_names.specs.Prefixes.{book_needs_quotes, book_prefix, doubled, doubled_one, in_quotes, sheets_need_quotes, sheets_prefix, sheets_text}
+use Rattle.xls_formula_names.specs.Prefixes.{book_needs_quotes, book_prefix, doubled, doubled_one, in_quotes, named, sheets_need_quotes, sheets_prefix, sheets_text}
 use Rattle.xls_formula_names.specs.declared.sheets.Sheets.{Sheets}
 use Rattle.xls_formula_names.specs.declared.sheets.Sheets.TheVariants.{Gone, One, Range}
 
@@ -73,11 +73,11 @@ in_marks old first between new cs mark e f g =
 pub range_text : (first last : List ℕ) → chars first ++ (chars (codes ":") ++ (chars last ++ [])) ≡ chars first ++ (0x3A ∷ chars last)
 range_text first last = ap (λ xs. chars first ++ (xs ++ (chars last ++ []))) colon ∙ ap (λ xs. chars first ++ (0x3A ∷ xs)) (append-nil (chars last))
 
-pub range_prefix : (sheets : Sheets) (first last : Bor (List ℕ)) (needed : Bool) → sheets ≡ Range first last → needed ≡ sheets_need_quotes sheets
-    → in_quotes needed (chars first.now ++ (chars (codes ":") ++ (chars last.now ++ []))) ≡ sheets_prefix sheets
+pub range_prefix : (sheets : Sheets) (first last : Bor (List ℕ)) (needed : Bool) → sheets ≡ Range first last → needed ≡ sheets_need_quotes (named sheets)
+    → in_quotes needed (chars first.now ++ (chars (codes ":") ++ (chars last.now ++ []))) ≡ sheets_prefix (named sheets)
 range_prefix sheets first last needed e f =
     ap (in_quotes needed) (range_text first.now last.now)
-    ∙ (ap (λ b. in_quotes b (chars first.now ++ (0x3A ∷ chars last.now))) f ∙ ap (λ x. in_quotes (sheets_need_quotes sheets) (sheets_text x)) (sym e))
+    ∙ (ap (λ b. in_quotes b (chars first.now ++ (0x3A ∷ chars last.now))) f ∙ ap (λ x. in_quotes (sheets_need_quotes (named sheets)) (sheets_text (named x))) (sym e))
 
 opening : chars (codes "[") ≡ codes "["
 unfolding chars
@@ -88,23 +88,23 @@ unfolding chars
 closing = refl
 
 -- a folder, a file in brackets, and the sheets
-pub book_is : (dir file tail : List ℕ) (sheets : Sheets) (needed : Bool) → tail ≡ sheets_text sheets → needed ≡ (book_needs_quotes (chars dir) (chars file) || sheets_need_quotes sheets)
-    → in_quotes needed (chars dir ++ (chars (codes "[") ++ (chars file ++ (chars (codes "]") ++ tail)))) ≡ book_prefix (chars dir) (chars file) sheets
+pub book_is : (dir file tail : List ℕ) (sheets : Sheets) (needed : Bool) → tail ≡ sheets_text (named sheets) → needed ≡ (book_needs_quotes (chars dir) (chars file) || sheets_need_quotes (named sheets))
+    → in_quotes needed (chars dir ++ (chars (codes "[") ++ (chars file ++ (chars (codes "]") ++ tail)))) ≡ book_prefix (chars dir) (chars file) (named sheets)
 book_is dir file tail sheets needed e f =
     ap (λ b. in_quotes b (chars dir ++ (chars (codes "[") ++ (chars file ++ (chars (codes "]") ++ tail))))) f
-    ∙ ap (in_quotes (book_needs_quotes (chars dir) (chars file) || sheets_need_quotes sheets))
+    ∙ ap (in_quotes (book_needs_quotes (chars dir) (chars file) || sheets_need_quotes (named sheets)))
     (ap (λ xs. chars dir ++ (xs ++ (chars file ++ (chars (codes "]") ++ tail)))) opening
     ∙ (ap (λ xs. chars dir ++ (codes "[" ++ (chars file ++ (xs ++ tail)))) closing
     ∙ ap (λ xs. chars dir ++ (codes "[" ++ (chars file ++ (codes "]" ++ xs)))) e))
 
-pub gone_tail : (sheets : Sheets) → sheets ≡ Gone → chars (codes "#REF") ++ [] ≡ sheets_text sheets
-gone_tail sheets e = ap (λ xs. xs ++ []) gone ∙ ap sheets_text (sym e)
+pub gone_tail : (sheets : Sheets) → sheets ≡ Gone → chars (codes "#REF") ++ [] ≡ sheets_text (named sheets)
+gone_tail sheets e = ap (λ xs. xs ++ []) gone ∙ ap (λ (x : Sheets). sheets_text (named x)) (sym e)
 
-pub one_tail : (sheets : Sheets) (name : Bor (List ℕ)) → sheets ≡ One name → chars name.now ++ [] ≡ sheets_text sheets
-one_tail sheets name e = append-nil (chars name.now) ∙ ap sheets_text (sym e)
+pub one_tail : (sheets : Sheets) (name : Bor (List ℕ)) → sheets ≡ One name → chars name.now ++ [] ≡ sheets_text (named sheets)
+one_tail sheets name e = append-nil (chars name.now) ∙ ap (λ (x : Sheets). sheets_text (named x)) (sym e)
 
-pub range_tail : (sheets : Sheets) (first last : Bor (List ℕ)) → sheets ≡ Range first last → chars first.now ++ (chars (codes ":") ++ (chars last.now ++ [])) ≡ sheets_text sheets
-range_tail sheets first last e = range_text first.now last.now ∙ ap sheets_text (sym e)
+pub range_tail : (sheets : Sheets) (first last : Bor (List ℕ)) → sheets ≡ Range first last → chars first.now ++ (chars (codes ":") ++ (chars last.now ++ [])) ≡ sheets_text (named sheets)
+range_tail sheets first last e = range_text first.now last.now ∙ ap (λ (x : Sheets). sheets_text (named x)) (sym e)
 
 pub one_bar : chars (codes "|") ≡ 0x7C ∷ []
 unfolding chars

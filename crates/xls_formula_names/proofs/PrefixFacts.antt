@@ -1,12 +1,7 @@
 -- Known prefixes, so that a wrong rule does not check.
-use Rattle.std.proofs.Common.{◌≡◌, ℕ, List, [], ◌∷◌, map, refl, codes, Bor}
+use Rattle.std.proofs.Common.{◌≡◌, ℕ, List, [], ◌∷◌, map, refl, codes}
 use Rattle.std.specs.Str.{chars}
-use Rattle.xls_formula_names.specs.Prefixes.{book_prefix, file_prefix, name_text, quoted, sheets_prefix}
-use Rattle.xls_formula_names.specs.declared.sheets.Sheets.{Sheets}
-use Rattle.xls_formula_names.specs.declared.sheets.Sheets.TheVariants.{Gone, One, Range}
-
-abbrev lent : List ℕ → Bor (List ℕ)
-lent bytes = record { ref_ptr = (0, 0); now = bytes }
+use Rattle.xls_formula_names.specs.Prefixes.{book_prefix, file_prefix, name_text, quoted, sheets_prefix, Named, gone, one, range}
 
 pub known_quoted : map quoted ([] ∷ codes "a" ∷ codes "it's" ∷ codes "''" ∷ []) ≡ codes "''" ∷ codes "'a'" ∷ codes "'it''s'" ∷ codes "''''''" ∷ []
 known_quoted = refl
@@ -16,9 +11,9 @@ pub known_names : map name_text ([] ∷ codes "Sheet1" ∷ codes "O'Brien" ∷ c
 known_names = refl
 
 pub known_sheets : map sheets_prefix (
-    Gone ∷ One (lent (codes "Sheet1")) ∷ One (lent (codes "My sheet")) ∷ One (lent (codes "#REF")) ∷ One (lent [])
-    ∷ Range (lent (codes "Jan")) (lent (codes "Dec")) ∷ Range (lent (codes "It's")) (lent (codes "Dec")) ∷ Range (lent (codes "Jan")) (lent (codes "R1C1"))
-    ∷ Range (lent (codes "true")) (lent (codes "it's")) ∷ [])
+    gone ∷ one (codes "Sheet1") ∷ one (codes "My sheet") ∷ one (codes "#REF") ∷ one []
+    ∷ range (codes "Jan") (codes "Dec") ∷ range (codes "It's") (codes "Dec") ∷ range (codes "Jan") (codes "R1C1")
+    ∷ range (codes "true") (codes "it's") ∷ [])
     ≡ codes "#REF" ∷ codes "Sheet1" ∷ codes "'My sheet'" ∷ codes "'#REF'" ∷ codes "''" ∷ codes "Jan:Dec" ∷ codes "'It''s:Dec'" ∷ codes "'Jan:R1C1'" ∷ codes "'true:it''s'" ∷ []
 unfolding chars
 known_sheets = refl
@@ -28,15 +23,15 @@ pub known_files : map (λ (x : List ℕ × List ℕ). file_prefix x.0 x.1) (
     ≡ codes "b.xls" ∷ codes "'my b.xls'" ∷ codes "'C:\\d\\b.xls'" ∷ codes "'C:\\it''s\\b.xls'" ∷ codes "'..\\'" ∷ codes "''" ∷ codes "'A1'" ∷ []
 known_files = refl
 
-abbrev at_home : Sheets → List ℕ
+abbrev at_home : Named → List ℕ
 at_home sheets = book_prefix [] (codes "b.xls") sheets
 
-abbrev in_folder : Sheets → List ℕ
+abbrev in_folder : Named → List ℕ
 in_folder sheets = book_prefix (codes "C:\\") (codes "b's.xls") sheets
 
-abbrev some_sheets : List Sheets
+abbrev some_sheets : List Named
 some_sheets =
-    Gone ∷ One (lent (codes "S")) ∷ One (lent (codes "S 1")) ∷ Range (lent (codes "S")) (lent (codes "T")) ∷ Range (lent (codes "S")) (lent (codes "T's")) ∷ []
+    gone ∷ one (codes "S") ∷ one (codes "S 1") ∷ range (codes "S") (codes "T") ∷ range (codes "S") (codes "T's") ∷ []
 
 pub known_books : map at_home some_sheets ≡ codes "[b.xls]#REF" ∷ codes "[b.xls]S" ∷ codes "'[b.xls]S 1'" ∷ codes "[b.xls]S:T" ∷ codes "'[b.xls]S:T''s'" ∷ []
 unfolding chars
@@ -47,5 +42,5 @@ pub known_far_books : map in_folder some_sheets
 unfolding chars
 known_far_books = refl
 
-pub known_odd_file : book_prefix [] (codes "my b.xls") Gone ≡ codes "'[my b.xls]#REF'"
+pub known_odd_file : book_prefix [] (codes "my b.xls") gone ≡ codes "'[my b.xls]#REF'"
 known_odd_file = refl

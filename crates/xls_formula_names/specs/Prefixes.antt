@@ -24,19 +24,25 @@ in_quotes needed cs = if needed then quoted cs else cs
 abbrev pub name_text : List ℕ → List ℕ
 name_text cs = in_quotes (needs_quotes cs) cs
 
+-- the sheets that a reference names: none that is there, one, or all from one to another
+pub data Named : Type 0 where
+  gone : Named
+  one : (name : List ℕ) → Named
+  range : (first last : List ℕ) → Named
+
 -- `First`, `First:Last`, and `#REF` for a sheet that is gone
-abbrev pub sheets_text : Sheets → List ℕ
-sheets_text Gone = codes "#REF"
-sheets_text (One name) = chars name.now
-sheets_text (Range first last) = chars first.now ++ 0x3A ∷ chars last.now
+abbrev pub sheets_text : Named → List ℕ
+sheets_text gone = codes "#REF"
+sheets_text (one name) = name
+sheets_text (range first last) = first ++ 0x3A ∷ last
 
 -- one of the names needs quotes; `#REF` doesn't
-abbrev pub sheets_need_quotes : Sheets → Bool
-sheets_need_quotes Gone = false
-sheets_need_quotes (One name) = needs_quotes (chars name.now)
-sheets_need_quotes (Range first last) = needs_quotes (chars first.now) || needs_quotes (chars last.now)
+abbrev pub sheets_need_quotes : Named → Bool
+sheets_need_quotes gone = false
+sheets_need_quotes (one name) = needs_quotes name
+sheets_need_quotes (range first last) = needs_quotes first || needs_quotes last
 
-abbrev pub sheets_prefix : Sheets → List ℕ
+abbrev pub sheets_prefix : Named → List ℕ
 sheets_prefix sheets = in_quotes (sheets_need_quotes sheets) (sheets_text sheets)
 
 -- ---- Other workbooks, by their folder and file
@@ -54,9 +60,17 @@ abbrev pub file_prefix : List ℕ → List ℕ → List ℕ
 file_prefix dir file = in_quotes (book_needs_quotes dir file) (dir ++ file)
 
 -- `DIR[FILE]`, and the sheets
-abbrev pub book_text : List ℕ → List ℕ → Sheets → List ℕ
+abbrev pub book_text : List ℕ → List ℕ → Named → List ℕ
 book_text dir file sheets = dir ++ (codes "[" ++ (file ++ (codes "]" ++ sheets_text sheets)))
 
-abbrev pub book_prefix : List ℕ → List ℕ → Sheets → List ℕ
+abbrev pub book_prefix : List ℕ → List ℕ → Named → List ℕ
 book_prefix dir file sheets =
     in_quotes (book_needs_quotes dir file || sheets_need_quotes sheets) (book_text dir file sheets)
+
+-- ---- for the contracts
+
+-- the sheets as a reference in code names them
+abbrev pub named : Sheets → Named
+named Gone = gone
+named (One name) = one (chars name.now)
+named (Range first last) = range (chars first.now) (chars last.now)

@@ -3,7 +3,7 @@
 ghost use Rattle.std.specs.Prelude.{◌≡◌, ◌||◌, ◌++◌, OnOk, OnErr};
 ghost use Rattle.std.specs.Str.{chars};
 ghost use Rattle.std.specs.String.{string_bytes};
-ghost use Rattle.xls_formula_names.specs.Prefixes.{is_nothing, sheets_need_quotes, book_needs_quotes, file_prefix, book_prefix};
+ghost use Rattle.xls_formula_names.specs.Prefixes.{is_nothing, named, sheets_need_quotes, book_needs_quotes, file_prefix, book_prefix};
 
 use crate::appends::push_parts;
 use crate::quotes::needs_quotes;
@@ -25,7 +25,7 @@ fn book_needs_quotes(dir: &str, file: &str) -> bool
 }
 
 fn needs_quotes_with(dir: &str, file: &str, sheets: Sheets<'_>) -> bool
-    ensures { result ≡ (book_needs_quotes (chars dir.now) (chars file.now) || sheets_need_quotes sheets.entry) }
+    ensures { result ≡ (book_needs_quotes (chars dir.now) (chars file.now) || sheets_need_quotes (named sheets.entry)) }
 {
     book_needs_quotes(dir, file) || need_quotes(sheets)
 }
@@ -50,7 +50,7 @@ pub fn push_book(
     out: &mut String,
 ) -> Result<(), AllocError>
     ensures ok { OnOk result (chars (string_bytes out.new)
-        ≡ chars (string_bytes out.old) ++ book_prefix (chars dir.now) (chars file.now) sheets.entry) }
+        ≡ chars (string_bytes out.old) ++ book_prefix (chars dir.now) (chars file.now) (named sheets.entry)) }
     ensures err { OnErr result (string_bytes out.new ≡ string_bytes out.old) }
 {
     let is_quoted = needs_quotes_with(dir, file, sheets);

@@ -3,7 +3,7 @@
 ghost use Rattle.std.specs.Prelude.{◌≡◌, ◌++◌, OnOk, OnErr};
 ghost use Rattle.std.specs.Str.{chars};
 ghost use Rattle.std.specs.String.{string_bytes};
-ghost use Rattle.xls_formula_names.specs.Prefixes.{in_quotes, quoted, name_text, sheets_text, sheets_need_quotes, sheets_prefix};
+ghost use Rattle.xls_formula_names.specs.Prefixes.{in_quotes, named, quoted, name_text, sheets_text, sheets_need_quotes, sheets_prefix};
 
 use crate::appends::push_parts;
 use crate::quotes::needs_quotes;
@@ -38,7 +38,7 @@ pub fn push_name(name: &str, out: &mut String) -> Result<(), AllocError>
 
 // Whether one of the names needs quotes.
 pub(crate) fn need_quotes(sheets: Sheets<'_>) -> bool
-    ensures { result ≡ sheets_need_quotes sheets.entry }
+    ensures { result ≡ sheets_need_quotes (named sheets.entry) }
 {
     match sheets {
         Sheets::Gone => false,
@@ -50,7 +50,7 @@ pub(crate) fn need_quotes(sheets: Sheets<'_>) -> bool
 /// Appends the prefix of a reference to sheets of this workbook, without the `!`: `Sheet`, `First:Last`, between apostrophes where one of
 /// them needs quotes, or `#REF`. Only running out of memory refuses, and then `out` is as it was.
 pub fn push_sheets(sheets: Sheets<'_>, out: &mut String) -> Result<(), AllocError>
-    ensures ok { OnOk result (chars (string_bytes out.new) ≡ chars (string_bytes out.old) ++ sheets_prefix sheets.entry) }
+    ensures ok { OnOk result (chars (string_bytes out.new) ≡ chars (string_bytes out.old) ++ sheets_prefix (named sheets.entry)) }
     ensures err { OnErr result (string_bytes out.new ≡ string_bytes out.old) }
 {
     let is_quoted = need_quotes(sheets);

@@ -10,7 +10,7 @@ use xls_stream::types::CONTINUE;
 
 /// The records of the globals that are left. Contracts see their list.
 #[derive(Drop)]
-pub(crate) struct Cursor<'a> {
+pub struct Cursor<'a> {
     next: Option<PartRecord<'a>>,
     records: GlobalsRecords<'a>,
 }
@@ -31,7 +31,7 @@ impl<'a> Cursor<'a> {
     ghost use Rattle.xls_other_books.specs.Walking.{TakesContinue, is_at};
 
     /// All of a stream.
-    pub(crate) fn new(stream: &'a [u8]) -> Cursor<'a>
+    pub fn new(stream: &'a [u8]) -> Cursor<'a>
         ensures { result ≡ globals_records stream.now }
     {
         let mut records = GlobalsRecords::new(stream);
@@ -40,7 +40,7 @@ impl<'a> Cursor<'a> {
     }
 
     /// The next record.
-    pub(crate) fn take(&mut self) -> Option<PartRecord<'a>>
+    pub fn take(&mut self) -> Option<PartRecord<'a>>
         ensures { StepsBy placed_of self.old result self.new }
     {
         let Some(r) = self.next else {
@@ -50,7 +50,7 @@ impl<'a> Cursor<'a> {
         Some(r)
     }
     /// Whether the next record is of this type.
-    pub(crate) fn is_at(&self, typ: u16) -> bool
+    pub fn is_at(&self, typ: u16) -> bool
         ensures { result ≡ is_at typ self.now }
     {
         match &self.next {
@@ -60,7 +60,7 @@ impl<'a> Cursor<'a> {
     }
 
     /// The body of the next record, if it is a Continue.
-    pub(crate) fn take_continue(&mut self) -> Option<&'a [u8]>
+    pub fn take_continue(&mut self) -> Option<&'a [u8]>
         ensures { TakesContinue self.old result self.new }
     {
         if !self.is_at(CONTINUE) {

@@ -12,10 +12,10 @@ use xls_stream::types::EXTERN_SHEET;
 
 /// An entry of ExternSheet: the number of a SupBook, and those of its first and last sheet, from 0.
 #[derive(Clone, Copy, Debug, PartialEq, Eq)]
-pub(crate) struct Entry {
-    pub(crate) book: u16,
-    pub(crate) first: u16,
-    pub(crate) last: u16,
+pub struct Entry {
+    pub book: u16,
+    pub first: u16,
+    pub last: u16,
 }
 
 /// The entry that some bytes begin with.
@@ -56,8 +56,8 @@ fn add_record(found: &mut Vec<Entry>, body: &[u8]) -> Result<(), AllocError>
     add_entries(found, bytes, read_u16(body))
 }
 
-/// The entries of all ExternSheet records of the globals.
-pub(crate) fn read_entries(alloc: Global, stream: &[u8]) -> Result<Vec<Entry>, AllocError>
+/// The entries of all ExternSheet records of the globals of BIFF8. Only running out of memory refuses.
+pub fn read_entries(alloc: Global, stream: &[u8]) -> Result<Vec<Entry>, AllocError>
     ensures { IfOk result (λ found. found.items ≡ entries.entries_of (globals_records stream.now)) }
 {
     let mut found = Vec::new(alloc);

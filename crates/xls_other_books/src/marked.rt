@@ -16,7 +16,7 @@ use xls_text::text_of_units;
 
 /// The rest of a body, and the records behind it, with a mark before the body of each Continue record directly behind.
 #[derive(Drop)]
-pub(crate) struct Marked<'a> {
+pub struct Marked<'a> {
     hand: &'a [u8],
     records: Cursor<'a>,
 }
@@ -39,7 +39,7 @@ impl<'a> Marked<'a> {
     ghost use Rattle.xls_other_books.specs.Strings.{Left, continues, past_continues};
 
     /// The bytes of a body, and the records behind it.
-    pub(crate) fn new(body: &'a [u8], records: Cursor<'a>) -> Marked<'a>
+    pub fn new(body: &'a [u8], records: Cursor<'a>) -> Marked<'a>
         ensures marks { result.marks ≡ marked body.entry.now (continues records.entry) }
         ensures behind { result.behind ≡ past_continues records.entry }
     {
@@ -50,7 +50,7 @@ impl<'a> Marked<'a> {
     }
 
     /// The records behind the Continue records.
-    pub(crate) fn into_records(self) -> Cursor<'a>
+    pub fn into_records(self) -> Cursor<'a>
         ensures { result ≡ self.entry.behind }
     {
         let mut records = self.records;
@@ -197,8 +197,8 @@ fn head_at(prefix: &[u8]) -> Option<Head>
     })
 }
 
-/// The text of the string that stands here, where it is there whole.
-pub(crate) fn read_text(alloc: Global, text: &mut Marked<'_>) -> Result<Option<String>, AllocError>
+/// The text of the string that stands here, where it is there whole. Only running out of memory refuses.
+pub fn read_text(alloc: Global, text: &mut Marked<'_>) -> Result<Option<String>, AllocError>
     ensures text { IfOk result (λ found. TakesText (strings.string_at text.old.marks) found text.new.marks) }
     ensures kept { text.new.behind ≡ text.old.behind }
 {

@@ -16,8 +16,9 @@ use xls_record::Biff;
 use xls_strings::split_short;
 use xls_text::XlsEncoding;
 
-// The text of at most so many characters at the start of some bytes.
-fn text_at(
+/// The text of at most so many characters at the start of some bytes, of two bytes each or not where that is said. Only running out
+/// of memory refuses.
+pub fn text_at(
     alloc: Global,
     encoding: &XlsEncoding,
     bytes: &[u8],
@@ -31,8 +32,9 @@ fn text_at(
     Ok(text)
 }
 
-/// The text of a short string, ShortXLUnicodeString ([MS-XLS] 2.5.240); none where its count or its flags aren't there.
-pub(crate) fn short_text(
+/// The text of a short string, ShortXLUnicodeString ([MS-XLS] 2.5.240); none where its count or its flags aren't there. Only
+/// running out of memory refuses.
+pub fn short_text(
     alloc: Global,
     version: Biff,
     encoding: &XlsEncoding,

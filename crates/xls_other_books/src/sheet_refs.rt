@@ -75,8 +75,8 @@ fn book_in(alloc: Global, folder: &str, file: &str, sheet: &str) -> Result<Book,
     })
 }
 
-/// The folder, the file in brackets and the sheet behind it; none where there are no brackets.
-fn split_path(path: &str) -> Option<(&str, &str, &str)>
+/// The folder, the file in brackets and the sheet behind it; none where there are no brackets. Takes no memory.
+pub fn split_path(path: &str) -> Option<(&str, &str, &str)>
     ensures { option_map sheet_refs.parts_view result ≡ sheet_refs.split_path (chars path.now) }
 {
     let (folder, rest) = split_at_first(path, '[')?;

@@ -45,8 +45,8 @@ fn bare(alloc: Global, linked: Linked, flaw: Option<Flaw>) -> Head
     }
 }
 
-/// The texts of so many strings, and whether all were there.
-fn read_texts(
+/// The texts of so many strings, and whether all were there. Only running out of memory refuses.
+pub fn read_texts(
     alloc: Global,
     count: u16,
     text: &mut Marked<'_>,

@@ -1,0 +1,5 @@
+pub mod TextLemmas
+pub mod ListLemmas
+pub mod PrefixFacts
+pub mod NameFacts
+pub mod StandardFacts

@@ -1,0 +1,11 @@
+pub mod ExternNames
+pub mod Sources
+pub mod Paths
+pub mod SupBooks
+pub mod SheetRefs
+pub mod Lists
+pub mod Books
+pub mod Places
+pub mod Prefixes
+pub mod Names
+pub mod Own
