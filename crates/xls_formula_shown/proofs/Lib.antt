@@ -1,1 +1,7 @@
+mod HeldLemmas
+mod MarkLemmas
+mod PutLemmas
+mod WaitingLemmas
+mod TokenLemmas
+mod WalkLemmas
 mod ShownFacts

@@ -1,13 +1,11 @@
 -- Values from outside, so that a wrong rule in the definitions does not check: formulas as Excel shows them.
-use Rattle.std.proofs.Common.{◌≡◌, ℕ, List, [], ◌∷◌, ◌++◌, Bool, refl, false, true, codes, Some, None, Ok, Err, Result, replicate, map}
+use Rattle.std.proofs.Common.{◌≡◌, ℕ, List, [], ◌∷◌, ◌++◌, Bool, refl, false, true, codes, Ok, Err, Result, replicate, map}
 use Rattle.std.proofs.Common.{if◌then◌else◌, ◌==◌}
 use Rattle.std.specs.Fmt.{digits}
 use Rattle.xls_bytes.specs.Columns.{column_name, word_of}
 use Rattle.xls_record.specs.declared.error.XlsError.TheVariants as errors
-use Rattle.xls_record.specs.declared.version.Biff.TheVariants.{Biff5, Biff8}
+use Rattle.xls_record.specs.declared.version.Biff.TheVariants.{Biff8}
 use Rattle.xls_stream.specs.declared.part.Part.TheVariants as parts
-use Rattle.xls_rounding.specs.Fractions.{magnitude, places, places_up_to}
-use Rattle.xls_rounding.specs.Rounding.{decimal_of, of_15_digits}
 use Rattle.xls_text.specs.declared.encoding.XlsEncoding.TheVariants.{Windows1252}
 use Rattle.xls_formula.specs.Functions.{shipped}
 use Rattle.xls_formula.specs.Table.{from_index_72}
@@ -84,9 +82,17 @@ known_calls_by_name : map shown ((0x39 ∷ 1 ∷ 0 ∷ 1 ∷ 0 ∷ 0 ∷ 0 ∷ a
 unfolding shared basic_by classed_by by_link mem_by digits column_name word_of
 known_calls_by_name = refl
 
-known_bare_names : map bare (codes "_xlfn._xlws.SORT" ∷ codes " _xlfn.IFS" ∷ codes "X_xlfn.IFS" ∷ codes "_xlfn" ∷ []) ≡ codes "SORT"
-    ∷ codes " IFS" ∷ codes "X_xlfn.IFS" ∷ codes "_xlfn" ∷ []
+known_bare_names : map bare (codes "_xlfn._xlws.SORT" ∷ codes "_xlfn.IFS" ∷ codes "X_xlfn.IFS" ∷ codes "_xlfn" ∷ codes "_xlws.SORT"
+    ∷ codes "_xlws._xlfn.IFS" ∷ []) ≡ codes "SORT"
+    ∷ codes "IFS" ∷ codes "X_xlfn.IFS" ∷ codes "_xlfn" ∷ codes "SORT" ∷ codes "_xlfn.IFS" ∷ []
 known_bare_names = refl
+
+-- the marks stay where the name isn't called, and where the first operand is no name alone
+known_marks : map shown ((0x39 ∷ 1 ∷ 0 ∷ 2 ∷ 0 ∷ 0 ∷ 0 ∷ []) ∷ (a1 ++ (0x39 ∷ 1 ∷ 0 ∷ 2 ∷ 0 ∷ 0 ∷ 0 ∷ 0x42 ∷ 2 ∷ 0xFF ∷ 0x00 ∷ [])) ∷ (0x39
+    ∷ 1 ∷ 0 ∷ 2 ∷ 0 ∷ 0 ∷ 0 ∷ 0x14 ∷ 0x42 ∷ 1 ∷ 0xFF ∷ 0x00 ∷ []) ∷ (0x17 ∷ 6 ∷ 0 ∷ codes "_xlfn." ++ (0x42 ∷ 1 ∷ 0xFF ∷ 0x00 ∷ [])) ∷ [])
+    ≡ Ok (codes "_xlfn.IFERROR") ∷ Ok (codes "A1(_xlfn.IFERROR)") ∷ Ok (codes "_xlfn.IFERROR%()") ∷ Ok (codes "\"_xlfn.\"()") ∷ []
+unfolding shared basic_by classed_by by_link mem_by digits column_name word_of
+known_marks = refl
 
 -- white space: before leaves and operators, before a function's name and its parenthesis, in parentheses, at the front, and at the end,
 -- where it is dropped

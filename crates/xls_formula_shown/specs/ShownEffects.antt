@@ -1,8 +1,9 @@
 -- What a token does to the operands so far, one table of all tokens ([MS-XLS] 2.5.198).
-use Rattle.std.specs.Prelude.{ℕ, ◌+◌, List, [], ◌∷◌, ◌++◌, ◌==◌, ◌&&◌, Bool, true, false, if◌then◌else◌, codes, slice_get, Option, Some}
+use Rattle.std.specs.Prelude.{ℕ, ◌+◌, List, [], ◌++◌, if◌then◌else◌, codes, slice_get, Option, Some}
 use Rattle.std.specs.Prelude.{None, Result, Ok}
 use Rattle.std.specs.Prelude.{Err}
 use Rattle.std.specs.Fmt.{decimal}
+use Rattle.std.specs.Str.{bytes_eq}
 use Rattle.xls_record.specs.declared.error.XlsError.TheVariants as errors
 use Rattle.xls_rounding.specs.FormulaNumbers.{formula_number}
 use Rattle.xls_ptg.specs.declared.corner.Corner.{Corner}
@@ -13,7 +14,7 @@ use Rattle.xls_formula.specs.Words.{bool_word, err_text}
 use Rattle.xls_formula_names.specs.Commands.{command_name}
 use Rattle.xls_shown_ptg.specs.Counts.{operand_count}
 use Rattle.xls_shown_ptg.specs.Extra.{after_elf, after_mem_area}
-use Rattle.xls_shown_ptg.specs.Reading.{◌>>=◌, gives}
+use Rattle.xls_shown_ptg.specs.Reading.{gives}
 use Rattle.xls_shown_ptg.specs.declared.fault.Fault.{Fault}
 use Rattle.xls_shown_ptg.specs.declared.fault.Fault.TheVariants as faults
 use Rattle.xls_shown_ptg.specs.declared.tokens.SheetLink.{SheetLink}
@@ -25,10 +26,11 @@ use Rattle.xls_formula_leaves.specs.Constants.{array_text_at, str_text}
 use Rattle.xls_formula_leaves.specs.Operators.{sign_of}
 use Rattle.xls_formula_shown.specs.Scope.{Scope}
 
--- an operand more; a sign before the last one, or behind it; an operator between the last two; parentheses around the last one; a
--- call of so many of the last ones, by a name or by the first of them; white space that waits; nothing
+-- an operand more, or a name as one; a sign before the last one, or behind it; an operator between the last two; parentheses around
+-- the last one; a call of so many of the last ones, by a name or by the first of them; white space that waits; nothing
 pub data Effect : Type 0 where
   pushes : (operand : List ℕ) → Effect
+  names : (name : List ℕ) → Effect
   leads : (sign : List ℕ) → Effect
   trails : (sign : List ℕ) → Effect
   pairs : (operator : List ℕ) → Effect
@@ -71,14 +73,9 @@ abbrev pub area3d_text : Scope → SheetLink → Corner → Corner → List ℕ
 area3d_text scope link first last =
     scope.sheets link ++ (codes "!" ++ area_text scope.biff (on_sheets scope first) (on_sheets scope last))
 
-abbrev pub is_same : List ℕ → List ℕ → Bool
-is_same [] [] = true
-is_same (c ∷ cs) (d ∷ ds) = (c == d) && is_same cs ds
-is_same cs ds = false
-
 -- cells that are gone, on sheets; `#REF!` alone where the sheets are gone too
 abbrev pub err3d_text : List ℕ → List ℕ
-err3d_text sheets = if is_same sheets (codes "#REF") then gone else sheets ++ (codes "!" ++ gone)
+err3d_text sheets = if bytes_eq sheets (codes "#REF") then gone else sheets ++ (codes "!" ++ gone)
 
 -- ---- all tokens
 
@@ -98,7 +95,7 @@ known_effect scope (ptg.Int n) = Ok (pushes (decimal n))
 known_effect scope (ptg.Num bits) = Ok (pushes (formula_number bits))
 known_effect scope (ptg.Func iftab) = func scope iftab
 known_effect scope (ptg.FuncVar count iftab) = func_var scope count iftab
-known_effect scope (ptg.Name index) = Ok (pushes (scope.name index))
+known_effect scope (ptg.Name index) = Ok (names (scope.name index))
 known_effect scope (ptg.Ref corner) = Ok (pushes (cell_text corner))
 known_effect scope (ptg.Area first last) = Ok (pushes (area_text scope.biff first last))
 known_effect scope ptg.RefErr = Ok (pushes gone)
@@ -114,11 +111,15 @@ plain_effect scope (shown.UserFunc count) = Ok (calls_by_name count)
 plain_effect scope (shown.RefN corner) = Ok (pushes (cell_text (placed scope.biff scope.place corner)))
 plain_effect scope (shown.AreaN first last) =
     Ok (pushes (area_text scope.biff (placed scope.biff scope.place first) (placed scope.biff scope.place last)))
-plain_effect scope (shown.NameX link) = Ok (pushes (scope.name_x link))
+plain_effect scope (shown.NameX link) = Ok (names (scope.name_x link))
 plain_effect scope (shown.Ref3d link corner) = Ok (pushes (ref3d_text scope link corner))
 plain_effect scope (shown.Area3d link first last) = Ok (pushes (area3d_text scope link first last))
 plain_effect scope (shown.Err3d link) = Ok (pushes (err3d_text (scope.sheets link)))
 plain_effect scope token = Ok keeps
+
+-- what it does, and all of the extra bytes
+abbrev pub with_extra : List ℕ → Result Effect Fault → Result (Effect × List ℕ) Fault
+with_extra extra read = gives (λ (e : Effect). (e, extra)) read
 
 -- each token, and the extra bytes that it leaves
 abbrev pub effect : Scope → List ℕ → ShownPtg (List ℕ) → Result (Effect × List ℕ) Fault
@@ -126,4 +127,4 @@ effect scope extra (shown.Known ptg.Array) =
     gives (λ (x : List ℕ × List ℕ). (pushes x.0, x.1)) (array_text_at scope.page scope.biff extra)
 effect scope extra shown.ElfRadicalS = Ok (keeps, after_elf extra)
 effect scope extra shown.MemArea = Ok (keeps, after_mem_area scope.biff extra)
-effect scope extra token = gives (λ (e : Effect). (e, extra)) (plain_effect scope token)
+effect scope extra token = with_extra extra (plain_effect scope token)

@@ -1,4 +1,5 @@
 -- The counts of operands of a call without a count of its own (PtgFunc): those of the functions' table but for some.
+-- Those of functions of macro sheets rest on [MS-XLS] Ftab alone: no file was seen that uses them.
 use Rattle.std.specs.Prelude.{ℕ, List, [], ◌∷◌, ◌==◌, if◌then◌else◌}
 use Rattle.xls_shown_ptg.specs.declared.counts.TheConstants.{COUNTS}
 
