@@ -1,0 +1,5 @@
+mod EffectLemmas
+mod KnownFacts
+mod ReadingLemmas
+mod StepLemmas
+mod TextLemmas
