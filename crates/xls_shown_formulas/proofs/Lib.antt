@@ -1,0 +1,4 @@
+mod TextLemmas
+mod TellLemmas
+mod NameLemmas
+pub mod StandardFacts

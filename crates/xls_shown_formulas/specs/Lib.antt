@@ -1,0 +1,5 @@
+pub mod Refusals
+pub mod Tables
+pub mod Books
+pub mod Sheets
+pub mod Workbooks
