@@ -1,0 +1,10 @@
+pub mod Spelled
+pub mod Origins
+pub mod Items
+pub mod Citations
+pub mod Counts
+pub mod Views
+pub mod Keys
+pub mod Walk
+pub mod Sheets
+pub mod Laws
