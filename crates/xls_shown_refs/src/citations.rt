@@ -133,12 +133,11 @@ impl<'a> Model for Citations<'a> {
     ghost use Rattle.std.specs.Prelude.{◌≡◌, List};
     ghost use Rattle.xls_shown_refs.specs.Items.{Citation as CitationValue};
     ghost use Rattle.xls_shown_refs.specs.Spelled.{functions as all_functions};
+    ghost use Rattle.xls_shown_refs.specs.Views.{citations_view};
 
     ghost Value = { List CitationValue };
 
-    ghost use Rattle.xls_shown_refs.specs.Walk.{found_in};
-
-    ghost view = { λ c. found_in c.walk };
+    ghost view = { λ c. citations_view c.walk.found.items };
 
     ghost invariant = { λ c. c.functions ≡ all_functions };
 }
